@@ -1,0 +1,5 @@
+pub mod Instance
+pub mod Window
+pub mod Roster
+pub mod Rules
+pub mod Weights

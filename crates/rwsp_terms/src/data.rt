@@ -1,0 +1,119 @@
+// Plain data, with no fact about it but what it holds.
+ghost use Rattle.std.specs.Prelude.{◌≡◌, ℕ, List};
+
+use std::marker::Model;
+
+/// The day off, numbered 0, or a shift, numbered from 1 in the order of the file.
+#[derive(Clone, Copy, Debug, PartialEq, Eq, PartialOrd, Ord)]
+pub struct Symbol {
+    pub number: u8,
+}
+
+impl Symbol {
+    pub const OFF: Symbol = Symbol { number: 0 };
+}
+
+/// A least and a greatest number: of the days of a block, or of the weeks that hold a shift on a day.
+#[derive(Clone, Copy, Debug, PartialEq, Eq)]
+pub struct Bounds {
+    pub least: u32,
+    pub greatest: u32,
+}
+
+/// The symbols that a block is made of: one shift, the day off, or all shifts.
+#[derive(Clone, Copy, Debug, PartialEq, Eq)]
+pub enum Class {
+    Shift(Symbol),
+    Off,
+    Work,
+}
+
+/// A rule of a problem. Pairs and triples count from 0, days from 1.
+#[derive(Clone, Copy, Debug, PartialEq, Eq)]
+pub enum Rule {
+    MaxShift(Symbol),
+    MinShift(Symbol),
+    MaxOff,
+    MinOff,
+    MaxWork,
+    MinWork,
+    Pair(u32),
+    Triple(u32),
+    Day(u32),
+}
+
+/// What a symbol weighs on a day. Days count from 1.
+#[derive(Clone, Copy, Debug, PartialEq, Eq)]
+pub struct Weight {
+    pub day: u32,
+    pub symbol: Symbol,
+    pub value: i32,
+}
+
+/// The name of a shift, as its bytes.
+#[derive(Debug, Drop)]
+pub struct Name {
+    bytes: Vec<u8>,
+}
+
+impl Model for Name {
+    ghost Value = { List ℕ };
+
+    ghost view = { λ n. n.bytes.items };
+}
+
+impl Name {
+    /// The name of these bytes.
+    pub fn of(bytes: Vec<u8>) -> Name
+        ensures { result ≡ bytes.items }
+    {
+        Name { bytes }
+    }
+
+    /// The bytes of the name.
+    pub fn bytes(&self) -> &[u8]
+        ensures { result.now ≡ self.now }
+    {
+        &self.bytes
+    }
+}
+
+/// The demand of a shift: for each day the least and the greatest number of weeks that hold it.
+#[derive(Debug, Drop)]
+pub struct DemandRow {
+    ranges: Vec<Bounds>,
+}
+
+impl Model for DemandRow {
+    ghost use Rattle.std.specs.Prelude.{List};
+    ghost use Rattle.rwsp_terms.specs.declared.data.Bounds.{Bounds};
+
+    ghost Value = { List Bounds };
+
+    ghost view = { λ r. r.ranges.items };
+}
+
+impl DemandRow {
+    /// The row of these ranges, one for each day.
+    pub fn of(ranges: Vec<Bounds>) -> DemandRow
+        ensures { result ≡ ranges.items }
+    {
+        DemandRow { ranges }
+    }
+
+    /// The ranges, one for each day.
+    pub fn ranges(&self) -> &[Bounds]
+        ensures { result.now ≡ self.now }
+    {
+        &self.ranges
+    }
+}
+
+/// A shift: its name, its start and length in minutes, and the bounds of its blocks.
+#[derive(Debug, Drop)]
+pub struct ShiftRow {
+    pub name: Name,
+    pub start: u32,
+    pub length: u32,
+    pub bounds: Bounds,
+}

@@ -1,0 +1,9 @@
+//! The words in which rotating workforce schedules are spoken of: the plain data, and in specs/ the definitions.
+#![tactic(auto)]
+
+mod data;
+mod laws;
+mod lists;
+
+pub use data::{Bounds, Class, DemandRow, Name, Rule, ShiftRow, Symbol, Weight};
+pub use lists::{RuleList, Weights, Word};
