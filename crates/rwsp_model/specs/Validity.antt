@@ -1,0 +1,122 @@
+-- Which instances are valid, and the first reason against one that isn't.
+use Rattle.std.specs.Prelude.{◌≡◌, ◌≢◌, ℕ, ◌+◌, ◌-◌, ◌*◌, ◌≤◌, List, [], ◌∷◌, ◌++◌, length, Option, Some, None, Bool, true, false, not, ◌&&◌, ◌||◌, ◌==◌, nat_le, nat_lt, slice_index, slice_index_or, slice_get, zero, suc, ◌<◌, if◌then◌else◌, position, All, AllPairs}
+use Rattle.std.specs.List.{list_all, list_any}
+use Rattle.std.specs.Str.{bytes_eq}
+use Rattle.rwsp_terms.specs.Instance.{Instance, cells, shift_count, off_name, name_in}
+use Rattle.rwsp_terms.specs.declared.data.Bounds.{Bounds}
+use Rattle.rwsp_terms.specs.declared.data.ShiftRow.{ShiftRow}
+use Rattle.rwsp_model.specs.declared.refusal.PartsRefusal.{PartsRefusal}
+use Rattle.rwsp_model.specs.declared.refusal.PartsRefusal.TheVariants.{Shape, Range, Name}
+
+abbrev pub is_between : ℕ → ℕ → ℕ → Bool
+is_between low high n = nat_le low n && nat_le n high
+
+-- a row for each shift, a range for each day, and no symbol above the last shift
+abbrev pub has_shape : Instance → Bool
+has_shape P =
+    (length P.demand == length P.shifts)
+    && list_all (λ row. length row == P.days) P.demand
+    && list_all (λ x. nat_le x.0.number (length P.shifts) && nat_le x.1.number (length P.shifts)) P.pairs
+    && list_all (λ x. nat_le x.0.number (length P.shifts) && nat_le x.1.number (length P.shifts) && nat_le x.2.number (length P.shifts)) P.triples
+
+-- both numbers of a demand are at most 600
+abbrev pub is_small_range : Bounds → Bool
+is_small_range b = nat_le b.least 600 && nat_le b.greatest 600
+
+-- both bounds of a block are at most 10,000
+abbrev pub are_small : Bounds → Bool
+are_small b = nat_le b.least 10000 && nat_le b.greatest 10000
+
+-- the limits, in the order of their numbers from 1 on
+abbrev pub limits_kept : Instance → List Bool
+limits_kept P =
+    is_between 1 28 P.days
+    ∷ is_between 1 600 P.weeks
+    ∷ nat_le (cells P) 4200
+    ∷ is_between 1 8 (shift_count P)
+    ∷ list_all (λ row. list_all is_small_range row) P.demand
+    ∷ list_all (λ row. nat_le row.start 10000 && nat_le row.length 10000) P.shifts
+    ∷ (list_all (λ row. are_small row.bounds) P.shifts && are_small P.off && are_small P.work)
+    ∷ nat_le (length P.pairs) 64
+    ∷ nat_le (length P.triples) 64
+    ∷ []
+
+-- a blank, a tab, or the end of a line
+abbrev pub is_blank : ℕ → Bool
+is_blank b = (b == 32) || (b == 9) || (b == 13) || (b == 10)
+
+-- a word that may name a shift, by itself
+abbrev pub is_name : List ℕ → Bool
+is_name name =
+    is_between 1 32 (length name)
+    && list_all (λ b. not (is_blank b)) name
+    && not (slice_index name 0 == 35)
+    && not (bytes_eq name off_name)
+
+-- the name may name a shift and is none of the earlier names
+abbrev pub is_named_well : List ShiftRow → ShiftRow → Bool
+is_named_well earlier row = is_name row.name && not (list_any (λ other. bytes_eq row.name other.name) earlier)
+
+-- the first shift that isn't named well, where the rows count from k on and others come earlier
+abbrev pub bad_name_from : List ShiftRow → ℕ → List ShiftRow → Option ℕ
+bad_name_from earlier k [] = None
+bad_name_from earlier k (row ∷ rows) = if is_named_well earlier row then bad_name_from (earlier ++ row ∷ []) (k + 1) rows else Some k
+
+abbrev pub name_refusal : Option ℕ → Option PartsRefusal
+name_refusal None = None
+name_refusal (Some k) = Some (Name k)
+
+abbrev pub limit_refusal : Instance → Option ℕ → Option PartsRefusal
+limit_refusal P None = name_refusal (bad_name_from [] 1 P.shifts)
+limit_refusal P (Some k) = Some (Range (k + 1))
+
+-- why the instance isn't valid: its shape, then the first limit that is broken, then the first bad name
+abbrev pub refusal_of : Instance → Option PartsRefusal
+refusal_of P = if has_shape P then limit_refusal P (position not (limits_kept P)) else Some Shape
+
+abbrev pub IsValid : Instance → Type 0
+IsValid P = refusal_of P ≡ None
+
+-- the same in plain facts
+
+abbrev pub IsSmallRange : Bounds → Type 0
+IsSmallRange b = (b.least ≤ 600) × (b.greatest ≤ 600)
+
+abbrev pub AreSmall : Bounds → Type 0
+AreSmall b = (b.least ≤ 10000) × (b.greatest ≤ 10000)
+
+-- 1 to 32 bytes with no blank, tab or line end, no `#` in front, and not the name of the day off
+pub record IsName (name : List ℕ) : Type 0 where
+  pub some : 1 ≤ length name
+  pub few : length name ≤ 32
+  pub unbroken : All (λ b. is_blank b ≡ false) name
+  pub no_hash : slice_index name 0 ≢ 35
+  pub no_dash : name ≢ off_name
+
+-- what valid instances have
+pub record KeepsLimits (P : Instance) : Type 0 where
+  pub rows : length P.demand ≡ length P.shifts
+  pub long_rows : All (λ row. length row ≡ P.days) P.demand
+  pub known_pairs : All (λ x. (x.0.number ≤ shift_count P) × (x.1.number ≤ shift_count P)) P.pairs
+  pub known_triples : All (λ x. (x.0.number ≤ shift_count P) × (x.1.number ≤ shift_count P) × (x.2.number ≤ shift_count P)) P.triples
+  pub some_days : 1 ≤ P.days
+  pub few_days : P.days ≤ 28
+  pub some_weeks : 1 ≤ P.weeks
+  pub few_weeks : P.weeks ≤ 600
+  pub few_cells : P.weeks * P.days ≤ 4200
+  pub some_shifts : 1 ≤ length P.shifts
+  pub few_shifts : length P.shifts ≤ 8
+  pub demand : All (λ row. All IsSmallRange row) P.demand
+  pub times : All (λ row. (row.start ≤ 10000) × (row.length ≤ 10000)) P.shifts
+  pub blocks : All (λ row. AreSmall row.bounds) P.shifts
+  pub off : AreSmall P.off
+  pub work : AreSmall P.work
+  pub few_pairs : length P.pairs ≤ 64
+  pub few_triples : length P.triples ≤ 64
+  pub names : All (λ row. IsName row.name) P.shifts
+  pub distinct : AllPairs (λ a b. a.name ≢ b.name) P.shifts
+
+-- the name of a symbol among these shifts
+abbrev pub name_from : List ShiftRow → ℕ → List ℕ
+name_from rows zero = off_name
+name_from rows (suc k) = name_in (slice_get rows k)

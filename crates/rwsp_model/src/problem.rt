@@ -1,0 +1,214 @@
+ghost use Rattle.std.specs.Prelude.{◌≡◌, ℕ, ◌+◌, ◌-◌, ◌*◌, ◌<◌, ◌≤◌, ◌≤ℤ◌, pos, negsuc, List, [], ◌∷◌, length, Option, Some, None, MatchResult, IfSome, slice_get, position};
+ghost use Rattle.std.specs.Option.{option_map};
+ghost use Rattle.std.specs.Str.{bytes_eq};
+ghost use Rattle.rwsp_terms.specs.Instance.{bounds, shift_count, cells, symbol_of, name_of, least, greatest, IsClass, IsSymbol, IsShift, IsDay};
+ghost use Rattle.rwsp_model.specs.Parts.{instance_of};
+ghost use Rattle.rwsp_model.specs.Validity.{refusal_of, KeepsLimits, name_from};
+
+use crate::{PartsRefusal, demand, validity};
+use rwsp_terms::{Bounds, Class, DemandRow, ShiftRow, Symbol};
+use std::marker::Model;
+
+/// What a problem is made of. A row of demand for each shift has a range for each day.
+#[derive(Debug, Drop)]
+pub struct Parts {
+    pub days: u32,
+    pub weeks: u32,
+    pub demand: Vec<DemandRow>,
+    pub shifts: Vec<ShiftRow>,
+    pub off: Bounds,
+    pub work: Bounds,
+    pub pairs: Vec<(Symbol, Symbol)>,
+    pub triples: Vec<(Symbol, Symbol, Symbol)>,
+}
+
+/// A problem that keeps all limits.
+#[derive(Debug, Drop)]
+pub struct Problem {
+    parts: Parts,
+}
+
+impl Model for Problem {
+    ghost use Rattle.rwsp_terms.specs.Instance.{Instance};
+
+    ghost Value = { Instance };
+
+    ghost use Rattle.rwsp_model.specs.Parts.{instance_of};
+    ghost use Rattle.rwsp_model.specs.Validity.{IsValid};
+
+    ghost view = { λ p. instance_of p.parts };
+
+    ghost invariant = { λ p. IsValid (instance_of p.parts) };
+}
+
+impl Problem {
+    /// The problem of the parts, where they have the shape of one, keep all limits and name their shifts well.
+    pub fn of(parts: Parts) -> Result<Problem, PartsRefusal>
+        ensures { MatchResult result
+            (λ P. (P ≡ instance_of parts) × (refusal_of (instance_of parts) ≡ None))
+            (λ e. refusal_of (instance_of parts) ≡ Some e) }
+    {
+        match validity::refusal(&parts) {
+            None => Ok(Problem { parts }),
+            Some(refusal) => Err(refusal),
+        }
+    }
+
+    /// That the problem keeps its limits.
+    pub fn keeps_limits(&self)
+        ensures { KeepsLimits self.now }
+    {
+        let _ = &self.parts;
+    }
+
+    /// The days of a week.
+    pub fn days(&self) -> u32
+        ensures value { result ≡ self.now.days }
+        ensures some { 1 ≤ result }
+        ensures few { result ≤ 28 }
+    {
+        self.keeps_limits();
+        self.parts.days
+    }
+
+    /// The weeks of a roster.
+    pub fn weeks(&self) -> u32
+        ensures value { result ≡ self.now.weeks }
+        ensures some { 1 ≤ result }
+        ensures few { result ≤ 600 }
+    {
+        self.keeps_limits();
+        self.parts.weeks
+    }
+
+    /// The cells of a roster: its weeks times its days.
+    pub fn cells(&self) -> u32
+        ensures value { result ≡ cells self.now }
+        ensures few { result ≤ 4200 }
+    {
+        self.keeps_limits();
+        self.parts.weeks * self.parts.days
+    }
+
+    /// The number of shifts, which is the number of the last symbol.
+    pub fn shifts(&self) -> u8
+        ensures value { result ≡ shift_count self.now }
+        ensures some { 1 ≤ result }
+        ensures few { result ≤ 8 }
+    {
+        self.keeps_limits();
+        self.parts.shifts.len() as u8
+    }
+
+    /// The pairs of symbols that may not follow each other.
+    pub fn pairs(&self) -> &[(Symbol, Symbol)]
+        ensures value { result.now ≡ self.now.pairs }
+        ensures few { length result.now ≤ 64 }
+    {
+        self.keeps_limits();
+        &self.parts.pairs
+    }
+
+    /// The triples of symbols that may not follow each other.
+    pub fn triples(&self) -> &[(Symbol, Symbol, Symbol)]
+        ensures value { result.now ≡ self.now.triples }
+        ensures few { length result.now ≤ 64 }
+    {
+        self.keeps_limits();
+        &self.parts.triples
+    }
+
+    /// The least and the greatest length of the blocks of a class, in days.
+    pub fn bounds(&self, class: Class) -> Bounds
+        requires { IsClass self.now class }
+        ensures value { result ≡ bounds self.now class }
+        ensures small { (result.least ≤ 10000) × (result.greatest ≤ 10000) }
+    {
+        self.keeps_limits();
+        match class {
+            Class::Shift(shift) => self.parts.shifts[shift.number as usize - 1].bounds,
+            Class::Off => self.parts.off,
+            Class::Work => self.parts.work,
+        }
+    }
+
+    /// The name of a symbol; `-` is that of the day off.
+    pub fn name(&self, x: Symbol) -> &[u8]
+        requires { IsSymbol self.now x }
+        ensures { result.now ≡ name_of self.now x }
+    {
+        name_among(&self.parts.shifts, x.number)
+    }
+
+    /// The symbol that has the name.
+    pub fn symbol(&self, name: &[u8]) -> Option<Symbol>
+        ensures { result ≡ symbol_of self.now name.now }
+    {
+        self.keeps_limits();
+        if name == b"-".as_slice() {
+            return Some(Symbol::OFF);
+        }
+        match place_of_name(&self.parts.shifts, name) {
+            Some(place) => Some(Symbol {
+                number: place as u8 + 1,
+            }),
+            None => None,
+        }
+    }
+
+    /// The start of a shift, in minutes.
+    pub fn start(&self, x: Symbol) -> u32
+        requires { IsShift self.now x }
+        ensures { option_map (λ row. row.start) (slice_get self.now.shifts (x.number - 1)) ≡ Some result }
+    {
+        self.parts.shifts[x.number as usize - 1].start
+    }
+
+    /// The length of a shift, in minutes.
+    pub fn length(&self, x: Symbol) -> u32
+        requires { IsShift self.now x }
+        ensures { option_map (λ row. row.length) (slice_get self.now.shifts (x.number - 1)) ≡ Some result }
+    {
+        self.parts.shifts[x.number as usize - 1].length
+    }
+
+    /// The least number of weeks that hold the symbol on the day. Of the day off it may be negative.
+    pub fn demand_least(&self, x: Symbol, day: u32) -> i32
+        requires symbol { IsSymbol self.now x }
+        requires day { IsDay self.now day }
+        ensures value { result ≡ least self.now x.number day }
+        ensures above { negsuc 4799 ≤ℤ result }
+        ensures below { result ≤ℤ pos 600 }
+    {
+        demand::least_of(&self.parts, x, day)
+    }
+
+    /// The greatest number of weeks that hold the symbol on the day. Of the day off it may be negative.
+    pub fn demand_greatest(&self, x: Symbol, day: u32) -> i32
+        requires symbol { IsSymbol self.now x }
+        requires day { IsDay self.now day }
+        ensures value { result ≡ greatest self.now x.number day }
+        ensures above { negsuc 4799 ≤ℤ result }
+        ensures below { result ≤ℤ pos 600 }
+    {
+        demand::greatest_of(&self.parts, x, day)
+    }
+}
+
+fn name_among(rows: &[ShiftRow], number: u8) -> &[u8]
+    requires { number ≤ length rows.now }
+    ensures { result.now ≡ name_from rows.now number }
+{
+    if number == 0 {
+        b"-".as_slice()
+    } else {
+        rows[number as usize - 1].name.bytes()
+    }
+}
+
+fn place_of_name(rows: &[ShiftRow], name: &[u8]) -> Option<usize>
+    ensures place { result ≡ position (λ row. bytes_eq name.now row.name) rows.now }
+    ensures within { IfSome result (λ k. k < length rows.now) }
+{
+    rows.iter().position(|row| validity::has_name(row, name))
+}

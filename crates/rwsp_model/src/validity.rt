@@ -1,0 +1,184 @@
+// Whether parts make a problem.
+ghost use Rattle.std.specs.Prelude.{◌≡◌, ℕ, ◌+◌, ◌-◌, ◌*◌, ◌<◌, ◌≤◌, List, [], ◌∷◌, length, Option, Some, None, ◌==◌, ◌&&◌, nat_le, map, position, not, take};
+ghost use Rattle.std.specs.List.{list_all, list_any};
+ghost use Rattle.std.specs.Str.{bytes_eq};
+ghost use Rattle.rwsp_model.specs.Parts.{instance_of};
+ghost use Rattle.rwsp_model.specs.Validity.{refusal_of, has_shape, are_small, is_small_range, is_between, limits_kept, is_name, is_named_well, bad_name_from, is_blank};
+
+use crate::{Parts, PartsRefusal};
+use rwsp_terms::{Bounds, DemandRow, ShiftRow, Symbol};
+
+fn is_long(row: &DemandRow, days: usize) -> bool
+    ensures { result ≡ (length row.now == days) }
+{
+    row.ranges().len() == days
+}
+
+fn rows_are_long(rows: &[DemandRow], days: usize) -> bool
+    ensures { result ≡ list_all (λ row. length row == days) rows.now }
+{
+    rows.iter().all(|row| is_long(row, days))
+}
+
+fn pairs_are_within(pairs: &[(Symbol, Symbol)], last: usize) -> bool
+    ensures { result ≡ list_all (λ x. nat_le x.0.number last && nat_le x.1.number last) pairs.now }
+{
+    pairs.iter().all(|(x, y)| x.number as usize <= last && y.number as usize <= last)
+}
+
+fn triples_are_within(triples: &[(Symbol, Symbol, Symbol)], last: usize) -> bool
+    ensures { result ≡ list_all (λ x. nat_le x.0.number last && nat_le x.1.number last && nat_le x.2.number last) triples.now }
+{
+    triples.iter().all(|(x, y, z)| {
+        x.number as usize <= last && y.number as usize <= last && z.number as usize <= last
+    })
+}
+
+fn shape_is_kept(parts: &Parts) -> bool
+    ensures { result ≡ has_shape (instance_of parts.now) }
+{
+    let last = parts.shifts.len();
+    let count = parts.demand.len() == last;
+    let rows = rows_are_long(&parts.demand, parts.days as usize);
+    let pairs = pairs_are_within(&parts.pairs, last);
+    let triples = triples_are_within(&parts.triples, last);
+    count && rows && pairs && triples
+}
+
+fn are_small(bounds: Bounds) -> bool
+    ensures { result ≡ are_small bounds }
+{
+    bounds.least <= 10_000 && bounds.greatest <= 10_000
+}
+
+fn is_small_range(range: Bounds) -> bool
+    ensures { result ≡ is_small_range range }
+{
+    range.least <= 600 && range.greatest <= 600
+}
+
+fn ranges_are_small(row: &DemandRow) -> bool
+    ensures { result ≡ list_all is_small_range row.now }
+{
+    row.ranges().iter().all(|range| is_small_range(*range))
+}
+
+fn demand_is_small(rows: &[DemandRow]) -> bool
+    ensures { result ≡ list_all (λ row. list_all is_small_range row) rows.now }
+{
+    rows.iter().all(|row| ranges_are_small(row))
+}
+
+fn times_are_small(rows: &[ShiftRow]) -> bool
+    ensures { result ≡ list_all (λ row. nat_le row.start 10000 && nat_le row.length 10000) rows.now }
+{
+    rows.iter()
+        .all(|row| row.start <= 10_000 && row.length <= 10_000)
+}
+
+fn blocks_are_small(rows: &[ShiftRow]) -> bool
+    ensures { result ≡ list_all (λ row. are_small row.bounds) rows.now }
+{
+    rows.iter().all(|row| are_small(row.bounds))
+}
+
+fn is_between(low: u64, high: u64, n: u64) -> bool
+    ensures { result ≡ is_between low high n }
+{
+    low <= n && n <= high
+}
+
+// Counted from 0.
+fn first_broken_limit(parts: &Parts) -> Option<usize>
+    ensures { result ≡ position not (limits_kept (instance_of parts.now)) }
+{
+    let shifts = &parts.shifts;
+    let blocks = blocks_are_small(shifts);
+    let off = are_small(parts.off);
+    let work = are_small(parts.work);
+    let kept = [
+        is_between(1, 28, u64::from(parts.days)),
+        is_between(1, 600, u64::from(parts.weeks)),
+        u64::from(parts.weeks) * u64::from(parts.days) <= 4200,
+        is_between(1, 8, shifts.len() as u64),
+        demand_is_small(&parts.demand),
+        times_are_small(shifts),
+        blocks && off && work,
+        parts.pairs.len() <= 64,
+        parts.triples.len() <= 64,
+    ];
+    kept.iter().position(|kept| !*kept)
+}
+
+fn is_blank(b: u8) -> bool
+    ensures { result ≡ is_blank b }
+{
+    b == b' ' || b == b'\t' || b == b'\r' || b == b'\n'
+}
+
+fn has_no_blank(name: &[u8]) -> bool
+    ensures { result ≡ list_all (λ b. not (is_blank b)) name.now }
+{
+    name.iter().all(|b| !is_blank(*b))
+}
+
+fn is_name(name: &[u8]) -> bool
+    ensures { result ≡ is_name name.now }
+{
+    if name.is_empty() || name.len() > 32 {
+        return false;
+    }
+    has_no_blank(name) && name[0] != b'#' && name != b"-".as_slice()
+}
+
+/// Whether the shift has the name.
+pub fn has_name(row: &ShiftRow, name: &[u8]) -> bool
+    ensures { result ≡ bytes_eq name.now row.now.name }
+{
+    name == row.name.bytes()
+}
+
+fn is_among(rows: &[ShiftRow], name: &[u8]) -> bool
+    ensures { result ≡ list_any (λ row. bytes_eq name.now row.name) rows.now }
+{
+    rows.iter().any(|row| has_name(row, name))
+}
+
+fn is_named_well(earlier: &[ShiftRow], row: &ShiftRow) -> bool
+    ensures { result ≡ is_named_well earlier.now row.now }
+{
+    let name = row.name.bytes();
+    let good = is_name(name);
+    let taken = is_among(earlier, name);
+    good && !taken
+}
+
+// Counted from 1.
+#[tactic(auto, using(crate::proofs::Limits::bad_here, crate::proofs::Limits::bad_later))]
+fn first_bad_name(rows: &[ShiftRow]) -> Option<u32>
+    requires { length rows.now ≤ 8 }
+    ensures { result ≡ bad_name_from [] 1 rows.now }
+{
+    for (i, row) in rows.iter().enumerate() {
+        if !is_named_well(&rows[..i], row) {
+            return Some(i as u32 + 1);
+        }
+    }
+    None
+}
+
+/// Why the parts make no problem.
+pub fn refusal(parts: &Parts) -> Option<PartsRefusal>
+    ensures { result ≡ refusal_of (instance_of parts.now) }
+{
+    if !shape_is_kept(parts) {
+        return Some(PartsRefusal::Shape);
+    }
+    if let Some(limit) = first_broken_limit(parts) {
+        return Some(PartsRefusal::Range(limit as u32 + 1));
+    }
+    match first_bad_name(&parts.shifts) {
+        None => None,
+        Some(shift) => Some(PartsRefusal::Name(shift)),
+    }
+}
