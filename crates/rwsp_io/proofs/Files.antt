@@ -1,7 +1,6 @@
 -- Files in memory, place by place.
-use Rattle.std.proofs.Common.{◌≡◌, ℕ, zero, suc, List, [], ◌∷◌, ◌++◌, ◌+◌, ◌≤◌, ◌-◌, ◌<◌, Option, Some, None, true, cond, drop, take, length, subst, ap, sym, ◌∙◌, arith, refl, slice_get}
-use Rattle.std.proofs.lemmas.List.{take_all, length-take-le, take-append-drop, length-drop, drop-drop, drop_all}
-use Rattle.std.proofs.Math.Seq.{take-append_seam}
+use Rattle.std.proofs.Common.{◌≡◌, ℕ, zero, suc, List, [], ◌∷◌, ◌++◌, ◌+◌, ◌<◌, Option, Some, None, true, cond, drop, take, length, subst, ap, sym, ◌∙◌, arith, slice_get}
+use Rattle.std.proofs.lemmas.List.{drop-drop, drop_all}
 use Rattle.std.specs.Prelude.{Vec, String, IfSome, min}
 use Rattle.std.specs.String.{string_bytes}
 use Rattle.std.specs.Str.{bytes_eq}

@@ -1,5 +1,5 @@
 -- What a shelf tells of a name, and when a count of faults has risen.
-use Rattle.std.specs.Prelude.{◌≡◌, ℕ, ◌+◌, ◌-◌, ◌^◌, ◌≤◌, min, List, Option, Some, None, Bool, true, false}
+use Rattle.std.specs.Prelude.{ℕ, ◌+◌, ◌-◌, ◌^◌, ◌≤◌, min, List, Option, Some, None, Bool, true, false}
 
 -- of a name a shelf tells nothing, or that nothing is held under it, or the bytes
 pub data Told : Type 0 where

@@ -1,5 +1,5 @@
 // A shelf and a sink in memory, whose calls fail where they are told to.
-ghost use Rattle.std.specs.Prelude.{◌≡◌, ℕ, ◌+◌, ◌-◌, ◌<◌, ◌≤◌, ◌==◌, ◌&&◌, ◌||◌, List, [], ◌++◌, length, take, drop, Some, vec_len, vec_capacity, min, IfOk, IfSome, OnOk, OnErr, IsErr, is_err, Bool, true, false, nat_lt, slice_get, MatchOption, ◌^◌};
+ghost use Rattle.std.specs.Prelude.{◌≡◌, ℕ, ◌+◌, ◌<◌, ◌≤◌, ◌==◌, ◌&&◌, ◌||◌, List, [], ◌++◌, length, take, drop, Some, vec_len, vec_capacity, min, IfOk, IfSome, OnOk, OnErr, IsErr, is_err, true, false, nat_lt, slice_get, MatchOption, ◌^◌};
 ghost use Rattle.std.specs.Io.{ReadsAtMost, WritesAtMost};
 ghost use Rattle.std.specs.Io.KnownBytes.{ReadConsumes, WriteAppends};
 ghost use Rattle.rwsp_io.specs.Told.{Missing, told_bytes, is_missing, Rose, NeverFall, AllRose};
@@ -110,10 +110,12 @@ impl Shelf for MemoryShelf {
         ensures missing { shelf_held self.old name.now ≡ Missing → IsErr result }
         ensures held { (other : List ℕ) → shelf_held self.new other ≡ shelf_held self.old other }
         ensures faults { NeverFall (shelf_faults self.old) (shelf_faults self.new) }
-        ensures cause { OnErr result (Rose (shelf_faults self.old name.now) (shelf_faults self.new name.now)) }
+        ensures cause { OnErr result
+            (Rose (shelf_faults self.old name.now) (shelf_faults self.new name.now)) }
 
         // Which calls fail.
-        ensures exact { is_err result ≡ (next_fails (shelf_calls self.old) || is_missing (shelf_held self.old name.now)) }
+        ensures exact { is_err result ≡ (next_fails (shelf_calls self.old)
+            || is_missing (shelf_held self.old name.now)) }
         ensures counted { shelf_calls self.new ≡ after_call (shelf_calls self.old) }
         ensures step { shelf_step self.new ≡ shelf_step self.old }
     {
@@ -139,7 +141,8 @@ impl Shelf for MemoryShelf {
 
         // Which calls fail, and how many bytes the others give.
         ensures exact { is_err result ≡ next_fails (shelf_calls self.old) }
-        ensures count { IfOk result (λ k. IfSome (shelf_left self.old) (λ rest. k ≡ min (min (length rest) (length piece.new)) (shelf_step self.old))) }
+        ensures count { IfOk result (λ k. IfSome (shelf_left self.old)
+            (λ rest. k ≡ min (min (length rest) (length piece.new)) (shelf_step self.old))) }
         ensures counted { shelf_calls self.new ≡ after_call (shelf_calls self.old) }
         ensures step { shelf_step self.new ≡ shelf_step self.old }
     {
@@ -147,7 +150,7 @@ impl Shelf for MemoryShelf {
             return Err(self.fault());
         }
         let Some((place, from)) = self.at else {
-            return Ok(0);
+            unreachable!();
         };
         let count = give(rest_of(&self.files, place, from), self.step, piece);
         self.at = Some((place, from + count));
@@ -219,8 +222,10 @@ impl Sink for MemorySink {
         ensures cause { OnErr result (Rose (sink_faults self.old) (sink_faults self.new)) }
 
         // Which calls fail, and how many bytes the others take.
-        ensures exact { is_err result ≡ (next_fails (sink_calls self.old) || (sink_room self.old == 0 && nat_lt 0 (length piece.now))) }
-        ensures count { IfOk result (λ k. k ≡ min (min (length piece.now) (sink_room self.old)) (sink_step self.old)) }
+        ensures exact { is_err result ≡ (next_fails (sink_calls self.old)
+            || (sink_room self.old == 0 && nat_lt 0 (length piece.now))) }
+        ensures count { IfOk result (λ k.
+            k ≡ min (min (length piece.now) (sink_room self.old)) (sink_step self.old)) }
         ensures room { IfOk result (λ k. sink_room self.new + k ≡ sink_room self.old) }
         ensures full { OnErr result (sink_room self.new ≡ sink_room self.old) }
         ensures counted { sink_calls self.new ≡ after_call (sink_calls self.old) }

@@ -55,7 +55,7 @@ impl<'a, R: Files> Shelf for RealShelf<'a, R> {
     // A folder opens, and its first read fails.
     fn take(&mut self, piece: &mut [u8]) -> Result<usize, ShelfFault> {
         let Some(file) = &mut self.file else {
-            return Ok(0);
+            unreachable!();
         };
         if piece.is_empty() {
             return Ok(0);

@@ -2,7 +2,7 @@
 ghost use Rattle.std.specs.Prelude.{◌≡◌, ℕ, ◌+◌, ◌<◌, ◌≤◌, List, length, take, drop, Option, Some, vec_len, IfOk, OnOk, OnErr, IsErr, IsErrOf, Bool, true, false};
 ghost use Rattle.std.specs.Result.{IsOkUnless};
 ghost use Rattle.std.specs.Io.{ReadsAtMost};
-ghost use Rattle.std.specs.Io.KnownBytes.{ReadConsumes, Keeps, Consumes, IsAtEnd};
+ghost use Rattle.std.specs.Io.KnownBytes.{ReadConsumes, Consumes, IsAtEnd};
 ghost use Rattle.rwsp_io.specs.Told.{Told, Bytes, Missing, told_bytes, Rose, NeverFall, AllRose};
 ghost use Rattle.rwsp_io.specs.Reading.{IsTooLong, IsNotTooLong};
 
@@ -92,21 +92,28 @@ pub fn read_all<S: Shelf>(
     requires { limit ≤ 536870912 }
 
     // An answer's bytes are those of the file, and they keep the limit.
-    ensures all { (bytes : List ℕ) → S.held shelf.old name.now ≡ Bytes bytes → IfOk result (λ v. v.items ≡ bytes) }
+    ensures all { (bytes : List ℕ) → S.held shelf.old name.now ≡ Bytes bytes
+        → IfOk result (λ v. v.items ≡ bytes) }
     ensures within { IfOk result (λ v. vec_len v ≤ limit) }
 
     // Why there is none: only where it is so.
-    ensures fault { IsErrOf result ReadFail.Fault → Rose (S.faults shelf.old name.now) (S.faults shelf.new name.now) }
-    ensures too_long { IsErrOf result ReadFail.TooLong → (bytes : List ℕ) → S.held shelf.old name.now ≡ Bytes bytes
+    ensures fault { IsErrOf result ReadFail.Fault
+        → Rose (S.faults shelf.old name.now) (S.faults shelf.new name.now) }
+    ensures too_long { IsErrOf result ReadFail.TooLong
+        → (bytes : List ℕ) → S.held shelf.old name.now ≡ Bytes bytes
         → (limit < length bytes) × (S.left shelf.new ≡ Some (drop (limit + 1) bytes)) }
 
     // And wherever it is so, want of memory aside.
     ensures missing { S.held shelf.old name.now ≡ Missing → IsErrOf result ReadFail.Fault }
-    ensures beyond { (bytes : List ℕ) → S.held shelf.old name.now ≡ Bytes bytes → limit < length bytes → IsErr result }
-    ensures refused { (bytes : List ℕ) → S.held shelf.old name.now ≡ Bytes bytes → limit < length bytes
+    ensures beyond { (bytes : List ℕ) → S.held shelf.old name.now ≡ Bytes bytes
+        → limit < length bytes → IsErr result }
+    ensures refused { (bytes : List ℕ) → S.held shelf.old name.now ≡ Bytes bytes
+        → limit < length bytes
         → ¬ Rose (S.faults shelf.old name.now) (S.faults shelf.new name.now) → IsTooLong result }
-    ensures read { (bytes : List ℕ) → S.held shelf.old name.now ≡ Bytes bytes → length bytes ≤ limit
-        → ¬ Rose (S.faults shelf.old name.now) (S.faults shelf.new name.now) → IsOkUnless result ReadFail.Memory }
+    ensures read { (bytes : List ℕ) → S.held shelf.old name.now ≡ Bytes bytes
+        → length bytes ≤ limit
+        → ¬ Rose (S.faults shelf.old name.now) (S.faults shelf.new name.now)
+        → IsOkUnless result ReadFail.Memory }
 
     // What stays.
     ensures held { (other : List ℕ) → S.held shelf.new other ≡ S.held shelf.old other }
@@ -143,7 +150,8 @@ fn read_piece<S: Shelf>(
     ensures front { take filled bytes.new.items ≡ take filled bytes.old.items }
     ensures within { IfOk result (λ k. filled + k ≤ vec_len bytes.new) }
     ensures few { vec_len bytes.new ≤ most }
-    ensures taken { IfOk result (λ k. Consumes (S.left shelf.old) (S.left shelf.new) (take k (drop filled bytes.new.items))) }
+    ensures taken { IfOk result (λ k.
+        Consumes (S.left shelf.old) (S.left shelf.new) (take k (drop filled bytes.new.items))) }
     ensures end { IfOk result (λ k. k ≡ 0 → IsAtEnd (S.left shelf.new)) }
     ensures failure { IsNotTooLong result }
     ensures fault { IsErrOf result ReadFail.Fault → AllRose (S.faults shelf.old) (S.faults shelf.new) }
@@ -161,7 +169,8 @@ fn take_behind<S: Shelf>(shelf: &mut S, bytes: &mut [u8], place: usize) -> Resul
     requires room { place < length bytes.old }
     ensures front { take place bytes.new ≡ take place bytes.old }
     ensures within { IfOk result (λ k. place + k ≤ length bytes.new) }
-    ensures taken { IfOk result (λ k. Consumes (S.left shelf.old) (S.left shelf.new) (take k (drop place bytes.new))) }
+    ensures taken { IfOk result (λ k.
+        Consumes (S.left shelf.old) (S.left shelf.new) (take k (drop place bytes.new))) }
     ensures end { IfOk result (λ k. k ≡ 0 → IsAtEnd (S.left shelf.new)) }
     ensures failure { OnErr result (IsErrOf result ReadFail.Fault) }
     ensures fault { OnErr result (AllRose (S.faults shelf.old) (S.faults shelf.new)) }

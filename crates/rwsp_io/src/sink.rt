@@ -1,7 +1,7 @@
 // A sink that bytes are put into.
-ghost use Rattle.std.specs.Prelude.{◌≡◌, ◌⊎◌, ℕ, ◌+◌, ◌<◌, ◌≤◌, List, [], length, take, Option, IfOk, OnOk, OnErr, IsOk};
+ghost use Rattle.std.specs.Prelude.{ℕ, ◌<◌, ◌≤◌, List, length, take, Option, IfOk, OnOk, OnErr, IsOk};
 ghost use Rattle.std.specs.Io.{WritesAtMost};
-ghost use Rattle.std.specs.Io.KnownBytes.{WriteAppends, Appends, Keeps};
+ghost use Rattle.std.specs.Io.KnownBytes.{WriteAppends, Appends};
 ghost use Rattle.rwsp_io.specs.Told.{Rose};
 
 /// Bytes could not be put.
@@ -35,7 +35,8 @@ pub trait Sink {
 /// Puts all bytes, or a prefix of them where the sink failed. It takes no memory.
 pub fn write_all<K: Sink>(sink: &mut K, bytes: &[u8]) -> Result<(), WriteFault>
     ensures ok { OnOk result (Appends (K.got sink.old) (K.got sink.new) bytes.now) }
-    ensures prefix { OnErr result ((n : ℕ) × (n ≤ length bytes.now) × Appends (K.got sink.old) (K.got sink.new) (take n bytes.now)) }
+    ensures prefix { OnErr result ((n : ℕ) × (n ≤ length bytes.now)
+        × Appends (K.got sink.old) (K.got sink.new) (take n bytes.now)) }
     ensures faults { K.faults sink.old ≤ K.faults sink.new }
     ensures cause { OnErr result (Rose (K.faults sink.old) (K.faults sink.new)) }
     ensures whole { ¬ Rose (K.faults sink.old) (K.faults sink.new) → IsOk result }
