@@ -4,6 +4,7 @@
 mod data;
 mod laws;
 mod lists;
+mod sharing;
 
 pub use data::{Bounds, Class, DemandRow, Name, Rule, ShiftRow, Symbol, Weight};
 pub use lists::{RuleList, Weights, Word};
