@@ -76,17 +76,17 @@ insert_increasing xs i y place up =
     (λ k d low. subst (λ z. z < y) (get_or_default xs k 0 d (omega (arith, low, place.0))) (place.1 k low))
     (λ k d high less. subst (λ z. y < z) (get_or_default xs k 0 d less) (place.2 k high less)))
 
-Contains-cons : {X : Type 0} (y : X) (xs : List X) (z : X) → Contains (y ∷ xs) z → Contains xs z ⊎ (z ≡ y)
+pub Contains-cons : {X : Type 0} (y : X) (xs : List X) (z : X) → Contains (y ∷ xs) z → Contains xs z ⊎ (z ≡ y)
 Contains-cons y xs z h =
     elim (h.0) as (λ (k : ℕ). k < length (y ∷ xs) → get_or (y ∷ xs) k z ≡ z → Contains xs z ⊎ (z ≡ y)) [
       | zero ↦ λ less same. inr (sym same)
       | suc k ↦ λ less same. inl (k, omega (arith, less), same)
     ] h.1 h.2
 
-Contains-later : {X : Type 0} (y : X) (xs : List X) (z : X) → Contains xs z → Contains (y ∷ xs) z
+pub Contains-later : {X : Type 0} (y : X) (xs : List X) (z : X) → Contains xs z → Contains (y ∷ xs) z
 Contains-later y xs z h = (suc h.0, omega (arith, h.1), h.2)
 
-Contains-first : {X : Type 0} (y : X) (xs : List X) (z : X) → z ≡ y → Contains (y ∷ xs) z
+pub Contains-first : {X : Type 0} (y : X) (xs : List X) (z : X) → z ≡ y → Contains (y ∷ xs) z
 Contains-first y xs z e = (0, omega arith, sym e)
 
 pub Contains-insert : {X : Type 0} (xs : List X) (i : ℕ) (y z : X) → Contains (insert xs i y) z ↔ (Contains xs z ⊎ (z ≡ y))
@@ -117,17 +117,17 @@ rising xs up i j le less =
 
 -- places of entries
 
-abbrev IsHere : Weight → ℕ → ℕ → Type 0
+abbrev pub IsHere : Weight → ℕ → ℕ → Type 0
 IsHere e j x = (e.day ≡ j) × (e.symbol.number ≡ x)
 
 both : (a b : Bool) → (a && b) ≡ true → (a ≡ true) × (b ≡ true)
 both true b h = (refl, h)
 both false b h = absurd (cc)
 
-here_from_test : (e : Weight) (j x : ℕ) → is_at e j x ≡ true → IsHere e j x
+pub here_from_test : (e : Weight) (j x : ℕ) → is_at e j x ≡ true → IsHere e j x
 here_from_test e j x h = let b = both (eqb e.day j) (eqb e.symbol.number x) h in (eqb-true _ _ b.0, eqb-true _ _ b.1)
 
-test_from_here : (e : Weight) (j x : ℕ) → IsHere e j x → is_at e j x ≡ true
+pub test_from_here : (e : Weight) (j x : ℕ) → IsHere e j x → is_at e j x ≡ true
 test_from_here e j x h = grind (arith, nat_tests)
 
 not_here : (e : Weight) (j x : ℕ) → (IsHere e j x → ⊥) → is_at e j x ≡ false
@@ -136,7 +136,7 @@ not_here e j x h = elim (is_at e j x) as (λ (b : Bool). is_at e j x ≡ b → b
 off_before : (e : Weight) (j x : ℕ) → Precedes e j x → is_at e j x ≡ false
 off_before e j x h = not_here e j x (λ here. ⊎_elim (λ (l : e.day < j). omega (arith, here.0, l)) (λ (l : (e.day ≡ j) × (e.symbol.number < x)). omega (arith, here.1, l.1)) h)
 
-off_after : (e : Weight) (j x : ℕ) → Follows e j x → is_at e j x ≡ false
+pub off_after : (e : Weight) (j x : ℕ) → Follows e j x → is_at e j x ≡ false
 off_after e j x h = not_here e j x (λ here. ⊎_elim (λ (l : j < e.day). omega (arith, here.0, l)) (λ (l : (e.day ≡ j) × (x < e.symbol.number)). omega (arith, here.1, l.1)) h)
 
 -- an entry that comes neither before nor here comes after
@@ -197,16 +197,16 @@ weight_behind : (front a b : List Weight) (j x : ℕ) → weight_at a j x ≡ we
 weight_behind [] a b j x h = h
 weight_behind (e ∷ front) a b j x h = ap (λ v. cond (is_at e j x) e.value v) (weight_behind front a b j x h)
 
-weight_none : (y : List Weight) (j x : ℕ) → All (λ (e : Weight). is_at e j x ≡ false) y → weight_at y j x ≡ pos 0
+pub weight_none : (y : List Weight) (j x : ℕ) → All (λ (e : Weight). is_at e j x ≡ false) y → weight_at y j x ≡ pos 0
 weight_none [] j x h = refl
 weight_none (e ∷ y) j x h =
     ap (λ b. cond b e.value (weight_at y j x)) (All-head (λ (e : Weight). is_at e j x ≡ false) e y h)
     ∙ weight_none y j x (All-tail (λ (e : Weight). is_at e j x ≡ false) e y h)
 
-weight_past : (e : Weight) (y : List Weight) (j x : ℕ) → is_at e j x ≡ false → weight_at (e ∷ y) j x ≡ weight_at y j x
+pub weight_past : (e : Weight) (y : List Weight) (j x : ℕ) → is_at e j x ≡ false → weight_at (e ∷ y) j x ≡ weight_at y j x
 weight_past e y j x h = ap (λ b. cond b e.value (weight_at y j x)) h
 
-weight_first : (e : Weight) (y : List Weight) (j x : ℕ) → is_at e j x ≡ true → weight_at (e ∷ y) j x ≡ e.value
+pub weight_first : (e : Weight) (y : List Weight) (j x : ℕ) → is_at e j x ≡ true → weight_at (e ∷ y) j x ≡ e.value
 weight_first e y j x h = ap (λ b. cond b e.value (weight_at y j x)) h
 
 off_front : (y : List Weight) (i j x : ℕ) → i ≤ length y → ((k : ℕ) (d : Weight) → k < i → Precedes (get_or y k d) j x) → All (λ (e : Weight). is_at e j x ≡ false) (take i y)
