@@ -1,0 +1,2 @@
+pub mod FirstWindow
+pub mod Run
