@@ -1,6 +1,6 @@
 -- Runs, and the first block that is too long or too short.
 use Rattle.std.proofs.Common.{◌≡◌, ℕ, suc, ◌+◌, ◌-◌, ◌<◌, ◌≤◌, ◌%◌, ◌⊎◌, inl, inr, List, [], ◌∷◌, ◌++◌, length, ap, sym, ◌∙◌, arith, subst, length-append}
-use Rattle.std.specs.Prelude.{slice_index_or}
+use Rattle.std.specs.Prelude.{slice_index_or, Bool, true, not, IsTrue}
 use Rattle.std.proofs.lemmas.Bool.{cases_lt, cases_order}
 use Rattle.std.proofs.Math.Nat.{add-mod_right}
 use Rattle.rwsp_terms.specs.Window.{off_symbol, window, cell, InClass, TooLong, TooShort, IsShortBlock}
@@ -9,6 +9,10 @@ use Rattle.rwsp_terms.specs.declared.data.Class.{Class}
 use Rattle.rwsp_terms.proofs.Windows.{length-window, TooLong-from_cells, cells-from_TooLong, TooShort-from_cells, cells-from_TooShort}
 use Rattle.roster_checker.specs.FirstWindow.{HasNone, IsFirst}
 use Rattle.roster_checker.specs.Run.{IsRun}
+
+-- a test and its opposite
+pub not_both : (b : Bool) → IsTrue b → IsTrue (not b) → ⊥
+not_both b holds fails = let e : not true ≡ true = ap not (sym holds) ∙ fails in cc
 
 -- before the first day there is no run
 pub run_at_start : (s : List Symbol) (c : Class) → IsRun s c 0 0
