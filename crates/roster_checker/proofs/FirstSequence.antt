@@ -16,7 +16,7 @@ none_past IsKind s p here none q len lt bad =
     ]
 
 pub pair_found : (s : List Symbol) (x : Symbol × Symbol) (p : ℕ) → p < length s → cell s p ≡ x.0 → cell s (p + 1) ≡ x.1
-    → ((q len : ℕ) → q < p → IsPair x (window s q len) → ⊥) → IsFirst (IsPair x) s (record { position = p; length = 2 })
+    → ((q len : ℕ) → q < p → IsPair x (window s q len) → ⊥) → IsFirst (IsPair x) s p 2
 pair_found s x p within first second none = record {
   within = within;
   here = window-from_pair s p x.0 x.1 first second;
@@ -25,7 +25,7 @@ pair_found s x p within first second none = record {
 }
 
 pub triple_found : (s : List Symbol) (x : Symbol × Symbol × Symbol) (p : ℕ) → p < length s → cell s p ≡ x.0 → cell s (p + 1) ≡ x.1 → cell s (p + 2) ≡ x.2
-    → ((q len : ℕ) → q < p → IsTriple x (window s q len) → ⊥) → IsFirst (IsTriple x) s (record { position = p; length = 3 })
+    → ((q len : ℕ) → q < p → IsTriple x (window s q len) → ⊥) → IsFirst (IsTriple x) s p 3
 triple_found s x p within first second third none = record {
   within = within;
   here = window-from_triple s p x.0 x.1 x.2 first second third;

@@ -1,2 +1,3 @@
-pub mod Runs
+pub mod Counting
 pub mod FirstSequence
+pub mod Runs

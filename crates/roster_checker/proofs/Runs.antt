@@ -25,7 +25,7 @@ run_at_start s c = record {
 -- a window of the greatest length and one day more lies in a run that is longer
 pub too_long_found : (s : List Symbol) (c : Class) (greatest end run p : ℕ) → IsRun s c (end + 1) run → greatest < run → p + greatest ≡ end → end < length s + greatest
     → ((q len : ℕ) → q + greatest < end → TooLong c greatest (window s q len) → ⊥)
-    → IsFirst (TooLong c greatest) s (record { position = p; length = greatest + 1 })
+    → IsFirst (TooLong c greatest) s p (greatest + 1)
 too_long_found s c greatest end run p r long e few none = record {
   within = omega arith;
   here = TooLong-from_cells s c greatest p (λ i lt. r.within (p + i) (omega (arith, r.few)) (omega arith));
@@ -118,7 +118,7 @@ no_block_begins_earlier s c least end run p q t b e none lt a =
 -- the first block to end is the first to begin
 pub too_short_found : (s : List Symbol) (c : Class) (least end run p : ℕ) → 0 < length s → IsShortBlock s c least p run → p + 1 + run ≡ end
     → ((q t : ℕ) → q + 1 + t < end → IsShortBlock s c least q t → ⊥)
-    → IsFirst (TooShort c least) s (record { position = p; length = run + 2 })
+    → IsFirst (TooShort c least) s p (run + 2)
 too_short_found s c least end run p some b e none = record {
   within = block_begins_within s c least end run p some b e none;
   here = let same : suc (run + 1) ≡ run + 2 = omega arith in subst (λ n. TooShort c least (window s p n)) same (TooShort-from_cells s c least p run b);

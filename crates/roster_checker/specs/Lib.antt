@@ -1,2 +1,3 @@
+pub mod FirstBroken
 pub mod FirstWindow
 pub mod Run

@@ -2,10 +2,12 @@
 #![tactic(auto)]
 
 mod blocks;
+mod broken;
 mod cycle;
+mod days;
 mod place;
+mod rules;
 mod sequences;
 
-pub use blocks::{first_too_long, first_too_short};
-pub use place::Place;
-pub use sequences::{first_pair, first_triple};
+pub use broken::Broken;
+pub use rules::first_place;

@@ -17,7 +17,7 @@ fn is_pair_at(cells: &[Symbol], p: u32, pair: (Symbol, Symbol)) -> bool
 /// The first place of the pair.
 pub fn first_pair(cells: &[Symbol], pair: (Symbol, Symbol)) -> Option<Place>
     requires { (0 < length cells.now) × (length cells.now < 2 ^ 31) }
-    ensures { MatchOption result (HasNone (IsPair pair) cells.now) (IsFirst (IsPair pair) cells.now) }
+    ensures { MatchOption result (HasNone (IsPair pair) cells.now) (λ w. IsFirst (IsPair pair) cells.now w.position w.length) }
 {
     for position in 0..cells.len() as u32 {
         if is_pair_at(cells, position, pair) {
@@ -42,7 +42,7 @@ fn is_triple_at(cells: &[Symbol], p: u32, triple: (Symbol, Symbol, Symbol)) -> b
 /// The first place of the triple.
 pub fn first_triple(cells: &[Symbol], triple: (Symbol, Symbol, Symbol)) -> Option<Place>
     requires { (0 < length cells.now) × (length cells.now < 2 ^ 31) }
-    ensures { MatchOption result (HasNone (IsTriple triple) cells.now) (IsFirst (IsTriple triple) cells.now) }
+    ensures { MatchOption result (HasNone (IsTriple triple) cells.now) (λ w. IsFirst (IsTriple triple) cells.now w.position w.length) }
 {
     for position in 0..cells.len() as u32 {
         if is_triple_at(cells, position, triple) {
