@@ -4,7 +4,8 @@ use Rattle.std.proofs.lemmas.Bool.{cases_lt}
 use Rattle.rwsp_terms.specs.Window.{window, cell}
 use Rattle.rwsp_terms.specs.declared.data.Symbol.{Symbol}
 use Rattle.rwsp_terms.proofs.Windows.{length-window, pair-from_window, triple-from_window, window-from_pair, window-from_triple}
-use Rattle.roster_checker.specs.FirstWindow.{IsFirst, IsPair, IsTriple}
+use Rattle.roster_checker.specs.FirstBroken.{IsFirst}
+use Rattle.roster_checker.specs.Scan.{IsPair, IsTriple}
 
 -- none of the kind before a position and none there
 pub none_past : (IsKind : List Symbol → Type 0) (s : List Symbol) (p : ℕ) → ((len : ℕ) → IsKind (window s p len) → ⊥)

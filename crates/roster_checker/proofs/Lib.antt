@@ -1,3 +1,5 @@
 pub mod Counting
+pub mod FirstBroken
 pub mod FirstSequence
+pub mod RuleNumbers
 pub mod Runs

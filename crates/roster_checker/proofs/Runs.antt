@@ -7,8 +7,8 @@ use Rattle.rwsp_terms.specs.Window.{off_symbol, window, cell, InClass, TooLong, 
 use Rattle.rwsp_terms.specs.declared.data.Symbol.{Symbol}
 use Rattle.rwsp_terms.specs.declared.data.Class.{Class}
 use Rattle.rwsp_terms.proofs.Windows.{length-window, TooLong-from_cells, cells-from_TooLong, TooShort-from_cells, cells-from_TooShort}
-use Rattle.roster_checker.specs.FirstWindow.{HasNone, IsFirst}
-use Rattle.roster_checker.specs.Run.{IsRun}
+use Rattle.roster_checker.specs.FirstBroken.{IsFirst}
+use Rattle.roster_checker.specs.Scan.{HasNone, IsRun}
 
 -- a test and its opposite
 pub not_both : (b : Bool) → IsTrue b → IsTrue (not b) → ⊥

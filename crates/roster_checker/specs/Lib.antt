@@ -1,3 +1,2 @@
 pub mod FirstBroken
-pub mod FirstWindow
-pub mod Run
+pub mod Scan

@@ -1,8 +1,8 @@
 // Blocks of one class, anywhere round the cycle. A run is the block that ends right before a position.
 ghost use Rattle.std.specs.Prelude.{◌≡◌, ℕ, ◌+◌, ◌-◌, ◌<◌, ◌≤◌, ◌^◌, ◌↔◌, length, IsTrue, MatchOption};
 ghost use Rattle.rwsp_terms.specs.Window.{InClass, cell, TooLong, TooShort, IsShortBlock};
-ghost use Rattle.roster_checker.specs.FirstWindow.{HasNone, IsFirst};
-ghost use Rattle.roster_checker.specs.Run.{IsRun};
+ghost use Rattle.roster_checker.specs.FirstBroken.{IsFirst};
+ghost use Rattle.roster_checker.specs.Scan.{HasNone, IsRun};
 
 use crate::cycle::{is_in, symbol_at};
 use crate::place::Place;

@@ -5,9 +5,14 @@ mod blocks;
 mod broken;
 mod cycle;
 mod days;
+mod laws;
 mod place;
 mod rules;
 mod sequences;
+mod stub;
 
-pub use broken::Broken;
-pub use rules::first_place;
+pub use broken::{Broken, first_broken};
+pub use laws::{first_broken_rule_is_not_met, first_broken_rule_is_unique};
+
+#[cfg(test)]
+mod tests;

@@ -4,8 +4,8 @@ ghost use Rattle.rwsp_terms.specs.Instance.{bounds, IsClass, IsDay};
 ghost use Rattle.rwsp_terms.specs.Window.{TooLong, TooShort, Bad};
 ghost use Rattle.rwsp_terms.specs.Roster.{MeetsRule, MeetsDay, IsRule};
 ghost use Rattle.rwsp_terms.specs.declared.data.Rule.TheVariants.{Pair, Triple, Day};
-ghost use Rattle.roster_checker.specs.FirstWindow.{HasNone, IsFirst};
-ghost use Rattle.roster_checker.specs.FirstBroken.{IsFirstPlace};
+ghost use Rattle.roster_checker.specs.FirstBroken.{IsFirst};
+ghost use Rattle.roster_checker.specs.Scan.{HasNone, IsFirstPlace};
 
 use crate::blocks::{first_too_long, first_too_short};
 use crate::days::day_is_met;

@@ -1,7 +1,8 @@
 // Sequences of two or three symbols, anywhere round the cycle.
 ghost use Rattle.std.specs.Prelude.{◌≡◌, ℕ, ◌+◌, ◌<◌, ◌^◌, ◌↔◌, length, IsTrue, MatchOption};
 ghost use Rattle.rwsp_terms.specs.Window.{cell};
-ghost use Rattle.roster_checker.specs.FirstWindow.{HasNone, IsFirst, IsPair, IsTriple};
+ghost use Rattle.roster_checker.specs.FirstBroken.{IsFirst};
+ghost use Rattle.roster_checker.specs.Scan.{HasNone, IsPair, IsTriple};
 
 use crate::cycle::{is_same, symbol_at};
 use crate::place::Place;

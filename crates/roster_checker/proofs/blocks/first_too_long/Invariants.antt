@@ -1,6 +1,6 @@
 use Rattle.std.proofs.Common.{ℕ, ◌+◌, ◌<◌, ◌≤◌}
 use Rattle.rwsp_terms.specs.Window.{window, TooLong}
-use Rattle.roster_checker.specs.Run.{IsRun}
+use Rattle.roster_checker.specs.Scan.{IsRun}
 use Rattle.roster_checker.proofs.blocks.first_too_long.Given as goal
 
 abbrev pub invariant-loop-end : goal.invariant-loop-end

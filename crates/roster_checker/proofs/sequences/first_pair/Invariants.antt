@@ -1,6 +1,6 @@
 use Rattle.std.proofs.Common.{ℕ, ◌<◌}
 use Rattle.rwsp_terms.specs.Window.{window}
-use Rattle.roster_checker.specs.FirstWindow.{IsPair}
+use Rattle.roster_checker.specs.Scan.{IsPair}
 use Rattle.roster_checker.proofs.sequences.first_pair.Given as goal
 
 abbrev pub invariant-loop-position : goal.invariant-loop-position

@@ -1,6 +1,6 @@
 use Rattle.std.proofs.Common.{ℕ, arith, refl, ap}
 use Rattle.rwsp_terms.proofs.Windows.{triple-from_window}
-use Rattle.roster_checker.specs.FirstWindow.{IsTriple}
+use Rattle.roster_checker.specs.Scan.{IsTriple}
 use Rattle.roster_checker.proofs.FirstSequence.{none_past, triple_found}
 use Rattle.roster_checker.proofs.sequences.first_triple.Goals as goal
 
