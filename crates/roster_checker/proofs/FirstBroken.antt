@@ -13,7 +13,7 @@ use Rattle.rwsp_terms.specs.declared.data.Rule.TheVariants.{MaxShift, MinShift, 
 use Rattle.roster_checker.specs.FirstBroken.{BeginsFirstBadWindow, BreaksFirst, FailsDay, IsFirst, IsFirstBroken, position_of}
 use Rattle.roster_checker.specs.Scan.{IsFirstPlace, StandsAt}
 use Rattle.roster_checker.specs.declared.broken.Broken.{Broken}
-use Rattle.roster_checker.proofs.RuleNumbers.{rule_of-is_rule}
+use Rattle.rwsp_model.proofs.Numbering.{rule_numbered}
 
 -- a rule that is broken isn't met
 breaks-not_met : (P : Instance) (r : Rule) (s : List Symbol) (b : Broken) → BreaksFirst P r s b → MeetsRule P r s → ⊥
@@ -28,7 +28,7 @@ breaks-not_met P (Triple k) s b h met = met _ _ h.first.within h.first.here
 breaks-not_met P (Day j) s b h met = h.fails met
 
 pub first_broken-not_met : (P : Instance) (s : List Symbol) (b : Broken) → IsFirstBroken P s b → MeetsAll P s → ⊥
-first_broken-not_met P s b f all = breaks-not_met P f.rule s b f.breaks (all.rules f.rule (rule_of-is_rule P b.rule f.rule f.number))
+first_broken-not_met P s b f all = breaks-not_met P f.rule s b f.breaks (all.rules f.rule (rule_numbered P b.rule f.rule f.number).0)
 
 -- the first window of a kind is one
 

@@ -1,5 +1,4 @@
 pub mod Counting
 pub mod FirstBroken
 pub mod FirstSequence
-pub mod RuleNumbers
 pub mod Runs

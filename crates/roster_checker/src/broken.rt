@@ -8,8 +8,7 @@ ghost use Rattle.roster_checker.specs.Scan.{StandsAt};
 
 use crate::place::Place;
 use crate::rules::first_place;
-use crate::stub::{rule_at, rule_count};
-use rwsp_model::{Problem, Roster, Symbol};
+use rwsp_model::{Problem, Roster, Symbol, rule_at, rule_count};
 
 /// The first rule that a roster breaks, by its number, and where: the week and the day on which the first bad window begins, both counted from 1, and how many days it has.
 /// For a rule of a day, week is 1, day is that day and length is 0.

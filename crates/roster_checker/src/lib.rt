@@ -9,7 +9,6 @@ mod laws;
 mod place;
 mod rules;
 mod sequences;
-mod stub;
 
 pub use broken::{Broken, first_broken};
 pub use laws::{first_broken_rule_is_not_met, first_broken_rule_is_unique};

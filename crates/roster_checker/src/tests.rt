@@ -1,4 +1,7 @@
 // Small problems of one week or three, and where their rosters break a rule first.
+ghost use Rattle.std.specs.Prelude.{IfSome};
+ghost use Rattle.rwsp_terms.specs.Roster.{IsRoster};
+
 use super::{Broken, first_broken};
 use rwsp_model::{Bounds, DemandRow, Name, Parts, Problem, Roster, ShiftRow, Symbol};
 use std::alloc::{AllocError, Global};
@@ -54,9 +57,11 @@ fn two_shifts(alloc: Global, day: &[Bounds], night: &[Bounds], pairs: &[(Symbol,
     Ok(Problem::of(parts)?)
 }
 
-fn roster(problem: &Problem, cells: Vec<Symbol>) -> Option<Roster> {
+fn roster(problem: &Problem, cells: Vec<Symbol>) -> Option<Roster>
+    ensures { IfSome result (λ r. IsRoster problem.now r.cells) }
+{
     let last = problem.shifts();
-    if cells.len() as u32 != problem.cells() {
+    if cells.len() != problem.cells() as usize {
         return None;
     }
     if !cells.iter().all(|x| x.number <= last) {
