@@ -1,10 +1,10 @@
 -- The first broken rule is one, and the check finds it.
-use Rattle.std.proofs.Common.{◌≡◌, ℕ, ◌+◌, ◌-◌, ◌*◌, ◌/◌, ◌%◌, ◌^◌, ◌<◌, ◌≤◌, ◌⊎◌, inl, inr, List, length, Some, refl, ap, sym, ◌∙◌, arith, subst}
+use Rattle.std.proofs.Common.{◌≡◌, ℕ, ◌+◌, ◌-◌, ◌*◌, ◌/◌, ◌%◌, ◌^◌, ◌<◌, ◌≤◌, inl, inr, List, length, Some, ap, sym, ◌∙◌, arith, subst}
 use Rattle.std.proofs.lemmas.Bool.{cases_lt, cases_order}
 use Rattle.std.proofs.Math.Nat.{mul-le-mul_right}
 use Rattle.std.proofs.lemmas.Nat.{div-mul-add, mod-mul-add}
 use Rattle.rwsp_terms.specs.Instance.{Instance}
-use Rattle.rwsp_terms.specs.Window.{window, Bad}
+use Rattle.rwsp_terms.specs.Window.{Bad}
 use Rattle.rwsp_terms.specs.Roster.{MeetsRule, MeetsAll, IsRule}
 use Rattle.rwsp_terms.specs.Rules.{rule_of}
 use Rattle.rwsp_terms.specs.declared.data.Symbol.{Symbol}
@@ -35,15 +35,15 @@ first_broken-not_met P s b f all = breaks-not_met P f.rule s b f.breaks (all.rul
 same_position : (IsKind : List Symbol → Type 0) (s : List Symbol) (p m q n : ℕ) → IsFirst IsKind s p m → IsFirst IsKind s q n → p ≡ q
 same_position IsKind s p m q n a b =
     elim (cases_order p q) [
-      inl same ↦ same
-    | inr other ↦ elim other [ inl less ↦ absurd (b.earliest p m less a.here) | inr more ↦ absurd (a.earliest q n more b.here) ]
+      | inl same ↦ same
+      | inr other ↦ elim other [ inl less ↦ absurd (b.earliest p m less a.here) | inr more ↦ absurd (a.earliest q n more b.here) ]
     ]
 
 same_length : (IsKind : List Symbol → Type 0) (s : List Symbol) (p m n : ℕ) → IsFirst IsKind s p m → IsFirst IsKind s p n → m ≡ n
 same_length IsKind s p m n a b =
     elim (cases_order m n) [
-      inl same ↦ same
-    | inr other ↦ elim other [ inl less ↦ absurd (b.shortest m less a.here) | inr more ↦ absurd (a.shortest n more b.here) ]
+      | inl same ↦ same
+      | inr other ↦ elim other [ inl less ↦ absurd (b.shortest m less a.here) | inr more ↦ absurd (a.shortest n more b.here) ]
     ]
 
 -- whole weeks and a day are one number in one way
@@ -63,9 +63,11 @@ same_window P r s a b f g =
     let a_in : a.day - 1 < P.days = omega (arith, f.day.0, f.day.1) in
     let b_in : b.day - 1 < P.days = omega (arith, g.day.0, g.day.1) in
     let weeks : a.week - 1 ≡ b.week - 1 = same_weeks P.days (a.week - 1) (a.day - 1) (b.week - 1) (b.day - 1) a_in b_in at in
-    let days : a.day - 1 ≡ b.day - 1 = same_day P.days (a.week - 1) (a.day - 1) (b.week - 1) (b.day - 1) a_in b_in at in
-    (omega (arith, f.week.0, g.week.0, weeks), omega (arith, f.day.0, g.day.0, days),
-     same_length (Bad P r) s (position_of P b.week b.day) a.length b.length (subst (λ p. IsFirst (Bad P r) s p a.length) at f.first) g.first)
+    let days : a.day - 1 ≡ b.day - 1 = same_day P.days (a.week - 1) (a.day - 1) (b.week - 1) (b.day - 1) a_in b_in at in (
+      omega (arith, f.week.0, g.week.0, weeks),
+      omega (arith, f.day.0, g.day.0, days),
+      same_length (Bad P r) s (position_of P b.week b.day) a.length b.length (subst (λ p. IsFirst (Bad P r) s p a.length) at f.first) g.first,
+    )
 
 same_place : (P : Instance) (r : Rule) (s : List Symbol) (a b : Broken) → BreaksFirst P r s a → BreaksFirst P r s b → SamePlace a b
 same_place P (MaxShift x) s a b f g = same_window P (MaxShift x) s a b f g
@@ -93,8 +95,8 @@ not_earlier P s a b f g less = breaks-not_met P f.rule s a f.breaks (g.lower a.r
 same_number : (P : Instance) (s : List Symbol) (a b : Broken) → IsFirstBroken P s a → IsFirstBroken P s b → a.rule ≡ b.rule
 same_number P s a b f g =
     elim (cases_order a.rule b.rule) [
-      inl same ↦ same
-    | inr other ↦ elim other [ inl less ↦ absurd (not_earlier P s a b f g less) | inr more ↦ absurd (not_earlier P s b a g f more) ]
+      | inl same ↦ same
+      | inr other ↦ elim other [ inl less ↦ absurd (not_earlier P s a b f g less) | inr more ↦ absurd (not_earlier P s b a g f more) ]
     ]
 
 same_some : (x y : Rule) → Some x ≡ Some y → x ≡ y
@@ -111,14 +113,14 @@ first_broken-same P s a b f g =
 week_within : (weeks days w d : ℕ) → w * days + d < weeks * days → w < weeks
 week_within weeks days w d less =
     elim (cases_lt w weeks) [
-      inl within ↦ within
-    | inr past ↦ let more : weeks * days ≤ w * days = mul-le-mul_right days past in absurd (omega arith)
+      | inl within ↦ within
+      | inr past ↦ let more : weeks * days ≤ w * days = mul-le-mul_right days past in absurd (omega arith)
     ]
 
 window_begins : (P : Instance) (r : Rule) (s : List Symbol) (b : Broken) (p n : ℕ) → length s ≡ P.weeks * P.days → StandsAt P b p n → IsFirst (Bad P r) s p n → BeginsFirstBadWindow P r s b
 window_begins P r s b p n long at first =
     let here : IsFirst (Bad P r) s (position_of P b.week b.day) b.length =
-        subst (λ q. IsFirst (Bad P r) s q b.length) (sym at.position) (subst (λ m. IsFirst (Bad P r) s p m) (sym at.length) first) in
+    subst (λ q. IsFirst (Bad P r) s q b.length) (sym at.position) (subst (λ m. IsFirst (Bad P r) s p m) (sym at.length) first) in
     let before : b.week - 1 < P.weeks = week_within P.weeks P.days (b.week - 1) (b.day - 1) (omega (arith, here.within, long)) in
     record {
       week = (at.week, omega (arith, at.week, before));

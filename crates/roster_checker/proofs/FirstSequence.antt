@@ -1,9 +1,9 @@
 -- The first pair or triple.
-use Rattle.std.proofs.Common.{◌≡◌, ℕ, ◌+◌, ◌<◌, List, [], ◌∷◌, length, ap, sym, ◌∙◌, arith, subst, ◌⊎◌, inl, inr}
+use Rattle.std.proofs.Common.{◌≡◌, ℕ, ◌+◌, ◌<◌, List, length, ap, arith, subst, inl, inr}
 use Rattle.std.proofs.lemmas.Bool.{cases_lt}
 use Rattle.rwsp_terms.specs.Window.{window, cell}
 use Rattle.rwsp_terms.specs.declared.data.Symbol.{Symbol}
-use Rattle.rwsp_terms.proofs.Windows.{length-window, pair-from_window, triple-from_window, window-from_pair, window-from_triple}
+use Rattle.rwsp_terms.proofs.Windows.{length-window, window-from_pair, window-from_triple}
 use Rattle.roster_checker.specs.FirstBroken.{IsFirst}
 use Rattle.roster_checker.specs.Scan.{IsPair, IsTriple}
 
@@ -12,8 +12,8 @@ pub none_past : (IsKind : List Symbol → Type 0) (s : List Symbol) (p : ℕ) �
     → ((q len : ℕ) → q < p → IsKind (window s q len) → ⊥) → (q len : ℕ) → q < p + 1 → IsKind (window s q len) → ⊥
 none_past IsKind s p here none q len lt bad =
     elim (cases_lt q p) [
-      inl before ↦ none q len before bad
-    | inr now ↦ let same : q ≡ p = omega arith in here len (subst (λ i. IsKind (window s i len)) same bad)
+      | inl before ↦ none q len before bad
+      | inr now ↦ let same : q ≡ p = omega arith in here len (subst (λ i. IsKind (window s i len)) same bad)
     ]
 
 pub pair_found : (s : List Symbol) (x : Symbol × Symbol) (p : ℕ) → p < length s → cell s p ≡ x.0 → cell s (p + 1) ≡ x.1

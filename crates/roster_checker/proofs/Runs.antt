@@ -1,5 +1,5 @@
 -- Runs, and the first block that is too long or too short.
-use Rattle.std.proofs.Common.{◌≡◌, ℕ, suc, ◌+◌, ◌-◌, ◌<◌, ◌≤◌, ◌%◌, ◌⊎◌, inl, inr, List, [], ◌∷◌, ◌++◌, length, ap, sym, ◌∙◌, arith, subst, length-append}
+use Rattle.std.proofs.Common.{◌≡◌, ℕ, suc, ◌+◌, ◌-◌, ◌<◌, ◌≤◌, inl, inr, List, [], ◌∷◌, ◌++◌, length, ap, sym, ◌∙◌, arith, subst, length-append}
 use Rattle.std.specs.Prelude.{slice_index_or, Bool, true, not, IsTrue}
 use Rattle.std.proofs.lemmas.Bool.{cases_lt, cases_order}
 use Rattle.std.proofs.Math.Nat.{add-mod_right}
@@ -39,19 +39,19 @@ pub none_too_long_past : (s : List Symbol) (c : Class) (greatest end run : ℕ) 
     → (q len : ℕ) → q + greatest < end + 1 → TooLong c greatest (window s q len) → ⊥
 none_too_long_past s c greatest end run r short none q len lt bad =
     elim (cases_lt (q + greatest) end) [
-      inl before ↦ none q len before bad
-    | inr here ↦ r.starts (q + (greatest - run)) (omega arith) (cells-from_TooLong s c greatest q len bad (greatest - run) (omega arith))
+      | inl before ↦ none q len before bad
+      | inr here ↦ r.starts (q + (greatest - run)) (omega arith) (cells-from_TooLong s c greatest q len bad (greatest - run) (omega arith))
     ]
 
 -- a block that ends before a position is the run there
 pub block_is_run : (s : List Symbol) (c : Class) (least position run p t : ℕ) → IsRun s c position run → p + 1 + t ≡ position → IsShortBlock s c least p t → t ≡ run
 block_is_run s c least position run p t r e b =
     elim (cases_order t run) [
-      inl same ↦ same
-    | inr other ↦ elim other [
-        inl less ↦ absurd (b.starts (r.within p (omega arith) (omega arith)))
-      | inr more ↦ absurd (r.starts (p + (t - run)) (omega arith)
-          (let same : p + 1 + (t - run - 1) ≡ p + (t - run) = omega arith in subst (λ i. InClass c (cell s i)) same (b.within (t - run - 1) (omega arith))))
+      | inl same ↦ same
+      | inr other ↦ elim other [
+        | inl less ↦ absurd (b.starts (r.within p (omega arith) (omega arith)))
+        | inr more ↦ absurd (r.starts (p + (t - run)) (omega arith)
+            (let same : p + 1 + (t - run - 1) ≡ p + (t - run) = omega arith in subst (λ i. InClass c (cell s i)) same (b.within (t - run - 1) (omega arith))))
       ]
     ]
 
@@ -99,20 +99,20 @@ block_begins_within : (s : List Symbol) (c : Class) (least end run p : ℕ) → 
     → ((q t : ℕ) → q + 1 + t < end → IsShortBlock s c least q t → ⊥) → p < length s
 block_begins_within s c least end run p some b e none =
     elim (cases_lt p (length s)) [
-      inl within ↦ within
-    | inr past ↦
-        let same : p ≡ (p - length s) + length s = omega arith in
-        absurd (none (p - length s) run (omega arith) (block_round s c least (p - length s) run (subst (λ q. IsShortBlock s c least q run) same b)))
+      | inl within ↦ within
+      | inr past ↦
+          let same : p ≡ (p - length s) + length s = omega arith in
+          absurd (none (p - length s) run (omega arith) (block_round s c least (p - length s) run (subst (λ q. IsShortBlock s c least q run) same b)))
     ]
 
 no_block_begins_earlier : (s : List Symbol) (c : Class) (least end run p q t : ℕ) → IsShortBlock s c least p run → p + 1 + run ≡ end
     → ((q t : ℕ) → q + 1 + t < end → IsShortBlock s c least q t → ⊥) → q < p → IsShortBlock s c least q t → ⊥
 no_block_begins_earlier s c least end run p q t b e none lt a =
     elim (cases_lt (q + 1 + t) end) [
-      inl before ↦ none q t before a
-    | inr over ↦
-        let same : q + 1 + (p - q - 1) ≡ p = omega arith in
-        b.starts (subst (λ i. InClass c (cell s i)) same (a.within (p - q - 1) (omega (arith, b.some))))
+      | inl before ↦ none q t before a
+      | inr over ↦
+          let same : q + 1 + (p - q - 1) ≡ p = omega arith in
+          b.starts (subst (λ i. InClass c (cell s i)) same (a.within (p - q - 1) (omega (arith, b.some))))
     ]
 
 -- the first block to end is the first to begin
@@ -132,8 +132,8 @@ pub no_block_past : (s : List Symbol) (c : Class) (least end : ℕ) → ((q t : 
     → (q t : ℕ) → q + 1 + t < end + 1 → IsShortBlock s c least q t → ⊥
 no_block_past s c least end here none q t lt b =
     elim (cases_lt (q + 1 + t) end) [
-      inl before ↦ none q t before b
-    | inr now ↦ here q t (omega arith) b
+      | inl before ↦ none q t before b
+      | inr now ↦ here q t (omega arith) b
     ]
 
 -- no window is too short where no short block ends early enough

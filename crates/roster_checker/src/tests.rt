@@ -8,7 +8,9 @@ use std::alloc::{AllocError, Global};
 use std::test::Fail;
 
 const OFF: Symbol = Symbol::OFF;
+
 const D: Symbol = Symbol { number: 1 };
+
 const N: Symbol = Symbol { number: 2 };
 
 const fn range(least: u32, greatest: u32) -> Bounds {
@@ -25,7 +27,13 @@ fn shift(alloc: Global, name: &[u8], bounds: Bounds) -> Result<ShiftRow, AllocEr
 }
 
 // Shift D alone. Blocks of days off and of work have 1 to `greatest` days.
-fn one_shift(alloc: Global, weeks: u32, demand: &[Bounds], bounds: Bounds, greatest: u32) -> Result<Problem, Fail> {
+fn one_shift(
+    alloc: Global,
+    weeks: u32,
+    demand: &[Bounds],
+    bounds: Bounds,
+    greatest: u32,
+) -> Result<Problem, Fail> {
     let parts = Parts {
         days: 2,
         weeks,
@@ -40,7 +48,13 @@ fn one_shift(alloc: Global, weeks: u32, demand: &[Bounds], bounds: Bounds, great
 }
 
 // Shifts D and N in one week, and blocks of 1 to 7 days.
-fn two_shifts(alloc: Global, day: &[Bounds], night: &[Bounds], pairs: &[(Symbol, Symbol)], triples: &[(Symbol, Symbol, Symbol)]) -> Result<Problem, Fail> {
+fn two_shifts(
+    alloc: Global,
+    day: &[Bounds],
+    night: &[Bounds],
+    pairs: &[(Symbol, Symbol)],
+    triples: &[(Symbol, Symbol, Symbol)],
+) -> Result<Problem, Fail> {
     let week = range(1, 7);
     let first = DemandRow::of(day.to_vec(alloc)?);
     let second = DemandRow::of(night.to_vec(alloc)?);
@@ -88,16 +102,38 @@ fn a_block_across_the_wrap_is_too_short(rt: HostRuntime) -> Result<(), Fail> {
     let alloc = rt.alloc();
     let problem = one_shift(alloc, 3, &[range(1, 1), range(1, 1)], range(3, 5), 5)?;
     let found = broken(alloc, &problem, &[D, OFF, OFF, OFF, OFF, D])?;
-    assert_eq!(rt; found, Some(Broken { rule: 2, week: 3, day: 1, length: 4 }));
+    assert_eq!(rt;
+        found,
+        Some(Broken {
+            rule: 2,
+            week: 3,
+            day: 1,
+            length: 4
+        })
+    );
     Ok(())
 }
 
 #[test]
 fn work_without_end_is_too_long(rt: HostRuntime) -> Result<(), Fail> {
     let alloc = rt.alloc();
-    let problem = two_shifts(alloc, &[range(1, 1), range(0, 0)], &[range(0, 0), range(1, 1)], &[], &[])?;
+    let problem = two_shifts(
+        alloc,
+        &[range(1, 1), range(0, 0)],
+        &[range(0, 0), range(1, 1)],
+        &[],
+        &[],
+    )?;
     let found = broken(alloc, &problem, &[D, N])?;
-    assert_eq!(rt; found, Some(Broken { rule: 7, week: 1, day: 1, length: 8 }));
+    assert_eq!(rt;
+        found,
+        Some(Broken {
+            rule: 7,
+            week: 1,
+            day: 1,
+            length: 8
+        })
+    );
     Ok(())
 }
 
@@ -105,7 +141,15 @@ fn work_without_end_is_too_long(rt: HostRuntime) -> Result<(), Fail> {
 fn a_day_without_demand_is_not_met(rt: HostRuntime) -> Result<(), Fail> {
     let alloc = rt.alloc();
     let none = one_shift(alloc, 1, &[range(0, 0), range(0, 0)], range(1, 1), 1)?;
-    assert_eq!(rt; broken(alloc, &none, &[D, OFF])?, Some(Broken { rule: 7, week: 1, day: 1, length: 0 }));
+    assert_eq!(rt;
+        broken(alloc, &none, &[D, OFF])?,
+        Some(Broken {
+            rule: 7,
+            week: 1,
+            day: 1,
+            length: 0
+        })
+    );
     let some = one_shift(alloc, 1, &[range(0, 1), range(0, 1)], range(1, 1), 1)?;
     assert_eq!(rt; broken(alloc, &some, &[D, OFF])?, None);
     Ok(())
@@ -116,8 +160,24 @@ fn sequences_are_found_across_the_wrap(rt: HostRuntime) -> Result<(), Fail> {
     let alloc = rt.alloc();
     let any = [range(0, 1), range(0, 1)];
     let pair = two_shifts(alloc, &any, &any, &[(N, D), (D, OFF)], &[])?;
-    assert_eq!(rt; broken(alloc, &pair, &[OFF, D])?, Some(Broken { rule: 10, week: 1, day: 2, length: 2 }));
+    assert_eq!(rt;
+        broken(alloc, &pair, &[OFF, D])?,
+        Some(Broken {
+            rule: 10,
+            week: 1,
+            day: 2,
+            length: 2
+        })
+    );
     let triple = two_shifts(alloc, &any, &any, &[], &[(OFF, D, N), (D, OFF, D)])?;
-    assert_eq!(rt; broken(alloc, &triple, &[OFF, D])?, Some(Broken { rule: 10, week: 1, day: 2, length: 3 }));
+    assert_eq!(rt;
+        broken(alloc, &triple, &[OFF, D])?,
+        Some(Broken {
+            rule: 10,
+            week: 1,
+            day: 2,
+            length: 3
+        })
+    );
     Ok(())
 }

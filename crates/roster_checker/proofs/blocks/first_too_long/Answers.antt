@@ -1,4 +1,4 @@
-use Rattle.std.proofs.Common.{◌+◌, ◌-◌, arith}
+use Rattle.std.proofs.Common.{◌-◌, arith}
 use Rattle.roster_checker.proofs.Runs.{too_long_found, none_too_long_past}
 use Rattle.roster_checker.proofs.blocks.first_too_long.Goals as goal
 

@@ -1,4 +1,4 @@
-use Rattle.std.proofs.Common.{◌≡◌, arith, subst, sym, ap, ◌∙◌}
+use Rattle.std.proofs.Common.{arith, subst, sym, ap, ◌∙◌}
 use Rattle.rwsp_terms.specs.Rules.{rule_of}
 use Rattle.roster_checker.specs.FirstBroken.{MeetsBelow}
 use Rattle.roster_checker.proofs.FirstBroken.{place_breaks, place_is_small}

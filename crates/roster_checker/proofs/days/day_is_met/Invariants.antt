@@ -1,4 +1,4 @@
-use Rattle.std.proofs.Common.{◌≡◌, ℕ, ◌<◌, pos}
+use Rattle.std.proofs.Common.{ℕ, ◌<◌, pos}
 use Rattle.std.specs.Prelude.{◌≤ℤ◌}
 use Rattle.rwsp_terms.specs.Instance.{least, greatest}
 use Rattle.rwsp_terms.specs.Roster.{weeks_with}

@@ -1,7 +1,6 @@
-use Rattle.std.proofs.Common.{ℕ, arith, refl, ap}
 use Rattle.rwsp_terms.proofs.Windows.{pair-from_window}
 use Rattle.roster_checker.specs.Scan.{IsPair}
-use Rattle.roster_checker.proofs.FirstSequence.{none_past, pair_found}
+use Rattle.roster_checker.proofs.FirstSequence.{none_past}
 use Rattle.roster_checker.proofs.sequences.first_pair.Goals as goal
 
 pub loop-position-preserved : goal.loop-position-preserved

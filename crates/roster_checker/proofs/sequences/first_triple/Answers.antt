@@ -1,4 +1,4 @@
-use Rattle.std.proofs.Common.{ℕ, arith, refl, ap}
+use Rattle.std.proofs.Common.{arith, refl}
 use Rattle.rwsp_terms.proofs.Windows.{triple-from_window}
 use Rattle.roster_checker.specs.Scan.{IsTriple}
 use Rattle.roster_checker.proofs.FirstSequence.{none_past, triple_found}
