@@ -49,6 +49,7 @@ fn breach(problem: &Problem, cells: &[Symbol], number: u32) -> Option<Broken>
     }
 }
 
+// The first rule that the cells break, and where.
 fn first_broken_among(problem: &Problem, cells: &[Symbol]) -> Option<Broken>
     requires cells { (0 < length cells.now) × (length cells.now < 2 ^ 31) × (length cells.now ≡ problem.now.weeks * problem.now.days) }
     ensures { MatchOption result ((r : Rule) → IsRule problem.now r → MeetsRule problem.now r cells.now) (IsFirstBroken problem.now cells.now) }
@@ -62,6 +63,7 @@ fn first_broken_among(problem: &Problem, cells: &[Symbol]) -> Option<Broken>
 }
 
 /// The first rule that the roster breaks, and where it does so first; `None` where the roster meets every rule.
+/// It scans the cells once for each rule and takes no memory.
 pub fn first_broken(problem: &Problem, roster: &Roster) -> Option<Broken>
     requires { IsRoster problem.now roster.now.cells }
     ensures { MatchOption result (MeetsAll problem.now roster.now.cells) (IsFirstBroken problem.now roster.now.cells) }
