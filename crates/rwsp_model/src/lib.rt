@@ -9,6 +9,8 @@ mod refusal;
 mod roster;
 mod rules;
 mod sharing;
+#[cfg(test)]
+mod tests;
 mod validity;
 
 pub use fail::Fail;
