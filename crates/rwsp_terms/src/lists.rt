@@ -1,5 +1,5 @@
 // Lists that contracts see as their elements in order.
-ghost use Rattle.std.specs.Prelude.{◌≡◌, ◌↔◌, ◌⊎◌, ℕ, ◌<◌, ◌≤◌, ◌≤ℤ◌, pos, negsuc, List, [], length, slice_get, slice_index, slice_index_or, Some, ◌≢◌, Contains, AllPairs, IsTrue, MatchResult, OnOk, OnErr};
+ghost use Rattle.std.specs.Prelude.{◌≡◌, ◌↔◌, ◌⊎◌, ℕ, ◌<◌, ◌≤◌, ◌≤ℤ◌, pos, negsuc, List, [], length, slice_get, slice_index, slice_index_or, Some, ◌≢◌, Contains, AllPairs, IsTrue, MatchResult, IfOk, OnOk, OnErr};
 ghost use Rattle.std.specs.List.Sorted.{IsStrictlyIncreasing};
 ghost use Rattle.rwsp_terms.specs.Weights.{AreWeights, ComesBefore, weight_at};
 ghost use Rattle.rwsp_terms.specs.Places.{StandsIn, BelongsIn, Holds, Lacks, Precedes, is_at, SetsWeight};
@@ -39,6 +39,13 @@ impl Word {
         self.symbols.len()
     }
 
+    /// The symbols, day after day.
+    pub fn symbols(&self) -> &[Symbol]
+        ensures { result.now ≡ self.now }
+    {
+        &self.symbols
+    }
+
     /// The symbol at a place, counted from 0.
     pub fn at(&self, i: usize) -> Symbol
         requires { i < length self.now }
@@ -73,6 +80,14 @@ impl RuleList {
         RuleList {
             numbers: Vec::new(alloc),
         }
+    }
+
+    /// The same list once more.
+    pub fn copy(&self) -> Result<RuleList, AllocError>
+        ensures { IfOk result (λ r. r ≡ self.now) }
+    {
+        let numbers = Vec::from_slice(*self.numbers.allocator(), &self.numbers)?;
+        Ok(RuleList { numbers })
     }
 
     /// How many rules it lists.
@@ -142,6 +157,14 @@ impl Weights {
         Weights {
             entries: Vec::new(alloc),
         }
+    }
+
+    /// The same weights once more.
+    pub fn copy(&self) -> Result<Weights, AllocError>
+        ensures { IfOk result (λ w. w ≡ self.now) }
+    {
+        let entries = Vec::from_slice(*self.entries.allocator(), &self.entries)?;
+        Ok(Weights { entries })
     }
 
     /// How many weights aren't 0.
