@@ -27,9 +27,9 @@ within_len : (p : ℕ → Bool) (xs : List ℕ) → position_or_len p xs ≤ len
 within_len p [] = omega arith
 within_len p (x ∷ xs) = within_by p x xs (p x) (within_len p xs)
   where
-  within_by : (p : ℕ → Bool) (x : ℕ) (xs : List ℕ) (b : Bool) → position_or_len p xs ≤ length xs → cond (not b) (1 + position_or_len p xs) 0 ≤ suc (length xs)
-  within_by p x xs true h = omega arith
-  within_by p x xs false h = omega arith
+    within_by : (p : ℕ → Bool) (x : ℕ) (xs : List ℕ) (b : Bool) → position_or_len p xs ≤ length xs → cond (not b) (1 + position_or_len p xs) 0 ≤ suc (length xs)
+    within_by p x xs true h = omega arith
+    within_by p x xs false h = omega arith
 
 found_by : (n k : ℕ) (b : Bool) → cond b (Some n) None ≡ Some k → k ≡ n
 found_by n k true e = cc
@@ -194,11 +194,11 @@ read P bytes left rest week cells new weeks r e accepted names =
     record {
       refusal = sym (no_refusal P week rest accepted) ∙ ap (first_refusal P) (sym e) ∙ r.refusal;
       names =
-        ap (λ c. c ++ rest_names) names
-        ∙ append_assoc (map Some cells) (map (symbol_of P) week.1) rest_names
-        ∙ ap (λ c. map Some cells ++ c) (sym (map-append (symbol_of P) week.1 (flat_map (λ w. w.1) rest)))
-        ∙ ap (λ w. map Some cells ++ map (symbol_of P) (flat_map (λ v. v.1) w)) (sym e)
-        ∙ r.names;
+          ap (λ c. c ++ rest_names) names
+          ∙ append_assoc (map Some cells) (map (symbol_of P) week.1) rest_names
+          ∙ ap (λ c. map Some cells ++ c) (sym (map-append (symbol_of P) week.1 (flat_map (λ w. w.1) rest)))
+          ∙ ap (λ w. map Some cells ++ map (symbol_of P) (flat_map (λ v. v.1) w)) (sym e)
+          ∙ r.names;
       count = one_more ∙ ap (λ w. weeks + length w) (sym e) ∙ r.count;
     }
 
@@ -245,8 +245,8 @@ week_skipped P bytes rest cells new weeks more line at n week r l is absent name
     let none : has_some ws ≡ false = sym is ∙ absent in
     record {
       on = subst (ReadsOn P bytes left new) (sym same) (skip P bytes (weeks_left line (lines_left bytes at)) left cells new weeks r.on
-        (left_is bytes rest line at n l ∙ cond-false (has_some ws) ((line, ws) ∷ left) left none)
-        (names ∙ ap (λ w. map Some cells ++ map (symbol_of P) w) (none_of ws none) ∙ append-nil (map Some cells)));
+          (left_is bytes rest line at n l ∙ cond-false (has_some ws) ((line, ws) ∷ left) left none)
+          (names ∙ ap (λ w. map Some cells ++ map (symbol_of P) w) (none_of ws none) ∙ append-nil (map Some cells)));
       few_weeks = let few = r.few_weeks in omega (arith, same);
       few_lines = let few = r.few_lines in omega arith;
     }
@@ -258,8 +258,8 @@ week_read P bytes rest cells new weeks more line at n week r l is present accept
     let some : has_some ws ≡ true = sym is ∙ present in
     record {
       on = subst (ReadsOn P bytes left new) (sym same) (read P bytes (weeks_left line (lines_left bytes at)) left (line, ws) cells new weeks r.on
-        (left_is bytes rest line at n l ∙ cond-true (has_some ws) ((line, ws) ∷ left) left some)
-        (accepted present) names);
+          (left_is bytes rest line at n l ∙ cond-true (has_some ws) ((line, ws) ∷ left) left some)
+          (accepted present) names);
       few_weeks = let few = r.few_weeks in omega (arith, same);
       few_lines = let few = r.few_lines in omega arith;
     }

@@ -3,7 +3,8 @@ use Rattle.std.specs.Prelude.{◌≡◌, ℕ, List, MatchOption}
 use Rattle.rwsp_terms.specs.Instance.{Instance}
 use Rattle.rwsp_terms.specs.Roster.{IsRoster}
 use Rattle.rwsp_terms.specs.declared.data.Symbol.{Symbol}
-use Rattle.roster_print.specs.RosterText.{SpellsRoster}
+use Rattle.rwsp_model.specs.Validity.{IsValid}
+use Rattle.roster_print.specs.RosterText.{SpellsRoster, roster_text}
 use Rattle.roster_print.specs.Refusal.{refusal_of_roster}
 
 -- a text spells one roster at most
@@ -17,3 +18,7 @@ RefusalsDecideSpelling = (P : Instance) (bytes : List ℕ) → MatchOption (refu
 -- what a text spells has a symbol for each cell
 abbrev pub SpelledIsRoster : Type 0
 SpelledIsRoster = (P : Instance) (bytes : List ℕ) (s : List Symbol) → SpellsRoster P bytes s → IsRoster P s
+
+-- the printed text of a roster of a valid problem spells it
+abbrev pub PrintedIsSpelled : Type 0
+PrintedIsSpelled = (P : Instance) (s : List Symbol) → IsValid P → IsRoster P s → SpellsRoster P (roster_text P s) s

@@ -1,5 +1,5 @@
 // Laws of the definitions. Each function's contract is the law.
-ghost use Rattle.roster_print.specs.Laws.{TextSpellsOneRoster, RefusalsDecideSpelling, SpelledIsRoster};
+ghost use Rattle.roster_print.specs.Laws.{TextSpellsOneRoster, RefusalsDecideSpelling, SpelledIsRoster, PrintedIsSpelled};
 
 /// A text spells one roster at most.
 pub fn text_spells_one_roster()
@@ -14,4 +14,9 @@ pub fn refusals_decide_spelling()
 /// What a text spells has a symbol for each cell.
 pub fn spelled_is_roster()
     ensures { SpelledIsRoster }
+{}
+
+/// The printed text of a roster of a valid problem spells it.
+pub fn printed_is_spelled()
+    ensures { PrintedIsSpelled }
 {}

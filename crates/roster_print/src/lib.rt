@@ -8,7 +8,9 @@ mod read;
 mod refusal;
 mod rule;
 
-pub use laws::{refusals_decide_spelling, spelled_is_roster, text_spells_one_roster};
+pub use laws::{
+    printed_is_spelled, refusals_decide_spelling, spelled_is_roster, text_spells_one_roster,
+};
 pub use print::print_roster;
 pub use read::read_roster;
 pub use refusal::RosterRefusal;

@@ -1,13 +1,19 @@
+ghost use Rattle.std.specs.Prelude.{IsTrue};
+ghost use Rattle.rwsp_terms.specs.Roster.{IsRule};
+
 use super::*;
-use rwsp_model::{Bounds, DemandRow, Fail as Refuse, Name, Parts, Problem, Roster, Rule, ShiftRow, Symbol};
+use rwsp_model::{
+    Bounds, DemandRow, Fail as Refuse, Name, Parts, Problem, Roster, Rule, ShiftRow, Symbol,
+};
 use std::alloc::{AllocError, Global};
 use std::test::Fail;
 
 const DAY: Symbol = Symbol { number: 1 };
+
 const OFF: Symbol = Symbol::OFF;
 
-// Two days, one week, the shift D, and the sequences `D D` and `D - D`.
-fn problem(alloc: Global) -> Result<Option<Problem>, AllocError> {
+// Two days, the shift D, and the sequences `D D` and `D - D`.
+fn problem(alloc: Global, weeks: u32) -> Result<Option<Problem>, AllocError> {
     let once = Bounds {
         least: 1,
         greatest: 1,
@@ -20,7 +26,7 @@ fn problem(alloc: Global) -> Result<Option<Problem>, AllocError> {
     };
     let parts = Parts {
         days: 2,
-        weeks: 1,
+        weeks,
         demand: vec![in alloc; DemandRow::of(vec![in alloc; once, once]?)]?,
         shifts: vec![in alloc; row]?,
         off: once,
@@ -34,7 +40,7 @@ fn problem(alloc: Global) -> Result<Option<Problem>, AllocError> {
 #[test]
 fn texts_are_read(rt: HostRuntime) -> Result<(), Fail> {
     let alloc = rt.alloc();
-    let problem = problem(alloc)?.expect(&rt, "the parts are a problem");
+    let problem = problem(alloc, 1)?.expect(&rt, "the parts are a problem");
     let text = b"# D Q\r\n\n \t\r\n\tD  -\r\n   # D\nQ#";
     let spelled = b"# D Q\r\n\n \t\r\n\tD  -\r\n   # D\n";
     let roster = read_roster(alloc, &problem, spelled).expect(&rt, "the text spells a roster");
@@ -61,17 +67,34 @@ fn texts_are_read(rt: HostRuntime) -> Result<(), Fail> {
 #[test]
 fn rosters_are_printed(rt: HostRuntime) -> Result<(), Fail> {
     let alloc = rt.alloc();
-    let problem = problem(alloc)?.expect(&rt, "the parts are a problem");
-    let roster = read_roster(alloc, &problem, b"- D").expect(&rt, "the text spells a roster");
+    let problem = problem(alloc, 2)?.expect(&rt, "the parts are a problem");
+    let roster = read_roster(alloc, &problem, b"- D\n\nD\tD").expect(
+        &rt,
+        "the text spells a roster",
+    );
     let text = print_roster(alloc, &problem, &roster)?;
-    assert_eq!(rt; text.as_slice(), b"- D\n".as_slice());
+    assert_eq!(rt; text.as_slice(), b"- D\nD D\n".as_slice());
     Ok(())
+}
+
+fn is_rule(problem: &Problem, rule: Rule) -> bool
+    ensures { IsTrue result → IsRule problem.now rule }
+{
+    match rule {
+        Rule::MaxShift(shift) | Rule::MinShift(shift) => {
+            0 < shift.number && shift.number <= problem.shifts()
+        }
+        Rule::Pair(place) => (place as usize) < problem.pairs().len(),
+        Rule::Triple(place) => (place as usize) < problem.triples().len(),
+        Rule::Day(day) => 0 < day && day <= problem.days(),
+        Rule::MaxOff | Rule::MinOff | Rule::MaxWork | Rule::MinWork => true,
+    }
 }
 
 #[test]
 fn rules_are_printed(rt: HostRuntime) -> Result<(), Fail> {
     let alloc = rt.alloc();
-    let problem = problem(alloc)?.expect(&rt, "the parts are a problem");
+    let problem = problem(alloc, 1)?.expect(&rt, "the parts are a problem");
     let wanted = [
         (Rule::MaxShift(DAY), b"= max shift D".as_slice()),
         (Rule::MinShift(DAY), b"= min shift D".as_slice()),

@@ -19,8 +19,8 @@ returns-in_err-read_line-clause-refused c =
     let here = line_at bytes at n c.loop-at-test.true c.line_len-end.ensures.value in
     let same : c.from_residual.result ≡ Err c.in_err-read_line.field-0.0 = search rules in
     refused_again Bool c.in_err-read_line.field-0.0 c.from_residual.result _ _ same
-      (λ why h. week_refused c.args.problem.now bytes rest c.loop-at.cells.items c.loop-at.weeks c.loop-at.line at n why c.loop-at.invariant here h.0 h.1)
-      c.in_err-read_line.ensures.refused
+    (λ why h. week_refused c.args.problem.now bytes rest c.loop-at.cells.items c.loop-at.weeks c.loop-at.line at n why c.loop-at.invariant here h.0 h.1)
+    c.in_err-read_line.ensures.refused
 
 pub loop-at-preserved : goal.loop-at-preserved
 loop-at-preserved c =
@@ -31,6 +31,6 @@ loop-at-preserved c =
     let rest = take (length bytes - at) (drop at bytes) in
     let read = c.in_ok-read_line.ensures in
     elim c.if-branch.branch [
-      then-branch w ↦ week_read c.args.problem.now bytes rest c.loop-at.cells.items c.read_line.new.cells.items c.loop-at.weeks c.if-branch.weeks c.loop-at.line at n c.in_ok-read_line.field-0 c.loop-at.invariant here read.week w.if-branch.true read.accepted read.names w.weeks-is
-    | else-branch w ↦ week_skipped c.args.problem.now bytes rest c.loop-at.cells.items c.read_line.new.cells.items c.loop-at.weeks c.if-branch.weeks c.loop-at.line at n c.in_ok-read_line.field-0 c.loop-at.invariant here read.week w.if-branch.false read.names w.weeks-is
+      | then-branch w ↦ week_read c.args.problem.now bytes rest c.loop-at.cells.items c.read_line.new.cells.items c.loop-at.weeks c.if-branch.weeks c.loop-at.line at n c.in_ok-read_line.field-0 c.loop-at.invariant here read.week w.if-branch.true read.accepted read.names w.weeks-is
+      | else-branch w ↦ week_skipped c.args.problem.now bytes rest c.loop-at.cells.items c.read_line.new.cells.items c.loop-at.weeks c.if-branch.weeks c.loop-at.line at n c.in_ok-read_line.field-0 c.loop-at.invariant here read.week w.if-branch.false read.names w.weeks-is
     ]
