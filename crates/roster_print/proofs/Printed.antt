@@ -1,26 +1,26 @@
 -- That the printed text of a roster spells it.
-use Rattle.std.proofs.Common.{◌≡◌, ◌≢◌, ℕ, zero, suc, ◌+◌, ◌-◌, ◌*◌, ◌<◌, ◌≤◌, List, [], ◌∷◌, ◌++◌, length, get_or, take, drop, Option, Some, None, Bool, true, false, cond, refl, ap, sym, ◌∙◌, arith, subst, append_assoc, append-nil, length-append, length-drop, eqb-true, mul-le-mul_right}
-use Rattle.std.specs.Prelude.{map, filter, take_while, not, nat_lt, nat_le, slice_get, slice_index, ◌==◌, ◌||◌, ◌&&◌, position, All, AllPairs, ◌↔◌}
+use Rattle.std.proofs.Common.{length-append, ◌≡◌, ℕ, zero, suc, ◌+◌, ◌-◌, ◌*◌, ◌<◌, ◌≤◌, List, [], ◌∷◌, ◌++◌, length, get_or, take, drop, Some, None, Bool, true, false, cond, refl, ap, sym, ◌∙◌, arith, subst, append_assoc, length-drop, mul-le-mul_right}
+use Rattle.std.specs.Prelude.{map, filter, take_while, not, nat_lt, slice_index, ◌==◌, position, All}
 use Rattle.std.specs.List.{flat_map, range_with_len, join_with_byte, slice_split, prefix_len, AllByRecursion, position_or_len}
 use Rattle.std.specs.Option.{option_map}
 use Rattle.std.specs.Str.{bytes_eq}
-use Rattle.std.proofs.lemmas.List.{map-append, length-map, drop-drop, drop_all, take_all, length-take-le}
+use Rattle.std.proofs.lemmas.List.{map-append, length-map, drop-drop, take_all, length-take-le}
 use Rattle.std.proofs.lemmas.List.Splits.{slice_split_none, slice_split_at}
-use Rattle.std.proofs.lemmas.List.Elements.{All-from_recursion, All-head, All-tail, All-get_or, All-take, All-drop}
+use Rattle.std.proofs.lemmas.List.Elements.{All-from_recursion, All-head, All-tail, All-take, All-drop}
 use Rattle.std.proofs.lemmas.List.Sums.{position_or_len_is}
 use Rattle.std.proofs.lemmas.Slice.Eq.{bytes_eq-Decides}
 use Rattle.std.proofs.lemmas.Option.{slice_get-get_or}
-use Rattle.std.proofs.lemmas.Bool.{cond-true, cond-false, lt-ltb, ne_eqb, or_from, false_from_ne_true, or_parts}
+use Rattle.std.proofs.lemmas.Bool.{cond-true, cond-false, lt-ltb, ne_eqb, false_from_ne_true, or_parts}
 use Rattle.std.proofs.Math.Seq.{take-add}
 use Rattle.rwsp_text.specs.Lexemes.{lines_of, words_of_line, has_some, is_space}
-use Rattle.rwsp_terms.specs.Instance.{Instance, cells, symbol_of, name_of, name_in, name_numbered, shift_count, symbol_numbered, off_name, IsSymbol, no_bounds}
+use Rattle.rwsp_terms.specs.Instance.{Instance, symbol_of, name_of, name_in, name_numbered, shift_count, symbol_numbered, off_name, IsSymbol, no_bounds}
 use Rattle.rwsp_terms.specs.Roster.{IsRoster}
 use Rattle.rwsp_terms.specs.declared.data.Symbol.{Symbol}
 use Rattle.rwsp_terms.specs.declared.data.ShiftRow.{ShiftRow}
-use Rattle.rwsp_model.specs.Validity.{IsValid, KeepsLimits, IsName, is_blank}
+use Rattle.rwsp_model.specs.Validity.{KeepsLimits, IsName, is_blank}
 use Rattle.rwsp_model.proofs.Limits.{valid_keeps}
 use Rattle.roster_print.specs.RosterText.{weeks_of, week_at, week_text, roster_text, SpellsRoster}
-use Rattle.roster_print.specs.Laws.{PrintedIsSpelled}
+use Rattle.roster_print.specs.Laws.{PrintedIsSpelled, PrintedIsShort}
 
 abbrev is_end : ℕ → Bool
 is_end b = b == 10
@@ -249,3 +249,53 @@ printed_spells P s limits h =
 
 pub printed_is_spelled : PrintedIsSpelled
 printed_is_spelled P s valid h = printed_spells P s (valid_keeps P valid) h
+
+-- how long the printed text is
+
+length-joined : (words : List (List ℕ)) → AllByRecursion (λ word. length word ≤ 32) words → length (join_with_byte 32 words) ≤ 33 * length words
+length-joined [] h = omega arith
+length-joined (word ∷ []) h = let here = h.0 in omega arith
+length-joined (word ∷ next ∷ words) h =
+    let here = h.0 in
+    let rest : length (join_with_byte 32 (next ∷ words)) ≤ 33 * suc (length words) = length-joined (next ∷ words) h.1 in
+    let both : length (word ++ (32 ∷ join_with_byte 32 (next ∷ words))) ≡ length word + suc (length (join_with_byte 32 (next ∷ words))) = length-append word (32 ∷ join_with_byte 32 (next ∷ words)) in
+    omega arith
+
+numbered_is_short : (P : Instance) → KeepsLimits P → (n : ℕ) → n ≤ shift_count P → length (name_numbered P n) ≤ 32
+numbered_is_short P limits zero h = omega arith
+numbered_is_short P limits (suc k) h =
+    let below : k < length P.shifts = omega arith in
+    let Short : List ℕ → Type 0 = λ name. length name ≤ 32 in
+    subst Short (ap name_in (sym (slice_get-get_or P.shifts k no_row below))) (limits.names k no_row below).few
+
+names_are_short : (P : Instance) → KeepsLimits P → (week : List Symbol) → All (IsSymbol P) week → AllByRecursion (λ word. length word ≤ 32) (map (name_of P) week)
+names_are_short P limits [] h = tt
+names_are_short P limits (x ∷ week) h = (numbered_is_short P limits x.number (All-head (IsSymbol P) x week h), names_are_short P limits week (All-tail (IsSymbol P) x week h))
+
+week_is_short : (P : Instance) (s : List Symbol) → KeepsLimits P → IsRoster P s → (k : ℕ) → k < P.weeks → length (week_text P (week_at P s k)) ≤ 33 * P.days + 1
+week_is_short P s limits h k below =
+    let names = week_names P s k in
+    let long : length names ≡ P.days = length-map (week_at P s k) (name_of P) ∙ length-week_at P s k h below in
+    let short : length (join_with_byte 32 names) ≤ 33 * length names = length-joined names (names_are_short P limits (week_at P s k) (week_symbols P s k h)) in
+    let whole : length (join_with_byte 32 names ++ 10 ∷ []) ≡ length (join_with_byte 32 names) + 1 = length-append (join_with_byte 32 names) (10 ∷ []) in
+    omega arith
+
+length-weeks : (f : ℕ → List ℕ) (m : ℕ) (ks : List ℕ) → AllByRecursion (λ k. length (f k) ≤ m) ks → length (flat_map f ks) ≤ length ks * m
+length-weeks f m [] h = omega arith
+length-weeks f m (k ∷ ks) h =
+    let here = h.0 in
+    let rest : length (flat_map f ks) ≤ length ks * m = length-weeks f m ks h.1 in
+    let both : length (f k ++ flat_map f ks) ≡ length (f k) + length (flat_map f ks) = length-append (f k) (flat_map f ks) in
+    omega arith
+
+pub printed_is_short : PrintedIsShort
+printed_is_short P s valid h =
+    let limits = valid_keeps P valid in
+    let ks = range_with_len 0 P.weeks in
+    let all : length (roster_text P s) ≤ length ks * (33 * P.days + 1) = length-weeks (λ k. week_text P (week_at P s k)) (33 * P.days + 1) ks (all_range (λ k. length (week_text P (week_at P s k)) ≤ 33 * P.days + 1) 0 P.weeks (λ k low high. week_is_short P s limits h k (omega arith))) in
+    let count : length ks ≡ P.weeks = length-range 0 P.weeks in
+    let size : length ks * (33 * P.days + 1) ≡ P.weeks * (33 * P.days + 1) = ap (λ n. n * (33 * P.days + 1)) count in
+    let spread : P.weeks * (33 * P.days + 1) ≡ 33 * (P.weeks * P.days) + P.weeks = omega arith in
+    let cells : P.weeks * P.days ≤ 4200 = limits.few_cells in
+    let weeks : P.weeks ≤ 600 = limits.few_weeks in
+    omega arith

@@ -1,12 +1,10 @@
 -- What printing appends, step by step.
-use Rattle.std.proofs.Common.{◌≡◌, ℕ, zero, suc, ◌+◌, ◌-◌, ◌*◌, ◌<◌, ◌≤◌, List, [], ◌∷◌, ◌++◌, length, get_or, take, drop, refl, ap, sym, ◌∙◌, arith, subst, append_assoc, append-nil, mul-le-mul_right, true, false}
-use Rattle.std.specs.Prelude.{map, All, slice_range, ◌==◌, slice_get, Some, None}
+use Rattle.std.proofs.Common.{◌≡◌, ℕ, zero, suc, ◌+◌, ◌-◌, ◌*◌, ◌<◌, ◌≤◌, List, [], ◌∷◌, ◌++◌, length, get_or, take, drop, ap, sym, ◌∙◌, arith, append_assoc, append-nil, mul-le-mul_right, false}
+use Rattle.std.specs.Prelude.{map, All, slice_range, ◌==◌, slice_get}
 use Rattle.std.specs.List.{flat_map, range_with_len, join_with_byte}
 use Rattle.std.proofs.lemmas.List.{take_more, flat_map_more, take_all}
-use Rattle.std.proofs.lemmas.List.Concat.{flat_map-append}
 use Rattle.std.proofs.lemmas.List.Elements.{All-take, All-drop}
-use Rattle.rwsp_terms.specs.Instance.{Instance, cells, name_of, IsSymbol}
-use Rattle.rwsp_terms.specs.Roster.{IsRoster}
+use Rattle.rwsp_terms.specs.Instance.{Instance, name_of, IsSymbol}
 use Rattle.rwsp_terms.specs.Window.{off_symbol}
 use Rattle.rwsp_terms.specs.declared.data.Symbol.{Symbol}
 use Rattle.roster_print.specs.RosterText.{week_at, week_text}

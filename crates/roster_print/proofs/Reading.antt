@@ -1,13 +1,12 @@
 -- What reading keeps, step by step.
-use Rattle.std.proofs.Common.{◌≡◌, ◌≢◌, ℕ, zero, suc, ◌+◌, ◌-◌, ◌*◌, ◌<◌, ◌≤◌, List, [], ◌∷◌, ◌++◌, length, get_or, take, drop, refl, ap, sym, ◌∙◌, arith, subst, append_assoc, append-nil, Option, Some, None, Bool, true, false, cond, length-drop, length-take, min, eqb-true, eq-eqb}
-use Rattle.std.specs.Prelude.{Result, Ok, Err, not, map, filter, All, slice_range, position, nat_lt, nat_le, ◌==◌, ◌||◌, is_none}
-use Rattle.std.specs.List.{flat_map, list_any, position_or_len, slice_split, AllByRecursion, enumerate_from, before_first, after_first}
+use Rattle.std.proofs.Common.{◌≡◌, ◌≢◌, ℕ, zero, suc, ◌+◌, ◌-◌, ◌<◌, ◌≤◌, List, [], ◌∷◌, ◌++◌, length, get_or, take, drop, refl, ap, sym, ◌∙◌, arith, subst, append_assoc, append-nil, Some, None, Bool, true, false, cond, length-drop, length-take, min, eq-eqb}
+use Rattle.std.specs.Prelude.{Result, Err, not, map, filter, if◌then◌else◌, All, slice_range, position, nat_lt, nat_le, ◌==◌, is_none}
+use Rattle.std.specs.List.{flat_map, list_any, position_or_len, enumerate_from}
 use Rattle.std.specs.Option.{option_or}
-use Rattle.std.proofs.lemmas.Bool.{ltb-false, ltb-true, lt-ltb, le-ltb, le-leb, lt-leb, cond-true, cond-false, or_from, or_right, or_left, ne_eqb}
-use Rattle.std.proofs.lemmas.List.{take_all, drop_all, drop-drop, take-append-drop, map-append, drop_more, length-map, get_or-take, take_rest}
+use Rattle.std.proofs.lemmas.Bool.{ltb-false, ltb-true, le-leb, lt-leb, cond-true, cond-false, or_from, or_right, or_left, ne_eqb}
+use Rattle.std.proofs.lemmas.List.{take_all, drop_all, drop-drop, map-append, drop_more, length-map, get_or-take, take_rest}
 use Rattle.std.proofs.lemmas.List.Splits.{slice_split_none, slice_split_first}
 use Rattle.std.proofs.lemmas.List.Sums.{fails_before_first}
-use Rattle.std.proofs.lemmas.List.Elements.{All-from_get_or}
 use Rattle.rwsp_text.specs.Lexemes.{Lexeme, lines_of, words_of_line, has_some, lexemes}
 use Rattle.rwsp_text.specs.Places.{lexeme_at}
 use Rattle.rwsp_text.specs.declared.scan.Token.{Token}
@@ -17,9 +16,23 @@ use Rattle.rwsp_model.specs.Refusals.{IfRefused}
 use Rattle.rwsp_model.specs.declared.fail.Fail.{Fail}
 use Rattle.rwsp_model.specs.declared.fail.Fail.TheVariants.{Refused, Memory}
 use Rattle.roster_print.specs.Refusal.{numbered_weeks, week_refusal, first_refusal}
-use Rattle.roster_print.specs.Reading.{words_at, lines_left, weeks_left, ReadsOn}
+use Rattle.roster_print.specs.Reading.{words_at}
 use Rattle.roster_print.specs.declared.refusal.RosterRefusal.{RosterRefusal}
-use Rattle.roster_print.specs.declared.refusal.RosterRefusal.TheVariants.{Unknown, Width, Weeks}
+use Rattle.roster_print.specs.declared.refusal.RosterRefusal.TheVariants.{Unknown, Width}
+
+-- the lines from a place on; behind the last line there is none
+abbrev pub lines_left : List ℕ → ℕ → List (List ℕ)
+lines_left bytes at = if nat_le at (length bytes) then lines_of (drop at bytes) else []
+
+-- the weeks of lines whose numbers begin with n
+abbrev pub weeks_left : ℕ → List (List ℕ) → List (ℕ × List (List ℕ))
+weeks_left n lines = filter (λ week. has_some week.1) (enumerate_from n (map words_of_line lines))
+
+-- the cells that were read, with the weeks that are left, make what the whole makes
+pub record ReadsOn (P : Instance) (bytes : List ℕ) (left : List (ℕ × List (List ℕ))) (cells : List Symbol) (weeks : ℕ) : Type 0 where
+  pub refusal : first_refusal P left ≡ first_refusal P (numbered_weeks bytes)
+  pub names : map Some cells ++ map (symbol_of P) (flat_map (λ week. week.1) left) ≡ map (symbol_of P) (flat_map (λ week. week.1) (numbered_weeks bytes))
+  pub count : weeks + length left ≡ length (numbered_weeks bytes)
 
 -- the length of the first line
 

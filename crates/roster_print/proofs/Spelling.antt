@@ -225,3 +225,7 @@ count_is_refused P bytes n accepted count other =
     ap (λ o. option_or o (count_refusal P (length (weeks_of bytes)))) accepted
     ∙ ap (count_refusal P) long
     ∙ cond-false (n == P.weeks) None (Some (Weeks n)) (ne_eqb n P.weeks other)
+
+-- where there is a refusal, no roster is spelled
+pub refused_spells_none : (P : Instance) (bytes : List ℕ) (why : RosterRefusal) → refusal_of_roster P bytes ≡ Some why → (s : List Symbol) → SpellsRoster P bytes s → ⊥
+refused_spells_none P bytes why e = decided_by P bytes (Some why) e

@@ -1,5 +1,5 @@
 -- What is so of all texts and rosters.
-use Rattle.std.specs.Prelude.{◌≡◌, ℕ, List, MatchOption}
+use Rattle.std.specs.Prelude.{◌≡◌, ℕ, ◌≤◌, List, length, MatchOption}
 use Rattle.rwsp_terms.specs.Instance.{Instance}
 use Rattle.rwsp_terms.specs.Roster.{IsRoster}
 use Rattle.rwsp_terms.specs.declared.data.Symbol.{Symbol}
@@ -22,3 +22,7 @@ SpelledIsRoster = (P : Instance) (bytes : List ℕ) (s : List Symbol) → Spells
 -- the printed text of a roster of a valid problem spells it
 abbrev pub PrintedIsSpelled : Type 0
 PrintedIsSpelled = (P : Instance) (s : List Symbol) → IsValid P → IsRoster P s → SpellsRoster P (roster_text P s) s
+
+-- and is short enough to be read
+abbrev pub PrintedIsShort : Type 0
+PrintedIsShort = (P : Instance) (s : List Symbol) → IsValid P → IsRoster P s → length (roster_text P s) ≤ 1048576

@@ -1,5 +1,5 @@
 // Laws of the definitions. Each function's contract is the law.
-ghost use Rattle.roster_print.specs.Laws.{TextSpellsOneRoster, RefusalsDecideSpelling, SpelledIsRoster, PrintedIsSpelled};
+ghost use Rattle.roster_print.specs.Laws.{TextSpellsOneRoster, RefusalsDecideSpelling, SpelledIsRoster, PrintedIsSpelled, PrintedIsShort};
 
 /// A text spells one roster at most.
 pub fn text_spells_one_roster()
@@ -19,4 +19,9 @@ pub fn spelled_is_roster()
 /// The printed text of a roster of a valid problem spells it.
 pub fn printed_is_spelled()
     ensures { PrintedIsSpelled }
+{}
+
+/// The printed text of a roster of a valid problem is short enough to be read.
+pub fn printed_is_short()
+    ensures { PrintedIsShort }
 {}

@@ -9,7 +9,8 @@ mod refusal;
 mod rule;
 
 pub use laws::{
-    printed_is_spelled, refusals_decide_spelling, spelled_is_roster, text_spells_one_roster,
+    printed_is_short, printed_is_spelled, refusals_decide_spelling, spelled_is_roster,
+    text_spells_one_roster,
 };
 pub use print::print_roster;
 pub use read::read_roster;

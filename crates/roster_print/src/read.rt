@@ -1,11 +1,12 @@
 // The roster that a text spells.
-ghost use Rattle.std.specs.Prelude.{◌≡◌, ℕ, ◌+◌, ◌-◌, ◌≤◌, ◌++◌, [], ◌∷◌, length, Some, None, IfOk, OnOk, map, true, is_none, ◌==◌, position};
+ghost use Rattle.std.specs.Prelude.{◌≡◌, ◌≤◌, ◌++◌, List, [], ◌∷◌, length, Some, None, IfOk, OnOk, map, true, is_none, ◌==◌, position};
 ghost use Rattle.std.specs.List.{AllByRecursion, list_any, flat_map, position_or_len};
 ghost use Rattle.rwsp_text.specs.Lexemes.{lines_of, words_of_line, has_some};
 ghost use Rattle.rwsp_terms.specs.Instance.{symbol_of};
+ghost use Rattle.rwsp_terms.specs.declared.data.Symbol.{Symbol};
 ghost use Rattle.rwsp_terms.specs.Roster.{IsRoster};
 ghost use Rattle.rwsp_model.specs.Refusals.{IfRefused};
-ghost use Rattle.roster_print.specs.RosterText.{SpellsRoster, weeks_of};
+ghost use Rattle.roster_print.specs.RosterText.{SpellsRoster};
 ghost use Rattle.roster_print.specs.Refusal.{refusal_of_roster, week_refusal, first_refusal, numbered_weeks};
 ghost use Rattle.roster_print.specs.Reading.{words_at};
 
@@ -156,6 +157,7 @@ pub fn read_roster(
     ensures roster { IfOk result (λ s. IsRoster problem.now s.cells) }
     ensures days { IfOk result (λ s. s.days ≡ problem.now.days) }
     ensures refused { IfRefused result (λ why. refusal_of_roster problem.now bytes.now ≡ Some why) }
+    ensures unspelled { IfRefused result (λ why. (s : List Symbol) → SpellsRoster problem.now bytes.now s → ⊥) }
 {
     let (cells, weeks) = read_weeks(alloc, problem, bytes)?;
     if weeks != problem.weeks() {

@@ -1,7 +1,8 @@
-use Rattle.std.proofs.Common.{sym, ◌∙◌, subst}
-use Rattle.rwsp_terms.specs.Roster.{IsRoster}
+use Rattle.std.proofs.Common.{rules, Vec, Global, ℕ, ◌≡◌, Err, sym, ◌∙◌, subst}
+use Rattle.rwsp_terms.specs.declared.data.Symbol.{Symbol}
 use Rattle.roster_print.specs.RosterText.{SpellsRoster}
-use Rattle.roster_print.proofs.Spelling.{read_is_spelled, count_is_refused, spelled_is_roster}
+use Rattle.roster_print.proofs.Spelling.{read_is_spelled, count_is_refused, spelled_is_roster, refused_spells_none, line_is_refused}
+use Rattle.roster_print.proofs.Reading.{refused_again}
 use Rattle.roster_print.proofs.read.read_roster.Goals as goal
 
 pub returns-then-weeks-clause-refused : goal.returns-then-weeks-clause-refused
@@ -18,3 +19,13 @@ returns-clause-spelled c = subst (SpellsRoster c.args.problem.now c.args.bytes.n
 
 pub returns-clause-roster : goal.returns-clause-roster
 returns-clause-roster c = spelled_is_roster c.args.problem.now c.args.bytes.now c.of.result.cells (returns-clause-spelled c)
+
+pub returns-then-weeks-clause-unspelled : goal.returns-then-weeks-clause-unspelled
+returns-then-weeks-clause-unspelled c = refused_spells_none c.args.problem.now c.args.bytes.now _ (returns-then-weeks-clause-refused c)
+
+pub returns-in_err-cells-clause-unspelled : goal.returns-in_err-cells-clause-unspelled
+returns-in_err-cells-clause-unspelled c =
+    let same : c.from_residual.result ≡ Err c.in_err-cells.field-0.0 = search rules in
+    refused_again (Vec Symbol Global × ℕ) c.in_err-cells.field-0.0 c.from_residual.result _ _ same
+    (λ why h. refused_spells_none c.args.problem.now c.args.bytes.now why (line_is_refused c.args.problem.now c.args.bytes.now why h))
+    c.in_err-cells.ensures.refused

@@ -1,6 +1,5 @@
-use Rattle.std.proofs.Common.{rules, ◌≡◌, sym, ◌∙◌, ◌-◌, take, drop, length, arith, Err, Bool}
-use Rattle.std.proofs.lemmas.Grind.{common_steps}
-use Rattle.roster_print.proofs.Reading.{begins, line_at, line_whole, week_skipped, week_read, week_refused, weeks_done, refused_again}
+use Rattle.std.proofs.Common.{rules, ◌≡◌, ◌-◌, take, drop, length, Err, Bool}
+use Rattle.roster_print.proofs.Reading.{begins, line_at, line_whole, week_skipped, week_read, week_refused, refused_again}
 use Rattle.roster_print.proofs.read.read_weeks.Goals as goal
 use Rattle.roster_print.proofs.read.read_weeks.Goals.{then-branch, else-branch}
 
