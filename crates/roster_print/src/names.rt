@@ -14,7 +14,8 @@ pub fn put_after_blanks(
     symbols: &[Symbol],
 ) -> Result<(), AllocError>
     requires { All (IsSymbol problem.now) symbols.now }
-    ensures { OnOk result (out.new.items ≡ out.old.items ++ flat_map (λ x. 32 ∷ name_of problem.now x) symbols.now) }
+    ensures { OnOk result (out.new.items
+        ≡ out.old.items ++ flat_map (λ x. 32 ∷ name_of problem.now x) symbols.now) }
 {
     for symbol in symbols {
         out.push(b' ')?;

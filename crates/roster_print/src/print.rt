@@ -12,7 +12,8 @@ use std::alloc::{AllocError, Global};
 // Appends the names of the symbols with single blanks between them.
 fn put_names(out: &mut Vec<u8>, problem: &Problem, week: &[Symbol]) -> Result<(), AllocError>
     requires { All (IsSymbol problem.now) week.now }
-    ensures { OnOk result (out.new.items ≡ out.old.items ++ join_with_byte 32 (map (name_of problem.now) week.now)) }
+    ensures { OnOk result (out.new.items
+        ≡ out.old.items ++ join_with_byte 32 (map (name_of problem.now) week.now)) }
 {
     if week.is_empty() {
         return Ok(());

@@ -1,6 +1,6 @@
 // The roster that a text spells.
-ghost use Rattle.std.specs.Prelude.{◌≡◌, ◌≤◌, ◌++◌, List, [], ◌∷◌, length, Some, None, IfOk, OnOk, map, true, is_none, ◌==◌, position};
-ghost use Rattle.std.specs.List.{AllByRecursion, list_any, flat_map, position_or_len};
+ghost use Rattle.std.specs.Prelude.{◌≡◌, ◌≤◌, ◌++◌, List, [], ◌∷◌, length, Some, None, IfOk, OnOk, true, is_none, ◌==◌, position};
+ghost use Rattle.std.specs.List.{list_any, flat_map, position_or_len};
 ghost use Rattle.rwsp_text.specs.Lexemes.{lines_of, words_of_line, has_some};
 ghost use Rattle.rwsp_terms.specs.Instance.{symbol_of};
 ghost use Rattle.rwsp_terms.specs.declared.data.Symbol.{Symbol};
@@ -8,7 +8,7 @@ ghost use Rattle.rwsp_terms.specs.Roster.{IsRoster};
 ghost use Rattle.rwsp_model.specs.Refusals.{IfRefused};
 ghost use Rattle.roster_print.specs.RosterText.{SpellsRoster};
 ghost use Rattle.roster_print.specs.Refusal.{refusal_of_roster, week_refusal, first_refusal, numbered_weeks};
-ghost use Rattle.roster_print.specs.Reading.{words_at};
+ghost use Rattle.roster_print.specs.Reading.{words_at, AreWithin, AppendsNamed};
 
 use crate::RosterRefusal;
 use rwsp_model::{Fail, Problem, Roster, Symbol};
@@ -24,9 +24,12 @@ fn read_names(
     line: u32,
     cells: &mut Vec<Symbol>,
 ) -> Result<(), Fail<RosterRefusal>>
-    requires { AllByRecursion (λ t. (t.start ≤ t.end) × (t.end ≤ length text.now)) words.now }
-    ensures names { OnOk result (map Some cells.new.items ≡ map Some cells.old.items ++ map (symbol_of problem.now) (words_at text.now words.now)) }
-    ensures refused { IfRefused result (λ why. (why ≡ RosterRefusal.Unknown line) × (list_any (λ word. is_none (symbol_of problem.now word)) (words_at text.now words.now) ≡ true)) }
+    requires { AreWithin text.now words.now }
+    ensures names { OnOk result
+        (AppendsNamed problem.now (words_at text.now words.now) cells.old.items cells.new.items) }
+    ensures refused { IfRefused result (λ why. why ≡ RosterRefusal.Unknown line) }
+    ensures unknown { IfRefused result (λ why.
+        list_any (λ word. is_none (symbol_of problem.now word)) (words_at text.now words.now) ≡ true) }
 {
     for word in words {
         let Some(symbol) = problem.symbol(&text[word.start..word.end]) else {
@@ -48,10 +51,13 @@ fn read_week(
     line: u32,
     cells: &mut Vec<Symbol>,
 ) -> Result<(), Fail<RosterRefusal>>
-    requires { AllByRecursion (λ t. (t.start ≤ t.end) × (t.end ≤ length text.now)) words.now }
-    ensures names { OnOk result (map Some cells.new.items ≡ map Some cells.old.items ++ map (symbol_of problem.now) (words_at text.now words.now)) }
-    ensures accepted { OnOk result (week_refusal problem.now (line, words_at text.now words.now) ≡ None) }
-    ensures refused { IfRefused result (λ why. week_refusal problem.now (line, words_at text.now words.now) ≡ Some why) }
+    requires { AreWithin text.now words.now }
+    ensures names { OnOk result
+        (AppendsNamed problem.now (words_at text.now words.now) cells.old.items cells.new.items) }
+    ensures accepted { OnOk result
+        (week_refusal problem.now (line, words_at text.now words.now) ≡ None) }
+    ensures refused { IfRefused result (λ why.
+        week_refusal problem.now (line, words_at text.now words.now) ≡ Some why) }
 {
     read_names(problem, text, words, line, cells)?;
     if words.len() != problem.days() as usize {
@@ -65,8 +71,9 @@ fn read_week(
 fn words_of(alloc: Global, text: &[u8]) -> Result<Vec<Token>, AllocError>
     requires few { length text.now ≤ 1048576 }
     requires one { lines_of text.now ≡ text.now ∷ [] }
-    ensures words { IfOk result (λ words. words_at text.now words.items ≡ words_of_line text.now) }
-    ensures within { IfOk result (λ words. AllByRecursion (λ t. (t.start ≤ t.end) × (t.end ≤ length text.now)) words.items) }
+    ensures words { IfOk result (λ words.
+        words_at text.now words.items ≡ words_of_line text.now) }
+    ensures within { IfOk result (λ words. AreWithin text.now words.items) }
 {
     let words = tokens(alloc, text)?;
     Ok(words)
@@ -84,9 +91,13 @@ fn read_line(
     requires few { length text.now ≤ 1048576 }
     requires one { lines_of text.now ≡ text.now ∷ [] }
     ensures week { IfOk result (λ week. week ≡ has_some (words_of_line text.now)) }
-    ensures names { OnOk result (map Some cells.new.items ≡ map Some cells.old.items ++ map (symbol_of problem.now) (words_of_line text.now)) }
-    ensures accepted { IfOk result (λ week. week ≡ true → week_refusal problem.now (line, words_of_line text.now) ≡ None) }
-    ensures refused { IfRefused result (λ why. (has_some (words_of_line text.now) ≡ true) × (week_refusal problem.now (line, words_of_line text.now) ≡ Some why)) }
+    ensures names { OnOk result
+        (AppendsNamed problem.now (words_of_line text.now) cells.old.items cells.new.items) }
+    ensures accepted { IfOk result (λ week.
+        week ≡ true → week_refusal problem.now (line, words_of_line text.now) ≡ None) }
+    ensures refused { IfRefused result (λ why.
+        (has_some (words_of_line text.now) ≡ true)
+        × (week_refusal problem.now (line, words_of_line text.now) ≡ Some why)) }
 {
     let Ok(words) = words_of(alloc, text) else {
         return Err(Fail::Memory);
@@ -123,10 +134,12 @@ fn read_weeks(
     bytes: &[u8],
 ) -> Result<(Vec<Symbol>, u32), Fail<RosterRefusal>>
     requires { length bytes.now ≤ 1048576 }
-    ensures names { IfOk result (λ read. map Some read.0.items ≡ map (symbol_of problem.now) (flat_map (λ week. week.1) (numbered_weeks bytes.now))) }
+    ensures names { IfOk result (λ read. AppendsNamed problem.now
+        (flat_map (λ week. week.1) (numbered_weeks bytes.now)) [] read.0.items) }
     ensures count { IfOk result (λ read. read.1 ≡ length (numbered_weeks bytes.now)) }
     ensures accepted { OnOk result (first_refusal problem.now (numbered_weeks bytes.now) ≡ None) }
-    ensures refused { IfRefused result (λ why. first_refusal problem.now (numbered_weeks bytes.now) ≡ Some why) }
+    ensures refused { IfRefused result (λ why.
+        first_refusal problem.now (numbered_weeks bytes.now) ≡ Some why) }
 {
     let mut cells = Vec::new(alloc);
     let mut weeks = 0;
@@ -156,8 +169,10 @@ pub fn read_roster(
     ensures spelled { IfOk result (λ s. SpellsRoster problem.now bytes.now s.cells) }
     ensures roster { IfOk result (λ s. IsRoster problem.now s.cells) }
     ensures days { IfOk result (λ s. s.days ≡ problem.now.days) }
-    ensures refused { IfRefused result (λ why. refusal_of_roster problem.now bytes.now ≡ Some why) }
-    ensures unspelled { IfRefused result (λ why. (s : List Symbol) → SpellsRoster problem.now bytes.now s → ⊥) }
+    ensures refused { IfRefused result (λ why.
+        refusal_of_roster problem.now bytes.now ≡ Some why) }
+    ensures unspelled { IfRefused result (λ why.
+        (s : List Symbol) → SpellsRoster problem.now bytes.now s → ⊥) }
 {
     let (cells, weeks) = read_weeks(alloc, problem, bytes)?;
     if weeks != problem.weeks() {

@@ -42,7 +42,8 @@ fn not_sequence(
 
 fn pair_text(alloc: Global, problem: &Problem, place: u32) -> Result<Vec<u8>, AllocError>
     requires { place < length problem.now.pairs }
-    ensures { IfOk result (λ text. text.items ≡ not_text problem.now (pair_list (slice_get problem.now.pairs place))) }
+    ensures { IfOk result (λ text. text.items
+        ≡ not_text problem.now (pair_list (slice_get problem.now.pairs place))) }
 {
     problem.keeps_limits();
     let (x, y) = problem.pairs()[place as usize];
@@ -52,7 +53,8 @@ fn pair_text(alloc: Global, problem: &Problem, place: u32) -> Result<Vec<u8>, Al
 
 fn triple_text(alloc: Global, problem: &Problem, place: u32) -> Result<Vec<u8>, AllocError>
     requires { place < length problem.now.triples }
-    ensures { IfOk result (λ text. text.items ≡ not_text problem.now (triple_list (slice_get problem.now.triples place))) }
+    ensures { IfOk result (λ text. text.items
+        ≡ not_text problem.now (triple_list (slice_get problem.now.triples place))) }
 {
     problem.keeps_limits();
     let (x, y, z) = problem.triples()[place as usize];
