@@ -1,0 +1,14 @@
+-- Where the lexemes of a text stand.
+use Rattle.std.specs.Prelude.{ℕ, List, Bool, not, ◌==◌, ◌&&◌, slice_range}
+use Rattle.rwsp_text.specs.Lexemes.{Lexeme, is_space}
+use Rattle.rwsp_text.specs.declared.scan.Token.{Token}
+
+abbrev pub is_word_byte : ℕ → Bool
+is_word_byte b = not (is_space b) && not (b == 10)
+
+abbrev pub is_no_end : ℕ → Bool
+is_no_end b = not (b == 10)
+
+-- the lexeme that a token stands for
+abbrev pub lexeme_at : List ℕ → Token → Lexeme
+lexeme_at bytes t = record { text = slice_range bytes t.start t.end; line = t.line }
