@@ -1,0 +1,6 @@
+//! Problem files, both ways.
+#![tactic(auto)]
+
+mod refusal;
+
+pub use refusal::FileRefusal;
