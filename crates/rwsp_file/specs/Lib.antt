@@ -2,3 +2,4 @@ pub mod Spelling
 pub mod Reading
 pub mod Text
 pub mod Laws
+pub mod Reads

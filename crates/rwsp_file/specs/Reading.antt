@@ -11,6 +11,9 @@ use Rattle.rwsp_terms.specs.declared.data.ShiftRow.{ShiftRow}
 use Rattle.rwsp_terms.specs.declared.data.Symbol.{Symbol}
 use Rattle.rwsp_model.specs.Validity.{is_between, is_small_range}
 use Rattle.rwsp_file.specs.Spelling.{on_line, past_line}
+use Rattle.rwsp_file.specs.declared.fields.Size.{Size}
+use Rattle.rwsp_file.specs.declared.fields.Frame.{Frame}
+use Rattle.rwsp_file.specs.declared.row.RowWords.{RowWords}
 use Rattle.rwsp_file.specs.declared.refusal.FileRefusal.{FileRefusal}
 use Rattle.rwsp_file.specs.declared.refusal.FileRefusal.TheVariants.{Ends, Number, Range, Row, Name, Unknown, Extra}
 
@@ -60,11 +63,6 @@ weeks_at days u = do
   n ← limited_weeks days w.0
   Ok (n, w.1)
 
-pub record Size : Type 0 where
-  pub days : ℕ
-  pub weeks : ℕ
-  pub shifts : ℕ
-
 unfoldable pub size_at : Unread → Result (Size × Unread) FileRefusal
 size_at u = do
   days ← number_at 1 1 28 u
@@ -98,8 +96,8 @@ limited_demand w = do
   range ← or_refuse (demand_of w.text) (Number w.line)
   if is_small_range range then Ok range else Err (Range w.line 5)
 
-unfoldable pub demand_at : List Bounds → Unread → Result (Bounds × Unread) FileRefusal
-demand_at earlier u = do
+unfoldable pub demand_at : Unread → Result (Bounds × Unread) FileRefusal
+demand_at u = do
   w ← next_at u
   range ← limited_demand w.0
   Ok (range, w.1)
@@ -109,17 +107,17 @@ unfoldable pub many : {X : Type 0} → (List X → Unread → Result (X × Unrea
 many read zero earlier u = Ok (earlier, u)
 many read (suc n) earlier u = read earlier u >>= (λ x. many read n (earlier ++ x.0 ∷ []) x.1)
 
--- the demand of a shift
-unfoldable pub demand_row_at : ℕ → List (List Bounds) → Unread → Result (List Bounds × Unread) FileRefusal
-demand_row_at days earlier u = many demand_at days [] u
+-- each of them read alike
+abbrev pub each : {X : Type 0} → (Unread → Result (X × Unread) FileRefusal) → List X → Unread → Result (X × Unread) FileRefusal
+each read earlier u = read u
 
--- the words of a shift, without the long name
-pub record RowWords : Type 0 where
-  pub name : Lexeme
-  pub start : Lexeme
-  pub minutes : Lexeme
-  pub least : Lexeme
-  pub greatest : Lexeme
+-- the demand of a shift
+abbrev pub demand_row_at : ℕ → Unread → Result (List Bounds × Unread) FileRefusal
+demand_row_at days u = many (each demand_at) days [] u
+
+-- a row of demands for each shift
+abbrev pub demand_rows_at : Size → Unread → Result (List (List Bounds) × Unread) FileRefusal
+demand_rows_at size u = many (each (demand_row_at size.days)) size.shifts [] u
 
 abbrev pub row_words : Lexeme → Lexeme → Lexeme → Lexeme → Lexeme → RowWords
 row_words name start minutes least greatest = record { name = name; start = start; minutes = minutes; least = least; greatest = greatest }
@@ -161,18 +159,15 @@ shift_at earlier u = do
   row ← shift_of earlier words.0
   Ok (row, words.1)
 
+-- all shifts
+abbrev pub shift_rows_at : Size → Unread → Result (List ShiftRow × Unread) FileRefusal
+shift_rows_at size u = many shift_at size.shifts [] u
+
 unfoldable pub bounds_at : Unread → Result (Bounds × Unread) FileRefusal
 bounds_at u = do
   least ← number_at 7 0 10000 u
   greatest ← number_at 7 0 10000 least.1
   Ok (record { least = least.0; greatest = greatest.0 }, greatest.1)
-
--- the bounds of the blocks, and how many pairs and triples there are
-pub record Frame : Type 0 where
-  pub off : Bounds
-  pub work : Bounds
-  pub pairs : ℕ
-  pub triples : ℕ
 
 unfoldable pub frame_at : Unread → Result (Frame × Unread) FileRefusal
 frame_at u = do
@@ -194,34 +189,29 @@ symbol_at rows u = do
   x ← or_refuse (symbol_in rows w.0.text) (Unknown w.0.line)
   Ok (x, w.1)
 
-unfoldable pub pair_at : List ShiftRow → List (Symbol × Symbol) → Unread → Result ((Symbol × Symbol) × Unread) FileRefusal
-pair_at rows earlier u = do
+unfoldable pub pair_at : List ShiftRow → Unread → Result ((Symbol × Symbol) × Unread) FileRefusal
+pair_at rows u = do
   x ← symbol_at rows u
   y ← symbol_at rows x.1
   Ok ((x.0, y.0), y.1)
 
-unfoldable pub triple_at : List ShiftRow → List (Symbol × Symbol × Symbol) → Unread → Result ((Symbol × Symbol × Symbol) × Unread) FileRefusal
-triple_at rows earlier u = do
+unfoldable pub triple_at : List ShiftRow → Unread → Result ((Symbol × Symbol × Symbol) × Unread) FileRefusal
+triple_at rows u = do
   x ← symbol_at rows u
   y ← symbol_at rows x.1
   z ← symbol_at rows y.1
   Ok ((x.0, y.0, z.0), z.1)
 
+abbrev pub pairs_at : List ShiftRow → ℕ → Unread → Result (List (Symbol × Symbol) × Unread) FileRefusal
+pairs_at rows count u = many (each (pair_at rows)) count [] u
+
+abbrev pub triples_at : List ShiftRow → ℕ → Unread → Result (List (Symbol × Symbol × Symbol) × Unread) FileRefusal
+triples_at rows count u = many (each (triple_at rows)) count [] u
+
 -- nothing is left
 abbrev pub nothing_of : List Lexeme → Result (Unit {0}) FileRefusal
 nothing_of [] = Ok tt
 nothing_of (w ∷ ws) = Err (Extra w.line)
-
--- the demand and the shifts
-pub record Table : Type 0 where
-  pub demand : List (List Bounds)
-  pub shifts : List ShiftRow
-
-unfoldable pub table_at : Size → Unread → Result (Table × Unread) FileRefusal
-table_at size u = do
-  demand ← many (demand_row_at size.days) size.shifts [] u
-  shifts ← many shift_at size.shifts [] demand.1
-  Ok (record { demand = demand.0; shifts = shifts.0 }, shifts.1)
 
 -- the forbidden sequences, with which a text ends
 pub record Sequences : Type 0 where
@@ -230,17 +220,17 @@ pub record Sequences : Type 0 where
 
 unfoldable pub sequences_at : List ShiftRow → Frame → Unread → Result Sequences FileRefusal
 sequences_at rows frame u = do
-  pairs ← many (pair_at rows) frame.pairs [] u
-  triples ← many (triple_at rows) frame.triples [] pairs.1
+  pairs ← pairs_at rows frame.pairs u
+  triples ← triples_at rows frame.triples pairs.1
   _ ← nothing_of triples.1.lexemes
   Ok (record { pairs = pairs.0; triples = triples.0 })
 
-abbrev pub instance_from : Size → Table → Frame → Sequences → Instance
-instance_from size table frame sequences = record {
+abbrev pub instance_from : Size → List (List Bounds) → List ShiftRow → Frame → Sequences → Instance
+instance_from size demand shifts frame sequences = record {
   days = size.days;
   weeks = size.weeks;
-  demand = table.demand;
-  shifts = table.shifts;
+  demand = demand;
+  shifts = shifts;
   off = frame.off;
   work = frame.work;
   pairs = sequences.pairs;
@@ -251,10 +241,11 @@ instance_from size table frame sequences = record {
 unfoldable pub reading : Unread → Result Instance FileRefusal
 reading u = do
   size ← size_at u
-  table ← table_at size.0 size.1
-  frame ← frame_at table.1
-  sequences ← sequences_at table.0.shifts frame.0 frame.1
-  Ok (instance_from size.0 table.0 frame.0 sequences)
+  demand ← demand_rows_at size.0 size.1
+  shifts ← shift_rows_at size.0 demand.1
+  frame ← frame_at shifts.1
+  sequences ← sequences_at shifts.0 frame.0 frame.1
+  Ok (instance_from size.0 demand.0 shifts.0 frame.0 sequences)
 
 abbrev pub refusal_in : Result Instance FileRefusal → Option FileRefusal
 refusal_in (Ok P) = None

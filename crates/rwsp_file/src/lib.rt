@@ -1,6 +1,11 @@
 //! Problem files, both ways.
 #![tactic(auto)]
 
+mod cursor;
+mod demand;
+mod fields;
 mod refusal;
+mod row;
+mod shifts;
 
 pub use refusal::FileRefusal;
