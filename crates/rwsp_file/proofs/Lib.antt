@@ -1,2 +1,3 @@
 pub mod ManySteps
 pub mod Names
+pub mod Lines

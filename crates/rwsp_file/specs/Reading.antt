@@ -136,22 +136,28 @@ is_new_name earlier name =
 unfoldable pub new_name : List ShiftRow → Lexeme → Result (List ℕ) FileRefusal
 new_name earlier w = if is_new_name earlier w.text then Ok w.text else Err (Name w.line)
 
--- the shift of its words: name, start, length, least and greatest length of a block
-unfoldable pub shift_of : List ShiftRow → RowWords → Result ShiftRow FileRefusal
-shift_of earlier words = do
-  name ← new_name earlier words.name
+-- the start, the length, and the bounds of the blocks
+unfoldable pub numbers_of_row : RowWords → Result (ℕ × ℕ × Bounds) FileRefusal
+numbers_of_row words = do
   start ← limited 6 0 10000 words.start
   minutes ← limited 6 0 10000 words.minutes
   least ← limited 7 0 10000 words.least
   greatest ← limited 7 0 10000 words.greatest
-  Ok (record { name = name; start = start; length = minutes; bounds = record { least = least; greatest = greatest } })
+  Ok (start, minutes, record { least = least; greatest = greatest })
+
+-- the shift of its words: its name, and then its numbers
+unfoldable pub shift_of : List ShiftRow → RowWords → Result ShiftRow FileRefusal
+shift_of earlier words = do
+  name ← new_name earlier words.name
+  numbers ← numbers_of_row words
+  Ok (record { name = name; start = numbers.0; length = numbers.1; bounds = numbers.2 })
 
 -- the words of the next line that has any left
 unfoldable pub row_words_at : Unread → Result (RowWords × Unread) FileRefusal
 row_words_at u = do
   first ← next_at u
   words ← or_refuse (words_of_row (first.0 ∷ on_line first.0.line first.1.lexemes)) (Row first.0.line)
-  Ok (words, record { lexemes = past_line first.0.line first.1.lexemes; end = u.end })
+  Ok (words, record { lexemes = past_line first.0.line first.1.lexemes; end = first.1.end })
 
 unfoldable pub shift_at : List ShiftRow → Unread → Result (ShiftRow × Unread) FileRefusal
 shift_at earlier u = do

@@ -1,12 +1,12 @@
 // A cursor over the words of a text.
-ghost use Rattle.std.specs.Prelude.{◌≡◌, ℕ, ◌+◌, ◌<◌, ◌≤◌, List, [], ◌∷◌, length, map, IfOk};
-ghost use Rattle.std.specs.List.{AllByRecursion};
+ghost use Rattle.std.specs.Prelude.{◌≡◌, ℕ, ◌≤◌, List, [], ◌∷◌, length, map, IfOk, MatchOption, position, not, ◌==◌};
+ghost use Rattle.std.specs.List.{AllByRecursion, prefix_len};
 ghost use Rattle.rwsp_text.specs.Places.{lexeme_at};
-ghost use Rattle.rwsp_file.specs.Reading.{next_at, limited, number_at, limited_weeks, weeks_at, limited_demand, demand_at, bounds_at};
+ghost use Rattle.rwsp_file.specs.Spelling.{on_line, past_line};
+ghost use Rattle.rwsp_file.specs.Reading.{next_at, limited, number_at, bounds_at};
 ghost use Rattle.rwsp_file.specs.Reads.{Reads};
 
 use crate::FileRefusal;
-use crate::demand::demand;
 use rwsp_model::Bounds;
 use rwsp_text::{Token, number};
 use std::marker::Model;
@@ -85,14 +85,10 @@ impl<'a> Cursor<'a> {
     pub fn next(&mut self) -> Result<Word<'a>, FileRefusal>
         ensures { Reads (next_at self.old) result self.new }
     {
-        let Some((token, rest)) = self.tokens.split_first() else {
-            return Err(FileRefusal::Ends(self.end));
-        };
-        self.tokens = rest;
-        Ok(Word {
-            text: &self.bytes[token.start..token.end],
-            line: token.line,
-        })
+        match self.pop() {
+            Some(word) => Ok(word),
+            None => Err(FileRefusal::Ends(self.end)),
+        }
     }
 
     /// The next word as a number that keeps the limit of the number `limit`.
@@ -114,4 +110,47 @@ impl<'a> Cursor<'a> {
         let greatest = self.number(7, 0, 10_000)?;
         Ok(Bounds { least, greatest })
     }
+
+    /// The next word, where there is one.
+    pub fn pop(&mut self) -> Option<Word<'a>>
+        ensures { MatchOption result
+            ((self.old.lexemes ≡ []) × (self.new ≡ self.old))
+            (λ w. self.old ≡ record { lexemes = w ∷ self.new.lexemes; end = self.new.end }) }
+    {
+        let Some((token, rest)) = self.tokens.split_first() else {
+            return None;
+        };
+        self.tokens = rest;
+        Some(Word {
+            text: &self.bytes[token.start..token.end],
+            line: token.line,
+        })
+    }
+
+    /// Takes the words that follow on the line.
+    pub fn take_line(&mut self, line: u32) -> Cursor<'a>
+        ensures taken { result ≡ record { lexemes = on_line line self.old.lexemes; end = self.old.end } }
+        ensures left { self.new ≡ record { lexemes = past_line line self.old.lexemes; end = self.old.end } }
+    {
+        let (front, rest) = self.tokens.split_at(count_on_line(self.tokens, line));
+        self.tokens = rest;
+        Cursor {
+            bytes: self.bytes,
+            tokens: front,
+            end: self.end,
+        }
+    }
+}
+
+fn place_past_line(tokens: &[Token], line: u32) -> Option<usize>
+    ensures { result ≡ position (λ t. not (t.line == line)) tokens.now }
+{
+    tokens.iter().position(|token| token.line != line)
+}
+
+fn count_on_line(tokens: &[Token], line: u32) -> usize
+    ensures count { result ≡ prefix_len (λ t. t.line == line) tokens.now }
+    ensures within { result ≤ length tokens.now }
+{
+    place_past_line(tokens, line).unwrap_or(tokens.len())
 }
