@@ -166,8 +166,8 @@ shift_at earlier u = do
   Ok (row, words.1)
 
 -- all shifts
-abbrev pub shift_rows_at : Size → Unread → Result (List ShiftRow × Unread) FileRefusal
-shift_rows_at size u = many shift_at size.shifts [] u
+abbrev pub shift_rows_at : ℕ → Unread → Result (List ShiftRow × Unread) FileRefusal
+shift_rows_at count u = many shift_at count [] u
 
 unfoldable pub bounds_at : Unread → Result (Bounds × Unread) FileRefusal
 bounds_at u = do
@@ -248,7 +248,7 @@ unfoldable pub reading : Unread → Result Instance FileRefusal
 reading u = do
   size ← size_at u
   demand ← demand_rows_at size.0 size.1
-  shifts ← shift_rows_at size.0 demand.1
+  shifts ← shift_rows_at size.0.shifts demand.1
   frame ← frame_at shifts.1
   sequences ← sequences_at shifts.0 frame.0 frame.1
   Ok (instance_from size.0 demand.0 shifts.0 frame.0 sequences)

@@ -6,6 +6,7 @@ mod demand;
 mod fields;
 mod refusal;
 mod row;
+mod sequences;
 mod shifts;
 
 pub use refusal::FileRefusal;

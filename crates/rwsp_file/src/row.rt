@@ -99,3 +99,64 @@ fn numbers_of_row(words: &RowWords) -> Result<(u32, u32, Bounds), FileRefusal>
     let greatest = words.greatest.limited(7, 0, 10_000)?;
     Ok((start, minutes, Bounds { least, greatest }))
 }
+
+fn copied_name(alloc: Global, word: &Word) -> Result<Name, Fail<FileRefusal>>
+    ensures { GivesUnless (λ name. name) (Ok word.now.text) result }
+{
+    match Vec::from_slice(alloc, word.text()) {
+        Ok(bytes) => Ok(Name::of(bytes)),
+        Err(_) => Err(Fail::Memory),
+    }
+}
+
+#[tactic(auto, unfolding(crate::specs::Reading::shift_of))]
+fn shift_of(alloc: Global, shifts: &Shifts, words: &RowWords) -> Result<ShiftRow, Fail<FileRefusal>>
+    ensures value { GivesUnless (λ row. row) (shift_of shifts.now words.now) result }
+    ensures fresh { IfOk result (λ row. list_any (λ other. bytes_eq row.name other.name) shifts.now ≡ false) }
+{
+    if let Err(refusal) = check_name(shifts, &words.name) {
+        return Err(Fail::Refused(refusal));
+    }
+    let (start, length, bounds) = match numbers_of_row(words) {
+        Ok(numbers) => numbers,
+        Err(refusal) => return Err(Fail::Refused(refusal)),
+    };
+    let name = copied_name(alloc, &words.name)?;
+    Ok(ShiftRow {
+        name,
+        start,
+        length,
+        bounds,
+    })
+}
+
+#[tactic(auto, unfolding(crate::specs::Reading::shift_at))]
+fn read_shift(alloc: Global, shifts: &Shifts, cursor: &mut Cursor) -> Result<ShiftRow, Fail<FileRefusal>>
+    ensures value { ReadsUnless (λ row. row) (shift_at shifts.now cursor.old) result cursor.new }
+    ensures fresh { IfOk result (λ row. list_any (λ other. bytes_eq row.name other.name) shifts.now ≡ false) }
+{
+    let words = match read_row_words(cursor) {
+        Ok(words) => words,
+        Err(refusal) => return Err(Fail::Refused(refusal)),
+    };
+    shift_of(alloc, shifts, &words)
+}
+
+/// Reads a row for each shift.
+#[tactic(auto, using(crate::proofs::ManySteps::many_ok, crate::proofs::ManySteps::loop_err, crate::proofs::ManySteps::loop_done))]
+pub fn read_shifts(alloc: Global, count: u32, cursor: &mut Cursor) -> Result<Shifts, Fail<FileRefusal>>
+    ensures { ReadsUnless (λ shifts. shifts) (shift_rows_at count cursor.old) result cursor.new }
+{
+    let mut shifts = Shifts::new(alloc);
+    for shift in 0..count {
+        let row = match read_shift(alloc, &shifts, cursor) {
+            Ok(row) => row,
+            Err(fail) => return Err(fail),
+        };
+        shifts = match shifts.with(alloc, row) {
+            Ok(shifts) => shifts,
+            Err(_) => return Err(Fail::Memory),
+        };
+    }
+    Ok(shifts)
+}
