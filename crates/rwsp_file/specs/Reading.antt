@@ -219,19 +219,15 @@ abbrev pub nothing_of : List Lexeme → Result (Unit {0}) FileRefusal
 nothing_of [] = Ok tt
 nothing_of (w ∷ ws) = Err (Extra w.line)
 
--- the forbidden sequences, with which a text ends
-pub record Sequences : Type 0 where
-  pub pairs : List (Symbol × Symbol)
-  pub triples : List (Symbol × Symbol × Symbol)
-
-unfoldable pub sequences_at : List ShiftRow → Frame → Unread → Result Sequences FileRefusal
+-- the forbidden pairs and triples, with which a text ends
+unfoldable pub sequences_at : List ShiftRow → Frame → Unread → Result (List (Symbol × Symbol) × List (Symbol × Symbol × Symbol)) FileRefusal
 sequences_at rows frame u = do
   pairs ← pairs_at rows frame.pairs u
   triples ← triples_at rows frame.triples pairs.1
   _ ← nothing_of triples.1.lexemes
-  Ok (record { pairs = pairs.0; triples = triples.0 })
+  Ok (pairs.0, triples.0)
 
-abbrev pub instance_from : Size → List (List Bounds) → List ShiftRow → Frame → Sequences → Instance
+abbrev pub instance_from : Size → List (List Bounds) → List ShiftRow → Frame → List (Symbol × Symbol) × List (Symbol × Symbol × Symbol) → Instance
 instance_from size demand shifts frame sequences = record {
   days = size.days;
   weeks = size.weeks;
@@ -239,8 +235,8 @@ instance_from size demand shifts frame sequences = record {
   shifts = shifts;
   off = frame.off;
   work = frame.work;
-  pairs = sequences.pairs;
-  triples = sequences.triples;
+  pairs = sequences.0;
+  triples = sequences.1;
 }
 
 -- the instance that a text spells, or the first failure

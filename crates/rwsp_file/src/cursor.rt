@@ -80,6 +80,14 @@ impl<'a> Word<'a> {
 }
 
 impl<'a> Cursor<'a> {
+    /// The words that stand at these tokens of the bytes.
+    pub fn of(bytes: &'a [u8], tokens: &'a [Token], end: u32) -> Cursor<'a>
+        requires { AllByRecursion (λ t. (t.start ≤ t.end) × (t.end ≤ length bytes.now)) tokens.now }
+        ensures { result ≡ record { lexemes = map (lexeme_at bytes.entry.now) tokens.entry.now; end = end } }
+    {
+        Cursor { bytes, tokens, end }
+    }
+
     /// The next word.
     #[tactic(auto, unfolding(crate::specs::Reading::next_at))]
     pub fn next(&mut self) -> Result<Word<'a>, FileRefusal>

@@ -51,7 +51,8 @@ fn read_weeks(days: u32, cursor: &mut Cursor) -> Result<u32, FileRefusal>
 /// Reads the numbers of days, weeks and shifts.
 #[tactic(auto, unfolding(crate::specs::Reading::size_at))]
 pub fn read_size(cursor: &mut Cursor) -> Result<Size, FileRefusal>
-    ensures { Reads (size_at cursor.old) result cursor.new }
+    ensures value { Reads (size_at cursor.old) result cursor.new }
+    ensures few { IfOk result (λ size. size.shifts ≤ 8) }
 {
     let days = cursor.number(1, 1, 28)?;
     let weeks = read_weeks(days, cursor)?;

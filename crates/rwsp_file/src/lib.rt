@@ -4,6 +4,7 @@
 mod cursor;
 mod demand;
 mod fields;
+mod read;
 mod refusal;
 mod row;
 mod sequences;

@@ -145,7 +145,8 @@ fn read_shift(alloc: Global, shifts: &Shifts, cursor: &mut Cursor) -> Result<Shi
 /// Reads a row for each shift.
 #[tactic(auto, using(crate::proofs::ManySteps::many_ok, crate::proofs::ManySteps::loop_err, crate::proofs::ManySteps::loop_done))]
 pub fn read_shifts(alloc: Global, count: u32, cursor: &mut Cursor) -> Result<Shifts, Fail<FileRefusal>>
-    ensures { ReadsUnless (λ shifts. shifts) (shift_rows_at count cursor.old) result cursor.new }
+    ensures value { ReadsUnless (λ shifts. shifts) (shift_rows_at count cursor.old) result cursor.new }
+    ensures long { IfOk result (λ shifts. length shifts ≡ count) }
 {
     let mut shifts = Shifts::new(alloc);
     for shift in 0..count {

@@ -1,10 +1,11 @@
 // Reading the forbidden sequences.
 ghost use Rattle.std.specs.Prelude.{◌≡◌, ℕ, List, length, ◌≤◌, IfOk};
-ghost use Rattle.rwsp_file.specs.Reading.{symbol_in, symbol_at, pair_at, triple_at, pairs_at, triples_at, nothing_of};
-ghost use Rattle.rwsp_file.specs.Reads.{Reads, ReadsUnless};
+ghost use Rattle.rwsp_file.specs.Reading.{symbol_in, symbol_at, pair_at, triple_at, pairs_at, triples_at, nothing_of, sequences_at};
+ghost use Rattle.rwsp_file.specs.Reads.{Reads, ReadsUnless, GivesUnless};
 
 use crate::FileRefusal;
 use crate::cursor::Cursor;
+use crate::fields::Frame;
 use crate::shifts::Shifts;
 use rwsp_model::{Fail, Symbol};
 use std::alloc::Global;
@@ -57,9 +58,9 @@ fn read_triple(shifts: &Shifts, cursor: &mut Cursor) -> Result<(Symbol, Symbol, 
     Ok((first, second, third))
 }
 
-/// Reads so many pairs.
+// Reads so many pairs.
 #[tactic(auto, using(crate::proofs::ManySteps::many_ok, crate::proofs::ManySteps::loop_err, crate::proofs::ManySteps::loop_done))]
-pub fn read_pairs(alloc: Global, shifts: &Shifts, count: u32, cursor: &mut Cursor) -> Result<Vec<(Symbol, Symbol)>, Fail<FileRefusal>>
+fn read_pairs(alloc: Global, shifts: &Shifts, count: u32, cursor: &mut Cursor) -> Result<Vec<(Symbol, Symbol)>, Fail<FileRefusal>>
     requires { length shifts.now ≤ 8 }
     ensures { ReadsUnless (λ v. v.items) (pairs_at shifts.now count cursor.old) result cursor.new }
 {
@@ -76,9 +77,9 @@ pub fn read_pairs(alloc: Global, shifts: &Shifts, count: u32, cursor: &mut Curso
     Ok(pairs)
 }
 
-/// Reads so many triples.
+// Reads so many triples.
 #[tactic(auto, using(crate::proofs::ManySteps::many_ok, crate::proofs::ManySteps::loop_err, crate::proofs::ManySteps::loop_done))]
-pub fn read_triples(alloc: Global, shifts: &Shifts, count: u32, cursor: &mut Cursor) -> Result<Vec<(Symbol, Symbol, Symbol)>, Fail<FileRefusal>>
+fn read_triples(alloc: Global, shifts: &Shifts, count: u32, cursor: &mut Cursor) -> Result<Vec<(Symbol, Symbol, Symbol)>, Fail<FileRefusal>>
     requires { length shifts.now ≤ 8 }
     ensures { ReadsUnless (λ v. v.items) (triples_at shifts.now count cursor.old) result cursor.new }
 {
@@ -95,12 +96,28 @@ pub fn read_triples(alloc: Global, shifts: &Shifts, count: u32, cursor: &mut Cur
     Ok(triples)
 }
 
-/// That nothing is left.
-pub fn read_end(cursor: &mut Cursor) -> Result<(), FileRefusal>
+// That nothing is left.
+fn read_end(cursor: &mut Cursor) -> Result<(), FileRefusal>
     ensures { result ≡ nothing_of cursor.old.lexemes }
 {
     match cursor.pop() {
         Some(word) => Err(FileRefusal::Extra(word.line())),
         None => Ok(()),
+    }
+}
+
+type Sequences = (Vec<(Symbol, Symbol)>, Vec<(Symbol, Symbol, Symbol)>);
+
+/// Reads the pairs and the triples, with which a text ends.
+#[tactic(auto, unfolding(crate::specs::Reading::sequences_at))]
+pub fn read_sequences(alloc: Global, shifts: &Shifts, frame: Frame, cursor: &mut Cursor) -> Result<Sequences, Fail<FileRefusal>>
+    requires { length shifts.now ≤ 8 }
+    ensures { GivesUnless (λ s. (s.0.items, s.1.items)) (sequences_at shifts.now frame cursor.old) result }
+{
+    let pairs = read_pairs(alloc, shifts, frame.pairs, cursor)?;
+    let triples = read_triples(alloc, shifts, frame.triples, cursor)?;
+    match read_end(cursor) {
+        Ok(()) => Ok((pairs, triples)),
+        Err(refusal) => Err(Fail::Refused(refusal)),
     }
 }
