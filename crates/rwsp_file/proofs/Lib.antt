@@ -1,3 +1,4 @@
 pub mod ManySteps
 pub mod Names
 pub mod Lines
+pub mod Readers
