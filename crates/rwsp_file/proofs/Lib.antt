@@ -2,3 +2,4 @@ pub mod ManySteps
 pub mod Names
 pub mod Lines
 pub mod Readers
+pub mod FieldReaders
