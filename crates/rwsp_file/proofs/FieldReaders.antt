@@ -137,10 +137,10 @@ cut_at_dot text c cs e =
     ∙ ap (λ b. before_first is_dot text ++ b ∷ after_first is_dot text) (dot_of _ (not_false _ stop))
     ∙ ap (λ t. before_first is_dot text ++ 46 ∷ t) e
 
-abbrev range_between : ℕ → ℕ → Bounds
+abbrev pub range_between : ℕ → ℕ → Bounds
 range_between n m = record { least = n; greatest = m }
 
-some_same : {A : Type 0} (x y : A) → Some x ≡ Some y → x ≡ y
+pub some_same : {A : Type 0} (x y : A) → Some x ≡ Some y → x ≡ y
 some_same x y e = cc
 
 range_parts : (o : Option ℕ) (rest : List ℕ) (b : Bounds) → range_from o rest ≡ Some b → (o ≡ Some b.least) × (cs : List ℕ) × (rest ≡ 46 ∷ cs) × (number_of cs ≡ Some b.greatest)

@@ -3,3 +3,4 @@ pub mod Names
 pub mod Lines
 pub mod Readers
 pub mod FieldReaders
+pub mod RowReader

@@ -49,10 +49,10 @@ next_only u w ws e = ap (next_of u.end) e
 pub no_lexemes : (f : Field) (fs : List Field) → Spell (f ∷ fs) [] → ⊥
 no_lexemes f fs h = h
 
-abbrev given : {A : Type 0} → A → Result A FileRefusal
+abbrev pub given : {A : Type 0} → A → Result A FileRefusal
 given x = Ok x
 
-ok_same : {A : Type 0} (x y : A) → given x ≡ Ok y → x ≡ y
+pub ok_same : {A : Type 0} (x y : A) → given x ≡ Ok y → x ≡ y
 ok_same x y e = cc
 
 -- a reader of one lexeme
