@@ -111,7 +111,7 @@ place_step : (b : Bool) (k n : ℕ) → b ≡ false → k ≡ n → cond (not b)
 place_step true k n e h = absurd (cc)
 place_step false k n e h = omega arith
 
-both_true : (a b : Bool) → (a && b) ≡ true → (a ≡ true) × (b ≡ true)
+pub both_true : (a b : Bool) → (a && b) ≡ true → (a ≡ true) × (b ≡ true)
 both_true true b e = (refl, e)
 both_true false b e = absurd (cc)
 

@@ -4,3 +4,5 @@ pub mod Lines
 pub mod Readers
 pub mod FieldReaders
 pub mod RowReader
+pub mod Chains
+pub mod SymbolReader
