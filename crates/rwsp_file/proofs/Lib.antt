@@ -6,3 +6,4 @@ pub mod FieldReaders
 pub mod RowReader
 pub mod Chains
 pub mod SymbolReader
+pub mod PartReaders

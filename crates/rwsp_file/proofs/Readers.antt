@@ -1,5 +1,5 @@
 -- Readers that read just the lexemes which spell what they give.
-use Rattle.std.proofs.Common.{◌≡◌, ℕ, suc, ◌+◌, List, [], ◌∷◌, ◌++◌, length, Bool, true, false, Option, Some, None, Result, Ok, Err, refl, ap, sym, ◌∙◌, subst, arith, append_assoc, append-nil, zero}
+use Rattle.std.proofs.Common.{◌≡◌, ℕ, suc, ◌+◌, List, [], ◌∷◌, ◌++◌, length, Bool, true, false, Option, Some, None, Result, Ok, Err, refl, ap, sym, ◌∙◌, subst, arith, append_assoc, append-nil, zero, map}
 use Rattle.std.specs.Prelude.{if◌then◌else◌}
 use Rattle.std.specs.List.{flat_map}
 use Rattle.rwsp_text.specs.Lexemes.{Lexeme}
@@ -147,3 +147,29 @@ module _ {X : Type 0} (V : List X → X → Type 0) (F : X → List Field) (read
         ∙ then_ok (read all u) (λ y. many read (length xs) (all ++ y.0 ∷ []) y.1) (x, a.0) (all ++ (x ∷ xs), b.0) a.1
             (b.1 ∙ ap (λ (zs : List X). Ok (zs, b.0)) (append_assoc all (x ∷ []) xs)),
         b.2)
+
+-- the same reader, where the fields are written otherwise
+pub with_fields : {X : Type 0} (V : X → Type 0) (F G : X → List Field) (read : Unread → Result (X × Unread) FileRefusal) → ((x : X) → F x ≡ G x) → IsReader V F read → IsReader V G read
+with_fields V F G read same r = record {
+  found = λ u v x e. ((r.found u v x e).0, λ fs s. subst (λ (gs : List Field). Spell (gs ++ fs) u.lexemes) (same x) ((r.found u v x e).1 fs s));
+  only = λ u x fs valid s. r.only u x fs valid (subst (λ (gs : List Field). Spell (gs ++ fs) u.lexemes) (sym (same x)) s);
+}
+
+-- as many as are wanted
+module _ {X : Type 0} (V : List X → X → Type 0) (F : X → List Field) (read : List X → Unread → Result (X × Unread) FileRefusal) (one : (all : List X) → IsReader (V all) F (read all)) (n : ℕ) where
+  pub all_found : (u v : Unread) (xs : List X) → many read n [] u ≡ Ok (xs, v) → ((length xs ≡ n) × AllAfter V [] xs) × ((fs : List Field) → Spell fs v.lexemes → Spell (flat_map F xs ++ fs) u.lexemes)
+  all_found u v xs e =
+      let b : Behind V F read one n [] xs u v = many_found V F read one n [] xs u v e in
+      subst (λ (ys : List X). ((length ys ≡ n) × AllAfter V [] ys) × ((fs : List Field) → Spell fs v.lexemes → Spell (flat_map F ys ++ fs) u.lexemes)) (sym b.whole) ((b.long, b.valid), b.text)
+
+  pub all_only : (u : Unread) (xs : List X) (fs : List Field) → (length xs ≡ n) × AllAfter V [] xs → Spell (flat_map F xs ++ fs) u.lexemes → (v : Unread) × (many read n [] u ≡ Ok (xs, v)) × Spell fs v.lexemes
+  all_only u xs fs valid s =
+      let a : (v : Unread) × (many read (length xs) [] u ≡ Ok (xs, v)) × Spell fs v.lexemes = many_only V F read one xs [] u fs valid.1 s in
+      (a.0, ap (λ k. many read k [] u) (sym valid.0) ∙ a.1, a.2)
+
+  pub many_reader : IsReader (λ xs. (length xs ≡ n) × AllAfter V [] xs) (flat_map F) (many read n [])
+  many_reader = record { found = all_found; only = all_only }
+
+pub flat_map_one : {X Y : Type 0} (f : X → Y) (xs : List X) → flat_map (λ x. f x ∷ []) xs ≡ map f xs
+flat_map_one f [] = refl
+flat_map_one f (x ∷ xs) = ap (λ ys. f x ∷ ys) (flat_map_one f xs)
