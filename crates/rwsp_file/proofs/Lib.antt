@@ -7,3 +7,5 @@ pub mod RowReader
 pub mod Chains
 pub mod SymbolReader
 pub mod PartReaders
+pub mod Whole
+pub mod WordForms

@@ -40,7 +40,7 @@ pub record IsSize (size : Size) : Type 0 where
 abbrev pub size_fields : Size → List Field
 size_fields size = number_fields (size.days ∷ size.weeks ∷ size.shifts ∷ [])
 
-abbrev make_size : ℕ → ℕ → ℕ → Size
+abbrev pub make_size : ℕ → ℕ → ℕ → Size
 make_size days weeks shifts = record { days = days; weeks = weeks; shifts = shifts }
 
 size_found : (u v : Unread) (size : Size) → size_at u ≡ Ok (size, v) → IsSize size × ((fs : List Field) → Spell fs v.lexemes → Spell (size_fields size ++ fs) u.lexemes)
@@ -120,7 +120,7 @@ pub record IsFrame (frame : Frame) : Type 0 where
 abbrev pub frame_fields : Frame → List Field
 frame_fields f = number_fields (f.off.least ∷ f.off.greatest ∷ f.work.least ∷ f.work.greatest ∷ f.pairs ∷ f.triples ∷ [])
 
-abbrev make_frame : Bounds → Bounds → ℕ → ℕ → Frame
+abbrev pub make_frame : Bounds → Bounds → ℕ → ℕ → Frame
 make_frame off work pairs triples = record { off = off; work = work; pairs = pairs; triples = triples }
 
 frame_found : (u v : Unread) (frame : Frame) → frame_at u ≡ Ok (frame, v) → IsFrame frame × ((fs : List Field) → Spell fs v.lexemes → Spell (frame_fields frame ++ fs) u.lexemes)
