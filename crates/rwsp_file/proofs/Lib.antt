@@ -9,3 +9,5 @@ pub mod SymbolReader
 pub mod PartReaders
 pub mod Whole
 pub mod WordForms
+pub mod Valid
+pub mod TextLaws

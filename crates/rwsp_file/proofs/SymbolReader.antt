@@ -52,7 +52,7 @@ symbol_found P text x e = at (bytes_eq text off_name) refl (position (test_name 
       subst (λ (y : Symbol). (y.number ≤ shift_count P) × (text ≡ name_of P y)) same
         (omega (arith, f.0), named ∙ sym (in_place P k f.0) ∙ ap (name_numbered P) next)
 
-not_equal : (a b : List ℕ) → a ≢ b → bytes_eq a b ≡ false
+pub not_equal : (a b : List ℕ) → a ≢ b → bytes_eq a b ≡ false
 not_equal a b h = at (bytes_eq a b) refl where
   at : (t : Bool) → bytes_eq a b ≡ t → t ≡ false
   at true e = absurd (h ((bytes_eq-Decides a b).0 e))

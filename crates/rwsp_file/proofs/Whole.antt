@@ -25,7 +25,7 @@ use Rattle.rwsp_file.proofs.SymbolReader.{HasNames, IsPair, IsTriple, pair_field
 use Rattle.rwsp_file.proofs.PartReaders.{IsSize, IsFrame, IsDemandRow, size_fields, frame_fields, make_size, make_frame, size_reader, frame_reader, demand_rows_reader, shift_rows_reader, pairs_reader, triples_reader}
 
 -- a new name, in plain words
-no_other : (name : List ℕ) (earlier : List ShiftRow) → is_new_name earlier name ≡ true → (nat_le (length name) 32 ≡ true) × (name ≢ off_name) × (list_any (λ row. bytes_eq name row.name) earlier ≡ false)
+pub no_other : (name : List ℕ) (earlier : List ShiftRow) → is_new_name earlier name ≡ true → (nat_le (length name) 32 ≡ true) × (name ≢ off_name) × (list_any (λ row. bytes_eq name row.name) earlier ≡ false)
 no_other name earlier e =
     let a : ((nat_le (length name) 32 && not (bytes_eq name off_name)) ≡ true) × (not (list_any (λ row. bytes_eq name row.name) earlier) ≡ true) =
         both_true (nat_le (length name) 32 && not (bytes_eq name off_name)) (not (list_any (λ row. bytes_eq name row.name) earlier)) e in
@@ -79,7 +79,7 @@ names_of P good = record { no_dash = (good_names P.shifts good).0; distinct = (g
 abbrev Sequences : Type 0
 Sequences = List (Symbol × Symbol) × List (Symbol × Symbol × Symbol)
 
-abbrev sequence_fields : Instance → List Field
+abbrev pub sequence_fields : Instance → List Field
 sequence_fields P = flat_map (pair_fields P) P.pairs ++ flat_map (triple_fields P) P.triples
 
 sequences_found : (P : Instance) → HasNames P → (frame : Frame) (u : Unread) → sequences_at P.shifts frame u ≡ Ok (P.pairs, P.triples) →
@@ -177,13 +177,13 @@ reading_found u P e =
       (read_of s1.0.0 s2.0.0 s3.0.0 s4.0.0 s5.0 u s1.0.1 s2.0.1 s3.0.1 s4.0.1 s1.1 s2.1 s3.1 s4.1 s5.1)
 
 -- the fields behind the size, the demand and the shifts
-abbrev fields_from_frame : Instance → List Field
+abbrev pub fields_from_frame : Instance → List Field
 fields_from_frame P = frame_fields (make_frame P.off P.work (length P.pairs) (length P.triples)) ++ sequence_fields P
 
-abbrev fields_from_shifts : Instance → List Field
+abbrev pub fields_from_shifts : Instance → List Field
 fields_from_shifts P = map ShiftField P.shifts ++ fields_from_frame P
 
-abbrev fields_from_demand : Instance → List Field
+abbrev pub fields_from_demand : Instance → List Field
 fields_from_demand P = flat_map (map DemandField) P.demand ++ fields_from_shifts P
 
 -- what is spelled is read

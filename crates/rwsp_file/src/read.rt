@@ -70,3 +70,19 @@ fn parts_of(alloc: Global, bytes: &[u8]) -> Result<Parts, Fail<FileRefusal>>
     let mut cursor = Cursor::of(bytes, &tokens, last_line(bytes));
     read_parts(alloc, &mut cursor)
 }
+
+/// The problem that the bytes spell, or the first failure in them.
+pub fn read_problem(alloc: Global, bytes: &[u8]) -> Result<Problem, Fail<FileRefusal>>
+    requires { length bytes.now ≤ 1048576 }
+    ensures ok { IfOk result (λ P. SpellsProblem bytes.now P) }
+    ensures refused { IfRefused result (λ why. file_refusal bytes.now ≡ Some why) }
+{
+    let parts = match parts_of(alloc, bytes) {
+        Ok(parts) => parts,
+        Err(fail) => return Err(fail),
+    };
+    match Problem::of(parts) {
+        Ok(problem) => Ok(problem),
+        Err(_) => unreachable!(),
+    }
+}
