@@ -1,5 +1,5 @@
 -- Lists each of whose elements has something in sight of the earlier ones.
-use Rattle.std.proofs.Common.{◌≡◌, ℕ, zero, suc, ◌+◌, ◌<◌, ◌≤◌, List, [], ◌∷◌, ◌++◌, length, get_or, take, Bool, true, false, ◌&&◌, nat_le, refl, ap, sym, ◌∙◌, arith, subst, append_assoc, append-nil}
+use Rattle.std.proofs.Common.{◌≡◌, ℕ, zero, suc, ◌<◌, ◌≤◌, List, [], ◌∷◌, ◌++◌, length, get_or, take, Bool, true, false, ◌&&◌, nat_le, sym, arith, subst, append_assoc, append-nil}
 use Rattle.std.proofs.lemmas.Bool.{leb-true}
 use Rattle.std.proofs.lemmas.Bool.Decides.{nat_tests}
 use Rattle.rwsp_model.specs.Validity.{is_between}
@@ -13,9 +13,10 @@ after_at V all (x ∷ xs) h (suc n) d less = subst (λ es. V es (get_or xs n d))
 
 pub after_from : {X : Type 0} (V : List X → X → Type 0) (all xs : List X) → ((i : ℕ) (d : X) → i < length xs → V (all ++ take i xs) (get_or xs i d)) → AllAfter V all xs
 after_from V all [] h = tt
-after_from V all (x ∷ xs) h =
-    (subst (λ es. V es x) (append-nil all) (h 0 x (omega arith)),
-     after_from V (all ++ x ∷ []) xs (λ i d less. subst (λ es. V es (get_or xs i d)) (sym (append_assoc all (x ∷ []) (take i xs))) (h (suc i) d (omega (arith, less)))))
+after_from V all (x ∷ xs) h = (
+  subst (λ es. V es x) (append-nil all) (h 0 x (omega arith)),
+  after_from V (all ++ x ∷ []) xs (λ i d less. subst (λ es. V es (get_or xs i d)) (sym (append_assoc all (x ∷ []) (take i xs))) (h (suc i) d (omega (arith, less)))),
+)
 
 pub between_found : (low high n : ℕ) → is_between low high n ≡ true → (low ≤ n) × (n ≤ high)
 between_found low high n e =

@@ -1,8 +1,8 @@
 -- Readers of the single fields.
-use Rattle.std.proofs.Common.{◌≡◌, ℕ, zero, suc, ◌+◌, ◌*◌, ◌<◌, List, [], ◌∷◌, ◌++◌, length, Bool, true, false, not, ◌&&◌, ◌==◌, cond, Option, Some, None, Result, Ok, Err, refl, ap, sym, ◌∙◌, subst, arith, take, drop, get_or, inl, inr, nat_le, length-drop}
+use Rattle.std.proofs.Common.{◌≡◌, ℕ, suc, ◌+◌, ◌*◌, ◌<◌, List, [], ◌∷◌, ◌++◌, length, Bool, true, false, not, ◌&&◌, ◌==◌, cond, Option, Some, None, Ok, Err, refl, ap, sym, ◌∙◌, arith, take, drop, get_or, inl, inr, nat_le, length-drop}
 use Rattle.std.specs.Prelude.{if◌then◌else◌}
 use Rattle.std.specs.Option.{option_map}
-use Rattle.std.specs.List.{list_all, before_first, after_first, position_or_len, prefix_len}
+use Rattle.std.specs.List.{list_all, before_first, after_first, position_or_len}
 use Rattle.std.specs.Char.{is_ascii_digit}
 use Rattle.std.proofs.lemmas.List.Sums.{split_at_first, prefix_len_stops}
 use Rattle.std.proofs.lemmas.Bool.Decides.{nat_tests}
@@ -10,9 +10,9 @@ use Rattle.rwsp_text.specs.Lexemes.{Lexeme}
 use Rattle.rwsp_text.specs.Numbers.{number_of, value_of}
 use Rattle.rwsp_terms.specs.declared.data.Bounds.{Bounds}
 use Rattle.rwsp_model.specs.Validity.{is_between, is_small_range}
-use Rattle.rwsp_file.specs.Spelling.{Field, Spell, IsDemand, IsRange}
+use Rattle.rwsp_file.specs.Spelling.{IsDemand, IsRange}
 use Rattle.rwsp_file.specs.Spelling.Field.{NumberField, DemandField}
-use Rattle.rwsp_file.specs.Reading.{Unread, ◌>>=◌, or_refuse, next_at, limited, number_at, limited_weeks, weeks_at, limited_demand, demand_at, demand_of, range_or, range_of, range_from, is_dot}
+use Rattle.rwsp_file.specs.Reading.{◌>>=◌, or_refuse, limited, number_at, limited_weeks, weeks_at, limited_demand, demand_at, demand_of, range_or, range_of, range_from, is_dot}
 use Rattle.rwsp_file.proofs.Readers.{IsReader, bind_ok, then_ok, some_ok, test_ok, word_reader}
 use Rattle.rwsp_file.specs.declared.refusal.FileRefusal.{FileRefusal}
 use Rattle.rwsp_file.specs.declared.refusal.FileRefusal.TheVariants.{Number, Range}
@@ -54,7 +54,7 @@ weeks_found : (days : ℕ) (w : Lexeme) (n : ℕ) → limited_weeks days w ≡ O
 unfolding limited_weeks
 weeks_found days w n e =
     let a : (m : ℕ) × (limited 2 1 600 w ≡ Ok m) × ((if nat_le (m * days) 4200 then Ok m else Err (Range w.line 3)) ≡ Ok n) =
-        bind_ok (limited 2 1 600 w) (λ m. if nat_le (m * days) 4200 then Ok m else Err (Range w.line 3)) n e in
+    bind_ok (limited 2 1 600 w) (λ m. if nat_le (m * days) 4200 then Ok m else Err (Range w.line 3)) n e in
     let b : (nat_le (a.0 * days) 4200 ≡ true) × (a.0 ≡ n) = test_ok (nat_le (a.0 * days) 4200) a.0 n (Range w.line 3) a.2 in
     let f : (is_between 1 600 n ≡ true) × (number_of w.text ≡ Some n) = limited_found 2 1 600 w n (a.1 ∙ ap Ok b.1) in
     ((f.0, ap (λ m. nat_le (m * days) 4200) (sym b.1) ∙ b.0), f.1)
@@ -124,9 +124,10 @@ place_of_dot (b ∷ bs) rest e =
 -- what stands round the first dot
 dot_behind_digits : (least rest : List ℕ) → list_all is_ascii_digit least ≡ true → (before_first is_dot (least ++ 46 ∷ rest) ≡ least) × (after_first is_dot (least ++ 46 ∷ rest) ≡ rest)
 dot_behind_digits least rest e =
-    let place : position_or_len is_dot (least ++ 46 ∷ rest) ≡ length least = place_of_dot least rest e in
-    (ap (λ k. take k (least ++ 46 ∷ rest)) place ∙ take-append_seam least (46 ∷ rest),
-     ap (λ k. drop (k + 1) (least ++ 46 ∷ rest)) place ∙ drop-append-add least (46 ∷ rest) 1)
+    let place : position_or_len is_dot (least ++ 46 ∷ rest) ≡ length least = place_of_dot least rest e in (
+      ap (λ k. take k (least ++ 46 ∷ rest)) place ∙ take-append_seam least (46 ∷ rest),
+      ap (λ k. drop (k + 1) (least ++ 46 ∷ rest)) place ∙ drop-append-add least (46 ∷ rest) 1,
+    )
 
 cut_at_dot : (text : List ℕ) (c : ℕ) (cs : List ℕ) → after_first is_dot text ≡ c ∷ cs → text ≡ before_first is_dot text ++ 46 ∷ c ∷ cs
 cut_at_dot text c cs e =
@@ -158,19 +159,20 @@ range_parts (Some n) (c ∷ cs) b e = at (c == 46) refl (number_of cs) refl e wh
 range_found : (text : List ℕ) (b : Bounds) → range_of text ≡ Some b → IsRange b text
 range_found text b e =
     let p : (number_of (before_first is_dot text) ≡ Some b.least) × (cs : List ℕ) × (after_first is_dot text ≡ 46 ∷ cs) × (number_of cs ≡ Some b.greatest) =
-        range_parts (number_of (before_first is_dot text)) (after_first is_dot text) b e in
+    range_parts (number_of (before_first is_dot text)) (after_first is_dot text) b e in
     record { least = before_first is_dot text; greatest = p.1; whole = cut_at_dot text 46 p.1 p.2; from = p.0; to = p.3 }
 
 range_only : (text : List ℕ) (b : Bounds) → IsRange b text → (number_of text ≡ None) × (range_of text ≡ Some b)
 range_only text b r =
     let cut : (before_first is_dot (r.least ++ 46 ∷ 46 ∷ r.greatest) ≡ r.least) × (after_first is_dot (r.least ++ 46 ∷ 46 ∷ r.greatest) ≡ 46 ∷ r.greatest) =
-        dot_behind_digits r.least (46 ∷ r.greatest) (number_digits r.least b.least r.from) in
-    (ap number_of r.whole ∙ dotted r.least (46 ∷ r.greatest),
-     ap range_of r.whole
-     ∙ ap (λ t. range_from (number_of t) (after_first is_dot (r.least ++ 46 ∷ 46 ∷ r.greatest))) cut.0
-     ∙ ap (λ t. range_from (number_of r.least) t) cut.1
-     ∙ ap (λ o. range_from o (46 ∷ r.greatest)) r.from
-     ∙ ap (λ o. option_map (λ m. record { least = b.least; greatest = m }) o) r.to)
+    dot_behind_digits r.least (46 ∷ r.greatest) (number_digits r.least b.least r.from) in (
+      ap number_of r.whole ∙ dotted r.least (46 ∷ r.greatest),
+      ap range_of r.whole
+          ∙ ap (λ t. range_from (number_of t) (after_first is_dot (r.least ++ 46 ∷ 46 ∷ r.greatest))) cut.0
+          ∙ ap (λ t. range_from (number_of r.least) t) cut.1
+          ∙ ap (λ o. range_from o (46 ∷ r.greatest)) r.from
+          ∙ ap (λ o. option_map (λ m. record { least = b.least; greatest = m }) o) r.to,
+    )
 
 pub demand_found : (text : List ℕ) (b : Bounds) → demand_of text ≡ Some b → IsDemand b text
 demand_found text b e = at (number_of text) refl e where
@@ -191,6 +193,6 @@ unfolding demand_at limited_demand
 demand_reader =
     word_reader (λ b. is_small_range b ≡ true) DemandField limited_demand demand_at (λ u. refl)
     (λ w b e.
-        let f : (is_small_range b ≡ true) × (demand_of w.text ≡ Some b) = was_checked (demand_of w.text) is_small_range (Number w.line) (Range w.line 5) b e in
-        (f.0, λ fs ws s. (demand_found w.text b f.1, s)))
+    let f : (is_small_range b ≡ true) × (demand_of w.text ≡ Some b) = was_checked (demand_of w.text) is_small_range (Number w.line) (Range w.line 5) b e in
+    (f.0, λ fs ws s. (demand_found w.text b f.1, s)))
     (λ w b fs ws valid s. (checked (demand_of w.text) is_small_range (Number w.line) (Range w.line 5) b valid (demand_only w.text b s.0), s.1))

@@ -1,5 +1,5 @@
 -- The tokens of a line and the lexemes that they stand for.
-use Rattle.std.proofs.Common.{◌≡◌, ℕ, zero, suc, ◌+◌, ◌<◌, ◌≤◌, List, [], ◌∷◌, length, Bool, true, false, not, cond, Option, Some, None, refl, ap, sym, ◌∙◌, arith, map, take, drop, nat_lt, ◌==◌, ◌||◌}
+use Rattle.std.proofs.Common.{◌≡◌, ℕ, zero, suc, ◌+◌, ◌≤◌, List, [], ◌∷◌, length, Bool, true, false, not, cond, Some, None, refl, ap, sym, ◌∙◌, arith, map, take, drop, nat_lt, ◌==◌, ◌||◌}
 use Rattle.std.specs.Prelude.{position, unwrap_or, is_some}
 use Rattle.std.specs.List.{prefix_len, AllByRecursion, list_any}
 use Rattle.std.proofs.lemmas.List.{take-map}
@@ -76,17 +76,19 @@ unread ls end = record { lexemes = ls; end = end }
 -- the tokens that are taken stand for the lexemes of the line, and those that are left for what follows
 pub line_taken : (bytes : List ℕ) (tokens front : List Token) (n line end : ℕ) (u v : Unread) → v ≡ unread (map (lexeme_at bytes) tokens) end → v ≡ u → n ≡ prefix_len (λ t. t.line == line) tokens → front ≡ take n tokens →
     (map (lexeme_at bytes) front ≡ on_line line u.lexemes) × (end ≡ u.end)
-line_taken bytes tokens front n line end u v seen same count taken =
-    (ap (map (lexeme_at bytes)) (taken ∙ ap (λ k. take k tokens) count) ∙ take-prefix-map (lexeme_at bytes) (is_on_line line) tokens
-        ∙ ap (λ (w : Unread). on_line line w.lexemes) (sym seen ∙ same),
-    ap (λ (w : Unread). w.end) (sym seen ∙ same))
+line_taken bytes tokens front n line end u v seen same count taken = (
+  ap (map (lexeme_at bytes)) (taken ∙ ap (λ k. take k tokens) count) ∙ take-prefix-map (lexeme_at bytes) (is_on_line line) tokens
+      ∙ ap (λ (w : Unread). on_line line w.lexemes) (sym seen ∙ same),
+  ap (λ (w : Unread). w.end) (sym seen ∙ same),
+)
 
 pub line_left : (bytes : List ℕ) (tokens rest : List Token) (n line end : ℕ) (u v : Unread) → v ≡ unread (map (lexeme_at bytes) tokens) end → v ≡ u → n ≡ prefix_len (λ t. t.line == line) tokens → rest ≡ drop n tokens →
     (map (lexeme_at bytes) rest ≡ past_line line u.lexemes) × (end ≡ u.end)
-line_left bytes tokens rest n line end u v seen same count left =
-    (ap (map (lexeme_at bytes)) (left ∙ ap (λ k. drop k tokens) count) ∙ drop-prefix-map (lexeme_at bytes) (is_on_line line) tokens
-        ∙ ap (λ (w : Unread). past_line line w.lexemes) (sym seen ∙ same),
-    ap (λ (w : Unread). w.end) (sym seen ∙ same))
+line_left bytes tokens rest n line end u v seen same count left = (
+  ap (map (lexeme_at bytes)) (left ∙ ap (λ k. drop k tokens) count) ∙ drop-prefix-map (lexeme_at bytes) (is_on_line line) tokens
+      ∙ ap (λ (w : Unread). past_line line w.lexemes) (sym seen ∙ same),
+  ap (λ (w : Unread). w.end) (sym seen ∙ same),
+)
 
 pub same_unread : (ls ms : List Lexeme) (a b : ℕ) → (ls ≡ ms) × (a ≡ b) → unread ls a ≡ unread ms b
 same_unread ls ms a b e = ap (λ l. unread l a) e.0 ∙ ap (λ k. unread ms k) e.1

@@ -1,5 +1,5 @@
 -- Tests of names, on shifts and on keys.
-use Rattle.std.proofs.Common.{◌≡◌, ℕ, suc, ◌+◌, List, [], ◌∷◌, ◌++◌, length, Bool, true, false, not, cond, Option, Some, None, refl, ap, sym, ◌∙◌, arith, map, nat_lt, ◌||◌, Vec, Global}
+use Rattle.std.proofs.Common.{◌≡◌, ℕ, suc, ◌+◌, List, [], ◌∷◌, ◌++◌, length, Bool, false, not, cond, Some, None, refl, ap, sym, ◌∙◌, map, nat_lt, ◌||◌, Vec, Global}
 use Rattle.std.specs.Prelude.{position, if◌then◌else◌}
 use Rattle.std.specs.List.{list_any, prefix_len}
 use Rattle.std.specs.Str.{bytes_eq}
@@ -44,7 +44,7 @@ push_names keys keys' rows rows' name row same k r n fresh =
     let items : Vec ℕ Global → List ℕ = λ v. v.items in
     let names : ShiftRow → List ℕ = λ s. s.name in
     let none : list_any (λ v. bytes_eq name.items (items v)) keys ≡ false =
-        same_list_any items names (bytes_eq name.items) keys rows same ∙ ap (λ t. list_any (λ s. bytes_eq t (names s)) rows) n ∙ fresh in
+    same_list_any items names (bytes_eq name.items) keys rows same ∙ ap (λ t. list_any (λ s. bytes_eq t (names s)) rows) n ∙ fresh in
     let grown : keys' ≡ keys ++ name ∷ [] = k ∙ ap (λ b. if b then keys else keys ++ name ∷ []) none in
     ap (map items) grown ∙ map-append_one items keys name ∙ ap (λ ks. ks ++ name.items ∷ []) same ∙ ap (λ t. map names rows ++ t ∷ []) n
     ∙ sym (map-append_one names rows row) ∙ sym (ap (map names) r)

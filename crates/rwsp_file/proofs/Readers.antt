@@ -1,5 +1,5 @@
 -- Readers that read just the lexemes which spell what they give.
-use Rattle.std.proofs.Common.{◌≡◌, ℕ, suc, ◌+◌, List, [], ◌∷◌, ◌++◌, length, Bool, true, false, Option, Some, None, Result, Ok, Err, refl, ap, sym, ◌∙◌, subst, arith, append_assoc, append-nil, zero, map}
+use Rattle.std.proofs.Common.{◌≡◌, ℕ, suc, List, [], ◌∷◌, ◌++◌, length, Bool, true, false, Option, Some, None, Result, Ok, Err, refl, ap, sym, ◌∙◌, subst, append_assoc, append-nil, zero, map}
 use Rattle.std.specs.Prelude.{if◌then◌else◌}
 use Rattle.std.specs.List.{flat_map}
 use Rattle.rwsp_text.specs.Lexemes.{Lexeme}
@@ -70,9 +70,9 @@ module _ {X : Type 0} (V : X → Type 0) (field : X → Field) (give : Lexeme �
   word_found : (u v : Unread) (x : X) → read u ≡ Ok (x, v) → V x × ((fs : List Field) → Spell fs v.lexemes → Spell (field x ∷ fs) u.lexemes)
   word_found u v x e =
       let step : (w : Lexeme × Unread) × (next_at u ≡ Ok w) × ((give w.0 >>= (λ y. Ok (y, w.1))) ≡ Ok (x, v)) =
-          bind_ok (next_at u) (λ w. give w.0 >>= (λ y. Ok (y, w.1))) (x, v) (sym (shape u) ∙ e) in
+      bind_ok (next_at u) (λ w. give w.0 >>= (λ y. Ok (y, w.1))) (x, v) (sym (shape u) ∙ e) in
       let last : (y : X) × (give step.0.0 ≡ Ok y) × (given (y, step.0.1) ≡ Ok (x, v)) =
-          bind_ok (give step.0.0) (λ y. Ok (y, step.0.1)) (x, v) step.2 in
+      bind_ok (give step.0.0) (λ y. Ok (y, step.0.1)) (x, v) step.2 in
       let same : (last.0, step.0.1) ≡ (x, v) = ok_same (last.0, step.0.1) (x, v) last.2 in
       word_found_at u v step.0.1 x last.0 step.0.0 step.1 last.1 (ap (λ (q : X × Unread). q.0) same) (ap (λ (q : X × Unread). q.1) same)
 
@@ -131,7 +131,7 @@ module _ {X : Type 0} (V : List X → X → Type 0) (F : X → List Field) (read
       }
   many_found (suc n) all ys u v e =
       let step : (x : X × Unread) × (read all u ≡ Ok x) × (many read n (all ++ x.0 ∷ []) x.1 ≡ Ok (ys, v)) =
-          bind_ok (read all u) (λ x. many read n (all ++ x.0 ∷ []) x.1) (ys, v) (sym (many_more read n all u) ∙ e) in
+      bind_ok (read all u) (λ x. many read n (all ++ x.0 ∷ []) x.1) (ys, v) (sym (many_more read n all u) ∙ e) in
       many_found_step n all ys u v step.0.0 step.0.1 step.1 (many_found n (all ++ step.0.0 ∷ []) ys step.0.1 v step.2)
 
   pub many_only : (xs all : List X) (u : Unread) (fs : List Field) → AllAfter V all xs → Spell (flat_map F xs ++ fs) u.lexemes →
@@ -139,14 +139,15 @@ module _ {X : Type 0} (V : List X → X → Type 0) (F : X → List Field) (read
   many_only [] all u fs valid s = (u, many_none read all u ∙ ap (λ (zs : List X). Ok (zs, u)) (sym (append-nil all)), s)
   many_only (x ∷ xs) all u fs valid s =
       let a : (m : Unread) × (read all u ≡ Ok (x, m)) × Spell (flat_map F xs ++ fs) m.lexemes =
-          (one all).only u x (flat_map F xs ++ fs) valid.0 (subst (λ (gs : List Field). Spell gs u.lexemes) (append_assoc (F x) (flat_map F xs) fs) s) in
+      (one all).only u x (flat_map F xs ++ fs) valid.0 (subst (λ (gs : List Field). Spell gs u.lexemes) (append_assoc (F x) (flat_map F xs) fs) s) in
       let b : (v : Unread) × (many read (length xs) (all ++ x ∷ []) a.0 ≡ Ok ((all ++ x ∷ []) ++ xs, v)) × Spell fs v.lexemes =
-          many_only xs (all ++ x ∷ []) a.0 fs valid.1 a.2 in
-      (b.0,
+      many_only xs (all ++ x ∷ []) a.0 fs valid.1 a.2 in (
+        b.0,
         many_more read (length xs) all u
-        ∙ then_ok (read all u) (λ y. many read (length xs) (all ++ y.0 ∷ []) y.1) (x, a.0) (all ++ (x ∷ xs), b.0) a.1
+            ∙ then_ok (read all u) (λ y. many read (length xs) (all ++ y.0 ∷ []) y.1) (x, a.0) (all ++ (x ∷ xs), b.0) a.1
             (b.1 ∙ ap (λ (zs : List X). Ok (zs, b.0)) (append_assoc all (x ∷ []) xs)),
-        b.2)
+        b.2,
+      )
 
 -- the same reader, where the fields are written otherwise
 pub with_fields : {X : Type 0} (V : X → Type 0) (F G : X → List Field) (read : Unread → Result (X × Unread) FileRefusal) → ((x : X) → F x ≡ G x) → IsReader V F read → IsReader V G read

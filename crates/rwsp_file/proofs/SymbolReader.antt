@@ -1,21 +1,18 @@
 -- The readers of symbols and of sequences.
-use Rattle.std.proofs.Common.{◌≡◌, ◌≢◌, ℕ, zero, suc, ◌+◌, ◌<◌, ◌≤◌, List, [], ◌∷◌, ◌++◌, length, get_or, Bool, true, false, Option, Some, None, Result, Ok, Err, cond, refl, ap, sym, ◌∙◌, arith, subst, inl, inr, ◌⊎◌}
-use Rattle.std.specs.Prelude.{position, slice_get, All, AllPairs, is_some}
+use Rattle.std.proofs.Common.{◌≡◌, ◌≢◌, ℕ, zero, suc, ◌+◌, ◌<◌, ◌≤◌, List, [], ◌∷◌, ◌++◌, length, get_or, Bool, true, false, Option, Some, None, Ok, cond, refl, ap, sym, ◌∙◌, arith, subst, inl, inr, ◌⊎◌}
+use Rattle.std.specs.Prelude.{position, All, AllPairs, is_some}
 use Rattle.std.specs.Option.{option_map}
-use Rattle.std.specs.List.{list_any}
 use Rattle.std.specs.Str.{bytes_eq}
 use Rattle.std.proofs.lemmas.List.Quantifiers.{position-Some}
 use Rattle.std.proofs.lemmas.List.Folds.{list_any_at}
 use Rattle.std.proofs.lemmas.Option.{slice_get-get_or}
 use Rattle.std.proofs.lemmas.Slice.Eq.{bytes_eq-Decides}
-use Rattle.rwsp_text.specs.Lexemes.{Lexeme}
 use Rattle.rwsp_terms.specs.Instance.{Instance, shift_count, off_name, name_of, name_numbered, name_in, symbol_numbered}
 use Rattle.rwsp_terms.specs.declared.data.ShiftRow.{ShiftRow}
 use Rattle.rwsp_terms.specs.declared.data.Symbol.{Symbol}
 use Rattle.rwsp_file.specs.Spelling.{Field, Spell, name_fields}
 use Rattle.rwsp_file.specs.Spelling.Field.{NameField}
-use Rattle.rwsp_file.specs.Reading.{Unread, ◌>>=◌, or_refuse, next_at, symbol_in, symbol_at, pair_at, triple_at}
-use Rattle.rwsp_file.specs.declared.refusal.FileRefusal.{FileRefusal}
+use Rattle.rwsp_file.specs.Reading.{Unread, ◌>>=◌, or_refuse, symbol_in, symbol_at, pair_at, triple_at}
 use Rattle.rwsp_file.specs.declared.refusal.FileRefusal.TheVariants.{Unknown}
 use Rattle.rwsp_file.proofs.Readers.{IsReader, bind_ok, then_ok, some_ok, ok_same, given, word_reader}
 use Rattle.rwsp_file.proofs.FieldReaders.{some_same}
@@ -46,11 +43,11 @@ symbol_found P text x e = at (bytes_eq text off_name) refl (position (test_name 
   at false d (Some k) p h =
       let same : symbol_numbered (k + 1) ≡ x = some_same (symbol_numbered (k + 1)) x h in
       let f : (k < length P.shifts) × (test_name text (get_or P.shifts k no_row) ≡ true) × ((j : ℕ) → j < k → test_name text (get_or P.shifts j no_row) ≡ false) =
-          position-Some (test_name text) P.shifts k no_row p in
+      position-Some (test_name text) P.shifts k no_row p in
       let named : text ≡ (get_or P.shifts k no_row).name = (bytes_eq-Decides text (get_or P.shifts k no_row).name).0 f.1 in
       let next : suc k ≡ k + 1 = omega arith in
       subst (λ (y : Symbol). (y.number ≤ shift_count P) × (text ≡ name_of P y)) same
-        (omega (arith, f.0), named ∙ sym (in_place P k f.0) ∙ ap (name_numbered P) next)
+      (omega (arith, f.0), named ∙ sym (in_place P k f.0) ∙ ap (name_numbered P) next)
 
 pub not_equal : (a b : List ℕ) → a ≢ b → bytes_eq a b ≡ false
 not_equal a b h = at (bytes_eq a b) refl where
@@ -84,10 +81,10 @@ position_of_name P names k less =
     let name : List ℕ = (get_or P.shifts k no_row).name in
     let here : test_name (get_or P.shifts k no_row).name (get_or P.shifts k no_row) ≡ true = (bytes_eq-Decides (get_or P.shifts k no_row).name (get_or P.shifts k no_row).name).1 refl in
     let o : (i : ℕ) × (position (test_name (get_or P.shifts k no_row).name) P.shifts ≡ Some i) =
-        some_of (position (test_name (get_or P.shifts k no_row).name) P.shifts)
-          (is_some-position (test_name (get_or P.shifts k no_row).name) P.shifts ∙ list_any_at (test_name (get_or P.shifts k no_row).name) P.shifts k no_row less here) in
+    some_of (position (test_name (get_or P.shifts k no_row).name) P.shifts)
+    (is_some-position (test_name (get_or P.shifts k no_row).name) P.shifts ∙ list_any_at (test_name (get_or P.shifts k no_row).name) P.shifts k no_row less here) in
     let f : (o.0 < length P.shifts) × (test_name (get_or P.shifts k no_row).name (get_or P.shifts o.0 no_row) ≡ true) × ((j : ℕ) → j < o.0 → test_name (get_or P.shifts k no_row).name (get_or P.shifts j no_row) ≡ false) =
-        position-Some (test_name (get_or P.shifts k no_row).name) P.shifts o.0 no_row o.1 in
+    position-Some (test_name (get_or P.shifts k no_row).name) P.shifts o.0 no_row o.1 in
     o.1 ∙ ap Some (the_place P names k o.0 less f.0 ((bytes_eq-Decides (get_or P.shifts k no_row).name (get_or P.shifts o.0 no_row).name).0 f.1))
 
 symbol_only : (P : Instance) (names : HasNames P) (n : ℕ) → n ≤ shift_count P → symbol_in P.shifts (name_numbered P n) ≡ Some (symbol_numbered n)
@@ -107,10 +104,10 @@ unfolding symbol_at
 symbol_reader P names =
     word_reader (λ x. x.number ≤ shift_count P) (λ x. NameField (name_of P x)) (λ w. or_refuse (symbol_in P.shifts w.text) (Unknown w.line)) (symbol_at P.shifts) (λ u. refl)
     (λ w x e.
-        let f : (x.number ≤ shift_count P) × (w.text ≡ name_of P x) = symbol_found P w.text x (some_ok (symbol_in P.shifts w.text) (Unknown w.line) x e) in
-        (f.0, λ fs ws s. (f.1, s)))
+    let f : (x.number ≤ shift_count P) × (w.text ≡ name_of P x) = symbol_found P w.text x (some_ok (symbol_in P.shifts w.text) (Unknown w.line) x e) in
+    (f.0, λ fs ws s. (f.1, s)))
     (λ w x fs ws valid s.
-        (ap (λ t. or_refuse (symbol_in P.shifts t) (Unknown w.line)) s.0 ∙ ap (λ o. or_refuse o (Unknown w.line)) (symbol_only P names x.number valid), s.1))
+    (ap (λ t. or_refuse (symbol_in P.shifts t) (Unknown w.line)) s.0 ∙ ap (λ o. or_refuse o (Unknown w.line)) (symbol_only P names x.number valid), s.1))
 
 abbrev pub IsPair : Instance → Symbol × Symbol → Type 0
 IsPair P x = (x.0.number ≤ shift_count P) × (x.1.number ≤ shift_count P)
@@ -132,24 +129,25 @@ pair_found : (P : Instance) → HasNames P → (u v : Unread) (x : Symbol × Sym
 unfolding pair_at
 pair_found P names u v x e =
     let a : (p : Symbol × Unread) × (symbol_at P.shifts u ≡ Ok p) × ((symbol_at P.shifts p.1 >>= (λ q. Ok ((p.0, q.0), q.1))) ≡ Ok (x, v)) =
-        bind_ok (symbol_at P.shifts u) (λ p. symbol_at P.shifts p.1 >>= (λ q. Ok ((p.0, q.0), q.1))) (x, v) e in
+    bind_ok (symbol_at P.shifts u) (λ p. symbol_at P.shifts p.1 >>= (λ q. Ok ((p.0, q.0), q.1))) (x, v) e in
     let b : (q : Symbol × Unread) × (symbol_at P.shifts a.0.1 ≡ Ok q) × (given ((a.0.0, q.0), q.1) ≡ Ok (x, v)) =
-        bind_ok (symbol_at P.shifts a.0.1) (λ q. Ok ((a.0.0, q.0), q.1)) (x, v) a.2 in
+    bind_ok (symbol_at P.shifts a.0.1) (λ q. Ok ((a.0.0, q.0), q.1)) (x, v) a.2 in
     let f : Symbol_found P u a.0.1 a.0.0 = (symbol_reader P names).found u a.0.1 a.0.0 a.1 in
     let g : Symbol_found P a.0.1 b.0.1 b.0.0 = (symbol_reader P names).found a.0.1 b.0.1 b.0.0 b.1 in
     subst (λ (r : (Symbol × Symbol) × Unread). IsPair P r.0 × ((fs : List Field) → Spell fs r.1.lexemes → Spell (pair_fields P r.0 ++ fs) u.lexemes))
-      (ok_same ((a.0.0, b.0.0), b.0.1) (x, v) b.2)
-      ((f.0, g.0), λ fs s. f.1 (NameField (name_of P b.0.0) ∷ fs) (g.1 fs s))
+    (ok_same ((a.0.0, b.0.0), b.0.1) (x, v) b.2)
+    ((f.0, g.0), λ fs s. f.1 (NameField (name_of P b.0.0) ∷ fs) (g.1 fs s))
 
 pair_only : (P : Instance) → HasNames P → (u : Unread) (x : Symbol × Symbol) (fs : List Field) → IsPair P x → Spell (pair_fields P x ++ fs) u.lexemes → (v : Unread) × (pair_at P.shifts u ≡ Ok (x, v)) × Spell fs v.lexemes
 unfolding pair_at
 pair_only P names u x fs valid s =
     let a : (m : Unread) × (symbol_at P.shifts u ≡ Ok (x.0, m)) × Spell (NameField (name_of P x.1) ∷ fs) m.lexemes = (symbol_reader P names).only u x.0 (NameField (name_of P x.1) ∷ fs) valid.0 s in
-    let b : (v : Unread) × (symbol_at P.shifts a.0 ≡ Ok (x.1, v)) × Spell fs v.lexemes = (symbol_reader P names).only a.0 x.1 fs valid.1 a.2 in
-    (b.0,
+    let b : (v : Unread) × (symbol_at P.shifts a.0 ≡ Ok (x.1, v)) × Spell fs v.lexemes = (symbol_reader P names).only a.0 x.1 fs valid.1 a.2 in (
+      b.0,
       then_ok (symbol_at P.shifts u) (λ p. symbol_at P.shifts p.1 >>= (λ q. Ok ((p.0, q.0), q.1))) (x.0, a.0) (x, b.0) a.1
-      (then_ok (symbol_at P.shifts a.0) (λ q. Ok ((x.0, q.0), q.1)) (x.1, b.0) (x, b.0) b.1 refl),
-      b.2)
+          (then_ok (symbol_at P.shifts a.0) (λ q. Ok ((x.0, q.0), q.1)) (x.1, b.0) (x, b.0) b.1 refl),
+      b.2,
+    )
 
 pub pair_reader : (P : Instance) → HasNames P → IsReader (IsPair P) (pair_fields P) (pair_at P.shifts)
 pair_reader P names = record { found = pair_found P names; only = pair_only P names }
@@ -158,30 +156,31 @@ triple_found : (P : Instance) → HasNames P → (u v : Unread) (x : Symbol × S
 unfolding triple_at
 triple_found P names u v x e =
     let a : (p : Symbol × Unread) × (symbol_at P.shifts u ≡ Ok p) × ((symbol_at P.shifts p.1 >>= (λ q. symbol_at P.shifts q.1 >>= (λ r. Ok ((p.0, q.0, r.0), r.1)))) ≡ Ok (x, v)) =
-        bind_ok (symbol_at P.shifts u) (λ p. symbol_at P.shifts p.1 >>= (λ q. symbol_at P.shifts q.1 >>= (λ r. Ok ((p.0, q.0, r.0), r.1)))) (x, v) e in
+    bind_ok (symbol_at P.shifts u) (λ p. symbol_at P.shifts p.1 >>= (λ q. symbol_at P.shifts q.1 >>= (λ r. Ok ((p.0, q.0, r.0), r.1)))) (x, v) e in
     let b : (q : Symbol × Unread) × (symbol_at P.shifts a.0.1 ≡ Ok q) × ((symbol_at P.shifts q.1 >>= (λ r. Ok ((a.0.0, q.0, r.0), r.1))) ≡ Ok (x, v)) =
-        bind_ok (symbol_at P.shifts a.0.1) (λ q. symbol_at P.shifts q.1 >>= (λ r. Ok ((a.0.0, q.0, r.0), r.1))) (x, v) a.2 in
+    bind_ok (symbol_at P.shifts a.0.1) (λ q. symbol_at P.shifts q.1 >>= (λ r. Ok ((a.0.0, q.0, r.0), r.1))) (x, v) a.2 in
     let c : (r : Symbol × Unread) × (symbol_at P.shifts b.0.1 ≡ Ok r) × (given ((a.0.0, b.0.0, r.0), r.1) ≡ Ok (x, v)) =
-        bind_ok (symbol_at P.shifts b.0.1) (λ r. Ok ((a.0.0, b.0.0, r.0), r.1)) (x, v) b.2 in
+    bind_ok (symbol_at P.shifts b.0.1) (λ r. Ok ((a.0.0, b.0.0, r.0), r.1)) (x, v) b.2 in
     let f : Symbol_found P u a.0.1 a.0.0 = (symbol_reader P names).found u a.0.1 a.0.0 a.1 in
     let g : Symbol_found P a.0.1 b.0.1 b.0.0 = (symbol_reader P names).found a.0.1 b.0.1 b.0.0 b.1 in
     let h : Symbol_found P b.0.1 c.0.1 c.0.0 = (symbol_reader P names).found b.0.1 c.0.1 c.0.0 c.1 in
     subst (λ (r : (Symbol × Symbol × Symbol) × Unread). IsTriple P r.0 × ((fs : List Field) → Spell fs r.1.lexemes → Spell (triple_fields P r.0 ++ fs) u.lexemes))
-      (ok_same ((a.0.0, b.0.0, c.0.0), c.0.1) (x, v) c.2)
-      ((f.0, g.0, h.0), λ fs s. f.1 (NameField (name_of P b.0.0) ∷ NameField (name_of P c.0.0) ∷ fs) (g.1 (NameField (name_of P c.0.0) ∷ fs) (h.1 fs s)))
+    (ok_same ((a.0.0, b.0.0, c.0.0), c.0.1) (x, v) c.2)
+    ((f.0, g.0, h.0), λ fs s. f.1 (NameField (name_of P b.0.0) ∷ NameField (name_of P c.0.0) ∷ fs) (g.1 (NameField (name_of P c.0.0) ∷ fs) (h.1 fs s)))
 
 triple_only : (P : Instance) → HasNames P → (u : Unread) (x : Symbol × Symbol × Symbol) (fs : List Field) → IsTriple P x → Spell (triple_fields P x ++ fs) u.lexemes → (v : Unread) × (triple_at P.shifts u ≡ Ok (x, v)) × Spell fs v.lexemes
 unfolding triple_at
 triple_only P names u x fs valid s =
     let a : (m : Unread) × (symbol_at P.shifts u ≡ Ok (x.0, m)) × Spell (NameField (name_of P x.1) ∷ NameField (name_of P x.2) ∷ fs) m.lexemes =
-        (symbol_reader P names).only u x.0 (NameField (name_of P x.1) ∷ NameField (name_of P x.2) ∷ fs) valid.0 s in
+    (symbol_reader P names).only u x.0 (NameField (name_of P x.1) ∷ NameField (name_of P x.2) ∷ fs) valid.0 s in
     let b : (m : Unread) × (symbol_at P.shifts a.0 ≡ Ok (x.1, m)) × Spell (NameField (name_of P x.2) ∷ fs) m.lexemes = (symbol_reader P names).only a.0 x.1 (NameField (name_of P x.2) ∷ fs) valid.1 a.2 in
-    let c : (v : Unread) × (symbol_at P.shifts b.0 ≡ Ok (x.2, v)) × Spell fs v.lexemes = (symbol_reader P names).only b.0 x.2 fs valid.2 b.2 in
-    (c.0,
+    let c : (v : Unread) × (symbol_at P.shifts b.0 ≡ Ok (x.2, v)) × Spell fs v.lexemes = (symbol_reader P names).only b.0 x.2 fs valid.2 b.2 in (
+      c.0,
       then_ok (symbol_at P.shifts u) (λ p. symbol_at P.shifts p.1 >>= (λ q. symbol_at P.shifts q.1 >>= (λ r. Ok ((p.0, q.0, r.0), r.1)))) (x.0, a.0) (x, c.0) a.1
-      (then_ok (symbol_at P.shifts a.0) (λ q. symbol_at P.shifts q.1 >>= (λ r. Ok ((x.0, q.0, r.0), r.1))) (x.1, b.0) (x, c.0) b.1
-      (then_ok (symbol_at P.shifts b.0) (λ r. Ok ((x.0, x.1, r.0), r.1)) (x.2, c.0) (x, c.0) c.1 refl)),
-      c.2)
+          (then_ok (symbol_at P.shifts a.0) (λ q. symbol_at P.shifts q.1 >>= (λ r. Ok ((x.0, q.0, r.0), r.1))) (x.1, b.0) (x, c.0) b.1
+          (then_ok (symbol_at P.shifts b.0) (λ r. Ok ((x.0, x.1, r.0), r.1)) (x.2, c.0) (x, c.0) c.1 refl)),
+      c.2,
+    )
 
 pub triple_reader : (P : Instance) → HasNames P → IsReader (IsTriple P) (triple_fields P) (triple_at P.shifts)
 triple_reader P names = record { found = triple_found P names; only = triple_only P names }

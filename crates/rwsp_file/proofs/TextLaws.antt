@@ -1,12 +1,11 @@
 -- The laws of texts, instances and refusals.
-use Rattle.std.proofs.Common.{◌≡◌, ℕ, List, Option, Some, None, Result, Ok, Err, refl, ap, sym, ◌∙◌, subst}
+use Rattle.std.proofs.Common.{◌≡◌, ℕ, List, Result, Ok, Err, refl, sym, ◌∙◌}
 use Rattle.std.specs.Prelude.{MatchOption}
 use Rattle.rwsp_text.specs.Lexemes.{lexemes}
 use Rattle.rwsp_terms.specs.Instance.{Instance}
-use Rattle.rwsp_model.specs.Validity.{IsValid}
 use Rattle.rwsp_model.proofs.Limits.{valid_keeps}
 use Rattle.rwsp_file.specs.Spelling.{Spell, fields, SpellsProblem}
-use Rattle.rwsp_file.specs.Reading.{Unread, reading, unread_of, refusal_in, file_refusal}
+use Rattle.rwsp_file.specs.Reading.{reading, unread_of, refusal_in}
 use Rattle.rwsp_file.specs.Laws.{TextsSpellOne, TextsSpellOrFail}
 use Rattle.rwsp_file.specs.declared.refusal.FileRefusal.{FileRefusal}
 use Rattle.rwsp_file.proofs.Readers.{ok_same, given}

@@ -1,22 +1,20 @@
 -- What reading shows of an instance is that it keeps the limits.
-use Rattle.std.proofs.Common.{◌≡◌, ◌≢◌, ℕ, ◌+◌, ◌*◌, ◌<◌, ◌≤◌, List, [], ◌∷◌, ◌++◌, length, get_or, take, Bool, true, false, not, ◌&&◌, refl, ap, sym, ◌∙◌, subst, arith, nat_le, map}
+use Rattle.std.proofs.Common.{◌≡◌, ◌≢◌, ℕ, ◌*◌, ◌<◌, List, [], ◌++◌, length, get_or, take, Bool, true, false, not, ◌&&◌, refl, ap, sym, ◌∙◌, arith, nat_le, map}
 use Rattle.std.specs.Prelude.{All, AllPairs}
 use Rattle.std.specs.List.{flat_map, list_any, AllByRecursion}
 use Rattle.std.specs.Str.{bytes_eq}
 use Rattle.std.proofs.lemmas.Bool.{leb-true}
 use Rattle.std.proofs.lemmas.List.{get_or-take, length-take-le, get_or_default}
 use Rattle.std.proofs.lemmas.List.Folds.{list_any_none}
-use Rattle.std.proofs.lemmas.Slice.Eq.{bytes_eq-Decides}
 use Rattle.rwsp_text.specs.Lexemes.{Lexeme}
 use Rattle.rwsp_terms.specs.Instance.{Instance, off_name}
 use Rattle.rwsp_terms.specs.declared.data.Bounds.{Bounds}
 use Rattle.rwsp_terms.specs.declared.data.ShiftRow.{ShiftRow}
 use Rattle.rwsp_model.specs.Validity.{IsValid, KeepsLimits, IsName, IsSmallRange, is_small_range, AreSmall}
-use Rattle.rwsp_model.proofs.Limits.{valid_keeps, keeps_valid}
-use Rattle.rwsp_file.specs.Spelling.{Field, Spell, fields}
+use Rattle.rwsp_model.proofs.Limits.{keeps_valid}
+use Rattle.rwsp_file.specs.Spelling.{Spell, fields}
 use Rattle.rwsp_file.specs.Spelling.Field.{DemandField, ShiftField}
 use Rattle.rwsp_file.specs.Reading.{is_new_name}
-use Rattle.rwsp_file.proofs.Readers.{AllAfter}
 use Rattle.rwsp_file.proofs.FieldReaders.{both_true}
 use Rattle.rwsp_file.proofs.RowReader.{IsGoodRow}
 use Rattle.rwsp_file.proofs.Chains.{after_at, after_from, between_found, between_only, le_test, and_true}
@@ -51,10 +49,10 @@ read_valid P r words = keeps_valid P (record {
   some_shifts = (between_found 1 8 (length P.shifts) r.size.shifts).0;
   few_shifts = (between_found 1 8 (length P.shifts) r.size.shifts).1;
   demand = λ i d less j e within.
-    small_range (get_or (get_or P.demand i d) j e)
-    (after_at (λ _ b. is_small_range b ≡ true) [] (get_or P.demand i d) (after_at (λ _ row. IsDemandRow P.days row) [] P.demand r.demand i d less).1 j e within);
+      small_range (get_or (get_or P.demand i d) j e)
+      (after_at (λ _ b. is_small_range b ≡ true) [] (get_or P.demand i d) (after_at (λ _ row. IsDemandRow P.days row) [] P.demand r.demand i d less).1 j e within);
   times = λ i d less.
-    ((between_found 0 10000 (get_or P.shifts i d).start (good_row P r i d less).start).1, (between_found 0 10000 (get_or P.shifts i d).length (good_row P r i d less).long).1);
+      ((between_found 0 10000 (get_or P.shifts i d).start (good_row P r i d less).start).1, (between_found 0 10000 (get_or P.shifts i d).length (good_row P r i d less).long).1);
   blocks = λ i d less. small_bounds (get_or P.shifts i d).bounds (record { least = (good_row P r i d less).least; greatest = (good_row P r i d less).greatest });
   off = small_bounds P.off r.frame.off;
   work = small_bounds P.work r.frame.work;
@@ -80,14 +78,14 @@ new_name : (rows : List ShiftRow) (i : ℕ) (d : ShiftRow) → i < length rows �
 new_name rows i d less name distinct =
     and_true (nat_le (length (get_or rows i d).name) 32 && not (bytes_eq (get_or rows i d).name off_name)) (not (list_any (λ row. bytes_eq (get_or rows i d).name row.name) (take i rows)))
     (and_true (nat_le (length (get_or rows i d).name) 32) (not (bytes_eq (get_or rows i d).name off_name)) (le_test (length (get_or rows i d).name) 32 name.few)
-      (not_true _ (not_equal (get_or rows i d).name off_name name.no_dash)))
+    (not_true _ (not_equal (get_or rows i d).name off_name name.no_dash)))
     (not_true _ (list_any_none (λ row. bytes_eq (get_or rows i d).name row.name) (take i rows) (λ j e within.
-      let long : length (take i rows) ≡ i = length-take-le i rows (omega (arith, less)) in
-      let before : j < i = omega (arith, within, long) in
-      let here : get_or (take i rows) j e ≡ get_or rows j e = get_or-take i rows j e before in
-      not_equal (get_or rows i d).name (get_or (take i rows) j e).name (λ same.
-        distinct j i e before less
-        (sym (same ∙ ap (λ (row : ShiftRow). row.name) here) ∙ ap (λ (row : ShiftRow). row.name) (get_or_default rows i d e less))))))
+    let long : length (take i rows) ≡ i = length-take-le i rows (omega (arith, less)) in
+    let before : j < i = omega (arith, within, long) in
+    let here : get_or (take i rows) j e ≡ get_or rows j e = get_or-take i rows j e before in
+    not_equal (get_or rows i d).name (get_or (take i rows) j e).name (λ same.
+    distinct j i e before less
+    (sym (same ∙ ap (λ (row : ShiftRow). row.name) here) ∙ ap (λ (row : ShiftRow). row.name) (get_or_default rows i d e less))))))
 
 small_test : (b : Bounds) → IsSmallRange b → is_small_range b ≡ true
 small_test b h = and_true (nat_le b.least 600) (nat_le b.greatest 600) (le_test b.least 600 h.0) (le_test b.greatest 600 h.1)
@@ -102,7 +100,7 @@ keeps_read P k = record {
   };
   rows = k.rows;
   demand = after_from (λ _ row. IsDemandRow P.days row) [] P.demand (λ i d less.
-    (k.long_rows i d less, after_from (λ _ b. is_small_range b ≡ true) [] (get_or P.demand i d) (λ j e within. small_test (get_or (get_or P.demand i d) j e) (k.demand i d less j e within))));
+      (k.long_rows i d less, after_from (λ _ b. is_small_range b ≡ true) [] (get_or P.demand i d) (λ j e within. small_test (get_or (get_or P.demand i d) j e) (k.demand i d less j e within))));
   shifts = after_from IsGoodRow [] P.shifts (λ i d less. record {
     name = new_name P.shifts i d less (k.names i d less) k.distinct;
     start = between_only 0 10000 (get_or P.shifts i d).start (omega arith) (k.times i d less).0;

@@ -1,14 +1,14 @@
 -- The forms of words: no blanks, no `#` in front, and at least one byte.
-use Rattle.std.proofs.Common.{◌≡◌, ◌≢◌, ℕ, zero, suc, ◌+◌, ◌<◌, ◌≤◌, List, [], ◌∷◌, ◌++◌, length, get_or, take, drop, Bool, true, false, not, ◌||◌, ◌==◌, cond, refl, ap, sym, ◌∙◌, subst, map, arith}
+use Rattle.std.proofs.Common.{◌≡◌, ◌≢◌, ℕ, zero, suc, ◌+◌, ◌≤◌, List, [], ◌∷◌, ◌++◌, length, take, Bool, true, false, not, ◌||◌, ◌==◌, cond, refl, subst, map, arith}
 use Rattle.std.specs.Prelude.{All, filter, take_while, slice_index}
 use Rattle.std.specs.List.{flat_map, AllByRecursion, slice_split, onto_first, prefix_len, enumerate_from}
 use Rattle.std.proofs.lemmas.Bool.{eq-eqb}
-use Rattle.rwsp_text.specs.Lexemes.{Lexeme, is_space, has_some, lines_of, words_of_line, lexemes_from, lexemes}
+use Rattle.rwsp_text.specs.Lexemes.{Lexeme, is_space, has_some, lines_of, words_of_line, lexemes}
 use Rattle.rwsp_terms.specs.declared.data.ShiftRow.{ShiftRow}
 use Rattle.rwsp_model.specs.Validity.{is_blank}
 use Rattle.rwsp_file.specs.Spelling.{Field, Spell, IsRow, on_line, past_line, is_on_line}
 use Rattle.rwsp_file.specs.Spelling.Field.{NumberField, DemandField, ShiftField, NameField}
-use Rattle.rwsp_file.proofs.Lines.{AllByRecursion-drop, AllByRecursion-take}
+use Rattle.rwsp_file.proofs.Lines.{AllByRecursion-drop}
 
 -- a word as it stands in a text
 pub record IsWord (text : List ℕ) : Type 0 where
@@ -39,9 +39,10 @@ names_are_words (f ∷ fs) [] s all = absurd s
 names_are_words (NumberField n ∷ fs) (w ∷ ws) s all = (tt, names_are_words fs ws s.1 all.1)
 names_are_words (DemandField range ∷ fs) (w ∷ ws) s all = (tt, names_are_words fs ws s.1 all.1)
 names_are_words (NameField name ∷ fs) (w ∷ ws) s all = (tt, names_are_words fs ws s.1 all.1)
-names_are_words (ShiftField row ∷ fs) (w ∷ ws) s all =
-    (subst IsWord (first_word row w (on_line w.line ws) s.0) all.0,
-     names_are_words fs (past_line w.line ws) s.1 (AllByRecursion-drop (λ v. IsWord v.text) (prefix_len (is_on_line w.line) ws) ws all.1))
+names_are_words (ShiftField row ∷ fs) (w ∷ ws) s all = (
+  subst IsWord (first_word row w (on_line w.line ws) s.0) all.0,
+  names_are_words fs (past_line w.line ws) s.1 (AllByRecursion-drop (λ v. IsWord v.text) (prefix_len (is_on_line w.line) ws) ws all.1),
+)
 
 pub all_front : {X : Type 0} (P : X → Type 0) (xs ys : List X) → AllByRecursion P (xs ++ ys) → AllByRecursion P xs × AllByRecursion P ys
 all_front P [] ys h = (tt, h)
@@ -148,6 +149,6 @@ pub lexemes_are_words : (bytes : List ℕ) → AreWords (lexemes bytes)
 lexemes_are_words bytes =
     all_flat (λ (w : Lexeme). IsWord w.text) (λ (l : ℕ × List ℕ). map (λ word. lexeme_on l.0 word) (words_of_line l.1)) (enumerate_from 1 (lines_of bytes))
     (all_weaker (λ (l : ℕ × List ℕ). AllByRecursion InLine l.1) (λ (l : ℕ × List ℕ). AllByRecursion (λ (w : Lexeme). IsWord w.text) (map (λ word. lexeme_on l.0 word) (words_of_line l.1)))
-      (λ l h. all_images (λ (w : Lexeme). IsWord w.text) (λ word. lexeme_on l.0 word) (words_of_line l.1) (line_words l.1 h))
-      (enumerate_from 1 (lines_of bytes))
-      (all_numbered (AllByRecursion InLine) 1 (lines_of bytes) (split_parts (λ b. b == 10) (λ _. Unit {0}) bytes (all_units bytes))))
+    (λ l h. all_images (λ (w : Lexeme). IsWord w.text) (λ word. lexeme_on l.0 word) (words_of_line l.1) (line_words l.1 h))
+    (enumerate_from 1 (lines_of bytes))
+    (all_numbered (AllByRecursion InLine) 1 (lines_of bytes) (split_parts (λ b. b == 10) (λ _. Unit {0}) bytes (all_units bytes))))

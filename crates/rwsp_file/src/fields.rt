@@ -96,7 +96,11 @@ fn read_demand_of_day(cursor: &mut Cursor) -> Result<Bounds, FileRefusal>
 }
 
 #[tactic(auto, using(crate::proofs::ManySteps::many_ok, crate::proofs::ManySteps::loop_err, crate::proofs::ManySteps::loop_done))]
-fn read_demand_row(alloc: Global, days: u32, cursor: &mut Cursor) -> Result<DemandRow, Fail<FileRefusal>>
+fn read_demand_row(
+    alloc: Global,
+    days: u32,
+    cursor: &mut Cursor,
+) -> Result<DemandRow, Fail<FileRefusal>>
     ensures { ReadsUnless (λ row. row) (demand_row_at days cursor.old) result cursor.new }
 {
     let mut ranges = Vec::new(alloc);
@@ -114,7 +118,11 @@ fn read_demand_row(alloc: Global, days: u32, cursor: &mut Cursor) -> Result<Dema
 
 /// Reads a row of demands for each shift.
 #[tactic(auto, using(crate::proofs::ManySteps::many_ok, crate::proofs::ManySteps::loop_err, crate::proofs::ManySteps::loop_done))]
-pub fn read_demand(alloc: Global, size: Size, cursor: &mut Cursor) -> Result<Vec<DemandRow>, Fail<FileRefusal>>
+pub fn read_demand(
+    alloc: Global,
+    size: Size,
+    cursor: &mut Cursor,
+) -> Result<Vec<DemandRow>, Fail<FileRefusal>>
     ensures { ReadsUnless (λ v. v.items) (demand_rows_at size cursor.old) result cursor.new }
 {
     let mut rows = Vec::new(alloc);

@@ -14,3 +14,6 @@ mod shifts;
 pub use laws::{texts_spell_one, texts_spell_or_fail};
 pub use read::read_problem;
 pub use refusal::FileRefusal;
+
+#[cfg(test)]
+mod tests;

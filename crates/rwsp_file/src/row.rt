@@ -131,7 +131,11 @@ fn shift_of(alloc: Global, shifts: &Shifts, words: &RowWords) -> Result<ShiftRow
 }
 
 #[tactic(auto, unfolding(crate::specs::Reading::shift_at))]
-fn read_shift(alloc: Global, shifts: &Shifts, cursor: &mut Cursor) -> Result<ShiftRow, Fail<FileRefusal>>
+fn read_shift(
+    alloc: Global,
+    shifts: &Shifts,
+    cursor: &mut Cursor,
+) -> Result<ShiftRow, Fail<FileRefusal>>
     ensures value { ReadsUnless (λ row. row) (shift_at shifts.now cursor.old) result cursor.new }
     ensures fresh { IfOk result (λ row. list_any (λ other. bytes_eq row.name other.name) shifts.now ≡ false) }
 {
@@ -144,7 +148,11 @@ fn read_shift(alloc: Global, shifts: &Shifts, cursor: &mut Cursor) -> Result<Shi
 
 /// Reads a row for each shift.
 #[tactic(auto, using(crate::proofs::ManySteps::many_ok, crate::proofs::ManySteps::loop_err, crate::proofs::ManySteps::loop_done))]
-pub fn read_shifts(alloc: Global, count: u32, cursor: &mut Cursor) -> Result<Shifts, Fail<FileRefusal>>
+pub fn read_shifts(
+    alloc: Global,
+    count: u32,
+    cursor: &mut Cursor,
+) -> Result<Shifts, Fail<FileRefusal>>
     ensures value { ReadsUnless (λ shifts. shifts) (shift_rows_at count cursor.old) result cursor.new }
     ensures long { IfOk result (λ shifts. length shifts ≡ count) }
 {

@@ -48,7 +48,10 @@ fn read_pair(shifts: &Shifts, cursor: &mut Cursor) -> Result<(Symbol, Symbol), F
 }
 
 #[tactic(auto, unfolding(crate::specs::Reading::triple_at))]
-fn read_triple(shifts: &Shifts, cursor: &mut Cursor) -> Result<(Symbol, Symbol, Symbol), FileRefusal>
+fn read_triple(
+    shifts: &Shifts,
+    cursor: &mut Cursor,
+) -> Result<(Symbol, Symbol, Symbol), FileRefusal>
     requires { length shifts.now ≤ 8 }
     ensures { Reads (triple_at shifts.now cursor.old) result cursor.new }
 {
@@ -60,7 +63,12 @@ fn read_triple(shifts: &Shifts, cursor: &mut Cursor) -> Result<(Symbol, Symbol, 
 
 // Reads so many pairs.
 #[tactic(auto, using(crate::proofs::ManySteps::many_ok, crate::proofs::ManySteps::loop_err, crate::proofs::ManySteps::loop_done))]
-fn read_pairs(alloc: Global, shifts: &Shifts, count: u32, cursor: &mut Cursor) -> Result<Vec<(Symbol, Symbol)>, Fail<FileRefusal>>
+fn read_pairs(
+    alloc: Global,
+    shifts: &Shifts,
+    count: u32,
+    cursor: &mut Cursor,
+) -> Result<Vec<(Symbol, Symbol)>, Fail<FileRefusal>>
     requires { length shifts.now ≤ 8 }
     ensures { ReadsUnless (λ v. v.items) (pairs_at shifts.now count cursor.old) result cursor.new }
 {
@@ -79,7 +87,12 @@ fn read_pairs(alloc: Global, shifts: &Shifts, count: u32, cursor: &mut Cursor) -
 
 // Reads so many triples.
 #[tactic(auto, using(crate::proofs::ManySteps::many_ok, crate::proofs::ManySteps::loop_err, crate::proofs::ManySteps::loop_done))]
-fn read_triples(alloc: Global, shifts: &Shifts, count: u32, cursor: &mut Cursor) -> Result<Vec<(Symbol, Symbol, Symbol)>, Fail<FileRefusal>>
+fn read_triples(
+    alloc: Global,
+    shifts: &Shifts,
+    count: u32,
+    cursor: &mut Cursor,
+) -> Result<Vec<(Symbol, Symbol, Symbol)>, Fail<FileRefusal>>
     requires { length shifts.now ≤ 8 }
     ensures { ReadsUnless (λ v. v.items) (triples_at shifts.now count cursor.old) result cursor.new }
 {
@@ -110,7 +123,12 @@ type Sequences = (Vec<(Symbol, Symbol)>, Vec<(Symbol, Symbol, Symbol)>);
 
 /// Reads the pairs and the triples, with which a text ends.
 #[tactic(auto, unfolding(crate::specs::Reading::sequences_at))]
-pub fn read_sequences(alloc: Global, shifts: &Shifts, frame: Frame, cursor: &mut Cursor) -> Result<Sequences, Fail<FileRefusal>>
+pub fn read_sequences(
+    alloc: Global,
+    shifts: &Shifts,
+    frame: Frame,
+    cursor: &mut Cursor,
+) -> Result<Sequences, Fail<FileRefusal>>
     requires { length shifts.now ≤ 8 }
     ensures { GivesUnless (λ s. (s.0.items, s.1.items)) (sequences_at shifts.now frame cursor.old) result }
 {

@@ -1,4 +1,4 @@
-use Rattle.std.proofs.Common.{◌≡◌, ◌∙◌, ap, length, ◌==◌}
+use Rattle.std.proofs.Common.{◌∙◌, ap, length, ◌==◌}
 use Rattle.std.specs.Prelude.{unwrap_or}
 use Rattle.rwsp_text.specs.declared.scan.Token.{Token}
 use Rattle.rwsp_file.proofs.Lines.{place_of_failing}

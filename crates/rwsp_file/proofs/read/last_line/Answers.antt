@@ -1,4 +1,4 @@
-use Rattle.std.proofs.Common.{◌≡◌, ◌∙◌, ap, sym, ◌+◌, ◌==◌}
+use Rattle.std.proofs.Common.{◌∙◌, ap, sym, ◌+◌, ◌==◌}
 use Rattle.std.proofs.lemmas.List.Splits.{length-slice_split}
 use Rattle.rwsp_file.proofs.read.last_line.Goals as goal
 

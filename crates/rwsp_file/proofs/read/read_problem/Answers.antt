@@ -1,4 +1,4 @@
-use Rattle.std.proofs.Common.{◌≡◌, sym, ◌∙◌, subst, Option, Some, None}
+use Rattle.std.proofs.Common.{◌≡◌, sym, subst, Option, Some, None}
 use Rattle.rwsp_model.specs.Parts.{instance_of}
 use Rattle.rwsp_model.specs.Validity.{refusal_of}
 use Rattle.rwsp_model.specs.declared.refusal.PartsRefusal.{PartsRefusal}

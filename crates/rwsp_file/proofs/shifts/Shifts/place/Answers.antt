@@ -1,4 +1,4 @@
-use Rattle.std.proofs.Common.{◌≡◌, ℕ, List, ap, ◌∙◌, Vec, Global}
+use Rattle.std.proofs.Common.{ℕ, List, ap, ◌∙◌, Vec, Global}
 use Rattle.std.specs.Prelude.{position}
 use Rattle.std.specs.Str.{bytes_eq}
 use Rattle.rwsp_terms.specs.declared.data.ShiftRow.{ShiftRow}
