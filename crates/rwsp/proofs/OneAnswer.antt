@@ -1,6 +1,6 @@
 -- Two answers over the same files, compared part by part.
-use Rattle.std.proofs.Common.{◌≡◌, ℕ, ◌<◌, ◌≤◌, List, length, Some, None, Option, arith, ap, sym, ◌∙◌, refl, subst, inl, inr}
-use Rattle.std.specs.Prelude.{◌≢◌, ◌⊎◌, MatchOption, [], ◌∷◌}
+use Rattle.std.proofs.Common.{◌≡◌, ℕ, List, Some, None, Option, arith, ap, sym, ◌∙◌, refl, subst, inl, inr}
+use Rattle.std.specs.Prelude.{◌≢◌, ◌⊎◌, MatchOption, []}
 use Rattle.rwsp_io.specs.Told.{Told, Silent, Missing, Bytes}
 use Rattle.rwsp_terms.specs.Instance.{Instance}
 use Rattle.rwsp_terms.specs.Roster.{MeetsAll}
@@ -18,9 +18,9 @@ use Rattle.roster_checker.specs.declared.broken.Broken.{Broken}
 use Rattle.roster_checker.proofs.FirstBroken.{first_broken-not_met, first_broken-same}
 use Rattle.rwsp.specs.Commands.{Words, IsForm, HasNoForm, problem_name, second_name}
 use Rattle.rwsp.specs.Inputs.{WhereTold, IsShort, IsTooLong, IsProblemOf}
-use Rattle.rwsp.specs.Answers.{IsAnswer, IsFileAnswer, IsRosterAnswer, EndsAtFile, EndsAtRoster}
-use Rattle.rwsp.specs.Texts.{IsTextOf, text_of}
-use Rattle.rwsp.specs.Laws.{AreTold, AnswersAreOne, TextsAreOne}
+use Rattle.rwsp.specs.Answers.{IsAnswer, IsFileAnswer, IsRosterAnswer}
+use Rattle.rwsp.specs.Texts.{text_of}
+use Rattle.rwsp.specs.Laws.{AnswersAreOne, TextsAreOne}
 use Rattle.rwsp.specs.declared.command.Command.{Command}
 use Rattle.rwsp.specs.declared.command.Command.TheVariants.{Verify}
 use Rattle.rwsp.specs.declared.answer.InputKind.TheVariants.{Problem, Roster}

@@ -1,12 +1,12 @@
 -- From what the parts of a run found to what its answer says.
-use Rattle.std.proofs.Common.{◌≡◌, ℕ, ◌+◌, ◌-◌, ◌^◌, ◌≤◌, List, subst, arith, refl, sym, ◌∙◌, inl, inr}
-use Rattle.std.specs.Prelude.{◌⊎◌, min, Result, Ok, Err, IfOk}
+use Rattle.std.proofs.Common.{◌≡◌, ℕ, ◌≤◌, List, subst, arith, inl, inr}
+use Rattle.std.specs.Prelude.{Result, Ok, Err, IfOk}
 use Rattle.rwsp_io.specs.Told.{Told, Silent, Missing, Bytes, Rose}
 use Rattle.rwsp_terms.specs.Instance.{Instance}
 use Rattle.rwsp_file.specs.Spelling.{SpellsProblem}
 use Rattle.rwsp.specs.Commands.{Words, IsForm, problem_name, second_name}
-use Rattle.rwsp.specs.Inputs.{WhereTold, IsShort, OfProblem, OfBoth, IsProblemOf}
-use Rattle.rwsp.specs.Answers.{IsAnswer, IsOfFile, IsOfRoster, IsFileAnswer, IsRosterAnswer, EndsAtFile, EndsAtRoster, IsReadFault}
+use Rattle.rwsp.specs.Inputs.{WhereTold, IsShort, OfProblem, IsProblemOf}
+use Rattle.rwsp.specs.Answers.{IsAnswer, IsOfFile, IsOfRoster, IsFileAnswer, IsRosterAnswer, EndsAtRoster, IsReadFault}
 use Rattle.rwsp.specs.Texts.{IsTextOf, HasFixedText, text_of}
 use Rattle.rwsp.specs.declared.command.Command.{Command}
 use Rattle.rwsp.specs.declared.command.Command.TheVariants.{Verify}

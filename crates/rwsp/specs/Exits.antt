@@ -1,10 +1,9 @@
 -- What is so where a run ends before its job is done.
-use Rattle.std.specs.Prelude.{◌≡◌, List, ℕ}
+use Rattle.std.specs.Prelude.{◌≡◌}
 use Rattle.rwsp_io.specs.Told.{Told}
 use Rattle.rwsp.specs.Inputs.{WhereTold, IsTooLong}
 use Rattle.rwsp.specs.Answers.{IsFileAnswer, IsOfFile}
 use Rattle.rwsp.specs.declared.answer.InputKind.{InputKind}
-use Rattle.rwsp.specs.declared.answer.Answer.{Answer}
 use Rattle.rwsp.specs.declared.answer.Answer.TheVariants.{TooLong}
 use Rattle.rwsp.specs.declared.input.Exit.{Exit}
 use Rattle.rwsp.specs.declared.input.Exit.TheVariants.{Answer as Answers, ReadFault, Memory}

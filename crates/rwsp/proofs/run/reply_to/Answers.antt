@@ -1,10 +1,8 @@
-use Rattle.std.proofs.Common.{◌≡◌, ℕ, List, subst}
-use Rattle.std.specs.Prelude.{IfOk}
+use Rattle.std.proofs.Common.{ℕ, List, subst}
 use Rattle.std.proofs.lemmas.Result.{IfOk-weaker}
 use Rattle.rwsp_file.specs.Spelling.{SpellsProblem}
-use Rattle.rwsp.specs.Commands.{problem_name, second_name}
+use Rattle.rwsp.specs.Commands.{second_name}
 use Rattle.rwsp.specs.Inputs.{WhereTold, IsShort}
-use Rattle.rwsp.specs.Texts.{IsTextOf}
 use Rattle.rwsp.proofs.Replies.{IsRead, both_ok, fixed_text_of, roster_answer, roster_text, roster_fault, is_verify}
 use Rattle.rwsp.proofs.run.reply_to.Goals as goal
 
