@@ -1,3 +1,5 @@
 pub mod Tests
 pub mod Windows
 pub mod Sides
+pub mod Trees
+pub mod TreeDomains
