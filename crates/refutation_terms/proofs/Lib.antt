@@ -3,3 +3,5 @@ pub mod Windows
 pub mod Sides
 pub mod Trees
 pub mod TreeDomains
+pub mod Counts
+pub mod Sums
