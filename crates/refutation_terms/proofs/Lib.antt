@@ -5,3 +5,4 @@ pub mod Trees
 pub mod TreeDomains
 pub mod Counts
 pub mod Sums
+pub mod Weighing
