@@ -6,3 +6,5 @@ pub mod TreeDomains
 pub mod Counts
 pub mod Sums
 pub mod Weighing
+pub mod Turning
+pub mod Named
