@@ -8,3 +8,4 @@ pub mod Sums
 pub mod Weighing
 pub mod Turning
 pub mod Named
+pub mod Sound
