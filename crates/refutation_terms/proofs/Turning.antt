@@ -187,11 +187,22 @@ count_some f a (suc n) h = count_some_by f a n h (f a) refl (λ m. count_some f 
 at_least_one : (l : ℤ) (c : ℕ) → pos 1 ≤ℤ l → l ≤ℤ pos c → 0 < c
 at_least_one l c a b = omega (arith, ints)
 
+-- some week of a roster holds on a day that is met what must be there
+week_of : (P : Instance) (s : List Symbol) (j : ℕ) (x : Symbol) → IsSymbol P x → MeetsDay P j s → pos 1 ≤ℤ least P x.number j → (i : ℕ) × (i < 0 + P.weeks) × (((get_or s (i * P.days + (j - 1)) off_symbol).number == x.number) ≡ true)
+week_of P s j x small met demanded =
+    count_some (λ i. (get_or s (i * P.days + (j - 1)) off_symbol).number == x.number) 0 P.weeks
+    (at_least_one (least P x.number j) (weeks_with P s x.number j) demanded (met x.number small).0)
+
+pub demanded_somewhere : (P : Instance) (s : List Symbol) (j : ℕ) (x : Symbol) → IsDay P j → IsSymbol P x → MeetsDay P j s → pos 1 ≤ℤ least P x.number j → 0 < cells P
+demanded_somewhere P s j x day small met demanded =
+    let week = week_of P s j x small met demanded in
+    let inside : week.0 * P.days + (j - 1) < cells P = in_column P week.0 j (omega (arith, week.1)) day in
+    omega (arith, inside)
+
 -- where the day is met and the symbol must be there, some turned roster has it in week 1
 pub turned_to : (P : Instance) (s : List Symbol) (j : ℕ) (x : Symbol) → 0 < cells P → IsRoster P s → IsDay P j → IsSymbol P x → MeetsDay P j s → pos 1 ≤ℤ least P x.number j → (k : ℕ) × (get_or (turned P k s) (j - 1) off_symbol ≡ x)
 turned_to P s j x some roster day small met demanded =
-    let enough : 0 < weeks_with P s x.number j = at_least_one (least P x.number j) (weeks_with P s x.number j) demanded (met x.number small).0 in
-    let week = count_some (λ i. (get_or s (i * P.days + (j - 1)) off_symbol).number == x.number) 0 P.weeks enough in
+    let week = week_of P s j x small met demanded in
     let i = week.0 in
     let inside : i * P.days + (j - 1) < cells P = in_column P i j (omega (arith, week.1)) day in
     let one : 1 * P.days ≤ P.weeks * P.days = mul-le-mul_right P.days (let le : 1 ≤ P.weeks = omega (arith, week.1) in le) in
