@@ -9,3 +9,7 @@ pub mod Weighing
 pub mod Turning
 pub mod Named
 pub mod Sound
+pub mod AsSaid
+pub mod NeverEmpty
+pub mod Turned
+pub mod Spent

@@ -92,12 +92,12 @@ EachLine Q D (Node p x a b) = Q D (Split p x) × EachLine Q (narrowed D (Split p
 abbrev pub EachInOrder : (Domains → Line → Type 0) → Domains → List Line → Type 0
 EachInOrder Q D lines = (k : ℕ) (line : Line) → slice_get lines k ≡ Some line → Q (behind D (take k lines)) line
 
-got_left : (xs ys : List Line) (k : ℕ) (line : Line) → slice_get xs k ≡ Some line → slice_get (xs ++ ys) k ≡ Some line
+pub got_left : (xs ys : List Line) (k : ℕ) (line : Line) → slice_get xs k ≡ Some line → slice_get (xs ++ ys) k ≡ Some line
 got_left [] ys k line h = absurd (cc)
 got_left (x ∷ xs) ys zero line h = h
 got_left (x ∷ xs) ys (suc k) line h = got_left xs ys k line h
 
-got_right : (xs ys : List Line) (k : ℕ) (line : Line) → slice_get ys k ≡ Some line → slice_get (xs ++ ys) (length xs + k) ≡ Some line
+pub got_right : (xs ys : List Line) (k : ℕ) (line : Line) → slice_get ys k ≡ Some line → slice_get (xs ++ ys) (length xs + k) ≡ Some line
 got_right [] ys k line h = let e : 0 + k ≡ k = omega arith in ap (slice_get ys) e ∙ h
 got_right (x ∷ xs) ys k line h = let e : suc (length xs) + k ≡ suc (length xs + k) = omega arith in ap (slice_get (x ∷ xs ++ ys)) e ∙ got_right xs ys k line h
 

@@ -73,7 +73,7 @@ part_is_not_whole_by a b n k in_a past_a in_b lt (inr more) =
     let less : k - length a < length b = omega (arith, more, lt, length-append a b) in
     ap (λ i. after_trees (suc (suc n)) (take i (a ++ b))) e ∙ ap (after_trees (suc (suc n))) (take-append-add a b (k - length a)) ∙ past_a (take (k - length a) b) ∙ in_b (k - length a) less
 
-less_or_not : (k n : ℕ) → (k < n) ⊎ (n ≤ k)
+pub less_or_not : (k n : ℕ) → (k < n) ⊎ (n ≤ k)
 less_or_not k zero = inr (omega arith)
 less_or_not zero (suc n) = inl (omega arith)
 less_or_not (suc k) (suc n) = elim (less_or_not k n) [ inl h ↦ inl (omega (arith, h)) | inr h ↦ inr (omega (arith, h)) ]

@@ -52,6 +52,14 @@ side_past_split (Some lines) = side_past_first (after_trees 1 lines)
 abbrev pub side : List Line → Side
 side between = side_past_split (after_trees 1 between)
 
+-- the same in words: a line is in the first side of a split where no front of the lines between is a whole tree
+abbrev pub InFirst : List Line → Type 0
+InFirst between = (front rest : List Line) → between ≡ front ++ rest → IsTree front → ⊥
+
+-- and in the second side where a whole tree is in front, and no front of what follows is one
+abbrev pub InSecond : List Line → Type 0
+InSecond between = (front : List Line) × (rest : List Line) × (between ≡ front ++ rest) × IsTree front × InFirst rest
+
 -- the first side takes the symbol of the split alone, the second side all others
 abbrev pub side_takes : Side → Bool → Bool
 side_takes First same = same
