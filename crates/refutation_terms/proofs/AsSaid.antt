@@ -1,14 +1,10 @@
 -- The walk from the front against the words: trees, sides, and the domains at a line.
-use Rattle.std.proofs.Common.{◌≡◌, ◌≢◌, ◌⊎◌, ℕ, zero, suc, ◌+◌, ◌-◌, ◌<◌, ◌≤◌, List, [], ◌∷◌, ◌++◌, length, take, Option, Some, None, refl, ap, sym, ◌∙◌, subst, append_assoc, arith, length-append, inl, inr, Bool, true, false, IsTrue, ◌&&◌, ◌||◌, ◌==◌, not}
-use Rattle.std.specs.Prelude.{◌↔◌}
-use Rattle.std.proofs.lemmas.List.{append-nil}
+use Rattle.std.proofs.Common.{◌≡◌, ◌≢◌, ◌⊎◌, ℕ, List, [], ◌∷◌, ◌++◌, take, Option, Some, None, refl, ap, sym, ◌∙◌, subst, inl, inr, IsTrue, ◌==◌}
 use Rattle.std.proofs.lemmas.Bool.{eqb-true, eq-eqb, eqb-false, ne_eqb}
 use Rattle.rwsp_terms.specs.declared.data.Symbol.{Symbol}
-use Rattle.rwsp_terms.specs.Instance.{Instance}
 use Rattle.refutation_terms.specs.declared.lines.Line.{Line}
 use Rattle.refutation_terms.specs.declared.lines.Line.TheVariants.{Split, Window, Day, Dead, Bound, Unfinished}
-use Rattle.refutation_terms.specs.declared.lines.Turn.{Turn}
-use Rattle.refutation_terms.specs.Tree.{IsLeaf, Tree, Leaf, Node, lines_in, IsTree, after_trees, Side, First, Second, Neither, side, side_past_split, side_past_first, InFirst, InSecond, side_takes, line_leaves, lines_leave, opening, domains_at}
+use Rattle.refutation_terms.specs.Tree.{Tree, Leaf, Node, lines_in, IsTree, after_trees, Side, First, Second, Neither, side, side_past_split, side_past_first, InFirst, InSecond, side_takes, line_leaves, lines_leave, opening}
 use Rattle.refutation_terms.specs.Laws.{IsOneLeaf, IsSplitWithTrees, TreesAreAsSaid, WalksReadTrees, SidesAreAsSaid, DomainsAreAsSaid}
 use Rattle.refutation_terms.proofs.Tests.{both, left_of, right_of, where_passed, passed_there, not_passed, failed_by_not}
 use Rattle.refutation_terms.proofs.Trees.{tree_is_read, tree_is_whole, whole_is_tree, one_in_front}

@@ -1,5 +1,5 @@
 -- Counting the positions of a day.
-use Rattle.std.proofs.Common.{◌≡◌, ◌⊎◌, ℕ, zero, suc, ◌+◌, ◌-◌, ◌*◌, ◌<◌, ◌≤◌, List, [], ◌∷◌, length, get_or, refl, ap, sym, ◌∙◌, subst, arith, Bool, true, false, cond, IsTrue, ◌&&◌, ◌||◌, ◌==◌, not, count_by, pos, ℤ}
+use Rattle.std.proofs.Common.{◌≡◌, ℕ, zero, suc, ◌+◌, ◌-◌, ◌*◌, ◌<◌, ◌≤◌, List, length, get_or, refl, ◌∙◌, subst, arith, Bool, true, false, cond, IsTrue, ◌||◌, ◌==◌, not, count_by, pos, ℤ}
 use Rattle.std.specs.Prelude.{◌<ℤ◌, ◌≤ℤ◌}
 use Rattle.std.specs.List.{range_with_len, list_all}
 use Rattle.std.proofs.lemmas.Int.{ints}
@@ -8,12 +8,12 @@ use Rattle.std.proofs.lemmas.List.Sums.{AllPass-from_list_all, sum_by-cons}
 use Rattle.std.proofs.Math.Nat.{mul-le-mul_right}
 use Rattle.std.proofs.lemmas.Bool.{eqb-true, eq-eqb}
 use Rattle.rwsp_terms.specs.declared.data.Symbol.{Symbol}
-use Rattle.rwsp_terms.specs.Instance.{Instance, cells, shift_count, least, greatest, IsDay, IsSymbol}
+use Rattle.rwsp_terms.specs.Instance.{Instance, cells, shift_count, least, greatest, IsDay}
 use Rattle.rwsp_terms.specs.Window.{off_symbol}
-use Rattle.rwsp_terms.specs.Roster.{IsRoster, MeetsDay, weeks_with}
+use Rattle.rwsp_terms.specs.Roster.{MeetsDay, weeks_with}
 use Rattle.refutation_terms.specs.Word.{Domains, Within}
 use Rattle.refutation_terms.specs.Leaf.{is_only, fixed, possible, HasTooMany, HasTooFew}
-use Rattle.refutation_terms.proofs.Tests.{left_of, right_of}
+use Rattle.refutation_terms.proofs.Tests.{right_of}
 
 cond_mono : (b c : Bool) → (b ≡ true → c ≡ true) → cond b 1 0 ≤ cond c 1 0
 cond_mono true true h = omega arith

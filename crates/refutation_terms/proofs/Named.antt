@@ -1,10 +1,10 @@
 -- The rules of an instance are those of its numbers.
-use Rattle.std.proofs.Common.{◌≡◌, ◌⊎◌, ℕ, zero, suc, ◌+◌, ◌-◌, ◌<◌, ◌≤◌, List, [], ◌∷◌, ◌++◌, length, refl, ap, sym, ◌∙◌, subst, arith, Some, None, Option, map}
+use Rattle.std.proofs.Common.{◌≡◌, ℕ, zero, suc, ◌+◌, ◌<◌, ◌≤◌, List, [], ◌∷◌, ◌++◌, length, subst, arith, Some, map}
 use Rattle.std.specs.Prelude.{slice_get}
 use Rattle.std.specs.List.{range_with_len, flat_map, AllByRecursion}
 use Rattle.rwsp_terms.specs.declared.data.Rule.{Rule}
-use Rattle.rwsp_terms.specs.declared.data.Rule.TheVariants.{MaxShift, MinShift, MaxOff, MinOff, MaxWork, MinWork, Pair, Triple, Day}
-use Rattle.rwsp_terms.specs.Instance.{Instance, shift_count, IsDay}
+use Rattle.rwsp_terms.specs.declared.data.Rule.TheVariants.{MaxOff, MinOff, MaxWork, MinWork, Pair, Triple, Day}
+use Rattle.rwsp_terms.specs.Instance.{Instance, shift_count}
 use Rattle.rwsp_terms.specs.Roster.{IsRule}
 use Rattle.rwsp_terms.specs.Rules.{rules, rule_of, shift_rules, Names}
 

@@ -1,19 +1,19 @@
 -- No domain at a line is empty where no earlier split is idle.
-use Rattle.std.proofs.Common.{◌≡◌, ◌≢◌, ◌⊎◌, ℕ, zero, suc, ◌+◌, ◌-◌, ◌<◌, ◌≤◌, List, [], ◌∷◌, ◌++◌, length, take, Option, Some, None, refl, ap, sym, ◌∙◌, subst, append_assoc, arith, length-append, inl, inr, Bool, true, false, IsTrue, ◌&&◌, ◌||◌, ◌==◌, not}
+use Rattle.std.proofs.Common.{◌≡◌, ◌⊎◌, ℕ, zero, suc, ◌+◌, ◌-◌, ◌<◌, ◌≤◌, List, [], ◌∷◌, length, take, Option, Some, None, refl, sym, subst, arith, length-append, inl, inr, Bool, true, false, IsTrue, ◌&&◌, ◌||◌, ◌==◌, not}
 use Rattle.std.specs.Prelude.{slice_get, nat_le}
 use Rattle.std.specs.List.{range_with_len, list_all}
-use Rattle.std.proofs.lemmas.Bool.{eqb-true, eq-eqb, eqb-false, ne_eqb, leb-true, le-leb}
+use Rattle.std.proofs.lemmas.Bool.{eqb-true, eq-eqb, leb-true, le-leb}
 use Rattle.rwsp_terms.specs.declared.data.Symbol.{Symbol}
-use Rattle.rwsp_terms.specs.Instance.{Instance, cells, shift_count}
+use Rattle.rwsp_terms.specs.Instance.{Instance, shift_count}
 use Rattle.refutation_terms.specs.declared.lines.Line.{Line}
 use Rattle.refutation_terms.specs.declared.lines.Line.TheVariants.{Split}
 use Rattle.refutation_terms.specs.declared.lines.Turn.{Turn}
-use Rattle.refutation_terms.specs.Word.{Domains, AreDomains, full}
+use Rattle.refutation_terms.specs.Word.{Domains, full}
 use Rattle.refutation_terms.specs.Leaf.{is_only}
-use Rattle.refutation_terms.specs.Tree.{Tree, Leaf, Node, lines_in, IsTree, Side, First, Second, side_takes, line_leaves, lines_leave, narrowed, turn_leaves, opening, domains_at, is_idle}
+use Rattle.refutation_terms.specs.Tree.{Tree, Leaf, Node, lines_in, Side, First, Second, side_takes, line_leaves, lines_leave, narrowed, turn_leaves, opening, is_idle}
 use Rattle.refutation_terms.specs.Log.{TurnFits}
 use Rattle.refutation_terms.specs.Laws.{DomainsAreNeverEmpty}
-use Rattle.refutation_terms.proofs.Tests.{both, left_of, right_of, where_passed, passed_there, not_passed, failed_by_not, either}
+use Rattle.refutation_terms.proofs.Tests.{both, left_of, where_passed, not_passed, either}
 use Rattle.refutation_terms.proofs.Trees.{less_or_not}
 use Rattle.refutation_terms.proofs.TreeDomains.{behind, behind_none, behind_first, behind_second, got_left, got_right}
 

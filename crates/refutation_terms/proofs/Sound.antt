@@ -1,24 +1,22 @@
 -- A log that passes leaves no roster.
-use Rattle.std.proofs.Common.{◌≡◌, ◌≢◌, ◌⊎◌, ℕ, zero, suc, ◌+◌, ◌-◌, ◌*◌, ◌<◌, ◌≤◌, List, [], ◌∷◌, length, get_or, refl, ap, sym, ◌∙◌, subst, arith, inl, inr, Bool, true, false, IsTrue, ◌&&◌, ◌||◌, ◌==◌, not, pos, ℤ, Some, None, Option}
-use Rattle.std.specs.Prelude.{◌<ℤ◌, ◌≤ℤ◌, ◌*ℤ◌, slice_get, nat_le}
+use Rattle.std.proofs.Common.{ℕ, ◌-◌, ◌*◌, ◌<◌, ◌≤◌, List, length, get_or, refl, ap, sym, ◌∙◌, subst, arith, inl, inr, true, false, IsTrue, ◌==◌, pos, ℤ, Some, None, Option}
+use Rattle.std.specs.Prelude.{◌<ℤ◌, ◌≤ℤ◌, ◌*ℤ◌, nat_le}
 use Rattle.std.proofs.lemmas.Int.{ints}
 use Rattle.std.proofs.lemmas.Bool.{eqb-true, eq-eqb, le-leb}
 use Rattle.rwsp_terms.specs.declared.data.Symbol.{Symbol}
-use Rattle.rwsp_terms.specs.declared.data.Weight.{Weight}
 use Rattle.rwsp_terms.specs.declared.data.Rule.{Rule}
 use Rattle.rwsp_terms.specs.declared.data.Rule.TheVariants as TheRules
-use Rattle.rwsp_terms.specs.Instance.{Instance, cells, shift_count, least, IsDay, IsSymbol}
+use Rattle.rwsp_terms.specs.Instance.{Instance, cells, shift_count, IsDay}
 use Rattle.rwsp_terms.specs.Window.{Bad, window, off_symbol}
-use Rattle.rwsp_terms.specs.Roster.{IsRoster, MeetsDay, MeetsRule}
-use Rattle.rwsp_terms.specs.Rules.{Names, Meets, rule_of}
+use Rattle.rwsp_terms.specs.Roster.{IsRoster, MeetsDay}
+use Rattle.rwsp_terms.specs.Rules.{Names, Meets}
 use Rattle.rwsp_terms.proofs.Windows.{length-window}
 use Rattle.refutation_terms.specs.declared.lines.Line.{Line}
 use Rattle.refutation_terms.specs.declared.lines.Line.TheVariants.{Split, Window, Day, Dead, Bound, Unfinished}
 use Rattle.refutation_terms.specs.declared.lines.Turn.{Turn}
-use Rattle.refutation_terms.specs.Word.{Domains, Within, Over, Clean, turned, weight, total}
-use Rattle.refutation_terms.specs.Leaf.{IsTooLight}
-use Rattle.refutation_terms.specs.Tree.{IsLeaf, Tree, Leaf, Node, lines_in, IsTree, First, Second, narrowed, opening, turn_leaves}
-use Rattle.refutation_terms.specs.Log.{Log, Holds, HoldsAt, LineFits, TurnFits, HasWeight, Cites, TurnCites, IsAllowed, IsGrounded, Passes}
+use Rattle.refutation_terms.specs.Word.{Domains, Within, turned, weight, total}
+use Rattle.refutation_terms.specs.Tree.{IsLeaf, Tree, Leaf, Node, First, Second, narrowed, opening, turn_leaves}
+use Rattle.refutation_terms.specs.Log.{Log, Holds, LineFits, TurnFits, HasWeight, Cites, TurnCites, IsAllowed, Passes}
 use Rattle.refutation_terms.proofs.Tests.{both, where_passed}
 use Rattle.refutation_terms.proofs.Windows.{over-window, clean-window, no_bad_met}
 use Rattle.refutation_terms.proofs.Sides.{in_either_side}

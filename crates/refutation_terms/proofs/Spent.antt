@@ -1,8 +1,7 @@
 -- A log that passes is not spent.
-use Rattle.std.proofs.Common.{◌≡◌, ℕ, ◌≤◌, get_or, Some, arith, subst, sym, ap, ◌∙◌}
+use Rattle.std.proofs.Common.{◌≡◌, ◌≤◌, get_or, Some, arith, subst}
 use Rattle.std.specs.Prelude.{slice_get}
 use Rattle.std.proofs.lemmas.Option.{slice_get-get_or}
-use Rattle.refutation_terms.specs.declared.lines.Line.{Line}
 use Rattle.refutation_terms.specs.declared.lines.Line.TheVariants.{Unfinished}
 use Rattle.refutation_terms.specs.Log.{HoldsAt}
 use Rattle.refutation_terms.specs.Laws.{PassingIsNotSpent}

@@ -1,10 +1,4 @@
 -- The laws of turned rosters.
-use Rattle.std.proofs.Common.{◌≡◌, ℕ, ◌<◌, List}
-use Rattle.std.specs.Prelude.{◌↔◌}
-use Rattle.rwsp_terms.specs.declared.data.Symbol.{Symbol}
-use Rattle.rwsp_terms.specs.Instance.{Instance, cells}
-use Rattle.rwsp_terms.specs.Rules.{Names, Meets}
-use Rattle.refutation_terms.specs.Word.{turned}
 use Rattle.refutation_terms.specs.Laws.{TurningKeepsRules, TurningKeepsLists, SomeTurnHasIt}
 use Rattle.refutation_terms.proofs.Turning.{turned-IsRoster, turned-meets, turned-meets_back, turned_to, demanded_somewhere}
 use Rattle.refutation_terms.proofs.Named.{named-IsRule}

@@ -1,6 +1,6 @@
 -- Rosters turned by whole weeks.
-use Rattle.std.proofs.Common.{◌≡◌, ◌≢◌, ◌⊎◌, ℕ, zero, suc, ◌+◌, ◌-◌, ◌*◌, ◌%◌, ◌<◌, ◌≤◌, List, [], ◌∷◌, ◌++◌, length, get_or, refl, ap, sym, ◌∙◌, subst, arith, inl, inr, Bool, true, false, cond, IsTrue, ◌&&◌, ◌==◌, not, count_by, pos, negsuc, ℤ, Some, None, Option, map}
-use Rattle.std.specs.Prelude.{◌<ℤ◌, ◌≤ℤ◌, ◌↔◌, slice_get}
+use Rattle.std.proofs.Common.{◌≡◌, ℕ, zero, suc, ◌+◌, ◌-◌, ◌*◌, ◌%◌, ◌<◌, ◌≤◌, List, length, get_or, refl, ap, sym, ◌∙◌, subst, arith, Bool, true, false, cond, ◌==◌, count_by, pos, ℤ}
+use Rattle.std.specs.Prelude.{◌≤ℤ◌}
 use Rattle.std.specs.List.{range_with_len}
 use Rattle.std.proofs.lemmas.Int.{ints}
 use Rattle.std.proofs.lemmas.Nat.{mod_below}
@@ -9,7 +9,7 @@ use Rattle.std.proofs.Math.Nat.{add-mod-mod, add-mod_right, add-mul-mod_self_rig
 use Rattle.rwsp_terms.specs.declared.data.Symbol.{Symbol}
 use Rattle.rwsp_terms.specs.declared.data.Rule.{Rule}
 use Rattle.rwsp_terms.specs.declared.data.Rule.TheVariants.{MaxShift, MinShift, MaxOff, MinOff, MaxWork, MinWork, Pair, Triple, Day}
-use Rattle.rwsp_terms.specs.Instance.{Instance, cells, shift_count, least, greatest, IsDay, IsSymbol, symbol_numbered}
+use Rattle.rwsp_terms.specs.Instance.{Instance, cells, least, greatest, IsDay, IsSymbol, symbol_numbered}
 use Rattle.rwsp_terms.specs.Window.{Bad, cell, window, off_symbol}
 use Rattle.rwsp_terms.specs.Roster.{IsRoster, IsRule, MeetsDay, MeetsRule, HasNoBadWindow, weeks_with}
 use Rattle.rwsp_terms.proofs.Windows.{length-window, get_or-window}

@@ -1,5 +1,5 @@
 -- Windows of a roster: round the cycle, over domains, and clean.
-use Rattle.std.proofs.Common.{◌≡◌, ℕ, zero, suc, ◌+◌, ◌-◌, ◌*◌, ◌%◌, ◌<◌, ◌≤◌, List, [], ◌∷◌, ◌++◌, length, get_or, refl, ap, sym, ◌∙◌, arith, subst, append_assoc, length-append, IsTrue, inl, inr}
+use Rattle.std.proofs.Common.{◌≡◌, ℕ, zero, suc, ◌+◌, ◌%◌, ◌<◌, List, [], ◌∷◌, ◌++◌, length, get_or, refl, ap, sym, ◌∙◌, arith, subst, append_assoc, length-append, IsTrue}
 use Rattle.std.specs.Prelude.{Contains}
 use Rattle.std.proofs.Math.Nat.{mod-add-mod}
 use Rattle.std.proofs.lemmas.Nat.{mod_below}
@@ -8,8 +8,8 @@ use Rattle.rwsp_terms.specs.declared.data.Rule.{Rule}
 use Rattle.rwsp_terms.specs.declared.data.Rule.TheVariants.{MaxShift, MinShift, MaxOff, MinOff, MaxWork, MinWork, Pair, Triple, Day}
 use Rattle.rwsp_terms.specs.Instance.{Instance, cells}
 use Rattle.rwsp_terms.specs.Window.{Bad, cell, window, off_symbol}
-use Rattle.rwsp_terms.specs.Roster.{MeetsRule, HasNoBadWindow, IsRoster}
-use Rattle.rwsp_terms.specs.Rules.{Names, Meets}
+use Rattle.rwsp_terms.specs.Roster.{MeetsRule, HasNoBadWindow}
+use Rattle.rwsp_terms.specs.Rules.{Meets}
 use Rattle.rwsp_terms.proofs.Windows.{length-window, window-add}
 use Rattle.refutation_terms.specs.Word.{Domains, Within, Over, Clean}
 

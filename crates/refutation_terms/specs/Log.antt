@@ -1,6 +1,5 @@
 -- What it means that a log passes, and that it is spent.
-use Rattle.std.specs.Prelude.{◌≡◌, ◌≢◌, ◌⊎◌, ℕ, suc, ◌+◌, ◌*◌, ◌<◌, ◌≤◌, List, [], ◌∷◌, length, slice_get, All, Bool, true, false, Option, Some, None, ℤ, pos, ◌≤ℤ◌, count_by}
-use Rattle.rwsp_terms.specs.declared.data.Symbol.{Symbol}
+use Rattle.std.specs.Prelude.{◌≡◌, ◌≢◌, ◌⊎◌, ℕ, ◌*◌, ◌<◌, ◌≤◌, List, [], ◌∷◌, length, slice_get, All, Bool, true, false, Option, Some, None, pos, ◌≤ℤ◌, count_by}
 use Rattle.rwsp_terms.specs.declared.data.Weight.{Weight}
 use Rattle.rwsp_terms.specs.declared.data.Rule.{Rule}
 use Rattle.rwsp_terms.specs.declared.data.Rule.TheVariants as TheRules
@@ -108,6 +107,10 @@ pub record Passes (P : Instance) (g : Log) : Type 0 where
   pub grounded : IsGrounded P g
   pub tree : IsTree g.lines
   pub holds : (k : ℕ) (line : Line) → slice_get g.lines k ≡ Some line → HoldsAt P g k line
+
+-- the header names no rule that neither a line nor the turn cites
+abbrev pub NamesOnlyCited : Instance → Log → Type 0
+NamesOnlyCited P g = (r : Rule) → Names P g.named r → TurnCites g.turn r ⊎ ((k : ℕ) × (line : Line) × (slice_get g.lines k ≡ Some line) × Cites P line r)
 
 -- every line but an unfinished one
 abbrev pub is_worked : Line → Bool
