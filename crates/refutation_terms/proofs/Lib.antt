@@ -13,3 +13,5 @@ pub mod AsSaid
 pub mod NeverEmpty
 pub mod Turned
 pub mod Spent
+pub mod Decide
+pub mod Words
