@@ -73,9 +73,10 @@ second_from_words between h =
     in_second between h.1 (ap (after_trees 1) h.2 ∙ past_front h.0 h.1 h.3) (none_read h.1 h.4)
 
 pub sides_as_said : SidesAreAsSaid
-sides_as_said between =
-    ((λ e. none_in_front between (first_by (after_trees 1 between) e), λ h. in_first between (none_read between h)),
-     (second_in_words between, second_from_words between))
+sides_as_said between = (
+  (λ e. none_in_front between (first_by (after_trees 1 between) e), λ h. in_first between (none_read between h)),
+  (second_in_words between, second_from_words between),
+)
 
 -- what all splits among some lines leave of a position
 abbrev SplitsTake : List Line → ℕ → ℕ → Type 0
@@ -111,9 +112,10 @@ abbrev SideSays : List Line → ℕ → Symbol → Type 0
 SideSays between z x = (InFirst between → z ≡ x.number) × (InSecond between → z ≢ x.number)
 
 takes-says : (between : List Line) (z : ℕ) (x : Symbol) → IsTrue (side_takes (side between) (z == x.number)) → SideSays between z x
-takes-says between z x h =
-    (λ first. eqb-true z x.number (subst (λ a. IsTrue (side_takes a (z == x.number))) ((sides_as_said between).0.1 first) h),
-     λ second. eqb-false z x.number (failed_by_not (z == x.number) (subst (λ a. IsTrue (side_takes a (z == x.number))) ((sides_as_said between).1.1 second) h)))
+takes-says between z x h = (
+  λ first. eqb-true z x.number (subst (λ a. IsTrue (side_takes a (z == x.number))) ((sides_as_said between).0.1 first) h),
+  λ second. eqb-false z x.number (failed_by_not (z == x.number) (subst (λ a. IsTrue (side_takes a (z == x.number))) ((sides_as_said between).1.1 second) h)),
+)
 
 says-takes_by : (between : List Line) (z : ℕ) (x : Symbol) → SideSays between z x → (a : Side) → side between ≡ a → IsTrue (side_takes a (z == x.number))
 says-takes_by between z x h First e = eq-eqb z x.number (h.0 ((sides_as_said between).0.0 e))
@@ -121,8 +123,11 @@ says-takes_by between z x h Second e = not_passed (z == x.number) (ne_eqb z x.nu
 says-takes_by between z x h Neither e = refl
 
 pub domains_as_said : DomainsAreAsSaid
-domains_as_said P turn lines k p z =
-    (λ h. (left_of (opening P turn p z) (lines_leave (take k lines) p z) h,
-           λ before between x e. takes-says between z x (leaves-splits (take k lines) p z (right_of (opening P turn p z) (lines_leave (take k lines) p z) h) before between x e)),
-     λ h. both (opening P turn p z) (lines_leave (take k lines) p z) h.0
-         (splits-leave (take k lines) p z (λ before between x e. says-takes_by between z x (h.1 before between x e) (side between) refl)))
+domains_as_said P turn lines k p z = (
+  λ h. (
+    left_of (opening P turn p z) (lines_leave (take k lines) p z) h,
+    λ before between x e. takes-says between z x (leaves-splits (take k lines) p z (right_of (opening P turn p z) (lines_leave (take k lines) p z) h) before between x e),
+  ),
+  λ h. both (opening P turn p z) (lines_leave (take k lines) p z) h.0
+      (splits-leave (take k lines) p z (λ before between x e. says-takes_by between z x (h.1 before between x e) (side between) refl)),
+)

@@ -71,18 +71,18 @@ pub fixed-weeks_with : (P : Instance) (D : Domains) (s : List Symbol) (j x : ℕ
 fixed-weeks_with P D s j x day w =
     count_mono (λ i. is_only P D (i * P.days + (j - 1)) x) (λ i. (get_or s (i * P.days + (j - 1)) off_symbol).number == x) 0 P.weeks
     (λ i le lt only.
-        let q = i * P.days + (j - 1) in
-        let here : q < cells P = in_column P i j (omega (arith, lt)) day in
-        let small : (get_or s q off_symbol).number ≤ shift_count P = w.is_roster.symbols q off_symbol (omega (arith, here, w.is_roster.long)) in
-        eq-eqb (get_or s q off_symbol).number x (only_one P D q x (get_or s q off_symbol).number only small (w.each q here)))
+    let q = i * P.days + (j - 1) in
+    let here : q < cells P = in_column P i j (omega (arith, lt)) day in
+    let small : (get_or s q off_symbol).number ≤ shift_count P = w.is_roster.symbols q off_symbol (omega (arith, here, w.is_roster.long)) in
+    eq-eqb (get_or s q off_symbol).number x (only_one P D q x (get_or s q off_symbol).number only small (w.each q here)))
 
 pub weeks_with-possible : (P : Instance) (D : Domains) (s : List Symbol) (j x : ℕ) → IsDay P j → Within P D s → weeks_with P s x j ≤ possible P D j x
 weeks_with-possible P D s j x day w =
     count_mono (λ i. (get_or s (i * P.days + (j - 1)) off_symbol).number == x) (λ i. D (i * P.days + (j - 1)) x) 0 P.weeks
     (λ i le lt same.
-        let q = i * P.days + (j - 1) in
-        let here : q < cells P = in_column P i j (omega (arith, lt)) day in
-        subst (λ z. D q z ≡ true) (eqb-true (get_or s q off_symbol).number x same) (w.each q here))
+    let q = i * P.days + (j - 1) in
+    let here : q < cells P = in_column P i j (omega (arith, lt)) day in
+    subst (λ z. D q z ≡ true) (eqb-true (get_or s q off_symbol).number x same) (w.each q here))
 
 -- a day that is met has no symbol too often, and none too rarely
 pub met_not_too_many : (P : Instance) (D : Domains) (s : List Symbol) (j x : ℕ) → IsDay P j → x ≤ shift_count P → Within P D s → MeetsDay P j s → HasTooMany P D j x → ⊥

@@ -1,22 +1,17 @@
 -- Deciding leaves of small problems by going through all words.
-use Rattle.std.proofs.Common.{◌≡◌, ◌≢◌, ◌⊎◌, ℕ, zero, suc, ◌+◌, ◌-◌, ◌*◌, ◌%◌, ◌<◌, ◌≤◌, List, [], ◌∷◌, ◌++◌, length, take, get_or, refl, ap, sym, ◌∙◌, subst, append_assoc, arith, length-append, inl, inr, Bool, true, false, IsTrue, ◌&&◌, ◌||◌, ◌==◌, not, Option, Some, None, pos, ℤ}
-use Rattle.std.specs.Prelude.{nat_lt, nat_le, All, Contains, slice_get, ◌*ℤ◌, ◌<ℤ◌, int_lt}
-use Rattle.std.specs.List.{range_with_len, list_all, list_any, AllByRecursion}
-use Rattle.std.proofs.lemmas.Bool.{eqb-true, eq-eqb, eqb-false, leb-true, le-leb, ltb-true, lt-ltb}
+use Rattle.std.proofs.Common.{◌≡◌, ℕ, suc, ◌+◌, ◌<◌, List, [], ◌∷◌, ◌++◌, length, get_or, refl, ap, sym, ◌∙◌, subst, arith, inl, inr, Bool, true, false, IsTrue, ◌&&◌, ◌==◌, not, Some, None}
+use Rattle.std.specs.Prelude.{nat_lt, All, slice_get}
+use Rattle.std.specs.List.{list_all, AllByRecursion}
+use Rattle.std.proofs.lemmas.Bool.{eqb-true, eq-eqb, eqb-false, ltb-true, lt-ltb}
 use Rattle.std.proofs.lemmas.List.Sums.{AllPass-from_list_all, list_all-from_AllPass}
 use Rattle.rwsp_terms.specs.declared.data.Symbol.{Symbol}
 use Rattle.rwsp_terms.specs.declared.data.Class.{Class}
 use Rattle.rwsp_terms.specs.declared.data.Class.TheVariants.{Shift, Off, Work}
 use Rattle.rwsp_terms.specs.declared.data.Rule.{Rule}
 use Rattle.rwsp_terms.specs.declared.data.Rule.TheVariants.{MaxShift, MinShift, MaxOff, MinOff, MaxWork, MinWork, Pair, Triple, Day}
-use Rattle.rwsp_terms.specs.declared.data.Weight.{Weight}
-use Rattle.rwsp_terms.specs.Instance.{Instance, cells, shift_count, bounds, symbol_numbered}
+use Rattle.rwsp_terms.specs.Instance.{Instance, bounds, symbol_numbered}
 use Rattle.rwsp_terms.specs.Window.{Bad, InClass, TooLong, TooShort}
-use Rattle.rwsp_terms.specs.Rules.{Names, rule_of}
-use Rattle.refutation_terms.specs.Word.{Domains, Over, Clean, weight, total}
-use Rattle.refutation_terms.specs.Leaf.{IsBlocked, IsDead, IsTooLight}
 use Rattle.refutation_terms.proofs.Tests.{both, left_of, right_of, not_passed, failed_by_not, either}
-use Rattle.refutation_terms.proofs.Counts.{all_in_range}
 
 -- whether a symbol is in a class
 abbrev pub in_class : Class → Symbol → Bool
@@ -143,7 +138,7 @@ is_short-from : (c : Class) (least : ℕ) (u : List Symbol) → TooShort c least
 is_short-from c least u h =
     subst (λ w. is_short c least w ≡ true) (sym h.whole)
     (both (not (in_class c h.before)) (short_rest c least 0 (h.block ++ h.after ∷ [])) (not_passed (in_class c h.before) (fails_class c h.before h.starts))
-        (short_rest-from c least 0 h.block h.after (all_in_class c h.block h.within) (fails_class c h.after h.ends) (omega (arith, h.some)) (omega (arith, h.few))))
+    (short_rest-from c least 0 h.block h.after (all_in_class c h.block h.within) (fails_class c h.after h.ends) (omega (arith, h.some)) (omega (arith, h.few))))
 
 -- whether a word is bad for a rule of a problem without forbidden sequences
 abbrev pub is_bad : Instance → Rule → List Symbol → Bool

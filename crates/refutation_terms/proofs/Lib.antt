@@ -15,3 +15,6 @@ pub mod Turned
 pub mod Spent
 pub mod Decide
 pub mod Words
+pub mod Lists
+pub mod ExampleLogs
+pub mod ExampleTexts

@@ -37,10 +37,10 @@ rules_are P =
     let days = map Day (range_with_len 1 P.days) in
     all_append (IsRule P) (shifts ++ fixed ++ pairs ++ triples) days
     (all_append (IsRule P) (shifts ++ fixed ++ pairs) triples
-        (all_append (IsRule P) (shifts ++ fixed) pairs
-            (all_append (IsRule P) shifts fixed (shift_rules_are P 1 (shift_count P) (omega arith) (omega arith)) (tt, (tt, (tt, (tt, tt)))))
-            (all_mapped (IsRule P) Pair 0 (length P.pairs) (λ k le lt. omega (arith, lt))))
-        (all_mapped (IsRule P) Triple 0 (length P.triples) (λ k le lt. omega (arith, lt))))
+    (all_append (IsRule P) (shifts ++ fixed) pairs
+    (all_append (IsRule P) shifts fixed (shift_rules_are P 1 (shift_count P) (omega arith) (omega arith)) (tt, (tt, (tt, (tt, tt)))))
+    (all_mapped (IsRule P) Pair 0 (length P.pairs) (λ k le lt. omega (arith, lt))))
+    (all_mapped (IsRule P) Triple 0 (length P.triples) (λ k le lt. omega (arith, lt))))
     (all_mapped (IsRule P) Day 1 P.days (λ k le lt. (omega (arith, le), omega (arith, lt))))
 
 -- what a number stands for is a rule of the instance

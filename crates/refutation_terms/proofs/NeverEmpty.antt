@@ -72,15 +72,15 @@ in_sides : (P : Instance) (p : ℕ) (x : Symbol) (a b : Tree) (D : Domains) (k :
 in_sides P p x a b D k lt h first second (inl less) =
     subst HasSome (sym (behind_first D p x a b k less))
     (first less (λ i q y before e. subst (λ E. is_idle P E q y.number ≡ false) (behind_first D p x a b i (omega (arith, before, less)))
-        (h (suc i) q y (omega (arith, before)) (got_left (lines_in a) (lines_in b) i (Split q y) e))))
+    (h (suc i) q y (omega (arith, before)) (got_left (lines_in a) (lines_in b) i (Split q y) e))))
 in_sides P p x a b D k lt h first second (inr more) =
     let m = k - length (lines_in a) in
     let whole : length (lines_in a) + m ≡ k = omega (arith, more) in
     let less : m < length (lines_in b) = omega (arith, lt, more, length-append (lines_in a) (lines_in b)) in
     subst (λ i. HasSome (behind D (take (suc i) (lines_in (Node p x a b))))) whole
     (subst HasSome (sym (behind_second D p x a b m less))
-        (second m less (λ i q y before e. subst (λ E. is_idle P E q y.number ≡ false) (behind_second D p x a b i (omega (arith, before, less)))
-            (h (suc (length (lines_in a) + i)) q y (omega (arith, before, whole)) (got_right (lines_in a) (lines_in b) i (Split q y) e)))))
+    (second m less (λ i q y before e. subst (λ E. is_idle P E q y.number ≡ false) (behind_second D p x a b i (omega (arith, before, less)))
+    (h (suc (length (lines_in a) + i)) q y (omega (arith, before, whole)) (got_right (lines_in a) (lines_in b) i (Split q y) e)))))
 
 has_some_at : (P : Instance) (t : Tree) (D : Domains) (k : ℕ) → HasSome D → k < length (lines_in t) → NoneIdle P D (lines_in t) k → HasSome (behind D (take k (lines_in t)))
 has_some_at P t D zero some lt h = subst HasSome (sym (behind_none D)) some
@@ -98,9 +98,11 @@ has_some_at P (Node p x a b) D (suc k) some lt h =
 -- opening domains have a symbol everywhere
 opening_has_some : (P : Instance) (turn : Option Turn) → TurnFits P turn → HasSome (opening P turn)
 opening_has_some P None fits p = (0, both (nat_le 0 (shift_count P)) true (le-leb 0 (shift_count P) (omega arith)) refl)
-opening_has_some P (Some t) fits p =
-    (t.x.number, both (nat_le t.x.number (shift_count P)) (turn_leaves (Some t) p t.x.number) (le-leb t.x.number (shift_count P) fits.1)
-        (where_passed ((t.day - 1) == p) (t.x.number == t.x.number) (λ e. eq-eqb t.x.number t.x.number refl)))
+opening_has_some P (Some t) fits p = (
+  t.x.number,
+  both (nat_le t.x.number (shift_count P)) (turn_leaves (Some t) p t.x.number) (le-leb t.x.number (shift_count P) fits.1)
+      (where_passed ((t.day - 1) == p) (t.x.number == t.x.number) (λ e. eq-eqb t.x.number t.x.number refl)),
+)
 
 pub domains_never_empty : DomainsAreNeverEmpty
 domains_never_empty P turn lines k fits tree lt h =

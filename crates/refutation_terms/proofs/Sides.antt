@@ -16,14 +16,14 @@ in_side P D p x s a takes w = record {
   each = λ q lt. both (D q (get_or s q off_symbol).number) (line_leaves (Split p x) a q (get_or s q off_symbol).number)
       (w.each q lt)
       (where_passed (p == q) (side_takes a ((get_or s q off_symbol).number == x.number))
-          (λ e. subst (λ r. IsTrue (side_takes a ((get_or s r off_symbol).number == x.number))) (eqb-true p q e) takes));
+      (λ e. subst (λ r. IsTrue (side_takes a ((get_or s r off_symbol).number == x.number))) (eqb-true p q e) takes));
 }
 
 pub in_either_side : (P : Instance) (D : Domains) (p : ℕ) (x : Symbol) (s : List Symbol) → Within P D s → Within P (narrowed D (Split p x) First) s ⊎ Within P (narrowed D (Split p x) Second) s
 in_either_side P D p x s w =
     elim (either ((get_or s p off_symbol).number == x.number)) [
-      inl e ↦ inl (in_side P D p x s First e w)
-    | inr e ↦ inr (in_side P D p x s Second (not_passed ((get_or s p off_symbol).number == x.number) e) w)
+      | inl e ↦ inl (in_side P D p x s First e w)
+      | inr e ↦ inr (in_side P D p x s Second (not_passed ((get_or s p off_symbol).number == x.number) e) w)
     ]
 
 taken_there : (P : Instance) (D : Domains) (p : ℕ) (x : Symbol) (s : List Symbol) (a : Side) → p < cells P → Within P (narrowed D (Split p x) a) s → IsTrue (side_takes a ((get_or s p off_symbol).number == x.number))

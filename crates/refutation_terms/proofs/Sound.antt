@@ -72,8 +72,8 @@ pub tree_leaves_none : (P : Instance) (named : List ℕ) (s : List Symbol) → M
 tree_leaves_none P named s met (Leaf line leaf) D h w = leaf_leaves_none P named D s line met w leaf h
 tree_leaves_none P named s met (Node p x a b) D h w =
     elim (in_either_side P D p x s w) [
-      inl first ↦ tree_leaves_none P named s met a (narrowed D (Split p x) First) h.1 first
-    | inr second ↦ tree_leaves_none P named s met b (narrowed D (Split p x) Second) h.2 second
+      | inl first ↦ tree_leaves_none P named s met a (narrowed D (Split p x) First) h.1 first
+      | inr second ↦ tree_leaves_none P named s met b (narrowed D (Split p x) Second) h.2 second
     ]
 
 lines_are_proved : (P : Instance) (g : Log) → Passes P g → EachInOrder (IsProved P g.named) (opening P g.turn) g.lines
@@ -113,11 +113,14 @@ opens_for_some P named (Some t) s met fits allowed cited =
     let day : MeetsDay P t.day s = met.rules (TheRules.Day t.day) (cited (TheRules.Day t.day) refl) in
     let some : 0 < cells P = demanded_somewhere P s t.day t.x fits.0 fits.1 day allowed in
     let there = turned_to P s t.day t.x some met.is_roster fits.0 fits.1 day allowed in
-    let k = there.0 in
-    (turned P k s, turned-Meets P named k s some met, within_opening P (Some t) (turned P k s) (turned-IsRoster P k s some met.is_roster)
-        (λ p. where_passed ((t.day - 1) == p) ((get_or (turned P k s) p off_symbol).number == t.x.number)
-            (λ e. eq-eqb (get_or (turned P k s) p off_symbol).number t.x.number
-                (ap (λ q. (get_or (turned P k s) q off_symbol).number) (sym (eqb-true (t.day - 1) p e)) ∙ ap (λ (z : Symbol). z.number) there.1))))
+    let k = there.0 in (
+      turned P k s,
+      turned-Meets P named k s some met,
+      within_opening P (Some t) (turned P k s) (turned-IsRoster P k s some met.is_roster)
+          (λ p. where_passed ((t.day - 1) == p) ((get_or (turned P k s) p off_symbol).number == t.x.number)
+          (λ e. eq-eqb (get_or (turned P k s) p off_symbol).number t.x.number
+          (ap (λ q. (get_or (turned P k s) q off_symbol).number) (sym (eqb-true (t.day - 1) p e)) ∙ ap (λ (z : Symbol). z.number) there.1))),
+    )
 
 -- the law: a log that passes and a roster that meets its named rules exclude each other
 pub passing_leaves_none : (P : Instance) (g : Log) (s : List Symbol) → Passes P g → Meets P g.named s → ⊥

@@ -80,8 +80,8 @@ behind_second D q x a b k lt =
     let cut : take (length (lines_in a) + k) (lines_in a ++ lines_in b) ≡ lines_in a ++ take k (lines_in b) = take-append-add (lines_in a) (lines_in b) k in
     ap (λ ls. behind D (Split q x ∷ ls)) cut
     ∙ behind_split D q x (lines_in a ++ take k (lines_in b)) (take k (lines_in b)) Second
-        (in_second (lines_in a ++ take k (lines_in b)) (take k (lines_in b)) (tree_is_read a 0 (take k (lines_in b))) (part_is_not_whole b 0 k lt))
-        (λ p z. tree_leaves_all a (take k (lines_in b)) p z)
+    (in_second (lines_in a ++ take k (lines_in b)) (take k (lines_in b)) (tree_is_read a 0 (take k (lines_in b))) (part_is_not_whole b 0 k lt))
+    (λ p z. tree_leaves_all a (take k (lines_in b)) p z)
 
 -- a fact of each line of a tree, under the domains that its splits narrow
 abbrev pub EachLine : (Domains → Line → Type 0) → Domains → Tree → Type 0
@@ -103,9 +103,10 @@ got_right (x ∷ xs) ys k line h = let e : suc (length xs) + k ≡ suc (length x
 
 pub in_tree : (Q : Domains → Line → Type 0) (D : Domains) (t : Tree) → EachInOrder Q D (lines_in t) → EachLine Q D t
 in_tree Q D (Leaf line is_leaf) h = subst (λ E. Q E line) (behind_none D) (h 0 line refl)
-in_tree Q D (Node p x a b) h =
-    (subst (λ E. Q E (Split p x)) (behind_none D) (h 0 (Split p x) refl),
-     in_tree Q (narrowed D (Split p x) First) a (λ k line e. subst (λ E. Q E line) (behind_first D p x a b k (slice_get_within (lines_in a) k line e))
-         (h (suc k) line (got_left (lines_in a) (lines_in b) k line e))),
-     in_tree Q (narrowed D (Split p x) Second) b (λ k line e. subst (λ E. Q E line) (behind_second D p x a b k (slice_get_within (lines_in b) k line e))
-         (h (suc (length (lines_in a) + k)) line (got_right (lines_in a) (lines_in b) k line e))))
+in_tree Q D (Node p x a b) h = (
+  subst (λ E. Q E (Split p x)) (behind_none D) (h 0 (Split p x) refl),
+  in_tree Q (narrowed D (Split p x) First) a (λ k line e. subst (λ E. Q E line) (behind_first D p x a b k (slice_get_within (lines_in a) k line e))
+      (h (suc k) line (got_left (lines_in a) (lines_in b) k line e))),
+  in_tree Q (narrowed D (Split p x) Second) b (λ k line e. subst (λ E. Q E line) (behind_second D p x a b k (slice_get_within (lines_in b) k line e))
+      (h (suc (length (lines_in a) + k)) line (got_right (lines_in a) (lines_in b) k line e))),
+)

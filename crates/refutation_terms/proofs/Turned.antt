@@ -7,9 +7,10 @@ pub turning_keeps_rules : TurningKeepsRules
 turning_keeps_rules P k r s some roster is = (turned-meets P k r s some roster is, turned-meets_back P k r s some roster is)
 
 pub turning_keeps_lists : TurningKeepsLists
-turning_keeps_lists P k R s some roster =
-    (λ m. record { is_roster = turned-IsRoster P k s some roster; rules = λ r n. turned-meets P k r s some roster (named-IsRule P R r n) (m.rules r n) },
-     λ m. record { is_roster = roster; rules = λ r n. turned-meets_back P k r s some roster (named-IsRule P R r n) (m.rules r n) })
+turning_keeps_lists P k R s some roster = (
+  λ m. record { is_roster = turned-IsRoster P k s some roster; rules = λ r n. turned-meets P k r s some roster (named-IsRule P R r n) (m.rules r n) },
+  λ m. record { is_roster = roster; rules = λ r n. turned-meets_back P k r s some roster (named-IsRule P R r n) (m.rules r n) },
+)
 
 pub some_turn_has_it : SomeTurnHasIt
 some_turn_has_it P s j x roster day small met demanded =

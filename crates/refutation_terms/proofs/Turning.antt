@@ -100,8 +100,8 @@ weeks_with-holds_in : (P : Instance) (s : List Symbol) (x j : ℕ) → IsDay P j
 weeks_with-holds_in P s x j day long =
     count_same (λ i. (get_or s (i * P.days + (j - 1)) off_symbol).number == x) (holds_in P s x j) 0 P.weeks
     (λ i le lt.
-        let inside : i * P.days + (j - 1) < cells P = in_column P i j (omega (arith, lt)) day in
-        ap (λ (z : Symbol). z.number == x) (sym (cell-within s (i * P.days + (j - 1)) (omega (arith, inside, long)))))
+    let inside : i * P.days + (j - 1) < cells P = in_column P i j (omega (arith, lt)) day in
+    ap (λ (z : Symbol). z.number == x) (sym (cell-within s (i * P.days + (j - 1)) (omega (arith, inside, long)))))
 
 -- turning keeps how many weeks hold a symbol on a day
 pub weeks_with-turned : (P : Instance) (k : ℕ) (s : List Symbol) (x j : ℕ) → 0 < cells P → IsDay P j → length s ≡ cells P → weeks_with P (turned P k s) x j ≡ weeks_with P s x j
@@ -109,9 +109,9 @@ weeks_with-turned P k s x j some day long =
     let none : k ≡ k + 0 = omega arith in
     weeks_with-holds_in P (turned P k s) x j day (length-turned P k s)
     ∙ count_same (holds_in P (turned P k s) x j) (λ i. holds_in P s x j (k + i)) 0 P.weeks
-        (λ i le lt.
-            let e : k * P.days + (i * P.days + (j - 1)) ≡ (k + i) * P.days + (j - 1) = omega arith in
-            ap (λ (z : Symbol). z.number == x) (cell-turned P k s (i * P.days + (j - 1)) some long ∙ ap (cell s) e))
+    (λ i le lt.
+    let e : k * P.days + (i * P.days + (j - 1)) ≡ (k + i) * P.days + (j - 1) = omega arith in
+    ap (λ (z : Symbol). z.number == x) (cell-turned P k s (i * P.days + (j - 1)) some long ∙ ap (cell s) e))
     ∙ sym (count_shift (holds_in P s x j) k 0 P.weeks)
     ∙ ap (λ b. count_by (holds_in P s x j) (range_with_len b P.weeks)) (sym none)
     ∙ count_period (holds_in P s x j) P.weeks (λ i. holds_in-period P s x j i long) k
@@ -126,14 +126,16 @@ MeetsDay-along P j s t same met x small =
 back_place : (P : Instance) (k p : ℕ) (s : List Symbol) → length s ≡ cells P → 0 < cells P → (q : ℕ) × ((k * P.days + q) % length s ≡ p % length s)
 back_place P k p s long some =
     let weeks : 0 < P.weeks = weeks_some P.weeks P.days some in
-    let more : k * P.days ≤ k * cells P = le_times k P.weeks P.days weeks in
-    (p + (k * cells P - k * P.days),
-     let e : k * P.days + (p + (k * cells P - k * P.days)) ≡ p + k * cells P = omega (arith, more) in
-     ap (λ q. q % length s) e ∙ ap (λ m. (p + k * m) % length s) (sym long) ∙ add-mul-mod_self_right p k (length s))
+    let more : k * P.days ≤ k * cells P = le_times k P.weeks P.days weeks in (
+      p + (k * cells P - k * P.days),
+      let e : k * P.days + (p + (k * cells P - k * P.days)) ≡ p + k * cells P = omega (arith, more) in
+          ap (λ q. q % length s) e ∙ ap (λ m. (p + k * m) % length s) (sym long) ∙ add-mul-mod_self_right p k (length s),
+    )
   where
     weeks_some : (n w : ℕ) → 0 < n * w → 0 < n
     weeks_some zero w h = let e : zero * w ≡ 0 = omega arith in absurd (omega (arith, h, e))
     weeks_some (suc n) w h = omega arith
+
     le_times : (k n w : ℕ) → 0 < n → k * w ≤ k * (n * w)
     le_times k zero w h = absurd (omega (arith, h))
     le_times k (suc n) w h = let e : k * (suc n * w) ≡ k * w + k * (n * w) = omega arith in omega (arith, e)

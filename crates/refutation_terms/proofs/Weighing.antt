@@ -57,12 +57,12 @@ column_weight P y s k roster less =
     let back : k ≡ 1 + k - 1 = omega arith in
     sum_same (λ i. cell_weight P y s (i * P.days + k)) (λ i. weight_at y (1 + k) (get_or s (i * P.days + k) off_symbol).number) 0 P.weeks (λ i le lt. cell_weight-week P y s i k roster.long (omega (arith, lt)) less)
     ∙ sum_by_number (λ x. weight_at y (1 + k) x) (λ i. (get_or s (i * P.days + k) off_symbol).number) (shift_count P + 1) 0 P.weeks
-        (λ i le lt.
-            let j : IsDay P (k + 1) = (omega arith, omega (arith, less)) in
-            let inside : i * P.days + (k + 1 - 1) < cells P = in_column P i (k + 1) (omega (arith, lt)) j in
-            let here : i * P.days + k < length s = let e : k + 1 - 1 ≡ k = omega arith in omega (arith, roster.long, inside, e) in
-            let small : (get_or s (i * P.days + k) off_symbol).number ≤ shift_count P = roster.symbols (i * P.days + k) off_symbol here in
-            omega (arith, small))
+    (λ i le lt.
+    let j : IsDay P (k + 1) = (omega arith, omega (arith, less)) in
+    let inside : i * P.days + (k + 1 - 1) < cells P = in_column P i (k + 1) (omega (arith, lt)) j in
+    let here : i * P.days + k < length s = let e : k + 1 - 1 ≡ k = omega arith in omega (arith, roster.long, inside, e) in
+    let small : (get_or s (i * P.days + k) off_symbol).number ≤ shift_count P = roster.symbols (i * P.days + k) off_symbol here in
+    omega (arith, small))
     ∙ ap (λ b. int_sum_by (λ x. weight_at y (1 + k) x *ℤ pos (count_by (λ i. (get_or s (i * P.days + b) off_symbol).number == x) (range_with_len 0 P.weeks))) (range_with_len 0 (shift_count P + 1))) back
 
 -- a turn weighs what its days weigh
@@ -111,7 +111,7 @@ pub days_weigh_enough : (P : Instance) (y : List Weight) (s : List Symbol) → D
 days_weigh_enough P y s met =
     sum_le (λ j. int_sum_by (λ x. least_weight P y j x) (range_with_len 0 (shift_count P + 1))) (day_weight P y s) 1 P.days
     (λ j le lt. sum_le (λ x. least_weight P y j x) (λ x. weeks_weight P y s j x) 0 (shift_count P + 1)
-        (λ x low high. weeks_weigh_enough P y s j x met (omega (arith, le), omega (arith, lt)) (omega (arith, high)) (weighs_or_not (weight_at y j x))))
+    (λ x low high. weeks_weigh_enough P y s j x met (omega (arith, le), omega (arith, lt)) (omega (arith, high)) (weighs_or_not (weight_at y j x))))
 
 -- where the day rules are met that the weights bear on, a window of whole turns weighs at least so many times the total
 pub window_weighs_enough : (P : Instance) (y : List Weight) (s : List Symbol) (p turns : ℕ) → IsRoster P s → DaysAreMet P y s → (pos turns *ℤ total P y) ≤ℤ weight P y p (window s p (turns * cells P))
@@ -138,5 +138,5 @@ pub window_weighs_exactly : (P : Instance) (y : List Weight) (s : List Symbol) (
 window_weighs_exactly P y s p turns roster met single =
     turns_weight P y s p turns roster
     ∙ ap (λ z. pos turns *ℤ z) (sym (sum_same (λ j. int_sum_by (λ x. least_weight P y j x) (range_with_len 0 (shift_count P + 1))) (day_weight P y s) 1 P.days
-        (λ j le lt. sum_same (λ x. least_weight P y j x) (λ x. weeks_weight P y s j x) 0 (shift_count P + 1)
-            (λ x low high. weeks_weigh_exactly P y s j x met single (omega (arith, le), omega (arith, lt)) (omega (arith, high)) (weighs_or_not (weight_at y j x))))))
+    (λ j le lt. sum_same (λ x. least_weight P y j x) (λ x. weeks_weight P y s j x) 0 (shift_count P + 1)
+    (λ x low high. weeks_weigh_exactly P y s j x met single (omega (arith, le), omega (arith, lt)) (omega (arith, high)) (weighs_or_not (weight_at y j x))))))

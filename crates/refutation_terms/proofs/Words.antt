@@ -1,7 +1,7 @@
 -- Going through all words over domains.
-use Rattle.std.proofs.Common.{◌≡◌, ◌≢◌, ◌⊎◌, ℕ, zero, suc, ◌+◌, ◌-◌, ◌*◌, ◌%◌, ◌<◌, ◌≤◌, List, [], ◌∷◌, ◌++◌, length, take, get_or, refl, ap, sym, ◌∙◌, subst, append_assoc, arith, length-append, inl, inr, Bool, true, false, IsTrue, ◌&&◌, ◌||◌, ◌==◌, not, Option, Some, None, pos, ℤ}
-use Rattle.std.specs.Prelude.{Contains, ◌*ℤ◌, ◌<ℤ◌, slice_get}
-use Rattle.std.specs.List.{range_with_len, list_all, list_any}
+use Rattle.std.proofs.Common.{◌≡◌, ◌⊎◌, ℕ, zero, suc, ◌+◌, ◌*◌, ◌%◌, ◌<◌, ◌≤◌, List, [], ◌∷◌, ◌++◌, length, get_or, refl, ap, sym, ◌∙◌, subst, append_assoc, arith, inl, inr, Bool, true, false, IsTrue, ◌||◌, not, Option, Some, None, pos}
+use Rattle.std.specs.Prelude.{◌*ℤ◌}
+use Rattle.std.specs.List.{range_with_len, list_all}
 use Rattle.std.specs.Int.Signed.{lt_z, lt_z_yes}
 use Rattle.std.proofs.lemmas.Float.{T_from_true}
 use Rattle.std.proofs.lemmas.List.{append-nil}
@@ -13,7 +13,6 @@ use Rattle.rwsp_terms.specs.Window.{Bad}
 use Rattle.rwsp_terms.specs.Rules.{Names, rule_of}
 use Rattle.refutation_terms.specs.Word.{Domains, Over, Clean, weight, total}
 use Rattle.refutation_terms.specs.Leaf.{IsBlocked, IsDead, IsTooLight}
-use Rattle.refutation_terms.proofs.Tests.{both, left_of, right_of, not_passed, failed_by_not, either}
 use Rattle.refutation_terms.proofs.Counts.{all_in_range}
 use Rattle.refutation_terms.proofs.Decide.{is_bad, is_bad-true, is_bad-from}
 
@@ -56,8 +55,8 @@ bad_for_some-true : (P : Instance) (R : List ℕ) (u : List Symbol) → bad_for_
 bad_for_some-true P [] u h = absurd (cc)
 bad_for_some-true P (k ∷ R) u h =
     elim (or_cases (bad_for P (rule_of P k) u) (bad_for_some P R u) h) [
-      inl e ↦ (let b = bad_for-true P (rule_of P k) u e in (b.0, (k, (0, omega arith, refl), b.1), b.2))
-    | inr e ↦ (let b = bad_for_some-true P R u e in (b.0, more_names P k R b.0 b.1, b.2))
+      | inl e ↦ (let b = bad_for-true P (rule_of P k) u e in (b.0, (k, (0, omega arith, refl), b.1), b.2))
+      | inr e ↦ (let b = bad_for_some-true P R u e in (b.0, more_names P k R b.0 b.1, b.2))
     ]
 
 bad_for-from : (P : Instance) (o : Option Rule) (u : List Symbol) (r : Rule) → P.pairs ≡ [] → P.triples ≡ [] → o ≡ Some r → Bad P r u → bad_for P o u ≡ true
@@ -80,8 +79,8 @@ has_bad_end-true : (P : Instance) (R : List ℕ) (u : List Symbol) → has_bad_e
 has_bad_end-true P R [] h = ([], [], refl, bad_for_some-true P R [] h)
 has_bad_end-true P R (x ∷ u) h =
     elim (or_cases (bad_for_some P R (x ∷ u)) (has_bad_end P R u) h) [
-      inl e ↦ ([], x ∷ u, refl, bad_for_some-true P R (x ∷ u) e)
-    | inr e ↦ (let b = has_bad_end-true P R u e in (x ∷ b.0, b.1, ap (λ w. x ∷ w) b.2, b.3))
+      | inl e ↦ ([], x ∷ u, refl, bad_for_some-true P R (x ∷ u) e)
+      | inr e ↦ (let b = has_bad_end-true P R u e in (x ∷ b.0, b.1, ap (λ w. x ∷ w) b.2, b.3))
     ]
 
 -- a clean word has no front with a bad end

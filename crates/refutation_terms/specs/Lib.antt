@@ -8,3 +8,4 @@ pub mod Strip
 pub mod LogText
 pub mod Verdict
 pub mod Laws
+pub mod Examples

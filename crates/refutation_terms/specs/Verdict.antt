@@ -1,5 +1,5 @@
 -- The verdict on a text: that it is a log that passes, or its first line with a cause to refuse it.
-use Rattle.std.specs.Prelude.{◌≡◌, ◌≢◌, ◌⊎◌, ℕ, ◌+◌, ◌*◌, ◌<◌, ◌≤◌, List, [], ◌∷◌, ◌++◌, length, slice_get, take, All, Contains, Bool, true, false, Option, Some, None, Result, Ok, Err, pos, ◌*ℤ◌, ◌<ℤ◌, ◌≤ℤ◌}
+use Rattle.std.specs.Prelude.{◌≡◌, ◌≢◌, ◌⊎◌, ℕ, ◌+◌, ◌*◌, ◌<◌, ◌≤◌, List, [], ◌∷◌, ◌++◌, length, slice_get, take, All, Contains, Bool, true, Option, Some, None, Result, Ok, Err, pos, ◌*ℤ◌, ◌<ℤ◌, ◌≤ℤ◌}
 use Rattle.rwsp_terms.specs.declared.data.Symbol.{Symbol}
 use Rattle.rwsp_terms.specs.declared.data.Rule.{Rule}
 use Rattle.rwsp_terms.specs.declared.data.Rule.TheVariants as TheRules

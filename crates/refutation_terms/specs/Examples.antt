@@ -1,0 +1,92 @@
+-- Small problems with one shift D, and logs for them: some that pass and some that don't.
+use Rattle.std.specs.Prelude.{ℕ, List, [], ◌∷◌, ◌++◌, Some, None, pos, codes}
+use Rattle.std.specs.List.{flat_map}
+use Rattle.rwsp_terms.specs.declared.data.Symbol.{Symbol}
+use Rattle.rwsp_terms.specs.declared.data.Bounds.{Bounds}
+use Rattle.rwsp_terms.specs.declared.data.Weight.{Weight}
+use Rattle.rwsp_terms.specs.Instance.{Instance}
+use Rattle.refutation_terms.specs.declared.lines.Line.{Line}
+use Rattle.refutation_terms.specs.declared.lines.Line.TheVariants.{Split, Window, Dead, Bound, Unfinished}
+use Rattle.refutation_terms.specs.Log.{Log}
+
+abbrev pub from_to : ℕ → ℕ → Bounds
+from_to a b = record { least = a; greatest = b }
+
+-- days, weeks, the demand of D day by day, and the bounds of the blocks of D, of days off and of work
+abbrev pub one_shift : ℕ → ℕ → List Bounds → Bounds → Bounds → Bounds → Instance
+one_shift days weeks demand block off work = record {
+  days = days;
+  weeks = weeks;
+  demand = demand ∷ [];
+  shifts = record { name = codes "D"; start = 360; length = 480; bounds = block } ∷ [];
+  off = off;
+  work = work;
+  pairs = [];
+  triples = [];
+}
+
+-- rules 1 and 2 bound the blocks of D, 3 and 4 the days off, 5 and 6 the work; the days follow from 7 on
+abbrev pub shift_D : Symbol
+shift_D = record { number = 1 }
+
+abbrev pub weighs : ℕ → Weight
+weighs day = record { day = day; symbol = shift_D; value = pos 1 }
+
+-- the lines of a text
+abbrev pub text : List (List ℕ) → List ℕ
+text lines = flat_map (λ line. line ++ 10 ∷ []) lines
+
+-- D on both days of the only week, but never on two days in a row
+abbrev pub two_in_a_row : Instance
+two_in_a_row = one_shift 2 1 (from_to 1 1 ∷ from_to 1 1 ∷ []) (from_to 1 1) (from_to 1 1) (from_to 1 1)
+
+abbrev pub two_in_a_row_log : Log
+two_in_a_row_log = record { named = 1 ∷ 7 ∷ 8 ∷ []; turn = None; lines = Bound 0 1 (1 ∷ []) (weighs 1 ∷ weighs 2 ∷ []) ∷ [] }
+
+abbrev pub two_in_a_row_text : List ℕ
+two_in_a_row_text = text (codes "rwsp-log 1" ∷ codes "rules 1 7 8" ∷ codes "bound 1 1 1 rules 1 weights 1 D 1 2 D 1" ∷ [])
+
+-- two D in four cells, each alone between two days off
+abbrev pub two_of_four : Instance
+two_of_four = one_shift 1 4 (from_to 2 2 ∷ []) (from_to 1 1) (from_to 2 2) (from_to 1 4)
+
+-- a bound over so many turns, under a header
+abbrev pub two_of_four_log : List ℕ → ℕ → Log
+two_of_four_log named turns = record { named = named; turn = None; lines = Bound 0 turns (1 ∷ 3 ∷ 4 ∷ []) (weighs 1 ∷ []) ∷ [] }
+
+abbrev pub two_of_four_text : List ℕ
+two_of_four_text = text (codes "rwsp-log 1" ∷ codes "rules 1 3 4 7" ∷ codes "bound 1 1 2 rules 1 3 4 weights 1 D 1" ∷ [])
+
+-- three D in six cells, in blocks of two
+abbrev pub three_of_six : Instance
+three_of_six = one_shift 1 6 (from_to 3 3 ∷ []) (from_to 2 2) (from_to 2 2) (from_to 2 2)
+
+abbrev pub blocks_dead : Line
+blocks_dead = Dead 0 7 (1 ∷ 2 ∷ 3 ∷ 4 ∷ [])
+
+abbrev pub split_log : Log
+split_log = record { named = 1 ∷ 2 ∷ 3 ∷ 4 ∷ []; turn = None; lines = Split 0 shift_D ∷ blocks_dead ∷ blocks_dead ∷ [] }
+
+abbrev pub split_text : List ℕ
+split_text = text (codes "rwsp-log 1" ∷ codes "rules 1 2 3 4" ∷ codes "split 1 1 D" ∷ codes "dead 1 1 7 rules 1 2 3 4" ∷ codes "dead 1 1 7 rules 1 2 3 4" ∷ [])
+
+-- the same with a turn in place of the split
+abbrev pub turn_log : Log
+turn_log = record { named = 1 ∷ 2 ∷ 3 ∷ 4 ∷ 7 ∷ []; turn = Some (record { day = 1; x = shift_D }); lines = blocks_dead ∷ [] }
+
+abbrev pub turn_text : List ℕ
+turn_text = text (codes "rwsp-log 2" ∷ codes "rules 1 2 3 4 7" ∷ codes "turn D 1" ∷ codes "dead 1 1 7 rules 1 2 3 4" ∷ [])
+
+-- the same, not worked out
+abbrev pub open_log : Log
+open_log = record { named = []; turn = None; lines = Split 0 shift_D ∷ Unfinished ∷ Unfinished ∷ [] }
+
+-- one cell, whose run has no end
+abbrev pub one_cell : Instance
+one_cell = one_shift 1 1 (from_to 1 1 ∷ []) (from_to 1 7) (from_to 1 1) (from_to 1 7)
+
+abbrev pub one_cell_log : Log
+one_cell_log = record { named = 3 ∷ 5 ∷ []; turn = None; lines = Split 0 shift_D ∷ Window 5 0 8 ∷ Window 3 0 2 ∷ [] }
+
+abbrev pub one_cell_text : List ℕ
+one_cell_text = text (codes "rwsp-log 1" ∷ codes "rules 3 5" ∷ codes "split 1 1 D" ∷ codes "window 5 1 1 8" ∷ codes "window 3 1 1 2" ∷ [])

@@ -1,0 +1,42 @@
+// The definitions tried on small problems. Each function's contract says that a log passes or doesn't, or what its text is.
+ghost use Rattle.std.specs.Prelude.{◌≡◌, ℕ, List, [], ◌∷◌};
+ghost use Rattle.refutation_terms.specs.Log.{Passes};
+ghost use Rattle.refutation_terms.specs.LogText.{log_text};
+ghost use Rattle.refutation_terms.specs.Examples.{two_in_a_row, two_in_a_row_log, two_in_a_row_text, two_of_four, two_of_four_log, two_of_four_text, three_of_six, split_log, split_text, turn_log, turn_text, open_log, one_cell, one_cell_log, one_cell_text};
+
+/// A bound over one turn: at most one of two days holds the shift that both demand.
+pub fn a_bound_passes()
+    ensures passes { Passes two_in_a_row two_in_a_row_log }
+    ensures text { log_text two_in_a_row two_in_a_row_log ≡ two_in_a_row_text }
+{}
+
+/// A bound over two turns passes where one over a single turn doesn't, since there the heaviest word weighs the total.
+pub fn two_turns_are_needed()
+    ensures two { Passes two_of_four (two_of_four_log (1 ∷ 3 ∷ 4 ∷ 7 ∷ []) 2) }
+    ensures one { (named : List ℕ) → Passes two_of_four (two_of_four_log named 1) → ⊥ }
+    ensures text { log_text two_of_four (two_of_four_log (1 ∷ 3 ∷ 4 ∷ 7 ∷ []) 2) ≡ two_of_four_text }
+{}
+
+/// A bound that weighs a day doesn't pass under a header that leaves out the day's rule.
+pub fn days_are_named()
+    ensures { (turns : ℕ) → Passes two_of_four (two_of_four_log (1 ∷ 3 ∷ 4 ∷ []) turns) → ⊥ }
+{}
+
+/// A split with two dead sides passes, and so does one dead leaf behind a turn.
+pub fn a_split_and_a_turn_pass()
+    ensures split { Passes three_of_six split_log }
+    ensures split_text { log_text three_of_six split_log ≡ split_text }
+    ensures turn { Passes three_of_six turn_log }
+    ensures turn_text { log_text three_of_six turn_log ≡ turn_text }
+{}
+
+/// A log that isn't worked out doesn't pass.
+pub fn open_sides_fail()
+    ensures { Passes three_of_six open_log → ⊥ }
+{}
+
+/// On a cycle of one cell the runs have no end, and both sides of a split are blocked.
+pub fn one_cell_passes()
+    ensures passes { Passes one_cell one_cell_log }
+    ensures text { log_text one_cell one_cell_log ≡ one_cell_text }
+{}
