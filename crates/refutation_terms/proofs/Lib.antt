@@ -10,6 +10,7 @@ pub mod Turning
 pub mod Named
 pub mod Sound
 pub mod AsSaid
+pub mod InWords
 pub mod NeverEmpty
 pub mod Turned
 pub mod Spent

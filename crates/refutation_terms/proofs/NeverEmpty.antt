@@ -14,43 +14,12 @@ use Rattle.refutation_terms.specs.Tree.{Tree, Leaf, Node, lines_in, Side, First,
 use Rattle.refutation_terms.specs.Log.{TurnFits}
 use Rattle.refutation_terms.specs.Laws.{DomainsAreNeverEmpty}
 use Rattle.refutation_terms.proofs.Tests.{both, left_of, where_passed, not_passed, either}
+use Rattle.refutation_terms.proofs.InWords.{there, another}
 use Rattle.refutation_terms.proofs.Trees.{less_or_not}
 use Rattle.refutation_terms.proofs.TreeDomains.{behind, behind_none, behind_first, behind_second, got_left, got_right}
 
 abbrev HasSome : Domains → Type 0
 HasSome D = (p : ℕ) → (z : ℕ) × IsTrue (D p z)
-
-left_fails_or : (a b : Bool) → (a && b) ≡ false → a ≡ true → b ≡ false
-left_fails_or true b h e = h
-left_fails_or false b h e = absurd (cc)
-
--- a test that fails over a list fails at some element
-fails_by : (test : ℕ → Bool) (x : ℕ) (xs : List ℕ) → (list_all test xs ≡ false → (z : ℕ) × (test z ≡ false)) → list_all test (x ∷ xs) ≡ false → (test x ≡ true) ⊎ (test x ≡ false) → (z : ℕ) × (test z ≡ false)
-fails_by test x xs more h (inl e) = more (left_fails_or (test x) (list_all test xs) h e)
-fails_by test x xs more h (inr e) = (x, e)
-
-fails_at : (test : ℕ → Bool) (xs : List ℕ) → list_all test xs ≡ false → (z : ℕ) × (test z ≡ false)
-fails_at test [] e = absurd (cc)
-fails_at test (x ∷ xs) e = fails_by test x xs (λ h. fails_at test xs h) e (either (test x))
-
-both_fail : (a b : Bool) → (a || b) ≡ false → (a ≡ false) × (b ≡ false)
-both_fail true b h = absurd (cc)
-both_fail false b h = (refl, h)
-
-failed_not : (a : Bool) → not a ≡ false → IsTrue a
-failed_not true h = refl
-failed_not false h = absurd (cc)
-
--- the symbol of a split that isn't idle is in the domain, with another beside it
-there : (P : Instance) (D : Domains) (p x : ℕ) → is_idle P D p x ≡ false → IsTrue (D p x)
-there P D p x h = failed_not (D p x) (both_fail (not (D p x)) (is_only P D p x) h).0
-
-another : (P : Instance) (D : Domains) (p x : ℕ) → is_idle P D p x ≡ false → (z : ℕ) × IsTrue (D p z) × ((z == x) ≡ false)
-another P D p x h =
-    let only : is_only P D p x ≡ false = (both_fail (not (D p x)) (is_only P D p x) h).1 in
-    let some = fails_at (λ z. (z == x) || not (D p z)) (range_with_len 0 (shift_count P + 1)) (left_fails_or (D p x) (list_all (λ z. (z == x) || not (D p z)) (range_with_len 0 (shift_count P + 1))) only (there P D p x h)) in
-    let parts = both_fail (some.0 == x) (not (D p some.0)) some.1 in
-    (some.0, failed_not (D p some.0) parts.1, parts.0)
 
 side_has_some : (D : Domains) (p : ℕ) (x : Symbol) (a : Side) (z : ℕ) → HasSome D → IsTrue (D p z) → IsTrue (side_takes a (z == x.number)) → HasSome (narrowed D (Split p x) a)
 side_has_some D p x a z some inside takes q = side_by q (either (p == q))
@@ -89,7 +58,7 @@ has_some_at P (Node p x a b) D (suc k) some lt h =
     let split : is_idle P D p x.number ≡ false = subst (λ E. is_idle P E p x.number ≡ false) (behind_none D) (h 0 p x (omega arith) refl) in
     let first : HasSome (narrowed D (Split p x) First) = side_has_some D p x First x.number some (there P D p x.number split) (eq-eqb x.number x.number refl) in
     let other = another P D p x.number split in
-    let second : HasSome (narrowed D (Split p x) Second) = side_has_some D p x Second other.0 some other.1 (not_passed (other.0 == x.number) other.2) in
+    let second : HasSome (narrowed D (Split p x) Second) = side_has_some D p x Second other.0 some other.3 (not_passed (other.0 == x.number) other.2) in
     in_sides P p x a b D k lt h
     (λ less. has_some_at P a (narrowed D (Split p x) First) k first less)
     (λ m less. has_some_at P b (narrowed D (Split p x) Second) m second less)

@@ -1,5 +1,5 @@
 -- Laws of the definitions, as the contracts of src/laws.rt state them.
-use Rattle.std.specs.Prelude.{◌≡◌, ◌≢◌, ◌⊎◌, ◌↔◌, ℕ, ◌-◌, ◌*◌, ◌<◌, ◌≤◌, List, [], ◌∷◌, ◌++◌, take, length, slice_get, slice_index_or, Option, Some, IsTrue, false, Contains, pos, ◌*ℤ◌, ◌≤ℤ◌}
+use Rattle.std.specs.Prelude.{◌≡◌, ◌≢◌, ◌⊎◌, ◌↔◌, ℕ, ◌-◌, ◌+◌, ◌%◌, ◌*◌, ◌<◌, ◌≤◌, EachIndex, List, [], ◌∷◌, ◌++◌, take, length, slice_get, slice_index_or, Option, Some, IsTrue, false, Contains, pos, ◌*ℤ◌, ◌≤ℤ◌}
 use Rattle.rwsp_terms.specs.declared.data.Symbol.{Symbol}
 use Rattle.rwsp_terms.specs.declared.data.Weight.{Weight}
 use Rattle.rwsp_terms.specs.declared.data.Rule.{Rule}
@@ -35,6 +35,14 @@ SidesAreAsSaid = (between : List Line) → ((side between ≡ First) ↔ InFirst
 -- the domains at a line give a position the symbols of its opening domain that equal x for each split `p x` in whose first side the line is, and differ from x for each in whose second side it is
 abbrev pub DomainsAreAsSaid : Type 0
 DomainsAreAsSaid = (P : Instance) (turn : Option Turn) (lines : List Line) (k p z : ℕ) → IsTrue (domains_at P turn lines k p z) ↔ (IsTrue (opening P turn p z) × ((before between : List Line) (x : Symbol) → take k lines ≡ before ++ Split p x ∷ between → (InFirst between → z ≡ x.number) × (InSecond between → z ≢ x.number)))
+
+-- a split isn't idle where its symbol is in the domain and another symbol is too
+abbrev pub IdleIsAsSaid : Type 0
+IdleIsAsSaid = (P : Instance) (D : Domains) (p x : ℕ) → (is_idle P D p x ≡ false) ↔ (IsTrue (D p x) × ((z : ℕ) × (z ≤ shift_count P) × (z ≢ x) × IsTrue (D p z)))
+
+-- a word over domains has at each place i a symbol of the domain of (p + i) mod L
+abbrev pub OverIsAsSaid : Type 0
+OverIsAsSaid = (P : Instance) (D : Domains) (p : ℕ) (u : List Symbol) → Over P D p u ↔ EachIndex u (λ i. IsTrue (D ((p + i) % cells P) (slice_index_or u i off_symbol).number))
 
 -- no domain at a line is empty where no earlier split is idle
 abbrev pub DomainsAreNeverEmpty : Type 0

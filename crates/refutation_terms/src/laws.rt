@@ -1,5 +1,5 @@
 // Laws of the definitions. Each function's contract is the law, and specs/Laws.antt states it.
-ghost use Rattle.refutation_terms.specs.Laws.{TreesAreAsSaid, WalksReadTrees, SidesAreAsSaid, DomainsAreAsSaid, DomainsAreNeverEmpty, WindowsAreOver, SidesTakeAll, SidesShareNone, WindowsAreClean, PartsAreClean, FewerRulesAreClean, WindowsWeighEnough, WindowsWeighExactly, TurningKeepsRules, TurningKeepsLists, SomeTurnHasIt, PassingLeavesNoRoster, PassingIsNotSpent};
+ghost use Rattle.refutation_terms.specs.Laws.{TreesAreAsSaid, WalksReadTrees, SidesAreAsSaid, DomainsAreAsSaid, IdleIsAsSaid, OverIsAsSaid, DomainsAreNeverEmpty, WindowsAreOver, SidesTakeAll, SidesShareNone, WindowsAreClean, PartsAreClean, FewerRulesAreClean, WindowsWeighEnough, WindowsWeighExactly, TurningKeepsRules, TurningKeepsLists, SomeTurnHasIt, PassingLeavesNoRoster, PassingIsNotSpent};
 
 /// A log that passes, with or without a turn, and a roster that meets the rules that it names exclude each other.
 pub fn passing_leaves_no_roster()
@@ -64,4 +64,14 @@ pub fn trees_are_as_said()
 pub fn domains_are_as_said()
     ensures sides { SidesAreAsSaid }
     ensures domains { DomainsAreAsSaid }
+{}
+
+/// A split isn't idle where its symbol is in the domain beside another.
+pub fn idle_is_as_said()
+    ensures { IdleIsAsSaid }
+{}
+
+/// A word over domains from a position has at each place a symbol of the domain there, round the cycle.
+pub fn over_is_as_said()
+    ensures { OverIsAsSaid }
 {}
