@@ -5,25 +5,25 @@ use Rattle.std.proofs.lemmas.Fmt.{decimal_digit}
 use Rattle.refutation_terms.specs.LogText.{log_text}
 use Rattle.refutation_terms.specs.Examples.{two_in_a_row, two_in_a_row_log, two_in_a_row_text, two_of_four, two_of_four_log, two_of_four_text, three_of_six, split_log, split_text, turn_log, turn_text, one_cell, one_cell_log, one_cell_text}
 
-d1 : decimal 1 ≡ 49 ∷ []
+pub d1 : decimal 1 ≡ 49 ∷ []
 d1 = decimal_digit 1 (lit< tt)
 
-d2 : decimal 2 ≡ 50 ∷ []
+pub d2 : decimal 2 ≡ 50 ∷ []
 d2 = decimal_digit 2 (lit< tt)
 
-d3 : decimal 3 ≡ 51 ∷ []
+pub d3 : decimal 3 ≡ 51 ∷ []
 d3 = decimal_digit 3 (lit< tt)
 
-d4 : decimal 4 ≡ 52 ∷ []
+pub d4 : decimal 4 ≡ 52 ∷ []
 d4 = decimal_digit 4 (lit< tt)
 
-d5 : decimal 5 ≡ 53 ∷ []
+pub d5 : decimal 5 ≡ 53 ∷ []
 d5 = decimal_digit 5 (lit< tt)
 
-d7 : decimal 7 ≡ 55 ∷ []
+pub d7 : decimal 7 ≡ 55 ∷ []
 d7 = decimal_digit 7 (lit< tt)
 
-d8 : decimal 8 ≡ 56 ∷ []
+pub d8 : decimal 8 ≡ 56 ∷ []
 d8 = decimal_digit 8 (lit< tt)
 
 pub two_in_a_row_written : log_text two_in_a_row two_in_a_row_log ≡ two_in_a_row_text

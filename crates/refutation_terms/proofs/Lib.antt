@@ -19,3 +19,4 @@ pub mod Words
 pub mod Lists
 pub mod ExampleLogs
 pub mod ExampleTexts
+pub mod ExampleVerdicts

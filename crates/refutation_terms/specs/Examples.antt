@@ -90,3 +90,33 @@ one_cell_log = record { named = 3 ∷ 5 ∷ []; turn = None; lines = Split 0 shi
 
 abbrev pub one_cell_text : List ℕ
 one_cell_text = text (codes "rwsp-log 1" ∷ codes "rules 3 5" ∷ codes "split 1 1 D" ∷ codes "window 5 1 1 8" ∷ codes "window 3 1 1 2" ∷ [])
+
+-- texts that are refused: a bound over one turn, sides that weren't worked out, a tree that is cut, a line behind a tree, a split that is idle, a turn whose day isn't named
+abbrev pub one_turn_text : List ℕ
+one_turn_text = text (codes "rwsp-log 1" ∷ codes "rules 1 3 4 7" ∷ codes "bound 1 1 1 rules 1 3 4 weights 1 D 1" ∷ [])
+
+abbrev pub open_text : List ℕ
+open_text = text (codes "rwsp-log 1" ∷ codes "rules" ∷ codes "split 1 1 D" ∷ codes "open" ∷ codes "open" ∷ [])
+
+abbrev pub cut_text : List ℕ
+cut_text = text (codes "rwsp-log 1" ∷ codes "rules 1 2 3 4" ∷ codes "split 1 1 D" ∷ codes "dead 1 1 7 rules 1 2 3 4" ∷ [])
+
+abbrev pub extra_text : List ℕ
+extra_text = split_text ++ text (codes "open" ∷ [])
+
+abbrev pub idle_text : List ℕ
+idle_text = text (codes "rwsp-log 1" ∷ codes "rules 1" ∷ codes "split 1 1 D" ∷ codes "split 1 1 D" ∷ [])
+
+abbrev pub unnamed_turn_text : List ℕ
+unnamed_turn_text = text (codes "rwsp-log 2" ∷ codes "rules 1 2 3 4" ∷ codes "turn D 1" ∷ codes "dead 1 1 7 rules 1 2 3 4" ∷ [])
+
+-- no D is demanded, so a turn to D isn't allowed
+abbrev pub none_demanded : Instance
+none_demanded = one_shift 2 1 (from_to 0 0 ∷ from_to 0 0 ∷ []) (from_to 1 1) (from_to 1 1) (from_to 1 1)
+
+abbrev pub none_demanded_text : List ℕ
+none_demanded_text = text (codes "rwsp-log 2" ∷ codes "rules 7" ∷ codes "turn D 1" ∷ codes "open" ∷ [])
+
+-- the heaviest word of one turn
+abbrev pub heavy_word : List Symbol
+heavy_word = shift_D ∷ record { number = 0 } ∷ record { number = 0 } ∷ shift_D ∷ []

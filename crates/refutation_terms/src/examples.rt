@@ -1,8 +1,11 @@
 // The definitions tried on small problems. Each function's contract says that a log passes or doesn't, or what its text is.
-ghost use Rattle.std.specs.Prelude.{◌≡◌, ℕ, List, [], ◌∷◌};
+ghost use Rattle.std.specs.Prelude.{◌≡◌, ℕ, List, [], ◌∷◌, Ok, Err};
 ghost use Rattle.refutation_terms.specs.Log.{Passes};
 ghost use Rattle.refutation_terms.specs.LogText.{log_text};
-ghost use Rattle.refutation_terms.specs.Examples.{two_in_a_row, two_in_a_row_log, two_in_a_row_text, two_of_four, two_of_four_log, two_of_four_text, three_of_six, split_log, split_text, turn_log, turn_text, open_log, one_cell, one_cell_log, one_cell_text};
+ghost use Rattle.refutation_terms.specs.Verdict.{IsVerdict};
+ghost use Rattle.refutation_terms.specs.Examples.{two_in_a_row, two_in_a_row_log, two_in_a_row_text, two_of_four, two_of_four_log, two_of_four_text, three_of_six, split_log, split_text, turn_log, turn_text, open_log, one_cell, one_cell_log, one_cell_text, one_turn_text, open_text, cut_text, extra_text, idle_text, unnamed_turn_text, none_demanded, none_demanded_text, heavy_word};
+
+use crate::LogRefusal;
 
 /// A bound over one turn: at most one of two days holds the shift that both demand.
 pub fn a_bound_passes()
@@ -39,4 +42,25 @@ pub fn open_sides_fail()
 pub fn one_cell_passes()
     ensures passes { Passes one_cell one_cell_log }
     ensures text { log_text one_cell one_cell_log ≡ one_cell_text }
+{}
+
+/// The verdict accepts the text of a log that passes.
+pub fn a_log_is_accepted()
+    ensures { IsVerdict three_of_six split_text (Ok split_log) }
+{}
+
+/// The verdict names the line and the cause: a word that weighs the total, a side that wasn't worked out, a tree that
+/// is cut, a line behind the tree, a split that is idle.
+pub fn logs_are_refused()
+    ensures escape { IsVerdict two_of_four one_turn_text (Err (LogRefusal.Escape 3 heavy_word)) }
+    ensures unfinished { IsVerdict three_of_six open_text (Err (LogRefusal.Unfinished 4)) }
+    ensures ends { IsVerdict three_of_six cut_text (Err LogRefusal.Ends) }
+    ensures extra { IsVerdict three_of_six extra_text (Err (LogRefusal.Extra 6)) }
+    ensures idle { IsVerdict three_of_six idle_text (Err (LogRefusal.Idle 4)) }
+{}
+
+/// A turn is refused where its day isn't named, or where its symbol isn't demanded.
+pub fn turns_are_refused()
+    ensures unnamed { IsVerdict three_of_six unnamed_turn_text (Err (LogRefusal.Unnamed 3 7)) }
+    ensures undemanded { IsVerdict none_demanded none_demanded_text (Err (LogRefusal.Turn 3)) }
 {}
