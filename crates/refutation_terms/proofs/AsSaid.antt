@@ -4,10 +4,10 @@ use Rattle.std.proofs.lemmas.Bool.{eqb-true, eq-eqb, eqb-false, ne_eqb}
 use Rattle.rwsp_terms.specs.declared.data.Symbol.{Symbol}
 use Rattle.refutation_terms.specs.declared.lines.Line.{Line}
 use Rattle.refutation_terms.specs.declared.lines.Line.TheVariants.{Split, Window, Day, Dead, Bound, Unfinished}
-use Rattle.refutation_terms.specs.Tree.{Tree, Leaf, Node, lines_in, IsTree, after_trees, Side, First, Second, Neither, side, side_past_split, side_past_first, InFirst, InSecond, side_takes, line_leaves, lines_leave, opening}
+use Rattle.refutation_terms.specs.Tree.{Tree, Leaf, Node, lines_in, IsTree, after_trees, Side, First, Second, Neither, side, side_of, InFirst, InSecond, side_takes, line_leaves, lines_leave, opening}
 use Rattle.refutation_terms.specs.Laws.{IsOneLeaf, IsSplitWithTrees, TreesAreAsSaid, WalksReadTrees, SidesAreAsSaid, DomainsAreAsSaid}
 use Rattle.refutation_terms.proofs.Tests.{both, left_of, right_of, where_passed, passed_there, not_passed, failed_by_not}
-use Rattle.refutation_terms.proofs.Trees.{tree_is_read, tree_is_whole, whole_is_tree, one_in_front}
+use Rattle.refutation_terms.proofs.Trees.{tree_is_read, tree_is_whole, whole_is_tree, one_in_front, two_in_front}
 use Rattle.refutation_terms.proofs.TreeDomains.{in_first, in_second}
 
 tree_as_said : (t : Tree) (lines : List Line) → lines_in t ≡ lines → IsOneLeaf lines ⊎ IsSplitWithTrees lines
@@ -46,27 +46,21 @@ no_tree_read between h (Some rest) e =
 pub none_read : (between : List Line) → InFirst between → after_trees 1 between ≡ None
 none_read between h = no_tree_read between h (after_trees 1 between) refl
 
-first_by : (o : Option (List Line)) → side_past_split o ≡ First → o ≡ None
-first_by None e = refl
-first_by (Some rest) e = first_by_rest (after_trees 1 rest) e
-  where
-    first_by_rest : (o : Option (List Line)) → side_past_first o ≡ First → Some rest ≡ None
-    first_by_rest None e = absurd (cc)
-    first_by_rest (Some left) e = absurd (cc)
+first_by : (one two : Option (List Line)) → side_of one two ≡ First → one ≡ None
+first_by None two e = refl
+first_by (Some rest) None e = absurd (cc)
+first_by (Some rest) (Some left) e = absurd (cc)
 
-second_by : (o : Option (List Line)) → side_past_split o ≡ Second → (rest : List Line) × (o ≡ Some rest) × (after_trees 1 rest ≡ None)
-second_by None e = absurd (cc)
-second_by (Some rest) e = (rest, refl, second_by_rest (after_trees 1 rest) e)
-  where
-    second_by_rest : (o : Option (List Line)) → side_past_first o ≡ Second → o ≡ None
-    second_by_rest None e = refl
-    second_by_rest (Some left) e = absurd (cc)
+second_by : (one two : Option (List Line)) → side_of one two ≡ Second → (rest : List Line) × (one ≡ Some rest) × (two ≡ None)
+second_by None two e = absurd (cc)
+second_by (Some rest) None e = (rest, refl, refl)
+second_by (Some rest) (Some left) e = absurd (cc)
 
 second_in_words : (between : List Line) → side between ≡ Second → InSecond between
 second_in_words between e =
-    let h = second_by (after_trees 1 between) e in
+    let h = second_by (after_trees 1 between) (after_trees 2 between) e in
     let f = one_in_front between h.0 h.1 in
-    (lines_in f.0, h.0, f.1, (f.0, refl), none_in_front h.0 h.2)
+    (lines_in f.0, h.0, f.1, (f.0, refl), none_in_front h.0 (sym (two_in_front between h.0 h.1) ∙ h.2))
 
 second_from_words : (between : List Line) → InSecond between → side between ≡ Second
 second_from_words between h =
@@ -74,7 +68,7 @@ second_from_words between h =
 
 pub sides_as_said : SidesAreAsSaid
 sides_as_said between = (
-  (λ e. none_in_front between (first_by (after_trees 1 between) e), λ h. in_first between (none_read between h)),
+  (λ e. none_in_front between (first_by (after_trees 1 between) (after_trees 2 between) e), λ h. in_first between (none_read between h)),
   (second_in_words between, second_from_words between),
 )
 

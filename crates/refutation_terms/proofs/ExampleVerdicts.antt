@@ -142,9 +142,11 @@ split_sound R h = record {
     here : (k : ℕ) (line : Line) → slice_get (Split 0 shift_D ∷ []) k ≡ Some line → slice_get split_log.lines k ≡ Some line
     here zero line e = e
     here (suc k) line e = absurd (no_line k line e)
+
     cites_none : (k : ℕ) (line : Line) (r : Rule) → slice_get (Split 0 shift_D ∷ []) k ≡ Some line → Cites three_of_six line r → ⊥
     cites_none zero line r e c = let same : Split 0 shift_D ≡ line = cc in subst (λ l. Cites three_of_six l r) (sym same) c
     cites_none (suc k) line r e c = no_line k line e
+
     in_tree : (k : ℕ) → k < 1 → IsTree (take k (Split 0 shift_D ∷ [])) → ⊥
     in_tree zero lt t = not_tree [] refl t
     in_tree (suc k) lt t = absurd (omega (arith, lt))
@@ -170,8 +172,10 @@ idle_refused = record {
   no_cause = split_sound (1 ∷ []) (are_rules three_of_six (1 ∷ []) refl refl);
   whole = rw d1 refl;
   is_line = next_line (codes "split 1 1 D") (line_text three_of_six (RawSplit 0 (codes "D"))) [] refl (rw d1 refl);
-  cause = inr (not_tree (Split 0 shift_D ∷ []) refl,
-      (refl, (0, shift_D, (RawSplit 0 (codes "D"), record { spelled = refl; in_range = (lit< tt, D_is_name); ascends = tt }, refl), refl)));
+  cause = inr (
+    not_tree (Split 0 shift_D ∷ []) refl,
+    (refl, (0, shift_D, (RawSplit 0 (codes "D"), record { spelled = refl; in_range = (lit< tt, D_is_name); ascends = tt }, refl), refl)),
+  );
 }
 
 -- a turn to a symbol that isn't demanded
@@ -183,7 +187,7 @@ none_demanded_refused = record {
   no_cause = are_rules none_demanded (7 ∷ []) refl refl;
   whole = rw (d1, d7) refl;
   is_line = next_line (codes "turn D 1") (turn_text (codes "D") 1) (codes "open" ++ 10 ∷ []) refl (rw d1 refl);
-  cause = (refl, (codes "D", 1, shift_D, (D_is_name, (lit< tt, lit≤ tt), refl), refl, (7, (0, lit< tt, refl), refl), lt_z_yes tt));
+  cause = (refl, (1, shift_D, (codes "D", (D_is_name, (lit< tt, lit≤ tt), refl), refl), (7, (0, lit< tt, refl), refl), lt_z_yes tt));
 }
 
 -- a turn whose day isn't named
@@ -212,8 +216,15 @@ unnamed_turn_refused = record {
   no_cause = are_rules three_of_six (1 ∷ 2 ∷ 3 ∷ 4 ∷ []) refl refl;
   whole = rw (d1, d2, d3, d4) refl;
   is_line = next_line (codes "turn D 1") (turn_text (codes "D") 1) (codes "dead 1 1 7 rules 1 2 3 4" ++ 10 ∷ []) refl (rw d1 refl);
-  cause = (refl, (codes "D", 1, shift_D, (D_is_name, (lit< tt, lit≤ tt), refl), refl,
-      ((TheRules.Day 1, refl, refl, not_in_four), λ i h. no_day_before i (h.1 ∙ ap Some h.2))));
+  cause = (
+    refl,
+    (
+      1,
+      shift_D,
+      (codes "D", (D_is_name, (lit< tt, lit≤ tt), refl), refl),
+      ((TheRules.Day 1, refl, refl, not_in_four), λ i h. no_day_before i (h.1 ∙ ap Some h.2)),
+    ),
+  );
 }
 
 -- a bound that the heaviest word escapes
@@ -271,14 +282,24 @@ heavy_word_escapes =
       no_cause = header_sound two_of_four (1 ∷ 3 ∷ 4 ∷ 7 ∷ []) (are_rules two_of_four (1 ∷ 3 ∷ 4 ∷ 7 ∷ []) refl refl);
       whole = rw (d1, d3, d4, d7) refl;
       is_line = next_line (codes "bound 1 1 1 rules 1 3 4 weights 1 D 1") (line_text two_of_four (RawBound 0 1 (1 ∷ 3 ∷ 4 ∷ []) (record { day = 1; name = codes "D"; value = pos 1 } ∷ []))) [] refl (rw (d1, d3, d4) refl);
-      cause = inr (not_tree [] refl,
-          (refl, (Bound 0 1 (1 ∷ 3 ∷ 4 ∷ []) (weighs 1 ∷ []),
-              ((RawBound 0 1 (1 ∷ 3 ∷ 4 ∷ []) (record { day = 1; name = codes "D"; value = pos 1 } ∷ []), bound_written, refl), cited_there),
-              short_only two_of_four (1 ∷ 3 ∷ 4 ∷ []) (lit≤ tt, (lit≤ tt, (lit≤ tt, tt))),
-              (record {
-                 heavy = record { clean = heavy_clean; heaviest = none_heavier };
-                 least = heavy_first;
-               }, le_z_yes tt))));
+      cause = inr (
+        not_tree [] refl,
+        (
+          refl,
+          (
+            Bound 0 1 (1 ∷ 3 ∷ 4 ∷ []) (weighs 1 ∷ []),
+            ((RawBound 0 1 (1 ∷ 3 ∷ 4 ∷ []) (record { day = 1; name = codes "D"; value = pos 1 } ∷ []), bound_written, refl), cited_there),
+            short_only two_of_four (1 ∷ 3 ∷ 4 ∷ []) (lit≤ tt, (lit≤ tt, (lit≤ tt, tt))),
+            (
+              record {
+                heavy = record { clean = heavy_clean; heaviest = none_heavier };
+                least = heavy_first;
+              },
+              le_z_yes tt,
+            ),
+          ),
+        ),
+      );
     }
   where
     bound_written : IsWritten two_of_four (line_text two_of_four (RawBound 0 1 (1 ∷ 3 ∷ 4 ∷ []) (record { day = 1; name = codes "D"; value = pos 1 } ∷ []))) (RawBound 0 1 (1 ∷ 3 ∷ 4 ∷ []) (record { day = 1; name = codes "D"; value = pos 1 } ∷ []))
@@ -287,6 +308,7 @@ heavy_word_escapes =
       in_range = (lit< tt, (lit< tt, lit≤ tt), are_rules two_of_four (1 ∷ 3 ∷ 4 ∷ []) refl refl, all_from (WeightIsInRange two_of_four) (record { day = 1; name = codes "D"; value = pos 1 } ∷ []) (((lit< tt, lit≤ tt), D_is_name, le_z_yes tt, le_z_yes tt, λ e. cc), tt));
       ascends = pairs_of_one ComesBefore (weighs 1);
     }
+
     cited_there : (r : Rule) → Cites two_of_four (Bound 0 1 (1 ∷ 3 ∷ 4 ∷ []) (weighs 1 ∷ [])) r → Names two_of_four (1 ∷ 3 ∷ 4 ∷ 7 ∷ []) r
     cited_there r (inl c) = named_too two_of_four (1 ∷ 3 ∷ 4 ∷ []) (1 ∷ 3 ∷ 4 ∷ 7 ∷ []) r refl c
     cited_there r (inr c) =

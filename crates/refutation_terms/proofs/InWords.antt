@@ -59,9 +59,10 @@ not_only P D p x z small other left =
     elim (either (is_only P D p x)) [ inl only ↦ absurd (other (only_one P D p x z only small left)) | inr e ↦ e ]
 
 pub idle_as_said : IdleIsAsSaid
-idle_as_said P D p x =
-    (λ h. (let other = another P D p x h in (there P D p x h, (other.0, other.1, eqb-false other.0 x other.2, other.3))),
-     λ h. neither (not (D p x)) (is_only P D p x) (passed_not (D p x) h.0) (not_only P D p x h.1.0 h.1.1 h.1.2 h.1.3))
+idle_as_said P D p x = (
+  λ h. (let other = another P D p x h in (there P D p x h, (other.0, other.1, eqb-false other.0 x other.2, other.3))),
+  λ h. neither (not (D p x)) (is_only P D p x) (passed_not (D p x) h.0) (not_only P D p x h.1.0 h.1.1 h.1.2 h.1.3),
+)
 
 abbrev IsAt : Instance → Domains → ℕ → List Symbol → ℕ → Type 0
 IsAt P D p u i = IsTrue (D ((p + i) % cells P) (get_or u i off_symbol).number)
@@ -76,10 +77,11 @@ over-places P D p (x ∷ u) over (suc i) lt =
 places-over : (P : Instance) (D : Domains) (p : ℕ) (u : List Symbol) → ((i : ℕ) → i < length u → IsAt P D p u i) → Over P D p u
 places-over P D p [] h = tt
 places-over P D p (x ∷ u) h =
-    let e : p + zero ≡ p = omega arith in
-    (subst (λ q. IsTrue (D (q % cells P) x.number)) e (h 0 (omega arith)),
-     places-over P D (p + 1) u (λ i lt. let d : p + suc i ≡ p + 1 + i = omega arith in
-         subst (λ q. IsTrue (D (q % cells P) (get_or u i off_symbol).number)) d (h (suc i) (omega (arith, lt)))))
+    let e : p + zero ≡ p = omega arith in (
+      subst (λ q. IsTrue (D (q % cells P) x.number)) e (h 0 (omega arith)),
+      places-over P D (p + 1) u (λ i lt. let d : p + suc i ≡ p + 1 + i = omega arith in
+          subst (λ q. IsTrue (D (q % cells P) (get_or u i off_symbol).number)) d (h (suc i) (omega (arith, lt)))),
+    )
 
 pub over_as_said : OverIsAsSaid
 over_as_said P D p u = (over-places P D p u, places-over P D p u)

@@ -10,8 +10,8 @@ use Rattle.rwsp_terms.specs.declared.data.Symbol.{Symbol}
 use Rattle.refutation_terms.specs.declared.lines.Line.{Line}
 use Rattle.refutation_terms.specs.declared.lines.Line.TheVariants.{Split, Window, Day, Dead, Bound, Unfinished}
 use Rattle.refutation_terms.specs.Word.{Domains}
-use Rattle.refutation_terms.specs.Tree.{IsLeaf, Tree, Leaf, Node, lines_in, after_trees, Side, First, Second, Neither, side, side_past_split, side_past_first, line_leaves, lines_leave, narrowed}
-use Rattle.refutation_terms.proofs.Trees.{tree_is_read, part_is_not_whole}
+use Rattle.refutation_terms.specs.Tree.{IsLeaf, Tree, Leaf, Node, lines_in, after_trees, Side, First, Second, Neither, side, side_of, line_leaves, lines_leave, narrowed}
+use Rattle.refutation_terms.proofs.Trees.{tree_is_read, two_in_front, part_is_not_whole}
 
 -- domains behind some lines
 abbrev pub behind : Domains → List Line → Domains
@@ -25,14 +25,15 @@ behind_none D = same_domains (behind D []) D (λ p z. and-true (D p z))
 
 -- lines with no whole tree in front are in the first side
 pub in_first : (between : List Line) → after_trees 1 between ≡ None → side between ≡ First
-in_first between h = ap side_past_split h
+in_first between h = ap (λ o. side_of o (after_trees 2 between)) h
 
 -- lines with one whole tree in front and then none are in the second side
 pub in_second : (between rest : List Line) → after_trees 1 between ≡ Some rest → after_trees 1 rest ≡ None → side between ≡ Second
-in_second between rest h e = ap side_past_split h ∙ ap side_past_first e
+in_second between rest h e = ap (λ o. side_of o (after_trees 2 between)) h ∙ ap (side_of (Some rest)) (two_in_front between rest h ∙ e)
 
+-- lines with two whole trees in front are in neither
 pub in_neither : (between rest left : List Line) → after_trees 1 between ≡ Some rest → after_trees 1 rest ≡ Some left → side between ≡ Neither
-in_neither between rest left h e = ap side_past_split h ∙ ap side_past_first e
+in_neither between rest left h e = ap (λ o. side_of o (after_trees 2 between)) h ∙ ap (side_of (Some rest)) (two_in_front between rest h ∙ e)
 
 leaf_leaves : (line : Line) → IsLeaf line → (a : Side) (p z : ℕ) → line_leaves line a p z ≡ true
 leaf_leaves (Split q x) h a p z = absurd h

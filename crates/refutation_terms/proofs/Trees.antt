@@ -48,6 +48,10 @@ one_in_front lines rest h =
     let same : f.1 ≡ rest = let e : Some f.1 ≡ Some rest = f.3 in cc in
     (f.0, f.2 ∙ ap (λ ls. lines_in f.0 ++ ls) same)
 
+-- what follows two whole trees in front is what follows one behind the first
+pub two_in_front : (lines rest : List Line) → after_trees 1 lines ≡ Some rest → after_trees 2 lines ≡ after_trees 1 rest
+two_in_front lines rest h = let f = one_in_front lines rest h in ap (after_trees 2) f.1 ∙ tree_is_read f.0 1 rest
+
 pub tree_is_whole : (t : Tree) → after_trees 1 (lines_in t) ≡ Some []
 tree_is_whole t = ap (after_trees 1) (sym (append-nil (lines_in t))) ∙ tree_is_read t 0 []
 

@@ -41,6 +41,7 @@ LineFits P (Dead p len R) = (p < cells P) × IsLength len × AreRules P R
 LineFits P (Bound p turns R y) = (p < cells P) × IsLength (turns * cells P) × AreRules P R × AreWeightsOf P y
 LineFits P Unfinished = Unit {0}
 
+-- and those of a turn
 abbrev pub TurnFits : Instance → Option Turn → Type 0
 TurnFits P None = Unit {0}
 TurnFits P (Some t) = IsDay P t.day × IsSymbol P t.x

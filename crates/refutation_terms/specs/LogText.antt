@@ -32,6 +32,7 @@ pub data RawLine : Type 0 where
 abbrev pub named_weight : Instance → Weight → NamedWeight
 named_weight P e = record { day = e.day; name = name_of P e.symbol; value = e.value }
 
+-- and the line itself
 abbrev pub raw : Instance → Line → RawLine
 raw P (Split p x) = RawSplit p (name_of P x)
 raw P (Window rule p len) = RawWindow rule p len
@@ -40,7 +41,7 @@ raw P (Dead p len R) = RawDead p len R
 raw P (Bound p turns R y) = RawBound p turns R (map (named_weight P) y)
 raw P Unfinished = RawUnfinished
 
--- the fields of a line: words, names and numbers
+-- the numbers of rules as they are written
 abbrev pub numbers : List ℕ → List (List ℕ)
 numbers R = map decimal R
 
@@ -48,13 +49,16 @@ numbers R = map decimal R
 abbrev pub place : Instance → ℕ → List (List ℕ)
 place P p = decimal (p / P.days + 1) ∷ decimal (p % P.days + 1) ∷ []
 
+-- whether a day leaf says that there are too many or too few
 abbrev pub way : Bool → List ℕ
 way true = codes "over"
 way false = codes "short"
 
+-- a day, a name and a value
 abbrev pub weight_fields : NamedWeight → List (List ℕ)
 weight_fields e = decimal e.day ∷ e.name ∷ signed_decimal e.value ∷ []
 
+-- the fields of a line: words, names and numbers
 abbrev pub fields : Instance → RawLine → List (List ℕ)
 fields P (RawSplit p name) = codes "split" ∷ place P p ++ (name ∷ [])
 fields P (RawWindow rule p len) = codes "window" ∷ decimal rule ∷ place P p ++ (decimal len ∷ [])
@@ -67,20 +71,24 @@ fields P RawUnfinished = codes "open" ∷ []
 abbrev pub text_of : List (List ℕ) → List ℕ
 text_of words = join_with_byte 32 words ++ 10 ∷ []
 
+-- a written line
 abbrev pub line_text : Instance → RawLine → List ℕ
 line_text P line = text_of (fields P line)
 
--- the header: the version, the named rules, and in version 2 the turn
+-- line 1, the version: 2 where the log has a turn
 abbrev pub version_text : Bool → List ℕ
 version_text false = text_of (codes "rwsp-log" ∷ codes "1" ∷ [])
 version_text true = text_of (codes "rwsp-log" ∷ codes "2" ∷ [])
 
+-- line 2, the named rules
 abbrev pub rules_text : List ℕ → List ℕ
 rules_text R = text_of (codes "rules" ∷ numbers R)
 
+-- in version 2 line 3, the turn
 abbrev pub turn_text : List ℕ → ℕ → List ℕ
 turn_text name day = text_of (codes "turn" ∷ name ∷ decimal day ∷ [])
 
+-- these lines
 abbrev pub header_text : Instance → List ℕ → Option Turn → List ℕ
 header_text P named None = version_text false ++ rules_text named
 header_text P named (Some t) = version_text true ++ rules_text named ++ turn_text (name_of P t.x) t.day
@@ -107,11 +115,12 @@ IsInRange P (RawDead p len R) = (p < cells P) × IsLength len × AreRules P R
 IsInRange P (RawBound p turns R y) = (p < cells P) × IsLength (turns * cells P) × AreRules P R × All (WeightIsInRange P) y
 IsInRange P RawUnfinished = Unit {0}
 
--- the weights with symbols for their names, where each is the name of one
+-- a weight with a symbol for its name, before further weights
 abbrev pub with_weight : NamedWeight → Option Symbol → Option (List Weight) → Option (List Weight)
 with_weight e (Some x) (Some y) = Some (record { day = e.day; symbol = x; value = e.value } ∷ y)
 with_weight e x y = None
 
+-- the weights with symbols for their names, where each is the name of one
 abbrev pub weights_of : Instance → List NamedWeight → Option (List Weight)
 weights_of P [] = Some []
 weights_of P (e ∷ y) = with_weight e (symbol_of P e.name) (weights_of P y)

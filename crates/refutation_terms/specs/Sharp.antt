@@ -91,7 +91,9 @@ IsDemanded P j x = IsDay P j × IsShift P x × (pos 1 ≤ℤ least P x.number j)
 -- no shift is demanded, or the turn is to the first that is, on the first day on which one is
 abbrev pub IsFirstTurn : Instance → Option Turn → Type 0
 IsFirstTurn P None = (j : ℕ) (x : Symbol) → IsDemanded P j x → ⊥
-IsFirstTurn P (Some t) = IsDemanded P t.day t.x × ((j : ℕ) (x : Symbol) → IsDemanded P j x → (t.day < j) ⊎ ((t.day ≡ j) × (t.x.number ≤ x.number)))
+IsFirstTurn P (Some t) =
+    IsDemanded P t.day t.x
+    × ((j : ℕ) (x : Symbol) → IsDemanded P j x → (t.day < j) ⊎ ((t.day ≡ j) × (t.x.number ≤ x.number)))
 
 -- what is so at each split of a sharp log: no window or day leaf holds, two turns aren't dead, and it splits on a spent symbol where there is one
 pub record IsSharpSplit (P : Instance) (D : Domains) (R : List ℕ) (p : ℕ) (x : Symbol) : Type 0 where

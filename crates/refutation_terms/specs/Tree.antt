@@ -40,17 +40,15 @@ pub data Side : Type 0 where
   Second : Side
   Neither : Side
 
-abbrev pub side_past_first : Option (List Line) → Side
-side_past_first None = Second
-side_past_first (Some lines) = Neither
+-- by what follows one whole tree, and what follows two
+abbrev pub side_of : Option (List Line) → Option (List Line) → Side
+side_of None two = First
+side_of (Some rest) None = Second
+side_of (Some rest) (Some left) = Neither
 
-abbrev pub side_past_split : Option (List Line) → Side
-side_past_split None = First
-side_past_split (Some lines) = side_past_first (after_trees 1 lines)
-
--- the side by the lines between: the first until they have a whole tree in front, then the second until they have another
+-- the side by the lines between: the first until they have a whole tree in front, then the second until they have two
 abbrev pub side : List Line → Side
-side between = side_past_split (after_trees 1 between)
+side between = side_of (after_trees 1 between) (after_trees 2 between)
 
 -- the same in words: a line is in the first side of a split where no front of the lines between is a whole tree
 abbrev pub InFirst : List Line → Type 0

@@ -24,10 +24,11 @@ IsLeast Has k = Has k × ((i : ℕ) → Has i → k ≤ i)
 abbrev pub IsUnnamed : Instance → List ℕ → (Rule → Type 0) → ℕ → Type 0
 IsUnnamed P named Cited k = (r : Rule) × (rule_of P k ≡ Some r) × Cited r × (Contains named k → ⊥)
 
--- the number of a rule in a list of the line that isn't short
+-- the number of a rule of a list that isn't short
 abbrev pub IsLongIn : Instance → List ℕ → ℕ → Type 0
 IsLongIn P R k = (r : Rule) × (rule_of P k ≡ Some r) × Contains R k × (IsShort P r → ⊥)
 
+-- the same of the list of a dead or a bound leaf
 abbrev pub ListsLong : Instance → Line → ℕ → Type 0
 ListsLong P (Dead p len R) k = IsLongIn P R k
 ListsLong P (Bound p turns R y) k = IsLongIn P R k
@@ -45,37 +46,84 @@ Escapes P D (Dead p len R) w = IsLeastClean P D p len R w
 Escapes P D (Bound p turns R y) w = IsLeastHeaviest P D p (turns * cells P) R y w × ((pos turns *ℤ total P y) ≤ℤ weight P y p w)
 Escapes P D line w = ⊥
 
--- the bytes of a text line spell the line
+-- the bytes of a text line spell no line
+abbrev pub SpellsNothing : Instance → List ℕ → Type 0
+SpellsNothing P bytes = (raw : RawLine) → IsWritten P bytes raw → ⊥
+
+-- they spell a line with a name of no symbol
+abbrev pub SpellsUnknown : Instance → List ℕ → Type 0
+SpellsUnknown P bytes = (raw : RawLine) × IsWritten P bytes raw × (line_of P raw ≡ None)
+
+-- they spell this line
 abbrev pub Spells : Instance → List ℕ → Line → Type 0
 Spells P bytes line = (raw : RawLine) × IsWritten P bytes raw × (line_of P raw ≡ Some line)
 
--- and each rule that the line cites is named
+-- and each rule that it cites is named
 abbrev pub SpellsNamed : Instance → List ℕ → List ℕ → Line → Type 0
 SpellsNamed P named bytes line = Spells P bytes line × ((r : Rule) → Cites P line r → Names P named r)
 
--- why a line is refused that stands behind the lines of a log, under the domains there, as text line n.
--- Each cause takes in that no lower one applies
-abbrev pub TreeCause : Instance → Log → Domains → ℕ → List ℕ → LogRefusal → Type 0
-TreeCause P g D n bytes (Refusals.Form i) = (i ≡ n) × ((raw : RawLine) → IsWritten P bytes raw → ⊥)
-TreeCause P g D n bytes (Refusals.Name i) = (i ≡ n) × ((raw : RawLine) × IsWritten P bytes raw × (line_of P raw ≡ None))
-TreeCause P g D n bytes (Refusals.Unnamed i k) = (i ≡ n) × ((line : Line) × Spells P bytes line × IsLeast (IsUnnamed P g.named (Cites P line)) k)
-TreeCause P g D n bytes (Refusals.Idle i) = (i ≡ n) × ((p : ℕ) × (x : Symbol) × Spells P bytes (Split p x) × (is_idle P D p x.number ≡ true))
-TreeCause P g D n bytes (Refusals.Long i k) = (i ≡ n) × ((line : Line) × SpellsNamed P g.named bytes line × IsLeast (ListsLong P line) k)
-TreeCause P g D n bytes (Refusals.Fails i) = (i ≡ n) × ((line : Line) × SpellsNamed P g.named bytes line × IsPlainLeaf line × (Holds P D line → ⊥))
-TreeCause P g D n bytes (Refusals.Escape i w) = (i ≡ n) × ((line : Line) × SpellsNamed P g.named bytes line × ListsShortOnly P line × Escapes P D line w)
-TreeCause P g D n bytes (Refusals.Unfinished i) = (i ≡ n) × Spells P bytes Unfinished
-TreeCause P g D n bytes why = ⊥
+-- the line that the bytes spell cites a rule that isn't named, and this is the least one
+abbrev pub CitesUnnamed : Instance → List ℕ → List ℕ → ℕ → Type 0
+CitesUnnamed P named bytes k = (line : Line) × Spells P bytes line × IsLeast (IsUnnamed P named (Cites P line)) k
 
--- the bytes spell a turn to a symbol of this name
+-- it is an idle split
+abbrev pub SplitsIdly : Instance → Domains → List ℕ → Type 0
+SplitsIdly P D bytes = (p : ℕ) × (x : Symbol) × Spells P bytes (Split p x) × (is_idle P D p x.number ≡ true)
+
+-- its list holds a rule that isn't short, and this is the least one
+abbrev pub HasLongRule : Instance → List ℕ → List ℕ → ℕ → Type 0
+HasLongRule P named bytes k = (line : Line) × SpellsNamed P named bytes line × IsLeast (ListsLong P line) k
+
+-- it is a window or a day leaf that doesn't hold
+abbrev pub LeafFails : Instance → List ℕ → Domains → List ℕ → Type 0
+LeafFails P named D bytes = (line : Line) × SpellsNamed P named bytes line × IsPlainLeaf line × (Holds P D line → ⊥)
+
+-- it is a dead or a bound leaf that this word escapes
+abbrev pub LeafEscaped : Instance → List ℕ → Domains → List ℕ → List Symbol → Type 0
+LeafEscaped P named D bytes w = (line : Line) × SpellsNamed P named bytes line × ListsShortOnly P line × Escapes P D line w
+
+-- why a line of the tree is refused as text line n, under these rules and domains. Where a cause applies no lower one does
+abbrev pub TreeCause : Instance → List ℕ → Domains → ℕ → List ℕ → LogRefusal → Type 0
+TreeCause P named D n bytes (Refusals.Form i) = (i ≡ n) × SpellsNothing P bytes
+TreeCause P named D n bytes (Refusals.Name i) = (i ≡ n) × SpellsUnknown P bytes
+TreeCause P named D n bytes (Refusals.Unnamed i k) = (i ≡ n) × CitesUnnamed P named bytes k
+TreeCause P named D n bytes (Refusals.Idle i) = (i ≡ n) × SplitsIdly P D bytes
+TreeCause P named D n bytes (Refusals.Long i k) = (i ≡ n) × HasLongRule P named bytes k
+TreeCause P named D n bytes (Refusals.Fails i) = (i ≡ n) × LeafFails P named D bytes
+TreeCause P named D n bytes (Refusals.Escape i w) = (i ≡ n) × LeafEscaped P named D bytes w
+TreeCause P named D n bytes (Refusals.Unfinished i) = (i ≡ n) × Spells P bytes Unfinished
+TreeCause P named D n bytes why = ⊥
+
+-- the bytes spell a turn to a symbol of this name on this day
 abbrev pub SpellsTurn : Instance → List ℕ → List ℕ → ℕ → Type 0
 SpellsTurn P bytes name day = IsName name × IsDay P day × (bytes ≡ turn_text name day)
 
--- why the line of a turn is refused
+-- they spell none
+abbrev pub SpellsNoTurn : Instance → List ℕ → Type 0
+SpellsNoTurn P bytes = (name : List ℕ) (day : ℕ) → SpellsTurn P bytes name day → ⊥
+
+-- the name is that of no symbol
+abbrev pub TurnsToUnknown : Instance → List ℕ → Type 0
+TurnsToUnknown P bytes = (name : List ℕ) × (day : ℕ) × SpellsTurn P bytes name day × (symbol_of P name ≡ None)
+
+-- the name is that of this symbol
+abbrev pub TurnsTo : Instance → List ℕ → ℕ → Symbol → Type 0
+TurnsTo P bytes day x = (name : List ℕ) × SpellsTurn P bytes name day × (symbol_of P name ≡ Some x)
+
+-- the day of the turn isn't named, and this is the number of its rule
+abbrev pub TurnsUnnamed : Instance → List ℕ → List ℕ → ℕ → Type 0
+TurnsUnnamed P named bytes k = (day : ℕ) × (x : Symbol) × TurnsTo P bytes day x × IsLeast (IsUnnamed P named (λ r. r ≡ TheRules.Day day)) k
+
+-- the day is named, but no week must hold the symbol
+abbrev pub TurnsToUndemanded : Instance → List ℕ → List ℕ → Type 0
+TurnsToUndemanded P named bytes = (day : ℕ) × (x : Symbol) × TurnsTo P bytes day x × Names P named (TheRules.Day day) × (least P x.number day <ℤ pos 1)
+
+-- why the line of a turn is refused, which is line 3
 abbrev pub TurnCause : Instance → List ℕ → List ℕ → LogRefusal → Type 0
-TurnCause P named bytes (Refusals.Form i) = (i ≡ 3) × ((name : List ℕ) (day : ℕ) → SpellsTurn P bytes name day → ⊥)
-TurnCause P named bytes (Refusals.Name i) = (i ≡ 3) × ((name : List ℕ) × (day : ℕ) × SpellsTurn P bytes name day × (symbol_of P name ≡ None))
-TurnCause P named bytes (Refusals.Unnamed i k) = (i ≡ 3) × ((name : List ℕ) × (day : ℕ) × (x : Symbol) × SpellsTurn P bytes name day × (symbol_of P name ≡ Some x) × IsLeast (IsUnnamed P named (λ r. r ≡ TheRules.Day day)) k)
-TurnCause P named bytes (Refusals.Turn i) = (i ≡ 3) × ((name : List ℕ) × (day : ℕ) × (x : Symbol) × SpellsTurn P bytes name day × (symbol_of P name ≡ Some x) × Names P named (TheRules.Day day) × (least P x.number day <ℤ pos 1))
+TurnCause P named bytes (Refusals.Form i) = (i ≡ 3) × SpellsNoTurn P bytes
+TurnCause P named bytes (Refusals.Name i) = (i ≡ 3) × TurnsToUnknown P bytes
+TurnCause P named bytes (Refusals.Unnamed i k) = (i ≡ 3) × TurnsUnnamed P named bytes k
+TurnCause P named bytes (Refusals.Turn i) = (i ≡ 3) × TurnsToUndemanded P named bytes
 TurnCause P named bytes why = ⊥
 
 -- why line 2 is refused, which names rules
@@ -95,12 +143,14 @@ pub data Front : Type 0 where
   BeforeTurn : (named : List ℕ) → Front
   Reading : Log → Front
 
+-- its bytes
 abbrev pub front_text : Instance → Front → List ℕ
 front_text P Start = []
 front_text P (Versioned has_turn) = version_text has_turn
 front_text P (BeforeTurn named) = version_text true ++ rules_text named
 front_text P (Reading g) = log_text P g
 
+-- how many lines a header has
 abbrev pub header_lines : Option Turn → ℕ
 header_lines None = 2
 header_lines (Some t) = 3
@@ -135,12 +185,13 @@ Cause P (Versioned has_turn) bytes why = RulesCause P bytes why
 Cause P (BeforeTurn named) bytes why = TurnCause P named bytes why
 Cause P (Reading g) bytes why =
     let n = header_lines g.turn + length g.lines + 1 in
-    (IsTree g.lines × ExtraCause n why) ⊎ ((IsTree g.lines → ⊥) × TreeCause P g (domains_at P g.turn g.lines (length g.lines)) n bytes why)
+    (IsTree g.lines × ExtraCause n why) ⊎ ((IsTree g.lines → ⊥) × TreeCause P g.named (domains_at P g.turn g.lines (length g.lines)) n bytes why)
 
--- the bytes are a line of a text, with its LF, or the end of a text without one
+-- no byte is LF
 abbrev pub HasNoFeed : List ℕ → Type 0
 HasNoFeed bytes = All (λ b. b ≢ 10) bytes
 
+-- the bytes are a line of a text with its LF, or the end of a text without one
 abbrev pub IsNextLine : List ℕ → List ℕ → Type 0
 IsNextLine line rest = ((body : List ℕ) × HasNoFeed body × (line ≡ body ++ 10 ∷ [])) ⊎ ((line ≢ []) × HasNoFeed line × (rest ≡ []))
 
