@@ -26,7 +26,7 @@ use Rattle.refutation_terms.specs.Examples.{two_of_four, three_of_six, split_log
 use Rattle.refutation_terms.proofs.Tests.{left_of, right_of, failed_by_not, either}
 use Rattle.refutation_terms.proofs.Trees.{tree_is_whole}
 use Rattle.refutation_terms.proofs.Lists.{each_at, all_from, are_rules, pairs_of_one, named_too, short_only, weighed_day}
-use Rattle.refutation_terms.proofs.Words.{every, every_word, is_clean}
+use Rattle.refutation_terms.proofs.Words.{is_clean, least_heaviest}
 use Rattle.refutation_terms.proofs.ExampleLogs.{small_at, split_log_passes}
 use Rattle.refutation_terms.proofs.ExampleTexts.{d1, d2, d3, d4, d7, split_written}
 
@@ -228,50 +228,12 @@ unnamed_turn_refused = record {
 }
 
 -- a bound that the heaviest word escapes
-abbrev comes_first : List Symbol → List Symbol → Bool
-comes_first [] v = true
-comes_first (x ∷ u) [] = false
-comes_first (x ∷ u) (y ∷ v) = nat_lt x.number y.number || ((x.number == y.number) && comes_first u v)
-
-comes_first-true : (u v : List Symbol) → comes_first u v ≡ true → ComesFirst u v
-comes_first-true [] v h = tt
-comes_first-true (x ∷ u) [] h = absurd (cc)
-comes_first-true (x ∷ u) (y ∷ v) h = first_by x y u v (either (nat_lt x.number y.number)) h (λ m. comes_first-true u v m)
-  where
-    first_by : (x y : Symbol) (u v : List Symbol) → (nat_lt x.number y.number ≡ true) ⊎ (nat_lt x.number y.number ≡ false) → comes_first (x ∷ u) (y ∷ v) ≡ true → (comes_first u v ≡ true → ComesFirst u v) → (x.number < y.number) ⊎ ((x ≡ y) × ComesFirst u v)
-    first_by x y u v (inl e) h more = inl (ltb-true x.number y.number e)
-    first_by x y u v (inr e) h more =
-        let rest : ((x.number == y.number) && comes_first u v) ≡ true = sym (ap (λ b. b || ((x.number == y.number) && comes_first u v)) e) ∙ h in
-        inr (ap symbol_numbered (eqb-true x.number y.number (left_of (x.number == y.number) (comes_first u v) rest)), more (right_of (x.number == y.number) (comes_first u v) rest))
-
 heavy_clean : IsCleanOver two_of_four (domains_at two_of_four None [] 0) 0 (1 * cells two_of_four) (1 ∷ 3 ∷ 4 ∷ []) heavy_word
 heavy_clean = record {
   long = refl;
   over = (refl, (refl, (refl, (refl, tt))));
   clean = is_clean two_of_four (1 ∷ 3 ∷ 4 ∷ []) heavy_word refl refl refl;
 }
-
-none_heavier : (v : List Symbol) → IsCleanOver two_of_four (domains_at two_of_four None [] 0) 0 (1 * cells two_of_four) (1 ∷ 3 ∷ 4 ∷ []) v → weight two_of_four (weighs 1 ∷ []) 0 v ≤ℤ pos 2
-none_heavier v h =
-    let yes : le_z (weight two_of_four (weighs 1 ∷ []) 0 v) (pos 2) ≡ true = every_word two_of_four (domains_at two_of_four None [] 0) (1 ∷ 3 ∷ 4 ∷ []) (λ u. le_z (weight two_of_four (weighs 1 ∷ []) 0 u) (pos 2)) (small_at two_of_four None [] 0) 0 4 [] v refl h.long h.over h.clean in
-    le_z_yes (T_from_true (le_z (weight two_of_four (weighs 1 ∷ []) 0 v) (pos 2)) yes)
-
--- a clean word is lighter or comes behind
-lighter_or_later : (v : List Symbol) → IsCleanOver two_of_four (domains_at two_of_four None [] 0) 0 (1 * cells two_of_four) (1 ∷ 3 ∷ 4 ∷ []) v → (lt_z (weight two_of_four (weighs 1 ∷ []) 0 v) (pos 2) || comes_first heavy_word v) ≡ true
-lighter_or_later v h =
-    every_word two_of_four (domains_at two_of_four None [] 0) (1 ∷ 3 ∷ 4 ∷ []) (λ u. lt_z (weight two_of_four (weighs 1 ∷ []) 0 u) (pos 2) || comes_first heavy_word u) (small_at two_of_four None [] 0) 0 4 [] v refl h.long h.over h.clean
-
-two_below_two : (z : ℤ) → z <ℤ pos 2 → pos 2 ≤ℤ z → ⊥
-two_below_two z a b = omega (arith, ints)
-
-heavy_first : (v : List Symbol) → IsHeaviest two_of_four (domains_at two_of_four None [] 0) 0 (1 * cells two_of_four) (1 ∷ 3 ∷ 4 ∷ []) (weighs 1 ∷ []) v → ComesFirst heavy_word v
-heavy_first v h = heavy_by v h (either (lt_z (weight two_of_four (weighs 1 ∷ []) 0 v) (pos 2))) (lighter_or_later v h.clean)
-  where
-    heavy_by : (v : List Symbol) → IsHeaviest two_of_four (domains_at two_of_four None [] 0) 0 (1 * cells two_of_four) (1 ∷ 3 ∷ 4 ∷ []) (weighs 1 ∷ []) v → (lt_z (weight two_of_four (weighs 1 ∷ []) 0 v) (pos 2) ≡ true) ⊎ (lt_z (weight two_of_four (weighs 1 ∷ []) 0 v) (pos 2) ≡ false) → (lt_z (weight two_of_four (weighs 1 ∷ []) 0 v) (pos 2) || comes_first heavy_word v) ≡ true → ComesFirst heavy_word v
-    heavy_by v h (inl e) both =
-        absurd (two_below_two (weight two_of_four (weighs 1 ∷ []) 0 v) (lt_z_yes (T_from_true (lt_z (weight two_of_four (weighs 1 ∷ []) 0 v) (pos 2)) e)) (h.heaviest heavy_word heavy_clean))
-    heavy_by v h (inr e) both =
-        comes_first-true heavy_word v (sym (ap (λ b. b || comes_first heavy_word v) e) ∙ both)
 
 pub heavy_word_escapes : IsVerdict two_of_four one_turn_text (Err (Refusals.Escape 3 heavy_word))
 heavy_word_escapes =
@@ -291,10 +253,7 @@ heavy_word_escapes =
             ((RawBound 0 1 (1 ∷ 3 ∷ 4 ∷ []) (record { day = 1; name = codes "D"; value = pos 1 } ∷ []), bound_written, refl), cited_there),
             short_only two_of_four (1 ∷ 3 ∷ 4 ∷ []) (lit≤ tt, (lit≤ tt, (lit≤ tt, tt))),
             (
-              record {
-                heavy = record { clean = heavy_clean; heaviest = none_heavier };
-                least = heavy_first;
-              },
+              least_heaviest two_of_four (domains_at two_of_four None [] 0) 0 (1 * cells two_of_four) (1 ∷ 3 ∷ 4 ∷ []) (weighs 1 ∷ []) heavy_word (small_at two_of_four None [] 0) heavy_clean refl refl,
               le_z_yes tt,
             ),
           ),

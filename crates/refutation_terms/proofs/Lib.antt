@@ -20,3 +20,4 @@ pub mod Lists
 pub mod ExampleLogs
 pub mod ExampleTexts
 pub mod ExampleVerdicts
+pub mod ExampleSharp

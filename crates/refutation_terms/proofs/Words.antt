@@ -1,8 +1,10 @@
 -- Going through all words over domains.
-use Rattle.std.proofs.Common.{◌≡◌, ◌⊎◌, ℕ, zero, suc, ◌+◌, ◌*◌, ◌%◌, ◌<◌, ◌≤◌, List, [], ◌∷◌, ◌++◌, length, get_or, refl, ap, sym, ◌∙◌, subst, append_assoc, arith, inl, inr, Bool, true, false, IsTrue, ◌||◌, not, Option, Some, None, pos}
-use Rattle.std.specs.Prelude.{◌*ℤ◌}
+use Rattle.std.proofs.Common.{◌≡◌, ◌⊎◌, ℕ, zero, suc, ◌+◌, ◌*◌, ◌%◌, ◌<◌, ◌≤◌, List, [], ◌∷◌, ◌++◌, length, get_or, refl, ap, sym, ◌∙◌, subst, append_assoc, arith, inl, inr, Bool, true, false, IsTrue, ◌||◌, not, Option, Some, None, pos, ◌==◌, ℤ, ◌&&◌}
+use Rattle.std.specs.Prelude.{◌*ℤ◌, nat_lt, ◌≤ℤ◌, ◌<ℤ◌}
 use Rattle.std.specs.List.{range_with_len, list_all}
-use Rattle.std.specs.Int.Signed.{lt_z, lt_z_yes}
+use Rattle.std.specs.Int.Signed.{lt_z, lt_z_yes, le_z, le_z_yes}
+use Rattle.std.proofs.lemmas.Int.{ints}
+use Rattle.std.proofs.lemmas.Bool.{eqb-true, ltb-true}
 use Rattle.std.proofs.lemmas.Float.{T_from_true}
 use Rattle.std.proofs.lemmas.List.{append-nil}
 use Rattle.rwsp_terms.specs.declared.data.Symbol.{Symbol}
@@ -12,7 +14,9 @@ use Rattle.rwsp_terms.specs.Instance.{Instance, cells, shift_count, symbol_numbe
 use Rattle.rwsp_terms.specs.Window.{Bad}
 use Rattle.rwsp_terms.specs.Rules.{Names, rule_of}
 use Rattle.refutation_terms.specs.Word.{Domains, Over, Clean, weight, total}
+use Rattle.refutation_terms.specs.Escape.{ComesFirst, IsCleanOver, IsHeaviest, IsLeastHeaviest}
 use Rattle.refutation_terms.specs.Leaf.{IsBlocked, IsDead, IsTooLight}
+use Rattle.refutation_terms.proofs.Tests.{left_of, right_of}
 use Rattle.refutation_terms.proofs.Counts.{all_in_range}
 use Rattle.refutation_terms.proofs.Decide.{is_bad, is_bad-true, is_bad-from}
 
@@ -166,3 +170,35 @@ is_clean P R [] a b h (x ∷ before) part after e r named bad = absurd (cc)
 is_clean P R (y ∷ u) a b h (x ∷ before) part after e r named bad =
     let rest : u ≡ before ++ part ++ after = cc in
     is_clean P R u a b (or_false (has_bad_front P R [] (y ∷ u)) (has_bad_part P R u) h).1 before part after rest r named bad
+
+-- whether a word comes first
+abbrev pub comes_first : List Symbol → List Symbol → Bool
+comes_first [] v = true
+comes_first (x ∷ u) [] = false
+comes_first (x ∷ u) (y ∷ v) = nat_lt x.number y.number || ((x.number == y.number) && comes_first u v)
+
+comes_first-true : (u v : List Symbol) → comes_first u v ≡ true → ComesFirst u v
+comes_first-true [] v h = tt
+comes_first-true (x ∷ u) [] h = absurd (cc)
+comes_first-true (x ∷ u) (y ∷ v) h =
+    elim (or_cases (nat_lt x.number y.number) ((x.number == y.number) && comes_first u v) h) [
+      inl less ↦ inl (ltb-true x.number y.number less)
+    | inr rest ↦ inr (ap symbol_numbered (eqb-true x.number y.number (left_of (x.number == y.number) (comes_first u v) rest)), comes_first-true u v (right_of (x.number == y.number) (comes_first u v) rest))
+    ]
+
+lighter : (z w : ℤ) → z <ℤ w → w ≤ℤ z → ⊥
+lighter z w a b = omega (arith, ints)
+
+-- the least of the heaviest words, by two tests of every word
+pub least_heaviest : (P : Instance) (D : Domains) (p len : ℕ) (R : List ℕ) (y : List Weight) (w : List Symbol) → AreSmall P D → IsCleanOver P D p len R w → every P D R (λ u. le_z (weight P y p u) (weight P y p w)) p len [] ≡ true → every P D R (λ u. lt_z (weight P y p u) (weight P y p w) || comes_first w u) p len [] ≡ true → IsLeastHeaviest P D p len R y w
+least_heaviest P D p len R y w small clean a b = record {
+  heavy = record {
+    clean = clean;
+    heaviest = λ v h. le_z_yes (T_from_true (le_z (weight P y p v) (weight P y p w)) (every_word P D R (λ u. le_z (weight P y p u) (weight P y p w)) small p len [] v a h.long h.over h.clean));
+  };
+  least = λ v h.
+      elim (or_cases (lt_z (weight P y p v) (weight P y p w)) (comes_first w v) (every_word P D R (λ u. lt_z (weight P y p u) (weight P y p w) || comes_first w u) small p len [] v b h.clean.long h.clean.over h.clean.clean)) [
+        inl less ↦ absurd (lighter (weight P y p v) (weight P y p w) (lt_z_yes (T_from_true (lt_z (weight P y p v) (weight P y p w)) less)) (h.heaviest w clean))
+      | inr first ↦ comes_first-true w v first
+      ];
+}

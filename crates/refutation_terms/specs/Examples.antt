@@ -1,5 +1,5 @@
 -- Small problems with one shift D, and logs for them: some that pass and some that don't.
-use Rattle.std.specs.Prelude.{ℕ, List, [], ◌∷◌, ◌++◌, Some, None, pos, codes}
+use Rattle.std.specs.Prelude.{ℕ, List, [], ◌∷◌, ◌++◌, Some, None, pos, negsuc, ℤ, codes}
 use Rattle.std.specs.List.{flat_map}
 use Rattle.rwsp_terms.specs.declared.data.Symbol.{Symbol}
 use Rattle.rwsp_terms.specs.declared.data.Bounds.{Bounds}
@@ -120,3 +120,29 @@ none_demanded_text = text (codes "rwsp-log 2" ∷ codes "rules 7" ∷ codes "tur
 -- the heaviest word of one turn
 abbrev pub heavy_word : List Symbol
 heavy_word = shift_D ∷ record { number = 0 } ∷ record { number = 0 } ∷ shift_D ∷ []
+
+-- the weights that the search finds in round 2 for D on both days: D for more, days off for less
+abbrev pub weight_of : ℕ → ℕ → ℤ → Weight
+weight_of day symbol value = record { day = day; symbol = record { number = symbol }; value = value }
+
+abbrev pub searched_weights : List Weight
+searched_weights = weight_of 1 0 (negsuc 0) ∷ weight_of 1 1 (pos 1) ∷ weight_of 2 0 (negsuc 0) ∷ weight_of 2 1 (pos 1) ∷ []
+
+-- all short rules of the problems with one shift of two days or one
+abbrev pub short_rules : List ℕ
+short_rules = 1 ∷ 2 ∷ 3 ∷ 4 ∷ 5 ∷ 6 ∷ []
+
+-- three days with demand 2, 0 and 1 in one week, in which nothing can meet day 1
+abbrev pub two_on_day_one : Instance
+two_on_day_one = one_shift 3 1 (from_to 2 2 ∷ from_to 0 0 ∷ from_to 1 1 ∷ []) (from_to 1 2) (from_to 1 7) (from_to 1 7)
+
+-- logs for it: by a list of named rules, the rules of a bound and its weights
+abbrev pub day_log : List ℕ → List ℕ → List Weight → Log
+day_log named R y = record { named = named; turn = None; lines = Bound 0 1 R y ∷ [] }
+
+-- what more is named than is needed, and what is left
+abbrev pub wide_log : Log
+wide_log = day_log (1 ∷ 7 ∷ 8 ∷ 9 ∷ []) (1 ∷ []) (weighs 1 ∷ weighs 2 ∷ weighs 3 ∷ [])
+
+abbrev pub narrow_log : Log
+narrow_log = day_log (7 ∷ []) [] (weighs 1 ∷ [])
