@@ -1,29 +1,27 @@
 -- Sharp and spent logs, and searched weights, of the examples.
-use Rattle.std.proofs.Common.{◌≡◌, ◌≢◌, ◌⊎◌, ℕ, zero, suc, ◌+◌, ◌*◌, ◌<◌, ◌≤◌, List, [], ◌∷◌, ◌++◌, length, get_or, refl, ap, sym, ◌∙◌, subst, arith, inl, inr, Bool, true, false, IsTrue, ◌||◌, Option, Some, None, pos, negsuc, ℤ, lit<, lit≤}
-use Rattle.std.specs.Prelude.{slice_get, ◌<ℤ◌, ◌≤ℤ◌}
-use Rattle.std.specs.Int.Signed.{lt_z, le_z, lt_z_yes, le_z_yes}
-use Rattle.std.proofs.lemmas.Int.{ints}
-use Rattle.std.proofs.lemmas.Float.{T_from_true}
+use Rattle.std.proofs.Common.{◌≡◌, ◌⊎◌, ℕ, zero, suc, ◌<◌, ◌≤◌, [], ◌∷◌, get_or, refl, ap, subst, arith, inl, inr, Some, pos, negsuc, lit<, lit≤}
+use Rattle.std.specs.Prelude.{slice_get}
+use Rattle.std.specs.Int.Signed.{le_z_yes}
 use Rattle.rwsp_terms.specs.declared.data.Symbol.{Symbol}
 use Rattle.rwsp_terms.specs.declared.data.Weight.{Weight}
 use Rattle.rwsp_terms.specs.declared.data.Rule.{Rule}
 use Rattle.rwsp_terms.specs.declared.data.Rule.TheVariants as TheRules
-use Rattle.rwsp_terms.specs.Instance.{Instance, cells, shift_count, IsShift, IsDay, IsSymbol, symbol_numbered}
+use Rattle.rwsp_terms.specs.Instance.{cells, shift_count, IsDay, IsSymbol, symbol_numbered}
 use Rattle.rwsp_terms.specs.Roster.{IsRule}
-use Rattle.rwsp_terms.specs.Rules.{rule_of, Names, IsShort}
-use Rattle.rwsp_terms.specs.Weights.{ComesBefore, IsWeight, AreWeights, weight_at}
+use Rattle.rwsp_terms.specs.Rules.{Names, IsShort}
+use Rattle.rwsp_terms.specs.Weights.{ComesBefore, IsWeight, weight_at}
 use Rattle.refutation_terms.specs.declared.lines.Line.{Line}
-use Rattle.refutation_terms.specs.declared.lines.Line.TheVariants.{Split, Window, Day, Dead, Bound, Unfinished}
-use Rattle.refutation_terms.specs.Word.{Domains, full, weight}
-use Rattle.refutation_terms.specs.Log.{Log, IsSpent, HoldsAt, AreWeightsOf, LineFits, Cites, ListsShortOnly}
-use Rattle.refutation_terms.specs.Escape.{ComesFirst, IsCleanOver, IsHeaviest, IsLeastHeaviest}
-use Rattle.refutation_terms.specs.Sharp.{NamesAllShort, IsDemanded, IsFirstTurn, IsUndecided, IsSharp, IsNext, IsSearched, step}
+use Rattle.refutation_terms.specs.declared.lines.Line.TheVariants.{Split, Unfinished}
+use Rattle.refutation_terms.specs.Word.{full}
+use Rattle.refutation_terms.specs.Log.{IsSpent, HoldsAt, AreWeightsOf, LineFits, Cites, ListsShortOnly}
+use Rattle.refutation_terms.specs.Escape.{IsLeastHeaviest}
+use Rattle.refutation_terms.specs.Sharp.{NamesAllShort, IsDemanded, IsFirstTurn, IsUndecided, IsSharp, IsSearched, step}
 use Rattle.refutation_terms.specs.Examples.{three_of_six, turn_log, open_log, two_in_a_row, shift_D, blocks_dead, short_rules, searched_weights, weight_of}
 use Rattle.refutation_terms.proofs.Named.{named-IsRule}
 use Rattle.refutation_terms.proofs.Lists.{each_at, all_from, are_rules, pairs_of_two, short_only}
 use Rattle.refutation_terms.proofs.Words.{AreSmall, is_clean, least_heaviest}
 use Rattle.std.proofs.lemmas.Bool.{leb-true}
-use Rattle.refutation_terms.specs.Tree.{Tree, Leaf, Node}
+use Rattle.refutation_terms.specs.Tree.{Leaf, Node}
 
 -- the six rules on blocks are all short
 one_shift_is : (x : Symbol) → (0 < x.number) × (x.number ≤ 1) → symbol_numbered 1 ≡ x
@@ -41,9 +39,10 @@ six_are_short (TheRules.Triple k) is short = absurd (omega (arith, is))
 six_are_short (TheRules.Day j) is short = absurd short
 
 pub all_six_short : NamesAllShort three_of_six short_rules
-all_six_short r =
-    (λ n. (named-IsRule three_of_six short_rules r n, short_only three_of_six short_rules (lit≤ tt, (lit≤ tt, (lit≤ tt, (lit≤ tt, (lit≤ tt, (lit≤ tt, tt)))))) r n),
-     λ h. six_are_short r h.0 h.1)
+all_six_short r = (
+  λ n. (named-IsRule three_of_six short_rules r n, short_only three_of_six short_rules (lit≤ tt, (lit≤ tt, (lit≤ tt, (lit≤ tt, (lit≤ tt, (lit≤ tt, tt)))))) r n),
+  λ h. six_are_short r h.0 h.1,
+)
 
 -- a turn to D on day 1 and one leaf is sharp
 no_split : (k p : ℕ) (x : Symbol) → slice_get (blocks_dead ∷ []) k ≡ Some (Split p x) → ⊥
@@ -133,11 +132,13 @@ abbrev OnDays : Weight → Type 0
 OnDays e = IsDay two_in_a_row e.day × IsSymbol two_in_a_row e.symbol
 
 round_one_weights : AreWeightsOf two_in_a_row (weight_of 1 0 (negsuc 0) ∷ weight_of 1 1 (pos 1) ∷ [])
-round_one_weights =
-    (record {
-       ascends = pairs_of_two ComesBefore (weight_of 1 0 (negsuc 0)) (weight_of 1 1 (pos 1)) (inr (refl, lit< tt));
-       small = all_from IsWeight (weight_of 1 0 (negsuc 0) ∷ weight_of 1 1 (pos 1) ∷ []) (one_down 1 0, (one_up 1 1, tt));
-     }, all_from OnDays (weight_of 1 0 (negsuc 0) ∷ weight_of 1 1 (pos 1) ∷ []) (((lit< tt, lit≤ tt), lit≤ tt), (((lit< tt, lit≤ tt), lit≤ tt), tt)))
+round_one_weights = (
+  record {
+    ascends = pairs_of_two ComesBefore (weight_of 1 0 (negsuc 0)) (weight_of 1 1 (pos 1)) (inr (refl, lit< tt));
+    small = all_from IsWeight (weight_of 1 0 (negsuc 0) ∷ weight_of 1 1 (pos 1) ∷ []) (one_down 1 0, (one_up 1 1, tt));
+  },
+  all_from OnDays (weight_of 1 0 (negsuc 0) ∷ weight_of 1 1 (pos 1) ∷ []) (((lit< tt, lit≤ tt), lit≤ tt), (((lit< tt, lit≤ tt), lit≤ tt), tt)),
+)
 
 four_ascend : (i j : ℕ) (d : Weight) → i < j → j < 4 → ComesBefore (get_or searched_weights i d) (get_or searched_weights j d)
 four_ascend zero zero d lt less = absurd (omega (arith, lt))
@@ -156,24 +157,31 @@ four_ascend (suc (suc (suc i))) j d lt less = absurd (omega (arith, lt, less))
 four_ascend i (suc (suc (suc (suc j)))) d lt less = absurd (omega (arith, less))
 
 searched_are_weights : AreWeightsOf two_in_a_row searched_weights
-searched_are_weights =
-    (record {
-       ascends = four_ascend;
-       small = all_from IsWeight searched_weights (one_down 1 0, (one_up 1 1, (one_down 2 0, (one_up 2 1, tt))));
-     }, all_from OnDays searched_weights (((lit< tt, lit≤ tt), lit≤ tt), (((lit< tt, lit≤ tt), lit≤ tt), (((lit< tt, lit≤ tt), lit≤ tt), (((lit< tt, lit≤ tt), lit≤ tt), tt)))))
+searched_are_weights = (
+  record {
+    ascends = four_ascend;
+    small = all_from IsWeight searched_weights (one_down 1 0, (one_up 1 1, (one_down 2 0, (one_up 2 1, tt))));
+  },
+  all_from OnDays searched_weights (((lit< tt, lit≤ tt), lit≤ tt), (((lit< tt, lit≤ tt), lit≤ tt), (((lit< tt, lit≤ tt), lit≤ tt), (((lit< tt, lit≤ tt), lit≤ tt), tt)))),
+)
 
 pub two_rounds : IsSearched two_in_a_row (full two_in_a_row) short_rules 2 searched_weights
-two_rounds =
-    (weight_of 1 0 (negsuc 0) ∷ weight_of 1 1 (pos 1) ∷ [],
-     ([], refl, record {
-        word = symbol_numbered 0 ∷ symbol_numbered 1 ∷ [];
-        is_heaviest = first_word;
-        are_weights = round_one_weights;
-        values = each_value (λ j x. weight_at (weight_of 1 0 (negsuc 0) ∷ weight_of 1 1 (pos 1) ∷ []) j x ≡ step two_in_a_row [] (symbol_numbered 0 ∷ symbol_numbered 1 ∷ []) j x) refl refl refl refl;
-      }),
-     record {
-       word = symbol_numbered 1 ∷ symbol_numbered 0 ∷ [];
-       is_heaviest = second_word;
-       are_weights = searched_are_weights;
-       values = each_value (λ j x. weight_at searched_weights j x ≡ step two_in_a_row (weight_of 1 0 (negsuc 0) ∷ weight_of 1 1 (pos 1) ∷ []) (symbol_numbered 1 ∷ symbol_numbered 0 ∷ []) j x) refl refl refl refl;
-     })
+two_rounds = (
+  weight_of 1 0 (negsuc 0) ∷ weight_of 1 1 (pos 1) ∷ [],
+  (
+    [],
+    refl,
+    record {
+      word = symbol_numbered 0 ∷ symbol_numbered 1 ∷ [];
+      is_heaviest = first_word;
+      are_weights = round_one_weights;
+      values = each_value (λ j x. weight_at (weight_of 1 0 (negsuc 0) ∷ weight_of 1 1 (pos 1) ∷ []) j x ≡ step two_in_a_row [] (symbol_numbered 0 ∷ symbol_numbered 1 ∷ []) j x) refl refl refl refl;
+    },
+  ),
+  record {
+    word = symbol_numbered 1 ∷ symbol_numbered 0 ∷ [];
+    is_heaviest = second_word;
+    are_weights = searched_are_weights;
+    values = each_value (λ j x. weight_at searched_weights j x ≡ step two_in_a_row (weight_of 1 0 (negsuc 0) ∷ weight_of 1 1 (pos 1) ∷ []) (symbol_numbered 1 ∷ symbol_numbered 0 ∷ []) j x) refl refl refl refl;
+  },
+)

@@ -1,29 +1,24 @@
 -- The verdicts on texts of the examples.
-use Rattle.std.proofs.Common.{◌≡◌, ◌≢◌, ◌⊎◌, ℕ, zero, suc, ◌+◌, ◌*◌, ◌<◌, ◌≤◌, List, [], ◌∷◌, ◌++◌, length, get_or, take, refl, ap, sym, ◌∙◌, subst, arith, inl, inr, Bool, true, false, IsTrue, not, ◌==◌, ◌&&◌, ◌||◌, Option, Some, None, pos, ℤ, lit<, lit≤}
-use Rattle.std.specs.Prelude.{slice_get, nat_lt, ◌<ℤ◌, ◌≤ℤ◌, ◌*ℤ◌, Result, Ok, Err, Contains, codes}
+use Rattle.std.proofs.Common.{◌≡◌, ◌≢◌, ℕ, zero, suc, ◌*◌, ◌<◌, ◌≤◌, List, [], ◌∷◌, ◌++◌, take, refl, ap, sym, ◌∙◌, subst, arith, inl, inr, true, not, ◌==◌, Some, None, pos, lit<, lit≤}
+use Rattle.std.specs.Prelude.{slice_get, Ok, Err, Contains, codes}
 use Rattle.std.specs.List.{list_all, AllByRecursion}
-use Rattle.std.specs.Int.Signed.{lt_z, le_z, lt_z_yes, le_z_yes}
-use Rattle.std.proofs.lemmas.Int.{ints}
-use Rattle.std.proofs.lemmas.Float.{T_from_true}
-use Rattle.std.proofs.lemmas.Bool.{eqb-true, eqb-false, ltb-true}
-use Rattle.rwsp_terms.specs.declared.data.Symbol.{Symbol}
+use Rattle.std.specs.Int.Signed.{lt_z_yes, le_z_yes}
+use Rattle.std.proofs.lemmas.Bool.{eqb-false}
 use Rattle.rwsp_terms.specs.declared.data.Rule.{Rule}
 use Rattle.rwsp_terms.specs.declared.data.Rule.TheVariants as TheRules
-use Rattle.rwsp_terms.specs.Instance.{Instance, cells, symbol_numbered}
+use Rattle.rwsp_terms.specs.Instance.{Instance, cells}
 use Rattle.rwsp_terms.specs.Rules.{rule_of, Names}
 use Rattle.rwsp_terms.specs.Weights.{ComesBefore}
 use Rattle.refutation_terms.specs.declared.lines.Line.{Line}
-use Rattle.refutation_terms.specs.declared.lines.Line.TheVariants.{Split, Window, Day, Dead, Bound, Unfinished}
-use Rattle.refutation_terms.specs.declared.lines.LogRefusal.{LogRefusal}
+use Rattle.refutation_terms.specs.declared.lines.Line.TheVariants.{Split, Bound, Unfinished}
 use Rattle.refutation_terms.specs.declared.lines.LogRefusal.TheVariants as Refusals
-use Rattle.refutation_terms.specs.Word.{weight, total}
 use Rattle.refutation_terms.specs.Tree.{IsTree, after_trees, domains_at}
-use Rattle.refutation_terms.specs.Log.{Log, AreRules, HoldsAt, Cites}
-use Rattle.refutation_terms.specs.Escape.{ComesFirst, IsCleanOver, IsHeaviest, IsLeastHeaviest}
-use Rattle.refutation_terms.specs.LogText.{RawLine, RawSplit, RawBound, RawUnfinished, NamedWeight, IsName, IsWritten, WeightIsInRange, line_text, turn_text}
-use Rattle.refutation_terms.specs.Verdict.{Front, Reading, BeforeTurn, IsSoundSoFar, IsNextLine, IsVerdict, Spells}
+use Rattle.refutation_terms.specs.Log.{AreRules, HoldsAt, Cites}
+use Rattle.refutation_terms.specs.Escape.{IsCleanOver}
+use Rattle.refutation_terms.specs.LogText.{RawSplit, RawBound, RawUnfinished, IsName, IsWritten, WeightIsInRange, line_text, turn_text}
+use Rattle.refutation_terms.specs.Verdict.{Reading, BeforeTurn, IsSoundSoFar, IsNextLine, IsVerdict, Spells}
 use Rattle.refutation_terms.specs.Examples.{two_of_four, three_of_six, split_log, blocks_dead, shift_D, weighs, one_turn_text, open_text, cut_text, extra_text, idle_text, unnamed_turn_text, none_demanded, none_demanded_text, split_text, heavy_word}
-use Rattle.refutation_terms.proofs.Tests.{left_of, right_of, failed_by_not, either}
+use Rattle.refutation_terms.proofs.Tests.{left_of, right_of, failed_by_not}
 use Rattle.refutation_terms.proofs.Trees.{tree_is_whole}
 use Rattle.refutation_terms.proofs.Lists.{each_at, all_from, are_rules, pairs_of_one, named_too, short_only, weighed_day}
 use Rattle.refutation_terms.proofs.Words.{is_clean, least_heaviest}

@@ -1,6 +1,5 @@
 -- Words over domains by their places, and idle splits by the symbols that are left.
-use Rattle.std.proofs.Common.{◌≡◌, ◌≢◌, ◌⊎◌, ℕ, zero, suc, ◌+◌, ◌-◌, ◌%◌, ◌<◌, ◌≤◌, List, [], ◌∷◌, length, get_or, refl, ap, sym, ◌∙◌, subst, arith, inl, inr, Bool, true, false, IsTrue, ◌&&◌, ◌||◌, ◌==◌, not}
-use Rattle.std.specs.Prelude.{◌↔◌}
+use Rattle.std.proofs.Common.{◌≡◌, ◌≢◌, ◌⊎◌, ℕ, zero, suc, ◌+◌, ◌%◌, ◌<◌, ◌≤◌, List, [], ◌∷◌, length, get_or, refl, subst, arith, inl, inr, Bool, true, false, IsTrue, ◌&&◌, ◌||◌, ◌==◌, not}
 use Rattle.std.specs.List.{range_with_len, list_all}
 use Rattle.std.proofs.lemmas.Bool.{eqb-false}
 use Rattle.rwsp_terms.specs.declared.data.Symbol.{Symbol}
@@ -10,7 +9,7 @@ use Rattle.refutation_terms.specs.Word.{Domains, Over}
 use Rattle.refutation_terms.specs.Leaf.{is_only}
 use Rattle.refutation_terms.specs.Tree.{is_idle}
 use Rattle.refutation_terms.specs.Laws.{OverIsAsSaid, IdleIsAsSaid}
-use Rattle.refutation_terms.proofs.Tests.{both, left_of, right_of, either}
+use Rattle.refutation_terms.proofs.Tests.{either}
 use Rattle.refutation_terms.proofs.Counts.{only_one}
 
 left_fails_or : (a b : Bool) → (a && b) ≡ false → a ≡ true → b ≡ false

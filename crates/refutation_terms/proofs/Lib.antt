@@ -21,3 +21,4 @@ pub mod ExampleLogs
 pub mod ExampleTexts
 pub mod ExampleVerdicts
 pub mod ExampleSharp
+pub mod ExampleStrip

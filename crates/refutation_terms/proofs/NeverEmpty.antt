@@ -1,7 +1,6 @@
 -- No domain at a line is empty where no earlier split is idle.
-use Rattle.std.proofs.Common.{◌≡◌, ◌⊎◌, ℕ, zero, suc, ◌+◌, ◌-◌, ◌<◌, ◌≤◌, List, [], ◌∷◌, length, take, Option, Some, None, refl, sym, subst, arith, length-append, inl, inr, Bool, true, false, IsTrue, ◌&&◌, ◌||◌, ◌==◌, not}
+use Rattle.std.proofs.Common.{◌≡◌, ◌⊎◌, ℕ, zero, suc, ◌+◌, ◌-◌, ◌<◌, ◌≤◌, List, length, take, Option, Some, None, refl, sym, subst, arith, length-append, inl, inr, true, false, IsTrue, ◌==◌}
 use Rattle.std.specs.Prelude.{slice_get, nat_le}
-use Rattle.std.specs.List.{range_with_len, list_all}
 use Rattle.std.proofs.lemmas.Bool.{eqb-true, eq-eqb, leb-true, le-leb}
 use Rattle.rwsp_terms.specs.declared.data.Symbol.{Symbol}
 use Rattle.rwsp_terms.specs.Instance.{Instance, shift_count}
@@ -9,7 +8,6 @@ use Rattle.refutation_terms.specs.declared.lines.Line.{Line}
 use Rattle.refutation_terms.specs.declared.lines.Line.TheVariants.{Split}
 use Rattle.refutation_terms.specs.declared.lines.Turn.{Turn}
 use Rattle.refutation_terms.specs.Word.{Domains, full}
-use Rattle.refutation_terms.specs.Leaf.{is_only}
 use Rattle.refutation_terms.specs.Tree.{Tree, Leaf, Node, lines_in, Side, First, Second, side_takes, line_leaves, lines_leave, narrowed, turn_leaves, opening, is_idle}
 use Rattle.refutation_terms.specs.Log.{TurnFits}
 use Rattle.refutation_terms.specs.Laws.{DomainsAreNeverEmpty}

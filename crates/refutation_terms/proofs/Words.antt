@@ -14,7 +14,7 @@ use Rattle.rwsp_terms.specs.Instance.{Instance, cells, shift_count, symbol_numbe
 use Rattle.rwsp_terms.specs.Window.{Bad}
 use Rattle.rwsp_terms.specs.Rules.{Names, rule_of}
 use Rattle.refutation_terms.specs.Word.{Domains, Over, Clean, weight, total}
-use Rattle.refutation_terms.specs.Escape.{ComesFirst, IsCleanOver, IsHeaviest, IsLeastHeaviest}
+use Rattle.refutation_terms.specs.Escape.{ComesFirst, IsCleanOver, IsLeastHeaviest}
 use Rattle.refutation_terms.specs.Leaf.{IsBlocked, IsDead, IsTooLight}
 use Rattle.refutation_terms.proofs.Tests.{left_of, right_of}
 use Rattle.refutation_terms.proofs.Counts.{all_in_range}
@@ -182,8 +182,8 @@ comes_first-true [] v h = tt
 comes_first-true (x ∷ u) [] h = absurd (cc)
 comes_first-true (x ∷ u) (y ∷ v) h =
     elim (or_cases (nat_lt x.number y.number) ((x.number == y.number) && comes_first u v) h) [
-      inl less ↦ inl (ltb-true x.number y.number less)
-    | inr rest ↦ inr (ap symbol_numbered (eqb-true x.number y.number (left_of (x.number == y.number) (comes_first u v) rest)), comes_first-true u v (right_of (x.number == y.number) (comes_first u v) rest))
+      | inl less ↦ inl (ltb-true x.number y.number less)
+      | inr rest ↦ inr (ap symbol_numbered (eqb-true x.number y.number (left_of (x.number == y.number) (comes_first u v) rest)), comes_first-true u v (right_of (x.number == y.number) (comes_first u v) rest))
     ]
 
 lighter : (z w : ℤ) → z <ℤ w → w ≤ℤ z → ⊥
@@ -198,7 +198,7 @@ least_heaviest P D p len R y w small clean a b = record {
   };
   least = λ v h.
       elim (or_cases (lt_z (weight P y p v) (weight P y p w)) (comes_first w v) (every_word P D R (λ u. lt_z (weight P y p u) (weight P y p w) || comes_first w u) small p len [] v b h.clean.long h.clean.over h.clean.clean)) [
-        inl less ↦ absurd (lighter (weight P y p v) (weight P y p w) (lt_z_yes (T_from_true (lt_z (weight P y p v) (weight P y p w)) less)) (h.heaviest w clean))
-      | inr first ↦ comes_first-true w v first
+        | inl less ↦ absurd (lighter (weight P y p v) (weight P y p w) (lt_z_yes (T_from_true (lt_z (weight P y p v) (weight P y p w)) less)) (h.heaviest w clean))
+        | inr first ↦ comes_first-true w v first
       ];
 }

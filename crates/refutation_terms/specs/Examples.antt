@@ -128,6 +128,13 @@ weight_of day symbol value = record { day = day; symbol = record { number = symb
 abbrev pub searched_weights : List Weight
 searched_weights = weight_of 1 0 (negsuc 0) ∷ weight_of 1 1 (pos 1) ∷ weight_of 2 0 (negsuc 0) ∷ weight_of 2 1 (pos 1) ∷ []
 
+-- its plain bounds: +1 and -1 on all shifts, which is D alone, and again on D
+abbrev pub on_both_days : ℤ → List Weight
+on_both_days value = weight_of 1 1 value ∷ weight_of 2 1 value ∷ []
+
+abbrev pub four_bounds : List (List Weight)
+four_bounds = on_both_days (pos 1) ∷ on_both_days (negsuc 0) ∷ on_both_days (pos 1) ∷ on_both_days (negsuc 0) ∷ []
+
 -- all short rules of the problems with one shift of two days or one
 abbrev pub short_rules : List ℕ
 short_rules = 1 ∷ 2 ∷ 3 ∷ 4 ∷ 5 ∷ 6 ∷ []

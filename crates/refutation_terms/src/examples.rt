@@ -1,9 +1,12 @@
 // The definitions tried on small problems. Each function's contract says that a log passes or doesn't, or what its text is.
 ghost use Rattle.std.specs.Prelude.{◌≡◌, ℕ, List, [], ◌∷◌, Ok, Err};
-ghost use Rattle.refutation_terms.specs.Log.{Passes};
+ghost use Rattle.refutation_terms.specs.Word.{full};
+ghost use Rattle.refutation_terms.specs.Log.{Passes, IsSpent, size};
+ghost use Rattle.refutation_terms.specs.Sharp.{IsSharp, IsSearched, plain_bounds};
+ghost use Rattle.refutation_terms.specs.Strip.{IsReduced};
 ghost use Rattle.refutation_terms.specs.LogText.{log_text};
 ghost use Rattle.refutation_terms.specs.Verdict.{IsVerdict};
-ghost use Rattle.refutation_terms.specs.Examples.{two_in_a_row, two_in_a_row_log, two_in_a_row_text, two_of_four, two_of_four_log, two_of_four_text, three_of_six, split_log, split_text, turn_log, turn_text, open_log, one_cell, one_cell_log, one_cell_text, one_turn_text, open_text, cut_text, extra_text, idle_text, unnamed_turn_text, none_demanded, none_demanded_text, heavy_word};
+ghost use Rattle.refutation_terms.specs.Examples.{two_in_a_row, two_in_a_row_log, two_in_a_row_text, two_of_four, two_of_four_log, two_of_four_text, three_of_six, split_log, split_text, turn_log, turn_text, open_log, one_cell, one_cell_log, one_cell_text, one_turn_text, open_text, cut_text, extra_text, idle_text, unnamed_turn_text, none_demanded, none_demanded_text, heavy_word, short_rules, searched_weights, four_bounds, two_on_day_one, wide_log, narrow_log};
 
 use crate::LogRefusal;
 
@@ -63,4 +66,27 @@ pub fn logs_are_refused()
 pub fn turns_are_refused()
     ensures unnamed { IsVerdict three_of_six unnamed_turn_text (Err (LogRefusal.Unnamed 3 7)) }
     ensures undemanded { IsVerdict none_demanded none_demanded_text (Err (LogRefusal.Turn 3)) }
+{}
+
+/// A log whose one split uses up its budget is spent, and has this size.
+pub fn a_log_is_spent()
+    ensures spent { IsSpent three_of_six open_log 1 }
+    ensures one { size open_log ≡ 1 }
+    ensures three { size split_log ≡ 3 }
+{}
+
+/// A dead leaf behind a turn to the first shift that is demanded is sharp.
+pub fn a_turn_is_sharp()
+    ensures { IsSharp three_of_six turn_log }
+{}
+
+/// The plain bounds, and the weights that two rounds of the search give.
+pub fn weights_are_searched()
+    ensures plain { plain_bounds two_in_a_row ≡ four_bounds }
+    ensures rounds { IsSearched two_in_a_row (full two_in_a_row) short_rules 2 searched_weights }
+{}
+
+/// Two descents that drop rules and one that drops none reduce a log: a day that had to stay goes after another.
+pub fn descents_reduce()
+    ensures { IsReduced two_on_day_one wide_log narrow_log }
 {}
