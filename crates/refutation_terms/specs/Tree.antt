@@ -27,7 +27,8 @@ lines_in (Node p x first second) = Split p x ∷ lines_in first ++ lines_in seco
 abbrev pub IsTree : List Line → Type 0
 IsTree lines = (t : Tree) × (lines_in t ≡ lines)
 
--- what follows the first n whole trees of the lines, or None where the lines end before
+-- what follows the first n whole trees of the lines, or None where the lines end before.
+-- The laws `trees_are_as_said` and `domains_are_as_said` tie this walk from the front, and what rests on it, to words
 abbrev pub after_trees : ℕ → List Line → Option (List Line)
 after_trees zero lines = Some lines
 after_trees (suc n) [] = None
