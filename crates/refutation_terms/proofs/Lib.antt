@@ -22,3 +22,4 @@ pub mod ExampleTexts
 pub mod ExampleVerdicts
 pub mod ExampleSharp
 pub mod ExampleStrip
+pub mod Spelled

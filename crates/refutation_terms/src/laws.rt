@@ -1,5 +1,6 @@
 // Laws of the definitions. Each function's contract is the law, and specs/Laws.antt states it.
 ghost use Rattle.refutation_terms.specs.Laws.{TreesAreAsSaid, WalksReadTrees, SidesAreAsSaid, DomainsAreAsSaid, IdleIsAsSaid, OverIsAsSaid, DomainsAreNeverEmpty, WindowsAreOver, SidesTakeAll, SidesShareNone, WindowsAreClean, PartsAreClean, FewerRulesAreClean, WindowsWeighEnough, WindowsWeighExactly, TurningKeepsRules, TurningKeepsLists, SomeTurnHasIt, PassingLeavesNoRoster, PassingIsNotSpent};
+ghost use Rattle.refutation_terms.specs.Spelling.{SpelledLinesFit, FittingLinesAreSpelled};
 
 /// A log that passes, with or without a turn, and a roster that meets the rules that it names exclude each other.
 pub fn passing_leaves_no_roster()
@@ -74,4 +75,10 @@ pub fn idle_is_as_said()
 /// A word over domains from a position has at each place a symbol of the domain there, round the cycle.
 pub fn over_is_as_said()
     ensures { OverIsAsSaid }
+{}
+
+/// Bytes that spell a line are its text, and the line fits the problem; the text of a line that fits spells it.
+pub fn lines_have_one_spelling()
+    ensures fit { SpelledLinesFit }
+    ensures spelled { FittingLinesAreSpelled }
 {}

@@ -1,0 +1,24 @@
+-- Laws of the texts of lines: what is spelled is a line of the problem and has one spelling, and each line of the problem is spelled.
+use Rattle.std.specs.Prelude.{◌≡◌, ℕ, List, Some}
+use Rattle.rwsp_terms.specs.declared.data.Symbol.{Symbol}
+use Rattle.rwsp_terms.specs.Instance.{Instance, IsSymbol, symbol_of, name_of}
+use Rattle.refutation_terms.specs.declared.lines.Line.{Line}
+use Rattle.refutation_terms.specs.Log.{LineFits}
+use Rattle.refutation_terms.specs.LogText.{IsName, raw, line_text}
+use Rattle.refutation_terms.specs.Verdict.{Spells}
+
+-- each symbol has a name of its own
+abbrev pub HasNames : Instance → Type 0
+HasNames P = (x : Symbol) → IsSymbol P x → IsName (name_of P x) × (symbol_of P (name_of P x) ≡ Some x)
+
+-- bytes that spell a line are its text, and the line fits the problem
+abbrev pub SpelledLinesFit : Type 0
+SpelledLinesFit =
+    (P : Instance) (bytes : List ℕ) (line : Line) → Spells P bytes line
+    → LineFits P line × (bytes ≡ line_text P (raw P line))
+
+-- the text of a line that fits the problem spells it
+abbrev pub FittingLinesAreSpelled : Type 0
+FittingLinesAreSpelled =
+    (P : Instance) (line : Line) → HasNames P → LineFits P line
+    → Spells P (line_text P (raw P line)) line
