@@ -23,3 +23,5 @@ pub mod ExampleVerdicts
 pub mod ExampleSharp
 pub mod ExampleStrip
 pub mod Spelled
+pub mod TextParts
+pub mod TextLines

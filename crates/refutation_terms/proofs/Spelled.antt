@@ -21,7 +21,7 @@ use Rattle.refutation_terms.specs.Spelling.{HasNames, SpelledLinesFit, FittingLi
 use Rattle.refutation_terms.proofs.Tests.{either}
 use Rattle.refutation_terms.proofs.Lists.{all_from}
 
-all_to : {A : Type 0} (P : A → Type 0) (xs : List A) → All P xs → AllByRecursion P xs
+pub all_to : {A : Type 0} (P : A → Type 0) (xs : List A) → All P xs → AllByRecursion P xs
 all_to P [] h = tt
 all_to P (x ∷ xs) h = (h 0 x (omega arith), all_to P xs (λ k d lt. h (suc k) d (omega (arith, lt))))
 
