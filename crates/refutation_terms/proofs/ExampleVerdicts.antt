@@ -186,13 +186,6 @@ none_demanded_refused = record {
 }
 
 -- a turn whose day isn't named
-not_in_four : Contains {X = ℕ} (1 ∷ 2 ∷ 3 ∷ 4 ∷ []) 7 → ⊥
-not_in_four (zero, lt, e) = omega (arith, e)
-not_in_four (suc zero, lt, e) = omega (arith, e)
-not_in_four (suc (suc zero), lt, e) = omega (arith, e)
-not_in_four (suc (suc (suc zero)), lt, e) = omega (arith, e)
-not_in_four (suc (suc (suc (suc i))), lt, e) = omega (arith, lt)
-
 no_day_before : (i : ℕ) → rule_of three_of_six i ≡ Some (TheRules.Day 1) → 7 ≤ i
 no_day_before zero e = absurd (cc)
 no_day_before (suc zero) e = absurd (cc)
@@ -202,6 +195,17 @@ no_day_before (suc (suc (suc (suc zero)))) e = absurd (cc)
 no_day_before (suc (suc (suc (suc (suc zero))))) e = absurd (cc)
 no_day_before (suc (suc (suc (suc (suc (suc zero)))))) e = absurd (cc)
 no_day_before (suc (suc (suc (suc (suc (suc (suc i))))))) e = omega arith
+
+-- no number up to 4 is that of day 1
+not_in_four : Names three_of_six (1 ∷ 2 ∷ 3 ∷ 4 ∷ []) (TheRules.Day 1) → ⊥
+not_in_four n = let late : 7 ≤ n.0 = no_day_before n.0 n.2 in in_four n.0 n.1 late
+  where
+    in_four : (k : ℕ) → Contains (1 ∷ 2 ∷ 3 ∷ 4 ∷ []) k → 7 ≤ k → ⊥
+    in_four k (zero, lt, e) late = let is : 1 ≡ k = e in omega (arith, is, late)
+    in_four k (suc zero, lt, e) late = let is : 2 ≡ k = e in omega (arith, is, late)
+    in_four k (suc (suc zero), lt, e) late = let is : 3 ≡ k = e in omega (arith, is, late)
+    in_four k (suc (suc (suc zero)), lt, e) late = let is : 4 ≡ k = e in omega (arith, is, late)
+    in_four k (suc (suc (suc (suc i))), lt, e) late = omega (arith, lt)
 
 pub unnamed_turn_refused : IsVerdict three_of_six unnamed_turn_text (Err (Refusals.Unnamed 3 7))
 unnamed_turn_refused = record {

@@ -25,3 +25,5 @@ pub mod ExampleStrip
 pub mod Spelled
 pub mod TextParts
 pub mod TextLines
+pub mod Texts
+pub mod Fronts

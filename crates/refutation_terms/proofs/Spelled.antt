@@ -125,7 +125,7 @@ weights_back P (e ∷ ys) names small of =
     (((of.0.0, name.0, small.0.0, small.0.1, small.0.2), rest.0),
      ap (λ o. with_weight (named_weight P e) o (weights_of P (map (named_weight P) ys))) name.1 ∙ ap (with_weight (named_weight P e) (Some e.symbol)) rest.1)
 
-spell : (P : Instance) (line : Line) → HasNames P → LineFits P line → IsInRange P (raw P line) × (line_of P (raw P line) ≡ Some line) × Ascends line
+pub spell : (P : Instance) (line : Line) → HasNames P → LineFits P line → IsInRange P (raw P line) × (line_of P (raw P line) ≡ Some line) × Ascends line
 spell P (Split p x) names h = let name = names x h.1 in ((h.0, name.0), ap (option_map (λ z. Split p z)) name.1, tt)
 spell P (Window rule p len) names h = (h, refl, tt)
 spell P (Day day x over) names h = let name = names x h.1 in ((h.0, name.0), ap (option_map (λ z. Day day z over)) name.1, tt)

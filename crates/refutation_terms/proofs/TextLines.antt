@@ -67,7 +67,7 @@ all_small : (n : ℕ) (R : List ℕ) → n < 2 ^ 32 → AllByRecursion (λ k. (0
 all_small n [] lt h = tt
 all_small n (k ∷ R) lt h = let le : k ≤ n = h.0.1 in (omega (arith, le, lt), all_small n R lt h.1)
 
-rules_small : (P : Instance) (R : List ℕ) → IsWritable P → AreRules P R → AreSmall R
+pub rules_small : (P : Instance) (R : List ℕ) → IsWritable P → AreRules P R → AreSmall R
 rules_small P R w h = all_small (length (rules P)) R w.2 (all_to (λ k. (0 < k) × (k ≤ length (rules P))) R h.1)
 
 pub numbers_fields : (R : List ℕ) → AreSmall R → AreFields (numbers R)
@@ -113,7 +113,7 @@ signed_is_field : (z : ℤ) → negsuc 999 ≤ℤ z → z ≤ℤ pos 1000 → Is
 signed_is_field (pos n) a b = let le : n ≤ 1000 = omega (arith, ints) in decimal_is_field n (omega (arith, le))
 signed_is_field (negsuc n) a b = let le : n ≤ 999 = omega (arith, ints) in ((λ e. omega (arith, e), λ e. omega (arith, e)), decimal_is_field (suc n) (omega (arith, le)))
 
-day_small : (P : Instance) (j : ℕ) → IsWritable P → IsDay P j → Fits64 j
+pub day_small : (P : Instance) (j : ℕ) → IsWritable P → IsDay P j → Fits64 j
 day_small P j w h = let le : j ≤ P.days = h.1 in let lt : P.days < 2 ^ 32 = w.0 in omega (arith, le, lt)
 
 weights_fields : (P : Instance) (y : List NamedWeight) → IsWritable P → AllByRecursion (WeightIsInRange P) y → AreFields (flat_map weight_fields y)

@@ -22,7 +22,7 @@ IsLeast Has k = Has k × ((i : ℕ) → Has i → k ≤ i)
 
 -- the number of a rule that is cited and isn't in the header
 abbrev pub IsUnnamed : Instance → List ℕ → (Rule → Type 0) → ℕ → Type 0
-IsUnnamed P named Cited k = (r : Rule) × (rule_of P k ≡ Some r) × Cited r × (Contains named k → ⊥)
+IsUnnamed P named Cited k = (r : Rule) × (rule_of P k ≡ Some r) × Cited r × (Names P named r → ⊥)
 
 -- the number of a rule of a list that isn't short
 abbrev pub IsLongIn : Instance → List ℕ → ℕ → Type 0

@@ -1,6 +1,6 @@
 // Laws of the definitions. Each function's contract is the law, and specs/Laws.antt states it.
 ghost use Rattle.refutation_terms.specs.Laws.{TreesAreAsSaid, WalksReadTrees, SidesAreAsSaid, DomainsAreAsSaid, IdleIsAsSaid, OverIsAsSaid, DomainsAreNeverEmpty, WindowsAreOver, SidesTakeAll, SidesShareNone, WindowsAreClean, PartsAreClean, FewerRulesAreClean, WindowsWeighEnough, WindowsWeighExactly, TurningKeepsRules, TurningKeepsLists, SomeTurnHasIt, PassingLeavesNoRoster, PassingIsNotSpent};
-ghost use Rattle.refutation_terms.specs.Spelling.{SpelledLinesFit, FittingLinesAreSpelled};
+ghost use Rattle.refutation_terms.specs.Spelling.{SpelledLinesFit, FittingLinesAreSpelled, TextsAreDistinct};
 
 /// A log that passes, with or without a turn, and a roster that meets the rules that it names exclude each other.
 pub fn passing_leaves_no_roster()
@@ -81,4 +81,9 @@ pub fn over_is_as_said()
 pub fn lines_have_one_spelling()
     ensures fit { SpelledLinesFit }
     ensures spelled { FittingLinesAreSpelled }
+{}
+
+/// No two logs that fit a problem have one text.
+pub fn texts_are_distinct()
+    ensures { TextsAreDistinct }
 {}
