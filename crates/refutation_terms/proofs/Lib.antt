@@ -27,3 +27,5 @@ pub mod TextParts
 pub mod TextLines
 pub mod Texts
 pub mod Fronts
+pub mod Causes
+pub mod Unique
