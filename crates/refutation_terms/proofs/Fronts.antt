@@ -85,7 +85,7 @@ no_lines ((w ∷ ws) ∷ zs) q e f = absurd (text_some (w ∷ ws) (text_lines zs
         let c : length (text_of ws) ≡ length (Rattle.std.specs.List.join_with_byte 32 ws) + 1 = Rattle.std.proofs.Common.length-append (Rattle.std.specs.List.join_with_byte 32 ws) (10 ∷ []) in
         omega (arith, n, a, b, c)
 
-fields_after : (xs zs : List (List (List ℕ))) → AreFieldLines (xs ++ zs) → AreFieldLines zs
+pub fields_after : (xs zs : List (List (List ℕ))) → AreFieldLines (xs ++ zs) → AreFieldLines zs
 fields_after [] zs h = h
 fields_after (x ∷ xs) zs h = fields_after xs zs h.1
 
