@@ -1,30 +1,28 @@
 -- One cause for a line that is refused.
-use Rattle.std.proofs.Common.{◌≡◌, ◌≢◌, ◌⊎◌, ℕ, zero, suc, ◌+◌, ◌*◌, ◌<◌, ◌≤◌, List, [], ◌∷◌, ◌++◌, length, refl, ap, sym, ◌∙◌, subst, arith, inl, inr, Bool, true, false, Option, Some, None, pos, ℤ}
+use Rattle.std.proofs.Common.{◌≡◌, ℕ, ◌≤◌, List, [], ◌∷◌, ◌++◌, refl, ap, sym, ◌∙◌, subst, arith, inl, inr, true, false, Some, None, pos, ℤ}
 use Rattle.std.specs.Prelude.{◌≤ℤ◌, ◌<ℤ◌, ◌*ℤ◌}
 use Rattle.std.proofs.lemmas.Int.{ints}
 use Rattle.std.specs.Fmt.{decimal}
 use Rattle.std.proofs.lemmas.Fmt.{decimal_injective}
-use Rattle.std.proofs.lemmas.List.{append-nil}
 use Rattle.rwsp_terms.specs.declared.data.Symbol.{Symbol}
 use Rattle.rwsp_terms.specs.declared.data.Rule.{Rule}
 use Rattle.rwsp_terms.specs.declared.data.Rule.TheVariants as TheRules
-use Rattle.rwsp_terms.specs.Instance.{Instance, cells, least, IsDay, symbol_of, symbol_numbered}
-use Rattle.rwsp_terms.specs.Rules.{rule_of, Names}
+use Rattle.rwsp_terms.specs.Instance.{Instance, least, symbol_of}
+use Rattle.rwsp_terms.specs.Rules.{Names}
 use Rattle.refutation_terms.specs.declared.lines.Line.{Line}
 use Rattle.refutation_terms.specs.declared.lines.Line.TheVariants.{Split, Window, Day, Dead, Bound, Unfinished}
 use Rattle.refutation_terms.specs.declared.lines.LogRefusal.{LogRefusal}
 use Rattle.refutation_terms.specs.declared.lines.LogRefusal.TheVariants as Refusals
 use Rattle.refutation_terms.specs.Word.{Domains, weight, total}
 use Rattle.refutation_terms.specs.Tree.{is_idle}
-use Rattle.refutation_terms.specs.Log.{Holds, Cites, LineFits, ListsShortOnly}
+use Rattle.refutation_terms.specs.Log.{Holds, Cites, ListsShortOnly}
 use Rattle.refutation_terms.specs.Escape.{ComesFirst}
 use Rattle.refutation_terms.specs.LogText.{RawLine, raw, fields, text_of, line_text, line_of, turn_text, IsName, IsWritten}
-use Rattle.refutation_terms.specs.Verdict.{IsLeast, IsUnnamed, IsLongIn, ListsLong, IsPlainLeaf, Escapes, SpellsNothing, SpellsUnknown, Spells, TreeCause, SpellsTurn, SpellsNoTurn, TurnsToUnknown, TurnsTo, TurnCause, RulesCause, VersionCause, ExtraCause}
+use Rattle.refutation_terms.specs.Verdict.{IsLeast, IsUnnamed, ListsLong, IsPlainLeaf, Escapes, SpellsNothing, SpellsUnknown, Spells, TreeCause, SpellsTurn, SpellsNoTurn, TurnCause, RulesCause, VersionCause, ExtraCause}
 use Rattle.refutation_terms.specs.Spelling.{IsWritable, HasNames}
-use Rattle.refutation_terms.proofs.Spelled.{spelled_lines_fit, spell}
 use Rattle.refutation_terms.proofs.TextParts.{same_fields}
 use Rattle.refutation_terms.proofs.TextLines.{same_line, line_fields, line_has_fields, day_small}
-use Rattle.refutation_terms.proofs.Texts.{same_tree_line, turn_fields, turn_line}
+use Rattle.refutation_terms.proofs.Texts.{turn_fields, turn_line}
 
 least_same : (A : ℕ → Type 0) (k m : ℕ) → IsLeast A k → IsLeast A m → k ≡ m
 least_same A k m a b = let x : k ≤ m = a.1 m b.0 in let y : m ≤ k = b.1 k a.0 in omega (arith, x, y)

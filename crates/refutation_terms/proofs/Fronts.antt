@@ -5,11 +5,10 @@ use Rattle.rwsp_terms.specs.Instance.{Instance, name_of}
 use Rattle.refutation_terms.specs.declared.lines.Line.{Line}
 use Rattle.refutation_terms.specs.declared.lines.Turn.{Turn}
 use Rattle.refutation_terms.specs.Log.{Log, Fits, TurnFits, AreRules}
-use Rattle.refutation_terms.specs.LogText.{raw, numbers, fields, text_of, version_text, rules_text, log_text}
-use Rattle.refutation_terms.specs.Verdict.{Front, Start, Versioned, BeforeTurn, Reading, front_text, HasNoCause}
+use Rattle.refutation_terms.specs.LogText.{numbers, text_of}
 use Rattle.refutation_terms.specs.Spelling.{IsWritable, HasNames, TextsAreDistinct}
 use Rattle.refutation_terms.proofs.TextLines.{numbers_same, rules_small}
-use Rattle.refutation_terms.proofs.Texts.{text_lines, AreFieldLines, Longer, one_is_longer, version_fields, rules_fields, turn_fields, header_fields, lines_fields, log_fields, log_written, version_line, rules_line, log_lines, each_fits, EachFits, lines_longer, turn_same}
+use Rattle.refutation_terms.proofs.Texts.{text_lines, AreFieldLines, one_is_longer, version_fields, rules_fields, turn_fields, header_fields, lines_fields, log_fields, log_written, log_lines, each_fits, EachFits, lines_longer, turn_same}
 
 second_byte : List (List ℕ) → ℕ
 second_byte [] = 0
@@ -56,10 +55,11 @@ goes_on P named (Some t) lines named' (Some u) lines' zs w n hr hq ht hu hl hm e
 
 pub log_goes_on : (P : Instance) (g h : Log) (zs : List (List (List ℕ))) → IsWritable P → HasNames P → Fits P g → Fits P h → log_fields P h ≡ log_fields P g ++ zs → (more : List Line) × (h ≡ record { named = g.named; turn = g.turn; lines = g.lines ++ more }) × (zs ≡ lines_fields P more)
 log_goes_on P g h zs w n hg hh e =
-    let s = goes_on P g.named g.turn g.lines h.named h.turn h.lines zs w n hg.named hh.named hg.turn hh.turn (each_fits P g.lines hg.lines) (each_fits P h.lines hh.lines) e in
-    (s.more,
-     ap (λ i. record { named = i; turn = h.turn; lines = h.lines }) (sym s.same_named) ∙ ap (λ i. record { named = g.named; turn = i; lines = h.lines }) (sym s.same_turn) ∙ ap (λ i. record { named = g.named; turn = g.turn; lines = i }) s.longer,
-     s.written)
+    let s = goes_on P g.named g.turn g.lines h.named h.turn h.lines zs w n hg.named hh.named hg.turn hh.turn (each_fits P g.lines hg.lines) (each_fits P h.lines hh.lines) e in (
+      s.more,
+      ap (λ i. record { named = i; turn = h.turn; lines = h.lines }) (sym s.same_named) ∙ ap (λ i. record { named = g.named; turn = i; lines = h.lines }) (sym s.same_turn) ∙ ap (λ i. record { named = g.named; turn = g.turn; lines = i }) s.longer,
+      s.written,
+    )
 
 nothing_more : (P : Instance) (more : List Line) → [] ≡ lines_fields P more → more ≡ []
 nothing_more P [] e = refl
@@ -93,8 +93,8 @@ fields_after (x ∷ xs) zs h = fields_after xs zs h.1
 pub same_text_lines : (xs ys : List (List (List ℕ))) → AreFieldLines xs → AreFieldLines ys → text_lines xs ≡ text_lines ys → xs ≡ ys
 same_text_lines xs ys fx fy e =
     elim (one_is_longer xs ys [] [] fx fy (append-nil (text_lines xs) ∙ e ∙ sym (append-nil (text_lines ys)))) [
-      inl a ↦ (let none : a.0 ≡ [] = no_lines a.0 [] a.2 (fields_after xs a.0 (subst AreFieldLines a.1 fy)) in sym (append-nil xs) ∙ ap (λ z. xs ++ z) (sym none) ∙ sym a.1)
-    | inr b ↦ (let none : b.0 ≡ [] = no_lines b.0 [] b.2 (fields_after ys b.0 (subst AreFieldLines b.1 fx)) in b.1 ∙ ap (λ z. ys ++ z) none ∙ append-nil ys)
+      | inl a ↦ (let none : a.0 ≡ [] = no_lines a.0 [] a.2 (fields_after xs a.0 (subst AreFieldLines a.1 fy)) in sym (append-nil xs) ∙ ap (λ z. xs ++ z) (sym none) ∙ sym a.1)
+      | inr b ↦ (let none : b.0 ≡ [] = no_lines b.0 [] b.2 (fields_after ys b.0 (subst AreFieldLines b.1 fx)) in b.1 ∙ ap (λ z. ys ++ z) none ∙ append-nil ys)
     ]
 
 pub texts_distinct : TextsAreDistinct

@@ -1,6 +1,6 @@
 -- Lines and their texts.
-use Rattle.std.proofs.Common.{◌≡◌, ◌≢◌, ◌⊎◌, ℕ, zero, suc, ◌+◌, ◌*◌, ◌<◌, ◌≤◌, List, [], ◌∷◌, ◌++◌, length, get_or, map, refl, ap, sym, ◌∙◌, subst, arith, inl, inr, Bool, true, false, cond, Option, Some, None, pos, negsuc, ℤ}
-use Rattle.std.specs.Prelude.{All, AllPairs, slice_get, position, IfSome, ◌≤ℤ◌}
+use Rattle.std.proofs.Common.{◌≡◌, ℕ, suc, ◌+◌, ◌<◌, ◌≤◌, List, [], ◌∷◌, length, get_or, map, refl, ap, sym, ◌∙◌, subst, arith, Bool, true, false, cond, Option, Some, None}
+use Rattle.std.specs.Prelude.{All, AllPairs, position, IfSome}
 use Rattle.std.specs.List.{AllByRecursion}
 use Rattle.std.specs.Option.{option_map}
 use Rattle.std.specs.Str.{bytes_eq}
@@ -10,15 +10,13 @@ use Rattle.std.proofs.lemmas.Option.{slice_get-get_or}
 use Rattle.rwsp_terms.specs.declared.data.Symbol.{Symbol}
 use Rattle.rwsp_terms.specs.declared.data.ShiftRow.{ShiftRow}
 use Rattle.rwsp_terms.specs.declared.data.Weight.{Weight}
-use Rattle.rwsp_terms.specs.Instance.{Instance, cells, IsDay, IsSymbol, no_bounds, off_name, symbol_numbered, symbol_of, name_in, name_numbered, name_of}
-use Rattle.rwsp_terms.specs.Weights.{ComesBefore, IsWeight, AreWeights}
+use Rattle.rwsp_terms.specs.Instance.{Instance, IsDay, IsSymbol, no_bounds, off_name, symbol_numbered, symbol_of, name_in, name_numbered, name_of}
+use Rattle.rwsp_terms.specs.Weights.{ComesBefore, IsWeight}
 use Rattle.refutation_terms.specs.declared.lines.Line.{Line}
 use Rattle.refutation_terms.specs.declared.lines.Line.TheVariants.{Split, Window, Day, Dead, Bound, Unfinished}
 use Rattle.refutation_terms.specs.Log.{LineFits}
-use Rattle.refutation_terms.specs.LogText.{NamedWeight, RawLine, RawSplit, RawWindow, RawDay, RawDead, RawBound, RawUnfinished, named_weight, raw, line_text, IsName, WeightIsInRange, IsInRange, with_weight, weights_of, line_of, Ascends, IsWritten}
-use Rattle.refutation_terms.specs.Verdict.{Spells}
+use Rattle.refutation_terms.specs.LogText.{NamedWeight, RawLine, RawSplit, RawWindow, RawDay, RawDead, RawBound, RawUnfinished, named_weight, raw, line_text, WeightIsInRange, IsInRange, with_weight, weights_of, line_of, Ascends}
 use Rattle.refutation_terms.specs.Spelling.{HasNames, SpelledLinesFit, FittingLinesAreSpelled}
-use Rattle.refutation_terms.proofs.Tests.{either}
 use Rattle.refutation_terms.proofs.Lists.{all_from}
 
 pub all_to : {A : Type 0} (P : A → Type 0) (xs : List A) → All P xs → AllByRecursion P xs
@@ -76,10 +74,10 @@ weights_read P (e ∷ y) ys h is =
     let first : Weight = record { day = e.day; symbol = w.0; value = e.value } in
     let same_first : named_weight P (record { day = e.day; symbol = w.0; value = e.value }) ≡ e = ap (λ n. record { day = e.day; name = n; value = e.value }) named.1 in
     subst (AreRead P (e ∷ y)) w.4 (record {
-        same = ap (λ f. f ∷ map (named_weight P) w.1) same_first ∙ ap (λ fs. e ∷ fs) rest.same;
-        small = ((h.0.2, h.0.3, h.0.4), rest.small);
-        of = ((h.0.0, named.0), rest.of);
-      })
+      same = ap (λ f. f ∷ map (named_weight P) w.1) same_first ∙ ap (λ fs. e ∷ fs) rest.same;
+      small = ((h.0.2, h.0.3, h.0.4), rest.small);
+      of = ((h.0.0, named.0), rest.of);
+    })
 
 -- the line that a written line is
 abbrev FitsAs : Instance → RawLine → Line → Type 0
@@ -104,9 +102,10 @@ fits_as P (RawBound p turns R y) line h a e =
     let m = mapped (λ ys. Bound p turns R ys) (weights_of P y) line e in
     let read = weights_read P y m.0 (all_to (WeightIsInRange P) y h.3) m.1 in
     let ascends : AllPairs ComesBefore m.0 = subst (λ o. IfSome (option_map (λ ys. Bound p turns R ys) o) Ascends) m.1 a in
-    subst (FitsAs P (RawBound p turns R y)) m.2
-    ((h.0, h.1, h.2, (record { ascends = ascends; small = all_from IsWeight m.0 read.small }, all_from (IsOf P) m.0 read.of)),
-     ap (RawBound p turns R) (sym read.same))
+    subst (FitsAs P (RawBound p turns R y)) m.2 (
+      (h.0, h.1, h.2, (record { ascends = ascends; small = all_from IsWeight m.0 read.small }, all_from (IsOf P) m.0 read.of)),
+      ap (RawBound p turns R) (sym read.same),
+    )
 fits_as P RawUnfinished line h a e =
     let same : Unfinished ≡ line = cc in
     subst (FitsAs P RawUnfinished) same (tt, refl)
@@ -121,9 +120,10 @@ weights_back : (P : Instance) (ys : List Weight) → HasNames P → AllByRecursi
 weights_back P [] names small of = (tt, refl)
 weights_back P (e ∷ ys) names small of =
     let rest = weights_back P ys names small.1 of.1 in
-    let name = names e.symbol of.0.1 in
-    (((of.0.0, name.0, small.0.0, small.0.1, small.0.2), rest.0),
-     ap (λ o. with_weight (named_weight P e) o (weights_of P (map (named_weight P) ys))) name.1 ∙ ap (with_weight (named_weight P e) (Some e.symbol)) rest.1)
+    let name = names e.symbol of.0.1 in (
+      ((of.0.0, name.0, small.0.0, small.0.1, small.0.2), rest.0),
+      ap (λ o. with_weight (named_weight P e) o (weights_of P (map (named_weight P) ys))) name.1 ∙ ap (with_weight (named_weight P e) (Some e.symbol)) rest.1,
+    )
 
 pub spell : (P : Instance) (line : Line) → HasNames P → LineFits P line → IsInRange P (raw P line) × (line_of P (raw P line) ≡ Some line) × Ascends line
 spell P (Split p x) names h = let name = names x h.1 in ((h.0, name.0), ap (option_map (λ z. Split p z)) name.1, tt)

@@ -1,5 +1,5 @@
 -- The line that a line of text was written from.
-use Rattle.std.proofs.Common.{◌≡◌, ◌≢◌, ◌⊎◌, ℕ, zero, suc, ◌+◌, ◌-◌, ◌*◌, ◌/◌, ◌%◌, ◌^◌, ◌<◌, ◌≤◌, List, [], ◌∷◌, ◌++◌, length, get_or, map, refl, ap, sym, ◌∙◌, subst, append_assoc, arith, inl, inr, Bool, true, false, pos, negsuc, ℤ, lit<, lit≤}
+use Rattle.std.proofs.Common.{◌≡◌, ℕ, zero, suc, ◌+◌, ◌*◌, ◌/◌, ◌%◌, ◌^◌, ◌<◌, ◌≤◌, List, [], ◌∷◌, ◌++◌, length, get_or, refl, ap, sym, ◌∙◌, subst, arith, Bool, true, false, pos, negsuc, ℤ}
 use Rattle.std.specs.Prelude.{codes, ◌≤ℤ◌}
 use Rattle.std.specs.List.{AllByRecursion, flat_map}
 use Rattle.std.specs.Int.Signed.{mag}
@@ -11,7 +11,7 @@ use Rattle.std.proofs.Math.Nat.{div-lt_iff_lt-mul}
 use Rattle.rwsp_terms.specs.Instance.{Instance, cells, IsDay}
 use Rattle.rwsp_terms.specs.Rules.{rules}
 use Rattle.refutation_terms.specs.Log.{AreRules}
-use Rattle.refutation_terms.specs.LogText.{NamedWeight, RawLine, RawSplit, RawWindow, RawDay, RawDead, RawBound, RawUnfinished, numbers, place, way, weight_fields, fields, IsName, WeightIsInRange, IsInRange}
+use Rattle.refutation_terms.specs.LogText.{NamedWeight, RawLine, RawSplit, RawWindow, RawDay, RawDead, RawBound, RawUnfinished, numbers, place, way, weight_fields, fields, WeightIsInRange, IsInRange}
 use Rattle.refutation_terms.specs.Spelling.{IsWritable}
 use Rattle.refutation_terms.proofs.Spelled.{all_to}
 use Rattle.refutation_terms.proofs.TextParts.{IsField, AreFields, AreDigits, decimal_is_digits, decimal_is_field, tested_field, name_is_field}
@@ -169,13 +169,17 @@ line_fields P (RawWindow rule p len) w h =
     (tested_field (codes "window") refl, (decimal_is_field rule r, fields_append (place P p) (decimal len ∷ []) (place_fields P p w h.2) (decimal_is_field len (small_number len h.3.1), tt)))
 line_fields P (RawDay day name over) w h =
     (tested_field (codes "day") refl, (decimal_is_field day (day_small P day w h.0), (name_is_field name h.1, (way_is_field over, tt))))
-line_fields P (RawDead p len R) w h =
-    (tested_field (codes "dead") refl, fields_append (place P p) (decimal len ∷ codes "rules" ∷ numbers R) (place_fields P p w h.0)
-        (decimal_is_field len (small_number len h.1.1), (tested_field (codes "rules") refl, numbers_fields R (rules_small P R w h.2))))
+line_fields P (RawDead p len R) w h = (
+  tested_field (codes "dead") refl,
+  fields_append (place P p) (decimal len ∷ codes "rules" ∷ numbers R) (place_fields P p w h.0)
+      (decimal_is_field len (small_number len h.1.1), (tested_field (codes "rules") refl, numbers_fields R (rules_small P R w h.2))),
+)
 line_fields P (RawBound p turns R y) w h =
-    fields_append (codes "bound" ∷ place P p ++ (decimal turns ∷ codes "rules" ∷ numbers R)) (codes "weights" ∷ flat_map weight_fields y)
-    (tested_field (codes "bound") refl, fields_append (place P p) (decimal turns ∷ codes "rules" ∷ numbers R) (place_fields P p w h.0)
-        (decimal_is_field turns (turns_small P p turns h.0 h.1.1), (tested_field (codes "rules") refl, numbers_fields R (rules_small P R w h.2))))
+    fields_append (codes "bound" ∷ place P p ++ (decimal turns ∷ codes "rules" ∷ numbers R)) (codes "weights" ∷ flat_map weight_fields y) (
+      tested_field (codes "bound") refl,
+      fields_append (place P p) (decimal turns ∷ codes "rules" ∷ numbers R) (place_fields P p w h.0)
+          (decimal_is_field turns (turns_small P p turns h.0 h.1.1), (tested_field (codes "rules") refl, numbers_fields R (rules_small P R w h.2))),
+    )
     (tested_field (codes "weights") refl, weights_fields P y w (all_to (WeightIsInRange P) y h.3))
 line_fields P RawUnfinished w h = (tested_field (codes "open") refl, tt)
 

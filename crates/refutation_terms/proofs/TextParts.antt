@@ -1,7 +1,7 @@
 -- The fields of a line of text, found again in its bytes.
-use Rattle.std.proofs.Common.{◌≡◌, ◌≢◌, ◌⊎◌, ℕ, zero, suc, ◌+◌, ◌-◌, ◌*◌, ◌/◌, ◌%◌, ◌^◌, ◌<◌, ◌≤◌, List, [], ◌∷◌, ◌++◌, length, refl, ap, sym, ◌∙◌, subst, append_assoc, arith, inl, inr, Bool, true, false, IsTrue, ◌==◌, ◌&&◌, not, pos, negsuc, ℤ}
+use Rattle.std.proofs.Common.{◌≡◌, ◌≢◌, ◌⊎◌, ℕ, ◌+◌, ◌%◌, ◌^◌, ◌<◌, ◌≤◌, List, [], ◌∷◌, ◌++◌, length, refl, ap, sym, ◌∙◌, subst, append_assoc, arith, inl, inr, true, IsTrue, ◌==◌, ◌&&◌, not}
 use Rattle.std.specs.List.{AllByRecursion, join_with_byte, list_all}
-use Rattle.std.specs.Fmt.{decimal, signed_decimal}
+use Rattle.std.specs.Fmt.{decimal}
 use Rattle.std.proofs.lemmas.Fmt.{decimal_by_steps}
 use Rattle.std.proofs.lemmas.Bool.{eqb-false}
 use Rattle.std.proofs.lemmas.Nat.{mod_below}
@@ -127,9 +127,10 @@ decimal_is_field n h = digits_are_field (decimal n) (decimal_is_digits n h)
 pub tested_field : (w : List ℕ) → list_all (λ b. not (b == 32) && not (b == 10)) w ≡ true → IsField w
 tested_field [] h = tt
 tested_field (b ∷ w) h =
-    let here : IsTrue (not (b == 32) && not (b == 10)) = left_of (not (b == 32) && not (b == 10)) (list_all (λ b. not (b == 32) && not (b == 10)) w) h in
-    ((eqb-false b 32 (failed_by_not (b == 32) (left_of (not (b == 32)) (not (b == 10)) here)), eqb-false b 10 (failed_by_not (b == 10) (right_of (not (b == 32)) (not (b == 10)) here))),
-     tested_field w (right_of (not (b == 32) && not (b == 10)) (list_all (λ b. not (b == 32) && not (b == 10)) w) h))
+    let here : IsTrue (not (b == 32) && not (b == 10)) = left_of (not (b == 32) && not (b == 10)) (list_all (λ b. not (b == 32) && not (b == 10)) w) h in (
+      (eqb-false b 32 (failed_by_not (b == 32) (left_of (not (b == 32)) (not (b == 10)) here)), eqb-false b 10 (failed_by_not (b == 10) (right_of (not (b == 32)) (not (b == 10)) here))),
+      tested_field w (right_of (not (b == 32) && not (b == 10)) (list_all (λ b. not (b == 32) && not (b == 10)) w) h),
+    )
 
 visible_is_field : (w : List ℕ) → AllByRecursion (λ b. (b ≢ 32) × (b ≢ 9) × (b ≢ 13) × (b ≢ 10)) w → IsField w
 visible_is_field [] h = tt

@@ -1,22 +1,19 @@
 -- Texts as lists of lines, and each line as its fields.
-use Rattle.std.proofs.Common.{◌≡◌, ◌≢◌, ◌⊎◌, ℕ, zero, suc, ◌+◌, ◌<◌, ◌≤◌, List, [], ◌∷◌, ◌++◌, length, map, refl, ap, sym, ◌∙◌, subst, append_assoc, arith, inl, inr, Bool, true, false, Option, Some, None}
+use Rattle.std.proofs.Common.{◌≡◌, ◌⊎◌, ℕ, suc, ◌<◌, List, [], ◌∷◌, ◌++◌, length, map, refl, ap, sym, ◌∙◌, append_assoc, arith, inl, inr, Bool, true, false, Option, Some, None}
 use Rattle.std.specs.Prelude.{codes, slice_get}
 use Rattle.std.specs.List.{AllByRecursion, concat}
 use Rattle.std.specs.Fmt.{decimal}
 use Rattle.std.proofs.lemmas.Fmt.{decimal_injective}
 use Rattle.std.proofs.lemmas.List.{append-nil}
-use Rattle.rwsp_terms.specs.declared.data.Symbol.{Symbol}
-use Rattle.rwsp_terms.specs.Instance.{Instance, IsSymbol, IsDay, symbol_of, name_of}
-use Rattle.rwsp_terms.specs.Rules.{rules}
+use Rattle.rwsp_terms.specs.Instance.{Instance, IsDay, symbol_of, name_of}
 use Rattle.refutation_terms.specs.declared.lines.Line.{Line}
 use Rattle.refutation_terms.specs.declared.lines.Turn.{Turn}
 use Rattle.refutation_terms.specs.Log.{Log, Fits, LineFits, TurnFits, AreRules}
-use Rattle.refutation_terms.specs.LogText.{RawLine, raw, numbers, fields, text_of, line_text, version_text, rules_text, turn_text, header_text, log_text, line_of, IsName}
-use Rattle.refutation_terms.specs.Verdict.{Front, Start, Versioned, BeforeTurn, Reading, front_text}
-use Rattle.refutation_terms.specs.Spelling.{IsWritable, HasNames, TextsAreDistinct}
+use Rattle.refutation_terms.specs.LogText.{raw, numbers, fields, text_of, line_text, version_text, rules_text, turn_text, header_text, log_text, line_of, IsName}
+use Rattle.refutation_terms.specs.Spelling.{IsWritable, HasNames}
 use Rattle.refutation_terms.proofs.Spelled.{spell}
-use Rattle.refutation_terms.proofs.TextParts.{IsField, AreFields, same_fields, tested_field, decimal_is_field, name_is_field}
-use Rattle.refutation_terms.proofs.TextLines.{same_line, line_fields, line_has_fields, numbers_fields, numbers_same, rules_small, day_small}
+use Rattle.refutation_terms.proofs.TextParts.{AreFields, same_fields, tested_field, decimal_is_field, name_is_field}
+use Rattle.refutation_terms.proofs.TextLines.{same_line, line_fields, line_has_fields, numbers_fields, rules_small, day_small}
 
 -- a text by the fields of its lines
 abbrev pub text_lines : List (List (List ℕ)) → List ℕ
@@ -45,8 +42,8 @@ one_is_longer (ws ∷ xs) (vs ∷ ys) r q fx fy e =
     let moved : text_of ws ++ (text_lines xs ++ r) ≡ text_of vs ++ (text_lines ys ++ q) = sym (append_assoc (text_of ws) (text_lines xs) r) ∙ e ∙ append_assoc (text_of vs) (text_lines ys) q in
     let s = same_fields ws vs (text_lines xs ++ r) (text_lines ys ++ q) fx.0.0 fy.0.0 fx.0.1 fy.0.1 moved in
     elim (one_is_longer xs ys r q fx.1 fy.1 s.1) [
-      inl a ↦ inl (a.0, (let first : ws ≡ vs = s.0 in let rest : ys ≡ xs ++ a.0 = a.1 in let whole : vs ∷ ys ≡ ws ∷ xs ++ a.0 = cc in whole), a.2)
-    | inr b ↦ inr (b.0, (let first : ws ≡ vs = s.0 in let rest : xs ≡ ys ++ b.0 = b.1 in let whole : ws ∷ xs ≡ vs ∷ ys ++ b.0 = cc in whole), b.2)
+      | inl a ↦ inl (a.0, (let first : ws ≡ vs = s.0 in let rest : ys ≡ xs ++ a.0 = a.1 in let whole : vs ∷ ys ≡ ws ∷ xs ++ a.0 = cc in whole), a.2)
+      | inr b ↦ inr (b.0, (let first : ws ≡ vs = s.0 in let rest : xs ≡ ys ++ b.0 = b.1 in let whole : ws ∷ xs ≡ vs ∷ ys ++ b.0 = cc in whole), b.2)
     ]
 
 -- the lines of a front

@@ -1,6 +1,6 @@
 -- One verdict for a text.
-use Rattle.std.proofs.Common.{◌≡◌, ◌≢◌, ◌⊎◌, ℕ, zero, suc, ◌+◌, ◌<◌, ◌≤◌, List, [], ◌∷◌, ◌++◌, length, take, map, refl, ap, sym, ◌∙◌, subst, append_assoc, arith, inl, inr, Bool, true, false, ◌&&◌, Option, Some, None, pos, ℤ, length-append}
-use Rattle.std.specs.Prelude.{slice_get, Result, Ok, Err, ◌≤ℤ◌, ◌<ℤ◌}
+use Rattle.std.proofs.Common.{◌≡◌, ◌≢◌, ◌⊎◌, ℕ, ◌+◌, ◌<◌, List, [], ◌∷◌, ◌++◌, length, take, refl, ap, sym, ◌∙◌, subst, append_assoc, arith, inl, inr, Bool, true, false, ◌&&◌, Option, Some, None, pos, ℤ, length-append}
+use Rattle.std.specs.Prelude.{slice_get, Ok, Err, ◌≤ℤ◌, ◌<ℤ◌}
 use Rattle.std.specs.List.{AllByRecursion, join_with_byte}
 use Rattle.std.proofs.lemmas.Int.{ints}
 use Rattle.std.proofs.lemmas.List.{append-nil}
@@ -11,20 +11,19 @@ use Rattle.rwsp_terms.specs.declared.data.Rule.TheVariants as TheRules
 use Rattle.rwsp_terms.specs.Instance.{Instance, least, name_of, symbol_of}
 use Rattle.rwsp_terms.specs.Rules.{Names}
 use Rattle.refutation_terms.specs.declared.lines.Line.{Line}
-use Rattle.refutation_terms.specs.declared.lines.Line.TheVariants.{Unfinished}
 use Rattle.refutation_terms.specs.declared.lines.Turn.{Turn}
 use Rattle.refutation_terms.specs.declared.lines.LogRefusal.{LogRefusal}
 use Rattle.refutation_terms.specs.declared.lines.LogRefusal.TheVariants as Refusals
 use Rattle.refutation_terms.specs.Word.{Domains}
-use Rattle.refutation_terms.specs.Tree.{IsTree, domains_at, opening, lines_leave, Tree, lines_in}
-use Rattle.refutation_terms.specs.Log.{Log, Fits, LineFits, TurnFits, AreRules, Holds, Cites, TurnCites, IsAllowed, ListsShortOnly, IsGrounded, Passes}
+use Rattle.refutation_terms.specs.Tree.{IsTree, after_trees, domains_at, opening, lines_leave, lines_in}
+use Rattle.refutation_terms.specs.Log.{Log, LineFits, TurnFits, AreRules, Holds, Cites, TurnCites, IsAllowed, ListsShortOnly, IsGrounded, Passes}
 use Rattle.refutation_terms.specs.LogText.{raw, fields, text_of, line_text, version_text, rules_text, turn_text}
-use Rattle.refutation_terms.specs.Verdict.{Front, Start, Versioned, BeforeTurn, Reading, front_text, HasNoCause, IsSoundSoFar, IsWhole, header_lines, Cause, TurnsTo, SpellsTurn, VersionCause, RulesCause, HasNoFeed, IsNextLine, IsRefusedLine, EndsEarly, IsRefused, IsVerdict}
-use Rattle.refutation_terms.specs.Spelling.{IsWritable, HasNames}
+use Rattle.refutation_terms.specs.Verdict.{Front, Start, Versioned, BeforeTurn, Reading, front_text, HasNoCause, IsSoundSoFar, IsWhole, header_lines, Cause, VersionCause, RulesCause, HasNoFeed, IsNextLine, IsRefusedLine, EndsEarly, IsRefused, IsAccepted}
+use Rattle.refutation_terms.specs.Spelling.{IsWritable, HasNames, VerdictIsUnique}
 use Rattle.refutation_terms.proofs.Spelled.{all_to, fitting_lines_are_spelled}
 use Rattle.refutation_terms.proofs.Lists.{all_from}
+use Rattle.refutation_terms.proofs.Trees.{part_is_not_whole, tree_is_whole}
 use Rattle.refutation_terms.proofs.TextParts.{IsInField, AreFields}
-use Rattle.refutation_terms.proofs.TextLines.{numbers_same, rules_small}
 use Rattle.refutation_terms.proofs.Texts.{text_lines, AreFieldLines, Longer, one_is_longer, version_fields, rules_fields, turn_fields, header_fields, lines_fields, log_fields, log_written, version_line, rules_line, log_lines}
 use Rattle.refutation_terms.proofs.Fronts.{fields_after, texts_distinct, same_text_lines, versions_differ, version_same, rules_same, log_goes_on, log_same}
 use Rattle.refutation_terms.proofs.Causes.{spells_same, not_unknown, long_not_short, idle_not_holding, escaped_not_holding, Reason, OfName, OfIdle, OfLong, OfFail, OfEscape, OfOpen, Level, Nothing, Unknown, Known, level_of, tree_cause_same, version_cause, rules_cause, extra_cause, turns_same, TurnReason, NoTurn, NoName, NoDay, NoDemand, turn_reason, turn_cause_same}
@@ -310,6 +309,7 @@ whole_not_refused P text G why w n hg e r =
   where
     some : 0 < length (r.line ++ r.rest)
     some = let a : 0 < length r.line = line_some r.line r.rest r.is_line in omega (arith, a, length-append r.line r.rest)
+
     ends_by : Longer (front_fields P r.front) (r.line ++ r.rest) (front_fields P G) [] ⊎ Longer (front_fields P G) [] (front_fields P r.front) (r.line ++ r.rest) → ⊥
     ends_by (inl ([], a, b)) = let none : length (r.line ++ r.rest) ≡ 0 = ap (λ t. length t) b in let s = some in omega (arith, s, none)
     ends_by (inl (z ∷ zs, a, b)) =
@@ -320,3 +320,73 @@ whole_not_refused P text G why w n hg e r =
     ends_by (inr (zs, a, b)) =
         let none : 0 ≡ length (text_lines zs ++ (r.line ++ r.rest)) = ap (λ t. length t) b in
         let s = some in omega (arith, s, none, length-append (text_lines zs) (r.line ++ r.rest))
+
+-- two refusals where the first front is no longer than the second
+earlier_same : (P : Instance) (text : List ℕ) (why other : LogRefusal) → IsWritable P → HasNames P → (a : IsRefusedLine P text why) → (b : IsRefusedLine P text other) → Longer (front_fields P a.front) (a.line ++ a.rest) (front_fields P b.front) (b.line ++ b.rest) → why ≡ other
+earlier_same P text why other w n a b ([], e, r) =
+    let fronts : a.front ≡ b.front = same_front P a.front b.front w n a.no_cause b.no_cause (e ∙ append-nil (front_fields P a.front)) in
+    let lines : a.line ≡ b.line = next_same a.line b.line a.rest b.rest a.is_line b.is_line r in
+    cause_same P a.front a.line why other w n a.cause (subst (λ F. Cause P F a.line other) (sym fronts) (subst (λ l. Cause P b.front l other) (sym lines) b.cause))
+earlier_same P text why other w n a b (z ∷ zs, e, r) =
+    let fields : AreFieldLines (z ∷ zs) = fields_after (front_fields P a.front) (z ∷ zs) (subst AreFieldLines e (front_lines P b.front w n b.no_cause)) in
+    let moved : a.line ++ a.rest ≡ text_of z ++ (text_lines zs ++ (b.line ++ b.rest)) = r ∙ append_assoc (text_of z) (text_lines zs) (b.line ++ b.rest) in
+    let line : a.line ≡ text_of z = next_same a.line (text_of z) a.rest (text_lines zs ++ (b.line ++ b.rest)) a.is_line (text_is_line z (text_lines zs ++ (b.line ++ b.rest)) fields.0.1) moved in
+    absurd (next_fine P a.front b.front z zs why w n a.no_cause b.no_cause e (subst (λ l. Cause P a.front l why) line a.cause))
+
+front_line : (P : Instance) (text : List ℕ) (why : LogRefusal) (a : IsRefusedLine P text why) → text ≡ text_lines (front_fields P a.front) ++ (a.line ++ a.rest)
+front_line P text why a = a.whole ∙ append_assoc (front_text P a.front) a.line a.rest ∙ ap (λ t. t ++ (a.line ++ a.rest)) (front_written P a.front)
+
+refused_same : (P : Instance) (text : List ℕ) (why other : LogRefusal) → IsWritable P → HasNames P → IsRefusedLine P text why → IsRefusedLine P text other → why ≡ other
+refused_same P text why other w n a b =
+    elim (one_is_longer (front_fields P a.front) (front_fields P b.front) (a.line ++ a.rest) (b.line ++ b.rest) (front_lines P a.front w n a.no_cause) (front_lines P b.front w n b.no_cause) (sym (front_line P text why a) ∙ front_line P text other b)) [
+      | inl l ↦ earlier_same P text why other w n a b l
+      | inr l ↦ sym (earlier_same P text other why w n b a l)
+    ]
+
+-- a refusal is at the end or at a line
+end_or_line : (P : Instance) (text : List ℕ) (why : LogRefusal) → IsRefused P text why → (EndsEarly P text × (why ≡ Refusals.Ends)) ⊎ IsRefusedLine P text why
+end_or_line P text (Refusals.Form i) h = inr h
+end_or_line P text (Refusals.Name i) h = inr h
+end_or_line P text (Refusals.Unnamed i k) h = inr h
+end_or_line P text (Refusals.Idle i) h = inr h
+end_or_line P text (Refusals.Long i k) h = inr h
+end_or_line P text (Refusals.Fails i) h = inr h
+end_or_line P text (Refusals.Escape i u) h = inr h
+end_or_line P text (Refusals.Unfinished i) h = inr h
+end_or_line P text Refusals.Ends h = inl (h, refl)
+end_or_line P text (Refusals.Extra i) h = inr h
+end_or_line P text (Refusals.Turn i) h = inr h
+
+refusals_same : (P : Instance) (text : List ℕ) (why other : LogRefusal) → IsWritable P → HasNames P → (EndsEarly P text × (why ≡ Refusals.Ends)) ⊎ IsRefusedLine P text why → (EndsEarly P text × (other ≡ Refusals.Ends)) ⊎ IsRefusedLine P text other → why ≡ other
+refusals_same P text why other w n (inl a) (inl b) = a.1 ∙ sym b.1
+refusals_same P text why other w n (inl a) (inr b) = absurd (whole_not_refused P text a.0.front other w n a.0.no_cause a.0.whole b)
+refusals_same P text why other w n (inr a) (inl b) = absurd (whole_not_refused P text b.0.front why w n b.0.no_cause b.0.whole a)
+refusals_same P text why other w n (inr a) (inr b) = refused_same P text why other w n a b
+
+-- a log that passes has no cause
+passing_sound : (P : Instance) (g : Log) → Passes P g → IsSoundSoFar P g
+passing_sound P g h = record {
+  grounded = h.grounded;
+  holds = h.holds;
+  in_tree = λ k lt t.
+      let whole = h.tree in
+      let less : k < length (lines_in whole.0) = subst (λ ls. k < length ls) (sym whole.1) lt in
+      let none : after_trees 1 (take k g.lines) ≡ None = ap (λ ls. after_trees 1 (take k ls)) (sym whole.1) ∙ part_is_not_whole whole.0 0 k less in
+      let some : after_trees 1 (take k g.lines) ≡ Some [] = ap (after_trees 1) (sym t.1) ∙ tree_is_whole t.0 in
+      let clash : None ≡ Some [] = sym none ∙ some in cc;
+}
+
+passing_not_refused : (P : Instance) (text : List ℕ) (g : Log) (why : LogRefusal) → IsWritable P → HasNames P → IsAccepted P text g → (EndsEarly P text × (why ≡ Refusals.Ends)) ⊎ IsRefusedLine P text why → ⊥
+passing_not_refused P text g why w n a (inl b) =
+    let sound = passing_sound P g a.1 in
+    let lines : front_fields P (Reading g) ≡ front_fields P b.0.front =
+    same_text_lines (front_fields P (Reading g)) (front_fields P b.0.front) (front_lines P (Reading g) w n sound) (front_lines P b.0.front w n b.0.no_cause) (sym (front_written P (Reading g)) ∙ sym a.0 ∙ b.0.whole ∙ front_written P b.0.front) in
+    let fronts : b.0.front ≡ Reading g = same_front P b.0.front (Reading g) w n b.0.no_cause sound lines in
+    b.0.not_whole (subst IsWhole (sym fronts) a.1.tree)
+passing_not_refused P text g why w n a (inr b) = whole_not_refused P text (Reading g) why w n (passing_sound P g a.1) a.0 b
+
+pub verdict_unique : VerdictIsUnique
+verdict_unique P text (Ok g) (Ok h) w n a b = ap Ok (texts_distinct P g h w n a.1.grounded.fits b.1.grounded.fits (sym a.0 ∙ b.0))
+verdict_unique P text (Ok g) (Err why) w n a b = absurd (passing_not_refused P text g why w n a (end_or_line P text why b))
+verdict_unique P text (Err why) (Ok g) w n a b = absurd (passing_not_refused P text g why w n b (end_or_line P text why a))
+verdict_unique P text (Err why) (Err other) w n a b = ap Err (refusals_same P text why other w n (end_or_line P text why a) (end_or_line P text other b))

@@ -1,12 +1,13 @@
 -- Laws of the texts of lines: what is spelled is a line of the problem and has one spelling, and each line of the problem is spelled.
-use Rattle.std.specs.Prelude.{◌≡◌, ℕ, ◌<◌, ◌^◌, List, length, Some}
+use Rattle.std.specs.Prelude.{◌≡◌, ℕ, ◌<◌, ◌^◌, List, length, Some, Result}
 use Rattle.rwsp_terms.specs.declared.data.Symbol.{Symbol}
 use Rattle.rwsp_terms.specs.Instance.{Instance, IsSymbol, symbol_of, name_of}
 use Rattle.rwsp_terms.specs.Rules.{rules}
 use Rattle.refutation_terms.specs.declared.lines.Line.{Line}
+use Rattle.refutation_terms.specs.declared.lines.LogRefusal.{LogRefusal}
 use Rattle.refutation_terms.specs.Log.{Log, Fits, LineFits}
 use Rattle.refutation_terms.specs.LogText.{IsName, raw, line_text, log_text}
-use Rattle.refutation_terms.specs.Verdict.{Spells}
+use Rattle.refutation_terms.specs.Verdict.{Spells, IsVerdict}
 
 -- each symbol has a name of its own
 abbrev pub HasNames : Instance → Type 0
@@ -33,3 +34,9 @@ abbrev pub TextsAreDistinct : Type 0
 TextsAreDistinct =
     (P : Instance) (g h : Log) → IsWritable P → HasNames P → Fits P g → Fits P h
     → log_text P g ≡ log_text P h → g ≡ h
+
+-- a text has one verdict at most
+abbrev pub VerdictIsUnique : Type 0
+VerdictIsUnique =
+    (P : Instance) (text : List ℕ) (verdict other : Result Log LogRefusal) → IsWritable P → HasNames P
+    → IsVerdict P text verdict → IsVerdict P text other → verdict ≡ other

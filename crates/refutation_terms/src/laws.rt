@@ -1,6 +1,6 @@
 // Laws of the definitions. Each function's contract is the law, and specs/Laws.antt states it.
 ghost use Rattle.refutation_terms.specs.Laws.{TreesAreAsSaid, WalksReadTrees, SidesAreAsSaid, DomainsAreAsSaid, IdleIsAsSaid, OverIsAsSaid, DomainsAreNeverEmpty, WindowsAreOver, SidesTakeAll, SidesShareNone, WindowsAreClean, PartsAreClean, FewerRulesAreClean, WindowsWeighEnough, WindowsWeighExactly, TurningKeepsRules, TurningKeepsLists, SomeTurnHasIt, PassingLeavesNoRoster, PassingIsNotSpent};
-ghost use Rattle.refutation_terms.specs.Spelling.{SpelledLinesFit, FittingLinesAreSpelled, TextsAreDistinct};
+ghost use Rattle.refutation_terms.specs.Spelling.{SpelledLinesFit, FittingLinesAreSpelled, TextsAreDistinct, VerdictIsUnique};
 
 /// A log that passes, with or without a turn, and a roster that meets the rules that it names exclude each other.
 pub fn passing_leaves_no_roster()
@@ -86,4 +86,9 @@ pub fn lines_have_one_spelling()
 /// No two logs that fit a problem have one text.
 pub fn texts_are_distinct()
     ensures { TextsAreDistinct }
+{}
+
+/// A text has one verdict at most.
+pub fn the_verdict_is_unique()
+    ensures { VerdictIsUnique }
 {}
