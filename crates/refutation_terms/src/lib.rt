@@ -4,5 +4,6 @@
 pub mod examples;
 pub mod laws;
 mod lines;
+mod sharing;
 
 pub use lines::{Line, LogRefusal, Turn};
