@@ -1,5 +1,5 @@
 -- Deciding leaves of small problems by going through all words.
-use Rattle.std.proofs.Common.{◌≡◌, ℕ, suc, ◌+◌, ◌<◌, List, [], ◌∷◌, ◌++◌, length, get_or, refl, ap, sym, ◌∙◌, subst, arith, inl, inr, Bool, true, false, IsTrue, ◌&&◌, ◌==◌, not, Some, None}
+use Rattle.std.proofs.Common.{◌≡◌, ℕ, suc, ◌+◌, ◌<◌, List, [], ◌∷◌, ◌++◌, length, get_or, refl, ap, sym, ◌∙◌, subst, arith, inl, inr, Bool, true, false, IsTrue, ◌&&◌, ◌==◌, not, Some, None, Option}
 use Rattle.std.specs.Prelude.{nat_lt, All, slice_get}
 use Rattle.std.specs.List.{list_all, AllByRecursion}
 use Rattle.std.proofs.lemmas.Bool.{eqb-true, eq-eqb, eqb-false, ltb-true, lt-ltb}
@@ -140,7 +140,40 @@ is_short-from c least u h =
     (both (not (in_class c h.before)) (short_rest c least 0 (h.block ++ h.after ∷ [])) (not_passed (in_class c h.before) (fails_class c h.before h.starts))
     (short_rest-from c least 0 h.block h.after (all_in_class c h.block h.within) (fails_class c h.after h.ends) (omega (arith, h.some)) (omega (arith, h.few))))
 
--- whether a word is bad for a rule of a problem without forbidden sequences
+-- whether two words are the same
+abbrev pub same_word : List Symbol → List Symbol → Bool
+same_word [] [] = true
+same_word [] (y ∷ v) = false
+same_word (x ∷ u) [] = false
+same_word (x ∷ u) (y ∷ v) = (x.number == y.number) && same_word u v
+
+same_word-true : (u v : List Symbol) → same_word u v ≡ true → u ≡ v
+same_word-true [] [] h = refl
+same_word-true [] (y ∷ v) h = absurd (cc)
+same_word-true (x ∷ u) [] h = absurd (cc)
+same_word-true (x ∷ u) (y ∷ v) h =
+    let head : x ≡ y = ap symbol_numbered (eqb-true x.number y.number (left_of (x.number == y.number) (same_word u v) h)) in
+    let rest : u ≡ v = same_word-true u v (right_of (x.number == y.number) (same_word u v) h) in
+    let whole : x ∷ u ≡ y ∷ v = cc in whole
+
+-- whether a word is a forbidden pair, or triple
+abbrev pub is_pair : Option (Symbol × Symbol) → List Symbol → Bool
+is_pair None u = false
+is_pair (Some x) u = same_word u (x.0 ∷ x.1 ∷ [])
+
+abbrev pub is_triple : Option (Symbol × Symbol × Symbol) → List Symbol → Bool
+is_triple None u = false
+is_triple (Some x) u = same_word u (x.0 ∷ x.1 ∷ x.2 ∷ [])
+
+is_pair-true : (o : Option (Symbol × Symbol)) (u : List Symbol) → is_pair o u ≡ true → (x : Symbol × Symbol) × (o ≡ Some x) × (u ≡ x.0 ∷ x.1 ∷ [])
+is_pair-true None u h = absurd (cc)
+is_pair-true (Some x) u h = (x, refl, same_word-true u (x.0 ∷ x.1 ∷ []) h)
+
+is_triple-true : (o : Option (Symbol × Symbol × Symbol)) (u : List Symbol) → is_triple o u ≡ true → (x : Symbol × Symbol × Symbol) × (o ≡ Some x) × (u ≡ x.0 ∷ x.1 ∷ x.2 ∷ [])
+is_triple-true None u h = absurd (cc)
+is_triple-true (Some x) u h = (x, refl, same_word-true u (x.0 ∷ x.1 ∷ x.2 ∷ []) h)
+
+-- whether a word is bad for a rule
 abbrev pub is_bad : Instance → Rule → List Symbol → Bool
 is_bad P (MaxShift x) u = is_long (Shift x) (bounds P (Shift x)).greatest u
 is_bad P (MinShift x) u = is_short (Shift x) (bounds P (Shift x)).least u
@@ -148,8 +181,8 @@ is_bad P MaxOff u = is_long Off (bounds P Off).greatest u
 is_bad P MinOff u = is_short Off (bounds P Off).least u
 is_bad P MaxWork u = is_long Work (bounds P Work).greatest u
 is_bad P MinWork u = is_short Work (bounds P Work).least u
-is_bad P (Pair k) u = false
-is_bad P (Triple k) u = false
+is_bad P (Pair k) u = is_pair (slice_get P.pairs k) u
+is_bad P (Triple k) u = is_triple (slice_get P.triples k) u
 is_bad P (Day j) u = false
 
 pub is_bad-true : (P : Instance) (r : Rule) (u : List Symbol) → is_bad P r u ≡ true → Bad P r u
@@ -159,13 +192,14 @@ is_bad-true P MaxOff u h = is_long-true Off (bounds P Off).greatest u h
 is_bad-true P MinOff u h = is_short-true Off (bounds P Off).least u h
 is_bad-true P MaxWork u h = is_long-true Work (bounds P Work).greatest u h
 is_bad-true P MinWork u h = is_short-true Work (bounds P Work).least u h
-is_bad-true P (Pair k) u h = absurd (cc)
-is_bad-true P (Triple k) u h = absurd (cc)
+is_bad-true P (Pair k) u h = is_pair-true (slice_get P.pairs k) u h
+is_bad-true P (Triple k) u h = is_triple-true (slice_get P.triples k) u h
 is_bad-true P (Day j) u h = absurd (cc)
 
 nothing_there : {A : Type 0} (xs : List A) (k : ℕ) (x : A) → xs ≡ [] → slice_get xs k ≡ Some x → ⊥
 nothing_there xs k x e h = let none : None ≡ Some x = sym (ap (λ ys. slice_get ys k) e) ∙ h in cc
 
+-- the converse, for a problem without forbidden sequences
 pub is_bad-from : (P : Instance) (r : Rule) (u : List Symbol) → P.pairs ≡ [] → P.triples ≡ [] → Bad P r u → is_bad P r u ≡ true
 is_bad-from P (MaxShift x) u a b h = is_long-from (Shift x) (bounds P (Shift x)).greatest u h
 is_bad-from P (MinShift x) u a b h = is_short-from (Shift x) (bounds P (Shift x)).least u h

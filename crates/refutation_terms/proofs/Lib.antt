@@ -22,6 +22,7 @@ pub mod ExampleTexts
 pub mod ExampleVerdicts
 pub mod ExampleSharp
 pub mod ExampleStrip
+pub mod ExamplePairs
 pub mod Spelled
 pub mod TextParts
 pub mod TextLines

@@ -1,12 +1,12 @@
 -- Small problems with one shift D, and logs for them: some that pass and some that don't.
-use Rattle.std.specs.Prelude.{ℕ, List, [], ◌∷◌, ◌++◌, Some, None, pos, negsuc, ℤ, codes}
+use Rattle.std.specs.Prelude.{ℕ, List, [], ◌∷◌, ◌++◌, true, false, Some, None, pos, negsuc, ℤ, codes}
 use Rattle.std.specs.List.{flat_map}
 use Rattle.rwsp_terms.specs.declared.data.Symbol.{Symbol}
 use Rattle.rwsp_terms.specs.declared.data.Bounds.{Bounds}
 use Rattle.rwsp_terms.specs.declared.data.Weight.{Weight}
 use Rattle.rwsp_terms.specs.Instance.{Instance}
 use Rattle.refutation_terms.specs.declared.lines.Line.{Line}
-use Rattle.refutation_terms.specs.declared.lines.Line.TheVariants.{Split, Window, Dead, Bound, Unfinished}
+use Rattle.refutation_terms.specs.declared.lines.Line.TheVariants.{Split, Window, Day, Dead, Bound, Unfinished}
 use Rattle.refutation_terms.specs.Log.{Log}
 
 abbrev pub from_to : ℕ → ℕ → Bounds
@@ -153,3 +153,29 @@ wide_log = day_log (1 ∷ 7 ∷ 8 ∷ 9 ∷ []) (1 ∷ []) (weighs 1 ∷ weighs 
 
 abbrev pub narrow_log : Log
 narrow_log = day_log (7 ∷ []) [] (weighs 1 ∷ [])
+
+-- one D in two cells, where neither D - nor - D nor D D D may follow each other: rules 7, 8 and 9, and the day is 10
+abbrev pub unmixed : Instance
+unmixed = record (one_shift 1 2 (from_to 1 1 ∷ []) (from_to 1 9) (from_to 1 9) (from_to 1 9)) {
+  pairs = (shift_D, record { number = 0 }) ∷ (record { number = 0 }, shift_D) ∷ [];
+  triples = (shift_D, shift_D, shift_D) ∷ [];
+}
+
+-- both positions split, and each of the four rosters closed by a day or by a pair
+abbrev pub pairs_log : Log
+pairs_log = record {
+  named = 7 ∷ 8 ∷ 10 ∷ [];
+  turn = None;
+  lines = Split 0 shift_D ∷ Split 1 shift_D ∷ Day 1 shift_D true ∷ Window 7 0 2 ∷ Split 1 shift_D ∷ Window 8 0 2 ∷ Day 1 shift_D false ∷ [];
+}
+
+abbrev pub pairs_text : List ℕ
+pairs_text = text (codes "rwsp-log 1" ∷ codes "rules 7 8 10" ∷ codes "split 1 1 D" ∷ codes "split 2 1 D" ∷ codes "day 1 D over" ∷ codes "window 7 1 1 2" ∷ codes "split 2 1 D" ∷ codes "window 8 1 1 2" ∷ codes "day 1 D short" ∷ [])
+
+-- behind a turn to D a pair and a triple leave no word of three days
+abbrev pub triple_log : Log
+triple_log = record {
+  named = 7 ∷ 9 ∷ 10 ∷ [];
+  turn = Some (record { day = 1; x = shift_D });
+  lines = Dead 0 3 (7 ∷ 9 ∷ []) ∷ [];
+}

@@ -6,7 +6,7 @@ ghost use Rattle.refutation_terms.specs.Sharp.{IsSharp, IsSearched, plain_bounds
 ghost use Rattle.refutation_terms.specs.Strip.{IsReduced};
 ghost use Rattle.refutation_terms.specs.LogText.{log_text};
 ghost use Rattle.refutation_terms.specs.Verdict.{IsVerdict};
-ghost use Rattle.refutation_terms.specs.Examples.{two_in_a_row, two_in_a_row_log, two_in_a_row_text, two_of_four, two_of_four_log, two_of_four_text, three_of_six, split_log, split_text, turn_log, turn_text, open_log, one_cell, one_cell_log, one_cell_text, one_turn_text, open_text, cut_text, extra_text, idle_text, unnamed_turn_text, none_demanded, none_demanded_text, heavy_word, short_rules, searched_weights, four_bounds, two_on_day_one, wide_log, narrow_log};
+ghost use Rattle.refutation_terms.specs.Examples.{two_in_a_row, two_in_a_row_log, two_in_a_row_text, two_of_four, two_of_four_log, two_of_four_text, three_of_six, split_log, split_text, turn_log, turn_text, open_log, one_cell, one_cell_log, one_cell_text, one_turn_text, open_text, cut_text, extra_text, idle_text, unnamed_turn_text, none_demanded, none_demanded_text, heavy_word, short_rules, searched_weights, four_bounds, two_on_day_one, wide_log, narrow_log, unmixed, pairs_log, pairs_text, triple_log};
 
 use crate::LogRefusal;
 
@@ -89,4 +89,11 @@ pub fn weights_are_searched()
 /// Two descents that drop rules and one that drops none reduce a log: a day that had to stay goes after another.
 pub fn descents_reduce()
     ensures { IsReduced two_on_day_one wide_log narrow_log }
+{}
+
+/// Forbidden pairs and day leaves close the four cases of two splits, and a pair with a triple all words behind a turn.
+pub fn pairs_and_triples_pass()
+    ensures pairs { Passes unmixed pairs_log }
+    ensures text { log_text unmixed pairs_log ≡ pairs_text }
+    ensures triple { Passes unmixed triple_log }
 {}
