@@ -2,8 +2,9 @@
 use Rattle.std.proofs.Common.{◌≡◌, ◌≢◌, ℕ, zero, suc, ◌+◌, ◌-◌, ◌*◌, ◌<◌, ◌≤◌, List, [], ◌∷◌, ◌++◌, length, Bool, true, false, refl, ap, sym, ◌∙◌, arith, subst, get_or, set, take, drop, replicate, eqb, leb, inl, inr}
 use Rattle.std.specs.Prelude.{◌↔◌, All, ◌&&◌, ◌||◌, not, map}
 use Rattle.std.specs.List.{sum_by, range_with_len}
+use Rattle.std.specs.List.Sorted.{IsStrictlyIncreasing}
 use Rattle.std.proofs.Common.{mul-le-mul}
-use Rattle.std.proofs.lemmas.Bool.{eqb-true, cases_lt, cases_eq, eq-eqb, ne_eqb}
+use Rattle.std.proofs.lemmas.Bool.{or_cases, or_left, or_right, false≢true, eqb-true, cases_lt, cases_eq, eq-eqb, ne_eqb}
 use Rattle.std.proofs.lemmas.List.{get_or-map, get_or-replicate, get_or_push, drop_all, take_all, drop-append-le, take-append-le, take-append-drop, take-take, set-set, set-get_or, length-set, length_push, length-take-le, get_or-set_same, get_or-set_other, length-replicate, drop_at, take_at, get_or_past, length-append, length-map}
 use Rattle.std.proofs.lemmas.List.Elements.{All-set, All-push, All-get_or, All-replicate, All-nil, All-from_get_or, All-append}
 use Rattle.std.proofs.lemmas.List.Sums.{sum_by-set, get_or-le-sum_by, sum_by-le}
@@ -15,7 +16,7 @@ use Rattle.rwsp_terms.specs.declared.data.Symbol.{Symbol}
 use Rattle.rwsp_model.specs.Validity.{KeepsLimits}
 use Rattle.domain_store.specs.declared.change.Change.{Change}
 use Rattle.domain_store.specs.Sets.{has_symbol, without, IsDomain}
-use Rattle.domain_store.specs.Store.{Store, domain_at, has_domain, IsDecided, BelongsTo, full_store, changed, undone, store_at, HasSameShape, spare, IsStore, IsStoreThroughout}
+use Rattle.domain_store.specs.Store.{Store, domain_at, has_domain, IsDecided, BelongsTo, full_store, changed, undone, store_at, HasSameShape, spare, IsStore, IsStoreThroughout, HasDomains}
 use Rattle.domain_store.specs.Kept.{IsKept}
 use Rattle.domain_store.proofs.SetLemmas.{has_symbol_within, has_without, length_without, IsDomain_without, IsDomain_single, IsDomain_full, has_symbol_full}
 
@@ -326,3 +327,49 @@ roster_of_decided P S symbols now belongs e =
         let below : (get_or symbols k d).number ≤ S.shifts = small 0 0 (omega arith) in
         subst (λ n. (get_or symbols k d).number ≤ n) belongs.shifts below;
     }
+
+-- sets by their test
+first-of : (set : List ℕ) → 0 < length set → (x : ℕ) × (has_symbol set x ≡ true)
+first-of [] some = absurd (omega arith)
+first-of (x ∷ set) some = (x, ap (λ b. b || has_symbol set x) (eq-eqb x x refl))
+
+at-once : (z x : ℕ) → has_symbol (z ∷ []) x ≡ true → z ≡ x
+at-once z x h = elim (or_cases (eqb z x) false h) [ inl here ↦ eqb-true z x here | inr never ↦ absurd (false≢true never) ]
+
+same-alone : (set : List ℕ) (x y : ℕ) → length set ≡ 1 → has_symbol set x ≡ true → has_symbol set y ≡ true → x ≡ y
+same-alone [] x y long hx hy = absurd (omega arith)
+same-alone (z ∷ []) x y long hx hy = sym (at-once z x hx) ∙ at-once z y hy
+same-alone (z ∷ w ∷ set) x y long hx hy = absurd (omega arith)
+
+another-of : (set : List ℕ) (x : ℕ) → IsStrictlyIncreasing set → 2 ≤ length set → (y : ℕ) × (y ≢ x) × (has_symbol set y ≡ true)
+another-of [] x rises two = absurd (omega arith)
+another-of (a ∷ []) x rises two = absurd (omega arith)
+another-of (a ∷ b ∷ set) x rises two =
+    let less : a < b = rises 0 (omega arith) in
+    elim (cases_eq a x) [
+      inl same ↦ (b, (λ e. omega arith), or_right (eqb a b) (has_symbol (b ∷ set) b) (or_left (eqb b b) (has_symbol set b) (eq-eqb b b refl)))
+    | inr other ↦ (a, other, or_left (eqb a a) (has_symbol (b ∷ set) a) (eq-eqb a a refl))
+    ]
+
+inside-where-some : (sets : List (List ℕ)) (p : ℕ) → 0 < length (get_or sets p []) → p < length sets
+inside-where-some sets p some =
+    elim (cases_lt p (length sets)) [
+      inl inside ↦ inside
+    | inr past ↦ absurd (omega (arith, ap length (get_or_past sets p [] past)))
+    ]
+
+some-where-has : (set : List ℕ) (x : ℕ) → has_symbol set x ≡ true → 0 < length set
+some-where-has [] x has = absurd (false≢true has)
+some-where-has (y ∷ set) x has = omega arith
+
+pub store_has_domains : (S : Store) → IsStore S → HasDomains S
+store_has_domains S now = record {
+  known = λ p x has.
+    let inside : p < length S.sets = inside-where-some S.sets p (some-where-has (domain_at S p) x has) in
+    (inside, symbol_within S p x now inside has);
+  some = λ p inside. first-of (domain_at S p) (All-get_or (IsDomain S.shifts) S.sets p [] inside now.domains).some;
+  alone = λ p x y long hx hy. same-alone (domain_at S p) x y long hx hy;
+  others = λ p x two.
+    let inside : p < length S.sets = inside-where-some S.sets p (omega arith) in
+    another-of (domain_at S p) x (All-get_or (IsDomain S.shifts) S.sets p [] inside now.domains).ascends two;
+}

@@ -1,5 +1,5 @@
 -- Domains, and the trail of their changes.
-use Rattle.std.specs.Prelude.{◌≡◌, ℕ, ◌+◌, ◌-◌, ◌*◌, ◌<◌, ◌≤◌, List, [], ◌∷◌, ◌++◌, length, Bool, slice_set, slice_index_or, take, drop, replicate, All}
+use Rattle.std.specs.Prelude.{◌≡◌, ◌≢◌, ℕ, ◌+◌, ◌-◌, ◌*◌, ◌<◌, ◌≤◌, List, [], ◌∷◌, ◌++◌, length, Bool, IsTrue, slice_set, slice_index_or, take, drop, replicate, All}
 use Rattle.std.specs.List.{sum_by, range_with_len}
 use Rattle.rwsp_terms.specs.Instance.{Instance, cells, shift_count}
 use Rattle.domain_store.specs.declared.change.Change.{Change}
@@ -79,6 +79,13 @@ pub record IsStore (S : Store) : Type 0 where
   pub places : All (λ c. c.position < S.weeks * S.days) S.trail
   -- each change took a symbol at least, and leaves one
   pub room : length S.trail + spare S.sets ≤ S.weeks * S.days * S.shifts
+
+-- the same by the test
+pub record HasDomains (S : Store) : Type 0 where
+  pub known : (p x : ℕ) → IsTrue (has_domain S p x) → (p < length S.sets) × (x ≤ S.shifts)
+  pub some : (p : ℕ) → p < length S.sets → (x : ℕ) × IsTrue (has_domain S p x)
+  pub alone : (p x y : ℕ) → length (domain_at S p) ≡ 1 → IsTrue (has_domain S p x) → IsTrue (has_domain S p y) → x ≡ y
+  pub others : (p x : ℕ) → 2 ≤ length (domain_at S p) → (y : ℕ) × (y ≢ x) × IsTrue (has_domain S p y)
 
 -- it was so at each mark too
 abbrev pub IsStoreThroughout : Store → Type 0

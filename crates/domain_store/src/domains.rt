@@ -1,7 +1,9 @@
 // Domains with their trail.
-ghost use Rattle.std.specs.Prelude.{◌≡◌, ℕ, ◌+◌, ◌-◌, ◌*◌, ◌<◌, ◌≤◌, ◌↔◌, All, List, [], ◌∷◌, ◌++◌, length, map, take, replicate, IsTrue, IfOk, MatchOption, OnOk, vec_len, vec_capacity, ◌==◌, not, ◌&&◌, ◌||◌, nat_le};
+ghost use Rattle.std.specs.Prelude.{◌≡◌, ℕ, ◌+◌, ◌-◌, ◌*◌, ◌<◌, ◌≤◌, ◌↔◌, All, List, [], ◌∷◌, ◌++◌, length, map, take, replicate, IsTrue, IfOk, MatchOption, OnOk, vec_len, vec_capacity, ◌==◌, not, ◌&&◌, ◌||◌, nat_le, slice_index_or};
 ghost use Rattle.std.specs.List.{range_with_len};
 ghost use Rattle.rwsp_terms.specs.Instance.{cells, shift_count};
+ghost use Rattle.rwsp_terms.specs.Roster.{IsRoster};
+ghost use Rattle.rwsp_terms.specs.declared.data.Symbol.{Symbol};
 ghost use Rattle.domain_store.specs.Sets.{without, IsDomain};
 
 use crate::Mark;
@@ -40,7 +42,7 @@ impl Model for Domains {
 }
 
 impl Domains {
-    ghost use Rattle.domain_store.specs.Store.{Store, domain_at, has_domain, IsDecided, BelongsTo, full_store, changed, store_at, HasSameShape, IsStore};
+    ghost use Rattle.domain_store.specs.Store.{Store, domain_at, has_domain, IsDecided, BelongsTo, full_store, changed, store_at, HasSameShape, IsStore, HasDomains};
 
     /// The domains that have all symbols of the problem, and room for all changes that can be made.
     #[tactic(auto, using(crate::proofs::StoreLemmas::kept_full, crate::proofs::StoreLemmas::has_full))]
@@ -89,6 +91,7 @@ impl Domains {
     /// What is so of all domains, now and as they stood at each mark.
     pub fn facts(&self)
         ensures now { IsStore self.now }
+        ensures tests { HasDomains self.now }
         ensures before { (len : ℕ) → len ≤ length self.now.trail → IsStore (store_at self.now len) }
     {
         let _ = &self.sets;
@@ -234,8 +237,10 @@ impl Domains {
     pub fn to_roster(&self, problem: &Problem) -> Result<Roster, AllocError>
         requires decided { IsDecided self.now }
         requires belongs { BelongsTo problem.now self.now }
-        ensures days { IfOk result (λ R. R.days ≡ self.now.days) }
+        ensures days { IfOk result (λ R. R.days ≡ problem.now.days) }
         ensures cells { IfOk result (λ R. map (λ x. x.number ∷ []) R.cells ≡ self.now.sets) }
+        ensures roster { IfOk result (λ R. IsRoster problem.now R.cells) }
+        ensures has { IfOk result (λ R. (p : ℕ) (d : Symbol) → p < length R.cells → IsTrue (has_domain self.now p (slice_index_or R.cells p d).number)) }
     {
         self.facts();
         let alloc = *self.sets.allocator();
