@@ -1,7 +1,7 @@
 -- Flags and the numbers of those that are set.
-use Rattle.std.proofs.Common.{◌≡◌, ◌≢◌, ℕ, zero, suc, ◌+◌, ◌-◌, ◌<◌, ◌≤◌, List, [], ◌∷◌, ◌++◌, length, Bool, true, false, cond, refl, ap, sym, ◌∙◌, arith, subst, get_or, set, take, drop, replicate, eqb}
-use Rattle.std.specs.Prelude.{◌||◌, not, filter, slice_get, Some, None, ◌==◌, count_by, All, AllPairs, ◌&&◌}
-use Rattle.std.specs.List.{list_any, range_with_len}
+use Rattle.std.proofs.Common.{◌≡◌, ℕ, zero, suc, ◌+◌, ◌-◌, ◌<◌, ◌≤◌, List, [], ◌∷◌, ◌++◌, length, Bool, true, false, cond, refl, ap, sym, ◌∙◌, arith, subst, get_or, set, drop, replicate, eqb}
+use Rattle.std.specs.Prelude.{◌||◌, not, filter, slice_get, Some, None, count_by, All, AllPairs, ◌&&◌}
+use Rattle.std.specs.List.{range_with_len}
 use Rattle.std.specs.List.Sorted.{IsStrictlyIncreasing}
 use Rattle.std.proofs.Common.{inl, inr, leb, ltb}
 use Rattle.std.proofs.lemmas.Bool.{or_cases, eqb-true, eq-eqb, ne_eqb, cases_eq, false≢true}
@@ -149,8 +149,8 @@ pub has_symbol_within : (last x : ℕ) (set : List ℕ) → All (λ y. y ≤ las
 has_symbol_within last x [] small has = absurd (false≢true has)
 has_symbol_within last x (y ∷ set) small has =
     elim (or_cases (eqb y x) (has_symbol set x) has) [
-      inl here ↦ subst (λ z. z ≤ last) (eqb-true y x here) (All-head (λ z. z ≤ last) y set small)
-    | inr later ↦ has_symbol_within last x set (All-tail (λ z. z ≤ last) y set small) later
+      | inl here ↦ subst (λ z. z ≤ last) (eqb-true y x here) (All-head (λ z. z ≤ last) y set small)
+      | inr later ↦ has_symbol_within last x set (All-tail (λ z. z ≤ last) y set small) later
     ]
 
 -- the set less a symbol has the others
@@ -172,13 +172,13 @@ pub has_without : (x y : ℕ) (set : List ℕ) → has_symbol (without x set) y 
 has_without x y [] = and-false (not (eqb y x))
 has_without x y (z ∷ set) =
     elim (cases_eq z x) [
-      inl same ↦
-        let gone : has_symbol (without x (z ∷ set)) y ≡ has_symbol (without x set) y = ap (λ b. has_symbol (cond (not b) (z ∷ without x set) (without x set)) y) (eq-eqb z x same) in
-        gone ∙ has_without x y set ∙ taken-whole (eqb z y) (eqb y x) (has_symbol set y) (λ here. eq-eqb y x (sym (eqb-true z y here) ∙ same))
-    | inr other ↦
-        let stays : has_symbol (without x (z ∷ set)) y ≡ (eqb z y || has_symbol (without x set) y) = ap (λ b. has_symbol (cond (not b) (z ∷ without x set) (without x set)) y) (ne_eqb z x other) in
-        stays ∙ ap (λ b. eqb z y || b) (has_without x y set)
-        ∙ kept-apart (eqb z y) (eqb y x) (has_symbol set y) (λ here. ne_eqb y x (λ same. other (eqb-true z y here ∙ same)))
+      | inl same ↦
+          let gone : has_symbol (without x (z ∷ set)) y ≡ has_symbol (without x set) y = ap (λ b. has_symbol (cond (not b) (z ∷ without x set) (without x set)) y) (eq-eqb z x same) in
+          gone ∙ has_without x y set ∙ taken-whole (eqb z y) (eqb y x) (has_symbol set y) (λ here. eq-eqb y x (sym (eqb-true z y here) ∙ same))
+      | inr other ↦
+          let stays : has_symbol (without x (z ∷ set)) y ≡ (eqb z y || has_symbol (without x set) y) = ap (λ b. has_symbol (cond (not b) (z ∷ without x set) (without x set)) y) (ne_eqb z x other) in
+          stays ∙ ap (λ b. eqb z y || b) (has_without x y set)
+          ∙ kept-apart (eqb z y) (eqb y x) (has_symbol set y) (λ here. ne_eqb y x (λ same. other (eqb-true z y here ∙ same)))
     ]
 
 increasing-rest : (y : ℕ) (set : List ℕ) → AllPairs (λ a b. a < b) (y ∷ set) → AllPairs (λ a b. a < b) set
@@ -198,16 +198,16 @@ without-shorter : (x : ℕ) (set : List ℕ) → AllPairs (λ a b. a < b) set �
 without-shorter x [] rises has = absurd (false≢true has)
 without-shorter x (y ∷ set) rises has =
     elim (cases_eq y x) [
-      inl same ↦
-        let here : eqb y x ≡ true = eq-eqb y x same in
-        let rest : without x set ≡ set = subst (λ z. without z set ≡ set) same (without-above y set (above-first y set rises)) in
-        let e : without x (y ∷ set) ≡ set = ap (λ b. cond (not b) (y ∷ without x set) (without x set)) here ∙ rest in
-        omega (arith, ap length e)
-    | inr other ↦
-        let off : eqb y x ≡ false = ne_eqb y x other in
-        let later : has_symbol set x ≡ true = sym (ap (λ b. b || has_symbol set x) off) ∙ has in
-        let e : without x (y ∷ set) ≡ y ∷ without x set = ap (λ b. cond (not b) (y ∷ without x set) (without x set)) off in
-        omega (arith, ap length e, without-shorter x set (increasing-rest y set rises) later)
+      | inl same ↦
+          let here : eqb y x ≡ true = eq-eqb y x same in
+          let rest : without x set ≡ set = subst (λ z. without z set ≡ set) same (without-above y set (above-first y set rises)) in
+          let e : without x (y ∷ set) ≡ set = ap (λ b. cond (not b) (y ∷ without x set) (without x set)) here ∙ rest in
+          omega (arith, ap length e)
+      | inr other ↦
+          let off : eqb y x ≡ false = ne_eqb y x other in
+          let later : has_symbol set x ≡ true = sym (ap (λ b. b || has_symbol set x) off) ∙ has in
+          let e : without x (y ∷ set) ≡ y ∷ without x set = ap (λ b. cond (not b) (y ∷ without x set) (without x set)) off in
+          omega (arith, ap length e, without-shorter x set (increasing-rest y set rises) later)
     ]
 
 -- a set less one of its symbols is shorter by one
@@ -241,7 +241,7 @@ IsDomain_full last = record {
   some = omega (arith, length-range_with_len 0 (last + 1));
   ascends = λ k within. let less : k + 1 < last + 1 = omega (arith, length-range_with_len 0 (last + 1)) in range-rises 0 (last + 1) k less;
   symbols = All-from_get_or (λ y. y ≤ last) (range_with_len 0 (last + 1)) 0 (λ i within.
-    let less : i < last + 1 = omega (arith, length-range_with_len 0 (last + 1)) in omega (arith, get_or-range_with_len 0 (last + 1) i 0 less));
+      let less : i < last + 1 = omega (arith, length-range_with_len 0 (last + 1)) in omega (arith, get_or-range_with_len 0 (last + 1) i 0 less));
 }
 
 range-none : (k x : ℕ) → false ≡ (leb k x && ltb x (k + 0))

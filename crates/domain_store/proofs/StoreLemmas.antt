@@ -1,12 +1,12 @@
 -- Stores at their marks, and what domains keep through a change and its undoing.
-use Rattle.std.proofs.Common.{◌≡◌, ◌≢◌, ℕ, zero, suc, ◌+◌, ◌-◌, ◌*◌, ◌<◌, ◌≤◌, List, [], ◌∷◌, ◌++◌, length, Bool, true, false, refl, ap, sym, ◌∙◌, arith, subst, get_or, set, take, drop, replicate, eqb, leb, inl, inr}
+use Rattle.std.proofs.Common.{◌≡◌, ◌≢◌, ℕ, ◌+◌, ◌-◌, ◌*◌, ◌<◌, ◌≤◌, List, [], ◌∷◌, ◌++◌, length, Bool, true, false, refl, ap, sym, ◌∙◌, arith, subst, get_or, set, take, drop, replicate, eqb, leb, inl, inr}
 use Rattle.std.specs.Prelude.{◌↔◌, All, ◌&&◌, ◌||◌, not, map}
-use Rattle.std.specs.List.{sum_by, range_with_len}
+use Rattle.std.specs.List.{range_with_len}
 use Rattle.std.specs.List.Sorted.{IsStrictlyIncreasing}
 use Rattle.std.proofs.Common.{mul-le-mul}
 use Rattle.std.proofs.lemmas.Bool.{or_cases, or_left, or_right, false≢true, eqb-true, cases_lt, cases_eq, eq-eqb, ne_eqb}
-use Rattle.std.proofs.lemmas.List.{get_or-map, get_or-replicate, get_or_push, drop_all, take_all, drop-append-le, take-append-le, take-append-drop, take-take, set-set, set-get_or, length-set, length_push, length-take-le, get_or-set_same, get_or-set_other, length-replicate, drop_at, take_at, get_or_past, length-append, length-map}
-use Rattle.std.proofs.lemmas.List.Elements.{All-set, All-push, All-get_or, All-replicate, All-nil, All-from_get_or, All-append}
+use Rattle.std.proofs.lemmas.List.{get_or-map, get_or-replicate, get_or_push, drop_all, take_all, drop-append-le, take-append-le, take-append-drop, take-take, set-set, set-get_or, length-set, length_push, length-take-le, get_or-set_same, get_or-set_other, length-replicate, drop_at, take_at, get_or_past, length-map}
+use Rattle.std.proofs.lemmas.List.Elements.{All-set, All-push, All-get_or, All-replicate, All-nil}
 use Rattle.std.proofs.lemmas.List.Sums.{sum_by-set, get_or-le-sum_by, sum_by-le}
 use Rattle.std.proofs.lemmas.List.Folds.{sum_by-replicate}
 use Rattle.std.proofs.lemmas.List.FromFn.{length-range_with_len}
@@ -88,10 +88,10 @@ pub store_throughout_changed : (S : Store) (p : ℕ) (domain : List ℕ) → IsS
 store_throughout_changed S p domain all within d smaller len h =
     let c : Change = record { position = p; before = domain_at S p } in
     elim (cases_lt (length S.trail) len) [
-      inl past ↦
-        let whole : length (S.trail ++ c ∷ []) ≤ len = omega (arith, length_push S.trail c) in
-        subst IsStore (sym (store_at_end (changed S p domain) len whole)) (IsStore_changed S p domain (store_now S all) within d smaller)
-    | inr before ↦ subst IsStore (sym (store_at_changed S p domain len before)) (all len before)
+      | inl past ↦
+          let whole : length (S.trail ++ c ∷ []) ≤ len = omega (arith, length_push S.trail c) in
+          subst IsStore (sym (store_at_end (changed S p domain) len whole)) (IsStore_changed S p domain (store_now S all) within d smaller)
+      | inr before ↦ subst IsStore (sym (store_at_changed S p domain len before)) (all len before)
     ]
 
 pub store_throughout_earlier : (S : Store) (n : ℕ) → IsStoreThroughout S → n ≤ length S.trail → IsStoreThroughout (store_at S n)
@@ -245,13 +245,13 @@ length_smaller S p x now within has =
 has-changed : (S : Store) (p q y : ℕ) (domain : List ℕ) (test : Bool) → p < length S.sets → (has_symbol domain y ≡ (test && has_domain S p y)) → has_domain (changed S p domain) q y ≡ ((not (eqb q p) || test) && has_domain S q y)
 has-changed S p q y domain test within here =
     elim (cases_eq q p) [
-      inl same ↦
-        let at : has_domain (changed S p domain) q y ≡ has_symbol domain y = ap (λ r. has_domain (changed S p domain) r y) same ∙ ap (λ d. has_symbol d y) (get_or-set_same S.sets p domain [] within) in
-        at ∙ here ∙ ap (λ b. test && b) (ap (λ r. has_domain S r y) (sym same))
-        ∙ sym (ap (λ b. (not b || test) && has_domain S q y) (eq-eqb q p same))
-    | inr other ↦
-        ap (λ d. has_symbol d y) (get_or-set_other S.sets p q domain [] other)
-        ∙ sym (ap (λ b. (not b || test) && has_domain S q y) (ne_eqb q p other))
+      | inl same ↦
+          let at : has_domain (changed S p domain) q y ≡ has_symbol domain y = ap (λ r. has_domain (changed S p domain) r y) same ∙ ap (λ d. has_symbol d y) (get_or-set_same S.sets p domain [] within) in
+          at ∙ here ∙ ap (λ b. test && b) (ap (λ r. has_domain S r y) (sym same))
+          ∙ sym (ap (λ b. (not b || test) && has_domain S q y) (eq-eqb q p same))
+      | inr other ↦
+          ap (λ d. has_symbol d y) (get_or-set_other S.sets p q domain [] other)
+          ∙ sym (ap (λ b. (not b || test) && has_domain S q y) (ne_eqb q p other))
     ]
 
 pub has_removed : (S : Store) (p x q y : ℕ) → p < length S.sets → has_domain (changed S p (without x (domain_at S p))) q y ≡ ((not (eqb q p) || not (eqb y x)) && has_domain S q y)
@@ -260,8 +260,8 @@ has_removed S p x q y within = has-changed S p q y (without x (domain_at S p)) (
 single-has : (x y : ℕ) (set : List ℕ) → has_symbol set x ≡ true → has_symbol (x ∷ []) y ≡ (eqb y x && has_symbol set y)
 single-has x y set has =
     elim (cases_eq y x) [
-      inl same ↦ ap (λ b. b || false) (eq-eqb x y (sym same)) ∙ sym (ap (λ b. b && has_symbol set y) (eq-eqb y x same) ∙ ap (has_symbol set) same ∙ has)
-    | inr other ↦ ap (λ b. b || false) (ne_eqb x y (λ e. other (sym e))) ∙ sym (ap (λ b. b && has_symbol set y) (ne_eqb y x other))
+      | inl same ↦ ap (λ b. b || false) (eq-eqb x y (sym same)) ∙ sym (ap (λ b. b && has_symbol set y) (eq-eqb y x same) ∙ ap (has_symbol set) same ∙ has)
+      | inr other ↦ ap (λ b. b || false) (ne_eqb x y (λ e. other (sym e))) ∙ sym (ap (λ b. b && has_symbol set y) (ne_eqb y x other))
     ]
 
 pub has_set_only : (S : Store) (p x q y : ℕ) → p < length S.sets → has_domain S p x ≡ true → has_domain (changed S p (x ∷ [])) q y ≡ ((not (eqb q p) || (eqb y x)) && has_domain S q y)
@@ -280,9 +280,10 @@ none_from_decided S decided =
     omega arith
 
 pub decided_where_none : (S : Store) (count capacity : ℕ) → IsKept S count capacity → (eqb count 0 ≡ true) ↔ IsDecided S
-decided_where_none S count capacity kept =
-    ((λ none. decided_from_none S (store_now S kept.store) (sym kept.counted ∙ eqb-true count 0 none)),
-    (λ decided. eq-eqb count 0 (kept.counted ∙ none_from_decided S decided)))
+decided_where_none S count capacity kept = (
+  (λ none. decided_from_none S (store_now S kept.store) (sym kept.counted ∙ eqb-true count 0 none)),
+  (λ decided. eq-eqb count 0 (kept.counted ∙ none_from_decided S decided)),
+)
 
 -- full domains
 spare-full : (n last : ℕ) → spare (replicate n (range_with_len 0 (last + 1))) ≡ n * last
@@ -320,12 +321,12 @@ roster_of_decided P S symbols now belongs e =
     record {
       long = long ∙ now.long ∙ size;
       symbols = λ k d within.
-        let inside : k < length S.sets = omega arith in
-        let here : get_or S.sets k [] ≡ (get_or symbols k d).number ∷ [] = sym (ap (λ s. get_or s k []) e) ∙ get_or-map alone symbols k d [] within in
-        let domain : IsDomain S.shifts (get_or S.sets k []) = All-get_or (IsDomain S.shifts) S.sets k [] inside now.domains in
-        let small : All (λ y. y ≤ S.shifts) ((get_or symbols k d).number ∷ []) = subst (λ s. All (λ y. y ≤ S.shifts) s) here domain.symbols in
-        let below : (get_or symbols k d).number ≤ S.shifts = small 0 0 (omega arith) in
-        subst (λ n. (get_or symbols k d).number ≤ n) belongs.shifts below;
+          let inside : k < length S.sets = omega arith in
+          let here : get_or S.sets k [] ≡ (get_or symbols k d).number ∷ [] = sym (ap (λ s. get_or s k []) e) ∙ get_or-map alone symbols k d [] within in
+          let domain : IsDomain S.shifts (get_or S.sets k []) = All-get_or (IsDomain S.shifts) S.sets k [] inside now.domains in
+          let small : All (λ y. y ≤ S.shifts) ((get_or symbols k d).number ∷ []) = subst (λ s. All (λ y. y ≤ S.shifts) s) here domain.symbols in
+          let below : (get_or symbols k d).number ≤ S.shifts = small 0 0 (omega arith) in
+          subst (λ n. (get_or symbols k d).number ≤ n) belongs.shifts below;
     }
 
 -- sets by their test
@@ -347,15 +348,15 @@ another-of (a ∷ []) x rises two = absurd (omega arith)
 another-of (a ∷ b ∷ set) x rises two =
     let less : a < b = rises 0 (omega arith) in
     elim (cases_eq a x) [
-      inl same ↦ (b, (λ e. omega arith), or_right (eqb a b) (has_symbol (b ∷ set) b) (or_left (eqb b b) (has_symbol set b) (eq-eqb b b refl)))
-    | inr other ↦ (a, other, or_left (eqb a a) (has_symbol (b ∷ set) a) (eq-eqb a a refl))
+      | inl same ↦ (b, (λ e. omega arith), or_right (eqb a b) (has_symbol (b ∷ set) b) (or_left (eqb b b) (has_symbol set b) (eq-eqb b b refl)))
+      | inr other ↦ (a, other, or_left (eqb a a) (has_symbol (b ∷ set) a) (eq-eqb a a refl))
     ]
 
 inside-where-some : (sets : List (List ℕ)) (p : ℕ) → 0 < length (get_or sets p []) → p < length sets
 inside-where-some sets p some =
     elim (cases_lt p (length sets)) [
-      inl inside ↦ inside
-    | inr past ↦ absurd (omega (arith, ap length (get_or_past sets p [] past)))
+      | inl inside ↦ inside
+      | inr past ↦ absurd (omega (arith, ap length (get_or_past sets p [] past)))
     ]
 
 some-where-has : (set : List ℕ) (x : ℕ) → has_symbol set x ≡ true → 0 < length set
@@ -365,11 +366,11 @@ some-where-has (y ∷ set) x has = omega arith
 pub store_has_domains : (S : Store) → IsStore S → HasDomains S
 store_has_domains S now = record {
   known = λ p x has.
-    let inside : p < length S.sets = inside-where-some S.sets p (some-where-has (domain_at S p) x has) in
-    (inside, symbol_within S p x now inside has);
+      let inside : p < length S.sets = inside-where-some S.sets p (some-where-has (domain_at S p) x has) in
+      (inside, symbol_within S p x now inside has);
   some = λ p inside. first-of (domain_at S p) (All-get_or (IsDomain S.shifts) S.sets p [] inside now.domains).some;
   alone = λ p x y long hx hy. same-alone (domain_at S p) x y long hx hy;
   others = λ p x two.
-    let inside : p < length S.sets = inside-where-some S.sets p (omega arith) in
-    another-of (domain_at S p) x (All-get_or (IsDomain S.shifts) S.sets p [] inside now.domains).ascends two;
+      let inside : p < length S.sets = inside-where-some S.sets p (omega arith) in
+      another-of (domain_at S p) x (All-get_or (IsDomain S.shifts) S.sets p [] inside now.domains).ascends two;
 }

@@ -6,6 +6,8 @@ mod domains;
 mod mark;
 mod sharing;
 mod symbol_set;
+#[cfg(test)]
+mod tests;
 
 pub use domains::Domains;
 pub use mark::Mark;

@@ -1,7 +1,6 @@
 -- A change keeps what domains keep, and there is room for it.
-use Rattle.std.proofs.Common.{◌≡◌, ℕ, ◌<◌, ◌≤◌, [], length, arith, vec_len, vec_capacity, ◌∙◌, get_or}
+use Rattle.std.proofs.Common.{◌<◌, ◌≤◌, [], length, arith, vec_capacity, ◌∙◌, get_or}
 use Rattle.std.proofs.lemmas.List.{get_or_read}
-use Rattle.domain_store.specs.Store.{domain_at}
 use Rattle.domain_store.proofs.StoreLemmas.{has_room, kept_by_change}
 use Rattle.domain_store.proofs.domains.Domains.change.Goals as goal
 

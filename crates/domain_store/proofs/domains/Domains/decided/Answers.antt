@@ -1,5 +1,4 @@
 -- Each position has one symbol exactly where no symbol is to spare.
-use Rattle.std.proofs.Common.{◌≡◌}
 use Rattle.domain_store.proofs.StoreLemmas.{decided_where_none}
 use Rattle.domain_store.proofs.domains.Domains.decided.Goals as goal
 

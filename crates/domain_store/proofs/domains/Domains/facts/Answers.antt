@@ -1,5 +1,4 @@
 -- What is so throughout is so now.
-use Rattle.std.proofs.Common.{◌≡◌}
 use Rattle.domain_store.proofs.StoreLemmas.{store_now, store_has_domains}
 use Rattle.domain_store.proofs.domains.Domains.facts.Goals as goal
 

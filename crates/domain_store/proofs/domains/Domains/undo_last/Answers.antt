@@ -1,5 +1,5 @@
 -- The last change was at a position, and its undoing keeps what domains keep.
-use Rattle.std.proofs.Common.{◌≡◌, ℕ, ◌+◌, ◌<◌, ◌≤◌, ◌^◌, [], length, arith, ◌∙◌, ap, Fits, w32}
+use Rattle.std.proofs.Common.{◌≤◌, [], length, arith, ◌∙◌, ap}
 use Rattle.std.proofs.lemmas.List.{get_or_read}
 use Rattle.domain_store.proofs.StoreLemmas.{last_change, kept_by_undo}
 use Rattle.domain_store.proofs.domains.Domains.undo_last.Goals as goal

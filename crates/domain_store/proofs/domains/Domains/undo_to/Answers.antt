@@ -1,5 +1,5 @@
 -- Each undoing keeps the store at the mark, and at the mark it is the store itself.
-use Rattle.std.proofs.Common.{◌≡◌, ℕ, ◌<◌, ◌≤◌, length, arith, ◌∙◌, ap, sym, subst}
+use Rattle.std.proofs.Common.{◌≡◌, ◌<◌, ◌≤◌, length, arith, ◌∙◌, ap, sym, subst}
 use Rattle.domain_store.specs.Store.{Store, store_at, HasSameShape}
 use Rattle.domain_store.proofs.StoreLemmas.{store_at_end, store_at_earlier, same_shape_earlier, length_before_last, store_before_mark}
 use Rattle.domain_store.proofs.domains.Domains.undo_to.Goals as goal
