@@ -1,0 +1,4 @@
+pub mod Word
+pub mod Leaf
+pub mod Tree
+pub mod Log
