@@ -2,3 +2,4 @@ pub mod Word
 pub mod Leaf
 pub mod Tree
 pub mod Log
+pub mod Laws

@@ -63,6 +63,10 @@ abbrev pub line_leaves : Line → Side → Domains
 line_leaves (Split q x) s p z = not (q == p) || side_takes s (z == x.number)
 line_leaves leaf s p z = true
 
+-- the domains in a side of a line that is read under other domains
+abbrev pub narrowed : Domains → Line → Side → Domains
+narrowed D line s p z = D p z && line_leaves line s p z
+
 -- what all earlier lines leave of the domains
 abbrev pub lines_leave : List Line → Domains
 lines_leave [] p z = true
