@@ -1,0 +1,86 @@
+-- Windows of a roster: round the cycle, over domains, and clean.
+use Rattle.std.proofs.Common.{◌≡◌, ℕ, zero, suc, ◌+◌, ◌-◌, ◌*◌, ◌%◌, ◌<◌, ◌≤◌, List, [], ◌∷◌, ◌++◌, length, get_or, refl, ap, sym, ◌∙◌, arith, subst, append_assoc, length-append, IsTrue, inl, inr}
+use Rattle.std.proofs.Math.Nat.{mod-add-mod}
+use Rattle.std.proofs.lemmas.Nat.{mod_below}
+use Rattle.rwsp_terms.specs.declared.data.Symbol.{Symbol}
+use Rattle.rwsp_terms.specs.declared.data.Rule.{Rule}
+use Rattle.rwsp_terms.specs.declared.data.Rule.TheVariants.{MaxShift, MinShift, MaxOff, MinOff, MaxWork, MinWork, Pair, Triple, Day}
+use Rattle.rwsp_terms.specs.Instance.{Instance, cells}
+use Rattle.rwsp_terms.specs.Window.{Bad, cell, window, off_symbol}
+use Rattle.rwsp_terms.specs.Roster.{MeetsRule, HasNoBadWindow, IsRoster}
+use Rattle.rwsp_terms.specs.Rules.{Names, Meets}
+use Rattle.rwsp_terms.proofs.Windows.{length-window, window-add}
+use Rattle.refutation_terms.specs.Word.{Domains, Within, Over, Clean}
+
+-- equal places round the cycle go on equally
+mod-more : (p q k m : ℕ) → p % m ≡ q % m → (p + k) % m ≡ (q + k) % m
+mod-more p q k m e = sym (mod-add-mod p m k) ∙ ap (λ r. (r + k) % m) e ∙ mod-add-mod q m k
+
+pub mod-mod : (p m : ℕ) → (p % m) % m ≡ p % m
+mod-mod p m = let e : p + 0 ≡ p = omega arith in let f : p % m + 0 ≡ p % m = omega arith in ap (λ r. r % m) (sym f) ∙ mod-add-mod p m 0 ∙ ap (λ r. r % m) e
+
+-- windows from equal places are equal
+pub window-same : (s : List Symbol) (p q len : ℕ) → p % length s ≡ q % length s → window s p len ≡ window s q len
+window-same s p q zero e = refl
+window-same s p q (suc len) e =
+    let here : cell s p ≡ cell s q = ap (λ r. get_or s r off_symbol) e in
+    let more : window s (p + 1) len ≡ window s (q + 1) len = window-same s (p + 1) (q + 1) len (mod-more p q 1 (length s) e) in
+    cc
+
+-- within domains, every window is a word over them
+pub over-window : (P : Instance) (D : Domains) (s : List Symbol) (p len : ℕ) → 0 < cells P → Within P D s → Over P D p (window s p len)
+over-window P D s p zero some w = tt
+over-window P D s p (suc len) some w =
+    let long : length s ≡ cells P = w.is_roster.long in
+    let here : IsTrue (D (p % cells P) (get_or s (p % cells P) off_symbol).number) = w.each (p % cells P) (mod_below p (cells P) some) in
+    (subst (λ m. IsTrue (D (p % cells P) (get_or s (p % m) off_symbol).number)) (sym long) here, over-window P D s (p + 1) len some w)
+
+-- a rule that is met has no bad window from any position
+pub no_bad_window : (P : Instance) (r : Rule) (s : List Symbol) → 0 < length s → HasNoBadWindow P r s → (p len : ℕ) → Bad P r (window s p len) → ⊥
+no_bad_window P r s some h p len bad =
+    h (p % length s) len (mod_below p (length s) some) (subst (Bad P r) (window-same s p (p % length s) len (sym (mod-mod p (length s)))) bad)
+
+pub no_bad_met : (P : Instance) (r : Rule) (s : List Symbol) → 0 < length s → MeetsRule P r s → (p len : ℕ) → Bad P r (window s p len) → ⊥
+no_bad_met P (MaxShift x) s some h p len bad = no_bad_window P (MaxShift x) s some h p len bad
+no_bad_met P (MinShift x) s some h p len bad = no_bad_window P (MinShift x) s some h p len bad
+no_bad_met P MaxOff s some h p len bad = no_bad_window P MaxOff s some h p len bad
+no_bad_met P MinOff s some h p len bad = no_bad_window P MinOff s some h p len bad
+no_bad_met P MaxWork s some h p len bad = no_bad_window P MaxWork s some h p len bad
+no_bad_met P MinWork s some h p len bad = no_bad_window P MinWork s some h p len bad
+no_bad_met P (Pair k) s some h p len bad = no_bad_window P (Pair k) s some h p len bad
+no_bad_met P (Triple k) s some h p len bad = no_bad_window P (Triple k) s some h p len bad
+no_bad_met P (Day j) s some h p len bad = bad
+
+-- lists with equal fronts of one length have equal rests
+same_fronts : (a b x y : List Symbol) → length a ≡ length b → a ++ x ≡ b ++ y → (a ≡ b) × (x ≡ y)
+same_fronts [] [] x y l e = (refl, e)
+same_fronts [] (d ∷ b) x y l e = absurd (omega (arith, l))
+same_fronts (c ∷ a) [] x y l e = absurd (omega (arith, l))
+same_fronts (c ∷ a) (d ∷ b) x y l e =
+    let head : c ≡ d = cc in
+    let rest : a ++ x ≡ b ++ y = cc in
+    let len : length a ≡ length b = omega (arith, l) in
+    let more = same_fronts a b x y len rest in
+    let front : a ≡ b = more.0 in
+    (cc, more.1)
+
+-- a part of a window is a window
+pub part_of_window : (s : List Symbol) (p len : ℕ) (before part after : List Symbol) → window s p len ≡ before ++ part ++ after → part ≡ window s (p + length before) (length part)
+part_of_window s p len before part after e =
+    let a = length before in
+    let b = length part in
+    let c = length after in
+    let whole : len ≡ a + (b + c) = sym (length-window s p len) ∙ ap length e ∙ omega (arith, length-append (before ++ part) after, length-append before part) in
+    let cut : window s p len ≡ window s p a ++ (window s (p + a) b ++ window s (p + a + b) c) =
+    ap (window s p) whole ∙ window-add s p a (b + c) ∙ ap (λ w. window s p a ++ w) (window-add s (p + a) b c) in
+    let ends : before ++ (part ++ after) ≡ window s p a ++ (window s (p + a) b ++ window s (p + a + b) c) =
+    sym (append_assoc before part after) ∙ sym e ∙ cut in
+    let rest = same_fronts before (window s p a) (part ++ after) (window s (p + a) b ++ window s (p + a + b) c) (sym (length-window s p a)) ends in
+    (same_fronts part (window s (p + a) b) after (window s (p + a + b) c) (sym (length-window s (p + a) b)) rest.1).0
+
+-- a roster that meets the rules of a list has only clean windows
+pub clean-window : (P : Instance) (R : List ℕ) (s : List Symbol) (p len : ℕ) → 0 < cells P → Meets P R s → Clean P R (window s p len)
+clean-window P R s p len some m before part after e r named bad =
+    let long : length s ≡ cells P = m.is_roster.long in
+    let positive : 0 < length s = omega (arith, long, some) in
+    no_bad_met P r s positive (m.rules r named) (p + length before) (length part) (subst (Bad P r) (part_of_window s p len before part after e) bad)

@@ -1,0 +1,5 @@
+pub mod Word
+pub mod Leaf
+pub mod Tree
+pub mod Log
+pub mod Laws

@@ -1,0 +1,94 @@
+-- What it means that a log passes, and that it is spent.
+use Rattle.std.specs.Prelude.{◌≡◌, ◌≢◌, ◌⊎◌, ℕ, suc, ◌+◌, ◌<◌, ◌≤◌, List, [], ◌∷◌, length, slice_get, Bool, true, false, Option, Some, None, ℤ, pos, ◌≤ℤ◌, count_by}
+use Rattle.rwsp_terms.specs.declared.data.Symbol.{Symbol}
+use Rattle.rwsp_terms.specs.declared.data.Weight.{Weight}
+use Rattle.rwsp_terms.specs.declared.data.Rule.{Rule}
+use Rattle.rwsp_terms.specs.declared.data.Rule.TheVariants as TheRules
+use Rattle.rwsp_terms.specs.Instance.{Instance, least, IsSymbol}
+use Rattle.rwsp_terms.specs.Rules.{Names, NamesShortOnly}
+use Rattle.rwsp_terms.specs.Weights.{weight_at}
+use Rattle.refutation_terms.specs.declared.lines.Line.{Line}
+use Rattle.refutation_terms.specs.declared.lines.Line.TheVariants.{Split, Window, Day, Dead, Bound, Unfinished}
+use Rattle.refutation_terms.specs.declared.lines.Turn.{Turn}
+use Rattle.refutation_terms.specs.Word.{Domains}
+use Rattle.refutation_terms.specs.Leaf.{HasTooMany, HasTooFew, IsBlocked, IsDead, IsTooLight}
+use Rattle.refutation_terms.specs.Tree.{IsTree, domains_at, is_idle}
+
+-- the rules that the log names, its turn if it has one, and its lines
+pub record Log : Type 0 where
+  pub named : List ℕ
+  pub turn : Option Turn
+  pub lines : List Line
+
+-- a split that isn't idle, or a leaf that holds
+abbrev pub Holds : Instance → Domains → Line → Type 0
+Holds P D (Split p x) = is_idle P D p x.number ≡ false
+Holds P D (Window number p len) = IsBlocked P D number p len
+Holds P D (Day j x true) = HasTooMany P D j x.number
+Holds P D (Day j x false) = HasTooFew P D j x.number
+Holds P D (Dead p len R) = IsDead P D p len R
+Holds P D (Bound p turns R y) = IsTooLight P D p turns R y
+Holds P D Unfinished = ⊥
+
+-- some symbol has a weight on the day
+abbrev pub HasWeight : List Weight → ℕ → Type 0
+HasWeight y j = (x : ℕ) × (weight_at y j x ≢ pos 0)
+
+-- the rules that a line rests on
+abbrev pub Cites : Instance → Line → Rule → Type 0
+Cites P (Split p x) r = ⊥
+Cites P (Window number p len) r = Names P (number ∷ []) r
+Cites P (Day j x over) r = r ≡ TheRules.Day j
+Cites P (Dead p len R) r = Names P R r
+Cites P (Bound p turns R y) r = Names P R r ⊎ ((j : ℕ) × HasWeight y j × (r ≡ TheRules.Day j))
+Cites P Unfinished r = ⊥
+
+-- the rule that a turn rests on
+abbrev pub TurnCites : Option Turn → Rule → Type 0
+TurnCites None r = ⊥
+TurnCites (Some t) r = r ≡ TheRules.Day t.day
+
+-- a turn is to a symbol that some week must hold on its day
+abbrev pub IsAllowed : Instance → Option Turn → Type 0
+IsAllowed P None = Unit {0}
+IsAllowed P (Some t) = IsSymbol P t.x × (pos 1 ≤ℤ least P t.x.number t.day)
+
+-- the lists of dead and bound leaves hold short rules only
+abbrev pub ListsShortOnly : Instance → Line → Type 0
+ListsShortOnly P (Dead p len R) = NamesShortOnly P R
+ListsShortOnly P (Bound p turns R y) = NamesShortOnly P R
+ListsShortOnly P line = Unit {0}
+
+-- the line at k holds under the domains there
+abbrev pub HoldsAt : Instance → Log → ℕ → Line → Type 0
+HoldsAt P g k line = Holds P (domains_at P g.turn g.lines k) line
+
+-- the turn is allowed, each cited rule is named, and lists hold short rules only
+pub record IsGrounded (P : Instance) (g : Log) : Type 0 where
+  pub turn : IsAllowed P g.turn
+  pub turn_named : (r : Rule) → TurnCites g.turn r → Names P g.named r
+  pub named : (k : ℕ) (line : Line) (r : Rule) → slice_get g.lines k ≡ Some line → Cites P line r → Names P g.named r
+  pub short : (k : ℕ) (line : Line) → slice_get g.lines k ≡ Some line → ListsShortOnly P line
+
+-- one whole tree, in which no split is idle and each leaf holds
+pub record Passes (P : Instance) (g : Log) : Type 0 where
+  pub grounded : IsGrounded P g
+  pub tree : IsTree g.lines
+  pub holds : (k : ℕ) (line : Line) → slice_get g.lines k ≡ Some line → HoldsAt P g k line
+
+-- every line but an unfinished one
+abbrev pub is_worked : Line → Bool
+is_worked Unfinished = false
+is_worked line = true
+
+-- the number of splits and of leaves that aren't unfinished
+abbrev pub size : Log → ℕ
+size g = count_by is_worked g.lines
+
+-- one whole tree, of which the first lines use up the budget and hold, and all further lines, one at least, are unfinished
+pub record IsSpent (P : Instance) (g : Log) (budget : ℕ) : Type 0 where
+  pub grounded : IsGrounded P g
+  pub tree : IsTree g.lines
+  pub holds : (k : ℕ) (line : Line) → k < budget → slice_get g.lines k ≡ Some line → HoldsAt P g k line
+  pub rest : (k : ℕ) (line : Line) → budget ≤ k → slice_get g.lines k ≡ Some line → line ≡ Unfinished
+  pub unfinished : budget < length g.lines

@@ -1,0 +1,7 @@
+//! The words in which refutations are spoken of: the lines of a log, and in specs/ what it means that a log passes.
+#![tactic(auto)]
+
+pub mod laws;
+mod lines;
+
+pub use lines::{Line, LogRefusal, Turn};

@@ -1,0 +1,58 @@
+// The lines of a log, its turn, and the causes for which a log is refused. Positions count from 0, days and rules from 1.
+use rwsp_terms::{RuleList, Symbol, Weights, Word};
+
+/// A line of a log: a split of the cases in two, or a leaf that closes a case.
+#[derive(Debug, Drop)]
+pub enum Line {
+    /// First the rosters that hold `x` at position `p`, then those that don't.
+    Split { p: u32, x: Symbol },
+    /// Every word of `len` days from position `p` is bad for the rule.
+    Window { rule: u32, p: u32, len: u32 },
+    /// Too many cells of a day hold `x` for sure, or too few still can.
+    Day { day: u32, x: Symbol, over: bool },
+    /// No word of `len` days from position `p` is clean for the rules.
+    Dead { p: u32, len: u32, rules: RuleList },
+    /// Every clean word of so many turns from position `p` weighs less than the demand asks for.
+    Bound {
+        p: u32,
+        turns: u32,
+        rules: RuleList,
+        weights: Weights,
+    },
+    /// A case that wasn't worked out, written `open`.
+    Unfinished,
+}
+
+/// The assumption that week 1 holds `x` on the day.
+#[derive(Clone, Copy, Debug, PartialEq, Eq)]
+pub struct Turn {
+    pub day: u32,
+    pub x: Symbol,
+}
+
+/// Why a log is refused. The first number is the line of the text, from 1 on; the second is the rule.
+#[derive(Debug, Drop)]
+pub enum LogRefusal {
+    /// The line isn't spelled as it should be.
+    Form(u32),
+    /// A name is no symbol's name.
+    Name(u32),
+    /// The line cites a rule that the header doesn't name; the least such rule.
+    Unnamed(u32, u32),
+    /// The symbol of a split isn't in the domain, or is alone there.
+    Idle(u32),
+    /// A list holds a rule that isn't short; the least such rule.
+    Long(u32, u32),
+    /// A window or a day leaf doesn't hold.
+    Fails(u32),
+    /// A dead or a bound leaf doesn't hold, as the word shows.
+    Escape(u32, Word),
+    /// The case wasn't worked out.
+    Unfinished(u32),
+    /// The text ends before the tree does.
+    Ends,
+    /// The line stands behind the whole tree.
+    Extra(u32),
+    /// The symbol of the turn need not be there in any week.
+    Turn(u32),
+}
