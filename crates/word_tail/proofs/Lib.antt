@@ -2,3 +2,4 @@ pub mod Lists
 pub mod Parts
 pub mod Cores
 pub mod Facts
+pub mod Words

@@ -3,5 +3,7 @@
 
 mod limits;
 mod tail;
+mod tail_rules;
 
 pub use tail::Tail;
+pub use tail_rules::TailRules;

@@ -150,4 +150,19 @@ impl Limits {
             None => false,
         }
     }
+
+    // Whether the word with one symbol more ends in a part that breaks a rule of the list.
+    pub fn forbid(&self, tail: Tail, x: Symbol) -> bool
+        requires pairs { length self.now.pairs.items ≡ 81 }
+        requires triples { length self.now.triples.items ≡ 729 }
+        ensures { (P : Instance) (R : List ℕ) (w : List Symbol) → AreTables P R self.now → tail_of w ≡ tail → IsTrue result ↔ BreaksAny P R (w ++ x ∷ []) }
+    {
+        if self.breaks_run_max(tail, x) || self.breaks_work_max(tail, x) {
+            return true;
+        }
+        if self.breaks_run_min(tail, x) || self.breaks_work_min(tail, x) {
+            return true;
+        }
+        self.breaks_pair(tail, x) || self.breaks_triple(tail, x)
+    }
 }
