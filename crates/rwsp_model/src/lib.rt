@@ -7,14 +7,21 @@ mod laws;
 mod problem;
 mod refusal;
 mod roster;
+mod rules;
 mod sharing;
+#[cfg(test)]
+mod tests;
 mod validity;
 
 pub use fail::Fail;
-pub use laws::{refusals_decide_validity, valid_instances_keep_limits};
+pub use laws::{
+    every_rule_is_listed, refusals_decide_validity, rules_have_one_number,
+    valid_instances_keep_limits,
+};
 pub use problem::{Parts, Problem};
 pub use refusal::PartsRefusal;
 pub use roster::Roster;
+pub use rules::{is_short, number_of, rule_at, rule_count, short_rules};
 pub use rwsp_terms::{
     Bounds, Class, DemandRow, Name, Rule, RuleList, ShiftRow, Symbol, Weight, Weights, Word,
 };

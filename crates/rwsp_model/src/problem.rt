@@ -1,4 +1,4 @@
-ghost use Rattle.std.specs.Prelude.{◌≡◌, ℕ, ◌+◌, ◌-◌, ◌*◌, ◌<◌, ◌≤◌, ◌≤ℤ◌, pos, negsuc, List, [], ◌∷◌, length, Option, Some, None, MatchResult, IfSome, slice_get, position};
+ghost use Rattle.std.specs.Prelude.{◌≡◌, ℕ, ◌+◌, ◌-◌, ◌*◌, ◌<◌, ◌≤◌, ◌≤ℤ◌, pos, negsuc, List, [], ◌∷◌, length, Option, Some, None, MatchResult, IfOk, IfSome, slice_get, position};
 ghost use Rattle.std.specs.Option.{option_map};
 ghost use Rattle.std.specs.Str.{bytes_eq};
 ghost use Rattle.rwsp_terms.specs.Instance.{bounds, shift_count, cells, symbol_of, name_of, least, greatest, IsClass, IsSymbol, IsShift, IsDay};
@@ -7,6 +7,7 @@ ghost use Rattle.rwsp_model.specs.Validity.{refusal_of, KeepsLimits, name_from};
 
 use crate::{PartsRefusal, demand, validity};
 use rwsp_terms::{Bounds, Class, DemandRow, ShiftRow, Symbol};
+use std::alloc::AllocError;
 use std::marker::Model;
 
 /// What a problem is made of. A row of demand for each shift has a range for each day.
@@ -52,6 +53,15 @@ impl Problem {
             None => Ok(Problem { parts }),
             Some(refusal) => Err(refusal),
         }
+    }
+
+    /// An equal problem.
+    pub fn copy(&self) -> Result<Problem, AllocError>
+        ensures { IfOk result (λ P. P ≡ self.now) }
+    {
+        Ok(Problem {
+            parts: copy_of(&self.parts)?,
+        })
     }
 
     /// That the problem keeps its limits.
@@ -193,6 +203,21 @@ impl Problem {
     {
         demand::greatest_of(&self.parts, x, day)
     }
+}
+
+fn copy_of(parts: &Parts) -> Result<Parts, AllocError>
+    ensures { IfOk result (λ copy. instance_of copy ≡ instance_of parts.now) }
+{
+    Ok(Parts {
+        days: parts.days,
+        weeks: parts.weeks,
+        demand: parts.demand.clone()?,
+        shifts: parts.shifts.clone()?,
+        off: parts.off,
+        work: parts.work,
+        pairs: parts.pairs.clone()?,
+        triples: parts.triples.clone()?,
+    })
 }
 
 fn name_among(rows: &[ShiftRow], number: u8) -> &[u8]

@@ -3,3 +3,4 @@ pub mod Window
 pub mod Roster
 pub mod Rules
 pub mod Weights
+pub mod Places

@@ -1,6 +1,7 @@
 // Plain data, with no fact about it but what it holds.
 ghost use Rattle.std.specs.Prelude.{◌≡◌, ℕ, List};
 
+use std::alloc::AllocError;
 use std::marker::Model;
 
 /// The day off, numbered 0, or a shift, numbered from 1 in the order of the file.
@@ -78,6 +79,16 @@ impl Name {
     }
 }
 
+impl Clone for Name {
+    ghost is_clone = { λ a b. b ≡ a };
+
+    fn clone(&self) -> Result<Name, AllocError> {
+        Ok(Name {
+            bytes: self.bytes.clone()?,
+        })
+    }
+}
+
 /// The demand of a shift: for each day the least and the greatest number of weeks that hold it.
 #[derive(Debug, Drop)]
 pub struct DemandRow {
@@ -109,6 +120,16 @@ impl DemandRow {
     }
 }
 
+impl Clone for DemandRow {
+    ghost is_clone = { λ a b. b ≡ a };
+
+    fn clone(&self) -> Result<DemandRow, AllocError> {
+        Ok(DemandRow {
+            ranges: self.ranges.clone()?,
+        })
+    }
+}
+
 /// A shift: its name, its start and length in minutes, and the bounds of its blocks.
 #[derive(Debug, Drop)]
 pub struct ShiftRow {
@@ -116,4 +137,17 @@ pub struct ShiftRow {
     pub start: u32,
     pub length: u32,
     pub bounds: Bounds,
+}
+
+impl Clone for ShiftRow {
+    ghost is_clone = { λ a b. b ≡ a };
+
+    fn clone(&self) -> Result<ShiftRow, AllocError> {
+        Ok(ShiftRow {
+            name: self.name.clone()?,
+            start: self.start,
+            length: self.length,
+            bounds: self.bounds,
+        })
+    }
 }

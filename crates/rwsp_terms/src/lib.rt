@@ -4,6 +4,8 @@
 mod data;
 mod laws;
 mod lists;
+mod sharing;
 
 pub use data::{Bounds, Class, DemandRow, Name, Rule, ShiftRow, Symbol, Weight};
+pub use laws::{rule_lists_are_sets, weights_are_told_by_values, window_is_long};
 pub use lists::{RuleList, Weights, Word};

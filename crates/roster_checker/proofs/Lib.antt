@@ -1,0 +1,4 @@
+pub mod Counting
+pub mod FirstBroken
+pub mod FirstSequence
+pub mod Runs

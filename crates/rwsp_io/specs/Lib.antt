@@ -1,0 +1,5 @@
+pub mod Told
+pub mod Files
+pub mod Reading
+pub mod CallPlan
+pub mod MemoryForms

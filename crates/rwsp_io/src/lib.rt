@@ -1,0 +1,16 @@
+//! Where files are read from and answers are written to: shelves and sinks, in memory and of the system. Each counts
+//! its faults, so that a caller can tell a fault of the outside from one of its own.
+#![tactic(auto)]
+
+mod calls;
+mod memory;
+mod real;
+mod shelf;
+mod sink;
+#[cfg(test)]
+mod tests;
+
+pub use memory::{MemoryShelf, MemorySink};
+pub use real::{RealShelf, RealSink};
+pub use shelf::{ReadFail, Shelf, ShelfFault, read_all};
+pub use sink::{Sink, SinkFault, WriteFault, write_all};

@@ -1,0 +1,68 @@
+-- The list of all short rules, as far as it has come.
+use Rattle.std.proofs.Common.{◌≡◌, ◌≢◌, ℕ, zero, suc, ◌+◌, ◌<◌, ◌≤◌, List, [], length, refl, ap, sym, ◌∙◌, subst, arith, Some, None, ◌⊎◌, inl, inr, ⊎_elim}
+use Rattle.std.specs.Prelude.{slice_get, Contains, ◌↔◌}
+use Rattle.std.specs.List.Sorted.{IsStrictlyIncreasing}
+use Rattle.std.proofs.lemmas.Bool.{cases_eq}
+use Rattle.std.proofs.lemmas.Option.{slice_get_within}
+use Rattle.rwsp_terms.specs.Instance.{Instance}
+use Rattle.rwsp_terms.specs.Roster.{IsRule}
+use Rattle.rwsp_terms.specs.Rules.{rules, rule_of, IsShort, Names, NamesShortOnly}
+use Rattle.rwsp_terms.specs.declared.data.Rule.{Rule}
+use Rattle.rwsp_model.specs.RuleNumbers.{place_of, IsShortNumber, ListsShortRules}
+use Rattle.rwsp_model.proofs.Numbering.{rule_numbered, number_at_place, some_injective}
+
+-- a list with the number of a short rule more
+pub put_short : (P : Instance) (old new : List ℕ) (n : ℕ) (r : Rule) → rule_of P n ≡ Some r → IsShort P r → ((k : ℕ) → Contains new k ↔ (Contains old k ⊎ (k ≡ n))) → (k : ℕ) → Contains new k ↔ (Contains old k ⊎ ((k ≡ n) × IsShortNumber P k))
+put_short P old new n r numbered short holds = λ k. (
+  λ h. ⊎_elim (λ (c : Contains old k). inl c) (λ (e : k ≡ n). inr (e, (r, ap (rule_of P) e ∙ numbered, short))) ((holds k).0 h),
+  λ h. (holds k).1 (⊎_elim (λ (c : Contains old k). inl c) (λ (q : (k ≡ n) × IsShortNumber P k). inr q.0) h),
+)
+
+-- the list holds the short rules up to a number
+pub record ListsUpTo (P : Instance) (R : List ℕ) (n : ℕ) : Type 0 where
+  pub ascends : IsStrictlyIncreasing R
+  pub numbers : (k : ℕ) → Contains R k ↔ ((k ≤ n) × IsShortNumber P k)
+
+no_rule : (P : Instance) (k : ℕ) → k ≤ 0 → IsShortNumber P k → ⊥
+no_rule P zero le h = let f = rule_numbered P zero h.0 h.1 in omega (arith, f.1)
+no_rule P (suc k) le h = omega (arith, le)
+
+pub lists_none : (P : Instance) → ListsUpTo P [] 0
+lists_none P = record {
+  ascends = λ k less. absurd (omega (arith, less));
+  numbers = λ k. (λ c. absurd (omega (arith, c.1)), λ h. absurd (no_rule P k h.0 h.1));
+}
+
+pub lists_more : (P : Instance) (old new : List ℕ) (n m : ℕ) → m ≡ n + 1 → ListsUpTo P old n → IsStrictlyIncreasing new → ((k : ℕ) → Contains new k ↔ (Contains old k ⊎ ((k ≡ n + 1) × IsShortNumber P k))) → ListsUpTo P new m
+lists_more P old new n m next lists up holds = record {
+  ascends = up;
+  numbers = λ k. (
+    λ c. ⊎_elim
+        (λ (o : Contains old k). let f = (lists.numbers k).0 o in (omega (arith, f.0, next), f.1))
+        (λ (q : (k ≡ n + 1) × IsShortNumber P k). (omega (arith, q.0, next), q.1))
+        ((holds k).0 c),
+    λ h. (holds k).1
+        (⊎_elim
+        (λ (e : k ≡ n + 1). inr (e, h.1))
+        (λ (ne : k ≢ n + 1). inl ((lists.numbers k).1 (omega (arith, h.0, next, ne), h.1)))
+        (cases_eq k (n + 1))),
+  );
+}
+
+upto : (P : Instance) (k n : ℕ) → n ≡ length (rules P) → IsShortNumber P k → k ≤ n
+upto P zero n all h = omega arith
+upto P (suc k) n all h = let within = slice_get_within (rules P) k h.0 h.1 in omega (arith, within, all)
+
+pub lists_all : (P : Instance) (R : List ℕ) (n : ℕ) → n ≡ length (rules P) → ListsUpTo P R n → ListsShortRules P R
+lists_all P R n all lists = record {
+  ascends = lists.ascends;
+  numbers = λ k. (λ c. ((lists.numbers k).0 c).1, λ h. (lists.numbers k).1 (upto P k n all h, h));
+  short_only = λ r named.
+      let short = ((lists.numbers named.0).0 named.1).1 in
+      let same : short.0 ≡ r = some_injective short.0 r (sym short.1 ∙ named.2) in
+      subst (λ (z : Rule). IsShort P z) same short.2;
+  all_short = λ r h short.
+      let number : rule_of P (place_of P r + 1) ≡ Some r = number_at_place P r (place_of P r + 1) h refl in
+      let of : IsShortNumber P (place_of P r + 1) = (r, number, short) in
+      (place_of P r + 1, (lists.numbers (place_of P r + 1)).1 (upto P (place_of P r + 1) n all of, of), number);
+}
