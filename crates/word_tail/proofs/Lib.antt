@@ -3,3 +3,4 @@ pub mod Parts
 pub mod Cores
 pub mod Facts
 pub mod Words
+pub mod Laid

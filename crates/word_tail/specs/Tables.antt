@@ -39,6 +39,13 @@ NamesPair P R a b = (k : ℕ) × Names P R (Pair k) × (slice_get P.pairs k ≡ 
 abbrev pub NamesTriple : Instance → List ℕ → Symbol → Symbol → Symbol → Type 0
 NamesTriple P R a b c = (k : ℕ) × Names P R (Triple k) × (slice_get P.triples k ≡ Some (a, b, c))
 
+-- a table holds the pairs of the rules before the n-th, or their triples
+abbrev pub HoldsPairs : Instance → List ℕ → List Bool → ℕ → Type 0
+HoldsPairs P R table n = (a b : Symbol) → IsTrue (pair_in table a b) ↔ ((k : ℕ) × (k < n) × Names P R (Pair k) × (slice_get P.pairs k ≡ Some (a, b)))
+
+abbrev pub HoldsTriples : Instance → List ℕ → List Bool → ℕ → Type 0
+HoldsTriples P R table n = (a b c : Symbol) → IsTrue (triple_in table a b c) ↔ ((k : ℕ) × (k < n) × Names P R (Triple k) × (slice_get P.triples k ≡ Some (a, b, c)))
+
 -- the tables hold the rules of the list
 pub record AreTables (P : Instance) (R : List ℕ) (l : Limits) : Type 0 where
   pub symbols : (n : ℕ) → AreLengths P R (class_numbered n) (slice_index_or l.symbols n no_lengths)

@@ -1,12 +1,15 @@
-ghost use Rattle.std.specs.Prelude.{◌≡◌, ℕ, List, [], ◌∷◌, ◌++◌, MatchOption};
+ghost use Rattle.std.specs.Prelude.{◌≡◌, ℕ, List, [], ◌∷◌, ◌++◌, MatchOption, IfOk};
+ghost use Rattle.rwsp_terms.specs.Rules.{NamesShortOnly};
 ghost use Rattle.rwsp_terms.specs.declared.data.Symbol.{Symbol};
 ghost use Rattle.refutation_terms.specs.Word.{Clean};
 ghost use Rattle.word_tail.specs.Tails.{tail_of};
 
 use crate::Tail;
+use crate::layout::limits_of;
 use crate::limits::Limits;
 use rwsp_model::{Problem, RuleList};
 use rwsp_terms::Symbol;
+use std::alloc::{AllocError, Global};
 use std::marker::Model;
 
 /// The rules of a list of a problem, laid out so that a word's tail tells which symbols may follow it.
@@ -29,6 +32,21 @@ impl Model for TailRules {
 }
 
 impl TailRules {
+    /// Tail rules for a problem and a list of short rules, of which they keep copies.
+    pub fn of(alloc: Global, problem: &Problem, rules: &RuleList) -> Result<TailRules, AllocError>
+        requires { NamesShortOnly problem.now rules.now }
+        ensures { IfOk result (λ t. (t.problem ≡ problem.now) × (t.rules ≡ rules.now)) }
+    {
+        let limits = limits_of(alloc, problem, rules)?;
+        let problem = problem.copy()?;
+        let list = rules.copy()?;
+        Ok(TailRules {
+            problem,
+            list,
+            limits,
+        })
+    }
+
     /// The problem.
     pub fn problem(&self) -> &Problem
         ensures { result.now ≡ self.now.problem }
