@@ -94,3 +94,28 @@ last_by P R l v tables run_max work_max run_min work_min pair false tells any =
 pub last_kind : (P : Instance) (R : List ℕ) (l : Limits) (v : List Symbol) → AreTables P R l → ¬ BreaksRunMax P R v → ¬ BreaksWorkMax P R v → ¬ BreaksRunMin P R v → ¬ BreaksWorkMin P R v → ¬ BreaksPair P R v → (b : Bool) → IsTrue b ↔ BreaksTriple P R v → IsTrue b ↔ BreaksAny P R v
 last_kind P R l v tables run_max work_max run_min work_min pair b tells =
     (λ t. let k = tells.0 t in (Triple k.0, k.1), last_by P R l v tables run_max work_max run_min work_min pair b tells)
+
+-- the empty word has no bad part
+nothing_bad : (P : Instance) (r : Rule) → Bad P r [] → ⊥
+nothing_bad P (MaxShift x) b = omega (arith, b.long)
+nothing_bad P (MinShift x) b = absurd (cc (b.whole))
+nothing_bad P MaxOff b = omega (arith, b.long)
+nothing_bad P MinOff b = absurd (cc (b.whole))
+nothing_bad P MaxWork b = omega (arith, b.long)
+nothing_bad P MinWork b = absurd (cc (b.whole))
+nothing_bad P (Pair k) b = absurd (cc (b.2))
+nothing_bad P (Triple k) b = absurd (cc (b.2))
+nothing_bad P (Day j) b = b
+
+empty_part : (before part after : List Symbol) → [] ≡ before ++ part ++ after → part ≡ []
+empty_part [] [] after h = refl
+empty_part [] (x ∷ part) after h = absurd (cc)
+empty_part (y ∷ before) part after h = absurd (cc)
+
+pub empty_clean : (P : Instance) (R : List ℕ) → Clean P R []
+empty_clean P R before part after whole r named bad =
+    nothing_bad P r (subst (Bad P r) (empty_part before part after whole) bad)
+
+pub front_clean : (P : Instance) (R : List ℕ) (front rest : List Symbol) → Clean P R (front ++ rest) → Clean P R front
+front_clean P R front rest clean before part after whole r named bad =
+    clean before part (after ++ rest) (ap (λ u. u ++ rest) whole ∙ append_assoc (before ++ part) after rest) r named bad
