@@ -1,10 +1,8 @@
 -- The facts of a tail, and those of a word with one symbol more.
-use Rattle.std.proofs.Common.{◌≡◌, ◌⊎◌, ℕ, zero, suc, ◌+◌, ◌<◌, ◌≤◌, List, [], ◌∷◌, ◌++◌, Option, Some, None, Bool, true, false, cond, ◌&&◌, refl, ap, sym, ◌∙◌, subst, inl, inr, arith, ltb, eqb, eq-eqb, min}
-use Rattle.std.specs.List.{suffix_len, list_all}
-use Rattle.std.proofs.lemmas.Bool.{lt-ltb}
+use Rattle.std.proofs.Common.{◌≡◌, ◌⊎◌, ℕ, ◌+◌, List, [], ◌∷◌, ◌++◌, Option, Some, None, Bool, true, false, cond, ◌&&◌, refl, ap, sym, ◌∙◌, inl, inr, arith, eqb, eq-eqb}
 use Rattle.rwsp_terms.specs.declared.data.Symbol.{Symbol}
 use Rattle.word_tail.specs.declared.tail.Tail.{Tail}
-use Rattle.word_tail.specs.Tails.{is_same, is_shift, last_of, before_last_of, capped, run_of, work_of, are_all, all_work_in, run_by, all_one_by, tail_of}
+use Rattle.word_tail.specs.Tails.{is_same, last_of, before_last_of, capped, run_of, work_of, are_all, all_work_in, run_by, all_one_by, tail_of}
 use Rattle.word_tail.proofs.Lists.{ends, suffix_len_longer, list_all_longer}
 use Rattle.word_tail.proofs.Parts.{last_longer, before_longer, last_split}
 
@@ -60,30 +58,10 @@ pub all_one_longer : (w : List Symbol) (x : Symbol) → all_one_by (last_of (w +
 all_one_longer w x =
     let same : is_same x x ≡ true = eq-eqb x.number x.number refl in
     ap (λ o. all_one_by o (w ++ x ∷ [])) (last_longer w x) ∙ list_all_longer (is_same x) w x ∙ ap (λ k. are_all x w && k) same ∙ and_true (are_all x w)
-    where
-      and_true : (b : Bool) → (b && true) ≡ b
-      and_true true = refl
-      and_true false = refl
-
-pub work_longer : (w : List Symbol) (x : Symbol) → 0 < x.number → work_of (w ++ x ∷ []) ≡ work_of w + 1
-work_longer w x h =
-    suffix_len_longer is_shift w x ∙ ap (λ k. cond k (1 + work_of w) 0) (lt-ltb 0 x.number h) ∙ omega arith
-
-pub work_cut : (w : List Symbol) (x : Symbol) → x.number ≡ 0 → work_of (w ++ x ∷ []) ≡ 0
-work_cut w x h =
-    suffix_len_longer is_shift w x ∙ ap (λ n. cond (ltb 0 n) (1 + work_of w) 0) h
-
-pub all_work_longer : (w : List Symbol) (x : Symbol) (t : Tail) → tail_of w ≡ t → 0 < x.number → t.all_work ≡ all_work_in (w ++ x ∷ [])
-all_work_longer w x t e h =
-    sym (ap (λ (s : Tail). s.all_work) e) ∙ sym (list_all_longer is_shift w x ∙ ap (λ k. all_work_in w && k) (lt-ltb 0 x.number h) ∙ and_true (all_work_in w))
-    where
-      and_true : (b : Bool) → (b && true) ≡ b
-      and_true true = refl
-      and_true false = refl
-
-pub all_work_cut : (w : List Symbol) (x : Symbol) → x.number ≡ 0 → false ≡ all_work_in (w ++ x ∷ [])
-all_work_cut w x h =
-    sym (list_all_longer is_shift w x ∙ ap (λ n. all_work_in w && ltb 0 n) h ∙ and_false (all_work_in w))
+  where
+    and_true : (b : Bool) → (b && true) ≡ b
+    and_true true = refl
+    and_true false = refl
 
 abbrev made : Option Symbol → Option Symbol → ℕ → ℕ → Bool → Bool → Tail
 made l b r k o a = record { last = l; before = b; run = r; work = k; all_one = o; all_work = a }

@@ -1,6 +1,6 @@
 pub mod Lists
 pub mod Parts
-pub mod Cores
+pub mod RuleTests
 pub mod Facts
 pub mod Words
-pub mod Laid
+pub mod Layouts

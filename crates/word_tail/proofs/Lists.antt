@@ -145,10 +145,10 @@ split_by : (p : Symbol → Bool) (x : Symbol) (xs : List Symbol) (k : Bool) → 
 split_by p x xs false e h more =
     let s = more e in (x ∷ s.0, s.1, s.2, ap (λ zs. x ∷ zs) s.3, s.4, s.5)
 split_by p x xs true e h more = ([], x, xs, refl, passes_all p xs e, false_left (p x) h)
-    where
-      false_left : (b : Bool) → (b && true) ≡ false → b ≡ false
-      false_left true g = g
-      false_left false g = g
+  where
+    false_left : (b : Bool) → (b && true) ≡ false → b ≡ false
+    false_left true g = g
+    false_left false g = g
 
 pub end_split : (p : Symbol → Bool) (w : List Symbol) → list_all p w ≡ false → EndSplit p w
 end_split p [] h = absurd (cc)
@@ -158,7 +158,7 @@ end_split p (x ∷ xs) h = split_by p x xs (list_all p xs) refl h (end_split p x
 pub not_all : (p : Symbol → Bool) (before : List Symbol) (b : Symbol) (block : List Symbol) → p b ≡ false → list_all p (before ++ b ∷ block) ≡ false
 not_all p [] b block e = ap (λ k. k && list_all p block) e
 not_all p (x ∷ xs) b block e = ap (λ k. p x && k) (not_all p xs b block e) ∙ and_false (p x)
-    where
-      and_false : (b : Bool) → (b && false) ≡ false
-      and_false true = refl
-      and_false false = refl
+  where
+    and_false : (b : Bool) → (b && false) ≡ false
+    and_false true = refl
+    and_false false = refl

@@ -1,6 +1,6 @@
 -- What the bad parts at the end of a word are, by the block there and by its last symbols.
-use Rattle.std.proofs.Common.{◌≡◌, ◌⊎◌, ℕ, zero, suc, ◌+◌, ◌<◌, ◌≤◌, List, [], ◌∷◌, ◌++◌, length, get_or, Option, Some, None, Bool, true, false, cond, ◌&&◌, refl, ap, sym, ◌∙◌, inl, inr, subst, append_assoc, arith, ltb, eqb, eqb-true, eq-eqb, ltb-true}
-use Rattle.std.specs.Prelude.{reverse, All, slice_get}
+use Rattle.std.proofs.Common.{◌≡◌, ◌⊎◌, ℕ, zero, suc, ◌+◌, ◌<◌, ◌≤◌, List, [], ◌∷◌, ◌++◌, length, Some, None, Bool, true, false, refl, ap, sym, ◌∙◌, inl, inr, append_assoc, arith, eqb, eqb-true, eq-eqb, ltb-true}
+use Rattle.std.specs.Prelude.{All, slice_get}
 use Rattle.std.specs.List.{suffix_len, list_all}
 use Rattle.std.proofs.lemmas.Bool.{lt-ltb}
 use Rattle.rwsp_terms.specs.declared.data.Symbol.{Symbol}
@@ -11,7 +11,7 @@ use Rattle.rwsp_terms.specs.Instance.{Instance, bounds, symbol_numbered}
 use Rattle.rwsp_terms.specs.Window.{Bad, InClass, TooLong, TooShort}
 use Rattle.word_tail.specs.Tails.{is_same, is_shift, last_of, before_last_of}
 use Rattle.word_tail.specs.Ends.{max_rule, min_rule, EndsBadly}
-use Rattle.word_tail.proofs.Lists.{Passes, front_same, last_same, ends, reverse_longer, suffix_len_longer, end_block, end_long, end_taken, end_split, not_all}
+use Rattle.word_tail.proofs.Lists.{Passes, front_same, last_same, ends, reverse_longer, end_block, end_long, end_taken, end_split, not_all}
 
 -- the class as a test
 abbrev pub in_class : Class → Symbol → Bool
@@ -31,10 +31,10 @@ class_passed Work y h = ltb-true 0 y.number h
 
 pub outside : (c : Class) (y : Symbol) → ¬ InClass c y → in_class c y ≡ false
 outside c y h = by (in_class c y) refl
-    where
-      by : (b : Bool) → in_class c y ≡ b → in_class c y ≡ false
-      by true e = absurd (h (class_passed c y e))
-      by false e = e
+  where
+    by : (b : Bool) → in_class c y ≡ b → in_class c y ≡ false
+    by true e = absurd (h (class_passed c y e))
+    by false e = e
 
 pub not_inside : (c : Class) (y : Symbol) → in_class c y ≡ false → ¬ InClass c y
 not_inside c y e h = let t : in_class c y ≡ true = passes_class c y h in cc
@@ -88,18 +88,22 @@ pub min_ends : (P : Instance) (c : Class) (w : List Symbol) (x : Symbol) → in_
 min_ends P c w x out some few part =
     let s = end_split (in_class c) w part in
     let long : suffix_len (in_class c) w ≡ length s.2 = ap (suffix_len (in_class c)) s.3 ∙ end_block (in_class c) s.0 s.1 s.2 s.4 s.5 in
-    let whole : w ++ x ∷ [] ≡ s.0 ++ (s.1 ∷ s.2 ++ x ∷ []) = ap (λ v. v ++ x ∷ []) s.3 ∙ append_assoc s.0 (s.1 ∷ s.2) (x ∷ []) in
-    (s.0, s.1 ∷ s.2 ++ x ∷ [], whole, bad_min P c (s.1 ∷ s.2 ++ x ∷ []) (record {
-      before = s.1;
-      block = s.2;
-      after = x;
-      whole = refl;
-      starts = not_inside c s.1 s.5;
-      within = all_passed c s.2 s.4;
-      ends = not_inside c x out;
-      some = omega (arith, some, long);
-      few = omega (arith, few, long);
-    }))
+    let whole : w ++ x ∷ [] ≡ s.0 ++ (s.1 ∷ s.2 ++ x ∷ []) = ap (λ v. v ++ x ∷ []) s.3 ∙ append_assoc s.0 (s.1 ∷ s.2) (x ∷ []) in (
+      s.0,
+      s.1 ∷ s.2 ++ x ∷ [],
+      whole,
+      bad_min P c (s.1 ∷ s.2 ++ x ∷ []) (record {
+        before = s.1;
+        block = s.2;
+        after = x;
+        whole = refl;
+        starts = not_inside c s.1 s.5;
+        within = all_passed c s.2 s.4;
+        ends = not_inside c x out;
+        some = omega (arith, some, long);
+        few = omega (arith, few, long);
+      }),
+    )
 
 pub record IsCutShort (P : Instance) (c : Class) (w : List Symbol) (x : Symbol) : Type 0 where
   pub outside : in_class c x ≡ false

@@ -1,17 +1,16 @@
 -- When a clean word with one symbol more is clean.
-use Rattle.std.proofs.Common.{◌≡◌, ◌⊎◌, ℕ, zero, suc, ◌+◌, ◌<◌, List, [], ◌∷◌, ◌++◌, Option, Some, None, Bool, true, false, ◌||◌, refl, ap, sym, ◌∙◌, subst, inl, inr, arith, append_assoc}
+use Rattle.std.proofs.Common.{◌≡◌, ◌⊎◌, ℕ, zero, suc, ◌<◌, List, [], ◌∷◌, ◌++◌, Bool, true, false, refl, ap, sym, ◌∙◌, subst, inl, inr, arith, append_assoc}
 use Rattle.std.specs.Prelude.{◌↔◌, IsTrue}
 use Rattle.std.proofs.lemmas.List.{append-nil}
 use Rattle.rwsp_terms.specs.declared.data.Symbol.{Symbol}
-use Rattle.rwsp_terms.specs.declared.data.Class.{Class}
-use Rattle.rwsp_terms.specs.declared.data.Class.TheVariants.{Shift, Off, Work}
+use Rattle.rwsp_terms.specs.declared.data.Class.TheVariants.{Shift}
 use Rattle.rwsp_terms.specs.declared.data.Rule.{Rule}
 use Rattle.rwsp_terms.specs.declared.data.Rule.TheVariants.{MaxShift, MinShift, MaxOff, MinOff, MaxWork, MinWork, Pair, Triple, Day}
 use Rattle.rwsp_terms.specs.Instance.{Instance, symbol_numbered}
 use Rattle.rwsp_terms.specs.Rules.{Names}
 use Rattle.rwsp_terms.specs.Window.{Bad}
 use Rattle.refutation_terms.specs.Word.{Clean}
-use Rattle.word_tail.specs.Ends.{max_rule, min_rule, class_numbered, EndsBadly, Breaks, BreaksRunMax, BreaksWorkMax, BreaksRunMin, BreaksWorkMin, BreaksPair, BreaksTriple, BreaksAny}
+use Rattle.word_tail.specs.Ends.{max_rule, min_rule, class_numbered, Breaks, BreaksRunMax, BreaksWorkMax, BreaksRunMin, BreaksWorkMin, BreaksPair, BreaksTriple, BreaksAny}
 use Rattle.word_tail.specs.Tables.{AreTables}
 use Rattle.word_tail.specs.declared.limits.Limits.{Limits}
 use Rattle.word_tail.proofs.Lists.{parts_of_longer}

@@ -177,7 +177,11 @@ fn triples_of(alloc: Global, problem: &Problem, list: &RuleList) -> Result<Vec<b
 }
 
 /// The rules of a list that names short rules only, laid out by kind.
-pub(crate) fn limits_of(alloc: Global, problem: &Problem, list: &RuleList) -> Result<Limits, AllocError>
+pub(crate) fn limits_of(
+    alloc: Global,
+    problem: &Problem,
+    list: &RuleList,
+) -> Result<Limits, AllocError>
     requires { NamesShortOnly problem.now list.now }
     ensures { IfOk result (λ l. AreTables problem.now list.now l) }
 {

@@ -66,8 +66,8 @@ impl TailRules {
     pub fn follow(&self, tail: Tail, x: Symbol) -> Option<Tail>
         ensures { (w : List Symbol) → Clean self.now.problem self.now.rules w → tail_of w ≡ tail →
             MatchOption result
-                (¬ Clean self.now.problem self.now.rules (w ++ x ∷ []))
-                (λ t. Clean self.now.problem self.now.rules (w ++ x ∷ []) × (t ≡ tail_of (w ++ x ∷ []))) }
+            (¬ Clean self.now.problem self.now.rules (w ++ x ∷ []))
+            (λ t. Clean self.now.problem self.now.rules (w ++ x ∷ []) × (t ≡ tail_of (w ++ x ∷ []))) }
     {
         if self.limits.forbid(tail, x) {
             None

@@ -1,10 +1,11 @@
 use crate::{Tail, TailRules};
-use rwsp_model::{Parts, PartsRefusal, Problem, short_rules};
+use rwsp_model::{Parts, Problem, short_rules};
 use rwsp_terms::{Bounds, DemandRow, Name, ShiftRow, Symbol};
 use std::alloc::{AllocError, Global};
 use std::test::Fail;
 
 const DAY: Symbol = Symbol { number: 1 };
+
 const NIGHT: Symbol = Symbol { number: 2 };
 
 fn shift(alloc: Global, name: &[u8], bounds: Bounds) -> Result<ShiftRow, AllocError> {
@@ -56,6 +57,14 @@ fn parts(alloc: Global) -> Result<Parts, AllocError> {
     })
 }
 
+fn small_rules(alloc: Global) -> Result<TailRules, Fail> {
+    let Ok(problem) = Problem::of(parts(alloc)?) else {
+        return Err(Fail::from("no problem"));
+    };
+    let short = short_rules(alloc, &problem)?;
+    Ok(TailRules::of(alloc, &problem, &short)?)
+}
+
 fn symbol(letter: u8) -> Symbol {
     match letter {
         b'D' => DAY,
@@ -79,18 +88,17 @@ fn first_unclean(rules: &TailRules, word: &[u8]) -> Option<usize> {
 }
 
 const NIGHTS: [u8; 31] = [b'N'; 31];
+
 const LONG_PAUSE: [u8; 35] = [b'-'; 35];
 
 #[test]
 fn words_by_their_tails(rt: HostRuntime) -> Result<(), Fail> {
-    let alloc = rt.alloc();
-    let Ok(problem) = Problem::of(parts(alloc)?) else {
-        return Err(Fail::from("no problem"));
-    };
-    let short = short_rules(alloc, &problem)?;
-    let rules = TailRules::of(alloc, &problem, &short)?;
+    let rules = small_rules(rt.alloc())?;
     assert_eq!(rt; rules.problem().cells(), 21);
-    assert_eq!(rt; rules.rules().numbers(), [1, 2, 3, 4, 6, 8, 9, 10].as_slice());
+    assert_eq!(rt;
+        rules.rules().numbers(),
+        [1, 2, 3, 4, 6, 8, 9, 10].as_slice()
+    );
     for (word, want) in [
         (b"".as_slice(), None),
         (b"D--DDD".as_slice(), None),
@@ -114,12 +122,7 @@ fn words_by_their_tails(rt: HostRuntime) -> Result<(), Fail> {
 
 #[test]
 fn tails(rt: HostRuntime) -> Result<(), Fail> {
-    let alloc = rt.alloc();
-    let Ok(problem) = Problem::of(parts(alloc)?) else {
-        return Err(Fail::from("no problem"));
-    };
-    let short = short_rules(alloc, &problem)?;
-    let rules = TailRules::of(alloc, &problem, &short)?;
+    let rules = small_rules(rt.alloc())?;
     let paused = Tail {
         last: Some(Symbol::OFF),
         before: Some(Symbol::OFF),

@@ -3,7 +3,7 @@ use Rattle.rwsp_terms.specs.Rules.{Names}
 use Rattle.rwsp_terms.specs.declared.data.Rule.{Rule}
 use Rattle.rwsp_terms.specs.declared.data.Bounds.{Bounds}
 use Rattle.std.proofs.Common.{ℕ, ◌≤◌}
-use Rattle.word_tail.proofs.Laid.{short_max}
+use Rattle.word_tail.proofs.Layouts.{short_max}
 use Rattle.word_tail.proofs.layout.greatest_of.Goals as goal
 
 pub returns-then-names : goal.returns-then-names

@@ -1,6 +1,6 @@
 use Rattle.std.proofs.Common.{◌<◌, arith}
 use Rattle.rwsp_terms.specs.Instance.{shift_count}
-use Rattle.word_tail.proofs.Laid.{none_above}
+use Rattle.word_tail.proofs.Layouts.{none_above}
 use Rattle.word_tail.proofs.layout.lengths_numbered.Goals as goal
 
 pub returns-else-number-shifts : goal.returns-else-number-shifts

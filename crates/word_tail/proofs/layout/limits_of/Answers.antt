@@ -1,4 +1,4 @@
-use Rattle.word_tail.proofs.Laid.{shift_of_rule}
+use Rattle.word_tail.proofs.Layouts.{shift_of_rule}
 use Rattle.word_tail.proofs.layout.limits_of.Goals as goal
 
 pub returns : goal.returns

@@ -1,5 +1,5 @@
 use Rattle.std.proofs.Common.{◌≤◌, length, ap, arith}
-use Rattle.word_tail.proofs.Laid.{no_pairs, all_pairs}
+use Rattle.word_tail.proofs.Layouts.{no_pairs, all_pairs}
 use Rattle.word_tail.proofs.layout.pairs_of.Goals as goal
 
 pub loop-pair-init : goal.loop-pair-init

@@ -1,6 +1,6 @@
 use Rattle.std.proofs.Common.{◌<◌, length, arith}
 use Rattle.std.proofs.Common.{◌∙◌, length-set}
-use Rattle.word_tail.proofs.Laid.{next_lengths, all_lengths}
+use Rattle.word_tail.proofs.Layouts.{next_lengths, all_lengths}
 use Rattle.word_tail.proofs.layout.symbol_lengths.Goals as goal
 
 pub loop-number-preserved : goal.loop-number-preserved

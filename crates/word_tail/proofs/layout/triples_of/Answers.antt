@@ -1,5 +1,5 @@
 use Rattle.std.proofs.Common.{◌≤◌, length, ap, arith}
-use Rattle.word_tail.proofs.Laid.{no_triples, all_triples}
+use Rattle.word_tail.proofs.Layouts.{no_triples, all_triples}
 use Rattle.word_tail.proofs.layout.triples_of.Goals as goal
 
 pub loop-triple-init : goal.loop-triple-init

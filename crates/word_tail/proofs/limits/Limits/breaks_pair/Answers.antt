@@ -1,6 +1,6 @@
 use Rattle.std.specs.Prelude.{◌++◌, ◌∷◌, []}
 use Rattle.word_tail.specs.Ends.{BreaksPair}
-use Rattle.word_tail.proofs.Cores.{pair_last, never, no_pair}
+use Rattle.word_tail.proofs.RuleTests.{pair_last, never, no_pair}
 use Rattle.word_tail.proofs.limits.Limits.breaks_pair.Goals as goal
 
 pub returns-in-Some : goal.returns-in-Some

@@ -1,4 +1,4 @@
-use Rattle.word_tail.proofs.Cores.{run_max}
+use Rattle.word_tail.proofs.RuleTests.{run_max}
 use Rattle.word_tail.proofs.limits.Limits.breaks_run_max.Goals as goal
 
 pub returns : goal.returns

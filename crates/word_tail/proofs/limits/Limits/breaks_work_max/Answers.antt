@@ -1,6 +1,6 @@
 use Rattle.std.proofs.Common.{◌<◌, ap, sym, arith}
 use Rattle.word_tail.specs.declared.tail.Tail.{Tail}
-use Rattle.word_tail.proofs.Cores.{work_max}
+use Rattle.word_tail.proofs.RuleTests.{work_max}
 use Rattle.word_tail.proofs.limits.Limits.breaks_work_max.Goals as goal
 
 pub returns : goal.returns

@@ -10,7 +10,7 @@ pub returns-then-breaks_run_max : goal.returns-then-breaks_run_max
 returns-then-breaks_run_max c = λ P R w tables h.
     let v : List Symbol = w ++ c.args.x ∷ [] in
     elim c.then-breaks_run_max.branch [
-      then-breaks_run_max-via-then-breaks_run_max k ↦ tells_true (BreaksRunMax P R v) (BreaksAny P R v) c.breaks_run_max.result k.if-breaks_run_max.true (c.breaks_run_max.ensures P R w tables h) (any_run_max P R v)
+      | then-breaks_run_max-via-then-breaks_run_max k ↦ tells_true (BreaksRunMax P R v) (BreaksAny P R v) c.breaks_run_max.result k.if-breaks_run_max.true (c.breaks_run_max.ensures P R w tables h) (any_run_max P R v)
       | then-breaks_run_max-via-else-breaks_run_max+then-breaks_work_max k ↦ tells_true (BreaksWorkMax P R v) (BreaksAny P R v) k.breaks_work_max.result k.if-breaks_work_max.true (k.breaks_work_max.ensures P R w tables h) (λ b. (MaxWork, b))
     ]
 
@@ -18,7 +18,7 @@ pub returns-then-breaks_run_min : goal.returns-then-breaks_run_min
 returns-then-breaks_run_min c = λ P R w tables h.
     let v : List Symbol = w ++ c.args.x ∷ [] in
     elim c.then-breaks_run_min.branch [
-      then-breaks_run_min-via-then-breaks_run_min k ↦ tells_true (BreaksRunMin P R v) (BreaksAny P R v) c.breaks_run_min.result k.if-breaks_run_min.true (c.breaks_run_min.ensures P R w tables h) (any_run_min P R v)
+      | then-breaks_run_min-via-then-breaks_run_min k ↦ tells_true (BreaksRunMin P R v) (BreaksAny P R v) c.breaks_run_min.result k.if-breaks_run_min.true (c.breaks_run_min.ensures P R w tables h) (any_run_min P R v)
       | then-breaks_run_min-via-else-breaks_run_min+then-breaks_work_min k ↦ tells_true (BreaksWorkMin P R v) (BreaksAny P R v) k.breaks_work_min.result k.if-breaks_work_min.true (k.breaks_work_min.ensures P R w tables h) (λ b. (MinWork, b))
     ]
 

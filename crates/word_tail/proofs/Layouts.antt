@@ -1,9 +1,9 @@
 -- What the laid out rules of a list are.
-use Rattle.std.proofs.Common.{◌≡◌, ◌⊎◌, ℕ, zero, suc, ◌+◌, ◌*◌, ◌<◌, ◌≤◌, List, [], ◌∷◌, length, get_or, Option, Some, None, Bool, true, false, ◌&&◌, refl, ap, sym, ◌∙◌, subst, inl, inr, ⊎_elim, arith, ltb, replicate}
+use Rattle.std.proofs.Common.{◌≡◌, ◌⊎◌, ℕ, zero, suc, ◌+◌, ◌*◌, ◌<◌, ◌≤◌, List, length, get_or, Option, Some, Bool, true, false, ◌&&◌, refl, ap, sym, ◌∙◌, subst, inl, inr, ⊎_elim, arith, ltb, replicate}
 use Rattle.std.proofs.Common.{◌≢◌, set, below_more, get_or-set_other, get_or-set_same}
 use Rattle.std.proofs.lemmas.List.{get_or_past}
 use Rattle.word_tail.specs.declared.limits.Lengths.{Lengths}
-use Rattle.std.specs.Prelude.{◌↔◌, IsTrue, Contains, slice_get, slice_index_or}
+use Rattle.std.specs.Prelude.{◌↔◌, IsTrue, Contains, slice_get}
 use Rattle.std.proofs.lemmas.Option.{get_or_from_slice_get, slice_get_within}
 use Rattle.std.proofs.lemmas.Bool.{cases_lt}
 use Rattle.rwsp_terms.specs.declared.data.Symbol.{Symbol}
@@ -56,17 +56,18 @@ same_pair a b x y e h k =
 
 -- one pair more
 pub next_pair : (P : Instance) (R : List ℕ) (old new : List Bool) (n : ℕ) (a b : Symbol) → slice_get P.pairs n ≡ Some (a, b) → Names P R (Pair n) → ((x y : Symbol) → IsTrue (pair_in new x y) ↔ (IsTrue (pair_in old x y) ⊎ ((x ≡ a) × (y ≡ b)))) → HoldsPairs P R old n → HoldsPairs P R new (n + 1)
-next_pair P R old new n a b at named puts holds x y =
-    (λ t. ⊎_elim
-        (λ (before : IsTrue (pair_in old x y)). let k = (holds x y).0 before in (k.0, omega (arith, k.1), k.2, k.3))
-        (λ (here : (x ≡ a) × (y ≡ b)). (n, omega arith, named, at ∙ ap (λ (z : Symbol). Some (z, b)) (sym here.0) ∙ ap (λ (z : Symbol). Some (x, z)) (sym here.1)))
-        ((puts x y).0 t),
-    λ k. (puts x y).1 (⊎_elim
-        (λ (less : k.0 < n). inl ((holds x y).1 (k.0, less, k.2, k.3)))
-        (λ (more : n ≤ k.0).
-            let e : k.0 ≡ n = omega (arith, k.1, more) in
-            inr (same_pair a b x y (slice_get P.pairs n) at (ap (slice_get P.pairs) (sym e) ∙ k.3)))
-        (cases_lt k.0 n)))
+next_pair P R old new n a b at named puts holds x y = (
+  λ t. ⊎_elim
+      (λ (before : IsTrue (pair_in old x y)). let k = (holds x y).0 before in (k.0, omega (arith, k.1), k.2, k.3))
+      (λ (here : (x ≡ a) × (y ≡ b)). (n, omega arith, named, at ∙ ap (λ (z : Symbol). Some (z, b)) (sym here.0) ∙ ap (λ (z : Symbol). Some (x, z)) (sym here.1)))
+      ((puts x y).0 t),
+  λ k. (puts x y).1 (⊎_elim
+      (λ (less : k.0 < n). inl ((holds x y).1 (k.0, less, k.2, k.3)))
+      (λ (more : n ≤ k.0).
+      let e : k.0 ≡ n = omega (arith, k.1, more) in
+      inr (same_pair a b x y (slice_get P.pairs n) at (ap (slice_get P.pairs) (sym e) ∙ k.3)))
+      (cases_lt k.0 n)),
+)
 
 same_triple : (a b c x y z : Symbol) (e : Option (Symbol × Symbol × Symbol)) → e ≡ Some (a, b, c) → e ≡ Some (x, y, z) → (x ≡ a) × (y ≡ b) × (z ≡ c)
 same_triple a b c x y z e h k =
@@ -76,28 +77,31 @@ same_triple a b c x y z e h k =
 
 -- one triple more
 pub next_triple : (P : Instance) (R : List ℕ) (old new : List Bool) (n : ℕ) (a b c : Symbol) → slice_get P.triples n ≡ Some (a, b, c) → Names P R (Triple n) → ((x y z : Symbol) → IsTrue (triple_in new x y z) ↔ (IsTrue (triple_in old x y z) ⊎ ((x ≡ a) × (y ≡ b) × (z ≡ c)))) → HoldsTriples P R old n → HoldsTriples P R new (n + 1)
-next_triple P R old new n a b c at named puts holds x y z =
-    (λ t. ⊎_elim
-        (λ (before : IsTrue (triple_in old x y z)). let k = (holds x y z).0 before in (k.0, omega (arith, k.1), k.2, k.3))
-        (λ (here : (x ≡ a) × (y ≡ b) × (z ≡ c)). (n, omega arith, named, at ∙ ap (λ (s : Symbol). Some (s, b, c)) (sym here.0) ∙ ap (λ (s : Symbol). Some (x, s, c)) (sym here.1) ∙ ap (λ (s : Symbol). Some (x, y, s)) (sym here.2)))
-        ((puts x y z).0 t),
-    λ k. (puts x y z).1 (⊎_elim
-        (λ (less : k.0 < n). inl ((holds x y z).1 (k.0, less, k.2, k.3)))
-        (λ (more : n ≤ k.0).
-            let e : k.0 ≡ n = omega (arith, k.1, more) in
-            inr (same_triple a b c x y z (slice_get P.triples n) at (ap (slice_get P.triples) (sym e) ∙ k.3)))
-        (cases_lt k.0 n)))
+next_triple P R old new n a b c at named puts holds x y z = (
+  λ t. ⊎_elim
+      (λ (before : IsTrue (triple_in old x y z)). let k = (holds x y z).0 before in (k.0, omega (arith, k.1), k.2, k.3))
+      (λ (here : (x ≡ a) × (y ≡ b) × (z ≡ c)). (n, omega arith, named, at ∙ ap (λ (s : Symbol). Some (s, b, c)) (sym here.0) ∙ ap (λ (s : Symbol). Some (x, s, c)) (sym here.1) ∙ ap (λ (s : Symbol). Some (x, y, s)) (sym here.2)))
+      ((puts x y z).0 t),
+  λ k. (puts x y z).1 (⊎_elim
+      (λ (less : k.0 < n). inl ((holds x y z).1 (k.0, less, k.2, k.3)))
+      (λ (more : n ≤ k.0).
+      let e : k.0 ≡ n = omega (arith, k.1, more) in
+      inr (same_triple a b c x y z (slice_get P.triples n) at (ap (slice_get P.triples) (sym e) ∙ k.3)))
+      (cases_lt k.0 n)),
+)
 
 -- a table of all pairs of the problem
 pub all_pairs : (P : Instance) (R : List ℕ) (table : List Bool) (n : ℕ) → length P.pairs ≤ n → HoldsPairs P R table n → (a b : Symbol) → IsTrue (pair_in table a b) ↔ NamesPair P R a b
-all_pairs P R table n enough holds a b =
-    (λ t. let k = (holds a b).0 t in (k.0, k.2, k.3),
-    λ k. (holds a b).1 (k.0, omega (arith, enough, slice_get_within P.pairs k.0 (a, b) k.2), k.1, k.2))
+all_pairs P R table n enough holds a b = (
+  λ t. let k = (holds a b).0 t in (k.0, k.2, k.3),
+  λ k. (holds a b).1 (k.0, omega (arith, enough, slice_get_within P.pairs k.0 (a, b) k.2), k.1, k.2),
+)
 
 pub all_triples : (P : Instance) (R : List ℕ) (table : List Bool) (n : ℕ) → length P.triples ≤ n → HoldsTriples P R table n → (a b c : Symbol) → IsTrue (triple_in table a b c) ↔ NamesTriple P R a b c
-all_triples P R table n enough holds a b c =
-    (λ t. let k = (holds a b c).0 t in (k.0, k.2, k.3),
-    λ k. (holds a b c).1 (k.0, omega (arith, enough, slice_get_within P.triples k.0 (a, b, c) k.2), k.1, k.2))
+all_triples P R table n enough holds a b c = (
+  λ t. let k = (holds a b c).0 t in (k.0, k.2, k.3),
+  λ k. (holds a b c).1 (k.0, omega (arith, enough, slice_get_within P.triples k.0 (a, b, c) k.2), k.1, k.2),
+)
 
 -- an empty table
 unset : (n k : ℕ) → get_or (replicate n false) k false ≡ false
@@ -133,6 +137,6 @@ pub all_lengths : (P : Instance) (R : List ℕ) (symbols : List Lengths) → ((Q
 all_lengths P R symbols law few long below n =
     ⊎_elim (λ (less : n < 9). below n less)
     (λ (more : 9 ≤ n).
-        let none : get_or symbols n no_lengths ≡ no_lengths = get_or_past symbols n no_lengths (omega (arith, long, more)) in
-        subst (AreLengths P R (class_numbered n)) (sym none) (none_above P R n law (omega (arith, few, more))))
+    let none : get_or symbols n no_lengths ≡ no_lengths = get_or_past symbols n no_lengths (omega (arith, long, more)) in
+    subst (AreLengths P R (class_numbered n)) (sym none) (none_above P R n law (omega (arith, few, more))))
     (cases_lt n 9)
