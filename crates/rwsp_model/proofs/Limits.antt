@@ -1,6 +1,6 @@
 -- What follows from no refusal, and what it follows from.
-use Rattle.std.proofs.Common.{◌≡◌, ◌≢◌, ℕ, zero, suc, ◌+◌, ◌*◌, ◌<◌, ◌≤◌, List, [], ◌∷◌, ◌++◌, length, get_or, Option, Some, None, Bool, true, false, not, cond, ◌&&◌, refl, ap, sym, ◌∙◌, arith, eqb-true, take, drop, add-one, drop-cons, subst}
-use Rattle.std.specs.Prelude.{position, nat_lt, nat_le, slice_index, ◌==◌, map, All, AllPairs, ◌↔◌}
+use Rattle.std.proofs.Common.{◌≡◌, ◌≢◌, ℕ, zero, suc, ◌+◌, ◌*◌, ◌<◌, ◌≤◌, List, [], ◌∷◌, ◌++◌, length, get_or, Option, Some, None, Bool, true, false, not, cond, ◌&&◌, refl, ap, sym, ◌∙◌, arith, take, drop, drop-cons, subst}
+use Rattle.std.specs.Prelude.{position, nat_le, slice_index, ◌==◌, All, AllPairs}
 use Rattle.std.specs.Bool.{Decides}
 use Rattle.std.specs.List.{list_all, list_any, prefix_len}
 use Rattle.std.specs.Str.{bytes_eq}
@@ -13,7 +13,7 @@ use Rattle.rwsp_terms.specs.Instance.{Instance, cells, shift_count, off_name}
 use Rattle.rwsp_terms.specs.declared.data.Bounds.{Bounds}
 use Rattle.rwsp_terms.specs.declared.data.ShiftRow.{ShiftRow}
 use Rattle.rwsp_terms.specs.declared.data.Symbol.{Symbol}
-use Rattle.rwsp_model.specs.Validity.{IsValid, KeepsLimits, refusal_of, limit_refusal, name_refusal, limits_kept, has_shape, are_small, AreSmall, is_small_range, IsSmallRange, is_between, is_name, is_blank, IsName, is_named_well, bad_name_from}
+use Rattle.rwsp_model.specs.Validity.{IsValid, KeepsLimits, limit_refusal, name_refusal, limits_kept, has_shape, are_small, AreSmall, is_small_range, IsSmallRange, is_between, is_name, is_blank, IsName, is_named_well, bad_name_from}
 use Rattle.rwsp_model.specs.declared.refusal.PartsRefusal.{PartsRefusal}
 use Rattle.rwsp_model.specs.declared.refusal.PartsRefusal.TheVariants.{Shape}
 

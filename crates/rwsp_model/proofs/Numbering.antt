@@ -1,5 +1,5 @@
 -- The list of rules by places.
-use Rattle.std.proofs.Common.{◌≡◌, ◌≢◌, ℕ, zero, suc, ◌+◌, ◌-◌, ◌*◌, ◌/◌, ◌%◌, ◌<◌, ◌≤◌, List, [], ◌∷◌, ◌++◌, length, get_or, refl, ap, sym, ◌∙◌, subst, arith, Some, None, Option, ◌⊎◌, inl, inr, ⊎_elim, length-append}
+use Rattle.std.proofs.Common.{◌≡◌, ℕ, zero, suc, ◌+◌, ◌-◌, ◌*◌, ◌/◌, ◌%◌, ◌<◌, ◌≤◌, List, [], ◌∷◌, ◌++◌, length, get_or, refl, ap, sym, ◌∙◌, subst, arith, Some, ◌⊎◌, inl, inr, ⊎_elim, length-append}
 use Rattle.std.specs.Prelude.{slice_get, map, Contains, ◌↔◌}
 use Rattle.std.specs.List.{range_with_len, flat_map}
 use Rattle.std.proofs.lemmas.List.{get_or_append_left, get_or-append-add}
@@ -9,7 +9,6 @@ use Rattle.std.proofs.lemmas.Bool.{cases_lt}
 use Rattle.rwsp_terms.specs.Instance.{Instance, shift_count}
 use Rattle.rwsp_terms.specs.Roster.{IsRule}
 use Rattle.rwsp_terms.specs.Rules.{rules, rule_of, shift_rules}
-use Rattle.rwsp_terms.specs.declared.data.Symbol.{Symbol}
 use Rattle.rwsp_terms.specs.declared.data.Rule.{Rule}
 use Rattle.rwsp_terms.specs.declared.data.Rule.TheVariants.{MaxShift, MinShift, MaxOff, MinOff, MaxWork, MinWork, Pair, Triple, Day}
 use Rattle.rwsp_model.specs.RuleNumbers.{place_of}

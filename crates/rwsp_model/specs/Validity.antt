@@ -1,5 +1,5 @@
 -- Which instances are valid, and the first reason against one that isn't.
-use Rattle.std.specs.Prelude.{◌≡◌, ◌≢◌, ℕ, ◌+◌, ◌-◌, ◌*◌, ◌≤◌, List, [], ◌∷◌, ◌++◌, length, Option, Some, None, Bool, true, false, not, ◌&&◌, ◌||◌, ◌==◌, nat_le, nat_lt, slice_index, slice_index_or, slice_get, zero, suc, ◌<◌, if◌then◌else◌, position, All, AllPairs}
+use Rattle.std.specs.Prelude.{◌≡◌, ◌≢◌, ℕ, ◌+◌, ◌*◌, ◌≤◌, List, [], ◌∷◌, ◌++◌, length, Option, Some, None, Bool, false, not, ◌&&◌, ◌||◌, ◌==◌, nat_le, slice_index, slice_get, zero, suc, if◌then◌else◌, position, All, AllPairs}
 use Rattle.std.specs.List.{list_all, list_any}
 use Rattle.std.specs.Str.{bytes_eq}
 use Rattle.rwsp_terms.specs.Instance.{Instance, cells, shift_count, off_name, name_in}

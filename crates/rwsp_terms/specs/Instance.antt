@@ -1,5 +1,5 @@
 -- A problem instance, and the numbers that its parts give.
-use Rattle.std.specs.Prelude.{◌≡◌, ℕ, zero, suc, ◌+◌, ◌-◌, ◌*◌, ◌<◌, ◌≤◌, List, length, slice_get, slice_index_or, ℤ, pos, ◌-ℤ◌, Some, None, Option, cond, [], ◌∷◌, position}
+use Rattle.std.specs.Prelude.{ℕ, zero, suc, ◌+◌, ◌-◌, ◌*◌, ◌<◌, ◌≤◌, List, length, slice_get, slice_index_or, ℤ, pos, ◌-ℤ◌, Some, None, Option, cond, [], ◌∷◌, position}
 use Rattle.std.specs.Option.{option_map}
 use Rattle.std.specs.Str.{bytes_eq}
 use Rattle.std.specs.List.{sum_by}

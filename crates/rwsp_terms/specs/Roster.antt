@@ -1,5 +1,5 @@
 -- When a roster meets the rules.
-use Rattle.std.specs.Prelude.{◌≡◌, ℕ, zero, suc, ◌+◌, ◌-◌, ◌*◌, ◌<◌, ◌≤◌, List, [], ◌∷◌, ◌++◌, length, slice_index_or, All, count_by, ◌==◌, pos, map, ◌≤ℤ◌}
+use Rattle.std.specs.Prelude.{◌≡◌, ℕ, ◌+◌, ◌-◌, ◌*◌, ◌<◌, ◌≤◌, List, length, slice_index_or, All, count_by, ◌==◌, pos, ◌≤ℤ◌}
 use Rattle.std.specs.List.{range_with_len}
 use Rattle.rwsp_terms.specs.Instance.{Instance, cells, shift_count, least, greatest, IsSymbol, IsShift, IsDay}
 use Rattle.rwsp_terms.specs.Window.{Bad, window, off_symbol}

@@ -1,6 +1,5 @@
 -- Lists of what symbols weigh on days.
-use Rattle.std.specs.Prelude.{◌≡◌, ◌≢◌, ◌⊎◌, ℕ, ◌<◌, ◌≤◌, ◌≤ℤ◌, ℤ, pos, negsuc, List, AllPairs, All, Bool, ◌&&◌, ◌==◌, [], ◌∷◌, if◌then◌else◌}
-use Rattle.rwsp_terms.specs.declared.data.Symbol.{Symbol}
+use Rattle.std.specs.Prelude.{◌≡◌, ◌≢◌, ◌⊎◌, ℕ, ◌<◌, ◌≤ℤ◌, ℤ, pos, negsuc, List, AllPairs, All, ◌&&◌, ◌==◌, [], ◌∷◌, if◌then◌else◌}
 use Rattle.rwsp_terms.specs.declared.data.Weight.{Weight}
 
 -- an earlier day, or the same day and a lower symbol

@@ -1,0 +1,4 @@
+pub mod Spelling
+pub mod Printing
+pub mod Printed
+pub mod Reading

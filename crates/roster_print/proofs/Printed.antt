@@ -1,0 +1,301 @@
+-- That the printed text of a roster spells it.
+use Rattle.std.proofs.Common.{length-append, ◌≡◌, ℕ, zero, suc, ◌+◌, ◌-◌, ◌*◌, ◌<◌, ◌≤◌, List, [], ◌∷◌, ◌++◌, length, get_or, take, drop, Some, None, Bool, true, false, cond, refl, ap, sym, ◌∙◌, arith, subst, append_assoc, length-drop, mul-le-mul_right}
+use Rattle.std.specs.Prelude.{map, filter, take_while, not, nat_lt, slice_index, ◌==◌, position, All}
+use Rattle.std.specs.List.{flat_map, range_with_len, join_with_byte, slice_split, prefix_len, AllByRecursion, position_or_len}
+use Rattle.std.specs.Option.{option_map}
+use Rattle.std.specs.Str.{bytes_eq}
+use Rattle.std.proofs.lemmas.List.{map-append, length-map, drop-drop, take_all, length-take-le}
+use Rattle.std.proofs.lemmas.List.Splits.{slice_split_none, slice_split_at}
+use Rattle.std.proofs.lemmas.List.Elements.{All-from_recursion, All-head, All-tail, All-take, All-drop}
+use Rattle.std.proofs.lemmas.List.Sums.{position_or_len_is}
+use Rattle.std.proofs.lemmas.Slice.Eq.{bytes_eq-Decides}
+use Rattle.std.proofs.lemmas.Option.{slice_get-get_or}
+use Rattle.std.proofs.lemmas.Bool.{cond-true, cond-false, lt-ltb, ne_eqb, false_from_ne_true, or_parts}
+use Rattle.std.proofs.Math.Seq.{take-add}
+use Rattle.rwsp_text.specs.Lexemes.{lines_of, words_of_line, has_some, is_space}
+use Rattle.rwsp_terms.specs.Instance.{Instance, symbol_of, name_of, name_in, name_numbered, shift_count, symbol_numbered, off_name, IsSymbol, no_bounds}
+use Rattle.rwsp_terms.specs.Roster.{IsRoster}
+use Rattle.rwsp_terms.specs.declared.data.Symbol.{Symbol}
+use Rattle.rwsp_terms.specs.declared.data.ShiftRow.{ShiftRow}
+use Rattle.rwsp_model.specs.Validity.{KeepsLimits, IsName, is_blank}
+use Rattle.rwsp_model.proofs.Limits.{valid_keeps}
+use Rattle.roster_print.specs.RosterText.{weeks_of, week_at, week_text, roster_text, SpellsRoster}
+use Rattle.roster_print.specs.Laws.{PrintedIsSpelled, PrintedIsShort}
+
+abbrev is_end : ℕ → Bool
+is_end b = b == 10
+
+-- bytes that neither end a line nor part words
+abbrev IsPlain : ℕ → Type 0
+IsPlain b = (is_space b ≡ false) × (is_end b ≡ false)
+
+-- a word that is read as it stands
+pub record IsWord (word : List ℕ) : Type 0 where
+  pub some : has_some word ≡ true
+  pub plain : AllByRecursion IsPlain word
+  pub no_comment : (slice_index word 0 == 35) ≡ false
+
+no_space : (word : List ℕ) → AllByRecursion IsPlain word → AllByRecursion (λ b. is_space b ≡ false) word
+no_space [] h = tt
+no_space (b ∷ word) h = (h.0.0, no_space word h.1)
+
+-- words with blanks between them are parted at the blanks
+parts_joined : (word : List ℕ) (words : List (List ℕ)) → AllByRecursion IsWord (word ∷ words) → slice_split is_space (join_with_byte 32 (word ∷ words)) ≡ word ∷ words
+parts_joined word [] h = slice_split_none is_space word (All-from_recursion (λ b. is_space b ≡ false) word (no_space word h.0.plain))
+parts_joined word (next ∷ words) h =
+    slice_split_at is_space word 32 (join_with_byte 32 (next ∷ words)) (All-from_recursion (λ b. is_space b ≡ false) word (no_space word h.0.plain)) refl
+    ∙ ap (λ w. word ∷ w) (parts_joined next words h.1)
+
+all_some : (words : List (List ℕ)) → AllByRecursion IsWord words → filter has_some words ≡ words
+all_some [] h = refl
+all_some (word ∷ words) h =
+    cond-true (has_some word) (word ∷ filter has_some words) (filter has_some words) h.0.some
+    ∙ ap (λ w. word ∷ w) (all_some words h.1)
+
+abbrev is_no_comment : List ℕ → Bool
+is_no_comment word = not (slice_index word 0 == 35)
+
+no_comments : (words : List (List ℕ)) → AllByRecursion IsWord words → take_while is_no_comment words ≡ words
+no_comments [] h = refl
+no_comments (word ∷ words) h =
+    let k = prefix_len is_no_comment words in
+    let one_more : 1 + k ≡ suc k = omega arith in
+    ap (λ v. take (cond (not v) (1 + k) 0) (word ∷ words)) h.0.no_comment
+    ∙ ap (λ m. take m (word ∷ words)) one_more
+    ∙ ap (λ w. word ∷ w) (no_comments words h.1)
+
+-- the words of a line that was printed
+words_printed : (words : List (List ℕ)) → AllByRecursion IsWord words → words_of_line (join_with_byte 32 words) ≡ words
+words_printed [] h = refl
+words_printed (word ∷ words) h =
+    ap (λ parts. take_while is_no_comment (filter has_some parts)) (parts_joined word words h)
+    ∙ ap (take_while is_no_comment) (all_some (word ∷ words) h)
+    ∙ no_comments (word ∷ words) h
+
+no_end_in : (word : List ℕ) → AllByRecursion IsPlain word → AllByRecursion (λ b. is_end b ≡ false) word
+no_end_in [] h = tt
+no_end_in (b ∷ word) h = (h.0.1, no_end_in word h.1)
+
+all_both : {X : Type 0} (Q : X → Type 0) (xs ys : List X) → AllByRecursion Q xs → AllByRecursion Q ys → AllByRecursion Q (xs ++ ys)
+all_both Q [] ys h k = k
+all_both Q (x ∷ xs) ys h k = (h.0, all_both Q xs ys h.1 k)
+
+no_end_joined : (words : List (List ℕ)) → AllByRecursion IsWord words → AllByRecursion (λ b. is_end b ≡ false) (join_with_byte 32 words)
+no_end_joined [] h = tt
+no_end_joined (word ∷ []) h = no_end_in word h.0.plain
+no_end_joined (word ∷ next ∷ words) h = all_both (λ b. is_end b ≡ false) word (32 ∷ join_with_byte 32 (next ∷ words)) (no_end_in word h.0.plain) (refl, no_end_joined (next ∷ words) h.1)
+
+-- a line that is printed, and what follows
+line_printed : (words : List (List ℕ)) (rest : List ℕ) → AllByRecursion IsWord words → lines_of ((join_with_byte 32 words ++ 10 ∷ []) ++ rest) ≡ join_with_byte 32 words ∷ lines_of rest
+line_printed words rest h =
+    ap lines_of (append_assoc (join_with_byte 32 words) (10 ∷ []) rest)
+    ∙ slice_split_at is_end (join_with_byte 32 words) 10 rest (All-from_recursion (λ b. is_end b ≡ false) (join_with_byte 32 words) (no_end_joined words h)) refl
+
+-- a week that is printed: words, at least one
+abbrev IsWeek : List (List ℕ) → Type 0
+IsWeek week = AllByRecursion IsWord week × (has_some week ≡ true)
+
+weeks_printed : (week : ℕ → List (List ℕ)) (ks : List ℕ) → AllByRecursion (λ k. IsWeek (week k)) ks → weeks_of (flat_map (λ k. join_with_byte 32 (week k) ++ 10 ∷ []) ks) ≡ map week ks
+weeks_printed week [] h = refl
+weeks_printed week (k ∷ ks) h =
+    let rest = flat_map (λ i. join_with_byte 32 (week i) ++ 10 ∷ []) ks in
+    ap (λ lines. filter has_some (map words_of_line lines)) (line_printed (week k) rest h.0.0)
+    ∙ ap (λ words. filter has_some (words ∷ map words_of_line (lines_of rest))) (words_printed (week k) h.0.0)
+    ∙ cond-true (has_some (week k)) (week k ∷ weeks_of rest) (weeks_of rest) h.0.1
+    ∙ ap (λ weeks. week k ∷ weeks) (weeks_printed week ks h.1)
+
+-- what holds of each number of a range
+all_range : (Q : ℕ → Type 0) (a n : ℕ) → ((k : ℕ) → a ≤ k → k < a + n → Q k) → AllByRecursion Q (range_with_len a n)
+all_range Q a zero h = tt
+all_range Q a (suc n) h = (h a (omega arith) (omega arith), all_range Q (a + 1) n (λ k low high. h k (omega arith) (omega arith)))
+
+length-range : (a n : ℕ) → length (range_with_len a n) ≡ n
+length-range a zero = refl
+length-range a (suc n) = ap suc (length-range (a + 1) n)
+
+-- the weeks, one behind the other, are the cells
+weeks_joined : (d : ℕ) (s : List Symbol) (a n : ℕ) → flat_map (λ k. take d (drop (k * d) s)) (range_with_len a n) ≡ take (n * d) (drop (a * d) s)
+weeks_joined d s a zero = let none : 0 * d ≡ 0 = omega arith in ap (λ m. take m (drop (a * d) s)) (sym none)
+weeks_joined d s a (suc n) =
+    let next : a * d + d ≡ (a + 1) * d = omega arith in
+    let more : d + n * d ≡ suc n * d = omega arith in
+    ap (λ w. take d (drop (a * d) s) ++ w) (weeks_joined d s (a + 1) n ∙ ap (λ m. take (n * d) (drop m s)) (sym next) ∙ ap (take (n * d)) (sym (drop-drop d (a * d) s)))
+    ∙ sym (take-add d (n * d) (drop (a * d) s))
+    ∙ ap (λ m. take m (drop (a * d) s)) more
+
+-- the names of a valid problem's symbols
+
+no_row : ShiftRow
+no_row = record { name = []; start = 0; length = 0; bounds = no_bounds }
+
+plain_of : (b : ℕ) → is_blank b ≡ false → IsPlain b
+plain_of b h = or_parts (is_space b) (is_end b) h
+
+plain_in : (name : List ℕ) → All (λ b. is_blank b ≡ false) name → AllByRecursion IsPlain name
+plain_in [] h = tt
+plain_in (b ∷ name) h = (plain_of b (All-head (λ c. is_blank c ≡ false) b name h), plain_in name (All-tail (λ c. is_blank c ≡ false) b name h))
+
+some_in : (name : List ℕ) → 1 ≤ length name → has_some name ≡ true
+some_in [] h = absurd (omega arith)
+some_in (b ∷ name) h = refl
+
+name_is_word : (name : List ℕ) → IsName name → IsWord name
+name_is_word name h = record { some = some_in name h.some; plain = plain_in name h.unbroken; no_comment = ne_eqb (slice_index name 0) 35 h.no_hash }
+
+numbered_is_word : (P : Instance) → KeepsLimits P → (n : ℕ) → n ≤ shift_count P → IsWord (name_numbered P n)
+numbered_is_word P limits zero h = record { some = refl; plain = ((refl, refl), tt); no_comment = refl }
+numbered_is_word P limits (suc k) h =
+    let below : k < length P.shifts = omega arith in
+    subst IsWord (ap name_in (sym (slice_get-get_or P.shifts k no_row below))) (name_is_word (get_or P.shifts k no_row).name (limits.names k no_row below))
+
+-- a name is found where it stands
+place_of_name : (P : Instance) → KeepsLimits P → (k : ℕ) → k < length P.shifts → position_or_len (λ row. bytes_eq (get_or P.shifts k no_row).name row.name) P.shifts ≡ k
+place_of_name P limits k below =
+    let name = (get_or P.shifts k no_row).name in
+    let within : k ≤ length P.shifts = omega arith in
+    position_or_len_is (λ row. bytes_eq name row.name) P.shifts k no_row within
+    (λ i early. false_from_ne_true (bytes_eq name (get_or P.shifts i no_row).name) (λ same. limits.distinct i k no_row early below (sym ((bytes_eq-Decides name (get_or P.shifts i no_row).name).0 same))))
+    (λ _. (bytes_eq-Decides name name).1 refl)
+
+symbol_of_shift : (P : Instance) → KeepsLimits P → (k : ℕ) → k < length P.shifts → symbol_of P (get_or P.shifts k no_row).name ≡ Some (symbol_numbered (k + 1))
+symbol_of_shift P limits k below =
+    let name = (get_or P.shifts k no_row).name in
+    let place = place_of_name P limits k below in
+    let other : bytes_eq name off_name ≡ false = false_from_ne_true (bytes_eq name off_name) (λ same. (limits.names k no_row below).no_dash ((bytes_eq-Decides name off_name).0 same)) in
+    cond-false (bytes_eq name off_name) (Some (symbol_numbered 0)) (option_map (λ i. symbol_numbered (i + 1)) (position (λ row. bytes_eq name row.name) P.shifts)) other
+    ∙ ap (λ i. option_map (λ j. symbol_numbered (j + 1)) (cond (nat_lt i (length P.shifts)) (Some i) None)) place
+    ∙ ap (λ b. option_map (λ j. symbol_numbered (j + 1)) (cond b (Some k) None)) (lt-ltb k (length P.shifts) below)
+
+symbol_of_number : (P : Instance) → KeepsLimits P → (n : ℕ) → n ≤ shift_count P → symbol_of P (name_numbered P n) ≡ Some (symbol_numbered n)
+symbol_of_number P limits zero h = refl
+symbol_of_number P limits (suc k) h =
+    let below : k < length P.shifts = omega arith in
+    let next : k + 1 ≡ suc k = omega arith in
+    ap (λ o. symbol_of P (name_in o)) (slice_get-get_or P.shifts k no_row below)
+    ∙ symbol_of_shift P limits k below
+    ∙ ap (λ n. Some (symbol_numbered n)) next
+
+symbol_of_name : (P : Instance) → KeepsLimits P → (x : Symbol) → IsSymbol P x → symbol_of P (name_of P x) ≡ Some x
+symbol_of_name P limits x h = symbol_of_number P limits x.number h
+
+symbols_of_names : (P : Instance) → KeepsLimits P → (week : List Symbol) → All (IsSymbol P) week → map (symbol_of P) (map (name_of P) week) ≡ map Some week
+symbols_of_names P limits [] h = refl
+symbols_of_names P limits (x ∷ week) h =
+    let one : symbol_of P (name_of P x) ≡ Some x = symbol_of_name P limits x (All-head (IsSymbol P) x week h) in
+    let rest : map (symbol_of P) (map (name_of P) week) ≡ map Some week = symbols_of_names P limits week (All-tail (IsSymbol P) x week h) in
+    ap (λ o. o ∷ map (symbol_of P) (map (name_of P) week)) one ∙ ap (λ w. Some x ∷ w) rest
+
+names_are_words : (P : Instance) → KeepsLimits P → (week : List Symbol) → All (IsSymbol P) week → AllByRecursion IsWord (map (name_of P) week)
+names_are_words P limits [] h = tt
+names_are_words P limits (x ∷ week) h = (numbered_is_word P limits x.number (All-head (IsSymbol P) x week h), names_are_words P limits week (All-tail (IsSymbol P) x week h))
+
+-- the weeks of a roster
+
+week_symbols : (P : Instance) (s : List Symbol) (k : ℕ) → IsRoster P s → All (IsSymbol P) (week_at P s k)
+week_symbols P s k h = All-take (IsSymbol P) P.days (drop (k * P.days) s) (All-drop (IsSymbol P) (k * P.days) s h.symbols)
+
+length-week_at : (P : Instance) (s : List Symbol) (k : ℕ) → IsRoster P s → k < P.weeks → length (week_at P s k) ≡ P.days
+length-week_at P s k h below =
+    let next : k + 1 ≤ P.weeks = omega arith in
+    let more : (k + 1) * P.days ≤ P.weeks * P.days = mul-le-mul_right P.days next in
+    let long : length s ≡ P.weeks * P.days = h.long in
+    let left : length (drop (k * P.days) s) ≡ length s - k * P.days = length-drop (k * P.days) s in
+    length-take-le P.days (drop (k * P.days) s) (omega arith)
+
+abbrev week_names : Instance → List Symbol → ℕ → List (List ℕ)
+week_names P s k = map (name_of P) (week_at P s k)
+
+week_is_printed : (P : Instance) (s : List Symbol) → KeepsLimits P → IsRoster P s → (k : ℕ) → k < P.weeks → IsWeek (week_names P s k)
+week_is_printed P s limits h k below =
+    let long : length (week_names P s k) ≡ P.days = length-map (week_at P s k) (name_of P) ∙ length-week_at P s k h below in
+    let days : 1 ≤ P.days = limits.some_days in
+    (names_are_words P limits (week_at P s k) (week_symbols P s k h), has_words (week_names P s k) (omega arith))
+  where
+    has_words : (words : List (List ℕ)) → 1 ≤ length words → has_some words ≡ true
+    has_words [] h = absurd (omega arith)
+    has_words (word ∷ words) h = refl
+
+weeks_of_text : (P : Instance) (s : List Symbol) → KeepsLimits P → IsRoster P s → weeks_of (roster_text P s) ≡ map (week_names P s) (range_with_len 0 P.weeks)
+weeks_of_text P s limits h = weeks_printed (week_names P s) (range_with_len 0 P.weeks) (all_range (λ k. IsWeek (week_names P s k)) 0 P.weeks (λ k low high. week_is_printed P s limits h k (omega arith)))
+
+days_printed : (P : Instance) (s : List Symbol) → IsRoster P s → (ks : List ℕ) → AllByRecursion (λ k. k < P.weeks) ks → AllByRecursion (λ week. length week ≡ P.days) (map (week_names P s) ks)
+days_printed P s h [] below = tt
+days_printed P s h (k ∷ ks) below = (length-map (week_at P s k) (name_of P) ∙ length-week_at P s k h below.0, days_printed P s h ks below.1)
+
+symbols_printed : (P : Instance) (s : List Symbol) → KeepsLimits P → IsRoster P s → (ks : List ℕ) → map (symbol_of P) (flat_map (λ week. week) (map (week_names P s) ks)) ≡ map Some (flat_map (week_at P s) ks)
+symbols_printed P s limits h [] = refl
+symbols_printed P s limits h (k ∷ ks) =
+    map-append (symbol_of P) (week_names P s k) (flat_map (λ week. week) (map (week_names P s) ks))
+    ∙ ap (λ w. w ++ map (symbol_of P) (flat_map (λ week. week) (map (week_names P s) ks))) (symbols_of_names P limits (week_at P s k) (week_symbols P s k h))
+    ∙ ap (λ w. map Some (week_at P s k) ++ w) (symbols_printed P s limits h ks)
+    ∙ sym (map-append Some (week_at P s k) (flat_map (week_at P s) ks))
+
+cells_joined : (P : Instance) (s : List Symbol) → IsRoster P s → flat_map (week_at P s) (range_with_len 0 P.weeks) ≡ s
+cells_joined P s h =
+    let none : 0 * P.days ≡ 0 = omega arith in
+    let long : length s ≡ P.weeks * P.days = h.long in
+    weeks_joined P.days s 0 P.weeks ∙ ap (λ m. take (P.weeks * P.days) (drop m s)) none ∙ take_all (P.weeks * P.days) s (omega (arith, long))
+
+printed_spells : (P : Instance) (s : List Symbol) → KeepsLimits P → IsRoster P s → SpellsRoster P (roster_text P s) s
+printed_spells P s limits h =
+    let ks = range_with_len 0 P.weeks in
+    let weeks = weeks_of_text P s limits h in
+    let Days : List (List (List ℕ)) → Type 0 = λ w. All (λ week. length week ≡ P.days) w in
+    record {
+      weeks = ap length weeks ∙ length-map ks (week_names P s) ∙ length-range 0 P.weeks;
+      days = subst Days (sym weeks) (All-from_recursion (λ week. length week ≡ P.days) (map (week_names P s) ks) (days_printed P s h ks (all_range (λ k. k < P.weeks) 0 P.weeks (λ k low high. omega arith))));
+      names = ap (λ w. map (symbol_of P) (flat_map (λ week. week) w)) weeks ∙ symbols_printed P s limits h ks ∙ ap (map Some) (cells_joined P s h);
+    }
+
+pub printed_is_spelled : PrintedIsSpelled
+printed_is_spelled P s valid h = printed_spells P s (valid_keeps P valid) h
+
+-- how long the printed text is
+
+length-joined : (words : List (List ℕ)) → AllByRecursion (λ word. length word ≤ 32) words → length (join_with_byte 32 words) ≤ 33 * length words
+length-joined [] h = omega arith
+length-joined (word ∷ []) h = let here = h.0 in omega arith
+length-joined (word ∷ next ∷ words) h =
+    let here = h.0 in
+    let rest : length (join_with_byte 32 (next ∷ words)) ≤ 33 * suc (length words) = length-joined (next ∷ words) h.1 in
+    let both : length (word ++ (32 ∷ join_with_byte 32 (next ∷ words))) ≡ length word + suc (length (join_with_byte 32 (next ∷ words))) = length-append word (32 ∷ join_with_byte 32 (next ∷ words)) in
+    omega arith
+
+numbered_is_short : (P : Instance) → KeepsLimits P → (n : ℕ) → n ≤ shift_count P → length (name_numbered P n) ≤ 32
+numbered_is_short P limits zero h = omega arith
+numbered_is_short P limits (suc k) h =
+    let below : k < length P.shifts = omega arith in
+    let Short : List ℕ → Type 0 = λ name. length name ≤ 32 in
+    subst Short (ap name_in (sym (slice_get-get_or P.shifts k no_row below))) (limits.names k no_row below).few
+
+names_are_short : (P : Instance) → KeepsLimits P → (week : List Symbol) → All (IsSymbol P) week → AllByRecursion (λ word. length word ≤ 32) (map (name_of P) week)
+names_are_short P limits [] h = tt
+names_are_short P limits (x ∷ week) h = (numbered_is_short P limits x.number (All-head (IsSymbol P) x week h), names_are_short P limits week (All-tail (IsSymbol P) x week h))
+
+week_is_short : (P : Instance) (s : List Symbol) → KeepsLimits P → IsRoster P s → (k : ℕ) → k < P.weeks → length (week_text P (week_at P s k)) ≤ 33 * P.days + 1
+week_is_short P s limits h k below =
+    let names = week_names P s k in
+    let long : length names ≡ P.days = length-map (week_at P s k) (name_of P) ∙ length-week_at P s k h below in
+    let short : length (join_with_byte 32 names) ≤ 33 * length names = length-joined names (names_are_short P limits (week_at P s k) (week_symbols P s k h)) in
+    let whole : length (join_with_byte 32 names ++ 10 ∷ []) ≡ length (join_with_byte 32 names) + 1 = length-append (join_with_byte 32 names) (10 ∷ []) in
+    omega arith
+
+length-weeks : (f : ℕ → List ℕ) (m : ℕ) (ks : List ℕ) → AllByRecursion (λ k. length (f k) ≤ m) ks → length (flat_map f ks) ≤ length ks * m
+length-weeks f m [] h = omega arith
+length-weeks f m (k ∷ ks) h =
+    let here = h.0 in
+    let rest : length (flat_map f ks) ≤ length ks * m = length-weeks f m ks h.1 in
+    let both : length (f k ++ flat_map f ks) ≡ length (f k) + length (flat_map f ks) = length-append (f k) (flat_map f ks) in
+    omega arith
+
+pub printed_is_short : PrintedIsShort
+printed_is_short P s valid h =
+    let limits = valid_keeps P valid in
+    let ks = range_with_len 0 P.weeks in
+    let all : length (roster_text P s) ≤ length ks * (33 * P.days + 1) = length-weeks (λ k. week_text P (week_at P s k)) (33 * P.days + 1) ks (all_range (λ k. length (week_text P (week_at P s k)) ≤ 33 * P.days + 1) 0 P.weeks (λ k low high. week_is_short P s limits h k (omega arith))) in
+    let count : length ks ≡ P.weeks = length-range 0 P.weeks in
+    let size : length ks * (33 * P.days + 1) ≡ P.weeks * (33 * P.days + 1) = ap (λ n. n * (33 * P.days + 1)) count in
+    let spread : P.weeks * (33 * P.days + 1) ≡ 33 * (P.weeks * P.days) + P.weeks = omega arith in
+    let cells : P.weeks * P.days ≤ 4200 = limits.few_cells in
+    let weeks : P.weeks ≤ 600 = limits.few_weeks in
+    omega arith

@@ -1,0 +1,231 @@
+-- What texts that spell a roster have, and when they are refused.
+use Rattle.std.proofs.Common.{◌≡◌, ◌≢◌, ℕ, suc, ◌+◌, ◌*◌, ◌<◌, List, [], ◌∷◌, ◌++◌, length, Option, Some, None, Bool, true, false, cond, refl, ap, sym, ◌∙◌, arith, subst, length-append, eq-eqb, eqb-true}
+use Rattle.std.specs.Prelude.{map, filter, is_none, ◌==◌, position, MatchOption, All}
+use Rattle.std.specs.List.{list_any, flat_map, enumerate_from, AllByRecursion}
+use Rattle.std.specs.Option.{option_or, option_map}
+use Rattle.std.specs.Str.{bytes_eq}
+use Rattle.std.proofs.lemmas.List.{map-append, length-map}
+use Rattle.std.proofs.lemmas.List.Elements.{All-from_recursion, All-head, All-tail}
+use Rattle.std.proofs.lemmas.List.Quantifiers.{position-Some}
+use Rattle.std.proofs.lemmas.Bool.{or_parts, or_from, ne_eqb, cond-true, cond-false}
+use Rattle.rwsp_text.specs.Lexemes.{lines_of, words_of_line, has_some}
+use Rattle.rwsp_terms.specs.Instance.{Instance, symbol_of, shift_count, symbol_numbered, off_name, IsSymbol, no_bounds}
+use Rattle.rwsp_terms.specs.declared.data.Symbol.{Symbol}
+use Rattle.rwsp_terms.specs.declared.data.ShiftRow.{ShiftRow}
+use Rattle.roster_print.specs.RosterText.{weeks_of, SpellsRoster}
+use Rattle.roster_print.specs.Refusal.{numbered_weeks, week_refusal, first_refusal, count_refusal, refusal_of_roster}
+use Rattle.roster_print.specs.Laws.{TextSpellsOneRoster, RefusalsDecideSpelling, SpelledIsRoster}
+use Rattle.roster_print.specs.declared.refusal.RosterRefusal.{RosterRefusal}
+use Rattle.roster_print.specs.declared.refusal.RosterRefusal.TheVariants.{Unknown, Width, Weeks}
+
+some_same : {X : Type 0} (s t : List X) → map Some s ≡ map Some t → s ≡ t
+some_same [] [] e = refl
+some_same [] (y ∷ t) e = absurd (cc)
+some_same (x ∷ s) [] e = absurd (cc)
+some_same (x ∷ s) (y ∷ t) e =
+    let one : x ≡ y = cc in
+    let rest : s ≡ t = some_same s t (cc) in
+    cc
+
+pub one_roster : TextSpellsOneRoster
+one_roster P bytes s t a b = some_same s t (sym a.names ∙ b.names)
+
+-- the symbol of a name is a symbol
+
+no_row : ShiftRow
+no_row = record { name = []; start = 0; length = 0; bounds = no_bounds }
+
+numbered_is_symbol : (P : Instance) (o : Option ℕ) (x : Symbol) → ((k : ℕ) → o ≡ Some k → k < shift_count P) → option_map (λ k. symbol_numbered (k + 1)) o ≡ Some x → IsSymbol P x
+numbered_is_symbol P None x h e = absurd (cc)
+numbered_is_symbol P (Some k) x h e =
+    let same : symbol_numbered (k + 1) ≡ x = cc in
+    let below : k < shift_count P = h k refl in
+    subst (IsSymbol P) same (omega arith)
+
+named_by : (P : Instance) (name : List ℕ) (x : Symbol) (b : Bool) → cond b (Some (symbol_numbered 0)) (option_map (λ k. symbol_numbered (k + 1)) (position (λ row. bytes_eq name row.name) P.shifts)) ≡ Some x → IsSymbol P x
+named_by P name x true e = let same : symbol_numbered 0 ≡ x = cc in subst (IsSymbol P) same (omega arith)
+named_by P name x false e = numbered_is_symbol P (position (λ row. bytes_eq name row.name) P.shifts) x (λ k h. (position-Some (λ row. bytes_eq name row.name) P.shifts k no_row h).0) e
+
+named_is_symbol : (P : Instance) (name : List ℕ) (x : Symbol) → symbol_of P name ≡ Some x → IsSymbol P x
+named_is_symbol P name x e = named_by P name x (bytes_eq name off_name) e
+
+named_are_symbols : (P : Instance) (names : List (List ℕ)) (s : List Symbol) → map (symbol_of P) names ≡ map Some s → AllByRecursion (IsSymbol P) s
+named_are_symbols P names [] e = tt
+named_are_symbols P [] (x ∷ s) e = absurd (cc)
+named_are_symbols P (name ∷ names) (x ∷ s) e = (named_is_symbol P name x (cc), named_are_symbols P names s (cc))
+
+length_joined : {X : Type 0} (d : ℕ) (weeks : List (List X)) → All (λ week. length week ≡ d) weeks → length (flat_map (λ week. week) weeks) ≡ length weeks * d
+length_joined d [] h = omega arith
+length_joined d (week ∷ weeks) h =
+    let here : length week ≡ d = All-head (λ w. length w ≡ d) week weeks h in
+    let rest : length (flat_map (λ w. w) weeks) ≡ length weeks * d = length_joined d weeks (All-tail (λ w. length w ≡ d) week weeks h) in
+    length-append week (flat_map (λ w. w) weeks) ∙ omega (arith, here, rest)
+
+length_some : {X : Type 0} (names : List (List ℕ)) (f : List ℕ → Option X) (s : List X) → map f names ≡ map Some s → length names ≡ length s
+length_some [] f [] e = refl
+length_some [] f (x ∷ s) e = absurd (cc)
+length_some (name ∷ names) f [] e = absurd (cc)
+length_some (name ∷ names) f (x ∷ s) e = ap suc (length_some names f s (cc))
+
+pub spelled_is_roster : SpelledIsRoster
+spelled_is_roster P bytes s a = record {
+  long = sym (length_some (flat_map (λ week. week) (weeks_of bytes)) (symbol_of P) s a.names) ∙ length_joined P.days (weeks_of bytes) a.days ∙ ap (λ n. n * P.days) a.weeks;
+  symbols = All-from_recursion (IsSymbol P) s (named_are_symbols P (flat_map (λ week. week) (weeks_of bytes)) s a.names);
+}
+
+-- the weeks without their numbers
+
+unnumbered_by : (n : ℕ) (line : List (List ℕ)) (lines : List (List (List ℕ))) (b : Bool) → map (λ week. week.1) (filter (λ week. has_some week.1) (enumerate_from (n + 1) lines)) ≡ filter has_some lines → map (λ week. week.1) (cond b ((n, line) ∷ filter (λ week. has_some week.1) (enumerate_from (n + 1) lines)) (filter (λ week. has_some week.1) (enumerate_from (n + 1) lines))) ≡ cond b (line ∷ filter has_some lines) (filter has_some lines)
+unnumbered_by n line lines true e = ap (λ rest. line ∷ rest) e
+unnumbered_by n line lines false e = e
+
+pub unnumbered : (n : ℕ) (lines : List (List (List ℕ))) → map (λ week. week.1) (filter (λ week. has_some week.1) (enumerate_from n lines)) ≡ filter has_some lines
+unnumbered n [] = refl
+unnumbered n (line ∷ lines) = unnumbered_by n line lines (has_some line) (unnumbered (n + 1) lines)
+
+-- words that all have a symbol, and their symbols
+
+abbrev AllNamed : {X Y : Type 0} → (X → Option Y) → List X → Type 0
+AllNamed {X} {Y} f names = (s : List Y) × (map f names ≡ map Some s)
+
+named_first : {X Y : Type 0} (f : X → Option Y) (name : X) (names : List X) → AllNamed f names → (o : Option Y) → f name ≡ o → is_none o ≡ false → AllNamed f (name ∷ names)
+named_first f name names all None e h = absurd (cc)
+named_first f name names all (Some x) e h = (x ∷ all.0, let one : f name ≡ Some x = e in let rest : map f names ≡ map Some all.0 = all.1 in cc)
+
+all_named : {X Y : Type 0} (f : X → Option Y) (names : List X) → list_any (λ name. is_none (f name)) names ≡ false → AllNamed f names
+all_named f [] h = ([], refl)
+all_named f (name ∷ names) h =
+    let parts = or_parts (is_none (f name)) (list_any (λ name. is_none (f name)) names) h in
+    named_first f name names (all_named f names parts.1) (f name) refl parts.0
+
+none_unknown : {X Y : Type 0} (f : X → Option Y) (names : List X) (s : List Y) → map f names ≡ map Some s → list_any (λ name. is_none (f name)) names ≡ false
+none_unknown f [] s e = refl
+none_unknown f (name ∷ names) [] e = absurd (cc)
+none_unknown f (name ∷ names) (x ∷ s) e =
+    let one : f name ≡ Some x = cc in
+    or_from (is_none (f name)) (list_any (λ name. is_none (f name)) names) (ap is_none one) (none_unknown f names s (cc))
+
+any-append : {X : Type 0} (p : X → Bool) (xs ys : List X) → list_any p (xs ++ ys) ≡ false → (list_any p xs ≡ false) × (list_any p ys ≡ false)
+any-append p [] ys h = (refl, h)
+any-append p (x ∷ xs) ys h =
+    let parts = or_parts (p x) (list_any p (xs ++ ys)) h in
+    let rest = any-append p xs ys parts.1 in
+    (or_from (p x) (list_any p xs) parts.0 rest.0, rest.1)
+
+-- when a week isn't refused
+
+abbrev WeekNamed : Instance → List (List ℕ) → Type 0
+WeekNamed P week = (list_any (λ word. is_none (symbol_of P word)) week ≡ false) × (length week ≡ P.days)
+
+week_by : (P : Instance) (n : ℕ) (week : List (List ℕ)) (unknown wide : Bool) → list_any (λ word. is_none (symbol_of P word)) week ≡ unknown → (length week == P.days) ≡ wide → cond unknown (Some (Unknown n)) (cond wide None (Some (Width n))) ≡ None → WeekNamed P week
+week_by P n week true wide e w h = absurd (cc)
+week_by P n week false true e w h = (e, eqb-true (length week) P.days w)
+week_by P n week false false e w h = absurd (cc)
+
+week_named : (P : Instance) (n : ℕ) (week : List (List ℕ)) → week_refusal P (n, week) ≡ None → WeekNamed P week
+week_named P n week h = week_by P n week (list_any (λ word. is_none (symbol_of P word)) week) (length week == P.days) refl refl h
+
+week_unrefused : (P : Instance) (n : ℕ) (week : List (List ℕ)) → WeekNamed P week → week_refusal P (n, week) ≡ None
+week_unrefused P n week h =
+    cond-false (list_any (λ word. is_none (symbol_of P word)) week) (Some (Unknown n)) (cond (length week == P.days) None (Some (Width n))) h.0
+    ∙ cond-true (length week == P.days) None (Some (Width n)) (eq-eqb (length week) P.days h.1)
+
+-- when no week is refused
+
+both_none : {X : Type 0} (a b : Option X) → option_or a b ≡ None → (a ≡ None) × (b ≡ None)
+both_none None b h = (refl, h)
+both_none (Some x) b h = absurd (cc)
+
+none_of_both : {X : Type 0} (a b : Option X) → a ≡ None → b ≡ None → option_or a b ≡ None
+none_of_both a b h k = ap (λ o. option_or o b) h ∙ k
+
+pub record WeeksNamed (P : Instance) (weeks : List (List (List ℕ))) : Type 0 where
+  pub symbols : List Symbol
+  pub names : map (symbol_of P) (flat_map (λ week. week) weeks) ≡ map Some symbols
+  pub days : AllByRecursion (λ week. length week ≡ P.days) weeks
+
+pub weeks_named : (P : Instance) (weeks : List (ℕ × List (List ℕ))) → first_refusal P weeks ≡ None → WeeksNamed P (map (λ week. week.1) weeks)
+weeks_named P [] h = record { symbols = []; names = refl; days = tt }
+weeks_named P (week ∷ weeks) h =
+    let parts = both_none (week_refusal P week) (first_refusal P weeks) h in
+    let here = week_named P week.0 week.1 parts.0 in
+    let one = all_named (symbol_of P) week.1 here.0 in
+    let rest = weeks_named P weeks parts.1 in
+    record {
+      symbols = one.0 ++ rest.symbols;
+      names = map-append (symbol_of P) week.1 (flat_map (λ week. week) (map (λ week. week.1) weeks)) ∙ ap (λ w. w ++ map (symbol_of P) (flat_map (λ week. week) (map (λ week. week.1) weeks))) one.1 ∙ ap (λ w. map Some one.0 ++ w) rest.names ∙ sym (map-append Some one.0 rest.symbols);
+      days = (here.1, rest.days);
+    }
+
+weeks_unrefused : (P : Instance) (weeks : List (ℕ × List (List ℕ))) → list_any (λ word. is_none (symbol_of P word)) (flat_map (λ week. week) (map (λ week. week.1) weeks)) ≡ false → All (λ week. length week ≡ P.days) (map (λ week. week.1) weeks) → first_refusal P weeks ≡ None
+weeks_unrefused P [] h d = refl
+weeks_unrefused P (week ∷ weeks) h d =
+    let parts = any-append (λ word. is_none (symbol_of P word)) week.1 (flat_map (λ week. week) (map (λ week. week.1) weeks)) h in
+    let here : length week.1 ≡ P.days = All-head (λ w. length w ≡ P.days) week.1 (map (λ week. week.1) weeks) d in
+    none_of_both (week_refusal P week) (first_refusal P weeks)
+    (week_unrefused P week.0 week.1 (parts.0, here))
+    (weeks_unrefused P weeks parts.1 (All-tail (λ w. length w ≡ P.days) week.1 (map (λ week. week.1) weeks) d))
+
+count_by_test : (P : Instance) (n : ℕ) (b : Bool) → (n == P.weeks) ≡ b → cond b None (Some (Weeks n)) ≡ None → n ≡ P.weeks
+count_by_test P n true e h = eqb-true n P.weeks e
+count_by_test P n false e h = absurd (cc)
+
+-- the weeks of a text, by its numbered weeks
+weeks_are : (bytes : List ℕ) → map (λ week. week.1) (numbered_weeks bytes) ≡ weeks_of bytes
+weeks_are bytes = unnumbered 1 (map words_of_line (lines_of bytes))
+
+spelled_by : (P : Instance) (bytes : List ℕ) → WeeksNamed P (weeks_of bytes) → length (weeks_of bytes) ≡ P.weeks → (s : List Symbol) × SpellsRoster P bytes s
+spelled_by P bytes named count = (named.symbols, record { weeks = count; days = All-from_recursion (λ week. length week ≡ P.days) (weeks_of bytes) named.days; names = named.names })
+
+unrefused_is_spelled : (P : Instance) (bytes : List ℕ) → refusal_of_roster P bytes ≡ None → (s : List Symbol) × SpellsRoster P bytes s
+unrefused_is_spelled P bytes h =
+    let parts = both_none (first_refusal P (numbered_weeks bytes)) (count_refusal P (length (weeks_of bytes))) h in
+    spelled_by P bytes
+    (subst (WeeksNamed P) (weeks_are bytes) (weeks_named P (numbered_weeks bytes) parts.0))
+    (count_by_test P (length (weeks_of bytes)) (length (weeks_of bytes) == P.weeks) refl parts.1)
+
+spelled_is_unrefused : (P : Instance) (bytes : List ℕ) (s : List Symbol) → SpellsRoster P bytes s → refusal_of_roster P bytes ≡ None
+spelled_is_unrefused P bytes s a =
+    let known : list_any (λ word. is_none (symbol_of P word)) (flat_map (λ week. week) (weeks_of bytes)) ≡ false = none_unknown (symbol_of P) (flat_map (λ week. week) (weeks_of bytes)) s a.names in
+    let Known : List (List (List ℕ)) → Type 0 = λ weeks. list_any (λ word. is_none (symbol_of P word)) (flat_map (λ week. week) weeks) ≡ false in
+    let Days : List (List (List ℕ)) → Type 0 = λ weeks. All (λ week. length week ≡ P.days) weeks in
+    none_of_both (first_refusal P (numbered_weeks bytes)) (count_refusal P (length (weeks_of bytes)))
+    (weeks_unrefused P (numbered_weeks bytes) (subst Known (sym (weeks_are bytes)) known) (subst Days (sym (weeks_are bytes)) a.days))
+    (cond-true (length (weeks_of bytes) == P.weeks) None (Some (Weeks (length (weeks_of bytes)))) (eq-eqb (length (weeks_of bytes)) P.weeks a.weeks))
+
+decided_by : (P : Instance) (bytes : List ℕ) (o : Option RosterRefusal) → refusal_of_roster P bytes ≡ o → MatchOption o ((s : List Symbol) × SpellsRoster P bytes s) (λ why. (s : List Symbol) → SpellsRoster P bytes s → ⊥)
+decided_by P bytes None e = unrefused_is_spelled P bytes e
+decided_by P bytes (Some why) e = λ s a. let none : refusal_of_roster P bytes ≡ None = spelled_is_unrefused P bytes s a in let both : Some why ≡ None = sym e ∙ none in cc
+
+pub refusals_decide : RefusalsDecideSpelling
+refusals_decide P bytes = decided_by P bytes (refusal_of_roster P bytes) refl
+
+-- what reading answers
+
+joined : (weeks : List (ℕ × List (List ℕ))) → flat_map (λ week. week) (map (λ week. week.1) weeks) ≡ flat_map (λ week. week.1) weeks
+joined [] = refl
+joined (week ∷ weeks) = ap (λ w. week.1 ++ w) (joined weeks)
+
+pub read_is_spelled : (P : Instance) (bytes : List ℕ) (s : List Symbol) → map Some s ≡ map (symbol_of P) (flat_map (λ week. week.1) (numbered_weeks bytes)) → length (numbered_weeks bytes) ≡ P.weeks → first_refusal P (numbered_weeks bytes) ≡ None → SpellsRoster P bytes s
+read_is_spelled P bytes s names count accepted =
+    let named = subst (WeeksNamed P) (weeks_are bytes) (weeks_named P (numbered_weeks bytes) accepted) in
+    let words : flat_map (λ week. week) (weeks_of bytes) ≡ flat_map (λ week. week.1) (numbered_weeks bytes) = ap (flat_map (λ week. week)) (sym (weeks_are bytes)) ∙ joined (numbered_weeks bytes) in
+    record {
+      weeks = ap length (sym (weeks_are bytes)) ∙ length-map (numbered_weeks bytes) (λ week. week.1) ∙ count;
+      days = All-from_recursion (λ week. length week ≡ P.days) (weeks_of bytes) named.days;
+      names = ap (map (symbol_of P)) words ∙ sym names;
+    }
+
+pub line_is_refused : (P : Instance) (bytes : List ℕ) (why : RosterRefusal) → first_refusal P (numbered_weeks bytes) ≡ Some why → refusal_of_roster P bytes ≡ Some why
+line_is_refused P bytes why h = ap (λ o. option_or o (count_refusal P (length (weeks_of bytes)))) h
+
+pub count_is_refused : (P : Instance) (bytes : List ℕ) (n : ℕ) → first_refusal P (numbered_weeks bytes) ≡ None → n ≡ length (numbered_weeks bytes) → n ≢ P.weeks → refusal_of_roster P bytes ≡ Some (Weeks n)
+count_is_refused P bytes n accepted count other =
+    let long : length (weeks_of bytes) ≡ n = ap length (sym (weeks_are bytes)) ∙ length-map (numbered_weeks bytes) (λ week. week.1) ∙ sym count in
+    ap (λ o. option_or o (count_refusal P (length (weeks_of bytes)))) accepted
+    ∙ ap (count_refusal P) long
+    ∙ cond-false (n == P.weeks) None (Some (Weeks n)) (ne_eqb n P.weeks other)
+
+-- where there is a refusal, no roster is spelled
+pub refused_spells_none : (P : Instance) (bytes : List ℕ) (why : RosterRefusal) → refusal_of_roster P bytes ≡ Some why → (s : List Symbol) → SpellsRoster P bytes s → ⊥
+refused_spells_none P bytes why e = decided_by P bytes (Some why) e

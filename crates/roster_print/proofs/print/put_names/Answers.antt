@@ -1,0 +1,10 @@
+use Rattle.std.proofs.Common.{◌++◌, ap, sym, ◌∙◌}
+use Rattle.roster_print.proofs.Printing.{join_from}
+use Rattle.roster_print.proofs.print.put_names.Goals as goal
+
+pub returns : goal.returns
+returns c =
+    join_from c.args.problem.now c.args.week.now c.args.out.now.items c.extend_from_slice.new.self.items c.put_after_blanks.new.out.items
+    (sym c.is_empty.ensures ∙ c.if-is_empty.false)
+    (c.in_ok-extend_from_slice.ensures.items ∙ ap (λ n. c.args.out.now.items ++ n) c.name.ensures)
+    c.in_ok-put_after_blanks.ensures

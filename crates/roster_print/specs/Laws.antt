@@ -1,0 +1,28 @@
+-- What is so of all texts and rosters.
+use Rattle.std.specs.Prelude.{◌≡◌, ℕ, ◌≤◌, List, length, MatchOption}
+use Rattle.rwsp_terms.specs.Instance.{Instance}
+use Rattle.rwsp_terms.specs.Roster.{IsRoster}
+use Rattle.rwsp_terms.specs.declared.data.Symbol.{Symbol}
+use Rattle.rwsp_model.specs.Validity.{IsValid}
+use Rattle.roster_print.specs.RosterText.{SpellsRoster, roster_text}
+use Rattle.roster_print.specs.Refusal.{refusal_of_roster}
+
+-- a text spells one roster at most
+abbrev pub TextSpellsOneRoster : Type 0
+TextSpellsOneRoster = (P : Instance) (bytes : List ℕ) (s t : List Symbol) → SpellsRoster P bytes s → SpellsRoster P bytes t → s ≡ t
+
+-- a text that isn't refused spells a roster, and one that is refused spells none
+abbrev pub RefusalsDecideSpelling : Type 0
+RefusalsDecideSpelling = (P : Instance) (bytes : List ℕ) → MatchOption (refusal_of_roster P bytes) ((s : List Symbol) × SpellsRoster P bytes s) (λ why. (s : List Symbol) → SpellsRoster P bytes s → ⊥)
+
+-- what a text spells has a symbol for each cell
+abbrev pub SpelledIsRoster : Type 0
+SpelledIsRoster = (P : Instance) (bytes : List ℕ) (s : List Symbol) → SpellsRoster P bytes s → IsRoster P s
+
+-- the printed text of a roster of a valid problem spells it
+abbrev pub PrintedIsSpelled : Type 0
+PrintedIsSpelled = (P : Instance) (s : List Symbol) → IsValid P → IsRoster P s → SpellsRoster P (roster_text P s) s
+
+-- and is short enough to be read
+abbrev pub PrintedIsShort : Type 0
+PrintedIsShort = (P : Instance) (s : List Symbol) → IsValid P → IsRoster P s → length (roster_text P s) ≤ 1048576

@@ -1,0 +1,5 @@
+pub mod RosterText
+pub mod Refusal
+pub mod Reading
+pub mod RuleText
+pub mod Laws

@@ -1,0 +1,21 @@
+//! The text of a roster, read and printed, and the printed text of a rule.
+#![tactic(auto)]
+
+mod laws;
+mod names;
+mod print;
+mod read;
+mod refusal;
+mod rule;
+
+pub use laws::{
+    printed_is_short, printed_is_spelled, refusals_decide_spelling, spelled_is_roster,
+    text_spells_one_roster,
+};
+pub use print::print_roster;
+pub use read::read_roster;
+pub use refusal::RosterRefusal;
+pub use rule::put_rule;
+
+#[cfg(test)]
+mod tests;

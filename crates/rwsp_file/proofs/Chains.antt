@@ -1,0 +1,34 @@
+-- Lists each of whose elements has something in sight of the earlier ones.
+use Rattle.std.proofs.Common.{◌≡◌, ℕ, zero, suc, ◌<◌, ◌≤◌, List, [], ◌∷◌, ◌++◌, length, get_or, take, Bool, true, false, ◌&&◌, nat_le, sym, arith, subst, append_assoc, append-nil}
+use Rattle.std.proofs.lemmas.Bool.{leb-true}
+use Rattle.std.proofs.lemmas.Bool.Decides.{nat_tests}
+use Rattle.rwsp_model.specs.Validity.{is_between}
+use Rattle.rwsp_file.proofs.Readers.{AllAfter}
+use Rattle.rwsp_file.proofs.FieldReaders.{both_true}
+
+pub after_at : {X : Type 0} (V : List X → X → Type 0) (all xs : List X) → AllAfter V all xs → (i : ℕ) (d : X) → i < length xs → V (all ++ take i xs) (get_or xs i d)
+after_at V all [] h i d less = absurd (omega (arith, less))
+after_at V all (x ∷ xs) h zero d less = subst (λ es. V es x) (sym (append-nil all)) h.0
+after_at V all (x ∷ xs) h (suc n) d less = subst (λ es. V es (get_or xs n d)) (append_assoc all (x ∷ []) (take n xs)) (after_at V (all ++ x ∷ []) xs h.1 n d (omega (arith, less)))
+
+pub after_from : {X : Type 0} (V : List X → X → Type 0) (all xs : List X) → ((i : ℕ) (d : X) → i < length xs → V (all ++ take i xs) (get_or xs i d)) → AllAfter V all xs
+after_from V all [] h = tt
+after_from V all (x ∷ xs) h = (
+  subst (λ es. V es x) (append-nil all) (h 0 x (omega arith)),
+  after_from V (all ++ x ∷ []) xs (λ i d less. subst (λ es. V es (get_or xs i d)) (sym (append_assoc all (x ∷ []) (take i xs))) (h (suc i) d (omega (arith, less)))),
+)
+
+pub between_found : (low high n : ℕ) → is_between low high n ≡ true → (low ≤ n) × (n ≤ high)
+between_found low high n e =
+    let b : (nat_le low n ≡ true) × (nat_le n high ≡ true) = both_true (nat_le low n) (nat_le n high) e in
+    (leb-true low n b.0, leb-true n high b.1)
+
+pub le_test : (a b : ℕ) → a ≤ b → nat_le a b ≡ true
+le_test a b h = grind (arith, nat_tests)
+
+pub and_true : (a b : Bool) → a ≡ true → b ≡ true → (a && b) ≡ true
+and_true true b e h = h
+and_true false b e h = absurd (cc)
+
+pub between_only : (low high n : ℕ) → low ≤ n → n ≤ high → is_between low high n ≡ true
+between_only low high n l h = and_true (nat_le low n) (nat_le n high) (le_test low n l) (le_test n high h)

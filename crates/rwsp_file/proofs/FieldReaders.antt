@@ -1,0 +1,198 @@
+-- Readers of the single fields.
+use Rattle.std.proofs.Common.{◌≡◌, ℕ, suc, ◌+◌, ◌*◌, ◌<◌, List, [], ◌∷◌, ◌++◌, length, Bool, true, false, not, ◌&&◌, ◌==◌, cond, Option, Some, None, Ok, Err, refl, ap, sym, ◌∙◌, arith, take, drop, get_or, inl, inr, nat_le, length-drop}
+use Rattle.std.specs.Prelude.{if◌then◌else◌}
+use Rattle.std.specs.Option.{option_map}
+use Rattle.std.specs.List.{list_all, before_first, after_first, position_or_len}
+use Rattle.std.specs.Char.{is_ascii_digit}
+use Rattle.std.proofs.lemmas.List.Sums.{split_at_first, prefix_len_stops}
+use Rattle.std.proofs.lemmas.Bool.Decides.{nat_tests}
+use Rattle.rwsp_text.specs.Lexemes.{Lexeme}
+use Rattle.rwsp_text.specs.Numbers.{number_of, value_of}
+use Rattle.rwsp_terms.specs.declared.data.Bounds.{Bounds}
+use Rattle.rwsp_model.specs.Validity.{is_between, is_small_range}
+use Rattle.rwsp_file.specs.Spelling.{IsDemand, IsRange}
+use Rattle.rwsp_file.specs.Spelling.Field.{NumberField, DemandField}
+use Rattle.rwsp_file.specs.Reading.{◌>>=◌, or_refuse, limited, number_at, limited_weeks, weeks_at, limited_demand, demand_at, demand_of, range_or, range_of, range_from, is_dot}
+use Rattle.rwsp_file.proofs.Readers.{IsReader, bind_ok, then_ok, some_ok, test_ok, word_reader}
+use Rattle.rwsp_file.specs.declared.refusal.FileRefusal.{FileRefusal}
+use Rattle.rwsp_file.specs.declared.refusal.FileRefusal.TheVariants.{Number, Range}
+use Rattle.std.proofs.lemmas.List.Folds.{list_all-append}
+use Rattle.std.proofs.lemmas.Bool.{eqb-true}
+use Rattle.std.proofs.Math.Seq.{take-append_seam, drop-append-add}
+
+-- what is there and passes a test
+checked : {A : Type 0} (o : Option A) (test : A → Bool) (why bad : FileRefusal) (x : A) → test x ≡ true → o ≡ Some x → (or_refuse o why >>= (λ m. if test m then Ok m else Err bad)) ≡ Ok x
+checked o test why bad x t e = ap (λ p. or_refuse p why >>= (λ m. if test m then Ok m else Err bad)) e ∙ ap (λ b. if b then Ok x else Err bad) t
+
+was_checked : {A : Type 0} (o : Option A) (test : A → Bool) (why bad : FileRefusal) (x : A) → (or_refuse o why >>= (λ m. if test m then Ok m else Err bad)) ≡ Ok x → (test x ≡ true) × (o ≡ Some x)
+was_checked o test why bad x e =
+    let a : (m : _) × (or_refuse o why ≡ Ok m) × ((if test m then Ok m else Err bad) ≡ Ok x) = bind_ok (or_refuse o why) (λ m. if test m then Ok m else Err bad) x e in
+    let b : (test a.0 ≡ true) × (a.0 ≡ x) = test_ok (test a.0) a.0 x bad a.2 in
+    (ap test (sym b.1) ∙ b.0, some_ok o why a.0 a.1 ∙ ap Some b.1)
+
+-- a number that keeps its limit
+pub limited_found : (limit least greatest : ℕ) (w : Lexeme) (n : ℕ) → limited limit least greatest w ≡ Ok n → (is_between least greatest n ≡ true) × (number_of w.text ≡ Some n)
+unfolding limited
+limited_found limit least greatest w n e = was_checked (number_of w.text) (is_between least greatest) (Number w.line) (Range w.line limit) n e
+
+pub limited_only : (limit least greatest : ℕ) (w : Lexeme) (n : ℕ) → is_between least greatest n ≡ true → number_of w.text ≡ Some n → limited limit least greatest w ≡ Ok n
+unfolding limited
+limited_only limit least greatest w n within e = checked (number_of w.text) (is_between least greatest) (Number w.line) (Range w.line limit) n within e
+
+pub number_reader : (limit least greatest : ℕ) → IsReader (λ n. is_between least greatest n ≡ true) (λ n. NumberField n ∷ []) (number_at limit least greatest)
+unfolding number_at
+number_reader limit least greatest =
+    word_reader (λ n. is_between least greatest n ≡ true) NumberField (limited limit least greatest) (number_at limit least greatest) (λ u. refl)
+    (λ w n e. let f : (is_between least greatest n ≡ true) × (number_of w.text ≡ Some n) = limited_found limit least greatest w n e in (f.0, λ fs ws s. (f.1, s)))
+    (λ w n fs ws valid s. (limited_only limit least greatest w n valid s.0, s.1))
+
+-- weeks that keep both limits
+abbrev pub AreWeeks : ℕ → ℕ → Type 0
+AreWeeks days n = (is_between 1 600 n ≡ true) × (nat_le (n * days) 4200 ≡ true)
+
+weeks_found : (days : ℕ) (w : Lexeme) (n : ℕ) → limited_weeks days w ≡ Ok n → AreWeeks days n × (number_of w.text ≡ Some n)
+unfolding limited_weeks
+weeks_found days w n e =
+    let a : (m : ℕ) × (limited 2 1 600 w ≡ Ok m) × ((if nat_le (m * days) 4200 then Ok m else Err (Range w.line 3)) ≡ Ok n) =
+    bind_ok (limited 2 1 600 w) (λ m. if nat_le (m * days) 4200 then Ok m else Err (Range w.line 3)) n e in
+    let b : (nat_le (a.0 * days) 4200 ≡ true) × (a.0 ≡ n) = test_ok (nat_le (a.0 * days) 4200) a.0 n (Range w.line 3) a.2 in
+    let f : (is_between 1 600 n ≡ true) × (number_of w.text ≡ Some n) = limited_found 2 1 600 w n (a.1 ∙ ap Ok b.1) in
+    ((f.0, ap (λ m. nat_le (m * days) 4200) (sym b.1) ∙ b.0), f.1)
+
+weeks_only : (days : ℕ) (w : Lexeme) (n : ℕ) → AreWeeks days n → number_of w.text ≡ Some n → limited_weeks days w ≡ Ok n
+unfolding limited_weeks
+weeks_only days w n valid e =
+    then_ok (limited 2 1 600 w) (λ m. if nat_le (m * days) 4200 then Ok m else Err (Range w.line 3)) n n (limited_only 2 1 600 w n valid.0 e)
+    (ap (λ b. if b then Ok n else Err (Range w.line 3)) valid.1)
+
+pub weeks_reader : (days : ℕ) → IsReader (AreWeeks days) (λ n. NumberField n ∷ []) (weeks_at days)
+unfolding weeks_at
+weeks_reader days =
+    word_reader (AreWeeks days) NumberField (limited_weeks days) (weeks_at days) (λ u. refl)
+    (λ w n e. let f : AreWeeks days n × (number_of w.text ≡ Some n) = weeks_found days w n e in (f.0, λ fs ws s. (f.1, s)))
+    (λ w n fs ws valid s. (weeks_only days w n valid s.0, s.1))
+
+-- numbers have no dot
+
+all_digits : (a b c : Bool) (text : List ℕ) (n : ℕ) → (if a && b && c then Some (value_of text) else None) ≡ Some n → c ≡ true
+all_digits true true true text n e = refl
+all_digits true true false text n e = absurd (cc)
+all_digits true false c text n e = absurd (cc)
+all_digits false b c text n e = absurd (cc)
+
+pub number_digits : (text : List ℕ) (n : ℕ) → number_of text ≡ Some n → list_all is_ascii_digit text ≡ true
+number_digits text n e = all_digits (nat_le 1 (length text)) (nat_le (length text) 9) (list_all is_ascii_digit text) text n e
+
+no_number : (a b c : Bool) (text : List ℕ) → c ≡ false → (if a && b && c then Some (value_of text) else None) ≡ None
+no_number true true c text e = ap (λ d. if d then Some (value_of text) else None) e
+no_number true false c text e = refl
+no_number false b c text e = refl
+
+dot_fails : (b : Bool) → (b && false) ≡ false
+dot_fails true = refl
+dot_fails false = refl
+
+dotted : (least rest : List ℕ) → number_of (least ++ 46 ∷ rest) ≡ None
+dotted least rest =
+    no_number (nat_le 1 (length (least ++ 46 ∷ rest))) (nat_le (length (least ++ 46 ∷ rest)) 9) (list_all is_ascii_digit (least ++ 46 ∷ rest)) (least ++ 46 ∷ rest)
+    (list_all-append is_ascii_digit least (46 ∷ rest) ∙ dot_fails (list_all is_ascii_digit least))
+
+not_false : (b : Bool) → not b ≡ false → b ≡ true
+not_false true e = refl
+not_false false e = absurd (cc)
+
+dot_of : (b : ℕ) → is_dot b ≡ true → b ≡ 46
+dot_of b e = eqb-true b 46 e
+
+digit_no_dot : (b : ℕ) → is_ascii_digit b ≡ true → is_dot b ≡ false
+digit_no_dot b e = grind (arith, nat_tests)
+
+place_step : (b : Bool) (k n : ℕ) → b ≡ false → k ≡ n → cond (not b) (1 + k) 0 ≡ suc n
+place_step true k n e h = absurd (cc)
+place_step false k n e h = omega arith
+
+pub both_true : (a b : Bool) → (a && b) ≡ true → (a ≡ true) × (b ≡ true)
+both_true true b e = (refl, e)
+both_true false b e = absurd (cc)
+
+place_of_dot : (least rest : List ℕ) → list_all is_ascii_digit least ≡ true → position_or_len is_dot (least ++ 46 ∷ rest) ≡ length least
+place_of_dot [] rest e = refl
+place_of_dot (b ∷ bs) rest e =
+    let parts : (is_ascii_digit b ≡ true) × (list_all is_ascii_digit bs ≡ true) = both_true (is_ascii_digit b) (list_all is_ascii_digit bs) e in
+    place_step (is_dot b) (position_or_len is_dot (bs ++ 46 ∷ rest)) (length bs) (digit_no_dot b parts.0) (place_of_dot bs rest parts.1)
+
+-- what stands round the first dot
+dot_behind_digits : (least rest : List ℕ) → list_all is_ascii_digit least ≡ true → (before_first is_dot (least ++ 46 ∷ rest) ≡ least) × (after_first is_dot (least ++ 46 ∷ rest) ≡ rest)
+dot_behind_digits least rest e =
+    let place : position_or_len is_dot (least ++ 46 ∷ rest) ≡ length least = place_of_dot least rest e in (
+      ap (λ k. take k (least ++ 46 ∷ rest)) place ∙ take-append_seam least (46 ∷ rest),
+      ap (λ k. drop (k + 1) (least ++ 46 ∷ rest)) place ∙ drop-append-add least (46 ∷ rest) 1,
+    )
+
+cut_at_dot : (text : List ℕ) (c : ℕ) (cs : List ℕ) → after_first is_dot text ≡ c ∷ cs → text ≡ before_first is_dot text ++ 46 ∷ c ∷ cs
+cut_at_dot text c cs e =
+    let k : ℕ = position_or_len is_dot text in
+    let lt : position_or_len is_dot text < length text = omega (arith, ap length e, length-drop (position_or_len is_dot text + 1) text) in
+    let stop : not (is_dot (get_or text (position_or_len is_dot text) 0)) ≡ false = prefix_len_stops (λ x. not (is_dot x)) text 0 lt in
+    split_at_first is_dot text 0 lt
+    ∙ ap (λ b. before_first is_dot text ++ b ∷ after_first is_dot text) (dot_of _ (not_false _ stop))
+    ∙ ap (λ t. before_first is_dot text ++ 46 ∷ t) e
+
+abbrev pub range_between : ℕ → ℕ → Bounds
+range_between n m = record { least = n; greatest = m }
+
+pub some_same : {A : Type 0} (x y : A) → Some x ≡ Some y → x ≡ y
+some_same x y e = cc
+
+range_parts : (o : Option ℕ) (rest : List ℕ) (b : Bounds) → range_from o rest ≡ Some b → (o ≡ Some b.least) × (cs : List ℕ) × (rest ≡ 46 ∷ cs) × (number_of cs ≡ Some b.greatest)
+range_parts None rest b e = absurd (cc)
+range_parts (Some n) [] b e = absurd (cc)
+range_parts (Some n) (c ∷ cs) b e = at (c == 46) refl (number_of cs) refl e where
+  at : (t : Bool) → (c == 46) ≡ t → (o : Option ℕ) → number_of cs ≡ o → (if t then option_map (λ m. record { least = n; greatest = m }) o else None) ≡ Some b →
+      (Some n ≡ Some b.least) × (ds : List ℕ) × (c ∷ cs ≡ 46 ∷ ds) × (number_of ds ≡ Some b.greatest)
+  at true d None m h = absurd (cc)
+  at true d (Some x) m h =
+      let same : range_between n x ≡ b = some_same (range_between n x) b h in
+      (ap (λ (r : Bounds). Some r.least) same, cs, ap (λ k. k ∷ cs) (eqb-true c 46 d), m ∙ ap (λ (r : Bounds). Some r.greatest) same)
+  at false d o m h = absurd (cc)
+
+range_found : (text : List ℕ) (b : Bounds) → range_of text ≡ Some b → IsRange b text
+range_found text b e =
+    let p : (number_of (before_first is_dot text) ≡ Some b.least) × (cs : List ℕ) × (after_first is_dot text ≡ 46 ∷ cs) × (number_of cs ≡ Some b.greatest) =
+    range_parts (number_of (before_first is_dot text)) (after_first is_dot text) b e in
+    record { least = before_first is_dot text; greatest = p.1; whole = cut_at_dot text 46 p.1 p.2; from = p.0; to = p.3 }
+
+range_only : (text : List ℕ) (b : Bounds) → IsRange b text → (number_of text ≡ None) × (range_of text ≡ Some b)
+range_only text b r =
+    let cut : (before_first is_dot (r.least ++ 46 ∷ 46 ∷ r.greatest) ≡ r.least) × (after_first is_dot (r.least ++ 46 ∷ 46 ∷ r.greatest) ≡ 46 ∷ r.greatest) =
+    dot_behind_digits r.least (46 ∷ r.greatest) (number_digits r.least b.least r.from) in (
+      ap number_of r.whole ∙ dotted r.least (46 ∷ r.greatest),
+      ap range_of r.whole
+          ∙ ap (λ t. range_from (number_of t) (after_first is_dot (r.least ++ 46 ∷ 46 ∷ r.greatest))) cut.0
+          ∙ ap (λ t. range_from (number_of r.least) t) cut.1
+          ∙ ap (λ o. range_from o (46 ∷ r.greatest)) r.from
+          ∙ ap (λ o. option_map (λ m. record { least = b.least; greatest = m }) o) r.to,
+    )
+
+pub demand_found : (text : List ℕ) (b : Bounds) → demand_of text ≡ Some b → IsDemand b text
+demand_found text b e = at (number_of text) refl e where
+  at : (o : Option ℕ) → number_of text ≡ o → range_or (range_of text) o ≡ Some b → IsDemand b text
+  at None n h = inr (range_found text b h)
+  at (Some k) n h =
+      let same : range_between k k ≡ b = some_same (range_between k k) b h in
+      inl (n ∙ ap (λ (r : Bounds). Some r.least) same, sym (ap (λ (r : Bounds). r.greatest) same) ∙ ap (λ (r : Bounds). r.least) same)
+
+pub demand_only : (text : List ℕ) (b : Bounds) → IsDemand b text → demand_of text ≡ Some b
+demand_only text b (inl h) = ap (range_or (range_of text)) h.0 ∙ ap (λ k. Some (range_between b.least k)) (sym h.1)
+demand_only text b (inr r) =
+    let both : (number_of text ≡ None) × (range_of text ≡ Some b) = range_only text b r in
+    ap (range_or (range_of text)) both.0 ∙ both.1
+
+pub demand_reader : IsReader (λ b. is_small_range b ≡ true) (λ b. DemandField b ∷ []) demand_at
+unfolding demand_at limited_demand
+demand_reader =
+    word_reader (λ b. is_small_range b ≡ true) DemandField limited_demand demand_at (λ u. refl)
+    (λ w b e.
+    let f : (is_small_range b ≡ true) × (demand_of w.text ≡ Some b) = was_checked (demand_of w.text) is_small_range (Number w.line) (Range w.line 5) b e in
+    (f.0, λ fs ws s. (demand_found w.text b f.1, s)))
+    (λ w b fs ws valid s. (checked (demand_of w.text) is_small_range (Number w.line) (Range w.line 5) b valid (demand_only w.text b s.0), s.1))

@@ -1,0 +1,13 @@
+pub mod ManySteps
+pub mod Names
+pub mod Lines
+pub mod Readers
+pub mod FieldReaders
+pub mod RowReader
+pub mod Chains
+pub mod SymbolReader
+pub mod PartReaders
+pub mod Whole
+pub mod WordForms
+pub mod Valid
+pub mod TextLaws

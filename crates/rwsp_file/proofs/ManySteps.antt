@@ -1,0 +1,48 @@
+-- One step of reading many things.
+use Rattle.std.proofs.Common.{◌≡◌, ℕ, suc, ◌+◌, ◌-◌, ◌<◌, ◌≤◌, sym, List, [], ◌∷◌, ◌++◌, Result, Ok, Err, ap, ◌∙◌, arith, refl}
+use Rattle.rwsp_file.specs.Reading.{Unread, many, ◌>>=◌}
+use Rattle.rwsp_file.specs.Reads.{ReadsUnless}
+use Rattle.rwsp_model.specs.declared.fail.Fail.{Fail}
+use Rattle.rwsp_model.specs.declared.fail.Fail.TheVariants.{Refused, Memory}
+use Rattle.rwsp_file.specs.declared.refusal.FileRefusal.{FileRefusal}
+
+many_suc : {X : Type 0} (read : List X → Unread → Result (X × Unread) FileRefusal) (n : ℕ) (all : List X) (u : Unread) → many read (suc n) all u ≡ (read all u >>= (λ x. many read n (all ++ x.0 ∷ []) x.1))
+unfolding many
+many_suc read n all u = refl
+
+-- where one more is wanted and read, the others are read behind it
+pub many_ok : {X : Type 0} (read : List X → Unread → Result (X × Unread) FileRefusal) (n i : ℕ) (all : List X) (u : Unread) (x : X) (v : Unread) → i < n → read all u ≡ Ok (x, v) → many read (n - i) all u ≡ many read (n - (i + 1)) (all ++ x ∷ []) v
+many_ok read n i all u x v lt h =
+    let one_less : n - i ≡ suc (n - (i + 1)) = omega (arith, lt) in
+    ap (λ k. many read k all u) one_less ∙ many_suc read (n - (i + 1)) all u ∙ ap (λ r. r >>= (λ y. many read (n - (i + 1)) (all ++ y.0 ∷ []) y.1)) h
+
+-- where one more is wanted and fails, it all fails
+pub many_err : {X : Type 0} (read : List X → Unread → Result (X × Unread) FileRefusal) (n i : ℕ) (all : List X) (u : Unread) (why : FileRefusal) → i < n → read all u ≡ Err why → many read (n - i) all u ≡ Err why
+many_err read n i all u why lt h =
+    let one_less : n - i ≡ suc (n - (i + 1)) = omega (arith, lt) in
+    ap (λ k. many read k all u) one_less ∙ many_suc read (n - (i + 1)) all u ∙ ap (λ r. r >>= (λ y. many read (n - (i + 1)) (all ++ y.0 ∷ []) y.1)) h
+
+many_zero : {X : Type 0} (read : List X → Unread → Result (X × Unread) FileRefusal) (all : List X) (u : Unread) → many read 0 all u ≡ Ok (all, u)
+unfolding many
+many_zero read all u = refl
+
+-- where no more are wanted, these are all
+pub many_done : {X : Type 0} (read : List X → Unread → Result (X × Unread) FileRefusal) (n : ℕ) (all : List X) (u : Unread) → many read (n - n) all u ≡ Ok (all, u)
+many_done read n all u =
+    let none : n - n ≡ 0 = omega arith in
+    ap (λ k. many read k all u) none ∙ many_zero read all u
+
+-- a loop that has read so many fails where the next one fails
+pub loop_err : {X : Type 0} (read : List X → Unread → Result (X × Unread) FileRefusal) (n i : ℕ) (all : List X) (u start : Unread) (why : FileRefusal) → many read (n - i) all u ≡ many read n [] start → i < n → read all u ≡ Err why → many read n [] start ≡ Err why
+loop_err read n i all u start why e lt h = sym e ∙ many_err read n i all u why lt h
+
+-- a loop that has read them all is done
+pub loop_done : {X : Type 0} (read : List X → Unread → Result (X × Unread) FileRefusal) (n i : ℕ) (all : List X) (u start : Unread) → many read (n - i) all u ≡ many read n [] start → i ≤ n → n ≤ i → many read n [] start ≡ Ok (all, u)
+loop_done read n i all u start e le ge =
+    let same : i ≡ n = omega arith in
+    sym e ∙ ap (λ k. many read (n - k) all u) same ∙ many_done read n all u
+
+-- the same where the next one may also lack memory
+pub loop_fails : {X Y Z : Type 0} (view : Z → X) (views : Y → List X) (read : List X → Unread → Result (X × Unread) FileRefusal) (n i : ℕ) (all : List X) (u start left after : Unread) (why : Fail FileRefusal) → many read (n - i) all u ≡ many read n [] start → i < n → ReadsUnless {X = Z} {Y = X} view (read all u) (Err why) left → ReadsUnless {X = Y} {Y = List X} views (many read n [] start) (Err why) after
+loop_fails view views read n i all u start left after Memory e lt h = tt
+loop_fails view views read n i all u start left after (Refused why) e lt h = loop_err read n i all u start why e lt h

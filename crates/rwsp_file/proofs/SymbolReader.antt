@@ -1,0 +1,186 @@
+-- The readers of symbols and of sequences.
+use Rattle.std.proofs.Common.{◌≡◌, ◌≢◌, ℕ, zero, suc, ◌+◌, ◌<◌, ◌≤◌, List, [], ◌∷◌, ◌++◌, length, get_or, Bool, true, false, Option, Some, None, Ok, cond, refl, ap, sym, ◌∙◌, arith, subst, inl, inr, ◌⊎◌}
+use Rattle.std.specs.Prelude.{position, All, AllPairs, is_some}
+use Rattle.std.specs.Option.{option_map}
+use Rattle.std.specs.Str.{bytes_eq}
+use Rattle.std.proofs.lemmas.List.Quantifiers.{position-Some}
+use Rattle.std.proofs.lemmas.List.Folds.{list_any_at}
+use Rattle.std.proofs.lemmas.Option.{slice_get-get_or}
+use Rattle.std.proofs.lemmas.Slice.Eq.{bytes_eq-Decides}
+use Rattle.rwsp_terms.specs.Instance.{Instance, shift_count, off_name, name_of, name_numbered, name_in, symbol_numbered}
+use Rattle.rwsp_terms.specs.declared.data.ShiftRow.{ShiftRow}
+use Rattle.rwsp_terms.specs.declared.data.Symbol.{Symbol}
+use Rattle.rwsp_file.specs.Spelling.{Field, Spell, name_fields}
+use Rattle.rwsp_file.specs.Spelling.Field.{NameField}
+use Rattle.rwsp_file.specs.Reading.{Unread, ◌>>=◌, or_refuse, symbol_in, symbol_at, pair_at, triple_at}
+use Rattle.rwsp_file.specs.declared.refusal.FileRefusal.TheVariants.{Unknown}
+use Rattle.rwsp_file.proofs.Readers.{IsReader, bind_ok, then_ok, some_ok, ok_same, given, word_reader}
+use Rattle.rwsp_file.proofs.FieldReaders.{some_same}
+use Rattle.rwsp_file.proofs.Lines.{is_some-position}
+
+-- names by which shifts can be told apart, and from the day off
+pub record HasNames (P : Instance) : Type 0 where
+  pub no_dash : All (λ (row : ShiftRow). row.name ≢ off_name) P.shifts
+  pub distinct : AllPairs (λ (a b : ShiftRow). a.name ≢ b.name) P.shifts
+
+abbrev test_name : List ℕ → ShiftRow → Bool
+test_name name row = bytes_eq name row.name
+
+no_row : ShiftRow
+no_row = record { name = []; start = 0; length = 0; bounds = record { least = 0; greatest = 0 } }
+
+in_place : (P : Instance) (k : ℕ) → k < length P.shifts → name_numbered P (suc k) ≡ (get_or P.shifts k no_row).name
+in_place P k less = ap name_in (slice_get-get_or P.shifts k no_row less)
+
+symbol_found : (P : Instance) (text : List ℕ) (x : Symbol) → symbol_in P.shifts text ≡ Some x → (x.number ≤ shift_count P) × (text ≡ name_of P x)
+symbol_found P text x e = at (bytes_eq text off_name) refl (position (test_name text) P.shifts) refl e where
+  at : (b : Bool) → bytes_eq text off_name ≡ b → (o : Option ℕ) → position (test_name text) P.shifts ≡ o → cond b (Some (symbol_numbered 0)) (option_map (λ k. symbol_numbered (k + 1)) o) ≡ Some x →
+      (x.number ≤ shift_count P) × (text ≡ name_of P x)
+  at true d o p h =
+      let same : symbol_numbered 0 ≡ x = some_same (symbol_numbered 0) x h in
+      subst (λ (y : Symbol). (y.number ≤ shift_count P) × (text ≡ name_of P y)) same (omega arith, (bytes_eq-Decides text off_name).0 d)
+  at false d None p h = absurd (cc)
+  at false d (Some k) p h =
+      let same : symbol_numbered (k + 1) ≡ x = some_same (symbol_numbered (k + 1)) x h in
+      let f : (k < length P.shifts) × (test_name text (get_or P.shifts k no_row) ≡ true) × ((j : ℕ) → j < k → test_name text (get_or P.shifts j no_row) ≡ false) =
+      position-Some (test_name text) P.shifts k no_row p in
+      let named : text ≡ (get_or P.shifts k no_row).name = (bytes_eq-Decides text (get_or P.shifts k no_row).name).0 f.1 in
+      let next : suc k ≡ k + 1 = omega arith in
+      subst (λ (y : Symbol). (y.number ≤ shift_count P) × (text ≡ name_of P y)) same
+      (omega (arith, f.0), named ∙ sym (in_place P k f.0) ∙ ap (name_numbered P) next)
+
+pub not_equal : (a b : List ℕ) → a ≢ b → bytes_eq a b ≡ false
+not_equal a b h = at (bytes_eq a b) refl where
+  at : (t : Bool) → bytes_eq a b ≡ t → t ≡ false
+  at true e = absurd (h ((bytes_eq-Decides a b).0 e))
+  at false e = refl
+
+apart : (i k : ℕ) → (i ≡ k) ⊎ ((i < k) ⊎ (k < i))
+apart zero zero = inl refl
+apart zero (suc k) = inr (inl (omega arith))
+apart (suc i) zero = inr (inr (omega arith))
+apart (suc i) (suc k) = at (apart i k) where
+  at : (i ≡ k) ⊎ ((i < k) ⊎ (k < i)) → (suc i ≡ suc k) ⊎ ((suc i < suc k) ⊎ (suc k < suc i))
+  at (inl h) = inl (ap suc h)
+  at (inr (inl h)) = inr (inl (omega (arith, h)))
+  at (inr (inr h)) = inr (inr (omega (arith, h)))
+
+the_place : (P : Instance) (names : HasNames P) (k i : ℕ) → k < length P.shifts → i < length P.shifts → (get_or P.shifts k no_row).name ≡ (get_or P.shifts i no_row).name → i ≡ k
+the_place P names k i lk li e = at (apart i k) where
+  at : (i ≡ k) ⊎ ((i < k) ⊎ (k < i)) → i ≡ k
+  at (inl h) = h
+  at (inr (inl h)) = absurd (names.distinct i k no_row h lk (sym e))
+  at (inr (inr h)) = absurd (names.distinct k i no_row h li e)
+
+some_of : {A : Type 0} (o : Option A) → is_some o ≡ true → (x : A) × (o ≡ Some x)
+some_of None e = absurd (cc)
+some_of (Some x) e = (x, refl)
+
+position_of_name : (P : Instance) (names : HasNames P) (k : ℕ) → k < length P.shifts → position (test_name (get_or P.shifts k no_row).name) P.shifts ≡ Some k
+position_of_name P names k less =
+    let name : List ℕ = (get_or P.shifts k no_row).name in
+    let here : test_name (get_or P.shifts k no_row).name (get_or P.shifts k no_row) ≡ true = (bytes_eq-Decides (get_or P.shifts k no_row).name (get_or P.shifts k no_row).name).1 refl in
+    let o : (i : ℕ) × (position (test_name (get_or P.shifts k no_row).name) P.shifts ≡ Some i) =
+    some_of (position (test_name (get_or P.shifts k no_row).name) P.shifts)
+    (is_some-position (test_name (get_or P.shifts k no_row).name) P.shifts ∙ list_any_at (test_name (get_or P.shifts k no_row).name) P.shifts k no_row less here) in
+    let f : (o.0 < length P.shifts) × (test_name (get_or P.shifts k no_row).name (get_or P.shifts o.0 no_row) ≡ true) × ((j : ℕ) → j < o.0 → test_name (get_or P.shifts k no_row).name (get_or P.shifts j no_row) ≡ false) =
+    position-Some (test_name (get_or P.shifts k no_row).name) P.shifts o.0 no_row o.1 in
+    o.1 ∙ ap Some (the_place P names k o.0 less f.0 ((bytes_eq-Decides (get_or P.shifts k no_row).name (get_or P.shifts o.0 no_row).name).0 f.1))
+
+symbol_only : (P : Instance) (names : HasNames P) (n : ℕ) → n ≤ shift_count P → symbol_in P.shifts (name_numbered P n) ≡ Some (symbol_numbered n)
+symbol_only P names zero le = refl
+symbol_only P names (suc k) le =
+    let less : k < length P.shifts = omega (arith, le) in
+    let off : bytes_eq (get_or P.shifts k no_row).name off_name ≡ false = not_equal _ _ (names.no_dash k no_row less) in
+    let next : k + 1 ≡ suc k = omega arith in
+    ap (symbol_in P.shifts) (in_place P k less)
+    ∙ ap (λ b. cond b (Some (symbol_numbered 0)) (option_map (λ j. symbol_numbered (j + 1)) (position (test_name (get_or P.shifts k no_row).name) P.shifts))) off
+    ∙ ap (option_map (λ j. symbol_numbered (j + 1))) (position_of_name P names k less)
+    ∙ ap (λ n. Some (symbol_numbered n)) next
+
+-- a name in a sequence that is the name of a symbol
+pub symbol_reader : (P : Instance) → HasNames P → IsReader (λ x. x.number ≤ shift_count P) (λ x. NameField (name_of P x) ∷ []) (symbol_at P.shifts)
+unfolding symbol_at
+symbol_reader P names =
+    word_reader (λ x. x.number ≤ shift_count P) (λ x. NameField (name_of P x)) (λ w. or_refuse (symbol_in P.shifts w.text) (Unknown w.line)) (symbol_at P.shifts) (λ u. refl)
+    (λ w x e.
+    let f : (x.number ≤ shift_count P) × (w.text ≡ name_of P x) = symbol_found P w.text x (some_ok (symbol_in P.shifts w.text) (Unknown w.line) x e) in
+    (f.0, λ fs ws s. (f.1, s)))
+    (λ w x fs ws valid s.
+    (ap (λ t. or_refuse (symbol_in P.shifts t) (Unknown w.line)) s.0 ∙ ap (λ o. or_refuse o (Unknown w.line)) (symbol_only P names x.number valid), s.1))
+
+abbrev pub IsPair : Instance → Symbol × Symbol → Type 0
+IsPair P x = (x.0.number ≤ shift_count P) × (x.1.number ≤ shift_count P)
+
+abbrev pub IsTriple : Instance → Symbol × Symbol × Symbol → Type 0
+IsTriple P x = (x.0.number ≤ shift_count P) × (x.1.number ≤ shift_count P) × (x.2.number ≤ shift_count P)
+
+abbrev pub pair_fields : Instance → Symbol × Symbol → List Field
+pair_fields P x = name_fields (name_of P x.0 ∷ name_of P x.1 ∷ [])
+
+abbrev pub triple_fields : Instance → Symbol × Symbol × Symbol → List Field
+triple_fields P x = name_fields (name_of P x.0 ∷ name_of P x.1 ∷ name_of P x.2 ∷ [])
+
+-- what a symbol's reader shows at a symbol
+abbrev Symbol_found : Instance → Unread → Unread → Symbol → Type 0
+Symbol_found P u v x = (x.number ≤ shift_count P) × ((fs : List Field) → Spell fs v.lexemes → Spell (NameField (name_of P x) ∷ fs) u.lexemes)
+
+pair_found : (P : Instance) → HasNames P → (u v : Unread) (x : Symbol × Symbol) → pair_at P.shifts u ≡ Ok (x, v) → IsPair P x × ((fs : List Field) → Spell fs v.lexemes → Spell (pair_fields P x ++ fs) u.lexemes)
+unfolding pair_at
+pair_found P names u v x e =
+    let a : (p : Symbol × Unread) × (symbol_at P.shifts u ≡ Ok p) × ((symbol_at P.shifts p.1 >>= (λ q. Ok ((p.0, q.0), q.1))) ≡ Ok (x, v)) =
+    bind_ok (symbol_at P.shifts u) (λ p. symbol_at P.shifts p.1 >>= (λ q. Ok ((p.0, q.0), q.1))) (x, v) e in
+    let b : (q : Symbol × Unread) × (symbol_at P.shifts a.0.1 ≡ Ok q) × (given ((a.0.0, q.0), q.1) ≡ Ok (x, v)) =
+    bind_ok (symbol_at P.shifts a.0.1) (λ q. Ok ((a.0.0, q.0), q.1)) (x, v) a.2 in
+    let f : Symbol_found P u a.0.1 a.0.0 = (symbol_reader P names).found u a.0.1 a.0.0 a.1 in
+    let g : Symbol_found P a.0.1 b.0.1 b.0.0 = (symbol_reader P names).found a.0.1 b.0.1 b.0.0 b.1 in
+    subst (λ (r : (Symbol × Symbol) × Unread). IsPair P r.0 × ((fs : List Field) → Spell fs r.1.lexemes → Spell (pair_fields P r.0 ++ fs) u.lexemes))
+    (ok_same ((a.0.0, b.0.0), b.0.1) (x, v) b.2)
+    ((f.0, g.0), λ fs s. f.1 (NameField (name_of P b.0.0) ∷ fs) (g.1 fs s))
+
+pair_only : (P : Instance) → HasNames P → (u : Unread) (x : Symbol × Symbol) (fs : List Field) → IsPair P x → Spell (pair_fields P x ++ fs) u.lexemes → (v : Unread) × (pair_at P.shifts u ≡ Ok (x, v)) × Spell fs v.lexemes
+unfolding pair_at
+pair_only P names u x fs valid s =
+    let a : (m : Unread) × (symbol_at P.shifts u ≡ Ok (x.0, m)) × Spell (NameField (name_of P x.1) ∷ fs) m.lexemes = (symbol_reader P names).only u x.0 (NameField (name_of P x.1) ∷ fs) valid.0 s in
+    let b : (v : Unread) × (symbol_at P.shifts a.0 ≡ Ok (x.1, v)) × Spell fs v.lexemes = (symbol_reader P names).only a.0 x.1 fs valid.1 a.2 in (
+      b.0,
+      then_ok (symbol_at P.shifts u) (λ p. symbol_at P.shifts p.1 >>= (λ q. Ok ((p.0, q.0), q.1))) (x.0, a.0) (x, b.0) a.1
+          (then_ok (symbol_at P.shifts a.0) (λ q. Ok ((x.0, q.0), q.1)) (x.1, b.0) (x, b.0) b.1 refl),
+      b.2,
+    )
+
+pub pair_reader : (P : Instance) → HasNames P → IsReader (IsPair P) (pair_fields P) (pair_at P.shifts)
+pair_reader P names = record { found = pair_found P names; only = pair_only P names }
+
+triple_found : (P : Instance) → HasNames P → (u v : Unread) (x : Symbol × Symbol × Symbol) → triple_at P.shifts u ≡ Ok (x, v) → IsTriple P x × ((fs : List Field) → Spell fs v.lexemes → Spell (triple_fields P x ++ fs) u.lexemes)
+unfolding triple_at
+triple_found P names u v x e =
+    let a : (p : Symbol × Unread) × (symbol_at P.shifts u ≡ Ok p) × ((symbol_at P.shifts p.1 >>= (λ q. symbol_at P.shifts q.1 >>= (λ r. Ok ((p.0, q.0, r.0), r.1)))) ≡ Ok (x, v)) =
+    bind_ok (symbol_at P.shifts u) (λ p. symbol_at P.shifts p.1 >>= (λ q. symbol_at P.shifts q.1 >>= (λ r. Ok ((p.0, q.0, r.0), r.1)))) (x, v) e in
+    let b : (q : Symbol × Unread) × (symbol_at P.shifts a.0.1 ≡ Ok q) × ((symbol_at P.shifts q.1 >>= (λ r. Ok ((a.0.0, q.0, r.0), r.1))) ≡ Ok (x, v)) =
+    bind_ok (symbol_at P.shifts a.0.1) (λ q. symbol_at P.shifts q.1 >>= (λ r. Ok ((a.0.0, q.0, r.0), r.1))) (x, v) a.2 in
+    let c : (r : Symbol × Unread) × (symbol_at P.shifts b.0.1 ≡ Ok r) × (given ((a.0.0, b.0.0, r.0), r.1) ≡ Ok (x, v)) =
+    bind_ok (symbol_at P.shifts b.0.1) (λ r. Ok ((a.0.0, b.0.0, r.0), r.1)) (x, v) b.2 in
+    let f : Symbol_found P u a.0.1 a.0.0 = (symbol_reader P names).found u a.0.1 a.0.0 a.1 in
+    let g : Symbol_found P a.0.1 b.0.1 b.0.0 = (symbol_reader P names).found a.0.1 b.0.1 b.0.0 b.1 in
+    let h : Symbol_found P b.0.1 c.0.1 c.0.0 = (symbol_reader P names).found b.0.1 c.0.1 c.0.0 c.1 in
+    subst (λ (r : (Symbol × Symbol × Symbol) × Unread). IsTriple P r.0 × ((fs : List Field) → Spell fs r.1.lexemes → Spell (triple_fields P r.0 ++ fs) u.lexemes))
+    (ok_same ((a.0.0, b.0.0, c.0.0), c.0.1) (x, v) c.2)
+    ((f.0, g.0, h.0), λ fs s. f.1 (NameField (name_of P b.0.0) ∷ NameField (name_of P c.0.0) ∷ fs) (g.1 (NameField (name_of P c.0.0) ∷ fs) (h.1 fs s)))
+
+triple_only : (P : Instance) → HasNames P → (u : Unread) (x : Symbol × Symbol × Symbol) (fs : List Field) → IsTriple P x → Spell (triple_fields P x ++ fs) u.lexemes → (v : Unread) × (triple_at P.shifts u ≡ Ok (x, v)) × Spell fs v.lexemes
+unfolding triple_at
+triple_only P names u x fs valid s =
+    let a : (m : Unread) × (symbol_at P.shifts u ≡ Ok (x.0, m)) × Spell (NameField (name_of P x.1) ∷ NameField (name_of P x.2) ∷ fs) m.lexemes =
+    (symbol_reader P names).only u x.0 (NameField (name_of P x.1) ∷ NameField (name_of P x.2) ∷ fs) valid.0 s in
+    let b : (m : Unread) × (symbol_at P.shifts a.0 ≡ Ok (x.1, m)) × Spell (NameField (name_of P x.2) ∷ fs) m.lexemes = (symbol_reader P names).only a.0 x.1 (NameField (name_of P x.2) ∷ fs) valid.1 a.2 in
+    let c : (v : Unread) × (symbol_at P.shifts b.0 ≡ Ok (x.2, v)) × Spell fs v.lexemes = (symbol_reader P names).only b.0 x.2 fs valid.2 b.2 in (
+      c.0,
+      then_ok (symbol_at P.shifts u) (λ p. symbol_at P.shifts p.1 >>= (λ q. symbol_at P.shifts q.1 >>= (λ r. Ok ((p.0, q.0, r.0), r.1)))) (x.0, a.0) (x, c.0) a.1
+          (then_ok (symbol_at P.shifts a.0) (λ q. symbol_at P.shifts q.1 >>= (λ r. Ok ((x.0, q.0, r.0), r.1))) (x.1, b.0) (x, c.0) b.1
+          (then_ok (symbol_at P.shifts b.0) (λ r. Ok ((x.0, x.1, r.0), r.1)) (x.2, c.0) (x, c.0) c.1 refl)),
+      c.2,
+    )
+
+pub triple_reader : (P : Instance) → HasNames P → IsReader (IsTriple P) (triple_fields P) (triple_at P.shifts)
+triple_reader P names = record { found = triple_found P names; only = triple_only P names }

@@ -1,0 +1,19 @@
+-- Laws of texts, instances and refusals.
+use Rattle.std.specs.Prelude.{◌≡◌, ℕ, List, MatchOption}
+use Rattle.rwsp_terms.specs.Instance.{Instance}
+use Rattle.rwsp_model.specs.Validity.{IsValid}
+use Rattle.rwsp_file.specs.Spelling.{SpellsProblem}
+use Rattle.rwsp_file.specs.Reading.{file_refusal}
+use Rattle.rwsp_file.specs.Text.{problem_text}
+
+-- a text spells at most one instance
+abbrev pub TextsSpellOne : Type 0
+TextsSpellOne = (bytes : List ℕ) (P Q : Instance) → SpellsProblem bytes P → SpellsProblem bytes Q → P ≡ Q
+
+-- a text that has no first failure spells an instance, and one that has one spells none
+abbrev pub TextsSpellOrFail : Type 0
+TextsSpellOrFail = (bytes : List ℕ) → MatchOption (file_refusal bytes) ((P : Instance) × SpellsProblem bytes P) (λ why. (P : Instance) → SpellsProblem bytes P → ⊥)
+
+-- the canonical text of a valid instance spells it and no other
+abbrev pub CanonicalTextsSpell : Type 0
+CanonicalTextsSpell = (P : Instance) → IsValid P → SpellsProblem (problem_text P) P × ((Q : Instance) → SpellsProblem (problem_text P) Q → Q ≡ P)

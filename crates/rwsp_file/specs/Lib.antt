@@ -1,0 +1,5 @@
+pub mod Spelling
+pub mod Reading
+pub mod Text
+pub mod Laws
+pub mod Reads

@@ -1,0 +1,83 @@
+-- Which texts spell a problem instance.
+use Rattle.std.specs.Prelude.{◌≡◌, ℕ, List, [], ◌∷◌, ◌++◌, ◌⊎◌, Bool, ◌==◌, length, Some, map, take_while, drop}
+use Rattle.std.specs.List.{flat_map, prefix_len}
+use Rattle.rwsp_text.specs.Lexemes.{Lexeme, lexemes}
+use Rattle.rwsp_text.specs.Numbers.{number_of}
+use Rattle.rwsp_terms.specs.Instance.{Instance, name_of}
+use Rattle.rwsp_model.specs.Validity.{IsValid}
+use Rattle.rwsp_terms.specs.declared.data.Bounds.{Bounds}
+use Rattle.rwsp_terms.specs.declared.data.ShiftRow.{ShiftRow}
+
+-- what stands in the text of an instance, one after another: a number, the demand of a shift on a day, a shift, and a name in a sequence
+pub data Field : Type 0 where
+  NumberField : (n : ℕ) → Field
+  DemandField : (range : Bounds) → Field
+  ShiftField : (row : ShiftRow) → Field
+  NameField : (name : List ℕ) → Field
+
+abbrev pub number_fields : List ℕ → List Field
+number_fields ns = map NumberField ns
+
+abbrev pub name_fields : List (List ℕ) → List Field
+name_fields names = map NameField names
+
+-- the fields of an instance, in order
+abbrev pub fields : Instance → List Field
+fields P =
+    number_fields (P.days ∷ P.weeks ∷ length P.shifts ∷ [])
+    ++ (flat_map (map DemandField) P.demand
+    ++ (map ShiftField P.shifts
+    ++ (number_fields (P.off.least ∷ P.off.greatest ∷ P.work.least ∷ P.work.greatest ∷ length P.pairs ∷ length P.triples ∷ [])
+    ++ (flat_map (λ x. name_fields (name_of P x.0 ∷ name_of P x.1 ∷ [])) P.pairs
+    ++ flat_map (λ x. name_fields (name_of P x.0 ∷ name_of P x.1 ∷ name_of P x.2 ∷ [])) P.triples))))
+
+-- two numbers with `..` between them
+pub record IsRange (range : Bounds) (text : List ℕ) : Type 0 where
+  pub least : List ℕ
+  pub greatest : List ℕ
+  pub whole : text ≡ least ++ 46 ∷ 46 ∷ greatest
+  pub from : number_of least ≡ Some range.least
+  pub to : number_of greatest ≡ Some range.greatest
+
+-- one number, which is the least and the greatest, or two numbers with `..` between them
+abbrev pub IsDemand : Bounds → List ℕ → Type 0
+IsDemand range text = ((number_of text ≡ Some range.least) × (range.greatest ≡ range.least)) ⊎ IsRange range text
+
+-- the name of a shift, its start, its length, and the bounds of its blocks
+pub record IsShiftRow (row : ShiftRow) (name start minutes least greatest : Lexeme) : Type 0 where
+  pub named : name.text ≡ row.name
+  pub starts : number_of start.text ≡ Some row.start
+  pub long : number_of minutes.text ≡ Some row.length
+  pub from : number_of least.text ≡ Some row.bounds.least
+  pub to : number_of greatest.text ≡ Some row.bounds.greatest
+
+-- the five words of a shift, or six with a long name before the bounds, which may be any word
+abbrev pub IsRow : ShiftRow → List Lexeme → Type 0
+IsRow row (name ∷ start ∷ minutes ∷ least ∷ greatest ∷ []) = IsShiftRow row name start minutes least greatest
+IsRow row (name ∷ start ∷ minutes ∷ long_name ∷ least ∷ greatest ∷ []) = IsShiftRow row name start minutes least greatest
+IsRow row words = ⊥
+
+abbrev pub is_on_line : ℕ → Lexeme → Bool
+is_on_line line w = w.line == line
+
+-- what of the lexemes stands on the line, and what follows
+abbrev pub on_line : ℕ → List Lexeme → List Lexeme
+on_line line ws = take_while (is_on_line line) ws
+
+abbrev pub past_line : ℕ → List Lexeme → List Lexeme
+past_line line ws = drop (prefix_len (is_on_line line) ws) ws
+
+-- the lexemes spell the fields, one after another. A shift takes a lexeme and all further ones of its line
+abbrev pub Spell : List Field → List Lexeme → Type 0
+Spell [] [] = Unit {0}
+Spell [] (w ∷ ws) = ⊥
+Spell (f ∷ fs) [] = ⊥
+Spell (NumberField n ∷ fs) (w ∷ ws) = (number_of w.text ≡ Some n) × Spell fs ws
+Spell (DemandField range ∷ fs) (w ∷ ws) = IsDemand range w.text × Spell fs ws
+Spell (NameField name ∷ fs) (w ∷ ws) = (w.text ≡ name) × Spell fs ws
+Spell (ShiftField row ∷ fs) (w ∷ ws) = IsRow row (w ∷ on_line w.line ws) × Spell fs (past_line w.line ws)
+
+-- the bytes are a text of the instance: the instance is valid, and the lexemes of the text spell its fields
+pub record SpellsProblem (bytes : List ℕ) (P : Instance) : Type 0 where
+  pub valid : IsValid P
+  pub text : Spell (fields P) (lexemes bytes)

@@ -1,0 +1,45 @@
+-- The canonical text of an instance.
+use Rattle.std.specs.Prelude.{ℕ, List, [], ◌∷◌, ◌++◌, length, map, ◌==◌, if◌then◌else◌}
+use Rattle.std.specs.List.{flat_map}
+use Rattle.std.specs.Fmt.{decimal}
+use Rattle.rwsp_terms.specs.Instance.{Instance, name_of}
+use Rattle.rwsp_terms.specs.declared.data.Bounds.{Bounds}
+use Rattle.rwsp_terms.specs.declared.data.ShiftRow.{ShiftRow}
+
+-- a demand: one number where the two are equal, else both with `..` between them
+abbrev pub demand_text : Bounds → List ℕ
+demand_text range =
+    if range.least == range.greatest then decimal range.least else decimal range.least ++ 46 ∷ 46 ∷ decimal range.greatest
+
+abbrev pub bounds_words : Bounds → List (List ℕ)
+bounds_words b = decimal b.least ∷ decimal b.greatest ∷ []
+
+abbrev pub shift_words : ShiftRow → List (List ℕ)
+shift_words row = row.name ∷ decimal row.start ∷ decimal row.length ∷ bounds_words row.bounds
+
+-- the words of each line
+abbrev pub lines_of_words : Instance → List (List (List ℕ))
+lines_of_words P =
+    (decimal P.days ∷ [])
+    ∷ (decimal P.weeks ∷ [])
+    ∷ (decimal (length P.shifts) ∷ [])
+    ∷ (map (map demand_text) P.demand
+    ++ (map shift_words P.shifts
+    ++ (bounds_words P.off
+    ∷ bounds_words P.work
+    ∷ (decimal (length P.pairs) ∷ decimal (length P.triples) ∷ [])
+    ∷ (map (λ x. name_of P x.0 ∷ name_of P x.1 ∷ []) P.pairs
+    ++ map (λ x. name_of P x.0 ∷ name_of P x.1 ∷ name_of P x.2 ∷ []) P.triples))))
+
+-- words with single blanks between them
+abbrev pub joined : List (List ℕ) → List ℕ
+joined [] = []
+joined (word ∷ []) = word
+joined (word ∷ words) = word ++ 32 ∷ joined words
+
+abbrev pub line_text : List (List ℕ) → List ℕ
+line_text words = joined words ++ 10 ∷ []
+
+-- the canonical text: no comments, single blanks, and a line feed at each line's end
+abbrev pub problem_text : Instance → List ℕ
+problem_text P = flat_map line_text (lines_of_words P)

@@ -1,0 +1,47 @@
+// Demands.
+ghost use Rattle.std.specs.Prelude.{◌≡◌, ◌==◌, List, position};
+ghost use Rattle.rwsp_file.specs.Reading.{demand_of, range_of, range_from, is_dot};
+ghost use Rattle.rwsp_text.specs.Numbers.{number_of};
+
+use rwsp_model::Bounds;
+use rwsp_text::number;
+
+fn range_from(least: Option<u32>, rest: &[u8]) -> Option<Bounds>
+    ensures { result ≡ range_from least rest.now }
+{
+    let least = least?;
+    let (dot, greatest) = rest.split_first()?;
+    if *dot != b'.' {
+        return None;
+    }
+    let greatest = number(greatest)?;
+    Some(Bounds { least, greatest })
+}
+
+fn place_of_dot(text: &[u8]) -> Option<usize>
+    ensures { result ≡ position is_dot text.now }
+{
+    text.iter().position(|b| *b == b'.')
+}
+
+fn range(text: &[u8]) -> Option<Bounds>
+    ensures { result ≡ range_of text.now }
+{
+    let Some(place) = place_of_dot(text) else {
+        return None;
+    };
+    range_from(number(&text[..place]), &text[place + 1..])
+}
+
+/// The demand that a text spells, as the least and the greatest number.
+pub fn demand(text: &[u8]) -> Option<Bounds>
+    ensures { result ≡ demand_of text.now }
+{
+    match number(text) {
+        Some(n) => Some(Bounds {
+            least: n,
+            greatest: n,
+        }),
+        None => range(text),
+    }
+}

@@ -1,0 +1,14 @@
+// Laws of texts, instances and refusals. Each function's contract is the law.
+ghost use Rattle.rwsp_file.specs.Laws.{TextsSpellOne, TextsSpellOrFail};
+
+/// A text spells at most one instance.
+#[tactic(auto, using(crate::proofs::TextLaws::texts_spell_one))]
+pub fn texts_spell_one()
+    ensures { TextsSpellOne }
+{}
+
+/// A text that has no first failure spells an instance, and one that has a first failure spells none.
+#[tactic(auto, using(crate::proofs::TextLaws::texts_spell_or_fail))]
+pub fn texts_spell_or_fail()
+    ensures { TextsSpellOrFail }
+{}

@@ -1,0 +1,19 @@
+//! Problem files, both ways.
+#![tactic(auto)]
+
+mod cursor;
+mod demand;
+mod fields;
+mod laws;
+mod read;
+mod refusal;
+mod row;
+mod sequences;
+mod shifts;
+
+pub use laws::{texts_spell_one, texts_spell_or_fail};
+pub use read::read_problem;
+pub use refusal::FileRefusal;
+
+#[cfg(test)]
+mod tests;

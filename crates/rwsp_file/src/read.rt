@@ -1,0 +1,88 @@
+// Reading problem files.
+ghost use Rattle.std.specs.Prelude.{◌≡◌, ◌==◌, ◌≤◌, count_by, length, Some, IfOk, map};
+ghost use Rattle.std.specs.List.{AllByRecursion};
+ghost use Rattle.rwsp_text.specs.Lexemes.{last_line};
+ghost use Rattle.rwsp_text.specs.Places.{lexeme_at};
+ghost use Rattle.rwsp_model.specs.Refusals.{IfRefused};
+ghost use Rattle.rwsp_model.specs.Parts.{instance_of};
+ghost use Rattle.rwsp_file.specs.Spelling.{SpellsProblem};
+ghost use Rattle.rwsp_file.specs.Reading.{reading, unread_of, file_refusal};
+ghost use Rattle.rwsp_file.specs.Reads.{GivesUnless};
+
+use crate::FileRefusal;
+use crate::cursor::Cursor;
+use crate::fields::{read_demand, read_frame, read_size};
+use crate::row::read_shifts;
+use crate::sequences::read_sequences;
+use rwsp_model::{Fail, Parts, Problem};
+use rwsp_text::tokens;
+use std::alloc::Global;
+
+fn count_line_ends(bytes: &[u8]) -> usize
+    ensures count { result ≡ count_by (λ b. b == 10) bytes.now }
+    ensures few { result ≤ length bytes.now }
+{
+    bytes.iter().filter(|b| **b == b'\n').count()
+}
+
+fn last_line(bytes: &[u8]) -> u32
+    requires { length bytes.now ≤ 1048576 }
+    ensures { result ≡ last_line bytes.now }
+{
+    count_line_ends(bytes) as u32 + 1
+}
+
+#[tactic(auto, unfolding(crate::specs::Reading::reading))]
+fn read_parts(alloc: Global, cursor: &mut Cursor) -> Result<Parts, Fail<FileRefusal>>
+    ensures { GivesUnless instance_of (reading cursor.old) result }
+{
+    let size = match read_size(cursor) {
+        Ok(size) => size,
+        Err(refusal) => return Err(Fail::Refused(refusal)),
+    };
+    let demand = read_demand(alloc, size, cursor)?;
+    let shifts = read_shifts(alloc, size.shifts, cursor)?;
+    let frame = match read_frame(cursor) {
+        Ok(frame) => frame,
+        Err(refusal) => return Err(Fail::Refused(refusal)),
+    };
+    let (pairs, triples) = read_sequences(alloc, &shifts, frame, cursor)?;
+    Ok(Parts {
+        days: size.days,
+        weeks: size.weeks,
+        demand,
+        shifts: shifts.rows(),
+        off: frame.off,
+        work: frame.work,
+        pairs,
+        triples,
+    })
+}
+
+fn parts_of(alloc: Global, bytes: &[u8]) -> Result<Parts, Fail<FileRefusal>>
+    requires { length bytes.now ≤ 1048576 }
+    ensures { GivesUnless instance_of (reading (unread_of bytes.now)) result }
+{
+    let tokens = match tokens(alloc, bytes) {
+        Ok(tokens) => tokens,
+        Err(_) => return Err(Fail::Memory),
+    };
+    let mut cursor = Cursor::of(bytes, &tokens, last_line(bytes));
+    read_parts(alloc, &mut cursor)
+}
+
+/// The problem that the bytes spell, or the first failure in them.
+pub fn read_problem(alloc: Global, bytes: &[u8]) -> Result<Problem, Fail<FileRefusal>>
+    requires { length bytes.now ≤ 1048576 }
+    ensures ok { IfOk result (λ P. SpellsProblem bytes.now P) }
+    ensures refused { IfRefused result (λ why. file_refusal bytes.now ≡ Some why) }
+{
+    let parts = match parts_of(alloc, bytes) {
+        Ok(parts) => parts,
+        Err(fail) => return Err(fail),
+    };
+    match Problem::of(parts) {
+        Ok(problem) => Ok(problem),
+        Err(_) => unreachable!(),
+    }
+}

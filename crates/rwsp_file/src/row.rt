@@ -1,0 +1,171 @@
+// Reading the rows of shifts.
+ghost use Rattle.std.specs.Prelude.{◌≡◌, ℕ, List, ◌∷◌, length, IfOk, MatchResult, Ok, Err, false, not};
+ghost use Rattle.std.specs.List.{list_any};
+ghost use Rattle.std.specs.Str.{bytes_eq};
+ghost use Rattle.rwsp_terms.specs.declared.data.ShiftRow.{ShiftRow};
+ghost use Rattle.rwsp_file.specs.Reading.{words_of_row, row_words_at, is_new_name, new_name, numbers_of_row, shift_of, shift_at, shift_rows_at};
+ghost use Rattle.rwsp_file.specs.Reads.{Reads, ReadsUnless, GivesUnless};
+
+use crate::FileRefusal;
+use crate::cursor::{Cursor, Word};
+use crate::shifts::Shifts;
+use rwsp_model::{Bounds, Fail, Name, ShiftRow};
+use std::alloc::Global;
+
+/// The words of a shift, without its long name.
+#[derive(Drop)]
+pub struct RowWords<'a> {
+    pub name: Word<'a>,
+    pub start: Word<'a>,
+    pub minutes: Word<'a>,
+    pub least: Word<'a>,
+    pub greatest: Word<'a>,
+}
+
+// The words of a shift from the first of its line and the others.
+fn words_of_row<'a>(name: Word<'a>, others: &mut Cursor<'a>) -> Option<RowWords<'a>>
+    ensures { result ≡ words_of_row (name.entry ∷ others.old.lexemes) }
+{
+    let start = others.pop()?;
+    let minutes = others.pop()?;
+    let fourth = others.pop()?;
+    let fifth = others.pop()?;
+    let Some(sixth) = others.pop() else {
+        return Some(RowWords {
+            name,
+            start,
+            minutes,
+            least: fourth,
+            greatest: fifth,
+        });
+    };
+    if others.pop().is_some() {
+        return None;
+    }
+    Some(RowWords {
+        name,
+        start,
+        minutes,
+        least: fifth,
+        greatest: sixth,
+    })
+}
+
+#[tactic(auto, unfolding(crate::specs::Reading::row_words_at))]
+fn read_row_words<'a>(cursor: &mut Cursor<'a>) -> Result<RowWords<'a>, FileRefusal>
+    ensures { Reads (row_words_at cursor.old) result cursor.new }
+{
+    let first = cursor.next()?;
+    let line = first.line();
+    let mut others = cursor.take_line(line);
+    match words_of_row(first, &mut others) {
+        Some(words) => Ok(words),
+        None => Err(FileRefusal::Row(line)),
+    }
+}
+
+fn is_taken(shifts: &Shifts, name: &[u8]) -> bool
+    ensures { result ≡ list_any (λ row. bytes_eq name.now row.name) shifts.now }
+{
+    shifts.place(name).is_some()
+}
+
+fn is_new_name(shifts: &Shifts, name: &[u8]) -> bool
+    ensures { result ≡ is_new_name shifts.now name.now }
+{
+    let taken = is_taken(shifts, name);
+    name.len() <= 32 && name != b"-".as_slice() && !taken
+}
+
+#[tactic(auto, unfolding(crate::specs::Reading::new_name))]
+fn check_name(shifts: &Shifts, word: &Word) -> Result<(), FileRefusal>
+    ensures name { MatchResult result (λ _. new_name shifts.now word.now ≡ Ok word.now.text) (λ why. new_name shifts.now word.now ≡ Err why) }
+    ensures fresh { IfOk result (λ _. list_any (λ other. bytes_eq word.now.text other.name) shifts.now ≡ false) }
+{
+    if is_new_name(shifts, word.text()) {
+        Ok(())
+    } else {
+        Err(FileRefusal::Name(word.line()))
+    }
+}
+
+#[tactic(auto, unfolding(crate::specs::Reading::numbers_of_row))]
+fn numbers_of_row(words: &RowWords) -> Result<(u32, u32, Bounds), FileRefusal>
+    ensures { result ≡ numbers_of_row words.now }
+{
+    let start = words.start.limited(6, 0, 10_000)?;
+    let minutes = words.minutes.limited(6, 0, 10_000)?;
+    let least = words.least.limited(7, 0, 10_000)?;
+    let greatest = words.greatest.limited(7, 0, 10_000)?;
+    Ok((start, minutes, Bounds { least, greatest }))
+}
+
+fn copied_name(alloc: Global, word: &Word) -> Result<Name, Fail<FileRefusal>>
+    ensures { GivesUnless (λ name. name) (Ok word.now.text) result }
+{
+    match Vec::from_slice(alloc, word.text()) {
+        Ok(bytes) => Ok(Name::of(bytes)),
+        Err(_) => Err(Fail::Memory),
+    }
+}
+
+#[tactic(auto, unfolding(crate::specs::Reading::shift_of))]
+fn shift_of(alloc: Global, shifts: &Shifts, words: &RowWords) -> Result<ShiftRow, Fail<FileRefusal>>
+    ensures value { GivesUnless (λ row. row) (shift_of shifts.now words.now) result }
+    ensures fresh { IfOk result (λ row. list_any (λ other. bytes_eq row.name other.name) shifts.now ≡ false) }
+{
+    if let Err(refusal) = check_name(shifts, &words.name) {
+        return Err(Fail::Refused(refusal));
+    }
+    let (start, length, bounds) = match numbers_of_row(words) {
+        Ok(numbers) => numbers,
+        Err(refusal) => return Err(Fail::Refused(refusal)),
+    };
+    let name = copied_name(alloc, &words.name)?;
+    Ok(ShiftRow {
+        name,
+        start,
+        length,
+        bounds,
+    })
+}
+
+#[tactic(auto, unfolding(crate::specs::Reading::shift_at))]
+fn read_shift(
+    alloc: Global,
+    shifts: &Shifts,
+    cursor: &mut Cursor,
+) -> Result<ShiftRow, Fail<FileRefusal>>
+    ensures value { ReadsUnless (λ row. row) (shift_at shifts.now cursor.old) result cursor.new }
+    ensures fresh { IfOk result (λ row. list_any (λ other. bytes_eq row.name other.name) shifts.now ≡ false) }
+{
+    let words = match read_row_words(cursor) {
+        Ok(words) => words,
+        Err(refusal) => return Err(Fail::Refused(refusal)),
+    };
+    shift_of(alloc, shifts, &words)
+}
+
+/// Reads a row for each shift.
+#[tactic(auto, using(crate::proofs::ManySteps::many_ok, crate::proofs::ManySteps::loop_err, crate::proofs::ManySteps::loop_done))]
+pub fn read_shifts(
+    alloc: Global,
+    count: u32,
+    cursor: &mut Cursor,
+) -> Result<Shifts, Fail<FileRefusal>>
+    ensures value { ReadsUnless (λ shifts. shifts) (shift_rows_at count cursor.old) result cursor.new }
+    ensures long { IfOk result (λ shifts. length shifts ≡ count) }
+{
+    let mut shifts = Shifts::new(alloc);
+    for shift in 0..count {
+        let row = match read_shift(alloc, &shifts, cursor) {
+            Ok(row) => row,
+            Err(fail) => return Err(fail),
+        };
+        shifts = match shifts.with(alloc, row) {
+            Ok(shifts) => shifts,
+            Err(_) => return Err(Fail::Memory),
+        };
+    }
+    Ok(shifts)
+}

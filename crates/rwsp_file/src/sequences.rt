@@ -1,0 +1,141 @@
+// Reading the forbidden sequences.
+ghost use Rattle.std.specs.Prelude.{◌≡◌, ℕ, List, length, ◌≤◌, IfOk};
+ghost use Rattle.rwsp_file.specs.Reading.{symbol_in, symbol_at, pair_at, triple_at, pairs_at, triples_at, nothing_of, sequences_at};
+ghost use Rattle.rwsp_file.specs.Reads.{Reads, ReadsUnless, GivesUnless};
+
+use crate::FileRefusal;
+use crate::cursor::Cursor;
+use crate::fields::Frame;
+use crate::shifts::Shifts;
+use rwsp_model::{Fail, Symbol};
+use std::alloc::Global;
+
+fn symbol_in(shifts: &Shifts, name: &[u8]) -> Option<Symbol>
+    requires { length shifts.now ≤ 8 }
+    ensures { result ≡ symbol_in shifts.now name.now }
+{
+    if name == b"-".as_slice() {
+        return Some(Symbol::OFF);
+    }
+    match shifts.place(name) {
+        Some(place) => Some(Symbol {
+            number: place as u8 + 1,
+        }),
+        None => None,
+    }
+}
+
+#[tactic(auto, unfolding(crate::specs::Reading::symbol_at))]
+fn read_symbol(shifts: &Shifts, cursor: &mut Cursor) -> Result<Symbol, FileRefusal>
+    requires { length shifts.now ≤ 8 }
+    ensures { Reads (symbol_at shifts.now cursor.old) result cursor.new }
+{
+    let word = cursor.next()?;
+    match symbol_in(shifts, word.text()) {
+        Some(symbol) => Ok(symbol),
+        None => Err(FileRefusal::Unknown(word.line())),
+    }
+}
+
+#[tactic(auto, unfolding(crate::specs::Reading::pair_at))]
+fn read_pair(shifts: &Shifts, cursor: &mut Cursor) -> Result<(Symbol, Symbol), FileRefusal>
+    requires { length shifts.now ≤ 8 }
+    ensures { Reads (pair_at shifts.now cursor.old) result cursor.new }
+{
+    let first = read_symbol(shifts, cursor)?;
+    let second = read_symbol(shifts, cursor)?;
+    Ok((first, second))
+}
+
+#[tactic(auto, unfolding(crate::specs::Reading::triple_at))]
+fn read_triple(
+    shifts: &Shifts,
+    cursor: &mut Cursor,
+) -> Result<(Symbol, Symbol, Symbol), FileRefusal>
+    requires { length shifts.now ≤ 8 }
+    ensures { Reads (triple_at shifts.now cursor.old) result cursor.new }
+{
+    let first = read_symbol(shifts, cursor)?;
+    let second = read_symbol(shifts, cursor)?;
+    let third = read_symbol(shifts, cursor)?;
+    Ok((first, second, third))
+}
+
+// Reads so many pairs.
+#[tactic(auto, using(crate::proofs::ManySteps::many_ok, crate::proofs::ManySteps::loop_err, crate::proofs::ManySteps::loop_done))]
+fn read_pairs(
+    alloc: Global,
+    shifts: &Shifts,
+    count: u32,
+    cursor: &mut Cursor,
+) -> Result<Vec<(Symbol, Symbol)>, Fail<FileRefusal>>
+    requires { length shifts.now ≤ 8 }
+    ensures { ReadsUnless (λ v. v.items) (pairs_at shifts.now count cursor.old) result cursor.new }
+{
+    let mut pairs = Vec::new(alloc);
+    for i in 0..count {
+        let pair = match read_pair(shifts, cursor) {
+            Ok(pair) => pair,
+            Err(refusal) => return Err(Fail::Refused(refusal)),
+        };
+        if pairs.push(pair).is_err() {
+            return Err(Fail::Memory);
+        }
+    }
+    Ok(pairs)
+}
+
+// Reads so many triples.
+#[tactic(auto, using(crate::proofs::ManySteps::many_ok, crate::proofs::ManySteps::loop_err, crate::proofs::ManySteps::loop_done))]
+fn read_triples(
+    alloc: Global,
+    shifts: &Shifts,
+    count: u32,
+    cursor: &mut Cursor,
+) -> Result<Vec<(Symbol, Symbol, Symbol)>, Fail<FileRefusal>>
+    requires { length shifts.now ≤ 8 }
+    ensures { ReadsUnless (λ v. v.items) (triples_at shifts.now count cursor.old) result cursor.new }
+{
+    let mut triples = Vec::new(alloc);
+    for i in 0..count {
+        let triple = match read_triple(shifts, cursor) {
+            Ok(triple) => triple,
+            Err(refusal) => return Err(Fail::Refused(refusal)),
+        };
+        if triples.push(triple).is_err() {
+            return Err(Fail::Memory);
+        }
+    }
+    Ok(triples)
+}
+
+// That nothing is left.
+fn read_end(cursor: &mut Cursor) -> Result<(), FileRefusal>
+    ensures { result ≡ nothing_of cursor.old.lexemes }
+{
+    match cursor.pop() {
+        Some(word) => Err(FileRefusal::Extra(word.line())),
+        None => Ok(()),
+    }
+}
+
+type Sequences = (Vec<(Symbol, Symbol)>, Vec<(Symbol, Symbol, Symbol)>);
+
+/// Reads the pairs and the triples, with which a text ends.
+#[tactic(auto, unfolding(crate::specs::Reading::sequences_at))]
+pub fn read_sequences(
+    alloc: Global,
+    shifts: &Shifts,
+    frame: Frame,
+    cursor: &mut Cursor,
+) -> Result<Sequences, Fail<FileRefusal>>
+    requires { length shifts.now ≤ 8 }
+    ensures { GivesUnless (λ s. (s.0.items, s.1.items)) (sequences_at shifts.now frame cursor.old) result }
+{
+    let pairs = read_pairs(alloc, shifts, frame.pairs, cursor)?;
+    let triples = read_triples(alloc, shifts, frame.triples, cursor)?;
+    match read_end(cursor) {
+        Ok(()) => Ok((pairs, triples)),
+        Err(refusal) => Err(Fail::Refused(refusal)),
+    }
+}
