@@ -114,7 +114,3 @@ empty_part (y ∷ before) part after h = absurd (cc)
 pub empty_clean : (P : Instance) (R : List ℕ) → Clean P R []
 empty_clean P R before part after whole r named bad =
     nothing_bad P r (subst (Bad P r) (empty_part before part after whole) bad)
-
-pub front_clean : (P : Instance) (R : List ℕ) (front rest : List Symbol) → Clean P R (front ++ rest) → Clean P R front
-front_clean P R front rest clean before part after whole r named bad =
-    clean before part (after ++ rest) (ap (λ u. u ++ rest) whole ∙ append_assoc (before ++ part) after rest) r named bad

@@ -1,5 +1,5 @@
-// Laws of the definitions. Each function's contract is the law.
-ghost use Rattle.std.specs.Prelude.{ℕ, List, [], ◌++◌};
+// A law of the definitions. The function's contract is the law.
+ghost use Rattle.std.specs.Prelude.{ℕ, List, []};
 ghost use Rattle.rwsp_terms.specs.declared.data.Symbol.{Symbol};
 ghost use Rattle.rwsp_terms.specs.Instance.{Instance};
 ghost use Rattle.refutation_terms.specs.Word.{Clean};
@@ -7,9 +7,4 @@ ghost use Rattle.refutation_terms.specs.Word.{Clean};
 /// The empty word is clean for every list.
 pub fn empty_word_is_clean()
     ensures { (P : Instance) (R : List ℕ) → Clean P R [] }
-{}
-
-/// The fronts of a clean word are clean.
-pub fn fronts_are_clean()
-    ensures { (P : Instance) (R : List ℕ) (front rest : List Symbol) → Clean P R (front ++ rest) → Clean P R front }
 {}

@@ -10,6 +10,6 @@ mod tail_rules;
 #[cfg(test)]
 mod tests;
 
-pub use laws::{empty_word_is_clean, fronts_are_clean};
+pub use laws::empty_word_is_clean;
 pub use tail::Tail;
 pub use tail_rules::TailRules;
