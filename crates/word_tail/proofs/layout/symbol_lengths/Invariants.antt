@@ -1,0 +1,11 @@
+use Rattle.std.proofs.Common.{◌≡◌, ℕ, ◌<◌, length}
+use Rattle.std.specs.Prelude.{slice_index_or}
+use Rattle.word_tail.specs.Ends.{class_numbered}
+use Rattle.word_tail.specs.Tables.{AreLengths, no_lengths}
+use Rattle.word_tail.proofs.layout.symbol_lengths.Given as goal
+
+abbrev pub invariant-loop-number : goal.invariant-loop-number
+invariant-loop-number l = record {
+  long : length l.symbols ≡ 9;
+  below : (k : ℕ) → k < l.number → AreLengths l.problem l.list (class_numbered k) (slice_index_or l.symbols k no_lengths);
+}

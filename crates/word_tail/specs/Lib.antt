@@ -1,0 +1,4 @@
+pub mod Tails
+pub mod Ends
+pub mod Tables
+pub mod Listed

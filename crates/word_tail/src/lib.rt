@@ -1,0 +1,15 @@
+//! Tails of words: six facts of a word that decide, with a list of short rules, which symbols may follow it.
+#![tactic(auto)]
+
+mod laws;
+mod layout;
+mod limits;
+mod sharing;
+mod tail;
+mod tail_rules;
+#[cfg(test)]
+mod tests;
+
+pub use laws::empty_word_is_clean;
+pub use tail::Tail;
+pub use tail_rules::TailRules;

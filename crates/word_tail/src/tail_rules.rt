@@ -1,0 +1,78 @@
+ghost use Rattle.std.specs.Prelude.{◌≡◌, ℕ, List, [], ◌∷◌, ◌++◌, MatchOption, IfOk};
+ghost use Rattle.rwsp_terms.specs.Rules.{NamesShortOnly};
+ghost use Rattle.rwsp_terms.specs.declared.data.Symbol.{Symbol};
+ghost use Rattle.refutation_terms.specs.Word.{Clean};
+ghost use Rattle.word_tail.specs.Tails.{tail_of};
+
+use crate::Tail;
+use crate::layout::limits_of;
+use crate::limits::Limits;
+use rwsp_model::{Problem, RuleList};
+use rwsp_terms::Symbol;
+use std::alloc::{AllocError, Global};
+use std::marker::Model;
+
+/// The rules of a list of a problem, laid out so that a word's tail tells which symbols may follow it.
+#[derive(Debug, Drop)]
+pub struct TailRules {
+    problem: Problem,
+    list: RuleList,
+    limits: Limits,
+}
+
+impl Model for TailRules {
+    ghost use Rattle.word_tail.specs.Listed.{Listed};
+    ghost use Rattle.word_tail.specs.Tables.{AreTables};
+
+    ghost Value = { Listed };
+
+    ghost view = { λ t. record { problem = t.problem; rules = t.list } };
+
+    ghost invariant = { λ t. AreTables t.problem t.list t.limits };
+}
+
+impl TailRules {
+    /// Tail rules for a problem and a list of short rules, of which they keep copies.
+    pub fn of(alloc: Global, problem: &Problem, rules: &RuleList) -> Result<TailRules, AllocError>
+        requires { NamesShortOnly problem.now rules.now }
+        ensures { IfOk result (λ t. (t.problem ≡ problem.now) × (t.rules ≡ rules.now)) }
+    {
+        let limits = limits_of(alloc, problem, rules)?;
+        let problem = problem.copy()?;
+        let list = rules.copy()?;
+        Ok(TailRules {
+            problem,
+            list,
+            limits,
+        })
+    }
+
+    /// The problem.
+    pub fn problem(&self) -> &Problem
+        ensures { result.now ≡ self.now.problem }
+    {
+        &self.problem
+    }
+
+    /// The list of rules.
+    pub fn rules(&self) -> &RuleList
+        ensures { result.now ≡ self.now.rules }
+    {
+        &self.list
+    }
+
+    /// The tail of a word with one symbol more, of the tail of the word; None where that symbol makes a word unclean that was clean for the list.
+    /// A run that the word begins with is never too short, since it may have begun before the word.
+    pub fn follow(&self, tail: Tail, x: Symbol) -> Option<Tail>
+        ensures { (w : List Symbol) → Clean self.now.problem self.now.rules w → tail_of w ≡ tail →
+            MatchOption result
+            (¬ Clean self.now.problem self.now.rules (w ++ x ∷ []))
+            (λ t. Clean self.now.problem self.now.rules (w ++ x ∷ []) × (t ≡ tail_of (w ++ x ∷ []))) }
+    {
+        if self.limits.forbid(tail, x) {
+            None
+        } else {
+            Some(tail.longer(x))
+        }
+    }
+}
