@@ -1,7 +1,6 @@
 pub mod Tests
 pub mod Windows
 pub mod Sides
-<<<<<<< HEAD
 pub mod Trees
 pub mod TreeDomains
 pub mod Counts
@@ -31,5 +30,3 @@ pub mod Texts
 pub mod Fronts
 pub mod Causes
 pub mod Unique
-=======
->>>>>>> 1279308e3f56fb6b087d8915e7b93a85b36d7bbd

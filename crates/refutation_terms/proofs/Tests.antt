@@ -1,10 +1,5 @@
 -- Tests of symbols and positions.
-<<<<<<< HEAD
 use Rattle.std.proofs.Common.{◌≡◌, ◌⊎◌, refl, inl, inr, IsTrue, Bool, true, false, ◌&&◌, ◌||◌, not}
-=======
-use Rattle.std.proofs.Common.{◌≡◌, ◌≢◌, ◌⊎◌, ℕ, refl, sym, ap, ◌∙◌, inl, inr, IsTrue, Bool, true, false, ◌&&◌, ◌||◌, ◌==◌, not}
-use Rattle.std.proofs.lemmas.Bool.{eqb-true, eq-eqb, eqb-false}
->>>>>>> 1279308e3f56fb6b087d8915e7b93a85b36d7bbd
 
 pub both : (a b : Bool) → IsTrue a → IsTrue b → IsTrue (a && b)
 both true b h k = k

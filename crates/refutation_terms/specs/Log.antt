@@ -1,5 +1,4 @@
 -- What it means that a log passes, and that it is spent.
-<<<<<<< HEAD
 use Rattle.std.specs.Prelude.{◌≡◌, ◌≢◌, ◌⊎◌, ℕ, ◌*◌, ◌<◌, ◌≤◌, List, [], ◌∷◌, length, slice_get, All, Bool, true, false, Option, Some, None, pos, ◌≤ℤ◌, count_by}
 use Rattle.rwsp_terms.specs.declared.data.Weight.{Weight}
 use Rattle.rwsp_terms.specs.declared.data.Rule.{Rule}
@@ -8,16 +7,6 @@ use Rattle.std.specs.List.Sorted.{IsStrictlyIncreasing}
 use Rattle.rwsp_terms.specs.Instance.{Instance, cells, least, IsSymbol, IsDay}
 use Rattle.rwsp_terms.specs.Rules.{rules, Names, NamesShortOnly}
 use Rattle.rwsp_terms.specs.Weights.{weight_at, AreWeights}
-=======
-use Rattle.std.specs.Prelude.{◌≡◌, ◌≢◌, ◌⊎◌, ℕ, suc, ◌+◌, ◌<◌, ◌≤◌, List, [], ◌∷◌, length, slice_get, Bool, true, false, Option, Some, None, ℤ, pos, ◌≤ℤ◌, count_by}
-use Rattle.rwsp_terms.specs.declared.data.Symbol.{Symbol}
-use Rattle.rwsp_terms.specs.declared.data.Weight.{Weight}
-use Rattle.rwsp_terms.specs.declared.data.Rule.{Rule}
-use Rattle.rwsp_terms.specs.declared.data.Rule.TheVariants as TheRules
-use Rattle.rwsp_terms.specs.Instance.{Instance, least, IsSymbol}
-use Rattle.rwsp_terms.specs.Rules.{Names, NamesShortOnly}
-use Rattle.rwsp_terms.specs.Weights.{weight_at}
->>>>>>> 1279308e3f56fb6b087d8915e7b93a85b36d7bbd
 use Rattle.refutation_terms.specs.declared.lines.Line.{Line}
 use Rattle.refutation_terms.specs.declared.lines.Line.TheVariants.{Split, Window, Day, Dead, Bound, Unfinished}
 use Rattle.refutation_terms.specs.declared.lines.Turn.{Turn}
@@ -31,7 +20,6 @@ pub record Log : Type 0 where
   pub turn : Option Turn
   pub lines : List Line
 
-<<<<<<< HEAD
 -- the lengths of words that a leaf may speak of
 abbrev pub IsLength : ℕ → Type 0
 IsLength len = (0 < len) × (len ≤ 16800)
@@ -64,8 +52,6 @@ pub record Fits (P : Instance) (g : Log) : Type 0 where
   pub turn : TurnFits P g.turn
   pub lines : (k : ℕ) (line : Line) → slice_get g.lines k ≡ Some line → LineFits P line
 
-=======
->>>>>>> 1279308e3f56fb6b087d8915e7b93a85b36d7bbd
 -- a split that isn't idle, or a leaf that holds
 abbrev pub Holds : Instance → Domains → Line → Type 0
 Holds P D (Split p x) = is_idle P D p x.number ≡ false
@@ -97,11 +83,7 @@ TurnCites (Some t) r = r ≡ TheRules.Day t.day
 -- a turn is to a symbol that some week must hold on its day
 abbrev pub IsAllowed : Instance → Option Turn → Type 0
 IsAllowed P None = Unit {0}
-<<<<<<< HEAD
 IsAllowed P (Some t) = pos 1 ≤ℤ least P t.x.number t.day
-=======
-IsAllowed P (Some t) = IsSymbol P t.x × (pos 1 ≤ℤ least P t.x.number t.day)
->>>>>>> 1279308e3f56fb6b087d8915e7b93a85b36d7bbd
 
 -- the lists of dead and bound leaves hold short rules only
 abbrev pub ListsShortOnly : Instance → Line → Type 0
@@ -113,14 +95,9 @@ ListsShortOnly P line = Unit {0}
 abbrev pub HoldsAt : Instance → Log → ℕ → Line → Type 0
 HoldsAt P g k line = Holds P (domains_at P g.turn g.lines k) line
 
-<<<<<<< HEAD
 -- the log fits the problem, its turn is allowed, each cited rule is named, and lists hold short rules only
 pub record IsGrounded (P : Instance) (g : Log) : Type 0 where
   pub fits : Fits P g
-=======
--- the turn is allowed, each cited rule is named, and lists hold short rules only
-pub record IsGrounded (P : Instance) (g : Log) : Type 0 where
->>>>>>> 1279308e3f56fb6b087d8915e7b93a85b36d7bbd
   pub turn : IsAllowed P g.turn
   pub turn_named : (r : Rule) → TurnCites g.turn r → Names P g.named r
   pub named : (k : ℕ) (line : Line) (r : Rule) → slice_get g.lines k ≡ Some line → Cites P line r → Names P g.named r
@@ -132,13 +109,10 @@ pub record Passes (P : Instance) (g : Log) : Type 0 where
   pub tree : IsTree g.lines
   pub holds : (k : ℕ) (line : Line) → slice_get g.lines k ≡ Some line → HoldsAt P g k line
 
-<<<<<<< HEAD
 -- the header names no rule that neither a line nor the turn cites
 abbrev pub NamesOnlyCited : Instance → Log → Type 0
 NamesOnlyCited P g = (r : Rule) → Names P g.named r → TurnCites g.turn r ⊎ ((k : ℕ) × (line : Line) × (slice_get g.lines k ≡ Some line) × Cites P line r)
 
-=======
->>>>>>> 1279308e3f56fb6b087d8915e7b93a85b36d7bbd
 -- every line but an unfinished one
 abbrev pub is_worked : Line → Bool
 is_worked Unfinished = false

@@ -1,9 +1,5 @@
 -- The tree that the lines of a log form, and the domains at a line.
-<<<<<<< HEAD
 use Rattle.std.specs.Prelude.{◌≡◌, ℕ, zero, suc, ◌-◌, List, [], ◌∷◌, ◌++◌, take, Bool, true, Option, Some, None, ◌&&◌, ◌||◌, ◌==◌, not}
-=======
-use Rattle.std.specs.Prelude.{◌≡◌, ℕ, zero, suc, ◌-◌, List, [], ◌∷◌, ◌++◌, take, Bool, true, false, Option, Some, None, ◌&&◌, ◌||◌, ◌==◌, not}
->>>>>>> 1279308e3f56fb6b087d8915e7b93a85b36d7bbd
 use Rattle.rwsp_terms.specs.declared.data.Symbol.{Symbol}
 use Rattle.rwsp_terms.specs.Instance.{Instance}
 use Rattle.refutation_terms.specs.declared.lines.Line.{Line}
@@ -31,12 +27,8 @@ lines_in (Node p x first second) = Split p x ∷ lines_in first ++ lines_in seco
 abbrev pub IsTree : List Line → Type 0
 IsTree lines = (t : Tree) × (lines_in t ≡ lines)
 
-<<<<<<< HEAD
 -- what follows the first n whole trees of the lines, or None where the lines end before.
 -- The laws `trees_are_as_said` and `domains_are_as_said` tie this walk from the front, and what rests on it, to words
-=======
--- what follows the first n whole trees of the lines, or None where the lines end before
->>>>>>> 1279308e3f56fb6b087d8915e7b93a85b36d7bbd
 abbrev pub after_trees : ℕ → List Line → Option (List Line)
 after_trees zero lines = Some lines
 after_trees (suc n) [] = None
@@ -49,7 +41,6 @@ pub data Side : Type 0 where
   Second : Side
   Neither : Side
 
-<<<<<<< HEAD
 -- by what follows one whole tree, and what follows two
 abbrev pub side_of : Option (List Line) → Option (List Line) → Side
 side_of None two = First
@@ -67,19 +58,6 @@ InFirst between = (front rest : List Line) → between ≡ front ++ rest → IsT
 -- and in the second side where a whole tree is in front, and no front of what follows is one
 abbrev pub InSecond : List Line → Type 0
 InSecond between = (front : List Line) × (rest : List Line) × (between ≡ front ++ rest) × IsTree front × InFirst rest
-=======
-abbrev pub side_past_first : Option (List Line) → Side
-side_past_first None = Second
-side_past_first (Some lines) = Neither
-
-abbrev pub side_past_split : Option (List Line) → Side
-side_past_split None = First
-side_past_split (Some lines) = side_past_first (after_trees 1 lines)
-
--- the side by the lines between: the first until they have a whole tree in front, then the second until they have another
-abbrev pub side : List Line → Side
-side between = side_past_split (after_trees 1 between)
->>>>>>> 1279308e3f56fb6b087d8915e7b93a85b36d7bbd
 
 -- the first side takes the symbol of the split alone, the second side all others
 abbrev pub side_takes : Side → Bool → Bool

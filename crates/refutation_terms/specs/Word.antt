@@ -1,20 +1,12 @@
 -- Words over domains, clean words, and what words weigh.
-<<<<<<< HEAD
 use Rattle.std.specs.Prelude.{◌≡◌, ℕ, ◌+◌, ◌*◌, ◌%◌, ◌<◌, ◌≤◌, List, [], ◌∷◌, ◌++◌, Bool, IsTrue, nat_le, ℤ, pos, ◌+ℤ◌, ◌*ℤ◌, slice_index_or}
-=======
-use Rattle.std.specs.Prelude.{◌≡◌, ℕ, suc, ◌+◌, ◌*◌, ◌%◌, ◌<◌, ◌≤◌, List, [], ◌∷◌, ◌++◌, Bool, IsTrue, nat_le, ℤ, pos, ◌+ℤ◌, ◌*ℤ◌, slice_index_or}
->>>>>>> 1279308e3f56fb6b087d8915e7b93a85b36d7bbd
 use Rattle.std.specs.Int.{int_min}
 use Rattle.std.specs.List.{range_with_len}
 use Rattle.rwsp_terms.specs.declared.data.Symbol.{Symbol}
 use Rattle.rwsp_terms.specs.declared.data.Weight.{Weight}
 use Rattle.rwsp_terms.specs.declared.data.Rule.{Rule}
 use Rattle.rwsp_terms.specs.Instance.{Instance, cells, shift_count, least, greatest}
-<<<<<<< HEAD
 use Rattle.rwsp_terms.specs.Window.{Bad, off_symbol, window}
-=======
-use Rattle.rwsp_terms.specs.Window.{Bad, off_symbol}
->>>>>>> 1279308e3f56fb6b087d8915e7b93a85b36d7bbd
 use Rattle.rwsp_terms.specs.Roster.{IsRoster}
 use Rattle.rwsp_terms.specs.Rules.{Names}
 use Rattle.rwsp_terms.specs.Weights.{weight_at}
@@ -37,13 +29,10 @@ pub record Within (P : Instance) (D : Domains) (s : List Symbol) : Type 0 where
   pub is_roster : IsRoster P s
   pub each : (p : ℕ) → p < cells P → IsTrue (D p (slice_index_or s p off_symbol).number)
 
-<<<<<<< HEAD
 -- the roster that begins k weeks later, round the cycle
 abbrev pub turned : Instance → ℕ → List Symbol → List Symbol
 turned P k s = window s (k * P.days) (cells P)
 
-=======
->>>>>>> 1279308e3f56fb6b087d8915e7b93a85b36d7bbd
 -- a word whose symbols are in the domains of the positions from p on, round the cycle. Where it passes a position twice it may take two symbols there
 abbrev pub Over : Instance → Domains → ℕ → List Symbol → Type 0
 Over P D p [] = Unit {0}

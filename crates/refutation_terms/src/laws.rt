@@ -1,5 +1,4 @@
 // Laws of the definitions. Each function's contract is the law, and specs/Laws.antt states it.
-<<<<<<< HEAD
 ghost use Rattle.refutation_terms.specs.Laws.{TreesAreAsSaid, WalksReadTrees, SidesAreAsSaid, DomainsAreAsSaid, IdleIsAsSaid, OverIsAsSaid, DomainsAreNeverEmpty, WindowsAreOver, SidesTakeAll, SidesShareNone, WindowsAreClean, PartsAreClean, FewerRulesAreClean, WindowsWeighEnough, WindowsWeighExactly, TurningKeepsRules, TurningKeepsLists, SomeTurnHasIt, PassingLeavesNoRoster, PassingIsNotSpent};
 ghost use Rattle.refutation_terms.specs.Spelling.{SpelledLinesFit, FittingLinesAreSpelled, TextsAreDistinct, VerdictIsUnique};
 
@@ -9,11 +8,6 @@ pub fn passing_leaves_no_roster()
 {}
 
 /// Within the domains, every window of a roster is a word over them, from every position, for every length.
-=======
-ghost use Rattle.refutation_terms.specs.Laws.{WindowsAreOver, SidesTakeAll, SidesShareNone, WindowsAreClean};
-
-/// Within the domains, every window of a roster is a word over them.
->>>>>>> 1279308e3f56fb6b087d8915e7b93a85b36d7bbd
 pub fn windows_are_over()
     ensures { WindowsAreOver }
 {}
@@ -28,7 +22,6 @@ pub fn sides_part_rosters()
 pub fn windows_are_clean()
     ensures { WindowsAreClean }
 {}
-<<<<<<< HEAD
 
 /// A window of whole turns of a roster that meets the days weighs at least so many times the total; with single
 /// numbers exactly so.
@@ -99,5 +92,3 @@ pub fn texts_are_distinct()
 pub fn the_verdict_is_unique()
     ensures { VerdictIsUnique }
 {}
-=======
->>>>>>> 1279308e3f56fb6b087d8915e7b93a85b36d7bbd

@@ -5,7 +5,6 @@ use rwsp_terms::{RuleList, Symbol, Weights, Word};
 #[derive(Debug, Drop)]
 pub enum Line {
     /// First the rosters that hold `x` at position `p`, then those that don't.
-<<<<<<< HEAD
     Split {
         p: u32,
         x: Symbol,
@@ -28,15 +27,6 @@ pub enum Line {
         len: u32,
         rules: RuleList,
     },
-=======
-    Split { p: u32, x: Symbol },
-    /// Every word of `len` days from position `p` is bad for the rule.
-    Window { rule: u32, p: u32, len: u32 },
-    /// Too many cells of a day hold `x` for sure, or too few still can.
-    Day { day: u32, x: Symbol, over: bool },
-    /// No word of `len` days from position `p` is clean for the rules.
-    Dead { p: u32, len: u32, rules: RuleList },
->>>>>>> 1279308e3f56fb6b087d8915e7b93a85b36d7bbd
     /// Every clean word of so many turns from position `p` weighs less than the demand asks for.
     Bound {
         p: u32,
