@@ -11,3 +11,4 @@ pub mod Whole
 pub mod WordForms
 pub mod Valid
 pub mod TextLaws
+pub mod PrintSteps
