@@ -24,11 +24,11 @@ numbered n (line ∷ lines) = map (lexeme n) line ++ numbered (n + 1) lines
 
 word_at : (n : ℕ) (word : List ℕ) (rest : List ℕ) → IsPrinted word → lexemes_from n (word ++ 32 ∷ rest) ≡ lexeme n word ∷ lexemes_from n (32 ∷ rest)
 word_at n [] rest h = absurd h
-word_at n (b ∷ bs) rest h = at_word n b bs (32 ∷ rest) h.0 h.1 tt
+word_at n (b ∷ bs) rest h = at_word n b bs (32 ∷ rest) h.0 h.1 refl
 
 last_word_at : (n : ℕ) (word : List ℕ) (rest : List ℕ) → IsPrinted word → lexemes_from n (word ++ 10 ∷ rest) ≡ lexeme n word ∷ lexemes_from n (10 ∷ rest)
 last_word_at n [] rest h = absurd h
-last_word_at n (b ∷ bs) rest h = at_word n b bs (10 ∷ rest) h.0 h.1 tt
+last_word_at n (b ∷ bs) rest h = at_word n b bs (10 ∷ rest) h.0 h.1 refl
 
 line_lexemes : (n : ℕ) (words : List (List ℕ)) (rest : List ℕ) → AllByRecursion IsPrinted words → lexemes_from n (joined words ++ 10 ∷ rest) ≡ map (lexeme n) words ++ lexemes_from (n + 1) rest
 line_lexemes n [] rest h = at_line_end n rest
