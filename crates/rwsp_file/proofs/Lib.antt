@@ -12,3 +12,4 @@ pub mod WordForms
 pub mod Valid
 pub mod TextLaws
 pub mod PrintSteps
+pub mod Printing

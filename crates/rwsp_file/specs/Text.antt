@@ -5,6 +5,7 @@ use Rattle.std.specs.Fmt.{decimal}
 use Rattle.rwsp_terms.specs.Instance.{Instance, name_of}
 use Rattle.rwsp_terms.specs.declared.data.Bounds.{Bounds}
 use Rattle.rwsp_terms.specs.declared.data.ShiftRow.{ShiftRow}
+use Rattle.rwsp_terms.specs.declared.data.Symbol.{Symbol}
 
 -- a demand: one number where the two are equal, else both with `..` between them
 abbrev pub demand_text : Bounds → List ℕ
@@ -17,6 +18,12 @@ bounds_words b = decimal b.least ∷ decimal b.greatest ∷ []
 abbrev pub shift_words : ShiftRow → List (List ℕ)
 shift_words row = row.name ∷ decimal row.start ∷ decimal row.length ∷ bounds_words row.bounds
 
+abbrev pub pair_words : Instance → Symbol × Symbol → List (List ℕ)
+pair_words P x = name_of P x.0 ∷ name_of P x.1 ∷ []
+
+abbrev pub triple_words : Instance → Symbol × Symbol × Symbol → List (List ℕ)
+triple_words P x = name_of P x.0 ∷ name_of P x.1 ∷ name_of P x.2 ∷ []
+
 -- the words of each line
 abbrev pub lines_of_words : Instance → List (List (List ℕ))
 lines_of_words P =
@@ -28,8 +35,8 @@ lines_of_words P =
     ++ (bounds_words P.off
     ∷ bounds_words P.work
     ∷ (decimal (length P.pairs) ∷ decimal (length P.triples) ∷ [])
-    ∷ (map (λ x. name_of P x.0 ∷ name_of P x.1 ∷ []) P.pairs
-    ++ map (λ x. name_of P x.0 ∷ name_of P x.1 ∷ name_of P x.2 ∷ []) P.triples))))
+    ∷ (map (pair_words P) P.pairs
+    ++ map (triple_words P) P.triples))))
 
 -- words with single blanks between them
 abbrev pub joined : List (List ℕ) → List ℕ
