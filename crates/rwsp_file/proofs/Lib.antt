@@ -13,3 +13,4 @@ pub mod Valid
 pub mod TextLaws
 pub mod PrintSteps
 pub mod Printing
+pub mod TextSteps

@@ -1,8 +1,8 @@
 -- The canonical text of an instance.
-use Rattle.std.specs.Prelude.{ℕ, List, [], ◌∷◌, ◌++◌, length, map, ◌==◌, if◌then◌else◌}
+use Rattle.std.specs.Prelude.{ℕ, List, [], ◌∷◌, ◌++◌, length, map, slice_index_or, ◌==◌, if◌then◌else◌}
 use Rattle.std.specs.List.{flat_map}
 use Rattle.std.specs.Fmt.{decimal}
-use Rattle.rwsp_terms.specs.Instance.{Instance, name_of}
+use Rattle.rwsp_terms.specs.Instance.{Instance, name_of, no_bounds}
 use Rattle.rwsp_terms.specs.declared.data.Bounds.{Bounds}
 use Rattle.rwsp_terms.specs.declared.data.ShiftRow.{ShiftRow}
 use Rattle.rwsp_terms.specs.declared.data.Symbol.{Symbol}
@@ -50,3 +50,18 @@ line_text words = joined words ++ 10 ∷ []
 -- the canonical text: no comments, single blanks, and a line feed at each line's end
 abbrev pub problem_text : Instance → List ℕ
 problem_text P = flat_map line_text (lines_of_words P)
+
+-- by places, counted from 0: the demands of a shift, the demand of a shift on a day, and a shift
+
+abbrev pub row_at : Instance → ℕ → List Bounds
+row_at P k = slice_index_or P.demand k []
+
+abbrev pub range_at : Instance → ℕ → ℕ → Bounds
+range_at P k i = slice_index_or (row_at P k) i no_bounds
+
+-- no shift, in place of one that isn't there
+abbrev pub no_shift : ShiftRow
+no_shift = record { name = []; start = 0; length = 0; bounds = no_bounds }
+
+abbrev pub shift_at : Instance → ℕ → ShiftRow
+shift_at P k = slice_index_or P.shifts k no_shift

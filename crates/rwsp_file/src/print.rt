@@ -3,7 +3,7 @@ ghost use Rattle.std.specs.Prelude.{◌≡◌, ℕ, ◌+◌, ◌-◌, ◌<◌, �
 ghost use Rattle.std.specs.List.{flat_map};
 ghost use Rattle.std.specs.Fmt.{decimal};
 ghost use Rattle.rwsp_terms.specs.Instance.{name_of, IsSymbol};
-ghost use Rattle.rwsp_file.specs.Text.{demand_text, bounds_words, line_text, pair_words, triple_words, problem_text};
+ghost use Rattle.rwsp_file.specs.Text.{demand_text, bounds_words, line_text, pair_words, triple_words, problem_text, range_at, row_at, shift_at, shift_words};
 
 use rwsp_model::{Bounds, Problem, Symbol};
 use rwsp_text::put_number;
@@ -74,4 +74,43 @@ fn put_triple(out: &mut Vec<u8>, problem: &Problem, triple: (Symbol, Symbol, Sym
     put_name_and(out, problem, triple.0, b' ')?;
     put_name_and(out, problem, triple.1, b' ')?;
     put_name_and(out, problem, triple.2, b'\n')
+}
+
+// The demand of a shift on a day, both counted from 0.
+fn range_at(problem: &Problem, place: u8, day: u32) -> Bounds
+    requires place { place < length problem.now.shifts }
+    requires day { day < problem.now.days }
+    ensures { result ≡ range_at problem.now place day }
+{
+    problem.keeps_limits();
+    let shift = Symbol { number: place + 1 };
+    let least = problem.demand_least(shift, day + 1);
+    let greatest = problem.demand_greatest(shift, day + 1);
+    Bounds {
+        least: least as u32,
+        greatest: greatest as u32,
+    }
+}
+
+// A blank and a demand.
+fn put_next_demand(out: &mut Vec<u8>, range: Bounds) -> Result<(), AllocError>
+    ensures { OnOk result (out.new.items ≡ out.old.items ++ 32 ∷ demand_text range) }
+{
+    put_byte(out, b' ')?;
+    put_demand(out, range)
+}
+
+// A line of the demands of a shift.
+#[tactic(auto, using(crate::proofs::TextSteps::demand_first, crate::proofs::TextSteps::demand_more, crate::proofs::TextSteps::demand_line))]
+fn put_demand_row(out: &mut Vec<u8>, problem: &Problem, place: u8) -> Result<(), AllocError>
+    requires { place < length problem.now.shifts }
+    ensures { OnOk result (out.new.items ≡ out.old.items ++ line_text (map demand_text (row_at problem.now place))) }
+{
+    problem.keeps_limits();
+    let days = problem.days();
+    put_demand(out, range_at(problem, place, 0))?;
+    for day in 1..days {
+        put_next_demand(out, range_at(problem, place, day))?;
+    }
+    put_byte(out, b'\n')
 }
