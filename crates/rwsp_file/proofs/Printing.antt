@@ -203,12 +203,12 @@ sequences_spelled : (P : Instance) → Spelled (sequence_fields P) (map (pair_wo
 sequences_spelled P =
     many_spelled (λ _. Unit {0}) (pair_fields P) (pair_words P) (λ x good m fs ws s. (refl, (refl, s))) P.pairs (flat_map (triple_fields P) P.triples) (map (triple_words P) P.triples) (all_of P.pairs) (triples_spelled P)
 
-abbrev frame_lines : Instance → List (List (List ℕ))
-frame_lines P =
+abbrev frame_and_rest : Instance → List (List (List ℕ))
+frame_and_rest P =
     bounds_words P.off ∷ bounds_words P.work ∷ (decimal (length P.pairs) ∷ decimal (length P.triples) ∷ [])
     ∷ (map (pair_words P) P.pairs ++ map (triple_words P) P.triples)
 
-frame_spelled : (P : Instance) → KeepsLimits P → Spelled (fields_from_frame P) (frame_lines P)
+frame_spelled : (P : Instance) → KeepsLimits P → Spelled (fields_from_frame P) (frame_and_rest P)
 frame_spelled P k n =
     let pairs : IsShortNumber (length P.pairs) = omega (arith, k.few_pairs) in
     let triples : IsShortNumber (length P.triples) = omega (arith, k.few_triples) in
@@ -222,8 +222,8 @@ lines_spelled P k n =
     let weeks : IsShortNumber P.weeks = omega (arith, k.few_weeks) in
     let shifts : IsShortNumber (length P.shifts) = omega (arith, k.few_shifts) in
     (printed_is_read P.days days, (printed_is_read P.weeks weeks, (printed_is_read (length P.shifts) shifts,
-      many_spelled (AllByRecursion IsSmallRange) (map DemandField) (map demand_text) demand_row_spelled P.demand (fields_from_shifts P) (map shift_words P.shifts ++ frame_lines P) (demand_printed P k)
-        (shifts_spelled P.shifts (fields_from_frame P) (frame_lines P) (rows_printed P k) (frame_spelled P k)) (n + 1 + 1 + 1))))
+      many_spelled (AllByRecursion IsSmallRange) (map DemandField) (map demand_text) demand_row_spelled P.demand (fields_from_shifts P) (map shift_words P.shifts ++ frame_and_rest P) (demand_printed P k)
+        (shifts_spelled P.shifts (fields_from_frame P) (frame_and_rest P) (rows_printed P k) (frame_spelled P k)) (n + 1 + 1 + 1))))
 
 pub canonical_spells : (P : Instance) → IsValid P → SpellsProblem (problem_text P) P
 canonical_spells P valid =

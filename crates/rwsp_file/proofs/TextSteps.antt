@@ -8,7 +8,8 @@ use Rattle.std.proofs.lemmas.Option.{slice_get-get_or}
 use Rattle.rwsp_terms.specs.Instance.{Instance, least, greatest, shift_demand, range_in, no_bounds, name_numbered, name_in, bounds_of}
 use Rattle.rwsp_terms.specs.declared.data.Bounds.{Bounds}
 use Rattle.rwsp_terms.specs.declared.data.ShiftRow.{ShiftRow}
-use Rattle.rwsp_file.specs.Text.{joined, line_text, demand_text, range_at, row_at, shift_at, no_shift}
+use Rattle.rwsp_file.specs.Text.{joined, line_text, demand_text, range_at, row_at, shift_at, no_shift, size_lines, frame_lines, shift_words, pair_words, triple_words, problem_text}
+use Rattle.std.proofs.lemmas.Grind.{flat_map-append}
 
 -- one more word of a line
 joined_push : (words : List (List ℕ)) (word : List ℕ) → 0 < length words → joined (words ++ word ∷ []) ≡ joined words ++ 32 ∷ word
@@ -97,3 +98,21 @@ name_at P k less =
 
 pub row_of_place : (P : Instance) (k : ℕ) → k < length P.shifts → slice_get P.shifts (k + 1 - 1) ≡ Some (shift_at P k)
 row_of_place P k less = ap (slice_get P.shifts) (place_at k) ∙ slice_get-get_or P.shifts k no_shift less
+
+-- two parts behind another are one
+behind : (xs ys : List (List (List ℕ))) (a b c : List ℕ) → b ≡ a ++ flat_map line_text xs → c ≡ b ++ flat_map line_text ys → c ≡ a ++ flat_map line_text (xs ++ ys)
+behind xs ys a b c hb hc =
+    hc ∙ ap (λ t. t ++ flat_map line_text ys) hb ∙ append_assoc a (flat_map line_text xs) (flat_map line_text ys)
+    ∙ ap (λ t. a ++ t) (sym (flat_map-append line_text xs ys))
+
+-- the parts of a text, one behind another
+pub whole_text : (P : Instance) (a b c d e f : List ℕ) → a ≡ flat_map line_text (size_lines P) → b ≡ a ++ flat_map line_text (map (map demand_text) P.demand) → c ≡ b ++ flat_map line_text (map shift_words P.shifts) →
+    d ≡ c ++ flat_map line_text (frame_lines P) → e ≡ d ++ flat_map line_text (map (pair_words P) P.pairs) → f ≡ e ++ flat_map line_text (map (triple_words P) P.triples) → f ≡ problem_text P
+whole_text P a b c d e f ha hb hc hd he hf =
+    let s1 : f ≡ d ++ flat_map line_text (map (pair_words P) P.pairs ++ map (triple_words P) P.triples) = behind (map (pair_words P) P.pairs) (map (triple_words P) P.triples) d e f he hf in
+    let s2 : f ≡ c ++ flat_map line_text (frame_lines P ++ (map (pair_words P) P.pairs ++ map (triple_words P) P.triples)) = behind (frame_lines P) (map (pair_words P) P.pairs ++ map (triple_words P) P.triples) c d f hd s1 in
+    let s3 : f ≡ b ++ flat_map line_text (map shift_words P.shifts ++ (frame_lines P ++ (map (pair_words P) P.pairs ++ map (triple_words P) P.triples))) =
+        behind (map shift_words P.shifts) (frame_lines P ++ (map (pair_words P) P.pairs ++ map (triple_words P) P.triples)) b c f hc s2 in
+    let s4 : f ≡ a ++ flat_map line_text (map (map demand_text) P.demand ++ (map shift_words P.shifts ++ (frame_lines P ++ (map (pair_words P) P.pairs ++ map (triple_words P) P.triples)))) =
+        behind (map (map demand_text) P.demand) (map shift_words P.shifts ++ (frame_lines P ++ (map (pair_words P) P.pairs ++ map (triple_words P) P.triples))) a b f hb s3 in
+    behind (size_lines P) (map (map demand_text) P.demand ++ (map shift_words P.shifts ++ (frame_lines P ++ (map (pair_words P) P.pairs ++ map (triple_words P) P.triples)))) [] a f ha s4

@@ -24,18 +24,22 @@ pair_words P x = name_of P x.0 ∷ name_of P x.1 ∷ []
 abbrev pub triple_words : Instance → Symbol × Symbol × Symbol → List (List ℕ)
 triple_words P x = name_of P x.0 ∷ name_of P x.1 ∷ name_of P x.2 ∷ []
 
+-- a line each for the days, the weeks and the number of shifts
+abbrev pub size_lines : Instance → List (List (List ℕ))
+size_lines P = (decimal P.days ∷ []) ∷ (decimal P.weeks ∷ []) ∷ (decimal (length P.shifts) ∷ []) ∷ []
+
+-- a line each for the bounds of days off, those of work, and the numbers of pairs and triples
+abbrev pub frame_lines : Instance → List (List (List ℕ))
+frame_lines P = bounds_words P.off ∷ bounds_words P.work ∷ (decimal (length P.pairs) ∷ decimal (length P.triples) ∷ []) ∷ []
+
 -- the words of each line
 abbrev pub lines_of_words : Instance → List (List (List ℕ))
 lines_of_words P =
-    (decimal P.days ∷ [])
-    ∷ (decimal P.weeks ∷ [])
-    ∷ (decimal (length P.shifts) ∷ [])
-    ∷ (map (map demand_text) P.demand
+    size_lines P
+    ++ (map (map demand_text) P.demand
     ++ (map shift_words P.shifts
-    ++ (bounds_words P.off
-    ∷ bounds_words P.work
-    ∷ (decimal (length P.pairs) ∷ decimal (length P.triples) ∷ [])
-    ∷ (map (pair_words P) P.pairs
+    ++ (frame_lines P
+    ++ (map (pair_words P) P.pairs
     ++ map (triple_words P) P.triples))))
 
 -- words with single blanks between them
