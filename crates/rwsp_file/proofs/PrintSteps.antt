@@ -1,9 +1,9 @@
 -- The lexemes of a canonical text.
-use Rattle.std.proofs.Common.{◌≡◌, ◌≢◌, ℕ, zero, suc, ◌+◌, ◌<◌, ◌≤◌, List, [], ◌∷◌, ◌++◌, length, Bool, true, false, ◌==◌, ◌||◌, cond, refl, ap, sym, ◌∙◌, subst, map, arith, take, drop, append_assoc}
+use Rattle.std.proofs.Common.{◌≡◌, ℕ, suc, ◌+◌, ◌<◌, List, [], ◌∷◌, ◌++◌, length, Bool, true, false, ◌==◌, cond, refl, ap, ◌∙◌, map, arith, take, drop, append_assoc}
 use Rattle.std.specs.List.{flat_map, AllByRecursion, prefix_len}
 use Rattle.std.proofs.Math.Seq.{take-append_seam, drop-append_seam}
 use Rattle.std.proofs.lemmas.Bool.Decides.{nat_tests}
-use Rattle.rwsp_text.specs.Lexemes.{Lexeme, lexemes_from, lexemes}
+use Rattle.rwsp_text.specs.Lexemes.{Lexeme, lexemes_from}
 use Rattle.rwsp_text.specs.Steps.{IsWordByte}
 use Rattle.rwsp_text.proofs.TextSteps.{at_word, at_space, at_line_end}
 use Rattle.rwsp_file.specs.Spelling.{is_on_line, on_line, past_line}
@@ -71,6 +71,7 @@ line_length n (word ∷ words) rest h = one_longer (n == n) (prefix_len (is_on_l
 pub line_cut : (n : ℕ) (words : List (List ℕ)) (rest : List Lexeme) → prefix_len (is_on_line n) rest ≡ 0 →
     (on_line n (map (lexeme n) words ++ rest) ≡ map (lexeme n) words) × (past_line n (map (lexeme n) words ++ rest) ≡ rest)
 line_cut n words rest h =
-    let k : prefix_len (is_on_line n) (map (lexeme n) words ++ rest) ≡ length (map (lexeme n) words) = line_length n words rest h in
-    (ap (λ i. take i (map (lexeme n) words ++ rest)) k ∙ take-append_seam (map (lexeme n) words) rest,
-     ap (λ i. drop i (map (lexeme n) words ++ rest)) k ∙ drop-append_seam (map (lexeme n) words) rest)
+    let k : prefix_len (is_on_line n) (map (lexeme n) words ++ rest) ≡ length (map (lexeme n) words) = line_length n words rest h in (
+      ap (λ i. take i (map (lexeme n) words ++ rest)) k ∙ take-append_seam (map (lexeme n) words) rest,
+      ap (λ i. drop i (map (lexeme n) words ++ rest)) k ∙ drop-append_seam (map (lexeme n) words) rest,
+    )

@@ -1,5 +1,5 @@
 -- The canonical text of a valid instance spells it.
-use Rattle.std.proofs.Common.{◌≡◌, ◌≢◌, ℕ, zero, suc, ◌+◌, ◌^◌, ◌<◌, ◌≤◌, List, [], ◌∷◌, ◌++◌, length, get_or, Bool, true, false, ◌&&◌, ◌||◌, ◌==◌, Some, refl, ap, sym, ◌∙◌, subst, map, arith, append_assoc, append-nil, inl, inr}
+use Rattle.std.proofs.Common.{◌≡◌, ◌≢◌, ℕ, zero, suc, ◌+◌, ◌^◌, ◌<◌, ◌≤◌, List, [], ◌∷◌, ◌++◌, length, get_or, Bool, true, false, ◌||◌, ◌==◌, refl, sym, subst, map, arith, append_assoc, append-nil, inl, inr}
 use Rattle.std.specs.Prelude.{All, if◌then◌else◌, slice_index}
 use Rattle.std.specs.List.{flat_map, list_all, AllByRecursion}
 use Rattle.std.specs.Char.{is_ascii_digit}
@@ -7,23 +7,22 @@ use Rattle.std.specs.Fmt.{decimal}
 use Rattle.std.proofs.lemmas.Bool.{eqb-true}
 use Rattle.std.proofs.lemmas.Bool.Decides.{nat_tests}
 use Rattle.std.proofs.lemmas.Fmt.{decimal_nonempty}
-use Rattle.rwsp_text.specs.Lexemes.{Lexeme, is_space, lexemes}
-use Rattle.rwsp_text.specs.Numbers.{number_of}
+use Rattle.rwsp_text.specs.Lexemes.{Lexeme, is_space}
 use Rattle.rwsp_text.specs.Steps.{IsWordByte}
 use Rattle.rwsp_text.proofs.Printed.{printed_is_read, digits_printed}
-use Rattle.rwsp_terms.specs.Instance.{Instance, shift_count, off_name, name_of, name_numbered}
+use Rattle.rwsp_terms.specs.Instance.{Instance, shift_count, name_of, name_numbered}
 use Rattle.rwsp_terms.specs.declared.data.Bounds.{Bounds}
 use Rattle.rwsp_terms.specs.declared.data.ShiftRow.{ShiftRow}
 use Rattle.rwsp_terms.specs.declared.data.Symbol.{Symbol}
 use Rattle.rwsp_model.specs.Validity.{IsValid, KeepsLimits, IsName, IsSmallRange, AreSmall, is_blank}
 use Rattle.rwsp_model.proofs.Limits.{valid_keeps}
 use Rattle.rwsp_file.specs.Spelling.{Field, Spell, fields, IsDemand, IsRow, on_line, past_line, SpellsProblem}
-use Rattle.rwsp_file.specs.Spelling.Field.{NumberField, DemandField, ShiftField, NameField}
-use Rattle.rwsp_file.specs.Text.{demand_text, bounds_words, shift_words, lines_of_words, line_text, pair_words, triple_words, problem_text}
+use Rattle.rwsp_file.specs.Spelling.Field.{DemandField, ShiftField}
+use Rattle.rwsp_file.specs.Text.{demand_text, bounds_words, shift_words, lines_of_words, pair_words, triple_words, problem_text}
 use Rattle.rwsp_file.specs.Laws.{CanonicalTextsSpell}
 use Rattle.rwsp_file.proofs.FieldReaders.{both_true}
-use Rattle.rwsp_file.proofs.SymbolReader.{in_place, no_row, pair_fields, triple_fields, IsPair, IsTriple}
-use Rattle.rwsp_file.proofs.Whole.{fields_from_demand, fields_from_shifts, fields_from_frame, sequence_fields}
+use Rattle.rwsp_file.proofs.SymbolReader.{in_place, no_row, pair_fields, triple_fields}
+use Rattle.rwsp_file.proofs.Whole.{fields_from_shifts, fields_from_frame, sequence_fields}
 use Rattle.rwsp_file.proofs.WordForms.{all_joined, all_images, all_weaker}
 use Rattle.rwsp_file.proofs.PrintSteps.{IsPrinted, lexeme, numbered, text_lexemes, later, line_cut}
 use Rattle.rwsp_file.proofs.TextLaws.{texts_spell_one}
@@ -73,7 +72,7 @@ printed_demand b h = at (b.least == b.greatest) where
       let g : IsShortNumber b.greatest = omega (arith, h.1) in
       let few : b.least < 2 ^ 64 = omega (arith, h.0) in
       printed_digits (decimal b.least) (46 ∷ 46 ∷ decimal b.greatest) (decimal_nonempty b.least few) (digits_printed b.least l)
-        ((refl, refl), ((refl, refl), digit_bytes (decimal b.greatest) (digits_printed b.greatest g)))
+      ((refl, refl), ((refl, refl), digit_bytes (decimal b.greatest) (digits_printed b.greatest g)))
 
 both_false : (a b : Bool) → (a || b) ≡ false → (a ≡ false) × (b ≡ false)
 both_false true b e = absurd (cc)
@@ -123,25 +122,39 @@ lines_printed P k =
     let weeks : IsShortNumber P.weeks = omega (arith, k.few_weeks) in
     let shifts : IsShortNumber (length P.shifts) = omega (arith, k.few_shifts) in
     let pairs : IsShortNumber (length P.pairs) = omega (arith, k.few_pairs) in
-    let triples : IsShortNumber (length P.triples) = omega (arith, k.few_triples) in
-    ((printed_number P.days days, tt), ((printed_number P.weeks weeks, tt), ((printed_number (length P.shifts) shifts, tt),
-      all_joined (AllByRecursion IsPrinted) (map (map demand_text) P.demand) _
-        (all_images (AllByRecursion IsPrinted) (map demand_text) P.demand
-          (all_weaker (AllByRecursion IsSmallRange) (λ row. AllByRecursion IsPrinted (map demand_text row))
-            (λ row h. all_images IsPrinted demand_text row (all_weaker IsSmallRange (λ b. IsPrinted (demand_text b)) printed_demand row h)) P.demand (demand_printed P k)))
-        (all_joined (AllByRecursion IsPrinted) (map shift_words P.shifts) _
-          (all_images (AllByRecursion IsPrinted) shift_words P.shifts
-            (all_weaker IsPrintedRow (λ row. AllByRecursion IsPrinted (shift_words row))
+    let triples : IsShortNumber (length P.triples) = omega (arith, k.few_triples) in (
+      (printed_number P.days days, tt),
+      (
+        (printed_number P.weeks weeks, tt),
+        (
+          (printed_number (length P.shifts) shifts, tt),
+          all_joined (AllByRecursion IsPrinted) (map (map demand_text) P.demand) _
+              (all_images (AllByRecursion IsPrinted) (map demand_text) P.demand
+              (all_weaker (AllByRecursion IsSmallRange) (λ row. AllByRecursion IsPrinted (map demand_text row))
+              (λ row h. all_images IsPrinted demand_text row (all_weaker IsSmallRange (λ b. IsPrinted (demand_text b)) printed_demand row h)) P.demand (demand_printed P k)))
+              (all_joined (AllByRecursion IsPrinted) (map shift_words P.shifts) _
+              (all_images (AllByRecursion IsPrinted) shift_words P.shifts
+              (all_weaker IsPrintedRow (λ row. AllByRecursion IsPrinted (shift_words row))
               (λ row h. (printed_name row.name h.name, (printed_number row.start (below row.start h.times.0), (printed_number row.length (below row.length h.times.1), bounds_printed row.bounds h.blocks))))
-              P.shifts (rows_printed P k)))
-          (bounds_printed P.off k.off, (bounds_printed P.work k.work, ((printed_number (length P.pairs) pairs, (printed_number (length P.triples) triples, tt)),
-            all_joined (AllByRecursion IsPrinted) (map (λ (x : Symbol × Symbol). name_of P x.0 ∷ name_of P x.1 ∷ []) P.pairs) _
-              (all_images (AllByRecursion IsPrinted) (λ (x : Symbol × Symbol). name_of P x.0 ∷ name_of P x.1 ∷ []) P.pairs
-                (from_index (λ (x : Symbol × Symbol). AllByRecursion IsPrinted (name_of P x.0 ∷ name_of P x.1 ∷ [])) P.pairs
-                  (λ i d less. (printed_symbol P k _ (k.known_pairs i d less).0, (printed_symbol P k _ (k.known_pairs i d less).1, tt)))))
-              (all_images (AllByRecursion IsPrinted) (λ (x : Symbol × Symbol × Symbol). name_of P x.0 ∷ name_of P x.1 ∷ name_of P x.2 ∷ []) P.triples
-                (from_index (λ (x : Symbol × Symbol × Symbol). AllByRecursion IsPrinted (name_of P x.0 ∷ name_of P x.1 ∷ name_of P x.2 ∷ [])) P.triples
-                  (λ i d less. (printed_symbol P k _ (k.known_triples i d less).0, (printed_symbol P k _ (k.known_triples i d less).1, (printed_symbol P k _ (k.known_triples i d less).2, tt)))))))))))))
+              P.shifts (rows_printed P k))) (
+                bounds_printed P.off k.off,
+                (
+                  bounds_printed P.work k.work,
+                  (
+                    (printed_number (length P.pairs) pairs, (printed_number (length P.triples) triples, tt)),
+                    all_joined (AllByRecursion IsPrinted) (map (λ (x : Symbol × Symbol). name_of P x.0 ∷ name_of P x.1 ∷ []) P.pairs) _
+                        (all_images (AllByRecursion IsPrinted) (λ (x : Symbol × Symbol). name_of P x.0 ∷ name_of P x.1 ∷ []) P.pairs
+                        (from_index (λ (x : Symbol × Symbol). AllByRecursion IsPrinted (name_of P x.0 ∷ name_of P x.1 ∷ [])) P.pairs
+                        (λ i d less. (printed_symbol P k _ (k.known_pairs i d less).0, (printed_symbol P k _ (k.known_pairs i d less).1, tt)))))
+                        (all_images (AllByRecursion IsPrinted) (λ (x : Symbol × Symbol × Symbol). name_of P x.0 ∷ name_of P x.1 ∷ name_of P x.2 ∷ []) P.triples
+                        (from_index (λ (x : Symbol × Symbol × Symbol). AllByRecursion IsPrinted (name_of P x.0 ∷ name_of P x.1 ∷ name_of P x.2 ∷ [])) P.triples
+                        (λ i d less. (printed_symbol P k _ (k.known_triples i d less).0, (printed_symbol P k _ (k.known_triples i d less).1, (printed_symbol P k _ (k.known_triples i d less).2, tt)))))),
+                  ),
+                ),
+              )),
+        ),
+      ),
+    )
 
 -- what the lines spell, whatever the number of the first
 
@@ -154,7 +167,7 @@ many_spelled : {X : Type 0} (Good : X → Type 0) (f : X → List Field) (g : X 
 many_spelled Good f g step [] fs lines good s n = s n
 many_spelled Good f g step (x ∷ xs) fs lines good s n =
     subst (λ (gs : List Field). Spell gs (map (lexeme n) (g x) ++ numbered (n + 1) (map g xs ++ lines))) (sym (append_assoc (f x) (flat_map f xs) fs))
-      (step x good.0 n (flat_map f xs ++ fs) (numbered (n + 1) (map g xs ++ lines)) (many_spelled Good f g step xs fs lines good.1 s (n + 1)))
+    (step x good.0 n (flat_map f xs ++ fs) (numbered (n + 1) (map g xs ++ lines)) (many_spelled Good f g step xs fs lines good.1 s (n + 1)))
 
 demand_spelled : (b : Bounds) → IsSmallRange b → IsDemand b (demand_text b)
 demand_spelled b h = at (b.least == b.greatest) refl where
@@ -177,17 +190,18 @@ shifts_spelled (row ∷ rows) fs lines good s n =
     let numbers : List (List ℕ) = decimal row.start ∷ decimal row.length ∷ bounds_words row.bounds in
     let rest : List Lexeme = numbered (n + 1) (map shift_words rows ++ lines) in
     let cut : (on_line n (map (lexeme n) (decimal row.start ∷ decimal row.length ∷ bounds_words row.bounds) ++ numbered (n + 1) (map shift_words rows ++ lines)) ≡ map (lexeme n) (decimal row.start ∷ decimal row.length ∷ bounds_words row.bounds))
-            × (past_line n (map (lexeme n) (decimal row.start ∷ decimal row.length ∷ bounds_words row.bounds) ++ numbered (n + 1) (map shift_words rows ++ lines)) ≡ numbered (n + 1) (map shift_words rows ++ lines)) =
-        line_cut n (decimal row.start ∷ decimal row.length ∷ bounds_words row.bounds) (numbered (n + 1) (map shift_words rows ++ lines)) (later (n + 1) n (map shift_words rows ++ lines) (omega arith)) in
-    (subst (λ (ws : List Lexeme). IsRow row (lexeme n row.name ∷ ws)) (sym cut.0)
-      (record {
-        named = refl;
-        starts = printed_is_read row.start (below row.start good.0.times.0);
-        long = printed_is_read row.length (below row.length good.0.times.1);
-        from = printed_is_read row.bounds.least (below row.bounds.least good.0.blocks.0);
-        to = printed_is_read row.bounds.greatest (below row.bounds.greatest good.0.blocks.1);
-      }),
-     subst (λ (ws : List Lexeme). Spell (map ShiftField rows ++ fs) ws) (sym cut.1) (shifts_spelled rows fs lines good.1 s (n + 1)))
+    × (past_line n (map (lexeme n) (decimal row.start ∷ decimal row.length ∷ bounds_words row.bounds) ++ numbered (n + 1) (map shift_words rows ++ lines)) ≡ numbered (n + 1) (map shift_words rows ++ lines)) =
+    line_cut n (decimal row.start ∷ decimal row.length ∷ bounds_words row.bounds) (numbered (n + 1) (map shift_words rows ++ lines)) (later (n + 1) n (map shift_words rows ++ lines) (omega arith)) in (
+      subst (λ (ws : List Lexeme). IsRow row (lexeme n row.name ∷ ws)) (sym cut.0)
+          (record {
+            named = refl;
+            starts = printed_is_read row.start (below row.start good.0.times.0);
+            long = printed_is_read row.length (below row.length good.0.times.1);
+            from = printed_is_read row.bounds.least (below row.bounds.least good.0.blocks.0);
+            to = printed_is_read row.bounds.greatest (below row.bounds.greatest good.0.blocks.1);
+          }),
+      subst (λ (ws : List Lexeme). Spell (map ShiftField rows ++ fs) ws) (sym cut.1) (shifts_spelled rows fs lines good.1 s (n + 1)),
+    )
 
 all_of : {X : Type 0} (xs : List X) → AllByRecursion (λ _. Unit {0}) xs
 all_of [] = tt
@@ -197,7 +211,7 @@ triples_spelled : (P : Instance) → Spelled (flat_map (triple_fields P) P.tripl
 triples_spelled P n =
     subst (λ (fs : List Field). Spell fs (numbered n (map (triple_words P) P.triples))) (append-nil (flat_map (triple_fields P) P.triples))
     (subst (λ (lines : List (List (List ℕ))). Spell (flat_map (triple_fields P) P.triples ++ []) (numbered n lines)) (append-nil (map (triple_words P) P.triples))
-      (many_spelled (λ _. Unit {0}) (triple_fields P) (triple_words P) (λ x good m fs ws s. (refl, (refl, (refl, s)))) P.triples [] [] (all_of P.triples) (λ m. tt) n))
+    (many_spelled (λ _. Unit {0}) (triple_fields P) (triple_words P) (λ x good m fs ws s. (refl, (refl, (refl, s)))) P.triples [] [] (all_of P.triples) (λ m. tt) n))
 
 sequences_spelled : (P : Instance) → Spelled (sequence_fields P) (map (pair_words P) P.pairs ++ map (triple_words P) P.triples)
 sequences_spelled P =
@@ -211,19 +225,35 @@ frame_and_rest P =
 frame_spelled : (P : Instance) → KeepsLimits P → Spelled (fields_from_frame P) (frame_and_rest P)
 frame_spelled P k n =
     let pairs : IsShortNumber (length P.pairs) = omega (arith, k.few_pairs) in
-    let triples : IsShortNumber (length P.triples) = omega (arith, k.few_triples) in
-    (printed_is_read P.off.least (below P.off.least k.off.0), (printed_is_read P.off.greatest (below P.off.greatest k.off.1),
-    (printed_is_read P.work.least (below P.work.least k.work.0), (printed_is_read P.work.greatest (below P.work.greatest k.work.1),
-    (printed_is_read (length P.pairs) pairs, (printed_is_read (length P.triples) triples, sequences_spelled P (n + 1 + 1 + 1)))))))
+    let triples : IsShortNumber (length P.triples) = omega (arith, k.few_triples) in (
+      printed_is_read P.off.least (below P.off.least k.off.0),
+      (
+        printed_is_read P.off.greatest (below P.off.greatest k.off.1),
+        (
+          printed_is_read P.work.least (below P.work.least k.work.0),
+          (
+            printed_is_read P.work.greatest (below P.work.greatest k.work.1),
+            (printed_is_read (length P.pairs) pairs, (printed_is_read (length P.triples) triples, sequences_spelled P (n + 1 + 1 + 1))),
+          ),
+        ),
+      ),
+    )
 
 lines_spelled : (P : Instance) → KeepsLimits P → Spelled (fields P) (lines_of_words P)
 lines_spelled P k n =
     let days : IsShortNumber P.days = omega (arith, k.few_days) in
     let weeks : IsShortNumber P.weeks = omega (arith, k.few_weeks) in
-    let shifts : IsShortNumber (length P.shifts) = omega (arith, k.few_shifts) in
-    (printed_is_read P.days days, (printed_is_read P.weeks weeks, (printed_is_read (length P.shifts) shifts,
-      many_spelled (AllByRecursion IsSmallRange) (map DemandField) (map demand_text) demand_row_spelled P.demand (fields_from_shifts P) (map shift_words P.shifts ++ frame_and_rest P) (demand_printed P k)
-        (shifts_spelled P.shifts (fields_from_frame P) (frame_and_rest P) (rows_printed P k) (frame_spelled P k)) (n + 1 + 1 + 1))))
+    let shifts : IsShortNumber (length P.shifts) = omega (arith, k.few_shifts) in (
+      printed_is_read P.days days,
+      (
+        printed_is_read P.weeks weeks,
+        (
+          printed_is_read (length P.shifts) shifts,
+          many_spelled (AllByRecursion IsSmallRange) (map DemandField) (map demand_text) demand_row_spelled P.demand (fields_from_shifts P) (map shift_words P.shifts ++ frame_and_rest P) (demand_printed P k)
+              (shifts_spelled P.shifts (fields_from_frame P) (frame_and_rest P) (rows_printed P k) (frame_spelled P k)) (n + 1 + 1 + 1),
+        ),
+      ),
+    )
 
 pub canonical_spells : (P : Instance) → IsValid P → SpellsProblem (problem_text P) P
 canonical_spells P valid =

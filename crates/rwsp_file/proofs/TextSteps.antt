@@ -1,14 +1,12 @@
 -- Steps of printing a canonical text.
 use Rattle.std.proofs.Common.{◌≡◌, ℕ, zero, suc, ◌+◌, ◌-◌, ◌<◌, ◌≤◌, List, [], ◌∷◌, ◌++◌, length, get_or, take, Some, refl, ap, sym, ◌∙◌, arith, map, append_assoc, append-nil}
-use Rattle.std.specs.Prelude.{ℤ, pos, slice_get}
-use Rattle.std.specs.Option.{option_map}
+use Rattle.std.specs.Prelude.{pos, slice_get}
 use Rattle.std.specs.List.{flat_map}
 use Rattle.std.proofs.lemmas.List.{take_more, take_all}
 use Rattle.std.proofs.lemmas.Option.{slice_get-get_or}
-use Rattle.rwsp_terms.specs.Instance.{Instance, least, greatest, shift_demand, range_in, no_bounds, name_numbered, name_in, bounds_of}
+use Rattle.rwsp_terms.specs.Instance.{Instance, least, greatest, shift_demand, range_in, no_bounds, name_numbered, name_in}
 use Rattle.rwsp_terms.specs.declared.data.Bounds.{Bounds}
-use Rattle.rwsp_terms.specs.declared.data.ShiftRow.{ShiftRow}
-use Rattle.rwsp_file.specs.Text.{joined, line_text, demand_text, range_at, row_at, shift_at, no_shift, size_lines, frame_lines, shift_words, pair_words, triple_words, problem_text}
+use Rattle.rwsp_file.specs.Text.{joined, line_text, demand_text, range_at, shift_at, no_shift, size_lines, frame_lines, shift_words, pair_words, triple_words, problem_text}
 use Rattle.std.proofs.lemmas.Grind.{flat_map-append}
 
 -- one more word of a line
@@ -37,7 +35,7 @@ pub demand_more : (row : List Bounds) (i : ℕ) (start old new : List ℕ) → 0
 demand_more row i start old new some less o n =
     let front : List (List ℕ) = map demand_text (take i row) in
     let more : map demand_text (take (i + 1) row) ≡ map demand_text (take i row) ++ demand_text (get_or row i no_bounds) ∷ [] =
-        ap (map demand_text) (take_more row i no_bounds less) ∙ map_push demand_text (take i row) (get_or row i no_bounds) in
+    ap (map demand_text) (take_more row i no_bounds less) ∙ map_push demand_text (take i row) (get_or row i no_bounds) in
     let long : 0 < length (map demand_text (take i row)) = omega (arith, map_long demand_text (take i row), some_front row i some less) in
     n ∙ ap (λ t. t ++ 32 ∷ demand_text (get_or row i no_bounds)) o
     ∙ append_assoc start (joined (map demand_text (take i row))) (32 ∷ demand_text (get_or row i no_bounds))
@@ -83,6 +81,7 @@ pub least_at : (P : Instance) (k i : ℕ) → k < length P.demand → least P (k
 least_at P k i less =
     let next : k + 1 ≡ suc k = omega arith in
     ap (λ n. least P n (i + 1)) next ∙ ap (λ (b : Bounds). pos b.least) (demand_at P k i less)
+
 pub greatest_at : (P : Instance) (k i : ℕ) → k < length P.demand → greatest P (k + 1) (i + 1) ≡ pos (range_at P k i).greatest
 greatest_at P k i less =
     let next : k + 1 ≡ suc k = omega arith in
@@ -112,7 +111,7 @@ whole_text P a b c d e f ha hb hc hd he hf =
     let s1 : f ≡ d ++ flat_map line_text (map (pair_words P) P.pairs ++ map (triple_words P) P.triples) = behind (map (pair_words P) P.pairs) (map (triple_words P) P.triples) d e f he hf in
     let s2 : f ≡ c ++ flat_map line_text (frame_lines P ++ (map (pair_words P) P.pairs ++ map (triple_words P) P.triples)) = behind (frame_lines P) (map (pair_words P) P.pairs ++ map (triple_words P) P.triples) c d f hd s1 in
     let s3 : f ≡ b ++ flat_map line_text (map shift_words P.shifts ++ (frame_lines P ++ (map (pair_words P) P.pairs ++ map (triple_words P) P.triples))) =
-        behind (map shift_words P.shifts) (frame_lines P ++ (map (pair_words P) P.pairs ++ map (triple_words P) P.triples)) b c f hc s2 in
+    behind (map shift_words P.shifts) (frame_lines P ++ (map (pair_words P) P.pairs ++ map (triple_words P) P.triples)) b c f hc s2 in
     let s4 : f ≡ a ++ flat_map line_text (map (map demand_text) P.demand ++ (map shift_words P.shifts ++ (frame_lines P ++ (map (pair_words P) P.pairs ++ map (triple_words P) P.triples)))) =
-        behind (map (map demand_text) P.demand) (map shift_words P.shifts ++ (frame_lines P ++ (map (pair_words P) P.pairs ++ map (triple_words P) P.triples))) a b f hb s3 in
+    behind (map (map demand_text) P.demand) (map shift_words P.shifts ++ (frame_lines P ++ (map (pair_words P) P.pairs ++ map (triple_words P) P.triples))) a b f hb s3 in
     behind (size_lines P) (map (map demand_text) P.demand ++ (map shift_words P.shifts ++ (frame_lines P ++ (map (pair_words P) P.pairs ++ map (triple_words P) P.triples)))) [] a f ha s4

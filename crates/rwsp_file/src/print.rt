@@ -25,7 +25,12 @@ fn put_number_and(out: &mut Vec<u8>, value: u32, byte: u8) -> Result<(), AllocEr
 }
 
 // The name of a symbol, and a byte behind it.
-fn put_name_and(out: &mut Vec<u8>, problem: &Problem, symbol: Symbol, byte: u8) -> Result<(), AllocError>
+fn put_name_and(
+    out: &mut Vec<u8>,
+    problem: &Problem,
+    symbol: Symbol,
+    byte: u8,
+) -> Result<(), AllocError>
     requires { IsSymbol problem.now symbol }
     ensures { OnOk result (out.new.items ≡ out.old.items ++ (name_of problem.now symbol ++ byte ∷ [])) }
 {
@@ -67,7 +72,11 @@ fn put_pair(out: &mut Vec<u8>, problem: &Problem, pair: (Symbol, Symbol)) -> Res
     put_name_and(out, problem, pair.1, b'\n')
 }
 
-fn put_triple(out: &mut Vec<u8>, problem: &Problem, triple: (Symbol, Symbol, Symbol)) -> Result<(), AllocError>
+fn put_triple(
+    out: &mut Vec<u8>,
+    problem: &Problem,
+    triple: (Symbol, Symbol, Symbol),
+) -> Result<(), AllocError>
     requires { (triple.0.number ≤ length problem.now.shifts) × (triple.1.number ≤ length problem.now.shifts) × (triple.2.number ≤ length problem.now.shifts) }
     ensures { OnOk result (out.new.items ≡ out.old.items ++ line_text (triple_words problem.now triple)) }
 {
@@ -134,7 +143,11 @@ fn numbers_at(problem: &Problem, place: u8) -> (u32, u32, Bounds)
 {
     problem.keeps_limits();
     let shift = Symbol { number: place + 1 };
-    (problem.start(shift), problem.length(shift), problem.bounds(Class::Shift(shift)))
+    (
+        problem.start(shift),
+        problem.length(shift),
+        problem.bounds(Class::Shift(shift)),
+    )
 }
 
 // The name of the shift at a place, counted from 0, and a blank.

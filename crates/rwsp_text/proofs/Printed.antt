@@ -1,5 +1,5 @@
 -- Numbers that are printed and read.
-use Rattle.std.proofs.Common.{◌≡◌, ℕ, ◌+◌, ◌-◌, ◌*◌, ◌^◌, ◌<◌, ◌≤◌, List, length, Bool, true, false, Option, Some, None, ◌&&◌, refl, ap, sym, ◌∙◌, arith, lit<, lit≤, rules}
+use Rattle.std.proofs.Common.{◌≡◌, ℕ, ◌+◌, ◌-◌, ◌*◌, ◌^◌, ◌<◌, ◌≤◌, length, Bool, true, false, Some, None, ◌&&◌, ap, ◌∙◌, arith, lit<, rules}
 use Rattle.std.specs.Prelude.{nat_le, fold, if◌then◌else◌}
 use Rattle.std.specs.List.{list_all}
 use Rattle.std.specs.Char.{is_ascii_digit}
@@ -7,7 +7,7 @@ use Rattle.std.specs.Fmt.{decimal}
 use Rattle.std.proofs.lemmas.Bool.Decides.{nat_tests}
 use Rattle.std.proofs.lemmas.Str.Parse.{IsNumeralModel, numerals_by_fold}
 use Rattle.std.proofs.lemmas.Fmt.{digits_decimal, digits_value-decimal, decimal_nonempty, length-decimal-le}
-use Rattle.rwsp_text.specs.Numbers.{value_of, number_of, PrintedIsRead}
+use Rattle.rwsp_text.specs.Numbers.{value_of, PrintedIsRead}
 
 -- digits and their value, in the words of this crate
 own : IsNumeralModel (λ ds. list_all is_ascii_digit ds ≡ true) value_of

@@ -1,6 +1,6 @@
 use Rattle.std.proofs.Common.{◌≡◌, ◌++◌, map, take}
 use Rattle.std.specs.List.{flat_map}
-use Rattle.rwsp_file.specs.Text.{line_text, demand_text, shift_words}
+use Rattle.rwsp_file.specs.Text.{line_text, shift_words}
 use Rattle.rwsp_file.proofs.print.put_shifts.Given as goal
 
 abbrev pub invariant-loop-place : goal.invariant-loop-place
