@@ -1,6 +1,6 @@
 -- Two answers over the same files, compared part by part.
 use Rattle.std.proofs.Common.{◌≡◌, ℕ, List, Some, None, Option, arith, ap, sym, ◌∙◌, refl, subst, inl, inr}
-use Rattle.std.specs.Prelude.{◌≢◌, ◌⊎◌, MatchOption, []}
+use Rattle.std.specs.Prelude.{◌≢◌, ◌⊎◌, MatchOption, [], ◌∷◌}
 use Rattle.rwsp_io.specs.Told.{Told, Silent, Missing, Bytes}
 use Rattle.rwsp_terms.specs.Instance.{Instance}
 use Rattle.rwsp_terms.specs.Roster.{MeetsAll}
@@ -22,10 +22,10 @@ use Rattle.rwsp.specs.Answers.{IsAnswer, IsFileAnswer, IsRosterAnswer}
 use Rattle.rwsp.specs.Texts.{text_of}
 use Rattle.rwsp.specs.Laws.{AnswersAreOne, TextsAreOne}
 use Rattle.rwsp.specs.declared.command.Command.{Command}
-use Rattle.rwsp.specs.declared.command.Command.TheVariants.{Verify}
+use Rattle.rwsp.specs.declared.command.Command.TheVariants.{Verify, Show}
 use Rattle.rwsp.specs.declared.answer.InputKind.TheVariants.{Problem, Roster}
 use Rattle.rwsp.specs.declared.answer.Answer.{Answer}
-use Rattle.rwsp.specs.declared.answer.Answer.TheVariants.{Meets, Breaks, RosterRefused, Usage, FileRefused, TooLong}
+use Rattle.rwsp.specs.declared.answer.Answer.TheVariants.{Meets, Shown, Breaks, RosterRefused, Usage, FileRefused, TooLong}
 
 not_both : (bytes : List ℕ) → IsTooLong bytes → IsShort bytes → ⊥
 not_both bytes long short = omega arith
@@ -44,6 +44,7 @@ roster_end P bytes (RosterRefused why) h = refused why h.0 h.1 refl
 roster_end P bytes Meets h = met h.1.0 h.0 h.1.1 h.1.2 refl
 roster_end P bytes (Breaks b) h = broken h.1.0 b h.0 h.1.1 h.1.2 refl
 roster_end P bytes Usage h = absurd h
+roster_end P bytes Shown h = absurd h
 roster_end P bytes (FileRefused why) h = absurd h
 
 -- a refused roster isn't spelled
@@ -83,31 +84,47 @@ one_roster_end P bytes a b (broken t k u q m e) (broken t' k' u' q' m' f) =
     let first : k ≡ k' = first_broken-same P t' k k' (subst (λ (v : List Symbol). IsFirstBroken P v k) same m) m' in
     e ∙ ap Breaks first ∙ sym f
 
--- how the bytes of both files end the job
-data FileEnd (file roster : List ℕ) (answer : Answer) : Type 0 where
-  too_long : IsTooLong file → answer ≡ TooLong Problem → FileEnd file roster answer
-  unread : (why : FileRefusal) → IsShort file → file_refusal file ≡ Some why → answer ≡ FileRefused why → FileEnd file roster answer
-  spelled : (P : Instance) → IsShort file → SpellsProblem file P → RosterEnd P roster answer → FileEnd file roster answer
+-- how the bytes of both files end the job of the words
+data FileEnd (words : Words) (file roster : List ℕ) (answer : Answer) : Type 0 where
+  too_long : IsTooLong file → answer ≡ TooLong Problem → FileEnd words file roster answer
+  unread : (why : FileRefusal) → IsShort file → file_refusal file ≡ Some why → answer ≡ FileRefused why → FileEnd words file roster answer
+  spelled : (P : Instance) → IsForm words Verify → IsShort file → SpellsProblem file P → RosterEnd P roster answer → FileEnd words file roster answer
+  shown : (P : Instance) → IsForm words Show → IsShort file → SpellsProblem file P → answer ≡ Shown → FileEnd words file roster answer
+
+-- no words are a form of two commands
+two_forms : (words : Words) → IsForm words Verify → IsForm words Show → ⊥
+two_forms [] v s = v
+two_forms (a ∷ []) v s = v
+two_forms (a ∷ b ∷ []) v s = v
+two_forms (a ∷ b ∷ c ∷ []) v s = s
+two_forms (a ∷ b ∷ c ∷ d ∷ words) v s = s
 
 unread_by : (file : List ℕ) (P : Instance) (why : FileRefusal) (o : Option FileRefusal) → o ≡ Some why → MatchOption o ((P : Instance) × SpellsProblem file P) (λ why. (P : Instance) → SpellsProblem file P → ⊥) → SpellsProblem file P → ⊥
 unread_by file P why None e m spells = absurd (cc)
 unread_by file P why (Some other) e m spells = m P spells
 
-one_file_end : TextsSpellOne → TextsSpellOrFail → (file roster : List ℕ) (a b : Answer) → FileEnd file roster a → FileEnd file roster b → a ≡ b
-one_file_end one decide file roster a b (too_long l e) (too_long m f) = e ∙ sym f
-one_file_end one decide file roster a b (too_long l e) (unread why s r f) = absurd (not_both file l s)
-one_file_end one decide file roster a b (too_long l e) (spelled P s q end) = absurd (not_both file l s)
-one_file_end one decide file roster a b (unread why s r e) (too_long l f) = absurd (not_both file l s)
-one_file_end one decide file roster a b (unread why s r e) (unread other t q f) =
+one_file_end : TextsSpellOne → TextsSpellOrFail → (words : Words) (file roster : List ℕ) (a b : Answer) → FileEnd words file roster a → FileEnd words file roster b → a ≡ b
+one_file_end one decide words file roster a b (too_long l e) (too_long m f) = e ∙ sym f
+one_file_end one decide words file roster a b (too_long l e) (unread why s r f) = absurd (not_both file l s)
+one_file_end one decide words file roster a b (too_long l e) (spelled P v s q end) = absurd (not_both file l s)
+one_file_end one decide words file roster a b (too_long l e) (shown P v s q f) = absurd (not_both file l s)
+one_file_end one decide words file roster a b (unread why s r e) (too_long l f) = absurd (not_both file l s)
+one_file_end one decide words file roster a b (unread why s r e) (unread other t q f) =
     let both : Some why ≡ Some other = sym r ∙ q in
     let same : why ≡ other = cc in
     e ∙ ap FileRefused same ∙ sym f
-one_file_end one decide file roster a b (unread why s r e) (spelled P t q end) = absurd (unread_by file P why (file_refusal file) r (decide file) q)
-one_file_end one decide file roster a b (spelled P t q end) (too_long l f) = absurd (not_both file l t)
-one_file_end one decide file roster a b (spelled P t q end) (unread why s r f) = absurd (unread_by file P why (file_refusal file) r (decide file) q)
-one_file_end one decide file roster a b (spelled P t q end) (spelled Q u r other) =
+one_file_end one decide words file roster a b (unread why s r e) (spelled P v t q end) = absurd (unread_by file P why (file_refusal file) r (decide file) q)
+one_file_end one decide words file roster a b (unread why s r e) (shown P v t q f) = absurd (unread_by file P why (file_refusal file) r (decide file) q)
+one_file_end one decide words file roster a b (spelled P v t q end) (too_long l f) = absurd (not_both file l t)
+one_file_end one decide words file roster a b (spelled P v t q end) (unread why s r f) = absurd (unread_by file P why (file_refusal file) r (decide file) q)
+one_file_end one decide words file roster a b (spelled P v t q end) (spelled Q w u r other) =
     let same : Q ≡ P = one file Q P r q in
     one_roster_end P roster a b end (subst (λ (I : Instance). RosterEnd I roster b) same other)
+one_file_end one decide words file roster a b (spelled P v t q end) (shown Q w u r f) = absurd (two_forms words v w)
+one_file_end one decide words file roster a b (shown P v t q e) (too_long l f) = absurd (not_both file l t)
+one_file_end one decide words file roster a b (shown P v t q e) (unread why s r f) = absurd (unread_by file P why (file_refusal file) r (decide file) q)
+one_file_end one decide words file roster a b (shown P v t q e) (spelled Q w u r other) = absurd (two_forms words w v)
+one_file_end one decide words file roster a b (shown P v t q e) (shown Q w u r f) = e ∙ sym f
 
 -- the words have a form or none
 
@@ -119,6 +136,7 @@ has_form held words (FileRefused why) h = inr h.0
 has_form held words (RosterRefused why) h = inr (Verify, h.0)
 has_form held words Meets h = inr (Verify, h.0)
 has_form held words (Breaks b) h = inr (Verify, h.0)
+has_form held words Shown h = inr (Show, h.0)
 
 no_form : (held : List ℕ → Told) (words : Words) (answer : Answer) → answer ≡ Usage → IsAnswer held words answer → HasNoForm words
 no_form held words answer e h = subst (IsAnswer held words) e h
@@ -149,29 +167,33 @@ no_file held words (TooLong Roster) e h = absurd (at_missing (held (problem_name
 no_file held words (RosterRefused why) e h = absurd (at_missing (held (problem_name words)) _ e h.1)
 no_file held words Meets e h = absurd (at_missing (held (problem_name words)) _ e h.1)
 no_file held words (Breaks b) e h = absurd (at_missing (held (problem_name words)) _ e h.1)
+no_file held words Shown e h = absurd (at_missing (held (problem_name words)) _ e h.1)
 
 -- a roster's answer over the bytes of a file, and of a roster that is there
 
 abbrev AtRoster : (List ℕ → Told) → Words → Answer → List ℕ → Type 0
 AtRoster held words answer file = IsShort file × ((P : Instance) × SpellsProblem file P × WhereTold (held (second_name words)) (IsRosterAnswer answer P))
 
-spelled_end : (held : List ℕ → Told) (words : Words) (answer : Answer) (file roster : List ℕ) → held (second_name words) ≡ Bytes roster → AtRoster held words answer file → FileEnd file roster answer
-spelled_end held words answer file roster e h = spelled h.1.0 h.0 h.1.1 (roster_end h.1.0 roster answer (at_bytes (held (second_name words)) roster (IsRosterAnswer answer h.1.0) e h.1.2))
+spelled_end : (held : List ℕ → Told) (words : Words) (answer : Answer) (file roster : List ℕ) → IsForm words Verify → held (second_name words) ≡ Bytes roster → AtRoster held words answer file → FileEnd words file roster answer
+spelled_end held words answer file roster form e h = spelled h.1.0 form h.0 h.1.1 (roster_end h.1.0 roster answer (at_bytes (held (second_name words)) roster (IsRosterAnswer answer h.1.0) e h.1.2))
 
-file_end : (held : List ℕ → Told) (words : Words) (answer : Answer) (file roster : List ℕ) → held (problem_name words) ≡ Bytes file → held (second_name words) ≡ Bytes roster → IsAnswer held words answer → (answer ≡ Usage) ⊎ FileEnd file roster answer
+file_end : (held : List ℕ → Told) (words : Words) (answer : Answer) (file roster : List ℕ) → held (problem_name words) ≡ Bytes file → held (second_name words) ≡ Bytes roster → IsAnswer held words answer → (answer ≡ Usage) ⊎ FileEnd words file roster answer
 file_end held words Usage file roster e f h = inl refl
 file_end held words (TooLong Problem) file roster e f h = inr (too_long (at_bytes (held (problem_name words)) file IsTooLong e h.1) refl)
 file_end held words (FileRefused why) file roster e f h =
     let k = at_bytes (held (problem_name words)) file (IsFileAnswer (FileRefused why)) e h.1 in
     inr (unread why k.0 k.1 refl)
-file_end held words (TooLong Roster) file roster e f h = inr (spelled_end held words (TooLong Roster) file roster f (at_bytes (held (problem_name words)) file (AtRoster held words (TooLong Roster)) e h.1))
-file_end held words (RosterRefused why) file roster e f h = inr (spelled_end held words (RosterRefused why) file roster f (at_bytes (held (problem_name words)) file (AtRoster held words (RosterRefused why)) e h.1))
-file_end held words Meets file roster e f h = inr (spelled_end held words Meets file roster f (at_bytes (held (problem_name words)) file (AtRoster held words Meets) e h.1))
-file_end held words (Breaks b) file roster e f h = inr (spelled_end held words (Breaks b) file roster f (at_bytes (held (problem_name words)) file (AtRoster held words (Breaks b)) e h.1))
+file_end held words (TooLong Roster) file roster e f h = inr (spelled_end held words (TooLong Roster) file roster h.0 f (at_bytes (held (problem_name words)) file (AtRoster held words (TooLong Roster)) e h.1))
+file_end held words (RosterRefused why) file roster e f h = inr (spelled_end held words (RosterRefused why) file roster h.0 f (at_bytes (held (problem_name words)) file (AtRoster held words (RosterRefused why)) e h.1))
+file_end held words Meets file roster e f h = inr (spelled_end held words Meets file roster h.0 f (at_bytes (held (problem_name words)) file (AtRoster held words Meets) e h.1))
+file_end held words (Breaks b) file roster e f h = inr (spelled_end held words (Breaks b) file roster h.0 f (at_bytes (held (problem_name words)) file (AtRoster held words (Breaks b)) e h.1))
+file_end held words Shown file roster e f h =
+    let k = at_bytes (held (problem_name words)) file (λ file. IsShort file × ((P : Instance) × SpellsProblem file P × Unit {0})) e h.1 in
+    inr (shown k.1.0 h.0 k.0 k.1.1 refl)
 
 -- an answer over a file that is there, and a roster that isn't
 
-lone_end : (held : List ℕ → Told) (words : Words) (answer : Answer) (file : List ℕ) → held (problem_name words) ≡ Bytes file → held (second_name words) ≡ Missing → IsAnswer held words answer → (answer ≡ Usage) ⊎ FileEnd file file answer
+lone_end : (held : List ℕ → Told) (words : Words) (answer : Answer) (file : List ℕ) → held (problem_name words) ≡ Bytes file → held (second_name words) ≡ Missing → IsAnswer held words answer → (answer ≡ Usage) ⊎ FileEnd words file file answer
 lone_end held words Usage file e f h = inl refl
 lone_end held words (TooLong Problem) file e f h = inr (too_long (at_bytes (held (problem_name words)) file IsTooLong e h.1) refl)
 lone_end held words (FileRefused why) file e f h =
@@ -181,6 +203,9 @@ lone_end held words (TooLong Roster) file e f h = let k = at_bytes (held (proble
 lone_end held words (RosterRefused why) file e f h = let k = at_bytes (held (problem_name words)) file (AtRoster held words (RosterRefused why)) e h.1 in absurd (at_missing (held (second_name words)) _ f k.1.2)
 lone_end held words Meets file e f h = let k = at_bytes (held (problem_name words)) file (AtRoster held words Meets) e h.1 in absurd (at_missing (held (second_name words)) _ f k.1.2)
 lone_end held words (Breaks b) file e f h = let k = at_bytes (held (problem_name words)) file (AtRoster held words (Breaks b)) e h.1 in absurd (at_missing (held (second_name words)) _ f k.1.2)
+lone_end held words Shown file e f h =
+    let k = at_bytes (held (problem_name words)) file (λ file. IsShort file × ((P : Instance) × SpellsProblem file P × Unit {0})) e h.1 in
+    inr (shown k.1.0 h.0 k.0 k.1.1 refl)
 
 -- two answers of which one is Usage
 
@@ -188,10 +213,10 @@ usage_first : (held : List ℕ → Told) (words : Words) (a b : Answer) → a �
 usage_first held words a b e h k (inl f) = e ∙ sym f
 usage_first held words a b e h k (inr form) = absurd (no_form held words a e h form.0 form.1)
 
-one_of_ends : TextsSpellOne → TextsSpellOrFail → (held : List ℕ → Told) (words : Words) (a b : Answer) (file roster : List ℕ) → IsAnswer held words a → IsAnswer held words b → (a ≡ Usage) ⊎ FileEnd file roster a → (b ≡ Usage) ⊎ FileEnd file roster b → a ≡ b
+one_of_ends : TextsSpellOne → TextsSpellOrFail → (held : List ℕ → Told) (words : Words) (a b : Answer) (file roster : List ℕ) → IsAnswer held words a → IsAnswer held words b → (a ≡ Usage) ⊎ FileEnd words file roster a → (b ≡ Usage) ⊎ FileEnd words file roster b → a ≡ b
 one_of_ends one decide held words a b file roster h k (inl e) y = usage_first held words a b e h k (has_form held words b k)
 one_of_ends one decide held words a b file roster h k (inr x) (inl f) = sym (usage_first held words b a f k h (has_form held words a h))
-one_of_ends one decide held words a b file roster h k (inr x) (inr y) = one_file_end one decide file roster a b x y
+one_of_ends one decide held words a b file roster h k (inr x) (inr y) = one_file_end one decide words file roster a b x y
 
 at_file : TextsSpellOne → TextsSpellOrFail → (held : List ℕ → Told) (words : Words) (a b : Answer) (file : List ℕ) → held (problem_name words) ≡ Bytes file → Held held (second_name words) → IsAnswer held words a → IsAnswer held words b → a ≡ b
 at_file one decide held words a b file e (inl f) h k = one_of_ends one decide held words a b file file h k (lone_end held words a file e f h) (lone_end held words b file e f k)
@@ -218,6 +243,9 @@ pub one_text : TextsSpellOne → TextsAreOne
 one_text one held words (Breaks b) text other told h k =
     let same : h.0 ≡ k.0 = same_problem one held words h.0 k.0 (held_by (held (problem_name words)) told.0) h.1 k.1 in
     h.2 ∙ ap (λ (P : Instance). text_of P (Breaks b)) same ∙ sym k.2
+one_text one held words Shown text other told h k =
+    let same : h.0 ≡ k.0 = same_problem one held words h.0 k.0 (held_by (held (problem_name words)) told.0) h.1 k.1 in
+    h.2 ∙ ap (λ (P : Instance). text_of P Shown) same ∙ sym k.2
 one_text one held words Meets text other told h k = h any_instance ∙ sym (k any_instance)
 one_text one held words Usage text other told h k = h any_instance ∙ sym (k any_instance)
 one_text one held words (TooLong kind) text other told h k = h any_instance ∙ sym (k any_instance)

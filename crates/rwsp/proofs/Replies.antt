@@ -1,18 +1,18 @@
 -- From what the parts of a run found to what its answer says.
-use Rattle.std.proofs.Common.{◌≡◌, ℕ, ◌≤◌, List, subst, arith, inl, inr}
+use Rattle.std.proofs.Common.{◌≡◌, ℕ, ◌≤◌, List, subst, arith, inl, inr, sym}
 use Rattle.std.specs.Prelude.{Result, Ok, Err, IfOk}
 use Rattle.rwsp_io.specs.Told.{Told, Silent, Missing, Bytes, Rose}
 use Rattle.rwsp_terms.specs.Instance.{Instance}
 use Rattle.rwsp_file.specs.Spelling.{SpellsProblem}
 use Rattle.rwsp.specs.Commands.{Words, IsForm, problem_name, second_name}
 use Rattle.rwsp.specs.Inputs.{WhereTold, IsShort, OfProblem, IsProblemOf}
-use Rattle.rwsp.specs.Answers.{IsAnswer, IsOfFile, IsOfRoster, IsFileAnswer, IsRosterAnswer, EndsAtRoster, IsReadFault}
+use Rattle.rwsp.specs.Answers.{IsAnswer, IsAnswerOn, IsOfFile, IsOfRoster, IsFileAnswer, IsRosterAnswer, EndsAtRoster, IsReadFault}
 use Rattle.rwsp.specs.Texts.{IsTextOf, HasFixedText, text_of}
 use Rattle.rwsp.specs.declared.command.Command.{Command}
-use Rattle.rwsp.specs.declared.command.Command.TheVariants.{Verify}
+use Rattle.rwsp.specs.declared.command.Command.TheVariants.{Verify, Show}
 use Rattle.rwsp.specs.declared.answer.InputKind.TheVariants.{Problem, Roster}
 use Rattle.rwsp.specs.declared.answer.Answer.{Answer}
-use Rattle.rwsp.specs.declared.answer.Answer.TheVariants.{Meets, Breaks, RosterRefused, Usage, FileRefused, TooLong}
+use Rattle.rwsp.specs.declared.answer.Answer.TheVariants.{Meets, Shown, Breaks, RosterRefused, Usage, FileRefused, TooLong}
 
 told_weaker : (told : Told) (Q R : List ℕ → Type 0) → ((bytes : List ℕ) → Q bytes → R bytes) → WhereTold told Q → WhereTold told R
 told_weaker Silent Q R f h = tt
@@ -37,6 +37,7 @@ file_answer held words command (FileRefused why) form kind h = ((command, form),
 file_answer held words command (TooLong Roster) form kind h = absurd kind
 file_answer held words command Usage form kind h = absurd kind
 file_answer held words command Meets form kind h = absurd kind
+file_answer held words command Shown form kind h = absurd kind
 file_answer held words command (Breaks broken) form kind h = absurd kind
 file_answer held words command (RosterRefused why) form kind h = absurd kind
 
@@ -47,6 +48,7 @@ fixed_text_of held words Usage text fixed h = h
 fixed_text_of held words Meets text fixed h = h
 fixed_text_of held words (RosterRefused why) text fixed h = h
 fixed_text_of held words (Breaks broken) text fixed h = absurd fixed
+fixed_text_of held words Shown text fixed h = absurd fixed
 
 -- an answer of the roster
 
@@ -62,18 +64,20 @@ roster_kind held words (Breaks broken) kind h = h
 roster_kind held words (TooLong Problem) kind h = absurd kind
 roster_kind held words (FileRefused why) kind h = absurd kind
 roster_kind held words Usage kind h = absurd kind
+roster_kind held words Shown kind h = absurd kind
 
 pub roster_answer : (held : List ℕ → Told) (words : Words) (P : Instance) (answer : Answer) (told : Told) → IsForm words Verify → IsRead held words P → told ≡ held (second_name words) → IsOfRoster answer → WhereTold told (IsRosterAnswer answer P) → IsAnswer held words answer
 roster_answer held words P answer told form read same kind h = roster_kind held words answer kind (at_roster held words P answer told form read same h)
 
-pub roster_text : (held : List ℕ → Told) (words : Words) (P : Instance) (answer : Answer) (text : List ℕ) → IsRead held words P → text ≡ text_of P answer → IsTextOf held words answer text
-roster_text held words P (Breaks broken) text read h = (P, problem_of held words P read, h)
-roster_text held words P Meets text read h = λ Q. h
-roster_text held words P (TooLong Problem) text read h = λ Q. h
-roster_text held words P (TooLong Roster) text read h = λ Q. h
-roster_text held words P (FileRefused why) text read h = λ Q. h
-roster_text held words P (RosterRefused why) text read h = λ Q. h
-roster_text held words P Usage text read h = λ Q. h
+pub text_on : (held : List ℕ → Told) (words : Words) (P : Instance) (answer : Answer) (text : List ℕ) → IsRead held words P → text ≡ text_of P answer → IsTextOf held words answer text
+text_on held words P (Breaks broken) text read h = (P, problem_of held words P read, h)
+text_on held words P Shown text read h = (P, problem_of held words P read, h)
+text_on held words P Meets text read h = λ Q. h
+text_on held words P (TooLong Problem) text read h = λ Q. h
+text_on held words P (TooLong Roster) text read h = λ Q. h
+text_on held words P (FileRefused why) text read h = λ Q. h
+text_on held words P (RosterRefused why) text read h = λ Q. h
+text_on held words P Usage text read h = λ Q. h
 
 -- a count that has risen since later has risen
 rose_since : (before later now : ℕ) → before ≤ later → Rose later now → Rose before now
@@ -86,9 +90,18 @@ roster_fault held before later now words P form read le rose =
 pub file_fault : (held : List ℕ → Told) (before now : List ℕ → ℕ) (words : Words) (command : Command) → IsForm words command → Rose (before (problem_name words)) (now (problem_name words)) → IsReadFault held before now words
 file_fault held before now words command form rose = ((command, form), inl rose)
 
--- there is one command
-pub is_verify : (words : Words) (command : Command) → IsForm words command → IsForm words Verify
-is_verify words Verify form = form
+-- the form of a command that is known
+pub form_of : (words : Words) (command known : Command) → command ≡ known → IsForm words command → IsForm words known
+form_of words command known e form = subst (IsForm words) e form
+
+-- the problem was printed
+pub shown_answer : (held : List ℕ → Told) (words : Words) (P : Instance) (answer : Answer) → IsForm words Show → IsRead held words P → answer ≡ Shown → IsAnswer held words answer
+shown_answer held words P answer form read e = subst (IsAnswer held words) (sym e) (form, of_problem held words P (λ Q. Unit {0}) read tt)
+
+-- the answer on a problem that was read
+pub answer_on : (held : List ℕ → Told) (words : Words) (P : Instance) (answer : Answer) (told : Told) → IsRead held words P → told ≡ held (second_name words) → IsAnswerOn told words P answer → IsAnswer held words answer
+answer_on held words P answer told read same (inl shown) = shown_answer held words P answer shown.0 read shown.1
+answer_on held words P answer told read same (inr h) = roster_answer held words P answer told h.0 read same h.1 h.2
 
 -- what follows from two facts of an Ok
 pub both_ok : {T E : Type 0} (r : Result T E) (P Q R : T → Type 0) → ((x : T) → P x → Q x → R x) → IfOk r P → IfOk r Q → IfOk r R

@@ -13,10 +13,10 @@ use Rattle.roster_checker.specs.FirstBroken.{IsFirstBroken}
 use Rattle.rwsp.specs.Commands.{Words, IsForm, HasNoForm, problem_name, second_name}
 use Rattle.rwsp.specs.Inputs.{WhereTold, IsShort, IsTooLong, OfProblem, OfBoth}
 use Rattle.rwsp.specs.declared.command.Command.{Command}
-use Rattle.rwsp.specs.declared.command.Command.TheVariants.{Verify}
+use Rattle.rwsp.specs.declared.command.Command.TheVariants.{Verify, Show}
 use Rattle.rwsp.specs.declared.answer.InputKind.TheVariants.{Problem, Roster}
 use Rattle.rwsp.specs.declared.answer.Answer.{Answer}
-use Rattle.rwsp.specs.declared.answer.Answer.TheVariants.{Meets, Breaks, RosterRefused, Usage, FileRefused, TooLong}
+use Rattle.rwsp.specs.declared.answer.Answer.TheVariants.{Meets, Shown, Breaks, RosterRefused, Usage, FileRefused, TooLong}
 
 -- what an answer says of the bytes of a problem file
 abbrev pub IsFileAnswer : Answer → List ℕ → Type 0
@@ -59,6 +59,12 @@ EndsAtFile held words answer = ((command : Command) × IsForm words command) × 
 abbrev pub EndsAtRoster : (List ℕ → Told) → Words → Answer → Type 0
 EndsAtRoster held words answer = IsForm words Verify × OfBoth held words (IsRosterAnswer answer)
 
+-- what an answer on a problem says, where the second file tells this: the problem was printed, or the roster has the answer
+abbrev pub IsAnswerOn : Told → Words → Instance → Answer → Type 0
+IsAnswerOn told words P answer =
+    (IsForm words Show × (answer ≡ Shown))
+    ⊎ (IsForm words Verify × IsOfRoster answer × WhereTold told (IsRosterAnswer answer P))
+
 -- what is so where an answer comes
 abbrev pub IsAnswer : (List ℕ → Told) → Words → Answer → Type 0
 IsAnswer held words Usage = HasNoForm words
@@ -68,6 +74,7 @@ IsAnswer held words (TooLong Roster) = EndsAtRoster held words (TooLong Roster)
 IsAnswer held words (RosterRefused why) = EndsAtRoster held words (RosterRefused why)
 IsAnswer held words Meets = EndsAtRoster held words Meets
 IsAnswer held words (Breaks broken) = EndsAtRoster held words (Breaks broken)
+IsAnswer held words Shown = IsForm words Show × OfProblem held words (λ P. Unit {0})
 
 -- a file could not be read: the count of the problem's file has risen, or that file spells a problem and the count of the roster's has risen
 abbrev pub IsReadFault : (List ℕ → Told) → (before now : List ℕ → ℕ) → Words → Type 0

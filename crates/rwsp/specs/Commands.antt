@@ -3,7 +3,7 @@ use Rattle.std.specs.Prelude.{◌≡◌, ◌≢◌, ℕ, ◌<◌, List, [], ◌�
 use Rattle.std.specs.String.{string_bytes}
 use Rattle.std.specs.declared.alloc.Global.{Global}
 use Rattle.rwsp.specs.declared.command.Command.{Command}
-use Rattle.rwsp.specs.declared.command.Command.TheVariants.{Verify}
+use Rattle.rwsp.specs.declared.command.Command.TheVariants.{Verify, Show}
 
 -- the words behind the program's name
 abbrev pub Words : Type 0
@@ -16,6 +16,7 @@ IsFileWord word = (0 < length word) × (slice_index word 0 ≢ 45)
 -- the words are a form of the command
 abbrev pub IsForm : Words → Command → Type 0
 IsForm (word ∷ file ∷ second ∷ []) Verify = (string_bytes word ≡ codes "verify") × IsFileWord (string_bytes file) × IsFileWord (string_bytes second)
+IsForm (word ∷ file ∷ []) Show = (string_bytes word ≡ codes "show") × IsFileWord (string_bytes file)
 IsForm words command = ⊥
 
 -- the words are a form of no command

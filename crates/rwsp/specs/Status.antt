@@ -1,12 +1,13 @@
 -- The status of each outcome.
 use Rattle.std.specs.Prelude.{ℕ}
 use Rattle.rwsp.specs.declared.answer.Answer.{Answer}
-use Rattle.rwsp.specs.declared.answer.Answer.TheVariants.{Meets, Breaks, RosterRefused, Usage, FileRefused, TooLong}
+use Rattle.rwsp.specs.declared.answer.Answer.TheVariants.{Meets, Shown, Breaks, RosterRefused, Usage, FileRefused, TooLong}
 use Rattle.rwsp.specs.declared.answer.Outcome.{Outcome}
 use Rattle.rwsp.specs.declared.answer.Outcome.TheVariants.{Done, ReadFault, WriteFault, Memory}
 
 abbrev pub status_of_answer : Answer → ℕ
 status_of_answer Meets = 0
+status_of_answer Shown = 0
 status_of_answer Usage = 2
 status_of_answer (FileRefused why) = 3
 status_of_answer (RosterRefused why) = 3

@@ -6,6 +6,7 @@ use Rattle.rwsp_terms.specs.Instance.{Instance}
 use Rattle.rwsp_terms.specs.Rules.{rule_of}
 use Rattle.rwsp_terms.specs.declared.data.Rule.{Rule}
 use Rattle.rwsp_terms.specs.declared.data.Rule.TheVariants.{Day}
+use Rattle.rwsp_file.specs.Text.{problem_text}
 use Rattle.rwsp_file.specs.declared.refusal.FileRefusal.{FileRefusal}
 use Rattle.rwsp_file.specs.declared.refusal.FileRefusal.TheVariants.{Ends, Number, Range, Row, Name, Unknown, Extra}
 use Rattle.roster_print.specs.RuleText.{rule_text}
@@ -16,7 +17,7 @@ use Rattle.rwsp.specs.Commands.{Words}
 use Rattle.rwsp.specs.Inputs.{IsProblemOf}
 use Rattle.rwsp.specs.declared.answer.InputKind.TheVariants.{Problem, Roster}
 use Rattle.rwsp.specs.declared.answer.Answer.{Answer}
-use Rattle.rwsp.specs.declared.answer.Answer.TheVariants.{Meets, Breaks, RosterRefused, Usage, FileRefused, TooLong}
+use Rattle.rwsp.specs.declared.answer.Answer.TheVariants.{Meets, Shown, Breaks, RosterRefused, Usage, FileRefused, TooLong}
 
 -- the text and a line feed
 abbrev pub line : List ℕ → List ℕ
@@ -58,6 +59,7 @@ usage_text = codes "usage: rwsp plan FILE [--budget B] | check FILE LOG [--worke
 -- an answer whose text is the same for every instance
 abbrev pub HasFixedText : Answer → Type 0
 HasFixedText (Breaks broken) = ⊥
+HasFixedText Shown = ⊥
 HasFixedText answer = Unit {0}
 
 -- the text of an answer, for the instance that the problem's file spells
@@ -69,8 +71,10 @@ text_of P (FileRefused why) = line (file_refusal_text why)
 text_of P (RosterRefused why) = line (roster_refusal_text why)
 text_of P Meets = line (codes "meets")
 text_of P (Breaks broken) = line (breaks_text P broken)
+text_of P Shown = problem_text P
 
--- the text is the answer's; where it names rules, for the instance that the problem's file spells
+-- the text is the answer's; where it tells of an instance, for the one that the problem's file spells
 abbrev pub IsTextOf : (List ℕ → Told) → Words → Answer → List ℕ → Type 0
 IsTextOf held words (Breaks broken) text = (P : Instance) × IsProblemOf held words P × (text ≡ text_of P (Breaks broken))
+IsTextOf held words Shown text = (P : Instance) × IsProblemOf held words P × (text ≡ text_of P Shown)
 IsTextOf held words answer text = (P : Instance) → text ≡ text_of P answer

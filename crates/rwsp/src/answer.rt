@@ -19,6 +19,8 @@ pub enum Answer {
     Meets,
     /// The roster breaks a rule: the first one, and where.
     Breaks(Broken),
+    /// The problem was printed in its canonical form.
+    Shown,
     /// The second file is no roster of the problem.
     RosterRefused(RosterRefusal),
     /// The words are no command.
@@ -50,7 +52,7 @@ impl Outcome {
         ensures { result ≡ status_of self.now }
     {
         match self {
-            Outcome::Done(Answer::Meets) => 0,
+            Outcome::Done(Answer::Meets | Answer::Shown) => 0,
             Outcome::Done(Answer::Usage) => 2,
             Outcome::Done(Answer::FileRefused(_) | Answer::RosterRefused(_) | Answer::TooLong(_)) =>
                 3,

@@ -7,6 +7,8 @@ ghost use Rattle.rwsp.specs.Commands.{IsFileWord, IsForm, HasNoForm, bytes_in};
 pub enum Command {
     /// Whether a roster meets all rules of a problem.
     Verify,
+    /// The canonical text of a problem.
+    Show,
 }
 
 fn is_file_word(word: &str) -> bool
@@ -21,6 +23,14 @@ pub fn command_of(words: &Vec<String>) -> Option<Command>
     ensures { MatchOption result (HasNoForm words.now.items) (IsForm words.now.items) }
 {
     match words.as_slice() {
+        [word, file] => {
+            let show = word.as_str() == "show";
+            if show && is_file_word(file.as_str()) {
+                Some(Command::Show)
+            } else {
+                None
+            }
+        }
         [word, file, second] => {
             let verify = word.as_str() == "verify";
             if verify && is_file_word(file.as_str()) && is_file_word(second.as_str()) {

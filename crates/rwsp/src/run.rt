@@ -3,9 +3,8 @@ ghost use Rattle.std.specs.Prelude.{◌≡◌, ℕ, ◌≤◌, List, length, tak
 ghost use Rattle.std.specs.Io.KnownBytes.{Appends, Keeps};
 ghost use Rattle.rwsp_io.specs.Told.{Rose, NeverFall};
 ghost use Rattle.rwsp_terms.specs.Instance.{Instance};
-ghost use Rattle.rwsp.specs.Answers.{IsAnswer, IsReadFault, IsOfRoster, IsRosterAnswer};
+ghost use Rattle.rwsp.specs.Answers.{IsAnswer, IsAnswerOn, IsReadFault};
 ghost use Rattle.rwsp.specs.Commands.{IsForm, second_name};
-ghost use Rattle.rwsp.specs.Inputs.{WhereTold};
 ghost use Rattle.rwsp.specs.Texts.{IsTextOf, HasFixedText, text_of};
 ghost use Rattle.rwsp.specs.declared.answer.Answer.{Answer};
 
@@ -83,8 +82,27 @@ fn reply_to<S: Shelf>(alloc: Global, words: &Vec<String>, shelf: &mut S) -> Resu
         Err(Exit::ReadFault) => return Err(Stop::ReadFault),
         Err(Exit::Memory) => return Err(Stop::Memory),
     };
+    reply_on(alloc, words, shelf, &problem, command)
+}
+
+// The reply to a command, for its problem.
+fn reply_on<S: Shelf>(
+    alloc: Global,
+    words: &Vec<String>,
+    shelf: &mut S,
+    problem: &Problem,
+    command: Command,
+) -> Result<Reply, Stop>
+    requires { IsForm words.now.items command }
+    ensures answer { IfOk result (λ r. IsAnswerOn (S.held shelf.old (second_name words.now.items)) words.now.items problem.now r.answer) }
+    ensures text { IfOk result (λ r. r.text.items ≡ text_of problem.now r.answer) }
+    ensures form { IsErrOf result Stop.ReadFault → IsForm words.now.items Command.Verify }
+    ensures fault { IsErrOf result Stop.ReadFault → Rose (S.faults shelf.old (second_name words.now.items)) (S.faults shelf.new (second_name words.now.items)) }
+    ensures faults { NeverFall (S.faults shelf.old) (S.faults shelf.new) }
+{
     match command {
-        Command::Verify => verify(alloc, words, shelf, &problem),
+        Command::Verify => verify(alloc, words, shelf, problem),
+        Command::Show => show(alloc, problem),
     }
 }
 
@@ -110,8 +128,7 @@ fn verify<S: Shelf>(
     problem: &Problem,
 ) -> Result<Reply, Stop>
     requires { IsForm words.now.items Command.Verify }
-    ensures kind { IfOk result (λ r. IsOfRoster r.answer) }
-    ensures answer { IfOk result (λ r. WhereTold (S.held shelf.old (second_name words.now.items)) (IsRosterAnswer r.answer problem.now)) }
+    ensures answer { IfOk result (λ r. IsAnswerOn (S.held shelf.old (second_name words.now.items)) words.now.items problem.now r.answer) }
     ensures text { IfOk result (λ r. r.text.items ≡ text_of problem.now r.answer) }
     ensures fault { IsErrOf result Stop.ReadFault → Rose (S.faults shelf.old (second_name words.now.items)) (S.faults shelf.new (second_name words.now.items)) }
     ensures faults { NeverFall (S.faults shelf.old) (S.faults shelf.new) }
@@ -121,6 +138,19 @@ fn verify<S: Shelf>(
         Err(Exit::ReadFault) => return Err(Stop::ReadFault),
         Err(_) => return Err(Stop::Memory),
     };
+    match text_on(alloc, problem, &answer) {
+        Ok(text) => Ok(Reply { answer, text }),
+        Err(_) => Err(Stop::Memory),
+    }
+}
+
+// The reply to `show` for a problem.
+fn show(alloc: Global, problem: &Problem) -> Result<Reply, Stop>
+    ensures answer { IfOk result (λ r. r.answer ≡ Answer.Shown) }
+    ensures text { IfOk result (λ r. r.text.items ≡ text_of problem.now r.answer) }
+    ensures fault { IsErrOf result Stop.ReadFault → ⊥ }
+{
+    let answer = Answer::Shown;
     match text_on(alloc, problem, &answer) {
         Ok(text) => Ok(Reply { answer, text }),
         Err(_) => Err(Stop::Memory),

@@ -307,3 +307,129 @@ fn reads_that_fail(rt: HostRuntime) -> Result<(), Fail> {
     assert!(rt; refused < 29);
     Ok(())
 }
+
+fn shows<R: Threads + Sync>(
+    rt: &R,
+    alloc: Global,
+    problem: &str,
+    status: u8,
+    text: &str,
+) -> Result<bool, AllocError> {
+    ends(rt, alloc, &["show", "F"], &[("F", problem)], status, text)
+}
+
+#[test]
+fn problems_in_canonical_form(rt: HostRuntime) -> Result<(), Fail> {
+    let commented =
+        "## Length of the schedule\r\n2\r\n## Employees\r\n1\r\n1\r\n1\t0\r\nD 360 480 Day 1 1\r\n1 1\r\n1 1\r\n0 0\r\n";
+    assert!(rt; shows(&rt, rt.alloc(), commented, 0, TWO_DAYS)?);
+    let longest = "7\n600\n1\n0 0 0 0 0 0 0\nD 360 480 1 7\n1 7\n1 7\n0 0\n";
+    assert!(rt; shows(&rt, rt.alloc(), longest, 0, longest)?);
+    let ranges = "2\n1\n1\n0..1 2..2\nD 360 480 1 1\n1 1\n1 1\n0 0\n";
+    let printed = "2\n1\n1\n0..1 2\nD 360 480 1 1\n1 1\n1 1\n0 0\n";
+    assert!(rt; shows(&rt, rt.alloc(), ranges, 0, printed)?);
+    let nine =
+        "7\n9\n3\n2 2 2 2 2 2 2\n2 2 2 2 2 2 2\n2 2 2 2 2 2 2\nD 360 480 2 7\nA 840 480 2 6\nN 1320 480 2 5\n2 4\n4 7\n3 0\nN D\nN A\nA D\n";
+    assert!(rt; shows(&rt, rt.alloc(), NINE_WEEKS, 0, nine)?);
+    Ok(())
+}
+
+// The first number beyond each limit is refused.
+#[test]
+fn numbers_beyond_the_limits(rt: HostRuntime) -> Result<(), Fail> {
+    let cases = [
+        (
+            "29\n1\n1\n1 0\nD 360 480 1 1\n1 1\n1 1\n0 0\n",
+            "file refused: range 1 line 1\n",
+        ),
+        (
+            "0\n1\n1\n1 0\nD 360 480 1 1\n1 1\n1 1\n0 0\n",
+            "file refused: range 1 line 1\n",
+        ),
+        (
+            "2\n601\n1\n1 0\nD 360 480 1 1\n1 1\n1 1\n0 0\n",
+            "file refused: range 2 line 2\n",
+        ),
+        (
+            "2\n1\n9\n1 0\nD 360 480 1 1\n1 1\n1 1\n0 0\n",
+            "file refused: range 4 line 3\n",
+        ),
+        (
+            "2\n1\n1\n601 0\nD 360 480 1 1\n1 1\n1 1\n0 0\n",
+            "file refused: range 5 line 4\n",
+        ),
+        (
+            "2\n1\n1\n1 0\nD 10001 480 1 1\n1 1\n1 1\n0 0\n",
+            "file refused: range 6 line 5\n",
+        ),
+        (
+            "2\n1\n1\n1 0\nD 360 480 1 1\n1 1\n1 1\n65 0\n",
+            "file refused: range 8 line 8\n",
+        ),
+        (
+            "2\n1\n1\n1 0\nD 360 480 1 1\n1 1\n1 1\n0 65\n",
+            "file refused: range 9 line 8\n",
+        ),
+        (
+            "2\n1\n1\n1 0\nDDDDDDDDDDDDDDDDDDDDDDDDDDDDDDDDD 360 480 1 1\n1 1\n1 1\n0 0\n",
+            "file refused: name line 5\n",
+        ),
+    ];
+    for (problem, text) in cases {
+        assert!(rt; shows(&rt, rt.alloc(), problem, 3, text)?, "{text}");
+    }
+    Ok(())
+}
+
+// The last number within each limit is taken.
+#[test]
+fn numbers_at_the_limits(rt: HostRuntime) -> Result<(), Fail> {
+    let demand = "2\n1\n1\n600 0\nD 360 480 1 1\n1 1\n1 1\n0 0\n";
+    assert!(rt; shows(&rt, rt.alloc(), demand, 0, demand)?);
+    let name = "2\n1\n1\n1 0\nDDDDDDDDDDDDDDDDDDDDDDDDDDDDDDDD 360 480 1 1\n1 1\n1 1\n0 0\n";
+    assert!(rt; shows(&rt, rt.alloc(), name, 0, name)?);
+    let mut pairs = String::from_str(rt.alloc(), "2\n1\n1\n1 0\nD 360 480 1 1\n1 1\n1 1\n64 0\n")?;
+    for _ in 0..64u32 {
+        pairs.push_str("D D\n")?;
+    }
+    assert!(rt; shows(&rt, rt.alloc(), pairs.as_str(), 0, pairs.as_str())?);
+    Ok(())
+}
+
+// A text of the longest length, most of it one comment, and one byte more.
+#[test]
+fn the_longest_problem(rt: HostRuntime) -> Result<(), Fail> {
+    let alloc = rt.alloc();
+    let words = words_of(alloc, &["show", "F"])?;
+    for (length, status, text) in [
+        (1_048_576usize, 0u8, TWO_DAYS),
+        (1_048_577, 3, "too long: problem\n"),
+    ] {
+        let mut file = Vec::from_slice(alloc, TWO_DAYS.as_bytes())?;
+        file.push(b'#')?;
+        file.resize(length, b'x')?;
+        let files = vec![in alloc; (String::from_str(alloc, "F")?, file)]?;
+        let mut shelf = MemoryShelf::new(files, 100_000, Vec::new(alloc));
+        let mut sink = MemorySink::new(alloc, 1000, 1000, Vec::new(alloc))?;
+        let outcome = run(&rt, alloc, &words, &mut shelf, &mut sink);
+        assert_eq!(rt; outcome.status(), status);
+        assert_eq!(rt; sink.bytes(), text.as_bytes());
+    }
+    Ok(())
+}
+
+// A fault where the end of the file would be seen.
+#[test]
+fn a_fault_behind_the_last_byte(rt: HostRuntime) -> Result<(), Fail> {
+    let alloc = rt.alloc();
+    let words = words_of(alloc, &["show", "F"])?;
+    let file = Vec::from_slice(alloc, TWO_DAYS.as_bytes())?;
+    let files = vec![in alloc; (String::from_str(alloc, "F")?, file)]?;
+    let mut shelf = MemoryShelf::new(files, 100, vec![in alloc; 3u64]?);
+    let mut sink = MemorySink::new(alloc, 1000, 1000, Vec::new(alloc))?;
+    let outcome = run(&rt, alloc, &words, &mut shelf, &mut sink);
+    assert_eq!(rt; outcome, Outcome::ReadFault);
+    assert_eq!(rt; outcome.status(), 6);
+    assert_eq!(rt; sink.bytes(), b"".as_slice());
+    Ok(())
+}

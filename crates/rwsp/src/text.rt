@@ -8,7 +8,7 @@ ghost use Rattle.rwsp.specs.Texts.{text_of, place_text, line, file_refusal_text,
 use crate::answer::{Answer, InputKind};
 use roster_checker::Broken;
 use roster_print::{RosterRefusal, put_rule};
-use rwsp_file::FileRefusal;
+use rwsp_file::{FileRefusal, print_problem};
 use rwsp_model::{Problem, Rule, rule_at};
 use rwsp_text::put_number;
 use std::alloc::{AllocError, Global};
@@ -67,7 +67,7 @@ fn fixed_line(alloc: Global, answer: &Answer) -> Result<String, AllocError>
         Answer::TooLong(InputKind::Roster) => String::from_str(alloc, "too long: roster\n"),
         Answer::FileRefused(refusal) => file_refusal_line(alloc, *refusal),
         Answer::RosterRefused(refusal) => roster_refusal_line(alloc, *refusal),
-        Answer::Breaks(_) => unreachable!(),
+        Answer::Breaks(_) | Answer::Shown => unreachable!(),
     }
 }
 
@@ -109,6 +109,7 @@ pub fn text_on(alloc: Global, problem: &Problem, answer: &Answer) -> Result<Vec<
 {
     match answer {
         Answer::Breaks(broken) => breaks_text(alloc, problem, broken),
+        Answer::Shown => print_problem(alloc, problem),
         _ => fixed_text(alloc, answer),
     }
 }
