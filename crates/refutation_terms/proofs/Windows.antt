@@ -1,5 +1,6 @@
 -- Windows of a roster: round the cycle, over domains, and clean.
-use Rattle.std.proofs.Common.{◌≡◌, ℕ, zero, suc, ◌+◌, ◌-◌, ◌*◌, ◌%◌, ◌<◌, ◌≤◌, List, [], ◌∷◌, ◌++◌, length, get_or, refl, ap, sym, ◌∙◌, arith, subst, append_assoc, length-append, IsTrue, inl, inr}
+use Rattle.std.proofs.Common.{◌≡◌, ℕ, zero, suc, ◌+◌, ◌%◌, ◌<◌, List, [], ◌∷◌, ◌++◌, length, get_or, refl, ap, sym, ◌∙◌, arith, subst, append_assoc, length-append, IsTrue}
+use Rattle.std.specs.Prelude.{Contains}
 use Rattle.std.proofs.Math.Nat.{mod-add-mod}
 use Rattle.std.proofs.lemmas.Nat.{mod_below}
 use Rattle.rwsp_terms.specs.declared.data.Symbol.{Symbol}
@@ -7,8 +8,8 @@ use Rattle.rwsp_terms.specs.declared.data.Rule.{Rule}
 use Rattle.rwsp_terms.specs.declared.data.Rule.TheVariants.{MaxShift, MinShift, MaxOff, MinOff, MaxWork, MinWork, Pair, Triple, Day}
 use Rattle.rwsp_terms.specs.Instance.{Instance, cells}
 use Rattle.rwsp_terms.specs.Window.{Bad, cell, window, off_symbol}
-use Rattle.rwsp_terms.specs.Roster.{MeetsRule, HasNoBadWindow, IsRoster}
-use Rattle.rwsp_terms.specs.Rules.{Names, Meets}
+use Rattle.rwsp_terms.specs.Roster.{MeetsRule, HasNoBadWindow}
+use Rattle.rwsp_terms.specs.Rules.{Meets}
 use Rattle.rwsp_terms.proofs.Windows.{length-window, window-add}
 use Rattle.refutation_terms.specs.Word.{Domains, Within, Over, Clean}
 
@@ -84,3 +85,18 @@ clean-window P R s p len some m before part after e r named bad =
     let long : length s ≡ cells P = m.is_roster.long in
     let positive : 0 < length s = omega (arith, long, some) in
     no_bad_met P r s positive (m.rules r named) (p + length before) (length part) (subst (Bad P r) (part_of_window s p len before part after e) bad)
+
+-- a part of a clean word is clean
+pub clean-part : (P : Instance) (R : List ℕ) (before part after : List Symbol) → Clean P R (before ++ part ++ after) → Clean P R part
+clean-part P R before part after h a u b e r named bad =
+    let front : before ++ a ++ u ++ b ++ after ≡ before ++ (a ++ u ++ b) ++ after = append_assoc_three before a u b after in
+    h (before ++ a) u (b ++ after) (ap (λ w. before ++ w ++ after) e ∙ sym front ∙ append_assoc (before ++ a ++ u) b after) r named bad
+  where
+    append_assoc_three : (x a u b y : List Symbol) → x ++ a ++ u ++ b ++ y ≡ x ++ (a ++ u ++ b) ++ y
+    append_assoc_three x a u b y =
+        ap (λ w. w ++ y) (ap (λ w. w ++ b) (append_assoc x a u) ∙ append_assoc x (a ++ u) b)
+
+-- a word that is clean for a list is clean for a part of it
+pub clean-fewer : (P : Instance) (R fewer : List ℕ) (u : List Symbol) → ((k : ℕ) → Contains fewer k → Contains R k) → Clean P R u → Clean P fewer u
+clean-fewer P R fewer u within h before part after e r named bad =
+    h before part after e r (named.0, within named.0 named.1, named.2) bad

@@ -2,4 +2,11 @@ pub mod Word
 pub mod Leaf
 pub mod Tree
 pub mod Log
+pub mod Escape
+pub mod Sharp
+pub mod Strip
+pub mod LogText
+pub mod Verdict
+pub mod Spelling
 pub mod Laws
+pub mod Examples

@@ -1,12 +1,12 @@
 -- What it means that a log passes, and that it is spent.
-use Rattle.std.specs.Prelude.{◌≡◌, ◌≢◌, ◌⊎◌, ℕ, suc, ◌+◌, ◌<◌, ◌≤◌, List, [], ◌∷◌, length, slice_get, Bool, true, false, Option, Some, None, ℤ, pos, ◌≤ℤ◌, count_by}
-use Rattle.rwsp_terms.specs.declared.data.Symbol.{Symbol}
+use Rattle.std.specs.Prelude.{◌≡◌, ◌≢◌, ◌⊎◌, ℕ, ◌*◌, ◌<◌, ◌≤◌, List, [], ◌∷◌, length, slice_get, All, Bool, true, false, Option, Some, None, pos, ◌≤ℤ◌, count_by}
 use Rattle.rwsp_terms.specs.declared.data.Weight.{Weight}
 use Rattle.rwsp_terms.specs.declared.data.Rule.{Rule}
 use Rattle.rwsp_terms.specs.declared.data.Rule.TheVariants as TheRules
-use Rattle.rwsp_terms.specs.Instance.{Instance, least, IsSymbol}
-use Rattle.rwsp_terms.specs.Rules.{Names, NamesShortOnly}
-use Rattle.rwsp_terms.specs.Weights.{weight_at}
+use Rattle.std.specs.List.Sorted.{IsStrictlyIncreasing}
+use Rattle.rwsp_terms.specs.Instance.{Instance, cells, least, IsSymbol, IsDay}
+use Rattle.rwsp_terms.specs.Rules.{rules, Names, NamesShortOnly}
+use Rattle.rwsp_terms.specs.Weights.{weight_at, AreWeights}
 use Rattle.refutation_terms.specs.declared.lines.Line.{Line}
 use Rattle.refutation_terms.specs.declared.lines.Line.TheVariants.{Split, Window, Day, Dead, Bound, Unfinished}
 use Rattle.refutation_terms.specs.declared.lines.Turn.{Turn}
@@ -19,6 +19,38 @@ pub record Log : Type 0 where
   pub named : List ℕ
   pub turn : Option Turn
   pub lines : List Line
+
+-- the lengths of words that a leaf may speak of
+abbrev pub IsLength : ℕ → Type 0
+IsLength len = (0 < len) × (len ≤ 16800)
+
+-- ascending numbers of rules of the problem
+abbrev pub AreRules : Instance → List ℕ → Type 0
+AreRules P R = IsStrictlyIncreasing R × All (λ k. (0 < k) × (k ≤ length (rules P))) R
+
+-- weights on days and symbols of the problem
+abbrev pub AreWeightsOf : Instance → List Weight → Type 0
+AreWeightsOf P y = AreWeights y × All (λ e. IsDay P e.day × IsSymbol P e.symbol) y
+
+-- the numbers of a line are in their ranges, and its symbols are the problem's
+abbrev pub LineFits : Instance → Line → Type 0
+LineFits P (Split p x) = (p < cells P) × IsSymbol P x
+LineFits P (Window number p len) = (0 < number) × (number ≤ length (rules P)) × (p < cells P) × IsLength len
+LineFits P (Day j x over) = IsDay P j × IsSymbol P x
+LineFits P (Dead p len R) = (p < cells P) × IsLength len × AreRules P R
+LineFits P (Bound p turns R y) = (p < cells P) × IsLength (turns * cells P) × AreRules P R × AreWeightsOf P y
+LineFits P Unfinished = Unit {0}
+
+-- and those of a turn
+abbrev pub TurnFits : Instance → Option Turn → Type 0
+TurnFits P None = Unit {0}
+TurnFits P (Some t) = IsDay P t.day × IsSymbol P t.x
+
+-- a log over the rules, days, positions and symbols of the problem
+pub record Fits (P : Instance) (g : Log) : Type 0 where
+  pub named : AreRules P g.named
+  pub turn : TurnFits P g.turn
+  pub lines : (k : ℕ) (line : Line) → slice_get g.lines k ≡ Some line → LineFits P line
 
 -- a split that isn't idle, or a leaf that holds
 abbrev pub Holds : Instance → Domains → Line → Type 0
@@ -51,7 +83,7 @@ TurnCites (Some t) r = r ≡ TheRules.Day t.day
 -- a turn is to a symbol that some week must hold on its day
 abbrev pub IsAllowed : Instance → Option Turn → Type 0
 IsAllowed P None = Unit {0}
-IsAllowed P (Some t) = IsSymbol P t.x × (pos 1 ≤ℤ least P t.x.number t.day)
+IsAllowed P (Some t) = pos 1 ≤ℤ least P t.x.number t.day
 
 -- the lists of dead and bound leaves hold short rules only
 abbrev pub ListsShortOnly : Instance → Line → Type 0
@@ -63,8 +95,9 @@ ListsShortOnly P line = Unit {0}
 abbrev pub HoldsAt : Instance → Log → ℕ → Line → Type 0
 HoldsAt P g k line = Holds P (domains_at P g.turn g.lines k) line
 
--- the turn is allowed, each cited rule is named, and lists hold short rules only
+-- the log fits the problem, its turn is allowed, each cited rule is named, and lists hold short rules only
 pub record IsGrounded (P : Instance) (g : Log) : Type 0 where
+  pub fits : Fits P g
   pub turn : IsAllowed P g.turn
   pub turn_named : (r : Rule) → TurnCites g.turn r → Names P g.named r
   pub named : (k : ℕ) (line : Line) (r : Rule) → slice_get g.lines k ≡ Some line → Cites P line r → Names P g.named r
@@ -75,6 +108,10 @@ pub record Passes (P : Instance) (g : Log) : Type 0 where
   pub grounded : IsGrounded P g
   pub tree : IsTree g.lines
   pub holds : (k : ℕ) (line : Line) → slice_get g.lines k ≡ Some line → HoldsAt P g k line
+
+-- the header names no rule that neither a line nor the turn cites
+abbrev pub NamesOnlyCited : Instance → Log → Type 0
+NamesOnlyCited P g = (r : Rule) → Names P g.named r → TurnCites g.turn r ⊎ ((k : ℕ) × (line : Line) × (slice_get g.lines k ≡ Some line) × Cites P line r)
 
 -- every line but an unfinished one
 abbrev pub is_worked : Line → Bool

@@ -1,5 +1,5 @@
 -- The tree that the lines of a log form, and the domains at a line.
-use Rattle.std.specs.Prelude.{◌≡◌, ℕ, zero, suc, ◌-◌, List, [], ◌∷◌, ◌++◌, take, Bool, true, false, Option, Some, None, ◌&&◌, ◌||◌, ◌==◌, not}
+use Rattle.std.specs.Prelude.{◌≡◌, ℕ, zero, suc, ◌-◌, List, [], ◌∷◌, ◌++◌, take, Bool, true, Option, Some, None, ◌&&◌, ◌||◌, ◌==◌, not}
 use Rattle.rwsp_terms.specs.declared.data.Symbol.{Symbol}
 use Rattle.rwsp_terms.specs.Instance.{Instance}
 use Rattle.refutation_terms.specs.declared.lines.Line.{Line}
@@ -27,7 +27,8 @@ lines_in (Node p x first second) = Split p x ∷ lines_in first ++ lines_in seco
 abbrev pub IsTree : List Line → Type 0
 IsTree lines = (t : Tree) × (lines_in t ≡ lines)
 
--- what follows the first n whole trees of the lines, or None where the lines end before
+-- what follows the first n whole trees of the lines, or None where the lines end before.
+-- The laws `trees_are_as_said` and `domains_are_as_said` tie this walk from the front, and what rests on it, to words
 abbrev pub after_trees : ℕ → List Line → Option (List Line)
 after_trees zero lines = Some lines
 after_trees (suc n) [] = None
@@ -40,17 +41,23 @@ pub data Side : Type 0 where
   Second : Side
   Neither : Side
 
-abbrev pub side_past_first : Option (List Line) → Side
-side_past_first None = Second
-side_past_first (Some lines) = Neither
+-- by what follows one whole tree, and what follows two
+abbrev pub side_of : Option (List Line) → Option (List Line) → Side
+side_of None two = First
+side_of (Some rest) None = Second
+side_of (Some rest) (Some left) = Neither
 
-abbrev pub side_past_split : Option (List Line) → Side
-side_past_split None = First
-side_past_split (Some lines) = side_past_first (after_trees 1 lines)
-
--- the side by the lines between: the first until they have a whole tree in front, then the second until they have another
+-- the side by the lines between: the first until they have a whole tree in front, then the second until they have two
 abbrev pub side : List Line → Side
-side between = side_past_split (after_trees 1 between)
+side between = side_of (after_trees 1 between) (after_trees 2 between)
+
+-- the same in words: a line is in the first side of a split where no front of the lines between is a whole tree
+abbrev pub InFirst : List Line → Type 0
+InFirst between = (front rest : List Line) → between ≡ front ++ rest → IsTree front → ⊥
+
+-- and in the second side where a whole tree is in front, and no front of what follows is one
+abbrev pub InSecond : List Line → Type 0
+InSecond between = (front : List Line) × (rest : List Line) × (between ≡ front ++ rest) × IsTree front × InFirst rest
 
 -- the first side takes the symbol of the split alone, the second side all others
 abbrev pub side_takes : Side → Bool → Bool

@@ -1,12 +1,12 @@
 -- Words over domains, clean words, and what words weigh.
-use Rattle.std.specs.Prelude.{◌≡◌, ℕ, suc, ◌+◌, ◌*◌, ◌%◌, ◌<◌, ◌≤◌, List, [], ◌∷◌, ◌++◌, Bool, IsTrue, nat_le, ℤ, pos, ◌+ℤ◌, ◌*ℤ◌, slice_index_or}
+use Rattle.std.specs.Prelude.{◌≡◌, ℕ, ◌+◌, ◌*◌, ◌%◌, ◌<◌, ◌≤◌, List, [], ◌∷◌, ◌++◌, Bool, IsTrue, nat_le, ℤ, pos, ◌+ℤ◌, ◌*ℤ◌, slice_index_or}
 use Rattle.std.specs.Int.{int_min}
 use Rattle.std.specs.List.{range_with_len}
 use Rattle.rwsp_terms.specs.declared.data.Symbol.{Symbol}
 use Rattle.rwsp_terms.specs.declared.data.Weight.{Weight}
 use Rattle.rwsp_terms.specs.declared.data.Rule.{Rule}
 use Rattle.rwsp_terms.specs.Instance.{Instance, cells, shift_count, least, greatest}
-use Rattle.rwsp_terms.specs.Window.{Bad, off_symbol}
+use Rattle.rwsp_terms.specs.Window.{Bad, off_symbol, window}
 use Rattle.rwsp_terms.specs.Roster.{IsRoster}
 use Rattle.rwsp_terms.specs.Rules.{Names}
 use Rattle.rwsp_terms.specs.Weights.{weight_at}
@@ -28,6 +28,10 @@ full P p x = nat_le x (shift_count P)
 pub record Within (P : Instance) (D : Domains) (s : List Symbol) : Type 0 where
   pub is_roster : IsRoster P s
   pub each : (p : ℕ) → p < cells P → IsTrue (D p (slice_index_or s p off_symbol).number)
+
+-- the roster that begins k weeks later, round the cycle
+abbrev pub turned : Instance → ℕ → List Symbol → List Symbol
+turned P k s = window s (k * P.days) (cells P)
 
 -- a word whose symbols are in the domains of the positions from p on, round the cycle. Where it passes a position twice it may take two symbols there
 abbrev pub Over : Instance → Domains → ℕ → List Symbol → Type 0

@@ -1,7 +1,13 @@
 // Laws of the definitions. Each function's contract is the law, and specs/Laws.antt states it.
-ghost use Rattle.refutation_terms.specs.Laws.{WindowsAreOver, SidesTakeAll, SidesShareNone, WindowsAreClean};
+ghost use Rattle.refutation_terms.specs.Laws.{TreesAreAsSaid, WalksReadTrees, SidesAreAsSaid, DomainsAreAsSaid, IdleIsAsSaid, OverIsAsSaid, DomainsAreNeverEmpty, WindowsAreOver, SidesTakeAll, SidesShareNone, WindowsAreClean, PartsAreClean, FewerRulesAreClean, WindowsWeighEnough, WindowsWeighExactly, TurningKeepsRules, TurningKeepsLists, SomeTurnHasIt, PassingLeavesNoRoster, PassingIsNotSpent};
+ghost use Rattle.refutation_terms.specs.Spelling.{SpelledLinesFit, FittingLinesAreSpelled, TextsAreDistinct, VerdictIsUnique};
 
-/// Within the domains, every window of a roster is a word over them.
+/// A log that passes, with or without a turn, and a roster that meets the rules that it names exclude each other.
+pub fn passing_leaves_no_roster()
+    ensures { PassingLeavesNoRoster }
+{}
+
+/// Within the domains, every window of a roster is a word over them, from every position, for every length.
 pub fn windows_are_over()
     ensures { WindowsAreOver }
 {}
@@ -15,4 +21,74 @@ pub fn sides_part_rosters()
 /// A roster that meets the rules of a list has only windows that are clean for it.
 pub fn windows_are_clean()
     ensures { WindowsAreClean }
+{}
+
+/// A window of whole turns of a roster that meets the days weighs at least so many times the total; with single
+/// numbers exactly so.
+pub fn windows_weigh_enough()
+    ensures enough { WindowsWeighEnough }
+    ensures exactly { WindowsWeighExactly }
+{}
+
+/// Turning a roster by whole weeks keeps every rule met and not met; so some turned roster has in week 1 what must
+/// be there.
+pub fn turning_keeps_rules()
+    ensures each { TurningKeepsRules }
+    ensures lists { TurningKeepsLists }
+    ensures some { SomeTurnHasIt }
+{}
+
+/// A log that passes is not spent, whatever the budget.
+pub fn passing_is_not_spent()
+    ensures { PassingIsNotSpent }
+{}
+
+/// A clean word stays clean when it is cut at either end, and when rules are taken out of the list.
+pub fn clean_stays_clean()
+    ensures parts { PartsAreClean }
+    ensures fewer { FewerRulesAreClean }
+{}
+
+/// No domain at a line is empty where no earlier split is idle.
+pub fn domains_are_never_empty()
+    ensures { DomainsAreNeverEmpty }
+{}
+
+/// A whole tree is one leaf line, or a split followed by two whole trees; a walk from the front reads exactly these.
+pub fn trees_are_as_said()
+    ensures trees { TreesAreAsSaid }
+    ensures walks { WalksReadTrees }
+{}
+
+/// A line is in the first side of a split where no front of the lines between is a whole tree, and in the second
+/// where one is and no front of the lines behind it is; the domains at a line are what these sides leave.
+pub fn domains_are_as_said()
+    ensures sides { SidesAreAsSaid }
+    ensures domains { DomainsAreAsSaid }
+{}
+
+/// A split isn't idle where its symbol is in the domain beside another.
+pub fn idle_is_as_said()
+    ensures { IdleIsAsSaid }
+{}
+
+/// A word over domains from a position has at each place a symbol of the domain there, round the cycle.
+pub fn over_is_as_said()
+    ensures { OverIsAsSaid }
+{}
+
+/// Bytes that spell a line are its text, and the line fits the problem; the text of a line that fits spells it.
+pub fn lines_have_one_spelling()
+    ensures fit { SpelledLinesFit }
+    ensures spelled { FittingLinesAreSpelled }
+{}
+
+/// No two logs that fit a problem have one text.
+pub fn texts_are_distinct()
+    ensures { TextsAreDistinct }
+{}
+
+/// A text has one verdict at most.
+pub fn the_verdict_is_unique()
+    ensures { VerdictIsUnique }
 {}

@@ -1,7 +1,9 @@
 //! The words in which refutations are spoken of: the lines of a log, and in specs/ what it means that a log passes.
 #![tactic(auto)]
 
+pub mod examples;
 pub mod laws;
 mod lines;
+mod sharing;
 
 pub use lines::{Line, LogRefusal, Turn};

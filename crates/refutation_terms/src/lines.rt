@@ -5,13 +5,28 @@ use rwsp_terms::{RuleList, Symbol, Weights, Word};
 #[derive(Debug, Drop)]
 pub enum Line {
     /// First the rosters that hold `x` at position `p`, then those that don't.
-    Split { p: u32, x: Symbol },
+    Split {
+        p: u32,
+        x: Symbol,
+    },
     /// Every word of `len` days from position `p` is bad for the rule.
-    Window { rule: u32, p: u32, len: u32 },
+    Window {
+        rule: u32,
+        p: u32,
+        len: u32,
+    },
     /// Too many cells of a day hold `x` for sure, or too few still can.
-    Day { day: u32, x: Symbol, over: bool },
+    Day {
+        day: u32,
+        x: Symbol,
+        over: bool,
+    },
     /// No word of `len` days from position `p` is clean for the rules.
-    Dead { p: u32, len: u32, rules: RuleList },
+    Dead {
+        p: u32,
+        len: u32,
+        rules: RuleList,
+    },
     /// Every clean word of so many turns from position `p` weighs less than the demand asks for.
     Bound {
         p: u32,

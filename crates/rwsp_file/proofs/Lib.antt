@@ -11,3 +11,6 @@ pub mod Whole
 pub mod WordForms
 pub mod Valid
 pub mod TextLaws
+pub mod PrintSteps
+pub mod Printing
+pub mod TextSteps

@@ -26,10 +26,10 @@ pub record HasNames (P : Instance) : Type 0 where
 abbrev test_name : List ℕ → ShiftRow → Bool
 test_name name row = bytes_eq name row.name
 
-no_row : ShiftRow
+pub no_row : ShiftRow
 no_row = record { name = []; start = 0; length = 0; bounds = record { least = 0; greatest = 0 } }
 
-in_place : (P : Instance) (k : ℕ) → k < length P.shifts → name_numbered P (suc k) ≡ (get_or P.shifts k no_row).name
+pub in_place : (P : Instance) (k : ℕ) → k < length P.shifts → name_numbered P (suc k) ≡ (get_or P.shifts k no_row).name
 in_place P k less = ap name_in (slice_get-get_or P.shifts k no_row less)
 
 symbol_found : (P : Instance) (text : List ℕ) (x : Symbol) → symbol_in P.shifts text ≡ Some x → (x.number ≤ shift_count P) × (text ≡ name_of P x)

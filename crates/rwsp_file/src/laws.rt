@@ -1,5 +1,5 @@
 // Laws of texts, instances and refusals. Each function's contract is the law.
-ghost use Rattle.rwsp_file.specs.Laws.{TextsSpellOne, TextsSpellOrFail};
+ghost use Rattle.rwsp_file.specs.Laws.{CanonicalTextsSpell, TextsSpellOne, TextsSpellOrFail};
 
 /// A text spells at most one instance.
 #[tactic(auto, using(crate::proofs::TextLaws::texts_spell_one))]
@@ -11,4 +11,10 @@ pub fn texts_spell_one()
 #[tactic(auto, using(crate::proofs::TextLaws::texts_spell_or_fail))]
 pub fn texts_spell_or_fail()
     ensures { TextsSpellOrFail }
+{}
+
+/// The canonical text of a valid instance spells it and no other.
+#[tactic(auto, using(crate::proofs::Printing::canonical_texts_spell))]
+pub fn canonical_texts_spell()
+    ensures { CanonicalTextsSpell }
 {}

@@ -5,13 +5,15 @@ mod cursor;
 mod demand;
 mod fields;
 mod laws;
+mod print;
 mod read;
 mod refusal;
 mod row;
 mod sequences;
 mod shifts;
 
-pub use laws::{texts_spell_one, texts_spell_or_fail};
+pub use laws::{canonical_texts_spell, texts_spell_one, texts_spell_or_fail};
+pub use print::print_problem;
 pub use read::read_problem;
 pub use refusal::FileRefusal;
 

@@ -138,3 +138,41 @@ fn long_texts_are_read(rt: HostRuntime) -> Result<(), Fail> {
     assert_eq!(rt; failure(rt.alloc(), &text)?, None);
     Ok(())
 }
+
+// The canonical text of what the bytes spell.
+fn canonical(alloc: Global, bytes: &[u8]) -> Result<Vec<u8>, AllocError> {
+    if bytes.len() > 1_048_576 {
+        return Err(AllocError);
+    }
+    match read_problem(alloc, bytes) {
+        Ok(problem) => print_problem(alloc, &problem),
+        Err(_) => Err(AllocError),
+    }
+}
+
+#[test]
+fn canonical_texts_are_printed(rt: HostRuntime) -> Result<(), Fail> {
+    let cases: [(&[u8], &[u8]); 4] = [
+        (
+            b"## Length of the schedule\r\n2\r\n## Employees\r\n1\r\n1\r\n1\t0\r\nD 360 480 Day 1 1\r\n1 1\r\n1 1\r\n0 0\r\n".as_slice(),
+            b"2\n1\n1\n1 0\nD 360 480 1 1\n1 1\n1 1\n0 0\n".as_slice(),
+        ),
+        (
+            b"2\n1\n1\n0..1 2..2\nD 360 480 1 1\n1 1\n1 1\n0 0\n".as_slice(),
+            b"2\n1\n1\n0..1 2\nD 360 480 1 1\n1 1\n1 1\n0 0\n".as_slice(),
+        ),
+        (
+            b"002 1 1 3..001 000000000\nD 0360 480 1 1\n1 1 1 1 1 1 D - - D\n  D".as_slice(),
+            b"2\n1\n1\n3..1 0\nD 360 480 1 1\n1 1\n1 1\n1 1\nD -\n- D D\n".as_slice(),
+        ),
+        (
+            b"7\n600\n1\n0 0 0 0 0 0 0\nD 360 480 1 7\n1 7\n1 7\n0 0\n".as_slice(),
+            b"7\n600\n1\n0 0 0 0 0 0 0\nD 360 480 1 7\n1 7\n1 7\n0 0\n".as_slice(),
+        ),
+    ];
+    for (text, printed) in cases.iter() {
+        let found = canonical(rt.alloc(), text)?;
+        assert_eq!(rt; found.as_slice(), *printed);
+    }
+    Ok(())
+}

@@ -45,3 +45,9 @@ pub fn put_number(out: &mut Vec<u8>, value: u64) -> Result<(), AllocError>
     let digits = value.to_string(*out.allocator())?;
     out.extend_from_slice(digits.as_bytes())
 }
+
+/// A number below a thousand million that is printed and read is the number.
+#[tactic(auto, using(crate::proofs::Printed::printed_is_read))]
+pub fn printed_is_read()
+    ensures { PrintedIsRead }
+{}

@@ -4,7 +4,7 @@
 mod digits;
 mod scan;
 
-pub use digits::{number, put_number};
+pub use digits::{number, printed_is_read, put_number};
 pub use scan::{Token, tokens};
 
 #[cfg(test)]

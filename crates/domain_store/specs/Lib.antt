@@ -1,0 +1,3 @@
+pub mod Sets
+pub mod Store
+pub mod Kept

@@ -1,0 +1,8 @@
+use crate::symbol_set::SymbolSet;
+
+/// A change of a domain: its position, and the domain that stood there before.
+#[derive(Debug, Drop)]
+pub struct Change {
+    pub position: u32,
+    pub before: SymbolSet,
+}

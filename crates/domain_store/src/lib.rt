@@ -1,0 +1,13 @@
+//! Domains: for each position of a roster the symbols that it may still have, with a trail by which changes are undone.
+#![tactic(auto)]
+
+mod change;
+mod domains;
+mod mark;
+mod sharing;
+mod symbol_set;
+#[cfg(test)]
+mod tests;
+
+pub use domains::Domains;
+pub use mark::Mark;

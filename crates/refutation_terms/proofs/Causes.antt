@@ -1,0 +1,333 @@
+-- One cause for a line that is refused.
+use Rattle.std.proofs.Common.{◌≡◌, ℕ, ◌≤◌, List, [], ◌∷◌, ◌++◌, refl, ap, sym, ◌∙◌, subst, arith, inl, inr, true, false, Some, None, pos, ℤ}
+use Rattle.std.specs.Prelude.{◌≤ℤ◌, ◌<ℤ◌, ◌*ℤ◌}
+use Rattle.std.proofs.lemmas.Int.{ints}
+use Rattle.std.specs.Fmt.{decimal}
+use Rattle.std.proofs.lemmas.Fmt.{decimal_injective}
+use Rattle.rwsp_terms.specs.declared.data.Symbol.{Symbol}
+use Rattle.rwsp_terms.specs.declared.data.Rule.{Rule}
+use Rattle.rwsp_terms.specs.declared.data.Rule.TheVariants as TheRules
+use Rattle.rwsp_terms.specs.Instance.{Instance, least, symbol_of}
+use Rattle.rwsp_terms.specs.Rules.{Names}
+use Rattle.refutation_terms.specs.declared.lines.Line.{Line}
+use Rattle.refutation_terms.specs.declared.lines.Line.TheVariants.{Split, Window, Day, Dead, Bound, Unfinished}
+use Rattle.refutation_terms.specs.declared.lines.LogRefusal.{LogRefusal}
+use Rattle.refutation_terms.specs.declared.lines.LogRefusal.TheVariants as Refusals
+use Rattle.refutation_terms.specs.Word.{Domains, weight, total}
+use Rattle.refutation_terms.specs.Tree.{is_idle}
+use Rattle.refutation_terms.specs.Log.{Holds, Cites, ListsShortOnly}
+use Rattle.refutation_terms.specs.Escape.{ComesFirst}
+use Rattle.refutation_terms.specs.LogText.{RawLine, raw, fields, text_of, line_text, line_of, turn_text, IsName, IsWritten}
+use Rattle.refutation_terms.specs.Verdict.{IsLeast, IsUnnamed, ListsLong, IsPlainLeaf, Escapes, SpellsNothing, SpellsUnknown, Spells, TreeCause, SpellsTurn, SpellsNoTurn, TurnCause, RulesCause, VersionCause, ExtraCause}
+use Rattle.refutation_terms.specs.Spelling.{IsWritable, HasNames}
+use Rattle.refutation_terms.proofs.TextParts.{same_fields}
+use Rattle.refutation_terms.proofs.TextLines.{same_line, line_fields, line_has_fields, day_small}
+use Rattle.refutation_terms.proofs.Texts.{turn_fields, turn_line}
+
+least_same : (A : ℕ → Type 0) (k m : ℕ) → IsLeast A k → IsLeast A m → k ≡ m
+least_same A k m a b = let x : k ≤ m = a.1 m b.0 in let y : m ≤ k = b.1 k a.0 in omega (arith, x, y)
+
+-- bytes spell one line
+lines_same : (P : Instance) (a b : RawLine) → IsWritable P → (line_text P a ≡ line_text P b) → Rattle.refutation_terms.specs.LogText.IsInRange P a → Rattle.refutation_terms.specs.LogText.IsInRange P b → a ≡ b
+lines_same P a b w e ha hb =
+    let moved : text_of (fields P a) ++ [] ≡ text_of (fields P b) ++ [] = ap (λ t. t ++ []) e in
+    same_line P a b w ha hb (same_fields (fields P a) (fields P b) [] [] (line_has_fields P a) (line_has_fields P b) (line_fields P a w ha) (line_fields P b w hb) moved).0
+
+pub spells_same : (P : Instance) (bytes : List ℕ) (a b : Line) → IsWritable P → HasNames P → Spells P bytes a → Spells P bytes b → a ≡ b
+spells_same P bytes a b w n sa sb =
+    let same : sa.0 ≡ sb.0 = lines_same P sa.0 sb.0 w (sym sa.1.spelled ∙ sb.1.spelled) sa.1.in_range sb.1.in_range in
+    let both : Some a ≡ Some b = sym sa.2 ∙ ap (line_of P) same ∙ sb.2 in
+    let whole : a ≡ b = cc in whole
+
+pub not_unknown : (P : Instance) (bytes : List ℕ) (a : Line) → IsWritable P → Spells P bytes a → SpellsUnknown P bytes → ⊥
+not_unknown P bytes a w sa u =
+    let same : sa.0 ≡ u.0 = lines_same P sa.0 u.0 w (sym sa.1.spelled ∙ u.1.spelled) sa.1.in_range u.1.in_range in
+    let clash : Some a ≡ None = sym sa.2 ∙ ap (line_of P) same ∙ u.2 in cc
+
+-- the words that show an escape are one
+first_same : (u v : List Symbol) → ComesFirst u v → ComesFirst v u → u ≡ v
+first_same [] [] a b = refl
+first_same [] (y ∷ v) a b = absurd b
+first_same (x ∷ u) [] a b = absurd a
+first_same (x ∷ u) (y ∷ v) (inl a) (inl b) = absurd (omega (arith, a, b))
+first_same (x ∷ u) (y ∷ v) (inl a) (inr b) = let e : y.number ≡ x.number = ap (λ (z : Symbol). z.number) b.0 in absurd (omega (arith, a, e))
+first_same (x ∷ u) (y ∷ v) (inr a) (inl b) = let e : x.number ≡ y.number = ap (λ (z : Symbol). z.number) a.0 in absurd (omega (arith, b, e))
+first_same (x ∷ u) (y ∷ v) (inr a) (inr b) =
+    let head : x ≡ y = a.0 in
+    let rest : u ≡ v = first_same u v a.1 b.1 in
+    let whole : x ∷ u ≡ y ∷ v = cc in whole
+
+escapes_same : (P : Instance) (D : Domains) (line : Line) (u v : List Symbol) → Escapes P D line u → Escapes P D line v → u ≡ v
+escapes_same P D (Split p x) u v a b = absurd a
+escapes_same P D (Window number p len) u v a b = absurd a
+escapes_same P D (Day j x over) u v a b = absurd a
+escapes_same P D (Dead p len R) u v a b = first_same u v (a.least v b.clean) (b.least u a.clean)
+escapes_same P D (Bound p turns R y) u v a b = first_same u v (a.0.least v b.0.heavy) (b.0.least u a.0.heavy)
+escapes_same P D Unfinished u v a b = absurd a
+
+-- an idle split
+abbrev pub IsIdleLine : Instance → Domains → Line → Type 0
+IsIdleLine P D (Split p x) = is_idle P D p x.number ≡ true
+IsIdleLine P D line = ⊥
+
+abbrev pub AllNamed : Instance → List ℕ → Line → Type 0
+AllNamed P named line = (r : Rule) → Cites P line r → Names P named r
+
+-- why a line that is spelled is refused
+pub data Reason (P : Instance) (named : List ℕ) (D : Domains) (n : ℕ) (line : Line) (why : LogRefusal) : Type 0 where
+  OfName : (k : ℕ) → IsLeast (IsUnnamed P named (Cites P line)) k → why ≡ Refusals.Unnamed n k → Reason P named D n line why
+  OfIdle : IsIdleLine P D line → why ≡ Refusals.Idle n → Reason P named D n line why
+  OfLong : AllNamed P named line → (k : ℕ) → IsLeast (ListsLong P line) k → why ≡ Refusals.Long n k → Reason P named D n line why
+  OfFail : AllNamed P named line → IsPlainLeaf line → (Holds P D line → ⊥) → why ≡ Refusals.Fails n → Reason P named D n line why
+  OfEscape : AllNamed P named line → ListsShortOnly P line → (u : List Symbol) → Escapes P D line u → why ≡ Refusals.Escape n u → Reason P named D n line why
+  OfOpen : line ≡ Unfinished → why ≡ Refusals.Unfinished n → Reason P named D n line why
+
+idle_cites_none : (P : Instance) (D : Domains) (line : Line) (r : Rule) → IsIdleLine P D line → Cites P line r → ⊥
+idle_cites_none P D (Split p x) r i c = c
+idle_cites_none P D (Window number p len) r i c = absurd i
+idle_cites_none P D (Day j x over) r i c = absurd i
+idle_cites_none P D (Dead p len R) r i c = absurd i
+idle_cites_none P D (Bound p turns R y) r i c = absurd i
+idle_cites_none P D Unfinished r i c = absurd i
+
+idle_lists_none : (P : Instance) (D : Domains) (line : Line) (k : ℕ) → IsIdleLine P D line → ListsLong P line k → ⊥
+idle_lists_none P D (Split p x) k i l = l
+idle_lists_none P D (Window number p len) k i l = absurd i
+idle_lists_none P D (Day j x over) k i l = absurd i
+idle_lists_none P D (Dead p len R) k i l = absurd i
+idle_lists_none P D (Bound p turns R y) k i l = absurd i
+idle_lists_none P D Unfinished k i l = absurd i
+
+idle_not_plain : (P : Instance) (D : Domains) (line : Line) → IsIdleLine P D line → IsPlainLeaf line → ⊥
+idle_not_plain P D (Split p x) i l = l
+idle_not_plain P D (Window number p len) i l = absurd i
+idle_not_plain P D (Day j x over) i l = absurd i
+idle_not_plain P D (Dead p len R) i l = absurd i
+idle_not_plain P D (Bound p turns R y) i l = absurd i
+idle_not_plain P D Unfinished i l = absurd i
+
+idle_not_escaped : (P : Instance) (D : Domains) (line : Line) (u : List Symbol) → IsIdleLine P D line → Escapes P D line u → ⊥
+idle_not_escaped P D (Split p x) u i l = l
+idle_not_escaped P D (Window number p len) u i l = absurd i
+idle_not_escaped P D (Day j x over) u i l = absurd i
+idle_not_escaped P D (Dead p len R) u i l = absurd i
+idle_not_escaped P D (Bound p turns R y) u i l = absurd i
+idle_not_escaped P D Unfinished u i l = absurd i
+
+plain_lists_none : (P : Instance) (D : Domains) (line : Line) (k : ℕ) → IsPlainLeaf line → ListsLong P line k → ⊥
+plain_lists_none P D (Split p x) k i l = absurd i
+plain_lists_none P D (Window number p len) k i l = l
+plain_lists_none P D (Day j x over) k i l = l
+plain_lists_none P D (Dead p len R) k i l = absurd i
+plain_lists_none P D (Bound p turns R y) k i l = absurd i
+plain_lists_none P D Unfinished k i l = absurd i
+
+plain_not_escaped : (P : Instance) (D : Domains) (line : Line) (u : List Symbol) → IsPlainLeaf line → Escapes P D line u → ⊥
+plain_not_escaped P D (Split p x) u i l = absurd i
+plain_not_escaped P D (Window number p len) u i l = l
+plain_not_escaped P D (Day j x over) u i l = l
+plain_not_escaped P D (Dead p len R) u i l = absurd i
+plain_not_escaped P D (Bound p turns R y) u i l = absurd i
+plain_not_escaped P D Unfinished u i l = absurd i
+
+pub long_not_short : (P : Instance) (D : Domains) (line : Line) (k : ℕ) → ListsShortOnly P line → ListsLong P line k → ⊥
+long_not_short P D (Split p x) k i l = absurd l
+long_not_short P D (Window number p len) k i l = absurd l
+long_not_short P D (Day j x over) k i l = absurd l
+long_not_short P D (Dead p len R) k i l = l.3 (i l.0 (k, l.2, l.1))
+long_not_short P D (Bound p turns R y) k i l = l.3 (i l.0 (k, l.2, l.1))
+long_not_short P D Unfinished k i l = absurd l
+
+pub idle_not_holding : (P : Instance) (D : Domains) (line : Line) → IsIdleLine P D line → Holds P D line → ⊥
+idle_not_holding P D (Split p x) i h = let clash : true ≡ false = sym i ∙ h in cc
+idle_not_holding P D (Window number p len) i h = absurd i
+idle_not_holding P D (Day j x over) i h = absurd i
+idle_not_holding P D (Dead p len R) i h = absurd i
+idle_not_holding P D (Bound p turns R y) i h = absurd i
+idle_not_holding P D Unfinished i h = absurd i
+
+heavy_not_light : (w t : ℤ) → w <ℤ t → t ≤ℤ w → ⊥
+heavy_not_light w t a b = omega (arith, ints)
+
+pub escaped_not_holding : (P : Instance) (D : Domains) (line : Line) (u : List Symbol) → Escapes P D line u → Holds P D line → ⊥
+escaped_not_holding P D (Split p x) u e h = absurd e
+escaped_not_holding P D (Window number p len) u e h = absurd e
+escaped_not_holding P D (Day j x over) u e h = absurd e
+escaped_not_holding P D (Dead p len R) u e h = h u e.clean.long e.clean.over e.clean.clean
+escaped_not_holding P D (Bound p turns R y) u e h = heavy_not_light (weight P y p u) (pos turns *ℤ total P y) (h u e.0.heavy.clean.long e.0.heavy.clean.over e.0.heavy.clean.clean) e.1
+escaped_not_holding P D Unfinished u e h = absurd e
+
+open_cites_none : (P : Instance) (line : Line) (r : Rule) → line ≡ Unfinished → Cites P line r → ⊥
+open_cites_none P line r e c = subst (λ l. Cites P l r) e c
+
+-- one reason
+one_reason : (P : Instance) (named : List ℕ) (D : Domains) (n : ℕ) (line : Line) (why other : LogRefusal) → Reason P named D n line why → Reason P named D n line other → why ≡ other
+one_reason P named D n line why other (OfName k a e) (OfName m b f) = e ∙ ap (Refusals.Unnamed n) (least_same (IsUnnamed P named (Cites P line)) k m a b) ∙ sym f
+one_reason P named D n line why other (OfName k a e) (OfIdle i' f) = absurd (idle_cites_none P D line a.0.0 i' a.0.2)
+one_reason P named D n line why other (OfName k a e) (OfLong all' m b f) = absurd (a.0.3 (all' a.0.0 a.0.2))
+one_reason P named D n line why other (OfName k a e) (OfFail all' plain' not' f) = absurd (a.0.3 (all' a.0.0 a.0.2))
+one_reason P named D n line why other (OfName k a e) (OfEscape all' short' v b f) = absurd (a.0.3 (all' a.0.0 a.0.2))
+one_reason P named D n line why other (OfName k a e) (OfOpen o' f) = absurd (open_cites_none P line a.0.0 o' a.0.2)
+one_reason P named D n line why other (OfIdle i e) (OfName m b f) = absurd (idle_cites_none P D line b.0.0 i b.0.2)
+one_reason P named D n line why other (OfIdle i e) (OfIdle i' f) = e ∙ sym f
+one_reason P named D n line why other (OfIdle i e) (OfLong all' m b f) = absurd (idle_lists_none P D line m i b.0)
+one_reason P named D n line why other (OfIdle i e) (OfFail all' plain' not' f) = absurd (idle_not_plain P D line i plain')
+one_reason P named D n line why other (OfIdle i e) (OfEscape all' short' v b f) = absurd (idle_not_escaped P D line v i b)
+one_reason P named D n line why other (OfIdle i e) (OfOpen o' f) = absurd (subst (IsIdleLine P D) o' i)
+one_reason P named D n line why other (OfLong all k a e) (OfName m b f) = absurd (b.0.3 (all b.0.0 b.0.2))
+one_reason P named D n line why other (OfLong all k a e) (OfIdle i' f) = absurd (idle_lists_none P D line k i' a.0)
+one_reason P named D n line why other (OfLong all k a e) (OfLong all' m b f) = e ∙ ap (Refusals.Long n) (least_same (ListsLong P line) k m a b) ∙ sym f
+one_reason P named D n line why other (OfLong all k a e) (OfFail all' plain' not' f) = absurd (plain_lists_none P D line k plain' a.0)
+one_reason P named D n line why other (OfLong all k a e) (OfEscape all' short' v b f) = absurd (long_not_short P D line k short' a.0)
+one_reason P named D n line why other (OfLong all k a e) (OfOpen o' f) = absurd (subst (λ l. ListsLong P l k) o' a.0)
+one_reason P named D n line why other (OfFail all plain not e) (OfName m b f) = absurd (b.0.3 (all b.0.0 b.0.2))
+one_reason P named D n line why other (OfFail all plain not e) (OfIdle i' f) = absurd (idle_not_plain P D line i' plain)
+one_reason P named D n line why other (OfFail all plain not e) (OfLong all' m b f) = absurd (plain_lists_none P D line m plain b.0)
+one_reason P named D n line why other (OfFail all plain not e) (OfFail all' plain' not' f) = e ∙ sym f
+one_reason P named D n line why other (OfFail all plain not e) (OfEscape all' short' v b f) = absurd (plain_not_escaped P D line v plain b)
+one_reason P named D n line why other (OfFail all plain not e) (OfOpen o' f) = absurd (subst IsPlainLeaf o' plain)
+one_reason P named D n line why other (OfEscape all short u a e) (OfName m b f) = absurd (b.0.3 (all b.0.0 b.0.2))
+one_reason P named D n line why other (OfEscape all short u a e) (OfIdle i' f) = absurd (idle_not_escaped P D line u i' a)
+one_reason P named D n line why other (OfEscape all short u a e) (OfLong all' m b f) = absurd (long_not_short P D line m short b.0)
+one_reason P named D n line why other (OfEscape all short u a e) (OfFail all' plain' not' f) = absurd (plain_not_escaped P D line u plain' a)
+one_reason P named D n line why other (OfEscape all short u a e) (OfEscape all' short' v b f) = e ∙ ap (Refusals.Escape n) (escapes_same P D line u v a b) ∙ sym f
+one_reason P named D n line why other (OfEscape all short u a e) (OfOpen o' f) = absurd (subst (λ l. Escapes P D l u) o' a)
+one_reason P named D n line why other (OfOpen o e) (OfName m b f) = absurd (open_cites_none P line b.0.0 o b.0.2)
+one_reason P named D n line why other (OfOpen o e) (OfIdle i' f) = absurd (subst (IsIdleLine P D) o i')
+one_reason P named D n line why other (OfOpen o e) (OfLong all' m b f) = absurd (subst (λ l. ListsLong P l m) o b.0)
+one_reason P named D n line why other (OfOpen o e) (OfFail all' plain' not' f) = absurd (subst IsPlainLeaf o plain')
+one_reason P named D n line why other (OfOpen o e) (OfEscape all' short' v b f) = absurd (subst (λ l. Escapes P D l v) o b)
+one_reason P named D n line why other (OfOpen o e) (OfOpen o' f) = e ∙ sym f
+
+-- the causes of a line of the tree, by what its bytes spell
+pub data Level (P : Instance) (named : List ℕ) (D : Domains) (n : ℕ) (bytes : List ℕ) (why : LogRefusal) : Type 0 where
+  Nothing : SpellsNothing P bytes → why ≡ Refusals.Form n → Level P named D n bytes why
+  Unknown : SpellsUnknown P bytes → why ≡ Refusals.Name n → Level P named D n bytes why
+  Known : (line : Line) → Spells P bytes line → Reason P named D n line why → Level P named D n bytes why
+
+pub level_of : (P : Instance) (named : List ℕ) (D : Domains) (n : ℕ) (bytes : List ℕ) (why : LogRefusal) → TreeCause P named D n bytes why → Level P named D n bytes why
+level_of P named D n bytes (Refusals.Form i) h = Nothing h.1 (ap Refusals.Form h.0)
+level_of P named D n bytes (Refusals.Name i) h = Unknown h.1 (ap Refusals.Name h.0)
+level_of P named D n bytes (Refusals.Unnamed i k) h = Known h.1.0 h.1.1 (OfName k h.1.2 (ap (λ j. Refusals.Unnamed j k) h.0))
+level_of P named D n bytes (Refusals.Idle i) h = Known (Split h.1.0 h.1.1) h.1.2 (OfIdle h.1.3 (ap Refusals.Idle h.0))
+level_of P named D n bytes (Refusals.Long i k) h = Known h.1.0 h.1.1.0 (OfLong h.1.1.1 k h.1.2 (ap (λ j. Refusals.Long j k) h.0))
+level_of P named D n bytes (Refusals.Fails i) h = Known h.1.0 h.1.1.0 (OfFail h.1.1.1 h.1.2 h.1.3 (ap Refusals.Fails h.0))
+level_of P named D n bytes (Refusals.Escape i u) h = Known h.1.0 h.1.1.0 (OfEscape h.1.1.1 h.1.2 u h.1.3 (ap (λ j. Refusals.Escape j u) h.0))
+level_of P named D n bytes (Refusals.Unfinished i) h = Known Unfinished h.1 (OfOpen refl (ap Refusals.Unfinished h.0))
+level_of P named D n bytes Refusals.Ends h = absurd h
+level_of P named D n bytes (Refusals.Extra i) h = absurd h
+level_of P named D n bytes (Refusals.Turn i) h = absurd h
+
+one_level : (P : Instance) (named : List ℕ) (D : Domains) (n : ℕ) (bytes : List ℕ) (why other : LogRefusal) → IsWritable P → HasNames P → Level P named D n bytes why → Level P named D n bytes other → why ≡ other
+one_level P named D n bytes why other w m (Nothing a e) (Nothing b f) = e ∙ sym f
+one_level P named D n bytes why other w m (Nothing a e) (Unknown b f) = absurd (a b.0 b.1)
+one_level P named D n bytes why other w m (Nothing a e) (Known line b r) = absurd (a b.0 b.1)
+one_level P named D n bytes why other w m (Unknown a e) (Nothing b f) = absurd (b a.0 a.1)
+one_level P named D n bytes why other w m (Unknown a e) (Unknown b f) = e ∙ sym f
+one_level P named D n bytes why other w m (Unknown a e) (Known line b r) = absurd (not_unknown P bytes line w b a)
+one_level P named D n bytes why other w m (Known line a q) (Nothing b f) = absurd (b a.0 a.1)
+one_level P named D n bytes why other w m (Known line a q) (Unknown b f) = absurd (not_unknown P bytes line w a b)
+one_level P named D n bytes why other w m (Known line a q) (Known line' b r) =
+    one_reason P named D n line why other q (subst (λ l. Reason P named D n l other) (spells_same P bytes line' line w m b a) r)
+
+pub tree_cause_same : (P : Instance) (named : List ℕ) (D : Domains) (n : ℕ) (bytes : List ℕ) (why other : LogRefusal) → IsWritable P → HasNames P → TreeCause P named D n bytes why → TreeCause P named D n bytes other → why ≡ other
+tree_cause_same P named D n bytes why other w m a b = one_level P named D n bytes why other w m (level_of P named D n bytes why a) (level_of P named D n bytes other b)
+
+pub version_cause : (bytes : List ℕ) (why : LogRefusal) → VersionCause bytes why → why ≡ Refusals.Form 1
+version_cause bytes (Refusals.Form i) h = ap Refusals.Form h.0
+version_cause bytes (Refusals.Name i) h = absurd h
+version_cause bytes (Refusals.Unnamed i k) h = absurd h
+version_cause bytes (Refusals.Idle i) h = absurd h
+version_cause bytes (Refusals.Long i k) h = absurd h
+version_cause bytes (Refusals.Fails i) h = absurd h
+version_cause bytes (Refusals.Escape i u) h = absurd h
+version_cause bytes (Refusals.Unfinished i) h = absurd h
+version_cause bytes Refusals.Ends h = absurd h
+version_cause bytes (Refusals.Extra i) h = absurd h
+version_cause bytes (Refusals.Turn i) h = absurd h
+
+pub rules_cause : (P : Instance) (bytes : List ℕ) (why : LogRefusal) → RulesCause P bytes why → why ≡ Refusals.Form 2
+rules_cause P bytes (Refusals.Form i) h = ap Refusals.Form h.0
+rules_cause P bytes (Refusals.Name i) h = absurd h
+rules_cause P bytes (Refusals.Unnamed i k) h = absurd h
+rules_cause P bytes (Refusals.Idle i) h = absurd h
+rules_cause P bytes (Refusals.Long i k) h = absurd h
+rules_cause P bytes (Refusals.Fails i) h = absurd h
+rules_cause P bytes (Refusals.Escape i u) h = absurd h
+rules_cause P bytes (Refusals.Unfinished i) h = absurd h
+rules_cause P bytes Refusals.Ends h = absurd h
+rules_cause P bytes (Refusals.Extra i) h = absurd h
+rules_cause P bytes (Refusals.Turn i) h = absurd h
+
+pub extra_cause : (n : ℕ) (why : LogRefusal) → ExtraCause n why → why ≡ Refusals.Extra n
+extra_cause n (Refusals.Form i) h = absurd h
+extra_cause n (Refusals.Name i) h = absurd h
+extra_cause n (Refusals.Unnamed i k) h = absurd h
+extra_cause n (Refusals.Idle i) h = absurd h
+extra_cause n (Refusals.Long i k) h = absurd h
+extra_cause n (Refusals.Fails i) h = absurd h
+extra_cause n (Refusals.Escape i u) h = absurd h
+extra_cause n (Refusals.Unfinished i) h = absurd h
+extra_cause n Refusals.Ends h = absurd h
+extra_cause n (Refusals.Extra i) h = ap Refusals.Extra h
+extra_cause n (Refusals.Turn i) h = absurd h
+
+-- bytes spell one turn
+pub turns_same : (P : Instance) (bytes name name' : List ℕ) (day day' : ℕ) → IsWritable P → SpellsTurn P bytes name day → SpellsTurn P bytes name' day' → (name ≡ name') × (day ≡ day')
+turns_same P bytes name name' day day' w a b =
+    let moved : text_of (turn_fields name day) ++ [] ≡ text_of (turn_fields name' day') ++ [] = ap (λ t. t ++ []) (sym a.2 ∙ b.2) in
+    let la = turn_line P name day w a.0 a.1 in
+    let lb = turn_line P name' day' w b.0 b.1 in
+    let same : turn_fields name day ≡ turn_fields name' day' = (same_fields (turn_fields name day) (turn_fields name' day') [] [] la.0 lb.0 la.1 lb.1 moved).0 in
+    let names : name ≡ name' = cc in
+    let digits : decimal day ≡ decimal day' = cc in
+    (names, decimal_injective day day' (day_small P day w a.1) (day_small P day' w b.1) digits)
+
+abbrev pub IsLeastUnnamedDay : Instance → List ℕ → ℕ → ℕ → Type 0
+IsLeastUnnamedDay P named day k = IsLeast (IsUnnamed P named (λ r. r ≡ TheRules.Day day)) k
+
+pub data TurnReason (P : Instance) (named bytes : List ℕ) (why : LogRefusal) : Type 0 where
+  NoTurn : SpellsNoTurn P bytes → why ≡ Refusals.Form 3 → TurnReason P named bytes why
+  NoName : (name : List ℕ) (day : ℕ) → SpellsTurn P bytes name day → symbol_of P name ≡ None → why ≡ Refusals.Name 3 → TurnReason P named bytes why
+  NoDay : (name : List ℕ) (day : ℕ) (x : Symbol) (k : ℕ) → SpellsTurn P bytes name day → symbol_of P name ≡ Some x → IsLeastUnnamedDay P named day k → why ≡ Refusals.Unnamed 3 k → TurnReason P named bytes why
+  NoDemand : (name : List ℕ) (day : ℕ) (x : Symbol) → SpellsTurn P bytes name day → symbol_of P name ≡ Some x → Names P named (TheRules.Day day) → (least P x.number day <ℤ pos 1) → why ≡ Refusals.Turn 3 → TurnReason P named bytes why
+
+pub turn_reason : (P : Instance) (named bytes : List ℕ) (why : LogRefusal) → TurnCause P named bytes why → TurnReason P named bytes why
+turn_reason P named bytes (Refusals.Form i) h = NoTurn h.1 (ap Refusals.Form h.0)
+turn_reason P named bytes (Refusals.Name i) h = NoName h.1.0 h.1.1 h.1.2 h.1.3 (ap Refusals.Name h.0)
+turn_reason P named bytes (Refusals.Unnamed i k) h = NoDay h.1.2.0 h.1.0 h.1.1 k h.1.2.1 h.1.2.2 h.1.3 (ap (λ j. Refusals.Unnamed j k) h.0)
+turn_reason P named bytes (Refusals.Idle i) h = absurd h
+turn_reason P named bytes (Refusals.Long i k) h = absurd h
+turn_reason P named bytes (Refusals.Fails i) h = absurd h
+turn_reason P named bytes (Refusals.Escape i u) h = absurd h
+turn_reason P named bytes (Refusals.Unfinished i) h = absurd h
+turn_reason P named bytes Refusals.Ends h = absurd h
+turn_reason P named bytes (Refusals.Extra i) h = absurd h
+turn_reason P named bytes (Refusals.Turn i) h = NoDemand h.1.2.0 h.1.0 h.1.1 h.1.2.1 h.1.2.2 h.1.3 h.1.4 (ap Refusals.Turn h.0)
+
+name_known : (P : Instance) (name name' : List ℕ) (x : Symbol) → name ≡ name' → symbol_of P name ≡ None → symbol_of P name' ≡ Some x → ⊥
+name_known P name name' x e a b = let clash : None ≡ Some x = sym a ∙ ap (symbol_of P) e ∙ b in cc
+
+day_named : (P : Instance) (named : List ℕ) (day day' k : ℕ) → day ≡ day' → IsLeastUnnamedDay P named day k → Names P named (TheRules.Day day') → ⊥
+day_named P named day day' k e a n = a.0.3 (subst (Names P named) (ap TheRules.Day (sym e) ∙ sym a.0.2) n)
+
+one_turn_reason : (P : Instance) (named bytes : List ℕ) (why other : LogRefusal) → IsWritable P → TurnReason P named bytes why → TurnReason P named bytes other → why ≡ other
+one_turn_reason P named bytes why other w (NoTurn a e) (NoTurn b f) = e ∙ sym f
+one_turn_reason P named bytes why other w (NoTurn a e) (NoName name' day' b t f) = absurd (a name' day' b)
+one_turn_reason P named bytes why other w (NoTurn a e) (NoDay name' day' x' m b t l' f) = absurd (a name' day' b)
+one_turn_reason P named bytes why other w (NoTurn a e) (NoDemand name' day' x' b t d' l' f) = absurd (a name' day' b)
+one_turn_reason P named bytes why other w (NoName name day a s e) (NoTurn b f) = absurd (b name day a)
+one_turn_reason P named bytes why other w (NoName name day a s e) (NoName name' day' b t f) = e ∙ sym f
+one_turn_reason P named bytes why other w (NoName name day a s e) (NoDay name' day' x' m b t l' f) = absurd (name_known P name name' x' (turns_same P bytes name name' day day' w a b).0 s t)
+one_turn_reason P named bytes why other w (NoName name day a s e) (NoDemand name' day' x' b t d' l' f) = absurd (name_known P name name' x' (turns_same P bytes name name' day day' w a b).0 s t)
+one_turn_reason P named bytes why other w (NoDay name day x k a s l e) (NoTurn b f) = absurd (b name day a)
+one_turn_reason P named bytes why other w (NoDay name day x k a s l e) (NoName name' day' b t f) = absurd (name_known P name' name x (sym (turns_same P bytes name name' day day' w a b).0) t s)
+one_turn_reason P named bytes why other w (NoDay name day x k a s l e) (NoDay name' day' x' m b t l' f) = e ∙ ap (Refusals.Unnamed 3) (least_same (IsUnnamed P named (λ r. r ≡ TheRules.Day day)) k m l (subst (λ j. IsLeastUnnamedDay P named j m) (sym (turns_same P bytes name name' day day' w a b).1) l')) ∙ sym f
+one_turn_reason P named bytes why other w (NoDay name day x k a s l e) (NoDemand name' day' x' b t d' l' f) = absurd (day_named P named day day' k (turns_same P bytes name name' day day' w a b).1 l d')
+one_turn_reason P named bytes why other w (NoDemand name day x a s d l e) (NoTurn b f) = absurd (b name day a)
+one_turn_reason P named bytes why other w (NoDemand name day x a s d l e) (NoName name' day' b t f) = absurd (name_known P name' name x (sym (turns_same P bytes name name' day day' w a b).0) t s)
+one_turn_reason P named bytes why other w (NoDemand name day x a s d l e) (NoDay name' day' x' m b t l' f) = absurd (day_named P named day' day m (sym (turns_same P bytes name name' day day' w a b).1) l' d)
+one_turn_reason P named bytes why other w (NoDemand name day x a s d l e) (NoDemand name' day' x' b t d' l' f) = e ∙ sym f
+
+pub turn_cause_same : (P : Instance) (named bytes : List ℕ) (why other : LogRefusal) → IsWritable P → TurnCause P named bytes why → TurnCause P named bytes other → why ≡ other
+turn_cause_same P named bytes why other w a b = one_turn_reason P named bytes why other w (turn_reason P named bytes why a) (turn_reason P named bytes other b)

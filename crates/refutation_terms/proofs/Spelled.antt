@@ -1,0 +1,141 @@
+-- Lines and their texts.
+use Rattle.std.proofs.Common.{◌≡◌, ℕ, suc, ◌+◌, ◌<◌, ◌≤◌, List, [], ◌∷◌, length, get_or, map, refl, ap, sym, ◌∙◌, subst, arith, Bool, true, false, cond, Option, Some, None}
+use Rattle.std.specs.Prelude.{All, AllPairs, position, IfSome}
+use Rattle.std.specs.List.{AllByRecursion}
+use Rattle.std.specs.Option.{option_map}
+use Rattle.std.specs.Str.{bytes_eq}
+use Rattle.std.proofs.lemmas.Slice.Eq.{bytes_eq-Decides}
+use Rattle.std.proofs.lemmas.List.Quantifiers.{position-Some}
+use Rattle.std.proofs.lemmas.Option.{slice_get-get_or}
+use Rattle.rwsp_terms.specs.declared.data.Symbol.{Symbol}
+use Rattle.rwsp_terms.specs.declared.data.ShiftRow.{ShiftRow}
+use Rattle.rwsp_terms.specs.declared.data.Weight.{Weight}
+use Rattle.rwsp_terms.specs.Instance.{Instance, IsDay, IsSymbol, no_bounds, off_name, symbol_numbered, symbol_of, name_in, name_numbered, name_of}
+use Rattle.rwsp_terms.specs.Weights.{ComesBefore, IsWeight}
+use Rattle.refutation_terms.specs.declared.lines.Line.{Line}
+use Rattle.refutation_terms.specs.declared.lines.Line.TheVariants.{Split, Window, Day, Dead, Bound, Unfinished}
+use Rattle.refutation_terms.specs.Log.{LineFits}
+use Rattle.refutation_terms.specs.LogText.{NamedWeight, RawLine, RawSplit, RawWindow, RawDay, RawDead, RawBound, RawUnfinished, named_weight, raw, line_text, WeightIsInRange, IsInRange, with_weight, weights_of, line_of, Ascends}
+use Rattle.refutation_terms.specs.Spelling.{HasNames, SpelledLinesFit, FittingLinesAreSpelled}
+use Rattle.refutation_terms.proofs.Lists.{all_from}
+
+pub all_to : {A : Type 0} (P : A → Type 0) (xs : List A) → All P xs → AllByRecursion P xs
+all_to P [] h = tt
+all_to P (x ∷ xs) h = (h 0 x (omega arith), all_to P xs (λ k d lt. h (suc k) d (omega (arith, lt))))
+
+mapped : {A B : Type 0} (f : A → B) (o : Option A) (y : B) → option_map f o ≡ Some y → (x : A) × (o ≡ Some x) × (f x ≡ y)
+mapped f None y e = absurd (cc)
+mapped f (Some x) y e = (x, refl, let same : f x ≡ y = cc in same)
+
+no_row : ShiftRow
+no_row = record { name = []; start = 0; length = 0; bounds = no_bounds }
+
+-- a symbol that has the name
+shift_named : (P : Instance) (name : List ℕ) (k : ℕ) → position (λ row. bytes_eq name row.name) P.shifts ≡ Some k → (k < length P.shifts) × (name_numbered P (k + 1) ≡ name)
+shift_named P name k e =
+    let at = position-Some (λ row. bytes_eq name row.name) P.shifts k no_row e in
+    let same : name ≡ (get_or P.shifts k no_row).name = (bytes_eq-Decides name (get_or P.shifts k no_row).name).0 at.1 in
+    let next : k + 1 ≡ suc k = omega arith in
+    (at.0, ap (name_numbered P) next ∙ ap name_in (slice_get-get_or P.shifts k no_row at.0) ∙ sym same)
+
+symbol_by : (P : Instance) (name : List ℕ) (x : Symbol) (b : Bool) → bytes_eq name off_name ≡ b → cond b (Some (symbol_numbered 0)) (option_map (λ k. symbol_numbered (k + 1)) (position (λ row. bytes_eq name row.name) P.shifts)) ≡ Some x → IsSymbol P x × (name_of P x ≡ name)
+symbol_by P name x true e h =
+    let is_off : symbol_numbered 0 ≡ x = cc in
+    (subst (IsSymbol P) is_off (let le : 0 ≤ length P.shifts = omega arith in le), ap (name_of P) (sym is_off) ∙ sym ((bytes_eq-Decides name off_name).0 e))
+symbol_by P name x false e h =
+    let m = mapped (λ k. symbol_numbered (k + 1)) (position (λ row. bytes_eq name row.name) P.shifts) x h in
+    let named = shift_named P name m.0 m.1 in
+    let le : m.0 + 1 ≤ length P.shifts = omega (arith, named.0) in
+    (subst (IsSymbol P) m.2 le, ap (name_of P) (sym m.2) ∙ named.1)
+
+pub symbol_of-name : (P : Instance) (name : List ℕ) (x : Symbol) → symbol_of P name ≡ Some x → IsSymbol P x × (name_of P x ≡ name)
+symbol_of-name P name x h = symbol_by P name x (bytes_eq name off_name) refl h
+
+-- a weight and further ones that were read
+with_read : (e : NamedWeight) (o : Option Symbol) (rest : Option (List Weight)) (ys : List Weight) → with_weight e o rest ≡ Some ys → (x : Symbol) × (zs : List Weight) × (o ≡ Some x) × (rest ≡ Some zs) × (record { day = e.day; symbol = x; value = e.value } ∷ zs ≡ ys)
+with_read e None rest ys h = absurd (cc)
+with_read e (Some x) None ys h = absurd (cc)
+with_read e (Some x) (Some zs) ys h = (x, zs, refl, refl, let same : record { day = e.day; symbol = x; value = e.value } ∷ zs ≡ ys = cc in same)
+
+abbrev IsOf : Instance → Weight → Type 0
+IsOf P e = IsDay P e.day × IsSymbol P e.symbol
+
+record AreRead (P : Instance) (y : List NamedWeight) (ys : List Weight) : Type 0 where
+  same : map (named_weight P) ys ≡ y
+  small : AllByRecursion IsWeight ys
+  of : AllByRecursion (IsOf P) ys
+
+weights_read : (P : Instance) (y : List NamedWeight) (ys : List Weight) → AllByRecursion (WeightIsInRange P) y → weights_of P y ≡ Some ys → AreRead P y ys
+weights_read P [] ys h e = let none : [] ≡ ys = cc in subst (AreRead P []) none (record { same = refl; small = tt; of = tt })
+weights_read P (e ∷ y) ys h is =
+    let w = with_read e (symbol_of P e.name) (weights_of P y) ys is in
+    let rest = weights_read P y w.1 h.1 w.3 in
+    let named = symbol_of-name P e.name w.0 w.2 in
+    let first : Weight = record { day = e.day; symbol = w.0; value = e.value } in
+    let same_first : named_weight P (record { day = e.day; symbol = w.0; value = e.value }) ≡ e = ap (λ n. record { day = e.day; name = n; value = e.value }) named.1 in
+    subst (AreRead P (e ∷ y)) w.4 (record {
+      same = ap (λ f. f ∷ map (named_weight P) w.1) same_first ∙ ap (λ fs. e ∷ fs) rest.same;
+      small = ((h.0.2, h.0.3, h.0.4), rest.small);
+      of = ((h.0.0, named.0), rest.of);
+    })
+
+-- the line that a written line is
+abbrev FitsAs : Instance → RawLine → Line → Type 0
+FitsAs P written line = LineFits P line × (written ≡ raw P line)
+
+fits_as : (P : Instance) (written : RawLine) (line : Line) → IsInRange P written → IfSome (line_of P written) Ascends → line_of P written ≡ Some line → FitsAs P written line
+fits_as P (RawSplit p name) line h a e =
+    let m = mapped (λ x. Split p x) (symbol_of P name) line e in
+    let named = symbol_of-name P name m.0 m.1 in
+    subst (FitsAs P (RawSplit p name)) m.2 ((h.0, named.0), ap (RawSplit p) (sym named.1))
+fits_as P (RawWindow rule p len) line h a e =
+    let same : Window rule p len ≡ line = cc in
+    subst (FitsAs P (RawWindow rule p len)) same (h, refl)
+fits_as P (RawDay day name over) line h a e =
+    let m = mapped (λ x. Day day x over) (symbol_of P name) line e in
+    let named = symbol_of-name P name m.0 m.1 in
+    subst (FitsAs P (RawDay day name over)) m.2 ((h.0, named.0), ap (λ n. RawDay day n over) (sym named.1))
+fits_as P (RawDead p len R) line h a e =
+    let same : Dead p len R ≡ line = cc in
+    subst (FitsAs P (RawDead p len R)) same (h, refl)
+fits_as P (RawBound p turns R y) line h a e =
+    let m = mapped (λ ys. Bound p turns R ys) (weights_of P y) line e in
+    let read = weights_read P y m.0 (all_to (WeightIsInRange P) y h.3) m.1 in
+    let ascends : AllPairs ComesBefore m.0 = subst (λ o. IfSome (option_map (λ ys. Bound p turns R ys) o) Ascends) m.1 a in
+    subst (FitsAs P (RawBound p turns R y)) m.2 (
+      (h.0, h.1, h.2, (record { ascends = ascends; small = all_from IsWeight m.0 read.small }, all_from (IsOf P) m.0 read.of)),
+      ap (RawBound p turns R) (sym read.same),
+    )
+fits_as P RawUnfinished line h a e =
+    let same : Unfinished ≡ line = cc in
+    subst (FitsAs P RawUnfinished) same (tt, refl)
+
+pub spelled_lines_fit : SpelledLinesFit
+spelled_lines_fit P bytes line spells =
+    let f = fits_as P spells.0 line spells.1.in_range spells.1.ascends spells.2 in
+    (f.0, spells.1.spelled ∙ ap (line_text P) f.1)
+
+-- weights of the problem are read from their names
+weights_back : (P : Instance) (ys : List Weight) → HasNames P → AllByRecursion IsWeight ys → AllByRecursion (IsOf P) ys → AllByRecursion (WeightIsInRange P) (map (named_weight P) ys) × (weights_of P (map (named_weight P) ys) ≡ Some ys)
+weights_back P [] names small of = (tt, refl)
+weights_back P (e ∷ ys) names small of =
+    let rest = weights_back P ys names small.1 of.1 in
+    let name = names e.symbol of.0.1 in (
+      ((of.0.0, name.0, small.0.0, small.0.1, small.0.2), rest.0),
+      ap (λ o. with_weight (named_weight P e) o (weights_of P (map (named_weight P) ys))) name.1 ∙ ap (with_weight (named_weight P e) (Some e.symbol)) rest.1,
+    )
+
+pub spell : (P : Instance) (line : Line) → HasNames P → LineFits P line → IsInRange P (raw P line) × (line_of P (raw P line) ≡ Some line) × Ascends line
+spell P (Split p x) names h = let name = names x h.1 in ((h.0, name.0), ap (option_map (λ z. Split p z)) name.1, tt)
+spell P (Window rule p len) names h = (h, refl, tt)
+spell P (Day day x over) names h = let name = names x h.1 in ((h.0, name.0), ap (option_map (λ z. Day day z over)) name.1, tt)
+spell P (Dead p len R) names h = (h, refl, tt)
+spell P (Bound p turns R y) names h =
+    let back = weights_back P y names (all_to IsWeight y h.3.0.small) (all_to (IsOf P) y h.3.1) in
+    ((h.0, h.1, h.2, all_from (WeightIsInRange P) (map (named_weight P) y) back.0), ap (option_map (λ ys. Bound p turns R ys)) back.1, h.3.0.ascends)
+spell P Unfinished names h = (tt, refl, tt)
+
+pub fitting_lines_are_spelled : FittingLinesAreSpelled
+fitting_lines_are_spelled P line names h =
+    let s = spell P line names h in
+    (raw P line, record { spelled = refl; in_range = s.0; ascends = subst (λ o. IfSome o Ascends) (sym s.1) s.2 }, s.1)

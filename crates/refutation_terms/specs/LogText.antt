@@ -1,0 +1,146 @@
+-- The text of a log, and which line a text spells.
+use Rattle.std.specs.Prelude.{◌≡◌, ◌≢◌, ℕ, ◌+◌, ◌*◌, ◌/◌, ◌%◌, ◌<◌, ◌≤◌, List, [], ◌∷◌, ◌++◌, length, map, All, AllPairs, Bool, true, false, Option, Some, None, IfSome, ℤ, pos, negsuc, ◌≤ℤ◌, codes}
+use Rattle.std.specs.List.{join_with_byte, concat, flat_map}
+use Rattle.std.specs.Fmt.{decimal, signed_decimal}
+use Rattle.std.specs.Option.{option_map}
+use Rattle.rwsp_terms.specs.declared.data.Symbol.{Symbol}
+use Rattle.rwsp_terms.specs.declared.data.Weight.{Weight}
+use Rattle.rwsp_terms.specs.Instance.{Instance, cells, IsDay, symbol_of, name_of}
+use Rattle.rwsp_terms.specs.Rules.{rules}
+use Rattle.rwsp_terms.specs.Weights.{ComesBefore}
+use Rattle.refutation_terms.specs.declared.lines.Line.{Line}
+use Rattle.refutation_terms.specs.declared.lines.Line.TheVariants.{Split, Window, Day, Dead, Bound, Unfinished}
+use Rattle.refutation_terms.specs.declared.lines.Turn.{Turn}
+use Rattle.refutation_terms.specs.Log.{Log, IsLength, AreRules}
+
+-- what a symbol of some name weighs on a day
+pub record NamedWeight : Type 0 where
+  pub day : ℕ
+  pub name : List ℕ
+  pub value : ℤ
+
+-- a line as it is written: with the names of symbols, as their bytes
+pub data RawLine : Type 0 where
+  RawSplit : (p : ℕ) (name : List ℕ) → RawLine
+  RawWindow : (rule p len : ℕ) → RawLine
+  RawDay : (day : ℕ) (name : List ℕ) (over : Bool) → RawLine
+  RawDead : (p len : ℕ) (R : List ℕ) → RawLine
+  RawBound : (p turns : ℕ) (R : List ℕ) (y : List NamedWeight) → RawLine
+  RawUnfinished : RawLine
+
+-- the line with the names of its symbols
+abbrev pub named_weight : Instance → Weight → NamedWeight
+named_weight P e = record { day = e.day; name = name_of P e.symbol; value = e.value }
+
+-- and the line itself
+abbrev pub raw : Instance → Line → RawLine
+raw P (Split p x) = RawSplit p (name_of P x)
+raw P (Window rule p len) = RawWindow rule p len
+raw P (Day j x over) = RawDay j (name_of P x) over
+raw P (Dead p len R) = RawDead p len R
+raw P (Bound p turns R y) = RawBound p turns R (map (named_weight P) y)
+raw P Unfinished = RawUnfinished
+
+-- the numbers of rules as they are written
+abbrev pub numbers : List ℕ → List (List ℕ)
+numbers R = map decimal R
+
+-- the week and the day of a position, both from 1 on
+abbrev pub place : Instance → ℕ → List (List ℕ)
+place P p = decimal (p / P.days + 1) ∷ decimal (p % P.days + 1) ∷ []
+
+-- whether a day leaf says that there are too many or too few
+abbrev pub way : Bool → List ℕ
+way true = codes "over"
+way false = codes "short"
+
+-- a day, a name and a value
+abbrev pub weight_fields : NamedWeight → List (List ℕ)
+weight_fields e = decimal e.day ∷ e.name ∷ signed_decimal e.value ∷ []
+
+-- the fields of a line: words, names and numbers
+abbrev pub fields : Instance → RawLine → List (List ℕ)
+fields P (RawSplit p name) = codes "split" ∷ place P p ++ (name ∷ [])
+fields P (RawWindow rule p len) = codes "window" ∷ decimal rule ∷ place P p ++ (decimal len ∷ [])
+fields P (RawDay day name over) = codes "day" ∷ decimal day ∷ name ∷ way over ∷ []
+fields P (RawDead p len R) = codes "dead" ∷ place P p ++ (decimal len ∷ codes "rules" ∷ numbers R)
+fields P (RawBound p turns R y) = codes "bound" ∷ place P p ++ (decimal turns ∷ codes "rules" ∷ numbers R) ++ (codes "weights" ∷ flat_map weight_fields y)
+fields P RawUnfinished = codes "open" ∷ []
+
+-- fields with one blank between each two, and LF at the end
+abbrev pub text_of : List (List ℕ) → List ℕ
+text_of words = join_with_byte 32 words ++ 10 ∷ []
+
+-- a written line
+abbrev pub line_text : Instance → RawLine → List ℕ
+line_text P line = text_of (fields P line)
+
+-- line 1, the version: 2 where the log has a turn
+abbrev pub version_text : Bool → List ℕ
+version_text false = text_of (codes "rwsp-log" ∷ codes "1" ∷ [])
+version_text true = text_of (codes "rwsp-log" ∷ codes "2" ∷ [])
+
+-- line 2, the named rules
+abbrev pub rules_text : List ℕ → List ℕ
+rules_text R = text_of (codes "rules" ∷ numbers R)
+
+-- in version 2 line 3, the turn
+abbrev pub turn_text : List ℕ → ℕ → List ℕ
+turn_text name day = text_of (codes "turn" ∷ name ∷ decimal day ∷ [])
+
+-- these lines
+abbrev pub header_text : Instance → List ℕ → Option Turn → List ℕ
+header_text P named None = version_text false ++ rules_text named
+header_text P named (Some t) = version_text true ++ rules_text named ++ turn_text (name_of P t.x) t.day
+
+-- the text of a log: its header and then its lines
+abbrev pub log_text : Instance → Log → List ℕ
+log_text P g = header_text P g.named g.turn ++ concat (map (λ line. line_text P (raw P line)) g.lines)
+
+-- a run of bytes other than blank, tab, CR and LF that isn't empty
+pub record IsName (name : List ℕ) : Type 0 where
+  pub some : 0 < length name
+  pub visible : All (λ b. (b ≢ 32) × (b ≢ 9) × (b ≢ 13) × (b ≢ 10)) name
+
+-- a value from -1000 to 1000 that isn't 0, on a day of the problem
+abbrev pub WeightIsInRange : Instance → NamedWeight → Type 0
+WeightIsInRange P e = IsDay P e.day × IsName e.name × (negsuc 999 ≤ℤ e.value) × (e.value ≤ℤ pos 1000) × (e.value ≢ pos 0)
+
+-- the numbers of a written line are in their ranges, its lists of rules ascend, and its names are names
+abbrev pub IsInRange : Instance → RawLine → Type 0
+IsInRange P (RawSplit p name) = (p < cells P) × IsName name
+IsInRange P (RawWindow rule p len) = (0 < rule) × (rule ≤ length (rules P)) × (p < cells P) × IsLength len
+IsInRange P (RawDay day name over) = IsDay P day × IsName name
+IsInRange P (RawDead p len R) = (p < cells P) × IsLength len × AreRules P R
+IsInRange P (RawBound p turns R y) = (p < cells P) × IsLength (turns * cells P) × AreRules P R × All (WeightIsInRange P) y
+IsInRange P RawUnfinished = Unit {0}
+
+-- a weight with a symbol for its name, before further weights
+abbrev pub with_weight : NamedWeight → Option Symbol → Option (List Weight) → Option (List Weight)
+with_weight e (Some x) (Some y) = Some (record { day = e.day; symbol = x; value = e.value } ∷ y)
+with_weight e x y = None
+
+-- the weights with symbols for their names, where each is the name of one
+abbrev pub weights_of : Instance → List NamedWeight → Option (List Weight)
+weights_of P [] = Some []
+weights_of P (e ∷ y) = with_weight e (symbol_of P e.name) (weights_of P y)
+
+-- the line with symbols for its names
+abbrev pub line_of : Instance → RawLine → Option Line
+line_of P (RawSplit p name) = option_map (λ x. Split p x) (symbol_of P name)
+line_of P (RawWindow rule p len) = Some (Window rule p len)
+line_of P (RawDay day name over) = option_map (λ x. Day day x over) (symbol_of P name)
+line_of P (RawDead p len R) = Some (Dead p len R)
+line_of P (RawBound p turns R y) = option_map (λ y. Bound p turns R y) (weights_of P y)
+line_of P RawUnfinished = Some Unfinished
+
+-- weights ascend by day and then by symbol
+abbrev pub Ascends : Line → Type 0
+Ascends (Bound p turns R y) = AllPairs ComesBefore y
+Ascends line = Unit {0}
+
+-- the bytes are a written line with its numbers in their ranges; where all its names are known, its weights ascend
+pub record IsWritten (P : Instance) (bytes : List ℕ) (line : RawLine) : Type 0 where
+  pub spelled : bytes ≡ line_text P line
+  pub in_range : IsInRange P line
+  pub ascends : IfSome (line_of P line) Ascends

@@ -1,0 +1,27 @@
+-- What is so where a run ends before its job is done.
+use Rattle.std.specs.Prelude.{◌≡◌}
+use Rattle.rwsp_io.specs.Told.{Told}
+use Rattle.rwsp.specs.Inputs.{WhereTold, IsTooLong}
+use Rattle.rwsp.specs.Answers.{IsFileAnswer, IsOfFile}
+use Rattle.rwsp.specs.declared.answer.InputKind.{InputKind}
+use Rattle.rwsp.specs.declared.answer.Answer.TheVariants.{TooLong}
+use Rattle.rwsp.specs.declared.input.Exit.{Exit}
+use Rattle.rwsp.specs.declared.input.Exit.TheVariants.{Answer as Answers, ReadFault, Memory}
+
+-- while a file was read: the file is too long, or its count has risen
+abbrev pub IsReadExit : Told → Type 0 → InputKind → Exit → Type 0
+IsReadExit told rose kind (Answers answer) = (answer ≡ TooLong kind) × WhereTold told IsTooLong
+IsReadExit told rose kind ReadFault = rose
+IsReadExit told rose kind Memory = Unit {0}
+
+-- while a problem was read
+abbrev pub IsProblemExit : Told → Type 0 → Exit → Type 0
+IsProblemExit told rose (Answers answer) = IsOfFile answer × WhereTold told (IsFileAnswer answer)
+IsProblemExit told rose ReadFault = rose
+IsProblemExit told rose Memory = Unit {0}
+
+-- while a roster was read
+abbrev pub IsRosterExit : Type 0 → Exit → Type 0
+IsRosterExit rose (Answers answer) = ⊥
+IsRosterExit rose ReadFault = rose
+IsRosterExit rose Memory = Unit {0}

@@ -1,0 +1,7 @@
+pub mod Commands
+pub mod Inputs
+pub mod Answers
+pub mod Exits
+pub mod Texts
+pub mod Status
+pub mod Laws

@@ -1,0 +1,21 @@
+-- The status of each outcome.
+use Rattle.std.specs.Prelude.{ℕ}
+use Rattle.rwsp.specs.declared.answer.Answer.{Answer}
+use Rattle.rwsp.specs.declared.answer.Answer.TheVariants.{Meets, Breaks, RosterRefused, Usage, FileRefused, TooLong}
+use Rattle.rwsp.specs.declared.answer.Outcome.{Outcome}
+use Rattle.rwsp.specs.declared.answer.Outcome.TheVariants.{Done, ReadFault, WriteFault, Memory}
+
+abbrev pub status_of_answer : Answer → ℕ
+status_of_answer Meets = 0
+status_of_answer Usage = 2
+status_of_answer (FileRefused why) = 3
+status_of_answer (RosterRefused why) = 3
+status_of_answer (TooLong kind) = 3
+status_of_answer (Breaks broken) = 5
+
+-- what the program ends with
+abbrev pub status_of : Outcome → ℕ
+status_of (Done answer) = status_of_answer answer
+status_of ReadFault = 6
+status_of (WriteFault answer) = 7
+status_of Memory = 8

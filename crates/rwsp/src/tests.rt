@@ -1,0 +1,309 @@
+// Command lines over files in memory: what is printed, to the byte, and the status.
+use crate::answer::{Answer, Outcome};
+use crate::run::run;
+use rwsp_io::{MemoryShelf, MemorySink};
+use std::alloc::{AllocError, Global};
+use std::test::Fail;
+use std::thread::Threads;
+
+const NINE_WEEKS: &str =
+    "#Length of the schedule\n7\n#Number of Employees\n9\n##Number of Shifts\n3\n# Temporal requirements\n2 2 2 2 2 2 2\n2 2 2 2 2 2 2\n2 2 2 2 2 2 2\n#Name, start, length, least and greatest block\nD 360 480 2 7\nA 840 480 2 6\nN 1320 480 2 5\n# Days-off blocks\n2 4\n# Work blocks\n4 7\n# Forbidden sequences of length two and three\n3 0\nN D\nN A\nA D\n";
+
+const NINE_WEEKS_ROSTER: &str =
+    "D D A A N N -\n- - D D A A N\nN - - - D D A\nA N N - - - D\nD A A N N - -\n- D D A A N N\n- - - D D A A\nN N - - - D D\nA A N N - - -\n";
+
+const TWO_DAYS: &str = "2\n1\n1\n1 0\nD 360 480 1 1\n1 1\n1 1\n0 0\n";
+
+fn words_of(alloc: Global, words: &[&str]) -> Result<Vec<String>, AllocError> {
+    let mut all = Vec::new(alloc);
+    for word in words {
+        all.push(String::from_str(alloc, word)?)?;
+    }
+    Ok(all)
+}
+
+// A shelf with these files, which gives 50 bytes at a time.
+fn shelf_of(alloc: Global, files: &[(&str, &str)]) -> Result<MemoryShelf, AllocError> {
+    let mut all = Vec::new(alloc);
+    for (name, text) in files {
+        let name = String::from_str(alloc, name)?;
+        let text = Vec::from_slice(alloc, text.as_bytes())?;
+        all.push((name, text))?;
+    }
+    Ok(MemoryShelf::new(all, 50, Vec::new(alloc)))
+}
+
+// Whether the words end with the status and print the text, over these files.
+fn ends<R: Threads + Sync>(
+    rt: &R,
+    alloc: Global,
+    words: &[&str],
+    files: &[(&str, &str)],
+    status: u8,
+    text: &str,
+) -> Result<bool, AllocError> {
+    let words = words_of(alloc, words)?;
+    let mut shelf = shelf_of(alloc, files)?;
+    let mut sink = MemorySink::new(alloc, 10_000, 7, Vec::new(alloc))?;
+    let outcome = run(rt, alloc, &words, &mut shelf, &mut sink);
+    Ok(outcome.status() == status && sink.bytes() == text.as_bytes())
+}
+
+fn verifies<R: Threads + Sync>(
+    rt: &R,
+    alloc: Global,
+    problem: &str,
+    roster: &str,
+    status: u8,
+    text: &str,
+) -> Result<bool, AllocError> {
+    let files = [("F", problem), ("R", roster)];
+    ends(rt, alloc, &["verify", "F", "R"], &files, status, text)
+}
+
+#[test]
+fn a_roster_that_meets_all_rules(rt: HostRuntime) -> Result<(), Fail> {
+    assert!(rt; verifies(&rt, rt.alloc(), NINE_WEEKS, NINE_WEEKS_ROSTER, 0, "meets\n")?);
+    let ranges = "2\n1\n1\n0..1 0..1\nD 360 480 1 1\n1 1\n1 1\n0 0\n";
+    assert!(rt; verifies(&rt, rt.alloc(), ranges, "- D\n", 0, "meets\n")?);
+    Ok(())
+}
+
+#[test]
+fn the_first_rule_that_is_broken(rt: HostRuntime) -> Result<(), Fail> {
+    let changed =
+        "- D A A N N -\n- - D D A A N\nN - - - D D A\nA N N - - - D\nD A A N N - -\n- D D A A N N\n- - - D D A A\nN N - - - D D\nA A N N - - -\n";
+    let endless = "2\n1\n2\n1 0\n0 1\nD 360 480 1 7\nN 1320 480 1 7\n1 7\n1 7\n0 0\n";
+    let round = "2\n3\n1\n1 1\nD 360 480 3 5\n1 5\n1 5\n0 0\n";
+    let none = "2\n1\n1\n0 0\nD 360 480 1 1\n1 1\n1 1\n0 0\n";
+    let ranges = "2\n1\n1\n0..1 0..1\nD 360 480 1 1\n1 1\n1 1\n0 0\n";
+    let cases = [
+        (
+            NINE_WEEKS,
+            changed,
+            "breaks rule 2 min shift D week 1 day 1 length 3\n",
+        ),
+        (
+            endless,
+            "D N\n",
+            "breaks rule 7 max work week 1 day 1 length 8\n",
+        ),
+        (
+            round,
+            "D -\n- -\n- D\n",
+            "breaks rule 2 min shift D week 3 day 1 length 4\n",
+        ),
+        (none, "D -\n", "breaks rule 7 day 1\n"),
+        (
+            ranges,
+            "- -\n",
+            "breaks rule 3 max off week 1 day 1 length 2\n",
+        ),
+    ];
+    for (problem, roster, text) in cases {
+        assert!(rt;
+            verifies(&rt, rt.alloc(), problem, roster, 5, text)?,
+            "{text}"
+        );
+    }
+    Ok(())
+}
+
+#[test]
+fn refused_rosters(rt: HostRuntime) -> Result<(), Fail> {
+    let cases = [
+        ("D Q\n", "roster refused: unknown line 1\n"),
+        ("D\n", "roster refused: width line 1\n"),
+        ("", "roster refused: weeks 0\n"),
+        ("D -\n- D\n", "roster refused: weeks 2\n"),
+    ];
+    for (roster, text) in cases {
+        assert!(rt;
+            verifies(&rt, rt.alloc(), TWO_DAYS, roster, 3, text)?,
+            "{text}"
+        );
+    }
+    Ok(())
+}
+
+#[test]
+fn refused_problems(rt: HostRuntime) -> Result<(), Fail> {
+    let cases = [
+        ("", "file refused: ends line 1\n"),
+        ("2\n1\n1\n1\n", "file refused: ends line 5\n"),
+        (
+            "7\n601\n1\n0 0 0 0 0 0 0\nD 360 480 1 7\n1 7\n1 7\n0 0\n",
+            "file refused: range 2 line 2\n",
+        ),
+        (
+            "28\n151\n1\n0 0 0 0 0 0 0\nD 360 480 1 7\n1 7\n1 7\n0 0\n",
+            "file refused: range 3 line 2\n",
+        ),
+        (
+            "2\n1\n1\n1 0\nD 360 480 1 1\n1 1\n1 1\n0 0\nD\n",
+            "file refused: extra line 9\n",
+        ),
+        (
+            "2x\n1\n1\n1 0\nD 360 480 1 1\n1 1\n1 1\n0 0\n",
+            "file refused: number line 1\n",
+        ),
+        (
+            "2\n1\n1\n1 0\nD 360 480 1\n1 1\n1 1\n0 0\n",
+            "file refused: row line 5\n",
+        ),
+        (
+            "2\n1\n1\n1 0\n- 360 480 1 1\n1 1\n1 1\n0 0\n",
+            "file refused: name line 5\n",
+        ),
+        (
+            "2\n1\n1\n1 0\nD 360 480 1 1\n1 1\n1 1\n1 0\nQ D\n",
+            "file refused: unknown line 9\n",
+        ),
+        (
+            "2\n1\n1\n1 0\nD 360 480 1 1\n1 10001\n1 1\n0 0\n",
+            "file refused: range 7 line 6\n",
+        ),
+        (
+            "2\n1\n1\n1.. 0\nD 360 480 1 1\n1 1\n1 1\n0 0\n",
+            "file refused: number line 4\n",
+        ),
+        (
+            "2\n1\n1\n0..601 0\nD 360 480 1 1\n1 1\n1 1\n0 0\n",
+            "file refused: range 5 line 4\n",
+        ),
+    ];
+    for (problem, text) in cases {
+        assert!(rt;
+            verifies(&rt, rt.alloc(), problem, "D -\n", 3, text)?,
+            "{text}"
+        );
+    }
+    Ok(())
+}
+
+const USAGE: &str =
+    "usage: rwsp plan FILE [--budget B] | check FILE LOG [--workers N] | verify FILE ROSTER | reduce FILE LOG | show FILE | trial NUMBER WEEKS\n";
+
+#[test]
+fn words_that_are_no_command(rt: HostRuntime) -> Result<(), Fail> {
+    assert!(rt; ends(&rt, rt.alloc(), &[], &[], 2, USAGE)?);
+    assert!(rt;
+        ends(
+            &rt,
+            rt.alloc(),
+            &["plan", "F", "--budget", "0"],
+            &[],
+            2,
+            USAGE
+        )?
+    );
+    assert!(rt;
+        ends(
+            &rt,
+            rt.alloc(),
+            &["plan", "--budget", "5", "F"],
+            &[],
+            2,
+            USAGE
+        )?
+    );
+    assert!(rt; ends(&rt, rt.alloc(), &["show", "-x"], &[], 2, USAGE)?);
+    assert!(rt; ends(&rt, rt.alloc(), &["verify", "F", ""], &[], 2, USAGE)?);
+    assert!(rt; ends(&rt, rt.alloc(), &["verify", "F", "-"], &[], 2, USAGE)?);
+    Ok(())
+}
+
+// A file that isn't held can't be read; behind a refused problem it isn't looked for.
+#[test]
+fn files_that_are_missing(rt: HostRuntime) -> Result<(), Fail> {
+    let words = ["verify", "F", "R"];
+    assert!(rt; ends(&rt, rt.alloc(), &words, &[], 6, "")?);
+    assert!(rt; ends(&rt, rt.alloc(), &words, &[("F", TWO_DAYS)], 6, "")?);
+    assert!(rt;
+        ends(
+            &rt,
+            rt.alloc(),
+            &words,
+            &[("F", "2\n")],
+            3,
+            "file refused: ends line 2\n"
+        )?
+    );
+    Ok(())
+}
+
+// One byte more than the longest file may have.
+#[test]
+fn files_that_are_too_long(rt: HostRuntime) -> Result<(), Fail> {
+    let alloc = rt.alloc();
+    let words = words_of(alloc, &["verify", "F", "R"])?;
+    let long = vec![in alloc; b' '; 1_048_577]?;
+    let files = vec![in alloc;
+        (
+            String::from_str(alloc, "F")?,
+            Vec::from_slice(alloc, TWO_DAYS.as_bytes())?
+        ),
+        (String::from_str(alloc, "R")?, long),
+    ]?;
+    let mut shelf = MemoryShelf::new(files, 100_000, Vec::new(alloc));
+    let mut sink = MemorySink::new(alloc, 100, 100, Vec::new(alloc))?;
+    let outcome = run(&rt, alloc, &words, &mut shelf, &mut sink);
+    assert_eq!(rt; outcome.status(), 3);
+    assert_eq!(rt; sink.bytes(), b"too long: roster\n".as_slice());
+    let words = words_of(alloc, &["verify", "R", "F"])?;
+    let mut sink = MemorySink::new(alloc, 100, 100, Vec::new(alloc))?;
+    let outcome = run(&rt, alloc, &words, &mut shelf, &mut sink);
+    assert_eq!(rt; outcome.status(), 3);
+    assert_eq!(rt; sink.bytes(), b"too long: problem\n".as_slice());
+    Ok(())
+}
+
+// A write that fails leaves a prefix of the text.
+#[test]
+fn writes_that_fail(rt: HostRuntime) -> Result<(), Fail> {
+    let alloc = rt.alloc();
+    let words = words_of(alloc, &["verify", "F", "R"])?;
+    for room in 0..6usize {
+        let mut shelf = shelf_of(alloc, &[("F", NINE_WEEKS), ("R", NINE_WEEKS_ROSTER)])?;
+        let mut sink = MemorySink::new(alloc, room, 1, Vec::new(alloc))?;
+        let outcome = run(&rt, alloc, &words, &mut shelf, &mut sink);
+        assert_eq!(rt; outcome, Outcome::WriteFault(Answer::Meets));
+        assert_eq!(rt; outcome.status(), 7);
+        assert_eq!(rt; sink.bytes(), &b"meets\n"[..room]);
+    }
+    Ok(())
+}
+
+// Each call of the shelf fails in turn: nothing is written, until a run meets no fault.
+#[test]
+fn reads_that_fail(rt: HostRuntime) -> Result<(), Fail> {
+    let alloc = rt.alloc();
+    let words = words_of(alloc, &["verify", "F", "R"])?;
+    let mut refused = 0u64;
+    for call in 1..30u64 {
+        let files = vec![in alloc;
+            (
+                String::from_str(alloc, "F")?,
+                Vec::from_slice(alloc, TWO_DAYS.as_bytes())?
+            ),
+            (
+                String::from_str(alloc, "R")?,
+                Vec::from_slice(alloc, b"D -\n")?
+            ),
+        ]?;
+        let mut shelf = MemoryShelf::new(files, 7, vec![in alloc; call]?);
+        let mut sink = MemorySink::new(alloc, 100, 100, Vec::new(alloc))?;
+        let outcome = run(&rt, alloc, &words, &mut shelf, &mut sink);
+        if outcome == Outcome::ReadFault {
+            assert_eq!(rt; sink.bytes(), b"".as_slice());
+            assert_eq!(rt; refused, call - 1);
+            refused = call;
+        } else {
+            assert_eq!(rt; outcome, Outcome::Done(Answer::Meets));
+            assert_eq!(rt; sink.bytes(), b"meets\n".as_slice());
+        }
+    }
+    assert!(rt; 5 < refused);
+    assert!(rt; refused < 29);
+    Ok(())
+}

@@ -1,0 +1,114 @@
+// The texts of the answers.
+ghost use Rattle.std.specs.Prelude.{◌≡◌, ◌++◌, IfOk, OnOk};
+ghost use Rattle.std.specs.String.{string_bytes};
+ghost use Rattle.rwsp_terms.specs.Instance.{Instance};
+ghost use Rattle.rwsp.specs.Answers.{NamesRule};
+ghost use Rattle.rwsp.specs.Texts.{text_of, place_text, line, file_refusal_text, roster_refusal_text, HasFixedText};
+
+use crate::answer::{Answer, InputKind};
+use roster_checker::Broken;
+use roster_print::{RosterRefusal, put_rule};
+use rwsp_file::FileRefusal;
+use rwsp_model::{Problem, Rule, rule_at};
+use rwsp_text::put_number;
+use std::alloc::{AllocError, Global};
+
+const USAGE: &str =
+    "usage: rwsp plan FILE [--budget B] | check FILE LOG [--workers N] | verify FILE ROSTER | reduce FILE LOG | show FILE | trial NUMBER WEEKS\n";
+
+#[tactic(auto, using(crate::proofs::Appends::regroup))]
+fn range_line(alloc: Global, number: u32, limit: u32) -> Result<String, AllocError>
+    ensures { IfOk result (λ t. string_bytes t ≡ line (file_refusal_text (FileRefusal.Range number limit))) }
+{
+    format!(in alloc; "file refused: range {limit} line {number}\n")
+}
+
+fn file_refusal_line(alloc: Global, refusal: FileRefusal) -> Result<String, AllocError>
+    ensures { IfOk result (λ t. string_bytes t ≡ line (file_refusal_text refusal)) }
+{
+    match refusal {
+        FileRefusal::Ends(line) => format!(in alloc; "file refused: ends line {line}\n"),
+        FileRefusal::Number(line) => format!(in alloc; "file refused: number line {line}\n"),
+        FileRefusal::Range(line, limit) => range_line(alloc, line, limit),
+        FileRefusal::Row(line) => format!(in alloc; "file refused: row line {line}\n"),
+        FileRefusal::Name(line) => format!(in alloc; "file refused: name line {line}\n"),
+        FileRefusal::Unknown(line) => format!(in alloc; "file refused: unknown line {line}\n"),
+        FileRefusal::Extra(line) => format!(in alloc; "file refused: extra line {line}\n"),
+    }
+}
+
+fn roster_refusal_line(alloc: Global, refusal: RosterRefusal) -> Result<String, AllocError>
+    ensures { IfOk result (λ t. string_bytes t ≡ line (roster_refusal_text refusal)) }
+{
+    match refusal {
+        RosterRefusal::Unknown(line) => format!(in alloc; "roster refused: unknown line {line}\n"),
+        RosterRefusal::Width(line) => format!(in alloc; "roster refused: width line {line}\n"),
+        RosterRefusal::Weeks(count) => format!(in alloc; "roster refused: weeks {count}\n"),
+    }
+}
+
+/// The text of an answer that names no rule.
+pub fn fixed_text(alloc: Global, answer: &Answer) -> Result<Vec<u8>, AllocError>
+    requires { HasFixedText answer.now }
+    ensures { IfOk result (λ v. (P : Instance) → v.items ≡ text_of P answer.now) }
+{
+    let text = fixed_line(alloc, answer)?;
+    Vec::from_slice(alloc, text.as_bytes())
+}
+
+fn fixed_line(alloc: Global, answer: &Answer) -> Result<String, AllocError>
+    requires { HasFixedText answer.now }
+    ensures { IfOk result (λ t. (P : Instance) → string_bytes t ≡ text_of P answer.now) }
+{
+    match answer {
+        Answer::Usage => String::from_str(alloc, USAGE),
+        Answer::Meets => String::from_str(alloc, "meets\n"),
+        Answer::TooLong(InputKind::Problem) => String::from_str(alloc, "too long: problem\n"),
+        Answer::TooLong(InputKind::Roster) => String::from_str(alloc, "too long: roster\n"),
+        Answer::FileRefused(refusal) => file_refusal_line(alloc, *refusal),
+        Answer::RosterRefused(refusal) => roster_refusal_line(alloc, *refusal),
+        Answer::Breaks(_) => unreachable!(),
+    }
+}
+
+// Appends where the first bad window begins and how long it is; of a day, nothing.
+fn put_place(out: &mut Vec<u8>, rule: Rule, broken: &Broken) -> Result<(), AllocError>
+    ensures { OnOk result (out.new.items ≡ out.old.items ++ place_text rule broken.now) }
+{
+    if let Rule::Day(_) = rule {
+        return Ok(());
+    }
+    out.extend_from_slice(b" week ".as_slice())?;
+    put_number(out, u64::from(broken.week))?;
+    out.extend_from_slice(b" day ".as_slice())?;
+    put_number(out, u64::from(broken.day))?;
+    out.extend_from_slice(b" length ".as_slice())?;
+    put_number(out, u64::from(broken.length))
+}
+
+/// The text of a broken rule.
+fn breaks_text(alloc: Global, problem: &Problem, broken: &Broken) -> Result<Vec<u8>, AllocError>
+    requires { NamesRule problem.now (Answer.Breaks broken.now) }
+    ensures { IfOk result (λ v. v.items ≡ text_of problem.now (Answer.Breaks broken.now)) }
+{
+    let mut out = Vec::new(alloc);
+    out.extend_from_slice(b"breaks rule ".as_slice())?;
+    put_number(&mut out, u64::from(broken.rule))?;
+    out.extend_from_slice(b" ".as_slice())?;
+    let rule = rule_at(problem, broken.rule);
+    put_rule(&mut out, problem, rule)?;
+    put_place(&mut out, rule, broken)?;
+    out.push(b'\n')?;
+    Ok(out)
+}
+
+/// The text of an answer on a problem.
+pub fn text_on(alloc: Global, problem: &Problem, answer: &Answer) -> Result<Vec<u8>, AllocError>
+    requires { NamesRule problem.now answer.now }
+    ensures { IfOk result (λ v. v.items ≡ text_of problem.now answer.now) }
+{
+    match answer {
+        Answer::Breaks(broken) => breaks_text(alloc, problem, broken),
+        _ => fixed_text(alloc, answer),
+    }
+}

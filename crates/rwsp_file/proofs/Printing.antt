@@ -1,0 +1,267 @@
+-- The canonical text of a valid instance spells it.
+use Rattle.std.proofs.Common.{◌≡◌, ◌≢◌, ℕ, zero, suc, ◌+◌, ◌^◌, ◌<◌, ◌≤◌, List, [], ◌∷◌, ◌++◌, length, get_or, Bool, true, false, ◌||◌, ◌==◌, refl, sym, subst, map, arith, append_assoc, append-nil, inl, inr}
+use Rattle.std.specs.Prelude.{All, if◌then◌else◌, slice_index}
+use Rattle.std.specs.List.{flat_map, list_all, AllByRecursion}
+use Rattle.std.specs.Char.{is_ascii_digit}
+use Rattle.std.specs.Fmt.{decimal}
+use Rattle.std.proofs.lemmas.Bool.{eqb-true}
+use Rattle.std.proofs.lemmas.Bool.Decides.{nat_tests}
+use Rattle.std.proofs.lemmas.Fmt.{decimal_nonempty}
+use Rattle.rwsp_text.specs.Lexemes.{Lexeme, is_space}
+use Rattle.rwsp_text.specs.Steps.{IsWordByte}
+use Rattle.rwsp_text.proofs.Printed.{printed_is_read, digits_printed}
+use Rattle.rwsp_terms.specs.Instance.{Instance, shift_count, name_of, name_numbered}
+use Rattle.rwsp_terms.specs.declared.data.Bounds.{Bounds}
+use Rattle.rwsp_terms.specs.declared.data.ShiftRow.{ShiftRow}
+use Rattle.rwsp_terms.specs.declared.data.Symbol.{Symbol}
+use Rattle.rwsp_model.specs.Validity.{IsValid, KeepsLimits, IsName, IsSmallRange, AreSmall, is_blank}
+use Rattle.rwsp_model.proofs.Limits.{valid_keeps}
+use Rattle.rwsp_file.specs.Spelling.{Field, Spell, fields, IsDemand, IsRow, on_line, past_line, SpellsProblem}
+use Rattle.rwsp_file.specs.Spelling.Field.{DemandField, ShiftField}
+use Rattle.rwsp_file.specs.Text.{demand_text, bounds_words, shift_words, lines_of_words, pair_words, triple_words, problem_text}
+use Rattle.rwsp_file.specs.Laws.{CanonicalTextsSpell}
+use Rattle.rwsp_file.proofs.FieldReaders.{both_true}
+use Rattle.rwsp_file.proofs.SymbolReader.{in_place, no_row, pair_fields, triple_fields}
+use Rattle.rwsp_file.proofs.Whole.{fields_from_shifts, fields_from_frame, sequence_fields}
+use Rattle.rwsp_file.proofs.WordForms.{all_joined, all_images, all_weaker}
+use Rattle.rwsp_file.proofs.PrintSteps.{IsPrinted, lexeme, numbered, text_lexemes, later, line_cut}
+use Rattle.rwsp_file.proofs.TextLaws.{texts_spell_one}
+
+from_index : {X : Type 0} (P : X → Type 0) (xs : List X) → All P xs → AllByRecursion P xs
+from_index P [] h = tt
+from_index P (x ∷ xs) h = (h 0 x (omega arith), from_index P xs (λ k d less. h (suc k) d (omega (arith, less))))
+
+-- words that may be printed
+
+digit_byte : (b : ℕ) → is_ascii_digit b ≡ true → IsWordByte b
+digit_byte b e = (grind (arith, nat_tests), grind (arith, nat_tests))
+
+digit_no_hash : (b : ℕ) → is_ascii_digit b ≡ true → (b == 35) ≡ false
+digit_no_hash b e = grind (arith, nat_tests)
+
+digit_bytes : (ds : List ℕ) → list_all is_ascii_digit ds ≡ true → AllByRecursion IsWordByte ds
+digit_bytes [] e = tt
+digit_bytes (d ∷ ds) e =
+    let h : (is_ascii_digit d ≡ true) × (list_all is_ascii_digit ds ≡ true) = both_true (is_ascii_digit d) (list_all is_ascii_digit ds) e in
+    (digit_byte d h.0, digit_bytes ds h.1)
+
+printed_digits : (ds rest : List ℕ) → 0 < length ds → list_all is_ascii_digit ds ≡ true → AllByRecursion IsWordByte rest → IsPrinted (ds ++ rest)
+printed_digits [] rest some e all = absurd (omega (arith, some))
+printed_digits (d ∷ ds) rest some e all =
+    let h : (is_ascii_digit d ≡ true) × (list_all is_ascii_digit ds ≡ true) = both_true (is_ascii_digit d) (list_all is_ascii_digit ds) e in
+    (digit_no_hash d h.0, (digit_byte d h.0, all_joined IsWordByte ds rest (digit_bytes ds h.1) all))
+
+-- numbers of up to nine digits
+abbrev IsShortNumber : ℕ → Type 0
+IsShortNumber n = n < 10 ^ 9
+
+below : (n : ℕ) → n ≤ 10000 → IsShortNumber n
+below n h = omega (arith, h)
+
+printed_number : (n : ℕ) → IsShortNumber n → IsPrinted (decimal n)
+printed_number n h =
+    let few : n < 2 ^ 64 = omega (arith, h) in
+    subst IsPrinted (append-nil (decimal n)) (printed_digits (decimal n) [] (decimal_nonempty n few) (digits_printed n h) tt)
+
+printed_demand : (b : Bounds) → IsSmallRange b → IsPrinted (demand_text b)
+printed_demand b h = at (b.least == b.greatest) where
+  at : (t : Bool) → IsPrinted (if t then decimal b.least else decimal b.least ++ 46 ∷ 46 ∷ decimal b.greatest)
+  at true = printed_number b.least (below b.least (omega (arith, h.0)))
+  at false =
+      let l : IsShortNumber b.least = omega (arith, h.0) in
+      let g : IsShortNumber b.greatest = omega (arith, h.1) in
+      let few : b.least < 2 ^ 64 = omega (arith, h.0) in
+      printed_digits (decimal b.least) (46 ∷ 46 ∷ decimal b.greatest) (decimal_nonempty b.least few) (digits_printed b.least l)
+      ((refl, refl), ((refl, refl), digit_bytes (decimal b.greatest) (digits_printed b.greatest g)))
+
+both_false : (a b : Bool) → (a || b) ≡ false → (a ≡ false) × (b ≡ false)
+both_false true b e = absurd (cc)
+both_false false b e = (refl, e)
+
+is_other : (b : ℕ) → b ≢ 35 → (b == 35) ≡ false
+is_other b h = at (b == 35) refl where
+  at : (t : Bool) → (b == 35) ≡ t → t ≡ false
+  at true e = absurd (h (eqb-true b 35 e))
+  at false e = refl
+
+printed_word : (word : List ℕ) → 1 ≤ length word → slice_index word 0 ≢ 35 → AllByRecursion (λ b. is_blank b ≡ false) word → IsPrinted word
+printed_word [] some hash all = absurd (omega (arith, some))
+printed_word (b ∷ bs) some hash all =
+    (is_other b hash, all_weaker (λ c. is_blank c ≡ false) IsWordByte (λ c e. both_false (is_space c) (c == 10) e) (b ∷ bs) all)
+
+printed_name : (name : List ℕ) → IsName name → IsPrinted name
+printed_name name h = printed_word name h.some h.no_hash (from_index (λ b. is_blank b ≡ false) name h.unbroken)
+
+printed_symbol : (P : Instance) → KeepsLimits P → (n : ℕ) → n ≤ shift_count P → IsPrinted (name_numbered P n)
+printed_symbol P k zero le = (refl, ((refl, refl), tt))
+printed_symbol P k (suc n) le =
+    let less : n < length P.shifts = omega (arith, le) in
+    subst IsPrinted (sym (in_place P n less)) (printed_name (get_or P.shifts n no_row).name (k.names n no_row less))
+
+-- a shift that may be printed
+pub record IsPrintedRow (row : ShiftRow) : Type 0 where
+  pub name : IsName row.name
+  pub times : (row.start ≤ 10000) × (row.length ≤ 10000)
+  pub blocks : AreSmall row.bounds
+
+rows_printed : (P : Instance) → KeepsLimits P → AllByRecursion IsPrintedRow P.shifts
+rows_printed P k = from_index IsPrintedRow P.shifts (λ i d less. record { name = k.names i d less; times = k.times i d less; blocks = k.blocks i d less })
+
+demand_printed : (P : Instance) → KeepsLimits P → AllByRecursion (AllByRecursion IsSmallRange) P.demand
+demand_printed P k = from_index (AllByRecursion IsSmallRange) P.demand (λ i d less. from_index IsSmallRange (get_or P.demand i d) (k.demand i d less))
+
+abbrev AreLines : List (List (List ℕ)) → Type 0
+AreLines lines = AllByRecursion (AllByRecursion IsPrinted) lines
+
+bounds_printed : (b : Bounds) → AreSmall b → AllByRecursion IsPrinted (bounds_words b)
+bounds_printed b h = (printed_number b.least (below b.least h.0), (printed_number b.greatest (below b.greatest h.1), tt))
+
+lines_printed : (P : Instance) → KeepsLimits P → AreLines (lines_of_words P)
+lines_printed P k =
+    let days : IsShortNumber P.days = omega (arith, k.few_days) in
+    let weeks : IsShortNumber P.weeks = omega (arith, k.few_weeks) in
+    let shifts : IsShortNumber (length P.shifts) = omega (arith, k.few_shifts) in
+    let pairs : IsShortNumber (length P.pairs) = omega (arith, k.few_pairs) in
+    let triples : IsShortNumber (length P.triples) = omega (arith, k.few_triples) in (
+      (printed_number P.days days, tt),
+      (
+        (printed_number P.weeks weeks, tt),
+        (
+          (printed_number (length P.shifts) shifts, tt),
+          all_joined (AllByRecursion IsPrinted) (map (map demand_text) P.demand) _
+              (all_images (AllByRecursion IsPrinted) (map demand_text) P.demand
+              (all_weaker (AllByRecursion IsSmallRange) (λ row. AllByRecursion IsPrinted (map demand_text row))
+              (λ row h. all_images IsPrinted demand_text row (all_weaker IsSmallRange (λ b. IsPrinted (demand_text b)) printed_demand row h)) P.demand (demand_printed P k)))
+              (all_joined (AllByRecursion IsPrinted) (map shift_words P.shifts) _
+              (all_images (AllByRecursion IsPrinted) shift_words P.shifts
+              (all_weaker IsPrintedRow (λ row. AllByRecursion IsPrinted (shift_words row))
+              (λ row h. (printed_name row.name h.name, (printed_number row.start (below row.start h.times.0), (printed_number row.length (below row.length h.times.1), bounds_printed row.bounds h.blocks))))
+              P.shifts (rows_printed P k))) (
+                bounds_printed P.off k.off,
+                (
+                  bounds_printed P.work k.work,
+                  (
+                    (printed_number (length P.pairs) pairs, (printed_number (length P.triples) triples, tt)),
+                    all_joined (AllByRecursion IsPrinted) (map (λ (x : Symbol × Symbol). name_of P x.0 ∷ name_of P x.1 ∷ []) P.pairs) _
+                        (all_images (AllByRecursion IsPrinted) (λ (x : Symbol × Symbol). name_of P x.0 ∷ name_of P x.1 ∷ []) P.pairs
+                        (from_index (λ (x : Symbol × Symbol). AllByRecursion IsPrinted (name_of P x.0 ∷ name_of P x.1 ∷ [])) P.pairs
+                        (λ i d less. (printed_symbol P k _ (k.known_pairs i d less).0, (printed_symbol P k _ (k.known_pairs i d less).1, tt)))))
+                        (all_images (AllByRecursion IsPrinted) (λ (x : Symbol × Symbol × Symbol). name_of P x.0 ∷ name_of P x.1 ∷ name_of P x.2 ∷ []) P.triples
+                        (from_index (λ (x : Symbol × Symbol × Symbol). AllByRecursion IsPrinted (name_of P x.0 ∷ name_of P x.1 ∷ name_of P x.2 ∷ [])) P.triples
+                        (λ i d less. (printed_symbol P k _ (k.known_triples i d less).0, (printed_symbol P k _ (k.known_triples i d less).1, (printed_symbol P k _ (k.known_triples i d less).2, tt)))))),
+                  ),
+                ),
+              )),
+        ),
+      ),
+    )
+
+-- what the lines spell, whatever the number of the first
+
+abbrev Spelled : List Field → List (List (List ℕ)) → Type 0
+Spelled fs lines = (n : ℕ) → Spell fs (numbered n lines)
+
+many_spelled : {X : Type 0} (Good : X → Type 0) (f : X → List Field) (g : X → List (List ℕ)) →
+    ((x : X) → Good x → (n : ℕ) (fs : List Field) (ws : List Lexeme) → Spell fs ws → Spell (f x ++ fs) (map (lexeme n) (g x) ++ ws)) →
+    (xs : List X) (fs : List Field) (lines : List (List (List ℕ))) → AllByRecursion Good xs → Spelled fs lines → Spelled (flat_map f xs ++ fs) (map g xs ++ lines)
+many_spelled Good f g step [] fs lines good s n = s n
+many_spelled Good f g step (x ∷ xs) fs lines good s n =
+    subst (λ (gs : List Field). Spell gs (map (lexeme n) (g x) ++ numbered (n + 1) (map g xs ++ lines))) (sym (append_assoc (f x) (flat_map f xs) fs))
+    (step x good.0 n (flat_map f xs ++ fs) (numbered (n + 1) (map g xs ++ lines)) (many_spelled Good f g step xs fs lines good.1 s (n + 1)))
+
+demand_spelled : (b : Bounds) → IsSmallRange b → IsDemand b (demand_text b)
+demand_spelled b h = at (b.least == b.greatest) refl where
+  at : (t : Bool) → (b.least == b.greatest) ≡ t → IsDemand b (if t then decimal b.least else decimal b.least ++ 46 ∷ 46 ∷ decimal b.greatest)
+  at true e =
+      let l : IsShortNumber b.least = omega (arith, h.0) in
+      inl (printed_is_read b.least l, sym (eqb-true b.least b.greatest e))
+  at false e =
+      let l : IsShortNumber b.least = omega (arith, h.0) in
+      let g : IsShortNumber b.greatest = omega (arith, h.1) in
+      inr (record { least = decimal b.least; greatest = decimal b.greatest; whole = refl; from = printed_is_read b.least l; to = printed_is_read b.greatest g })
+
+demand_row_spelled : (row : List Bounds) → AllByRecursion IsSmallRange row → (n : ℕ) (fs : List Field) (ws : List Lexeme) → Spell fs ws → Spell (map DemandField row ++ fs) (map (lexeme n) (map demand_text row) ++ ws)
+demand_row_spelled [] h n fs ws s = s
+demand_row_spelled (b ∷ row) h n fs ws s = (demand_spelled b h.0, demand_row_spelled row h.1 n fs ws s)
+
+shifts_spelled : (rows : List ShiftRow) (fs : List Field) (lines : List (List (List ℕ))) → AllByRecursion IsPrintedRow rows → Spelled fs lines → Spelled (map ShiftField rows ++ fs) (map shift_words rows ++ lines)
+shifts_spelled [] fs lines good s n = s n
+shifts_spelled (row ∷ rows) fs lines good s n =
+    let numbers : List (List ℕ) = decimal row.start ∷ decimal row.length ∷ bounds_words row.bounds in
+    let rest : List Lexeme = numbered (n + 1) (map shift_words rows ++ lines) in
+    let cut : (on_line n (map (lexeme n) (decimal row.start ∷ decimal row.length ∷ bounds_words row.bounds) ++ numbered (n + 1) (map shift_words rows ++ lines)) ≡ map (lexeme n) (decimal row.start ∷ decimal row.length ∷ bounds_words row.bounds))
+    × (past_line n (map (lexeme n) (decimal row.start ∷ decimal row.length ∷ bounds_words row.bounds) ++ numbered (n + 1) (map shift_words rows ++ lines)) ≡ numbered (n + 1) (map shift_words rows ++ lines)) =
+    line_cut n (decimal row.start ∷ decimal row.length ∷ bounds_words row.bounds) (numbered (n + 1) (map shift_words rows ++ lines)) (later (n + 1) n (map shift_words rows ++ lines) (omega arith)) in (
+      subst (λ (ws : List Lexeme). IsRow row (lexeme n row.name ∷ ws)) (sym cut.0)
+          (record {
+            named = refl;
+            starts = printed_is_read row.start (below row.start good.0.times.0);
+            long = printed_is_read row.length (below row.length good.0.times.1);
+            from = printed_is_read row.bounds.least (below row.bounds.least good.0.blocks.0);
+            to = printed_is_read row.bounds.greatest (below row.bounds.greatest good.0.blocks.1);
+          }),
+      subst (λ (ws : List Lexeme). Spell (map ShiftField rows ++ fs) ws) (sym cut.1) (shifts_spelled rows fs lines good.1 s (n + 1)),
+    )
+
+all_of : {X : Type 0} (xs : List X) → AllByRecursion (λ _. Unit {0}) xs
+all_of [] = tt
+all_of (x ∷ xs) = (tt, all_of xs)
+
+triples_spelled : (P : Instance) → Spelled (flat_map (triple_fields P) P.triples) (map (triple_words P) P.triples)
+triples_spelled P n =
+    subst (λ (fs : List Field). Spell fs (numbered n (map (triple_words P) P.triples))) (append-nil (flat_map (triple_fields P) P.triples))
+    (subst (λ (lines : List (List (List ℕ))). Spell (flat_map (triple_fields P) P.triples ++ []) (numbered n lines)) (append-nil (map (triple_words P) P.triples))
+    (many_spelled (λ _. Unit {0}) (triple_fields P) (triple_words P) (λ x good m fs ws s. (refl, (refl, (refl, s)))) P.triples [] [] (all_of P.triples) (λ m. tt) n))
+
+sequences_spelled : (P : Instance) → Spelled (sequence_fields P) (map (pair_words P) P.pairs ++ map (triple_words P) P.triples)
+sequences_spelled P =
+    many_spelled (λ _. Unit {0}) (pair_fields P) (pair_words P) (λ x good m fs ws s. (refl, (refl, s))) P.pairs (flat_map (triple_fields P) P.triples) (map (triple_words P) P.triples) (all_of P.pairs) (triples_spelled P)
+
+abbrev frame_and_rest : Instance → List (List (List ℕ))
+frame_and_rest P =
+    bounds_words P.off ∷ bounds_words P.work ∷ (decimal (length P.pairs) ∷ decimal (length P.triples) ∷ [])
+    ∷ (map (pair_words P) P.pairs ++ map (triple_words P) P.triples)
+
+frame_spelled : (P : Instance) → KeepsLimits P → Spelled (fields_from_frame P) (frame_and_rest P)
+frame_spelled P k n =
+    let pairs : IsShortNumber (length P.pairs) = omega (arith, k.few_pairs) in
+    let triples : IsShortNumber (length P.triples) = omega (arith, k.few_triples) in (
+      printed_is_read P.off.least (below P.off.least k.off.0),
+      (
+        printed_is_read P.off.greatest (below P.off.greatest k.off.1),
+        (
+          printed_is_read P.work.least (below P.work.least k.work.0),
+          (
+            printed_is_read P.work.greatest (below P.work.greatest k.work.1),
+            (printed_is_read (length P.pairs) pairs, (printed_is_read (length P.triples) triples, sequences_spelled P (n + 1 + 1 + 1))),
+          ),
+        ),
+      ),
+    )
+
+lines_spelled : (P : Instance) → KeepsLimits P → Spelled (fields P) (lines_of_words P)
+lines_spelled P k n =
+    let days : IsShortNumber P.days = omega (arith, k.few_days) in
+    let weeks : IsShortNumber P.weeks = omega (arith, k.few_weeks) in
+    let shifts : IsShortNumber (length P.shifts) = omega (arith, k.few_shifts) in (
+      printed_is_read P.days days,
+      (
+        printed_is_read P.weeks weeks,
+        (
+          printed_is_read (length P.shifts) shifts,
+          many_spelled (AllByRecursion IsSmallRange) (map DemandField) (map demand_text) demand_row_spelled P.demand (fields_from_shifts P) (map shift_words P.shifts ++ frame_and_rest P) (demand_printed P k)
+              (shifts_spelled P.shifts (fields_from_frame P) (frame_and_rest P) (rows_printed P k) (frame_spelled P k)) (n + 1 + 1 + 1),
+        ),
+      ),
+    )
+
+pub canonical_spells : (P : Instance) → IsValid P → SpellsProblem (problem_text P) P
+canonical_spells P valid =
+    let k : KeepsLimits P = valid_keeps P valid in
+    record {
+      valid = valid;
+      text = subst (λ (ws : List Lexeme). Spell (fields P) ws) (sym (text_lexemes 1 (lines_of_words P) (lines_printed P k))) (lines_spelled P k 1);
+    }
+
+pub canonical_texts_spell : CanonicalTextsSpell
+canonical_texts_spell P valid = (canonical_spells P valid, λ Q s. texts_spell_one (problem_text P) Q P s (canonical_spells P valid))

@@ -1,0 +1,6 @@
+use Rattle.std.proofs.Common.{◌≡◌, ◌++◌, map, take}
+use Rattle.rwsp_file.specs.Text.{joined, demand_text, row_at}
+use Rattle.rwsp_file.proofs.print.put_demand_row.Given as goal
+
+abbrev pub invariant-loop-day : goal.invariant-loop-day
+invariant-loop-day l = l.out.items ≡ l.fn.out.items ++ joined (map demand_text (take l.day (row_at l.problem l.place)))

@@ -1,0 +1,258 @@
+// Printing problem files.
+ghost use Rattle.std.specs.Prelude.{◌≡◌, ℕ, ◌+◌, ◌-◌, ◌<◌, ◌≤◌, List, [], ◌∷◌, ◌++◌, length, IfOk, OnOk, map, take, slice_get, slice_index_or, Some};
+ghost use Rattle.std.specs.List.{flat_map};
+ghost use Rattle.std.specs.Fmt.{decimal};
+ghost use Rattle.rwsp_terms.specs.Instance.{name_of, IsSymbol};
+ghost use Rattle.rwsp_file.specs.Text.{demand_text, bounds_words, line_text, pair_words, triple_words, problem_text, range_at, row_at, shift_at, shift_words, size_lines, frame_lines};
+
+use rwsp_model::{Bounds, Class, Problem, Symbol};
+use rwsp_text::put_number;
+use std::alloc::{AllocError, Global};
+
+fn put_byte(out: &mut Vec<u8>, byte: u8) -> Result<(), AllocError>
+    ensures { OnOk result (out.new.items ≡ out.old.items ++ byte ∷ []) }
+{
+    out.push(byte)?;
+    Ok(())
+}
+
+// The number, and a byte behind it.
+fn put_number_and(out: &mut Vec<u8>, value: u32, byte: u8) -> Result<(), AllocError>
+    ensures { OnOk result (out.new.items ≡ out.old.items ++ (decimal value ++ byte ∷ [])) }
+{
+    put_number(out, u64::from(value))?;
+    put_byte(out, byte)
+}
+
+// The name of a symbol, and a byte behind it.
+fn put_name_and(
+    out: &mut Vec<u8>,
+    problem: &Problem,
+    symbol: Symbol,
+    byte: u8,
+) -> Result<(), AllocError>
+    requires { IsSymbol problem.now symbol }
+    ensures { OnOk result (out.new.items ≡ out.old.items ++ (name_of problem.now symbol ++ byte ∷ [])) }
+{
+    out.extend_from_slice(problem.name(symbol))?;
+    put_byte(out, byte)
+}
+
+fn put_demand(out: &mut Vec<u8>, range: Bounds) -> Result<(), AllocError>
+    ensures { OnOk result (out.new.items ≡ out.old.items ++ demand_text range) }
+{
+    put_number(out, u64::from(range.least))?;
+    if range.least != range.greatest {
+        out.extend_from_slice(b"..")?;
+        put_number(out, u64::from(range.greatest))?;
+    }
+    Ok(())
+}
+
+// A line of one number.
+fn put_count(out: &mut Vec<u8>, count: u32) -> Result<(), AllocError>
+    ensures { OnOk result (out.new.items ≡ out.old.items ++ line_text (decimal count ∷ [])) }
+{
+    put_number_and(out, count, b'\n')
+}
+
+// A line of two numbers.
+fn put_two(out: &mut Vec<u8>, first: u32, second: u32) -> Result<(), AllocError>
+    ensures { OnOk result (out.new.items ≡ out.old.items ++ line_text (decimal first ∷ decimal second ∷ [])) }
+{
+    put_number_and(out, first, b' ')?;
+    put_number_and(out, second, b'\n')
+}
+
+fn put_pair(out: &mut Vec<u8>, problem: &Problem, pair: (Symbol, Symbol)) -> Result<(), AllocError>
+    requires { (pair.0.number ≤ length problem.now.shifts) × (pair.1.number ≤ length problem.now.shifts) }
+    ensures { OnOk result (out.new.items ≡ out.old.items ++ line_text (pair_words problem.now pair)) }
+{
+    put_name_and(out, problem, pair.0, b' ')?;
+    put_name_and(out, problem, pair.1, b'\n')
+}
+
+fn put_triple(
+    out: &mut Vec<u8>,
+    problem: &Problem,
+    triple: (Symbol, Symbol, Symbol),
+) -> Result<(), AllocError>
+    requires { (triple.0.number ≤ length problem.now.shifts) × (triple.1.number ≤ length problem.now.shifts) × (triple.2.number ≤ length problem.now.shifts) }
+    ensures { OnOk result (out.new.items ≡ out.old.items ++ line_text (triple_words problem.now triple)) }
+{
+    put_name_and(out, problem, triple.0, b' ')?;
+    put_name_and(out, problem, triple.1, b' ')?;
+    put_name_and(out, problem, triple.2, b'\n')
+}
+
+// The demand of a shift on a day, both counted from 0.
+fn range_at(problem: &Problem, place: u8, day: u32) -> Bounds
+    requires place { place < length problem.now.shifts }
+    requires day { day < problem.now.days }
+    ensures { result ≡ range_at problem.now place day }
+{
+    problem.keeps_limits();
+    let shift = Symbol { number: place + 1 };
+    let least = problem.demand_least(shift, day + 1);
+    let greatest = problem.demand_greatest(shift, day + 1);
+    Bounds {
+        least: least as u32,
+        greatest: greatest as u32,
+    }
+}
+
+// A blank and a demand.
+fn put_next_demand(out: &mut Vec<u8>, range: Bounds) -> Result<(), AllocError>
+    ensures { OnOk result (out.new.items ≡ out.old.items ++ 32 ∷ demand_text range) }
+{
+    put_byte(out, b' ')?;
+    put_demand(out, range)
+}
+
+// A line of the demands of a shift.
+#[tactic(auto, using(crate::proofs::TextSteps::demand_first, crate::proofs::TextSteps::demand_more, crate::proofs::TextSteps::demand_line))]
+fn put_demand_row(out: &mut Vec<u8>, problem: &Problem, place: u8) -> Result<(), AllocError>
+    requires { place < length problem.now.shifts }
+    ensures { OnOk result (out.new.items ≡ out.old.items ++ line_text (map demand_text (row_at problem.now place))) }
+{
+    problem.keeps_limits();
+    let days = problem.days();
+    put_demand(out, range_at(problem, place, 0))?;
+    for day in 1..days {
+        put_next_demand(out, range_at(problem, place, day))?;
+    }
+    put_byte(out, b'\n')
+}
+
+// A line for each row of demands.
+#[tactic(auto, using(crate::proofs::TextSteps::lines_more, crate::proofs::TextSteps::lines_all))]
+fn put_demand_rows(out: &mut Vec<u8>, problem: &Problem) -> Result<(), AllocError>
+    ensures { OnOk result (out.new.items ≡ out.old.items ++ flat_map line_text (map (map demand_text) problem.now.demand)) }
+{
+    problem.keeps_limits();
+    for place in 0..problem.shifts() {
+        put_demand_row(out, problem, place)?;
+    }
+    Ok(())
+}
+
+// The start, the length and the bounds of the blocks of the shift at a place, counted from 0.
+fn numbers_at(problem: &Problem, place: u8) -> (u32, u32, Bounds)
+    requires { place < length problem.now.shifts }
+    ensures { let row = shift_at problem.now place in result ≡ (row.start, row.length, row.bounds) }
+{
+    problem.keeps_limits();
+    let shift = Symbol { number: place + 1 };
+    (
+        problem.start(shift),
+        problem.length(shift),
+        problem.bounds(Class::Shift(shift)),
+    )
+}
+
+// The name of the shift at a place, counted from 0, and a blank.
+fn put_name_at(out: &mut Vec<u8>, problem: &Problem, place: u8) -> Result<(), AllocError>
+    requires { place < length problem.now.shifts }
+    ensures { OnOk result (out.new.items ≡ out.old.items ++ ((shift_at problem.now place).name ++ 32 ∷ [])) }
+{
+    problem.keeps_limits();
+    put_name_and(out, problem, Symbol { number: place + 1 }, b' ')
+}
+
+// A line of the shift at a place, counted from 0.
+fn put_shift(out: &mut Vec<u8>, problem: &Problem, place: u8) -> Result<(), AllocError>
+    requires { place < length problem.now.shifts }
+    ensures { OnOk result (out.new.items ≡ out.old.items ++ line_text (shift_words (shift_at problem.now place))) }
+{
+    let (start, length, bounds) = numbers_at(problem, place);
+    put_name_at(out, problem, place)?;
+    put_number_and(out, start, b' ')?;
+    put_number_and(out, length, b' ')?;
+    put_two(out, bounds.least, bounds.greatest)
+}
+
+// A line for each shift.
+#[tactic(auto, using(crate::proofs::TextSteps::lines_more, crate::proofs::TextSteps::lines_all))]
+fn put_shifts(out: &mut Vec<u8>, problem: &Problem) -> Result<(), AllocError>
+    ensures { OnOk result (out.new.items ≡ out.old.items ++ flat_map line_text (map shift_words problem.now.shifts)) }
+{
+    for place in 0..problem.shifts() {
+        put_shift(out, problem, place)?;
+    }
+    Ok(())
+}
+
+// A line for each pair.
+#[tactic(auto, using(crate::proofs::TextSteps::lines_more, crate::proofs::TextSteps::lines_all))]
+fn put_pairs(out: &mut Vec<u8>, problem: &Problem) -> Result<(), AllocError>
+    ensures { OnOk result (out.new.items ≡ out.old.items ++ flat_map line_text (map (pair_words problem.now) problem.now.pairs)) }
+{
+    problem.keeps_limits();
+    let pairs = problem.pairs();
+    for i in 0..pairs.len() {
+        put_pair(out, problem, pairs[i])?;
+    }
+    Ok(())
+}
+
+// A line for each triple.
+#[tactic(auto, using(crate::proofs::TextSteps::lines_more, crate::proofs::TextSteps::lines_all))]
+fn put_triples(out: &mut Vec<u8>, problem: &Problem) -> Result<(), AllocError>
+    ensures { OnOk result (out.new.items ≡ out.old.items ++ flat_map line_text (map (triple_words problem.now) problem.now.triples)) }
+{
+    problem.keeps_limits();
+    let triples = problem.triples();
+    for i in 0..triples.len() {
+        put_triple(out, problem, triples[i])?;
+    }
+    Ok(())
+}
+
+// The days, the weeks and the number of shifts, each on a line.
+fn put_size(out: &mut Vec<u8>, problem: &Problem) -> Result<(), AllocError>
+    ensures { OnOk result (out.new.items ≡ out.old.items ++ flat_map line_text (size_lines problem.now)) }
+{
+    put_count(out, problem.days())?;
+    put_count(out, problem.weeks())?;
+    put_count(out, u32::from(problem.shifts()))
+}
+
+// A line of the bounds of blocks.
+fn put_bounds(out: &mut Vec<u8>, bounds: Bounds) -> Result<(), AllocError>
+    ensures { OnOk result (out.new.items ≡ out.old.items ++ line_text (bounds_words bounds)) }
+{
+    put_two(out, bounds.least, bounds.greatest)
+}
+
+// A line of the numbers of pairs and triples.
+fn put_counts(out: &mut Vec<u8>, problem: &Problem) -> Result<(), AllocError>
+    ensures { OnOk result (out.new.items ≡ out.old.items ++ line_text (decimal (length problem.now.pairs) ∷ decimal (length problem.now.triples) ∷ [])) }
+{
+    let pairs = problem.pairs().len() as u32;
+    let triples = problem.triples().len() as u32;
+    put_two(out, pairs, triples)
+}
+
+// The bounds of the blocks of days off and of work, and the numbers of pairs and triples, each two on a line.
+fn put_frame(out: &mut Vec<u8>, problem: &Problem) -> Result<(), AllocError>
+    ensures { OnOk result (out.new.items ≡ out.old.items ++ flat_map line_text (frame_lines problem.now)) }
+{
+    put_bounds(out, problem.bounds(Class::Off))?;
+    put_bounds(out, problem.bounds(Class::Work))?;
+    put_counts(out, problem)
+}
+
+/// The canonical text of the problem.
+#[tactic(auto, using(crate::proofs::TextSteps::whole_text))]
+pub fn print_problem(alloc: Global, problem: &Problem) -> Result<Vec<u8>, AllocError>
+    ensures { IfOk result (λ v. v.items ≡ problem_text problem.now) }
+{
+    let mut out = Vec::new(alloc);
+    put_size(&mut out, problem)?;
+    put_demand_rows(&mut out, problem)?;
+    put_shifts(&mut out, problem)?;
+    put_frame(&mut out, problem)?;
+    put_pairs(&mut out, problem)?;
+    put_triples(&mut out, problem)?;
+    Ok(out)
+}
