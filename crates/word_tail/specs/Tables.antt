@@ -1,5 +1,5 @@
 -- What the prepared tables of tail rules hold.
-use Rattle.std.specs.Prelude.{◌≡◌, ℕ, ◌+◌, ◌*◌, ◌<◌, ◌≤◌, ◌↔◌, ◌⊎◌, List, length, Option, Some, None, Bool, false, ◌&&◌, nat_lt, IsTrue, MatchOption, slice_get, slice_index_or}
+use Rattle.std.specs.Prelude.{◌≡◌, ℕ, ◌+◌, ◌*◌, ◌<◌, ◌≤◌, ◌↔◌, ◌⊎◌, List, [], ◌∷◌, ◌++◌, length, Option, Some, None, Bool, false, ◌&&◌, nat_lt, IsTrue, MatchOption, slice_get, slice_index_or}
 use Rattle.rwsp_terms.specs.declared.data.Symbol.{Symbol}
 use Rattle.rwsp_terms.specs.declared.data.Class.{Class}
 use Rattle.rwsp_terms.specs.declared.data.Class.TheVariants.{Work}
@@ -8,15 +8,23 @@ use Rattle.rwsp_terms.specs.Instance.{Instance, bounds}
 use Rattle.rwsp_terms.specs.Rules.{Names}
 use Rattle.word_tail.specs.declared.limits.Lengths.{Lengths}
 use Rattle.word_tail.specs.declared.limits.Limits.{Limits}
+use Rattle.word_tail.specs.declared.tail.Tail.{Tail}
+use Rattle.word_tail.specs.Tails.{tail_of}
 use Rattle.word_tail.specs.Ends.{max_rule, min_rule, class_numbered}
 
 -- the greatest length of a class's blocks, where the list names the rule
 abbrev pub IsGreatest : Instance → List ℕ → Class → Option ℕ → Type 0
-IsGreatest P R c greatest = MatchOption greatest (¬ Names P R (max_rule c)) (λ m. Names P R (max_rule c) × ((bounds P c).greatest ≡ m) × (m ≤ 30))
+IsGreatest P R c greatest =
+    MatchOption greatest
+    (¬ Names P R (max_rule c))
+    (λ m. Names P R (max_rule c) × ((bounds P c).greatest ≡ m) × (m ≤ 30))
 
 -- the least length
 abbrev pub IsLeast : Instance → List ℕ → Class → Option ℕ → Type 0
-IsLeast P R c least = MatchOption least (¬ Names P R (min_rule c)) (λ m. Names P R (min_rule c) × ((bounds P c).least ≡ m) × (m ≤ 30))
+IsLeast P R c least =
+    MatchOption least
+    (¬ Names P R (min_rule c))
+    (λ m. Names P R (min_rule c) × ((bounds P c).least ≡ m) × (m ≤ 30))
 
 pub record AreLengths (P : Instance) (R : List ℕ) (c : Class) (l : Lengths) : Type 0 where
   pub greatest : IsGreatest P R c l.greatest
@@ -30,7 +38,9 @@ abbrev pub pair_in : List Bool → Symbol → Symbol → Bool
 pair_in table a b = nat_lt a.number 9 && nat_lt b.number 9 && slice_index_or table (9 * a.number + b.number) false
 
 abbrev pub triple_in : List Bool → Symbol → Symbol → Symbol → Bool
-triple_in table a b c = nat_lt a.number 9 && nat_lt b.number 9 && nat_lt c.number 9 && slice_index_or table (81 * a.number + 9 * b.number + c.number) false
+triple_in table a b c =
+    nat_lt a.number 9 && nat_lt b.number 9 && nat_lt c.number 9
+    && slice_index_or table (81 * a.number + 9 * b.number + c.number) false
 
 -- the list names a rule against the pair, or against the triple
 abbrev pub NamesPair : Instance → List ℕ → Symbol → Symbol → Type 0
@@ -41,10 +51,14 @@ NamesTriple P R a b c = (k : ℕ) × Names P R (Triple k) × (slice_get P.triple
 
 -- a table holds the pairs of the rules before the n-th, or their triples
 abbrev pub HoldsPairs : Instance → List ℕ → List Bool → ℕ → Type 0
-HoldsPairs P R table n = (a b : Symbol) → IsTrue (pair_in table a b) ↔ ((k : ℕ) × (k < n) × Names P R (Pair k) × (slice_get P.pairs k ≡ Some (a, b)))
+HoldsPairs P R table n =
+    (a b : Symbol)
+    → IsTrue (pair_in table a b) ↔ ((k : ℕ) × (k < n) × Names P R (Pair k) × (slice_get P.pairs k ≡ Some (a, b)))
 
 abbrev pub HoldsTriples : Instance → List ℕ → List Bool → ℕ → Type 0
-HoldsTriples P R table n = (a b c : Symbol) → IsTrue (triple_in table a b c) ↔ ((k : ℕ) × (k < n) × Names P R (Triple k) × (slice_get P.triples k ≡ Some (a, b, c)))
+HoldsTriples P R table n =
+    (a b c : Symbol)
+    → IsTrue (triple_in table a b c) ↔ ((k : ℕ) × (k < n) × Names P R (Triple k) × (slice_get P.triples k ≡ Some (a, b, c)))
 
 -- the tables hold the rules of the list
 pub record AreTables (P : Instance) (R : List ℕ) (l : Limits) : Type 0 where
@@ -55,3 +69,9 @@ pub record AreTables (P : Instance) (R : List ℕ) (l : Limits) : Type 0 where
   pub pairs : (a b : Symbol) → IsTrue (pair_in l.pairs.items a b) ↔ NamesPair P R a b
   pub triples_long : length l.triples.items ≡ 729
   pub triples : (a b c : Symbol) → IsTrue (triple_in l.triples.items a b c) ↔ NamesTriple P R a b c
+
+-- for each word with the tail: the test says whether the word and the symbol break a rule of the kind at their end
+abbrev pub Tells : Limits → Tail → Symbol → Bool → (Instance → List ℕ → List Symbol → Type 0) → Type 0
+Tells l tail x test BreaksKind =
+    (P : Instance) (R : List ℕ) (w : List Symbol)
+    → AreTables P R l → tail_of w ≡ tail → IsTrue test ↔ BreaksKind P R (w ++ x ∷ [])

@@ -97,7 +97,8 @@ fn lengths_numbered(problem: &Problem, list: &RuleList, number: u8) -> Lengths
 
 fn symbol_lengths(problem: &Problem, list: &RuleList) -> [Lengths; 9]
     requires { NamesShortOnly problem.now list.now }
-    ensures { (n : ℕ) → AreLengths problem.now list.now (class_numbered n) (slice_index_or result n no_lengths) }
+    ensures { (n : ℕ) →
+        AreLengths problem.now list.now (class_numbered n) (slice_index_or result n no_lengths) }
 {
     every_rule_is_listed();
     problem.keeps_limits();
@@ -112,7 +113,8 @@ fn put_pair(table: &mut Vec<bool>, a: Symbol, b: Symbol)
     requires long { length table.old.items ≡ 81 }
     requires known { (a.number < 9) × (b.number < 9) }
     ensures long { length table.new.items ≡ 81 }
-    ensures puts { (x y : Symbol) → IsTrue (pair_in table.new.items x y) ↔ (IsTrue (pair_in table.old.items x y) ⊎ ((x ≡ a) × (y ≡ b))) }
+    ensures puts { (x y : Symbol) → IsTrue (pair_in table.new.items x y)
+        ↔ (IsTrue (pair_in table.old.items x y) ⊎ ((x ≡ a) × (y ≡ b))) }
 {
     table[9 * a.number as usize + b.number as usize] = true;
 }
@@ -122,7 +124,8 @@ fn put_named_pair(table: &mut Vec<bool>, problem: &Problem, list: &RuleList, pai
     requires long { length table.old.items ≡ 81 }
     requires pair { pair < length problem.now.pairs }
     ensures long { length table.new.items ≡ 81 }
-    ensures next { HoldsPairs problem.now list.now table.old.items pair → HoldsPairs problem.now list.now table.new.items (pair + 1) }
+    ensures next { HoldsPairs problem.now list.now table.old.items pair
+        → HoldsPairs problem.now list.now table.new.items (pair + 1) }
 {
     problem.keeps_limits();
     if names(problem, list, Rule::Pair(pair)) {
@@ -133,7 +136,8 @@ fn put_named_pair(table: &mut Vec<bool>, problem: &Problem, list: &RuleList, pai
 
 fn pairs_of(alloc: Global, problem: &Problem, list: &RuleList) -> Result<Vec<bool>, AllocError>
     ensures long { IfOk result (λ table. length table.items ≡ 81) }
-    ensures holds { IfOk result (λ table. (a b : Symbol) → IsTrue (pair_in table.items a b) ↔ NamesPair problem.now list.now a b) }
+    ensures holds { IfOk result (λ table. (a b : Symbol) →
+        IsTrue (pair_in table.items a b) ↔ NamesPair problem.now list.now a b) }
 {
     let mut table = vec![in alloc; false; 81]?;
     for pair in 0..problem.pairs().len() as u32 {
@@ -146,7 +150,8 @@ fn put_triple(table: &mut Vec<bool>, a: Symbol, b: Symbol, c: Symbol)
     requires long { length table.old.items ≡ 729 }
     requires known { (a.number < 9) × (b.number < 9) × (c.number < 9) }
     ensures long { length table.new.items ≡ 729 }
-    ensures puts { (x y z : Symbol) → IsTrue (triple_in table.new.items x y z) ↔ (IsTrue (triple_in table.old.items x y z) ⊎ ((x ≡ a) × (y ≡ b) × (z ≡ c))) }
+    ensures puts { (x y z : Symbol) → IsTrue (triple_in table.new.items x y z)
+        ↔ (IsTrue (triple_in table.old.items x y z) ⊎ ((x ≡ a) × (y ≡ b) × (z ≡ c))) }
 {
     table[81 * a.number as usize + 9 * b.number as usize + c.number as usize] = true;
 }
@@ -156,7 +161,8 @@ fn put_named_triple(table: &mut Vec<bool>, problem: &Problem, list: &RuleList, t
     requires long { length table.old.items ≡ 729 }
     requires triple { triple < length problem.now.triples }
     ensures long { length table.new.items ≡ 729 }
-    ensures next { HoldsTriples problem.now list.now table.old.items triple → HoldsTriples problem.now list.now table.new.items (triple + 1) }
+    ensures next { HoldsTriples problem.now list.now table.old.items triple
+        → HoldsTriples problem.now list.now table.new.items (triple + 1) }
 {
     problem.keeps_limits();
     if names(problem, list, Rule::Triple(triple)) {
@@ -167,7 +173,8 @@ fn put_named_triple(table: &mut Vec<bool>, problem: &Problem, list: &RuleList, t
 
 fn triples_of(alloc: Global, problem: &Problem, list: &RuleList) -> Result<Vec<bool>, AllocError>
     ensures long { IfOk result (λ table. length table.items ≡ 729) }
-    ensures holds { IfOk result (λ table. (a b c : Symbol) → IsTrue (triple_in table.items a b c) ↔ NamesTriple problem.now list.now a b c) }
+    ensures holds { IfOk result (λ table. (a b c : Symbol) →
+        IsTrue (triple_in table.items a b c) ↔ NamesTriple problem.now list.now a b c) }
 {
     let mut table = vec![in alloc; false; 729]?;
     for triple in 0..problem.triples().len() as u32 {

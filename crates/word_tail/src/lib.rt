@@ -1,4 +1,4 @@
-//! Tails of words: six facts of a word that decide, with a list of short rules, which symbols may follow it.
+//! Tails of words: six facts of a word that tell, with a list of short rules, which symbols may follow.
 #![tactic(auto)]
 
 mod laws;

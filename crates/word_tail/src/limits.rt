@@ -1,12 +1,10 @@
 // The rules of a list laid out by kind, so that a step looks each kind up once.
-ghost use Rattle.std.specs.Prelude.{◌≡◌, ℕ, ◌+◌, ◌*◌, ◌<◌, ◌≤◌, ◌↔◌, List, [], ◌∷◌, ◌++◌, Option, Some, None, IsTrue, length, slice_index_or, MatchOption};
-ghost use Rattle.rwsp_terms.specs.declared.data.Symbol.{Symbol};
-ghost use Rattle.rwsp_terms.specs.Instance.{Instance};
+ghost use Rattle.std.specs.Prelude.{◌≡◌, ◌<◌, ◌≤◌, ◌↔◌, IsTrue, length, slice_index_or, MatchOption};
 
 use crate::Tail;
 use rwsp_terms::Symbol;
 
-/// The least and the greatest length of the blocks of a class, in days, where the list has a rule on them.
+/// The least and the greatest length of the blocks of a class, in days, where the list has a rule.
 #[derive(Clone, Copy, Debug)]
 pub(crate) struct Lengths {
     pub least: Option<u32>,
@@ -20,6 +18,7 @@ impl Lengths {
     };
 }
 
+/// The rules of a list, by kind.
 #[derive(Debug, Drop)]
 pub(crate) struct Limits {
     /// Of the blocks of one symbol, by its number.
@@ -53,10 +52,10 @@ fn falls_short(days: u8, least: Option<u32>) -> bool
 }
 
 impl Limits {
-    ghost use Rattle.word_tail.specs.Tables.{AreTables, no_lengths, pair_in, triple_in};
-    ghost use Rattle.word_tail.specs.Tails.{tail_of};
+    ghost use Rattle.word_tail.specs.Tables.{no_lengths, pair_in, triple_in, Tells};
     ghost use Rattle.word_tail.specs.Ends.{BreaksRunMax, BreaksWorkMax, BreaksRunMin, BreaksWorkMin, BreaksPair, BreaksTriple, BreaksAny};
 
+    // The lengths of the blocks of one symbol.
     fn of_symbol(&self, x: Symbol) -> Lengths
         ensures { result ≡ slice_index_or self.now.symbols x.number no_lengths }
     {
@@ -67,6 +66,7 @@ impl Limits {
         }
     }
 
+    // Whether the second symbol may not follow the first.
     fn has_pair(&self, a: Symbol, b: Symbol) -> bool
         requires { length self.now.pairs.items ≡ 81 }
         ensures { result ≡ pair_in self.now.pairs.items a b }
@@ -74,6 +74,7 @@ impl Limits {
         a.number < 9 && b.number < 9 && self.pairs[9 * a.number as usize + b.number as usize]
     }
 
+    // Whether the three symbols may not follow each other.
     fn has_triple(&self, a: Symbol, b: Symbol, c: Symbol) -> bool
         requires { length self.now.triples.items ≡ 729 }
         ensures { result ≡ triple_in self.now.triples.items a b c }
@@ -84,14 +85,16 @@ impl Limits {
             && self.triples[81 * a.number as usize + 9 * b.number as usize + c.number as usize]
     }
 
+    // Whether the symbol makes the block of equal symbols at the end too long.
     fn breaks_run_max(&self, tail: Tail, x: Symbol) -> bool
-        ensures { (P : Instance) (R : List ℕ) (w : List Symbol) → AreTables P R self.now → tail_of w ≡ tail → IsTrue result ↔ BreaksRunMax P R (w ++ x ∷ []) }
+        ensures { Tells self.now tail x result BreaksRunMax }
     {
         exceeds(tail.run_of(x), self.of_symbol(x).greatest)
     }
 
+    // Whether it makes the block of shifts at the end too long.
     fn breaks_work_max(&self, tail: Tail, x: Symbol) -> bool
-        ensures { (P : Instance) (R : List ℕ) (w : List Symbol) → AreTables P R self.now → tail_of w ≡ tail → IsTrue result ↔ BreaksWorkMax P R (w ++ x ∷ []) }
+        ensures { Tells self.now tail x result BreaksWorkMax }
     {
         if x.number == 0 {
             return false;
@@ -99,8 +102,9 @@ impl Limits {
         exceeds(tail.work, self.work.greatest)
     }
 
+    // Whether it ends a block of equal symbols that is too short.
     fn breaks_run_min(&self, tail: Tail, x: Symbol) -> bool
-        ensures { (P : Instance) (R : List ℕ) (w : List Symbol) → AreTables P R self.now → tail_of w ≡ tail → IsTrue result ↔ BreaksRunMin P R (w ++ x ∷ []) }
+        ensures { Tells self.now tail x result BreaksRunMin }
     {
         let Some(last) = tail.last else {
             return false;
@@ -115,8 +119,9 @@ impl Limits {
         falls_short(tail.run, self.of_symbol(last).least)
     }
 
+    // Whether it ends a block of shifts that is too short.
     fn breaks_work_min(&self, tail: Tail, x: Symbol) -> bool
-        ensures { (P : Instance) (R : List ℕ) (w : List Symbol) → AreTables P R self.now → tail_of w ≡ tail → IsTrue result ↔ BreaksWorkMin P R (w ++ x ∷ []) }
+        ensures { Tells self.now tail x result BreaksWorkMin }
     {
         if x.number > 0 {
             return false;
@@ -128,9 +133,10 @@ impl Limits {
         falls_short(tail.work, self.work.least)
     }
 
+    // Whether it may not follow the last symbol.
     fn breaks_pair(&self, tail: Tail, x: Symbol) -> bool
         requires { length self.now.pairs.items ≡ 81 }
-        ensures { (P : Instance) (R : List ℕ) (w : List Symbol) → AreTables P R self.now → tail_of w ≡ tail → IsTrue result ↔ BreaksPair P R (w ++ x ∷ []) }
+        ensures { Tells self.now tail x result BreaksPair }
     {
         match tail.last {
             Some(last) => self.has_pair(last, x),
@@ -138,9 +144,10 @@ impl Limits {
         }
     }
 
+    // Whether it may not follow the last two.
     fn breaks_triple(&self, tail: Tail, x: Symbol) -> bool
         requires { length self.now.triples.items ≡ 729 }
-        ensures { (P : Instance) (R : List ℕ) (w : List Symbol) → AreTables P R self.now → tail_of w ≡ tail → IsTrue result ↔ BreaksTriple P R (w ++ x ∷ []) }
+        ensures { Tells self.now tail x result BreaksTriple }
     {
         let Some(last) = tail.last else {
             return false;
@@ -151,11 +158,11 @@ impl Limits {
         }
     }
 
-    // Whether the word with one symbol more ends in a part that breaks a rule of the list.
+    // Whether the word and the symbol end in a part that breaks a rule of the list.
     pub fn forbid(&self, tail: Tail, x: Symbol) -> bool
         requires pairs { length self.now.pairs.items ≡ 81 }
         requires triples { length self.now.triples.items ≡ 729 }
-        ensures { (P : Instance) (R : List ℕ) (w : List Symbol) → AreTables P R self.now → tail_of w ≡ tail → IsTrue result ↔ BreaksAny P R (w ++ x ∷ []) }
+        ensures { Tells self.now tail x result BreaksAny }
     {
         if self.breaks_run_max(tail, x) || self.breaks_work_max(tail, x) {
             return true;

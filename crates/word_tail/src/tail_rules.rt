@@ -61,13 +61,15 @@ impl TailRules {
         &self.list
     }
 
-    /// The tail of a word with one symbol more, of the tail of the word; None where that symbol makes a word unclean that was clean for the list.
+    /// The tail of a clean word with one symbol more, by the tail of the word; None where the longer word
+    /// isn't clean.
     /// A run that the word begins with is never too short, since it may have begun before the word.
     pub fn follow(&self, tail: Tail, x: Symbol) -> Option<Tail>
-        ensures { (w : List Symbol) → Clean self.now.problem self.now.rules w → tail_of w ≡ tail →
+        ensures { let IsClean = Clean self.now.problem self.now.rules in
+            (w : List Symbol) → IsClean w → tail_of w ≡ tail →
             MatchOption result
-            (¬ Clean self.now.problem self.now.rules (w ++ x ∷ []))
-            (λ t. Clean self.now.problem self.now.rules (w ++ x ∷ []) × (t ≡ tail_of (w ++ x ∷ []))) }
+            (¬ IsClean (w ++ x ∷ []))
+            (λ t. IsClean (w ++ x ∷ []) × (t ≡ tail_of (w ++ x ∷ []))) }
     {
         if self.limits.forbid(tail, x) {
             None
