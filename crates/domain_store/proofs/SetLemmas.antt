@@ -9,8 +9,13 @@ use Rattle.std.proofs.lemmas.List.Elements.{All-head, All-tail, All-cons, All-ni
 use Rattle.std.proofs.lemmas.List.Kept.{AllPairs-from_increasing, IsStrictlyIncreasing-filter}
 use Rattle.std.proofs.lemmas.List.FromFn.{length-range_with_len, get_or-range_with_len}
 use Rattle.std.proofs.lemmas.Bool.Decides.{nat_tests}
-use Rattle.std.proofs.lemmas.List.{get_or_past, drop_more, drop_all, set_at, length-replicate, append_assoc, replicate_more}
+use Rattle.std.proofs.lemmas.List.{ext_get_or, get_or_past, drop_more, drop_all, set_at, length-replicate, append_assoc, replicate_more}
 use Rattle.std.proofs.lemmas.List.Sums.{length-filter, count_by-le-length}
+use Rattle.std.specs.Prelude.{IsTrue}
+use Rattle.std.specs.Cmp.Lexicographic.{pointwise}
+use Rattle.std.proofs.Math.Bool.{beq}
+use Rattle.std.specs.Cmp.{booleans_Decides}
+use Rattle.std.proofs.lemmas.Slice.Eq.{slice_eq-Decides}
 use Rattle.domain_store.specs.Sets.{has_symbol, without, numbers_from, IsDomain}
 
 differs : (k x : ℕ) → x < k → eqb k x ≡ false
@@ -260,3 +265,13 @@ range-all last x = grind (arith, nat_tests)
 -- which symbols there are
 pub has_symbol_full : (last x : ℕ) → has_symbol (range_with_len 0 (last + 1)) x ≡ leb x last
 has_symbol_full last x = range-has 0 (last + 1) x ∙ range-all last x
+
+-- flags of one length are told apart by their numbers
+pub same_flags : (a b : List Bool) → length a ≡ length b → numbers_from 0 a ≡ numbers_from 0 b → a ≡ b
+same_flags a b long same = ext_get_or false a b long (λ x less. sym (has_numbers a x) ∙ ap (λ s. has_symbol s x) same ∙ has_numbers b x)
+
+-- the test of the flags is that of the numbers
+pub same_where_flags : (a b : List Bool) (r : Bool) → length a ≡ 9 → length b ≡ 9 → r ≡ pointwise beq a b → (IsTrue r → numbers_from 0 a ≡ numbers_from 0 b) × (numbers_from 0 a ≡ numbers_from 0 b → IsTrue r)
+same_where_flags a b r la lb test =
+    let both = slice_eq-Decides booleans_Decides a b r test in
+    (λ h. ap (numbers_from 0) (both.0 h), λ same. both.1 (same_flags a b (la ∙ sym lb) same))

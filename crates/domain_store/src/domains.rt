@@ -139,6 +139,14 @@ impl Domains {
         set.has(x.number)
     }
 
+    /// The domain of the position.
+    pub fn set(&self, p: u32) -> &SymbolSet
+        requires { p < length self.now.sets }
+        ensures { result.now ≡ domain_at self.now p }
+    {
+        &self.sets[p as usize]
+    }
+
     /// How many symbols the domain of the position has.
     pub fn size(&self, p: u32) -> u32
         requires { p < length self.now.sets }

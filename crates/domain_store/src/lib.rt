@@ -11,3 +11,4 @@ mod tests;
 
 pub use domains::Domains;
 pub use mark::Mark;
+pub use symbol_set::SymbolSet;

@@ -1,5 +1,5 @@
 // Sets of at most nine symbols.
-ghost use Rattle.std.specs.Prelude.{◌≡◌, ◌≢◌, ℕ, ◌+◌, ◌<◌, ◌≤◌, List, [], ◌∷◌, length, MatchOption, slice_get, count_by};
+ghost use Rattle.std.specs.Prelude.{◌≡◌, ◌≢◌, ℕ, ◌+◌, ◌<◌, ◌≤◌, List, [], ◌∷◌, length, MatchOption, slice_get, count_by, IsTrue, ◌↔◌};
 ghost use Rattle.std.specs.List.{range_with_len};
 ghost use Rattle.domain_store.specs.Sets.{has_symbol, without};
 
@@ -21,6 +21,13 @@ impl Model for SymbolSet {
 }
 
 impl SymbolSet {
+    /// No symbol.
+    pub fn empty() -> SymbolSet
+        ensures { result ≡ [] }
+    {
+        SymbolSet { flags: [false; 9] }
+    }
+
     /// All symbols up to the last.
     #[tactic(auto, using(crate::proofs::SetLemmas::front_grows, crate::proofs::SetLemmas::numbers_in_front))]
     pub fn up_to(last: u8) -> SymbolSet
@@ -50,6 +57,13 @@ impl SymbolSet {
     {
         let flags = self.flags;
         SymbolSet { flags }
+    }
+
+    /// Whether both have the same symbols.
+    pub fn is_same(&self, other: &SymbolSet) -> bool
+        ensures { IsTrue result ↔ (self.now ≡ other.now) }
+    {
+        self.flags == other.flags
     }
 
     /// The set less the symbol.

@@ -1,0 +1,3 @@
+pub mod TallyLemmas
+pub mod OverrunLemmas
+pub mod Standing

@@ -1,0 +1,277 @@
+// Counts of the symbols of each day under domains.
+ghost use Rattle.std.specs.Prelude.{◌≡◌, ℕ, ◌+◌, ◌-◌, ◌*◌, ◌<◌, ◌≤◌, IfOk, [], length, replicate, slice_index_or, IsTrue, ◌↔◌};
+ghost use Rattle.rwsp_terms.specs.Instance.{Instance, shift_count, IsDay, IsSymbol};
+ghost use Rattle.refutation_terms.specs.Leaf.{fixed, possible, HasTooMany, HasTooFew};
+ghost use Rattle.domain_store.specs.Store.{Store, domain_at, has_domain, BelongsTo};
+
+use crate::recount::{alone, held, recount};
+use domain_store::{Domains, SymbolSet};
+use rwsp_model::{Problem, Symbol};
+use std::alloc::{AllocError, Global};
+use std::marker::Model;
+use std::mem;
+
+/// For each day and symbol the number of weeks that hold the symbol on the day for sure, since it is alone in the domain there,
+/// and the number of those that can hold it, since it is in the domain there. They are kept with the domains that they count.
+///
+/// Days count from 1, and positions from 0, week after week.
+#[derive(Debug, Drop)]
+pub struct Counts {
+    days: u32,
+    weeks: u32,
+    shifts: u8,
+    sets: Vec<SymbolSet>,
+    // nine counters for each day, one for each symbol that may be
+    fixed: Vec<u32>,
+    possible: Vec<u32>,
+}
+
+impl Model for Counts {
+    ghost use Rattle.demand_counts.specs.Counted.{Counted};
+
+    ghost Value = { Counted };
+
+    ghost use Rattle.demand_counts.specs.Tallies.{IsTallied};
+
+    ghost view = { λ c. record { days = c.days; weeks = c.weeks; shifts = c.shifts; sets = c.sets.items } };
+
+    ghost invariant = { λ c. IsTallied (record { days = c.days; weeks = c.weeks; shifts = c.shifts; sets = c.sets.items }) c.fixed.items c.possible.items };
+}
+
+impl Counts {
+    ghost use Rattle.demand_counts.specs.Counted.{Counted, StandsFor, HasShapeOf, DiffersAtMostAt, with_set, CountsFor, has_counted};
+    ghost use Rattle.demand_counts.specs.Tallies.{is_held, is_alone, column_count};
+    ghost use Rattle.demand_counts.specs.Overruns.{IsSymbolAnswer, IsDayAnswer, IsOverrunAnswer};
+
+    /// Counts that stand for the domains.
+    pub fn new(alloc: Global, problem: &Problem, doms: &Domains) -> Result<Counts, AllocError>
+        requires { BelongsTo problem.now doms.now }
+        ensures { IfOk result (λ C. StandsFor C doms.now) }
+    {
+        let mut counts = Counts::of_empty_sets(alloc, problem)?;
+        counts.undo_to(doms);
+        Ok(counts)
+    }
+
+    /// Stands for the present domains, which differ at one position at most. Takes a time that doesn't grow with the problem.
+    pub fn narrowed(&mut self, doms: &Domains, p: u32)
+        requires position { p < length doms.now.sets }
+        requires differs { DiffersAtMostAt self.old doms.now p }
+        ensures { StandsFor self.new doms.now }
+    {
+        self.facts();
+        doms.facts();
+        self.take_over(doms, p);
+    }
+
+    /// Stands for the present domains, whichever domains of the same problem it stood for before.
+    pub fn undo_to(&mut self, doms: &Domains)
+        requires { HasShapeOf self.old doms.now }
+        ensures { StandsFor self.new doms.now }
+    {
+        self.facts();
+        doms.facts();
+        for p in 0..doms.cells() {
+            self.take_over(doms, p);
+        }
+    }
+
+    /// How many weeks hold the symbol on the day for sure: it is alone in the domain there.
+    pub fn fixed(&self, x: Symbol, day: u32) -> u32
+        requires day { (0 < day) × (day ≤ self.now.days) }
+        requires symbol { x.number ≤ self.now.shifts }
+        ensures kept { result ≡ column_count (is_alone self.now.shifts x.number) self.now.days self.now.weeks self.now.sets (day - 1) }
+        ensures value { (P : Instance) (S : Store) → BelongsTo P S → StandsFor self.now S → result ≡ fixed P (has_domain S) day x.number }
+        ensures few { result ≤ self.now.weeks }
+    {
+        self.fixed[(day as usize - 1) * 9 + x.number as usize]
+    }
+
+    /// How many weeks can hold the symbol on the day: it is in the domain there.
+    pub fn possible(&self, x: Symbol, day: u32) -> u32
+        requires day { (0 < day) × (day ≤ self.now.days) }
+        requires symbol { x.number ≤ self.now.shifts }
+        ensures kept { result ≡ column_count (is_held x.number) self.now.days self.now.weeks self.now.sets (day - 1) }
+        ensures value { (P : Instance) (S : Store) → BelongsTo P S → StandsFor self.now S → result ≡ possible P (has_domain S) day x.number }
+        ensures few { result ≤ self.now.weeks }
+    {
+        self.possible[(day as usize - 1) * 9 + x.number as usize]
+    }
+
+    /// The first overrun by day, then symbol, then over (true) before short (false). Over: more weeks hold the symbol on the day
+    /// for sure than may hold it. Short: fewer can hold it than must.
+    pub fn overrun(&self, problem: &Problem) -> Option<(u32, Symbol, bool)>
+        requires { CountsFor problem.now self.now }
+        ensures { (S : Store) → StandsFor self.now S → IsOverrunAnswer problem.now (has_domain S) result }
+    {
+        self.first_overrun(problem)
+    }
+
+    // The first overrun under the domains that are kept.
+    fn first_overrun(&self, problem: &Problem) -> Option<(u32, Symbol, bool)>
+        requires { CountsFor problem.now self.now }
+        ensures { IsOverrunAnswer problem.now (has_counted self.now) result }
+    {
+        for day in 1..problem.days() + 1 {
+            if let Some((x, over)) = self.overrun_of_day(problem, day) {
+                return Some((day, x, over));
+            }
+        }
+        None
+    }
+
+    // The first overrun of the day.
+    fn overrun_of_day(&self, problem: &Problem, day: u32) -> Option<(Symbol, bool)>
+        requires problem { CountsFor problem.now self.now }
+        requires day { IsDay problem.now day }
+        ensures { IsDayAnswer problem.now (has_counted self.now) day result }
+    {
+        for number in 0..problem.shifts() + 1 {
+            let x = Symbol { number };
+            if let Some(over) = self.overrun_of_symbol(problem, day, x) {
+                return Some((x, over));
+            }
+        }
+        None
+    }
+
+    // Whether the symbol is over or short on the day.
+    fn overrun_of_symbol(&self, problem: &Problem, day: u32, x: Symbol) -> Option<bool>
+        requires problem { CountsFor problem.now self.now }
+        requires day { IsDay problem.now day }
+        requires symbol { IsSymbol problem.now x }
+        ensures { IsSymbolAnswer problem.now (has_counted self.now) day x.number result }
+    {
+        if self.is_over(problem, day, x) {
+            return Some(true);
+        }
+        if self.is_short(problem, day, x) {
+            return Some(false);
+        }
+        None
+    }
+
+    // Whether more weeks hold the symbol on the day for sure than may hold it.
+    fn is_over(&self, problem: &Problem, day: u32, x: Symbol) -> bool
+        requires problem { CountsFor problem.now self.now }
+        requires day { IsDay problem.now day }
+        requires symbol { IsSymbol problem.now x }
+        ensures { IsTrue result ↔ HasTooMany problem.now (has_counted self.now) day x.number }
+    {
+        let fixed = self.fixed_for(problem, day, x) as i32;
+        fixed > problem.demand_greatest(x, day)
+    }
+
+    // Whether fewer weeks can hold the symbol on the day than must hold it.
+    fn is_short(&self, problem: &Problem, day: u32, x: Symbol) -> bool
+        requires problem { CountsFor problem.now self.now }
+        requires day { IsDay problem.now day }
+        requires symbol { IsSymbol problem.now x }
+        ensures { IsTrue result ↔ HasTooFew problem.now (has_counted self.now) day x.number }
+    {
+        let possible = self.possible_for(problem, day, x) as i32;
+        possible < problem.demand_least(x, day)
+    }
+
+    fn fixed_for(&self, problem: &Problem, day: u32, x: Symbol) -> u32
+        requires problem { CountsFor problem.now self.now }
+        requires day { IsDay problem.now day }
+        requires symbol { IsSymbol problem.now x }
+        ensures value { result ≡ fixed problem.now (has_counted self.now) day x.number }
+        ensures few { result ≤ 600 }
+    {
+        self.facts();
+        self.fixed(x, day)
+    }
+
+    fn possible_for(&self, problem: &Problem, day: u32, x: Symbol) -> u32
+        requires problem { CountsFor problem.now self.now }
+        requires day { IsDay problem.now day }
+        requires symbol { IsSymbol problem.now x }
+        ensures value { result ≡ possible problem.now (has_counted self.now) day x.number }
+        ensures few { result ≤ 600 }
+    {
+        self.facts();
+        self.possible(x, day)
+    }
+
+    // What is so of all counts.
+    fn facts(&self)
+        ensures long { length self.now.sets ≡ self.now.weeks * self.now.days }
+        ensures some_days { 1 ≤ self.now.days }
+        ensures few_weeks { self.now.weeks ≤ 600 }
+        ensures few_shifts { self.now.shifts ≤ 8 }
+    {
+        let _ = &self.sets;
+    }
+
+    // Counts of the problem's shape in which no position has a symbol.
+    fn of_empty_sets(alloc: Global, problem: &Problem) -> Result<Counts, AllocError>
+        ensures days { IfOk result (λ C. C.days ≡ problem.now.days) }
+        ensures weeks { IfOk result (λ C. C.weeks ≡ problem.now.weeks) }
+        ensures shifts { IfOk result (λ C. C.shifts ≡ shift_count problem.now) }
+    {
+        let days = problem.days();
+        let weeks = problem.weeks();
+        let shifts = problem.shifts();
+        let counters = days as usize * 9;
+        let sets = empty_sets(alloc, problem.cells())?;
+        let fixed = vec![in alloc; 0; counters]?;
+        let possible = vec![in alloc; 0; counters]?;
+        Ok(Counts {
+            days,
+            weeks,
+            shifts,
+            sets,
+            fixed,
+            possible,
+        })
+    }
+
+    // Gives the position the domain that it has among these. Where it has it already, no counter changes.
+    fn take_over(&mut self, doms: &Domains, p: u32)
+        requires kept { p < length self.old.sets }
+        requires position { p < length doms.now.sets }
+        ensures { self.new ≡ with_set self.old p (domain_at doms.now p) }
+    {
+        let set = doms.set(p);
+        if !self.has_set(p, set) {
+            self.put(p, set.copy());
+        }
+    }
+
+    // Whether the position has the domain.
+    fn has_set(&self, p: u32, set: &SymbolSet) -> bool
+        requires { p < length self.now.sets }
+        ensures { IsTrue result ↔ (slice_index_or self.now.sets p [] ≡ set.now) }
+    {
+        let kept = &self.sets[p as usize];
+        kept.is_same(set)
+    }
+
+    // Gives the position another domain.
+    fn put(&mut self, p: u32, set: SymbolSet)
+        requires { p < length self.old.sets }
+        ensures { self.new ≡ with_set self.old p set }
+    {
+        let row = (p % self.days) as usize * 9;
+        let is_held = held(&set);
+        let is_alone = alone(&set, self.shifts);
+        let before = mem::replace(&mut self.sets[p as usize], set);
+        let was_held = held(&before);
+        let was_alone = alone(&before, self.shifts);
+        recount(&mut self.possible, row, &was_held, &is_held);
+        recount(&mut self.fixed, row, &was_alone, &is_alone);
+    }
+}
+
+#[tactic(auto, using(std::proofs::lemmas::List::replicate_more))]
+fn empty_sets(alloc: Global, cells: u32) -> Result<Vec<SymbolSet>, AllocError>
+    ensures { IfOk result (λ v. v.items ≡ replicate cells []) }
+{
+    let mut sets = Vec::with_capacity(alloc, cells as usize)?;
+    for _ in 0..cells {
+        sets.push(SymbolSet::empty())?;
+    }
+    Ok(sets)
+}

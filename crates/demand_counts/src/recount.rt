@@ -1,0 +1,60 @@
+// How counters change with a domain.
+ghost use Rattle.std.specs.Prelude.{◌≡◌, ℕ, ◌+◌, ◌*◌, ◌<◌, ◌≤◌, Bool, false, length, slice_index, slice_index_or};
+ghost use Rattle.demand_counts.specs.Tallies.{is_held, is_alone, TestsOf, IsRecounted, one_if};
+
+use domain_store::SymbolSet;
+
+// For each symbol below nine, whether the set has it.
+pub fn held(set: &SymbolSet) -> [bool; 9]
+    ensures { TestsOf is_held set.now result }
+{
+    let mut flags = [false; 9];
+    for x in 0..9u8 {
+        flags[x as usize] = set.has(x);
+    }
+    flags
+}
+
+// For each symbol below nine, whether the set has it and no other.
+pub fn alone(set: &SymbolSet, last: u8) -> [bool; 9]
+    requires { last < 9 }
+    ensures { TestsOf (is_alone last) set.now result }
+{
+    let mut flags = [false; 9];
+    for x in 0..9u8 {
+        flags[x as usize] = is_alone(set, x, last);
+    }
+    flags
+}
+
+fn is_alone(set: &SymbolSet, x: u8, last: u8) -> bool
+    requires { last < 9 }
+    ensures { result ≡ is_alone last x set.now }
+{
+    for z in 0..last + 1 {
+        if z != x && set.has(z) {
+            return false;
+        }
+    }
+    set.has(x)
+}
+
+// The nine counters from a place on count what is, in place of what was.
+pub fn recount(counters: &mut [u32], row: usize, were: &[bool; 9], are: &[bool; 9])
+    requires within { row + 9 ≤ length counters.old }
+    requires small { (x : ℕ) → x < 9 → slice_index counters.old (row + x) ≤ 600 }
+    requires counted { (x : ℕ) → x < 9 → one_if (slice_index_or were.now x false) ≤ slice_index counters.old (row + x) }
+    ensures { IsRecounted row were.now are.now counters.old counters.new }
+{
+    for x in 0..9 {
+        counters[row + x] = recounted(counters[row + x], were[x], are[x]);
+    }
+}
+
+fn recounted(count: u32, was: bool, is: bool) -> u32
+    requires small { count ≤ 600 }
+    requires counted { one_if was ≤ count }
+    ensures { result + one_if was ≡ count + one_if is }
+{
+    count + is as u32 - was as u32
+}
