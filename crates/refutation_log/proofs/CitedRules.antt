@@ -1,0 +1,163 @@
+-- The numbers of the rules that a line cites.
+use Rattle.std.proofs.Common.{◌≡◌, ◌≢◌, ℕ, zero, suc, ◌+◌, ◌<◌, ◌≤◌, List, [], ◌∷◌, length, get_or, refl, ap, sym, ◌∙◌, subst, arith, ◌⊎◌, inl, inr, ⊎_elim, Some, Bool, true, false, pos}
+use Rattle.std.specs.Prelude.{Contains, ◌↔◌, slice_get, AllPairs}
+use Rattle.std.proofs.lemmas.Option.{slice_get-get_or}
+use Rattle.std.proofs.lemmas.List.Elements.{All-contains}
+use Rattle.rwsp_terms.specs.declared.data.Weight.{Weight}
+use Rattle.rwsp_terms.specs.declared.data.Rule.{Rule}
+use Rattle.rwsp_terms.specs.declared.data.Rule.TheVariants.{Day, MaxOff}
+use Rattle.rwsp_terms.specs.declared.data.Symbol.{Symbol}
+use Rattle.rwsp_terms.specs.Instance.{Instance, IsDay}
+use Rattle.rwsp_terms.specs.Rules.{rule_of, rules, Names}
+use Rattle.rwsp_terms.specs.Weights.{ComesBefore, weight_at, AreWeights, IsWeight}
+use Rattle.rwsp_terms.specs.Places.{is_at}
+use Rattle.rwsp_terms.proofs.Ascending.{Contains-cons, Contains-first, weight_past, weight_first, test_from_here, here_from_test}
+use Rattle.rwsp_model.proofs.Numbering.{one_number, some_injective, number_at_place}
+use Rattle.rwsp_model.specs.RuleNumbers.{place_of}
+use Rattle.refutation_terms.specs.declared.lines.Line.{Line}
+use Rattle.refutation_terms.specs.declared.lines.Line.TheVariants.{Split, Window, Day as DayLeaf, Dead, Bound, Unfinished}
+use Rattle.refutation_terms.specs.declared.lines.Turn.{Turn}
+use Rattle.refutation_terms.specs.Log.{LineFits, Cites, TurnCites, HasWeight, AreRules}
+use Rattle.refutation_log.specs.Cited.{Adds, IsCited, IsDayRule, IsWeighedDayRule}
+
+pub rule_there : (P : Instance) (k : ℕ) → 0 < k → k ≤ length (rules P) → (r : Rule) × (rule_of P k ≡ Some r)
+rule_there P zero some within = absurd (omega (arith, some))
+rule_there P (suc k) some within = (get_or (rules P) k MaxOff, slice_get-get_or (rules P) k MaxOff (omega (arith, within)))
+
+-- A k is what makes k the number of a rule that the line cites
+abbrev pub TellsCited : Instance → Line → (ℕ → Type 0) → Type 0
+TellsCited P line A = (k : ℕ) → A k ↔ IsCited P (Cites P line) k
+
+pub cited_along : (P : Instance) (line base : Line) (A : ℕ → Type 0) → line ≡ base → (LineFits P base → TellsCited P base A) → LineFits P line → TellsCited P line A
+cited_along P line base A e f fits =
+    subst (λ (l : Line). TellsCited P l A) (sym e) (f (subst (LineFits P) e fits))
+
+in_one : (n k : ℕ) → Contains (n ∷ []) k → k ≡ n
+in_one n k c =
+    ⊎_elim (λ (no : Contains [] k). absurd (omega (arith, no.1))) (λ (e : k ≡ n). e) (Contains-cons n [] k c)
+
+pub window_cited : (P : Instance) (number p len : ℕ) → LineFits P (Window number p len) → TellsCited P (Window number p len) (λ k. k ≡ number)
+window_cited P number p len fits k = (
+  λ e. let r = rule_there P number fits.0 fits.1 in (r.0, ap (rule_of P) e ∙ r.1, (number, Contains-first number [] number refl, r.1)),
+  λ q. one_number P k q.2.0 q.0 q.1 q.2.2 ∙ in_one number q.2.0 q.2.1,
+)
+
+named_cited : (P : Instance) (R : List ℕ) (k : ℕ) → AreRules P R → Contains R k → (r : Rule) × (rule_of P k ≡ Some r) × Names P R r
+named_cited P R k are c =
+    let within = All-contains (λ n. (0 < n) × (n ≤ length (rules P))) R k are.1 c in
+    let r = rule_there P k within.0 within.1 in
+    (r.0, r.1, (k, c, r.1))
+
+cited_named : (P : Instance) (R : List ℕ) (k : ℕ) (r : Rule) → rule_of P k ≡ Some r → Names P R r → Contains R k
+cited_named P R k r e named = subst (Contains R) (one_number P named.0 k r named.2 e) named.1
+
+pub dead_cited : (P : Instance) (p len : ℕ) (R : List ℕ) → LineFits P (Dead p len R) → TellsCited P (Dead p len R) (Contains R)
+dead_cited P p len R fits k = (λ c. named_cited P R k fits.2 c, λ q. cited_named P R k q.0 q.1 q.2)
+
+pub day_cited : (P : Instance) (j : ℕ) (x : Symbol) (over : Bool) → LineFits P (DayLeaf j x over) → TellsCited P (DayLeaf j x over) (IsDayRule P j)
+day_cited P j x over fits k = (λ e. (Day j, e, refl), λ q. q.1 ∙ ap (λ (r : Rule). Some r) q.2)
+
+pub turn_cited : (P : Instance) (t : Turn) (k : ℕ) → IsDayRule P t.day k ↔ IsCited P (TurnCites (Some t)) k
+turn_cited P t k = (λ e. (Day t.day, e, refl), λ q. q.1 ∙ ap (λ (r : Rule). Some r) q.2)
+
+-- weights
+
+pub false_from : (b : Bool) → (b ≡ true → ⊥) → b ≡ false
+false_from true h = absurd (h refl)
+false_from false h = refl
+
+pub not_here : (a e : Weight) → ComesBefore a e → is_at a e.day e.symbol.number ≡ false
+not_here a e before =
+    false_from (is_at a e.day e.symbol.number)
+    (λ t. let here = here_from_test a e.day e.symbol.number t in
+    ⊎_elim (λ (l : a.day < e.day). omega (arith, l, here.0)) (λ (l : (a.day ≡ e.day) × (a.symbol.number < e.symbol.number)). omega (arith, l.1, here.1)) before)
+
+head_before : (a : Weight) (y : List Weight) (m : ℕ) (e : Weight) → AllPairs ComesBefore (a ∷ y) → m < length y → get_or y m e ≡ e → ComesBefore a e
+head_before a y m e pairs less is = subst (ComesBefore a) is (pairs 0 (suc m) e (omega arith) (omega (arith, less)))
+
+tail_pairs : (a : Weight) (y : List Weight) → AllPairs ComesBefore (a ∷ y) → AllPairs ComesBefore y
+tail_pairs a y h = λ i j d lt less. h (suc i) (suc j) d (omega (arith, lt)) (omega (arith, less))
+
+pub weight_of_entry : (y : List Weight) (m : ℕ) (e : Weight) → AllPairs ComesBefore y → m < length y → get_or y m e ≡ e → weight_at y e.day e.symbol.number ≡ e.value
+weight_of_entry [] m e pairs less is = absurd (omega (arith, less))
+weight_of_entry (a ∷ y) zero e pairs less is =
+    weight_first a y e.day e.symbol.number (test_from_here a e.day e.symbol.number (ap (λ (w : Weight). w.day) is, ap (λ (w : Weight). w.symbol.number) is)) ∙ ap (λ (w : Weight). w.value) is
+weight_of_entry (a ∷ y) (suc m) e pairs less is =
+    let lt : m < length y = omega (arith, less) in
+    weight_past a y e.day e.symbol.number (not_here a e (head_before a y m e pairs lt is)) ∙ weight_of_entry y m e (tail_pairs a y pairs) lt is
+
+abbrev Entry : List Weight → ℕ → Type 0
+Entry y j = (m : ℕ) × (e : Weight) × (m < length y) × (slice_get y m ≡ Some e) × (e.day ≡ j)
+
+entry_later : (a : Weight) (y : List Weight) (j : ℕ) → Entry y j → Entry (a ∷ y) j
+entry_later a y j q = (suc q.0, q.1, omega (arith, q.2), q.3, q.4)
+
+entry_by : (a : Weight) (y : List Weight) (j x : ℕ) (b : Bool) → is_at a j x ≡ b → (weight_at y j x ≢ pos 0 → Entry y j) → weight_at (a ∷ y) j x ≢ pos 0 → Entry (a ∷ y) j
+entry_by a y j x true e rest h = (0, a, omega arith, refl, (here_from_test a j x e).0)
+entry_by a y j x false e rest h = entry_later a y j (rest (λ z. h (weight_past a y j x e ∙ z)))
+
+pub entry_of_weight : (y : List Weight) (j x : ℕ) → weight_at y j x ≢ pos 0 → Entry y j
+entry_of_weight [] j x h = absurd (h refl)
+entry_of_weight (a ∷ y) j x h = entry_by a y j x (is_at a j x) refl (entry_of_weight y j x) h
+
+pub read_at : {X : Type 0} (xs : List X) (m : ℕ) (x : X) → slice_get xs m ≡ Some x → (m < length xs) × (get_or xs m x ≡ x)
+read_at [] m x e = absurd (cc)
+read_at (a ∷ xs) zero x e = (omega arith, let same : a ≡ x = cc in same)
+read_at (a ∷ xs) (suc m) x e = let r = read_at xs m x e in (omega (arith, r.0), r.1)
+
+has_weight : (P : Instance) (y : List Weight) (m : ℕ) (e : Weight) → AreWeights y → slice_get y m ≡ Some e → HasWeight y e.day
+has_weight P y m e are is =
+    let at = read_at y m e is in
+    let w = weight_of_entry y m e are.ascends at.0 at.1 in
+    let small : IsWeight e = subst IsWeight at.1 (are.small m e at.0) in
+    (e.symbol.number, λ z. small.2 (sym w ∙ z))
+
+pub bound_cited : (P : Instance) (p turns : ℕ) (R : List ℕ) (y : List Weight) → LineFits P (Bound p turns R y) → TellsCited P (Bound p turns R y) (λ k. Contains R k ⊎ IsWeighedDayRule P y k)
+bound_cited P p turns R y fits k = (
+  λ h. ⊎_elim
+      (λ (c : Contains R k). let q = named_cited P R k fits.2 c in (q.0, q.1, inl q.2))
+      (λ (q : IsWeighedDayRule P y k). (Day q.1.day, q.4, inr (q.1.day, has_weight P y q.0 q.1 fits.3.0 q.3, refl)))
+      h,
+  λ q. ⊎_elim
+      (λ (named : Names P R q.0). inl (cited_named P R k q.0 q.1 named))
+      (λ (day : (j : ℕ) × HasWeight y j × (q.0 ≡ Day j)).
+      let e = entry_of_weight y day.0 day.1.0 day.1.1 in
+      inr (e.0, e.1, e.2, e.3, q.1 ∙ ap (λ (r : Rule). Some r) day.2 ∙ ap (λ j. Some (Day j)) (sym e.4)))
+      q.2,
+)
+
+-- names
+
+pub names_added : (P : Instance) (old new : List ℕ) (Cited : Rule → Type 0) → ((r : Rule) → Cited r → (k : ℕ) × (rule_of P k ≡ Some r)) → Adds old new (IsCited P Cited) → (r : Rule) → Names P new r ↔ (Names P old r ⊎ Cited r)
+names_added P old new Cited numbered adds r = (
+  λ n. ⊎_elim
+      (λ (o : Contains old n.0). inl (n.0, o, n.2))
+      (λ (q : IsCited P Cited n.0). inr (subst Cited (some_injective q.0 r (sym q.1 ∙ n.2)) q.2))
+      ((adds n.0).0 n.1),
+  λ h. ⊎_elim
+      (λ (n : Names P old r). (n.0, (adds n.0).1 (inl n.1), n.2))
+      (λ (c : Cited r). let k = numbered r c in (k.0, (adds k.0).1 (inr (r, k.1, c)), k.1))
+      h,
+)
+
+day_numbered : (P : Instance) (j : ℕ) (r : Rule) → IsDay P j → r ≡ Day j → (k : ℕ) × (rule_of P k ≡ Some r)
+day_numbered P j r is e =
+    (place_of P (Day j) + 1, number_at_place P (Day j) (place_of P (Day j) + 1) is refl ∙ ap (λ (z : Rule). Some z) (sym e))
+
+pub line_numbered : (P : Instance) (line : Line) → LineFits P line → (r : Rule) → Cites P line r → (k : ℕ) × (rule_of P k ≡ Some r)
+line_numbered P (Split p x) fits r c = absurd c
+line_numbered P (Window number p len) fits r c = (c.0, c.2)
+line_numbered P (DayLeaf j x over) fits r c = day_numbered P j r fits.0 c
+line_numbered P (Dead p len R) fits r c = (c.0, c.2)
+line_numbered P (Bound p turns R y) fits r c =
+    ⊎_elim (λ (n : Names P R r). (n.0, n.2))
+    (λ (d : (j : ℕ) × HasWeight y j × (r ≡ Day j)).
+    let e = entry_of_weight y d.0 d.1.0 d.1.1 in
+    let at = read_at y e.0 e.1 e.3 in
+    let day : IsDay P e.1.day = subst (λ (w : Weight). IsDay P w.day) at.1 (fits.3.1 e.0 e.1 at.0).0 in
+    day_numbered P d.0 r (subst (IsDay P) e.4 day) d.2)
+    c
+line_numbered P Unfinished fits r c = absurd c
+
+pub turn_numbered : (P : Instance) (t : Turn) → IsDay P t.day → (r : Rule) → TurnCites (Some t) r → (k : ℕ) × (rule_of P k ≡ Some r)
+turn_numbered P t is r c = day_numbered P t.day r is c

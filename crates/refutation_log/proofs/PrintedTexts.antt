@@ -1,0 +1,116 @@
+-- The texts of lines, piece by piece.
+use Rattle.std.proofs.Common.{◌≡◌, ℕ, ◌+◌, ◌<◌, ◌≤◌, List, [], ◌∷◌, ◌++◌, length, take, get_or, map, Bool, refl, ap, sym, ◌∙◌, append_assoc}
+use Rattle.std.specs.Prelude.{codes}
+use Rattle.std.specs.List.{join_with_byte, flat_map}
+use Rattle.std.specs.Fmt.{decimal}
+use Rattle.std.proofs.lemmas.List.{append-nil, take_more, take_all, flat_map_more}
+use Rattle.std.proofs.lemmas.List.Concat.{flat_map-append}
+use Rattle.rwsp_terms.specs.declared.data.Weight.{Weight}
+use Rattle.rwsp_terms.specs.Instance.{Instance}
+use Rattle.refutation_terms.specs.declared.lines.Line.{Line}
+use Rattle.refutation_terms.specs.LogText.{RawSplit, RawWindow, RawDay, RawDead, RawBound, raw, fields, line_text, place, way, numbers, named_weight, weight_fields, rules_text, turn_text}
+use Rattle.refutation_log.specs.Printing.{spaced, lines_text, words_of}
+
+pub join_spaced : (w : List ℕ) (ws : List (List ℕ)) → join_with_byte 32 (w ∷ ws) ≡ w ++ spaced ws
+join_spaced w [] = sym (append-nil w)
+join_spaced w (x ∷ ws) = ap (λ t. w ++ 32 ∷ t) (join_spaced x ws)
+
+pub spaced-append : (ws vs : List (List ℕ)) → spaced (ws ++ vs) ≡ spaced ws ++ spaced vs
+spaced-append ws vs = flat_map-append (λ (w : List ℕ). 32 ∷ w) ws vs
+
+-- one piece more
+pub pieces_more : {X : Type 0} (f : X → List ℕ) (out : List ℕ) (xs : List X) (i : ℕ) (d : X) → i < length xs → (out ++ flat_map f (take i xs)) ++ f (get_or xs i d) ≡ out ++ flat_map f (take (i + 1) xs)
+pieces_more f out xs i d less = flat_map_more f out (take i xs) (get_or xs i d) ∙ ap (λ ys. out ++ flat_map f ys) (sym (take_more xs i d less))
+
+abbrev pub number_piece : ℕ → List ℕ
+number_piece n = 32 ∷ decimal n
+
+pub spaced_numbers : (all : List ℕ) → flat_map number_piece all ≡ spaced (numbers all)
+spaced_numbers [] = refl
+spaced_numbers (n ∷ all) = ap (λ t. 32 ∷ (decimal n ++ t)) (spaced_numbers all)
+
+abbrev pub weight_piece : Instance → Weight → List ℕ
+weight_piece P e = spaced (weight_fields (named_weight P e))
+
+pub spaced_weights : (P : Instance) (y : List Weight) → flat_map (weight_piece P) y ≡ spaced (words_of P y)
+spaced_weights P [] = refl
+spaced_weights P (e ∷ y) =
+    ap (λ t. weight_piece P e ++ t) (spaced_weights P y) ∙ sym (spaced-append (weight_fields (named_weight P e)) (words_of P y))
+
+abbrev pub line_piece : Instance → Line → List ℕ
+line_piece P line = line_text P (raw P line)
+
+pub joined_lines : (P : Instance) (lines : List Line) → flat_map (line_piece P) lines ≡ lines_text P lines
+joined_lines P [] = refl
+joined_lines P (line ∷ lines) = ap (λ t. line_piece P line ++ t) (joined_lines P lines)
+
+-- a text that begins with a word, and goes on with words that have a blank in front
+begin : (a w b : List ℕ) → b ≡ a ++ w → b ≡ a ++ (w ++ spaced [])
+begin a w b e = e ∙ ap (λ t. a ++ t) (sym (append-nil w))
+
+more : (a w : List ℕ) (ws vs : List (List ℕ)) (b c : List ℕ) → b ≡ a ++ (w ++ spaced ws) → c ≡ b ++ spaced vs → c ≡ a ++ (w ++ spaced (ws ++ vs))
+more a w ws vs b c e f =
+    f ∙ ap (λ t. t ++ spaced vs) e ∙ append_assoc a (w ++ spaced ws) (spaced vs) ∙ ap (λ t. a ++ t) (append_assoc w (spaced ws) (spaced vs) ∙ ap (λ t. w ++ t) (sym (spaced-append ws vs)))
+
+word : (a w : List ℕ) (ws : List (List ℕ)) (v b c : List ℕ) → b ≡ a ++ (w ++ spaced ws) → c ≡ b ++ 32 ∷ v → c ≡ a ++ (w ++ spaced (ws ++ (v ∷ [])))
+word a w ws v b c e f = more a w ws (v ∷ []) b c e (f ∙ ap (λ t. b ++ t) (sym (append-nil (32 ∷ v))))
+
+finish : (a w : List ℕ) (ws : List (List ℕ)) (b : List ℕ) → b ≡ a ++ (w ++ spaced ws) → b ≡ a ++ join_with_byte 32 (w ∷ ws)
+finish a w ws b e = e ∙ ap (λ t. a ++ t) (sym (join_spaced w ws))
+
+close : (a t b c : List ℕ) → b ≡ a ++ t → c ≡ b ++ 10 ∷ [] → c ≡ a ++ (t ++ 10 ∷ [])
+close a t b c e f = f ∙ ap (λ z. z ++ 10 ∷ []) e ∙ append_assoc a t (10 ∷ [])
+
+pub split_text : (P : Instance) (p : ℕ) (name a b c d : List ℕ) → b ≡ a ++ codes "split" → c ≡ b ++ spaced (place P p) → d ≡ c ++ 32 ∷ name → d ≡ a ++ join_with_byte 32 (fields P (RawSplit p name))
+split_text P p name a b c d e f g =
+    let w = codes "split" in
+    finish a w (place P p ++ (name ∷ [])) d (word a w (place P p) name c d (more a w [] (place P p) b c (begin a w b e) f) g)
+
+pub window_text : (P : Instance) (rule p len : ℕ) (a b c d e : List ℕ) → b ≡ a ++ codes "window" → c ≡ b ++ 32 ∷ decimal rule → d ≡ c ++ spaced (place P p) → e ≡ d ++ 32 ∷ decimal len → e ≡ a ++ join_with_byte 32 (fields P (RawWindow rule p len))
+window_text P rule p len a b c d e q r s t =
+    let w = codes "window" in
+    let ws : List (List ℕ) = decimal rule ∷ [] in
+    finish a w (ws ++ place P p ++ (decimal len ∷ [])) e
+    (word a w (ws ++ place P p) (decimal len) d e (more a w ws (place P p) c d (word a w [] (decimal rule) b c (begin a w b q) r) s) t)
+
+pub day_text : (P : Instance) (day : ℕ) (name : List ℕ) (over : Bool) (a b c d e : List ℕ) → b ≡ a ++ codes "day" → c ≡ b ++ 32 ∷ decimal day → d ≡ c ++ 32 ∷ name → e ≡ d ++ 32 ∷ way over → e ≡ a ++ join_with_byte 32 (fields P (RawDay day name over))
+day_text P day name over a b c d e q r s t =
+    let w = codes "day" in
+    finish a w (decimal day ∷ name ∷ way over ∷ []) e
+    (word a w (decimal day ∷ name ∷ []) (way over) d e (word a w (decimal day ∷ []) name c d (word a w [] (decimal day) b c (begin a w b q) r) s) t)
+
+pub dead_text : (P : Instance) (p len : ℕ) (R a b c d e f : List ℕ) → b ≡ a ++ codes "dead" → c ≡ b ++ spaced (place P p) → d ≡ c ++ 32 ∷ decimal len → e ≡ d ++ 32 ∷ codes "rules" → f ≡ e ++ spaced (numbers R) → f ≡ a ++ join_with_byte 32 (fields P (RawDead p len R))
+dead_text P p len R a b c d e f q r s t u =
+    let w = codes "dead" in
+    let ws : List (List ℕ) = place P p ++ (decimal len ∷ []) in
+    let vs : List (List ℕ) = ws ++ (codes "rules" ∷ []) in
+    finish a w (vs ++ numbers R) f
+    (more a w vs (numbers R) e f (word a w ws (codes "rules") d e (word a w (place P p) (decimal len) c d (more a w [] (place P p) b c (begin a w b q) r) s) t) u)
+
+pub bound_text : (P : Instance) (p turns : ℕ) (R : List ℕ) (y : List Weight) (a b c d e f g h : List ℕ) → b ≡ a ++ codes "bound" → c ≡ b ++ spaced (place P p) → d ≡ c ++ 32 ∷ decimal turns → e ≡ d ++ 32 ∷ codes "rules" → f ≡ e ++ spaced (numbers R) → g ≡ f ++ 32 ∷ codes "weights" → h ≡ g ++ spaced (words_of P y) → h ≡ a ++ join_with_byte 32 (fields P (RawBound p turns R (map (named_weight P) y)))
+bound_text P p turns R y a b c d e f g h q r s t u v x =
+    let w = codes "bound" in
+    let ws : List (List ℕ) = place P p ++ (decimal turns ∷ []) in
+    let vs : List (List ℕ) = ws ++ (codes "rules" ∷ []) in
+    let us : List (List ℕ) = vs ++ numbers R in
+    let ts : List (List ℕ) = us ++ (codes "weights" ∷ []) in
+    finish a w (ts ++ words_of P y) h
+    (more a w ts (words_of P y) g h
+    (word a w us (codes "weights") f g (more a w vs (numbers R) e f (word a w ws (codes "rules") d e (word a w (place P p) (decimal turns) c d (more a w [] (place P p) b c (begin a w b q) r) s) t) u) v)
+    x)
+    ∙ ap (λ t. a ++ join_with_byte 32 (w ∷ t)) (append_assoc us (codes "weights" ∷ []) (words_of P y))
+
+pub named_text : (R a b c d : List ℕ) → b ≡ a ++ codes "rules" → c ≡ b ++ spaced (numbers R) → d ≡ c ++ 10 ∷ [] → d ≡ a ++ rules_text R
+named_text R a b c d e f g =
+    let w = codes "rules" in
+    close a (join_with_byte 32 (w ∷ numbers R)) c d (finish a w (numbers R) c (more a w [] (numbers R) b c (begin a w b e) f)) g
+
+pub turn_line : (name : List ℕ) (day : ℕ) (a b c d e : List ℕ) → b ≡ a ++ codes "turn" → c ≡ b ++ 32 ∷ name → d ≡ c ++ 32 ∷ decimal day → e ≡ d ++ 10 ∷ [] → e ≡ a ++ turn_text name day
+turn_line name day a b c d e q r s t =
+    let w = codes "turn" in
+    close a (join_with_byte 32 (w ∷ name ∷ decimal day ∷ [])) d e
+    (finish a w (name ∷ decimal day ∷ []) d (word a w (name ∷ []) (decimal day) c d (word a w [] name b c (begin a w b q) r) s)) t
+
+-- all pieces
+pub pieces_all : {X : Type 0} (f : X → List ℕ) (out all : List ℕ) (xs : List X) (i : ℕ) → length xs ≤ i → out ≡ all ++ flat_map f (take i xs) → out ≡ all ++ flat_map f xs
+pieces_all f out all xs i le e = e ∙ ap (λ ys. all ++ flat_map f ys) (take_all i xs le)

@@ -1,0 +1,7 @@
+use Rattle.std.proofs.Common.{ap, ◌∙◌, ◌++◌, arith}
+use Rattle.refutation_log.proofs.PrintedTexts.{pieces_all, number_piece, spaced_numbers}
+use Rattle.refutation_log.proofs.print.put_numbers.Goals as goal
+
+pub returns : goal.returns
+returns c =
+    pieces_all number_piece _ _ c.args.all.now _ (omega arith) c.loop-number.invariant ∙ ap (λ t. c.args.out.now.items ++ t) (spaced_numbers c.args.all.now)

@@ -1,0 +1,31 @@
+-- Which numbers of rules are added to a list.
+use Rattle.std.specs.Prelude.{◌≡◌, ◌⊎◌, ◌↔◌, ℕ, ◌<◌, List, Some, Contains, All, length, slice_get}
+use Rattle.rwsp_terms.specs.declared.data.Weight.{Weight}
+use Rattle.rwsp_terms.specs.declared.data.Rule.{Rule}
+use Rattle.rwsp_terms.specs.declared.data.Rule.TheVariants.{Day}
+use Rattle.rwsp_terms.specs.Instance.{Instance, IsDay, IsSymbol}
+use Rattle.rwsp_terms.specs.Rules.{rule_of}
+
+-- the new list holds what the old one holds, and the numbers that are new
+abbrev pub Adds : List ℕ → List ℕ → (ℕ → Type 0) → Type 0
+Adds old new IsNew = (k : ℕ) → Contains new k ↔ (Contains old k ⊎ IsNew k)
+
+-- and maybe not all of them
+abbrev pub AddsSome : List ℕ → List ℕ → (ℕ → Type 0) → Type 0
+AddsSome old new IsNew = (k : ℕ) → (Contains old k → Contains new k) × (Contains new k → Contains old k ⊎ IsNew k)
+
+-- the number of a rule that is cited
+abbrev pub IsCited : Instance → (Rule → Type 0) → ℕ → Type 0
+IsCited P Cited k = (r : Rule) × (rule_of P k ≡ Some r) × Cited r
+
+-- the number of the rule of the day
+abbrev pub IsDayRule : Instance → ℕ → ℕ → Type 0
+IsDayRule P j k = rule_of P k ≡ Some (Day j)
+
+-- the number of the rule of a day on which something is listed
+abbrev pub IsWeighedDayRule : Instance → List Weight → ℕ → Type 0
+IsWeighedDayRule P y k = (m : ℕ) × (e : Weight) × (m < length y) × (slice_get y m ≡ Some e) × IsDayRule P e.day k
+
+-- weights on days and symbols of the problem alone
+abbrev pub AllFit : Instance → List Weight → Type 0
+AllFit P y = All (λ e. IsDay P e.day × IsSymbol P e.symbol) y

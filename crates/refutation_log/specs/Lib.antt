@@ -1,0 +1,7 @@
+pub mod Cited
+pub mod FieldList
+pub mod Printing
+pub mod Reading
+pub mod ReadLog
+pub mod Refusals
+pub mod Turns

@@ -1,0 +1,69 @@
+-- Why a text is refused by reading alone: its lines are spelled, its names known, and it is one whole tree. What the lines say isn't looked at.
+use Rattle.std.specs.Prelude.{◌≡◌, ℕ, ◌+◌, ◌-◌, ◌<◌, List, ◌++◌, length, take, Option}
+use Rattle.rwsp_terms.specs.Instance.{Instance}
+use Rattle.refutation_terms.specs.declared.lines.Line.{Line}
+use Rattle.refutation_terms.specs.declared.lines.Line.TheVariants.{Split}
+use Rattle.refutation_terms.specs.declared.lines.Turn.{Turn}
+use Rattle.refutation_terms.specs.declared.lines.LogRefusal.{LogRefusal}
+use Rattle.refutation_terms.specs.declared.lines.LogRefusal.TheVariants as Refusals
+use Rattle.refutation_terms.specs.Tree.{IsTree}
+use Rattle.refutation_terms.specs.Log.{Log, Fits, AreRules}
+use Rattle.refutation_terms.specs.Verdict.{Front, Start, Versioned, BeforeTurn, Reading, front_text, IsWhole, IsNextLine, Cause}
+use Rattle.refutation_log.specs.Refusals.{IsLineRefused}
+use Rattle.refutation_log.specs.declared.refusal.LineRefusal.TheVariants as Lines
+
+-- the causes that reading alone finds
+abbrev pub IsReadCause : LogRefusal → Type 0
+IsReadCause (Refusals.Form i) = Unit {0}
+IsReadCause (Refusals.Name i) = Unit {0}
+IsReadCause (Refusals.Extra i) = Unit {0}
+IsReadCause why = ⊥
+
+-- lines that fit the problem, of which none stands behind a whole tree
+pub record IsReadSoFar (P : Instance) (g : Log) : Type 0 where
+  pub fits : Fits P g
+  pub in_tree : (k : ℕ) → k < length g.lines → IsTree (take k g.lines) → ⊥
+
+-- no line of the front has such a cause
+abbrev pub IsRead : Instance → Front → Type 0
+IsRead P Start = Unit {0}
+IsRead P (Versioned has_turn) = Unit {0}
+IsRead P (BeforeTurn named) = AreRules P named
+IsRead P (Reading g) = IsReadSoFar P g
+
+-- the text goes on behind such a front with a line that has this cause
+pub record IsUnreadLine (P : Instance) (text : List ℕ) (why : LogRefusal) : Type 0 where
+  pub front : Front
+  pub line : List ℕ
+  pub rest : List ℕ
+  pub read : IsRead P front
+  pub whole : text ≡ front_text P front ++ line ++ rest
+  pub is_line : IsNextLine line rest
+  pub cause : Cause P front line why
+  pub by_reading : IsReadCause why
+
+-- the text ends with such a front that isn't a whole log
+pub record EndsUnread (P : Instance) (text : List ℕ) : Type 0 where
+  pub front : Front
+  pub read : IsRead P front
+  pub whole : text ≡ front_text P front
+  pub not_whole : IsWhole front → ⊥
+
+-- the text is refused by reading, for this cause
+abbrev pub IsUnread : Instance → List ℕ → LogRefusal → Type 0
+IsUnread P text Refusals.Ends = EndsUnread P text
+IsUnread P text why = IsUnreadLine P text why
+
+-- why a line of the tree isn't read, as text line n
+abbrev pub IsTreeLineRefused : Instance → List ℕ → ℕ → LogRefusal → Type 0
+IsTreeLineRefused P bytes n (Refusals.Form i) = (i ≡ n) × IsLineRefused P bytes Lines.Form
+IsTreeLineRefused P bytes n (Refusals.Name i) = (i ≡ n) × IsLineRefused P bytes Lines.Name
+IsTreeLineRefused P bytes n why = ⊥
+
+-- how many trees are open behind a line before which so many are
+abbrev pub open_after : ℕ → Line → ℕ
+open_after n (Split p x) = n + 1
+open_after n leaf = n - 1
+
+abbrev pub log_with : List ℕ → Option Turn → List Line → Log
+log_with named turn lines = record { named = named; turn = turn; lines = lines }

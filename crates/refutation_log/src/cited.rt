@@ -1,0 +1,93 @@
+// The rules that the lines of a log cite.
+ghost use Rattle.std.specs.Prelude.{◌≡◌, ◌⊎◌, ◌↔◌, ℕ, Some, OnOk, OnErr, Contains};
+ghost use Rattle.rwsp_terms.specs.declared.data.Rule.{Rule};
+ghost use Rattle.rwsp_terms.specs.Instance.{IsDay};
+ghost use Rattle.rwsp_terms.specs.Rules.{Names};
+ghost use Rattle.refutation_terms.specs.Log.{LineFits, Cites, TurnCites};
+ghost use Rattle.refutation_log.specs.Cited.{Adds, AddsSome, IsCited, IsDayRule, IsWeighedDayRule, AllFit};
+
+use refutation_terms::{Line, Turn};
+use rwsp_model::{Problem, number_of};
+use rwsp_terms::{Rule, RuleList, Weights};
+use std::alloc::AllocError;
+
+/// Puts the rules that the line cites into the list. After want of memory some of them may have been added.
+pub fn put_cited(rules: &mut RuleList, problem: &Problem, line: &Line) -> Result<(), AllocError>
+    requires { LineFits problem.now line.now }
+    ensures ok { OnOk result (Adds rules.old rules.new (IsCited problem.now (Cites problem.now line.now))) }
+    ensures names { OnOk result ((r : Rule) → Names problem.now rules.new r ↔ (Names problem.now rules.old r ⊎ Cites problem.now line.now r)) }
+    ensures err { OnErr result (AddsSome rules.old rules.new (IsCited problem.now (Cites problem.now line.now))) }
+{
+    put_line_cited(rules, problem, line)
+}
+
+fn put_line_cited(rules: &mut RuleList, problem: &Problem, line: &Line) -> Result<(), AllocError>
+    requires { LineFits problem.now line.now }
+    ensures ok { OnOk result (Adds rules.old rules.new (IsCited problem.now (Cites problem.now line.now))) }
+    ensures err { OnErr result (AddsSome rules.old rules.new (IsCited problem.now (Cites problem.now line.now))) }
+{
+    match line {
+        Line::Split { .. } | Line::Unfinished => Ok(()),
+        Line::Window { rule, .. } => rules.put(*rule),
+        Line::Day { day, .. } => put_day(rules, problem, *day),
+        Line::Dead { rules: cited, .. } => put_all(rules, cited),
+        Line::Bound {
+            rules: cited,
+            weights,
+            ..
+        } => put_bound(rules, problem, cited, weights),
+    }
+}
+
+/// Puts the rule that the turn rests on into the list, that of its day. After want of memory the list is unchanged.
+pub fn put_turn_cited(rules: &mut RuleList, problem: &Problem, turn: Turn) -> Result<(), AllocError>
+    requires { IsDay problem.now turn.day }
+    ensures ok { OnOk result (Adds rules.old rules.new (IsCited problem.now (TurnCites (Some turn)))) }
+    ensures names { OnOk result ((r : Rule) → Names problem.now rules.new r ↔ (Names problem.now rules.old r ⊎ TurnCites (Some turn) r)) }
+    ensures err { OnErr result (rules.new ≡ rules.old) }
+{
+    put_day(rules, problem, turn.day)
+}
+
+fn put_day(rules: &mut RuleList, problem: &Problem, day: u32) -> Result<(), AllocError>
+    requires { IsDay problem.now day }
+    ensures ok { OnOk result (Adds rules.old rules.new (IsDayRule problem.now day)) }
+    ensures err { OnErr result (rules.new ≡ rules.old) }
+{
+    rules.put(number_of(problem, Rule::Day(day)))
+}
+
+fn put_all(rules: &mut RuleList, cited: &RuleList) -> Result<(), AllocError>
+    ensures ok { OnOk result (Adds rules.old rules.new (Contains cited.now)) }
+    ensures err { OnErr result (AddsSome rules.old rules.new (Contains cited.now)) }
+{
+    for number in cited.numbers() {
+        rules.put(*number)?;
+    }
+    Ok(())
+}
+
+fn put_days(rules: &mut RuleList, problem: &Problem, weights: &Weights) -> Result<(), AllocError>
+    requires { AllFit problem.now weights.now }
+    ensures ok { OnOk result (Adds rules.old rules.new (IsWeighedDayRule problem.now weights.now)) }
+    ensures err { OnErr result (AddsSome rules.old rules.new (IsWeighedDayRule problem.now weights.now)) }
+{
+    for entry in weights.entries() {
+        put_day(rules, problem, entry.day)?;
+    }
+    Ok(())
+}
+
+fn put_bound(
+    rules: &mut RuleList,
+    problem: &Problem,
+    cited: &RuleList,
+    weights: &Weights,
+) -> Result<(), AllocError>
+    requires { AllFit problem.now weights.now }
+    ensures ok { OnOk result (Adds rules.old rules.new (λ k. Contains cited.now k ⊎ IsWeighedDayRule problem.now weights.now k)) }
+    ensures err { OnErr result (AddsSome rules.old rules.new (λ k. Contains cited.now k ⊎ IsWeighedDayRule problem.now weights.now k)) }
+{
+    put_all(rules, cited)?;
+    put_days(rules, problem, weights)
+}

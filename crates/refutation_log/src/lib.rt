@@ -1,0 +1,29 @@
+//! Logs of refutations: their text, read and printed, and the rules that their lines cite.
+#![tactic(auto)]
+
+mod cited;
+mod fields;
+mod gather;
+mod header;
+mod laws;
+mod line;
+mod log;
+mod print;
+mod read;
+mod reader;
+mod refusal;
+#[cfg(test)]
+mod tests;
+mod turn;
+
+pub use cited::{put_cited, put_turn_cited};
+pub use header::{read_rules, read_turn, read_version};
+pub use laws::{logs_have_one_text, texts_of_logs_are_read};
+pub use line::read_line;
+pub use log::Log;
+pub use print::{print_log, put_line};
+pub use read::read_log;
+pub use reader::LineReader;
+pub use refusal::LineRefusal;
+pub use refutation_terms::{Line, LogRefusal, Turn};
+pub use turn::first_turn;

@@ -1,0 +1,289 @@
+// Lines of a log's text, read by their fields.
+ghost use Rattle.std.specs.Prelude.{◌≡◌, ◌≢◌, ◌<◌, ◌≤◌, ◌≤ℤ◌, ◌++◌, ◌∷◌, ℕ, List, [], length, Option, Some, None, MatchOption, IfOk, IfSome, OnOk, pos, negsuc, All};
+ghost use Rattle.std.specs.List.Sorted.{IsStrictlyIncreasing};
+ghost use Rattle.rwsp_terms.specs.Rules.{rules};
+ghost use Rattle.rwsp_model.specs.Refusals.{MatchAnswer};
+ghost use Rattle.refutation_terms.specs.LogText.{RawSplit, RawWindow, RawDay};
+ghost use Rattle.refutation_terms.specs.Verdict.{Spells};
+ghost use Rattle.refutation_log.specs.FieldList.{fields_of};
+ghost use Rattle.refutation_log.specs.Refusals.{IsLineRefused};
+ghost use Rattle.refutation_log.specs.Reading.{split_at, window_at, day_at, head_at, rules_at, dead_at, weight_at, weights_at, bound_at, open_at, raw_at, Reads, Answers, GivesAll, longest, IsBound, IsValue};
+
+use crate::LineRefusal;
+use crate::fields::Fields;
+use crate::gather::{Gathered, add};
+use refutation_terms::Line;
+use rwsp_model::{Fail, Problem, rule_count};
+use rwsp_terms::{RuleList, Weights};
+use std::alloc::{AllocError, Global};
+
+const FORM: Fail<LineRefusal> = Fail::Refused(LineRefusal::Form);
+
+const NAME: Fail<LineRefusal> = Fail::Refused(LineRefusal::Name);
+
+/// The line of a log that a line of text spells. It needs its LF.
+pub fn read_line(alloc: Global, problem: &Problem, bytes: &[u8]) -> Result<Line, Fail<LineRefusal>>
+    ensures { MatchAnswer result (Spells problem.now bytes.now) (IsLineRefused problem.now bytes.now) }
+{
+    problem.keeps_limits();
+    match body_of(bytes) {
+        None => Err(FORM),
+        Some(body) => read_body(alloc, problem, body),
+    }
+}
+
+/// A line of text without its LF.
+pub fn body_of(bytes: &[u8]) -> Option<&[u8]>
+    ensures { MatchOption result ((body : List ℕ) → bytes.now ≢ body ++ 10 ∷ []) (λ body. bytes.now ≡ body.now ++ 10 ∷ []) }
+{
+    let (last, body) = bytes.split_last()?;
+    if *last == b'\n' { Some(body) } else { None }
+}
+
+#[tactic(auto, unfolding(crate::specs::Reading::raw_at))]
+fn read_body(alloc: Global, problem: &Problem, body: &[u8]) -> Result<Line, Fail<LineRefusal>>
+    ensures { Answers problem.now (raw_at problem.now (fields_of body.now)) result }
+{
+    let mut fields = Fields::of(body);
+    let Some(word) = fields.next() else {
+        return Err(FORM);
+    };
+    if word == b"split".as_slice() {
+        read_split(problem, &mut fields)
+    } else if word == b"window".as_slice() {
+        read_window(problem, &mut fields)
+    } else if word == b"day".as_slice() {
+        read_day(problem, &mut fields)
+    } else if word == b"dead".as_slice() {
+        read_dead(alloc, problem, &mut fields)
+    } else if word == b"bound".as_slice() {
+        read_bound(alloc, problem, &mut fields)
+    } else if word == b"open".as_slice() {
+        read_open(problem, &fields)
+    } else {
+        Err(FORM)
+    }
+}
+
+fn read_open(problem: &Problem, fields: &Fields) -> Result<Line, Fail<LineRefusal>>
+    ensures { Answers problem.now (open_at fields.now) result }
+{
+    let _ = problem;
+    if fields.is_done() {
+        Ok(Line::Unfinished)
+    } else {
+        Err(FORM)
+    }
+}
+
+#[tactic(auto, unfolding(crate::specs::Reading::split_at))]
+fn split_parts<'a>(problem: &Problem, fields: &mut Fields<'a>) -> Option<(u32, &'a [u8])>
+    ensures { MatchOption result (split_at problem.now fields.old ≡ None) (λ r. split_at problem.now fields.old ≡ Some (RawSplit r.0 r.1.now)) }
+{
+    let p = fields.place(problem)?;
+    let name = fields.name()?;
+    if fields.is_done() {
+        Some((p, name))
+    } else {
+        None
+    }
+}
+
+fn read_split(problem: &Problem, fields: &mut Fields) -> Result<Line, Fail<LineRefusal>>
+    ensures { Answers problem.now (split_at problem.now fields.old) result }
+{
+    let Some((p, name)) = split_parts(problem, fields) else {
+        return Err(FORM);
+    };
+    match problem.symbol(name) {
+        None => Err(NAME),
+        Some(x) => Ok(Line::Split { p, x }),
+    }
+}
+
+#[tactic(auto, unfolding(crate::specs::Reading::window_at))]
+fn window_parts(problem: &Problem, fields: &mut Fields) -> Option<(u32, u32, u32)>
+    ensures { MatchOption result (window_at problem.now fields.old ≡ None) (λ r. window_at problem.now fields.old ≡ Some (RawWindow r.0 r.1 r.2)) }
+{
+    let rule = fields.number(1, rule_count(problem))?;
+    let p = fields.place(problem)?;
+    let len = fields.number(1, 16_800)?;
+    if fields.is_done() {
+        Some((rule, p, len))
+    } else {
+        None
+    }
+}
+
+fn read_window(problem: &Problem, fields: &mut Fields) -> Result<Line, Fail<LineRefusal>>
+    ensures { Answers problem.now (window_at problem.now fields.old) result }
+{
+    match window_parts(problem, fields) {
+        None => Err(FORM),
+        Some((rule, p, len)) => Ok(Line::Window { rule, p, len }),
+    }
+}
+
+#[tactic(auto, unfolding(crate::specs::Reading::day_at))]
+fn day_parts<'a>(problem: &Problem, fields: &mut Fields<'a>) -> Option<(u32, &'a [u8], bool)>
+    ensures { MatchOption result (day_at problem.now fields.old ≡ None) (λ r. day_at problem.now fields.old ≡ Some (RawDay r.0 r.1.now r.2)) }
+{
+    let day = fields.number(1, problem.days())?;
+    let name = fields.name()?;
+    let over = fields.way()?;
+    if fields.is_done() {
+        Some((day, name, over))
+    } else {
+        None
+    }
+}
+
+fn read_day(problem: &Problem, fields: &mut Fields) -> Result<Line, Fail<LineRefusal>>
+    ensures { Answers problem.now (day_at problem.now fields.old) result }
+{
+    let Some((day, name, over)) = day_parts(problem, fields) else {
+        return Err(FORM);
+    };
+    match problem.symbol(name) {
+        None => Err(NAME),
+        Some(x) => Ok(Line::Day { day, x, over }),
+    }
+}
+
+// A position, a number of at most so much, and the word that begins a list of rules.
+#[tactic(auto, unfolding(crate::specs::Reading::head_at))]
+fn head(problem: &Problem, fields: &mut Fields, high: u32) -> Option<(u32, u32)>
+    ensures { Reads (head_at problem.now high fields.old) result fields.new }
+{
+    let p = fields.place(problem)?;
+    let n = fields.number(1, high)?;
+    fields.word(b"rules")?;
+    Some((p, n))
+}
+
+/// The ascending numbers of rules in front.
+#[tactic(auto, unfolding(crate::specs::Reading::rules_at))]
+pub fn rule_numbers(
+    alloc: Global,
+    problem: &Problem,
+    fields: &mut Fields,
+) -> Result<RuleList, AllocError>
+    ensures { IfOk result (λ R. rules_at problem.now fields.old ≡ (R, fields.new)) }
+{
+    let high = rule_count(problem);
+    let mut list = RuleList::new(alloc);
+    let mut last = 0;
+    while let Some(n) = fields.number(last + 1, high) {
+        put_behind(&mut list, n)?;
+        last = n;
+    }
+    Ok(list)
+}
+
+// Puts a number behind all others.
+
+fn put_behind(list: &mut RuleList, n: u32) -> Result<(), AllocError>
+    requires ascends { IsStrictlyIncreasing list.old }
+    requires last { All (λ k. k < n) list.old }
+    ensures ascends { IsStrictlyIncreasing list.new }
+    ensures value { OnOk result (list.new ≡ list.old ++ n ∷ []) }
+{
+    list.put(n)
+}
+
+#[tactic(auto, unfolding(crate::specs::Reading::dead_at))]
+fn read_dead(
+    alloc: Global,
+    problem: &Problem,
+    fields: &mut Fields,
+) -> Result<Line, Fail<LineRefusal>>
+    ensures { Answers problem.now (dead_at problem.now fields.old) result }
+{
+    let Some((p, len)) = head(problem, fields, 16_800) else {
+        return Err(FORM);
+    };
+    let Ok(rules) = rule_numbers(alloc, problem, fields) else {
+        return Err(Fail::Memory);
+    };
+    if fields.is_done() {
+        Ok(Line::Dead { p, len, rules })
+    } else {
+        Err(FORM)
+    }
+}
+
+#[tactic(auto, unfolding(crate::specs::Reading::weight_at))]
+fn weight<'a>(problem: &Problem, fields: &mut Fields<'a>) -> Option<(u32, &'a [u8], i32)>
+    ensures value { MatchOption result (weight_at problem.now fields.old ≡ None) (λ r. weight_at problem.now fields.old ≡ Some (record { day = r.0; name = r.1.now; value = r.2 }, fields.new)) }
+    ensures range { IfSome result (λ r. IsValue r.2) }
+{
+    let day = fields.number(1, problem.days())?;
+    let name = fields.name()?;
+    let value = fields.value()?;
+    Some((day, name, value))
+}
+
+// All fields that are left as weights.
+fn weights(
+    alloc: Global,
+    problem: &Problem,
+    fields: &mut Fields,
+) -> Result<Option<Gathered>, AllocError>
+    ensures { IfOk result (GivesAll problem.now (weights_at problem.now fields.old)) }
+{
+    let mut state = Gathered::Rising(Weights::new(alloc));
+    while !fields.is_done() {
+        let Some((day, name, value)) = weight(problem, fields) else {
+            return Ok(None);
+        };
+        state = add(state, problem, day, name, value)?;
+    }
+    Ok(Some(state))
+}
+
+#[tactic(auto, unfolding(crate::specs::Reading::bound_at))]
+fn read_bound(
+    alloc: Global,
+    problem: &Problem,
+    fields: &mut Fields,
+) -> Result<Line, Fail<LineRefusal>>
+    ensures { Answers problem.now (bound_at problem.now fields.old) result }
+{
+    let Some((p, turns)) = head(problem, fields, longest(problem)) else {
+        return Err(FORM);
+    };
+    let Ok(rules) = rule_numbers(alloc, problem, fields) else {
+        return Err(Fail::Memory);
+    };
+    let Some(()) = fields.word(b"weights") else {
+        return Err(FORM);
+    };
+    match weights(alloc, problem, fields) {
+        Err(_) => Err(Fail::Memory),
+        Ok(None) => Err(FORM),
+        Ok(Some(state)) => bound_of(p, turns, rules, state),
+    }
+}
+
+// The most turns that a leaf may speak of.
+fn longest(problem: &Problem) -> u32
+    ensures { result ≡ longest problem.now }
+{
+    problem.keeps_limits();
+    16_800 / problem.cells()
+}
+
+fn bound_of(p: u32, turns: u32, rules: RuleList, state: Gathered) -> Result<Line, Fail<LineRefusal>>
+    ensures { IsBound p turns rules state result }
+{
+    match state {
+        Gathered::Rising(weights) => Ok(Line::Bound {
+            p,
+            turns,
+            rules,
+            weights,
+        }),
+        Gathered::Falling => Err(FORM),
+        Gathered::Unknown => Err(NAME),
+    }
+}

@@ -1,0 +1,35 @@
+ghost use Rattle.std.specs.Prelude.{◌≡◌, ◌≤◌, ℕ, MatchOption};
+ghost use Rattle.rwsp_terms.specs.declared.data.Symbol.{Symbol};
+ghost use Rattle.rwsp_terms.specs.Instance.{IsDay};
+ghost use Rattle.refutation_terms.specs.Sharp.{IsDemanded, IsFirstTurn};
+ghost use Rattle.refutation_log.specs.Turns.{IsFirstOn};
+
+use refutation_terms::Turn;
+use rwsp_model::Problem;
+use rwsp_terms::Symbol;
+
+/// The turn to the first shift that some week must hold on the first day on which there is one.
+pub fn first_turn(problem: &Problem) -> Option<Turn>
+    ensures { IsFirstTurn problem.now result }
+{
+    for day in 0..problem.days() {
+        if let Some(x) = first_demanded(problem, day + 1) {
+            return Some(Turn { day: day + 1, x });
+        }
+    }
+    None
+}
+
+// The first shift that some week must hold on the day.
+fn first_demanded(problem: &Problem, day: u32) -> Option<Symbol>
+    requires { IsDay problem.now day }
+    ensures { IsFirstOn problem.now day result }
+{
+    for shift in 0..problem.shifts() {
+        let x = Symbol { number: shift + 1 };
+        if problem.demand_least(x, day) >= 1 {
+            return Some(x);
+        }
+    }
+    None
+}
