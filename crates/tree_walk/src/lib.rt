@@ -1,0 +1,11 @@
+//! Going through the lines of a log, with the domains at each line at hand.
+#![tactic(auto)]
+
+mod ending;
+mod open_split;
+mod sharing;
+#[cfg(test)]
+mod tests;
+mod walk;
+
+pub use walk::Walk;
