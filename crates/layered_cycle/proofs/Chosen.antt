@@ -1,0 +1,269 @@
+-- What is chosen among the steps from a node.
+use Rattle.std.proofs.Common.{◌≡◌, ◌≢◌, ◌⊎◌, ℕ, zero, suc, ◌+◌, ◌<◌, ◌≤◌, List, [], ◌∷◌, length, get_or, refl, ap, sym, ◌∙◌, subst, arith, inl, inr, Bool, true, false, ◌==◌, Option, Some, None, ℤ, set, get_or-set_same, get_or-set_other, if◌then◌else◌, replicate, drop}
+use Rattle.std.specs.Prelude.{◌≤ℤ◌, ◌<ℤ◌, ◌+ℤ◌, int_lt, Contains, All, AllPairs}
+use Rattle.std.specs.Option.{option_map}
+use Rattle.std.proofs.lemmas.Int.{ints}
+use Rattle.std.proofs.lemmas.List.{get_or-replicate, length-replicate}
+use Rattle.std.proofs.Math.Seq.{drop-cons, drop-length}
+use Rattle.std.proofs.Common.{length-set}
+use Rattle.rwsp_terms.specs.declared.data.Symbol.{Symbol}
+use Rattle.layered_cycle.specs.declared.step.Step.{Step}
+use Rattle.layered_cycle.specs.declared.choice.Choice.{Choice}
+use Rattle.layered_cycle.specs.Graph.{StepBefore}
+use Rattle.layered_cycle.specs.Choices.{Row, choice_at, choice_by, chosen, preferred, IsWithin, AreWithin, IsRowOf}
+
+-- one of the elements
+abbrev pub In : List Step → Step → Type 0
+In [] s = ⊥
+In (x ∷ xs) s = (s ≡ x) ⊎ In xs s
+
+in_at : (xs : List Step) (s : Step) (k : ℕ) → k < length xs → get_or xs k s ≡ s → In xs s
+in_at [] s k lt e = absurd (omega (arith, lt))
+in_at (x ∷ xs) s zero lt e = inl (sym e)
+in_at (x ∷ xs) s (suc k) lt e = inr (in_at xs s k (omega (arith, lt)) e)
+
+pub Contains-In : (xs : List Step) (s : Step) → Contains xs s → In xs s
+Contains-In xs s h = in_at xs s h.0 h.1 h.2
+
+pub In-Contains : (xs : List Step) (s : Step) → In xs s → Contains xs s
+In-Contains [] s h = absurd h
+In-Contains (x ∷ xs) s (inl e) = (0, omega arith, sym e)
+In-Contains (x ∷ xs) s (inr h) =
+    let r : Contains xs s = In-Contains xs s h in (suc r.0, omega (arith, r.1), r.2)
+
+-- later steps come after the first
+later_at : (x : Step) (xs : List Step) (s : Step) (k : ℕ) → AllPairs StepBefore (x ∷ xs) → k < length xs → get_or xs k s ≡ s → StepBefore x s
+later_at x xs s k ordered lt e =
+    let P : Step → Type 0 = λ z. StepBefore x z in subst P e (ordered 0 (suc k) s (omega arith) (omega (arith, lt)))
+
+pub later : (x : Step) (xs : List Step) → AllPairs StepBefore (x ∷ xs) → (s : Step) → In xs s → StepBefore x s
+later x xs ordered s h = let r : Contains xs s = In-Contains xs s h in later_at x xs s r.0 ordered r.1 r.2
+
+pub ordered_rest : (x : Step) (xs : List Step) → AllPairs StepBefore (x ∷ xs) → AllPairs StepBefore xs
+ordered_rest x xs ordered = λ i j d lt less. ordered (suc i) (suc j) d (omega (arith, lt)) (omega (arith, less))
+
+-- what a step offers
+pub record Offers (gain : ℕ → Symbol → ℤ) (day : ℕ) (next : Row) (s : Step) (a : Choice) : Type 0 where
+  pub after : Choice
+  pub is : choice_at next s.to ≡ Some after
+  pub weight : a.weight ≡ gain day s.symbol +ℤ after.weight
+  pub symbol : a.symbol ≡ s.symbol
+  pub to : a.to ≡ s.to
+
+abbrev by_step : (ℕ → Symbol → ℤ) → ℕ → Step → Choice → Choice
+by_step gain day s c = record { weight = gain day s.symbol +ℤ c.weight; symbol = s.symbol; to = s.to }
+
+offers_by : (gain : ℕ → Symbol → ℤ) (day : ℕ) (next : Row) (s : Step) (a : Choice) (o : Option Choice) → choice_at next s.to ≡ o → option_map (by_step gain day s) o ≡ Some a → Offers gain day next s a
+offers_by gain day next s a None here e = absurd (cc)
+offers_by gain day next s a (Some c) here e =
+    let same : by_step gain day s c ≡ a = cc in
+    record { after = c; is = here; weight = ap (λ d. d.weight) (sym same); symbol = ap (λ d. d.symbol) (sym same); to = ap (λ d. d.to) (sym same) }
+
+pub offers : (gain : ℕ → Symbol → ℤ) (day : ℕ) (next : Row) (s : Step) (a : Choice) → choice_by gain day next s ≡ Some a → Offers gain day next s a
+offers gain day next s a e = offers_by gain day next s a (choice_at next s.to) refl e
+
+pub choice_by-some : (gain : ℕ → Symbol → ℤ) (day : ℕ) (next : Row) (s : Step) (c : Choice) → choice_at next s.to ≡ Some c → choice_by gain day next s ≡ Some (by_step gain day s c)
+choice_by-some gain day next s c e = ap (option_map (by_step gain day s)) e
+
+-- the step that is chosen: the others are lighter, or as heavy and later
+pub record IsFirstHeaviest (gain : ℕ → Symbol → ℤ) (day : ℕ) (next : Row) (node : ℕ) (steps : List Step) (c : Choice) : Type 0 where
+  pub step : Step
+  pub within : In steps step
+  pub from : step.from ≡ node
+  pub is : choice_by gain day next step ≡ Some c
+  pub others : (s : Step) (d : Choice) → In steps s → s.from ≡ node → choice_by gain day next s ≡ Some d → (d.weight <ℤ c.weight) ⊎ ((d.weight ≡ c.weight) × ((c.symbol.number < s.symbol.number) ⊎ (s ≡ step)))
+
+abbrev pub IsChosen : (ℕ → Symbol → ℤ) → ℕ → Row → ℕ → List Step → Option Choice → Type 0
+IsChosen gain day next node steps None = (s : Step) → In steps s → s.from ≡ node → choice_by gain day next s ≡ None
+IsChosen gain day next node steps (Some c) = IsFirstHeaviest gain day next node steps c
+
+skipped : (gain : ℕ → Symbol → ℤ) (day : ℕ) (next : Row) (node : ℕ) (x : Step) (xs : List Step) → (x.from ≡ node → ⊥) → (r : Option Choice) → IsChosen gain day next node xs r → IsChosen gain day next node (x ∷ xs) r
+skipped gain day next node x xs ne None h =
+    λ s m f. elim m [ inl q ↦ absurd (ne (ap (λ z. z.from) (sym q) ∙ f)) | inr within ↦ h s within f ]
+skipped gain day next node x xs ne (Some c) h =
+    record {
+      step = h.step;
+      within = inr h.within;
+      from = h.from;
+      is = h.is;
+      others = λ s d m f e. elim m [ inl q ↦ absurd (ne (ap (λ z. z.from) (sym q) ∙ f)) | inr within ↦ h.others s d within f e ];
+    }
+
+-- the same value of one step
+one_value : (gain : ℕ → Symbol → ℤ) (day : ℕ) (next : Row) (x s : Step) (a d : Choice) → s ≡ x → choice_by gain day next x ≡ Some a → choice_by gain day next s ≡ Some d → d ≡ a
+one_value gain day next x s a d q e f =
+    let same : choice_by gain day next s ≡ choice_by gain day next x = ap (choice_by gain day next) q in cc
+
+symbol_before : (gain : ℕ → Symbol → ℤ) (day : ℕ) (next : Row) (node : ℕ) (x s : Step) (a : Choice) → x.from ≡ node → s.from ≡ node → choice_by gain day next x ≡ Some a → StepBefore x s → a.symbol.number < s.symbol.number
+symbol_before gain day next node x s a at here e before =
+    let o : a.symbol.number ≡ x.symbol.number = ap (λ y. y.number) ((offers gain day next x a e).symbol) in
+    elim before [ inl lt ↦ absurd (omega (arith, lt, at, here)) | inr h ↦ omega (arith, h.1, o) ]
+
+kept_first : (gain : ℕ → Symbol → ℤ) (day : ℕ) (next : Row) (node : ℕ) (x : Step) (xs : List Step) (a c : Choice) → x.from ≡ node → ((s : Step) → In xs s → StepBefore x s) → choice_by gain day next x ≡ Some a → c.weight ≤ℤ a.weight → IsFirstHeaviest gain day next node xs c → IsFirstHeaviest gain day next node (x ∷ xs) a
+kept_first gain day next node x xs a c at after e le h =
+    record {
+      step = x;
+      within = inl refl;
+      from = at;
+      is = e;
+      others = λ s d m f g. elim m [
+        | inl q ↦ inr (ap (λ z. z.weight) (one_value gain day next x s a d q e g), inr q)
+        | inr within ↦
+            let first : a.symbol.number < s.symbol.number = symbol_before gain day next node x s a at f e (after s within) in
+            let ordered : d.weight ≤ℤ c.weight = elim (h.others s d within f g) [ inl lt ↦ omega (arith, ints, lt) | inr w ↦ omega (arith, ints, w.0) ] in
+            heavier_or_same d.weight a.weight (a.symbol.number < s.symbol.number) (s ≡ x) first (omega (arith, ints, ordered, le))
+      ];
+    }
+  where
+    split : (y z : ℤ) → y ≤ℤ z → (y <ℤ z) ⊎ (y ≡ z)
+    split y z le = grind (arith, ints)
+
+    heavier_or_same : (y z : ℤ) (A B : Type 0) → A → y ≤ℤ z → (y <ℤ z) ⊎ ((y ≡ z) × (A ⊎ B))
+    heavier_or_same y z A B first le = elim (split y z le) [ inl lt ↦ inl lt | inr same ↦ inr (same, inl first) ]
+
+replaced : (gain : ℕ → Symbol → ℤ) (day : ℕ) (next : Row) (node : ℕ) (x : Step) (xs : List Step) (a c : Choice) → choice_by gain day next x ≡ Some a → a.weight <ℤ c.weight → IsFirstHeaviest gain day next node xs c → IsFirstHeaviest gain day next node (x ∷ xs) c
+replaced gain day next node x xs a c e lt h =
+    record {
+      step = h.step;
+      within = inr h.within;
+      from = h.from;
+      is = h.is;
+      others = λ s d m f g. elim m [
+        | inl q ↦ let same : d.weight ≡ a.weight = ap (λ z. z.weight) (one_value gain day next x s a d q e g) in inl (omega (arith, ints, lt, same))
+        | inr within ↦ h.others s d within f g
+      ];
+    }
+
+compared : (gain : ℕ → Symbol → ℤ) (day : ℕ) (next : Row) (node : ℕ) (x : Step) (xs : List Step) (a c : Choice) → x.from ≡ node → ((s : Step) → In xs s → StepBefore x s) → choice_by gain day next x ≡ Some a → IsFirstHeaviest gain day next node xs c → (b : Bool) → int_lt a.weight c.weight ≡ b → IsChosen gain day next node (x ∷ xs) (if b then Some c else Some a)
+compared gain day next node x xs a c at after e h true is = replaced gain day next node x xs a c e (grind (arith, ints)) h
+compared gain day next node x xs a c at after e h false is = kept_first gain day next node x xs a c at after e (grind (arith, ints)) h
+
+taken : (gain : ℕ → Symbol → ℤ) (day : ℕ) (next : Row) (node : ℕ) (x : Step) (xs : List Step) → x.from ≡ node → ((s : Step) → In xs s → StepBefore x s) → (a r : Option Choice) → choice_by gain day next x ≡ a → IsChosen gain day next node xs r → IsChosen gain day next node (x ∷ xs) (preferred a r)
+taken gain day next node x xs at after None None e h =
+    λ s m f. elim m [ inl q ↦ ap (choice_by gain day next) q ∙ e | inr within ↦ h s within f ]
+taken gain day next node x xs at after None (Some c) e h =
+    record {
+      step = h.step;
+      within = inr h.within;
+      from = h.from;
+      is = h.is;
+      others = λ s d m f g. elim m [
+        | inl q ↦ let same : choice_by gain day next s ≡ choice_by gain day next x = ap (choice_by gain day next) q in absurd (cc)
+        | inr within ↦ h.others s d within f g
+      ];
+    }
+taken gain day next node x xs at after (Some a) None e h =
+    record {
+      step = x;
+      within = inl refl;
+      from = at;
+      is = e;
+      others = λ s d m f g. elim m [
+        | inl q ↦ inr (ap (λ z. z.weight) (one_value gain day next x s a d q e g), inr q)
+        | inr within ↦ let none : choice_by gain day next s ≡ None = h s within f in absurd (cc)
+      ];
+    }
+taken gain day next node x xs at after (Some a) (Some c) e h = compared gain day next node x xs a c at after e h (int_lt a.weight c.weight) refl
+
+either : (gain : ℕ → Symbol → ℤ) (day : ℕ) (next : Row) (node : ℕ) (x : Step) (xs : List Step) → ((s : Step) → In xs s → StepBefore x s) → (r : Option Choice) → IsChosen gain day next node xs r → (b : Bool) → (x.from == node) ≡ b → IsChosen gain day next node (x ∷ xs) (if b then preferred (choice_by gain day next x) r else r)
+either gain day next node x xs after r h true is = taken gain day next node x xs (grind arith) after (choice_by gain day next x) r refl h
+either gain day next node x xs after r h false is = skipped gain day next node x xs (λ same. grind arith) r h
+
+pub chosen_is : (gain : ℕ → Symbol → ℤ) (day : ℕ) (next : Row) (node : ℕ) (steps : List Step) → AllPairs StepBefore steps → IsChosen gain day next node steps (chosen gain day next node steps)
+chosen_is gain day next node [] ordered = λ s m f. absurd m
+chosen_is gain day next node (x ∷ xs) ordered =
+    either gain day next node x xs (later x xs ordered) (chosen gain day next node xs) (chosen_is gain day next node xs (ordered_rest x xs ordered)) (x.from == node) refl
+
+-- a row to which a step was offered
+pub offered : (gain : ℕ → Symbol → ℤ) (day : ℕ) (next row : Row) (s : Step) (steps : List Step) (v : Option Choice) → s.from < length row → ((node : ℕ) → node < length row → choice_at row node ≡ chosen gain day next node steps) → v ≡ choice_by gain day next s →
+    (node : ℕ) → node < length row → choice_at (set row s.from (preferred v (choice_at row s.from))) node ≡ chosen gain day next node (s ∷ steps)
+offered gain day next row s steps v lt each is node less = offered_at (s.from == node) refl
+  where
+    offered_at : (b : Bool) → (s.from == node) ≡ b → choice_at (set row s.from (preferred v (choice_at row s.from))) node ≡ (if b then preferred (choice_by gain day next s) (chosen gain day next node steps) else chosen gain day next node steps)
+    offered_at true same =
+        let at : s.from ≡ node = grind arith in
+        let read : choice_at (set row s.from (preferred v (choice_at row s.from))) s.from ≡ preferred v (choice_at row s.from) = get_or-set_same row s.from (preferred v (choice_at row s.from)) None lt in
+        ap (choice_at (set row s.from (preferred v (choice_at row s.from)))) (sym at) ∙ read
+        ∙ ap (λ z. preferred z (choice_at row s.from)) is ∙ ap (λ n. preferred (choice_by gain day next s) (choice_at row n)) at ∙ ap (preferred (choice_by gain day next s)) (each node less)
+    offered_at false other =
+        let ne : node ≢ s.from = λ q. grind arith in
+        let read : choice_at (set row s.from (preferred v (choice_at row s.from))) node ≡ choice_at row node = get_or-set_other row s.from node (preferred v (choice_at row s.from)) None ne in
+        read ∙ each node less
+
+pub within_preferred : (n : ℕ) (a b : Option Choice) → IsWithin n a → IsWithin n b → IsWithin n (preferred a b)
+within_preferred n None b h k = k
+within_preferred n (Some a) None h k = h
+within_preferred n (Some a) (Some b) h k = by_test (int_lt a.weight b.weight)
+  where
+    by_test : (t : Bool) → IsWithin n (if t then Some b else Some a)
+    by_test true = k
+    by_test false = h
+
+pub within_set : (n : ℕ) (row : Row) (i : ℕ) (v : Option Choice) → i < length row → AreWithin n row → IsWithin n v → AreWithin n (set row i (preferred v (choice_at row i)))
+within_set n row i v lt all h node = at (node == i) refl
+  where
+    at : (b : Bool) → (node == i) ≡ b → IsWithin n (choice_at (set row i (preferred v (choice_at row i))) node)
+    at true same =
+        let here : i ≡ node = grind arith in
+        let P : ℕ → Type 0 = λ m. IsWithin n (choice_at (set row i (preferred v (choice_at row i))) m) in
+        let Q : Option Choice → Type 0 = IsWithin n in
+        let read : choice_at (set row i (preferred v (choice_at row i))) i ≡ preferred v (choice_at row i) = get_or-set_same row i (preferred v (choice_at row i)) None lt in
+        subst P here (subst Q (sym read) (within_preferred n v (choice_at row i) h (all i)))
+    at false other =
+        let ne : node ≢ i = λ q. grind arith in
+        let Q : Option Choice → Type 0 = IsWithin n in
+        let read : choice_at (set row i (preferred v (choice_at row i))) node ≡ choice_at row node = get_or-set_other row i node (preferred v (choice_at row i)) None ne in
+        subst Q (sym read) (all node)
+
+within_more : (m n : ℕ) (c : Option Choice) → m ≤ n → IsWithin m c → IsWithin n c
+within_more m n None le h = tt
+within_more m n (Some c) le h = (omega (arith, ints, le, h.0), omega (arith, ints, le, h.1))
+
+pub rows_within_more : (m n : ℕ) (row : Row) → m ≤ n → AreWithin m row → AreWithin n row
+rows_within_more m n row le all node = within_more m n (choice_at row node) le (all node)
+
+-- a row of the same choice everywhere
+pub within_replicate : (n count : ℕ) (c : Option Choice) → IsWithin n c → AreWithin n (replicate count c)
+within_replicate n zero c h node = tt
+within_replicate n (suc count) c h zero = h
+within_replicate n (suc count) c h (suc node) = within_replicate n count c h node
+
+-- the loop over the steps of a layer, from the last to the first: the choices at each node among the steps from the k-th on
+pub record HasChosen (gain : ℕ → Symbol → ℤ) (day count k : ℕ) (next row : Row) (steps : List Step) : Type 0 where
+  pub within : k ≤ length steps
+  pub long : length row ≡ count
+  pub each : (node : ℕ) → node < count → choice_at row node ≡ chosen gain day next node (drop k steps)
+  pub light : (n : ℕ) → AreWithin n next → AreWithin (n + 1000) row
+
+pub row_started : (gain : ℕ → Symbol → ℤ) (day count : ℕ) (next row : Row) (steps : List Step) → row ≡ replicate count None → HasChosen gain day count (length steps) next row steps
+row_started gain day count next row steps e =
+    record {
+      within = omega arith;
+      long = ap length e ∙ length-replicate count None;
+      each = λ node lt. ap (λ r. choice_at r node) e ∙ get_or-replicate count node None None lt ∙ ap (chosen gain day next node) (sym (drop-length steps));
+      light = λ n all. let P : Row → Type 0 = AreWithin (n + 1000) in subst P (sym e) (within_replicate (n + 1000) count None tt);
+    }
+
+pub row_offered : (gain : ℕ → Symbol → ℤ) (day count k j : ℕ) (next row new : Row) (steps : List Step) (s d : Step) (v : Option Choice) → HasChosen gain day count k next row steps → k ≡ suc j →
+    get_or steps j d ≡ s → s.from < count → v ≡ choice_by gain day next s → ((n : ℕ) → AreWithin n next → IsWithin (n + 1000) v) → new ≡ set row s.from (preferred v (choice_at row s.from)) → HasChosen gain day count j next new steps
+row_offered gain day count k j next row new steps s d v h back here lt is light e =
+    let inside : s.from < length row = omega (arith, lt, h.long) in
+    let front : drop j steps ≡ s ∷ drop k steps = drop-cons steps j d (omega (arith, h.within, back)) ∙ ap (λ x. x ∷ drop (suc j) steps) here ∙ ap (λ n. s ∷ drop n steps) (sym back) in
+    record {
+      within = omega (arith, h.within, back);
+      long = ap length e ∙ length-set row s.from (preferred v (choice_at row s.from)) ∙ h.long;
+      each = λ node less.
+          ap (λ r. choice_at r node) e
+          ∙ offered gain day next row s (drop k steps) v inside (λ n f. h.each n (omega (arith, f, h.long))) is node (omega (arith, less, h.long))
+          ∙ ap (chosen gain day next node) (sym front);
+      light = λ n all. let P : Row → Type 0 = AreWithin (n + 1000) in subst P (sym e) (within_set (n + 1000) row s.from v inside (h.light n all) (light n all));
+    }
+
+pub row_ended : (gain : ℕ → Symbol → ℤ) (day count k : ℕ) (next row : Row) (steps : List Step) → HasChosen gain day count k next row steps → k ≤ 0 → AllPairs StepBefore steps → All (λ s. s.to < length next) steps → IsRowOf gain day steps next row
+row_ended gain day count k next row steps h done ordered targets =
+    let none : k ≡ 0 = omega (arith, done) in
+    record {
+      ordered = ordered;
+      targets = targets;
+      each = λ node lt. h.each node (omega (arith, lt, h.long)) ∙ ap (λ n. chosen gain day next node (drop n steps)) none;
+    }

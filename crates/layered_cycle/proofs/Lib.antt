@@ -1,0 +1,9 @@
+pub mod Growing
+pub mod Ways
+pub mod Reached
+pub mod Whole
+pub mod Walks
+pub mod Chosen
+pub mod Passes
+pub mod BestWords
+pub mod Escapes

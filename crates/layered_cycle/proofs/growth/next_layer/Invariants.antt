@@ -1,0 +1,6 @@
+use Rattle.domain_store.specs.Store.{has_domain}
+use Rattle.layered_cycle.specs.Grown.{Grown}
+use Rattle.layered_cycle.proofs.growth.next_layer.Given as goal
+
+abbrev pub invariant-loop-from : goal.invariant-loop-from
+invariant-loop-from l = Grown l.tails (has_domain l.doms) l.q l.nodes l.growth.steps.items l.growth.nodes.items l.from 0

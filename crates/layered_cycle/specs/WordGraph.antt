@@ -1,0 +1,32 @@
+-- The clean words over domains as a graph.
+use Rattle.std.specs.Prelude.{◌≡◌, ℕ, ◌<◌, ◌≤◌, ◌↔◌, List, length}
+use Rattle.rwsp_terms.specs.declared.data.Symbol.{Symbol}
+use Rattle.rwsp_terms.specs.Instance.{Instance, cells}
+use Rattle.refutation_terms.specs.Escape.{IsCleanOver}
+use Rattle.domain_store.specs.Store.{Store, has_domain, BelongsTo}
+use Rattle.layered_cycle.specs.declared.step.Step.{Step}
+use Rattle.layered_cycle.specs.Graph.{Leads, AreLayers}
+
+pub record WordGraph : Type 0 where
+  pub problem : Instance
+  -- the numbers of the rules
+  pub rules : List ℕ
+  -- the domains
+  pub store : Store
+  -- the position of the words' first day, and their length in days
+  pub position : ℕ
+  pub len : ℕ
+  -- the steps of each day, and the numbers of nodes before and behind
+  pub layers : List (List Step)
+  pub counts : List ℕ
+
+-- what is so of each word graph
+pub record IsWordGraph (g : WordGraph) : Type 0 where
+  pub belongs : BelongsTo g.problem g.store
+  pub position : g.position < cells g.problem
+  pub some : 1 ≤ g.len
+  pub few : g.len ≤ 16800
+  pub long : length g.layers ≡ g.len
+  pub layers : AreLayers g.counts g.layers
+  -- the clean words over the domains are those that lead to the end
+  pub words : (u : List Symbol) → IsCleanOver g.problem (has_domain g.store) g.position g.len g.rules u ↔ Leads g.layers 0 u

@@ -1,0 +1,152 @@
+// The best word of layers: the heaviest, and among those of its weight the least.
+ghost use Rattle.std.specs.Prelude.{◌≡◌, ℕ, ◌+◌, ◌<◌, ◌≤◌, List, [], ◌∷◌, ◌++◌, length, slice_index, slice_index_or, All, AllPairs, IfOk, MatchOption, ℤ, pos, negsuc, ◌≤ℤ◌};
+ghost use Rattle.rwsp_terms.specs.declared.data.Symbol.{Symbol};
+ghost use Rattle.layered_cycle.specs.Graph.{AreLayers, StepBefore};
+ghost use Rattle.layered_cycle.specs.Choices.{first_row, AreRows, IsRowOf, AreWithin, IsWithin, choice_by, word_by};
+ghost use Rattle.layered_cycle.specs.Best.{IsBest, NoneLeads};
+
+use crate::choice::{Choice, ChoiceRow, END, Rows, choice_or_end};
+use crate::{Layer, Step};
+use rwsp_terms::{Symbol, Word};
+use std::alloc::{AllocError, Global};
+
+/// What the symbols of a word gain, from -1,000 to 1,000 each.
+pub trait Gain {
+    ghost gain_of: { Self → ℕ → Symbol → ℤ };
+
+    /// What the symbol gains on a day of the word, counted from 0.
+    fn gain(&self, day: u32, symbol: Symbol) -> i32
+        ensures value { result ≡ gain_of self.now day symbol }
+        ensures low { negsuc 999 ≤ℤ result }
+        ensures high { result ≤ℤ pos 1000 };
+}
+
+/// No symbol gains anything.
+pub struct NoGain;
+
+impl Gain for NoGain {
+    ghost gain_of = { λ g day x. pos 0 };
+
+    fn gain(&self, _day: u32, _symbol: Symbol) -> i32 {
+        0
+    }
+}
+
+/// A word with its weight.
+#[derive(Debug, Drop)]
+pub struct HeavyWord {
+    pub weight: i64,
+    pub word: Word,
+}
+
+/// The heaviest word that leads through the layers, and the least of that weight; None exactly where no word leads through them.
+/// The layers have so many nodes each.
+pub fn best_word<G: Gain>(
+    alloc: Global,
+    layers: &[Layer],
+    counts: &[u32],
+    gain: &G,
+) -> Result<Option<HeavyWord>, AllocError>
+    requires few { length layers.now ≤ 16800 }
+    requires layers { AreLayers counts.now layers.now }
+    ensures { IfOk result (λ found. MatchOption found (NoneLeads layers.now) (λ h. IsBest (G.gain_of gain.now) layers.now h.weight h.word)) }
+{
+    let rows = rows_of(alloc, layers, counts, gain)?;
+    match rows.first().at(0) {
+        Some(choice) => {
+            let word = word_by(alloc, rows)?;
+            Ok(Some(HeavyWord {
+                weight: i64::from(choice.weight),
+                word,
+            }))
+        }
+        None => Ok(None),
+    }
+}
+
+// The rows of all layers, by one pass from the last to the first.
+fn rows_of<G: Gain>(
+    alloc: Global,
+    layers: &[Layer],
+    counts: &[u32],
+    gain: &G,
+) -> Result<Rows, AllocError>
+    requires few { length layers.now ≤ 16800 }
+    requires layers { AreLayers counts.now layers.now }
+    ensures rows { IfOk result (λ rows. AreRows (G.gain_of gain.now) 0 layers.now rows) }
+    ensures first { IfOk result (λ rows. length (first_row rows) ≡ 1) }
+{
+    let end = ChoiceRow::of(alloc, counts[layers.len()], Some(END))?;
+    let mut rows = Rows::of(alloc, end);
+    let mut day = layers.len();
+    while 0 < day {
+        day -= 1;
+        let row = row_before(
+            alloc,
+            counts[day],
+            layers[day].steps(),
+            rows.first(),
+            day as u32,
+            gain,
+        )?;
+        rows.push(row)?;
+    }
+    Ok(rows)
+}
+
+// The row of a layer, of the row of the next.
+fn row_before<G: Gain>(
+    alloc: Global,
+    count: u32,
+    steps: &[Step],
+    next: &ChoiceRow,
+    day: u32,
+    gain: &G,
+) -> Result<ChoiceRow, AllocError>
+    requires ordered { AllPairs StepBefore steps.now }
+    requires from { All (λ s. s.from < count) steps.now }
+    requires to { All (λ s. s.to < length next.now) steps.now }
+    requires light { AreWithin 16799000 next.now }
+    ensures long { IfOk result (λ row. length row ≡ count) }
+    ensures row { IfOk result (λ row. IsRowOf (G.gain_of gain.now) day steps.now next.now row) }
+    ensures light { IfOk result (λ row. (n : ℕ) → AreWithin n next.now → AreWithin (n + 1000) row) }
+{
+    let mut row = ChoiceRow::of(alloc, count, None)?;
+    let mut k = steps.len();
+    while 0 < k {
+        k -= 1;
+        let step = steps[k];
+        let choice = choice_by(gain, day, step, next);
+        row.offer(step.from, choice);
+    }
+    Ok(row)
+}
+
+// To take the step, and then what is chosen where it leads.
+fn choice_by<G: Gain>(gain: &G, day: u32, step: Step, next: &ChoiceRow) -> Option<Choice>
+    requires { AreWithin 16799000 next.now }
+    ensures value { result ≡ choice_by (G.gain_of gain.now) day next.now step }
+    ensures light { (n : ℕ) → AreWithin n next.now → IsWithin (n + 1000) result }
+{
+    let after = next.at(step.to)?;
+    Some(Choice {
+        weight: gain.gain(day, step.symbol) + after.weight,
+        symbol: step.symbol,
+        to: step.to,
+    })
+}
+
+// The word by what is chosen, from node 0 of the first row on.
+fn word_by(alloc: Global, mut rows: Rows) -> Result<Word, AllocError>
+    ensures { IfOk result (λ word. word ≡ word_by 0 rows) }
+{
+    let mut symbols = Vec::new(alloc);
+    let mut node = 0;
+    let mut choice = choice_or_end(rows.first().at(node));
+    while rows.pop() {
+        symbols.push(choice.symbol)?;
+        node = choice.to;
+        choice = choice_or_end(rows.first().at(node));
+    }
+    Ok(Word::of(symbols))
+}

@@ -1,0 +1,71 @@
+// Cuts.
+ghost use Rattle.std.specs.Prelude.{ℕ, ◌<◌, ◌≤◌, List, IfOk, MatchBool, MatchOption};
+ghost use Rattle.rwsp_terms.specs.Instance.{cells};
+ghost use Rattle.rwsp_terms.specs.declared.data.Symbol.{Symbol};
+ghost use Rattle.refutation_terms.specs.Leaf.{IsDead};
+ghost use Rattle.refutation_terms.specs.Escape.{IsCleanOver, IsLeastClean};
+ghost use Rattle.domain_store.specs.Store.{has_domain, BelongsTo};
+
+use crate::growth::{Growth, next_layer};
+use crate::lattice::{Lattice, lattice_of};
+use crate::{HeavyWord, NoGain, best_word};
+use domain_store::Domains;
+use rwsp_terms::Word;
+use std::alloc::{AllocError, Global};
+use word_tail::{Tail, TailRules};
+
+/// A cut between the days of the cycle: whether clean words go on from there.
+pub struct Cut;
+
+impl Cut {
+    /// Whether there is a clean word of this length over the domains, from a position on.
+    pub fn alive(
+        alloc: Global,
+        tails: &TailRules,
+        doms: &Domains,
+        p: u32,
+        len: u32,
+    ) -> Result<bool, AllocError>
+        requires belongs { BelongsTo tails.now.problem doms.now }
+        requires position { p < cells tails.now.problem }
+        requires long { (1 ≤ len) × (len ≤ 16800) }
+        ensures { IfOk result (λ alive. MatchBool alive
+            ((u : List Symbol) × IsCleanOver tails.now.problem (has_domain doms.now) p len tails.now.rules u)
+            (IsDead tails.now.problem (has_domain doms.now) p len tails.now.rules)) }
+    {
+        doms.facts();
+        let cells = doms.cells();
+        let mut nodes = Vec::new(alloc);
+        nodes.push(Tail::empty())?;
+        for i in 0..len {
+            let Growth {
+                steps: _,
+                nodes: next,
+            } = next_layer(alloc, tails, doms, (p + i) % cells, &nodes)?;
+            nodes = next;
+        }
+        Ok(!nodes.is_empty())
+    }
+}
+
+/// The least clean word of this length over the domains, from a position on; None exactly where there is none.
+pub fn escape(
+    alloc: Global,
+    tails: &TailRules,
+    doms: &Domains,
+    p: u32,
+    len: u32,
+) -> Result<Option<Word>, AllocError>
+    requires belongs { BelongsTo tails.now.problem doms.now }
+    requires position { p < cells tails.now.problem }
+    requires long { (1 ≤ len) × (len ≤ 16800) }
+    ensures { IfOk result (λ found. MatchOption found
+        (IsDead tails.now.problem (has_domain doms.now) p len tails.now.rules)
+        (λ w. IsLeastClean tails.now.problem (has_domain doms.now) p len tails.now.rules w)) }
+{
+    let Lattice { layers, counts } = lattice_of(alloc, tails, doms, p, len)?;
+    match best_word(alloc, &layers, &counts, &NoGain)? {
+        Some(HeavyWord { weight: _, word }) => Ok(Some(word)),
+        None => Ok(None),
+    }
+}

@@ -1,0 +1,125 @@
+// One layer more.
+ghost use Rattle.std.specs.Prelude.{◌≡◌, ℕ, ◌+◌, ◌<◌, ◌≤◌, ◌^◌, List, length, IfOk, OnOk, vec_len};
+ghost use Rattle.std.specs.Option.{IfSome};
+ghost use Rattle.rwsp_terms.specs.Instance.{Instance};
+ghost use Rattle.domain_store.specs.Store.{has_domain};
+ghost use Rattle.layered_cycle.specs.Grown.{StandsAt, Extends, Grown};
+
+use crate::Step;
+use domain_store::Domains;
+use rwsp_terms::Symbol;
+use std::alloc::{AllocError, Global};
+use word_tail::{Tail, TailRules};
+
+// The steps of a layer, and the tails that they lead to: the nodes of the next layer.
+#[derive(Debug, Drop)]
+pub struct Growth {
+    pub steps: Vec<Step>,
+    pub nodes: Vec<Tail>,
+}
+
+// The place of the tail among the nodes.
+fn place_of(nodes: &[Tail], tail: Tail) -> Option<usize>
+    ensures { IfSome result (λ k. StandsAt nodes.now k tail) }
+{
+    for (place, node) in nodes.iter().enumerate() {
+        if *node == tail {
+            return Some(place);
+        }
+    }
+    None
+}
+
+// The node of the tail, which is put behind the others where it isn't among them.
+fn node_of(nodes: &mut Vec<Tail>, tail: Tail) -> Result<u32, AllocError>
+    requires { length nodes.old.items < 2 ^ 32 }
+    ensures few { length nodes.new.items < 2 ^ 32 }
+    ensures grows { Extends nodes.old.items nodes.new.items }
+    ensures node { IfOk result (λ node. StandsAt nodes.new.items node tail) }
+    ensures others { IfOk result (λ node. (k : ℕ) → length nodes.old.items ≤ k → k < length nodes.new.items → k ≡ node) }
+{
+    if let Some(place) = place_of(nodes, tail) {
+        return Ok(place as u32);
+    }
+    let place = nodes.len();
+    if place >= u32::MAX as usize {
+        return Err(AllocError);
+    }
+    nodes.push(tail)?;
+    Ok(place as u32)
+}
+
+impl Growth {
+    // Puts the step from the node by the symbol, where there is one.
+    fn put_step(
+        &mut self,
+        tails: &TailRules,
+        doms: &Domains,
+        q: u32,
+        nodes: &[Tail],
+        from: u32,
+        x: Symbol,
+    ) -> Result<(), AllocError>
+        requires position { q < length doms.now.sets }
+        requires from { from < length nodes.now }
+        requires grown { Grown tails.now (has_domain doms.now) q nodes.now self.old.steps.items self.old.nodes.items from x.number }
+        ensures { OnOk result (Grown tails.now (has_domain doms.now) q nodes.now self.new.steps.items self.new.nodes.items from (x.number + 1)) }
+    {
+        if !doms.has(q, x) {
+            return Ok(());
+        }
+        let Some(tail) = tails.follow(nodes[from as usize], x) else {
+            return Ok(());
+        };
+        let to = node_of(&mut self.nodes, tail)?;
+        self.steps.push(Step {
+            from,
+            symbol: x,
+            to,
+        })?;
+        Ok(())
+    }
+
+    // Puts all steps from the node.
+    fn put_steps(
+        &mut self,
+        tails: &TailRules,
+        doms: &Domains,
+        q: u32,
+        nodes: &[Tail],
+        from: u32,
+    ) -> Result<(), AllocError>
+        requires position { q < length doms.now.sets }
+        requires from { from < length nodes.now }
+        requires grown { Grown tails.now (has_domain doms.now) q nodes.now self.old.steps.items self.old.nodes.items from 0 }
+        ensures { OnOk result (Grown tails.now (has_domain doms.now) q nodes.now self.new.steps.items self.new.nodes.items (from + 1) 0) }
+    {
+        doms.facts();
+        for number in 0..doms.shifts() + 1 {
+            self.put_step(tails, doms, q, nodes, from, Symbol { number })?;
+        }
+        Ok(())
+    }
+}
+
+// The steps from all nodes by the symbols of the position's domain.
+pub fn next_layer(
+    alloc: Global,
+    tails: &TailRules,
+    doms: &Domains,
+    q: u32,
+    nodes: &[Tail],
+) -> Result<Growth, AllocError>
+    requires position { q < length doms.now.sets }
+    requires few { length nodes.now < 2 ^ 32 }
+    ensures { IfOk result (λ g. Grown tails.now (has_domain doms.now) q nodes.now g.steps.items g.nodes.items (length nodes.now) 0) }
+{
+    let mut growth = Growth {
+        steps: Vec::new(alloc),
+        nodes: Vec::new(alloc),
+    };
+    for from in 0..nodes.len() as u32 {
+        growth.put_steps(tails, doms, q, nodes, from)?;
+    }
+    Ok(growth)
+}

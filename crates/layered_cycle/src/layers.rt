@@ -1,0 +1,133 @@
+// Clean words as a graph.
+ghost use Rattle.std.specs.Prelude.{◌≡◌, ◌<◌, ◌≤◌, ◌↔◌, List, IfOk};
+ghost use Rattle.rwsp_terms.specs.Instance.{cells};
+ghost use Rattle.rwsp_terms.specs.declared.data.Symbol.{Symbol};
+ghost use Rattle.refutation_terms.specs.Escape.{IsCleanOver};
+ghost use Rattle.domain_store.specs.Store.{has_domain, BelongsTo};
+ghost use Rattle.layered_cycle.specs.Graph.{Leads};
+
+use crate::Layer;
+use crate::lattice::{Lattice, lattice_of};
+use domain_store::Domains;
+use rwsp_model::{Problem, RuleList};
+use std::alloc::{AllocError, Global};
+use std::marker::Model;
+use word_tail::TailRules;
+
+/// The clean words of a length over domains, from a position on, as the ways through layers of steps.
+///
+/// A node of a layer is the tail of a clean word that leads to it, so that words with one tail go on together.
+#[derive(Debug, Drop)]
+pub struct Layers {
+    problem: Problem,
+    rules: RuleList,
+    domains: Domains,
+    position: u32,
+    len: u32,
+    layers: Vec<Layer>,
+    counts: Vec<u32>,
+}
+
+impl Model for Layers {
+    ghost use Rattle.layered_cycle.specs.WordGraph.{WordGraph, IsWordGraph};
+
+    ghost Value = { WordGraph };
+
+    ghost view = { λ g. record { problem = g.problem; rules = g.rules; store = g.domains; position = g.position; len = g.len; layers = g.layers.items; counts = g.counts.items } };
+
+    ghost invariant = { λ g. IsWordGraph (record { problem = g.problem; rules = g.rules; store = g.domains; position = g.position; len = g.len; layers = g.layers.items; counts = g.counts.items }) };
+}
+
+impl Layers {
+    ghost use Rattle.layered_cycle.specs.WordGraph.{WordGraph, IsWordGraph};
+
+    /// The layers for the words of this length from a position on, with copies of the problem, the rules and the domains.
+    /// There may be nodes from which no word goes on.
+    pub fn of(
+        alloc: Global,
+        tails: &TailRules,
+        doms: &Domains,
+        p: u32,
+        len: u32,
+    ) -> Result<Layers, AllocError>
+        requires belongs { BelongsTo tails.now.problem doms.now }
+        requires position { p < cells tails.now.problem }
+        requires long { (1 ≤ len) × (len ≤ 16800) }
+        ensures problem { IfOk result (λ g. g.problem ≡ tails.now.problem) }
+        ensures rules { IfOk result (λ g. g.rules ≡ tails.now.rules) }
+        ensures domains { IfOk result (λ g. g.store ≡ doms.now) }
+        ensures days { IfOk result (λ g. (g.position ≡ p) × (g.len ≡ len)) }
+        ensures graph { IfOk result IsWordGraph }
+        ensures words { IfOk result (λ g. (u : List Symbol) → IsCleanOver tails.now.problem (has_domain doms.now) p len tails.now.rules u ↔ Leads g.layers 0 u) }
+    {
+        let Lattice { layers, counts } = lattice_of(alloc, tails, doms, p, len)?;
+        let problem = tails.problem().copy()?;
+        let rules = tails.rules().copy()?;
+        let domains = doms.copy()?;
+        Ok(Layers {
+            problem,
+            rules,
+            domains,
+            position: p,
+            len,
+            layers,
+            counts,
+        })
+    }
+
+    /// What is so of all layers.
+    pub fn facts(&self)
+        ensures { IsWordGraph self.now }
+    {
+        let _ = &self.layers;
+    }
+
+    /// The problem.
+    pub fn problem(&self) -> &Problem
+        ensures { result.now ≡ self.now.problem }
+    {
+        &self.problem
+    }
+
+    /// The list of rules.
+    pub fn rules(&self) -> &RuleList
+        ensures { result.now ≡ self.now.rules }
+    {
+        &self.rules
+    }
+
+    /// The domains.
+    pub fn domains(&self) -> &Domains
+        ensures { result.now ≡ self.now.store }
+    {
+        &self.domains
+    }
+
+    /// The position of the words' first day.
+    pub fn position(&self) -> u32
+        ensures { result ≡ self.now.position }
+    {
+        self.position
+    }
+
+    /// The length of the words in days.
+    pub fn len(&self) -> u32
+        ensures { result ≡ self.now.len }
+    {
+        self.len
+    }
+
+    /// The layers, one for each day of the words.
+    pub fn layers(&self) -> &[Layer]
+        ensures { result.now ≡ self.now.layers }
+    {
+        &self.layers
+    }
+
+    /// How many nodes stand before each layer, and behind the last.
+    pub fn counts(&self) -> &[u32]
+        ensures { result.now ≡ self.now.counts }
+    {
+        &self.counts
+    }
+}

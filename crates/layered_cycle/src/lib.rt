@@ -1,0 +1,18 @@
+//! Layers of a word's tails: the clean words over domains as ways through a graph, and cuts that decide whether there is one.
+#![tactic(auto)]
+
+mod best;
+mod choice;
+mod cut;
+mod growth;
+mod lattice;
+mod layers;
+mod sharing;
+mod step;
+#[cfg(test)]
+mod tests;
+
+pub use best::{Gain, HeavyWord, NoGain, best_word};
+pub use cut::{Cut, escape};
+pub use layers::Layers;
+pub use step::{Layer, Step};
