@@ -1,16 +1,15 @@
 -- Idle splits by the store's domains.
-use Rattle.std.proofs.Common.{◌≡◌, ◌≢◌, ℕ, suc, ◌+◌, ◌*◌, ◌<◌, ◌≤◌, List, [], length, Option, refl, ap, sym, ◌∙◌, arith, Bool, true, false, ◌&&◌, ◌||◌, ◌==◌, not, IsTrue, get_or, inl, inr, leb, eqb}
+use Rattle.std.proofs.Common.{◌≡◌, ℕ, ◌+◌, ◌*◌, ◌<◌, ◌≤◌, [], length, refl, ap, sym, ◌∙◌, arith, Bool, true, false, ◌&&◌, ◌||◌, ◌==◌, not, get_or, inl, inr}
 use Rattle.std.specs.List.{range_with_len, list_all}
 use Rattle.std.specs.Prelude.{nat_le}
 use Rattle.std.proofs.Math.Path.{fun_ext}
-use Rattle.std.proofs.lemmas.Bool.{cases_lt, cases_eq, eq-eqb, ne_eqb, le-leb, lt-leb, leb-false}
+use Rattle.std.proofs.lemmas.Bool.{cases_lt, eq-eqb, ne_eqb, le-leb, lt-leb, leb-false}
 use Rattle.std.proofs.lemmas.List.Elements.{All-get_or}
 use Rattle.std.proofs.lemmas.List.Folds.{list_all_at}
 use Rattle.std.proofs.lemmas.List.Sums.{list_all-from_AllPass}
 use Rattle.std.proofs.lemmas.List.FromFn.{length-range_with_len, get_or-range_with_len}
-use Rattle.rwsp_terms.specs.Instance.{Instance, cells, shift_count}
+use Rattle.rwsp_terms.specs.Instance.{Instance, cells}
 use Rattle.refutation_terms.specs.Word.{Domains}
-use Rattle.refutation_terms.specs.Leaf.{is_only}
 use Rattle.refutation_terms.specs.Tree.{is_idle}
 use Rattle.domain_store.specs.Sets.{IsDomain}
 use Rattle.domain_store.specs.Store.{Store, BelongsTo, domain_at, has_domain, IsStore, HasDomains}
@@ -32,8 +31,8 @@ where_one : (S : Store) (p x last : ℕ) → HasDomains S → length (domain_at 
 where_one S p x last tests one has =
     list_all-from_AllPass (alone_test S p x) (range_with_len 0 (last + 1))
     (λ i d lt.
-        let z : ℕ = get_or (range_with_len 0 (last + 1)) i d in
-        passes_by (z == x) (has_domain S p z) (λ held. eq-eqb z x (sym (tests.alone p x z one has held))))
+    let z : ℕ = get_or (range_with_len 0 (last + 1)) i d in
+    passes_by (z == x) (has_domain S p z) (λ held. eq-eqb z x (sym (tests.alone p x z one has held))))
 
 where_more : (S : Store) (p x : ℕ) → HasDomains S → 2 ≤ length (domain_at S p) → list_all (alone_test S p x) (range_with_len 0 (S.shifts + 1)) ≡ false
 where_more S p x tests two =

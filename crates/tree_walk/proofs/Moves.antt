@@ -1,9 +1,8 @@
 -- What the moves of a walk leave.
-use Rattle.std.proofs.Common.{◌≡◌, ℕ, ◌+◌, ◌-◌, ◌*◌, ◌<◌, ◌≤◌, List, [], ◌∷◌, ◌++◌, length, take, Option, Some, None, refl, ap, sym, ◌∙◌, subst, arith, Bool, true, false, ◌&&◌, ◌||◌, ◌==◌, not, IsTrue, get_or, replicate, cond}
+use Rattle.std.proofs.Common.{◌≡◌, ℕ, ◌+◌, ◌-◌, ◌*◌, ◌<◌, ◌≤◌, List, [], ◌∷◌, ◌++◌, length, take, Option, Some, refl, ap, sym, ◌∙◌, subst, arith, Bool, true, false, ◌&&◌, ◌||◌, ◌==◌, not, IsTrue, cond}
 use Rattle.std.proofs.Math.Nat.{mul-le-mul_right}
 use Rattle.std.specs.Prelude.{◌↔◌}
 use Rattle.std.specs.List.{range_with_len}
-use Rattle.std.proofs.Math.Bool.{and_assoc}
 use Rattle.std.proofs.lemmas.List.{take_all, length-take-le, length_push, get_or-replicate}
 use Rattle.std.proofs.lemmas.List.Sums.{sum_by-cons, sum_by-append}
 use Rattle.std.proofs.lemmas.List.FromFn.{length-range_with_len}
@@ -19,7 +18,7 @@ use Rattle.refutation_terms.specs.Log.{TurnFits}
 use Rattle.domain_store.specs.Store.{Store, store_at, domain_at, has_domain, changed, full_store, HasSameShape, BelongsTo, IsStore, HasDomains}
 use Rattle.tree_walk.specs.declared.open_split.OpenSplit.{OpenSplit}
 use Rattle.tree_walk.specs.Splits.{Agrees, IsSplitAt, IsNone, InSplits, HasRead, IsBehindTree, lacking_in, is_idle_in}
-use Rattle.tree_walk.specs.States.{State, IsStateOf, IsWalk}
+use Rattle.tree_walk.specs.States.{IsStateOf, IsWalk}
 use Rattle.tree_walk.proofs.Stack.{leaf_read, split_read, second_ended, first_ended, innermost, read_leaves, read_is_tree, read_whole, read_part}
 use Rattle.tree_walk.proofs.Idle.{idle_in_store, held_where_useful, more_where_useful, positions_of}
 
@@ -83,17 +82,17 @@ behind_split P turn lines S T splits after whole p x o part is_p is_x first at_e
     let grown : length T.trail ≡ length S.trail + 1 = ap (λ V. length V.trail) change ∙ length_push S.trail (record { position = p; before = domain_at S p }) in
     let longer : length S.trail ≤ length T.trail = omega (arith, grown) in
     let as_split : (q : ℕ) (y : Symbol) → q ≡ o.p → y ≡ o.x → InSplits IsNone (length S.sets) T (opening P turn) 0 (splits ++ o ∷ []) (lines ++ Split q y ∷ []) = λ q y eq ey.
-        subst (λ r. InSplits IsNone (length S.sets) T (opening P turn) 0 (splits ++ o ∷ []) (lines ++ Split r y ∷ [])) (sym eq)
-        (subst (λ z. InSplits IsNone (length S.sets) T (opening P turn) 0 (splits ++ o ∷ []) (lines ++ Split o.p z ∷ [])) (sym ey)
-          (split_read (length S.sets) S T (opening P turn) splits lines o first at_end
-            (subst (λ r. r < length S.sets) (sym is_p) position)
-            (subst (λ r. IsTrue (has_domain S r o.x.number)) (sym is_p) (subst (λ z. IsTrue (has_domain S p z.number)) (sym is_x) (held_where_useful S p x.number useful)))
-            (subst (λ r. 2 ≤ length (domain_at S r)) (sym is_p) (more_where_useful S p x.number useful))
-            here
-            (subst (λ r. (q y : ℕ) → has_domain T q y ≡ ((not (q == r) || (y == o.x.number)) && has_domain S q y)) (sym is_p)
-              (subst (λ z. (q y : ℕ) → has_domain T q y ≡ ((not (q == p) || (y == z.number)) && has_domain S q y)) (sym is_x) has))
-            kept longer
-            (part_of P turn lines S splits whole part w))) in
+    subst (λ r. InSplits IsNone (length S.sets) T (opening P turn) 0 (splits ++ o ∷ []) (lines ++ Split r y ∷ [])) (sym eq)
+    (subst (λ z. InSplits IsNone (length S.sets) T (opening P turn) 0 (splits ++ o ∷ []) (lines ++ Split o.p z ∷ [])) (sym ey)
+    (split_read (length S.sets) S T (opening P turn) splits lines o first at_end
+    (subst (λ r. r < length S.sets) (sym is_p) position)
+    (subst (λ r. IsTrue (has_domain S r o.x.number)) (sym is_p) (subst (λ z. IsTrue (has_domain S p z.number)) (sym is_x) (held_where_useful S p x.number useful)))
+    (subst (λ r. 2 ≤ length (domain_at S r)) (sym is_p) (more_where_useful S p x.number useful))
+    here
+    (subst (λ r. (q y : ℕ) → has_domain T q y ≡ ((not (q == r) || (y == o.x.number)) && has_domain S q y)) (sym is_p)
+    (subst (λ z. (q y : ℕ) → has_domain T q y ≡ ((not (q == p) || (y == z.number)) && has_domain S q y)) (sym is_x) has))
+    kept longer
+    (part_of P turn lines S splits whole part w))) in
     let there : InSplits IsNone (length S.sets) T (opening P turn) 0 after (lines ++ Split p x ∷ []) = subst (λ s. InSplits IsNone (length S.sets) T (opening P turn) 0 s (lines ++ Split p x ∷ [])) (sym is) (as_split p x (sym is_p) (sym is_x)) in
     record {
       belongs = belongs_still P S T w.belongs same;

@@ -1,14 +1,14 @@
 -- Reading a line in the stack of open splits.
-use Rattle.std.proofs.Common.{◌≡◌, ℕ, suc, ◌+◌, ◌<◌, ◌≤◌, List, [], ◌∷◌, ◌++◌, length, take, Some, None, refl, ap, sym, ◌∙◌, subst, append_assoc, arith, Bool, true, false, ◌&&◌, ◌||◌, ◌==◌, not, IsTrue, cond, inl, inr, zero-add}
+use Rattle.std.proofs.Common.{◌≡◌, ℕ, suc, ◌+◌, ◌<◌, ◌≤◌, List, [], ◌∷◌, ◌++◌, length, Some, None, refl, ap, sym, ◌∙◌, subst, append_assoc, arith, Bool, true, false, ◌&&◌, ◌||◌, ◌==◌, not, IsTrue, cond, inl, inr, zero-add}
 use Rattle.std.specs.Prelude.{◌↔◌}
 use Rattle.std.proofs.lemmas.Bool.{cases_eq, eq-eqb, ne_eqb}
 use Rattle.std.proofs.lemmas.List.Sums.{sum_by-cons}
-use Rattle.std.proofs.lemmas.List.{append-nil, length-take-le}
+use Rattle.std.proofs.lemmas.List.{append-nil}
 use Rattle.std.proofs.Math.Bool.{and_assoc, and-true}
 use Rattle.refutation_terms.specs.declared.lines.Line.{Line}
 use Rattle.refutation_terms.specs.declared.lines.Line.TheVariants.{Split}
 use Rattle.refutation_terms.specs.Word.{Domains}
-use Rattle.refutation_terms.specs.Tree.{IsLeaf, Tree, Leaf, Node, lines_in, IsTree, after_trees, Side, First, Second, side, side_takes, line_leaves, lines_leave, narrowed}
+use Rattle.refutation_terms.specs.Tree.{IsLeaf, Leaf, Node, lines_in, IsTree, after_trees, side, side_takes, line_leaves, lines_leave, narrowed}
 use Rattle.refutation_terms.proofs.Trees.{tree_is_read, tree_is_whole}
 use Rattle.refutation_terms.proofs.TreeDomains.{in_first, in_second, tree_leaves_all}
 use Rattle.refutation_terms.proofs.AsSaid.{past_front}
@@ -41,8 +41,7 @@ outer_kept Q R n S T limit tail new_tail added same room under step [] D from li
 outer_kept Q R n S T limit tail new_tail added same room under step (o ∷ outer) D from lines h =
     let E = narrowed D (Split o.p o.x) (side_in o.in_second) in
     let inside : o.mark.len ≤ limit = under_all Q n S limit tail under outer E o.mark.len h.2 h.5 in
-    let within : o.mark.len ≤ length T.trail = omega arith in
-    (
+    let within : o.mark.len ≤ length T.trail = omega arith in (
       split_kept n S T D from o h.0 (same o.mark.len inside) within,
       h.1,
       h.2 ++ added,
@@ -101,29 +100,28 @@ split_read n S T D splits lines o first at_end position held another here has sa
     let none : IsFirstSide o.in_second [] = subst (λ b. IsFirstSide b []) (sym first) refl in
     outer_kept IsNone IsNone n S T (length S.trail) [] (o ∷ []) (Split o.p o.x ∷ []) same room (λ E from rest i. i.0)
     (λ E from rest i. (
-          split_kept n S T E from o (stood E from i.0 i.1) (same o.mark.len inside) within,
-          [],
-          [],
-          ap (λ ls. ls ++ Split o.p o.x ∷ []) i.2,
-          none,
-          (within, side_agrees n S T E o false first has i.1, refl),
-        )) splits D 0 lines inner
+      split_kept n S T E from o (stood E from i.0 i.1) (same o.mark.len inside) within,
+      [],
+      [],
+      ap (λ ls. ls ++ Split o.p o.x ∷ []) i.2,
+      none,
+      (within, side_agrees n S T E o false first has i.1, refl),
+    )) splits D 0 lines inner
 
 -- a tree that ends a second side ends its split
 pub second_ended : (n : ℕ) (S T : Store) (D : Domains) (splits : List OpenSplit) (lines : List Line) (o : OpenSplit) → o.in_second ≡ true → T ≡ store_at S o.mark.len → ((len : ℕ) → len ≤ o.mark.len → store_at T len ≡ store_at S len) → o.mark.len ≤ length T.trail → InSplits IsTree n S D 0 (splits ++ o ∷ []) lines → InSplits IsTree n T D 0 splits lines
 second_ended n S T D splits lines o second at_mark same room h =
     let whole : (rest first left : List Line) → rest ≡ Split o.p o.x ∷ (first ++ left) → IsFirstSide o.in_second first → IsTree left → IsTree rest = λ rest first left e side t.
-        let a : IsTree first = subst (λ b. IsFirstSide b first) second side in
-        (Node o.p o.x a.0 t.0, ap (λ ls. Split o.p o.x ∷ ls ++ lines_in t.0) a.1 ∙ ap (λ ls. Split o.p o.x ∷ first ++ ls) t.1 ∙ sym e) in
+    let a : IsTree first = subst (λ b. IsFirstSide b first) second side in
+    (Node o.p o.x a.0 t.0, ap (λ ls. Split o.p o.x ∷ ls ++ lines_in t.0) a.1 ∙ ap (λ ls. Split o.p o.x ∷ first ++ ls) t.1 ∙ sym e) in
     let done : InSplits IsTree n T D 0 (splits ++ []) (lines ++ []) =
     outer_kept IsTree IsTree n S T o.mark.len (o ∷ []) [] [] same room (λ E from rest i. i.0.order)
     (λ E from rest i.
-        let order : from ≤ o.mark.len = i.0.order in
-        (
-          omega (arith, order, room),
-          subst (λ U. Agrees n U E) (sym at_mark) i.0.domains,
-          subst IsTree (sym (append-nil rest)) (whole rest i.1 i.2 i.3 i.4 i.5.2),
-        )) splits D 0 lines h in
+    let order : from ≤ o.mark.len = i.0.order in (
+      omega (arith, order, room),
+      subst (λ U. Agrees n U E) (sym at_mark) i.0.domains,
+      subst IsTree (sym (append-nil rest)) (whole rest i.1 i.2 i.3 i.4 i.5.2),
+    )) splits D 0 lines h in
     subst (λ s. InSplits IsTree n T D 0 s lines) (append-nil splits) (subst (λ ls. InSplits IsTree n T D 0 (splits ++ []) ls) (append-nil lines) done)
 
 -- a tree that ends a first side is followed by the second side
@@ -131,27 +129,26 @@ pub first_ended : (n : ℕ) (S T : Store) (D : Domains) (splits : List OpenSplit
 first_ended n S T D splits lines o first has same room h =
     let b : OpenSplit = record o { in_second = true } in
     let alone : (rest first_side left : List Line) → rest ≡ Split o.p o.x ∷ (first_side ++ left) → IsFirstSide o.in_second first_side → rest ≡ Split o.p o.x ∷ left = λ rest first_side left e side.
-        let none : first_side ≡ [] = subst (λ c. IsFirstSide c first_side) first side in
-        e ∙ ap (λ ls. Split o.p o.x ∷ (ls ++ left)) none in
+    let none : first_side ≡ [] = subst (λ c. IsFirstSide c first_side) first side in
+    e ∙ ap (λ ls. Split o.p o.x ∷ (ls ++ left)) none in
     let done : InSplits IsNone n T D 0 (splits ++ b ∷ []) (lines ++ []) =
     outer_kept IsTree IsNone n S T o.mark.len (o ∷ []) (b ∷ []) [] same room (λ E from rest i. i.0.order)
     (λ E from rest i.
-        let kept : IsSplitAt n T E from o = split_kept n S T E from o i.0 (same o.mark.len (omega arith)) room in
-        (
-          record {
-            order = kept.order;
-            within = kept.within;
-            domains = kept.domains;
-            position = kept.position;
-            held = kept.held;
-            another = kept.another;
-          },
-          i.2,
-          [],
-          append-nil rest ∙ alone rest i.1 i.2 i.3 i.4 ∙ ap (λ ls. Split o.p o.x ∷ ls) (sym (append-nil i.2)),
-          i.5.2,
-          (room, side_agrees n (store_at S o.mark.len) T E b true refl has i.0.domains, refl),
-        )) splits D 0 lines h in
+    let kept : IsSplitAt n T E from o = split_kept n S T E from o i.0 (same o.mark.len (omega arith)) room in (
+      record {
+        order = kept.order;
+        within = kept.within;
+        domains = kept.domains;
+        position = kept.position;
+        held = kept.held;
+        another = kept.another;
+      },
+      i.2,
+      [],
+      append-nil rest ∙ alone rest i.1 i.2 i.3 i.4 ∙ ap (λ ls. Split o.p o.x ∷ ls) (sym (append-nil i.2)),
+      i.5.2,
+      (room, side_agrees n (store_at S o.mark.len) T E b true refl has i.0.domains, refl),
+    )) splits D 0 lines h in
     subst (λ ls. InSplits IsNone n T D 0 (splits ++ b ∷ []) ls) (append-nil lines) done
 
 -- the innermost split

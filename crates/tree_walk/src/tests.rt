@@ -122,6 +122,8 @@ fn splits_stand_inside_splits(rt: HostRuntime) -> Result<(), Fail> {
 #[test]
 fn a_turn_comes_first(rt: HostRuntime) -> Result<(), Fail> {
     let problem = small_problem(&rt, rt.alloc())?;
+    assert!(rt; problem.days() == 2);
+    assert!(rt; problem.shifts() == 2);
     let turn = Turn {
         day: 2,
         x: Symbol { number: 1 },

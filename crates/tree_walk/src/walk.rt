@@ -181,7 +181,11 @@ fn lacking(splits: &[OpenSplit]) -> usize
 }
 
 // The domains at the first line.
-fn opening_domains(alloc: Global, problem: &Problem, turn: Option<Turn>) -> Result<Domains, AllocError>
+fn opening_domains(
+    alloc: Global,
+    problem: &Problem,
+    turn: Option<Turn>,
+) -> Result<Domains, AllocError>
     requires { TurnFits problem.now turn }
     ensures belongs { IfOk result (λ D. BelongsTo problem.now D) }
     ensures has { IfOk result (λ D. Agrees (cells problem.now) D (opening problem.now turn)) }

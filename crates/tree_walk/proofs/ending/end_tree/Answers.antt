@@ -1,10 +1,6 @@
 -- Ending a tree, split by split.
-use Rattle.std.proofs.Common.{◌≡◌, ℕ, ◌<◌, ◌≤◌, List, length, sym, subst, ◌∙◌, IsTrue}
-use Rattle.refutation_terms.specs.declared.lines.Line.{Line}
-use Rattle.refutation_terms.specs.Word.{Domains}
-use Rattle.refutation_terms.specs.Tree.{IsTree}
-use Rattle.domain_store.specs.Store.{has_domain, domain_at, HasSameShape}
-use Rattle.tree_walk.specs.Splits.{InSplits}
+use Rattle.std.proofs.Common.{◌<◌, ◌≤◌, length, sym, subst, ◌∙◌, IsTrue}
+use Rattle.domain_store.specs.Store.{has_domain, domain_at}
 use Rattle.tree_walk.proofs.Moves.{on_top, side_closed, side_crossed, not_true, not_false, lacking_past_second, lacking_past_first}
 use Rattle.tree_walk.proofs.ending.end_tree.Goals as goal
 

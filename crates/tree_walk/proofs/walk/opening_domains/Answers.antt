@@ -1,7 +1,5 @@
 -- Full domains have two symbols at least.
-use Rattle.std.proofs.Common.{◌<◌, ◌-◌, ◌*◌, ◌≤◌, arith, subst, IsTrue}
-use Rattle.rwsp_terms.specs.Instance.{cells}
-use Rattle.refutation_terms.specs.Log.{TurnFits}
+use Rattle.std.proofs.Common.{◌-◌}
 use Rattle.tree_walk.proofs.Moves.{two_in_full, day_within}
 use Rattle.tree_walk.proofs.walk.opening_domains.Goals as goal
 
