@@ -1,0 +1,4 @@
+pub mod Counting
+pub mod Domains
+pub mod BadWords
+pub mod Words

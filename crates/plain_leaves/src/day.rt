@@ -1,0 +1,88 @@
+// Day leaves: too many weeks hold a symbol on a day for sure, or too few can.
+ghost use Rattle.std.specs.Prelude.{◌≡◌, ℕ, ◌+◌, ◌-◌, ◌*◌, ◌<◌, ◌≤◌, ◌↔◌, length, IsTrue, count_by, true, false};
+ghost use Rattle.std.specs.List.{range_with_len};
+ghost use Rattle.rwsp_terms.specs.Instance.{IsDay, IsSymbol};
+ghost use Rattle.refutation_terms.specs.Leaf.{is_only, fixed, possible, HasTooMany, HasTooFew};
+ghost use Rattle.domain_store.specs.Store.{BelongsTo, has_domain};
+ghost use Rattle.plain_leaves.specs.Runs.{IsOverrun};
+
+use domain_store::Domains;
+use rwsp_model::{Problem, Symbol};
+
+// Whether the domain of the position has the symbol and no other.
+fn is_only(problem: &Problem, doms: &Domains, p: u32, x: Symbol) -> bool
+    requires domains { BelongsTo problem.now doms.now }
+    requires position { p < length doms.now.sets }
+    ensures { result ≡ is_only problem.now (has_domain doms.now) p x.number }
+{
+    for number in 0..problem.shifts() + 1 {
+        if number != x.number && doms.has(p, Symbol { number }) {
+            return false;
+        }
+    }
+    doms.has(p, x)
+}
+
+// How many weeks hold the symbol on the day for sure.
+#[tactic(auto, using(crate::proofs::Counting::count_then, crate::proofs::Counting::count_else))]
+fn count_fixed(problem: &Problem, doms: &Domains, day: u32, x: Symbol) -> u32
+    requires domains { BelongsTo problem.now doms.now }
+    requires day { IsDay problem.now day }
+    ensures value { result ≡ fixed problem.now (has_domain doms.now) day x.number }
+    ensures few { result ≤ 600 }
+{
+    let mut count = 0;
+    for week in 0..problem.weeks() {
+        if is_only(problem, doms, place(problem, doms, week, day), x) {
+            count += 1;
+        }
+    }
+    count
+}
+
+// How many weeks can hold the symbol on the day.
+#[tactic(auto, using(crate::proofs::Counting::count_then, crate::proofs::Counting::count_else))]
+fn count_possible(problem: &Problem, doms: &Domains, day: u32, x: Symbol) -> u32
+    requires domains { BelongsTo problem.now doms.now }
+    requires day { IsDay problem.now day }
+    ensures value { result ≡ possible problem.now (has_domain doms.now) day x.number }
+    ensures few { result ≤ 600 }
+{
+    let mut count = 0;
+    for week in 0..problem.weeks() {
+        if doms.has(place(problem, doms, week, day), x) {
+            count += 1;
+        }
+    }
+    count
+}
+
+// The position of the day in the week. Weeks count from 0, days from 1.
+fn place(problem: &Problem, doms: &Domains, week: u32, day: u32) -> u32
+    requires domains { BelongsTo problem.now doms.now }
+    requires week { week < problem.now.weeks }
+    requires day { IsDay problem.now day }
+    ensures value { result ≡ week * problem.now.days + (day - 1) }
+    ensures within { result < length doms.now.sets }
+{
+    problem.keeps_limits();
+    doms.facts();
+    week * problem.days() + (day - 1)
+}
+
+/// Whether more weeks hold the symbol on the day for sure than may hold it, where `over` is set, and otherwise whether
+/// fewer can hold it than must. Days count from 1. Takes no memory.
+pub fn day_holds(problem: &Problem, doms: &Domains, day: u32, x: Symbol, over: bool) -> bool
+    requires domains { BelongsTo problem.now doms.now }
+    requires day { IsDay problem.now day }
+    requires symbol { IsSymbol problem.now x }
+    ensures { IsTrue result ↔ IsOverrun problem.now (has_domain doms.now) day x.number over }
+{
+    if over {
+        let fixed = count_fixed(problem, doms, day, x) as i32;
+        fixed > problem.demand_greatest(x, day)
+    } else {
+        let possible = count_possible(problem, doms, day, x) as i32;
+        possible < problem.demand_least(x, day)
+    }
+}

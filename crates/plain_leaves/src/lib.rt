@@ -1,0 +1,12 @@
+//! Whether a window or a day leaf of a refutation holds under the domains of a store.
+#![tactic(auto)]
+
+mod day;
+mod domain;
+mod run;
+#[cfg(test)]
+mod tests;
+mod window;
+
+pub use day::day_holds;
+pub use window::window_holds;
