@@ -1,0 +1,4 @@
+pub mod Products
+pub mod Growing
+pub mod HeavyWords
+pub mod Chunks

@@ -1,0 +1,8 @@
+use Rattle.refutation_terms.specs.Sharp.{HoldsAtTop}
+use Rattle.domain_store.specs.Store.{has_domain}
+use Rattle.potential_bounds.proofs.Chunks.{not_more}
+use Rattle.potential_bounds.proofs.first.first_of_chunk.Goals as goal
+
+pub loop-i-preserved : goal.loop-i-preserved
+loop-i-preserved g c =
+    not_more (HoldsAtTop c.args.layers.now.problem (has_domain c.args.layers.now.store) c.args.layers.now.rules) _ _ _ _ c.loop-i.invariant c.loop-i-test.true c.index-bounds-i.is c.in_ok-holds_at_top.ensures c.if-branch.false

@@ -1,0 +1,7 @@
+use Rattle.std.proofs.Common.{ℕ, ◌<◌, [], get_or}
+use Rattle.refutation_terms.specs.Sharp.{HoldsAtTop}
+use Rattle.domain_store.specs.Store.{has_domain}
+use Rattle.potential_bounds.proofs.first.first_of_chunk.Given as goal
+
+abbrev pub invariant-loop-i : goal.invariant-loop-i
+invariant-loop-i g l = (k : ℕ) → k < l.i → HoldsAtTop l.layers.problem (has_domain l.layers.store) l.layers.rules (get_or l.bounds k []) → ⊥

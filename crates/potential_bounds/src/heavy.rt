@@ -1,0 +1,85 @@
+// The heaviest clean words over domains.
+ghost use Rattle.std.specs.Prelude.{◌≡◌, ℕ, ◌+◌, ◌*◌, ◌%◌, ◌<◌, ◌≤◌, ◌↔◌, IfOk, IsTrue};
+ghost use Rattle.rwsp_terms.specs.Instance.{cells};
+ghost use Rattle.rwsp_terms.specs.Weights.{weight_at};
+ghost use Rattle.refutation_terms.specs.Sharp.{HoldsAtTop};
+ghost use Rattle.domain_store.specs.Store.{has_domain, BelongsTo};
+ghost use Rattle.potential_bounds.specs.Heaviest.{IsHeaviestFound, IsOneTurn};
+
+use crate::total;
+use domain_store::Domains;
+use layered_cycle::{Gain, HeavyWord, Layers, best_word};
+use rwsp_model::{Problem, Weights};
+use rwsp_terms::Symbol;
+use std::alloc::{AllocError, Global};
+use word_tail::TailRules;
+
+/// The heaviest clean words of so many turns over the domains from a position on: their weight, with the least of them.
+/// None exactly where there is no clean word.
+pub fn heaviest(
+    alloc: Global,
+    problem: &Problem,
+    tails: &TailRules,
+    doms: &Domains,
+    p: u32,
+    turns: u32,
+    weights: &Weights,
+) -> Result<Option<HeavyWord>, AllocError>
+    requires same { tails.now.problem ≡ problem.now }
+    requires belongs { BelongsTo problem.now doms.now }
+    requires position { p < cells problem.now }
+    requires some { 1 ≤ turns }
+    requires few { turns * cells problem.now ≤ 16800 }
+    ensures { IfOk result (λ found. IsHeaviestFound problem.now (has_domain doms.now) p (turns * cells problem.now) tails.now.rules weights.now found) }
+{
+    let layers = Layers::of(alloc, tails, doms, p, turns * problem.cells())?;
+    heaviest_in(alloc, &layers, weights)
+}
+
+/// The same of the words of layers.
+pub fn heaviest_in(
+    alloc: Global,
+    layers: &Layers,
+    weights: &Weights,
+) -> Result<Option<HeavyWord>, AllocError>
+    ensures { IfOk result (λ found. IsHeaviestFound layers.now.problem (has_domain layers.now.store) layers.now.position layers.now.len layers.now.rules weights.now found) }
+{
+    layers.facts();
+    let gain = WeightGain {
+        weights,
+        position: layers.position(),
+        days: layers.problem().days(),
+    };
+    best_word(alloc, layers.layers(), layers.counts(), &gain)
+}
+
+/// Whether the bound of one turn from position 0 on holds: whether every word of the layers weighs less than the total.
+pub fn holds_at_top(alloc: Global, layers: &Layers, weights: &Weights) -> Result<bool, AllocError>
+    requires { IsOneTurn layers.now }
+    ensures { IfOk result (λ holds. IsTrue holds ↔ HoldsAtTop layers.now.problem (has_domain layers.now.store) layers.now.rules weights.now) }
+{
+    match heaviest_in(alloc, layers, weights)? {
+        Some(heavy) => Ok(heavy.weight < total(layers.problem(), weights)),
+        None => Ok(true),
+    }
+}
+
+// What the symbols of a word weigh that begins at a position.
+#[derive(Clone, Copy)]
+struct WeightGain<'a> {
+    weights: &'a Weights,
+    position: u32,
+    days: u32,
+    ghost some: { 1 ≤ days },
+}
+
+impl<'a> Gain for WeightGain<'a> {
+    ghost gain_of = { λ g day x. weight_at g.weights.now ((g.position + day) % g.days + 1) x.number };
+
+    fn gain(&self, day: u32, symbol: Symbol) -> i32 {
+        self.weights.entries();
+        let place = u64::from(self.position) + u64::from(day);
+        let in_week = place % u64::from(self.days);
+        self.weights.at(in_week as u32 + 1, symbol)
+    }
+}

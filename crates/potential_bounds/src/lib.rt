@@ -1,0 +1,14 @@
+//! Bounds by weights: what rosters weigh at least, and the heaviest clean words.
+#![tactic(auto)]
+
+mod first;
+mod heavy;
+mod plain;
+mod sums;
+
+pub use first::{Gate, NoGate, first_plain};
+pub use heavy::{heaviest, heaviest_in, holds_at_top};
+pub use layered_cycle::HeavyWord;
+pub use plain::plain_bounds;
+pub use rwsp_model::Weights;
+pub use sums::total;
