@@ -1,0 +1,44 @@
+-- Lines by their kinds.
+use Rattle.std.proofs.Common.{◌≡◌, ℕ, ◌≤◌, length, Bool, true, false, IsTrue, sym, subst, arith, inl, inr}
+use Rattle.std.proofs.lemmas.Bool.{cases_lt}
+use Rattle.std.specs.Prelude.{◌↔◌}
+use Rattle.rwsp_terms.specs.Instance.{Instance}
+use Rattle.rwsp_terms.specs.declared.data.Symbol.{Symbol}
+use Rattle.plain_leaves.specs.Runs.{IsOverrun}
+use Rattle.refutation_terms.specs.declared.lines.Line.{Line}
+use Rattle.refutation_terms.specs.declared.lines.Line.TheVariants.{Day}
+use Rattle.refutation_terms.specs.Word.{Domains}
+use Rattle.refutation_terms.specs.Tree.{is_idle}
+use Rattle.refutation_terms.specs.Log.{Holds}
+use Rattle.refutation_terms.proofs.InWords.{idle_as_said}
+use Rattle.domain_store.specs.Store.{Store, has_domain, domain_at, BelongsTo, HasDomains}
+use Rattle.refutation_checker.specs.Judged.{StandsPlainly}
+
+-- a symbol of a domain of two or more may be split off
+pub may_split : (P : Instance) (S : Store) (p x : ℕ) → BelongsTo P S → HasDomains S → IsTrue (has_domain S p x) → 2 ≤ length (domain_at S p) → is_idle P (has_domain S) p x ≡ false
+may_split P S p x b h has many =
+    let other = h.others p x many in
+    (idle_as_said P (has_domain S) p x).1 (has, (other.0, omega (arith, (h.known p other.0 other.2).1, b.shifts), other.1, other.2))
+
+pub split_of_many : (P : Instance) (S : Store) (p x n : ℕ) → HasDomains S → n ≡ length (domain_at S p) → 1 ≤ n → is_idle P (has_domain S) p x ≡ false → 2 ≤ n
+split_of_many P S p x n h is some idle =
+    elim (cases_lt n 2) [
+      | inl less ↦
+          let one : length (domain_at S p) ≡ 1 = omega (arith, is, some, less) in
+          let both = (idle_as_said P (has_domain S) p x).0 idle in
+          absurd (both.1.2 (h.alone p both.1.0 x one both.1.3 both.0))
+      | inr more ↦ more
+    ]
+
+-- a day leaf by its way
+overrun_holds : (P : Instance) (D : Domains) (j : ℕ) (x : Symbol) (over : Bool) → IsOverrun P D j x.number over → Holds P D (Day j x over)
+overrun_holds P D j x true h = h
+overrun_holds P D j x false h = h
+
+holds_overrun : (P : Instance) (D : Domains) (j : ℕ) (x : Symbol) (over : Bool) → Holds P D (Day j x over) → IsOverrun P D j x.number over
+holds_overrun P D j x true h = h
+holds_overrun P D j x false h = h
+
+pub day_stands : (P : Instance) (D : Domains) (line : Line) (j : ℕ) (x : Symbol) (over b : Bool) → line ≡ Day j x over → (IsTrue b ↔ IsOverrun P D j x.number over) → IsTrue b ↔ StandsPlainly P D line
+day_stands P D line j x over b is test =
+    subst (λ (l : Line). IsTrue b ↔ StandsPlainly P D l) (sym is) (λ t. overrun_holds P D j x over (test.0 t), λ h. test.1 (holds_overrun P D j x over h))

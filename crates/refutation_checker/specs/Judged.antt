@@ -1,0 +1,49 @@
+-- What can be judged of a line without searching for a word.
+use Rattle.std.specs.Prelude.{◌≡◌, ℕ, List, true}
+use Rattle.rwsp_terms.specs.declared.data.Rule.{Rule}
+use Rattle.rwsp_terms.specs.Instance.{Instance}
+use Rattle.rwsp_terms.specs.Rules.{Names}
+use Rattle.refutation_terms.specs.declared.lines.Line.{Line}
+use Rattle.refutation_terms.specs.declared.lines.Line.TheVariants.{Split, Dead, Bound, Unfinished}
+use Rattle.refutation_terms.specs.declared.lines.LogRefusal.{LogRefusal}
+use Rattle.refutation_terms.specs.declared.lines.LogRefusal.TheVariants as Refusals
+use Rattle.refutation_terms.specs.Word.{Domains}
+use Rattle.refutation_terms.specs.Tree.{is_idle}
+use Rattle.refutation_terms.specs.Log.{Cites, Holds, ListsShortOnly}
+use Rattle.refutation_terms.specs.Verdict.{IsLeast, IsUnnamed, ListsLong, IsPlainLeaf}
+
+-- a split that isn't idle, or a window or a day leaf that holds. Nothing is said of dead and bound leaves
+abbrev pub StandsPlainly : Instance → Domains → Line → Type 0
+StandsPlainly P D (Dead p len R) = Unit {0}
+StandsPlainly P D (Bound p turns R y) = Unit {0}
+StandsPlainly P D line = Holds P D line
+
+-- the list names each rule that the line cites
+abbrev pub NamesCited : Instance → List ℕ → Line → Type 0
+NamesCited P named line = (r : Rule) → Cites P line r → Names P named r
+
+-- the line has no cause but a word that escapes it
+pub record IsPlainlySound (P : Instance) (named : List ℕ) (D : Domains) (line : Line) : Type 0 where
+  pub named_all : NamesCited P named line
+  pub short : ListsShortOnly P line
+  pub stands : StandsPlainly P D line
+
+-- an idle split
+abbrev pub IsIdleSplit : Instance → Domains → Line → Type 0
+IsIdleSplit P D (Split p x) = is_idle P D p x.number ≡ true
+IsIdleSplit P D line = ⊥
+
+-- the lowest cause to refuse the line as text line n
+abbrev pub PlainCause : Instance → List ℕ → Domains → ℕ → Line → LogRefusal → Type 0
+PlainCause P named D n line (Refusals.Unnamed i k) = (i ≡ n) × IsLeast (IsUnnamed P named (Cites P line)) k
+PlainCause P named D n line (Refusals.Idle i) = (i ≡ n) × IsIdleSplit P D line
+PlainCause P named D n line (Refusals.Long i k) = (i ≡ n) × NamesCited P named line × IsLeast (ListsLong P line) k
+PlainCause P named D n line (Refusals.Fails i) = (i ≡ n) × NamesCited P named line × IsPlainLeaf line × (Holds P D line → ⊥)
+PlainCause P named D n line (Refusals.Unfinished i) = (i ≡ n) × (line ≡ Unfinished)
+PlainCause P named D n line why = ⊥
+
+-- which cause a line of its kind has where it doesn't stand
+abbrev pub IsPlainFailure : ℕ → Line → LogRefusal → Type 0
+IsPlainFailure n (Split p x) why = why ≡ Refusals.Idle n
+IsPlainFailure n Unfinished why = why ≡ Refusals.Unfinished n
+IsPlainFailure n line why = why ≡ Refusals.Fails n
