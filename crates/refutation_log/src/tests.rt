@@ -58,6 +58,11 @@ fn six_cells(alloc: Global) -> Result<Parts, AllocError> {
     one_shift(alloc, 1, 6, 3, from_to(2, 2), from_to(2, 2), from_to(2, 2))
 }
 
+// Three D in five cells.
+fn five_cells(alloc: Global) -> Result<Parts, AllocError> {
+    one_shift(alloc, 1, 5, 3, from_to(2, 2), from_to(1, 2), from_to(2, 2))
+}
+
 fn one_cell(alloc: Global) -> Result<Parts, AllocError> {
     one_shift(alloc, 1, 1, 1, from_to(1, 7), from_to(1, 1), from_to(1, 7))
 }
@@ -131,6 +136,14 @@ fn texts_come_back(rt: HostRuntime) -> Result<(), Fail> {
             alloc,
             &six,
             b"rwsp-log 2\nrules 1 2 3 4 7\nturn D 1\ndead 1 1 7 rules 1 2 3 4\n"
+        )?
+    );
+    let five = Problem::of(five_cells(alloc)?)?;
+    assert!(rt;
+        comes_back(
+            alloc,
+            &five,
+            b"rwsp-log 2\nrules 7\nturn D 1\nsplit 2 1 D\nopen\nopen\n"
         )?
     );
     let one = Problem::of(one_cell(alloc)?)?;
