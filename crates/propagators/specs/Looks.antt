@@ -1,0 +1,47 @@
+-- What a propagator says of domains.
+use Rattle.std.specs.Prelude.{◌≡◌, ◌≢◌, ℕ, ◌<◌, false, IsTrue}
+use Rattle.rwsp_terms.specs.declared.data.Symbol.{Symbol}
+use Rattle.rwsp_terms.specs.Instance.{Instance, cells}
+use Rattle.refutation_terms.specs.declared.lines.Line.{Line}
+use Rattle.refutation_terms.specs.declared.lines.Line.TheVariants.{Split}
+use Rattle.refutation_terms.specs.Tree.{IsLeaf, First, narrowed, is_idle}
+use Rattle.refutation_terms.specs.Log.{Holds, LineFits, ListsShortOnly}
+use Rattle.domain_store.specs.Store.{Store, HasSameShape, domain_at, has_domain}
+use Rattle.propagators.specs.declared.look.Look.{Look}
+use Rattle.propagators.specs.declared.look.Look.TheVariants.{Quiet, Closed, Cut}
+
+-- some leaf of these holds under the domains: they are closed
+abbrev pub Closes : Instance → (Line → Type 0) → Store → Type 0
+Closes P leaves S = (line : Line) × leaves line × Holds P (has_domain S) line
+
+-- a leaf with its numbers in their ranges, and with short rules only in its list
+pub record IsLeafOf (P : Instance) (line : Line) : Type 0 where
+  pub leaf : IsLeaf line
+  pub fits : LineFits P line
+  pub short : ListsShortOnly P line
+
+-- one of the leaves, and it holds
+pub record IsClosing (P : Instance) (leaves : Line → Type 0) (S : Store) (line : Line) : Type 0 where
+  pub is_leaf : IsLeafOf P line
+  pub among : leaves line
+  pub holds : Holds P (has_domain S) line
+
+-- a spent symbol, which is in the domain of its position beside another, and a leaf that holds once it is alone there
+pub record IsCut (P : Instance) (spent : ℕ → Symbol → Type 0) (S : Store) (p : ℕ) (x : Symbol) (line : Line) : Type 0 where
+  pub is_spent : spent p x
+  pub position : p < cells P
+  pub useful : is_idle P (has_domain S) p x.number ≡ false
+  pub is_leaf : IsLeafOf P line
+  pub holds : Holds P (narrowed (has_domain S) (Split p x) First) line
+
+-- closed exactly where a leaf holds; a cut exactly where none does and a symbol is spent; quiet where there is neither
+abbrev pub IsLook : Instance → (Line → Type 0) → (ℕ → Symbol → Type 0) → Store → Look → Type 0
+IsLook P leaves spent S Quiet = (Closes P leaves S → ⊥) × ((p : ℕ) (x : Symbol) → spent p x → ⊥)
+IsLook P leaves spent S (Closed line) = IsClosing P leaves S line
+IsLook P leaves spent S (Cut p x line) = (Closes P leaves S → ⊥) × IsCut P spent S p x line
+
+-- the domains differ at one position at most, and there some symbols of the domain before are left
+pub record IsNarrowedAt (before now : Store) (p : ℕ) : Type 0 where
+  pub shape : HasSameShape before now
+  pub others : (q : ℕ) → q ≢ p → domain_at now q ≡ domain_at before q
+  pub fewer : (x : ℕ) → IsTrue (has_domain now p x) → IsTrue (has_domain before p x)

@@ -1,0 +1,40 @@
+-- What a search finds.
+use Rattle.std.specs.Prelude.{◌≡◌, ℕ, ◌<◌, ◌≤◌, length, slice_get, Option, Some, IsTrue}
+use Rattle.rwsp_terms.specs.declared.data.Symbol.{Symbol}
+use Rattle.rwsp_terms.specs.Instance.{Instance, cells}
+use Rattle.rwsp_terms.specs.Roster.{MeetsAll}
+use Rattle.refutation_terms.specs.declared.lines.Line.{Line}
+use Rattle.refutation_terms.specs.declared.lines.Line.TheVariants.{Split}
+use Rattle.refutation_terms.specs.declared.lines.Turn.{Turn}
+use Rattle.refutation_terms.specs.Word.{Domains}
+use Rattle.refutation_terms.specs.Tree.{domains_at}
+use Rattle.refutation_terms.specs.Log.{Log, Passes, IsSpent, NamesOnlyCited, size}
+use Rattle.domain_store.specs.Store.{Store, BelongsTo, has_domain}
+use Rattle.propagators.specs.Looks.{Closes}
+use Rattle.roster_search.specs.declared.found.Found.{Found}
+use Rattle.roster_search.specs.declared.found.Found.TheVariants.{Roster, NoRoster, Undecided}
+
+-- the propagator didn't close the domains at a split, and where a symbol was spent for it the split is of a spent symbol at its position
+pub record IsForced (P : Instance) (leaves : Store → Line → Type 0) (spent : Store → ℕ → Symbol → Type 0) (D : Domains) (p : ℕ) (x : Symbol) : Type 0 where
+  pub store : Store
+  pub belongs : BelongsTo P store
+  pub agrees : (q z : ℕ) → q < cells P → has_domain store q z ≡ D q z
+  pub not_closed : Closes P (leaves store) store → ⊥
+  pub forced : (q : ℕ) (z : Symbol) → spent store q z → spent store p x
+
+-- a log with this turn that names what it cites and no more, and splits as the propagator says
+pub record IsSearchLog (P : Instance) (turn : Option Turn) (leaves : Store → Line → Type 0) (spent : Store → ℕ → Symbol → Type 0) (g : Log) : Type 0 where
+  pub same_turn : g.turn ≡ turn
+  pub cited : NamesOnlyCited P g
+  pub splits : (k p : ℕ) (x : Symbol) → slice_get g.lines k ≡ Some (Split p x) → IsForced P leaves spent (domains_at P turn g.lines k) p x
+
+-- a roster that meets every rule; or a log that passes, of at most the budget's size; or one that has spent the budget
+abbrev pub IsFound : Instance → Option Turn → ℕ → (Store → Line → Type 0) → (Store → ℕ → Symbol → Type 0) → Found → Type 0
+IsFound P turn budget leaves spent (Roster s) = (s.days ≡ P.days) × MeetsAll P s.cells
+IsFound P turn budget leaves spent (NoRoster g) = Passes P g × (size g ≤ budget) × IsSearchLog P turn leaves spent g
+IsFound P turn budget leaves spent (Undecided g) = IsSpent P g budget × IsSearchLog P turn leaves spent g
+
+-- the budget was spent
+abbrev pub IsUndecided : Found → Type 0
+IsUndecided (Undecided g) = Unit {0}
+IsUndecided found = ⊥

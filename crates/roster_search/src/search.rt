@@ -1,0 +1,40 @@
+// The search.
+ghost use Rattle.std.specs.Prelude.{ℕ, ◌+◌, ◌*◌, ◌^◌, ◌<◌, ◌≤◌, ◌↔◌, Bool, IfOk};
+ghost use Rattle.rwsp_terms.specs.declared.data.Symbol.{Symbol};
+ghost use Rattle.rwsp_terms.specs.Instance.{Instance, cells, shift_count};
+ghost use Rattle.refutation_terms.specs.declared.lines.Line.{Line};
+ghost use Rattle.refutation_terms.specs.declared.lines.Line.TheVariants.{Window, Day};
+ghost use Rattle.refutation_terms.specs.Log.{LineFits, TurnFits, IsAllowed};
+ghost use Rattle.domain_store.specs.Store.{Store};
+ghost use Rattle.roster_search.specs.Founds.{IsFound, IsUndecided};
+
+use crate::Found;
+use propagators::Propagator;
+use refutation_terms::Turn;
+use rwsp_model::Problem;
+use std::alloc::{AllocError, Global};
+
+/// Looks for a roster by splitting cases, and writes the cases down as the lines of a log, of at most `budget` splits and leaves
+/// that hold. With a turn, its symbol is alone on its day of the first week.
+///
+/// The leaves of the propagator include all window and day leaves.
+pub fn search<A: Propagator>(
+    alloc: Global,
+    problem: &Problem,
+    turn: Option<Turn>,
+    prop: &mut A,
+    budget: u32,
+) -> Result<Found, AllocError>
+    requires budget { (1 ≤ budget) × (budget ≤ 200000) }
+    requires turn { TurnFits problem.now turn × IsAllowed problem.now turn }
+    requires serves { A.serves prop.old problem.now }
+    requires windows { (S : Store) (number p len : ℕ) → LineFits problem.now (Window number p len) → A.leaves prop.old S (Window number p len) }
+    requires days { (S : Store) (j : ℕ) (x : Symbol) (over : Bool) → LineFits problem.now (Day j x over) → A.leaves prop.old S (Day j x over) }
+    ensures found { IfOk result (λ found. IsFound problem.now turn budget (A.leaves prop.old) (A.spent prop.old) found) }
+    ensures complete { IfOk result (λ found. IsUndecided found → budget + 1 < 2 * (shift_count problem.now + 1) ^ cells problem.now) }
+    ensures serves { (P : Instance) → A.serves prop.old P ↔ A.serves prop.new P }
+    ensures leaves { (S : Store) (line : Line) → A.leaves prop.old S line ↔ A.leaves prop.new S line }
+    ensures spent { (S : Store) (p : ℕ) (x : Symbol) → A.spent prop.old S p x ↔ A.spent prop.new S p x }
+{
+    Err(AllocError)
+}
