@@ -1,8 +1,8 @@
 //! A search for a roster that writes down its cases: a roster, or the log of a refutation.
 #![tactic(auto)]
 
+mod case_search;
 mod found;
-mod search;
 
+pub use case_search::search;
 pub use found::Found;
-pub use search::search;

@@ -1,0 +1,31 @@
+-- The lines of a log, judged one after the other.
+use Rattle.std.specs.Prelude.{◌≡◌, ℕ, List, [], ◌∷◌, ◌++◌, length, Option}
+use Rattle.rwsp_terms.specs.declared.data.Rule.{Rule}
+use Rattle.rwsp_terms.specs.Instance.{Instance}
+use Rattle.rwsp_terms.specs.Rules.{Names}
+use Rattle.refutation_terms.specs.declared.lines.Line.{Line}
+use Rattle.refutation_terms.specs.declared.lines.Turn.{Turn}
+use Rattle.refutation_terms.specs.Tree.{IsTree, domains_at}
+use Rattle.refutation_terms.specs.Log.{Cites, Holds, LineFits, ListsShortOnly}
+use Rattle.refutation_terms.specs.LogText.{raw, line_text}
+use Rattle.tree_walk.specs.States.{State, IsStateOf}
+
+-- the problem of a judge, and the rules that the header names
+pub record Judging : Type 0 where
+  pub problem : Instance
+  pub named : List ℕ
+
+-- the line behind these is refused for no cause
+pub record IsSoundNext (P : Instance) (named : List ℕ) (turn : Option Turn) (lines : List Line) (line : Line) : Type 0 where
+  pub in_tree : IsTree lines → ⊥
+  pub fits : LineFits P line
+  pub holds : Holds P (domains_at P turn lines (length lines)) line
+  pub named_all : (r : Rule) → Cites P line r → Names P named r
+  pub short : ListsShortOnly P line
+
+-- the bytes are the text of such a line, and the walk has read it
+pub record IsLineRead (P : Instance) (named : List ℕ) (turn : Option Turn) (lines : List Line) (bytes : List ℕ) (w : State) : Type 0 where
+  pub line : Line
+  pub spelled : bytes ≡ line_text P (raw P line)
+  pub sound : IsSoundNext P named turn lines line
+  pub walked : IsStateOf P turn (lines ++ line ∷ []) w
