@@ -4,6 +4,7 @@
 mod first;
 mod heavy;
 mod plain;
+mod search;
 mod sums;
 
 pub use first::{Gate, NoGate, first_plain};
@@ -11,4 +12,5 @@ pub use heavy::{heaviest, heaviest_in, holds_at_top};
 pub use layered_cycle::HeavyWord;
 pub use plain::plain_bounds;
 pub use rwsp_model::Weights;
+pub use search::search_weights;
 pub use sums::total;
