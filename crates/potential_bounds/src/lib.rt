@@ -6,6 +6,8 @@ mod heavy;
 mod plain;
 mod search;
 mod sums;
+#[cfg(test)]
+mod tests;
 
 pub use first::{Gate, NoGate, first_plain};
 pub use heavy::{heaviest, heaviest_in, holds_at_top};
