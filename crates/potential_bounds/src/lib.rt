@@ -1,4 +1,4 @@
-//! Bounds by weights: what rosters weigh at least, and the heaviest clean words.
+//! Bounds by weights: what rosters weigh at least, the heaviest clean words, and the search for a bound that holds.
 #![tactic(auto)]
 
 mod first;
