@@ -1,3 +1,4 @@
 pub mod Days
 pub mod Heaviest
 pub mod First
+pub mod Searched

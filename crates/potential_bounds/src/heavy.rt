@@ -1,5 +1,5 @@
 // The heaviest clean words over domains.
-ghost use Rattle.std.specs.Prelude.{◌≡◌, ℕ, ◌+◌, ◌*◌, ◌%◌, ◌<◌, ◌≤◌, ◌↔◌, IfOk, IsTrue};
+ghost use Rattle.std.specs.Prelude.{◌≡◌, ℕ, ◌+◌, ◌*◌, ◌%◌, ◌<◌, ◌≤◌, ◌↔◌, Some, IfOk, IsTrue};
 ghost use Rattle.rwsp_terms.specs.Instance.{cells};
 ghost use Rattle.rwsp_terms.specs.Weights.{weight_at};
 ghost use Rattle.refutation_terms.specs.Sharp.{HoldsAtTop};
@@ -59,9 +59,18 @@ pub fn holds_at_top(alloc: Global, layers: &Layers, weights: &Weights) -> Result
     ensures { IfOk result (λ holds. IsTrue holds ↔ HoldsAtTop layers.now.problem (has_domain layers.now.store) layers.now.rules weights.now) }
 {
     match heaviest_in(alloc, layers, weights)? {
-        Some(heavy) => Ok(heavy.weight < total(layers.problem(), weights)),
+        Some(heavy) => Ok(is_light(layers, weights, &heavy)),
         None => Ok(true),
     }
+}
+
+/// The same by the heaviest word of the layers.
+pub fn is_light(layers: &Layers, weights: &Weights, heavy: &HeavyWord) -> bool
+    requires turn { IsOneTurn layers.now }
+    requires heavy { IsHeaviestFound layers.now.problem (has_domain layers.now.store) layers.now.position layers.now.len layers.now.rules weights.now (Some heavy.now) }
+    ensures { IsTrue result ↔ HoldsAtTop layers.now.problem (has_domain layers.now.store) layers.now.rules weights.now }
+{
+    heavy.weight < total(layers.problem(), weights)
 }
 
 // What the symbols of a word weigh that begins at a position.

@@ -1,0 +1,105 @@
+-- The weights of a round are one, and the search goes on from round to round.
+use Rattle.std.proofs.Common.{◌≡◌, ℕ, zero, suc, ◌+◌, List, [], ◌∷◌, refl, ap, sym, ◌∙◌, subst, arith, inl, inr, ⊎_elim, below_more, Option, Some, Bool, false}
+use Rattle.std.specs.Prelude.{◌↔◌, IsTrue}
+use Rattle.std.proofs.lemmas.Int.{ints}
+use Rattle.rwsp_terms.specs.declared.data.Symbol.{Symbol}
+use Rattle.rwsp_terms.specs.declared.data.Weight.{Weight}
+use Rattle.rwsp_terms.specs.Instance.{Instance, cells}
+use Rattle.rwsp_terms.specs.Weights.{weight_at}
+use Rattle.rwsp_terms.proofs.SameLists.{same_weights}
+use Rattle.refutation_terms.specs.Word.{Domains}
+use Rattle.refutation_terms.specs.Escape.{ComesFirst, IsLeastHeaviest}
+use Rattle.refutation_terms.specs.Sharp.{step, IsNext, IsSearched, HoldsAtTop}
+use Rattle.domain_store.specs.Store.{has_domain}
+use Rattle.layered_cycle.specs.declared.best.HeavyWord.{HeavyWord}
+use Rattle.layered_cycle.specs.WordGraph.{WordGraph}
+use Rattle.potential_bounds.specs.Heaviest.{IsHeaviestFound, IsOneTurn}
+use Rattle.potential_bounds.specs.Searched.{NoneHolds, IsFollowing, AreWithin, AreStepped}
+use Rattle.potential_bounds.proofs.Stepping.{IsInside, inside_or_not, zero_outside, stepped_within}
+
+-- of two words that both come first each is the other
+first_same : (u v : List Symbol) → ComesFirst u v → ComesFirst v u → u ≡ v
+first_same [] [] a b = refl
+first_same [] (y ∷ v) a b = absurd b
+first_same (x ∷ u) [] a b = absurd a
+first_same (x ∷ u) (y ∷ v) (inl a) (inl b) = absurd (omega (arith, a, b))
+first_same (x ∷ u) (y ∷ v) (inl a) (inr b) = let e : y.number ≡ x.number = ap (λ (z : Symbol). z.number) b.0 in absurd (omega (arith, a, e))
+first_same (x ∷ u) (y ∷ v) (inr a) (inl b) = let e : x.number ≡ y.number = ap (λ (z : Symbol). z.number) a.0 in absurd (omega (arith, b, e))
+first_same (x ∷ u) (y ∷ v) (inr a) (inr b) = ap (λ (z : Symbol). z ∷ u) a.0 ∙ ap (λ w. y ∷ w) (first_same u v a.1 b.1)
+
+next_same : (P : Instance) (D : Domains) (R : List ℕ) (y a b : List Weight) → IsNext P D R y a → IsNext P D R y b → a ≡ b
+next_same P D R y a b h k = same_weights a b h.are_weights.0 k.are_weights.0 same
+  where
+    word : h.word ≡ k.word
+    word = first_same h.word k.word (h.is_heaviest.least k.word k.is_heaviest.heavy) (k.is_heaviest.least h.word h.is_heaviest.heavy)
+
+    same : (j x : ℕ) → weight_at a j x ≡ weight_at b j x
+    same j x =
+        ⊎_elim (λ (inside : IsInside P j x). h.values j x inside.0 inside.1 ∙ ap (λ w. step P y w j x) word ∙ sym (k.values j x inside.0 inside.1))
+        (λ (outside : IsInside P j x → ⊥). zero_outside P a h.are_weights j x outside ∙ sym (zero_outside P b k.are_weights j x outside))
+        (inside_or_not P j x)
+
+searched_same : (P : Instance) (D : Domains) (R : List ℕ) (k : ℕ) (y z : List Weight) → IsSearched P D R k y → IsSearched P D R k z → y ≡ z
+searched_same P D R zero y z h i = h ∙ sym i
+searched_same P D R (suc k) y z h i =
+    let before : h.0 ≡ i.0 = searched_same P D R k h.0 i.0 h.1 i.1 in
+    let Q : List Weight → Type 0 = λ w. IsNext P D R w y in
+    next_same P D R i.0 y z (subst Q before h.2) i.2
+
+-- the search has come to the weights of a round, and no bound before held
+pub record IsReached (P : Instance) (D : Domains) (R : List ℕ) (k : ℕ) (y : List Weight) : Type 0 where
+  pub searched : IsSearched P D R k y
+  pub within : AreWithin k y
+  pub none : NoneHolds P D R k
+
+pub reached_start : (P : Instance) (D : Domains) (R : List ℕ) (y : List Weight) → y ≡ [] → IsReached P D R 0 y
+reached_start P D R y is =
+    let Q : List Weight → Type 0 = AreWithin 0 in
+    record {
+      searched = is;
+      within = subst Q (sym is) (λ j x. (omega (arith, ints), omega (arith, ints)));
+      none = λ k z lt. absurd (omega (arith, lt));
+    }
+
+next_within : (P : Instance) (D : Domains) (R : List ℕ) (n : ℕ) (y next : List Weight) → AreWithin n y → IsNext P D R y next → AreWithin (n + 1) next
+next_within P D R n y next h is = stepped_within P y next is.word n h (record { are_weights = is.are_weights; values = is.values })
+
+pub reached_more : (P : Instance) (D : Domains) (R : List ℕ) (k : ℕ) (y next : List Weight) → IsReached P D R k y → IsFollowing P D R y (Some next) → IsReached P D R (k + 1) next
+reached_more P D R k y next h is =
+    let more : suc k ≡ k + 1 = omega arith in
+    let S : ℕ → Type 0 = λ n. IsSearched P D R n next in
+    let here : (z : List Weight) → IsSearched P D R k z → HoldsAtTop P D R z → ⊥ = λ z searched holds.
+    let H : List Weight → Type 0 = HoldsAtTop P D R in
+    is.0 (subst H (searched_same P D R k z y searched h.searched) holds) in
+    record {
+      searched = subst S more (y, h.searched, is.1);
+      within = next_within P D R k y next h.within is.1;
+      none = λ i z lt. below_more (λ n. (w : List Weight) → IsSearched P D R n w → HoldsAtTop P D R w → ⊥) k (λ n less w. h.none n w less) here i lt z;
+    }
+
+-- the weights a step on by the least of the heaviest words follow, where the bound doesn't hold
+pub followed : (g : WordGraph) (y : List Weight) (found : Option HeavyWord) (h : HeavyWord) (P : Instance) (word : List Symbol) (light : Bool) (next : List Weight) → IsOneTurn g → IsHeaviestFound g.problem (has_domain g.store) g.position g.len g.rules y found → found ≡ Some h → IsTrue light ↔ HoldsAtTop g.problem (has_domain g.store) g.rules y → light ≡ false → P ≡ g.problem → word ≡ h.word → AreStepped P y word next → IsFollowing g.problem (has_domain g.store) g.rules y (Some next)
+followed g y found h P word light next turn is some test fails same letters stepped = (never, record { word = h.word; is_heaviest = heaviest; are_weights = here.are_weights; values = here.values })
+  where
+    never : HoldsAtTop g.problem (has_domain g.store) g.rules y → ⊥
+    never holds =
+        let T : Bool → Type 0 = IsTrue in
+        let none : IsTrue false = subst T fails (test.1 holds) in
+        false_never none
+      where
+        false_never : IsTrue false → ⊥
+        false_never t = cc
+
+    heaviest : IsLeastHeaviest g.problem (has_domain g.store) 0 (cells g.problem) g.rules y h.word
+    heaviest =
+        let F : Option HeavyWord → Type 0 = IsHeaviestFound g.problem (has_domain g.store) g.position g.len g.rules y in
+        let best : F (Some h) = subst F some is in
+        let S : ℕ → Type 0 = λ p. IsLeastHeaviest g.problem (has_domain g.store) p g.len g.rules y h.word in
+        let L : ℕ → Type 0 = λ len. IsLeastHeaviest g.problem (has_domain g.store) 0 len g.rules y h.word in
+        subst L turn.1 (subst S turn.0 best.0)
+
+    here : AreStepped g.problem y h.word next
+    here =
+        let A : Instance → Type 0 = λ Q. AreStepped Q y word next in
+        let B : List Symbol → Type 0 = λ w. AreStepped g.problem y w next in
+        subst B letters (subst A same stepped)

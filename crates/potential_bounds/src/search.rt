@@ -1,0 +1,175 @@
+// The search for weights whose bound holds.
+ghost use Rattle.std.specs.Prelude.{◌≡◌, ℕ, ◌+◌, ◌-◌, ◌*◌, ◌<◌, ◌≤◌, ◌==◌, ◌≤ℤ◌, pos, neg_ℤ, length, count_by, slice_index_or, IfOk, OnOk};
+ghost use Rattle.std.specs.List.{range_with_len};
+ghost use Rattle.rwsp_terms.specs.Instance.{cells, IsDay, IsSymbol};
+ghost use Rattle.rwsp_terms.specs.Window.{off_symbol};
+ghost use Rattle.rwsp_terms.specs.Roster.{weeks_with};
+ghost use Rattle.rwsp_terms.specs.Weights.{weight_at};
+ghost use Rattle.refutation_terms.specs.Sharp.{step};
+ghost use Rattle.domain_store.specs.Store.{has_domain, BelongsTo};
+ghost use Rattle.potential_bounds.specs.Heaviest.{IsOneTurn};
+ghost use Rattle.potential_bounds.specs.Searched.{IsFirstSearched, IsFollowing, AreWithin, AreStepped, AreSteppedOn};
+
+use crate::first::one_turn;
+use crate::heavy::{heaviest_in, is_light};
+use domain_store::Domains;
+use layered_cycle::Layers;
+use rwsp_model::{Problem, Weights};
+use rwsp_terms::Symbol;
+use std::alloc::{AllocError, Global};
+use word_tail::TailRules;
+
+/// The first of the weights of so many rounds whose bound of one turn from position 0 holds with the rules of the tails;
+/// None exactly where none of these bounds holds.
+///
+/// The weights of the first round are 0 everywhere. Those of the next follow from the least of the heaviest clean words:
+/// where it has a symbol on a day in more weeks than are demanded at most, the weight goes down by one, and where in
+/// fewer than are demanded at least, up by one.
+pub fn search_weights(
+    alloc: Global,
+    problem: &Problem,
+    tails: &TailRules,
+    doms: &Domains,
+    rounds: u32,
+) -> Result<Option<Weights>, AllocError>
+    requires same { tails.now.problem ≡ problem.now }
+    requires belongs { BelongsTo problem.now doms.now }
+    requires few { rounds ≤ 1000 }
+    ensures { IfOk result (λ found. IsFirstSearched problem.now (has_domain doms.now) tails.now.rules rounds found) }
+{
+    let layers = one_turn(alloc, problem, tails, doms)?;
+    search_in(alloc, &layers, rounds)
+}
+
+// The same by the words of layers.
+fn search_in(alloc: Global, layers: &Layers, rounds: u32) -> Result<Option<Weights>, AllocError>
+    requires turn { IsOneTurn layers.now }
+    requires few { rounds ≤ 1000 }
+    ensures { IfOk result (λ found. IsFirstSearched layers.now.problem (has_domain layers.now.store) layers.now.rules rounds found) }
+{
+    let mut weights = Weights::new(alloc);
+    for round in 0..rounds {
+        match following(alloc, layers, &weights)? {
+            Some(next) => weights = next,
+            None => return Ok(Some(weights)),
+        }
+    }
+    Ok(None)
+}
+
+// The weights that follow where the bound of these doesn't hold; None exactly where it holds.
+fn following(
+    alloc: Global,
+    layers: &Layers,
+    weights: &Weights,
+) -> Result<Option<Weights>, AllocError>
+    requires turn { IsOneTurn layers.now }
+    requires within { AreWithin 999 weights.now }
+    ensures { IfOk result (λ next. IsFollowing layers.now.problem (has_domain layers.now.store) layers.now.rules weights.now next) }
+{
+    let Some(heavy) = heaviest_in(alloc, layers, weights)? else {
+        return Ok(None);
+    };
+    if is_light(layers, weights, &heavy) {
+        return Ok(None);
+    }
+    let next = next_weights(alloc, layers.problem(), weights, heavy.word.symbols())?;
+    Ok(Some(next))
+}
+
+// All weights one step on, by a word of one turn.
+fn next_weights(
+    alloc: Global,
+    problem: &Problem,
+    weights: &Weights,
+    word: &[Symbol],
+) -> Result<Weights, AllocError>
+    requires word { length word.now ≡ cells problem.now }
+    requires within { AreWithin 999 weights.now }
+    ensures { IfOk result (λ next. AreStepped problem.now weights.now word.now next) }
+{
+    let mut next = Weights::new(alloc);
+    for i in 0..problem.days() {
+        put_day(&mut next, problem, weights, word, i + 1)?;
+    }
+    next.entries();
+    Ok(next)
+}
+
+// The weights of one day one step on.
+fn put_day(
+    next: &mut Weights,
+    problem: &Problem,
+    weights: &Weights,
+    word: &[Symbol],
+    day: u32,
+) -> Result<(), AllocError>
+    requires word { length word.now ≡ cells problem.now }
+    requires within { AreWithin 999 weights.now }
+    requires day { IsDay problem.now day }
+    ensures { OnOk result (AreSteppedOn problem.now weights.now word.now day next.old next.new) }
+{
+    for number in 0..problem.shifts() + 1 {
+        let x = Symbol { number };
+        next.put(day, x, step(problem, weights, word, day, x))?;
+    }
+    Ok(())
+}
+
+// A weight one step on.
+fn step(problem: &Problem, weights: &Weights, word: &[Symbol], day: u32, x: Symbol) -> i32
+    requires word { length word.now ≡ cells problem.now }
+    requires within { AreWithin 999 weights.now }
+    requires day { IsDay problem.now day }
+    requires symbol { IsSymbol problem.now x }
+    ensures value { result ≡ step problem.now weights.now word.now day x.number }
+    ensures above { neg_ℤ (pos 1000) ≤ℤ result }
+    ensures below { result ≤ℤ pos 1000 }
+{
+    let weeks = weeks_with(problem, word, day, x) as i32;
+    let weight = weights.at(day, x);
+    if problem.demand_greatest(x, day) < weeks {
+        weight - 1
+    } else if weeks < problem.demand_least(x, day) {
+        weight + 1
+    } else {
+        weight
+    }
+}
+
+// How many weeks of a word of one turn hold the symbol on the day.
+fn weeks_with(problem: &Problem, word: &[Symbol], day: u32, x: Symbol) -> u32
+    requires word { length word.now ≡ cells problem.now }
+    requires day { IsDay problem.now day }
+    ensures value { result ≡ weeks_with problem.now word.now x.number day }
+    ensures few { result ≤ 600 }
+{
+    count_weeks(word, problem.days(), problem.weeks(), day, x)
+}
+
+#[tactic(auto, using(crate::proofs::Counting::count_then, crate::proofs::Counting::count_else))]
+fn count_weeks(word: &[Symbol], days: u32, weeks: u32, day: u32, x: Symbol) -> u32
+    requires few { (days ≤ 28) × (weeks ≤ 600) }
+    requires word { length word.now ≡ weeks * days }
+    requires day { (0 < day) × (day ≤ days) }
+    ensures value { result ≡ count_by (λ i. (slice_index_or word.now (i * days + (day - 1)) off_symbol).number == x.number) (range_with_len 0 weeks) }
+    ensures few { result ≤ 600 }
+{
+    let mut count = 0;
+    for week in 0..weeks {
+        if holds(word, days, week, day, x) {
+            count += 1;
+        }
+    }
+    count
+}
+
+// Whether the week holds the symbol on the day. Weeks count from 0.
+fn holds(word: &[Symbol], days: u32, week: u32, day: u32, x: Symbol) -> bool
+    requires few { (days ≤ 28) × (week < 600) }
+    requires day { (0 < day) × (day ≤ days) }
+    requires within { week * days + (day - 1) < length word.now }
+    ensures { result ≡ ((slice_index_or word.now (week * days + (day - 1)) off_symbol).number == x.number) }
+{
+    word[(week * days + (day - 1)) as usize].number == x.number
+}
