@@ -1,2 +1,5 @@
 pub mod Lists
 pub mod Lines
+pub mod Bounds
+pub mod SameDomains
+pub mod Judging
