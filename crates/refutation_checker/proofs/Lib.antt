@@ -3,3 +3,4 @@ pub mod Lines
 pub mod Bounds
 pub mod SameDomains
 pub mod Judging
+pub mod Passing

@@ -4,14 +4,16 @@
 mod bound;
 mod judge;
 mod kept_tails;
+mod log_check;
 mod long;
 mod named;
 mod plain;
 mod verdict;
 
 pub use judge::Judge;
+pub use log_check::check_log;
 pub use long::long_rule;
 pub use named::unnamed;
 pub use plain::plain_refusal;
 pub use potential_bounds::{Gate, NoGate};
-pub use verdict::{check, check_log, check_with};
+pub use verdict::{check, check_with};
