@@ -1,16 +1,20 @@
 -- What can be judged of a line without searching for a word.
-use Rattle.std.specs.Prelude.{◌≡◌, ℕ, List, true}
+use Rattle.std.specs.Prelude.{◌≡◌, ℕ, ◌*◌, List, true, pos, ◌*ℤ◌, ◌≤ℤ◌}
 use Rattle.rwsp_terms.specs.declared.data.Rule.{Rule}
-use Rattle.rwsp_terms.specs.Instance.{Instance}
+use Rattle.rwsp_terms.specs.declared.data.Symbol.{Symbol}
+use Rattle.rwsp_terms.specs.declared.data.Weight.{Weight}
+use Rattle.rwsp_terms.specs.Instance.{Instance, cells}
 use Rattle.rwsp_terms.specs.Rules.{Names}
 use Rattle.refutation_terms.specs.declared.lines.Line.{Line}
 use Rattle.refutation_terms.specs.declared.lines.Line.TheVariants.{Split, Dead, Bound, Unfinished}
 use Rattle.refutation_terms.specs.declared.lines.LogRefusal.{LogRefusal}
 use Rattle.refutation_terms.specs.declared.lines.LogRefusal.TheVariants as Refusals
-use Rattle.refutation_terms.specs.Word.{Domains}
+use Rattle.refutation_terms.specs.Word.{Domains, weight, total}
+use Rattle.refutation_terms.specs.Leaf.{IsDead, IsTooLight}
+use Rattle.refutation_terms.specs.Escape.{IsLeastHeaviest}
 use Rattle.refutation_terms.specs.Tree.{is_idle}
 use Rattle.refutation_terms.specs.Log.{Cites, Holds, ListsShortOnly}
-use Rattle.refutation_terms.specs.Verdict.{IsLeast, IsUnnamed, ListsLong, IsPlainLeaf}
+use Rattle.refutation_terms.specs.Verdict.{IsLeast, IsUnnamed, ListsLong, IsPlainLeaf, Escapes}
 
 -- a split that isn't idle, or a window or a day leaf that holds. Nothing is said of dead and bound leaves
 abbrev pub StandsPlainly : Instance → Domains → Line → Type 0
@@ -33,7 +37,7 @@ abbrev pub IsIdleSplit : Instance → Domains → Line → Type 0
 IsIdleSplit P D (Split p x) = is_idle P D p x.number ≡ true
 IsIdleSplit P D line = ⊥
 
--- the lowest cause to refuse the line as text line n
+-- the lowest cause to refuse the line as text line n, but for a word that escapes it
 abbrev pub PlainCause : Instance → List ℕ → Domains → ℕ → Line → LogRefusal → Type 0
 PlainCause P named D n line (Refusals.Unnamed i k) = (i ≡ n) × IsLeast (IsUnnamed P named (Cites P line)) k
 PlainCause P named D n line (Refusals.Idle i) = (i ≡ n) × IsIdleSplit P D line
@@ -47,3 +51,24 @@ abbrev pub IsPlainFailure : ℕ → Line → LogRefusal → Type 0
 IsPlainFailure n (Split p x) why = why ≡ Refusals.Idle n
 IsPlainFailure n Unfinished why = why ≡ Refusals.Unfinished n
 IsPlainFailure n line why = why ≡ Refusals.Fails n
+
+-- the least of the heaviest clean words of so many turns, which weighs at least so many times the total
+abbrev pub EscapesBound : Instance → Domains → ℕ → ℕ → List ℕ → List Weight → List Symbol → Type 0
+EscapesBound P D p turns R y w = IsLeastHeaviest P D p (turns * cells P) R y w × ((pos turns *ℤ total P y) ≤ℤ weight P y p w)
+
+-- a dead or a bound leaf that holds. Nothing is said of other lines
+abbrev pub HoldsByWords : Instance → Domains → Line → Type 0
+HoldsByWords P D (Dead p len R) = IsDead P D p len R
+HoldsByWords P D (Bound p turns R y) = IsTooLight P D p turns R y
+HoldsByWords P D line = Unit {0}
+
+-- the line has no cause
+pub record IsSound (P : Instance) (named : List ℕ) (D : Domains) (line : Line) : Type 0 where
+  pub named_all : NamesCited P named line
+  pub short : ListsShortOnly P line
+  pub holds : Holds P D line
+
+-- the lowest cause to refuse the line as text line n
+abbrev pub LineCause : Instance → List ℕ → Domains → ℕ → Line → LogRefusal → Type 0
+LineCause P named D n line (Refusals.Escape i w) = (i ≡ n) × NamesCited P named line × ListsShortOnly P line × Escapes P D line w
+LineCause P named D n line why = PlainCause P named D n line why

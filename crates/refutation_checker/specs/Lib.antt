@@ -1,3 +1,4 @@
 pub mod Outside
 pub mod Judged
 pub mod Reads
+pub mod Passed

@@ -1,5 +1,5 @@
 -- The lines of a log, judged one after the other.
-use Rattle.std.specs.Prelude.{◌≡◌, ℕ, List, [], ◌∷◌, ◌++◌, length, Option}
+use Rattle.std.specs.Prelude.{◌≡◌, ℕ, ◌<◌, false, List, [], ◌∷◌, ◌++◌, length, Option}
 use Rattle.rwsp_terms.specs.declared.data.Rule.{Rule}
 use Rattle.rwsp_terms.specs.Instance.{Instance}
 use Rattle.rwsp_terms.specs.Rules.{Names}
@@ -8,6 +8,13 @@ use Rattle.refutation_terms.specs.declared.lines.Turn.{Turn}
 use Rattle.refutation_terms.specs.Tree.{IsTree, domains_at}
 use Rattle.refutation_terms.specs.Log.{Cites, Holds, LineFits, ListsShortOnly}
 use Rattle.refutation_terms.specs.LogText.{raw, line_text}
+use Rattle.refutation_terms.specs.declared.lines.Line.TheVariants.{Split}
+use Rattle.refutation_terms.specs.declared.lines.LogRefusal.{LogRefusal}
+use Rattle.refutation_terms.specs.declared.lines.LogRefusal.TheVariants as Refusals
+use Rattle.refutation_log.specs.declared.refusal.LineRefusal.{LineRefusal}
+use Rattle.refutation_log.specs.declared.refusal.LineRefusal.TheVariants as Lines
+use Rattle.domain_store.specs.Store.{Store}
+use Rattle.tree_walk.specs.Splits.{is_idle_in}
 use Rattle.tree_walk.specs.States.{State, IsStateOf}
 
 -- the problem of a judge, and the rules that the header names
@@ -29,3 +36,13 @@ pub record IsLineRead (P : Instance) (named : List ℕ) (turn : Option Turn) (li
   pub spelled : bytes ≡ line_text P (raw P line)
   pub sound : IsSoundNext P named turn lines line
   pub walked : IsStateOf P turn (lines ++ line ∷ []) w
+
+-- a leaf, or a split that isn't idle under the domains of the store
+abbrev pub MayStep : Store → Line → Type 0
+MayStep S (Split p x) = (p < length S.sets) × (is_idle_in S p x.number ≡ false)
+MayStep S leaf = Unit {0}
+
+-- the cause of a text line that is no line of a log
+abbrev pub IsSpellingRefusal : LineRefusal → ℕ → LogRefusal → Type 0
+IsSpellingRefusal Lines.Form n why = why ≡ Refusals.Form n
+IsSpellingRefusal Lines.Name n why = why ≡ Refusals.Name n

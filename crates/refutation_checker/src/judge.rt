@@ -1,13 +1,27 @@
 // The lines of a log's tree, judged one after the other.
-ghost use Rattle.std.specs.Prelude.{◌≡◌, ℕ, ◌+◌, List, length, Option, IfOk, MatchOption, None};
+ghost use Rattle.std.specs.Prelude.{◌≡◌, ℕ, ◌+◌, ◌*◌, ◌<◌, ◌≤◌, List, [], ◌∷◌, ◌++◌, length, Option, IfOk, MatchOption, None, false};
+ghost use Rattle.rwsp_terms.specs.Instance.{Instance, cells};
+ghost use Rattle.rwsp_terms.specs.Rules.{NamesShortOnly};
 ghost use Rattle.refutation_terms.specs.declared.lines.Line.{Line};
 ghost use Rattle.refutation_terms.specs.declared.lines.Turn.{Turn};
-ghost use Rattle.refutation_terms.specs.Verdict.{Cause, Reading, header_lines};
+ghost use Rattle.refutation_terms.specs.Tree.{domains_at};
+ghost use Rattle.refutation_terms.specs.Leaf.{IsDead, IsTooLight};
+ghost use Rattle.refutation_terms.specs.Escape.{IsLeastClean};
+ghost use Rattle.refutation_terms.specs.Log.{LineFits, ListsShortOnly};
+ghost use Rattle.refutation_terms.specs.Verdict.{Cause, Reading, Escapes, header_lines};
+ghost use Rattle.domain_store.specs.Store.{BelongsTo, has_domain};
 ghost use Rattle.tree_walk.specs.States.{IsStateOf};
-ghost use Rattle.refutation_checker.specs.Reads.{IsLineRead};
+ghost use Rattle.refutation_checker.specs.Judged.{EscapesBound, HoldsByWords, IsSound, LineCause};
+ghost use Rattle.refutation_checker.specs.Reads.{IsLineRead, IsSpellingRefusal, MayStep};
 
-use refutation_terms::LogRefusal;
-use rwsp_model::{Problem, RuleList};
+use crate::bound::bound_escape;
+use crate::kept_tails::tails_of;
+use crate::plain_refusal;
+use domain_store::Domains;
+use layered_cycle::escape;
+use refutation_log::{LineRefusal, read_line};
+use refutation_terms::{Line, LogRefusal};
+use rwsp_model::{Fail, Problem, RuleList, Weights, Word};
 use std::alloc::{AllocError, Global};
 use std::marker::Model;
 use tree_walk::Walk;
@@ -22,11 +36,14 @@ pub struct Judge<'a> {
 }
 
 impl<'a> Model for Judge<'a> {
+    ghost use Rattle.std.specs.Prelude.{◌≡◌, IfSome};
     ghost use Rattle.refutation_checker.specs.Reads.{Judging};
 
     ghost Value = { Judging };
 
     ghost view = { λ j. record { problem = j.problem.now; named = j.named.now } };
+
+    ghost invariant = { λ j. IfSome j.tails (λ tails. tails.problem ≡ j.problem.now) };
 }
 
 impl<'a> Judge<'a> {
@@ -58,6 +75,167 @@ impl<'a> Judge<'a> {
             (IsLineRead self.old.problem self.old.named turn lines bytes.now walk.new)
             (λ why. Cause self.old.problem (Reading (record { named = self.old.named; turn = turn; lines = lines })) bytes.now why)) }
     {
-        Err(AllocError)
+        if walk.is_whole() {
+            return Ok(Some(LogRefusal::Extra(number)));
+        }
+        match read_line(alloc, self.problem, bytes) {
+            Ok(line) => self.pass(alloc, walk, &line, number),
+            Err(Fail::Memory) => Err(AllocError),
+            Err(Fail::Refused(why)) => Ok(Some(spelling_refusal(why, number))),
+        }
+    }
+
+    /// Judges the next line of a tree, line `number` of all, under the domains of the walk: None where it has no cause, and then the
+    /// walk has read it.
+    pub(crate) fn pass(
+        &mut self,
+        alloc: Global,
+        walk: &mut Walk,
+        line: &Line,
+        number: u32,
+    ) -> Result<Option<LogRefusal>, AllocError>
+        requires state { (turn : Option Turn) × (lines : List Line) × IsStateOf self.old.problem turn lines walk.old }
+        requires part { walk.old.whole ≡ false }
+        requires line { LineFits self.old.problem line.now }
+        ensures same { self.new ≡ self.old }
+        ensures passed { IfOk result (λ found. (turn : Option Turn) (lines : List Line) → IsStateOf self.old.problem turn lines walk.old →
+            MatchOption found
+            (IsSound self.old.problem self.old.named (domains_at self.old.problem turn lines (length lines)) line.now × IsStateOf self.old.problem turn (lines ++ line.now ∷ []) walk.new)
+            (LineCause self.old.problem self.old.named (domains_at self.old.problem turn lines (length lines)) number line.now)) }
+    {
+        self.problem.keeps_limits();
+        walk.domains().facts();
+        if let Some(why) = self.line_refusal(alloc, walk.domains(), line, number)? {
+            return Ok(Some(why));
+        }
+        step(walk, line)?;
+        Ok(None)
+    }
+
+    // The lowest cause of a line under domains; None exactly where there is none.
+    fn line_refusal(
+        &mut self,
+        alloc: Global,
+        doms: &Domains,
+        line: &Line,
+        number: u32,
+    ) -> Result<Option<LogRefusal>, AllocError>
+        requires domains { BelongsTo self.old.problem doms.now }
+        requires line { LineFits self.old.problem line.now }
+        ensures same { self.new ≡ self.old }
+        ensures cause { IfOk result (λ found. MatchOption found
+            (IsSound self.old.problem self.old.named (has_domain doms.now) line.now)
+            (LineCause self.old.problem self.old.named (has_domain doms.now) number line.now)) }
+    {
+        if let Some(why) = plain_refusal(alloc, self.problem, self.named, doms, line, number)? {
+            return Ok(Some(why));
+        }
+        match self.leaf_escape(alloc, doms, line)? {
+            Some(word) => Ok(Some(LogRefusal::Escape(number, word))),
+            None => Ok(None),
+        }
+    }
+
+    // The word that escapes a dead or a bound leaf; None exactly where the leaf holds, and for other lines.
+    fn leaf_escape(
+        &mut self,
+        alloc: Global,
+        doms: &Domains,
+        line: &Line,
+    ) -> Result<Option<Word>, AllocError>
+        requires domains { BelongsTo self.old.problem doms.now }
+        requires line { LineFits self.old.problem line.now }
+        requires short { ListsShortOnly self.old.problem line.now }
+        ensures same { self.new ≡ self.old }
+        ensures escape { IfOk result (λ found. MatchOption found
+            (HoldsByWords self.old.problem (has_domain doms.now) line.now)
+            (Escapes self.old.problem (has_domain doms.now) line.now)) }
+    {
+        match line {
+            Line::Dead { p, len, rules } => self.dead_escape(alloc, doms, *p, *len, rules),
+            Line::Bound {
+                p,
+                turns,
+                rules,
+                weights,
+            } => self.bound_escape(alloc, doms, *p, *turns, rules, weights),
+            _ => Ok(None),
+        }
+    }
+
+    // The least word of `len` days over the domains from position `p` on that is clean for the rules.
+    fn dead_escape(
+        &mut self,
+        alloc: Global,
+        doms: &Domains,
+        p: u32,
+        len: u32,
+        rules: &RuleList,
+    ) -> Result<Option<Word>, AllocError>
+        requires domains { BelongsTo self.old.problem doms.now }
+        requires position { p < cells self.old.problem }
+        requires long { (1 ≤ len) × (len ≤ 16800) }
+        requires short { NamesShortOnly self.old.problem rules.now }
+        ensures same { self.new ≡ self.old }
+        ensures escape { IfOk result (λ found. MatchOption found
+            (IsDead self.old.problem (has_domain doms.now) p len rules.now)
+            (IsLeastClean self.old.problem (has_domain doms.now) p len rules.now)) }
+    {
+        let tails = tails_of(alloc, self.problem, self.tails.take(), rules)?;
+        let found = escape(alloc, &tails, doms, p, len)?;
+        self.tails = Some(tails);
+        Ok(found)
+    }
+
+    // The least of the heaviest words of so many turns that are clean for the rules, where it weighs enough.
+    fn bound_escape(
+        &mut self,
+        alloc: Global,
+        doms: &Domains,
+        p: u32,
+        turns: u32,
+        rules: &RuleList,
+        weights: &Weights,
+    ) -> Result<Option<Word>, AllocError>
+        requires domains { BelongsTo self.old.problem doms.now }
+        requires position { p < cells self.old.problem }
+        requires some { 1 ≤ turns }
+        requires few { turns * cells self.old.problem ≤ 16800 }
+        requires short { NamesShortOnly self.old.problem rules.now }
+        ensures same { self.new ≡ self.old }
+        ensures escape { IfOk result (λ found. MatchOption found
+            (IsTooLight self.old.problem (has_domain doms.now) p turns rules.now weights.now)
+            (EscapesBound self.old.problem (has_domain doms.now) p turns rules.now weights.now)) }
+    {
+        let tails = tails_of(alloc, self.problem, self.tails.take(), rules)?;
+        let found = bound_escape(alloc, self.problem, &tails, doms, p, turns, weights)?;
+        self.tails = Some(tails);
+        Ok(found)
+    }
+}
+
+// The walk reads a line that is no idle split.
+fn step(walk: &mut Walk, line: &Line) -> Result<(), AllocError>
+    requires part { walk.old.whole ≡ false }
+    requires useful { MayStep walk.old.store line.now }
+    ensures { IfOk result (λ _. (P : Instance) (turn : Option Turn) (lines : List Line) →
+        IsStateOf P turn lines walk.old → IsStateOf P turn (lines ++ line.now ∷ []) walk.new) }
+{
+    match line {
+        Line::Split { p, x } => walk.read_split(*p, *x),
+        _ => {
+            walk.read_leaf();
+            Ok(())
+        }
+    }
+}
+
+// The cause of a line of the text that is no line of a log.
+fn spelling_refusal(why: LineRefusal, number: u32) -> LogRefusal
+    ensures { IsSpellingRefusal why number result }
+{
+    match why {
+        LineRefusal::Form => LogRefusal::Form(number),
+        LineRefusal::Name => LogRefusal::Name(number),
     }
 }

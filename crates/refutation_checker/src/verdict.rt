@@ -1,12 +1,10 @@
 // The verdict on a whole log.
 ghost use Rattle.std.specs.Prelude.{◌≡◌, ◌≤◌, length};
 ghost use Rattle.rwsp_model.specs.Refusals.{MatchAnswer};
-ghost use Rattle.refutation_terms.specs.Log.{Log as LogValue, Fits, Passes};
-ghost use Rattle.refutation_terms.specs.LogText.{log_text};
+ghost use Rattle.refutation_terms.specs.Log.{Log as LogValue};
 ghost use Rattle.refutation_terms.specs.Verdict.{IsAccepted, IsRefused};
 
 use potential_bounds::Gate;
-use refutation_log::Log;
 use refutation_terms::LogRefusal;
 use rwsp_model::{Fail, Problem, RuleList};
 use std::alloc::Global;
@@ -19,14 +17,6 @@ pub fn check(alloc: Global, problem: &Problem, bytes: &[u8]) -> Result<RuleList,
     ensures { MatchAnswer result
         (λ named. (g : LogValue) × IsAccepted problem.now bytes.now g × (g.named ≡ named))
         (IsRefused problem.now bytes.now) }
-{
-    Err(Fail::Memory)
-}
-
-/// The verdict on the text of a log, without its text.
-pub fn check_log(alloc: Global, problem: &Problem, log: &Log) -> Result<(), Fail<LogRefusal>>
-    requires { Fits problem.now log.now }
-    ensures { MatchAnswer result (λ _. Passes problem.now log.now) (IsRefused problem.now (log_text problem.now log.now)) }
 {
     Err(Fail::Memory)
 }

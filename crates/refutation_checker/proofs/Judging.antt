@@ -1,0 +1,149 @@
+-- The causes of a line, by its kind and by its text.
+use Rattle.std.proofs.Common.{◌≡◌, ℕ, ◌+◌, ◌*◌, ◌<◌, List, [], ◌∷◌, ◌++◌, length, true, false, refl, ap, sym, ◌∙◌, subst, arith, Option, Some, None, Result, Ok, Err, inr}
+use Rattle.std.specs.Prelude.{MatchOption, IfOk}
+use Rattle.std.specs.declared.alloc.AllocError.{AllocError}
+use Rattle.rwsp_terms.specs.Instance.{Instance, cells}
+use Rattle.rwsp_model.specs.Validity.{KeepsLimits}
+use Rattle.refutation_terms.specs.declared.lines.Line.{Line}
+use Rattle.refutation_terms.specs.declared.lines.Line.TheVariants.{Split, Window, Day, Dead, Bound, Unfinished}
+use Rattle.refutation_terms.specs.declared.lines.Turn.{Turn}
+use Rattle.refutation_terms.specs.declared.lines.LogRefusal.{LogRefusal}
+use Rattle.refutation_terms.specs.declared.lines.LogRefusal.TheVariants as Refusals
+use Rattle.refutation_terms.specs.Word.{Domains}
+use Rattle.refutation_terms.specs.Tree.{IsTree, domains_at}
+use Rattle.refutation_terms.specs.Log.{Holds, LineFits}
+use Rattle.refutation_terms.specs.Verdict.{Cause, Reading, Spells, TreeCause, SplitsIdly, header_lines}
+use Rattle.refutation_terms.proofs.Spelled.{spelled_lines_fit}
+use Rattle.domain_store.specs.Store.{Store, BelongsTo, has_domain, IsStore, HasDomains}
+use Rattle.tree_walk.specs.States.{State, IsStateOf}
+use Rattle.tree_walk.proofs.Idle.{idle_in_store}
+use Rattle.refutation_checker.specs.Judged.{StandsPlainly, IsPlainlySound, IsIdleSplit, PlainCause, HoldsByWords, IsSound, LineCause}
+use Rattle.refutation_checker.specs.Reads.{IsLineRead, MayStep}
+use Rattle.refutation_checker.proofs.SameDomains.{AreSame, turned_round, same_idle, same_holds, same_escapes}
+
+pub plain_is_cause : (P : Instance) (named : List ℕ) (D : Domains) (n : ℕ) (line : Line) (why : LogRefusal) → PlainCause P named D n line why → LineCause P named D n line why
+plain_is_cause P named D n line (Refusals.Form i) h = h
+plain_is_cause P named D n line (Refusals.Name i) h = h
+plain_is_cause P named D n line (Refusals.Unnamed i k) h = h
+plain_is_cause P named D n line (Refusals.Idle i) h = h
+plain_is_cause P named D n line (Refusals.Long i k) h = h
+plain_is_cause P named D n line (Refusals.Fails i) h = h
+plain_is_cause P named D n line (Refusals.Escape i w) h = absurd h
+plain_is_cause P named D n line (Refusals.Unfinished i) h = h
+plain_is_cause P named D n line Refusals.Ends h = h
+plain_is_cause P named D n line (Refusals.Extra i) h = h
+plain_is_cause P named D n line (Refusals.Turn i) h = h
+
+-- a line that holds in both ways holds
+pub holds_in_all : (P : Instance) (D : Domains) (line : Line) → StandsPlainly P D line → HoldsByWords P D line → Holds P D line
+holds_in_all P D (Split p x) h k = h
+holds_in_all P D (Window rule p len) h k = h
+holds_in_all P D (Day j x true) h k = h
+holds_in_all P D (Day j x false) h k = h
+holds_in_all P D (Dead p len R) h k = k
+holds_in_all P D (Bound p turns R y) h k = k
+holds_in_all P D Unfinished h k = h
+
+pub sound_in_all : (P : Instance) (named : List ℕ) (D : Domains) (line : Line) → IsPlainlySound P named D line → HoldsByWords P D line → IsSound P named D line
+sound_in_all P named D line h k = record { named_all = h.named_all; short = h.short; holds = holds_in_all P D line h.stands k }
+
+-- under the same domains
+
+same_idle_split : (P : Instance) (D E : Domains) (line : Line) → LineFits P line → AreSame P D E → IsIdleSplit P D line → IsIdleSplit P E line
+same_idle_split P D E (Split p x) fits same h = sym (same_idle P D E p x.number fits.0 same) ∙ h
+same_idle_split P D E (Window rule p len) fits same h = h
+same_idle_split P D E (Day j x over) fits same h = h
+same_idle_split P D E (Dead p len R) fits same h = h
+same_idle_split P D E (Bound p turns R y) fits same h = h
+same_idle_split P D E Unfinished fits same h = h
+
+pub same_cause : (P : Instance) (named : List ℕ) (D E : Domains) (n : ℕ) (line : Line) (why : LogRefusal) → 0 < cells P → LineFits P line → AreSame P D E → LineCause P named D n line why → LineCause P named E n line why
+same_cause P named D E n line (Refusals.Form i) some fits same h = h
+same_cause P named D E n line (Refusals.Name i) some fits same h = h
+same_cause P named D E n line (Refusals.Unnamed i k) some fits same h = h
+same_cause P named D E n line (Refusals.Idle i) some fits same h = (h.0, same_idle_split P D E line fits same h.1)
+same_cause P named D E n line (Refusals.Long i k) some fits same h = h
+same_cause P named D E n line (Refusals.Fails i) some fits same h =
+    (h.0, h.1, h.2, λ holds. h.3 (same_holds P E D line some fits (turned_round P D E same) holds))
+same_cause P named D E n line (Refusals.Escape i w) some fits same h = (h.0, h.1, h.2, same_escapes P D E line w some same h.3)
+same_cause P named D E n line (Refusals.Unfinished i) some fits same h = h
+same_cause P named D E n line Refusals.Ends some fits same h = h
+same_cause P named D E n line (Refusals.Extra i) some fits same h = h
+same_cause P named D E n line (Refusals.Turn i) some fits same h = h
+
+pub same_sound : (P : Instance) (named : List ℕ) (D E : Domains) (line : Line) → 0 < cells P → LineFits P line → AreSame P D E → IsSound P named D line → IsSound P named E line
+same_sound P named D E line some fits same h = record { named_all = h.named_all; short = h.short; holds = same_holds P D E line some fits same h.holds }
+
+pub some_cells : (P : Instance) → KeepsLimits P → 0 < cells P
+some_cells P k = grind (arith, k.some_days, k.some_weeks)
+
+pub cells_of_walk : (P : Instance) (S : Store) → IsStore S → BelongsTo P S → length S.sets ≡ cells P
+cells_of_walk P S now belongs = now.long ∙ ap (λ n. n * S.days) belongs.weeks ∙ ap (λ n. P.weeks * n) belongs.days
+
+-- a line that holds may be read
+pub may_step : (P : Instance) (S : Store) (line : Line) → IsStore S → HasDomains S → BelongsTo P S → length S.sets ≡ cells P → LineFits P line → Holds P (has_domain S) line → MayStep S line
+may_step P S (Split p x) now tests belongs long fits h =
+    let inside : p < length S.sets = omega (arith, long, fits.0) in
+    (inside, idle_in_store P (has_domain S) S p x.number now tests belongs inside (λ z. refl) ∙ h)
+may_step P S (Window rule p len) now tests belongs long fits h = tt
+may_step P S (Day j x over) now tests belongs long fits h = tt
+may_step P S (Dead p len R) now tests belongs long fits h = tt
+may_step P S (Bound p turns R y) now tests belongs long fits h = tt
+may_step P S Unfinished now tests belongs long fits h = tt
+
+-- by the text of the line
+
+idle_text : (P : Instance) (D : Domains) (bytes : List ℕ) (line : Line) → Spells P bytes line → IsIdleSplit P D line → SplitsIdly P D bytes
+idle_text P D bytes (Split p x) spelled h = (p, x, spelled, h)
+idle_text P D bytes (Window rule p len) spelled h = absurd h
+idle_text P D bytes (Day j x over) spelled h = absurd h
+idle_text P D bytes (Dead p len R) spelled h = absurd h
+idle_text P D bytes (Bound p turns R y) spelled h = absurd h
+idle_text P D bytes Unfinished spelled h = absurd h
+
+pub cause_of_text : (P : Instance) (named : List ℕ) (D : Domains) (n : ℕ) (bytes : List ℕ) (line : Line) (why : LogRefusal) → Spells P bytes line → LineCause P named D n line why → TreeCause P named D n bytes why
+cause_of_text P named D n bytes line (Refusals.Form i) spelled h = absurd h
+cause_of_text P named D n bytes line (Refusals.Name i) spelled h = absurd h
+cause_of_text P named D n bytes line (Refusals.Unnamed i k) spelled h = (h.0, (line, spelled, h.1))
+cause_of_text P named D n bytes line (Refusals.Idle i) spelled h = (h.0, idle_text P D bytes line spelled h.1)
+cause_of_text P named D n bytes line (Refusals.Long i k) spelled h = (h.0, (line, (spelled, h.1), h.2))
+cause_of_text P named D n bytes line (Refusals.Fails i) spelled h = (h.0, (line, (spelled, h.1), h.2, h.3))
+cause_of_text P named D n bytes line (Refusals.Escape i w) spelled h = (h.0, (line, (spelled, h.1), h.2, h.3))
+cause_of_text P named D n bytes line (Refusals.Unfinished i) spelled h = (h.0, subst (Spells P bytes) h.1 spelled)
+cause_of_text P named D n bytes line Refusals.Ends spelled h = absurd h
+cause_of_text P named D n bytes line (Refusals.Extra i) spelled h = absurd h
+cause_of_text P named D n bytes line (Refusals.Turn i) spelled h = absurd h
+
+-- a line behind lines that aren't a whole tree, by what its judging found
+pub passed_read : (P : Instance) (named : List ℕ) (turn : Option Turn) (lines : List Line) (bytes : List ℕ) (line : Line) (number : ℕ) (w : State) (found : Option LogRefusal)
+    → Spells P bytes line → (IsTree lines → ⊥) → number ≡ header_lines turn + length lines + 1
+    → MatchOption found
+    (IsSound P named (domains_at P turn lines (length lines)) line × IsStateOf P turn (lines ++ line ∷ []) w)
+    (LineCause P named (domains_at P turn lines (length lines)) number line)
+    → MatchOption found
+    (IsLineRead P named turn lines bytes w)
+    (λ why. Cause P (Reading (record { named = named; turn = turn; lines = lines })) bytes why)
+passed_read P named turn lines bytes line number w None spelled part is h =
+    let fit = spelled_lines_fit P bytes line spelled in
+    record {
+      line = line;
+      spelled = fit.1;
+      sound = record { in_tree = part; fits = fit.0; holds = h.0.holds; named_all = h.0.named_all; short = h.0.short };
+      walked = h.1;
+    }
+passed_read P named turn lines bytes line number w (Some why) spelled part is h =
+    let D = domains_at P turn lines (length lines) in
+    inr (part, subst (λ n. TreeCause P named D n bytes why) is (cause_of_text P named D number bytes line why spelled h))
+
+-- the same of each turn and all lines that lead to a state
+pub passed_reads : (P : Instance) (named : List ℕ) (old : State) (bytes : List ℕ) (line : Line) (number : ℕ) (w : State) (answer : Result (Option LogRefusal) AllocError)
+    → Spells P bytes line → ((turn : Option Turn) (lines : List Line) → IsStateOf P turn lines old → IsTree lines → ⊥)
+    → IfOk answer (λ found. (turn : Option Turn) (lines : List Line) → IsStateOf P turn lines old → MatchOption found
+    (IsSound P named (domains_at P turn lines (length lines)) line × IsStateOf P turn (lines ++ line ∷ []) w)
+    (LineCause P named (domains_at P turn lines (length lines)) number line))
+    → IfOk answer (λ found. (turn : Option Turn) (lines : List Line) → IsStateOf P turn lines old → number ≡ header_lines turn + length lines + 1 → MatchOption found
+    (IsLineRead P named turn lines bytes w)
+    (λ why. Cause P (Reading (record { named = named; turn = turn; lines = lines })) bytes why))
+passed_reads P named old bytes line number w (Ok found) spelled part h =
+    λ turn lines state is. passed_read P named turn lines bytes line number w found spelled (part turn lines state) is (h turn lines state)
+passed_reads P named old bytes line number w (Err e) spelled part h = tt

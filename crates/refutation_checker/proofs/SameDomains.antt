@@ -1,0 +1,102 @@
+-- What is said of domains rests on their positions alone.
+use Rattle.std.proofs.Common.{◌≡◌, ℕ, ◌+◌, ◌-◌, ◌*◌, ◌%◌, ◌<◌, ◌≤◌, List, [], ◌∷◌, ap, sym, ◌∙◌, subst, arith, Bool, true, false, IsTrue, ◌&&◌, ◌||◌, ◌==◌, not, count_by, mul_comm}
+use Rattle.std.specs.Prelude.{pos, ◌<ℤ◌}
+use Rattle.std.specs.List.{range_with_len, list_all}
+use Rattle.std.proofs.Math.Path.{fun_ext}
+use Rattle.std.proofs.lemmas.Nat.{mul-add-lt}
+use Rattle.rwsp_terms.specs.declared.data.Symbol.{Symbol}
+use Rattle.rwsp_terms.specs.declared.data.Weight.{Weight}
+use Rattle.rwsp_terms.specs.Instance.{Instance, cells, shift_count, IsDay, least, greatest}
+use Rattle.refutation_terms.specs.declared.lines.Line.{Line}
+use Rattle.refutation_terms.specs.declared.lines.Line.TheVariants.{Split, Window, Day, Dead, Bound, Unfinished}
+use Rattle.refutation_terms.specs.Word.{Domains, Over}
+use Rattle.refutation_terms.specs.Leaf.{is_only, fixed, possible}
+use Rattle.refutation_terms.specs.Escape.{IsCleanOver, IsHeaviest}
+use Rattle.refutation_terms.specs.Tree.{is_idle}
+use Rattle.refutation_terms.specs.Log.{Holds, LineFits}
+use Rattle.refutation_terms.specs.Verdict.{Escapes}
+use Rattle.refutation_terms.proofs.Counts.{count_mono}
+
+-- the two have the same symbols at each position
+abbrev pub AreSame : Instance → Domains → Domains → Type 0
+AreSame P D E = (p x : ℕ) → p < cells P → D p x ≡ E p x
+
+pub turned_round : (P : Instance) (D E : Domains) → AreSame P D E → AreSame P E D
+turned_round P D E same p x inside = sym (same p x inside)
+
+-- by the domain of one position
+same_only : (P : Instance) (D E : Domains) (p x : ℕ) → p < cells P → AreSame P D E → is_only P D p x ≡ is_only P E p x
+same_only P D E p x inside same =
+    let test : (ℕ → Bool) → Bool = λ f. f x && list_all (λ z. (z == x) || not (f z)) (range_with_len 0 (shift_count P + 1)) in
+    let here : D p ≡ E p = fun_ext (λ z. same p z inside) in
+    ap test here
+
+pub same_idle : (P : Instance) (D E : Domains) (p x : ℕ) → p < cells P → AreSame P D E → is_idle P D p x ≡ is_idle P E p x
+same_idle P D E p x inside same =
+    ap (λ b. not b || is_only P D p x) (same p x inside) ∙ ap (λ b. not (E p x) || b) (same_only P D E p x inside same)
+
+-- by counts over the weeks
+same_count : (f g : ℕ → Bool) (n : ℕ) → ((i : ℕ) → i < n → f i ≡ g i) → count_by f (range_with_len 0 n) ≡ count_by g (range_with_len 0 n)
+same_count f g n same =
+    let low : count_by f (range_with_len 0 n) ≤ count_by g (range_with_len 0 n) = count_mono f g 0 n (λ i le less yes. sym (same i (omega (arith, less))) ∙ yes) in
+    let high : count_by g (range_with_len 0 n) ≤ count_by f (range_with_len 0 n) = count_mono g f 0 n (λ i le less yes. same i (omega (arith, less)) ∙ yes) in
+    omega (arith, low, high)
+
+in_cells : (P : Instance) (i j : ℕ) → i < P.weeks → IsDay P j → i * P.days + (j - 1) < cells P
+in_cells P i j week day =
+    let inside : i * P.days + (j - 1) < P.days * P.weeks = mul-add-lt i P.days (j - 1) P.weeks week (omega (arith, day.0, day.1)) in
+    omega (arith, inside, mul_comm P.days P.weeks)
+
+same_fixed : (P : Instance) (D E : Domains) (j x : ℕ) → IsDay P j → AreSame P D E → fixed P D j x ≡ fixed P E j x
+same_fixed P D E j x day same =
+    same_count (λ i. is_only P D (i * P.days + (j - 1)) x) (λ i. is_only P E (i * P.days + (j - 1)) x) P.weeks
+    (λ i less. same_only P D E (i * P.days + (j - 1)) x (in_cells P i j less day) same)
+
+same_possible : (P : Instance) (D E : Domains) (j x : ℕ) → IsDay P j → AreSame P D E → possible P D j x ≡ possible P E j x
+same_possible P D E j x day same =
+    same_count (λ i. D (i * P.days + (j - 1)) x) (λ i. E (i * P.days + (j - 1)) x) P.weeks
+    (λ i less. same (i * P.days + (j - 1)) x (in_cells P i j less day))
+
+-- by words over them
+same_over : (P : Instance) (D E : Domains) (p : ℕ) (u : List Symbol) → 0 < cells P → AreSame P D E → Over P D p u → Over P E p u
+same_over P D E p [] some same over = tt
+same_over P D E p (x ∷ u) some same over =
+    let inside : p % cells P < cells P = omega (arith, some) in
+    (subst IsTrue (same (p % cells P) x.number inside) over.0, same_over P D E (p + 1) u some same over.1)
+
+same_clean : (P : Instance) (D E : Domains) (p len : ℕ) (R : List ℕ) (u : List Symbol) → 0 < cells P → AreSame P D E → IsCleanOver P D p len R u → IsCleanOver P E p len R u
+same_clean P D E p len R u some same h = record { long = h.long; over = same_over P D E p u some same h.over; clean = h.clean }
+
+same_heaviest : (P : Instance) (D E : Domains) (p len : ℕ) (R : List ℕ) (y : List Weight) (u : List Symbol) → 0 < cells P → AreSame P D E → IsHeaviest P D p len R y u → IsHeaviest P E p len R y u
+same_heaviest P D E p len R y u some same h = record {
+  clean = same_clean P D E p len R u some same h.clean;
+  heaviest = λ v c. h.heaviest v (same_clean P E D p len R v some (turned_round P D E same) c);
+}
+
+-- a line that holds under the one holds under the other
+pub same_holds : (P : Instance) (D E : Domains) (line : Line) → 0 < cells P → LineFits P line → AreSame P D E → Holds P D line → Holds P E line
+same_holds P D E (Split p x) some fits same h = sym (same_idle P D E p x.number fits.0 same) ∙ h
+same_holds P D E (Window rule p len) some fits same h = (h.0, h.1, λ u long over. h.2 u long (same_over P E D p u some (turned_round P D E same) over))
+same_holds P D E (Day j x true) some fits same h = subst (λ n. greatest P x.number j <ℤ pos n) (same_fixed P D E j x.number fits.0 same) h
+same_holds P D E (Day j x false) some fits same h = subst (λ n. pos n <ℤ least P x.number j) (same_possible P D E j x.number fits.0 same) h
+same_holds P D E (Dead p len R) some fits same h = λ u long over. h u long (same_over P E D p u some (turned_round P D E same) over)
+same_holds P D E (Bound p turns R y) some fits same h = λ u long over. h u long (same_over P E D p u some (turned_round P D E same) over)
+same_holds P D E Unfinished some fits same h = h
+
+-- and a word that escapes it under the one escapes it under the other
+pub same_escapes : (P : Instance) (D E : Domains) (line : Line) (w : List Symbol) → 0 < cells P → AreSame P D E → Escapes P D line w → Escapes P E line w
+same_escapes P D E (Split p x) w some same h = h
+same_escapes P D E (Window rule p len) w some same h = h
+same_escapes P D E (Day j x over) w some same h = h
+same_escapes P D E (Dead p len R) w some same h = record {
+  clean = same_clean P D E p len R w some same h.clean;
+  least = λ v c. h.least v (same_clean P E D p len R v some (turned_round P D E same) c);
+}
+same_escapes P D E (Bound p turns R y) w some same h = (
+  record {
+    heavy = same_heaviest P D E p (turns * cells P) R y w some same h.0.heavy;
+    least = λ v c. h.0.least v (same_heaviest P E D p (turns * cells P) R y v some (turned_round P D E same) c);
+  },
+  h.1,
+)
+same_escapes P D E Unfinished w some same h = h

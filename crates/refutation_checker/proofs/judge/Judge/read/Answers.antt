@@ -1,0 +1,19 @@
+use Rattle.std.proofs.Common.{subst, IsTrue}
+use Rattle.refutation_terms.specs.Verdict.{Spells}
+use Rattle.refutation_terms.proofs.Spelled.{spelled_lines_fit}
+use Rattle.refutation_checker.specs.Reads.{Judging}
+use Rattle.refutation_checker.proofs.Judging.{passed_reads}
+use Rattle.refutation_checker.proofs.judge.Judge.read.Goals as goal
+
+pub pass-requires-clause-line : goal.pass-requires-clause-line
+pass-requires-clause-line c =
+    (spelled_lines_fit c.args.self.now.problem c.args.bytes.now c.in-Ok.line (subst (λ (j : Judging). Spells j.problem c.args.bytes.now c.in-Ok.line) c.self.view_is c.in-Ok.ensures)).0
+
+pub returns-in-Ok-clause-read : goal.returns-in-Ok-clause-read
+returns-in-Ok-clause-read c =
+    let P = c.args.self.now.problem in
+    let bytes = c.args.bytes.now in
+    passed_reads P c.args.self.now.named c.args.walk.now bytes c.in-Ok.line c.args.number c.pass.new.walk c.pass.result
+    (subst (λ (j : Judging). Spells j.problem bytes c.in-Ok.line) c.self.view_is c.in-Ok.ensures)
+    (λ turn lines state tree. let whole : IsTrue c.is_whole.result = (c.is_whole.ensures.tree P turn lines state).1 tree in absurd (cc))
+    c.pass.ensures.passed

@@ -1,0 +1,28 @@
+use Rattle.std.proofs.Common.{◌≡◌, List, length, get_or, take, refl, ap, subst, arith, Some}
+use Rattle.std.specs.Prelude.{slice_get}
+use Rattle.std.proofs.lemmas.Option.{slice_get_read}
+use Rattle.refutation_terms.specs.declared.lines.Line.{Line}
+use Rattle.refutation_terms.specs.Verdict.{header_lines}
+use Rattle.refutation_checker.proofs.Passing.{no_front, still_part, passed_next}
+use Rattle.refutation_checker.proofs.log_check.pass_at.Goals as goal
+
+pub pass-requires-clause-part : goal.pass-requires-clause-part
+pass-requires-clause-part c =
+    let g = c.args.log.now in
+    still_part c.args.judge.now.problem g.turn (take c.args.i g.lines) c.args.walk.now c.requires.before.walked (no_front g.lines c.args.i c.lines-lines.ensures.tree c.requires.place)
+
+pub pass-requires-clause-line : goal.pass-requires-clause-line
+pass-requires-clause-line c =
+    let g = c.args.log.now in
+    let line = c.index-lines-i.result in
+    let read : line ≡ get_or g.lines c.args.i line = subst (λ (ls : List Line). line ≡ get_or ls c.args.i line) c.lines-lines.ensures.value c.index-lines-i.is in
+    c.requires.fits.lines c.args.i line (slice_get_read g.lines (length g.lines) c.args.i line refl c.requires.place read)
+
+pub returns-clause-passed : goal.returns-clause-passed
+returns-clause-passed c =
+    let g = c.args.log.now in
+    let line = c.index-lines-i.result in
+    let read : line ≡ get_or g.lines c.args.i line = subst (λ (ls : List Line). line ≡ get_or ls c.args.i line) c.lines-lines.ensures.value c.index-lines-i.is in
+    let here : slice_get g.lines c.args.i ≡ Some line = slice_get_read g.lines (length g.lines) c.args.i line refl c.requires.place read in
+    passed_next c.args.judge.now.problem g c.args.i _ line c.args.walk.now c.pass.new.walk c.pass.result here c.requires.before (omega (arith, c.header_len.ensures.value, ap header_lines c.turn.ensures))
+    (rw c.requires.named at c.pass.ensures.passed)

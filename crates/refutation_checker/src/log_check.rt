@@ -1,0 +1,129 @@
+// The verdict on a log without its text.
+ghost use Rattle.std.specs.Prelude.{◌≡◌, ℕ, ◌+◌, ◌<◌, ◌≤◌, length, Option, IfOk, MatchOption, Some};
+ghost use Rattle.rwsp_model.specs.Refusals.{MatchAnswer};
+ghost use Rattle.refutation_terms.specs.Tree.{IsTree};
+ghost use Rattle.refutation_terms.specs.Log.{Fits, TurnFits, Passes};
+ghost use Rattle.refutation_terms.specs.LogText.{log_text};
+ghost use Rattle.refutation_terms.specs.Verdict.{IsRefused, header_lines};
+ghost use Rattle.refutation_checker.specs.Passed.{IsSoundTurn, IsTurnFault, TurnFault, AreSound, IsPassed, IsRefusedAt};
+
+use crate::Judge;
+use refutation_log::Log;
+use refutation_terms::{LogRefusal, Turn};
+use rwsp_model::{Fail, Problem, RuleList, number_of};
+use rwsp_terms::Rule;
+use std::alloc::{AllocError, Global};
+use tree_walk::Walk;
+
+/// The verdict on the text of a log, without its text.
+pub fn check_log(alloc: Global, problem: &Problem, log: &Log) -> Result<(), Fail<LogRefusal>>
+    requires { Fits problem.now log.now }
+    ensures { MatchAnswer result (λ _. Passes problem.now log.now) (IsRefused problem.now (log_text problem.now log.now)) }
+{
+    match log_refusal(alloc, problem, log) {
+        Ok(None) => Ok(()),
+        Ok(Some(why)) => Err(Fail::Refused(why)),
+        Err(_) => Err(Fail::Memory),
+    }
+}
+
+// The cause of the first line that has one.
+fn log_refusal(
+    alloc: Global,
+    problem: &Problem,
+    log: &Log,
+) -> Result<Option<LogRefusal>, AllocError>
+    requires { Fits problem.now log.now }
+    ensures { IfOk result (λ found. MatchOption found (Passes problem.now log.now) (IsRefused problem.now (log_text problem.now log.now))) }
+{
+    problem.keeps_limits();
+    if let Some(why) = turn_refusal(problem, log.named(), log.turn()) {
+        return Ok(Some(why));
+    }
+    tree_refusal(alloc, problem, log)
+}
+
+// The cause of a turn, whose line is the third.
+fn turn_refusal(problem: &Problem, named: &RuleList, turn: Option<Turn>) -> Option<LogRefusal>
+    requires { TurnFits problem.now turn }
+    ensures { MatchOption result (IsSoundTurn problem.now named.now turn) (IsTurnFault problem.now named.now turn) }
+{
+    match turn {
+        Some(turn) => turn_fault(problem, named, turn),
+        None => None,
+    }
+}
+
+fn turn_fault(problem: &Problem, named: &RuleList, turn: Turn) -> Option<LogRefusal>
+    requires { TurnFits problem.now (Some turn) }
+    ensures { MatchOption result (IsSoundTurn problem.now named.now (Some turn)) (TurnFault problem.now named.now turn) }
+{
+    let number = number_of(problem, Rule::Day(turn.day));
+    if !named.holds(number) {
+        return Some(LogRefusal::Unnamed(3, number));
+    }
+    if problem.demand_least(turn.x, turn.day) < 1 {
+        return Some(LogRefusal::Turn(3));
+    }
+    None
+}
+
+// The cause of the first line of the tree that has one.
+fn tree_refusal(
+    alloc: Global,
+    problem: &Problem,
+    log: &Log,
+) -> Result<Option<LogRefusal>, AllocError>
+    requires { Fits problem.now log.now }
+    ensures tree { IsTree log.now.lines }
+    ensures refusal { IfOk result (λ found. MatchOption found
+        (AreSound problem.now log.now (length log.now.lines))
+        (λ why. (i : ℕ) × IsRefusedAt problem.now log.now i why)) }
+{
+    let lines = log.lines();
+    let mut walk = Walk::new(alloc, problem, log.turn())?;
+    let mut judge = Judge::new(problem, log.named());
+    for i in 0..lines.len() {
+        if let Some(why) = pass_at(alloc, &mut judge, &mut walk, log, i)? {
+            return Ok(Some(why));
+        }
+    }
+    Ok(None)
+}
+
+// Judges the line at a place, counted from 0, behind the lines before.
+fn pass_at(
+    alloc: Global,
+    judge: &mut Judge,
+    walk: &mut Walk,
+    log: &Log,
+    i: usize,
+) -> Result<Option<LogRefusal>, AllocError>
+    requires place { i < length log.now.lines }
+    requires fits { Fits judge.old.problem log.now }
+    requires named { judge.old.named ≡ log.now.named }
+    requires before { IsPassed judge.old.problem log.now i walk.old }
+    ensures same { judge.new ≡ judge.old }
+    ensures passed { IfOk result (λ found. MatchOption found
+        (IsPassed judge.old.problem log.now (i + 1) walk.new)
+        (IsRefusedAt judge.old.problem log.now i)) }
+{
+    let lines = log.lines();
+    judge.pass(
+        alloc,
+        walk,
+        &lines[i],
+        header_len(log.turn()) + i as u32 + 1,
+    )
+}
+
+// How many lines a header has.
+fn header_len(turn: Option<Turn>) -> u32
+    ensures value { result ≡ header_lines turn }
+    ensures few { result ≤ 3 }
+{
+    match turn {
+        None => 2,
+        Some(_) => 3,
+    }
+}
