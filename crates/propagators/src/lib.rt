@@ -1,8 +1,13 @@
 //! Propagators: they see whether domains are closed by a leaf, and which symbols a leaf takes away.
 #![tactic(auto)]
 
+mod day;
+mod day_cut;
 mod look;
+mod pair;
 mod propagator;
 
+pub use day::DayProp;
 pub use look::Look;
+pub use pair::Pair;
 pub use propagator::Propagator;
