@@ -1,2 +1,6 @@
 mod Pairs
 mod Cuts
+mod Lying
+mod Runs
+mod Over
+mod Watching

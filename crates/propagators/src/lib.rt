@@ -3,11 +3,16 @@
 
 mod day;
 mod day_cut;
+mod domain;
 mod look;
 mod pair;
 mod propagator;
+mod run;
+mod window;
+mod window_over;
 
 pub use day::DayProp;
 pub use look::Look;
 pub use pair::Pair;
 pub use propagator::Propagator;
+pub use window::WindowProp;
