@@ -12,14 +12,11 @@ use Rattle.rwsp_terms.specs.Instance.{Instance, cells, bounds}
 use Rattle.rwsp_terms.specs.Window.{InClass, Bad}
 use Rattle.rwsp_terms.specs.Roster.{IsRule}
 use Rattle.rwsp_terms.specs.Rules.{rules, rule_of}
-use Rattle.refutation_terms.specs.Leaf.{IsBlocked}
-use Rattle.refutation_terms.specs.declared.lines.Line.TheVariants.{Window}
-use Rattle.refutation_terms.specs.Log.{LineFits}
 use Rattle.domain_store.specs.Store.{Store, has_domain}
 use Rattle.plain_leaves.specs.Runs.{LiesIn, LiesOutside, StaysIn, IsLongRun, IsShortRun, IsPairRun, IsTripleRun, EachWord}
 use Rattle.plain_leaves.proofs.Domains.{IsFilled}
 use Rattle.plain_leaves.proofs.Words.{long_words, long_domains, short_words, short_domains, pair_words, pair_domains, triple_words, triple_domains, day_blocks_none}
-use Rattle.propagators.specs.Windows.{IsRun, IsFound, IsRunAnswer, IsWindow, NoWindowOver, LiesOver}
+use Rattle.propagators.specs.Windows.{IsRun, IsFound, IsRunAnswer, IsWindow, NoWindowOver}
 
 -- days of one position
 

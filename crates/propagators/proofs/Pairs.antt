@@ -6,7 +6,7 @@ use Rattle.refutation_terms.specs.declared.lines.Line.{Line}
 use Rattle.domain_store.specs.Store.{Store}
 use Rattle.propagators.specs.declared.look.Look.{Look}
 use Rattle.propagators.specs.declared.look.Look.TheVariants.{Quiet, Closed, Cut}
-use Rattle.propagators.specs.Looks.{Closes, IsCut, IsLook}
+use Rattle.propagators.specs.Looks.{Closes, IsLook}
 
 neither_closes : (P : Instance) (l m : Line → Type 0) (S : Store) → (Closes P l S → ⊥) → (Closes P m S → ⊥) → Closes P (λ line. l line ⊎ m line) S → ⊥
 neither_closes P l m S first second h =

@@ -1,10 +1,10 @@
 -- Runs of days before and behind a day.
-use Rattle.std.proofs.Common.{◌≡◌, ◌≢◌, ℕ, zero, suc, ◌+◌, ◌-◌, ◌%◌, ◌<◌, ◌≤◌, ◌⊎◌, inl, inr, length, refl, ap, sym, ◌∙◌, subst, arith, IsTrue, List}
+use Rattle.std.proofs.Common.{◌≡◌, ℕ, zero, suc, ◌+◌, ◌-◌, ◌%◌, ◌<◌, ◌≤◌, ◌⊎◌, inl, inr, length, sym, subst, arith}
 use Rattle.std.proofs.lemmas.Bool.{cases_eq, cases_lt}
 use Rattle.rwsp_terms.specs.declared.data.Symbol.{Symbol}
 use Rattle.rwsp_terms.specs.declared.data.Class.{Class}
 use Rattle.rwsp_terms.specs.Instance.{symbol_numbered}
-use Rattle.domain_store.specs.Store.{Store, has_domain, HasDomains}
+use Rattle.domain_store.specs.Store.{Store, HasDomains}
 use Rattle.plain_leaves.specs.Runs.{LiesIn, LiesOutside, StaysIn, IsLongRun, IsShortRun, IsPairRun, IsTripleRun}
 
 -- one day more behind

@@ -1,17 +1,16 @@
 -- What a propagator of windows keeps.
-use Rattle.std.proofs.Common.{◌≡◌, ◌≢◌, ◌⊎◌, inl, inr, ℕ, zero, suc, ◌+◌, ◌*◌, ◌%◌, ◌<◌, ◌≤◌, List, [], ◌∷◌, length, get_or, set, take, replicate, refl, ap, sym, ◌∙◌, subst, arith, Bool, true, false, ◌||◌, not, IsTrue, get_or-set_same, get_or-set_other}
+use Rattle.std.proofs.Common.{◌≡◌, ◌≢◌, ◌⊎◌, inl, inr, ℕ, zero, suc, ◌+◌, ◌*◌, ◌%◌, ◌<◌, ◌≤◌, List, [], ◌∷◌, length, get_or, set, replicate, refl, ap, sym, ◌∙◌, subst, arith, Bool, true, false, ◌||◌, not, get_or-set_same, get_or-set_other}
 use Rattle.std.proofs.lemmas.Bool.{cases_eq}
 use Rattle.std.proofs.lemmas.Nat.{mod-mul-add}
 use Rattle.std.proofs.lemmas.List.{length-set, length-replicate, ext_get_or, get_or-replicate}
 use Rattle.rwsp_terms.specs.declared.data.Symbol.{Symbol}
 use Rattle.rwsp_terms.specs.Instance.{Instance, cells}
-use Rattle.refutation_terms.specs.declared.lines.Line.{Line}
 use Rattle.refutation_terms.specs.declared.lines.Line.TheVariants.{Split, Window, Day, Dead, Bound, Unfinished}
 use Rattle.refutation_terms.specs.Word.{Domains, Over}
 use Rattle.refutation_terms.specs.Leaf.{IsBlocked}
 use Rattle.refutation_terms.specs.Log.{LineFits}
 use Rattle.domain_store.specs.Sets.{has_symbol}
-use Rattle.domain_store.specs.Store.{Store, BelongsTo, domain_at, has_domain, IsStore, HasDomains}
+use Rattle.domain_store.specs.Store.{Store, BelongsTo, domain_at, IsStore, HasDomains}
 use Rattle.plain_leaves.proofs.Domains.{positions}
 use Rattle.propagators.specs.Looks.{Closes, IsClosing}
 use Rattle.propagators.specs.Windows.{IsWindowLeaf, WindowWatch, has_known, LiesOver, IsWatch, IsWindow, NoWindowOver}
@@ -25,8 +24,7 @@ IsWider P D E p len = (i x : ℕ) → i < len → D ((p + i) % cells P) x ≡ tr
 over_wider : (P : Instance) (D E : Domains) (p : ℕ) (u : List Symbol) → IsWider P D E p (length u) → Over P D p u → Over P E p u
 over_wider P D E p [] wider over = tt
 over_wider P D E p (y ∷ u) wider over =
-    let here : p + 0 ≡ p = omega arith in
-    (
+    let here : p + 0 ≡ p = omega arith in (
       subst (λ q. E (q % cells P) y.number ≡ true) here (wider 0 y.number (omega arith) (subst (λ q. D (q % cells P) y.number ≡ true) (sym here) over.0)),
       over_wider P D E (p + 1) u (λ i x less has.
           let at : p + 1 + i ≡ p + suc i = omega arith in
@@ -127,7 +125,7 @@ taken_over P sets pending p s flag lost w lt is part small = record {
   ];
   awaited = λ number at len fits blocked.
       let before : IsWider P (has_known sets) (has_known (set sets p s)) at len → IsAwaited P (set pending p flag) at len = λ wider.
-          still_awaited P sets pending p number at len s flag lost w is fits (blocked_before P (has_known sets) (has_known (set sets p s)) number at len wider blocked) in
+      still_awaited P sets pending p number at len s flag lost w is fits (blocked_before P (has_known sets) (has_known (set sets p s)) number at len wider blocked) in
       elim (or_cases (get_or pending p false) lost flag is) [
         | inr neither ↦ before (wider_by P sets p at len s lt (part neither.1))
         | inl flagged ↦ elim (lies_over P at len p) [

@@ -1,7 +1,7 @@
 -- The leaves of days, and the symbols that they take away.
 use Rattle.std.specs.Prelude.{◌≡◌, ◌≢◌, ℕ, ◌+◌, ◌-◌, ◌*◌, ◌<◌, ◌≤◌, Bool, true, false, Option, Some, None, pos, ◌≤ℤ◌}
 use Rattle.rwsp_terms.specs.declared.data.Symbol.{Symbol}
-use Rattle.rwsp_terms.specs.Instance.{Instance, cells, shift_count, least, greatest, IsDay}
+use Rattle.rwsp_terms.specs.Instance.{Instance, cells, shift_count, least, greatest}
 use Rattle.refutation_terms.specs.declared.lines.Line.{Line}
 use Rattle.refutation_terms.specs.declared.lines.Line.TheVariants.{Split, Day}
 use Rattle.refutation_terms.specs.Word.{Domains}

@@ -1,5 +1,5 @@
 -- The leaves of windows, and which of them a propagator has still to look at.
-use Rattle.std.specs.Prelude.{◌≡◌, ℕ, ◌+◌, ◌*◌, ◌%◌, ◌<◌, ◌≤◌, List, [], length, Bool, true, false, Option, Some, None, IsTrue, slice_get, slice_index_or}
+use Rattle.std.specs.Prelude.{◌≡◌, ℕ, ◌+◌, ◌%◌, ◌<◌, ◌≤◌, List, [], length, Bool, true, false, Option, Some, None, slice_get, slice_index_or}
 use Rattle.rwsp_terms.specs.declared.data.Symbol.{Symbol}
 use Rattle.rwsp_terms.specs.declared.data.Class.TheVariants.{Shift, Off, Work}
 use Rattle.rwsp_terms.specs.declared.data.Rule.{Rule}

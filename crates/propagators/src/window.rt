@@ -96,8 +96,7 @@ impl WindowProp {
         Some(leaf)
     }
 
-    // Knows the domain that the position has among these. Where that lacks a symbol of the one known before, the position has
-    // to be looked at.
+    // Gives the position the domain that it has among these. Where it has it already, nothing changes.
     fn take_over(&mut self, doms: &Domains, p: u32)
         requires kept { p < length self.old.sets }
         requires position { p < length doms.now.sets }
@@ -106,10 +105,31 @@ impl WindowProp {
     {
         doms.facts();
         let set = doms.set(p);
-        let is_lost = !is_part(&self.sets[p as usize], set);
+        if !self.has_set(p, set) {
+            self.put(p, set.copy());
+        }
+    }
+
+    // Whether the position has the domain.
+    fn has_set(&self, p: u32, set: &SymbolSet) -> bool
+        requires { p < length self.now.sets }
+        ensures { IsTrue result ↔ (slice_index_or self.now.sets p [] ≡ set.now) }
+    {
+        let known = &self.sets[p as usize];
+        known.is_same(set)
+    }
+
+    // Gives the position another domain. Where that lacks a symbol, the position has to be looked at.
+    fn put(&mut self, p: u32, set: SymbolSet)
+        requires position { p < length self.old.sets }
+        requires small { (x : ℕ) → has_symbol set x ≡ true → x ≤ 8 }
+        ensures problem { self.new.problem ≡ self.old.problem }
+        ensures sets { self.new.sets ≡ slice_set self.old.sets p set }
+    {
+        let is_lost = !is_part(&self.sets[p as usize], &set);
         let was_pending = self.pending[p as usize];
         self.pending[p as usize] = was_pending | is_lost;
-        self.sets[p as usize] = set.copy();
+        self.sets[p as usize] = set;
     }
 }
 

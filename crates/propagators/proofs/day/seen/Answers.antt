@@ -1,5 +1,5 @@
 -- An overrun closes; else a symbol is cut; else there is neither.
-use Rattle.std.proofs.Common.{◌≡◌, ◌≤◌, sym, subst, arith}
+use Rattle.std.proofs.Common.{◌≤◌, sym, subst, arith}
 use Rattle.rwsp_terms.specs.Instance.{shift_count}
 use Rattle.domain_store.specs.Store.{has_domain}
 use Rattle.propagators.specs.declared.look.Look.{Look}

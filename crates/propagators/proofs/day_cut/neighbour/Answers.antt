@@ -1,5 +1,5 @@
 -- The symbol and the other are both there; or no other is.
-use Rattle.std.proofs.Common.{◌<◌, ◌≤◌, ◌+◌, ◌≡◌, ℕ, true, sym, ◌∙◌, arith}
+use Rattle.std.proofs.Common.{◌<◌, ◌≤◌, ◌≡◌, true, sym, ◌∙◌, arith}
 use Rattle.rwsp_terms.specs.Instance.{shift_count}
 use Rattle.domain_store.specs.Store.{has_domain}
 use Rattle.propagators.proofs.Cuts.{useful, idle_alone}

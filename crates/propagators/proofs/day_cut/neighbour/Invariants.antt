@@ -1,4 +1,4 @@
-use Rattle.std.proofs.Common.{◌≡◌, ◌≢◌, ℕ, ◌<◌, false, true}
+use Rattle.std.proofs.Common.{◌≡◌, ℕ, ◌<◌, true}
 use Rattle.domain_store.specs.Store.{has_domain}
 use Rattle.propagators.proofs.day_cut.neighbour.Given as goal
 

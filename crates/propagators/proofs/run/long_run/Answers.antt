@@ -1,5 +1,5 @@
 -- A run with the day in it would reach from the first day on.
-use Rattle.std.proofs.Common.{◌≤◌, ◌<◌, ◌-◌, ◌+◌, arith}
+use Rattle.std.proofs.Common.{◌≤◌, ◌<◌, ◌+◌, arith}
 use Rattle.propagators.proofs.Runs.{long_from_start}
 use Rattle.propagators.proofs.run.long_run.Goals as goal
 

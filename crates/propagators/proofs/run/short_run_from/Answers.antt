@@ -1,5 +1,5 @@
 -- The block is the whole run behind the day.
-use Rattle.std.proofs.Common.{◌≡◌, ◌+◌, ◌-◌, subst, sym, ◌∙◌, arith}
+use Rattle.std.proofs.Common.{◌≡◌, ◌+◌, ◌-◌, subst, arith}
 use Rattle.plain_leaves.specs.Runs.{LiesOutside}
 use Rattle.propagators.proofs.Runs.{block_of}
 use Rattle.propagators.proofs.run.short_run_from.Goals as goal

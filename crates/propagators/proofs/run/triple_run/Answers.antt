@@ -1,5 +1,5 @@
 -- One day before more; and no day before counts further back.
-use Rattle.std.proofs.Common.{ℕ, ◌-◌, ◌<◌, arith}
+use Rattle.std.proofs.Common.{ℕ, ◌-◌, arith}
 use borrow.Author.Count.{below_more}
 use Rattle.plain_leaves.specs.Runs.{IsTripleRun}
 use Rattle.propagators.proofs.Runs.{triple_near}

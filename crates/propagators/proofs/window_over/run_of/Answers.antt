@@ -1,7 +1,5 @@
 -- By the kind of the rule.
-use Rattle.std.proofs.Common.{ℕ, subst, sym}
-use Rattle.std.specs.Prelude.{Option}
-use Rattle.rwsp_terms.specs.declared.data.Rule.{Rule}
+use Rattle.std.proofs.Common.{subst, sym}
 use Rattle.propagators.specs.Windows.{IsRun, IsRunAnswer}
 use Rattle.propagators.proofs.window_over.run_of.Goals as goal
 

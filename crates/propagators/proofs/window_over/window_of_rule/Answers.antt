@@ -1,5 +1,5 @@
 -- A run found is a window; where none is found, no window over the position holds.
-use Rattle.std.proofs.Common.{ℕ, ◌<◌, ◌≤◌, ◌+◌, ◌*◌, subst, sym, arith}
+use Rattle.std.proofs.Common.{ℕ, ◌<◌, ◌≤◌, ◌+◌, ◌*◌, subst, arith}
 use Rattle.rwsp_terms.specs.Instance.{cells}
 use Rattle.plain_leaves.proofs.Domains.{filled}
 use Rattle.propagators.specs.Windows.{IsRun}

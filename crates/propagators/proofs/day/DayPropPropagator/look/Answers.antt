@@ -1,5 +1,5 @@
 -- The kept problem is the one that is served.
-use Rattle.std.proofs.Common.{◌≡◌, ◌∙◌, ap, subst}
+use Rattle.std.proofs.Common.{◌≡◌, ap, subst}
 use Rattle.rwsp_terms.specs.Instance.{Instance}
 use Rattle.domain_store.specs.Store.{has_domain}
 use Rattle.propagators.specs.Days.{DayWatch, IsDayLeaf, IsDaySpent}

@@ -1,7 +1,6 @@
 -- No window over the position holds.
-use Rattle.std.proofs.Common.{◌≡◌, ◌∙◌, ℕ, List, ap, sym, subst}
-use Rattle.rwsp_terms.specs.Instance.{Instance}
-use Rattle.propagators.specs.Windows.{WindowWatch, NoWindowOver}
+use Rattle.std.proofs.Common.{◌≡◌, ◌∙◌, ap}
+use Rattle.propagators.specs.Windows.{WindowWatch}
 use Rattle.propagators.proofs.Watching.{looked_at}
 use Rattle.propagators.proofs.window.WindowProp.look_at.Goals as goal
 

@@ -1,5 +1,5 @@
 -- All positions have still to be looked at.
-use Rattle.std.proofs.Common.{◌≡◌, ◌∙◌, sym, subst, List, Bool, ℕ}
+use Rattle.std.proofs.Common.{sym, subst}
 use Rattle.rwsp_terms.specs.Instance.{Instance}
 use Rattle.propagators.specs.Windows.{IsWatch}
 use Rattle.propagators.proofs.Watching.{all_awaited}

@@ -1,5 +1,5 @@
 -- No position has still to be looked at.
-use Rattle.std.proofs.Common.{◌≡◌, ◌∙◌, ℕ, ◌<◌, ap, sym, subst, arith}
+use Rattle.std.proofs.Common.{◌≡◌, ◌<◌, subst, arith}
 use Rattle.rwsp_terms.specs.Instance.{Instance, cells}
 use Rattle.propagators.specs.Looks.{Closes}
 use Rattle.propagators.specs.Windows.{IsWindowLeaf}
