@@ -1,8 +1,18 @@
 //! Propagators: they see whether domains are closed by a leaf, and which symbols a leaf takes away.
 #![tactic(auto)]
 
+mod day;
+mod day_cut;
+mod domain;
 mod look;
+mod pair;
 mod propagator;
+mod run;
+mod window;
+mod window_over;
 
+pub use day::DayProp;
 pub use look::Look;
+pub use pair::Pair;
 pub use propagator::Propagator;
+pub use window::WindowProp;

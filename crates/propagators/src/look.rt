@@ -9,9 +9,5 @@ pub enum Look {
     /// This leaf holds.
     Closed(Line),
     /// No leaf holds yet, but this one does once the domain of position `p` is cut to `x`. Positions count from 0.
-    Cut {
-        p: u32,
-        x: Symbol,
-        line: Line,
-    },
+    Cut { p: u32, x: Symbol, line: Line },
 }

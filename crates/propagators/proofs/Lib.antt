@@ -1,0 +1,6 @@
+mod Pairs
+mod Cuts
+mod Lying
+mod Runs
+mod Over
+mod Watching

@@ -1,0 +1,19 @@
+-- By the one symbol of the class, or by the day off.
+use Rattle.std.proofs.Common.{IsTrue}
+use Rattle.propagators.proofs.Lying.{only_at, has_at, in_shift, in_off, in_work}
+use Rattle.propagators.proofs.domain.lies_in.Goals as goal
+
+pub returns-in-Shift : goal.returns-in-Shift
+returns-in-Shift c =
+    let S = c.args.doms.now in
+    in_shift S c.args.day c.in-Shift.shift c.args.class (IsTrue c.is_alone.result) c.in-Shift.is (only_at S c.args.day c.cells.result c.in-Shift.shift.number (IsTrue c.is_alone.result) c.cells.ensures.positions c.is_alone.ensures)
+
+pub returns-in-Off : goal.returns-in-Off
+returns-in-Off c =
+    let S = c.args.doms.now in
+    in_off S c.args.day c.args.class (IsTrue c.is_alone-in-Off.result) c.in-Off.is (only_at S c.args.day c.cells.result 0 (IsTrue c.is_alone-in-Off.result) c.cells.ensures.positions c.is_alone-in-Off.ensures)
+
+pub returns-in-Work : goal.returns-in-Work
+returns-in-Work c =
+    let S = c.args.doms.now in
+    in_work S c.args.day c.args.class c.has.result c.in-Work.is (has_at S c.args.day c.cells.result 0 c.has.result c.cells.ensures.positions c.has.ensures)

@@ -1,0 +1,12 @@
+-- All positions have still to be looked at.
+use Rattle.std.proofs.Common.{sym, subst}
+use Rattle.rwsp_terms.specs.Instance.{Instance}
+use Rattle.propagators.specs.Windows.{IsWatch}
+use Rattle.propagators.proofs.Watching.{all_awaited}
+use Rattle.propagators.proofs.window.WindowProp.new.Goals as goal
+
+pub invariant_of-result : goal.invariant_of-result
+invariant_of-result c =
+    let IsWatchOf : Instance → Type 0 = λ P. IsWatch (record { problem = P; sets = c.in_ok-sets.sets.items; pending = c.in_ok-pending.pending.items }) in
+    subst IsWatchOf (sym c.in_ok-copy.ensures)
+    (all_awaited c.args.problem.now c.args.doms.now c.in_ok-sets.sets.items c.in_ok-pending.pending.items c.cells-cells.result c.requires c.facts.ensures.now c.facts.ensures.tests c.in_ok-sets.ensures c.cells-cells.ensures.value (c.in_ok-pending.ensures.items_if_clones_equal (λ y e. e)))

@@ -1,0 +1,97 @@
+// The leaves of days.
+ghost use Rattle.std.specs.Prelude.{◌≡◌, ℕ, ◌<◌, ◌≤◌, ◌↔◌, length, IfOk, Bool};
+ghost use Rattle.rwsp_terms.specs.declared.data.Symbol.{Symbol};
+ghost use Rattle.rwsp_terms.specs.Instance.{Instance};
+ghost use Rattle.refutation_terms.specs.declared.lines.Line.{Line};
+ghost use Rattle.refutation_terms.specs.declared.lines.Line.TheVariants.{Day};
+ghost use Rattle.refutation_terms.specs.Log.{LineFits};
+ghost use Rattle.domain_store.specs.Store.{Store, BelongsTo, has_domain};
+ghost use Rattle.demand_counts.specs.Counted.{StandsFor};
+ghost use Rattle.propagators.specs.Days.{AreCountsOf, IsDayLeaf, IsDaySpent};
+ghost use Rattle.propagators.specs.Looks.{IsLook};
+
+use crate::day_cut::first_cut;
+use crate::{Look, Propagator};
+use demand_counts::Counts;
+use domain_store::Domains;
+use refutation_terms::Line;
+use rwsp_model::{Problem, Symbol};
+use std::alloc::{AllocError, Global};
+use std::marker::Model;
+
+/// Closes where more weeks hold a symbol on a day for sure than may hold it, or fewer can hold it than must, and takes
+/// away what would lead there at once. It keeps counts of the domains that it tracks: a look takes a step for each day and
+/// symbol, and one for each week where a symbol is taken away.
+#[derive(Debug, Drop)]
+pub struct DayProp {
+    problem: Problem,
+    counts: Counts,
+}
+
+impl Model for DayProp {
+    ghost use Rattle.propagators.specs.Days.{DayWatch};
+
+    ghost Value = { DayWatch };
+
+    ghost use Rattle.demand_counts.specs.Counted.{CountsFor};
+
+    ghost view = { λ d. record { problem = d.problem; counts = d.counts } };
+
+    ghost invariant = { λ d. CountsFor d.problem d.counts };
+}
+
+impl DayProp {
+    /// Tracks the domains. Its leaves are all day leaves of the problem.
+    pub fn new(alloc: Global, problem: &Problem, doms: &Domains) -> Result<DayProp, AllocError>
+        requires { BelongsTo problem.now doms.now }
+        ensures serves { IfOk result (λ d. ⟦<DayProp as Propagator>⟧.serves d problem.now) }
+        ensures tracks { IfOk result (λ d. ⟦<DayProp as Propagator>⟧.tracks d doms.now) }
+        ensures leaves { IfOk result (λ d. (S : Store) (j : ℕ) (x : Symbol) (over : Bool) → LineFits problem.now (Day j x over) → ⟦<DayProp as Propagator>⟧.leaves d S (Day j x over)) }
+        ensures days_only { IfOk result (λ d. (S : Store) (line : Line) → ⟦<DayProp as Propagator>⟧.leaves d S line → IsDayLeaf problem.now line) }
+        ensures spent { IfOk result (λ d. (S : Store) (p : ℕ) (x : Symbol) → ⟦<DayProp as Propagator>⟧.spent d S p x ↔ IsDaySpent problem.now (has_domain S) p x) }
+    {
+        let counts = Counts::new(alloc, problem, doms)?;
+        Ok(DayProp {
+            problem: problem.copy()?,
+            counts,
+        })
+    }
+}
+
+impl Propagator for DayProp {
+    ghost serves = { λ d P. d.problem ≡ P };
+
+    ghost tracks = { λ d S. StandsFor d.counts S };
+
+    ghost leaves = { λ d S line. IsDayLeaf d.problem line };
+
+    ghost spent = { λ d S p x. IsDaySpent d.problem (has_domain S) p x };
+
+    fn look(&mut self, _alloc: Global, doms: &Domains) -> Result<Look, AllocError> {
+        Ok(seen(&self.problem, &self.counts, doms))
+    }
+
+    fn narrowed(&mut self, doms: &Domains, p: u32) {
+        self.counts.narrowed(doms, p);
+    }
+
+    fn undone(&mut self, doms: &Domains) {
+        self.counts.undo_to(doms);
+    }
+}
+
+// What the counts say.
+fn seen(problem: &Problem, counts: &Counts, doms: &Domains) -> Look
+    requires { AreCountsOf problem.now doms.now counts.now }
+    ensures { IsLook problem.now (IsDayLeaf problem.now) (IsDaySpent problem.now (has_domain doms.now)) doms.now result }
+{
+    problem.keeps_limits();
+    doms.facts();
+    if let Some((day, x, over)) = counts.overrun(problem) {
+        return Look::Closed(Line::Day { day, x, over });
+    }
+    match first_cut(problem, counts, doms) {
+        Some(cut) => cut.look(),
+        None => Look::Quiet,
+    }
+}

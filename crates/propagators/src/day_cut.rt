@@ -1,0 +1,202 @@
+// Symbols that a day leaf takes away.
+ghost use Rattle.std.specs.Prelude.{◌≡◌, ℕ, ◌+◌, ◌-◌, ◌<◌, ◌≤◌, length, MatchOption, true, false};
+ghost use Rattle.rwsp_terms.specs.Instance.{cells, shift_count, IsDay, IsSymbol};
+ghost use Rattle.refutation_terms.specs.Leaf.{fixed, possible};
+ghost use Rattle.domain_store.specs.Store.{has_domain, BelongsTo};
+ghost use Rattle.refutation_terms.specs.declared.lines.Line.TheVariants.{Day};
+ghost use Rattle.propagators.specs.declared.look.Look.TheVariants.{Cut};
+ghost use Rattle.propagators.specs.Days.{AreCountsOf, place, TakesNone, IsSaturation, IsNeighbour, IsPlaceAnswer, IsDayCut};
+
+use crate::Look;
+use demand_counts::Counts;
+use domain_store::Domains;
+use refutation_terms::Line;
+use rwsp_model::{Problem, Symbol};
+
+/// A symbol `x` at a position, and the day leaf that holds once `x` is alone there. Days count from 1, positions from 0.
+#[derive(Clone, Copy, Debug)]
+pub struct DayCut {
+    pub p: u32,
+    pub x: Symbol,
+    pub day: u32,
+    pub counted: Symbol,
+    pub over: bool,
+}
+
+impl DayCut {
+    /// The cut with its leaf.
+    pub fn look(self) -> Look
+        ensures { result ≡ Cut self.p self.x (Day self.day self.counted self.over) }
+    {
+        Look::Cut {
+            p: self.p,
+            x: self.x,
+            line: Line::Day {
+                day: self.day,
+                x: self.counted,
+                over: self.over,
+            },
+        }
+    }
+}
+
+/// The first symbol that a day leaf takes away, by the day and the symbol that are counted, then by week.
+pub fn first_cut(problem: &Problem, counts: &Counts, doms: &Domains) -> Option<DayCut>
+    requires { AreCountsOf problem.now doms.now counts.now }
+    ensures { MatchOption result
+        ((j z : ℕ) → IsDay problem.now j → z ≤ shift_count problem.now → TakesNone problem.now (has_domain doms.now) j z)
+        (λ cut. IsDayCut problem.now (has_domain doms.now) cut.p cut.x cut.day cut.counted cut.over) }
+{
+    for day in 1..problem.days() + 1 {
+        if let Some(cut) = cut_on_day(problem, counts, doms, day) {
+            return Some(cut);
+        }
+    }
+    None
+}
+
+// The first on the day.
+fn cut_on_day(problem: &Problem, counts: &Counts, doms: &Domains, day: u32) -> Option<DayCut>
+    requires counts { AreCountsOf problem.now doms.now counts.now }
+    requires day { IsDay problem.now day }
+    ensures { MatchOption result
+        ((z : ℕ) → z ≤ shift_count problem.now → TakesNone problem.now (has_domain doms.now) day z)
+        (λ cut. IsDayCut problem.now (has_domain doms.now) cut.p cut.x cut.day cut.counted cut.over) }
+{
+    for number in 0..problem.shifts() + 1 {
+        if let Some(cut) = cut_by(problem, counts, doms, day, Symbol { number }) {
+            return Some(cut);
+        }
+    }
+    None
+}
+
+// The first by the number of weeks that hold the symbol on the day.
+fn cut_by(
+    problem: &Problem,
+    counts: &Counts,
+    doms: &Domains,
+    day: u32,
+    counted: Symbol,
+) -> Option<DayCut>
+    requires counts { AreCountsOf problem.now doms.now counts.now }
+    requires day { IsDay problem.now day }
+    requires symbol { IsSymbol problem.now counted }
+    ensures { MatchOption result
+        (TakesNone problem.now (has_domain doms.now) day counted.number)
+        (λ cut. IsDayCut problem.now (has_domain doms.now) cut.p cut.x cut.day cut.counted cut.over) }
+{
+    let Some(over) = saturation(problem, counts, doms, day, counted) else {
+        return None;
+    };
+    let Some((p, other)) = place_beside(problem, doms, day, counted) else {
+        return None;
+    };
+    let x = if over { counted } else { other };
+    Some(DayCut {
+        p,
+        x,
+        day,
+        counted,
+        over,
+    })
+}
+
+// Whether one week more for sure would be too many (true), or one fewer too few, where the symbol stands beside another
+// on the day at all.
+fn saturation(
+    problem: &Problem,
+    counts: &Counts,
+    doms: &Domains,
+    day: u32,
+    x: Symbol,
+) -> Option<bool>
+    requires counts { AreCountsOf problem.now doms.now counts.now }
+    requires day { IsDay problem.now day }
+    requires symbol { IsSymbol problem.now x }
+    ensures { IsSaturation problem.now (has_domain doms.now) day x.number result }
+{
+    let fixed = fixed_weeks(problem, counts, doms, day, x);
+    let possible = possible_weeks(problem, counts, doms, day, x);
+    if possible <= fixed {
+        return None;
+    }
+    if fixed as i32 >= problem.demand_greatest(x, day) {
+        return Some(true);
+    }
+    if possible as i32 <= problem.demand_least(x, day) {
+        return Some(false);
+    }
+    None
+}
+
+// How many weeks hold the symbol on the day for sure.
+fn fixed_weeks(problem: &Problem, counts: &Counts, doms: &Domains, day: u32, x: Symbol) -> u32
+    requires counts { AreCountsOf problem.now doms.now counts.now }
+    requires day { IsDay problem.now day }
+    requires symbol { IsSymbol problem.now x }
+    ensures value { result ≡ fixed problem.now (has_domain doms.now) day x.number }
+    ensures few { result ≤ 600 }
+{
+    problem.keeps_limits();
+    counts.fixed(x, day)
+}
+
+// How many can hold it.
+fn possible_weeks(problem: &Problem, counts: &Counts, doms: &Domains, day: u32, x: Symbol) -> u32
+    requires counts { AreCountsOf problem.now doms.now counts.now }
+    requires day { IsDay problem.now day }
+    requires symbol { IsSymbol problem.now x }
+    ensures value { result ≡ possible problem.now (has_domain doms.now) day x.number }
+    ensures few { result ≤ 600 }
+{
+    problem.keeps_limits();
+    counts.possible(x, day)
+}
+
+// The first position of the day that has the symbol beside another, which is told too.
+fn place_beside(problem: &Problem, doms: &Domains, day: u32, x: Symbol) -> Option<(u32, Symbol)>
+    requires domains { BelongsTo problem.now doms.now }
+    requires day { IsDay problem.now day }
+    ensures { IsPlaceAnswer problem.now (has_domain doms.now) day x.number result }
+{
+    for week in 0..problem.weeks() {
+        let p = place_of(problem, doms, week, day);
+        if let Some(other) = neighbour(problem, doms, p, x) {
+            return Some((p, other));
+        }
+    }
+    None
+}
+
+// The position of the day in the week. Weeks count from 0, days from 1.
+fn place_of(problem: &Problem, doms: &Domains, week: u32, day: u32) -> u32
+    requires domains { BelongsTo problem.now doms.now }
+    requires week { week < problem.now.weeks }
+    requires day { IsDay problem.now day }
+    ensures value { result ≡ place problem.now week day }
+    ensures within { result < length doms.now.sets }
+{
+    problem.keeps_limits();
+    doms.facts();
+    week * problem.days() + (day - 1)
+}
+
+// A symbol that stands beside this one in the domain of the position.
+fn neighbour(problem: &Problem, doms: &Domains, p: u32, x: Symbol) -> Option<Symbol>
+    requires domains { BelongsTo problem.now doms.now }
+    requires position { p < length doms.now.sets }
+    ensures { IsNeighbour problem.now (has_domain doms.now) p x.number result }
+{
+    if !doms.has(p, x) {
+        return None;
+    }
+    doms.facts();
+    for number in 0..problem.shifts() + 1 {
+        let other = Symbol { number };
+        if number != x.number && doms.has(p, other) {
+            return Some(other);
+        }
+    }
+    None
+}

@@ -1,0 +1,47 @@
+// Where the domain of a day lies. Days count from 0 round the cycle, without end.
+ghost use Rattle.std.specs.Prelude.{◌≡◌, ℕ, ◌<◌, ◌↔◌, length, IsTrue};
+ghost use Rattle.domain_store.specs.Store.{has_domain};
+ghost use Rattle.plain_leaves.specs.Runs.{LiesIn, LiesOutside};
+
+use domain_store::Domains;
+use rwsp_model::{Class, Symbol};
+
+/// Whether the domain of the day has no symbol outside the class.
+pub fn lies_in(doms: &Domains, class: Class, day: u32) -> bool
+    requires { 0 < length doms.now.sets }
+    ensures { IsTrue result ↔ LiesIn class doms.now day }
+{
+    doms.facts();
+    let p = day % doms.cells();
+    match class {
+        Class::Shift(shift) => is_alone(doms, p, shift),
+        Class::Off => is_alone(doms, p, Symbol::OFF),
+        Class::Work => !doms.has(p, Symbol::OFF),
+    }
+}
+
+/// Whether it has none in the class.
+pub fn lies_outside(doms: &Domains, class: Class, day: u32) -> bool
+    requires { 0 < length doms.now.sets }
+    ensures { IsTrue result ↔ LiesOutside class doms.now day }
+{
+    doms.facts();
+    let p = day % doms.cells();
+    match class {
+        Class::Shift(shift) => !doms.has(p, shift),
+        Class::Off => !doms.has(p, Symbol::OFF),
+        Class::Work => is_alone(doms, p, Symbol::OFF),
+    }
+}
+
+// Whether the domain of the position has this symbol alone.
+fn is_alone(doms: &Domains, p: u32, x: Symbol) -> bool
+    requires { p < length doms.now.sets }
+    ensures { IsTrue result ↔ ((y : ℕ) → IsTrue (has_domain doms.now p y) → y ≡ x.number) }
+{
+    doms.facts();
+    if doms.size(p) != 1 {
+        return false;
+    }
+    doms.has(p, x)
+}

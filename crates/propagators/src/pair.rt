@@ -1,0 +1,64 @@
+// Two propagators as one.
+ghost use Rattle.std.specs.Prelude.{ℕ, ◌⊎◌, ◌↔◌};
+ghost use Rattle.rwsp_terms.specs.declared.data.Symbol.{Symbol};
+ghost use Rattle.rwsp_terms.specs.Instance.{Instance};
+ghost use Rattle.refutation_terms.specs.declared.lines.Line.{Line};
+ghost use Rattle.domain_store.specs.Store.{Store};
+
+use crate::{Look, Propagator};
+use domain_store::Domains;
+use std::alloc::{AllocError, Global};
+
+/// The leaves and the spent symbols of two propagators. The first is asked first.
+#[derive(Debug, Drop)]
+pub struct Pair<A, B> {
+    first: A,
+    second: B,
+}
+
+impl<A: Propagator, B: Propagator> Pair<A, B> {
+    /// The two as one. Takes no memory.
+    pub fn new(first: A, second: B) -> Pair<A, B>
+        ensures serves { (P : Instance) → ⟦<Pair<A, B> as Propagator>⟧.serves result P ↔ (A.serves first P × B.serves second P) }
+        ensures tracks { (S : Store) → ⟦<Pair<A, B> as Propagator>⟧.tracks result S ↔ (A.tracks first S × B.tracks second S) }
+        ensures leaves { (S : Store) (line : Line) → ⟦<Pair<A, B> as Propagator>⟧.leaves result S line ↔ (A.leaves first S line ⊎ B.leaves second S line) }
+        ensures spent { (S : Store) (p : ℕ) (x : Symbol) → ⟦<Pair<A, B> as Propagator>⟧.spent result S p x ↔ (A.spent first S p x ⊎ B.spent second S p x) }
+    {
+        Pair { first, second }
+    }
+}
+
+impl<A: Propagator, B: Propagator> Propagator for Pair<A, B> {
+    ghost serves = { λ w P. A.serves w.first P × B.serves w.second P };
+
+    ghost tracks = { λ w S. A.tracks w.first S × B.tracks w.second S };
+
+    ghost leaves = { λ w S line. A.leaves w.first S line ⊎ B.leaves w.second S line };
+
+    ghost spent = { λ w S p x. A.spent w.first S p x ⊎ B.spent w.second S p x };
+
+    fn look(&mut self, alloc: Global, doms: &Domains) -> Result<Look, AllocError> {
+        let first = self.first.look(alloc, doms)?;
+        if let Look::Closed(line) = first {
+            return Ok(Look::Closed(line));
+        }
+        let second = self.second.look(alloc, doms)?;
+        if let Look::Quiet = first {
+            return Ok(second);
+        }
+        if let Look::Closed(line) = second {
+            return Ok(Look::Closed(line));
+        }
+        Ok(first)
+    }
+
+    fn narrowed(&mut self, doms: &Domains, p: u32) {
+        self.first.narrowed(doms, p);
+        self.second.narrowed(doms, p);
+    }
+
+    fn undone(&mut self, doms: &Domains) {
+        self.first.undone(doms);
+        self.second.undone(doms);
+    }
+}
