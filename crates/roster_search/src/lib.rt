@@ -1,8 +1,13 @@
 //! A search for a roster that writes down its cases: a roster, or the log of a refutation.
 #![tactic(auto)]
 
+mod choice;
+mod decided;
+mod ending;
 mod found;
-mod search;
+mod progress;
+mod searching;
+mod step;
 
 pub use found::Found;
-pub use search::search;
+pub use searching::search;
