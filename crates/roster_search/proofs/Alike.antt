@@ -1,5 +1,5 @@
 -- Lines under domains that agree at the cells.
-use Rattle.std.proofs.Common.{◌≡◌, ℕ, zero, suc, ◌+◌, ◌-◌, ◌*◌, ◌%◌, ◌<◌, ◌≤◌, List, [], ◌∷◌, length, refl, ap, sym, ◌∙◌, subst, arith, Bool, true, false, IsTrue, ◌&&◌, ◌||◌, ◌==◌, not, count_by, pos}
+use Rattle.std.proofs.Common.{◌≡◌, ℕ, zero, suc, ◌+◌, ◌-◌, ◌*◌, ◌%◌, ◌<◌, ◌≤◌, List, [], ◌∷◌, refl, ap, sym, ◌∙◌, subst, arith, Bool, true, false, count_by, pos}
 use Rattle.std.specs.Prelude.{◌<ℤ◌}
 use Rattle.std.specs.List.{range_with_len}
 use Rattle.std.proofs.Math.Path.{fun_ext}
@@ -33,7 +33,7 @@ only_by P D E q x e = ap (λ (f : ℕ → Bool). is_only P (λ a. f) q x) e
 pub row_alike : (P : Instance) (D E : Domains) (q : ℕ) → Agree P D E → q < cells P → D q ≡ E q
 row_alike P D E q h lt = fun_ext (λ z. h q z lt)
 
-count_alike : (f g : ℕ → Bool) (a n : ℕ) → ((i : ℕ) → a ≤ i → i < a + n → f i ≡ g i) → count_by f (range_with_len a n) ≡ count_by g (range_with_len a n)
+pub count_alike : (f g : ℕ → Bool) (a n : ℕ) → ((i : ℕ) → a ≤ i → i < a + n → f i ≡ g i) → count_by f (range_with_len a n) ≡ count_by g (range_with_len a n)
 count_alike f g a zero h = refl
 count_alike f g a (suc n) h =
     let here : f a ≡ g a = h a (omega arith) (omega arith) in

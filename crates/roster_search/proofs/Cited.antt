@@ -1,8 +1,7 @@
 -- What is written with one line more.
-use Rattle.std.proofs.Common.{◌≡◌, ◌⊎◌, ℕ, zero, suc, ◌+◌, ◌<◌, ◌≤◌, List, [], ◌∷◌, ◌++◌, length, Option, Some, refl, ap, sym, ◌∙◌, subst, arith, length-append, inl, inr, cond, Bool, true, false, slice_index_or}
-use Rattle.std.specs.Prelude.{◌↔◌, Contains, slice_get}
+use Rattle.std.proofs.Common.{◌≡◌, ◌⊎◌, ℕ, ◌+◌, ◌≤◌, List, [], ◌∷◌, ◌++◌, length, Option, Some, refl, ap, sym, ◌∙◌, subst, arith, length-append, inl, inr, cond, false}
+use Rattle.std.specs.Prelude.{◌↔◌, Contains}
 use Rattle.rwsp_terms.specs.declared.data.Rule.{Rule}
-use Rattle.rwsp_terms.specs.declared.data.Symbol.{Symbol}
 use Rattle.rwsp_terms.specs.Instance.{Instance}
 use Rattle.rwsp_terms.specs.Rules.{rule_of, Names}
 use Rattle.refutation_terms.specs.declared.lines.Line.{Line}
@@ -37,9 +36,9 @@ cited_none P turn r (inr h) = absurd (cc (h.2))
 pub cited_more : (P : Instance) (turn : Option Turn) (ls : List Line) (line : Line) (r : Rule) → IsCitedIn P turn (ls ++ line ∷ []) r → IsCitedIn P turn ls r ⊎ Cites P line r
 cited_more P turn ls line r (inl h) = inl (inl h)
 cited_more P turn ls line r (inr h) = elim (got_in ls (line ∷ []) h.0 h.1 h.2) [
-    | inl at ↦ inl (inr (h.0, h.1, at.1, h.3))
-    | inr at ↦ inr (subst (λ l. Cites P l r) (got_one line h.1 at.0 at.2).1 h.3)
-  ]
+  | inl at ↦ inl (inr (h.0, h.1, at.1, h.3))
+  | inr at ↦ inr (subst (λ l. Cites P l r) (got_one line h.1 at.0 at.2).1 h.3)
+]
 
 pub more_cited : (P : Instance) (turn : Option Turn) (ls : List Line) (line : Line) (r : Rule) → IsCitedIn P turn ls r ⊎ Cites P line r → IsCitedIn P turn (ls ++ line ∷ []) r
 more_cited P turn ls line r (inl (inl h)) = inl h

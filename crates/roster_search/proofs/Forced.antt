@@ -1,14 +1,13 @@
 -- Splits as the propagator says, with more lines and with an equal propagator.
-use Rattle.std.proofs.Common.{◌≡◌, ◌⊎◌, ℕ, ◌+◌, ◌<◌, ◌≤◌, List, [], ◌∷◌, ◌++◌, length, Option, Some, refl, ap, sym, ◌∙◌, subst, arith, inl, inr}
-use Rattle.std.specs.Prelude.{◌↔◌, slice_get}
+use Rattle.std.proofs.Common.{◌≡◌, ℕ, ◌≤◌, List, [], ◌∷◌, ◌++◌, length, Option, Some, refl, ap, sym, ◌∙◌, subst}
+use Rattle.std.specs.Prelude.{◌↔◌}
 use Rattle.rwsp_terms.specs.declared.data.Symbol.{Symbol}
-use Rattle.rwsp_terms.specs.Instance.{Instance, cells}
+use Rattle.rwsp_terms.specs.Instance.{Instance}
 use Rattle.refutation_terms.specs.declared.lines.Line.{Line}
 use Rattle.refutation_terms.specs.declared.lines.Line.TheVariants.{Split}
 use Rattle.refutation_terms.specs.declared.lines.Turn.{Turn}
 use Rattle.refutation_terms.specs.Word.{Domains}
 use Rattle.refutation_terms.specs.Tree.{IsLeaf, domains_at}
-use Rattle.refutation_terms.specs.Log.{Holds}
 use Rattle.domain_store.specs.Store.{Store, has_domain, IsStore}
 use Rattle.tree_walk.proofs.Moves.{state_domains}
 use Rattle.propagators.specs.Looks.{Closes}
@@ -16,7 +15,6 @@ use Rattle.roster_search.specs.declared.progress.Progress.{Progress}
 use Rattle.roster_search.specs.Founds.{IsForced}
 use Rattle.roster_search.specs.Written.{IsWritten, IsSplitOff, IsUnderWay, AreForced}
 use Rattle.roster_search.proofs.Growing.{EachAt, one_more, split_more}
-use Rattle.roster_search.proofs.Alike.{Agree}
 
 abbrev pub Leaves : Type 1
 Leaves = Store → Line → Type 0
@@ -81,15 +79,15 @@ under_way_by P turn budget leaves leaves' spent spent' s l t u = record {
   written = u.written;
   same_turn = u.same_turn;
   forced = λ k p x e. (
-    let f = u.forced k p x e in
-    record {
-      store = f.store;
-      belongs = f.belongs;
-      agrees = f.agrees;
-      not_closed = λ c. f.not_closed (c.0, (l f.store c.0).1 c.1, c.2);
-      forced = λ q z h. (t f.store p x).0 (f.forced q z ((t f.store q z).1 h));
-    }
-  );
+      let f = u.forced k p x e in
+      record {
+        store = f.store;
+        belongs = f.belongs;
+        agrees = f.agrees;
+        not_closed = λ c. f.not_closed (c.0, (l f.store c.0).1 c.1, c.2);
+        forced = λ q z h. (t f.store p x).0 (f.forced q z ((t f.store q z).1 h));
+      }
+      );
   few = u.few;
 }
 

@@ -1,16 +1,15 @@
 -- Lines with more lines behind them.
-use Rattle.std.proofs.Common.{◌≡◌, ◌⊎◌, ℕ, zero, suc, ◌+◌, ◌<◌, ◌≤◌, List, [], ◌∷◌, ◌++◌, length, take, Option, Some, None, refl, ap, sym, ◌∙◌, subst, append_assoc, append-nil, arith, inl, inr, Bool, true, false, ◌&&◌}
+use Rattle.std.proofs.Common.{◌≡◌, ◌⊎◌, ℕ, zero, suc, ◌+◌, ◌<◌, ◌≤◌, List, [], ◌∷◌, ◌++◌, length, Option, Some, None, refl, ap, sym, ◌∙◌, subst, append_assoc, arith, inl, inr, true, ◌&&◌}
 use Rattle.std.specs.Prelude.{slice_get}
 use Rattle.std.proofs.Math.Bool.{and_assoc}
 use Rattle.std.proofs.lemmas.List.{take-append-le, take_all}
-use Rattle.std.proofs.lemmas.Option.{slice_get_within}
 use Rattle.rwsp_terms.specs.declared.data.Symbol.{Symbol}
 use Rattle.rwsp_terms.specs.Instance.{Instance}
 use Rattle.refutation_terms.specs.declared.lines.Line.{Line}
 use Rattle.refutation_terms.specs.declared.lines.Line.TheVariants.{Split, Window, Day, Dead, Bound, Unfinished}
 use Rattle.refutation_terms.specs.declared.lines.Turn.{Turn}
 use Rattle.refutation_terms.specs.Word.{Domains}
-use Rattle.refutation_terms.specs.Tree.{IsLeaf, Tree, Leaf, after_trees, side, side_of, line_leaves, lines_leave, opening, domains_at}
+use Rattle.refutation_terms.specs.Tree.{IsLeaf, Leaf, after_trees, side, side_of, line_leaves, lines_leave, opening, domains_at}
 use Rattle.refutation_terms.proofs.Trees.{tree_is_read}
 use Rattle.refutation_terms.proofs.TreeDomains.{behind, tree_leaves_all}
 use Rattle.roster_search.specs.Written.{IsSplitWithLeaf}
@@ -87,9 +86,9 @@ pub got_in : {A : Type 0} (ls more : List A) (k : ℕ) (line : A) → slice_get 
 got_in [] more k line e = inr (k, omega arith, e)
 got_in (l ∷ ls) more zero line e = inl (omega arith, e)
 got_in {A} (l ∷ ls) more (suc k) line e = elim (got_in ls more k line e) as (λ (h : ((k < length ls) × (slice_get ls k ≡ Some line)) ⊎ ((m : ℕ) × (k ≡ length ls + m) × (slice_get more m ≡ Some line))). ((suc k < length (l ∷ ls)) × (slice_get (l ∷ ls) (suc k) ≡ Some line)) ⊎ ((m : ℕ) × (suc k ≡ length (l ∷ ls) + m) × (slice_get more m ≡ Some line))) [
-    | inl h ↦ inl (omega (arith, h.0), h.1)
-    | inr h ↦ inr (h.0, omega (arith, h.1), h.2)
-  ]
+  | inl h ↦ inl (omega (arith, h.0), h.1)
+  | inr h ↦ inr (h.0, omega (arith, h.1), h.2)
+]
 
 pub got_one : {A : Type 0} (line other : A) (m : ℕ) → slice_get (line ∷ []) m ≡ Some other → (m ≡ 0) × (other ≡ line)
 got_one line other zero e = (refl, cc)
@@ -101,16 +100,16 @@ EachAt Q P turn ls = (k : ℕ) (line : Line) → slice_get ls k ≡ Some line �
 
 pub one_more : (Q : Domains → Line → Type 0) (P : Instance) (turn : Option Turn) (ls : List Line) (line : Line) → EachAt Q P turn ls → Q (domains_at P turn ls (length ls)) line → EachAt Q P turn (ls ++ line ∷ [])
 one_more Q P turn ls line each here k other e = elim (got_in ls (line ∷ []) k other e) [
-    | inl h ↦
-        let le : k ≤ length ls = omega (arith, h.0) in
-        subst (λ D. Q D other) (sym (domains_before P turn ls (line ∷ []) k le)) (each k other h.1)
-    | inr h ↦
-        let one = got_one line other h.0 h.2 in
-        let at : length ls ≡ k = omega (arith, h.1, one.0) in
-        subst (λ i. Q (domains_at P turn (ls ++ line ∷ []) i) other) at
-        (subst (λ D. Q D other) (sym (domains_before P turn ls (line ∷ []) (length ls) (omega arith)))
-        (subst (Q (domains_at P turn ls (length ls))) (sym one.1) here))
-  ]
+  | inl h ↦
+      let le : k ≤ length ls = omega (arith, h.0) in
+      subst (λ D. Q D other) (sym (domains_before P turn ls (line ∷ []) k le)) (each k other h.1)
+  | inr h ↦
+      let one = got_one line other h.0 h.2 in
+      let at : length ls ≡ k = omega (arith, h.1, one.0) in
+      subst (λ i. Q (domains_at P turn (ls ++ line ∷ []) i) other) at
+      (subst (λ D. Q D other) (sym (domains_before P turn ls (line ∷ []) (length ls) (omega arith)))
+      (subst (Q (domains_at P turn ls (length ls))) (sym one.1) here))
+]
 
 -- a fact of splits stays when a split is written, maybe with the leaf of its first side
 pub split_more : (Q : Domains → Line → Type 0) (P : Instance) (turn : Option Turn) (ls added : List Line) (p : ℕ) (x : Symbol) → EachAt Q P turn ls → Q (domains_at P turn ls (length ls)) (Split p x) → ((D : Domains) (leaf : Line) → IsLeaf leaf → Q D leaf) → IsSplitWithLeaf p x added → EachAt Q P turn (ls ++ added)

@@ -5,3 +5,5 @@ pub mod Cited
 pub mod Logs
 pub mod Forced
 pub mod OneWord
+pub mod Finding
+pub mod Volume

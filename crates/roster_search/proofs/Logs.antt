@@ -1,6 +1,6 @@
 -- The logs that a search ends with.
-use Rattle.std.proofs.Common.{◌≡◌, ◌⊎◌, ℕ, zero, suc, ◌+◌, ◌<◌, ◌≤◌, List, [], ◌∷◌, ◌++◌, length, get_or, Option, Some, None, refl, ap, sym, ◌∙◌, subst, append-nil, arith, length-append, inl, inr, cond, Bool, true, false}
-use Rattle.std.specs.Prelude.{slice_get, Contains, All, replicate}
+use Rattle.std.proofs.Common.{◌≡◌, ℕ, zero, suc, ◌+◌, ◌<◌, ◌≤◌, List, [], ◌++◌, length, get_or, Option, Some, refl, ap, sym, ◌∙◌, subst, append-nil, arith, length-append, inl, inr, cond, false}
+use Rattle.std.specs.Prelude.{slice_get, Contains, replicate}
 use Rattle.std.specs.List.Sorted.{IsStrictlyIncreasing}
 use Rattle.std.proofs.lemmas.List.{get_or_default, length-replicate}
 use Rattle.std.proofs.lemmas.List.Sums.{count_by-le-length}
@@ -11,7 +11,7 @@ use Rattle.rwsp_terms.specs.Rules.{rules, rule_of, Names}
 use Rattle.refutation_terms.specs.declared.lines.Line.{Line}
 use Rattle.refutation_terms.specs.declared.lines.Line.TheVariants.{Unfinished}
 use Rattle.refutation_terms.specs.declared.lines.Turn.{Turn}
-use Rattle.refutation_terms.specs.Tree.{IsTree, after_trees, domains_at}
+use Rattle.refutation_terms.specs.Tree.{IsTree, after_trees}
 use Rattle.refutation_terms.specs.Log.{Log, LineFits, Holds, HoldsAt, Cites, ListsShortOnly, IsAllowed, AreRules, IsGrounded, Passes, IsSpent, size, is_worked}
 use Rattle.refutation_terms.proofs.Trees.{whole_is_tree}
 use Rattle.refutation_terms.proofs.TreeDomains.{got_left}
@@ -30,10 +30,10 @@ are_rules : (P : Instance) (R : List ℕ) → IsStrictlyIncreasing R → ((k : �
 are_rules P R up h = (
   up,
   λ i d lt. (
-    let k : ℕ = get_or R i d in
-    let rule = h k (i, lt, get_or_default R i k d lt) in
-    rule_in_range P k rule.0 rule.1
-  ),
+      let k : ℕ = get_or R i d in
+      let rule = h k (i, lt, get_or_default R i k d lt) in
+      rule_in_range P k rule.0 rule.1
+      ),
 )
 
 -- lines that are open
@@ -45,9 +45,9 @@ log_of s rest = record { named = s.named; turn = s.turn; lines = s.lines.items +
 
 each_in : (Q : Line → Type 0) (ls rest : List Line) → ((k : ℕ) (line : Line) → slice_get ls k ≡ Some line → Q line) → Q Unfinished → AreOpen rest → (k : ℕ) (line : Line) → slice_get (ls ++ rest) k ≡ Some line → Q line
 each_in Q ls rest each here opened k line e = elim (got_in ls rest k line e) [
-    | inl at ↦ each k line at.1
-    | inr at ↦ subst Q (sym (opened at.0 line at.2)) here
-  ]
+  | inl at ↦ each k line at.1
+  | inr at ↦ subst Q (sym (opened at.0 line at.2)) here
+]
 
 grounded : (P : Instance) (s : Progress) (rest : List Line) → IsWritten P s → IsAllowed P s.turn → IsStrictlyIncreasing s.named → AreOpen rest → IsGrounded P (log_of s rest)
 grounded P s rest w allowed up opened = record {
@@ -64,9 +64,9 @@ grounded P s rest w allowed up opened = record {
 
 holds_before : (P : Instance) (s : Progress) (rest : List Line) → IsWritten P s → (k : ℕ) (line : Line) → k < length s.lines.items → slice_get (s.lines.items ++ rest) k ≡ Some line → HoldsAt P (log_of s rest) k line
 holds_before P s rest w k line lt e = elim (got_in s.lines.items rest k line e) [
-    | inl at ↦ subst (λ D. Holds P D line) (sym (domains_before P s.turn s.lines.items rest k (omega (arith, lt)))) (w.stand k line at.1).holds
-    | inr at ↦ absurd (omega (arith, lt, at.1))
-  ]
+  | inl at ↦ subst (λ D. Holds P D line) (sym (domains_before P s.turn s.lines.items rest k (omega (arith, lt)))) (w.stand k line at.1).holds
+  | inr at ↦ absurd (omega (arith, lt, at.1))
+]
 
 names_cited : (P : Instance) (s : Progress) (rest : List Line) → IsWritten P s → NamesCited P s.turn (log_of s rest)
 names_cited P s rest w = record {

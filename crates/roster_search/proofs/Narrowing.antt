@@ -1,6 +1,6 @@
 -- The domains behind a split, maybe with the leaf of its first side.
-use Rattle.std.proofs.Common.{◌≡◌, ◌≢◌, ◌⊎◌, ℕ, zero, suc, ◌+◌, ◌*◌, ◌<◌, ◌≤◌, List, [], ◌∷◌, ◌++◌, length, get_or, Option, refl, ap, sym, ◌∙◌, subst, arith, inl, inr, Bool, true, false, IsTrue, ◌&&◌, ◌||◌, ◌==◌, not}
-use Rattle.std.specs.Prelude.{All, Contains, ◌↔◌}
+use Rattle.std.proofs.Common.{◌≡◌, ◌≢◌, ◌⊎◌, ℕ, zero, suc, ◌<◌, List, [], ◌∷◌, ◌++◌, length, get_or, Option, refl, ap, sym, ◌∙◌, subst, arith, inl, inr, Bool, true, false, ◌&&◌, ◌||◌, ◌==◌, not}
+use Rattle.std.specs.Prelude.{Contains}
 use Rattle.std.specs.List.Sorted.{IsStrictlyIncreasing}
 use Rattle.std.proofs.Math.Bool.{and-true}
 use Rattle.std.proofs.lemmas.Bool.{cases_lt, ne_eqb, eqb-true, eq-eqb}
@@ -13,10 +13,10 @@ use Rattle.refutation_terms.specs.declared.lines.Line.{Line}
 use Rattle.refutation_terms.specs.declared.lines.Line.TheVariants.{Split}
 use Rattle.refutation_terms.specs.declared.lines.Turn.{Turn}
 use Rattle.refutation_terms.specs.Word.{Domains}
-use Rattle.refutation_terms.specs.Tree.{IsLeaf, First, narrowed, line_leaves, lines_leave, side, domains_at}
+use Rattle.refutation_terms.specs.Tree.{First, narrowed, line_leaves, lines_leave, side, domains_at}
 use Rattle.refutation_terms.proofs.Tests.{left_of}
 use Rattle.domain_store.specs.Sets.{has_symbol, IsDomain}
-use Rattle.domain_store.specs.Store.{Store, BelongsTo, HasSameShape, domain_at, has_domain, IsStore}
+use Rattle.domain_store.specs.Store.{domain_at, has_domain, IsStore}
 use Rattle.tree_walk.specs.States.{State, IsStateOf}
 use Rattle.tree_walk.proofs.Idle.{positions_of}
 use Rattle.tree_walk.proofs.Moves.{state_domains}
@@ -37,9 +37,9 @@ or-true false = refl
 set_contains : (set : List ℕ) (x : ℕ) → has_symbol set x ≡ true → Contains set x
 set_contains [] x h = absurd (cc)
 set_contains (y ∷ set) x h = elim (or_cases (y == x) (has_symbol set x) h) [
-    | inl e ↦ (0, omega arith, eqb-true y x e)
-    | inr e ↦ let c = set_contains set x e in (suc c.0, omega (arith, c.1), c.2)
-  ]
+  | inl e ↦ (0, omega arith, eqb-true y x e)
+  | inr e ↦ let c = set_contains set x e in (suc c.0, omega (arith, c.1), c.2)
+]
 
 set_has_at : (set : List ℕ) (x i : ℕ) → i < length set → get_or set i x ≡ x → has_symbol set x ≡ true
 set_has_at [] x i lt e = absurd (omega (arith, lt))

@@ -1,13 +1,11 @@
 -- Decided domains have one word, and a roster of them breaks only what a leaf sees.
-use Rattle.std.proofs.Common.{◌≡◌, ◌⊎◌, ℕ, zero, suc, ◌+◌, ◌-◌, ◌*◌, ◌%◌, ◌<◌, ◌≤◌, List, [], ◌∷◌, ◌++◌, length, get_or, Option, Some, None, refl, ap, sym, ◌∙◌, subst, arith, length-append, inl, inr, Bool, true, false, IsTrue, ◌&&◌, ◌||◌, ◌==◌, not, count_by, pos, ℤ}
+use Rattle.std.proofs.Common.{◌≡◌, ℕ, ◌+◌, ◌-◌, ◌*◌, ◌%◌, ◌<◌, ◌≤◌, List, [], ◌∷◌, length, get_or, Option, Some, refl, ap, sym, ◌∙◌, subst, arith, length-append, inl, inr, Bool, true, false, IsTrue, ◌||◌, ◌==◌, not, pos, ℤ}
 use Rattle.std.specs.Prelude.{slice_get, All, ◌<ℤ◌, ◌≤ℤ◌}
 use Rattle.std.specs.List.{range_with_len, list_all}
 use Rattle.std.proofs.lemmas.Int.{ints, by_lt_z}
 use Rattle.std.proofs.lemmas.Bool.{eqb-true, eq-eqb}
-use Rattle.std.proofs.lemmas.List.Elements.{All-get_or}
 use Rattle.std.proofs.lemmas.List.Sums.{list_all-from_AllPass}
 use Rattle.std.proofs.lemmas.Option.{slice_get_cases}
-use Rattle.rwsp_terms.specs.declared.data.Bounds.{Bounds}
 use Rattle.rwsp_terms.specs.declared.data.Class.{Class}
 use Rattle.rwsp_terms.specs.declared.data.ShiftRow.{ShiftRow}
 use Rattle.rwsp_terms.specs.declared.data.Symbol.{Symbol}
@@ -22,7 +20,7 @@ use Rattle.rwsp_model.specs.Validity.{KeepsLimits, AreSmall}
 use Rattle.rwsp_model.specs.RuleNumbers.{place_of}
 use Rattle.rwsp_model.proofs.Numbering.{number_at_place, number_within}
 use Rattle.refutation_terms.specs.declared.lines.Line.TheVariants as Lines
-use Rattle.refutation_terms.specs.Word.{Domains, Over}
+use Rattle.refutation_terms.specs.Word.{Over}
 use Rattle.refutation_terms.specs.Leaf.{is_only, fixed, possible}
 use Rattle.refutation_terms.specs.Log.{LineFits, Holds}
 use Rattle.refutation_terms.proofs.Counts.{count_mono, in_column}
@@ -59,9 +57,9 @@ word_is P S s a p (x ∷ u) o =
 -- a bad word has a length that leaves may speak of
 small_row : (rows : List ShiftRow) (k : ℕ) → All (λ row. AreSmall row.bounds) rows → AreSmall (bounds_of (slice_get rows k))
 small_row rows k h = elim ((slice_get_cases rows k).1) [
-    | inl at ↦ subst (λ (o : Option ShiftRow). AreSmall (bounds_of o)) (sym at.2) (subst (λ (row : ShiftRow). AreSmall row.bounds) at.3 (h k at.0 at.1))
-    | inr past ↦ subst (λ (o : Option ShiftRow). AreSmall (bounds_of o)) (sym past.1) (omega arith, omega arith)
-  ]
+  | inl at ↦ subst (λ (o : Option ShiftRow). AreSmall (bounds_of o)) (sym at.2) (subst (λ (row : ShiftRow). AreSmall row.bounds) at.3 (h k at.0 at.1))
+  | inr past ↦ subst (λ (o : Option ShiftRow). AreSmall (bounds_of o)) (sym past.1) (omega arith, omega arith)
+]
 
 abbrev IsShortLength : ℕ → Type 0
 IsShortLength n = (0 < n) × (n ≤ 16800)
@@ -133,6 +131,7 @@ meets_day P S s j a none day x small =
   where
     not_below : (l : ℤ) (c f : ℕ) → f ≤ c → (pos f <ℤ l → ⊥) → l ≤ℤ pos c
     not_below l c f le h = by_lt_z (pos f) l (λ less. absurd (h less)) (λ more. omega (arith, ints))
+
     not_above : (g : ℤ) (c f : ℕ) → c ≤ f → (g <ℤ pos f → ⊥) → pos c ≤ℤ g
     not_above g c f le h = by_lt_z g (pos f) (λ less. absurd (h less)) (λ more. omega (arith, ints))
 

@@ -5,6 +5,7 @@ mod choice;
 mod decided;
 mod ending;
 mod found;
+pub mod laws;
 mod progress;
 mod searching;
 mod step;

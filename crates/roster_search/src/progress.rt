@@ -29,11 +29,7 @@ pub struct Progress {
 
 impl Progress {
     /// No line yet.
-    pub fn new(
-        alloc: Global,
-        problem: &Problem,
-        turn: Option<Turn>,
-    ) -> Result<Progress, AllocError>
+    pub fn new(alloc: Global, problem: &Problem, turn: Option<Turn>) -> Result<Progress, AllocError>
         requires { TurnFits problem.now turn }
         ensures written { IfOk result (λ s. IsWritten problem.now s) }
         ensures turn { IfOk result (λ s. s.turn ≡ turn) }
@@ -139,11 +135,7 @@ impl Progress {
 }
 
 // The rules that a turn rests on.
-fn turn_rules(
-    alloc: Global,
-    problem: &Problem,
-    turn: Option<Turn>,
-) -> Result<RuleList, AllocError>
+fn turn_rules(alloc: Global, problem: &Problem, turn: Option<Turn>) -> Result<RuleList, AllocError>
     requires { TurnFits problem.now turn }
     ensures cited { IfOk result (λ R. (r : Rule) → Names problem.now R r ↔ TurnCites turn r) }
     ensures numbers { IfOk result (λ R. (k : ℕ) → Contains R k → (r : Rule) × (rule_of problem.now k ≡ Some r)) }

@@ -42,8 +42,9 @@ pub fn search<A: Propagator>(
     let mut progress = Progress::new(alloc, problem, turn)?;
     prop.undone(progress.walk.domains());
     while progress.goes_on(budget) {
-        if let Some(roster) = step(alloc, problem, budget, prop, &mut progress)? {
-            return Ok(Found::Roster(roster));
+        match step(alloc, problem, budget, prop, &mut progress)? {
+            Some(roster) => return Ok(Found::Roster(roster)),
+            None => {}
         }
     }
     end(problem, budget, progress)

@@ -1,5 +1,5 @@
 -- A domain isn't empty.
-use Rattle.std.proofs.Common.{◌≡◌, ◌<◌, ◌≤◌, length, false, arith}
+use Rattle.std.proofs.Common.{◌≡◌, false}
 use Rattle.domain_store.specs.Store.{has_domain}
 use Rattle.roster_search.proofs.choice.choose.Goals as goal
 

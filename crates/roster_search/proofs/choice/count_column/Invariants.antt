@@ -1,4 +1,4 @@
-use Rattle.std.proofs.Common.{◌≤◌, ◌+◌, ◌-◌}
+use Rattle.std.proofs.Common.{◌≤◌, ◌-◌}
 use Rattle.roster_search.proofs.choice.count_column.Given as goal
 
 abbrev pub invariant-loop-q : goal.invariant-loop-q

@@ -1,10 +1,9 @@
 -- The log of the lines, whole or with a rest.
-use Rattle.std.proofs.Common.{◌≡◌, ◌≤◌, ◌++◌, length, List, ℕ, sym, subst, ◌∙◌, ap, arith, true, false}
+use Rattle.std.proofs.Common.{◌≡◌, ◌≤◌, ℕ, sym, subst, ◌∙◌, arith, false}
 use Rattle.std.specs.Prelude.{replicate}
 use Rattle.std.specs.List.Sorted.{IsStrictlyIncreasing}
-use Rattle.refutation_terms.specs.declared.lines.Line.{Line}
 use Rattle.refutation_terms.specs.declared.lines.Line.TheVariants.{Unfinished}
-use Rattle.refutation_terms.specs.Tree.{IsTree, after_trees}
+use Rattle.refutation_terms.specs.Tree.{IsTree}
 use Rattle.tree_walk.specs.States.{open_trees}
 use Rattle.roster_search.proofs.Logs.{passing_end, spent_end, rest_ends, some_open}
 use Rattle.roster_search.proofs.ending.end.Goals as goal

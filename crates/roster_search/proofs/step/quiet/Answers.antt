@@ -1,6 +1,5 @@
 -- A split of the search's own choice, or the roster.
-use Rattle.std.proofs.Common.{◌≡◌, ◌≤◌, ◌<◌, ◌+◌, [], ◌∷◌, ◌++◌, length, ap, ◌∙◌, sym, subst, arith, length-append}
-use Rattle.refutation_terms.specs.declared.lines.Line.{Line}
+use Rattle.std.proofs.Common.{◌≡◌, ◌+◌, [], ◌∷◌, length, ap, ◌∙◌, subst, arith, length-append}
 use Rattle.refutation_terms.specs.declared.lines.Line.TheVariants.{Split, Window, Day}
 use Rattle.refutation_terms.specs.Log.{Holds}
 use Rattle.domain_store.specs.Store.{Store, has_domain}

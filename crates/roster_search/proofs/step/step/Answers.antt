@@ -1,5 +1,5 @@
 -- One turn, by what the propagator sees.
-use Rattle.std.proofs.Common.{◌≡◌, ◌≤◌, ◌<◌, ◌+◌, [], ◌∷◌, ◌++◌, length, ap, ◌∙◌, sym, subst, arith, length-append, None, Option}
+use Rattle.std.proofs.Common.{◌≡◌, ◌+◌, [], ◌∷◌, length, ap, ◌∙◌, subst, arith, length-append, None, Option}
 use Rattle.std.proofs.lemmas.Result.{IfOk-weaker}
 use Rattle.refutation_terms.specs.Tree.{domains_at}
 use Rattle.domain_store.specs.Store.{Store, has_domain}

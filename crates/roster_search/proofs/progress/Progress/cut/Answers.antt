@@ -1,12 +1,11 @@
 -- A split and the leaf of its first side.
-use Rattle.std.proofs.Common.{◌≡◌, ◌⊎◌, ◌+◌, ◌*◌, ◌≤◌, ◌<◌, ℕ, List, [], ◌∷◌, ◌++◌, refl, sym, subst, ap, ◌∙◌, length, arith, inl, inr, append_assoc, false, Option}
-use Rattle.rwsp_terms.specs.Instance.{Instance, cells}
+use Rattle.std.proofs.Common.{◌≡◌, List, [], ◌∷◌, ◌++◌, refl, sym, subst, ap, ◌∙◌, length, arith, inr, append_assoc, Option}
+use Rattle.rwsp_terms.specs.Instance.{cells}
 use Rattle.refutation_terms.specs.declared.lines.Line.{Line}
 use Rattle.refutation_terms.specs.declared.lines.Line.TheVariants.{Split}
 use Rattle.refutation_terms.specs.declared.lines.Turn.{Turn}
-use Rattle.refutation_terms.specs.Tree.{domains_at, is_idle, narrowed, First}
+use Rattle.refutation_terms.specs.Tree.{domains_at, narrowed, First}
 use Rattle.refutation_terms.specs.Log.{Holds}
-use Rattle.rwsp_model.specs.Validity.{KeepsLimits}
 use Rattle.domain_store.specs.Store.{has_domain}
 use Rattle.tree_walk.specs.States.{IsStateOf}
 use Rattle.tree_walk.proofs.Idle.{positions_of, idle_in_store}

@@ -1,12 +1,9 @@
 -- Before the first line.
-use Rattle.std.proofs.Common.{◌≡◌, ◌⊎◌, ◌+◌, ◌≤◌, ℕ, List, [], sym, subst, Some, Option, length, arith, inl, inr, ap, ◌∙◌}
+use Rattle.std.proofs.Common.{◌≡◌, ◌≤◌, List, [], sym, subst, Some, arith, inl, ap, ◌∙◌}
 use Rattle.std.specs.Prelude.{slice_get}
-use Rattle.rwsp_terms.specs.declared.data.Rule.{Rule}
 use Rattle.refutation_terms.specs.declared.lines.Line.{Line}
-use Rattle.refutation_terms.specs.Tree.{domains_at}
-use Rattle.refutation_terms.specs.Log.{TurnCites}
 use Rattle.tree_walk.specs.States.{IsStateOf, open_trees}
-use Rattle.roster_search.specs.Written.{Stands, IsCitedIn}
+use Rattle.roster_search.specs.Written.{IsCitedIn}
 use Rattle.roster_search.proofs.Cited.{one_open, cited_none}
 use Rattle.roster_search.proofs.progress.Progress.new.Goals as goal
 

@@ -1,14 +1,12 @@
 -- A split more.
-use Rattle.std.proofs.Common.{◌≡◌, ◌⊎◌, ◌+◌, ◌≤◌, ◌<◌, ℕ, List, [], ◌∷◌, ◌++◌, refl, sym, subst, ◌∙◌, length, arith, inl, inr, false}
-use Rattle.rwsp_terms.specs.declared.data.Rule.{Rule}
-use Rattle.rwsp_terms.specs.Instance.{cells, shift_count}
+use Rattle.std.proofs.Common.{◌≡◌, ◌⊎◌, ◌<◌, [], ◌∷◌, refl, sym, ◌∙◌, length, arith, inl, inr}
+use Rattle.rwsp_terms.specs.Instance.{cells}
 use Rattle.rwsp_terms.specs.Rules.{Names}
 use Rattle.refutation_terms.specs.declared.lines.Line.TheVariants.{Split}
 use Rattle.refutation_terms.specs.Tree.{domains_at, is_idle}
 use Rattle.tree_walk.specs.Splits.{is_idle_in}
 use Rattle.tree_walk.proofs.Idle.{positions_of, held_where_useful}
 use Rattle.tree_walk.proofs.Moves.{state_idle}
-use Rattle.roster_search.specs.Written.{IsWritten}
 use Rattle.roster_search.proofs.Cited.{written_next}
 use Rattle.roster_search.proofs.Narrowing.{narrowed_at}
 use Rattle.roster_search.proofs.progress.Progress.split.Goals as goal
