@@ -39,7 +39,8 @@ fn first_open(domains: &Domains) -> Option<u32>
     None
 }
 
-// A symbol of a domain, and how much it is needed on a day: so many weeks still need it, of so many that may have it or not.
+// A symbol of a domain, and how much it is needed on a day: so many weeks still need it, of so many
+// that may have it or not.
 #[derive(Clone, Copy)]
 struct Wanted {
     x: Symbol,

@@ -10,7 +10,8 @@ use domain_store::Domains;
 use rwsp_model::{Problem, Roster};
 use std::alloc::AllocError;
 
-/// The roster of the only symbols, under which no window leaf and no day leaf holds: it meets every rule.
+/// The roster of the only symbols of domains under which no window leaf and no day leaf holds: it meets
+/// every rule.
 pub fn met_roster(problem: &Problem, domains: &Domains) -> Result<Roster, AllocError>
     requires decided { IsDecided domains.now }
     requires belongs { BelongsTo problem.now domains.now }

@@ -11,7 +11,8 @@ use refutation_terms::Line;
 use rwsp_model::Problem;
 use std::alloc::AllocError;
 
-/// The log of the lines, once they are a whole tree or the budget is spent. What is open then is left unfinished.
+/// The log of the lines, once they are a whole tree or the budget is spent. What is open then is left
+/// unfinished.
 pub fn end(problem: &Problem, budget: u32, progress: Progress) -> Result<Found, AllocError>
     requires written { IsWritten problem.now progress }
     requires allowed { IsAllowed problem.now progress.turn }

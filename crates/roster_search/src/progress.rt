@@ -18,7 +18,7 @@ use rwsp_terms::RuleList;
 use std::alloc::{AllocError, Global};
 use tree_walk::Walk;
 
-/// The lines that were written, the domains behind them, and the rules that they cite with the turn.
+/// The lines that were written, the domains behind them, and the rules that they and the turn cite.
 #[derive(Drop)]
 pub struct Progress {
     pub turn: Option<Turn>,
@@ -102,8 +102,8 @@ impl Progress {
         Ok(())
     }
 
-    /// Writes a split and the leaf of its first side, where there is room for the leaf. After want of memory the lines are
-    /// of no use.
+    /// Writes a split and the leaf of its first side, where there is room for the leaf. After want of
+    /// memory the lines are of no use.
     pub fn cut(
         &mut self,
         problem: &Problem,

@@ -18,8 +18,8 @@ use propagators::{Look, Propagator};
 use rwsp_model::{Problem, Roster};
 use std::alloc::{AllocError, Global};
 
-/// Looks at the domains behind the lines, and writes the leaf that holds there, or a split: at least one line. Or it gives the
-/// roster of decided domains, where no leaf holds.
+/// Looks at the domains behind the lines, and writes the leaf that holds there, or a split: at least one
+/// line. Or it gives the roster of decided domains, where no leaf holds.
 pub fn step<A: Propagator>(
     alloc: Global,
     problem: &Problem,
@@ -59,7 +59,8 @@ pub fn step<A: Propagator>(
     }
 }
 
-// Writes a split of its own choice, or gives the roster of decided domains.
+// Where no leaf holds and no symbol is spent: writes a split of its own choice, or gives the roster of
+// decided domains.
 fn quiet<A: Propagator>(
     problem: &Problem,
     budget: u32,
