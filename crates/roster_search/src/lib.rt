@@ -1,8 +1,14 @@
 //! A search for a roster that writes down its cases: a roster, or the log of a refutation.
 #![tactic(auto)]
 
-mod case_search;
+mod choice;
+mod decided;
+mod ending;
 mod found;
+pub mod laws;
+mod progress;
+mod searching;
+mod step;
 
-pub use case_search::search;
 pub use found::Found;
+pub use searching::search;

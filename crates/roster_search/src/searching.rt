@@ -9,6 +9,9 @@ ghost use Rattle.domain_store.specs.Store.{Store};
 ghost use Rattle.roster_search.specs.Founds.{IsFound, IsUndecided};
 
 use crate::Found;
+use crate::ending::end;
+use crate::progress::Progress;
+use crate::step::step;
 use propagators::Propagator;
 use refutation_terms::Turn;
 use rwsp_model::Problem;
@@ -36,5 +39,13 @@ pub fn search<A: Propagator>(
     ensures leaves { (S : Store) (line : Line) → A.leaves prop.old S line ↔ A.leaves prop.new S line }
     ensures spent { (S : Store) (p : ℕ) (x : Symbol) → A.spent prop.old S p x ↔ A.spent prop.new S p x }
 {
-    Err(AllocError)
+    let mut progress = Progress::new(alloc, problem, turn)?;
+    prop.undone(progress.walk.domains());
+    while progress.goes_on(budget) {
+        match step(alloc, problem, budget, prop, &mut progress)? {
+            Some(roster) => return Ok(Found::Roster(roster)),
+            None => {}
+        }
+    }
+    end(problem, budget, progress)
 }

@@ -1,0 +1,92 @@
+-- What is written with one line more.
+use Rattle.std.proofs.Common.{◌≡◌, ◌⊎◌, ℕ, ◌+◌, ◌≤◌, List, [], ◌∷◌, ◌++◌, length, Option, Some, refl, ap, sym, ◌∙◌, subst, arith, length-append, inl, inr, cond, false}
+use Rattle.std.specs.Prelude.{◌↔◌, Contains}
+use Rattle.rwsp_terms.specs.declared.data.Rule.{Rule}
+use Rattle.rwsp_terms.specs.Instance.{Instance}
+use Rattle.rwsp_terms.specs.Rules.{rule_of, Names}
+use Rattle.refutation_terms.specs.declared.lines.Line.{Line}
+use Rattle.refutation_terms.specs.declared.lines.Line.TheVariants.{Split}
+use Rattle.refutation_terms.specs.declared.lines.Turn.{Turn}
+use Rattle.refutation_terms.specs.Word.{Domains}
+use Rattle.refutation_terms.specs.Tree.{opening, domains_at}
+use Rattle.refutation_terms.specs.Log.{TurnFits, TurnCites, Cites}
+use Rattle.refutation_terms.proofs.TreeDomains.{got_left, got_right}
+use Rattle.domain_store.specs.Store.{Store}
+use Rattle.tree_walk.specs.declared.open_split.OpenSplit.{OpenSplit}
+use Rattle.tree_walk.specs.Splits.{InSplits, IsNone, HasRead, lacking_in}
+use Rattle.tree_walk.specs.States.{State, IsStateOf, open_trees}
+use Rattle.roster_search.specs.declared.progress.Progress.{Progress}
+use Rattle.roster_search.specs.Written.{Stands, IsCitedIn, IsWritten}
+use Rattle.roster_search.proofs.Growing.{EachAt, one_more, got_in, got_one}
+
+pub no_names : (P : Instance) (r : Rule) → Names P [] r → ⊥
+no_names P r n = omega (arith, n.1.1)
+
+-- the first rules that are named are those of the turn
+pub turn_named : (P : Instance) (named : List ℕ) (t : Turn) → ((r : Rule) → Names P named r ↔ (Names P [] r ⊎ TurnCites (Some t) r)) → (r : Rule) → Names P named r ↔ TurnCites (Some t) r
+turn_named P named t h r = (
+  λ n. elim ((h r).0 n) [ inl none ↦ absurd (no_names P r none) | inr cited ↦ cited ],
+  λ cited. (h r).1 (inr cited),
+)
+
+pub cited_none : (P : Instance) (turn : Option Turn) (r : Rule) → IsCitedIn P turn [] r → TurnCites turn r
+cited_none P turn r (inl h) = h
+cited_none P turn r (inr h) = absurd (cc (h.2))
+
+pub cited_more : (P : Instance) (turn : Option Turn) (ls : List Line) (line : Line) (r : Rule) → IsCitedIn P turn (ls ++ line ∷ []) r → IsCitedIn P turn ls r ⊎ Cites P line r
+cited_more P turn ls line r (inl h) = inl (inl h)
+cited_more P turn ls line r (inr h) = elim (got_in ls (line ∷ []) h.0 h.1 h.2) [
+  | inl at ↦ inl (inr (h.0, h.1, at.1, h.3))
+  | inr at ↦ inr (subst (λ l. Cites P l r) (got_one line h.1 at.0 at.2).1 h.3)
+]
+
+pub more_cited : (P : Instance) (turn : Option Turn) (ls : List Line) (line : Line) (r : Rule) → IsCitedIn P turn ls r ⊎ Cites P line r → IsCitedIn P turn (ls ++ line ∷ []) r
+more_cited P turn ls line r (inl (inl h)) = inl h
+more_cited P turn ls line r (inl (inr h)) = inr (h.0, h.1, got_left ls (line ∷ []) h.0 h.1 h.2, h.3)
+more_cited P turn ls line r (inr h) = inr (length ls + 0, line, got_right ls (line ∷ []) 0 line refl, h)
+
+no_splits : (n : ℕ) (S : Store) (D : Domains) (from : ℕ) (splits : List OpenSplit) (lines : List Line) → InSplits IsNone n S D from splits lines → lines ≡ [] → splits ≡ []
+no_splits n S D from [] lines h e = refl
+no_splits n S D from (o ∷ splits) lines h e = let clash : [] ≡ Split o.p o.x ∷ (h.1 ++ h.2) = sym e ∙ h.3 in absurd (cc)
+
+-- before the first line one tree is open
+pub one_open : (P : Instance) (turn : Option Turn) (w : State) → w.whole ≡ false → IsStateOf P turn [] w → open_trees w ≤ 1
+one_open P turn w part h =
+    let read : HasRead false (length w.store.sets) w.store (opening P turn) w.splits [] = subst (λ b. HasRead b (length w.store.sets) w.store (opening P turn) w.splits []) part h.read in
+    let none : w.splits ≡ [] = no_splits (length w.store.sets) w.store (opening P turn) 0 w.splits [] read refl in
+    let e : open_trees w ≡ 1 = ap (λ b. cond b 0 (lacking_in w.splits + 1)) part ∙ ap (λ s. lacking_in s + 1) none in
+    omega arith
+
+pub record IsNext (P : Instance) (a b : Progress) (line : Line) : Type 0 where
+  pub turn : b.turn ≡ a.turn
+  pub lines : b.lines.items ≡ a.lines.items ++ line ∷ []
+  pub state : IsStateOf P a.turn (a.lines.items ++ line ∷ []) b.walk
+  pub stands : Stands P (domains_at P a.turn a.lines.items (length a.lines.items)) line
+  pub named : (r : Rule) → Names P b.named r ↔ (Names P a.named r ⊎ Cites P line r)
+  pub numbers : (k : ℕ) → Contains b.named k → (r : Rule) × (rule_of P k ≡ Some r)
+  pub opened : open_trees b.walk ≤ open_trees a.walk + 1
+
+-- one line more is written
+pub written_next : (P : Instance) (a b : Progress) (line : Line) → IsWritten P a → IsNext P a b line → IsWritten P b
+written_next P a b line w n =
+    let all : List Line = a.lines.items ++ line ∷ [] in
+    let long : length b.lines.items ≡ length all = ap length n.lines in
+    let state : IsStateOf P b.turn b.lines.items b.walk = subst (λ t. IsStateOf P t b.lines.items b.walk) (sym n.turn) (subst (λ l. IsStateOf P a.turn l b.walk) (sym n.lines) n.state) in
+    let stand : EachAt (Stands P) P b.turn b.lines.items =
+    subst (λ t. EachAt (Stands P) P t b.lines.items) (sym n.turn)
+    (subst (EachAt (Stands P) P a.turn) (sym n.lines) (one_more (Stands P) P a.turn a.lines.items line w.stand n.stands)) in
+    let cited : (r : Rule) → Names P b.named r ↔ IsCitedIn P a.turn all r = λ r. (
+      λ named. more_cited P a.turn a.lines.items line r (elim ((n.named r).0 named) as (λ (h : Names P a.named r ⊎ Cites P line r). IsCitedIn P a.turn a.lines.items r ⊎ Cites P line r) [ inl old ↦ inl ((w.cited r).0 old) | inr new ↦ inr new ]),
+      λ c. (n.named r).1 (elim (cited_more P a.turn a.lines.items line r c) as (λ (h : IsCitedIn P a.turn a.lines.items r ⊎ Cites P line r). Names P a.named r ⊎ Cites P line r) [ inl old ↦ inl ((w.cited r).1 old) | inr new ↦ inr new ]),
+    ) in
+    record {
+      state = state;
+      turn_fits = subst (TurnFits P) (sym n.turn) w.turn_fits;
+      stand = stand;
+      cited = λ r. subst (λ t. Names P b.named r ↔ IsCitedIn P t b.lines.items r) (sym n.turn) (subst (λ l. Names P b.named r ↔ IsCitedIn P a.turn l r) (sym n.lines) (cited r));
+      numbers = n.numbers;
+      few_open = let few = w.few_open in let more = n.opened in let one : length all ≡ length a.lines.items + 1 = length_one a.lines.items line in omega arith;
+    }
+  where
+    length_one : (ls : List Line) (line : Line) → length (ls ++ line ∷ []) ≡ length ls + 1
+    length_one ls line = simp length-append

@@ -1,0 +1,50 @@
+-- What was found, by the lines of the search.
+use Rattle.std.proofs.Common.{◌≡◌, ℕ, ◌+◌, ◌*◌, ◌^◌, ◌<◌, ◌≤◌, List, ◌++◌, length, Option, sym, ◌∙◌, subst, arith, inl, inr}
+use Rattle.std.specs.Prelude.{replicate}
+use Rattle.rwsp_terms.specs.Instance.{Instance, cells, shift_count}
+use Rattle.refutation_terms.specs.declared.lines.Line.{Line}
+use Rattle.refutation_terms.specs.declared.lines.Line.TheVariants.{Split, Unfinished}
+use Rattle.refutation_terms.specs.declared.lines.Turn.{Turn}
+use Rattle.roster_search.specs.declared.found.Found.{Found}
+use Rattle.roster_search.specs.declared.found.Found.TheVariants.{Roster, NoRoster, Undecided}
+use Rattle.roster_search.specs.declared.progress.Progress.{Progress}
+use Rattle.roster_search.specs.Founds.{IsForced, IsFound, IsUndecided}
+use Rattle.roster_search.specs.Written.{IsUnderWay, IsEnded, AreForced}
+use Rattle.roster_search.proofs.Growing.{got_in, domains_before}
+use Rattle.roster_search.proofs.Logs.{open_rest}
+use Rattle.roster_search.proofs.Volume.{spent_budgets_small}
+use Rattle.roster_search.proofs.Forced.{Leaves, Spent}
+
+rest_forced : (P : Instance) (leaves : Leaves) (spent : Spent) (turn : Option Turn) (ls : List Line) (n : ℕ) → AreForced P leaves spent turn ls → AreForced P leaves spent turn (ls ++ replicate n Unfinished)
+rest_forced P leaves spent turn ls n h k p x e = elim (got_in ls (replicate n Unfinished) k (Split p x) e) [
+  | inl at ↦
+      let le : k ≤ length ls = omega (arith, at.0) in
+      subst (λ D. IsForced P leaves spent D p x) (sym (domains_before P turn ls (replicate n Unfinished) k le)) (h k p x at.1)
+  | inr at ↦ let clash : Split p x ≡ Unfinished = open_rest n at.0 (Split p x) at.2 in absurd (cc)
+]
+
+pub found_by : (P : Instance) (turn : Option Turn) (budget : ℕ) (leaves : Leaves) (spent : Spent) (s : Progress) (found : Found) → IsUnderWay P turn budget leaves spent s → IsEnded P s.turn budget s.lines.items found → IsFound P turn budget leaves spent found
+found_by P turn budget leaves spent s (Roster r) u e = absurd e
+found_by P turn budget leaves spent s (NoRoster g) u e = (
+  e.0,
+  e.1,
+  record {
+    same_turn = e.2.same_turn ∙ u.same_turn;
+    cited = e.2.cited;
+    splits = subst (AreForced P leaves spent turn) (sym e.3) u.forced;
+  },
+)
+found_by P turn budget leaves spent s (Undecided g) u e = (
+  e.0,
+  record {
+    same_turn = e.1.same_turn ∙ u.same_turn;
+    cited = e.1.cited;
+    splits = subst (AreForced P leaves spent turn) (sym e.2.1) (rest_forced P leaves spent turn s.lines.items e.2.0 u.forced);
+  },
+)
+
+-- a search is undecided under small budgets alone
+pub undecided_small : (P : Instance) (turn : Option Turn) (budget : ℕ) (lines : List Line) (found : Found) → IsEnded P turn budget lines found → IsUndecided found → budget + 1 < 2 * (shift_count P + 1) ^ cells P
+undecided_small P turn budget lines (Roster r) e u = absurd u
+undecided_small P turn budget lines (NoRoster g) e u = absurd u
+undecided_small P turn budget lines (Undecided g) e u = spent_budgets_small P g budget e.0

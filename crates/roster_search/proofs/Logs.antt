@@ -1,0 +1,142 @@
+-- The logs that a search ends with.
+use Rattle.std.proofs.Common.{◌≡◌, ℕ, zero, suc, ◌+◌, ◌<◌, ◌≤◌, List, [], ◌++◌, length, get_or, Option, Some, refl, ap, sym, ◌∙◌, subst, append-nil, arith, length-append, inl, inr, cond, false}
+use Rattle.std.specs.Prelude.{slice_get, Contains, replicate}
+use Rattle.std.specs.List.Sorted.{IsStrictlyIncreasing}
+use Rattle.std.proofs.lemmas.List.{get_or_default, length-replicate}
+use Rattle.std.proofs.lemmas.List.Sums.{count_by-le-length}
+use Rattle.std.proofs.lemmas.Option.{slice_get_within}
+use Rattle.rwsp_terms.specs.declared.data.Rule.{Rule}
+use Rattle.rwsp_terms.specs.Instance.{Instance}
+use Rattle.rwsp_terms.specs.Rules.{rules, rule_of, Names}
+use Rattle.refutation_terms.specs.declared.lines.Line.{Line}
+use Rattle.refutation_terms.specs.declared.lines.Line.TheVariants.{Unfinished}
+use Rattle.refutation_terms.specs.declared.lines.Turn.{Turn}
+use Rattle.refutation_terms.specs.Tree.{IsTree, after_trees}
+use Rattle.refutation_terms.specs.Log.{Log, LineFits, Holds, HoldsAt, Cites, ListsShortOnly, IsAllowed, AreRules, IsGrounded, Passes, IsSpent, size, is_worked}
+use Rattle.refutation_terms.proofs.Trees.{whole_is_tree}
+use Rattle.refutation_terms.proofs.TreeDomains.{got_left}
+use Rattle.tree_walk.specs.Splits.{lacking_in}
+use Rattle.tree_walk.specs.States.{State, open_trees}
+use Rattle.roster_search.specs.declared.progress.Progress.{Progress}
+use Rattle.roster_search.specs.declared.found.Found.TheVariants.{NoRoster, Undecided}
+use Rattle.roster_search.specs.Written.{IsWritten, NamesCited, IsEnded}
+use Rattle.roster_search.proofs.Growing.{got_in, domains_before}
+
+rule_in_range : (P : Instance) (k : ℕ) (r : Rule) → rule_of P k ≡ Some r → (0 < k) × (k ≤ length (rules P))
+rule_in_range P zero r e = absurd (cc)
+rule_in_range P (suc k) r e = let lt = slice_get_within (rules P) k r e in (omega arith, omega (arith, lt))
+
+are_rules : (P : Instance) (R : List ℕ) → IsStrictlyIncreasing R → ((k : ℕ) → Contains R k → (r : Rule) × (rule_of P k ≡ Some r)) → AreRules P R
+are_rules P R up h = (
+  up,
+  λ i d lt. (
+      let k : ℕ = get_or R i d in
+      let rule = h k (i, lt, get_or_default R i k d lt) in
+      rule_in_range P k rule.0 rule.1
+      ),
+)
+
+-- lines that are open
+abbrev pub AreOpen : List Line → Type 0
+AreOpen rest = (m : ℕ) (line : Line) → slice_get rest m ≡ Some line → line ≡ Unfinished
+
+abbrev pub log_of : Progress → List Line → Log
+log_of s rest = record { named = s.named; turn = s.turn; lines = s.lines.items ++ rest }
+
+each_in : (Q : Line → Type 0) (ls rest : List Line) → ((k : ℕ) (line : Line) → slice_get ls k ≡ Some line → Q line) → Q Unfinished → AreOpen rest → (k : ℕ) (line : Line) → slice_get (ls ++ rest) k ≡ Some line → Q line
+each_in Q ls rest each here opened k line e = elim (got_in ls rest k line e) [
+  | inl at ↦ each k line at.1
+  | inr at ↦ subst Q (sym (opened at.0 line at.2)) here
+]
+
+grounded : (P : Instance) (s : Progress) (rest : List Line) → IsWritten P s → IsAllowed P s.turn → IsStrictlyIncreasing s.named → AreOpen rest → IsGrounded P (log_of s rest)
+grounded P s rest w allowed up opened = record {
+  fits = record {
+    named = are_rules P s.named up w.numbers;
+    turn = w.turn_fits;
+    lines = each_in (LineFits P) s.lines.items rest (λ k line e. (w.stand k line e).fits) tt opened;
+  };
+  turn = allowed;
+  turn_named = λ r h. (w.cited r).1 (inl h);
+  named = λ k line r e cites. (each_in (λ l. Cites P l r → Names P s.named r) s.lines.items rest (λ i l got c. (w.cited r).1 (inr (i, l, got, c))) (λ none. absurd none) opened k line e) cites;
+  short = each_in (ListsShortOnly P) s.lines.items rest (λ k line e. (w.stand k line e).short) tt opened;
+}
+
+holds_before : (P : Instance) (s : Progress) (rest : List Line) → IsWritten P s → (k : ℕ) (line : Line) → k < length s.lines.items → slice_get (s.lines.items ++ rest) k ≡ Some line → HoldsAt P (log_of s rest) k line
+holds_before P s rest w k line lt e = elim (got_in s.lines.items rest k line e) [
+  | inl at ↦ subst (λ D. Holds P D line) (sym (domains_before P s.turn s.lines.items rest k (omega (arith, lt)))) (w.stand k line at.1).holds
+  | inr at ↦ absurd (omega (arith, lt, at.1))
+]
+
+names_cited : (P : Instance) (s : Progress) (rest : List Line) → IsWritten P s → NamesCited P s.turn (log_of s rest)
+names_cited P s rest w = record {
+  same_turn = refl;
+  cited = λ r n. elim ((w.cited r).0 n) [
+    | inl turn ↦ inl turn
+    | inr at ↦ inr (at.0, at.1, got_left s.lines.items rest at.0 at.1 at.2, at.3)
+  ];
+}
+
+same_log : (g h : Log) → g.named ≡ h.named → g.turn ≡ h.turn → g.lines ≡ h.lines → g ≡ h
+same_log g h a b c =
+    ap (λ (R : List ℕ). record { named = R; turn = g.turn; lines = g.lines }) a
+    ∙ ap (λ (t : Option Turn). record { named = h.named; turn = t; lines = g.lines }) b
+    ∙ ap (λ (ls : List Line). record { named = h.named; turn = h.turn; lines = ls }) c
+
+abbrev none : List Line
+none = []
+
+none_open : AreOpen none
+none_open m line e = absurd (cc)
+
+-- a whole tree passes
+pub passing_end : (P : Instance) (s : Progress) (budget : ℕ) (g : Log) → IsWritten P s → IsAllowed P s.turn → IsStrictlyIncreasing s.named → IsTree s.lines.items → length s.lines.items ≤ budget → g.named ≡ s.named → g.turn ≡ s.turn → g.lines ≡ s.lines.items → IsEnded P s.turn budget s.lines.items (NoRoster g)
+passing_end P s budget g w allowed up tree few a b c =
+    let whole : s.lines.items ++ none ≡ s.lines.items = append-nil s.lines.items in
+    let is : log_of s none ≡ g = sym (same_log g (log_of s none) a b (c ∙ sym whole)) in
+    let worked : size g ≤ length g.lines = count_by-le-length is_worked g.lines in
+    let long : length g.lines ≡ length s.lines.items = ap length c in
+    let passes : Passes P (log_of s none) = record {
+      grounded = grounded P s none w allowed up none_open;
+      tree = subst IsTree (sym whole) tree;
+      holds = λ k line e. holds_before P s none w k line (omega (arith, slice_get_within (s.lines.items ++ none) k line e, ap length whole)) e;
+    } in (
+      subst (Passes P) is passes,
+      omega (arith, worked, long, few),
+      subst (NamesCited P s.turn) is (names_cited P s none w),
+      c,
+    )
+
+pub open_rest : (n : ℕ) → AreOpen (replicate n Unfinished)
+open_rest zero m line e = absurd (cc)
+open_rest (suc n) zero line e = cc
+open_rest (suc n) (suc m) line e = open_rest n m line e
+
+rest_is_read : (n : ℕ) → after_trees n (replicate n Unfinished) ≡ Some []
+rest_is_read zero = refl
+rest_is_read (suc n) = rest_is_read n
+
+pub rest_ends : (ls : List Line) (n : ℕ) → after_trees 1 (ls ++ replicate n Unfinished) ≡ after_trees n (replicate n Unfinished) → IsTree (ls ++ replicate n Unfinished)
+rest_ends ls n e = whole_is_tree (ls ++ replicate n Unfinished) (e ∙ rest_is_read n)
+
+pub some_open : (w : State) → w.whole ≡ false → 1 ≤ open_trees w
+some_open w part = let e : open_trees w ≡ lacking_in w.splits + 1 = ap (λ b. cond b 0 (lacking_in w.splits + 1)) part in omega arith
+
+-- lines that have used up the budget, with the rest left open
+pub spent_end : (P : Instance) (s : Progress) (budget n : ℕ) (g : Log) → IsWritten P s → IsAllowed P s.turn → IsStrictlyIncreasing s.named → IsTree (s.lines.items ++ replicate n Unfinished) → length s.lines.items ≤ budget → budget ≤ length s.lines.items → 1 ≤ n → g.named ≡ s.named → g.turn ≡ s.turn → g.lines ≡ s.lines.items ++ replicate n Unfinished → IsEnded P s.turn budget s.lines.items (Undecided g)
+spent_end P s budget n g w allowed up tree few all some a b c =
+    let rest : List Line = replicate n Unfinished in
+    let is : log_of s rest ≡ g = sym (same_log g (log_of s rest) a b c) in
+    let long : length (s.lines.items ++ rest) ≡ length s.lines.items + length rest = length-append s.lines.items rest in
+    let many : length rest ≡ n = length-replicate n Unfinished in
+    let spent : IsSpent P (log_of s rest) budget = record {
+      grounded = grounded P s rest w allowed up (open_rest n);
+      tree = tree;
+      holds = λ k line lt e. holds_before P s rest w k line (omega (arith, lt, all)) e;
+      rest = λ k line le e. elim (got_in s.lines.items rest k line e) [ inl at ↦ absurd (omega (arith, at.0, le, few)) | inr at ↦ open_rest n at.0 line at.2 ];
+      unfinished = omega (arith, long, many, few, some);
+    } in (
+      subst (λ l. IsSpent P l budget) is spent,
+      subst (NamesCited P s.turn) is (names_cited P s rest w),
+      (n, c),
+    )

@@ -1,0 +1,163 @@
+-- Decided domains have one word, and a roster of them breaks only what a leaf sees.
+use Rattle.std.proofs.Common.{◌≡◌, ℕ, ◌+◌, ◌-◌, ◌*◌, ◌%◌, ◌<◌, ◌≤◌, List, [], ◌∷◌, length, get_or, Option, Some, refl, ap, sym, ◌∙◌, subst, arith, length-append, inl, inr, Bool, true, false, IsTrue, ◌||◌, ◌==◌, not, pos, ℤ}
+use Rattle.std.specs.Prelude.{slice_get, All, ◌<ℤ◌, ◌≤ℤ◌}
+use Rattle.std.specs.List.{range_with_len, list_all}
+use Rattle.std.proofs.lemmas.Int.{ints, by_lt_z}
+use Rattle.std.proofs.lemmas.Bool.{eqb-true, eq-eqb}
+use Rattle.std.proofs.lemmas.List.Sums.{list_all-from_AllPass}
+use Rattle.std.proofs.lemmas.Option.{slice_get_cases}
+use Rattle.rwsp_terms.specs.declared.data.Class.{Class}
+use Rattle.rwsp_terms.specs.declared.data.ShiftRow.{ShiftRow}
+use Rattle.rwsp_terms.specs.declared.data.Symbol.{Symbol}
+use Rattle.rwsp_terms.specs.declared.data.Rule.{Rule}
+use Rattle.rwsp_terms.specs.declared.data.Rule.TheVariants.{MaxShift, MinShift, MaxOff, MinOff, MaxWork, MinWork, Pair, Triple, Day}
+use Rattle.rwsp_terms.specs.Instance.{Instance, cells, shift_count, least, greatest, bounds_of, symbol_numbered, IsDay}
+use Rattle.rwsp_terms.specs.Window.{off_symbol, cell, window, TooLong, TooShort, Bad}
+use Rattle.rwsp_terms.specs.Roster.{weeks_with, MeetsDay, HasNoBadWindow, MeetsRule, IsRule, IsRoster, MeetsAll}
+use Rattle.rwsp_terms.specs.Rules.{rules, rule_of}
+use Rattle.rwsp_terms.proofs.Windows.{length-window}
+use Rattle.rwsp_model.specs.Validity.{KeepsLimits, AreSmall}
+use Rattle.rwsp_model.specs.RuleNumbers.{place_of}
+use Rattle.rwsp_model.proofs.Numbering.{number_at_place, number_within}
+use Rattle.refutation_terms.specs.declared.lines.Line.TheVariants as Lines
+use Rattle.refutation_terms.specs.Word.{Over}
+use Rattle.refutation_terms.specs.Leaf.{is_only, fixed, possible}
+use Rattle.refutation_terms.specs.Log.{LineFits, Holds}
+use Rattle.refutation_terms.proofs.Counts.{count_mono, in_column}
+use Rattle.refutation_terms.proofs.Tests.{both}
+use Rattle.domain_store.specs.Store.{Store, BelongsTo, IsDecided, domain_at, has_domain, IsStore, HasDomains}
+use Rattle.tree_walk.proofs.Idle.{positions_of}
+use Rattle.roster_search.proofs.Alike.{some_cells}
+
+-- decided domains, and the roster of their symbols
+pub record IsAlone (P : Instance) (S : Store) (s : List Symbol) : Type 0 where
+  pub limits : KeepsLimits P
+  pub is_roster : IsRoster P s
+  pub one : (q : ℕ) → q < cells P → length (domain_at S q) ≡ 1
+  pub has : (q : ℕ) → q < cells P → IsTrue (has_domain S q (get_or s q off_symbol).number)
+  pub tests : HasDomains S
+
+same_symbols : (x y : Symbol) → x.number ≡ y.number → x ≡ y
+same_symbols x y e = ap symbol_numbered e
+
+held_is : (P : Instance) (S : Store) (s : List Symbol) (q x : ℕ) → IsAlone P S s → q < cells P → IsTrue (has_domain S q x) → (get_or s q off_symbol).number ≡ x
+held_is P S s q x a lt h = a.tests.alone q (get_or s q off_symbol).number x (a.one q lt) (a.has q lt) h
+
+-- each word over them is a window of the roster
+word_is : (P : Instance) (S : Store) (s : List Symbol) → IsAlone P S s → (p : ℕ) (u : List Symbol) → Over P (has_domain S) p u → u ≡ window s p (length u)
+word_is P S s a p [] o = refl
+word_is P S s a p (x ∷ u) o =
+    let some : 0 < cells P = some_cells P a.limits in
+    let inside : p % cells P < cells P = omega (arith, some) in
+    let here : (get_or s (p % cells P) off_symbol).number ≡ x.number = held_is P S s (p % cells P) x.number a inside o.0 in
+    let at : cell s p ≡ get_or s (p % cells P) off_symbol = ap (λ n. get_or s (p % n) off_symbol) a.is_roster.long in
+    let first : x ≡ cell s p = sym (at ∙ same_symbols (get_or s (p % cells P) off_symbol) x here) in
+    ap (λ y. y ∷ u) first ∙ ap (λ l. cell s p ∷ l) (word_is P S s a (p + 1) u o.1)
+
+-- a bad word has a length that leaves may speak of
+small_row : (rows : List ShiftRow) (k : ℕ) → All (λ row. AreSmall row.bounds) rows → AreSmall (bounds_of (slice_get rows k))
+small_row rows k h = elim ((slice_get_cases rows k).1) [
+  | inl at ↦ subst (λ (o : Option ShiftRow). AreSmall (bounds_of o)) (sym at.2) (subst (λ (row : ShiftRow). AreSmall row.bounds) at.3 (h k at.0 at.1))
+  | inr past ↦ subst (λ (o : Option ShiftRow). AreSmall (bounds_of o)) (sym past.1) (omega arith, omega arith)
+]
+
+abbrev IsShortLength : ℕ → Type 0
+IsShortLength n = (0 < n) × (n ≤ 16800)
+
+long_length : (c : Class) (most : ℕ) (u : List Symbol) → most ≤ 10000 → TooLong c most u → IsShortLength (length u)
+long_length c most u le h = let e = h.long in (omega arith, omega arith)
+
+short_length : (c : Class) (fewest : ℕ) (u : List Symbol) → fewest ≤ 10000 → TooShort c fewest u → IsShortLength (length u)
+short_length c fewest u le h =
+    let few = h.few in
+    let whole : length u ≡ length (h.before ∷ h.block) + length (h.after ∷ []) = ap length h.whole ∙ length-append (h.before ∷ h.block) (h.after ∷ []) in
+    let e : length u ≡ length h.block + 2 = omega (arith, whole) in
+    (omega arith, omega arith)
+
+bad_length : (P : Instance) (r : Rule) (u : List Symbol) → KeepsLimits P → Bad P r u → IsShortLength (length u)
+bad_length P (MaxShift x) u k h = long_length _ _ u (small_row P.shifts (x.number - 1) k.blocks).1 h
+bad_length P (MinShift x) u k h = short_length _ _ u (small_row P.shifts (x.number - 1) k.blocks).0 h
+bad_length P MaxOff u k h = long_length _ _ u k.off.1 h
+bad_length P MinOff u k h = short_length _ _ u k.off.0 h
+bad_length P MaxWork u k h = long_length _ _ u k.work.1 h
+bad_length P MinWork u k h = short_length _ _ u k.work.0 h
+bad_length P (Pair i) u k h = let e : length u ≡ 2 = ap length h.2 in (omega arith, omega arith)
+bad_length P (Triple i) u k h = let e : length u ≡ 3 = ap length h.2 in (omega arith, omega arith)
+bad_length P (Day j) u k h = absurd h
+
+abbrev pub NoWindowHolds : Instance → Store → Type 0
+NoWindowHolds P S = (number p len : ℕ) → LineFits P (Lines.Window number p len) → Holds P (has_domain S) (Lines.Window number p len) → ⊥
+
+abbrev pub NoDayHolds : Instance → Store → Type 0
+NoDayHolds P S = (j : ℕ) (x : Symbol) (over : Bool) → LineFits P (Lines.Day j x over) → Holds P (has_domain S) (Lines.Day j x over) → ⊥
+
+no_bad_window : (P : Instance) (S : Store) (s : List Symbol) (r : Rule) → IsAlone P S s → NoWindowHolds P S → IsRule P r → HasNoBadWindow P r s
+no_bad_window P S s r a none is p len lt bad =
+    let number : ℕ = place_of P r + 1 in
+    let at : rule_of P number ≡ Some r = number_at_place P r number is refl in
+    let within : number ≤ length (rules P) = number_within P r is in
+    let short = bad_length P r (window s p len) a.limits bad in
+    let long : length (window s p len) ≡ len = length-window s p len in
+    let inside : p < cells P = omega (arith, lt, a.is_roster.long) in
+    none number p len (omega arith, within, inside, (omega (arith, short.0, long), omega (arith, short.1, long)))
+    (r, at, λ u e over. subst (Bad P r) (sym (word_is P S s a p u over ∙ ap (window s p) e)) bad)
+
+all_alone : (P : Instance) (S : Store) (s : List Symbol) (q x : ℕ) → IsAlone P S s → q < cells P → (get_or s q off_symbol).number ≡ x → is_only P (has_domain S) q x ≡ true
+all_alone P S s q x a lt e =
+    let test : ℕ → Bool = λ z. (z == x) || not (has_domain S q z) in
+    both (has_domain S q x) (list_all test (range_with_len 0 (shift_count P + 1)))
+    (subst (λ n. IsTrue (has_domain S q n)) e (a.has q lt))
+    (list_all-from_AllPass test (range_with_len 0 (shift_count P + 1))
+    (λ i d less. passes (get_or (range_with_len 0 (shift_count P + 1)) i d == x) (has_domain S q (get_or (range_with_len 0 (shift_count P + 1)) i d))
+    (λ held. eq-eqb (get_or (range_with_len 0 (shift_count P + 1)) i d) x (sym (held_is P S s q (get_or (range_with_len 0 (shift_count P + 1)) i d) a lt held) ∙ e))))
+  where
+    passes : (b c : Bool) → (c ≡ true → b ≡ true) → (b || not c) ≡ true
+    passes true c h = refl
+    passes false true h = h refl
+    passes false false h = refl
+
+-- where no day leaf holds, the counts are as demanded
+meets_day : (P : Instance) (S : Store) (s : List Symbol) (j : ℕ) → IsAlone P S s → NoDayHolds P S → IsDay P j → MeetsDay P j s
+meets_day P S s j a none day x small =
+    let most : weeks_with P s x j ≤ fixed P (has_domain S) j x =
+    count_mono (λ i. (get_or s (i * P.days + (j - 1)) off_symbol).number == x) (λ i. is_only P (has_domain S) (i * P.days + (j - 1)) x) 0 P.weeks
+    (λ i le lt same. all_alone P S s (i * P.days + (j - 1)) x a (in_column P i j (omega (arith, lt)) day) (eqb-true (get_or s (i * P.days + (j - 1)) off_symbol).number x same)) in
+    let fewest : possible P (has_domain S) j x ≤ weeks_with P s x j =
+    count_mono (λ i. has_domain S (i * P.days + (j - 1)) x) (λ i. (get_or s (i * P.days + (j - 1)) off_symbol).number == x) 0 P.weeks
+    (λ i le lt held. eq-eqb (get_or s (i * P.days + (j - 1)) off_symbol).number x (held_is P S s (i * P.days + (j - 1)) x a (in_column P i j (omega (arith, lt)) day) held)) in (
+      not_below (least P x j) (weeks_with P s x j) (possible P (has_domain S) j x) fewest (none j (symbol_numbered x) false (day, small)),
+      not_above (greatest P x j) (weeks_with P s x j) (fixed P (has_domain S) j x) most (none j (symbol_numbered x) true (day, small)),
+    )
+  where
+    not_below : (l : ℤ) (c f : ℕ) → f ≤ c → (pos f <ℤ l → ⊥) → l ≤ℤ pos c
+    not_below l c f le h = by_lt_z (pos f) l (λ less. absurd (h less)) (λ more. omega (arith, ints))
+
+    not_above : (g : ℤ) (c f : ℕ) → c ≤ f → (g <ℤ pos f → ⊥) → pos c ≤ℤ g
+    not_above g c f le h = by_lt_z g (pos f) (λ less. absurd (h less)) (λ more. omega (arith, ints))
+
+meets_by : (P : Instance) (r : Rule) (s : List Symbol) → HasNoBadWindow P r s → ((j : ℕ) → r ≡ Day j → MeetsDay P j s) → MeetsRule P r s
+meets_by P (MaxShift x) s h day = h
+meets_by P (MinShift x) s h day = h
+meets_by P MaxOff s h day = h
+meets_by P MinOff s h day = h
+meets_by P MaxWork s h day = h
+meets_by P MinWork s h day = h
+meets_by P (Pair k) s h day = h
+meets_by P (Triple k) s h day = h
+meets_by P (Day j) s h day = day j refl
+
+-- where no window leaf and no day leaf holds, the roster meets every rule
+pub meets_all : (P : Instance) (S : Store) (s : List Symbol) → KeepsLimits P → BelongsTo P S → IsStore S → HasDomains S → IsDecided S → IsRoster P s → ((p : ℕ) (d : Symbol) → p < length s → IsTrue (has_domain S p (get_or s p d).number)) → NoWindowHolds P S → NoDayHolds P S → MeetsAll P s
+meets_all P S s limits belongs store tests decided roster has windows days =
+    let many : length S.sets ≡ cells P = positions_of P S store belongs in
+    let a : IsAlone P S s = record {
+      limits = limits;
+      is_roster = roster;
+      one = λ q lt. decided q [] (omega (arith, lt, many));
+      has = λ q lt. has q off_symbol (omega (arith, lt, roster.long));
+      tests = tests;
+    } in
+    record {
+      is_roster = roster;
+      rules = λ r is. meets_by P r s (no_bad_window P S s r a windows is) (λ j e. meets_day P S s j a days (subst (IsRule P) e is));
+    }

@@ -1,0 +1,37 @@
+-- The log of the lines, whole or with a rest.
+use Rattle.std.proofs.Common.{◌≡◌, ◌≤◌, ℕ, sym, subst, ◌∙◌, arith, false}
+use Rattle.std.specs.Prelude.{replicate}
+use Rattle.std.specs.List.Sorted.{IsStrictlyIncreasing}
+use Rattle.refutation_terms.specs.declared.lines.Line.TheVariants.{Unfinished}
+use Rattle.refutation_terms.specs.Tree.{IsTree}
+use Rattle.tree_walk.specs.States.{open_trees}
+use Rattle.roster_search.proofs.Logs.{passing_end, spent_end, rest_ends, some_open}
+use Rattle.roster_search.proofs.ending.end.Goals as goal
+
+pub returns-then-is_whole : goal.returns-then-is_whole
+returns-then-is_whole c =
+    let P = c.args.problem.now in
+    let s = c.args.progress in
+    let up : IsStrictlyIncreasing s.named = subst IsStrictlyIncreasing c.numbers.ensures.value c.numbers.ensures.ascends in
+    passing_end P s c.args.budget c.of.result c.requires.written c.requires.allowed up
+    ((c.is_whole.ensures.tree P s.turn s.lines.items c.requires.written.state).0 c.if-is_whole.true)
+    c.requires.few c.of.ensures.named c.of.ensures.turn c.of.ensures.lines
+
+pub of-requires-2-clause-tree : goal.of-requires-2-clause-tree
+of-requires-2-clause-tree c =
+    let P = c.args.problem.now in
+    let s = c.args.progress in
+    let n : ℕ = c.open_count.result in
+    subst IsTree (sym c.in_ok-leave_open.ensures) (rest_ends s.lines.items n (c.open_count.ensures.trees P s.turn s.lines.items (replicate n Unfinished) c.requires.written.state))
+
+pub returns : goal.returns
+returns c =
+    let P = c.args.problem.now in
+    let s = c.args.progress in
+    let n : ℕ = c.open_count.result in
+    let up : IsStrictlyIncreasing s.named = subst IsStrictlyIncreasing c.numbers.ensures.value c.numbers.ensures.ascends in
+    let part : s.walk.whole ≡ false = sym c.is_whole.ensures.value ∙ c.if-is_whole.false in
+    let some : 1 ≤ open_trees s.walk = some_open s.walk part in
+    spent_end P s c.args.budget n c.of-2.result c.requires.written c.requires.allowed up
+    (rest_ends s.lines.items n (c.open_count.ensures.trees P s.turn s.lines.items (replicate n Unfinished) c.requires.written.state))
+    c.requires.few (c.requires.spent part) (omega (arith, some, c.open_count.ensures.value)) c.of-2.ensures.named c.of-2.ensures.turn (c.of-2.ensures.lines ∙ c.in_ok-leave_open.ensures)

@@ -1,0 +1,61 @@
+-- A split and the leaf of its first side.
+use Rattle.std.proofs.Common.{◌≡◌, List, [], ◌∷◌, ◌++◌, refl, sym, subst, ap, ◌∙◌, length, arith, inr, append_assoc, Option}
+use Rattle.rwsp_terms.specs.Instance.{cells}
+use Rattle.refutation_terms.specs.declared.lines.Line.{Line}
+use Rattle.refutation_terms.specs.declared.lines.Line.TheVariants.{Split}
+use Rattle.refutation_terms.specs.declared.lines.Turn.{Turn}
+use Rattle.refutation_terms.specs.Tree.{domains_at, narrowed, First}
+use Rattle.refutation_terms.specs.Log.{Holds}
+use Rattle.domain_store.specs.Store.{has_domain}
+use Rattle.tree_walk.specs.States.{IsStateOf}
+use Rattle.tree_walk.proofs.Idle.{positions_of, idle_in_store}
+use Rattle.tree_walk.proofs.Moves.{state_domains}
+use Rattle.roster_search.specs.Written.{IsSplitWithLeaf}
+use Rattle.roster_search.proofs.Alike.{holds_alike, some_cells}
+use Rattle.roster_search.proofs.Narrowing.{narrowed_at, first_side}
+use Rattle.roster_search.proofs.progress.Progress.cut.Goals as goal
+
+pub split-requires-clause-useful : goal.split-requires-clause-useful
+split-requires-clause-useful c =
+    let P = c.args.problem.now in
+    let S = c.args.self.now.walk.store in
+    let belongs = c.requires.written.state.belongs in
+    let many : length S.sets ≡ cells P = positions_of P S c.domain_facts.ensures.store belongs in
+    idle_in_store P (has_domain S) S c.args.p c.args.x.number c.domain_facts.ensures.store c.domain_facts.ensures.tests belongs (omega (arith, c.requires.position, many)) (λ z. refl) ∙ c.requires.useful
+
+pub close-requires-clause-holds : goal.close-requires-clause-holds
+close-requires-clause-holds c =
+    let P = c.args.problem.now in
+    let a = c.args.self.now in
+    let b = c.split.new.self in
+    let x = c.args.x in
+    let S = a.walk.store in
+    let all : List Line = a.lines.items ++ Split c.args.p x ∷ [] in
+    let there : Holds P (domains_at P a.turn all (length all)) c.args.line =
+    holds_alike P (narrowed (has_domain S) (Split c.args.p x) First) (domains_at P a.turn all (length all)) c.args.line (some_cells P c.keeps_limits.ensures) c.requires.leaf.fits
+    (first_side P a.turn a.lines.items (has_domain S) c.args.p x (λ q z lt. state_domains P a.turn a.lines.items S a.walk.splits a.walk.whole c.domain_facts.ensures.store c.requires.written.state q z lt))
+    c.requires.holds in
+    subst (λ (t : Option Turn). Holds P (domains_at P t b.lines.items (length b.lines.items)) c.args.line) (sym c.in_ok-split.ensures.turn)
+    (subst (λ (ls : List Line). Holds P (domains_at P a.turn ls (length ls)) c.args.line) (sym c.in_ok-split.ensures.lines) there)
+
+pub returns-in_ok-close-clause-off : goal.returns-in_ok-close-clause-off
+returns-in_ok-close-clause-off c =
+    let P = c.args.problem.now in
+    let a = c.args.self.now in
+    let b = c.close.new.self in
+    let p = c.args.p in
+    let x = c.args.x in
+    let added : List Line = Split p x ∷ c.args.line ∷ [] in
+    let turn : b.turn ≡ a.turn = c.close.ensures.turn ∙ c.in_ok-split.ensures.turn in
+    let lines : b.lines.items ≡ a.lines.items ++ added = c.in_ok-close.ensures.lines ∙ ap (λ (ls : List Line). ls ++ c.args.line ∷ []) c.in_ok-split.ensures.lines ∙ append_assoc a.lines.items (Split p x ∷ []) (c.args.line ∷ []) in
+    let kind : IsSplitWithLeaf p x added = inr (c.args.line, c.requires.leaf.leaf, refl) in
+    let state : IsStateOf P a.turn (a.lines.items ++ added) b.walk =
+    subst (λ (ls : List Line). IsStateOf P a.turn ls b.walk) lines (subst (λ (t : Option Turn). IsStateOf P t b.lines.items b.walk) turn c.in_ok-close.ensures.written.state) in
+    record {
+      written = c.in_ok-close.ensures.written;
+      same_turn = turn;
+      added = added;
+      split = kind;
+      lines = lines;
+      narrowed = narrowed_at P a.turn a.lines.items added a.walk b.walk p x c.domain_facts.ensures.store c.domain_facts-then-has_room.ensures.store c.requires.written.state state kind c.requires.position;
+    }

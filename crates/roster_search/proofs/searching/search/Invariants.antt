@@ -1,0 +1,19 @@
+use Rattle.std.proofs.Common.{ℕ, ◌↔◌, ◌-◌, length}
+use Rattle.rwsp_terms.specs.declared.data.Symbol.{Symbol}
+use Rattle.rwsp_terms.specs.Instance.{Instance}
+use Rattle.refutation_terms.specs.declared.lines.Line.{Line}
+use Rattle.domain_store.specs.Store.{Store}
+use Rattle.roster_search.specs.Written.{IsUnderWay}
+use Rattle.roster_search.proofs.searching.search.Given as goal
+
+abbrev pub invariant-loop-alloc : goal.invariant-loop-alloc
+invariant-loop-alloc g l = record {
+  under_way : IsUnderWay l.problem l.fn.turn l.budget (g.A.Propagator.leaves l.fn.prop) (g.A.Propagator.spent l.fn.prop) l.progress;
+  tracks : g.A.Propagator.tracks l.prop l.progress.walk.store;
+  serves : (P : Instance) → g.A.Propagator.serves l.fn.prop P ↔ g.A.Propagator.serves l.prop P;
+  leaves : (S : Store) (line : Line) → g.A.Propagator.leaves l.fn.prop S line ↔ g.A.Propagator.leaves l.prop S line;
+  spent : (S : Store) (p : ℕ) (x : Symbol) → g.A.Propagator.spent l.fn.prop S p x ↔ g.A.Propagator.spent l.prop S p x;
+}
+
+abbrev pub decreases-loop-alloc : goal.decreases-loop-alloc
+decreases-loop-alloc g l = l.budget - length l.progress.lines.items

@@ -1,0 +1,73 @@
+-- What a search has written so far.
+use Rattle.std.specs.Prelude.{◌≡◌, ◌⊎◌, ◌↔◌, ℕ, ◌+◌, ◌≤◌, List, [], ◌∷◌, ◌++◌, length, slice_get, replicate, Option, Some, Contains}
+use Rattle.rwsp_terms.specs.declared.data.Symbol.{Symbol}
+use Rattle.rwsp_terms.specs.declared.data.Rule.{Rule}
+use Rattle.rwsp_terms.specs.Instance.{Instance}
+use Rattle.rwsp_terms.specs.Rules.{rule_of, Names}
+use Rattle.refutation_terms.specs.declared.lines.Line.{Line}
+use Rattle.refutation_terms.specs.declared.lines.Line.TheVariants.{Split, Unfinished}
+use Rattle.refutation_terms.specs.declared.lines.Turn.{Turn}
+use Rattle.refutation_terms.specs.Word.{Domains}
+use Rattle.refutation_terms.specs.Tree.{IsLeaf, domains_at}
+use Rattle.refutation_terms.specs.Log.{Log, LineFits, TurnFits, Holds, Cites, TurnCites, ListsShortOnly, Passes, IsSpent, NamesOnlyCited, size}
+use Rattle.domain_store.specs.Store.{Store}
+use Rattle.tree_walk.specs.States.{IsStateOf, open_trees}
+use Rattle.propagators.specs.Looks.{IsNarrowedAt}
+use Rattle.roster_search.specs.Founds.{IsForced}
+use Rattle.roster_search.specs.declared.progress.Progress.{Progress}
+use Rattle.roster_search.specs.declared.found.Found.{Found}
+use Rattle.roster_search.specs.declared.found.Found.TheVariants.{Roster, NoRoster, Undecided}
+
+-- a line that holds, with its numbers in their ranges and with short rules only in its list
+pub record Stands (P : Instance) (D : Domains) (line : Line) : Type 0 where
+  pub holds : Holds P D line
+  pub fits : LineFits P line
+  pub short : ListsShortOnly P line
+
+-- the rule is that of the turn, or one of the lines cites it
+abbrev pub IsCitedIn : Instance → Option Turn → List Line → Rule → Type 0
+IsCitedIn P turn lines r = TurnCites turn r ⊎ ((k : ℕ) × (line : Line) × (slice_get lines k ≡ Some line) × Cites P line r)
+
+-- the lines stand under the domains at them, the walk is behind them, and what they and the turn cite is named
+pub record IsWritten (P : Instance) (s : Progress) : Type 0 where
+  pub state : IsStateOf P s.turn s.lines.items s.walk
+  pub turn_fits : TurnFits P s.turn
+  pub stand : (k : ℕ) (line : Line) → slice_get s.lines.items k ≡ Some line → Stands P (domains_at P s.turn s.lines.items k) line
+  pub cited : (r : Rule) → Names P s.named r ↔ IsCitedIn P s.turn s.lines.items r
+  pub numbers : (k : ℕ) → Contains s.named k → (r : Rule) × (rule_of P k ≡ Some r)
+  pub few_open : open_trees s.walk ≤ length s.lines.items + 1
+
+-- each split is as the propagator says
+abbrev pub AreForced : Instance → (Store → Line → Type 0) → (Store → ℕ → Symbol → Type 0) → Option Turn → List Line → Type 0
+AreForced P leaves spent turn lines = (k p : ℕ) (x : Symbol) → slice_get lines k ≡ Some (Split p x) → IsForced P leaves spent (domains_at P turn lines k) p x
+
+-- a split, and maybe the leaf of its first side
+abbrev pub IsSplitWithLeaf : ℕ → Symbol → List Line → Type 0
+IsSplitWithLeaf p x added = (added ≡ Split p x ∷ []) ⊎ ((leaf : Line) × IsLeaf leaf × (added ≡ Split p x ∷ leaf ∷ []))
+
+-- such lines were written, and only the domain of their position became smaller
+pub record IsSplitOff (P : Instance) (before after : Progress) (p : ℕ) (x : Symbol) : Type 0 where
+  pub written : IsWritten P after
+  pub same_turn : after.turn ≡ before.turn
+  pub added : List Line
+  pub split : IsSplitWithLeaf p x added
+  pub lines : after.lines.items ≡ before.lines.items ++ added
+  pub narrowed : IsNarrowedAt before.walk.store after.walk.store p
+
+-- the lines of a search with this budget, whose splits are as the propagator says
+pub record IsUnderWay (P : Instance) (turn : Option Turn) (budget : ℕ) (leaves : Store → Line → Type 0) (spent : Store → ℕ → Symbol → Type 0) (s : Progress) : Type 0 where
+  pub written : IsWritten P s
+  pub same_turn : s.turn ≡ turn
+  pub forced : AreForced P leaves spent turn s.lines.items
+  pub few : length s.lines.items ≤ budget
+
+-- a log that names what it cites and no more
+pub record NamesCited (P : Instance) (turn : Option Turn) (g : Log) : Type 0 where
+  pub same_turn : g.turn ≡ turn
+  pub cited : NamesOnlyCited P g
+
+-- the log of these lines: one that passes, or one that has spent the budget and leaves the rest unfinished
+abbrev pub IsEnded : Instance → Option Turn → ℕ → List Line → Found → Type 0
+IsEnded P turn budget lines (Roster s) = ⊥
+IsEnded P turn budget lines (NoRoster g) = Passes P g × (size g ≤ budget) × NamesCited P turn g × (g.lines ≡ lines)
+IsEnded P turn budget lines (Undecided g) = IsSpent P g budget × NamesCited P turn g × ((n : ℕ) × (g.lines ≡ lines ++ replicate n Unfinished))

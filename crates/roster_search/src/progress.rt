@@ -1,0 +1,151 @@
+// What a search has written so far.
+ghost use Rattle.std.specs.Prelude.{◌≡◌, ◌↔◌, ℕ, ◌<◌, ◌≤◌, [], ◌∷◌, ◌++◌, length, true, false, IsTrue, Some, Contains, IfOk};
+ghost use Rattle.rwsp_terms.specs.Instance.{Instance, cells};
+ghost use Rattle.refutation_terms.specs.declared.lines.Line.TheVariants.{Split};
+ghost use Rattle.refutation_terms.specs.Tree.{First, narrowed, domains_at, is_idle};
+ghost use Rattle.refutation_terms.specs.Log.{TurnFits, Holds, TurnCites};
+ghost use Rattle.rwsp_terms.specs.Rules.{rule_of, Names};
+ghost use Rattle.rwsp_terms.specs.declared.data.Rule.{Rule};
+ghost use Rattle.domain_store.specs.Store.{has_domain, IsStore, HasDomains};
+ghost use Rattle.tree_walk.specs.Splits.{is_idle_in};
+ghost use Rattle.propagators.specs.Looks.{IsLeafOf};
+ghost use Rattle.roster_search.specs.Written.{IsWritten, IsSplitOff};
+
+use refutation_log::{put_cited, put_turn_cited};
+use refutation_terms::{Line, Turn};
+use rwsp_model::{Problem, Symbol};
+use rwsp_terms::RuleList;
+use std::alloc::{AllocError, Global};
+use tree_walk::Walk;
+
+/// The lines that were written, the domains behind them, and the rules that they and the turn cite.
+#[derive(Drop)]
+pub struct Progress {
+    pub turn: Option<Turn>,
+    pub walk: Walk,
+    pub lines: Vec<Line>,
+    pub named: RuleList,
+}
+
+impl Progress {
+    /// No line yet.
+    pub fn new(alloc: Global, problem: &Problem, turn: Option<Turn>) -> Result<Progress, AllocError>
+        requires { TurnFits problem.now turn }
+        ensures written { IfOk result (λ s. IsWritten problem.now s) }
+        ensures turn { IfOk result (λ s. s.turn ≡ turn) }
+        ensures none { IfOk result (λ s. s.lines.items ≡ []) }
+    {
+        let walk = Walk::new(alloc, problem, turn)?;
+        let named = turn_rules(alloc, problem, turn)?;
+        Ok(Progress {
+            turn,
+            walk,
+            lines: Vec::new(alloc),
+            named,
+        })
+    }
+
+    /// Whether the budget has room for one more line.
+    pub fn has_room(&self, budget: u32) -> bool
+        ensures { IsTrue result ↔ (length self.now.lines.items < budget) }
+    {
+        self.lines.len() < budget as usize
+    }
+
+    /// Whether a tree is still open and the budget has room for one more line.
+    pub fn goes_on(&self, budget: u32) -> bool
+        ensures { IsTrue result ↔ ((self.now.walk.whole ≡ false) × (length self.now.lines.items < budget)) }
+    {
+        !self.walk.is_whole() && self.has_room(budget)
+    }
+
+    /// What is so of the domains at the next line.
+    pub fn domain_facts(&self)
+        ensures store { IsStore self.now.walk.store }
+        ensures tests { HasDomains self.now.walk.store }
+    {
+        self.walk.domains().facts();
+    }
+
+    /// Writes a leaf. After want of memory the lines are of no use.
+    pub fn close(&mut self, problem: &Problem, line: Line) -> Result<(), AllocError>
+        requires part { self.old.walk.whole ≡ false }
+        requires written { IsWritten problem.now self.old }
+        requires leaf { IsLeafOf problem.now line }
+        requires holds { Holds problem.now (domains_at problem.now self.old.turn self.old.lines.items (length self.old.lines.items)) line }
+        ensures written { IfOk result (λ _. IsWritten problem.now self.new) }
+        ensures turn { self.new.turn ≡ self.old.turn }
+        ensures lines { IfOk result (λ _. self.new.lines.items ≡ self.old.lines.items ++ line ∷ []) }
+    {
+        put_cited(&mut self.named, problem, &line)?;
+        self.lines.push(line)?;
+        self.walk.read_leaf();
+        Ok(())
+    }
+
+    /// Writes a split. After want of memory the lines are of no use.
+    pub fn split(&mut self, problem: &Problem, p: u32, x: Symbol) -> Result<(), AllocError>
+        requires part { self.old.walk.whole ≡ false }
+        requires written { IsWritten problem.now self.old }
+        requires position { p < length self.old.walk.store.sets }
+        requires useful { is_idle_in self.old.walk.store p x.number ≡ false }
+        ensures off { IfOk result (λ _. IsSplitOff problem.now self.old self.new p x) }
+        ensures lines { IfOk result (λ _. self.new.lines.items ≡ self.old.lines.items ++ Split p x ∷ []) }
+        ensures part { IfOk result (λ _. self.new.walk.whole ≡ false) }
+        ensures turn { self.new.turn ≡ self.old.turn }
+    {
+        problem.keeps_limits();
+        self.domain_facts();
+        self.lines.push(Line::Split { p, x })?;
+        self.walk.read_split(p, x)?;
+        self.domain_facts();
+        Ok(())
+    }
+
+    /// Writes a split and the leaf of its first side, where there is room for the leaf. After want of
+    /// memory the lines are of no use.
+    pub fn cut(
+        &mut self,
+        problem: &Problem,
+        budget: u32,
+        p: u32,
+        x: Symbol,
+        line: Line,
+    ) -> Result<(), AllocError>
+        requires part { self.old.walk.whole ≡ false }
+        requires written { IsWritten problem.now self.old }
+        requires room { length self.old.lines.items < budget }
+        requires position { p < cells problem.now }
+        requires useful { is_idle problem.now (has_domain self.old.walk.store) p x.number ≡ false }
+        requires leaf { IsLeafOf problem.now line }
+        requires holds { Holds problem.now (narrowed (has_domain self.old.walk.store) (Split p x) First) line }
+        ensures off { IfOk result (λ _. IsSplitOff problem.now self.old self.new p x) }
+        ensures few { IfOk result (λ _. length self.new.lines.items ≤ budget) }
+        ensures turn { self.new.turn ≡ self.old.turn }
+    {
+        problem.keeps_limits();
+        self.domain_facts();
+        self.split(problem, p, x)?;
+        if self.has_room(budget) {
+            self.close(problem, line)?;
+            self.domain_facts();
+        }
+        Ok(())
+    }
+}
+
+// The rules that a turn rests on.
+fn turn_rules(alloc: Global, problem: &Problem, turn: Option<Turn>) -> Result<RuleList, AllocError>
+    requires { TurnFits problem.now turn }
+    ensures cited { IfOk result (λ R. (r : Rule) → Names problem.now R r ↔ TurnCites turn r) }
+    ensures numbers { IfOk result (λ R. (k : ℕ) → Contains R k → (r : Rule) × (rule_of problem.now k ≡ Some r)) }
+{
+    let mut named = RuleList::new(alloc);
+    match turn {
+        Some(turn) => {
+            put_turn_cited(&mut named, problem, turn)?;
+            Ok(named)
+        }
+        None => Ok(named),
+    }
+}
