@@ -1,2 +1,5 @@
 pub mod Lists
 pub mod Lines
+pub mod HeaderFaults
+pub mod SoundLines
+pub mod Judging

@@ -1,3 +1,5 @@
 pub mod Outside
 pub mod Judged
 pub mod Reads
+pub mod Sound
+pub mod Headers
