@@ -1,5 +1,5 @@
 -- Why a text is refused at its header.
-use Rattle.std.proofs.Common.{◌≡◌, ℕ, ◌≤◌, List, [], ◌++◌, refl, ap, sym, ◌∙◌, append_assoc, subst, arith, Some, None, Bool, true, inl, inr}
+use Rattle.std.proofs.Common.{◌≡◌, ℕ, List, [], ◌++◌, refl, ap, sym, ◌∙◌, append_assoc, subst, arith, Some, None, Bool, true, inl, inr}
 use Rattle.std.proofs.lemmas.List.{append-nil}
 use Rattle.std.specs.Prelude.{Contains}
 use Rattle.rwsp_terms.specs.declared.data.Rule.{Rule}
@@ -10,7 +10,7 @@ use Rattle.rwsp_model.proofs.Numbering.{one_number}
 use Rattle.refutation_terms.specs.declared.lines.Turn.{Turn}
 use Rattle.refutation_terms.specs.declared.lines.LogRefusal.{LogRefusal}
 use Rattle.refutation_terms.specs.declared.lines.LogRefusal.TheVariants as Refusals
-use Rattle.refutation_terms.specs.Log.{Log, AreRules, TurnFits, TurnCites, IsAllowed}
+use Rattle.refutation_terms.specs.Log.{AreRules, TurnFits, TurnCites, IsAllowed}
 use Rattle.refutation_terms.specs.LogText.{version_text, rules_text, turn_text}
 use Rattle.refutation_terms.specs.Verdict.{Front, Start, Versioned, BeforeTurn, Reading, Cause, TurnCause, EndsEarly, IsRefused, IsRefusedLine, IsLeast, IsUnnamed}
 use Rattle.refutation_log.specs.Refusals.{SpellsRules, SpellsThisTurn}

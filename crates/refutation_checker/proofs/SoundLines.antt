@@ -1,6 +1,7 @@
 -- Sound lines behind others, and their texts.
-use Rattle.std.proofs.Common.{◌≡◌, ℕ, zero, suc, ◌+◌, ◌<◌, ◌≤◌, List, [], ◌∷◌, ◌++◌, length, take, get_or, refl, ap, sym, ◌∙◌, append_assoc, subst, arith, Option, Some, Bool, true, false, IsTrue, ◌&&◌}
+use Rattle.std.proofs.Common.{◌≡◌, ℕ, zero, suc, List, [], ◌∷◌, ◌++◌, length, take, get_or, refl, ap, sym, ◌∙◌, append_assoc, subst, arith, Option, Some, true, false, IsTrue, ◌&&◌, ◌==◌}
 use Rattle.std.specs.Prelude.{slice_get}
+use Rattle.std.proofs.lemmas.Bool.{eqb-true}
 use Rattle.std.proofs.lemmas.List.{append-nil, take_all}
 use Rattle.std.proofs.lemmas.Option.{slice_get-get_or}
 use Rattle.rwsp_terms.specs.Instance.{Instance}
@@ -8,7 +9,8 @@ use Rattle.refutation_terms.specs.declared.lines.Line.{Line}
 use Rattle.refutation_terms.specs.declared.lines.Line.TheVariants.{Unfinished}
 use Rattle.refutation_terms.specs.declared.lines.Turn.{Turn}
 use Rattle.refutation_terms.specs.declared.lines.LogRefusal.{LogRefusal}
-use Rattle.refutation_terms.specs.Tree.{IsTree, opening, lines_leave, domains_at}
+use Rattle.refutation_terms.specs.Tree.{lines_in, IsTree, opening, lines_leave}
+use Rattle.refutation_terms.proofs.Trees.{tree_has_lines}
 use Rattle.refutation_terms.specs.Log.{Log, Holds}
 use Rattle.refutation_terms.specs.LogText.{raw, line_text, log_text, header_text}
 use Rattle.refutation_terms.specs.Verdict.{Reading, IsSoundSoFar, IsAccepted, EndsEarly, IsRefused}
@@ -86,3 +88,18 @@ refused P R text body turn why h r =
       is_line = r.is_line;
       cause = r.cause;
     })
+
+no_tree : (lines : List Line) → lines ≡ [] → IsTree lines → ⊥
+no_tree lines e tree = let some = tree_has_lines tree.0 in let none : length (lines_in tree.0) ≡ 0 = ap length (tree.1 ∙ e) in omega (arith, some, none)
+
+pub nothing_below : (P : Instance) (R : List ℕ) (turn : Option Turn) (body other : List ℕ) → true ≡ (length other == 0) → other ≡ body → AreAllSound P R turn [] body false
+nothing_below P R turn body other t e = record {
+  lines = [];
+  sound = tt;
+  text = sym (sym (none other t) ∙ e);
+  tree = (λ f. absurd (cc), λ tree. absurd (no_tree [] refl tree));
+}
+  where
+    none : (bytes : List ℕ) → true ≡ (length bytes == 0) → bytes ≡ []
+    none [] h = refl
+    none (b ∷ bytes) h = let z : length (b ∷ bytes) ≡ 0 = eqb-true (length (b ∷ bytes)) 0 (sym h) in absurd (omega (arith, z))

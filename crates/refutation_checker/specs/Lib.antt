@@ -3,3 +3,4 @@ pub mod Judged
 pub mod Reads
 pub mod Sound
 pub mod Headers
+pub mod Chunks

@@ -13,12 +13,13 @@ use std::marker::Model;
 use tree_walk::Walk;
 
 /// Some lines of a log's tree: the walk in front of them, their bytes, and the number of the first one among all lines of
-/// the text.
+/// the text. Chunks count from 1.
 #[derive(Debug, Drop)]
 pub struct Chunk<'a> {
-    walk: Walk,
-    bytes: &'a [u8],
-    first: u32,
+    pub number: u32,
+    pub walk: Walk,
+    pub bytes: &'a [u8],
+    pub first: u32,
 }
 
 impl<'a> Model for Chunk<'a> {
@@ -29,33 +30,20 @@ impl<'a> Model for Chunk<'a> {
     ghost view = { λ c. record { walk = c.walk; bytes = c.bytes.now; first = c.first } };
 }
 
-impl<'a> Chunk<'a> {
-    /// The lines of these bytes, of which the first is line `first` of the text, with the walk in front of it.
-    pub fn new(walk: Walk, bytes: &'a [u8], first: u32) -> Chunk<'a>
-        ensures walk { result.walk ≡ walk }
-        ensures bytes { result.bytes ≡ bytes.now }
-        ensures first { result.first ≡ first }
-    {
-        Chunk { walk, bytes, first }
-    }
-}
-
 /// Whether the tree is whole behind the lines of the chunk, where none of them is refused, or why its first line that is
 /// refused is.
 pub fn judge_chunk(
     alloc: Global,
     problem: &Problem,
     named: &RuleList,
-    chunk: &Chunk,
+    chunk: Chunk,
 ) -> Result<bool, Fail<LogRefusal>>
-    requires start { (turn : Option Turn) × (earlier : List Line) × StandsBehind problem.now turn earlier chunk.now }
-    requires few { chunk.now.first + length chunk.now.bytes < 2 ^ 31 }
-    ensures { (turn : Option Turn) (earlier : List Line) → StandsBehind problem.now turn earlier chunk.now →
-        IsJudged problem.now named.now turn earlier chunk.now.bytes result }
+    requires start { (turn : Option Turn) × (earlier : List Line) × StandsBehind problem.now turn earlier chunk }
+    requires few { chunk.first + length chunk.bytes < 2 ^ 31 }
+    ensures { (turn : Option Turn) (earlier : List Line) → StandsBehind problem.now turn earlier chunk.entry →
+        IsJudged problem.now named.now turn earlier chunk.entry.bytes result }
 {
-    let Ok(mut walk) = chunk.walk.copy() else {
-        return Err(Fail::Memory);
-    };
+    let mut walk = chunk.walk;
     let mut judge = Judge::new(problem, named);
     let mut reader = LineReader::new(chunk.bytes);
     let mut number = chunk.first;

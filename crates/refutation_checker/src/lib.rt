@@ -8,7 +8,9 @@ mod judge;
 mod long;
 mod named;
 mod plain;
+mod scan;
 mod verdict;
+mod workers;
 
 pub use dead::dead_escape;
 pub use judge::Judge;
