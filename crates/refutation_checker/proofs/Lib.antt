@@ -4,3 +4,9 @@ pub mod Bounds
 pub mod SameDomains
 pub mod Judging
 pub mod Passing
+pub mod HeaderFaults
+pub mod SoundLines
+pub mod ChunkJudging
+pub mod Walking
+pub mod Cutting
+pub mod Joining

@@ -2,13 +2,17 @@
 #![tactic(auto)]
 
 mod bound;
+mod chunk;
+mod header;
 mod judge;
 mod kept_tails;
 mod log_check;
 mod long;
 mod named;
 mod plain;
+mod scan;
 mod verdict;
+mod workers;
 
 pub use judge::Judge;
 pub use log_check::check_log;

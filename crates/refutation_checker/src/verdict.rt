@@ -1,14 +1,19 @@
 // The verdict on a whole log.
-ghost use Rattle.std.specs.Prelude.{◌≡◌, ◌≤◌, length};
+ghost use Rattle.std.specs.Prelude.{◌≡◌, ◌≤◌, length, [], IfOk};
 ghost use Rattle.rwsp_model.specs.Refusals.{MatchAnswer};
-ghost use Rattle.refutation_terms.specs.Log.{Log as LogValue};
+ghost use Rattle.refutation_terms.specs.Log.{Log as LogValue, TurnFits};
 ghost use Rattle.refutation_terms.specs.Verdict.{IsAccepted, IsRefused};
+ghost use Rattle.refutation_checker.specs.Sound.{StandsBehind, IsJudged};
 
+use crate::chunk::{Chunk, judge_chunk};
+use crate::header::{Header, judge_header, lines_of_header};
+use crate::workers::judge_by_workers;
 use potential_bounds::Gate;
 use refutation_terms::LogRefusal;
 use rwsp_model::{Fail, Problem, RuleList};
-use std::alloc::Global;
+use std::alloc::{AllocError, Global};
 use std::thread::Threads;
+use tree_walk::Walk;
 
 /// The verdict on a text: the rules that its header names where it is the text of a log that passes, else the first line
 /// with a cause to refuse it, and on that line the lowest cause.
@@ -18,7 +23,47 @@ pub fn check(alloc: Global, problem: &Problem, bytes: &[u8]) -> Result<RuleList,
         (λ named. (g : LogValue) × IsAccepted problem.now bytes.now g × (g.named ≡ named))
         (IsRefused problem.now bytes.now) }
 {
-    Err(Fail::Memory)
+    let header = match judge_header(alloc, problem, bytes) {
+        Ok(header) => header,
+        Err(fail) => return Err(fail),
+    };
+    match judge_body(alloc, problem, &header) {
+        Ok(true) => Ok(header.named),
+        Ok(false) => Err(Fail::Refused(LogRefusal::Ends)),
+        Err(fail) => Err(fail),
+    }
+}
+
+// Whether the lines below a header are those of one whole tree, where none of them is refused.
+fn judge_body(alloc: Global, problem: &Problem, header: &Header) -> Result<bool, Fail<LogRefusal>>
+    requires fits { TurnFits problem.now header.now.turn }
+    requires few { length header.now.body.now ≤ 536870912 }
+    ensures { IsJudged problem.now header.now.named header.now.turn [] header.now.body.now result }
+{
+    match body_of(alloc, problem, header) {
+        Ok(body) => judge_chunk(alloc, problem, &header.named, body),
+        Err(_) => Err(Fail::Memory),
+    }
+}
+
+// All lines below a header.
+fn body_of<'a>(
+    alloc: Global,
+    problem: &Problem,
+    header: &Header<'a>,
+) -> Result<Chunk<'a>, AllocError>
+    requires fits { TurnFits problem.now header.now.turn }
+    ensures start { IfOk result (λ body. StandsBehind problem.now header.now.turn [] body) }
+    ensures bytes { IfOk result (λ body. body.bytes ≡ header.now.body.now) }
+    ensures first { IfOk result (λ body. body.first ≤ 4) }
+{
+    let walk = Walk::new(alloc, problem, header.turn)?;
+    Ok(Chunk {
+        number: 1,
+        walk,
+        bytes: header.body,
+        first: lines_of_header(header) + 1,
+    })
 }
 
 /// The verdict of `check`, with the lines below the header cut into chunks of equal length, one for each worker. Each
@@ -37,5 +82,36 @@ pub fn check_with<R: Threads + Sync, G: Gate>(
         (λ named. (g : LogValue) × IsAccepted problem.now bytes.now g × (g.named ≡ named))
         (IsRefused problem.now bytes.now) }
 {
-    Err(Fail::Memory)
+    let header = match judge_header(alloc, problem, bytes) {
+        Ok(header) => header,
+        Err(fail) => return Err(fail),
+    };
+    match judge_body_with(rt, alloc, problem, &header, workers, gate) {
+        Ok(true) => Ok(header.named),
+        Ok(false) => Err(Fail::Refused(LogRefusal::Ends)),
+        Err(fail) => Err(fail),
+    }
+}
+
+// What `judge_body` answers, by several workers. Where no line is left there is no chunk.
+fn judge_body_with<R: Threads + Sync, G: Gate>(
+    rt: &R,
+    alloc: Global,
+    problem: &Problem,
+    header: &Header,
+    workers: u32,
+    gate: &G,
+) -> Result<bool, Fail<LogRefusal>>
+    requires fits { TurnFits problem.now header.now.turn }
+    requires few { length header.now.body.now ≤ 536870912 }
+    requires workers { (1 ≤ workers) × (workers ≤ 64) }
+    ensures { IsJudged problem.now header.now.named header.now.turn [] header.now.body.now result }
+{
+    if header.body.is_empty() {
+        return Ok(false);
+    }
+    match body_of(alloc, problem, header) {
+        Ok(body) => judge_by_workers(rt, alloc, problem, &header.named, body, workers, gate),
+        Err(_) => Err(Fail::Memory),
+    }
 }

@@ -1,0 +1,166 @@
+-- The answers of chunks, put together.
+use Rattle.std.proofs.Common.{◌≡◌, ◌≢◌, ◌⊎◌, ℕ, suc, ◌+◌, ◌<◌, ◌≤◌, List, [], ◌∷◌, ◌++◌, length, get_or, refl, ap, sym, ◌∙◌, append_assoc, length-append, subst, arith, Option, inl, inr, Bool, IsTrue}
+use Rattle.std.specs.Prelude.{Result, Ok, Err, ◌↔◌}
+use Rattle.std.specs.List.{join_with_byte}
+use Rattle.std.proofs.lemmas.List.{append-nil}
+use Rattle.std.proofs.lemmas.List.Elements.{All-head, All-tail}
+use Rattle.rwsp_terms.specs.Instance.{Instance}
+use Rattle.rwsp_model.specs.Validity.{KeepsLimits}
+use Rattle.rwsp_model.specs.declared.fail.Fail.{Fail}
+use Rattle.rwsp_model.specs.declared.fail.Fail.TheVariants.{Refused, Memory}
+use Rattle.refutation_terms.specs.declared.lines.Line.{Line}
+use Rattle.refutation_terms.specs.declared.lines.Turn.{Turn}
+use Rattle.refutation_terms.specs.declared.lines.LogRefusal.{LogRefusal}
+use Rattle.refutation_terms.specs.Tree.{IsTree}
+use Rattle.refutation_terms.specs.LogText.{raw, line_text, fields}
+use Rattle.refutation_terms.specs.Verdict.{HasNoFeed, IsNextLine, Cause, Reading}
+use Rattle.refutation_log.specs.Printing.{lines_text}
+use Rattle.refutation_log.specs.ReadLog.{log_with}
+use Rattle.refutation_log.proofs.LogLines.{EachFits as EachLineFits}
+use Rattle.refutation_log.proofs.OneText.{one_list}
+use Rattle.refutation_checker.specs.Sound.{AreSoundBehind, AreAllSound, IsRefusedBehind, IsJudged, Start, StandsBehind}
+use Rattle.refutation_checker.specs.Chunks.{EachFits, AreChunks, joined_from}
+use Rattle.refutation_checker.proofs.SoundLines.{lines_joined, sound_joined}
+
+abbrev pub Answer : Type 0
+Answer = Result Bool (Fail LogRefusal)
+
+-- the answer is right behind any lines behind which the chunk stands
+abbrev pub IsAnswerTo : Instance → List ℕ → Start → Answer → Type 0
+IsAnswerTo P R c a = (turn : Option Turn) (earlier : List Line) → StandsBehind P turn earlier c → IsJudged P R turn earlier c.bytes a
+
+abbrev pub AreAnswersTo : Instance → List ℕ → List Start → List Answer → Type 0
+AreAnswersTo P R [] [] = Unit {0}
+AreAnswersTo P R [] (a ∷ answers) = ⊥
+AreAnswersTo P R (c ∷ chunks) [] = ⊥
+AreAnswersTo P R (c ∷ chunks) (a ∷ answers) = IsAnswerTo P R c a × AreAnswersTo P R chunks answers
+
+pub answers_to : (P : Instance) (R : List ℕ) (chunks : List Start) (answers : List Answer) (s : Start) (d : Answer) → length answers ≡ length chunks → ((i : ℕ) → i < length chunks → IsAnswerTo P R (get_or chunks i s) (get_or answers i d)) → AreAnswersTo P R chunks answers
+answers_to P R [] [] s d e h = tt
+answers_to P R [] (a ∷ answers) s d e h = absurd (omega (arith, e))
+answers_to P R (c ∷ chunks) [] s d e h = absurd (omega (arith, e))
+answers_to P R (c ∷ chunks) (a ∷ answers) s d e h = (h 0 (omega arith), answers_to P R chunks answers s d (omega (arith, e)) (λ i less. h (suc i) (omega (arith, less))))
+
+-- lines that are sound fit
+fit_from_sound : (P : Instance) (R : List ℕ) (turn : Option Turn) (earlier lines : List Line) → AreSoundBehind P R turn earlier lines → EachLineFits P lines
+fit_from_sound P R turn earlier [] h = tt
+fit_from_sound P R turn earlier (l ∷ lines) h = (h.0.fits, fit_from_sound P R turn (earlier ++ l ∷ []) lines h.1)
+
+each_fits : (P : Instance) (lines : List Line) → EachFits P lines → EachLineFits P lines
+each_fits P [] h = tt
+each_fits P (l ∷ lines) h = (h.0, each_fits P lines h.1)
+
+some_bytes : (bytes : List ℕ) → bytes ≢ [] → 1 ≤ length bytes
+some_bytes [] h = absurd (h refl)
+some_bytes (b ∷ bytes) h = omega arith
+
+-- bytes without LF, one at least, don't end with LF
+no_feed_at_end : (a line b : List ℕ) → line ≢ [] → HasNoFeed line → a ++ line ≡ b ++ 10 ∷ [] → ⊥
+no_feed_at_end [] line [] some none e = All-head (λ c. c ≢ 10) 10 [] (subst HasNoFeed e none) refl
+no_feed_at_end [] line (x ∷ b) some none e =
+    no_feed_at_end [] (b ++ 10 ∷ []) b
+    (λ no. let long = length-append b (10 ∷ []) in let zero_long : length (b ++ 10 ∷ []) ≡ 0 = ap length no in absurd (omega (arith, long, zero_long)))
+    (All-tail (λ c. c ≢ 10) x (b ++ 10 ∷ []) (subst HasNoFeed e none)) refl
+no_feed_at_end (x ∷ a) line [] some none e =
+    let long : length (a ++ line) ≡ length a + length line = length-append a line in
+    let one : suc (length (a ++ line)) ≡ 1 = ap length e in
+    let more = some_bytes line some in
+    absurd (omega (arith, long, one, more))
+no_feed_at_end (x ∷ a) line (y ∷ b) some none e = let rest : a ++ line ≡ b ++ 10 ∷ [] = cc in no_feed_at_end a line b some none rest
+
+-- the text of lines ends with LF
+ends_with_feed : (P : Instance) (line : Line) (lines : List Line) → (b : List ℕ) × (lines_text P (line ∷ lines) ≡ b ++ 10 ∷ [])
+ends_with_feed P line [] = (join_with_byte 32 (fields P (raw P line)), append-nil (line_text P (raw P line)))
+ends_with_feed P line (m ∷ lines) =
+    let rest = ends_with_feed P m lines in
+    (line_text P (raw P line) ++ rest.0, ap (λ t. line_text P (raw P line) ++ t) rest.1 ∙ sym (append_assoc (line_text P (raw P line)) rest.0 (10 ∷ [])))
+
+not_at_end : (P : Instance) (lines : List Line) (front line : List ℕ) → line ≢ [] → HasNoFeed line → lines_text P lines ≡ front ++ line → ⊥
+not_at_end P [] front line some none e =
+    let long : length (front ++ line) ≡ length front + length line = length-append front line in
+    let zero_long : 0 ≡ length (front ++ line) = ap length e in
+    let more = some_bytes line some in
+    absurd (omega (arith, long, zero_long, more))
+not_at_end P (l ∷ lines) front line some none e =
+    let feed = ends_with_feed P l lines in no_feed_at_end front line feed.0 some none (sym e ∙ feed.1)
+
+-- what follows a chunk: nothing, or chunks behind its lines
+abbrev pub IsFollowed : Instance → Option Turn → List Line → Start → List ℕ → List Start → Type 0
+IsFollowed P turn earlier c below chunks = ((below ≡ []) × (chunks ≡ [])) ⊎ ((lines : List Line) × EachFits P lines × (c.bytes ≡ lines_text P lines) × AreChunks P turn (earlier ++ lines) below chunks)
+
+-- a line of a chunk is one of the whole text
+next_in_all : (P : Instance) (turn : Option Turn) (earlier : List Line) (c : Start) (below : List ℕ) (chunks : List Start) (front line rest : List ℕ) → IsFollowed P turn earlier c below chunks → c.bytes ≡ front ++ line ++ rest → IsNextLine line rest → IsNextLine line (rest ++ below)
+next_in_all P turn earlier c below chunks front line rest followed e next =
+    elim next [
+      | inl fed ↦ inl fed
+      | inr last ↦ elim followed [
+        | inl none ↦ inr (last.0, last.1, ap (λ r. r ++ below) last.2 ∙ none.0)
+        | inr goes ↦ absurd (not_at_end P goes.0 front line last.0 last.1 (sym goes.2 ∙ e ∙ ap (λ r. (front ++ line) ++ r) last.2 ∙ append-nil (front ++ line)))
+      ]
+    ]
+
+refused_in_front : (P : Instance) (R : List ℕ) (turn : Option Turn) (earlier : List Line) (c : Start) (below bytes : List ℕ) (chunks : List Start) (why : LogRefusal) → IsFollowed P turn earlier c below chunks → bytes ≡ c.bytes ++ below → IsRefusedBehind P R turn earlier c.bytes why → IsRefusedBehind P R turn earlier bytes why
+refused_in_front P R turn earlier c below bytes chunks why followed e r = record {
+  lines = r.lines;
+  line = r.line;
+  rest = r.rest ++ below;
+  sound = r.sound;
+  text = e ∙ ap (λ t. t ++ below) r.text ∙ append_assoc (lines_text P r.lines ++ r.line) r.rest below;
+  is_line = next_in_all P turn earlier c below chunks (lines_text P r.lines) r.line r.rest followed r.text r.is_line;
+  cause = r.cause;
+}
+
+-- sound lines in front of what was judged
+text_through : (P : Instance) (front more : List Line) (bytes here below left : List ℕ) → bytes ≡ here ++ below → here ≡ lines_text P front → below ≡ lines_text P more ++ left → bytes ≡ lines_text P (front ++ more) ++ left
+text_through P front more bytes here below left e f g =
+    e ∙ ap (λ t. t ++ below) f ∙ ap (λ t. lines_text P front ++ t) g ∙ sym (append_assoc (lines_text P front) (lines_text P more) left) ∙ ap (λ t. t ++ left) (sym (lines_joined P front more))
+
+judged_through : (P : Instance) (R : List ℕ) (turn : Option Turn) (earlier front : List Line) (bytes here below : List ℕ) (a : Answer) → AreSoundBehind P R turn earlier front → here ≡ lines_text P front → bytes ≡ here ++ below → IsJudged P R turn (earlier ++ front) below a → IsJudged P R turn earlier bytes a
+judged_through P R turn earlier front bytes here below (Ok whole) sound f e k = record {
+  lines = front ++ k.lines;
+  sound = sound_joined P R turn earlier front k.lines sound k.sound;
+  text = e ∙ ap (λ t. t ++ below) f ∙ ap (λ t. lines_text P front ++ t) k.text ∙ sym (lines_joined P front k.lines);
+  tree = subst (λ ls. IsTrue whole ↔ IsTree ls) (append_assoc earlier front k.lines) k.tree;
+}
+judged_through P R turn earlier front bytes here below (Err Memory) sound f e k = tt
+judged_through P R turn earlier front bytes here below (Err (Refused why)) sound f e k = record {
+  lines = front ++ k.lines;
+  line = k.line;
+  rest = k.rest;
+  sound = sound_joined P R turn earlier front k.lines sound k.sound;
+  text =
+      text_through P front k.lines bytes here below (k.line ++ k.rest) e f (k.text ∙ append_assoc (lines_text P k.lines) k.line k.rest)
+      ∙ sym (append_assoc (lines_text P (front ++ k.lines)) k.line k.rest);
+  is_line = k.is_line;
+  cause = subst (λ ls. Cause P (Reading (log_with R turn ls)) k.line why) (append_assoc earlier front k.lines) k.cause;
+}
+
+nothing_below : (P : Instance) (turn : Option Turn) (earlier : List Line) (c : Start) (below : List ℕ) → IsFollowed P turn earlier c below [] → below ≡ []
+nothing_below P turn earlier c below followed = elim followed [ inl none ↦ none.0 | inr goes ↦ goes.3 ]
+
+-- the lines that a chunk was cut by are those that were judged
+goes_below : (P : Instance) (R : List ℕ) (turn : Option Turn) (earlier : List Line) (c d : Start) (below : List ℕ) (chunks : List Start) (whole : Bool) → KeepsLimits P → IsFollowed P turn earlier c below (d ∷ chunks) → (all : AreAllSound P R turn earlier c.bytes whole) → AreChunks P turn (earlier ++ all.lines) below (d ∷ chunks)
+goes_below P R turn earlier c d below chunks whole limits followed all =
+    elim followed [
+      | inl none ↦ absurd (let no : d ∷ chunks ≡ [] = none.1 in cc)
+      | inr goes ↦ subst (λ ls. AreChunks P turn (earlier ++ ls) below (d ∷ chunks)) (one_list P goes.0 all.lines limits (each_fits P goes.0 goes.1) (fit_from_sound P R turn earlier all.lines all.sound) (sym goes.2 ∙ all.text)) goes.3
+    ]
+
+joined_behind : (P : Instance) (R : List ℕ) (turn : Option Turn) (c : Start) (cs : List Start) (answers : List Answer) (earlier : List Line) (bytes : List ℕ) (before : Bool) → KeepsLimits P → AreAnswersTo P R (c ∷ cs) answers → AreChunks P turn earlier bytes (c ∷ cs) → IsJudged P R turn earlier bytes (joined_from before answers)
+joined_behind P R turn c cs [] earlier bytes before limits are chunks = absurd are
+joined_behind P R turn c cs (Err Memory ∷ answers) earlier bytes before limits are chunks = tt
+joined_behind P R turn c cs (Err (Refused why) ∷ answers) earlier bytes before limits are chunks =
+    refused_in_front P R turn earlier c chunks.1 bytes cs why chunks.3 chunks.2 (are.0 turn earlier chunks.0)
+joined_behind P R turn c [] (Ok whole ∷ a ∷ answers) earlier bytes before limits are chunks = absurd are.1
+joined_behind P R turn c [] (Ok whole ∷ []) earlier bytes before limits are chunks =
+    let same : bytes ≡ c.bytes = chunks.2 ∙ ap (λ t. c.bytes ++ t) (nothing_below P turn earlier c chunks.1 chunks.3) ∙ append-nil c.bytes in
+    subst (λ t. AreAllSound P R turn earlier t whole) (sym same) (are.0 turn earlier chunks.0)
+joined_behind P R turn c (d ∷ cs) (Ok whole ∷ answers) earlier bytes before limits are chunks =
+    let all : AreAllSound P R turn earlier c.bytes whole = are.0 turn earlier chunks.0 in
+    let below : AreChunks P turn (earlier ++ all.lines) chunks.1 (d ∷ cs) = goes_below P R turn earlier c d chunks.1 cs whole limits chunks.3 all in
+    judged_through P R turn earlier all.lines bytes c.bytes chunks.1 (joined_from whole answers) all.sound all.text chunks.2
+    (joined_behind P R turn d cs answers (earlier ++ all.lines) chunks.1 whole limits are.1 below)
+
+pub joined : (P : Instance) (R : List ℕ) (turn : Option Turn) (chunks : List Start) (answers : List Answer) (earlier : List Line) (bytes : List ℕ) (before : Bool) → KeepsLimits P → AreAnswersTo P R chunks answers → AreChunks P turn earlier bytes chunks → bytes ≢ [] → IsJudged P R turn earlier bytes (joined_from before answers)
+joined P R turn [] answers earlier bytes before limits are chunks some = absurd (some chunks)
+joined P R turn (c ∷ cs) answers earlier bytes before limits are chunks some = joined_behind P R turn c cs answers earlier bytes before limits are chunks

@@ -1,0 +1,105 @@
+-- Sound lines behind others, and their texts.
+use Rattle.std.proofs.Common.{◌≡◌, ℕ, zero, suc, List, [], ◌∷◌, ◌++◌, length, take, get_or, refl, ap, sym, ◌∙◌, append_assoc, subst, arith, Option, Some, true, false, IsTrue, ◌&&◌, ◌==◌}
+use Rattle.std.specs.Prelude.{slice_get}
+use Rattle.std.proofs.lemmas.Bool.{eqb-true}
+use Rattle.std.proofs.lemmas.List.{append-nil, take_all}
+use Rattle.std.proofs.lemmas.Option.{slice_get-get_or}
+use Rattle.rwsp_terms.specs.Instance.{Instance}
+use Rattle.refutation_terms.specs.declared.lines.Line.{Line}
+use Rattle.refutation_terms.specs.declared.lines.Line.TheVariants.{Unfinished}
+use Rattle.refutation_terms.specs.declared.lines.Turn.{Turn}
+use Rattle.refutation_terms.specs.declared.lines.LogRefusal.{LogRefusal}
+use Rattle.refutation_terms.specs.Tree.{lines_in, IsTree, opening, lines_leave}
+use Rattle.refutation_terms.proofs.Trees.{tree_has_lines}
+use Rattle.refutation_terms.specs.Log.{Log, Holds}
+use Rattle.refutation_terms.specs.LogText.{raw, line_text, log_text, header_text}
+use Rattle.refutation_terms.specs.Verdict.{Reading, IsSoundSoFar, IsAccepted, EndsEarly, IsRefused}
+use Rattle.refutation_log.specs.Printing.{lines_text}
+use Rattle.refutation_log.specs.ReadLog.{log_with}
+use Rattle.refutation_checker.specs.Headers.{HasHeader}
+use Rattle.refutation_checker.specs.Reads.{IsSoundNext}
+use Rattle.refutation_checker.specs.Sound.{IsSoundHeader, AreSoundBehind, AreAllSound, IsRefusedBehind}
+use Rattle.refutation_checker.proofs.HeaderFaults.{refused_at_line}
+
+pub lines_joined : (P : Instance) (a b : List Line) → lines_text P (a ++ b) ≡ lines_text P a ++ lines_text P b
+lines_joined P [] b = refl
+lines_joined P (l ∷ a) b =
+    ap (λ t. line_text P (raw P l) ++ t) (lines_joined P a b) ∙ sym (append_assoc (line_text P (raw P l)) (lines_text P a) (lines_text P b))
+
+pub sound_joined : (P : Instance) (R : List ℕ) (turn : Option Turn) (earlier a b : List Line) → AreSoundBehind P R turn earlier a → AreSoundBehind P R turn (earlier ++ a) b → AreSoundBehind P R turn earlier (a ++ b)
+sound_joined P R turn earlier [] b h k = subst (λ ls. AreSoundBehind P R turn ls b) (append-nil earlier) k
+sound_joined P R turn earlier (l ∷ a) b h k =
+    (h.0, sound_joined P R turn (earlier ++ l ∷ []) a b h.1 (subst (λ ls. AreSoundBehind P R turn ls b) (sym (append_assoc earlier (l ∷ []) a)) k))
+
+pub sound_at : (P : Instance) (R : List ℕ) (turn : Option Turn) (earlier lines : List Line) → AreSoundBehind P R turn earlier lines → (k : ℕ) (line : Line) → slice_get lines k ≡ Some line → IsSoundNext P R turn (earlier ++ take k lines) line
+sound_at P R turn earlier [] h k line e = absurd (cc)
+sound_at P R turn earlier (l ∷ lines) h zero line e =
+    let s : l ≡ line = cc in subst (IsSoundNext P R turn (earlier ++ [])) s (subst (λ ls. IsSoundNext P R turn ls l) (sym (append-nil earlier)) h.0)
+sound_at P R turn earlier (l ∷ lines) h (suc k) line e =
+    subst (λ ls. IsSoundNext P R turn ls line) (append_assoc earlier (l ∷ []) (take k lines)) (sound_at P R turn (earlier ++ l ∷ []) lines h.1 k line e)
+
+pub sound_so_far : (P : Instance) (R : List ℕ) (turn : Option Turn) (lines : List Line) → IsSoundHeader P R turn → AreSoundBehind P R turn [] lines → IsSoundSoFar P (log_with R turn lines)
+sound_so_far P R turn lines header sound = record {
+  grounded = record {
+    fits = record { named = header.rules; turn = header.fits; lines = λ k line e. (sound_at P R turn [] lines sound k line e).fits };
+    turn = header.allowed;
+    turn_named = header.cited;
+    named = λ k line r e. (sound_at P R turn [] lines sound k line e).named_all r;
+    short = λ k line e. (sound_at P R turn [] lines sound k line e).short;
+  };
+  holds = λ k line e.
+      subst (λ ls. Holds P (λ p z. opening P turn p z && lines_leave ls p z) line) (take_all (length (take k lines)) (take k lines) (omega arith)) (sound_at P R turn [] lines sound k line e).holds;
+  in_tree = λ k less.
+      (sound_at P R turn [] lines sound k (get_or lines k Unfinished) (slice_get-get_or lines k Unfinished less)).in_tree;
+}
+
+-- the bytes of a body behind its header
+text_of_log : (P : Instance) (R text body more : List ℕ) (turn : Option Turn) (lines : List Line) → HasHeader P text R turn body → body ≡ lines_text P lines ++ more → text ≡ log_text P (log_with R turn lines) ++ more
+text_of_log P R text body more turn lines h e =
+    h.whole ∙ ap (λ t. header_text P R turn ++ t) e ∙ sym (append_assoc (header_text P R turn) (lines_text P lines) more)
+
+text_of_all : (P : Instance) (R text body : List ℕ) (turn : Option Turn) (lines : List Line) → HasHeader P text R turn body → body ≡ lines_text P lines → text ≡ log_text P (log_with R turn lines)
+text_of_all P R text body turn lines h e = h.whole ∙ ap (λ t. header_text P R turn ++ t) e
+
+pub accepted : (P : Instance) (R text body : List ℕ) (turn : Option Turn) → HasHeader P text R turn body → AreAllSound P R turn [] body true → (g : Log) × IsAccepted P text g × (g.named ≡ R)
+accepted P R text body turn h all =
+    let so = sound_so_far P R turn all.lines h.sound all.sound in
+    (log_with R turn all.lines, (text_of_all P R text body turn all.lines h all.text, record { grounded = so.grounded; tree = all.tree.0 refl; holds = so.holds }), refl)
+
+pub ends : (P : Instance) (R text body : List ℕ) (turn : Option Turn) → HasHeader P text R turn body → AreAllSound P R turn [] body false → EndsEarly P text
+ends P R text body turn h all = record {
+  front = Reading (log_with R turn all.lines);
+  no_cause = sound_so_far P R turn all.lines h.sound all.sound;
+  whole = text_of_all P R text body turn all.lines h all.text;
+  not_whole = λ tree. (let t : IsTrue false = all.tree.1 tree in cc);
+}
+
+pub refused : (P : Instance) (R text body : List ℕ) (turn : Option Turn) (why : LogRefusal) → HasHeader P text R turn body → IsRefusedBehind P R turn [] body why → IsRefused P text why
+refused P R text body turn why h r =
+    refused_at_line P text why
+    (record {
+      front = Reading (log_with R turn r.lines);
+      line = r.line;
+      rest = r.rest;
+      no_cause = sound_so_far P R turn r.lines h.sound r.sound;
+      whole =
+          text_of_log P R text body (r.line ++ r.rest) turn r.lines h (r.text ∙ append_assoc (lines_text P r.lines) r.line r.rest)
+          ∙ sym (append_assoc (log_text P (log_with R turn r.lines)) r.line r.rest);
+      is_line = r.is_line;
+      cause = r.cause;
+    })
+
+no_tree : (lines : List Line) → lines ≡ [] → IsTree lines → ⊥
+no_tree lines e tree = let some = tree_has_lines tree.0 in let none : length (lines_in tree.0) ≡ 0 = ap length (tree.1 ∙ e) in omega (arith, some, none)
+
+pub nothing_below : (P : Instance) (R : List ℕ) (turn : Option Turn) (body other : List ℕ) → true ≡ (length other == 0) → other ≡ body → AreAllSound P R turn [] body false
+nothing_below P R turn body other t e = record {
+  lines = [];
+  sound = tt;
+  text = sym (sym (none other t) ∙ e);
+  tree = (λ f. absurd (cc), λ tree. absurd (no_tree [] refl tree));
+}
+  where
+    none : (bytes : List ℕ) → true ≡ (length bytes == 0) → bytes ≡ []
+    none [] h = refl
+    none (b ∷ bytes) h = let z : length (b ∷ bytes) ≡ 0 = eqb-true (length (b ∷ bytes)) 0 (sym h) in absurd (omega (arith, z))

@@ -1,0 +1,108 @@
+-- Walking through lines without judging leaves.
+use Rattle.std.proofs.Common.{◌≡◌, ◌≢◌, ℕ, ◌+◌, ◌≤◌, List, [], ◌∷◌, ◌++◌, length, refl, ap, sym, ◌∙◌, append_assoc, length-append, subst, arith, Option, Bool, IsTrue}
+use Rattle.std.specs.Prelude.{Result, Ok, Err, IfOk}
+use Rattle.std.proofs.lemmas.List.{append-nil}
+use Rattle.rwsp_terms.specs.Instance.{Instance, cells}
+use Rattle.domain_store.specs.Store.{Store, IsStore}
+use Rattle.refutation_terms.specs.declared.lines.Line.{Line}
+use Rattle.refutation_terms.specs.declared.lines.Line.TheVariants.{Split, Window, Day, Dead, Bound, Unfinished}
+use Rattle.refutation_terms.specs.declared.lines.Turn.{Turn}
+use Rattle.refutation_terms.specs.Log.{LineFits}
+use Rattle.refutation_terms.specs.LogText.{raw, line_text}
+use Rattle.refutation_terms.specs.Verdict.{Spells}
+use Rattle.refutation_log.specs.Printing.{lines_text}
+use Rattle.refutation_log.proofs.Named.{spelled_fits}
+use Rattle.tree_walk.specs.States.{State, IsStateOf}
+use Rattle.tree_walk.proofs.Idle.{positions_of}
+use Rattle.refutation_checker.specs.Chunks.{IsWithin, IsLineWalked, EachFits, AreLinesWalked}
+use Rattle.refutation_checker.proofs.SoundLines.{lines_joined}
+
+pub ok_along : {T E : Type 0} (r : Result T E) (A B : T → Type 0) → ((x : T) → A x → B x) → IfOk r A → IfOk r B
+ok_along (Ok x) A B f h = f x h
+ok_along (Err e) A B f h = tt
+
+within : (P : Instance) (n : ℕ) (line : Line) → n ≡ cells P → LineFits P line → IsWithin n line
+within P n (Split p x) e h = omega (arith, e, h.0)
+within P n (Window rule p len) e h = tt
+within P n (Day j x over) e h = tt
+within P n (Dead p len R) e h = tt
+within P n (Bound p turns R y) e h = tt
+within P n Unfinished e h = tt
+
+pub spelled_within : (P : Instance) (w : State) (S : Store) (bytes : List ℕ) (line : Line) → S ≡ w.store → IsStore S → (turn : Option Turn) × (earlier : List Line) × IsStateOf P turn earlier w → Spells P bytes line → IsWithin (length w.store.sets) line
+spelled_within P w S bytes line is store h spells =
+    within P (length w.store.sets) line (positions_of P w.store (subst IsStore is store) h.2.belongs) (spelled_fits P bytes line spells).1
+
+pub line_walked : (P : Instance) (w w' : State) (bytes : List ℕ) (line : Line) (read : Bool) → Spells P bytes line
+    → (IsTrue read → (Q : Instance) (turn : Option Turn) (earlier : List Line) → IsStateOf Q turn earlier w → IsStateOf Q turn (earlier ++ line ∷ []) w')
+    → IsTrue read → (turn : Option Turn) (earlier : List Line) → IsStateOf P turn earlier w → IsLineWalked P turn earlier bytes w'
+line_walked P w w' bytes line read spells goes t turn earlier state =
+    let fits = spelled_fits P bytes line spells in
+    record { line = line; fits = fits.1; text = fits.0; walked = goes t P turn earlier state }
+
+fits_joined : (P : Instance) (a b : List Line) → EachFits P a → EachFits P b → EachFits P (a ++ b)
+fits_joined P [] b h k = k
+fits_joined P (l ∷ a) b h k = (h.0, fits_joined P a b h.1 k)
+
+-- lines that fit have been walked through, as far as what is left
+pub record WalkedUpTo (P : Instance) (turn : Option Turn) (earlier : List Line) (bytes left : List ℕ) (w : State) (count : ℕ) : Type 0 where
+  pub lines : List Line
+  pub fit : EachFits P lines
+  pub text : bytes ≡ lines_text P lines ++ left
+  pub counted : count ≡ length lines
+  pub state : IsStateOf P turn (earlier ++ lines) w
+
+pub record WalkedSoFar (P : Instance) (old w : State) (bytes left : List ℕ) (count : ℕ) : Type 0 where
+  pub few : count + length left ≤ length bytes
+  pub each : (turn : Option Turn) (earlier : List Line) → IsStateOf P turn earlier old → WalkedUpTo P turn earlier bytes left w count
+
+pub walked_none : (P : Instance) (w : State) (bytes left : List ℕ) → left ≡ bytes → WalkedSoFar P w w bytes left 0
+walked_none P w bytes left e = record {
+  few = omega (arith, ap length e);
+  each = λ turn earlier h. record { lines = []; fit = tt; text = sym e; counted = refl; state = subst (λ ls. IsStateOf P turn ls w) (sym (append-nil earlier)) h };
+}
+
+some_bytes : (bytes : List ℕ) → bytes ≢ [] → 1 ≤ length bytes
+some_bytes [] h = absurd (h refl)
+some_bytes (b ∷ bytes) h = omega arith
+
+walk_on : (P : Instance) (turn : Option Turn) (earlier : List Line) (all left bytes rest : List ℕ) (w w' : State) (count : ℕ) → WalkedUpTo P turn earlier all left w count → left ≡ bytes ++ rest → ((turn : Option Turn) (earlier : List Line) → IsStateOf P turn earlier w → IsLineWalked P turn earlier bytes w') → WalkedUpTo P turn earlier all rest w' (count + 1)
+walk_on P turn earlier all left bytes rest w w' count so e reads =
+    let read = reads turn (earlier ++ so.lines) so.state in
+    let one : lines_text P (read.line ∷ []) ≡ bytes = append-nil (line_text P (raw P read.line)) ∙ sym read.text in
+    let longer : (earlier ++ so.lines) ++ read.line ∷ [] ≡ earlier ++ (so.lines ++ read.line ∷ []) = append_assoc earlier so.lines (read.line ∷ []) in
+    let size : length (so.lines ++ read.line ∷ []) ≡ length so.lines + 1 = length-append so.lines (read.line ∷ []) in
+    record {
+      lines = so.lines ++ read.line ∷ [];
+      fit = fits_joined P so.lines (read.line ∷ []) so.fit (read.fits, tt);
+      text =
+          so.text ∙ ap (λ t. lines_text P so.lines ++ t) (e ∙ ap (λ t. t ++ rest) (sym one))
+          ∙ sym (append_assoc (lines_text P so.lines) (lines_text P (read.line ∷ [])) rest)
+          ∙ ap (λ t. t ++ rest) (sym (lines_joined P so.lines (read.line ∷ [])));
+      counted = omega (arith, so.counted, size);
+      state = subst (λ ls. IsStateOf P turn ls w') longer read.walked;
+    }
+
+pub walked_more : (P : Instance) (old w w' : State) (all left bytes rest : List ℕ) (count : ℕ) → WalkedSoFar P old w all left count → bytes ≢ [] → left ≡ bytes ++ rest → ((turn : Option Turn) (earlier : List Line) → IsStateOf P turn earlier w → IsLineWalked P turn earlier bytes w') → WalkedSoFar P old w' all rest (count + 1)
+walked_more P old w w' all left bytes rest count so some e reads =
+    let size : length left ≡ length bytes + length rest = ap length e ∙ length-append bytes rest in
+    let one = some_bytes bytes some in
+    record {
+      few = omega (arith, so.few, size, one);
+      each = λ turn earlier h. walk_on P turn earlier all left bytes rest w w' count (so.each turn earlier h) e reads;
+    }
+
+pub walked_all : (P : Instance) (old w : State) (all left : List ℕ) (count : ℕ) → WalkedSoFar P old w all left count → left ≡ [] → (turn : Option Turn) (earlier : List Line) → IsStateOf P turn earlier old → AreLinesWalked P turn earlier all count w
+walked_all P old w all left count so e turn earlier h =
+    let up = so.each turn earlier h in
+    record {
+      lines = up.lines;
+      fit = up.fit;
+      text = up.text ∙ ap (λ t. lines_text P up.lines ++ t) e ∙ append-nil (lines_text P up.lines);
+      counted = up.counted;
+      walked = up.state;
+    }
+
+pub walked_state : (P : Instance) (old w : State) (all left : List ℕ) (count : ℕ) → WalkedSoFar P old w all left count → (turn : Option Turn) × (earlier : List Line) × IsStateOf P turn earlier old → (turn : Option Turn) × (earlier : List Line) × IsStateOf P turn earlier w
+walked_state P old w all left count so h =
+    let up = so.each h.0 h.1 h.2 in (h.0, h.1 ++ up.lines, up.state)

@@ -1,0 +1,34 @@
+use Rattle.std.proofs.Common.{ap, ◌∙◌}
+use Rattle.refutation_checker.specs.Sound.{Start}
+use Rattle.refutation_checker.proofs.ChunkJudging.{judge_is, judged_none, judged_more, judged_refused, judged_all}
+use Rattle.refutation_checker.proofs.chunk.judge_chunk.Goals as goal
+
+pub loop-bytes-init : goal.loop-bytes-init
+loop-bytes-init c =
+    let P = c.args.problem.now in
+    let R = c.args.named.now in
+    let s = c.args.chunk in
+    record {
+      judge = judge_is P R c.new-judge.result c.new-judge.ensures.problem c.new-judge.ensures.named;
+      judged = judged_none P R s c.new-reader.result c.chunk.inside.walk c.chunk.inside.first
+          (c.new-reader.ensures ∙ ap (λ (t : Start). t.bytes) c.chunk.view_is)
+          (ap (λ (t : Start). t.walk) c.chunk.view_is)
+          (ap (λ (t : Start). t.first) c.chunk.view_is);
+    }
+
+pub returns-in-Ok-Some : goal.returns-in-Ok-Some
+returns-in-Ok-Some c =
+    judged_refused c.args.problem.now c.args.named.now c.loop-bytes.judge c.args.chunk c.loop-bytes.reader c.in-Some.bytes.now c.next.new.self c.loop-bytes.walk c.loop-bytes.number c.in-Ok-Some.why
+    c.loop-bytes.invariant.judge c.loop-bytes.invariant.judged c.in-Some.ensures.line.1 c.in-Some.ensures.end (rw c.in-Ok-Some.field-0-is at c.in-Ok-Some.ensures.read)
+
+pub loop-bytes-preserved : goal.loop-bytes-preserved
+loop-bytes-preserved c = record {
+  judge = c.read.ensures.same ∙ c.loop-bytes.invariant.judge;
+  judged = judged_more c.args.problem.now c.args.named.now c.loop-bytes.judge c.args.chunk c.loop-bytes.reader c.in-Some.bytes.now c.next.new.self c.loop-bytes.walk c.read.new.walk c.loop-bytes.number
+      c.loop-bytes.invariant.judge c.loop-bytes.invariant.judged c.in-Some.ensures.line.0 c.in-Some.ensures.line.1 (rw c.in-Ok-None.field-0-is at c.in-Ok-None.ensures.read);
+}
+
+pub returns : goal.returns
+returns c =
+    judged_all c.args.problem.now c.args.named.now c.args.chunk c.loop-bytes.reader c.loop-bytes.walk c.loop-bytes.number c.is_whole.result
+    c.loop-bytes.invariant.judged c.in_default.ensures.line (c.is_whole.ensures.tree c.args.problem.now)

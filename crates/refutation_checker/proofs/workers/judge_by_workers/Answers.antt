@@ -1,0 +1,16 @@
+use Rattle.std.proofs.Common.{◌≡◌, length, get_or, false, sym, subst, arith, Ok}
+use Rattle.refutation_checker.specs.Sound.{Start, IsJudged}
+use Rattle.refutation_checker.proofs.Joining.{Answer, IsAnswerTo, answers_to, joined}
+use Rattle.refutation_checker.proofs.workers.judge_by_workers.Goals as goal
+
+pub returns-in-Ok-answers : goal.returns-in-Ok-answers
+returns-in-Ok-answers g c turn earlier st =
+    let P = c.args.problem.now in
+    let R = c.args.named.now in
+    let chunks = c.in-Ok.chunks.items in
+    let answers = c.in-Ok-answers.answers.items in
+    let count : length answers ≡ length chunks = omega (arith, c.in-Ok-answers.ensures.len, c.in-Ok-answers.answers.ok.0, c.in-Ok.chunks.ok.0) in
+    let are = answers_to P R chunks answers c.args.all (Ok false) count
+    (λ i less. let given = (c.in-Ok-answers.ensures.each i (Ok false) less).1 in subst (λ (s : Start). IsAnswerTo P R s (get_or answers i (Ok false))) (sym (given.job_is c.args.all)) given.call.met) in
+    subst (λ (a : Answer). IsJudged P R turn earlier c.args.all.bytes a) (sym c.joined.ensures)
+    (joined P R turn chunks answers earlier c.args.all.bytes false c.keeps_limits.ensures are (c.in-Ok.ensures.chunks turn earlier st) c.requires.some)

@@ -1,0 +1,72 @@
+-- The lines below a header, cut into chunks.
+use Rattle.std.specs.Prelude.{◌≡◌, ◌≢◌, ◌⊎◌, ℕ, ◌+◌, ◌^◌, ◌<◌, List, [], ◌∷◌, ◌++◌, length, Option, Bool, Result, Ok, Err}
+use Rattle.rwsp_terms.specs.Instance.{Instance}
+use Rattle.rwsp_model.specs.declared.fail.Fail.{Fail}
+use Rattle.refutation_terms.specs.declared.lines.Line.{Line}
+use Rattle.refutation_terms.specs.declared.lines.Line.TheVariants.{Split}
+use Rattle.refutation_terms.specs.declared.lines.Turn.{Turn}
+use Rattle.refutation_terms.specs.declared.lines.LogRefusal.{LogRefusal}
+use Rattle.refutation_terms.specs.Log.{LineFits}
+use Rattle.refutation_terms.specs.LogText.{raw, line_text}
+use Rattle.refutation_log.specs.Printing.{lines_text}
+use Rattle.tree_walk.specs.States.{State, IsStateOf}
+use Rattle.refutation_checker.specs.Sound.{Start, StandsBehind}
+
+-- a split is at one of n positions
+abbrev pub IsWithin : ℕ → Line → Type 0
+IsWithin n (Split p x) = p < n
+IsWithin n line = Unit {0}
+
+-- the bytes are the text of a line that fits the problem, and the walk has read it
+pub record IsLineWalked (P : Instance) (turn : Option Turn) (earlier : List Line) (bytes : List ℕ) (w : State) : Type 0 where
+  pub line : Line
+  pub fits : LineFits P line
+  pub text : bytes ≡ line_text P (raw P line)
+  pub walked : IsStateOf P turn (earlier ++ line ∷ []) w
+
+-- each line fits the problem
+abbrev pub EachFits : Instance → List Line → Type 0
+EachFits P [] = Unit {0}
+EachFits P (line ∷ lines) = LineFits P line × EachFits P lines
+
+-- the bytes are the text of so many lines that fit the problem, and the walk has read them
+pub record AreLinesWalked (P : Instance) (turn : Option Turn) (earlier : List Line) (bytes : List ℕ) (count : ℕ) (w : State) : Type 0 where
+  pub lines : List Line
+  pub fit : EachFits P lines
+  pub text : bytes ≡ lines_text P lines
+  pub counted : count ≡ length lines
+  pub walked : IsStateOf P turn (earlier ++ lines) w
+
+-- between the chunk and the rest are the lines of the chunk
+pub record LeadsTo (P : Instance) (turn : Option Turn) (earlier : List Line) (chunk rest : Start) : Type 0 where
+  pub lines : List Line
+  pub fit : EachFits P lines
+  pub text : chunk.bytes ≡ lines_text P lines
+  pub behind : StandsBehind P turn (earlier ++ lines) rest
+
+-- a chunk is cut off, in front of the rest. It has all lines, or leads to the rest
+pub record IsCutOff (P : Instance) (old chunk rest : Start) : Type 0 where
+  pub walk : chunk.walk ≡ old.walk
+  pub first : chunk.first ≡ old.first
+  pub some : chunk.bytes ≢ []
+  pub whole : old.bytes ≡ chunk.bytes ++ rest.bytes
+  pub few : rest.bytes ≢ [] → rest.first + length rest.bytes < 2 ^ 31
+  pub leads : (turn : Option Turn) (earlier : List Line) → StandsBehind P turn earlier old → (rest.bytes ≡ []) ⊎ LeadsTo P turn earlier chunk rest
+
+-- the chunks hold the bytes behind the earlier lines, one after another, and each stands behind the lines of those before it
+abbrev pub AreChunks : Instance → Option Turn → List Line → List ℕ → List Start → Type 0
+AreChunks P turn earlier bytes [] = bytes ≡ []
+AreChunks P turn earlier bytes (chunk ∷ chunks) =
+    StandsBehind P turn earlier chunk
+    × (below : List ℕ) × (bytes ≡ chunk.bytes ++ below)
+    × (((below ≡ []) × (chunks ≡ [])) ⊎ ((lines : List Line) × EachFits P lines × (chunk.bytes ≡ lines_text P lines) × AreChunks P turn (earlier ++ lines) below chunks))
+
+-- some lines lead to the chunk, and it is short enough for its lines to be numbered
+abbrev pub IsJudgeable : Instance → Start → Type 0
+IsJudgeable P s = ((turn : Option Turn) × (earlier : List Line) × StandsBehind P turn earlier s) × (s.first + length s.bytes < 2 ^ 31)
+
+-- the first failure among answers, or else the last answer
+abbrev pub joined_from : Bool → List (Result Bool (Fail LogRefusal)) → Result Bool (Fail LogRefusal)
+joined_from whole [] = Ok whole
+joined_from whole (Ok last ∷ answers) = joined_from last answers
+joined_from whole (Err fail ∷ answers) = Err fail

@@ -1,0 +1,61 @@
+-- Lines that are judged behind other lines, and the answer to the bytes of such lines.
+use Rattle.std.specs.Prelude.{◌≡◌, ◌↔◌, ℕ, ◌+◌, List, [], ◌∷◌, ◌++◌, length, Option, Bool, IsTrue, Result}
+use Rattle.rwsp_terms.specs.declared.data.Rule.{Rule}
+use Rattle.rwsp_terms.specs.Instance.{Instance}
+use Rattle.rwsp_terms.specs.Rules.{Names}
+use Rattle.rwsp_model.specs.Refusals.{MatchAnswer}
+use Rattle.rwsp_model.specs.declared.fail.Fail.{Fail}
+use Rattle.refutation_terms.specs.declared.lines.Line.{Line}
+use Rattle.refutation_terms.specs.declared.lines.Turn.{Turn}
+use Rattle.refutation_terms.specs.declared.lines.LogRefusal.{LogRefusal}
+use Rattle.refutation_terms.specs.Tree.{IsTree}
+use Rattle.refutation_terms.specs.Log.{AreRules, TurnFits, TurnCites, IsAllowed}
+use Rattle.refutation_terms.specs.Verdict.{Cause, Reading, IsNextLine, header_lines}
+use Rattle.refutation_log.specs.Printing.{lines_text}
+use Rattle.refutation_log.specs.ReadLog.{log_with}
+use Rattle.tree_walk.specs.States.{State, IsStateOf}
+use Rattle.refutation_checker.specs.Reads.{IsSoundNext}
+
+-- a header that is refused for no cause
+pub record IsSoundHeader (P : Instance) (named : List ℕ) (turn : Option Turn) : Type 0 where
+  pub rules : AreRules P named
+  pub fits : TurnFits P turn
+  pub allowed : IsAllowed P turn
+  pub cited : (r : Rule) → TurnCites turn r → Names P named r
+
+-- behind the earlier lines, none of the further lines is refused
+abbrev pub AreSoundBehind : Instance → List ℕ → Option Turn → List Line → List Line → Type 0
+AreSoundBehind P named turn earlier [] = Unit {0}
+AreSoundBehind P named turn earlier (line ∷ lines) = IsSoundNext P named turn earlier line × AreSoundBehind P named turn (earlier ++ line ∷ []) lines
+
+-- the bytes are the text of such lines, and it is said whether the tree is whole with them
+pub record AreAllSound (P : Instance) (named : List ℕ) (turn : Option Turn) (earlier : List Line) (bytes : List ℕ) (whole : Bool) : Type 0 where
+  pub lines : List Line
+  pub sound : AreSoundBehind P named turn earlier lines
+  pub text : bytes ≡ lines_text P lines
+  pub tree : IsTrue whole ↔ IsTree (earlier ++ lines)
+
+-- the bytes go on behind the text of such lines with a line that has this cause
+pub record IsRefusedBehind (P : Instance) (named : List ℕ) (turn : Option Turn) (earlier : List Line) (bytes : List ℕ) (why : LogRefusal) : Type 0 where
+  pub lines : List Line
+  pub line : List ℕ
+  pub rest : List ℕ
+  pub sound : AreSoundBehind P named turn earlier lines
+  pub text : bytes ≡ lines_text P lines ++ line ++ rest
+  pub is_line : IsNextLine line rest
+  pub cause : Cause P (Reading (log_with named turn (earlier ++ lines))) line why
+
+-- the answer to the bytes behind the earlier lines: whether the tree is whole with them, or why one is refused
+abbrev pub IsJudged : Instance → List ℕ → Option Turn → List Line → List ℕ → Result Bool (Fail LogRefusal) → Type 0
+IsJudged P named turn earlier bytes judged = MatchAnswer judged (AreAllSound P named turn earlier bytes) (IsRefusedBehind P named turn earlier bytes)
+
+-- the bytes of some lines of a text, the number of the first of them, and the walk in front of it
+pub record Start : Type 0 where
+  pub walk : State
+  pub bytes : List ℕ
+  pub first : ℕ
+
+-- they stand behind these lines
+pub record StandsBehind (P : Instance) (turn : Option Turn) (earlier : List Line) (s : Start) : Type 0 where
+  pub state : IsStateOf P turn earlier s.walk
+  pub counted : s.first ≡ header_lines turn + length earlier + 1

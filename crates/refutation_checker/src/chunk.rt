@@ -1,0 +1,58 @@
+// The lines of a chunk, judged one after the other.
+ghost use Rattle.std.specs.Prelude.{◌≡◌, ℕ, ◌+◌, ◌^◌, ◌<◌, List, length, Option, MatchOption};
+ghost use Rattle.refutation_terms.specs.declared.lines.Line.{Line};
+ghost use Rattle.refutation_terms.specs.declared.lines.Turn.{Turn};
+ghost use Rattle.refutation_checker.specs.Sound.{StandsBehind, IsJudged};
+
+use crate::Judge;
+use refutation_log::LineReader;
+use refutation_terms::LogRefusal;
+use rwsp_model::{Fail, Problem, RuleList};
+use std::alloc::Global;
+use std::marker::Model;
+use tree_walk::Walk;
+
+/// Some lines of a log's tree: the walk in front of them, their bytes, and the number of the first one among all lines of
+/// the text. Chunks count from 1.
+#[derive(Debug, Drop)]
+pub struct Chunk<'a> {
+    pub number: u32,
+    pub walk: Walk,
+    pub bytes: &'a [u8],
+    pub first: u32,
+}
+
+impl<'a> Model for Chunk<'a> {
+    ghost use Rattle.refutation_checker.specs.Sound.{Start};
+
+    ghost Value = { Start };
+
+    ghost view = { λ c. record { walk = c.walk; bytes = c.bytes.now; first = c.first } };
+}
+
+/// Whether the tree is whole behind the lines of the chunk, where none of them is refused, or why its first line that is
+/// refused is.
+pub fn judge_chunk(
+    alloc: Global,
+    problem: &Problem,
+    named: &RuleList,
+    chunk: Chunk,
+) -> Result<bool, Fail<LogRefusal>>
+    requires start { (turn : Option Turn) × (earlier : List Line) × StandsBehind problem.now turn earlier chunk }
+    requires few { chunk.first + length chunk.bytes < 2 ^ 31 }
+    ensures { (turn : Option Turn) (earlier : List Line) → StandsBehind problem.now turn earlier chunk.entry →
+        IsJudged problem.now named.now turn earlier chunk.entry.bytes result }
+{
+    let mut walk = chunk.walk;
+    let mut judge = Judge::new(problem, named);
+    let mut reader = LineReader::new(chunk.bytes);
+    let mut number = chunk.first;
+    while let Some(bytes) = reader.next() {
+        match judge.read(alloc, &mut walk, bytes, number) {
+            Err(_) => return Err(Fail::Memory),
+            Ok(Some(why)) => return Err(Fail::Refused(why)),
+            Ok(None) => number += 1,
+        }
+    }
+    Ok(walk.is_whole())
+}

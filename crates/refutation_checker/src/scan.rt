@@ -1,0 +1,174 @@
+// Going through the lines of a log without judging leaves, to find where the chunks of its lines start.
+ghost use Rattle.std.specs.Prelude.{◌≡◌, ◌≢◌, ℕ, ◌+◌, ◌^◌, ◌<◌, ◌≤◌, List, [], length, Option, All, IfOk, IfSome, IsTrue, false, ◌∷◌, ◌++◌};
+ghost use Rattle.rwsp_terms.specs.Instance.{Instance};
+ghost use Rattle.refutation_terms.specs.declared.lines.Line.{Line as TheLine};
+ghost use Rattle.refutation_terms.specs.declared.lines.Turn.{Turn};
+ghost use Rattle.tree_walk.specs.States.{IsStateOf};
+ghost use Rattle.refutation_checker.specs.Sound.{StandsBehind};
+ghost use Rattle.refutation_checker.specs.Chunks.{IsWithin, IsLineWalked, AreLinesWalked, IsCutOff, AreChunks, IsJudgeable};
+
+use crate::chunk::Chunk;
+use refutation_log::{LineReader, read_line};
+use refutation_terms::Line;
+use rwsp_model::{Fail, Problem};
+use std::alloc::{AllocError, Global};
+use tree_walk::Walk;
+
+/// The lines from some place on, cut into chunks of so many lines each, of which the last may have fewer. A line that isn't
+/// spelled, an idle split and a line behind the whole tree are refused by the chunk that holds them, there or before: so
+/// such a chunk has all further lines, and is the last.
+pub fn chunks_of<'a>(
+    alloc: Global,
+    problem: &Problem,
+    all: Chunk<'a>,
+    size: usize,
+) -> Result<Vec<Chunk<'a>>, AllocError>
+    requires start { IsJudgeable problem.now all }
+    requires size { 1 ≤ size }
+    ensures chunks { IfOk result (λ v. (turn : Option Turn) (earlier : List TheLine) → StandsBehind problem.now turn earlier all.entry →
+        AreChunks problem.now turn earlier all.entry.bytes v.items) }
+    ensures each { IfOk result (λ v. All (IsJudgeable problem.now) v.items) }
+{
+    let mut chunks = Vec::new(alloc);
+    let mut rest = all;
+    while !rest.bytes.is_empty() {
+        let chunk = cut_off(alloc, problem, &mut rest, size, chunks.len() as u32 + 1)?;
+        chunks.push(chunk)?;
+    }
+    Ok(chunks)
+}
+
+// Cuts a chunk of so many lines off the front. Where its lines can't all be read, it has all lines.
+fn cut_off<'a>(
+    alloc: Global,
+    problem: &Problem,
+    rest: &mut Chunk<'a>,
+    size: usize,
+    number: u32,
+) -> Result<Chunk<'a>, AllocError>
+    requires start { IsJudgeable problem.now rest.old }
+    requires some { rest.old.bytes ≢ [] }
+    requires size { 1 ≤ size }
+    ensures { IfOk result (λ chunk. IsCutOff problem.now rest.old chunk rest.new) }
+{
+    let walk = rest.walk.copy()?;
+    let first = rest.first;
+    let bytes = rest.bytes;
+    let (lines, below) = bytes.split_at(lines_end(bytes, size));
+    let read = read_through(alloc, problem, &mut rest.walk, lines)?;
+    if let Some(count) = read {
+        rest.first = first + count;
+        rest.bytes = below;
+        Ok(Chunk {
+            number,
+            walk,
+            bytes: lines,
+            first,
+        })
+    } else {
+        rest.bytes = &bytes[bytes.len()..];
+        Ok(Chunk {
+            number,
+            walk,
+            bytes,
+            first,
+        })
+    }
+}
+
+/// Reads the lines of these bytes, and counts them. None at a line that `read_one` doesn't read, and then the walk is of no use.
+fn read_through(
+    alloc: Global,
+    problem: &Problem,
+    walk: &mut Walk,
+    bytes: &[u8],
+) -> Result<Option<u32>, AllocError>
+    requires state { (turn : Option Turn) × (earlier : List TheLine) × IsStateOf problem.now turn earlier walk.old }
+    requires few { length bytes.now < 2 ^ 31 }
+    ensures few { IfOk result (λ read. IfSome read (λ count. count ≤ length bytes.now)) }
+    ensures walked { IfOk result (λ read. IfSome read (λ count. (turn : Option Turn) (earlier : List TheLine) → IsStateOf problem.now turn earlier walk.old →
+        AreLinesWalked problem.now turn earlier bytes.now count walk.new)) }
+{
+    let mut reader = LineReader::new(bytes);
+    let mut count = 0;
+    while let Some(line) = reader.next() {
+        if !read_one(alloc, problem, walk, line)? {
+            return Ok(None);
+        }
+        count += 1;
+    }
+    Ok(Some(count))
+}
+
+// Reads a line, if it is spelled, doesn't stand behind the whole tree, and is no idle split.
+fn read_one(
+    alloc: Global,
+    problem: &Problem,
+    walk: &mut Walk,
+    bytes: &[u8],
+) -> Result<bool, AllocError>
+    requires { (turn : Option Turn) × (earlier : List TheLine) × IsStateOf problem.now turn earlier walk.old }
+    ensures { IfOk result (λ read. IsTrue read → (turn : Option Turn) (earlier : List TheLine) → IsStateOf problem.now turn earlier walk.old →
+        IsLineWalked problem.now turn earlier bytes.now walk.new) }
+{
+    walk.domains().facts();
+    if walk.is_whole() {
+        return Ok(false);
+    }
+    match read_line(alloc, problem, bytes) {
+        Err(Fail::Memory) => Err(AllocError),
+        Err(Fail::Refused(_)) => Ok(false),
+        Ok(line) => go_on(walk, &line),
+    }
+}
+
+// Reads a line, if it is no idle split.
+fn go_on(walk: &mut Walk, line: &Line) -> Result<bool, AllocError>
+    requires part { walk.old.whole ≡ false }
+    requires position { IsWithin (length walk.old.store.sets) line.now }
+    ensures { IfOk result (λ read. IsTrue read → (P : Instance) (turn : Option Turn) (earlier : List TheLine) → IsStateOf P turn earlier walk.old → IsStateOf P turn (earlier ++ line.now ∷ []) walk.new) }
+{
+    match line {
+        Line::Split { p, x } => {
+            if walk.is_idle(*p, *x) {
+                return Ok(false);
+            }
+            walk.read_split(*p, *x)?;
+        }
+        _ => walk.read_leaf(),
+    }
+    Ok(true)
+}
+
+// Where the first so many lines end.
+fn lines_end(bytes: &[u8], size: usize) -> usize
+    requires some { 1 ≤ size }
+    ensures within { result ≤ length bytes.now }
+    ensures some { 0 < length bytes.now → 0 < result }
+{
+    let mut count = 0;
+    for (i, byte) in bytes.iter().enumerate() {
+        if *byte == b'\n' {
+            count += 1;
+            if count == size {
+                return i + 1;
+            }
+        }
+    }
+    bytes.len()
+}
+
+/// The number of lines, of which the last one may have no LF.
+pub fn count_lines(bytes: &[u8]) -> usize
+    requires { 0 < length bytes.now }
+    ensures some { 1 ≤ result }
+    ensures few { result ≤ length bytes.now }
+{
+    let mut count = 0;
+    for (i, byte) in bytes.iter().enumerate() {
+        if *byte == b'\n' || i + 1 == bytes.len() {
+            count += 1;
+        }
+    }
+    count
+}

@@ -1,0 +1,82 @@
+// The lines of a log, judged by several workers.
+ghost use Rattle.std.specs.Prelude.{◌≡◌, ◌≢◌, ◌≤◌, List, [], Option, false};
+ghost use Rattle.refutation_terms.specs.declared.lines.Line.{Line};
+ghost use Rattle.refutation_terms.specs.declared.lines.Turn.{Turn};
+ghost use Rattle.refutation_checker.specs.Sound.{StandsBehind, IsJudged};
+ghost use Rattle.refutation_checker.specs.Chunks.{IsJudgeable, joined_from};
+
+use crate::chunk::{Chunk, judge_chunk};
+use crate::scan::{chunks_of, count_lines};
+use potential_bounds::Gate;
+use refutation_terms::LogRefusal;
+use rwsp_model::{Fail, Problem, RuleList};
+use std::alloc::Global;
+use std::thread;
+use std::thread::Threads;
+
+/// What `judge_chunk` answers to all lines, which are cut into chunks of equal length, one for each worker. Each worker passes
+/// the gate once, before the first line of its chunk.
+pub fn judge_by_workers<R: Threads + Sync, G: Gate>(
+    rt: &R,
+    alloc: Global,
+    problem: &Problem,
+    named: &RuleList,
+    all: Chunk,
+    workers: u32,
+    gate: &G,
+) -> Result<bool, Fail<LogRefusal>>
+    requires start { IsJudgeable problem.now all }
+    requires some { all.bytes ≢ [] }
+    requires workers { (1 ≤ workers) × (workers ≤ 64) }
+    ensures { (turn : Option Turn) (earlier : List Line) → StandsBehind problem.now turn earlier all.entry →
+        IsJudged problem.now named.now turn earlier all.entry.bytes result }
+{
+    problem.keeps_limits();
+    let size = count_lines(all.bytes).div_ceil(workers as usize);
+    let Ok(chunks) = chunks_of(alloc, problem, all, size) else {
+        return Err(Fail::Memory);
+    };
+    let answers = thread::map_vec(
+        rt,
+        chunks,
+        &|chunk: Chunk| -> Result<bool, Fail<LogRefusal>>
+            requires { IsJudgeable problem.now chunk }
+            ensures { (turn : Option Turn) (earlier : List Line) → StandsBehind problem.entry.now turn earlier chunk.entry →
+                IsJudged problem.entry.now named.entry.now turn earlier chunk.entry.bytes result }
+        { judge_behind_gate(alloc, problem, named, gate, chunk) },
+    );
+    match answers {
+        Ok(answers) => joined(answers),
+        Err(_) => Err(Fail::Memory),
+    }
+}
+
+// What `judge_chunk` answers to a chunk, behind the gate.
+fn judge_behind_gate<G: Gate>(
+    alloc: Global,
+    problem: &Problem,
+    named: &RuleList,
+    gate: &G,
+    chunk: Chunk,
+) -> Result<bool, Fail<LogRefusal>>
+    requires { IsJudgeable problem.now chunk }
+    ensures { (turn : Option Turn) (earlier : List Line) → StandsBehind problem.now turn earlier chunk.entry →
+        IsJudged problem.now named.now turn earlier chunk.entry.bytes result }
+{
+    gate.enter(chunk.number);
+    judge_chunk(alloc, problem, named, chunk)
+}
+
+// The first failure among answers, or else the last answer.
+fn joined(answers: Vec<Result<bool, Fail<LogRefusal>>>) -> Result<bool, Fail<LogRefusal>>
+    ensures { result ≡ joined_from false answers.items }
+{
+    let mut whole = false;
+    for answer in answers {
+        match answer {
+            Ok(last) => whole = last,
+            Err(fail) => return Err(fail),
+        }
+    }
+    Ok(whole)
+}
