@@ -12,6 +12,7 @@ pub use laws::{
     printed_is_short, printed_is_spelled, refusals_decide_spelling, spelled_is_roster,
     text_spells_one_roster,
 };
+pub use names::put_after_blanks;
 pub use print::print_roster;
 pub use read::read_roster;
 pub use refusal::RosterRefusal;

@@ -6,7 +6,7 @@ ghost use Rattle.rwsp_terms.specs.Instance.{IsSymbol, name_of};
 use rwsp_model::{Problem, Symbol};
 use std::alloc::AllocError;
 
-// Appends the name of each symbol after a blank.
+/// Appends the name of each symbol after a blank.
 #[tactic(auto, using(crate::proofs::Printing::name_more, crate::proofs::Printing::names_done))]
 pub fn put_after_blanks(
     out: &mut Vec<u8>,

@@ -1,3 +1,4 @@
 pub mod Appends
 pub mod Replies
+pub mod Logs
 pub mod OneAnswer

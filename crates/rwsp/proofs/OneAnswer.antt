@@ -1,10 +1,15 @@
 -- Two answers over the same files, compared part by part.
-use Rattle.std.proofs.Common.{◌≡◌, ℕ, List, Some, None, Option, arith, ap, sym, ◌∙◌, refl, subst, inl, inr}
-use Rattle.std.specs.Prelude.{◌≢◌, ◌⊎◌, MatchOption, [], ◌∷◌}
+use Rattle.std.proofs.Common.{◌≡◌, ℕ, List, Some, None, Option, arith, ap, sym, ◌∙◌, refl, subst, inl, inr, true, false}
+use Rattle.std.specs.Prelude.{◌≢◌, ◌⊎◌, MatchOption, [], ◌∷◌, Result, Ok, Err, codes}
+use Rattle.std.specs.String.{string_bytes}
+use Rattle.std.specs.Str.{bytes_eq}
+use Rattle.refutation_log.proofs.ReadParts.{bytes_same}
 use Rattle.rwsp_io.specs.Told.{Told, Silent, Missing, Bytes}
 use Rattle.rwsp_terms.specs.Instance.{Instance}
 use Rattle.rwsp_terms.specs.Roster.{MeetsAll}
 use Rattle.rwsp_terms.specs.declared.data.Symbol.{Symbol}
+use Rattle.rwsp_model.specs.Validity.{KeepsLimits}
+use Rattle.rwsp_model.proofs.Limits.{valid_keeps}
 use Rattle.rwsp_file.specs.Spelling.{SpellsProblem}
 use Rattle.rwsp_file.specs.Reading.{file_refusal}
 use Rattle.rwsp_file.specs.Laws.{TextsSpellOne, TextsSpellOrFail}
@@ -16,33 +21,46 @@ use Rattle.roster_print.proofs.Spelling.{one_roster, refusals_decide}
 use Rattle.roster_checker.specs.FirstBroken.{IsFirstBroken}
 use Rattle.roster_checker.specs.declared.broken.Broken.{Broken}
 use Rattle.roster_checker.proofs.FirstBroken.{first_broken-not_met, first_broken-same}
-use Rattle.rwsp.specs.Commands.{Words, IsForm, HasNoForm, problem_name, second_name}
+use Rattle.refutation_terms.specs.declared.lines.LogRefusal.{LogRefusal}
+use Rattle.refutation_terms.specs.Log.{Log as LogValue}
+use Rattle.refutation_terms.specs.LogText.{log_text}
+use Rattle.refutation_terms.specs.Verdict.{IsAccepted, IsRefused}
+use Rattle.rwsp.specs.Commands.{Words, IsForm, HasNoForm, IsCount, greatest_budget, most_workers, problem_name, second_name}
 use Rattle.rwsp.specs.Inputs.{WhereTold, IsShort, IsTooLong, IsProblemOf}
-use Rattle.rwsp.specs.Answers.{IsAnswer, IsFileAnswer, IsRosterAnswer}
-use Rattle.rwsp.specs.Texts.{text_of}
-use Rattle.rwsp.specs.Laws.{AnswersAreOne, TextsAreOne}
+use Rattle.rwsp.specs.Plans.{IsPlanned}
+use Rattle.rwsp.specs.Answers.{IsAnswer, IsAnswerOn, IsAnswerTo, IsOfFile, IsOfRoster, IsOfLog, IsFileAnswer, IsRosterAnswer, IsLogAnswer}
+use Rattle.rwsp.specs.Texts.{IsTextOf, text_of}
+use Rattle.rwsp.specs.Laws.{AnswersAreOne, TextsAreOne, ProblemsAreAnswered, RefutationsAreAccepted, IsFound}
 use Rattle.rwsp.specs.declared.command.Command.{Command}
-use Rattle.rwsp.specs.declared.command.Command.TheVariants.{Verify, Show}
-use Rattle.rwsp.specs.declared.answer.InputKind.TheVariants.{Problem, Roster}
+use Rattle.rwsp.specs.declared.command.Command.TheVariants.{Plan, Check, Verify, Show}
+use Rattle.rwsp.specs.declared.answer.InputKind.{InputKind}
+use Rattle.rwsp.specs.declared.answer.InputKind.TheVariants as Kinds
 use Rattle.rwsp.specs.declared.answer.Answer.{Answer}
-use Rattle.rwsp.specs.declared.answer.Answer.TheVariants.{Meets, Shown, Breaks, RosterRefused, Usage, FileRefused, TooLong}
+use Rattle.rwsp.specs.declared.answer.Answer.TheVariants.{Roster, NoRoster, Undecided, Accepted, LogRefused, Meets, Shown, Breaks, RosterRefused, Usage, FileRefused, TooLong}
+use Rattle.rwsp.proofs.Logs.{one_verdict}
 
-not_both : (bytes : List ℕ) → IsTooLong bytes → IsShort bytes → ⊥
-not_both bytes long short = omega arith
+not_both : (kind : InputKind) (bytes : List ℕ) → IsTooLong kind bytes → IsShort kind bytes → ⊥
+not_both kind bytes long short = omega arith
 
 -- how a roster's bytes end the job for an instance
 data RosterEnd (P : Instance) (bytes : List ℕ) (answer : Answer) : Type 0 where
-  long : IsTooLong bytes → answer ≡ TooLong Roster → RosterEnd P bytes answer
-  refused : (why : RosterRefusal) → IsShort bytes → refusal_of_roster P bytes ≡ Some why → answer ≡ RosterRefused why → RosterEnd P bytes answer
-  met : (s : List Symbol) → IsShort bytes → SpellsRoster P bytes s → MeetsAll P s → answer ≡ Meets → RosterEnd P bytes answer
-  broken : (s : List Symbol) (b : Broken) → IsShort bytes → SpellsRoster P bytes s → IsFirstBroken P s b → answer ≡ Breaks b → RosterEnd P bytes answer
+  long : IsTooLong Kinds.Roster bytes → answer ≡ TooLong Kinds.Roster → RosterEnd P bytes answer
+  refused : (why : RosterRefusal) → IsShort Kinds.Roster bytes → refusal_of_roster P bytes ≡ Some why → answer ≡ RosterRefused why → RosterEnd P bytes answer
+  met : (s : List Symbol) → IsShort Kinds.Roster bytes → SpellsRoster P bytes s → MeetsAll P s → answer ≡ Meets → RosterEnd P bytes answer
+  broken : (s : List Symbol) (b : Broken) → IsShort Kinds.Roster bytes → SpellsRoster P bytes s → IsFirstBroken P s b → answer ≡ Breaks b → RosterEnd P bytes answer
 
 roster_end : (P : Instance) (bytes : List ℕ) (answer : Answer) → IsRosterAnswer answer P bytes → RosterEnd P bytes answer
-roster_end P bytes (TooLong Roster) h = long h refl
-roster_end P bytes (TooLong Problem) h = absurd h
+roster_end P bytes (TooLong Kinds.Roster) h = long h refl
+roster_end P bytes (TooLong Kinds.Problem) h = absurd h
+roster_end P bytes (TooLong Kinds.Log) h = absurd h
 roster_end P bytes (RosterRefused why) h = refused why h.0 h.1 refl
 roster_end P bytes Meets h = met h.1.0 h.0 h.1.1 h.1.2 refl
 roster_end P bytes (Breaks b) h = broken h.1.0 b h.0 h.1.1 h.1.2 refl
+roster_end P bytes (Roster s) h = absurd h
+roster_end P bytes (NoRoster g) h = absurd h
+roster_end P bytes (Undecided g) h = absurd h
+roster_end P bytes (Accepted R) h = absurd h
+roster_end P bytes (LogRefused why) h = absurd h
 roster_end P bytes Usage h = absurd h
 roster_end P bytes Shown h = absurd h
 roster_end P bytes (FileRefused why) h = absurd h
@@ -62,21 +80,21 @@ met_or_broken P bytes s t b spells meets others first =
 
 one_roster_end : (P : Instance) (bytes : List ℕ) (a b : Answer) → RosterEnd P bytes a → RosterEnd P bytes b → a ≡ b
 one_roster_end P bytes a b (long l e) (long m f) = e ∙ sym f
-one_roster_end P bytes a b (long l e) (refused why s r f) = absurd (not_both bytes l s)
-one_roster_end P bytes a b (long l e) (met t s r m f) = absurd (not_both bytes l s)
-one_roster_end P bytes a b (long l e) (broken t k s r m f) = absurd (not_both bytes l s)
-one_roster_end P bytes a b (refused why s r e) (long m f) = absurd (not_both bytes m s)
+one_roster_end P bytes a b (long l e) (refused why s r f) = absurd (not_both Kinds.Roster bytes l s)
+one_roster_end P bytes a b (long l e) (met t s r m f) = absurd (not_both Kinds.Roster bytes l s)
+one_roster_end P bytes a b (long l e) (broken t k s r m f) = absurd (not_both Kinds.Roster bytes l s)
+one_roster_end P bytes a b (refused why s r e) (long m f) = absurd (not_both Kinds.Roster bytes m s)
 one_roster_end P bytes a b (refused why s r e) (refused other t q f) =
     let both : Some why ≡ Some other = sym r ∙ q in
     let same : why ≡ other = cc in
     e ∙ ap RosterRefused same ∙ sym f
 one_roster_end P bytes a b (refused why s r e) (met t u q m f) = absurd (refused_roster P bytes t why r q)
 one_roster_end P bytes a b (refused why s r e) (broken t k u q m f) = absurd (refused_roster P bytes t why r q)
-one_roster_end P bytes a b (met t u q m e) (long l f) = absurd (not_both bytes l u)
+one_roster_end P bytes a b (met t u q m e) (long l f) = absurd (not_both Kinds.Roster bytes l u)
 one_roster_end P bytes a b (met t u q m e) (refused why s r f) = absurd (refused_roster P bytes t why r q)
 one_roster_end P bytes a b (met t u q m e) (met t' u' q' m' f) = e ∙ sym f
 one_roster_end P bytes a b (met t u q m e) (broken t' k u' q' m' f) = absurd (met_or_broken P bytes t t' k q m q' m')
-one_roster_end P bytes a b (broken t k u q m e) (long l f) = absurd (not_both bytes l u)
+one_roster_end P bytes a b (broken t k u q m e) (long l f) = absurd (not_both Kinds.Roster bytes l u)
 one_roster_end P bytes a b (broken t k u q m e) (refused why s r f) = absurd (refused_roster P bytes t why r q)
 one_roster_end P bytes a b (broken t k u q m e) (met t' u' q' m' f) = absurd (met_or_broken P bytes t' t k q' m' q m)
 one_roster_end P bytes a b (broken t k u q m e) (broken t' k' u' q' m' f) =
@@ -84,72 +102,138 @@ one_roster_end P bytes a b (broken t k u q m e) (broken t' k' u' q' m' f) =
     let first : k ≡ k' = first_broken-same P t' k k' (subst (λ (v : List Symbol). IsFirstBroken P v k) same m) m' in
     e ∙ ap Breaks first ∙ sym f
 
--- how the bytes of both files end the job of the words
-data FileEnd (words : Words) (file roster : List ℕ) (answer : Answer) : Type 0 where
-  too_long : IsTooLong file → answer ≡ TooLong Problem → FileEnd words file roster answer
-  unread : (why : FileRefusal) → IsShort file → file_refusal file ≡ Some why → answer ≡ FileRefused why → FileEnd words file roster answer
-  spelled : (P : Instance) → IsForm words Verify → IsShort file → SpellsProblem file P → RosterEnd P roster answer → FileEnd words file roster answer
-  shown : (P : Instance) → IsForm words Show → IsShort file → SpellsProblem file P → answer ≡ Shown → FileEnd words file roster answer
+-- how a log's bytes end the job for an instance
+data LogEnd (P : Instance) (bytes : List ℕ) (answer : Answer) : Type 0 where
+  long_log : IsTooLong Kinds.Log bytes → answer ≡ TooLong Kinds.Log → LogEnd P bytes answer
+  refused_log : (why : LogRefusal) → IsShort Kinds.Log bytes → IsRefused P bytes why → answer ≡ LogRefused why → LogEnd P bytes answer
+  accepted_log : (g : LogValue) → IsShort Kinds.Log bytes → IsAccepted P bytes g → answer ≡ Accepted g.named → LogEnd P bytes answer
 
--- no words are a form of two commands
-two_forms : (words : Words) → IsForm words Verify → IsForm words Show → ⊥
-two_forms [] v s = v
-two_forms (a ∷ []) v s = v
-two_forms (a ∷ b ∷ []) v s = v
-two_forms (a ∷ b ∷ c ∷ []) v s = s
-two_forms (a ∷ b ∷ c ∷ d ∷ words) v s = s
+log_end : (P : Instance) (bytes : List ℕ) (answer : Answer) → IsLogAnswer answer P bytes → LogEnd P bytes answer
+log_end P bytes (TooLong Kinds.Log) h = long_log h refl
+log_end P bytes (LogRefused why) h = refused_log why h.0 h.1 refl
+log_end P bytes (Accepted R) h = accepted_log h.1.0 h.0 h.1.1 (ap Accepted (sym h.1.2))
+log_end P bytes (TooLong Kinds.Roster) h = absurd h
+log_end P bytes (TooLong Kinds.Problem) h = absurd h
+log_end P bytes (RosterRefused why) h = absurd h
+log_end P bytes Meets h = absurd h
+log_end P bytes (Breaks b) h = absurd h
+log_end P bytes (Roster s) h = absurd h
+log_end P bytes (NoRoster g) h = absurd h
+log_end P bytes (Undecided g) h = absurd h
+log_end P bytes Usage h = absurd h
+log_end P bytes Shown h = absurd h
+log_end P bytes (FileRefused why) h = absurd h
 
-unread_by : (file : List ℕ) (P : Instance) (why : FileRefusal) (o : Option FileRefusal) → o ≡ Some why → MatchOption o ((P : Instance) × SpellsProblem file P) (λ why. (P : Instance) → SpellsProblem file P → ⊥) → SpellsProblem file P → ⊥
-unread_by file P why None e m spells = absurd (cc)
-unread_by file P why (Some other) e m spells = m P spells
+err_same : (x y : Result LogValue LogRefusal) (a b : LogRefusal) → x ≡ Err a → y ≡ Err b → x ≡ y → a ≡ b
+err_same x y a b e f g = let both : Err a ≡ Err b = sym e ∙ g ∙ f in cc
 
-one_file_end : TextsSpellOne → TextsSpellOrFail → (words : Words) (file roster : List ℕ) (a b : Answer) → FileEnd words file roster a → FileEnd words file roster b → a ≡ b
-one_file_end one decide words file roster a b (too_long l e) (too_long m f) = e ∙ sym f
-one_file_end one decide words file roster a b (too_long l e) (unread why s r f) = absurd (not_both file l s)
-one_file_end one decide words file roster a b (too_long l e) (spelled P v s q end) = absurd (not_both file l s)
-one_file_end one decide words file roster a b (too_long l e) (shown P v s q f) = absurd (not_both file l s)
-one_file_end one decide words file roster a b (unread why s r e) (too_long l f) = absurd (not_both file l s)
-one_file_end one decide words file roster a b (unread why s r e) (unread other t q f) =
-    let both : Some why ≡ Some other = sym r ∙ q in
-    let same : why ≡ other = cc in
-    e ∙ ap FileRefused same ∙ sym f
-one_file_end one decide words file roster a b (unread why s r e) (spelled P v t q end) = absurd (unread_by file P why (file_refusal file) r (decide file) q)
-one_file_end one decide words file roster a b (unread why s r e) (shown P v t q f) = absurd (unread_by file P why (file_refusal file) r (decide file) q)
-one_file_end one decide words file roster a b (spelled P v t q end) (too_long l f) = absurd (not_both file l t)
-one_file_end one decide words file roster a b (spelled P v t q end) (unread why s r f) = absurd (unread_by file P why (file_refusal file) r (decide file) q)
-one_file_end one decide words file roster a b (spelled P v t q end) (spelled Q w u r other) =
-    let same : Q ≡ P = one file Q P r q in
-    one_roster_end P roster a b end (subst (λ (I : Instance). RosterEnd I roster b) same other)
-one_file_end one decide words file roster a b (spelled P v t q end) (shown Q w u r f) = absurd (two_forms words v w)
-one_file_end one decide words file roster a b (shown P v t q e) (too_long l f) = absurd (not_both file l t)
-one_file_end one decide words file roster a b (shown P v t q e) (unread why s r f) = absurd (unread_by file P why (file_refusal file) r (decide file) q)
-one_file_end one decide words file roster a b (shown P v t q e) (spelled Q w u r other) = absurd (two_forms words w v)
-one_file_end one decide words file roster a b (shown P v t q e) (shown Q w u r f) = e ∙ sym f
+ok_same : (x y : Result LogValue LogRefusal) (a b : LogValue) → x ≡ Ok a → y ≡ Ok b → x ≡ y → a ≡ b
+ok_same x y a b e f g = let both : Ok a ≡ Ok b = sym e ∙ g ∙ f in cc
 
--- the words have a form or none
+never_same : (x y : Result LogValue LogRefusal) (a : LogValue) (b : LogRefusal) → x ≡ Ok a → y ≡ Err b → x ≡ y → ⊥
+never_same x y a b e f g = let both : Ok a ≡ Err b = sym e ∙ g ∙ f in absurd (cc)
 
-has_form : (held : List ℕ → Told) (words : Words) (answer : Answer) → IsAnswer held words answer → (answer ≡ Usage) ⊎ ((command : Command) × IsForm words command)
-has_form held words Usage h = inl refl
-has_form held words (TooLong Problem) h = inr h.0
-has_form held words (TooLong Roster) h = inr (Verify, h.0)
-has_form held words (FileRefused why) h = inr h.0
-has_form held words (RosterRefused why) h = inr (Verify, h.0)
-has_form held words Meets h = inr (Verify, h.0)
-has_form held words (Breaks b) h = inr (Verify, h.0)
-has_form held words Shown h = inr (Show, h.0)
+same_refusal : (P : Instance) (bytes : List ℕ) (why other : LogRefusal) → KeepsLimits P → IsRefused P bytes why → IsRefused P bytes other → why ≡ other
+same_refusal P bytes why other limits h k = err_same (Err why) (Err other) why other refl refl (one_verdict P bytes (Err why) (Err other) limits h k)
 
-no_form : (held : List ℕ → Told) (words : Words) (answer : Answer) → answer ≡ Usage → IsAnswer held words answer → HasNoForm words
-no_form held words answer e h = subst (IsAnswer held words) e h
+same_log : (P : Instance) (bytes : List ℕ) (g h : LogValue) → KeepsLimits P → IsAccepted P bytes g → IsAccepted P bytes h → g ≡ h
+same_log P bytes g h limits a b = ok_same (Ok g) (Ok h) g h refl refl (one_verdict P bytes (Ok g) (Ok h) limits a b)
+
+not_both_ways : (P : Instance) (bytes : List ℕ) (g : LogValue) (why : LogRefusal) → KeepsLimits P → IsAccepted P bytes g → IsRefused P bytes why → ⊥
+not_both_ways P bytes g why limits a r = never_same (Ok g) (Err why) g why refl refl (one_verdict P bytes (Ok g) (Err why) limits a r)
+
+one_log_end : (P : Instance) (bytes : List ℕ) (a b : Answer) → KeepsLimits P → LogEnd P bytes a → LogEnd P bytes b → a ≡ b
+one_log_end P bytes a b limits (long_log l e) (long_log m f) = e ∙ sym f
+one_log_end P bytes a b limits (long_log l e) (refused_log why s r f) = absurd (not_both Kinds.Log bytes l s)
+one_log_end P bytes a b limits (long_log l e) (accepted_log g s r f) = absurd (not_both Kinds.Log bytes l s)
+one_log_end P bytes a b limits (refused_log why s r e) (long_log l f) = absurd (not_both Kinds.Log bytes l s)
+one_log_end P bytes a b limits (refused_log why s r e) (refused_log other t q f) = e ∙ ap LogRefused (same_refusal P bytes why other limits r q) ∙ sym f
+one_log_end P bytes a b limits (refused_log why s r e) (accepted_log g t q f) = absurd (not_both_ways P bytes g why limits q r)
+one_log_end P bytes a b limits (accepted_log g s r e) (long_log l f) = absurd (not_both Kinds.Log bytes l s)
+one_log_end P bytes a b limits (accepted_log g s r e) (refused_log why t q f) = absurd (not_both_ways P bytes g why limits r q)
+one_log_end P bytes a b limits (accepted_log g s r e) (accepted_log h t q f) = e ∙ ap (λ (k : LogValue). Accepted k.named) (same_log P bytes g h limits r q) ∙ sym f
+
+-- the words have one form at most
+
+same_count : (word : List ℕ) (limit m n : ℕ) → IsCount word limit m → IsCount word limit n → m ≡ n
+same_count word limit m n h k =
+    let both : Some m ≡ Some n = sym h.0 ∙ k.0 in
+    cc
+
+-- two names of commands
+
+unlike : (a b : List ℕ) → bytes_eq a b ≡ false → a ≡ b → ⊥
+unlike a b differ e =
+    let yes : bytes_eq a b ≡ true = subst (λ (c : List ℕ). bytes_eq a c ≡ true) e (bytes_same a) in
+    let both : true ≡ false = sym yes ∙ differ in
+    absurd (cc)
+
+not_show_and_plan : (word : List ℕ) → word ≡ codes "show" → word ≡ codes "plan" → ⊥
+not_show_and_plan word e f = unlike (codes "show") (codes "plan") refl (sym e ∙ f)
+
+not_verify_and_check : (word : List ℕ) → word ≡ codes "verify" → word ≡ codes "check" → ⊥
+not_verify_and_check word e f = unlike (codes "verify") (codes "check") refl (sym e ∙ f)
+
+one_form : (words : Words) (a b : Command) → IsForm words a → IsForm words b → a ≡ b
+one_form [] a b h k = absurd (no_words a h)
+  where
+    no_words : (c : Command) → IsForm [] c → ⊥
+    no_words (Plan budget) h = h
+    no_words (Check workers) h = h
+    no_words Verify h = h
+    no_words Show h = h
+one_form (v ∷ []) (Plan m) b h k = absurd h
+one_form (v ∷ []) (Check m) b h k = absurd h
+one_form (v ∷ []) Verify b h k = absurd h
+one_form (v ∷ []) Show b h k = absurd h
+one_form (v ∷ w ∷ []) Show Show h k = refl
+one_form (v ∷ w ∷ []) Show (Plan m) h k = absurd (not_show_and_plan (string_bytes v) h.0 k.0)
+one_form (v ∷ w ∷ []) (Plan m) Show h k = absurd (not_show_and_plan (string_bytes v) k.0 h.0)
+one_form (v ∷ w ∷ []) (Plan m) (Plan n) h k = ap Plan (h.2 ∙ sym k.2)
+one_form (v ∷ w ∷ []) Verify b h k = absurd h
+one_form (v ∷ w ∷ []) (Check m) b h k = absurd h
+one_form (v ∷ w ∷ []) Show Verify h k = absurd k
+one_form (v ∷ w ∷ []) Show (Check m) h k = absurd k
+one_form (v ∷ w ∷ []) (Plan n) Verify h k = absurd k
+one_form (v ∷ w ∷ []) (Plan n) (Check m) h k = absurd k
+one_form (v ∷ w ∷ x ∷ []) Verify Verify h k = refl
+one_form (v ∷ w ∷ x ∷ []) Verify (Check m) h k = absurd (not_verify_and_check (string_bytes v) h.0 k.0)
+one_form (v ∷ w ∷ x ∷ []) (Check m) Verify h k = absurd (not_verify_and_check (string_bytes v) k.0 h.0)
+one_form (v ∷ w ∷ x ∷ []) (Check m) (Check n) h k = ap Check (h.3 ∙ sym k.3)
+one_form (v ∷ w ∷ x ∷ []) Show b h k = absurd h
+one_form (v ∷ w ∷ x ∷ []) (Plan m) b h k = absurd h
+one_form (v ∷ w ∷ x ∷ []) Verify Show h k = absurd k
+one_form (v ∷ w ∷ x ∷ []) Verify (Plan m) h k = absurd k
+one_form (v ∷ w ∷ x ∷ []) (Check n) Show h k = absurd k
+one_form (v ∷ w ∷ x ∷ []) (Check n) (Plan m) h k = absurd k
+one_form (v ∷ w ∷ x ∷ y ∷ []) (Plan m) (Plan n) h k = ap Plan (same_count (string_bytes y) greatest_budget m n h.3 k.3)
+one_form (v ∷ w ∷ x ∷ y ∷ []) (Plan m) Show h k = absurd k
+one_form (v ∷ w ∷ x ∷ y ∷ []) (Plan m) Verify h k = absurd k
+one_form (v ∷ w ∷ x ∷ y ∷ []) (Plan m) (Check n) h k = absurd k
+one_form (v ∷ w ∷ x ∷ y ∷ []) Show b h k = absurd h
+one_form (v ∷ w ∷ x ∷ y ∷ []) Verify b h k = absurd h
+one_form (v ∷ w ∷ x ∷ y ∷ []) (Check m) b h k = absurd h
+one_form (v ∷ w ∷ x ∷ y ∷ z ∷ []) (Check m) (Check n) h k = ap Check (same_count (string_bytes z) most_workers m n h.4 k.4)
+one_form (v ∷ w ∷ x ∷ y ∷ z ∷ []) (Check m) Show h k = absurd k
+one_form (v ∷ w ∷ x ∷ y ∷ z ∷ []) (Check m) Verify h k = absurd k
+one_form (v ∷ w ∷ x ∷ y ∷ z ∷ []) (Check m) (Plan n) h k = absurd k
+one_form (v ∷ w ∷ x ∷ y ∷ z ∷ []) Show b h k = absurd h
+one_form (v ∷ w ∷ x ∷ y ∷ z ∷ []) Verify b h k = absurd h
+one_form (v ∷ w ∷ x ∷ y ∷ z ∷ []) (Plan m) b h k = absurd h
+one_form (v ∷ w ∷ x ∷ y ∷ z ∷ u ∷ words) (Plan m) b h k = absurd h
+one_form (v ∷ w ∷ x ∷ y ∷ z ∷ u ∷ words) (Check m) b h k = absurd h
+one_form (v ∷ w ∷ x ∷ y ∷ z ∷ u ∷ words) Verify b h k = absurd h
+one_form (v ∷ w ∷ x ∷ y ∷ z ∷ u ∷ words) Show b h k = absurd h
 
 -- what a told file holds
 
-abbrev Held : (List ℕ → Told) → List ℕ → Type 0
-Held held name = (held name ≡ Missing) ⊎ ((bytes : List ℕ) × (held name ≡ Bytes bytes))
+abbrev IsThere : Told → Type 0
+IsThere told = (told ≡ Missing) ⊎ ((bytes : List ℕ) × (told ≡ Bytes bytes))
 
-held_by : (told : Told) → told ≢ Silent → (told ≡ Missing) ⊎ ((bytes : List ℕ) × (told ≡ Bytes bytes))
-held_by Silent h = absurd (h refl)
-held_by Missing h = inl refl
-held_by (Bytes bytes) h = inr (bytes, refl)
+there_by : (told : Told) → told ≢ Silent → IsThere told
+there_by Silent h = absurd (h refl)
+there_by Missing h = inl refl
+there_by (Bytes bytes) h = inr (bytes, refl)
 
 at_bytes : (told : Told) (bytes : List ℕ) (Q : List ℕ → Type 0) → told ≡ Bytes bytes → WhereTold told Q → Q bytes
 at_bytes told bytes Q e h = subst (λ (t : Told). WhereTold t Q) e h
@@ -157,81 +241,130 @@ at_bytes told bytes Q e h = subst (λ (t : Told). WhereTold t Q) e h
 at_missing : (told : Told) (Q : List ℕ → Type 0) → told ≡ Missing → WhereTold told Q → ⊥
 at_missing told Q e h = subst (λ (t : Told). WhereTold t Q) e h
 
--- an answer over a file that isn't there
+-- two answers to a command for an instance, over what the second file tells
 
-no_file : (held : List ℕ → Told) (words : Words) (answer : Answer) → held (problem_name words) ≡ Missing → IsAnswer held words answer → answer ≡ Usage
-no_file held words Usage e h = refl
-no_file held words (TooLong Problem) e h = absurd (at_missing (held (problem_name words)) _ e h.1)
-no_file held words (FileRefused why) e h = absurd (at_missing (held (problem_name words)) _ e h.1)
-no_file held words (TooLong Roster) e h = absurd (at_missing (held (problem_name words)) _ e h.1)
-no_file held words (RosterRefused why) e h = absurd (at_missing (held (problem_name words)) _ e h.1)
-no_file held words Meets e h = absurd (at_missing (held (problem_name words)) _ e h.1)
-no_file held words (Breaks b) e h = absurd (at_missing (held (problem_name words)) _ e h.1)
-no_file held words Shown e h = absurd (at_missing (held (problem_name words)) _ e h.1)
+found : (P : Instance) (budget : ℕ) (a : Answer) → IsPlanned P budget a → IsFound a
+found P budget (Roster s) h = tt
+found P budget (NoRoster g) h = tt
+found P budget (Undecided g) h = tt
+found P budget (Accepted R) h = absurd h
+found P budget (LogRefused why) h = absurd h
+found P budget Meets h = absurd h
+found P budget Shown h = absurd h
+found P budget (Breaks b) h = absurd h
+found P budget (RosterRefused why) h = absurd h
+found P budget Usage h = absurd h
+found P budget (FileRefused why) h = absurd h
+found P budget (TooLong kind) h = absurd h
 
--- a roster's answer over the bytes of a file, and of a roster that is there
+one_roster_answer : (P : Instance) (told : Told) (a b : Answer) → IsThere told → WhereTold told (IsRosterAnswer a P) → WhereTold told (IsRosterAnswer b P) → a ≡ b
+one_roster_answer P told a b (inl e) h k = absurd (at_missing told (IsRosterAnswer a P) e h)
+one_roster_answer P told a b (inr r) h k = one_roster_end P r.0 a b (roster_end P r.0 a (at_bytes told r.0 (IsRosterAnswer a P) r.1 h)) (roster_end P r.0 b (at_bytes told r.0 (IsRosterAnswer b P) r.1 k))
 
-abbrev AtRoster : (List ℕ → Told) → Words → Answer → List ℕ → Type 0
-AtRoster held words answer file = IsShort file × ((P : Instance) × SpellsProblem file P × WhereTold (held (second_name words)) (IsRosterAnswer answer P))
+one_log_answer : (P : Instance) (told : Told) (a b : Answer) → KeepsLimits P → IsThere told → WhereTold told (IsLogAnswer a P) → WhereTold told (IsLogAnswer b P) → a ≡ b
+one_log_answer P told a b limits (inl e) h k = absurd (at_missing told (IsLogAnswer a P) e h)
+one_log_answer P told a b limits (inr r) h k = one_log_end P r.0 a b limits (log_end P r.0 a (at_bytes told r.0 (IsLogAnswer a P) r.1 h)) (log_end P r.0 b (at_bytes told r.0 (IsLogAnswer b P) r.1 k))
 
-spelled_end : (held : List ℕ → Told) (words : Words) (answer : Answer) (file roster : List ℕ) → IsForm words Verify → held (second_name words) ≡ Bytes roster → AtRoster held words answer file → FileEnd words file roster answer
-spelled_end held words answer file roster form e h = spelled h.1.0 form h.0 h.1.1 (roster_end h.1.0 roster answer (at_bytes (held (second_name words)) roster (IsRosterAnswer answer h.1.0) e h.1.2))
+one_on : (command : Command) (P : Instance) (told : Told) (a b : Answer) → KeepsLimits P → IsThere told → IsAnswerOn command told P a → IsAnswerOn command told P b → (a ≡ b) ⊎ (IsFound a × IsFound b)
+one_on Show P told a b limits there h k = inl (h ∙ sym k)
+one_on Verify P told a b limits there h k = inl (one_roster_answer P told a b there h.1 k.1)
+one_on (Check workers) P told a b limits there h k = inl (one_log_answer P told a b limits there h.1 k.1)
+one_on (Plan budget) P told a b limits there h k = inr (found P budget a h, found P budget b k)
 
-file_end : (held : List ℕ → Told) (words : Words) (answer : Answer) (file roster : List ℕ) → held (problem_name words) ≡ Bytes file → held (second_name words) ≡ Bytes roster → IsAnswer held words answer → (answer ≡ Usage) ⊎ FileEnd words file roster answer
-file_end held words Usage file roster e f h = inl refl
-file_end held words (TooLong Problem) file roster e f h = inr (too_long (at_bytes (held (problem_name words)) file IsTooLong e h.1) refl)
-file_end held words (FileRefused why) file roster e f h =
-    let k = at_bytes (held (problem_name words)) file (IsFileAnswer (FileRefused why)) e h.1 in
-    inr (unread why k.0 k.1 refl)
-file_end held words (TooLong Roster) file roster e f h = inr (spelled_end held words (TooLong Roster) file roster h.0 f (at_bytes (held (problem_name words)) file (AtRoster held words (TooLong Roster)) e h.1))
-file_end held words (RosterRefused why) file roster e f h = inr (spelled_end held words (RosterRefused why) file roster h.0 f (at_bytes (held (problem_name words)) file (AtRoster held words (RosterRefused why)) e h.1))
-file_end held words Meets file roster e f h = inr (spelled_end held words Meets file roster h.0 f (at_bytes (held (problem_name words)) file (AtRoster held words Meets) e h.1))
-file_end held words (Breaks b) file roster e f h = inr (spelled_end held words (Breaks b) file roster h.0 f (at_bytes (held (problem_name words)) file (AtRoster held words (Breaks b)) e h.1))
-file_end held words Shown file roster e f h =
-    let k = at_bytes (held (problem_name words)) file (λ file. IsShort file × ((P : Instance) × SpellsProblem file P × Unit {0})) e h.1 in
-    inr (shown k.1.0 h.0 k.0 k.1.1 refl)
+-- two answers of the problem's file
 
--- an answer over a file that is there, and a roster that isn't
+data FileEnd (file : List ℕ) (answer : Answer) : Type 0 where
+  too_long : IsTooLong Kinds.Problem file → answer ≡ TooLong Kinds.Problem → FileEnd file answer
+  unread : (why : FileRefusal) → IsShort Kinds.Problem file → file_refusal file ≡ Some why → answer ≡ FileRefused why → FileEnd file answer
 
-lone_end : (held : List ℕ → Told) (words : Words) (answer : Answer) (file : List ℕ) → held (problem_name words) ≡ Bytes file → held (second_name words) ≡ Missing → IsAnswer held words answer → (answer ≡ Usage) ⊎ FileEnd words file file answer
-lone_end held words Usage file e f h = inl refl
-lone_end held words (TooLong Problem) file e f h = inr (too_long (at_bytes (held (problem_name words)) file IsTooLong e h.1) refl)
-lone_end held words (FileRefused why) file e f h =
-    let k = at_bytes (held (problem_name words)) file (IsFileAnswer (FileRefused why)) e h.1 in
-    inr (unread why k.0 k.1 refl)
-lone_end held words (TooLong Roster) file e f h = let k = at_bytes (held (problem_name words)) file (AtRoster held words (TooLong Roster)) e h.1 in absurd (at_missing (held (second_name words)) _ f k.1.2)
-lone_end held words (RosterRefused why) file e f h = let k = at_bytes (held (problem_name words)) file (AtRoster held words (RosterRefused why)) e h.1 in absurd (at_missing (held (second_name words)) _ f k.1.2)
-lone_end held words Meets file e f h = let k = at_bytes (held (problem_name words)) file (AtRoster held words Meets) e h.1 in absurd (at_missing (held (second_name words)) _ f k.1.2)
-lone_end held words (Breaks b) file e f h = let k = at_bytes (held (problem_name words)) file (AtRoster held words (Breaks b)) e h.1 in absurd (at_missing (held (second_name words)) _ f k.1.2)
-lone_end held words Shown file e f h =
-    let k = at_bytes (held (problem_name words)) file (λ file. IsShort file × ((P : Instance) × SpellsProblem file P × Unit {0})) e h.1 in
-    inr (shown k.1.0 h.0 k.0 k.1.1 refl)
+file_end : (file : List ℕ) (answer : Answer) → IsFileAnswer answer file → FileEnd file answer
+file_end file (TooLong Kinds.Problem) h = too_long h refl
+file_end file (FileRefused why) h = unread why h.0 h.1 refl
+file_end file (TooLong Kinds.Roster) h = absurd h
+file_end file (TooLong Kinds.Log) h = absurd h
+file_end file (Roster s) h = absurd h
+file_end file (NoRoster g) h = absurd h
+file_end file (Undecided g) h = absurd h
+file_end file (Accepted R) h = absurd h
+file_end file (LogRefused why) h = absurd h
+file_end file Meets h = absurd h
+file_end file Shown h = absurd h
+file_end file (Breaks b) h = absurd h
+file_end file (RosterRefused why) h = absurd h
+file_end file Usage h = absurd h
 
--- two answers of which one is Usage
+one_file_end : (file : List ℕ) (a b : Answer) → FileEnd file a → FileEnd file b → a ≡ b
+one_file_end file a b (too_long l e) (too_long m f) = e ∙ sym f
+one_file_end file a b (too_long l e) (unread why s r f) = absurd (not_both Kinds.Problem file l s)
+one_file_end file a b (unread why s r e) (too_long l f) = absurd (not_both Kinds.Problem file l s)
+one_file_end file a b (unread why s r e) (unread other t q f) =
+    let both : Some why ≡ Some other = sym r ∙ q in
+    let same : why ≡ other = cc in
+    e ∙ ap FileRefused same ∙ sym f
 
-usage_first : (held : List ℕ → Told) (words : Words) (a b : Answer) → a ≡ Usage → IsAnswer held words a → IsAnswer held words b → (b ≡ Usage) ⊎ ((command : Command) × IsForm words command) → a ≡ b
-usage_first held words a b e h k (inl f) = e ∙ sym f
-usage_first held words a b e h k (inr form) = absurd (no_form held words a e h form.0 form.1)
+unread_by : (file : List ℕ) (P : Instance) (why : FileRefusal) (o : Option FileRefusal) → o ≡ Some why → MatchOption o ((P : Instance) × SpellsProblem file P) (λ why. (P : Instance) → SpellsProblem file P → ⊥) → SpellsProblem file P → ⊥
+unread_by file P why None e m spells = absurd (cc)
+unread_by file P why (Some other) e m spells = m P spells
 
-one_of_ends : TextsSpellOne → TextsSpellOrFail → (held : List ℕ → Told) (words : Words) (a b : Answer) (file roster : List ℕ) → IsAnswer held words a → IsAnswer held words b → (a ≡ Usage) ⊎ FileEnd words file roster a → (b ≡ Usage) ⊎ FileEnd words file roster b → a ≡ b
-one_of_ends one decide held words a b file roster h k (inl e) y = usage_first held words a b e h k (has_form held words b k)
-one_of_ends one decide held words a b file roster h k (inr x) (inl f) = sym (usage_first held words b a f k h (has_form held words a h))
-one_of_ends one decide held words a b file roster h k (inr x) (inr y) = one_file_end one decide words file roster a b x y
+-- a file that spells an instance has no answer by itself
+not_by_itself : TextsSpellOrFail → (file : List ℕ) (P : Instance) (a : Answer) → IsShort Kinds.Problem file → SpellsProblem file P → FileEnd file a → ⊥
+not_by_itself decide file P a short spells (too_long l e) = not_both Kinds.Problem file l short
+not_by_itself decide file P a short spells (unread why s r e) = unread_by file P why (file_refusal file) r (decide file) spells
 
-at_file : TextsSpellOne → TextsSpellOrFail → (held : List ℕ → Told) (words : Words) (a b : Answer) (file : List ℕ) → held (problem_name words) ≡ Bytes file → Held held (second_name words) → IsAnswer held words a → IsAnswer held words b → a ≡ b
-at_file one decide held words a b file e (inl f) h k = one_of_ends one decide held words a b file file h k (lone_end held words a file e f h) (lone_end held words b file e f k)
-at_file one decide held words a b file e (inr r) h k = one_of_ends one decide held words a b file r.0 h k (file_end held words a file r.0 e r.1 h) (file_end held words b file r.0 e r.1 k)
+-- two answers to a command over a file that is there
 
-at_both : TextsSpellOne → TextsSpellOrFail → (held : List ℕ → Told) (words : Words) (a b : Answer) → Held held (problem_name words) → Held held (second_name words) → IsAnswer held words a → IsAnswer held words b → a ≡ b
-at_both one decide held words a b (inl e) s h k = no_file held words a e h ∙ sym (no_file held words b e k)
-at_both one decide held words a b (inr f) s h k = at_file one decide held words a b f.0 f.1 s h k
+abbrev AtFile : Command → Told → List ℕ → Answer → Type 0
+AtFile command second file answer = IsShort Kinds.Problem file × ((P : Instance) × SpellsProblem file P × IsAnswerOn command second P answer)
+
+both_ends : TextsSpellOne → TextsSpellOrFail → (command : Command) (second : Told) (file : List ℕ) (a b : Answer) → IsThere second → FileEnd file a ⊎ AtFile command second file a → FileEnd file b ⊎ AtFile command second file b → (a ≡ b) ⊎ (IsFound a × IsFound b)
+both_ends one decide command second file a b there (inl x) (inl y) = inl (one_file_end file a b x y)
+both_ends one decide command second file a b there (inl x) (inr k) = absurd (not_by_itself decide file k.1.0 a k.0 k.1.1 x)
+both_ends one decide command second file a b there (inr h) (inl y) = absurd (not_by_itself decide file h.1.0 b h.0 h.1.1 y)
+both_ends one decide command second file a b there (inr h) (inr k) =
+    let P = h.1.0 in
+    let same : k.1.0 ≡ P = one file k.1.0 P k.1.1 h.1.1 in
+    one_on command P second a b (valid_keeps P h.1.1.valid) there h.1.2 (subst (λ (Q : Instance). IsAnswerOn command second Q b) same k.1.2)
+
+ends_at : (command : Command) (held : List ℕ → Told) (words : Words) (file : List ℕ) (a : Answer) → held (problem_name words) ≡ Bytes file → IsAnswerTo command held words a → FileEnd file a ⊎ AtFile command (held (second_name words)) file a
+ends_at command held words file a e (inl h) = inl (file_end file a (at_bytes (held (problem_name words)) file (IsFileAnswer a) e h.1))
+ends_at command held words file a e (inr h) = inr (at_bytes (held (problem_name words)) file (λ f. AtFile command (held (second_name words)) f a) e h)
+
+nothing_at : (command : Command) (held : List ℕ → Told) (words : Words) (a : Answer) → held (problem_name words) ≡ Missing → IsAnswerTo command held words a → ⊥
+nothing_at command held words a e (inl h) = at_missing (held (problem_name words)) (IsFileAnswer a) e h.1
+nothing_at command held words a e (inr h) = at_missing (held (problem_name words)) (λ f. AtFile command (held (second_name words)) f a) e h
+
+one_to : TextsSpellOne → TextsSpellOrFail → (command : Command) (held : List ℕ → Told) (words : Words) (a b : Answer) → IsThere (held (problem_name words)) → IsThere (held (second_name words)) → IsAnswerTo command held words a → IsAnswerTo command held words b → (a ≡ b) ⊎ (IsFound a × IsFound b)
+one_to one decide command held words a b (inl e) there h k = absurd (nothing_at command held words a e h)
+one_to one decide command held words a b (inr f) there h k = both_ends one decide command (held (second_name words)) f.0 a b there (ends_at command held words f.0 a f.1 h) (ends_at command held words f.0 b f.1 k)
 
 pub one_answer : TextsSpellOne → TextsSpellOrFail → AnswersAreOne
-one_answer one decide held words a b told h k = at_both one decide held words a b (held_by (held (problem_name words)) told.0) (held_by (held (second_name words)) told.1) h k
+one_answer one decide held words a b told (inl h) (inl k) = inl (h.1 ∙ sym k.1)
+one_answer one decide held words a b told (inl h) (inr k) = absurd (h.0 k.0 k.1)
+one_answer one decide held words a b told (inr h) (inl k) = absurd (k.0 h.0 h.1)
+one_answer one decide held words a b told (inr h) (inr k) =
+    let same : k.0 ≡ h.0 = one_form words k.0 h.0 k.1 h.1 in
+    one_to one decide h.0 held words a b (there_by (held (problem_name words)) told.0) (there_by (held (second_name words)) told.1) h.2 (subst (λ (c : Command). IsAnswerTo c held words b) same k.2)
+
+-- the answers over a file that spells an instance
+
+of_command : TextsSpellOne → TextsSpellOrFail → (command : Command) (second : Told) (file : List ℕ) (P : Instance) (a : Answer) → IsShort Kinds.Problem file → SpellsProblem file P → FileEnd file a ⊎ AtFile command second file a → IsAnswerOn command second P a
+of_command one decide command second file P a short spells (inl x) = absurd (not_by_itself decide file P a short spells x)
+of_command one decide command second file P a short spells (inr h) = subst (λ (Q : Instance). IsAnswerOn command second Q a) (one file h.1.0 P h.1.1 spells) h.1.2
+
+pub answered : TextsSpellOne → TextsSpellOrFail → ProblemsAreAnswered
+answered one decide held words command file P a form e short spells (inl h) = absurd (h.0 command form)
+answered one decide held words command file P a form e short spells (inr h) =
+    let same : h.0 ≡ command = one_form words h.0 command h.1 form in
+    of_command one decide command (held (second_name words)) file P a short spells (ends_at command held words file a e (subst (λ (c : Command). IsAnswerTo c held words a) same h.2))
+
+-- a refutation is accepted
+pub taken : RefutationsAreAccepted
+taken file P budget g a spells planned short kind h =
+    one_log_end P (log_text P g) a (Accepted g.named) (valid_keeps P spells.valid) (log_end P (log_text P g) a h) (accepted_log g short (refl, planned.0) refl)
 
 -- the text of an answer
 
-same_problem : TextsSpellOne → (held : List ℕ → Told) (words : Words) (P Q : Instance) → Held held (problem_name words) → IsProblemOf held words P → IsProblemOf held words Q → P ≡ Q
+same_problem : TextsSpellOne → (held : List ℕ → Told) (words : Words) (P Q : Instance) → IsThere (held (problem_name words)) → IsProblemOf held words P → IsProblemOf held words Q → P ≡ Q
 same_problem one held words P Q (inl e) h k = absurd (at_missing (held (problem_name words)) (λ file. SpellsProblem file P) e h)
 same_problem one held words P Q (inr f) h k = one f.0 P Q (at_bytes (held (problem_name words)) f.0 (λ file. SpellsProblem file P) f.1 h) (at_bytes (held (problem_name words)) f.0 (λ file. SpellsProblem file Q) f.1 k)
 
@@ -240,14 +373,9 @@ any_instance : Instance
 any_instance = record { days = 0; weeks = 0; demand = []; shifts = []; off = record { least = 0; greatest = 0 }; work = record { least = 0; greatest = 0 }; pairs = []; triples = [] }
 
 pub one_text : TextsSpellOne → TextsAreOne
-one_text one held words (Breaks b) text other told h k =
-    let same : h.0 ≡ k.0 = same_problem one held words h.0 k.0 (held_by (held (problem_name words)) told.0) h.1 k.1 in
-    h.2 ∙ ap (λ (P : Instance). text_of P (Breaks b)) same ∙ sym k.2
-one_text one held words Shown text other told h k =
-    let same : h.0 ≡ k.0 = same_problem one held words h.0 k.0 (held_by (held (problem_name words)) told.0) h.1 k.1 in
-    h.2 ∙ ap (λ (P : Instance). text_of P Shown) same ∙ sym k.2
-one_text one held words Meets text other told h k = h any_instance ∙ sym (k any_instance)
-one_text one held words Usage text other told h k = h any_instance ∙ sym (k any_instance)
-one_text one held words (TooLong kind) text other told h k = h any_instance ∙ sym (k any_instance)
-one_text one held words (FileRefused why) text other told h k = h any_instance ∙ sym (k any_instance)
-one_text one held words (RosterRefused why) text other told h k = h any_instance ∙ sym (k any_instance)
+one_text one held words a text other told (inl h) (inl k) = h.1 any_instance ∙ sym (k.1 any_instance)
+one_text one held words a text other told (inl h) (inr k) = h.1 k.0 ∙ sym k.2
+one_text one held words a text other told (inr h) (inl k) = h.2 ∙ sym (k.1 h.0)
+one_text one held words a text other told (inr h) (inr k) =
+    let same : h.0 ≡ k.0 = same_problem one held words h.0 k.0 (there_by (held (problem_name words)) told.0) h.1 k.1 in
+    h.2 ∙ ap (λ (P : Instance). text_of P a) same ∙ sym k.2

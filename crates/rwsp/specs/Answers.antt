@@ -1,36 +1,50 @@
--- What each answer says of the words and of the files that they name, and when a file could not be read.
-use Rattle.std.specs.Prelude.{◌≡◌, ◌⊎◌, ℕ, List, Some}
+-- What each answer says.
+use Rattle.std.specs.Prelude.{◌≡◌, ◌⊎◌, ℕ, ◌<◌, ◌≤◌, List, Some}
 use Rattle.rwsp_io.specs.Told.{Told, Rose}
 use Rattle.rwsp_terms.specs.Instance.{Instance}
 use Rattle.rwsp_terms.specs.Roster.{MeetsAll}
-use Rattle.rwsp_terms.specs.Rules.{rule_of}
+use Rattle.rwsp_terms.specs.Rules.{Meets as MeetsRules}
 use Rattle.rwsp_terms.specs.declared.data.Symbol.{Symbol}
-use Rattle.rwsp_terms.specs.declared.data.Rule.{Rule}
 use Rattle.rwsp_file.specs.Reading.{file_refusal}
 use Rattle.roster_print.specs.RosterText.{SpellsRoster}
 use Rattle.roster_print.specs.Refusal.{refusal_of_roster}
 use Rattle.roster_checker.specs.FirstBroken.{IsFirstBroken}
-use Rattle.rwsp.specs.Commands.{Words, IsForm, HasNoForm, problem_name, second_name}
-use Rattle.rwsp.specs.Inputs.{WhereTold, IsShort, IsTooLong, OfProblem, OfBoth}
+use Rattle.refutation_terms.specs.Log.{Log as LogValue}
+use Rattle.refutation_terms.specs.Verdict.{IsAccepted, IsRefused}
+use Rattle.rwsp.specs.Commands.{Words, IsForm, HasNoForm, ReadsSecond, problem_name, second_name}
+use Rattle.rwsp.specs.Inputs.{WhereTold, IsShort, IsTooLong, OfProblem}
+use Rattle.rwsp.specs.Plans.{IsPlanned}
 use Rattle.rwsp.specs.declared.command.Command.{Command}
-use Rattle.rwsp.specs.declared.command.Command.TheVariants.{Verify, Show}
-use Rattle.rwsp.specs.declared.answer.InputKind.TheVariants.{Problem, Roster}
+use Rattle.rwsp.specs.declared.command.Command.TheVariants.{Plan, Check, Verify, Show}
+use Rattle.rwsp.specs.declared.answer.InputKind.TheVariants.{Problem, Roster, Log}
 use Rattle.rwsp.specs.declared.answer.Answer.{Answer}
-use Rattle.rwsp.specs.declared.answer.Answer.TheVariants.{Meets, Shown, Breaks, RosterRefused, Usage, FileRefused, TooLong}
+use Rattle.rwsp.specs.declared.answer.Answer.TheVariants.{Meets, Breaks, RosterRefused, Accepted, LogRefused, Shown, Usage, FileRefused, TooLong}
 
 -- what an answer says of the bytes of a problem file
 abbrev pub IsFileAnswer : Answer → List ℕ → Type 0
-IsFileAnswer (TooLong Problem) file = IsTooLong file
-IsFileAnswer (FileRefused why) file = IsShort file × (file_refusal file ≡ Some why)
+IsFileAnswer (TooLong Problem) file = IsTooLong Problem file
+IsFileAnswer (FileRefused why) file = IsShort Problem file × (file_refusal file ≡ Some why)
 IsFileAnswer answer file = ⊥
+
+-- no roster meets the rules
+abbrev pub LeavesNoRoster : Instance → List ℕ → Type 0
+LeavesNoRoster P R = (s : List Symbol) → MeetsRules P R s → ⊥
 
 -- what an answer says of an instance and the bytes of a roster
 abbrev pub IsRosterAnswer : Answer → Instance → List ℕ → Type 0
-IsRosterAnswer (TooLong Roster) P bytes = IsTooLong bytes
-IsRosterAnswer (RosterRefused why) P bytes = IsShort bytes × (refusal_of_roster P bytes ≡ Some why)
-IsRosterAnswer Meets P bytes = IsShort bytes × ((s : List Symbol) × SpellsRoster P bytes s × MeetsAll P s)
-IsRosterAnswer (Breaks broken) P bytes = IsShort bytes × ((s : List Symbol) × SpellsRoster P bytes s × IsFirstBroken P s broken)
+IsRosterAnswer (TooLong Roster) P bytes = IsTooLong Roster bytes
+IsRosterAnswer (RosterRefused why) P bytes = IsShort Roster bytes × (refusal_of_roster P bytes ≡ Some why)
+IsRosterAnswer Meets P bytes = IsShort Roster bytes × ((s : List Symbol) × SpellsRoster P bytes s × MeetsAll P s)
+IsRosterAnswer (Breaks broken) P bytes = IsShort Roster bytes × ((s : List Symbol) × SpellsRoster P bytes s × IsFirstBroken P s broken)
 IsRosterAnswer answer P bytes = ⊥
+
+-- what an answer says of an instance and the bytes of a log: accepted are the rules that the header of a log names which passes, and
+-- no roster meets them
+abbrev pub IsLogAnswer : Answer → Instance → List ℕ → Type 0
+IsLogAnswer (TooLong Log) P bytes = IsTooLong Log bytes
+IsLogAnswer (LogRefused why) P bytes = IsShort Log bytes × IsRefused P bytes why
+IsLogAnswer (Accepted R) P bytes = IsShort Log bytes × ((g : LogValue) × IsAccepted P bytes g × (g.named ≡ R)) × LeavesNoRoster P R
+IsLogAnswer answer P bytes = ⊥
 
 -- an answer that the problem's file has by itself
 abbrev pub IsOfFile : Answer → Type 0
@@ -46,39 +60,35 @@ IsOfRoster Meets = Unit {0}
 IsOfRoster (Breaks broken) = Unit {0}
 IsOfRoster answer = ⊥
 
--- a broken rule is one of the instance
-abbrev pub NamesRule : Instance → Answer → Type 0
-NamesRule P (Breaks broken) = (r : Rule) × (rule_of P broken.rule ≡ Some r)
-NamesRule P answer = Unit {0}
+-- an answer that a log has
+abbrev pub IsOfLog : Answer → Type 0
+IsOfLog (TooLong Log) = Unit {0}
+IsOfLog (LogRefused why) = Unit {0}
+IsOfLog (Accepted R) = Unit {0}
+IsOfLog answer = ⊥
 
--- the words have a form, and the problem's file has the answer
-abbrev pub EndsAtFile : (List ℕ → Told) → Words → Answer → Type 0
-EndsAtFile held words answer = ((command : Command) × IsForm words command) × WhereTold (held (problem_name words)) (IsFileAnswer answer)
+-- what the answer to a command says of the instance that the first file spells, and of what the second file tells
+abbrev pub IsAnswerOn : Command → Told → Instance → Answer → Type 0
+IsAnswerOn Show told P answer = answer ≡ Shown
+IsAnswerOn Verify told P answer = IsOfRoster answer × WhereTold told (IsRosterAnswer answer P)
+IsAnswerOn (Check workers) told P answer = IsOfLog answer × WhereTold told (IsLogAnswer answer P)
+IsAnswerOn (Plan budget) told P answer = IsPlanned P budget answer
 
--- the words are `verify` and two files, and the roster has the answer
-abbrev pub EndsAtRoster : (List ℕ → Told) → Words → Answer → Type 0
-EndsAtRoster held words answer = IsForm words Verify × OfBoth held words (IsRosterAnswer answer)
-
--- what an answer on a problem says, where the second file tells this: the problem was printed, or the roster has the answer
-abbrev pub IsAnswerOn : Told → Words → Instance → Answer → Type 0
-IsAnswerOn told words P answer =
-    (IsForm words Show × (answer ≡ Shown))
-    ⊎ (IsForm words Verify × IsOfRoster answer × WhereTold told (IsRosterAnswer answer P))
+-- the problem's file ends the job, or it spells an instance and the command has this answer there
+abbrev pub IsAnswerTo : Command → (List ℕ → Told) → Words → Answer → Type 0
+IsAnswerTo command held words answer =
+    (IsOfFile answer × WhereTold (held (problem_name words)) (IsFileAnswer answer))
+    ⊎ OfProblem held words (λ P. IsAnswerOn command (held (second_name words)) P answer)
 
 -- what is so where an answer comes
 abbrev pub IsAnswer : (List ℕ → Told) → Words → Answer → Type 0
-IsAnswer held words Usage = HasNoForm words
-IsAnswer held words (TooLong Problem) = EndsAtFile held words (TooLong Problem)
-IsAnswer held words (FileRefused why) = EndsAtFile held words (FileRefused why)
-IsAnswer held words (TooLong Roster) = EndsAtRoster held words (TooLong Roster)
-IsAnswer held words (RosterRefused why) = EndsAtRoster held words (RosterRefused why)
-IsAnswer held words Meets = EndsAtRoster held words Meets
-IsAnswer held words (Breaks broken) = EndsAtRoster held words (Breaks broken)
-IsAnswer held words Shown = IsForm words Show × OfProblem held words (λ P. Unit {0})
+IsAnswer held words answer =
+    (HasNoForm words × (answer ≡ Usage))
+    ⊎ ((command : Command) × IsForm words command × IsAnswerTo command held words answer)
 
--- a file could not be read: the count of the problem's file has risen, or that file spells a problem and the count of the roster's has risen
+-- a file could not be read: the count of the problem's file has risen, or that file spells a problem and the count of the second file has risen
 abbrev pub IsReadFault : (List ℕ → Told) → (before now : List ℕ → ℕ) → Words → Type 0
 IsReadFault held before now words =
-    ((command : Command) × IsForm words command)
+    (command : Command) × IsForm words command
     × (Rose (before (problem_name words)) (now (problem_name words))
-    ⊎ (IsForm words Verify × OfProblem held words (λ _. Rose (before (second_name words)) (now (second_name words)))))
+    ⊎ (ReadsSecond command × OfProblem held words (λ P. Rose (before (second_name words)) (now (second_name words)))))

@@ -1,9 +1,10 @@
 -- The command lines that are accepted.
-use Rattle.std.specs.Prelude.{◌≡◌, ◌≢◌, ℕ, ◌<◌, List, [], ◌∷◌, length, slice_index, slice_get, Option, Some, None, String, codes}
+use Rattle.std.specs.Prelude.{◌≡◌, ◌≢◌, ℕ, ◌<◌, ◌≤◌, List, [], ◌∷◌, length, slice_index, slice_get, Option, Some, None, String, codes}
 use Rattle.std.specs.String.{string_bytes}
 use Rattle.std.specs.declared.alloc.Global.{Global}
+use Rattle.rwsp_text.specs.Numbers.{number_of}
 use Rattle.rwsp.specs.declared.command.Command.{Command}
-use Rattle.rwsp.specs.declared.command.Command.TheVariants.{Verify, Show}
+use Rattle.rwsp.specs.declared.command.Command.TheVariants.{Plan, Check, Verify, Show}
 
 -- the words behind the program's name
 abbrev pub Words : Type 0
@@ -13,15 +14,43 @@ Words = List (String Global)
 abbrev pub IsFileWord : List ℕ → Type 0
 IsFileWord word = (0 < length word) × (slice_index word 0 ≢ 45)
 
+-- a number of 1 to 9 digits, from 1 to a limit
+abbrev pub IsCount : List ℕ → ℕ → ℕ → Type 0
+IsCount word limit n = (number_of word ≡ Some n) × (1 ≤ n) × (n ≤ limit)
+
+-- a budget that isn't given, and the greatest that may be
+abbrev pub usual_budget : ℕ
+usual_budget = 20000
+
+abbrev pub greatest_budget : ℕ
+greatest_budget = 200000
+
+-- workers that aren't given, and the most that may be
+abbrev pub usual_workers : ℕ
+usual_workers = 4
+
+abbrev pub most_workers : ℕ
+most_workers = 64
+
 -- the words are a form of the command
 abbrev pub IsForm : Words → Command → Type 0
-IsForm (word ∷ file ∷ second ∷ []) Verify = (string_bytes word ≡ codes "verify") × IsFileWord (string_bytes file) × IsFileWord (string_bytes second)
 IsForm (word ∷ file ∷ []) Show = (string_bytes word ≡ codes "show") × IsFileWord (string_bytes file)
+IsForm (word ∷ file ∷ []) (Plan budget) = (string_bytes word ≡ codes "plan") × IsFileWord (string_bytes file) × (budget ≡ usual_budget)
+IsForm (word ∷ file ∷ second ∷ []) Verify = (string_bytes word ≡ codes "verify") × IsFileWord (string_bytes file) × IsFileWord (string_bytes second)
+IsForm (word ∷ file ∷ second ∷ []) (Check workers) = (string_bytes word ≡ codes "check") × IsFileWord (string_bytes file) × IsFileWord (string_bytes second) × (workers ≡ usual_workers)
+IsForm (word ∷ file ∷ option ∷ number ∷ []) (Plan budget) = (string_bytes word ≡ codes "plan") × IsFileWord (string_bytes file) × (string_bytes option ≡ codes "--budget") × IsCount (string_bytes number) greatest_budget budget
+IsForm (word ∷ file ∷ second ∷ option ∷ number ∷ []) (Check workers) = (string_bytes word ≡ codes "check") × IsFileWord (string_bytes file) × IsFileWord (string_bytes second) × (string_bytes option ≡ codes "--workers") × IsCount (string_bytes number) most_workers workers
 IsForm words command = ⊥
 
 -- the words are a form of no command
 abbrev pub HasNoForm : Words → Type 0
 HasNoForm words = (command : Command) → IsForm words command → ⊥
+
+-- the command reads a second file
+abbrev pub ReadsSecond : Command → Type 0
+ReadsSecond Verify = Unit {0}
+ReadsSecond (Check workers) = Unit {0}
+ReadsSecond command = ⊥
 
 abbrev pub bytes_in : Option (String Global) → List ℕ
 bytes_in None = []
@@ -31,6 +60,6 @@ bytes_in (Some word) = string_bytes word
 abbrev pub problem_name : Words → List ℕ
 problem_name words = bytes_in (slice_get words 1)
 
--- the name of the roster's file
+-- the name of the second file
 abbrev pub second_name : Words → List ℕ
 second_name words = bytes_in (slice_get words 2)

@@ -10,7 +10,7 @@ use Rattle.rwsp.specs.declared.input.Exit.TheVariants.{Answer as Answers, ReadFa
 
 -- while a file was read: the file is too long, or its count has risen
 abbrev pub IsReadExit : Told → Type 0 → InputKind → Exit → Type 0
-IsReadExit told rose kind (Answers answer) = (answer ≡ TooLong kind) × WhereTold told IsTooLong
+IsReadExit told rose kind (Answers answer) = (answer ≡ TooLong kind) × WhereTold told (IsTooLong kind)
 IsReadExit told rose kind ReadFault = rose
 IsReadExit told rose kind Memory = Unit {0}
 
@@ -20,8 +20,8 @@ IsProblemExit told rose (Answers answer) = IsOfFile answer × WhereTold told (Is
 IsProblemExit told rose ReadFault = rose
 IsProblemExit told rose Memory = Unit {0}
 
--- while a roster was read
-abbrev pub IsRosterExit : Type 0 → Exit → Type 0
-IsRosterExit rose (Answers answer) = ⊥
-IsRosterExit rose ReadFault = rose
-IsRosterExit rose Memory = Unit {0}
+-- while the second file was read
+abbrev pub IsSecondExit : Type 0 → Exit → Type 0
+IsSecondExit rose (Answers answer) = ⊥
+IsSecondExit rose ReadFault = rose
+IsSecondExit rose Memory = Unit {0}

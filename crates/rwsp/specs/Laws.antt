@@ -1,19 +1,52 @@
--- That no two answers fit one command line over files that are told.
-use Rattle.std.specs.Prelude.{◌≡◌, ◌≢◌, ℕ, List}
-use Rattle.rwsp_io.specs.Told.{Told, Silent}
-use Rattle.rwsp.specs.Commands.{Words, problem_name, second_name}
-use Rattle.rwsp.specs.Answers.{IsAnswer}
-use Rattle.rwsp.specs.Texts.{IsTextOf}
+-- What answers fit a command line over files that are told.
+use Rattle.std.specs.Prelude.{◌≡◌, ◌≢◌, ◌⊎◌, ℕ, List, Ok}
+use Rattle.rwsp_io.specs.Told.{Told, Silent, Bytes}
+use Rattle.rwsp_terms.specs.Instance.{Instance}
+use Rattle.rwsp_file.specs.Spelling.{SpellsProblem}
+use Rattle.refutation_terms.specs.Log.{Log}
+use Rattle.rwsp.specs.Commands.{Words, IsForm, problem_name, second_name}
+use Rattle.rwsp.specs.Inputs.{IsShort}
+use Rattle.rwsp.specs.Plans.{IsPlanned}
+use Rattle.rwsp.specs.Answers.{IsAnswer, IsAnswerOn, IsOfLog, IsLogAnswer}
+use Rattle.rwsp.specs.Texts.{IsTextOf, text_of}
+use Rattle.rwsp.specs.declared.command.Command.{Command}
+use Rattle.rwsp.specs.declared.answer.InputKind.TheVariants as Kinds
 use Rattle.rwsp.specs.declared.answer.Answer.{Answer}
+use Rattle.rwsp.specs.declared.answer.Answer.TheVariants.{Roster, NoRoster, Undecided, Accepted}
 
 -- the shelf tells what both files hold, or that they aren't there
 abbrev pub AreTold : (List ℕ → Told) → Words → Type 0
 AreTold held words = (held (problem_name words) ≢ Silent) × (held (second_name words) ≢ Silent)
 
--- two answers to the same words over the same files are equal
-abbrev pub AnswersAreOne : Type 0
-AnswersAreOne = (held : List ℕ → Told) (words : Words) (a b : Answer) → AreTold held words → IsAnswer held words a → IsAnswer held words b → a ≡ b
+-- an answer that a search gives, which is free to choose among those that are right
+abbrev pub IsFound : Answer → Type 0
+IsFound (Roster s) = Unit {0}
+IsFound (NoRoster g) = Unit {0}
+IsFound (Undecided g) = Unit {0}
+IsFound answer = ⊥
 
--- and so are their texts
+-- two answers to the same words over the same files are equal, or both are what a search gives
+abbrev pub AnswersAreOne : Type 0
+AnswersAreOne =
+    (held : List ℕ → Told) (words : Words) (a b : Answer) → AreTold held words → IsAnswer held words a → IsAnswer held words b
+    → (a ≡ b) ⊎ (IsFound a × IsFound b)
+
+-- an answer has one text
 abbrev pub TextsAreOne : Type 0
-TextsAreOne = (held : List ℕ → Told) (words : Words) (a : Answer) (text other : List ℕ) → AreTold held words → IsTextOf held words a text → IsTextOf held words a other → text ≡ other
+TextsAreOne =
+    (held : List ℕ → Told) (words : Words) (a : Answer) (text other : List ℕ) → AreTold held words → IsTextOf held words a text → IsTextOf held words a other
+    → text ≡ other
+
+-- where the words are a form of a command and the first file spells an instance, an answer is one of the command's there
+abbrev pub ProblemsAreAnswered : Type 0
+ProblemsAreAnswered =
+    (held : List ℕ → Told) (words : Words) (command : Command) (file : List ℕ) (P : Instance) (a : Answer)
+    → IsForm words command → held (problem_name words) ≡ Bytes file → IsShort Kinds.Problem file → SpellsProblem file P → IsAnswer held words a
+    → IsAnswerOn command (held (second_name words)) P a
+
+-- the text of a refutation that `plan` writes for what a file spells is accepted by `check` over that file, with the rules that it names
+abbrev pub RefutationsAreAccepted : Type 0
+RefutationsAreAccepted =
+    (file : List ℕ) (P : Instance) (budget : ℕ) (g : Log) (a : Answer)
+    → SpellsProblem file P → IsPlanned P budget (NoRoster g) → IsShort Kinds.Log (text_of P (NoRoster g)) → IsOfLog a → IsLogAnswer a P (text_of P (NoRoster g))
+    → a ≡ Accepted g.named

@@ -1,5 +1,6 @@
 pub mod Commands
 pub mod Inputs
+pub mod Plans
 pub mod Answers
 pub mod Exits
 pub mod Texts

@@ -1,23 +1,32 @@
 -- The texts of the answers.
-use Rattle.std.specs.Prelude.{◌≡◌, ℕ, List, [], ◌∷◌, ◌++◌, codes, Option, Some, None}
+use Rattle.std.specs.Prelude.{◌≡◌, ◌⊎◌, ℕ, List, [], ◌∷◌, ◌++◌, codes, Option, Some, None, All}
+use Rattle.std.specs.List.{flat_map}
 use Rattle.std.specs.Fmt.{decimal}
 use Rattle.rwsp_io.specs.Told.{Told}
-use Rattle.rwsp_terms.specs.Instance.{Instance}
+use Rattle.rwsp_terms.specs.Instance.{Instance, IsSymbol, name_of}
+use Rattle.rwsp_terms.specs.Roster.{IsRoster}
 use Rattle.rwsp_terms.specs.Rules.{rule_of}
+use Rattle.rwsp_terms.specs.declared.data.Symbol.{Symbol}
 use Rattle.rwsp_terms.specs.declared.data.Rule.{Rule}
 use Rattle.rwsp_terms.specs.declared.data.Rule.TheVariants.{Day}
 use Rattle.rwsp_file.specs.Text.{problem_text}
 use Rattle.rwsp_file.specs.declared.refusal.FileRefusal.{FileRefusal}
 use Rattle.rwsp_file.specs.declared.refusal.FileRefusal.TheVariants.{Ends, Number, Range, Row, Name, Unknown, Extra}
+use Rattle.roster_print.specs.RosterText.{roster_text}
 use Rattle.roster_print.specs.RuleText.{rule_text}
 use Rattle.roster_print.specs.declared.refusal.RosterRefusal.{RosterRefusal}
 use Rattle.roster_print.specs.declared.refusal.RosterRefusal.TheVariants.{Unknown as UnknownName, Width, Weeks}
 use Rattle.roster_checker.specs.declared.broken.Broken.{Broken}
+use Rattle.refutation_terms.specs.declared.lines.LogRefusal.{LogRefusal}
+use Rattle.refutation_terms.specs.declared.lines.LogRefusal.TheVariants as Refusals
+use Rattle.refutation_terms.specs.Log.{Fits}
+use Rattle.refutation_terms.specs.LogText.{log_text}
 use Rattle.rwsp.specs.Commands.{Words}
 use Rattle.rwsp.specs.Inputs.{IsProblemOf}
-use Rattle.rwsp.specs.declared.answer.InputKind.TheVariants.{Problem, Roster}
+use Rattle.rwsp.specs.declared.answer.InputKind.{InputKind}
+use Rattle.rwsp.specs.declared.answer.InputKind.TheVariants as Kinds
 use Rattle.rwsp.specs.declared.answer.Answer.{Answer}
-use Rattle.rwsp.specs.declared.answer.Answer.TheVariants.{Meets, Shown, Breaks, RosterRefused, Usage, FileRefused, TooLong}
+use Rattle.rwsp.specs.declared.answer.Answer.TheVariants.{Roster, NoRoster, Undecided, Accepted, LogRefused, Meets, Shown, Breaks, RosterRefused, Usage, FileRefused, TooLong}
 
 -- the text and a line feed
 abbrev pub line : List ℕ → List ℕ
@@ -41,6 +50,27 @@ roster_refusal_text (UnknownName number) = at_line (codes "roster refused: unkno
 roster_refusal_text (Width number) = at_line (codes "roster refused: width") number
 roster_refusal_text (Weeks count) = codes "roster refused: weeks " ++ decimal count
 
+-- the symbols of a word by their names, each behind a blank
+abbrev pub word_text : Instance → List Symbol → List ℕ
+word_text P w = flat_map (λ x. 32 ∷ name_of P x) w
+
+abbrev pub log_refusal_text : Instance → LogRefusal → List ℕ
+log_refusal_text P (Refusals.Form number) = at_line (codes "log refused: form") number
+log_refusal_text P (Refusals.Name number) = at_line (codes "log refused: name") number
+log_refusal_text P (Refusals.Unnamed number rule) = at_line (codes "log refused: unnamed " ++ decimal rule) number
+log_refusal_text P (Refusals.Idle number) = at_line (codes "log refused: idle") number
+log_refusal_text P (Refusals.Long number rule) = at_line (codes "log refused: long " ++ decimal rule) number
+log_refusal_text P (Refusals.Fails number) = at_line (codes "log refused: fails") number
+log_refusal_text P (Refusals.Escape number w) = at_line (codes "log refused: escape") number ++ codes ":" ++ word_text P w
+log_refusal_text P (Refusals.Unfinished number) = at_line (codes "log refused: open") number
+log_refusal_text P Refusals.Ends = codes "log refused: ends"
+log_refusal_text P (Refusals.Extra number) = at_line (codes "log refused: extra") number
+log_refusal_text P (Refusals.Turn number) = at_line (codes "log refused: turn") number
+
+-- the numbers of the rules, each behind a blank
+abbrev pub accepted_text : List ℕ → List ℕ
+accepted_text R = codes "accepted: rules" ++ flat_map (λ k. 32 ∷ decimal k) R
+
 -- where a window begins and how long it is; the rule of a day has no such place
 abbrev pub place_text : Rule → Broken → List ℕ
 place_text (Day day) broken = []
@@ -56,25 +86,57 @@ breaks_text P broken = codes "breaks rule " ++ decimal broken.rule ++ codes " " 
 abbrev pub usage_text : List ℕ
 usage_text = codes "usage: rwsp plan FILE [--budget B] | check FILE LOG [--workers N] | verify FILE ROSTER | reduce FILE LOG | show FILE | trial NUMBER WEEKS"
 
+abbrev pub kind_text : InputKind → List ℕ
+kind_text Kinds.Problem = codes "too long: problem"
+kind_text Kinds.Roster = codes "too long: roster"
+kind_text Kinds.Log = codes "too long: log"
+
 -- an answer whose text is the same for every instance
 abbrev pub HasFixedText : Answer → Type 0
+HasFixedText (Roster s) = ⊥
+HasFixedText (NoRoster g) = ⊥
+HasFixedText (Undecided g) = ⊥
+HasFixedText (LogRefused why) = ⊥
 HasFixedText (Breaks broken) = ⊥
 HasFixedText Shown = ⊥
 HasFixedText answer = Unit {0}
 
+-- the same, and it lists nothing
+abbrev pub HasFixedLine : Answer → Type 0
+HasFixedLine (Accepted R) = ⊥
+HasFixedLine answer = HasFixedText answer
+
 -- the text of an answer, for the instance that the problem's file spells
 abbrev pub text_of : Instance → Answer → List ℕ
-text_of P Usage = line usage_text
-text_of P (TooLong Problem) = line (codes "too long: problem")
-text_of P (TooLong Roster) = line (codes "too long: roster")
-text_of P (FileRefused why) = line (file_refusal_text why)
-text_of P (RosterRefused why) = line (roster_refusal_text why)
+text_of P (Roster s) = roster_text P s.cells
+text_of P (NoRoster g) = log_text P g
+text_of P (Undecided g) = log_text P g
+text_of P (Accepted R) = line (accepted_text R)
+text_of P (LogRefused why) = line (log_refusal_text P why)
 text_of P Meets = line (codes "meets")
 text_of P (Breaks broken) = line (breaks_text P broken)
+text_of P (RosterRefused why) = line (roster_refusal_text why)
 text_of P Shown = problem_text P
+text_of P Usage = line usage_text
+text_of P (FileRefused why) = line (file_refusal_text why)
+text_of P (TooLong kind) = line (kind_text kind)
 
--- the text is the answer's; where it tells of an instance, for the one that the problem's file spells
+-- a word that escapes has symbols of the instance
+abbrev pub HasSymbols : Instance → LogRefusal → Type 0
+HasSymbols P (Refusals.Escape number w) = All (IsSymbol P) w
+HasSymbols P why = Unit {0}
+
+-- what an answer names is the instance's
+abbrev pub IsPrintable : Instance → Answer → Type 0
+IsPrintable P (Roster s) = (s.days ≡ P.days) × IsRoster P s.cells
+IsPrintable P (NoRoster g) = Fits P g
+IsPrintable P (Undecided g) = Fits P g
+IsPrintable P (LogRefused why) = HasSymbols P why
+IsPrintable P (Breaks broken) = (r : Rule) × (rule_of P broken.rule ≡ Some r)
+IsPrintable P answer = Unit {0}
+
+-- the text is the answer's, which is the same for every instance or is for the one that the problem's file spells
 abbrev pub IsTextOf : (List ℕ → Told) → Words → Answer → List ℕ → Type 0
-IsTextOf held words (Breaks broken) text = (P : Instance) × IsProblemOf held words P × (text ≡ text_of P (Breaks broken))
-IsTextOf held words Shown text = (P : Instance) × IsProblemOf held words P × (text ≡ text_of P Shown)
-IsTextOf held words answer text = (P : Instance) → text ≡ text_of P answer
+IsTextOf held words answer text =
+    (HasFixedText answer × ((P : Instance) → text ≡ text_of P answer))
+    ⊎ ((P : Instance) × IsProblemOf held words P × (text ≡ text_of P answer))

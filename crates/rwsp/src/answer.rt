@@ -1,28 +1,41 @@
 // What a run ends with.
 ghost use Rattle.std.specs.Prelude.{◌≡◌};
 
+use refutation_log::{Log, LogRefusal};
 use roster_checker::Broken;
 use roster_print::RosterRefusal;
 use rwsp_file::FileRefusal;
+use rwsp_model::{Roster, RuleList};
 
 /// Which input is too long.
 #[derive(Clone, Copy, Debug, PartialEq, Eq)]
 pub enum InputKind {
     Problem,
     Roster,
+    Log,
 }
 
 /// The answer to a command line.
-#[derive(Debug, PartialEq, Drop)]
+#[derive(Debug, Drop)]
 pub enum Answer {
+    /// A roster that meets every rule.
+    Roster(Roster),
+    /// There is none, as this log shows, which passes.
+    NoRoster(Log),
+    /// The whole budget was spent on the lines of this log.
+    Undecided(Log),
+    /// The log passes: no roster meets these rules, which it names.
+    Accepted(RuleList),
+    /// The second file is no log that passes: its first line with a cause, and the lowest cause there.
+    LogRefused(LogRefusal),
     /// The roster meets every rule.
     Meets,
     /// The roster breaks a rule: the first one, and where.
     Breaks(Broken),
-    /// The problem was printed in its canonical form.
-    Shown,
     /// The second file is no roster of the problem.
     RosterRefused(RosterRefusal),
+    /// The problem was printed in its canonical form.
+    Shown,
     /// The words are no command.
     Usage,
     /// The first file is no problem.
@@ -32,7 +45,7 @@ pub enum Answer {
 }
 
 /// How a run ended.
-#[derive(Debug, PartialEq, Drop)]
+#[derive(Debug, Drop)]
 pub enum Outcome {
     /// The text of the answer was written.
     Done(Answer),
@@ -52,14 +65,28 @@ impl Outcome {
         ensures { result ≡ status_of self.now }
     {
         match self {
-            Outcome::Done(Answer::Meets | Answer::Shown) => 0,
-            Outcome::Done(Answer::Usage) => 2,
-            Outcome::Done(Answer::FileRefused(_) | Answer::RosterRefused(_) | Answer::TooLong(_)) =>
-                3,
-            Outcome::Done(Answer::Breaks(_)) => 5,
+            Outcome::Done(answer) => answer.status(),
             Outcome::ReadFault => 6,
             Outcome::WriteFault(_) => 7,
             Outcome::Memory => 8,
+        }
+    }
+}
+
+impl Answer {
+    ghost use Rattle.rwsp.specs.Status.{status_of_answer};
+
+    // The status where its text was written.
+    fn status(&self) -> u8
+        ensures { result ≡ status_of_answer self.now }
+    {
+        match self {
+            Answer::Roster(_) | Answer::Accepted(_) | Answer::Meets | Answer::Shown => 0,
+            Answer::NoRoster(_) => 1,
+            Answer::Usage => 2,
+            Answer::FileRefused(_) | Answer::RosterRefused(_) | Answer::TooLong(_) => 3,
+            Answer::Undecided(_) => 4,
+            Answer::LogRefused(_) | Answer::Breaks(_) => 5,
         }
     }
 }

@@ -1,15 +1,31 @@
 // The words of the command line.
-ghost use Rattle.std.specs.Prelude.{◌≡◌, ◌≢◌, ℕ, ◌<◌, ◌↔◌, length, IsTrue, MatchOption, slice_get};
-ghost use Rattle.rwsp.specs.Commands.{IsFileWord, IsForm, HasNoForm, bytes_in};
+ghost use Rattle.std.specs.Prelude.{◌≡◌, ◌≢◌, ℕ, ◌<◌, ◌≤◌, ◌↔◌, List, [], ◌∷◌, length, IsTrue, MatchOption, slice_get};
+ghost use Rattle.rwsp.specs.Commands.{IsFileWord, IsCount, IsForm, HasNoForm, bytes_in, usual_budget, greatest_budget, usual_workers, most_workers};
+
+use rwsp_text::number;
 
 /// What is to be done. The names of files are words of their own.
 #[derive(Clone, Copy, Debug, PartialEq, Eq)]
 pub enum Command {
+    /// A roster for a problem, or the log of a refutation of at most so many lines.
+    Plan { budget: u32 },
+    /// Whether a log passes, by so many workers.
+    Check { workers: u32 },
     /// Whether a roster meets all rules of a problem.
     Verify,
     /// The canonical text of a problem.
     Show,
 }
+
+/// The budget of `plan` where none is given, and the greatest.
+const USUAL_BUDGET: u32 = 20_000;
+
+const GREATEST_BUDGET: u32 = 200_000;
+
+/// The workers of `check` where none are given, and the most.
+const USUAL_WORKERS: u32 = 4;
+
+const MOST_WORKERS: u32 = 64;
 
 fn is_file_word(word: &str) -> bool
     ensures { IsTrue result ↔ IsFileWord word.now }
@@ -18,29 +34,107 @@ fn is_file_word(word: &str) -> bool
     !bytes.is_empty() && bytes[0] != b'-'
 }
 
+// The number that the word spells, where it is from 1 to the limit.
+fn count_in(word: &str, limit: u32) -> Option<u32>
+    ensures { MatchOption result ((n : ℕ) → IsCount word.now limit n → ⊥) (IsCount word.now limit) }
+{
+    let n = number(word.as_bytes())?;
+    if 1 <= n && n <= limit { Some(n) } else { None }
+}
+
 /// The command that the words are a form of; None exactly where they are a form of none. Takes no memory.
 pub fn command_of(words: &Vec<String>) -> Option<Command>
     ensures { MatchOption result (HasNoForm words.now.items) (IsForm words.now.items) }
 {
     match words.as_slice() {
-        [word, file] => {
-            let show = word.as_str() == "show";
-            if show && is_file_word(file.as_str()) {
-                Some(Command::Show)
-            } else {
-                None
-            }
-        }
-        [word, file, second] => {
-            let verify = word.as_str() == "verify";
-            if verify && is_file_word(file.as_str()) && is_file_word(second.as_str()) {
-                Some(Command::Verify)
-            } else {
-                None
-            }
-        }
+        [word, file] => on_one_file(word, file),
+        [word, file, second] => on_two_files(word, file, second),
+        [word, file, option, number] => plan_by_option(word, file, option, number),
+        [word, file, second, option, number] => check_by_option(word, file, second, option, number),
         _ => None,
     }
+}
+
+// A command with the problem's file alone.
+fn on_one_file(word: &String, file: &String) -> Option<Command>
+    ensures { MatchOption result (HasNoForm (word.now ∷ file.now ∷ [])) (IsForm (word.now ∷ file.now ∷ [])) }
+{
+    if !is_file_word(file.as_str()) {
+        return None;
+    }
+    if word.as_str() == "show" {
+        Some(Command::Show)
+    } else if word.as_str() == "plan" {
+        Some(Command::Plan {
+            budget: USUAL_BUDGET,
+        })
+    } else {
+        None
+    }
+}
+
+// A command with a second file.
+fn on_two_files(word: &String, file: &String, second: &String) -> Option<Command>
+    ensures { MatchOption result (HasNoForm (word.now ∷ file.now ∷ second.now ∷ [])) (IsForm (word.now ∷ file.now ∷ second.now ∷ [])) }
+{
+    if !is_file_word(file.as_str()) {
+        return None;
+    }
+    if !is_file_word(second.as_str()) {
+        return None;
+    }
+    if word.as_str() == "verify" {
+        Some(Command::Verify)
+    } else if word.as_str() == "check" {
+        Some(Command::Check {
+            workers: USUAL_WORKERS,
+        })
+    } else {
+        None
+    }
+}
+
+// `plan` with a budget.
+fn plan_by_option(word: &String, file: &String, option: &String, number: &String) -> Option<Command>
+    ensures { MatchOption result (HasNoForm (word.now ∷ file.now ∷ option.now ∷ number.now ∷ [])) (IsForm (word.now ∷ file.now ∷ option.now ∷ number.now ∷ [])) }
+{
+    if word.as_str() != "plan" {
+        return None;
+    }
+    if !is_file_word(file.as_str()) {
+        return None;
+    }
+    if option.as_str() != "--budget" {
+        return None;
+    }
+    let budget = count_in(number.as_str(), GREATEST_BUDGET)?;
+    Some(Command::Plan { budget })
+}
+
+// `check` with a number of workers.
+fn check_by_option(
+    word: &String,
+    file: &String,
+    second: &String,
+    option: &String,
+    number: &String,
+) -> Option<Command>
+    ensures { MatchOption result (HasNoForm (word.now ∷ file.now ∷ second.now ∷ option.now ∷ number.now ∷ [])) (IsForm (word.now ∷ file.now ∷ second.now ∷ option.now ∷ number.now ∷ [])) }
+{
+    if word.as_str() != "check" {
+        return None;
+    }
+    if !is_file_word(file.as_str()) {
+        return None;
+    }
+    if !is_file_word(second.as_str()) {
+        return None;
+    }
+    if option.as_str() != "--workers" {
+        return None;
+    }
+    let workers = count_in(number.as_str(), MOST_WORKERS)?;
+    Some(Command::Check { workers })
 }
 
 /// The word at a place, counted from 0.

@@ -2,15 +2,19 @@
 #![tactic(auto)]
 
 mod answer;
+mod check;
 mod command;
 mod input;
 mod laws;
+mod log_text;
+mod plan;
 mod run;
 #[cfg(test)]
 mod tests;
 mod text;
 mod verify;
 
+use potential_bounds::NoGate;
 use rwsp_io::{RealShelf, RealSink};
 use std::env;
 use std::io::ErrorKind;
@@ -36,6 +40,6 @@ fn main(rt: HostRuntime) -> ExitCode {
     }
     let mut shelf = RealShelf::new(&rt);
     let mut out = RealSink::new(&rt);
-    let outcome = run::run(&rt, rt.alloc(), &words, &mut shelf, &mut out);
+    let outcome = run::run(&rt, rt.alloc(), &words, &mut shelf, &mut out, &NoGate);
     ExitCode::from(outcome.status())
 }

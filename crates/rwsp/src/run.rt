@@ -4,14 +4,17 @@ ghost use Rattle.std.specs.Io.KnownBytes.{Appends, Keeps};
 ghost use Rattle.rwsp_io.specs.Told.{Rose, NeverFall};
 ghost use Rattle.rwsp_terms.specs.Instance.{Instance};
 ghost use Rattle.rwsp.specs.Answers.{IsAnswer, IsAnswerOn, IsReadFault};
-ghost use Rattle.rwsp.specs.Commands.{IsForm, second_name};
-ghost use Rattle.rwsp.specs.Texts.{IsTextOf, HasFixedText, text_of};
+ghost use Rattle.rwsp.specs.Commands.{IsForm, ReadsSecond, second_name};
+ghost use Rattle.rwsp.specs.Plans.{IsPlanned};
+ghost use Rattle.rwsp.specs.Texts.{IsTextOf, HasFixedText, IsPrintable, text_of};
 ghost use Rattle.rwsp.specs.declared.answer.Answer.{Answer};
 
 use crate::answer::{Answer, Outcome};
 use crate::command::{Command, command_of, word_at};
-use crate::input::{Exit, problem_in, roster_answer};
+use crate::input::{Exit, log_answer, problem_in, roster_answer};
+use crate::plan::planned;
 use crate::text::{fixed_text, text_on};
+use potential_bounds::Gate;
 use rwsp_io::{Shelf, Sink, write_all};
 use rwsp_model::Problem;
 use std::alloc::Global;
@@ -33,13 +36,14 @@ pub enum Stop {
 
 /// Answers the words of a command line, over the files of the shelf. The words are looked at first, then the problem's
 /// file, then the second file; a file behind an earlier refusal isn't read. The answer's whole text is composed before
-/// its first byte is put.
-pub fn run<R: Threads + Sync, S: Shelf, K: Sink>(
-    _rt: &R,
+/// its first byte is put. Workers pass the gate; no answer depends on it.
+pub fn run<R: Threads + Sync, S: Shelf, K: Sink, G: Gate>(
+    rt: &R,
     alloc: Global,
     words: &Vec<String>,
     shelf: &mut S,
     out: &mut K,
+    gate: &G,
 ) -> Outcome
     // What an answer says is so.
     ensures answer { (a : Answer) → result ≡ Outcome.Done a → IsAnswer (S.held shelf.old) words.now.items a }
@@ -55,7 +59,7 @@ pub fn run<R: Threads + Sync, S: Shelf, K: Sink>(
     ensures silent_at_fault { result ≡ Outcome.ReadFault → Keeps (K.got out.old) (K.got out.new) }
     ensures silent_without_memory { result ≡ Outcome.Memory → Keeps (K.got out.old) (K.got out.new) }
 {
-    let reply = match reply_to(alloc, words, shelf) {
+    let reply = match reply_to(rt, alloc, words, shelf, gate) {
         Ok(reply) => reply,
         Err(Stop::ReadFault) => return Outcome::ReadFault,
         Err(Stop::Memory) => return Outcome::Memory,
@@ -68,7 +72,13 @@ pub fn run<R: Threads + Sync, S: Shelf, K: Sink>(
 }
 
 // The answer to the words, with its text.
-fn reply_to<S: Shelf>(alloc: Global, words: &Vec<String>, shelf: &mut S) -> Result<Reply, Stop>
+fn reply_to<R: Threads + Sync, S: Shelf, G: Gate>(
+    rt: &R,
+    alloc: Global,
+    words: &Vec<String>,
+    shelf: &mut S,
+    gate: &G,
+) -> Result<Reply, Stop>
     ensures answer { IfOk result (λ r. IsAnswer (S.held shelf.old) words.now.items r.answer) }
     ensures text { IfOk result (λ r. IsTextOf (S.held shelf.old) words.now.items r.answer r.text.items) }
     ensures fault { IsErrOf result Stop.ReadFault → IsReadFault (S.held shelf.old) (S.faults shelf.old) (S.faults shelf.new) words.now.items }
@@ -82,27 +92,32 @@ fn reply_to<S: Shelf>(alloc: Global, words: &Vec<String>, shelf: &mut S) -> Resu
         Err(Exit::ReadFault) => return Err(Stop::ReadFault),
         Err(Exit::Memory) => return Err(Stop::Memory),
     };
-    reply_on(alloc, words, shelf, &problem, command)
+    let answer = answer_on(rt, alloc, words, shelf, &problem, command, gate)?;
+    printed(alloc, &problem, answer)
 }
 
-// The reply to a command, for its problem.
-fn reply_on<S: Shelf>(
+// The answer to a command, for its problem.
+fn answer_on<R: Threads + Sync, S: Shelf, G: Gate>(
+    rt: &R,
     alloc: Global,
     words: &Vec<String>,
     shelf: &mut S,
     problem: &Problem,
     command: Command,
-) -> Result<Reply, Stop>
+    gate: &G,
+) -> Result<Answer, Stop>
     requires { IsForm words.now.items command }
-    ensures answer { IfOk result (λ r. IsAnswerOn (S.held shelf.old (second_name words.now.items)) words.now.items problem.now r.answer) }
-    ensures text { IfOk result (λ r. r.text.items ≡ text_of problem.now r.answer) }
-    ensures form { IsErrOf result Stop.ReadFault → IsForm words.now.items Command.Verify }
+    ensures answer { IfOk result (IsAnswerOn command (S.held shelf.old (second_name words.now.items)) problem.now) }
+    ensures printable { IfOk result (IsPrintable problem.now) }
+    ensures second { IsErrOf result Stop.ReadFault → ReadsSecond command }
     ensures fault { IsErrOf result Stop.ReadFault → Rose (S.faults shelf.old (second_name words.now.items)) (S.faults shelf.new (second_name words.now.items)) }
     ensures faults { NeverFall (S.faults shelf.old) (S.faults shelf.new) }
 {
     match command {
+        Command::Plan { budget } => plan(alloc, problem, budget),
+        Command::Check { workers } => check(rt, alloc, words, shelf, problem, workers, gate),
         Command::Verify => verify(alloc, words, shelf, problem),
-        Command::Show => show(alloc, problem),
+        Command::Show => Ok(Answer::Shown),
     }
 }
 
@@ -120,39 +135,72 @@ fn fixed(alloc: Global, answer: Answer) -> Result<Reply, Stop>
     }
 }
 
-// The reply to `verify` for a problem.
-fn verify<S: Shelf>(
-    alloc: Global,
-    words: &Vec<String>,
-    shelf: &mut S,
-    problem: &Problem,
-) -> Result<Reply, Stop>
-    requires { IsForm words.now.items Command.Verify }
-    ensures answer { IfOk result (λ r. IsAnswerOn (S.held shelf.old (second_name words.now.items)) words.now.items problem.now r.answer) }
+// The reply of an answer on a problem.
+fn printed(alloc: Global, problem: &Problem, answer: Answer) -> Result<Reply, Stop>
+    requires { IsPrintable problem.now answer }
+    ensures answer { IfOk result (λ r. r.answer ≡ answer) }
     ensures text { IfOk result (λ r. r.text.items ≡ text_of problem.now r.answer) }
-    ensures fault { IsErrOf result Stop.ReadFault → Rose (S.faults shelf.old (second_name words.now.items)) (S.faults shelf.new (second_name words.now.items)) }
-    ensures faults { NeverFall (S.faults shelf.old) (S.faults shelf.new) }
+    ensures fault { IsErrOf result Stop.ReadFault → ⊥ }
 {
-    let answer = match roster_answer(alloc, shelf, problem, word_at(words, 2)) {
-        Ok(answer) => answer,
-        Err(Exit::ReadFault) => return Err(Stop::ReadFault),
-        Err(_) => return Err(Stop::Memory),
-    };
     match text_on(alloc, problem, &answer) {
         Ok(text) => Ok(Reply { answer, text }),
         Err(_) => Err(Stop::Memory),
     }
 }
 
-// The reply to `show` for a problem.
-fn show(alloc: Global, problem: &Problem) -> Result<Reply, Stop>
-    ensures answer { IfOk result (λ r. r.answer ≡ Answer.Shown) }
-    ensures text { IfOk result (λ r. r.text.items ≡ text_of problem.now r.answer) }
+// The answer to `plan`.
+#[tactic(auto, using(crate::proofs::Logs::planned_printable))]
+fn plan(alloc: Global, problem: &Problem, budget: u32) -> Result<Answer, Stop>
+    requires { (1 ≤ budget) × (budget ≤ 200000) }
+    ensures answer { IfOk result (IsPlanned problem.now budget) }
+    ensures printable { IfOk result (IsPrintable problem.now) }
     ensures fault { IsErrOf result Stop.ReadFault → ⊥ }
 {
-    let answer = Answer::Shown;
-    match text_on(alloc, problem, &answer) {
-        Ok(text) => Ok(Reply { answer, text }),
+    match planned(alloc, problem, budget) {
+        Ok(answer) => Ok(answer),
+        Err(_) => Err(Stop::Memory),
+    }
+}
+
+// The answer to `check`.
+fn check<R: Threads + Sync, S: Shelf, G: Gate>(
+    rt: &R,
+    alloc: Global,
+    words: &Vec<String>,
+    shelf: &mut S,
+    problem: &Problem,
+    workers: u32,
+    gate: &G,
+) -> Result<Answer, Stop>
+    requires { IsForm words.now.items (Command.Check workers) }
+    ensures answer { IfOk result (IsAnswerOn (Command.Check workers) (S.held shelf.old (second_name words.now.items)) problem.now) }
+    ensures printable { IfOk result (IsPrintable problem.now) }
+    ensures fault { IsErrOf result Stop.ReadFault → Rose (S.faults shelf.old (second_name words.now.items)) (S.faults shelf.new (second_name words.now.items)) }
+    ensures faults { NeverFall (S.faults shelf.old) (S.faults shelf.new) }
+{
+    match log_answer(rt, alloc, shelf, problem, word_at(words, 2), workers, gate) {
+        Ok(answer) => Ok(answer),
+        Err(Exit::ReadFault) => Err(Stop::ReadFault),
+        Err(_) => Err(Stop::Memory),
+    }
+}
+
+// The answer to `verify`.
+fn verify<S: Shelf>(
+    alloc: Global,
+    words: &Vec<String>,
+    shelf: &mut S,
+    problem: &Problem,
+) -> Result<Answer, Stop>
+    requires { IsForm words.now.items Command.Verify }
+    ensures answer { IfOk result (IsAnswerOn Command.Verify (S.held shelf.old (second_name words.now.items)) problem.now) }
+    ensures printable { IfOk result (IsPrintable problem.now) }
+    ensures fault { IsErrOf result Stop.ReadFault → Rose (S.faults shelf.old (second_name words.now.items)) (S.faults shelf.new (second_name words.now.items)) }
+    ensures faults { NeverFall (S.faults shelf.old) (S.faults shelf.new) }
+{
+    match roster_answer(alloc, shelf, problem, word_at(words, 2)) {
+        Ok(answer) => Ok(answer),
+        Err(Exit::ReadFault) => Err(Stop::ReadFault),
         Err(_) => Err(Stop::Memory),
     }
 }

@@ -1,13 +1,14 @@
 // The texts of the answers.
-ghost use Rattle.std.specs.Prelude.{◌≡◌, ◌++◌, IfOk, OnOk};
+ghost use Rattle.std.specs.Prelude.{◌≡◌, ◌++◌, IfOk, OnOk, Some};
 ghost use Rattle.std.specs.String.{string_bytes};
 ghost use Rattle.rwsp_terms.specs.Instance.{Instance};
-ghost use Rattle.rwsp.specs.Answers.{NamesRule};
-ghost use Rattle.rwsp.specs.Texts.{text_of, place_text, line, file_refusal_text, roster_refusal_text, HasFixedText};
+ghost use Rattle.rwsp.specs.Texts.{text_of, place_text, line, file_refusal_text, roster_refusal_text, HasFixedText, HasFixedLine, IsPrintable};
 
 use crate::answer::{Answer, InputKind};
+use crate::log_text::{accepted_line, log_refusal_line};
+use refutation_log::print_log;
 use roster_checker::Broken;
-use roster_print::{RosterRefusal, put_rule};
+use roster_print::{RosterRefusal, print_roster, put_rule};
 use rwsp_file::{FileRefusal, print_problem};
 use rwsp_model::{Problem, Rule, rule_at};
 use rwsp_text::put_number;
@@ -47,17 +48,20 @@ fn roster_refusal_line(alloc: Global, refusal: RosterRefusal) -> Result<String, 
     }
 }
 
-/// The text of an answer that names no rule.
+/// The text of an answer that is the same for every problem.
 pub fn fixed_text(alloc: Global, answer: &Answer) -> Result<Vec<u8>, AllocError>
     requires { HasFixedText answer.now }
     ensures { IfOk result (λ v. (P : Instance) → v.items ≡ text_of P answer.now) }
 {
+    if let Answer::Accepted(rules) = answer {
+        return accepted_line(alloc, rules);
+    }
     let text = fixed_line(alloc, answer)?;
     Vec::from_slice(alloc, text.as_bytes())
 }
 
 fn fixed_line(alloc: Global, answer: &Answer) -> Result<String, AllocError>
-    requires { HasFixedText answer.now }
+    requires { HasFixedLine answer.now }
     ensures { IfOk result (λ t. (P : Instance) → string_bytes t ≡ text_of P answer.now) }
 {
     match answer {
@@ -65,9 +69,10 @@ fn fixed_line(alloc: Global, answer: &Answer) -> Result<String, AllocError>
         Answer::Meets => String::from_str(alloc, "meets\n"),
         Answer::TooLong(InputKind::Problem) => String::from_str(alloc, "too long: problem\n"),
         Answer::TooLong(InputKind::Roster) => String::from_str(alloc, "too long: roster\n"),
+        Answer::TooLong(InputKind::Log) => String::from_str(alloc, "too long: log\n"),
         Answer::FileRefused(refusal) => file_refusal_line(alloc, *refusal),
         Answer::RosterRefused(refusal) => roster_refusal_line(alloc, *refusal),
-        Answer::Breaks(_) | Answer::Shown => unreachable!(),
+        _ => unreachable!(),
     }
 }
 
@@ -88,7 +93,7 @@ fn put_place(out: &mut Vec<u8>, rule: Rule, broken: &Broken) -> Result<(), Alloc
 
 /// The text of a broken rule.
 fn breaks_text(alloc: Global, problem: &Problem, broken: &Broken) -> Result<Vec<u8>, AllocError>
-    requires { NamesRule problem.now (Answer.Breaks broken.now) }
+    requires { IsPrintable problem.now (Answer.Breaks broken.now) }
     ensures { IfOk result (λ v. v.items ≡ text_of problem.now (Answer.Breaks broken.now)) }
 {
     let mut out = Vec::new(alloc);
@@ -104,10 +109,14 @@ fn breaks_text(alloc: Global, problem: &Problem, broken: &Broken) -> Result<Vec<
 
 /// The text of an answer on a problem.
 pub fn text_on(alloc: Global, problem: &Problem, answer: &Answer) -> Result<Vec<u8>, AllocError>
-    requires { NamesRule problem.now answer.now }
+    requires { IsPrintable problem.now answer.now }
     ensures { IfOk result (λ v. v.items ≡ text_of problem.now answer.now) }
 {
     match answer {
+        Answer::Roster(roster) => print_roster(alloc, problem, roster),
+        Answer::NoRoster(log) => print_log(alloc, problem, log),
+        Answer::Undecided(log) => print_log(alloc, problem, log),
+        Answer::LogRefused(why) => log_refusal_line(alloc, problem, why),
         Answer::Breaks(broken) => breaks_text(alloc, problem, broken),
         Answer::Shown => print_problem(alloc, problem),
         _ => fixed_text(alloc, answer),

@@ -2,7 +2,8 @@
 ghost use Rattle.std.specs.Prelude.{◌≡◌, ℕ, ◌≤◌, List, length, IfOk};
 ghost use Rattle.rwsp_terms.specs.Roster.{IsRoster};
 ghost use Rattle.roster_print.specs.RosterText.{SpellsRoster};
-ghost use Rattle.rwsp.specs.Answers.{IsRosterAnswer, IsOfRoster, NamesRule};
+ghost use Rattle.rwsp.specs.Answers.{IsRosterAnswer, IsOfRoster};
+ghost use Rattle.rwsp.specs.Texts.{IsPrintable};
 
 use crate::answer::Answer;
 use roster_checker::first_broken;
@@ -11,11 +12,11 @@ use rwsp_model::{Fail, Problem, Roster};
 use std::alloc::{AllocError, Global};
 
 /// The answer to the bytes of a roster.
-pub fn verdict(alloc: Global, problem: &Problem, bytes: &[u8]) -> Result<Answer, AllocError>
+pub fn roster_verdict(alloc: Global, problem: &Problem, bytes: &[u8]) -> Result<Answer, AllocError>
     requires { length bytes.now ≤ 1048576 }
     ensures answer { IfOk result (λ a. IsRosterAnswer a problem.now bytes.now) }
     ensures kind { IfOk result IsOfRoster }
-    ensures rule { IfOk result (NamesRule problem.now) }
+    ensures printable { IfOk result (IsPrintable problem.now) }
 {
     match read_roster(alloc, problem, bytes) {
         Ok(roster) => Ok(checked(problem, &roster)),
@@ -28,7 +29,7 @@ fn checked(problem: &Problem, roster: &Roster) -> Answer
     requires { IsRoster problem.now roster.now.cells }
     ensures answer { (bytes : List ℕ) → length bytes ≤ 1048576 → SpellsRoster problem.now bytes roster.now.cells → IsRosterAnswer result problem.now bytes }
     ensures kind { IsOfRoster result }
-    ensures rule { NamesRule problem.now result }
+    ensures printable { IsPrintable problem.now result }
 {
     match first_broken(problem, roster) {
         None => Answer::Meets,

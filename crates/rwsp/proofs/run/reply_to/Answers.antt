@@ -1,43 +1,26 @@
-use Rattle.std.proofs.Common.{ℕ, List, subst}
+use Rattle.std.proofs.Common.{ℕ, List, subst, sym}
 use Rattle.std.proofs.lemmas.Result.{IfOk-weaker}
 use Rattle.rwsp_file.specs.Spelling.{SpellsProblem}
 use Rattle.rwsp.specs.Commands.{second_name}
 use Rattle.rwsp.specs.Inputs.{WhereTold, IsShort}
-use Rattle.rwsp.proofs.Replies.{IsRead, both_ok, fixed_text_of, answer_on, text_on, roster_fault}
+use Rattle.rwsp.specs.Answers.{IsAnswer}
+use Rattle.rwsp.specs.declared.answer.InputKind.TheVariants as Kinds
+use Rattle.rwsp.proofs.Replies.{IsRead, job_answer, job_text}
 use Rattle.rwsp.proofs.run.reply_to.Goals as goal
-
-pub returns-in-Err-Answer-clause-text : goal.returns-in-Err-Answer-clause-text
-returns-in-Err-Answer-clause-text g c =
-    let held = g.S.Shelf.held c.args.shelf.now in
-    let words = c.args.words.now.items in
-    both_ok c.fixed-in-Err-Answer.result _ _ _ (λ r fixed h. fixed_text_of held words r.answer r.text.items fixed h) c.fixed-in-Err-Answer.ensures.fixed c.fixed-in-Err-Answer.ensures.text
-
-pub returns-in_default-clause-text : goal.returns-in_default-clause-text
-returns-in_default-clause-text g c =
-    let held = g.S.Shelf.held c.args.shelf.now in
-    let words = c.args.words.now.items in
-    both_ok c.fixed.result _ _ _ (λ r fixed h. fixed_text_of held words r.answer r.text.items fixed h) c.fixed.ensures.fixed c.fixed.ensures.text
 
 pub returns-clause-answer : goal.returns-clause-answer
 returns-clause-answer g c =
     let held = g.S.Shelf.held c.args.shelf.now in
     let words = c.args.words.now.items in
     let P = c.in-Ok.problem in
-    let read : IsRead held words P = subst (λ (name : List ℕ). WhereTold (held name) (λ file. IsShort file × SpellsProblem file P)) c.word_at.ensures c.in-Ok.ensures.problem in
-    IfOk-weaker c.reply_on.result _ _ (λ r h. answer_on held words P r.answer (g.S.Shelf.held c.problem_in.new.shelf (second_name words)) read (c.problem_in.ensures.held (second_name words)) h) c.reply_on.ensures.answer
+    let read : IsRead held words P = subst (λ (name : List ℕ). WhereTold (held name) (λ file. IsShort Kinds.Problem file × SpellsProblem file P)) c.word_at.ensures c.in-Ok.ensures.problem in
+    let said : IsAnswer held words c.in_ok-answer.answer = job_answer held words c.in-Some.command P c.in_ok-answer.answer (g.S.Shelf.held c.problem_in.new.shelf (second_name words)) c.in-Some.ensures read (c.problem_in.ensures.held (second_name words)) c.in_ok-answer.ensures.answer in
+    IfOk-weaker c.printed.result _ _ (λ r e. subst (IsAnswer held words) (sym e) said) c.printed.ensures.answer
 
 pub returns-clause-text : goal.returns-clause-text
 returns-clause-text g c =
     let held = g.S.Shelf.held c.args.shelf.now in
     let words = c.args.words.now.items in
     let P = c.in-Ok.problem in
-    let read : IsRead held words P = subst (λ (name : List ℕ). WhereTold (held name) (λ file. IsShort file × SpellsProblem file P)) c.word_at.ensures c.in-Ok.ensures.problem in
-    IfOk-weaker c.reply_on.result _ _ (λ r h. text_on held words P r.answer r.text.items read h) c.reply_on.ensures.text
-
-pub returns-clause-fault : goal.returns-clause-fault
-returns-clause-fault g c e =
-    let held = g.S.Shelf.held c.args.shelf.now in
-    let words = c.args.words.now.items in
-    let P = c.in-Ok.problem in
-    let read : IsRead held words P = subst (λ (name : List ℕ). WhereTold (held name) (λ file. IsShort file × SpellsProblem file P)) c.word_at.ensures c.in-Ok.ensures.problem in
-    roster_fault held (g.S.Shelf.faults c.args.shelf.now) (g.S.Shelf.faults c.problem_in.new.shelf) (g.S.Shelf.faults c.reply_on.new.shelf) words P (c.reply_on.ensures.form e) read (c.problem_in.ensures.faults (second_name words)) (c.reply_on.ensures.fault e)
+    let read : IsRead held words P = subst (λ (name : List ℕ). WhereTold (held name) (λ file. IsShort Kinds.Problem file × SpellsProblem file P)) c.word_at.ensures c.in-Ok.ensures.problem in
+    IfOk-weaker c.printed.result _ _ (λ r h. job_text held words P r.answer r.text.items read h) c.printed.ensures.text

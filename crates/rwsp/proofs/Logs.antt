@@ -1,0 +1,108 @@
+-- What is said of logs, and what of them is printed.
+use Rattle.std.proofs.Common.{◌≡◌, ℕ, ◌≤◌, ◌<◌, ◌^◌, ◌+◌, ◌%◌, List, [], ◌∷◌, length, subst, arith, inl, inr, sym, ap, ◌∙◌, refl, IsTrue}
+use Rattle.std.specs.Prelude.{◌⊎◌, All, Result, Ok, Err, IfOk, Option, nat_le, take}
+use Rattle.std.proofs.lemmas.Bool.{leb-true}
+use Rattle.std.proofs.lemmas.List.Elements.{All-nil, All-cons}
+use Rattle.rwsp_terms.specs.declared.data.Symbol.{Symbol}
+use Rattle.rwsp_terms.specs.Instance.{Instance, cells, shift_count, IsSymbol}
+use Rattle.rwsp_terms.specs.Rules.{rules, Meets as MeetsRules}
+use Rattle.rwsp_model.specs.Validity.{KeepsLimits}
+use Rattle.rwsp_model.proofs.Limits.{valid_keeps}
+use Rattle.rwsp_model.proofs.Numbering.{rules_are_many}
+use Rattle.refutation_terms.specs.declared.lines.Line.{Line}
+use Rattle.refutation_terms.specs.declared.lines.Line.TheVariants.{Split, Window, Day, Dead, Bound, Unfinished}
+use Rattle.refutation_terms.specs.declared.lines.Turn.{Turn}
+use Rattle.refutation_terms.specs.declared.lines.LogRefusal.{LogRefusal}
+use Rattle.refutation_terms.specs.declared.lines.LogRefusal.TheVariants as Refusals
+use Rattle.refutation_terms.specs.Word.{Domains, Over}
+use Rattle.refutation_terms.specs.Tree.{domains_at, opening, turn_leaves, lines_leave}
+use Rattle.refutation_terms.specs.Log.{Log}
+use Rattle.refutation_terms.specs.LogText.{log_text}
+use Rattle.refutation_terms.specs.Spelling.{IsWritable, HasNames}
+use Rattle.refutation_terms.specs.Verdict.{Escapes, TreeCause, Cause, Front, Start, Versioned, BeforeTurn, Reading, IsRefused, IsAccepted, IsVerdict}
+use Rattle.refutation_terms.proofs.Tests.{left_of}
+use Rattle.refutation_terms.proofs.Sound.{passing_leaves_none}
+use Rattle.refutation_terms.proofs.Unique.{verdict_unique}
+use Rattle.refutation_log.proofs.OneText.{symbol_named, name_there}
+use Rattle.rwsp.specs.Inputs.{IsShort}
+use Rattle.rwsp.specs.Plans.{IsPlanned}
+use Rattle.rwsp.specs.Answers.{IsLogAnswer, LeavesNoRoster}
+use Rattle.rwsp.specs.Texts.{IsPrintable, HasSymbols}
+use Rattle.rwsp.specs.declared.answer.InputKind.TheVariants as Kinds
+use Rattle.rwsp.specs.declared.answer.Answer.{Answer}
+use Rattle.rwsp.specs.declared.answer.Answer.TheVariants.{Roster, NoRoster, Undecided, Accepted, LogRefused, Meets, Shown, Breaks, RosterRefused, Usage, FileRefused, TooLong}
+
+-- the rules of a log that passes leave no roster
+pub accepted : (P : Instance) (bytes R : List ℕ) → IsShort Kinds.Log bytes → (g : Log) × IsAccepted P bytes g × (g.named ≡ R) → IsLogAnswer (Accepted R) P bytes
+accepted P bytes R short h =
+    (short, h, λ s met. passing_leaves_none P h.0 s h.1.1 (subst (λ (named : List ℕ). MeetsRules P named s) (sym h.2) met))
+
+-- the symbols of a word over domains that have no others
+
+symbols_over : (P : Instance) (D : Domains) → ((p z : ℕ) → IsTrue (D p z) → z ≤ shift_count P) → (p : ℕ) (w : List Symbol) → Over P D p w → All (IsSymbol P) w
+symbols_over P D known p [] over = All-nil (IsSymbol P)
+symbols_over P D known p (x ∷ w) over = All-cons (IsSymbol P) x w (known (p % cells P) x.number over.0) (symbols_over P D known (p + 1) w over.1)
+
+known_at : (P : Instance) (turn : Option Turn) (lines : List Line) (k p z : ℕ) → IsTrue (domains_at P turn lines k p z) → z ≤ shift_count P
+known_at P turn lines k p z h = leb-true z (shift_count P) (left_of (nat_le z (shift_count P)) (turn_leaves turn p z) (left_of (opening P turn p z) (lines_leave (take k lines) p z) h))
+
+escaping : (P : Instance) (D : Domains) (line : Line) (w : List Symbol) → ((p z : ℕ) → IsTrue (D p z) → z ≤ shift_count P) → Escapes P D line w → All (IsSymbol P) w
+escaping P D (Dead p len R) w known h = symbols_over P D known p w h.clean.over
+escaping P D (Bound p turns R y) w known h = symbols_over P D known p w h.0.heavy.clean.over
+escaping P D (Split p x) w known h = absurd h
+escaping P D (Window r p len) w known h = absurd h
+escaping P D (Day j x over) w known h = absurd h
+escaping P D Unfinished w known h = absurd h
+
+caused : (P : Instance) (front : Front) (bytes : List ℕ) (n : ℕ) (w : List Symbol) → Cause P front bytes (Refusals.Escape n w) → All (IsSymbol P) w
+caused P Start bytes n w h = absurd h
+caused P (Versioned has_turn) bytes n w h = absurd h
+caused P (BeforeTurn named) bytes n w h = absurd h
+caused P (Reading g) bytes n w (inl h) = absurd h.1
+caused P (Reading g) bytes n w (inr h) =
+    let line = h.1.1.0 in
+    escaping P (domains_at P g.turn g.lines (length g.lines)) line w (λ p z k. known_at P g.turn g.lines (length g.lines) p z k) h.1.1.3
+
+-- a refusal names symbols of the instance
+pub printable : (P : Instance) (bytes : List ℕ) (why : LogRefusal) → IsRefused P bytes why → HasSymbols P why
+printable P bytes (Refusals.Escape n w) h = caused P h.front h.line n w h.cause
+printable P bytes (Refusals.Form n) h = tt
+printable P bytes (Refusals.Name n) h = tt
+printable P bytes (Refusals.Unnamed n k) h = tt
+printable P bytes (Refusals.Idle n) h = tt
+printable P bytes (Refusals.Long n k) h = tt
+printable P bytes (Refusals.Fails n) h = tt
+printable P bytes (Refusals.Unfinished n) h = tt
+printable P bytes Refusals.Ends h = tt
+printable P bytes (Refusals.Extra n) h = tt
+printable P bytes (Refusals.Turn n) h = tt
+
+pub planned_printable : (P : Instance) (budget : ℕ) (a : Answer) → IsPlanned P budget a → IsPrintable P a
+planned_printable P budget (Roster s) h = (h.0, h.1.is_roster)
+planned_printable P budget (NoRoster g) h = h.0.grounded.fits
+planned_printable P budget (Undecided g) h = h.0.grounded.fits
+planned_printable P budget (Accepted R) h = absurd h
+planned_printable P budget (LogRefused why) h = absurd h
+planned_printable P budget Meets h = absurd h
+planned_printable P budget Shown h = absurd h
+planned_printable P budget (Breaks broken) h = absurd h
+planned_printable P budget (RosterRefused why) h = absurd h
+planned_printable P budget Usage h = absurd h
+planned_printable P budget (FileRefused why) h = absurd h
+planned_printable P budget (TooLong kind) h = absurd h
+
+-- what the limits say of texts
+
+writable : (P : Instance) → KeepsLimits P → IsWritable P
+writable P limits =
+    let d : P.days < 2 ^ 32 = omega (arith, limits.few_days) in
+    let n : P.weeks < 2 ^ 32 = omega (arith, limits.few_weeks) in
+    let r : length (rules P) < 2 ^ 32 = omega (arith, rules_are_many P, limits.few_shifts, limits.few_pairs, limits.few_triples, limits.few_days) in
+    (d, n, r)
+
+named : (P : Instance) → KeepsLimits P → HasNames P
+named P limits x is = (name_there P x.number limits is, symbol_named P x limits is)
+
+-- a text has one verdict
+pub one_verdict : (P : Instance) (text : List ℕ) (a b : Result Log LogRefusal) → KeepsLimits P → IsVerdict P text a → IsVerdict P text b → a ≡ b
+one_verdict P text a b limits h k = verdict_unique P text a b (writable P limits) (named P limits) h k

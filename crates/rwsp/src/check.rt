@@ -1,0 +1,35 @@
+// Whether a log passes.
+ghost use Rattle.std.specs.Prelude.{◌≤◌, length, IfOk};
+ghost use Rattle.rwsp.specs.Answers.{IsLogAnswer, IsOfLog};
+ghost use Rattle.rwsp.specs.Texts.{IsPrintable};
+
+use crate::answer::Answer;
+use potential_bounds::Gate;
+use refutation_checker::check_with;
+use rwsp_model::{Fail, Problem};
+use std::alloc::{AllocError, Global};
+use std::thread::Threads;
+
+/// The answer to the bytes of a log, by so many workers.
+#[tactic(auto, using(crate::proofs::Logs::printable))]
+pub fn log_verdict<R: Threads + Sync, G: Gate>(
+    rt: &R,
+    alloc: Global,
+    problem: &Problem,
+    bytes: &[u8],
+    workers: u32,
+    gate: &G,
+) -> Result<Answer, AllocError>
+    requires short { length bytes.now ≤ 536870912 }
+    requires workers { (1 ≤ workers) × (workers ≤ 64) }
+    ensures answer { IfOk result (λ a. IsLogAnswer a problem.now bytes.now) }
+    ensures kind { IfOk result IsOfLog }
+    ensures printable { IfOk result (IsPrintable problem.now) }
+{
+    problem.keeps_limits();
+    match check_with(rt, alloc, problem, bytes, workers, gate) {
+        Ok(named) => Ok(Answer::Accepted(named)),
+        Err(Fail::Refused(why)) => Ok(Answer::LogRefused(why)),
+        Err(Fail::Memory) => Err(AllocError),
+    }
+}
