@@ -1,5 +1,6 @@
-ghost use Rattle.refutation_terms.specs.Log.{Fits};
+ghost use Rattle.std.specs.Prelude.{IfOk};
 ghost use Rattle.rwsp_terms.specs.Roster.{IsRule};
+ghost use Rattle.refutation_terms.specs.Log.{Fits};
 
 use super::*;
 use refutation_log::{Log, print_log, read_log};
@@ -23,17 +24,15 @@ fn one_shift(
     off: Bounds,
     work: Bounds,
 ) -> Result<Parts, AllocError> {
-    let mut days = 0;
+    if demand.len() > 28 {
+        return Err(AllocError);
+    }
     let mut ranges = Vec::new(alloc);
     for count in demand {
-        if days == 28 {
-            return Err(AllocError);
-        }
-        days += 1;
         ranges.push(from_to(*count, *count))?;
     }
     Ok(Parts {
-        days,
+        days: demand.len() as u32,
         weeks,
         demand: vec![in alloc; DemandRow::of(ranges)]?,
         shifts: vec![in alloc;
