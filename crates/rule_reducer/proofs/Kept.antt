@@ -1,0 +1,175 @@
+-- Lists of numbers and weights without one number or one day.
+use Rattle.std.proofs.Common.{◌≡◌, ◌≢◌, ℕ, ◌<◌, ◌≤◌, List, [], ◌∷◌, ◌++◌, length, take, get_or, ap, sym, ◌∙◌, subst, arith, ◌⊎◌, inl, inr, ⊎_elim, Some, Bool, true, false, cond, not, ◌==◌, pos, ℤ, length-take-le, get_or-take}
+use Rattle.std.specs.Prelude.{All, AllPairs, Contains, ◌↔◌}
+use Rattle.std.specs.List.Sorted.{IsStrictlyIncreasing}
+use Rattle.std.specs.List.{insert}
+use Rattle.std.proofs.lemmas.Bool.Decides.{eqb_tells}
+use Rattle.std.proofs.lemmas.List.{get_or_default}
+use Rattle.std.proofs.lemmas.List.Edits.{insert_end}
+use Rattle.std.proofs.lemmas.List.Elements.{All-take, All-filter}
+use Rattle.std.proofs.lemmas.List.Kept.{AllPairs-filter, AllPairs-from_increasing, IsStrictlyIncreasing-filter}
+use Rattle.rwsp_terms.specs.declared.data.Rule.TheVariants.{Day}
+use Rattle.rwsp_terms.specs.declared.data.Weight.{Weight}
+use Rattle.rwsp_terms.specs.Places.{BelongsIn, Lacks, SetsWeight}
+use Rattle.rwsp_terms.specs.Weights.{AreWeights, ComesBefore, IsWeight, weight_at}
+use Rattle.rwsp_terms.proofs.Ascending.{increasing_from_pairs, insert_increasing, Contains-insert, Contains-cons, Contains-first, Contains-later, inserted}
+use Rattle.rwsp_terms.proofs.SameLists.{same_rule_lists, same_weights, WeighSame}
+use Rattle.refutation_terms.specs.Strip.{without, without_day}
+
+-- numbers
+
+-- a number that is put behind lower ones
+pub put_last : (old new : List ℕ) (n : ℕ) → IsStrictlyIncreasing old → IsStrictlyIncreasing new → All (λ k. k < n) old → ((k : ℕ) → Contains new k ↔ (Contains old k ⊎ (k ≡ n))) → new ≡ old ++ n ∷ []
+put_last old new n up up' low holds =
+    let belongs : BelongsIn old (length old) n = (omega arith, (λ k less. low k 0 less), λ k ge less. absurd (omega (arith, ge, less))) in
+    same_rule_lists new (insert old (length old) n) up'
+    (insert_increasing old (length old) n belongs up)
+    (λ k. (λ c. (Contains-insert old (length old) n k).1 ((holds k).0 c), λ c. (holds k).1 ((Contains-insert old (length old) n k).0 c)))
+    ∙ insert_end old n
+
+pub kept_first : (n m : ℕ) (R : List ℕ) → m ≢ n → without n (m ∷ R) ≡ m ∷ without n R
+kept_first n m R ne =
+    ⊎_elim
+    (λ (q : ((m == n) ≡ true) × (m ≡ n)). absurd (ne q.1))
+    (λ (q : ((m == n) ≡ false) × (m ≢ n)). ap (λ b. cond (not b) (m ∷ without n R) (without n R)) q.0)
+    (eqb_tells m n)
+
+pub gone_first : (n m : ℕ) (R : List ℕ) → m ≡ n → without n (m ∷ R) ≡ without n R
+gone_first n m R e =
+    ⊎_elim
+    (λ (q : ((m == n) ≡ true) × (m ≡ n)). ap (λ b. cond (not b) (m ∷ without n R) (without n R)) q.0)
+    (λ (q : ((m == n) ≡ false) × (m ≢ n)). absurd (q.1 e))
+    (eqb_tells m n)
+
+same_or_not : (m n : ℕ) → (m ≡ n) ⊎ (m ≢ n)
+same_or_not m n =
+    ⊎_elim
+    (λ (q : ((m == n) ≡ true) × (m ≡ n)). inl q.1)
+    (λ (q : ((m == n) ≡ false) × (m ≢ n)). inr q.1)
+    (eqb_tells m n)
+
+-- what the shorter list holds
+pub was_listed : (n : ℕ) (R : List ℕ) (k : ℕ) → Contains (without n R) k → Contains R k × (k ≢ n)
+was_listed n [] k c = absurd (omega (arith, c.1))
+was_listed n (m ∷ R) k c =
+    ⊎_elim
+    (λ (e : m ≡ n).
+    let q = was_listed n R k (subst (λ l. Contains l k) (gone_first n m R e) c) in
+    (Contains-later m R k q.0, q.1))
+    (λ (ne : m ≢ n).
+    ⊎_elim
+    (λ (later : Contains (without n R) k). let q = was_listed n R k later in (Contains-later m R k q.0, q.1))
+    (λ (e : k ≡ m). (Contains-first m R k e, λ same. ne (sym e ∙ same)))
+    (Contains-cons m (without n R) k (subst (λ l. Contains l k) (kept_first n m R ne) c)))
+    (same_or_not m n)
+
+pub still_listed : (n : ℕ) (R : List ℕ) (k : ℕ) → Contains R k → k ≢ n → Contains (without n R) k
+still_listed n [] k c ne = absurd (omega (arith, c.1))
+still_listed n (m ∷ R) k c ne =
+    ⊎_elim
+    (λ (later : Contains R k).
+    let rest = still_listed n R k later ne in
+    ⊎_elim
+    (λ (e : m ≡ n). subst (λ l. Contains l k) (sym (gone_first n m R e)) rest)
+    (λ (d : m ≢ n). subst (λ l. Contains l k) (sym (kept_first n m R d)) (Contains-later m (without n R) k rest))
+    (same_or_not m n))
+    (λ (e : k ≡ m).
+    subst (λ l. Contains l k) (sym (kept_first n m R (λ same. ne (e ∙ same)))) (Contains-first m (without n R) k e))
+    (Contains-cons m R k c)
+
+pub not_longer : (n : ℕ) (R : List ℕ) → length (without n R) ≤ length R
+not_longer n [] = omega arith
+not_longer n (m ∷ R) =
+    let rest = not_longer n R in
+    ⊎_elim
+    (λ (e : m ≡ n). let l = ap length (gone_first n m R e) in omega (arith, l, rest))
+    (λ (d : m ≢ n). let l = ap length (kept_first n m R d) in omega (arith, l, rest))
+    (same_or_not m n)
+
+pub shorter : (n : ℕ) (R : List ℕ) → Contains R n → length (without n R) < length R
+shorter n [] c = absurd (omega (arith, c.1))
+shorter n (m ∷ R) c =
+    ⊎_elim
+    (λ (e : m ≡ n). let l = ap length (gone_first n m R e) in let le = not_longer n R in omega (arith, l, le))
+    (λ (d : m ≢ n).
+    let l = ap length (kept_first n m R d) in
+    ⊎_elim
+    (λ (later : Contains R n). let lt = shorter n R later in omega (arith, l, lt))
+    (λ (e : n ≡ m). absurd (d (sym e)))
+    (Contains-cons m R n c))
+    (same_or_not m n)
+
+-- fronts of lists in order
+
+front_pairs : {X : Type 0} (R : X → X → Type 0) (xs : List X) (i : ℕ) (d : X) → AllPairs R xs → i < length xs → All (λ x. R x (get_or xs i d)) (take i xs)
+front_pairs R xs i d pairs less = λ k e low.
+    let long : length (take i xs) ≡ i = length-take-le i xs (omega (arith, less)) in
+    let lt : k < i = omega arith in
+    let same = get_or-take i xs k e lt ∙ get_or_default xs k e d (omega (arith, lt, less)) in
+    subst (λ x. R x (get_or xs i d)) (sym same) (pairs k i d lt less)
+
+take_pairs : {X : Type 0} (R : X → X → Type 0) (xs : List X) (i : ℕ) → i ≤ length xs → AllPairs R xs → AllPairs R (take i xs)
+take_pairs R xs i within pairs = λ j k d lt less.
+    let long : length (take i xs) ≡ i = length-take-le i xs within in
+    let low : k < i = omega arith in
+    subst (λ x. R x (get_or (take i xs) k d)) (sym (get_or-take i xs j d (omega (arith, lt, low))))
+    (subst (λ x. R (get_or xs j d) x) (sym (get_or-take i xs k d low)) (pairs j k d lt (omega (arith, low, within))))
+
+pub lower_in_front : (R : List ℕ) (n i d : ℕ) → IsStrictlyIncreasing R → i < length R → All (λ k. k < get_or R i d) (without n (take i R))
+lower_in_front R n i d up less =
+    All-filter (λ k. not (k == n)) (λ k. k < get_or R i d) (take i R) (front_pairs (λ x y. x < y) R i d (AllPairs-from_increasing R up) less)
+
+pub front_ascends : (R : List ℕ) (n i : ℕ) → IsStrictlyIncreasing R → i ≤ length R → IsStrictlyIncreasing (without n (take i R))
+front_ascends R n i up within =
+    IsStrictlyIncreasing-filter (λ k. not (k == n)) (take i R)
+    (increasing_from_pairs (take i R) (take_pairs (λ x y. x < y) R i within (AllPairs-from_increasing R up)))
+
+-- weights
+
+-- a weight that is put behind others
+pub put_weight_last : (old new : List Weight) (e : Weight) → AreWeights old → All (λ (a : Weight). ComesBefore a e) old → IsWeight e → SetsWeight old new e.day e.symbol.number e.value → new ≡ old ++ e ∷ []
+put_weight_last old new e are before some sets =
+    let lacks : Lacks old e.day e.symbol.number (length old) = record {
+      within = omega arith;
+      before = λ k d less. before k d less;
+      after = λ k d ge less. absurd (omega (arith, ge, less));
+    } in
+    let put = inserted old (length old) e are lacks some in
+    same_weights new (insert old (length old) e) sets.weights put.weights (sets_same old new (insert old (length old) e) e.day e.symbol.number e.value sets put)
+    ∙ insert_end old e
+  where
+    sets_same : (old new other : List Weight) (j x : ℕ) (value : ℤ) → SetsWeight old new j x value → SetsWeight old other j x value → WeighSame new other
+    sets_same old new other j x value a b = λ k z.
+        ⊎_elim
+        (λ (e : k ≡ j).
+        ⊎_elim
+        (λ (f : z ≡ x).
+        subst (λ m. weight_at new m z ≡ weight_at other m z) (sym e)
+        (subst (λ m. weight_at new j m ≡ weight_at other j m) (sym f) (a.here ∙ sym b.here)))
+        (λ (ne : z ≢ x). a.elsewhere k z (λ q. ne q.1) ∙ sym (b.elsewhere k z (λ q. ne q.1)))
+        (same_or_not z x))
+        (λ (ne : k ≢ j). a.elsewhere k z (λ q. ne q.0) ∙ sym (b.elsewhere k z (λ q. ne q.0)))
+        (same_or_not k j)
+
+abbrev pub no_weight : Weight
+no_weight = record { day = 0; symbol = record { number = 0 }; value = pos 0 }
+
+abbrev off_day : ℕ → Weight → Bool
+off_day j e = not (e.day == j)
+
+pub before_in_front : (y : List Weight) (j i : ℕ) (d : Weight) → AreWeights y → i < length y → All (λ (e : Weight). ComesBefore e (get_or y i d)) (without_day (Some (Day j)) (take i y))
+before_in_front y j i d are less =
+    All-filter (off_day j) (λ (e : Weight). ComesBefore e (get_or y i d)) (take i y) (front_pairs ComesBefore y i d are.ascends less)
+
+pub front_weights : (y : List Weight) (j i : ℕ) → AreWeights y → i ≤ length y → AreWeights (without_day (Some (Day j)) (take i y))
+front_weights y j i are within = record {
+  ascends = AllPairs-filter ComesBefore (off_day j) (take i y) (take_pairs ComesBefore y i within are.ascends);
+  small = All-filter (off_day j) IsWeight (take i y) (All-take IsWeight i y are.small);
+}
+
+pub kept_weight : (e : Weight) (j : ℕ) → e.day ≢ j → without_day (Some (Day j)) (e ∷ []) ≡ e ∷ []
+kept_weight e j ne =
+    ⊎_elim
+    (λ (q : ((e.day == j) ≡ true) × (e.day ≡ j)). absurd (ne q.1))
+    (λ (q : ((e.day == j) ≡ false) × (e.day ≢ j)). ap (λ b. cond (not b) (e ∷ []) []) q.0)
+    (eqb_tells e.day j)

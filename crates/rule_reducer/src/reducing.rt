@@ -1,0 +1,52 @@
+// Logs without the rules that they can do without.
+ghost use Rattle.std.specs.Prelude.{◌≡◌, IfOk};
+ghost use Rattle.rwsp_model.specs.Refusals.{MatchAnswer};
+ghost use Rattle.refutation_terms.specs.Log.{Fits, Passes};
+ghost use Rattle.refutation_terms.specs.LogText.{log_text};
+ghost use Rattle.refutation_terms.specs.Strip.{IsReduced};
+ghost use Rattle.refutation_terms.specs.Verdict.{IsRefused};
+ghost use Rattle.rule_reducer.specs.Needs.{NeedsEach, NeedsTogether};
+
+use crate::copy::copy_log;
+use crate::descent::descend;
+use refutation_checker::check_log;
+use refutation_log::Log;
+use refutation_terms::LogRefusal;
+use rwsp_model::{Fail, Problem};
+use std::alloc::{AllocError, Global};
+
+// Descents of a log that passes, until one drops nothing.
+fn descend_to_end(alloc: Global, problem: &Problem, log: &Log) -> Result<Log, AllocError>
+    requires { Passes problem.now log.now }
+    ensures reduced { IfOk result (IsReduced problem.now log.now) }
+    ensures passes { IfOk result (Passes problem.now) }
+{
+    let mut reduced = copy_log(alloc, log)?;
+    loop {
+        let named = reduced.named().len();
+        descend(alloc, problem, &mut reduced)?;
+        if reduced.named().len() == named {
+            return Ok(reduced);
+        }
+    }
+}
+
+/// What repeated descents leave of the log, each of which drops rules from the highest number down wherever the log then
+/// still passes: a log that needs each rule that it names. A log that doesn't pass is refused, with the cause that
+/// checking its text gives.
+pub fn reduce(alloc: Global, problem: &Problem, log: &Log) -> Result<Log, Fail<LogRefusal>>
+    requires { Fits problem.now log.now }
+    ensures reduced { MatchAnswer result (λ g. IsReduced problem.now log.now g) (IsRefused problem.now (log_text problem.now log.now)) }
+    ensures passes { IfOk result (Passes problem.now) }
+    ensures fits { IfOk result (Fits problem.now) }
+    ensures needed { IfOk result (NeedsEach problem.now) }
+    ensures together { IfOk result (NeedsTogether problem.now) }
+{
+    if let Err(fail) = check_log(alloc, problem, log) {
+        return Err(fail);
+    }
+    match descend_to_end(alloc, problem, log) {
+        Ok(reduced) => Ok(reduced),
+        Err(_) => Err(Fail::Memory),
+    }
+}
