@@ -1,4 +1,5 @@
 pub mod Appends
 pub mod Replies
 pub mod Logs
+pub mod Plans
 pub mod OneAnswer

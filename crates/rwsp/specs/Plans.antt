@@ -1,21 +1,18 @@
 -- What `plan` says of a problem.
-use Rattle.std.specs.Prelude.{◌≡◌, ℕ, ◌+◌, ◌*◌, ◌^◌, ◌<◌, ◌≤◌, slice_get, Some, false}
+use Rattle.std.specs.Prelude.{◌≡◌, ℕ, ◌+◌, ◌*◌, ◌^◌, ◌<◌, ◌≤◌, slice_get, Some}
 use Rattle.rwsp_terms.specs.declared.data.Symbol.{Symbol}
 use Rattle.rwsp_terms.specs.Instance.{Instance, cells, shift_count}
 use Rattle.rwsp_terms.specs.Roster.{MeetsAll}
 use Rattle.refutation_terms.specs.declared.lines.Line.TheVariants.{Split}
 use Rattle.refutation_terms.specs.Word.{Domains}
-use Rattle.refutation_terms.specs.Tree.{First, narrowed, domains_at, is_idle}
+use Rattle.refutation_terms.specs.Tree.{domains_at}
 use Rattle.refutation_terms.specs.Log.{Log, Passes, IsSpent, NamesOnlyCited, size}
 use Rattle.refutation_terms.specs.Sharp.{SomeWindowHolds, SomeDayHolds, IsFirstTurn}
+use Rattle.propagators.specs.Days.{IsDaySpent}
+use Rattle.roster_search.specs.declared.found.Found.{Found}
+use Rattle.roster_search.specs.declared.found.Found.TheVariants as Founds
 use Rattle.rwsp.specs.declared.answer.Answer.{Answer}
 use Rattle.rwsp.specs.declared.answer.Answer.TheVariants.{Roster, NoRoster, Undecided}
-
--- a symbol that is left at a position beside another, and once it is alone there a day leaf holds
-pub record IsDaySpent (P : Instance) (D : Domains) (p : ℕ) (x : Symbol) : Type 0 where
-  pub position : p < cells P
-  pub left : is_idle P D p x.number ≡ false
-  pub closes : SomeDayHolds P (narrowed D (Split p x) First)
 
 -- what is so at each split: no window and no day leaf holds there, and where a day leaf takes a symbol away, the split is on such a symbol
 pub record IsPlannedSplit (P : Instance) (D : Domains) (p : ℕ) (x : Symbol) : Type 0 where
@@ -36,3 +33,9 @@ IsPlanned P budget (Roster s) = (s.days ≡ P.days) × MeetsAll P s.cells
 IsPlanned P budget (NoRoster g) = Passes P g × (size g ≤ budget) × IsPlannedLog P g
 IsPlanned P budget (Undecided g) = IsSpent P g budget × IsPlannedLog P g × (budget + 1 < 2 * (shift_count P + 1) ^ cells P)
 IsPlanned P budget answer = ⊥
+
+-- the answer with what was found
+abbrev pub answer_of : Found → Answer
+answer_of (Founds.Roster s) = Roster s
+answer_of (Founds.NoRoster g) = NoRoster g
+answer_of (Founds.Undecided g) = Undecided g
