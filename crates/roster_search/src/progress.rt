@@ -84,17 +84,15 @@ impl Progress {
     }
 
     /// Writes a split. After want of memory the lines are of no use.
-    pub fn split(&mut self, problem: &Problem, p: u32, x: Symbol) -> Result<(), AllocError>
+    pub fn split(&mut self, p: u32, x: Symbol) -> Result<(), AllocError>
         requires part { self.old.walk.whole ≡ false }
-        requires written { IsWritten problem.now self.old }
         requires position { p < length self.old.walk.store.sets }
         requires useful { is_idle_in self.old.walk.store p x.number ≡ false }
-        ensures off { IfOk result (λ _. IsSplitOff problem.now self.old self.new p x) }
+        ensures off { IfOk result (λ _. (P : Instance) → IsWritten P self.old → IsSplitOff P self.old self.new p x) }
         ensures lines { IfOk result (λ _. self.new.lines.items ≡ self.old.lines.items ++ Split p x ∷ []) }
         ensures part { IfOk result (λ _. self.new.walk.whole ≡ false) }
         ensures turn { self.new.turn ≡ self.old.turn }
     {
-        problem.keeps_limits();
         self.domain_facts();
         self.lines.push(Line::Split { p, x })?;
         self.walk.read_split(p, x)?;
@@ -125,7 +123,7 @@ impl Progress {
     {
         problem.keeps_limits();
         self.domain_facts();
-        self.split(problem, p, x)?;
+        self.split(p, x)?;
         if self.has_room(budget) {
             self.close(problem, line)?;
             self.domain_facts();

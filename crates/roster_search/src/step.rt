@@ -87,7 +87,7 @@ fn quiet<A: Propagator>(
     progress.domain_facts();
     match choose(problem, progress.walk.domains()) {
         Some(choice) => {
-            progress.split(problem, choice.p, choice.x)?;
+            progress.split(choice.p, choice.x)?;
             prop.narrowed(progress.walk.domains(), choice.p);
             Ok(None)
         }

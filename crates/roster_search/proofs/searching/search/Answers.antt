@@ -2,6 +2,7 @@
 use Rattle.std.proofs.Common.{◌≡◌, ◌+◌, ◌*◌, ◌^◌, ◌<◌, Option, None, sym, subst}
 use Rattle.std.proofs.lemmas.Result.{IfOk-weaker}
 use Rattle.rwsp_terms.specs.Instance.{cells, shift_count}
+use Rattle.refutation_terms.specs.declared.lines.Line.TheVariants.{Window, Day}
 use Rattle.refutation_terms.specs.declared.lines.Turn.{Turn}
 use Rattle.roster_search.specs.declared.found.Found.{Found}
 use Rattle.roster_search.specs.Founds.{IsFound, IsUndecided}
@@ -20,6 +21,12 @@ step-requires-clause-under_way g c =
     let spent' = g.A.Propagator.spent c.loop-alloc.prop in
     subst (λ (t : Option Turn). IsUnderWay P t c.args.budget leaves' spent' s) (sym c.loop-alloc.invariant.under_way.same_turn)
     (under_way_by P c.args.turn c.args.budget leaves leaves' spent spent' s c.loop-alloc.invariant.leaves c.loop-alloc.invariant.spent c.loop-alloc.invariant.under_way)
+
+pub step-requires-clause-windows : goal.step-requires-clause-windows
+step-requires-clause-windows g c S number p len fits = (c.loop-alloc.invariant.leaves S (Window number p len)).0 (c.requires.windows S number p len fits)
+
+pub step-requires-clause-days : goal.step-requires-clause-days
+step-requires-clause-days g c S j x over fits = (c.loop-alloc.invariant.leaves S (Day j x over)).0 (c.requires.days S j x over fits)
 
 pub loop-alloc-preserved : goal.loop-alloc-preserved
 loop-alloc-preserved g c =

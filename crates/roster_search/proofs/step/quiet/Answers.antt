@@ -23,4 +23,4 @@ returns-in_ok-split-in-Some-clause-under_way g c none =
     let b = c.split.new.self in
     let long : length b.lines.items ≡ length a.lines.items + 1 = ap length c.in_ok-split-in-Some.ensures.lines ∙ length-append a.lines.items (Split c.in-Some.choice.p c.in-Some.choice.x ∷ []) in
     split_under_way c.args.problem.now a.turn c.args.budget (g.A.Propagator.leaves c.args.prop.now) (g.A.Propagator.spent c.args.prop.now) a b c.in-Some.choice.p c.in-Some.choice.x
-    c.requires.under_way c.in_ok-split-in-Some.ensures.off (omega (arith, long, c.requires.room)) c.domain_facts.ensures.store c.requires.open (λ q z s. absurd (c.requires.none_spent q z s))
+    c.requires.under_way (c.in_ok-split-in-Some.ensures.off c.args.problem.now c.requires.under_way.written) (omega (arith, long, c.requires.room)) c.domain_facts.ensures.store c.requires.open (λ q z s. absurd (c.requires.none_spent q z s))

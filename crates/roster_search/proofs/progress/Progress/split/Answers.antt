@@ -12,13 +12,12 @@ use Rattle.roster_search.proofs.Narrowing.{narrowed_at}
 use Rattle.roster_search.proofs.progress.Progress.split.Goals as goal
 
 pub returns-clause-off : goal.returns-clause-off
-returns-clause-off c =
-    let P = c.args.problem.now in
+returns-clause-off c P w =
     let a = c.args.self.now in
     let p = c.args.p in
     let x = c.args.x in
     let S = a.walk.store in
-    let state = c.requires.written.state in
+    let state = w.state in
     let many : length S.sets ≡ cells P = positions_of P S c.domain_facts.ensures.store state.belongs in
     let inside : p < cells P = omega (arith, c.requires.position, many) in
     let idle : is_idle_in S p x.number ≡ is_idle P (domains_at P a.turn a.lines.items (length a.lines.items)) p x.number =
@@ -26,13 +25,13 @@ returns-clause-off c =
     let held = c.domain_facts.ensures.tests.known p x.number (held_where_useful S p x.number c.requires.useful) in
     let next = c.in_ok-read_split.ensures.splits P a.turn a.lines.items state in
     record {
-      written = written_next P a _ (Split p x) c.requires.written (record {
+      written = written_next P a _ (Split p x) w (record {
         turn = refl;
         lines = c.in_ok-push.ensures.items;
         state = next;
         stands = record { holds = sym idle ∙ c.requires.useful; fits = (inside, omega (arith, held.1, state.belongs.shifts)); short = tt };
         named = λ r. (λ n. inl n, λ h. elim h as (λ (o : Names P a.named r ⊎ ⊥). Names P a.named r) [ inl n ↦ n | inr none ↦ absurd none ]);
-        numbers = c.requires.written.numbers;
+        numbers = w.numbers;
         opened = omega (arith, c.in_ok-read_split.ensures.one_more);
       });
       same_turn = refl;
