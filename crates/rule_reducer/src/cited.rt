@@ -1,4 +1,5 @@
-// Leaves and turns that rest on a rule in another way than by a list of rules, so that no strip takes the rule from them.
+// Leaves and turns that rest on a rule in another way than by a list of rules, so that no strip
+// takes the rule from them.
 ghost use Rattle.std.specs.Prelude.{◌≡◌, ◌↔◌, ℕ, Some, IsTrue, Option, slice_get};
 ghost use Rattle.rwsp_terms.specs.Instance.{Instance};
 ghost use Rattle.rwsp_terms.specs.Rules.{rule_of};
@@ -54,8 +55,8 @@ fn turn_cites(turn: Option<Turn>, rule: Rule) -> bool
     }
 }
 
-// Whether the log can't pass without the rule, since a line or the turn would go on citing it. It is said without
-// going by the cases of the tree.
+// Whether the log can't pass without the rule, since a window or a day leaf or the turn would go on
+// citing it. Going through the lines once tells so without a search for words.
 #[tactic(auto, using(crate::proofs::Citing::turn_goes_on))]
 pub fn goes_on_citing(log: &Log, number: u32, rule: Rule) -> bool
     ensures { IsTrue result → (P : Instance) → rule_of P number ≡ Some rule → Passes P (strip P number log.now) → ⊥ }

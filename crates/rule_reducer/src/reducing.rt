@@ -31,9 +31,9 @@ fn descend_to_end(alloc: Global, problem: &Problem, log: &Log) -> Result<Log, Al
     }
 }
 
-/// What repeated descents leave of the log, each of which drops rules from the highest number down wherever the log then
-/// still passes: a log that needs each rule that it names. A log that doesn't pass is refused, with the cause that
-/// checking its text gives.
+/// What repeated descents leave of the log, each of which drops rules from the highest number down
+/// wherever the log then still passes: a log that needs each rule that it names. A log that doesn't
+/// pass is refused, with the cause that checking its text gives.
 pub fn reduce(alloc: Global, problem: &Problem, log: &Log) -> Result<Log, Fail<LogRefusal>>
     requires { Fits problem.now log.now }
     ensures reduced { MatchAnswer result (λ g. IsReduced problem.now log.now g) (IsRefused problem.now (log_text problem.now log.now)) }

@@ -78,8 +78,9 @@ pub fn strip_number(
     Ok(Log::of(named, log.turn(), lines))
 }
 
-/// The log without a rule in its header and in the lists of dead and bound leaves; the rule of a day also loses that day's
-/// weights. Window and day leaves that cite the rule stay, and so does the turn.
+/// The log without a rule in its header and in the lists of dead and bound leaves; the rule of a day
+/// also loses that day's weights. Window and day leaves that cite the rule stay, and so does the
+/// turn.
 pub fn strip(alloc: Global, log: &Log, rule: Rule, problem: &Problem) -> Result<Log, AllocError>
     requires fits { Fits problem.now log.now }
     requires rule { IsRule problem.now rule }

@@ -136,9 +136,7 @@ fn rules_are_stripped(rt: HostRuntime) -> Result<(), Fail> {
             b"rwsp-log 1\nrules 1 4 7\nbound 1 1 2 rules 1 4 weights 1 D 1\n"
         )?
     );
-    if four.days() < 1 {
-        return Ok(());
-    }
+    four.keeps_limits();
     assert!(rt;
         strips_to(
             alloc,
