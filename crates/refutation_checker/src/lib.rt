@@ -8,6 +8,8 @@ mod log_check;
 mod long;
 mod named;
 mod plain;
+#[cfg(test)]
+mod tests;
 mod verdict;
 
 pub use judge::Judge;
