@@ -11,9 +11,9 @@ use rwsp_model::{Problem, Weights, Word};
 use std::alloc::{AllocError, Global};
 use word_tail::TailRules;
 
-/// The least of the heaviest words of so many turns over the domains from position `p` on that are clean for the rules, where
-/// it weighs at least so many times the total; None exactly where it weighs less or there is no clean word, and a bound leaf
-/// of these rules holds.
+/// The least of the heaviest words of so many turns over the domains from position `p` on that are
+/// clean for the rules, where it weighs at least so many times the total; None exactly where it
+/// weighs less or there is no clean word, and a bound leaf of these rules holds.
 pub fn bound_escape(
     alloc: Global,
     problem: &Problem,

@@ -27,7 +27,8 @@ use std::marker::Model;
 use tree_walk::Walk;
 use word_tail::TailRules;
 
-/// Judges lines under the rules that a header names. Tail rules that were made for a line serve the next lines with the same list.
+/// Judges lines under the rules that a header names. Tail rules that were made for a line serve the
+/// next lines with the same list.
 #[derive(Debug, Drop)]
 pub struct Judge<'a> {
     problem: &'a Problem,
@@ -59,8 +60,9 @@ impl<'a> Judge<'a> {
         }
     }
 
-    /// Reads the next line of a log's tree from its text, line `number` of all, and judges it under the domains there: None
-    /// where it is refused for no cause, and then the walk has read it. After a refusal or want of memory the walk is of no use.
+    /// Reads the next line of a log's tree from its text, line `number` of all, and judges it under
+    /// the domains there: None where it is refused for no cause, and then the walk has read it.
+    /// After a refusal or want of memory the walk is of no use.
     pub fn read(
         &mut self,
         alloc: Global,
@@ -85,8 +87,8 @@ impl<'a> Judge<'a> {
         }
     }
 
-    /// Judges the next line of a tree, line `number` of all, under the domains of the walk: None where it has no cause, and then the
-    /// walk has read it.
+    /// Judges the next line of a tree, line `number` of all, under the domains of the walk: None
+    /// where it has no cause, and then the walk has read it.
     pub(crate) fn pass(
         &mut self,
         alloc: Global,
@@ -136,7 +138,8 @@ impl<'a> Judge<'a> {
         }
     }
 
-    // The word that escapes a dead or a bound leaf; None exactly where the leaf holds, and for other lines.
+    // The word that escapes a dead or a bound leaf; None exactly where the leaf holds, and for
+    // other lines.
     fn leaf_escape(
         &mut self,
         alloc: Global,
@@ -163,7 +166,8 @@ impl<'a> Judge<'a> {
         }
     }
 
-    // The least word of `len` days over the domains from position `p` on that is clean for the rules.
+    // The least word of `len` days over the domains from position `p` on that is clean for the
+    // rules.
     fn dead_escape(
         &mut self,
         alloc: Global,
@@ -187,7 +191,8 @@ impl<'a> Judge<'a> {
         Ok(found)
     }
 
-    // The least of the heaviest words of so many turns that are clean for the rules, where it weighs enough.
+    // The least of the heaviest words of so many turns that are clean for the rules, where it
+    // weighs enough.
     fn bound_escape(
         &mut self,
         alloc: Global,

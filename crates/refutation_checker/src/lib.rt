@@ -11,6 +11,8 @@ mod long;
 mod named;
 mod plain;
 mod scan;
+#[cfg(test)]
+mod tests;
 mod verdict;
 mod workers;
 

@@ -2,4 +2,5 @@ pub mod Appends
 pub mod Replies
 pub mod Logs
 pub mod Plans
+pub mod Reductions
 pub mod OneAnswer

@@ -30,7 +30,7 @@ use Rattle.rwsp.specs.Answers.{IsLogAnswer, LeavesNoRoster}
 use Rattle.rwsp.specs.Texts.{IsPrintable, HasSymbols}
 use Rattle.rwsp.specs.declared.answer.InputKind.TheVariants as Kinds
 use Rattle.rwsp.specs.declared.answer.Answer.{Answer}
-use Rattle.rwsp.specs.declared.answer.Answer.TheVariants.{Roster, NoRoster, Undecided, Accepted, LogRefused, Meets, Shown, Breaks, RosterRefused, Usage, FileRefused, TooLong}
+use Rattle.rwsp.specs.declared.answer.Answer.TheVariants.{Roster, NoRoster, Undecided, Accepted, LogRefused, Reduced, Meets, Shown, Breaks, RosterRefused, Usage, FileRefused, TooLong}
 
 -- the rules of a log that passes leave no roster
 pub accepted : (P : Instance) (bytes R : List ℕ) → IsShort Kinds.Log bytes → (g : Log) × IsAccepted P bytes g × (g.named ≡ R) → IsLogAnswer (Accepted R) P bytes
@@ -83,6 +83,7 @@ planned_printable P budget (NoRoster g) h = h.0.grounded.fits
 planned_printable P budget (Undecided g) h = h.0.grounded.fits
 planned_printable P budget (Accepted R) h = absurd h
 planned_printable P budget (LogRefused why) h = absurd h
+planned_printable P budget (Reduced g) h = absurd h
 planned_printable P budget Meets h = absurd h
 planned_printable P budget Shown h = absurd h
 planned_printable P budget (Breaks broken) h = absurd h

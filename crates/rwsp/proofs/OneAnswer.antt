@@ -28,16 +28,18 @@ use Rattle.refutation_terms.specs.Verdict.{IsAccepted, IsRefused}
 use Rattle.rwsp.specs.Commands.{Words, IsForm, HasNoForm, IsCount, greatest_budget, most_workers, problem_name, second_name}
 use Rattle.rwsp.specs.Inputs.{WhereTold, IsShort, IsTooLong, IsProblemOf}
 use Rattle.rwsp.specs.Plans.{IsPlanned}
-use Rattle.rwsp.specs.Answers.{IsAnswer, IsAnswerOn, IsAnswerTo, IsOfFile, IsOfRoster, IsOfLog, IsFileAnswer, IsRosterAnswer, IsLogAnswer}
+use Rattle.rwsp.specs.Answers.{IsAnswer, IsAnswerOn, IsAnswerTo, IsOfFile, IsOfRoster, IsOfLog, IsFileAnswer, IsRosterAnswer, IsLogAnswer, IsReduction}
 use Rattle.rwsp.specs.Texts.{IsTextOf, text_of}
 use Rattle.rwsp.specs.Laws.{AnswersAreOne, TextsAreOne, ProblemsAreAnswered, RefutationsAreAccepted, IsFound}
 use Rattle.rwsp.specs.declared.command.Command.{Command}
-use Rattle.rwsp.specs.declared.command.Command.TheVariants.{Plan, Check, Verify, Show}
+use Rattle.rwsp.specs.declared.command.Command.TheVariants.{Plan, Check, Verify, Reduce, Show}
 use Rattle.rwsp.specs.declared.answer.InputKind.{InputKind}
 use Rattle.rwsp.specs.declared.answer.InputKind.TheVariants as Kinds
 use Rattle.rwsp.specs.declared.answer.Answer.{Answer}
-use Rattle.rwsp.specs.declared.answer.Answer.TheVariants.{Roster, NoRoster, Undecided, Accepted, LogRefused, Meets, Shown, Breaks, RosterRefused, Usage, FileRefused, TooLong}
+use Rattle.rwsp.specs.declared.answer.Answer.TheVariants.{Roster, NoRoster, Undecided, Accepted, LogRefused, Reduced, Meets, Shown, Breaks, RosterRefused, Usage, FileRefused, TooLong}
+use Rattle.refutation_terms.specs.Strip.{IsReduced}
 use Rattle.rwsp.proofs.Logs.{one_verdict}
+use Rattle.rwsp.proofs.Reductions.{one_reduced}
 
 not_both : (kind : InputKind) (bytes : List ℕ) → IsTooLong kind bytes → IsShort kind bytes → ⊥
 not_both kind bytes long short = omega arith
@@ -61,6 +63,7 @@ roster_end P bytes (NoRoster g) h = absurd h
 roster_end P bytes (Undecided g) h = absurd h
 roster_end P bytes (Accepted R) h = absurd h
 roster_end P bytes (LogRefused why) h = absurd h
+roster_end P bytes (Reduced g) h = absurd h
 roster_end P bytes Usage h = absurd h
 roster_end P bytes Shown h = absurd h
 roster_end P bytes (FileRefused why) h = absurd h
@@ -120,6 +123,7 @@ log_end P bytes (Breaks b) h = absurd h
 log_end P bytes (Roster s) h = absurd h
 log_end P bytes (NoRoster g) h = absurd h
 log_end P bytes (Undecided g) h = absurd h
+log_end P bytes (Reduced g) h = absurd h
 log_end P bytes Usage h = absurd h
 log_end P bytes Shown h = absurd h
 log_end P bytes (FileRefused why) h = absurd h
@@ -160,6 +164,43 @@ same_count word limit m n h k =
     let both : Some m ≡ Some n = sym h.0 ∙ k.0 in
     cc
 
+-- how a log's bytes end a reduction for an instance
+data ReductionEnd (P : Instance) (bytes : List ℕ) (answer : Answer) : Type 0 where
+  long_reduction : IsTooLong Kinds.Log bytes → answer ≡ TooLong Kinds.Log → ReductionEnd P bytes answer
+  refused_reduction : (why : LogRefusal) → IsShort Kinds.Log bytes → IsRefused P bytes why → answer ≡ LogRefused why → ReductionEnd P bytes answer
+  reduced_log : (g h : LogValue) → IsShort Kinds.Log bytes → IsAccepted P bytes g → IsReduced P g h → answer ≡ Reduced h → ReductionEnd P bytes answer
+
+reduction_end : (P : Instance) (bytes : List ℕ) (answer : Answer) → IsReduction answer P bytes → ReductionEnd P bytes answer
+reduction_end P bytes (TooLong Kinds.Log) h = long_reduction h refl
+reduction_end P bytes (LogRefused why) h = refused_reduction why h.0 h.1 refl
+reduction_end P bytes (Reduced k) h = reduced_log h.1.0 k h.0 h.1.1 h.1.2 refl
+reduction_end P bytes (Accepted R) h = absurd h
+reduction_end P bytes (TooLong Kinds.Roster) h = absurd h
+reduction_end P bytes (TooLong Kinds.Problem) h = absurd h
+reduction_end P bytes (RosterRefused why) h = absurd h
+reduction_end P bytes Meets h = absurd h
+reduction_end P bytes (Breaks b) h = absurd h
+reduction_end P bytes (Roster s) h = absurd h
+reduction_end P bytes (NoRoster g) h = absurd h
+reduction_end P bytes (Undecided g) h = absurd h
+reduction_end P bytes Usage h = absurd h
+reduction_end P bytes Shown h = absurd h
+reduction_end P bytes (FileRefused why) h = absurd h
+
+same_reduction : (P : Instance) (bytes : List ℕ) (g h k l : LogValue) → KeepsLimits P → IsAccepted P bytes g → IsAccepted P bytes h → IsReduced P g k → IsReduced P h l → k ≡ l
+same_reduction P bytes g h k l limits a b r q = one_reduced P g k l r (subst (λ (f : LogValue). IsReduced P f l) (same_log P bytes h g limits b a) q)
+
+one_reduction_end : (P : Instance) (bytes : List ℕ) (a b : Answer) → KeepsLimits P → ReductionEnd P bytes a → ReductionEnd P bytes b → a ≡ b
+one_reduction_end P bytes a b limits (long_reduction l e) (long_reduction m f) = e ∙ sym f
+one_reduction_end P bytes a b limits (long_reduction l e) (refused_reduction why s r f) = absurd (not_both Kinds.Log bytes l s)
+one_reduction_end P bytes a b limits (long_reduction l e) (reduced_log g h s r q f) = absurd (not_both Kinds.Log bytes l s)
+one_reduction_end P bytes a b limits (refused_reduction why s r e) (long_reduction l f) = absurd (not_both Kinds.Log bytes l s)
+one_reduction_end P bytes a b limits (refused_reduction why s r e) (refused_reduction other t q f) = e ∙ ap LogRefused (same_refusal P bytes why other limits r q) ∙ sym f
+one_reduction_end P bytes a b limits (refused_reduction why s r e) (reduced_log g h t q o f) = absurd (not_both_ways P bytes g why limits q r)
+one_reduction_end P bytes a b limits (reduced_log g h s r q e) (long_reduction l f) = absurd (not_both Kinds.Log bytes l s)
+one_reduction_end P bytes a b limits (reduced_log g h s r q e) (refused_reduction why t o f) = absurd (not_both_ways P bytes g why limits r o)
+one_reduction_end P bytes a b limits (reduced_log g h s r q e) (reduced_log k l t o u f) = e ∙ ap Reduced (same_reduction P bytes g k h l limits r o q u) ∙ sym f
+
 -- two names of commands
 
 unlike : (a b : List ℕ) → bytes_eq a b ≡ false → a ≡ b → ⊥
@@ -174,6 +215,12 @@ not_show_and_plan word e f = unlike (codes "show") (codes "plan") refl (sym e �
 not_verify_and_check : (word : List ℕ) → word ≡ codes "verify" → word ≡ codes "check" → ⊥
 not_verify_and_check word e f = unlike (codes "verify") (codes "check") refl (sym e ∙ f)
 
+not_verify_and_reduce : (word : List ℕ) → word ≡ codes "verify" → word ≡ codes "reduce" → ⊥
+not_verify_and_reduce word e f = unlike (codes "verify") (codes "reduce") refl (sym e ∙ f)
+
+not_check_and_reduce : (word : List ℕ) → word ≡ codes "check" → word ≡ codes "reduce" → ⊥
+not_check_and_reduce word e f = unlike (codes "check") (codes "reduce") refl (sym e ∙ f)
+
 one_form : (words : Words) (a b : Command) → IsForm words a → IsForm words b → a ≡ b
 one_form [] a b h k = absurd (no_words a h)
   where
@@ -182,15 +229,20 @@ one_form [] a b h k = absurd (no_words a h)
     no_words (Check workers) h = h
     no_words Verify h = h
     no_words Show h = h
+    no_words Reduce h = h
 one_form (v ∷ []) (Plan m) b h k = absurd h
 one_form (v ∷ []) (Check m) b h k = absurd h
 one_form (v ∷ []) Verify b h k = absurd h
 one_form (v ∷ []) Show b h k = absurd h
+one_form (v ∷ []) Reduce b h k = absurd h
 one_form (v ∷ w ∷ []) Show Show h k = refl
 one_form (v ∷ w ∷ []) Show (Plan m) h k = absurd (not_show_and_plan (string_bytes v) h.0 k.0)
 one_form (v ∷ w ∷ []) (Plan m) Show h k = absurd (not_show_and_plan (string_bytes v) k.0 h.0)
 one_form (v ∷ w ∷ []) (Plan m) (Plan n) h k = ap Plan (h.2 ∙ sym k.2)
 one_form (v ∷ w ∷ []) Verify b h k = absurd h
+one_form (v ∷ w ∷ []) Reduce b h k = absurd h
+one_form (v ∷ w ∷ []) Show Reduce h k = absurd k
+one_form (v ∷ w ∷ []) (Plan m) Reduce h k = absurd k
 one_form (v ∷ w ∷ []) (Check m) b h k = absurd h
 one_form (v ∷ w ∷ []) Show Verify h k = absurd k
 one_form (v ∷ w ∷ []) Show (Check m) h k = absurd k
@@ -200,6 +252,13 @@ one_form (v ∷ w ∷ x ∷ []) Verify Verify h k = refl
 one_form (v ∷ w ∷ x ∷ []) Verify (Check m) h k = absurd (not_verify_and_check (string_bytes v) h.0 k.0)
 one_form (v ∷ w ∷ x ∷ []) (Check m) Verify h k = absurd (not_verify_and_check (string_bytes v) k.0 h.0)
 one_form (v ∷ w ∷ x ∷ []) (Check m) (Check n) h k = ap Check (h.3 ∙ sym k.3)
+one_form (v ∷ w ∷ x ∷ []) Reduce Reduce h k = refl
+one_form (v ∷ w ∷ x ∷ []) Reduce Verify h k = absurd (not_verify_and_reduce (string_bytes v) k.0 h.0)
+one_form (v ∷ w ∷ x ∷ []) Verify Reduce h k = absurd (not_verify_and_reduce (string_bytes v) h.0 k.0)
+one_form (v ∷ w ∷ x ∷ []) Reduce (Check m) h k = absurd (not_check_and_reduce (string_bytes v) k.0 h.0)
+one_form (v ∷ w ∷ x ∷ []) (Check m) Reduce h k = absurd (not_check_and_reduce (string_bytes v) h.0 k.0)
+one_form (v ∷ w ∷ x ∷ []) Reduce Show h k = absurd k
+one_form (v ∷ w ∷ x ∷ []) Reduce (Plan m) h k = absurd k
 one_form (v ∷ w ∷ x ∷ []) Show b h k = absurd h
 one_form (v ∷ w ∷ x ∷ []) (Plan m) b h k = absurd h
 one_form (v ∷ w ∷ x ∷ []) Verify Show h k = absurd k
@@ -210,6 +269,8 @@ one_form (v ∷ w ∷ x ∷ y ∷ []) (Plan m) (Plan n) h k = ap Plan (same_coun
 one_form (v ∷ w ∷ x ∷ y ∷ []) (Plan m) Show h k = absurd k
 one_form (v ∷ w ∷ x ∷ y ∷ []) (Plan m) Verify h k = absurd k
 one_form (v ∷ w ∷ x ∷ y ∷ []) (Plan m) (Check n) h k = absurd k
+one_form (v ∷ w ∷ x ∷ y ∷ []) (Plan m) Reduce h k = absurd k
+one_form (v ∷ w ∷ x ∷ y ∷ []) Reduce b h k = absurd h
 one_form (v ∷ w ∷ x ∷ y ∷ []) Show b h k = absurd h
 one_form (v ∷ w ∷ x ∷ y ∷ []) Verify b h k = absurd h
 one_form (v ∷ w ∷ x ∷ y ∷ []) (Check m) b h k = absurd h
@@ -217,12 +278,15 @@ one_form (v ∷ w ∷ x ∷ y ∷ z ∷ []) (Check m) (Check n) h k = ap Check (
 one_form (v ∷ w ∷ x ∷ y ∷ z ∷ []) (Check m) Show h k = absurd k
 one_form (v ∷ w ∷ x ∷ y ∷ z ∷ []) (Check m) Verify h k = absurd k
 one_form (v ∷ w ∷ x ∷ y ∷ z ∷ []) (Check m) (Plan n) h k = absurd k
+one_form (v ∷ w ∷ x ∷ y ∷ z ∷ []) (Check m) Reduce h k = absurd k
+one_form (v ∷ w ∷ x ∷ y ∷ z ∷ []) Reduce b h k = absurd h
 one_form (v ∷ w ∷ x ∷ y ∷ z ∷ []) Show b h k = absurd h
 one_form (v ∷ w ∷ x ∷ y ∷ z ∷ []) Verify b h k = absurd h
 one_form (v ∷ w ∷ x ∷ y ∷ z ∷ []) (Plan m) b h k = absurd h
 one_form (v ∷ w ∷ x ∷ y ∷ z ∷ u ∷ words) (Plan m) b h k = absurd h
 one_form (v ∷ w ∷ x ∷ y ∷ z ∷ u ∷ words) (Check m) b h k = absurd h
 one_form (v ∷ w ∷ x ∷ y ∷ z ∷ u ∷ words) Verify b h k = absurd h
+one_form (v ∷ w ∷ x ∷ y ∷ z ∷ u ∷ words) Reduce b h k = absurd h
 one_form (v ∷ w ∷ x ∷ y ∷ z ∷ u ∷ words) Show b h k = absurd h
 
 -- what a told file holds
@@ -249,6 +313,7 @@ found P budget (NoRoster g) h = tt
 found P budget (Undecided g) h = tt
 found P budget (Accepted R) h = absurd h
 found P budget (LogRefused why) h = absurd h
+found P budget (Reduced g) h = absurd h
 found P budget Meets h = absurd h
 found P budget Shown h = absurd h
 found P budget (Breaks b) h = absurd h
@@ -265,10 +330,15 @@ one_log_answer : (P : Instance) (told : Told) (a b : Answer) → KeepsLimits P �
 one_log_answer P told a b limits (inl e) h k = absurd (at_missing told (IsLogAnswer a P) e h)
 one_log_answer P told a b limits (inr r) h k = one_log_end P r.0 a b limits (log_end P r.0 a (at_bytes told r.0 (IsLogAnswer a P) r.1 h)) (log_end P r.0 b (at_bytes told r.0 (IsLogAnswer b P) r.1 k))
 
+one_reduction : (P : Instance) (told : Told) (a b : Answer) → KeepsLimits P → IsThere told → WhereTold told (IsReduction a P) → WhereTold told (IsReduction b P) → a ≡ b
+one_reduction P told a b limits (inl e) h k = absurd (at_missing told (IsReduction a P) e h)
+one_reduction P told a b limits (inr r) h k = one_reduction_end P r.0 a b limits (reduction_end P r.0 a (at_bytes told r.0 (IsReduction a P) r.1 h)) (reduction_end P r.0 b (at_bytes told r.0 (IsReduction b P) r.1 k))
+
 one_on : (command : Command) (P : Instance) (told : Told) (a b : Answer) → KeepsLimits P → IsThere told → IsAnswerOn command told P a → IsAnswerOn command told P b → (a ≡ b) ⊎ (IsFound a × IsFound b)
 one_on Show P told a b limits there h k = inl (h ∙ sym k)
 one_on Verify P told a b limits there h k = inl (one_roster_answer P told a b there h.1 k.1)
 one_on (Check workers) P told a b limits there h k = inl (one_log_answer P told a b limits there h.1 k.1)
+one_on Reduce P told a b limits there h k = inl (one_reduction P told a b limits there h.1 k.1)
 one_on (Plan budget) P told a b limits there h k = inr (found P budget a h, found P budget b k)
 
 -- two answers of the problem's file
@@ -287,6 +357,7 @@ file_end file (NoRoster g) h = absurd h
 file_end file (Undecided g) h = absurd h
 file_end file (Accepted R) h = absurd h
 file_end file (LogRefused why) h = absurd h
+file_end file (Reduced g) h = absurd h
 file_end file Meets h = absurd h
 file_end file Shown h = absurd h
 file_end file (Breaks b) h = absurd h

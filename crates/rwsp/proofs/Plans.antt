@@ -75,4 +75,3 @@ pub planned_as_found : (P : Instance) (turn : Option Turn) (budget : ℕ) (leave
 planned_as_found P turn budget leaves spent (Founds.Roster s) limits first windows days spend h few = h
 planned_as_found P turn budget leaves spent (Founds.NoRoster g) limits first windows days spend h few = (h.0, h.1, planned_log P turn leaves spent g (some_cells P limits) first windows days spend h.2)
 planned_as_found P turn budget leaves spent (Founds.Undecided g) limits first windows days spend h few = (h.0, planned_log P turn leaves spent g (some_cells P limits) first windows days spend h.1, few tt)
-

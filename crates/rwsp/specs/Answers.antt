@@ -9,16 +9,18 @@ use Rattle.rwsp_file.specs.Reading.{file_refusal}
 use Rattle.roster_print.specs.RosterText.{SpellsRoster}
 use Rattle.roster_print.specs.Refusal.{refusal_of_roster}
 use Rattle.roster_checker.specs.FirstBroken.{IsFirstBroken}
-use Rattle.refutation_terms.specs.Log.{Log as LogValue}
+use Rattle.refutation_terms.specs.Log.{Log as LogValue, Passes}
+use Rattle.refutation_terms.specs.Strip.{IsReduced}
 use Rattle.refutation_terms.specs.Verdict.{IsAccepted, IsRefused}
+use Rattle.rule_reducer.specs.Needs.{NeedsEach, NeedsTogether}
 use Rattle.rwsp.specs.Commands.{Words, IsForm, HasNoForm, ReadsSecond, problem_name, second_name}
 use Rattle.rwsp.specs.Inputs.{WhereTold, IsShort, IsTooLong, OfProblem}
 use Rattle.rwsp.specs.Plans.{IsPlanned}
 use Rattle.rwsp.specs.declared.command.Command.{Command}
-use Rattle.rwsp.specs.declared.command.Command.TheVariants.{Plan, Check, Verify, Show}
+use Rattle.rwsp.specs.declared.command.Command.TheVariants.{Plan, Check, Verify, Reduce, Show}
 use Rattle.rwsp.specs.declared.answer.InputKind.TheVariants.{Problem, Roster, Log}
 use Rattle.rwsp.specs.declared.answer.Answer.{Answer}
-use Rattle.rwsp.specs.declared.answer.Answer.TheVariants.{Meets, Breaks, RosterRefused, Accepted, LogRefused, Shown, Usage, FileRefused, TooLong}
+use Rattle.rwsp.specs.declared.answer.Answer.TheVariants.{Meets, Breaks, RosterRefused, Accepted, LogRefused, Reduced, Shown, Usage, FileRefused, TooLong}
 
 -- what an answer says of the bytes of a problem file
 abbrev pub IsFileAnswer : Answer → List ℕ → Type 0
@@ -46,6 +48,19 @@ IsLogAnswer (LogRefused why) P bytes = IsShort Log bytes × IsRefused P bytes wh
 IsLogAnswer (Accepted R) P bytes = IsShort Log bytes × ((g : LogValue) × IsAccepted P bytes g × (g.named ≡ R)) × LeavesNoRoster P R
 IsLogAnswer answer P bytes = ⊥
 
+-- a log that passes, and can't do without any rule that it names, nor without several window rules
+pub record IsSparing (P : Instance) (g : LogValue) : Type 0 where
+  pub passes : Passes P g
+  pub each : NeedsEach P g
+  pub together : NeedsTogether P g
+
+-- what an answer of a reduction says of an instance and the bytes of a log: reduced is the log that passes
+abbrev pub IsReduction : Answer → Instance → List ℕ → Type 0
+IsReduction (TooLong Log) P bytes = IsTooLong Log bytes
+IsReduction (LogRefused why) P bytes = IsShort Log bytes × IsRefused P bytes why
+IsReduction (Reduced h) P bytes = IsShort Log bytes × ((g : LogValue) × IsAccepted P bytes g × IsReduced P g h) × IsSparing P h
+IsReduction answer P bytes = ⊥
+
 -- an answer that the problem's file has by itself
 abbrev pub IsOfFile : Answer → Type 0
 IsOfFile (TooLong Problem) = Unit {0}
@@ -67,11 +82,19 @@ IsOfLog (LogRefused why) = Unit {0}
 IsOfLog (Accepted R) = Unit {0}
 IsOfLog answer = ⊥
 
+-- an answer that a reduction has
+abbrev pub IsOfReduction : Answer → Type 0
+IsOfReduction (TooLong Log) = Unit {0}
+IsOfReduction (LogRefused why) = Unit {0}
+IsOfReduction (Reduced g) = Unit {0}
+IsOfReduction answer = ⊥
+
 -- what the answer to a command says of the instance that the first file spells, and of what the second file tells
 abbrev pub IsAnswerOn : Command → Told → Instance → Answer → Type 0
 IsAnswerOn Show told P answer = answer ≡ Shown
 IsAnswerOn Verify told P answer = IsOfRoster answer × WhereTold told (IsRosterAnswer answer P)
 IsAnswerOn (Check workers) told P answer = IsOfLog answer × WhereTold told (IsLogAnswer answer P)
+IsAnswerOn Reduce told P answer = IsOfReduction answer × WhereTold told (IsReduction answer P)
 IsAnswerOn (Plan budget) told P answer = IsPlanned P budget answer
 
 -- the problem's file ends the job, or it spells an instance and the command has this answer there

@@ -4,7 +4,7 @@ use Rattle.std.specs.String.{string_bytes}
 use Rattle.std.specs.declared.alloc.Global.{Global}
 use Rattle.rwsp_text.specs.Numbers.{number_of}
 use Rattle.rwsp.specs.declared.command.Command.{Command}
-use Rattle.rwsp.specs.declared.command.Command.TheVariants.{Plan, Check, Verify, Show}
+use Rattle.rwsp.specs.declared.command.Command.TheVariants.{Plan, Check, Verify, Reduce, Show}
 
 -- the words behind the program's name
 abbrev pub Words : Type 0
@@ -37,6 +37,7 @@ abbrev pub IsForm : Words → Command → Type 0
 IsForm (word ∷ file ∷ []) Show = (string_bytes word ≡ codes "show") × IsFileWord (string_bytes file)
 IsForm (word ∷ file ∷ []) (Plan budget) = (string_bytes word ≡ codes "plan") × IsFileWord (string_bytes file) × (budget ≡ usual_budget)
 IsForm (word ∷ file ∷ second ∷ []) Verify = (string_bytes word ≡ codes "verify") × IsFileWord (string_bytes file) × IsFileWord (string_bytes second)
+IsForm (word ∷ file ∷ second ∷ []) Reduce = (string_bytes word ≡ codes "reduce") × IsFileWord (string_bytes file) × IsFileWord (string_bytes second)
 IsForm (word ∷ file ∷ second ∷ []) (Check workers) = (string_bytes word ≡ codes "check") × IsFileWord (string_bytes file) × IsFileWord (string_bytes second) × (workers ≡ usual_workers)
 IsForm (word ∷ file ∷ option ∷ number ∷ []) (Plan budget) = (string_bytes word ≡ codes "plan") × IsFileWord (string_bytes file) × (string_bytes option ≡ codes "--budget") × IsCount (string_bytes number) greatest_budget budget
 IsForm (word ∷ file ∷ second ∷ option ∷ number ∷ []) (Check workers) = (string_bytes word ≡ codes "check") × IsFileWord (string_bytes file) × IsFileWord (string_bytes second) × (string_bytes option ≡ codes "--workers") × IsCount (string_bytes number) most_workers workers
@@ -49,6 +50,7 @@ HasNoForm words = (command : Command) → IsForm words command → ⊥
 -- the command reads a second file
 abbrev pub ReadsSecond : Command → Type 0
 ReadsSecond Verify = Unit {0}
+ReadsSecond Reduce = Unit {0}
 ReadsSecond (Check workers) = Unit {0}
 ReadsSecond command = ⊥
 

@@ -26,7 +26,7 @@ use Rattle.rwsp.specs.Inputs.{IsProblemOf}
 use Rattle.rwsp.specs.declared.answer.InputKind.{InputKind}
 use Rattle.rwsp.specs.declared.answer.InputKind.TheVariants as Kinds
 use Rattle.rwsp.specs.declared.answer.Answer.{Answer}
-use Rattle.rwsp.specs.declared.answer.Answer.TheVariants.{Roster, NoRoster, Undecided, Accepted, LogRefused, Meets, Shown, Breaks, RosterRefused, Usage, FileRefused, TooLong}
+use Rattle.rwsp.specs.declared.answer.Answer.TheVariants.{Roster, NoRoster, Undecided, Accepted, LogRefused, Reduced, Meets, Shown, Breaks, RosterRefused, Usage, FileRefused, TooLong}
 
 -- the text and a line feed
 abbrev pub line : List ℕ → List ℕ
@@ -97,6 +97,7 @@ HasFixedText (Roster s) = ⊥
 HasFixedText (NoRoster g) = ⊥
 HasFixedText (Undecided g) = ⊥
 HasFixedText (LogRefused why) = ⊥
+HasFixedText (Reduced g) = ⊥
 HasFixedText (Breaks broken) = ⊥
 HasFixedText Shown = ⊥
 HasFixedText answer = Unit {0}
@@ -113,6 +114,7 @@ text_of P (NoRoster g) = log_text P g
 text_of P (Undecided g) = log_text P g
 text_of P (Accepted R) = line (accepted_text R)
 text_of P (LogRefused why) = line (log_refusal_text P why)
+text_of P (Reduced g) = log_text P g
 text_of P Meets = line (codes "meets")
 text_of P (Breaks broken) = line (breaks_text P broken)
 text_of P (RosterRefused why) = line (roster_refusal_text why)
@@ -132,6 +134,7 @@ IsPrintable P (Roster s) = (s.days ≡ P.days) × IsRoster P s.cells
 IsPrintable P (NoRoster g) = Fits P g
 IsPrintable P (Undecided g) = Fits P g
 IsPrintable P (LogRefused why) = HasSymbols P why
+IsPrintable P (Reduced g) = Fits P g
 IsPrintable P (Breaks broken) = (r : Rule) × (rule_of P broken.rule ≡ Some r)
 IsPrintable P answer = Unit {0}
 

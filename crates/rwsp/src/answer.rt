@@ -28,6 +28,8 @@ pub enum Answer {
     Accepted(RuleList),
     /// The second file is no log that passes: its first line with a cause, and the lowest cause there.
     LogRefused(LogRefusal),
+    /// The log without the rules that it can do without.
+    Reduced(Log),
     /// The roster meets every rule.
     Meets,
     /// The roster breaks a rule: the first one, and where.
@@ -81,7 +83,8 @@ impl Answer {
         ensures { result ≡ status_of_answer self.now }
     {
         match self {
-            Answer::Roster(_) | Answer::Accepted(_) | Answer::Meets | Answer::Shown => 0,
+            Answer::Roster(_) | Answer::Accepted(_) | Answer::Reduced(_) => 0,
+            Answer::Meets | Answer::Shown => 0,
             Answer::NoRoster(_) => 1,
             Answer::Usage => 2,
             Answer::FileRefused(_) | Answer::RosterRefused(_) | Answer::TooLong(_) => 3,

@@ -13,6 +13,8 @@ pub enum Command {
     Check { workers: u32 },
     /// Whether a roster meets all rules of a problem.
     Verify,
+    /// A log without the rules that it can do without.
+    Reduce,
     /// The canonical text of a problem.
     Show,
 }
@@ -85,6 +87,8 @@ fn on_two_files(word: &String, file: &String, second: &String) -> Option<Command
     }
     if word.as_str() == "verify" {
         Some(Command::Verify)
+    } else if word.as_str() == "reduce" {
+        Some(Command::Reduce)
     } else if word.as_str() == "check" {
         Some(Command::Check {
             workers: USUAL_WORKERS,

@@ -3,13 +3,14 @@ ghost use Rattle.std.specs.Prelude.{◌≡◌, ℕ, ◌≤◌, List, length, IfO
 ghost use Rattle.rwsp_io.specs.Told.{NeverFall, Rose};
 ghost use Rattle.rwsp_file.specs.Spelling.{SpellsProblem};
 ghost use Rattle.rwsp.specs.Inputs.{WhereTold, IsShort, longest};
-ghost use Rattle.rwsp.specs.Answers.{IsRosterAnswer, IsOfRoster, IsLogAnswer, IsOfLog};
+ghost use Rattle.rwsp.specs.Answers.{IsRosterAnswer, IsOfRoster, IsLogAnswer, IsOfLog, IsReduction, IsOfReduction};
 ghost use Rattle.rwsp.specs.Texts.{IsPrintable};
 ghost use Rattle.rwsp.specs.Exits.{IsReadExit, IsProblemExit, IsSecondExit};
 ghost use Rattle.rwsp.specs.declared.answer.InputKind.TheVariants as Kinds;
 
 use crate::answer::{Answer, InputKind};
 use crate::check::log_verdict;
+use crate::reduce::reduction;
 use crate::verify::roster_verdict;
 use potential_bounds::Gate;
 use rwsp_file::read_problem;
@@ -125,6 +126,32 @@ pub fn log_answer<R: Threads + Sync, S: Shelf, G: Gate>(
         Err(exit) => return Err(exit),
     };
     match log_verdict(rt, alloc, problem, &text, workers, gate) {
+        Ok(answer) => Ok(answer),
+        Err(_) => Err(Exit::Memory),
+    }
+}
+
+/// The answer of a reduction to a log's file, for a problem.
+pub fn reduction_answer<R: Threads + Sync, S: Shelf, G: Gate>(
+    rt: &R,
+    alloc: Global,
+    shelf: &mut S,
+    problem: &Problem,
+    name: &str,
+    gate: &G,
+) -> Result<Answer, Exit>
+    ensures answer { IfOk result (λ a. WhereTold (S.held shelf.old name.now) (IsReduction a problem.now)) }
+    ensures kind { IfOk result IsOfReduction }
+    ensures printable { IfOk result (IsPrintable problem.now) }
+    ensures exit { IfErr result (IsSecondExit (Rose (S.faults shelf.old name.now) (S.faults shelf.new name.now))) }
+    ensures faults { NeverFall (S.faults shelf.old) (S.faults shelf.new) }
+{
+    let text = match bytes_in(alloc, shelf, name, InputKind::Log) {
+        Ok(text) => text,
+        Err(Exit::Answer(answer)) => return Ok(answer),
+        Err(exit) => return Err(exit),
+    };
+    match reduction(rt, alloc, problem, &text, gate) {
         Ok(answer) => Ok(answer),
         Err(_) => Err(Exit::Memory),
     }

@@ -8,6 +8,7 @@ mod input;
 mod laws;
 mod log_text;
 mod plan;
+mod reduce;
 mod run;
 #[cfg(test)]
 mod tests;

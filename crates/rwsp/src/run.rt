@@ -11,7 +11,7 @@ ghost use Rattle.rwsp.specs.declared.answer.Answer.{Answer};
 
 use crate::answer::{Answer, Outcome};
 use crate::command::{Command, command_of, word_at};
-use crate::input::{Exit, log_answer, problem_in, roster_answer};
+use crate::input::{Exit, log_answer, problem_in, reduction_answer, roster_answer};
 use crate::plan::planned;
 use crate::text::{fixed_text, text_on};
 use potential_bounds::Gate;
@@ -117,6 +117,7 @@ fn answer_on<R: Threads + Sync, S: Shelf, G: Gate>(
         Command::Plan { budget } => plan(alloc, problem, budget),
         Command::Check { workers } => check(rt, alloc, words, shelf, problem, workers, gate),
         Command::Verify => verify(alloc, words, shelf, problem),
+        Command::Reduce => reduce(rt, alloc, words, shelf, problem, gate),
         Command::Show => Ok(Answer::Shown),
     }
 }
@@ -199,6 +200,28 @@ fn verify<S: Shelf>(
     ensures faults { NeverFall (S.faults shelf.old) (S.faults shelf.new) }
 {
     match roster_answer(alloc, shelf, problem, word_at(words, 2)) {
+        Ok(answer) => Ok(answer),
+        Err(Exit::ReadFault) => Err(Stop::ReadFault),
+        Err(_) => Err(Stop::Memory),
+    }
+}
+
+// The answer to `reduce`.
+fn reduce<R: Threads + Sync, S: Shelf, G: Gate>(
+    rt: &R,
+    alloc: Global,
+    words: &Vec<String>,
+    shelf: &mut S,
+    problem: &Problem,
+    gate: &G,
+) -> Result<Answer, Stop>
+    requires { IsForm words.now.items Command.Reduce }
+    ensures answer { IfOk result (IsAnswerOn Command.Reduce (S.held shelf.old (second_name words.now.items)) problem.now) }
+    ensures printable { IfOk result (IsPrintable problem.now) }
+    ensures fault { IsErrOf result Stop.ReadFault → Rose (S.faults shelf.old (second_name words.now.items)) (S.faults shelf.new (second_name words.now.items)) }
+    ensures faults { NeverFall (S.faults shelf.old) (S.faults shelf.new) }
+{
+    match reduction_answer(rt, alloc, shelf, problem, word_at(words, 2), gate) {
         Ok(answer) => Ok(answer),
         Err(Exit::ReadFault) => Err(Stop::ReadFault),
         Err(_) => Err(Stop::Memory),
