@@ -6,3 +6,4 @@ pub mod Judging
 pub mod Walking
 pub mod Cutting
 pub mod Joining
+pub mod Feeds

@@ -1,5 +1,5 @@
 -- The lines below a header, cut into chunks.
-use Rattle.std.specs.Prelude.{◌≡◌, ◌≢◌, ◌⊎◌, ℕ, ◌+◌, ◌^◌, ◌<◌, List, [], ◌∷◌, ◌++◌, length, Option, Bool, Result, Ok, Err}
+use Rattle.std.specs.Prelude.{◌≡◌, ◌≢◌, ◌⊎◌, ℕ, ◌+◌, ◌^◌, ◌<◌, List, [], ◌∷◌, ◌++◌, length, Option, Bool, Result, Ok, Err, count_by, cond, slice_index, take, ◌-◌, ◌==◌}
 use Rattle.rwsp_terms.specs.Instance.{Instance}
 use Rattle.rwsp_model.specs.declared.fail.Fail.{Fail}
 use Rattle.refutation_terms.specs.declared.lines.Line.{Line}
@@ -70,3 +70,15 @@ abbrev pub joined_from : Bool → List (Result Bool (Fail LogRefusal)) → Resul
 joined_from whole [] = Ok whole
 joined_from whole (Ok last ∷ answers) = joined_from last answers
 joined_from whole (Err fail ∷ answers) = Err fail
+
+-- how many LF the bytes hold
+abbrev pub feeds : List ℕ → ℕ
+feeds bytes = count_by (λ b. b == 10) bytes
+
+-- how many lines they hold, of which the last one may have no LF
+abbrev pub line_count : List ℕ → ℕ
+line_count bytes = feeds bytes + cond (slice_index bytes (length bytes - 1) == 10) 0 1
+
+-- the first n bytes are so many lines, or all bytes, which hold fewer LF
+abbrev pub EndsLines : List ℕ → ℕ → ℕ → Type 0
+EndsLines bytes size n = ((feeds (take n bytes) ≡ size) × (slice_index bytes (n - 1) ≡ 10)) ⊎ ((n ≡ length bytes) × (feeds bytes < size))

@@ -5,7 +5,7 @@ ghost use Rattle.refutation_terms.specs.declared.lines.Line.{Line as TheLine};
 ghost use Rattle.refutation_terms.specs.declared.lines.Turn.{Turn};
 ghost use Rattle.tree_walk.specs.States.{IsStateOf};
 ghost use Rattle.refutation_checker.specs.Sound.{StandsBehind};
-ghost use Rattle.refutation_checker.specs.Chunks.{IsWithin, IsLineWalked, AreLinesWalked, IsCutOff, AreChunks, IsJudgeable};
+ghost use Rattle.refutation_checker.specs.Chunks.{IsWithin, IsLineWalked, AreLinesWalked, IsCutOff, AreChunks, IsJudgeable, EndsLines, line_count, feeds};
 
 use crate::chunk::Chunk;
 use refutation_log::{LineReader, read_line};
@@ -55,8 +55,7 @@ fn cut_off<'a>(
     let first = rest.first;
     let bytes = rest.bytes;
     let (lines, below) = bytes.split_at(lines_end(bytes, size));
-    let read = read_through(alloc, problem, &mut rest.walk, lines)?;
-    if let Some(count) = read {
+    if let Some(count) = read_through(alloc, problem, &mut rest.walk, lines)? {
         rest.first = first + count;
         rest.bytes = below;
         Ok(Chunk {
@@ -141,10 +140,12 @@ fn go_on(walk: &mut Walk, line: &Line) -> Result<bool, AllocError>
 }
 
 // Where the first so many lines end.
+#[tactic(auto, using(crate::proofs::Feeds::fed, crate::proofs::Feeds::not_fed, crate::proofs::Feeds::fed_in_all))]
 fn lines_end(bytes: &[u8], size: usize) -> usize
     requires some { 1 ≤ size }
     ensures within { result ≤ length bytes.now }
     ensures some { 0 < length bytes.now → 0 < result }
+    ensures lines { EndsLines bytes.now size result }
 {
     let mut count = 0;
     for (i, byte) in bytes.iter().enumerate() {
@@ -159,16 +160,23 @@ fn lines_end(bytes: &[u8], size: usize) -> usize
 }
 
 /// The number of lines, of which the last one may have no LF.
+#[tactic(auto, using(crate::proofs::Feeds::fed_at_end))]
 pub fn count_lines(bytes: &[u8]) -> usize
     requires { 0 < length bytes.now }
+    ensures value { result ≡ line_count bytes.now }
     ensures some { 1 ≤ result }
+{
+    let feeds = count_feeds(bytes);
+    if bytes[bytes.len() - 1] == b'\n' {
+        feeds
+    } else {
+        feeds + 1
+    }
+}
+
+fn count_feeds(bytes: &[u8]) -> usize
+    ensures value { result ≡ feeds bytes.now }
     ensures few { result ≤ length bytes.now }
 {
-    let mut count = 0;
-    for (i, byte) in bytes.iter().enumerate() {
-        if *byte == b'\n' || i + 1 == bytes.len() {
-            count += 1;
-        }
-    }
-    count
+    bytes.iter().filter(|byte| **byte == b'\n').count()
 }
