@@ -11,52 +11,6 @@ use Rattle.tree_walk.specs.States.{State, IsStateOf}
 use Rattle.refutation_checker.specs.Sound.{Start, StandsBehind}
 use Rattle.refutation_checker.specs.Chunks.{AreLinesWalked, EndsLines, IsLast, LeadsTo, IsCutOff, AreChunks, IsJudgeable}
 
--- where the lines of a chunk were walked through, the rest stands behind them
-pub leads : (P : Instance) (w : State) (bytes below : List ℕ) (first count : ℕ) (w' : State) → ((turn : Option Turn) (earlier : List Line) → IsStateOf P turn earlier w → AreLinesWalked P turn earlier bytes count w')
-    → (turn : Option Turn) (earlier : List Line) → StandsBehind P turn earlier (record { walk = w; bytes = bytes ++ below; first = first })
-    → LeadsTo P turn earlier (record { walk = w; bytes = bytes; first = first }) (record { walk = w'; bytes = below; first = first + count })
-leads P w bytes below first count w' walked turn earlier h =
-    let read = walked turn earlier h.state in
-    let size : length (earlier ++ read.lines) ≡ length earlier + length read.lines = length-append earlier read.lines in
-    record {
-      lines = read.lines;
-      fit = read.fit;
-      text = read.text;
-      behind = record { state = read.walked; counted = omega (arith, h.counted, read.counted, size) };
-    }
-
-pub cut : (P : Instance) (size n : ℕ) (old : Start) (w w' : State) (bytes below : List ℕ) (first count : ℕ) → w ≡ old.walk → first ≡ old.first → old.bytes ≡ bytes ++ below → bytes ≢ [] → count ≤ length bytes → old.first + length old.bytes < 2 ^ 31
-    → EndsLines old.bytes size n → bytes ≡ take n old.bytes
-    → ((turn : Option Turn) (earlier : List Line) → IsStateOf P turn earlier old.walk → AreLinesWalked P turn earlier bytes count w')
-    → IsCutOff P size old (record { walk = w; bytes = bytes; first = first }) (record { walk = w'; bytes = below; first = first + count })
-cut P size n old w w' bytes below first count e f g some le few ends front walked =
-    let long : length old.bytes ≡ length bytes + length below = ap length g ∙ length-append bytes below in
-    record {
-      walk = e;
-      first = f;
-      some = some;
-      whole = g;
-      few = λ _. omega (arith, long, le, few, f);
-      lines = λ turn earlier h. record { end = n; lines = ends; cut = inl front };
-      leads = λ turn earlier h.
-          inr
-          (leads P w bytes below first count w' (λ t ls s. walked t ls (subst (IsStateOf P t ls) e s)) turn earlier
-          (record { state = subst (IsStateOf P turn earlier) (sym e) h.state; counted = f ∙ h.counted }));
-    }
-
-pub cut_rest : (P : Instance) (size n : ℕ) (old rest : Start) (w : State) (bytes : List ℕ) (first : ℕ) → w ≡ old.walk → first ≡ old.first → old.bytes ≡ bytes → old.bytes ≢ [] → rest.bytes ≡ []
-    → EndsLines old.bytes size n → ((turn : Option Turn) (earlier : List Line) → IsStateOf P turn earlier old.walk → IsLast P turn earlier old.bytes n)
-    → IsCutOff P size old (record { walk = w; bytes = bytes; first = first }) rest
-cut_rest P size n old rest w bytes first e f g some none ends last = record {
-  walk = e;
-  first = f;
-  some = λ h. some (g ∙ h);
-  whole = g ∙ sym (append-nil bytes) ∙ ap (λ r. bytes ++ r) (sym none);
-  few = λ h. absurd (h none);
-  lines = λ turn earlier h. record { end = n; lines = ends; cut = inr (sym g, last turn earlier h.state) };
-  leads = λ turn earlier h. inl none;
-}
-
 -- the chunks so far: they hold all bytes, or the next ones go on behind them
 pub record IsOpen (P : Instance) (size : ℕ) (turn : Option Turn) (earlier : List Line) (bytes : List ℕ) (chunks : List Start) (rest : Start) : Type 0 where
   pub lines : List Line

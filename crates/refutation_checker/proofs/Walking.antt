@@ -58,10 +58,6 @@ pub line_read : (b : Bool) (A B : Type 0) → b ≡ true → MatchBool b A B →
 line_read true A B e h = h
 line_read false A B e h = absurd (cc)
 
-pub line_stops : (b : Bool) (A B : Type 0) → b ≡ false → MatchBool b A B → B
-line_stops true A B e h = absurd (cc)
-line_stops false A B e h = h
-
 fits_joined : (P : Instance) (a b : List Line) → EachFits P a → EachFits P b → EachFits P (a ++ b)
 fits_joined P [] b h k = k
 fits_joined P (l ∷ a) b h k = (h.0, fits_joined P a b h.1 k)
@@ -128,15 +124,3 @@ walked_all P old w all left count so e turn earlier h =
 pub walked_state : (P : Instance) (old w : State) (all left : List ℕ) (count : ℕ) → WalkedSoFar P old w all left count → (turn : Option Turn) × (earlier : List Line) × IsStateOf P turn earlier old → (turn : Option Turn) × (earlier : List Line) × IsStateOf P turn earlier w
 walked_state P old w all left count so h =
     let up = so.each h.0 h.1 h.2 in (h.0, h.1 ++ up.lines, up.state)
-
-pub walked_stopped : (P : Instance) (old w : State) (all left bytes rest : List ℕ) (count : ℕ) → WalkedSoFar P old w all left count → left ≡ bytes ++ rest → IsNextLine bytes rest → ((turn : Option Turn) (earlier : List Line) → IsStateOf P turn earlier w → StopsWalk P turn earlier bytes) → (turn : Option Turn) (earlier : List Line) → IsStateOf P turn earlier old → IsStopped P turn earlier all
-walked_stopped P old w all left bytes rest count so e next stops turn earlier h =
-    let up = so.each turn earlier h in
-    record {
-      lines = up.lines;
-      line = bytes;
-      rest = rest;
-      text = up.text ∙ ap (λ t. lines_text P up.lines ++ t) e ∙ sym (append_assoc (lines_text P up.lines) bytes rest);
-      is_line = next;
-      stops = stops turn (earlier ++ up.lines) up.state;
-    }

@@ -1,4 +1,4 @@
-use Rattle.refutation_checker.proofs.Walking.{line_read, line_stops, walked_more, walked_stopped}
+use Rattle.refutation_checker.proofs.Walking.{line_read, walked_more}
 use Rattle.refutation_checker.proofs.scan.read_through.Goals as goal
 
 pub loop-line-preserved : goal.loop-line-preserved
