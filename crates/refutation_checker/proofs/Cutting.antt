@@ -1,5 +1,5 @@
 -- Cutting the lines of a text into chunks.
-use Rattle.std.proofs.Common.{◌≡◌, ◌≢◌, ◌⊎◌, ℕ, ◌+◌, ◌^◌, ◌<◌, ◌≤◌, List, [], ◌∷◌, ◌++◌, length, take, refl, ap, sym, ◌∙◌, append_assoc, length-append, subst, arith, Option, inl, inr, true, ◌==◌}
+use Rattle.std.proofs.Common.{◌≡◌, ◌≢◌, ◌⊎◌, ℕ, ◌+◌, ◌^◌, ◌<◌, ◌≤◌, List, [], ◌∷◌, ◌++◌, length, refl, ap, sym, ◌∙◌, append_assoc, length-append, subst, arith, Option, inl, inr, true, ◌==◌}
 use Rattle.std.specs.Prelude.{All}
 use Rattle.std.proofs.lemmas.Bool.{eqb-true}
 use Rattle.std.proofs.lemmas.List.{append-nil}
@@ -7,9 +7,9 @@ use Rattle.std.proofs.lemmas.List.Elements.{All-nil, All-cons, All-append}
 use Rattle.rwsp_terms.specs.Instance.{Instance}
 use Rattle.refutation_terms.specs.declared.lines.Line.{Line}
 use Rattle.refutation_terms.specs.declared.lines.Turn.{Turn}
-use Rattle.tree_walk.specs.States.{State, IsStateOf}
+use Rattle.tree_walk.specs.States.{IsStateOf}
 use Rattle.refutation_checker.specs.Sound.{Start, StandsBehind}
-use Rattle.refutation_checker.specs.Chunks.{AreLinesWalked, EndsLines, IsLast, LeadsTo, IsCutOff, AreChunks, IsJudgeable}
+use Rattle.refutation_checker.specs.Chunks.{LeadsTo, IsCutOff, AreChunks, IsJudgeable}
 
 -- the chunks so far: they hold all bytes, or the next ones go on behind them
 pub record IsOpen (P : Instance) (size : ℕ) (turn : Option Turn) (earlier : List Line) (bytes : List ℕ) (chunks : List Start) (rest : Start) : Type 0 where

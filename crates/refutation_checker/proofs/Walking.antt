@@ -1,5 +1,5 @@
 -- Walking through lines without judging leaves.
-use Rattle.std.proofs.Common.{◌≡◌, ◌≢◌, ℕ, ◌+◌, ◌≤◌, List, [], ◌∷◌, ◌++◌, length, refl, ap, sym, ◌∙◌, append_assoc, length-append, subst, arith, inr, true, false, Option, Bool, IsTrue}
+use Rattle.std.proofs.Common.{◌≡◌, ◌≢◌, ℕ, ◌+◌, ◌≤◌, List, [], ◌∷◌, ◌++◌, length, refl, ap, sym, ◌∙◌, append_assoc, length-append, subst, arith, inr, true, false, Option, Bool}
 use Rattle.std.specs.Prelude.{MatchBool, Result, Ok, Err, IfOk}
 use Rattle.std.proofs.lemmas.List.{append-nil}
 use Rattle.rwsp_terms.specs.Instance.{Instance, cells}
@@ -9,7 +9,7 @@ use Rattle.refutation_terms.specs.declared.lines.Line.TheVariants.{Split, Window
 use Rattle.refutation_terms.specs.declared.lines.Turn.{Turn}
 use Rattle.refutation_terms.specs.Log.{LineFits}
 use Rattle.refutation_terms.specs.LogText.{raw, line_text}
-use Rattle.refutation_terms.specs.Verdict.{Spells, SplitsIdly, IsNextLine}
+use Rattle.refutation_terms.specs.Verdict.{Spells, SplitsIdly}
 use Rattle.refutation_terms.specs.Word.{Domains}
 use Rattle.refutation_terms.specs.Tree.{domains_at}
 use Rattle.refutation_log.specs.Printing.{lines_text}
@@ -17,7 +17,7 @@ use Rattle.refutation_log.proofs.Named.{spelled_fits}
 use Rattle.tree_walk.specs.States.{State, IsStateOf}
 use Rattle.tree_walk.proofs.Idle.{positions_of}
 use Rattle.refutation_checker.specs.Judged.{IsIdleSplit}
-use Rattle.refutation_checker.specs.Chunks.{StopsWalk, IsStopped, IsWithin, IsLineWalked, EachFits, AreLinesWalked}
+use Rattle.refutation_checker.specs.Chunks.{StopsWalk, IsWithin, IsLineWalked, EachFits, AreLinesWalked}
 use Rattle.refutation_checker.proofs.SoundLines.{lines_joined}
 
 pub ok_along : {T E : Type 0} (r : Result T E) (A B : T → Type 0) → ((x : T) → A x → B x) → IfOk r A → IfOk r B
