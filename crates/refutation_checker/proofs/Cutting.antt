@@ -7,128 +7,97 @@ use Rattle.std.proofs.lemmas.List.Elements.{All-nil, All-cons, All-append}
 use Rattle.rwsp_terms.specs.Instance.{Instance}
 use Rattle.refutation_terms.specs.declared.lines.Line.{Line}
 use Rattle.refutation_terms.specs.declared.lines.Turn.{Turn}
-use Rattle.tree_walk.specs.States.{State, IsStateOf}
+use Rattle.tree_walk.specs.States.{IsStateOf}
 use Rattle.refutation_checker.specs.Sound.{Start, StandsBehind}
-use Rattle.refutation_checker.specs.Chunks.{AreLinesWalked, LeadsTo, IsCutOff, AreChunks, IsJudgeable}
-
--- where the lines of a chunk were walked through, the rest stands behind them
-pub leads : (P : Instance) (w : State) (bytes below : List ℕ) (first count : ℕ) (w' : State) → ((turn : Option Turn) (earlier : List Line) → IsStateOf P turn earlier w → AreLinesWalked P turn earlier bytes count w')
-    → (turn : Option Turn) (earlier : List Line) → StandsBehind P turn earlier (record { walk = w; bytes = bytes ++ below; first = first })
-    → LeadsTo P turn earlier (record { walk = w; bytes = bytes; first = first }) (record { walk = w'; bytes = below; first = first + count })
-leads P w bytes below first count w' walked turn earlier h =
-    let read = walked turn earlier h.state in
-    let size : length (earlier ++ read.lines) ≡ length earlier + length read.lines = length-append earlier read.lines in
-    record {
-      lines = read.lines;
-      fit = read.fit;
-      text = read.text;
-      behind = record { state = read.walked; counted = omega (arith, h.counted, read.counted, size) };
-    }
-
-pub cut : (P : Instance) (old : Start) (w w' : State) (bytes below : List ℕ) (first count : ℕ) → w ≡ old.walk → first ≡ old.first → old.bytes ≡ bytes ++ below → bytes ≢ [] → count ≤ length bytes → old.first + length old.bytes < 2 ^ 31
-    → ((turn : Option Turn) (earlier : List Line) → IsStateOf P turn earlier old.walk → AreLinesWalked P turn earlier bytes count w')
-    → IsCutOff P old (record { walk = w; bytes = bytes; first = first }) (record { walk = w'; bytes = below; first = first + count })
-cut P old w w' bytes below first count e f g some le few walked =
-    let size : length old.bytes ≡ length bytes + length below = ap length g ∙ length-append bytes below in
-    record {
-      walk = e;
-      first = f;
-      some = some;
-      whole = g;
-      few = λ _. omega (arith, size, le, few, f);
-      leads = λ turn earlier h.
-          inr
-          (leads P w bytes below first count w' (λ t ls s. walked t ls (subst (IsStateOf P t ls) e s)) turn earlier
-          (record { state = subst (IsStateOf P turn earlier) (sym e) h.state; counted = f ∙ h.counted }));
-    }
+use Rattle.refutation_checker.specs.Chunks.{LeadsTo, IsCutOff, AreChunks, IsJudgeable}
 
 -- the chunks so far: they hold all bytes, or the next ones go on behind them
-pub record IsOpen (P : Instance) (turn : Option Turn) (earlier : List Line) (bytes : List ℕ) (chunks : List Start) (rest : Start) : Type 0 where
+pub record IsOpen (P : Instance) (size : ℕ) (turn : Option Turn) (earlier : List Line) (bytes : List ℕ) (chunks : List Start) (rest : Start) : Type 0 where
   pub lines : List Line
   pub behind : StandsBehind P turn (earlier ++ lines) rest
-  pub goes_on : (more : List Start) → AreChunks P turn (earlier ++ lines) rest.bytes more → AreChunks P turn earlier bytes (chunks ++ more)
+  pub goes_on : (more : List Start) → AreChunks P turn size (earlier ++ lines) rest.bytes more → AreChunks P turn size earlier bytes (chunks ++ more)
 
-abbrev pub IsOpenOrDone : Instance → Option Turn → List Line → List ℕ → List Start → Start → Type 0
-IsOpenOrDone P turn earlier bytes chunks rest =
-    ((rest.bytes ≡ []) × AreChunks P turn earlier bytes chunks) ⊎ IsOpen P turn earlier bytes chunks rest
+abbrev pub IsOpenOrDone : Instance → ℕ → Option Turn → List Line → List ℕ → List Start → Start → Type 0
+IsOpenOrDone P size turn earlier bytes chunks rest =
+    ((rest.bytes ≡ []) × AreChunks P turn size earlier bytes chunks) ⊎ IsOpen P size turn earlier bytes chunks rest
 
-pub record CutSoFar (P : Instance) (all : Start) (chunks : List Start) (rest : Start) : Type 0 where
+pub record CutSoFar (P : Instance) (size : ℕ) (all : Start) (chunks : List Start) (rest : Start) : Type 0 where
   pub few : rest.bytes ≢ [] → rest.first + length rest.bytes < 2 ^ 31
   pub short : length chunks + length rest.bytes ≤ length all.bytes
   pub each : All (IsJudgeable P) chunks
-  pub parts : (turn : Option Turn) (earlier : List Line) → StandsBehind P turn earlier all → IsOpenOrDone P turn earlier all.bytes chunks rest
+  pub parts : (turn : Option Turn) (earlier : List Line) → StandsBehind P turn earlier all → IsOpenOrDone P size turn earlier all.bytes chunks rest
 
-pub cut_none : (P : Instance) (all : Start) (chunks : List Start) → chunks ≡ [] → IsJudgeable P all → CutSoFar P all chunks all
-cut_none P all chunks none h =
-    subst (λ cs. CutSoFar P all cs all) (sym none)
+pub cut_none : (P : Instance) (size : ℕ) (all : Start) (chunks : List Start) → chunks ≡ [] → IsJudgeable P all → CutSoFar P size all chunks all
+cut_none P size all chunks none h =
+    subst (λ cs. CutSoFar P size all cs all) (sym none)
     (record {
       few = λ _. h.1;
       short = omega arith;
       each = All-nil (IsJudgeable P);
-      parts = λ turn earlier st. inr (record { lines = []; behind = subst (λ ls. StandsBehind P turn ls all) (sym (append-nil earlier)) st; goes_on = λ more a. subst (λ ls. AreChunks P turn ls all.bytes more) (append-nil earlier) a });
+      parts = λ turn earlier st. inr (record { lines = []; behind = subst (λ ls. StandsBehind P turn ls all) (sym (append-nil earlier)) st; goes_on = λ more a. subst (λ ls. AreChunks P turn size ls all.bytes more) (append-nil earlier) a });
     })
 
 -- bytes are left, so the next chunk stands behind some lines
-pub open_there : (P : Instance) (turn : Option Turn) (earlier : List Line) (bytes : List ℕ) (chunks : List Start) (rest : Start) → IsOpenOrDone P turn earlier bytes chunks rest → rest.bytes ≢ [] → IsOpen P turn earlier bytes chunks rest
-open_there P turn earlier bytes chunks rest h some = elim h [ inl done ↦ absurd (some done.0) | inr on ↦ on ]
+pub open_there : (P : Instance) (size : ℕ) (turn : Option Turn) (earlier : List Line) (bytes : List ℕ) (chunks : List Start) (rest : Start) → IsOpenOrDone P size turn earlier bytes chunks rest → rest.bytes ≢ [] → IsOpen P size turn earlier bytes chunks rest
+open_there P size turn earlier bytes chunks rest h some = elim h [ inl done ↦ absurd (some done.0) | inr on ↦ on ]
 
-pub rest_judgeable : (P : Instance) (all : Start) (chunks : List Start) (rest : Start) → CutSoFar P all chunks rest → IsJudgeable P all → rest.bytes ≢ [] → IsJudgeable P rest
-rest_judgeable P all chunks rest so h some =
-    let o = open_there P h.0.0 h.0.1 all.bytes chunks rest (so.parts h.0.0 h.0.1 h.0.2) some in ((h.0.0, h.0.1 ++ o.lines, o.behind), so.few some)
+pub rest_judgeable : (P : Instance) (size : ℕ) (all : Start) (chunks : List Start) (rest : Start) → CutSoFar P size all chunks rest → IsJudgeable P all → rest.bytes ≢ [] → IsJudgeable P rest
+rest_judgeable P size all chunks rest so h some =
+    let o = open_there P size h.0.0 h.0.1 all.bytes chunks rest (so.parts h.0.0 h.0.1 h.0.2) some in ((h.0.0, h.0.1 ++ o.lines, o.behind), so.few some)
 
 -- a chunk stands where what it was cut off stood
 same_place : (P : Instance) (turn : Option Turn) (earlier : List Line) (old chunk : Start) → chunk.walk ≡ old.walk → chunk.first ≡ old.first → StandsBehind P turn earlier old → StandsBehind P turn earlier chunk
 same_place P turn earlier old chunk e f h = record { state = subst (IsStateOf P turn earlier) (sym e) h.state; counted = f ∙ h.counted }
 
-cut_last : (P : Instance) (turn : Option Turn) (earlier : List Line) (bytes : List ℕ) (chunks : List Start) (old chunk rest : Start) → IsOpen P turn earlier bytes chunks old → IsCutOff P old chunk rest → rest.bytes ≡ [] → AreChunks P turn earlier bytes (chunks ++ chunk ∷ [])
-cut_last P turn earlier bytes chunks old chunk rest o c none =
-    o.goes_on (chunk ∷ []) (same_place P turn (earlier ++ o.lines) old chunk c.walk c.first o.behind, rest.bytes, c.whole, inl (none, refl))
+cut_last : (P : Instance) (size : ℕ) (turn : Option Turn) (earlier : List Line) (bytes : List ℕ) (chunks : List Start) (old chunk rest : Start) → IsOpen P size turn earlier bytes chunks old → IsCutOff P size old chunk rest → rest.bytes ≡ [] → AreChunks P turn size earlier bytes (chunks ++ chunk ∷ [])
+cut_last P size turn earlier bytes chunks old chunk rest o c none =
+    o.goes_on (chunk ∷ []) (same_place P turn (earlier ++ o.lines) old chunk c.walk c.first o.behind, c.lines turn (earlier ++ o.lines) o.behind, rest.bytes, c.whole, inl (none, refl))
 
-cut_on : (P : Instance) (turn : Option Turn) (earlier : List Line) (bytes : List ℕ) (chunks : List Start) (old chunk rest : Start) → (o : IsOpen P turn earlier bytes chunks old) → IsCutOff P old chunk rest → LeadsTo P turn (earlier ++ o.lines) chunk rest → IsOpen P turn earlier bytes (chunks ++ chunk ∷ []) rest
-cut_on P turn earlier bytes chunks old chunk rest o c to =
+cut_on : (P : Instance) (size : ℕ) (turn : Option Turn) (earlier : List Line) (bytes : List ℕ) (chunks : List Start) (old chunk rest : Start) → (o : IsOpen P size turn earlier bytes chunks old) → IsCutOff P size old chunk rest → LeadsTo P turn (earlier ++ o.lines) chunk rest → IsOpen P size turn earlier bytes (chunks ++ chunk ∷ []) rest
+cut_on P size turn earlier bytes chunks old chunk rest o c to =
     let longer : (earlier ++ o.lines) ++ to.lines ≡ earlier ++ (o.lines ++ to.lines) = append_assoc earlier o.lines to.lines in
     record {
       lines = o.lines ++ to.lines;
       behind = subst (λ ls. StandsBehind P turn ls rest) longer to.behind;
       goes_on = λ more a.
-          subst (AreChunks P turn earlier bytes) (sym (append_assoc chunks (chunk ∷ []) more))
+          subst (AreChunks P turn size earlier bytes) (sym (append_assoc chunks (chunk ∷ []) more))
           (o.goes_on (chunk ∷ more)
-          (same_place P turn (earlier ++ o.lines) old chunk c.walk c.first o.behind, rest.bytes, c.whole, inr (to.lines, to.fit, to.text, subst (λ ls. AreChunks P turn ls rest.bytes more) (sym longer) a)));
+          (same_place P turn (earlier ++ o.lines) old chunk c.walk c.first o.behind, c.lines turn (earlier ++ o.lines) o.behind, rest.bytes, c.whole, inr (to.lines, to.fit, to.text, subst (λ ls. AreChunks P turn size ls rest.bytes more) (sym longer) a)));
     }
 
 some_bytes : (bytes : List ℕ) → bytes ≢ [] → 1 ≤ length bytes
 some_bytes [] h = absurd (h refl)
 some_bytes (b ∷ bytes) h = omega arith
 
-chunk_judgeable : (P : Instance) (old chunk rest : Start) → IsJudgeable P old → IsCutOff P old chunk rest → IsJudgeable P chunk
-chunk_judgeable P old chunk rest h c =
-    let size : length old.bytes ≡ length chunk.bytes + length rest.bytes = ap length c.whole ∙ length-append chunk.bytes rest.bytes in
-    ((h.0.0, h.0.1, same_place P h.0.0 h.0.1 old chunk c.walk c.first h.0.2), omega (arith, h.1, size, c.first))
+chunk_judgeable : (P : Instance) (size : ℕ) (old chunk rest : Start) → IsJudgeable P old → IsCutOff P size old chunk rest → IsJudgeable P chunk
+chunk_judgeable P size old chunk rest h c =
+    let long : length old.bytes ≡ length chunk.bytes + length rest.bytes = ap length c.whole ∙ length-append chunk.bytes rest.bytes in
+    ((h.0.0, h.0.1, same_place P h.0.0 h.0.1 old chunk c.walk c.first h.0.2), omega (arith, h.1, long, c.first))
 
-pub cut_more : (P : Instance) (all : Start) (chunks more : List Start) (old chunk rest : Start) → IsJudgeable P all → CutSoFar P all chunks old → old.bytes ≢ [] → IsCutOff P old chunk rest → more ≡ chunks ++ chunk ∷ [] → CutSoFar P all more rest
-cut_more P all chunks more old chunk rest h so some c is =
-    let size : length old.bytes ≡ length chunk.bytes + length rest.bytes = ap length c.whole ∙ length-append chunk.bytes rest.bytes in
+pub cut_more : (P : Instance) (size : ℕ) (all : Start) (chunks more : List Start) (old chunk rest : Start) → IsJudgeable P all → CutSoFar P size all chunks old → old.bytes ≢ [] → IsCutOff P size old chunk rest → more ≡ chunks ++ chunk ∷ [] → CutSoFar P size all more rest
+cut_more P size all chunks more old chunk rest h so some c is =
+    let long : length old.bytes ≡ length chunk.bytes + length rest.bytes = ap length c.whole ∙ length-append chunk.bytes rest.bytes in
     let one = some_bytes chunk.bytes c.some in
     let count : length (chunks ++ chunk ∷ []) ≡ length chunks + 1 = length-append chunks (chunk ∷ []) in
-    let this : IsJudgeable P chunk = chunk_judgeable P old chunk rest (rest_judgeable P all chunks old so h some) c in
-    subst (λ cs. CutSoFar P all cs rest) (sym is)
+    let this : IsJudgeable P chunk = chunk_judgeable P size old chunk rest (rest_judgeable P size all chunks old so h some) c in
+    subst (λ cs. CutSoFar P size all cs rest) (sym is)
     (record {
       few = c.few;
-      short = omega (arith, so.short, size, one, count);
+      short = omega (arith, so.short, long, one, count);
       each = All-append (IsJudgeable P) chunks (chunk ∷ []) so.each (All-cons (IsJudgeable P) chunk [] this (All-nil (IsJudgeable P)));
       parts = λ turn earlier st.
-          let o : IsOpen P turn earlier all.bytes chunks old = open_there P turn earlier all.bytes chunks old (so.parts turn earlier st) some in
+          let o : IsOpen P size turn earlier all.bytes chunks old = open_there P size turn earlier all.bytes chunks old (so.parts turn earlier st) some in
           elim (c.leads turn (earlier ++ o.lines) o.behind) [
-            | inl none ↦ inl (none, cut_last P turn earlier all.bytes chunks old chunk rest o c none)
-            | inr to ↦ inr (cut_on P turn earlier all.bytes chunks old chunk rest o c to)
+            | inl none ↦ inl (none, cut_last P size turn earlier all.bytes chunks old chunk rest o c none)
+            | inr to ↦ inr (cut_on P size turn earlier all.bytes chunks old chunk rest o c to)
           ];
     })
 
-pub cut_all : (P : Instance) (all : Start) (chunks : List Start) (rest : Start) → CutSoFar P all chunks rest → rest.bytes ≡ [] → (turn : Option Turn) (earlier : List Line) → StandsBehind P turn earlier all → AreChunks P turn earlier all.bytes chunks
-cut_all P all chunks rest so none turn earlier st =
+pub cut_all : (P : Instance) (size : ℕ) (all : Start) (chunks : List Start) (rest : Start) → CutSoFar P size all chunks rest → rest.bytes ≡ [] → (turn : Option Turn) (earlier : List Line) → StandsBehind P turn earlier all → AreChunks P turn size earlier all.bytes chunks
+cut_all P size all chunks rest so none turn earlier st =
     elim (so.parts turn earlier st) [
       | inl done ↦ done.1
-      | inr on ↦ subst (AreChunks P turn earlier all.bytes) (append-nil chunks) (on.goes_on [] none)
+      | inr on ↦ subst (AreChunks P turn size earlier all.bytes) (append-nil chunks) (on.goes_on [] none)
     ]
 
 pub none_left : (left bytes : List ℕ) → true ≡ (length left == 0) → left ≡ bytes → bytes ≡ []

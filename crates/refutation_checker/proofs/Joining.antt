@@ -85,12 +85,12 @@ not_at_end P (l ∷ lines) front line some none e =
     let feed = ends_with_feed P l lines in no_feed_at_end front line feed.0 some none (sym e ∙ feed.1)
 
 -- what follows a chunk: nothing, or chunks behind its lines
-abbrev pub IsFollowed : Instance → Option Turn → List Line → Start → List ℕ → List Start → Type 0
-IsFollowed P turn earlier c below chunks = ((below ≡ []) × (chunks ≡ [])) ⊎ ((lines : List Line) × EachFits P lines × (c.bytes ≡ lines_text P lines) × AreChunks P turn (earlier ++ lines) below chunks)
+abbrev pub IsFollowed : Instance → Option Turn → ℕ → List Line → Start → List ℕ → List Start → Type 0
+IsFollowed P turn size earlier c below chunks = ((below ≡ []) × (chunks ≡ [])) ⊎ ((lines : List Line) × EachFits P lines × (c.bytes ≡ lines_text P lines) × AreChunks P turn size (earlier ++ lines) below chunks)
 
 -- a line of a chunk is one of the whole text
-next_in_all : (P : Instance) (turn : Option Turn) (earlier : List Line) (c : Start) (below : List ℕ) (chunks : List Start) (front line rest : List ℕ) → IsFollowed P turn earlier c below chunks → c.bytes ≡ front ++ line ++ rest → IsNextLine line rest → IsNextLine line (rest ++ below)
-next_in_all P turn earlier c below chunks front line rest followed e next =
+next_in_all : (P : Instance) (turn : Option Turn) (size : ℕ) (earlier : List Line) (c : Start) (below : List ℕ) (chunks : List Start) (front line rest : List ℕ) → IsFollowed P turn size earlier c below chunks → c.bytes ≡ front ++ line ++ rest → IsNextLine line rest → IsNextLine line (rest ++ below)
+next_in_all P turn size earlier c below chunks front line rest followed e next =
     elim next [
       | inl fed ↦ inl fed
       | inr last ↦ elim followed [
@@ -99,14 +99,14 @@ next_in_all P turn earlier c below chunks front line rest followed e next =
       ]
     ]
 
-refused_in_front : (P : Instance) (R : List ℕ) (turn : Option Turn) (earlier : List Line) (c : Start) (below bytes : List ℕ) (chunks : List Start) (why : LogRefusal) → IsFollowed P turn earlier c below chunks → bytes ≡ c.bytes ++ below → IsRefusedBehind P R turn earlier c.bytes why → IsRefusedBehind P R turn earlier bytes why
-refused_in_front P R turn earlier c below bytes chunks why followed e r = record {
+refused_in_front : (P : Instance) (R : List ℕ) (turn : Option Turn) (size : ℕ) (earlier : List Line) (c : Start) (below bytes : List ℕ) (chunks : List Start) (why : LogRefusal) → IsFollowed P turn size earlier c below chunks → bytes ≡ c.bytes ++ below → IsRefusedBehind P R turn earlier c.bytes why → IsRefusedBehind P R turn earlier bytes why
+refused_in_front P R turn size earlier c below bytes chunks why followed e r = record {
   lines = r.lines;
   line = r.line;
   rest = r.rest ++ below;
   sound = r.sound;
   text = e ∙ ap (λ t. t ++ below) r.text ∙ append_assoc (lines_text P r.lines ++ r.line) r.rest below;
-  is_line = next_in_all P turn earlier c below chunks (lines_text P r.lines) r.line r.rest followed r.text r.is_line;
+  is_line = next_in_all P turn size earlier c below chunks (lines_text P r.lines) r.line r.rest followed r.text r.is_line;
   cause = r.cause;
 }
 
@@ -135,32 +135,32 @@ judged_through P R turn earlier front bytes here below (Err (Refused why)) sound
   cause = subst (λ ls. Cause P (Reading (log_with R turn ls)) k.line why) (append_assoc earlier front k.lines) k.cause;
 }
 
-nothing_below : (P : Instance) (turn : Option Turn) (earlier : List Line) (c : Start) (below : List ℕ) → IsFollowed P turn earlier c below [] → below ≡ []
-nothing_below P turn earlier c below followed = elim followed [ inl none ↦ none.0 | inr goes ↦ goes.3 ]
+nothing_below : (P : Instance) (turn : Option Turn) (size : ℕ) (earlier : List Line) (c : Start) (below : List ℕ) → IsFollowed P turn size earlier c below [] → below ≡ []
+nothing_below P turn size earlier c below followed = elim followed [ inl none ↦ none.0 | inr goes ↦ goes.3 ]
 
 -- the lines that a chunk was cut by are those that were judged
-goes_below : (P : Instance) (R : List ℕ) (turn : Option Turn) (earlier : List Line) (c d : Start) (below : List ℕ) (chunks : List Start) (whole : Bool) → KeepsLimits P → IsFollowed P turn earlier c below (d ∷ chunks) → (all : AreAllSound P R turn earlier c.bytes whole) → AreChunks P turn (earlier ++ all.lines) below (d ∷ chunks)
-goes_below P R turn earlier c d below chunks whole limits followed all =
+goes_below : (P : Instance) (R : List ℕ) (turn : Option Turn) (size : ℕ) (earlier : List Line) (c d : Start) (below : List ℕ) (chunks : List Start) (whole : Bool) → KeepsLimits P → IsFollowed P turn size earlier c below (d ∷ chunks) → (all : AreAllSound P R turn earlier c.bytes whole) → AreChunks P turn size (earlier ++ all.lines) below (d ∷ chunks)
+goes_below P R turn size earlier c d below chunks whole limits followed all =
     elim followed [
       | inl none ↦ absurd (let no : d ∷ chunks ≡ [] = none.1 in cc)
-      | inr goes ↦ subst (λ ls. AreChunks P turn (earlier ++ ls) below (d ∷ chunks)) (one_list P goes.0 all.lines limits (each_fits P goes.0 goes.1) (fit_from_sound P R turn earlier all.lines all.sound) (sym goes.2 ∙ all.text)) goes.3
+      | inr goes ↦ subst (λ ls. AreChunks P turn size (earlier ++ ls) below (d ∷ chunks)) (one_list P goes.0 all.lines limits (each_fits P goes.0 goes.1) (fit_from_sound P R turn earlier all.lines all.sound) (sym goes.2 ∙ all.text)) goes.3
     ]
 
-joined_behind : (P : Instance) (R : List ℕ) (turn : Option Turn) (c : Start) (cs : List Start) (answers : List Answer) (earlier : List Line) (bytes : List ℕ) (before : Bool) → KeepsLimits P → AreAnswersTo P R (c ∷ cs) answers → AreChunks P turn earlier bytes (c ∷ cs) → IsJudged P R turn earlier bytes (joined_from before answers)
-joined_behind P R turn c cs [] earlier bytes before limits are chunks = absurd are
-joined_behind P R turn c cs (Err Memory ∷ answers) earlier bytes before limits are chunks = tt
-joined_behind P R turn c cs (Err (Refused why) ∷ answers) earlier bytes before limits are chunks =
-    refused_in_front P R turn earlier c chunks.1 bytes cs why chunks.3 chunks.2 (are.0 turn earlier chunks.0)
-joined_behind P R turn c [] (Ok whole ∷ a ∷ answers) earlier bytes before limits are chunks = absurd are.1
-joined_behind P R turn c [] (Ok whole ∷ []) earlier bytes before limits are chunks =
-    let same : bytes ≡ c.bytes = chunks.2 ∙ ap (λ t. c.bytes ++ t) (nothing_below P turn earlier c chunks.1 chunks.3) ∙ append-nil c.bytes in
+joined_behind : (P : Instance) (R : List ℕ) (turn : Option Turn) (size : ℕ) (c : Start) (cs : List Start) (answers : List Answer) (earlier : List Line) (bytes : List ℕ) (before : Bool) → KeepsLimits P → AreAnswersTo P R (c ∷ cs) answers → AreChunks P turn size earlier bytes (c ∷ cs) → IsJudged P R turn earlier bytes (joined_from before answers)
+joined_behind P R turn size c cs [] earlier bytes before limits are chunks = absurd are
+joined_behind P R turn size c cs (Err Memory ∷ answers) earlier bytes before limits are chunks = tt
+joined_behind P R turn size c cs (Err (Refused why) ∷ answers) earlier bytes before limits are chunks =
+    refused_in_front P R turn size earlier c chunks.2 bytes cs why chunks.4 chunks.3 (are.0 turn earlier chunks.0)
+joined_behind P R turn size c [] (Ok whole ∷ a ∷ answers) earlier bytes before limits are chunks = absurd are.1
+joined_behind P R turn size c [] (Ok whole ∷ []) earlier bytes before limits are chunks =
+    let same : bytes ≡ c.bytes = chunks.3 ∙ ap (λ t. c.bytes ++ t) (nothing_below P turn size earlier c chunks.2 chunks.4) ∙ append-nil c.bytes in
     subst (λ t. AreAllSound P R turn earlier t whole) (sym same) (are.0 turn earlier chunks.0)
-joined_behind P R turn c (d ∷ cs) (Ok whole ∷ answers) earlier bytes before limits are chunks =
+joined_behind P R turn size c (d ∷ cs) (Ok whole ∷ answers) earlier bytes before limits are chunks =
     let all : AreAllSound P R turn earlier c.bytes whole = are.0 turn earlier chunks.0 in
-    let below : AreChunks P turn (earlier ++ all.lines) chunks.1 (d ∷ cs) = goes_below P R turn earlier c d chunks.1 cs whole limits chunks.3 all in
-    judged_through P R turn earlier all.lines bytes c.bytes chunks.1 (joined_from whole answers) all.sound all.text chunks.2
-    (joined_behind P R turn d cs answers (earlier ++ all.lines) chunks.1 whole limits are.1 below)
+    let below : AreChunks P turn size (earlier ++ all.lines) chunks.2 (d ∷ cs) = goes_below P R turn size earlier c d chunks.2 cs whole limits chunks.4 all in
+    judged_through P R turn earlier all.lines bytes c.bytes chunks.2 (joined_from whole answers) all.sound all.text chunks.3
+    (joined_behind P R turn size d cs answers (earlier ++ all.lines) chunks.2 whole limits are.1 below)
 
-pub joined : (P : Instance) (R : List ℕ) (turn : Option Turn) (chunks : List Start) (answers : List Answer) (earlier : List Line) (bytes : List ℕ) (before : Bool) → KeepsLimits P → AreAnswersTo P R chunks answers → AreChunks P turn earlier bytes chunks → bytes ≢ [] → IsJudged P R turn earlier bytes (joined_from before answers)
-joined P R turn [] answers earlier bytes before limits are chunks some = absurd (some chunks)
-joined P R turn (c ∷ cs) answers earlier bytes before limits are chunks some = joined_behind P R turn c cs answers earlier bytes before limits are chunks
+pub joined : (P : Instance) (R : List ℕ) (turn : Option Turn) (size : ℕ) (chunks : List Start) (answers : List Answer) (earlier : List Line) (bytes : List ℕ) (before : Bool) → KeepsLimits P → AreAnswersTo P R chunks answers → AreChunks P turn size earlier bytes chunks → bytes ≢ [] → IsJudged P R turn earlier bytes (joined_from before answers)
+joined P R turn size [] answers earlier bytes before limits are chunks some = absurd (some chunks)
+joined P R turn size (c ∷ cs) answers earlier bytes before limits are chunks some = joined_behind P R turn size c cs answers earlier bytes before limits are chunks

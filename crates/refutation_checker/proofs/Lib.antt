@@ -10,3 +10,4 @@ pub mod ChunkJudging
 pub mod Walking
 pub mod Cutting
 pub mod Joining
+pub mod Feeds

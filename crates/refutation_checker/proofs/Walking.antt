@@ -1,6 +1,6 @@
 -- Walking through lines without judging leaves.
-use Rattle.std.proofs.Common.{◌≡◌, ◌≢◌, ℕ, ◌+◌, ◌≤◌, List, [], ◌∷◌, ◌++◌, length, refl, ap, sym, ◌∙◌, append_assoc, length-append, subst, arith, Option, Bool, IsTrue}
-use Rattle.std.specs.Prelude.{Result, Ok, Err, IfOk}
+use Rattle.std.proofs.Common.{◌≡◌, ◌≢◌, ℕ, ◌+◌, ◌≤◌, List, [], ◌∷◌, ◌++◌, length, refl, ap, sym, ◌∙◌, append_assoc, length-append, subst, arith, inr, true, false, Option, Bool}
+use Rattle.std.specs.Prelude.{MatchBool, Result, Ok, Err, IfOk}
 use Rattle.std.proofs.lemmas.List.{append-nil}
 use Rattle.rwsp_terms.specs.Instance.{Instance, cells}
 use Rattle.domain_store.specs.Store.{Store, IsStore}
@@ -9,12 +9,15 @@ use Rattle.refutation_terms.specs.declared.lines.Line.TheVariants.{Split, Window
 use Rattle.refutation_terms.specs.declared.lines.Turn.{Turn}
 use Rattle.refutation_terms.specs.Log.{LineFits}
 use Rattle.refutation_terms.specs.LogText.{raw, line_text}
-use Rattle.refutation_terms.specs.Verdict.{Spells}
+use Rattle.refutation_terms.specs.Verdict.{Spells, SplitsIdly}
+use Rattle.refutation_terms.specs.Word.{Domains}
+use Rattle.refutation_terms.specs.Tree.{domains_at}
 use Rattle.refutation_log.specs.Printing.{lines_text}
 use Rattle.refutation_log.proofs.Named.{spelled_fits}
 use Rattle.tree_walk.specs.States.{State, IsStateOf}
 use Rattle.tree_walk.proofs.Idle.{positions_of}
-use Rattle.refutation_checker.specs.Chunks.{IsWithin, IsLineWalked, EachFits, AreLinesWalked}
+use Rattle.refutation_checker.specs.Judged.{IsIdleSplit}
+use Rattle.refutation_checker.specs.Chunks.{StopsWalk, IsWithin, IsLineWalked, EachFits, AreLinesWalked}
 use Rattle.refutation_checker.proofs.SoundLines.{lines_joined}
 
 pub ok_along : {T E : Type 0} (r : Result T E) (A B : T → Type 0) → ((x : T) → A x → B x) → IfOk r A → IfOk r B
@@ -33,12 +36,27 @@ pub spelled_within : (P : Instance) (w : State) (S : Store) (bytes : List ℕ) (
 spelled_within P w S bytes line is store h spells =
     within P (length w.store.sets) line (positions_of P w.store (subst IsStore is store) h.2.belongs) (spelled_fits P bytes line spells).1
 
+idly : (P : Instance) (D : Domains) (bytes : List ℕ) (line : Line) → Spells P bytes line → IsIdleSplit P D line → SplitsIdly P D bytes
+idly P D bytes (Split p x) spells idle = (p, x, spells, idle)
+idly P D bytes (Window rule p len) spells idle = absurd idle
+idly P D bytes (Day j x over) spells idle = absurd idle
+idly P D bytes (Dead p len R) spells idle = absurd idle
+idly P D bytes (Bound p turns R y) spells idle = absurd idle
+idly P D bytes Unfinished spells idle = absurd idle
+
+-- a line that was spelled, by whether the walk goes on
 pub line_walked : (P : Instance) (w w' : State) (bytes : List ℕ) (line : Line) (read : Bool) → Spells P bytes line
-    → (IsTrue read → (Q : Instance) (turn : Option Turn) (earlier : List Line) → IsStateOf Q turn earlier w → IsStateOf Q turn (earlier ++ line ∷ []) w')
-    → IsTrue read → (turn : Option Turn) (earlier : List Line) → IsStateOf P turn earlier w → IsLineWalked P turn earlier bytes w'
-line_walked P w w' bytes line read spells goes t turn earlier state =
+    → ((Q : Instance) (turn : Option Turn) (earlier : List Line) → IsStateOf Q turn earlier w → MatchBool read (IsStateOf Q turn (earlier ++ line ∷ []) w') (IsIdleSplit Q (domains_at Q turn earlier (length earlier)) line))
+    → (turn : Option Turn) (earlier : List Line) → IsStateOf P turn earlier w → MatchBool read (IsLineWalked P turn earlier bytes w') (StopsWalk P turn earlier bytes)
+line_walked P w w' bytes line true spells goes turn earlier state =
     let fits = spelled_fits P bytes line spells in
-    record { line = line; fits = fits.1; text = fits.0; walked = goes t P turn earlier state }
+    record { line = line; fits = fits.1; text = fits.0; walked = goes P turn earlier state }
+line_walked P w w' bytes line false spells goes turn earlier state =
+    inr (inr (inr (idly P (domains_at P turn earlier (length earlier)) bytes line spells (goes P turn earlier state))))
+
+pub line_read : (b : Bool) (A B : Type 0) → b ≡ true → MatchBool b A B → A
+line_read true A B e h = h
+line_read false A B e h = absurd (cc)
 
 fits_joined : (P : Instance) (a b : List Line) → EachFits P a → EachFits P b → EachFits P (a ++ b)
 fits_joined P [] b h k = k

@@ -1,11 +1,13 @@
 // Going through the lines of a log without judging leaves, to find where the chunks of its lines start.
-ghost use Rattle.std.specs.Prelude.{◌≡◌, ◌≢◌, ℕ, ◌+◌, ◌^◌, ◌<◌, ◌≤◌, List, [], length, Option, All, IfOk, IfSome, IsTrue, false, ◌∷◌, ◌++◌};
+ghost use Rattle.std.specs.Prelude.{◌≡◌, ◌≢◌, ℕ, ◌+◌, ◌^◌, ◌<◌, ◌≤◌, List, [], length, Option, All, IfOk, IfSome, MatchOption, MatchBool, take, false, ◌∷◌, ◌++◌};
 ghost use Rattle.rwsp_terms.specs.Instance.{Instance};
 ghost use Rattle.refutation_terms.specs.declared.lines.Line.{Line as TheLine};
 ghost use Rattle.refutation_terms.specs.declared.lines.Turn.{Turn};
+ghost use Rattle.refutation_terms.specs.Tree.{domains_at};
 ghost use Rattle.tree_walk.specs.States.{IsStateOf};
+ghost use Rattle.refutation_checker.specs.Judged.{IsIdleSplit};
 ghost use Rattle.refutation_checker.specs.Sound.{StandsBehind};
-ghost use Rattle.refutation_checker.specs.Chunks.{IsWithin, IsLineWalked, AreLinesWalked, IsCutOff, AreChunks, IsJudgeable};
+ghost use Rattle.refutation_checker.specs.Chunks.{IsWithin, StopsWalk, IsStopped, IsLast, IsLineWalked, AreLinesWalked, IsCutOff, AreChunks, IsJudgeable, EndsLines, line_count, feeds};
 
 use crate::chunk::Chunk;
 use refutation_log::{LineReader, read_line};
@@ -26,7 +28,7 @@ pub fn chunks_of<'a>(
     requires start { IsJudgeable problem.now all }
     requires size { 1 ≤ size }
     ensures chunks { IfOk result (λ v. (turn : Option Turn) (earlier : List TheLine) → StandsBehind problem.now turn earlier all.entry →
-        AreChunks problem.now turn earlier all.entry.bytes v.items) }
+        AreChunks problem.now turn size earlier all.entry.bytes v.items) }
     ensures each { IfOk result (λ v. All (IsJudgeable problem.now) v.items) }
 {
     let mut chunks = Vec::new(alloc);
@@ -49,14 +51,14 @@ fn cut_off<'a>(
     requires start { IsJudgeable problem.now rest.old }
     requires some { rest.old.bytes ≢ [] }
     requires size { 1 ≤ size }
-    ensures { IfOk result (λ chunk. IsCutOff problem.now rest.old chunk rest.new) }
+    ensures { IfOk result (λ chunk. IsCutOff problem.now size rest.old chunk rest.new) }
 {
     let walk = rest.walk.copy()?;
     let first = rest.first;
     let bytes = rest.bytes;
-    let (lines, below) = bytes.split_at(lines_end(bytes, size));
-    let read = read_through(alloc, problem, &mut rest.walk, lines)?;
-    if let Some(count) = read {
+    let end = lines_end(bytes, size);
+    if let Some(count) = read_front(alloc, problem, &mut rest.walk, bytes, end)? {
+        let (lines, below) = bytes.split_at(end);
         rest.first = first + count;
         rest.bytes = below;
         Ok(Chunk {
@@ -76,7 +78,28 @@ fn cut_off<'a>(
     }
 }
 
-/// Reads the lines of these bytes, and counts them. None at a line that `read_one` doesn't read, and then the walk is of no use.
+// Reads the lines that end there, where others follow them, and counts them. None where no further chunk is needed.
+fn read_front(
+    alloc: Global,
+    problem: &Problem,
+    walk: &mut Walk,
+    bytes: &[u8],
+    end: usize,
+) -> Result<Option<u32>, AllocError>
+    requires state { (turn : Option Turn) × (earlier : List TheLine) × IsStateOf problem.now turn earlier walk.old }
+    requires few { length bytes.now < 2 ^ 31 }
+    requires end { end ≤ length bytes.now }
+    ensures few { IfOk result (λ read. IfSome read (λ count. count ≤ end)) }
+    ensures walked { IfOk result (λ read. (turn : Option Turn) (earlier : List TheLine) → IsStateOf problem.now turn earlier walk.old →
+        MatchOption read (IsLast problem.now turn earlier bytes.now end) (λ count. AreLinesWalked problem.now turn earlier (take end bytes.now) count walk.new)) }
+{
+    if end == bytes.len() {
+        return Ok(None);
+    }
+    read_through(alloc, problem, walk, &bytes[..end])
+}
+
+/// Reads the lines of these bytes, and counts them. None at a line that isn't read, and then the walk is of no use.
 fn read_through(
     alloc: Global,
     problem: &Problem,
@@ -86,8 +109,8 @@ fn read_through(
     requires state { (turn : Option Turn) × (earlier : List TheLine) × IsStateOf problem.now turn earlier walk.old }
     requires few { length bytes.now < 2 ^ 31 }
     ensures few { IfOk result (λ read. IfSome read (λ count. count ≤ length bytes.now)) }
-    ensures walked { IfOk result (λ read. IfSome read (λ count. (turn : Option Turn) (earlier : List TheLine) → IsStateOf problem.now turn earlier walk.old →
-        AreLinesWalked problem.now turn earlier bytes.now count walk.new)) }
+    ensures walked { IfOk result (λ read. (turn : Option Turn) (earlier : List TheLine) → IsStateOf problem.now turn earlier walk.old →
+        MatchOption read (IsStopped problem.now turn earlier bytes.now) (λ count. AreLinesWalked problem.now turn earlier bytes.now count walk.new)) }
 {
     let mut reader = LineReader::new(bytes);
     let mut count = 0;
@@ -108,8 +131,8 @@ fn read_one(
     bytes: &[u8],
 ) -> Result<bool, AllocError>
     requires { (turn : Option Turn) × (earlier : List TheLine) × IsStateOf problem.now turn earlier walk.old }
-    ensures { IfOk result (λ read. IsTrue read → (turn : Option Turn) (earlier : List TheLine) → IsStateOf problem.now turn earlier walk.old →
-        IsLineWalked problem.now turn earlier bytes.now walk.new) }
+    ensures { IfOk result (λ read. (turn : Option Turn) (earlier : List TheLine) → IsStateOf problem.now turn earlier walk.old →
+        MatchBool read (IsLineWalked problem.now turn earlier bytes.now walk.new) (StopsWalk problem.now turn earlier bytes.now)) }
 {
     walk.domains().facts();
     if walk.is_whole() {
@@ -126,7 +149,8 @@ fn read_one(
 fn go_on(walk: &mut Walk, line: &Line) -> Result<bool, AllocError>
     requires part { walk.old.whole ≡ false }
     requires position { IsWithin (length walk.old.store.sets) line.now }
-    ensures { IfOk result (λ read. IsTrue read → (P : Instance) (turn : Option Turn) (earlier : List TheLine) → IsStateOf P turn earlier walk.old → IsStateOf P turn (earlier ++ line.now ∷ []) walk.new) }
+    ensures { IfOk result (λ read. (P : Instance) (turn : Option Turn) (earlier : List TheLine) → IsStateOf P turn earlier walk.old →
+        MatchBool read (IsStateOf P turn (earlier ++ line.now ∷ []) walk.new) (IsIdleSplit P (domains_at P turn earlier (length earlier)) line.now)) }
 {
     match line {
         Line::Split { p, x } => {
@@ -141,10 +165,12 @@ fn go_on(walk: &mut Walk, line: &Line) -> Result<bool, AllocError>
 }
 
 // Where the first so many lines end.
+#[tactic(auto, using(crate::proofs::Feeds::fed, crate::proofs::Feeds::not_fed, crate::proofs::Feeds::fed_in_all))]
 fn lines_end(bytes: &[u8], size: usize) -> usize
     requires some { 1 ≤ size }
     ensures within { result ≤ length bytes.now }
     ensures some { 0 < length bytes.now → 0 < result }
+    ensures lines { EndsLines bytes.now size result }
 {
     let mut count = 0;
     for (i, byte) in bytes.iter().enumerate() {
@@ -159,16 +185,23 @@ fn lines_end(bytes: &[u8], size: usize) -> usize
 }
 
 /// The number of lines, of which the last one may have no LF.
+#[tactic(auto, using(crate::proofs::Feeds::fed_at_end))]
 pub fn count_lines(bytes: &[u8]) -> usize
     requires { 0 < length bytes.now }
+    ensures value { result ≡ line_count bytes.now }
     ensures some { 1 ≤ result }
+{
+    let feeds = count_feeds(bytes);
+    if bytes[bytes.len() - 1] == b'\n' {
+        feeds
+    } else {
+        feeds + 1
+    }
+}
+
+fn count_feeds(bytes: &[u8]) -> usize
+    ensures value { result ≡ feeds bytes.now }
     ensures few { result ≤ length bytes.now }
 {
-    let mut count = 0;
-    for (i, byte) in bytes.iter().enumerate() {
-        if *byte == b'\n' || i + 1 == bytes.len() {
-            count += 1;
-        }
-    }
-    count
+    bytes.iter().filter(|byte| **byte == b'\n').count()
 }
