@@ -37,6 +37,7 @@ fn descend_to_end(alloc: Global, problem: &Problem, log: &Log) -> Result<Log, Al
 pub fn reduce(alloc: Global, problem: &Problem, log: &Log) -> Result<Log, Fail<LogRefusal>>
     requires { Fits problem.now log.now }
     ensures reduced { MatchAnswer result (λ g. IsReduced problem.now log.now g) (IsRefused problem.now (log_text problem.now log.now)) }
+    ensures accepted { IfOk result (λ g. Passes problem.now log.now) }
     ensures passes { IfOk result (Passes problem.now) }
     ensures fits { IfOk result (Fits problem.now) }
     ensures needed { IfOk result (NeedsEach problem.now) }

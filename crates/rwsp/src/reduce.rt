@@ -57,6 +57,7 @@ fn reduced(alloc: Global, problem: &Problem, bytes: &[u8], log: &Log) -> Result<
 }
 
 // Why bytes are refused that spell no log: a line before the first that isn't spelled may have a cause too.
+#[tactic(auto, using(crate::proofs::Logs::printable))]
 fn first_refusal<R: Threads + Sync, G: Gate>(
     rt: &R,
     alloc: Global,

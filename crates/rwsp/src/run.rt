@@ -92,8 +92,11 @@ fn reply_to<R: Threads + Sync, S: Shelf, G: Gate>(
         Err(Exit::ReadFault) => return Err(Stop::ReadFault),
         Err(Exit::Memory) => return Err(Stop::Memory),
     };
-    let answer = answer_on(rt, alloc, words, shelf, &problem, command, gate)?;
-    printed(alloc, &problem, answer)
+    match answer_on(rt, alloc, words, shelf, &problem, command, gate) {
+        Ok(answer) => printed(alloc, &problem, answer),
+        Err(Stop::ReadFault) => Err(Stop::ReadFault),
+        Err(Stop::Memory) => Err(Stop::Memory),
+    }
 }
 
 // The answer to a command, for its problem.
