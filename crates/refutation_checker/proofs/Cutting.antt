@@ -34,17 +34,6 @@ pub record CutSoFar (P : Instance) (size : ℕ) (all : Start) (chunks : List Sta
   pub each : All (IsJudgeable P) chunks
   pub parts : (turn : Option Turn) (earlier : List Line) → StandsBehind P turn earlier all → IsOpenOrDone P size turn earlier all.bytes chunks rest
 
-pub cut_none : (P : Instance) (size : ℕ) (all : Start) (chunks : List Start) → chunks ≡ [] → IsJudgeable P all → CutSoFar P size all chunks all
-cut_none P size all chunks none h =
-    subst (λ cs. CutSoFar P size all cs all) (sym none)
-    (record {
-      few = λ _. h.1;
-      short = omega arith;
-      count = inr (omega arith);
-      each = All-nil (IsJudgeable P);
-      parts = λ turn earlier st. inr (record { lines = []; behind = subst (λ ls. StandsBehind P turn ls all) (sym (append-nil earlier)) st; goes_on = λ more a. subst (λ ls. AreChunks P turn size ls all.bytes more) (append-nil earlier) a });
-    })
-
 -- bytes are left, so the next chunk stands behind some lines
 pub open_there : (P : Instance) (size : ℕ) (turn : Option Turn) (earlier : List Line) (bytes : List ℕ) (chunks : List Start) (rest : Start) → IsOpenOrDone P size turn earlier bytes chunks rest → rest.bytes ≢ [] → IsOpen P size turn earlier bytes chunks rest
 open_there P size turn earlier bytes chunks rest h some = elim h [ inl done ↦ absurd (some done.0) | inr on ↦ on ]
