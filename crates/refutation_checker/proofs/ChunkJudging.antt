@@ -108,10 +108,5 @@ judged_all P R s left w number whole so e tree turn earlier h =
       tree = tree turn (earlier ++ up.lines) up.state;
     }
 
-pub judged_state : (P : Instance) (R : List ℕ) (J : Judging) (s : Start) (left : List ℕ) (w : State) (number : ℕ) → J ≡ record { problem = P; named = R } → JudgedSoFar P R s left w number → (turn : Option Turn) × (earlier : List Line) × StandsBehind P turn earlier s → (turn : Option Turn) × (lines : List Line) × IsStateOf J.problem turn lines w
-judged_state P R J s left w number is so h =
-    let up = so.each h.0 h.1 h.2 in
-    subst (λ (K : Judging). (turn : Option Turn) × (lines : List Line) × IsStateOf K.problem turn lines w) (sym is) (h.0, h.1 ++ up.lines, up.state)
-
 pub judge_is : (P : Instance) (R : List ℕ) (J : Judging) → J.problem ≡ P → J.named ≡ R → J ≡ record { problem = P; named = R }
 judge_is P R J e f = ap (λ p. record { problem = p; named = J.named }) e ∙ ap (λ r. record { problem = P; named = r }) f

@@ -1,15 +1,16 @@
 -- Cutting the lines of a text into chunks.
-use Rattle.std.proofs.Common.{◌≡◌, ◌≢◌, ◌⊎◌, ℕ, ◌+◌, ◌^◌, ◌<◌, ◌≤◌, List, [], ◌∷◌, ◌++◌, length, refl, ap, sym, ◌∙◌, append_assoc, length-append, subst, arith, Option, inl, inr, true, ◌==◌}
+use Rattle.std.proofs.Common.{◌≡◌, ◌≢◌, ◌⊎◌, ℕ, ◌+◌, ◌*◌, ◌^◌, ◌<◌, ◌≤◌, List, [], ◌∷◌, ◌++◌, length, refl, ap, sym, ◌∙◌, append_assoc, length-append, subst, arith, Option, inl, inr, true, ◌==◌}
 use Rattle.std.specs.Prelude.{All}
 use Rattle.std.proofs.lemmas.Bool.{eqb-true}
-use Rattle.std.proofs.lemmas.List.{append-nil}
+use Rattle.std.proofs.lemmas.List.{append-nil, take_all}
 use Rattle.std.proofs.lemmas.List.Elements.{All-nil, All-cons, All-append}
 use Rattle.rwsp_terms.specs.Instance.{Instance}
 use Rattle.refutation_terms.specs.declared.lines.Line.{Line}
 use Rattle.refutation_terms.specs.declared.lines.Turn.{Turn}
 use Rattle.tree_walk.specs.States.{IsStateOf}
 use Rattle.refutation_checker.specs.Sound.{Start, StandsBehind}
-use Rattle.refutation_checker.specs.Chunks.{LeadsTo, IsCutOff, AreChunks, IsJudgeable}
+use Rattle.refutation_checker.specs.Chunks.{feeds, line_count, HasFirstLines, LeadsTo, IsCutOff, AreChunks, IsJudgeable, IsFew}
+use Rattle.refutation_checker.proofs.Feeds.{lines_of_both, some_line}
 
 -- the chunks so far: they hold all bytes, or the next ones go on behind them
 pub record IsOpen (P : Instance) (size : ℕ) (turn : Option Turn) (earlier : List Line) (bytes : List ℕ) (chunks : List Start) (rest : Start) : Type 0 where
@@ -21,21 +22,17 @@ abbrev pub IsOpenOrDone : Instance → ℕ → Option Turn → List Line → Lis
 IsOpenOrDone P size turn earlier bytes chunks rest =
     ((rest.bytes ≡ []) × AreChunks P turn size earlier bytes chunks) ⊎ IsOpen P size turn earlier bytes chunks rest
 
+-- the chunks so far are few enough
+abbrev pub AreFewSoFar : ℕ → List ℕ → ℕ → List ℕ → Type 0
+AreFewSoFar size bytes count rest =
+    ((rest ≡ []) × IsFew count size bytes) ⊎ (count * size + line_count rest ≤ line_count bytes)
+
 pub record CutSoFar (P : Instance) (size : ℕ) (all : Start) (chunks : List Start) (rest : Start) : Type 0 where
   pub few : rest.bytes ≢ [] → rest.first + length rest.bytes < 2 ^ 31
   pub short : length chunks + length rest.bytes ≤ length all.bytes
+  pub count : AreFewSoFar size all.bytes (length chunks) rest.bytes
   pub each : All (IsJudgeable P) chunks
   pub parts : (turn : Option Turn) (earlier : List Line) → StandsBehind P turn earlier all → IsOpenOrDone P size turn earlier all.bytes chunks rest
-
-pub cut_none : (P : Instance) (size : ℕ) (all : Start) (chunks : List Start) → chunks ≡ [] → IsJudgeable P all → CutSoFar P size all chunks all
-cut_none P size all chunks none h =
-    subst (λ cs. CutSoFar P size all cs all) (sym none)
-    (record {
-      few = λ _. h.1;
-      short = omega arith;
-      each = All-nil (IsJudgeable P);
-      parts = λ turn earlier st. inr (record { lines = []; behind = subst (λ ls. StandsBehind P turn ls all) (sym (append-nil earlier)) st; goes_on = λ more a. subst (λ ls. AreChunks P turn size ls all.bytes more) (append-nil earlier) a });
-    })
 
 -- bytes are left, so the next chunk stands behind some lines
 pub open_there : (P : Instance) (size : ℕ) (turn : Option Turn) (earlier : List Line) (bytes : List ℕ) (chunks : List Start) (rest : Start) → IsOpenOrDone P size turn earlier bytes chunks rest → rest.bytes ≢ [] → IsOpen P size turn earlier bytes chunks rest
@@ -74,16 +71,56 @@ chunk_judgeable P size old chunk rest h c =
     let long : length old.bytes ≡ length chunk.bytes + length rest.bytes = ap length c.whole ∙ length-append chunk.bytes rest.bytes in
     ((h.0.0, h.0.1, same_place P h.0.0 h.0.1 old chunk c.walk c.first h.0.2), omega (arith, h.1, long, c.first))
 
+all_of_both : (a b bytes : List ℕ) → bytes ≡ a ++ b → a ≡ bytes → b ≢ [] → ⊥
+all_of_both a b bytes e f some =
+    let long : length bytes ≡ length a + length b = ap length e ∙ length-append a b in
+    let same : length a ≡ length bytes = ap length f in
+    let one = some_bytes b some in
+    omega (arith, long, same, one)
+
+-- a chunk that isn't the last has so many LF
+full : (P : Instance) (turn : Option Turn) (earlier : List Line) (size : ℕ) (old chunk rest : List ℕ) (c : Start) → c.bytes ≡ chunk → old ≡ chunk ++ rest → rest ≢ [] → HasFirstLines P turn earlier size old c → feeds chunk ≡ size
+full P turn earlier size old chunk rest c is e some h =
+    elim h.cut [
+      | inr all ↦ absurd (all_of_both chunk rest old e (sym is ∙ all.0) some)
+      | inl front ↦ elim h.lines [
+        | inl lines ↦ ap feeds (sym is ∙ front) ∙ lines.0
+        | inr last ↦ absurd (all_of_both chunk rest old e (sym is ∙ front ∙ take_all h.end old (omega (arith, last.0))) some)
+      ]
+    ]
+
+few_more : (P : Instance) (turn : Option Turn) (earlier : List Line) (size count : ℕ) (bytes old chunk rest : List ℕ) (c : Start) → c.bytes ≡ chunk → old ≡ chunk ++ rest → old ≢ [] → HasFirstLines P turn earlier size old c → count * size + line_count old ≤ line_count bytes → AreFewSoFar size bytes (count + 1) rest
+few_more P turn earlier size count bytes old chunk [] c is e some h le = let one = some_line old some in inl (refl, omega (arith, le, one))
+few_more P turn earlier size count bytes old chunk (b ∷ rest) c is e some h le =
+    let more : b ∷ rest ≢ [] = λ no. cc in
+    let fed = full P turn earlier size old chunk (b ∷ rest) c is e more h in
+    let lines : line_count old ≡ feeds chunk + line_count (b ∷ rest) = ap line_count e ∙ lines_of_both chunk (b ∷ rest) more in
+    inr (omega (arith, le, fed, lines))
+
+few_on : (P : Instance) (turn : Option Turn) (earlier : List Line) (size count : ℕ) (bytes : List ℕ) (old chunk rest : Start) → AreFewSoFar size bytes count old.bytes → old.bytes ≢ [] → IsCutOff P size old chunk rest → StandsBehind P turn earlier old → AreFewSoFar size bytes (count + 1) rest.bytes
+few_on P turn earlier size count bytes old chunk rest few some c st =
+    elim few [
+      | inl done ↦ absurd (some done.0)
+      | inr le ↦ few_more P turn earlier size count bytes old.bytes chunk.bytes rest.bytes chunk refl c.whole some (c.lines turn earlier st) le
+    ]
+
+pub few_in_all : (P : Instance) (size : ℕ) (all : Start) (chunks : List Start) (rest : Start) → CutSoFar P size all chunks rest → 1 ≤ size → IsFew (length chunks) size all.bytes
+few_in_all P size all chunks rest so some = elim so.count [ inl done ↦ done.1 | inr le ↦ omega (arith, le, some) ]
+
 pub cut_more : (P : Instance) (size : ℕ) (all : Start) (chunks more : List Start) (old chunk rest : Start) → IsJudgeable P all → CutSoFar P size all chunks old → old.bytes ≢ [] → IsCutOff P size old chunk rest → more ≡ chunks ++ chunk ∷ [] → CutSoFar P size all more rest
 cut_more P size all chunks more old chunk rest h so some c is =
     let long : length old.bytes ≡ length chunk.bytes + length rest.bytes = ap length c.whole ∙ length-append chunk.bytes rest.bytes in
     let one = some_bytes chunk.bytes c.some in
     let count : length (chunks ++ chunk ∷ []) ≡ length chunks + 1 = length-append chunks (chunk ∷ []) in
+    let here : IsOpen P size h.0.0 h.0.1 all.bytes chunks old = open_there P size h.0.0 h.0.1 all.bytes chunks old (so.parts h.0.0 h.0.1 h.0.2) some in
     let this : IsJudgeable P chunk = chunk_judgeable P size old chunk rest (rest_judgeable P size all chunks old so h some) c in
     subst (λ cs. CutSoFar P size all cs rest) (sym is)
     (record {
       few = c.few;
       short = omega (arith, so.short, long, one, count);
+      count =
+          subst (λ n. AreFewSoFar size all.bytes n rest.bytes) (sym count)
+          (few_on P h.0.0 (h.0.1 ++ here.lines) size (length chunks) all.bytes old chunk rest so.count some c here.behind);
       each = All-append (IsJudgeable P) chunks (chunk ∷ []) so.each (All-cons (IsJudgeable P) chunk [] this (All-nil (IsJudgeable P)));
       parts = λ turn earlier st.
           let o : IsOpen P size turn earlier all.bytes chunks old = open_there P size turn earlier all.bytes chunks old (so.parts turn earlier st) some in

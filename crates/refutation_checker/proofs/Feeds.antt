@@ -1,9 +1,11 @@
 -- Counting the LF of a text.
-use Rattle.std.proofs.Common.{◌≡◌, ℕ, ◌+◌, ◌-◌, ◌<◌, ◌≤◌, List, length, take, get_or, ap, arith, Bool, true, false, ◌==◌, refl}
-use Rattle.std.proofs.lemmas.Bool.{eq-eqb, eqb-true}
-use Rattle.std.proofs.lemmas.List.{take_all}
-use Rattle.std.proofs.lemmas.List.Sums.{count_by_more_yes, count_by_more_no}
-use Rattle.refutation_checker.specs.Chunks.{feeds}
+use Rattle.std.proofs.Common.{◌≡◌, ◌≢◌, ℕ, ◌+◌, ◌-◌, ◌*◌, ◌/◌, ◌%◌, ◌<◌, ◌≤◌, min, List, [], ◌∷◌, ◌++◌, length, take, get_or, ap, sym, ◌∙◌, arith, Bool, true, false, cond, ◌==◌, refl, length-append, inl, inr}
+use Rattle.std.proofs.lemmas.Bool.{eq-eqb, eqb-true, cases_lt}
+use Rattle.std.proofs.lemmas.Grind.{div_ceil_times}
+use Rattle.std.proofs.Math.Nat.{mul-le-mul_right}
+use Rattle.std.proofs.lemmas.List.{take_all, get_or-append-add}
+use Rattle.std.proofs.lemmas.List.Sums.{count_by_more_yes, count_by_more_no, sum_by-append}
+use Rattle.refutation_checker.specs.Chunks.{feeds, line_count, IsFew}
 
 pub fed : (bytes : List ℕ) (i : ℕ) → i < length bytes → get_or bytes i 0 ≡ 10 → feeds (take (i + 1) bytes) ≡ feeds (take i bytes) + 1
 fed bytes i less e = count_by_more_yes (λ b. b == 10) bytes i 0 less (eq-eqb (get_or bytes i 0) 10 e)
@@ -24,3 +26,43 @@ fed_at_end bytes some e =
     let one = fed bytes (length bytes - 1) last e in
     let all = fed_in_all bytes (length bytes - 1 + 1) (omega (arith, some)) in
     omega (arith, one, all)
+
+pub feeds_joined : (a b : List ℕ) → feeds (a ++ b) ≡ feeds a + feeds b
+feeds_joined a b = sum_by-append (λ c. cond (c == 10) 1 0) a b
+
+some_bytes : (bytes : List ℕ) → bytes ≢ [] → 0 < length bytes
+some_bytes [] h = absurd (h refl)
+some_bytes (b ∷ bytes) h = omega arith
+
+last_of : (a b : List ℕ) → b ≢ [] → get_or (a ++ b) (length (a ++ b) - 1) 0 ≡ get_or b (length b - 1) 0
+last_of a b some =
+    let long : length (a ++ b) ≡ length a + length b = length-append a b in
+    let one = some_bytes b some in
+    let there : length (a ++ b) - 1 ≡ length a + (length b - 1) = omega (arith, long, one) in
+    ap (λ n. get_or (a ++ b) n 0) there ∙ get_or-append-add a b (length b - 1) 0
+
+-- the lines of bytes in two parts, of which the first ends with LF
+pub lines_of_both : (a b : List ℕ) → b ≢ [] → line_count (a ++ b) ≡ feeds a + line_count b
+lines_of_both a b some =
+    let parts = feeds_joined a b in
+    let last : ◌≡◌ {A = ℕ} (cond (get_or (a ++ b) (length (a ++ b) - 1) 0 == 10) 0 1) (cond (get_or b (length b - 1) 0 == 10) 0 1) = ap (λ n. cond (n == 10) 0 1) (last_of a b some) in
+    omega (arith, parts, last)
+
+pub some_line : (bytes : List ℕ) → bytes ≢ [] → 1 ≤ line_count bytes
+some_line bytes some = by_last (get_or bytes (length bytes - 1) 0 == 10) refl
+  where
+    by_last : (t : Bool) → (get_or bytes (length bytes - 1) 0 == 10) ≡ t → 1 ≤ line_count bytes
+    by_last true e = let fed = fed_at_end bytes (some_bytes bytes some) (eqb-true (get_or bytes (length bytes - 1) 0) 10 e) in omega (arith, fed)
+    by_last false e = let one : ◌≡◌ {A = ℕ} (cond (get_or bytes (length bytes - 1) 0 == 10) 0 1) 1 = ap (λ b. cond b 0 1) e in omega (arith, one)
+
+-- so few chunks are one for each worker at most
+pub one_for_each : (k size workers : ℕ) (bytes : List ℕ) → IsFew k size bytes → size ≡ line_count bytes / workers + min 1 (line_count bytes % workers) → 0 < workers → k ≤ workers
+one_for_each k size workers bytes few is some =
+    elim (cases_lt workers k) [
+      | inl more ↦
+          let enough = (div_ceil_times (line_count bytes) workers some).0 in
+          let e : (line_count bytes / workers + min 1 (line_count bytes % workers)) * workers ≡ size * workers = ap (λ n. n * workers) (sym is) in
+          let le : (workers + 1) * size ≤ k * size = mul-le-mul_right {m = workers + 1} {n = k} size (omega (arith, more)) in
+          absurd (omega (arith, few, enough, e, le))
+      | inr le ↦ le
+    ]

@@ -17,7 +17,7 @@ use Rattle.refutation_log.proofs.Named.{spelled_fits}
 use Rattle.tree_walk.specs.States.{State, IsStateOf}
 use Rattle.tree_walk.proofs.Idle.{positions_of}
 use Rattle.refutation_checker.specs.Judged.{IsIdleSplit}
-use Rattle.refutation_checker.specs.Chunks.{StopsWalk, IsWithin, IsLineWalked, EachFits, AreLinesWalked}
+use Rattle.refutation_checker.specs.Chunks.{StopsWalk, IsWithin, IsLineWalked, EachFits}
 use Rattle.refutation_checker.proofs.SoundLines.{lines_joined}
 
 pub ok_along : {T E : Type 0} (r : Result T E) (A B : T → Type 0) → ((x : T) → A x → B x) → IfOk r A → IfOk r B
@@ -74,12 +74,6 @@ pub record WalkedSoFar (P : Instance) (old w : State) (bytes left : List ℕ) (c
   pub few : count + length left ≤ length bytes
   pub each : (turn : Option Turn) (earlier : List Line) → IsStateOf P turn earlier old → WalkedUpTo P turn earlier bytes left w count
 
-pub walked_none : (P : Instance) (w : State) (bytes left : List ℕ) → left ≡ bytes → WalkedSoFar P w w bytes left 0
-walked_none P w bytes left e = record {
-  few = omega (arith, ap length e);
-  each = λ turn earlier h. record { lines = []; fit = tt; text = sym e; counted = refl; state = subst (λ ls. IsStateOf P turn ls w) (sym (append-nil earlier)) h };
-}
-
 some_bytes : (bytes : List ℕ) → bytes ≢ [] → 1 ≤ length bytes
 some_bytes [] h = absurd (h refl)
 some_bytes (b ∷ bytes) h = omega arith
@@ -109,18 +103,3 @@ walked_more P old w w' all left bytes rest count so some e reads =
       few = omega (arith, so.few, size, one);
       each = λ turn earlier h. walk_on P turn earlier all left bytes rest w w' count (so.each turn earlier h) e reads;
     }
-
-pub walked_all : (P : Instance) (old w : State) (all left : List ℕ) (count : ℕ) → WalkedSoFar P old w all left count → left ≡ [] → (turn : Option Turn) (earlier : List Line) → IsStateOf P turn earlier old → AreLinesWalked P turn earlier all count w
-walked_all P old w all left count so e turn earlier h =
-    let up = so.each turn earlier h in
-    record {
-      lines = up.lines;
-      fit = up.fit;
-      text = up.text ∙ ap (λ t. lines_text P up.lines ++ t) e ∙ append-nil (lines_text P up.lines);
-      counted = up.counted;
-      walked = up.state;
-    }
-
-pub walked_state : (P : Instance) (old w : State) (all left : List ℕ) (count : ℕ) → WalkedSoFar P old w all left count → (turn : Option Turn) × (earlier : List Line) × IsStateOf P turn earlier old → (turn : Option Turn) × (earlier : List Line) × IsStateOf P turn earlier w
-walked_state P old w all left count so h =
-    let up = so.each h.0 h.1 h.2 in (h.0, h.1 ++ up.lines, up.state)

@@ -1,5 +1,5 @@
 -- The lines below a header, cut into chunks.
-use Rattle.std.specs.Prelude.{◌≡◌, ◌≢◌, ◌⊎◌, ℕ, ◌+◌, ◌^◌, ◌<◌, List, [], ◌∷◌, ◌++◌, length, Option, Bool, Result, Ok, Err, count_by, cond, slice_index, take, ◌-◌, ◌==◌}
+use Rattle.std.specs.Prelude.{◌≡◌, ◌≢◌, ◌⊎◌, ℕ, ◌+◌, ◌^◌, ◌<◌, List, [], ◌∷◌, ◌++◌, length, Option, Bool, Result, Ok, Err, count_by, cond, slice_index, take, ◌-◌, ◌==◌, ◌*◌}
 use Rattle.rwsp_terms.specs.Instance.{Instance}
 use Rattle.rwsp_model.specs.declared.fail.Fail.{Fail}
 use Rattle.refutation_terms.specs.declared.lines.Line.{Line}
@@ -110,3 +110,7 @@ abbrev pub joined_from : Bool → List (Result Bool (Fail LogRefusal)) → Resul
 joined_from whole [] = Ok whole
 joined_from whole (Ok last ∷ answers) = joined_from last answers
 joined_from whole (Err fail ∷ answers) = Err fail
+
+-- so many chunks of so many lines each, of which the last may have fewer, are needed for the bytes at most
+abbrev pub IsFew : ℕ → ℕ → List ℕ → Type 0
+IsFew chunks size bytes = chunks * size < line_count bytes + size

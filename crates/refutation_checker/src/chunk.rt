@@ -12,13 +12,15 @@ use std::alloc::Global;
 use std::marker::Model;
 use tree_walk::Walk;
 
-/// Some lines of a log's tree: the walk in front of them, their bytes, and the number of the first one among all lines of
-/// the text. Chunks count from 1.
+/// Some lines of a log's tree that follow one another.
 #[derive(Debug, Drop)]
 pub struct Chunk<'a> {
+    /// Which chunk it is, from 1 on.
     pub number: u32,
+    /// The walk in front of its lines.
     pub walk: Walk,
     pub bytes: &'a [u8],
+    /// The number of its first line among all lines of the text, from 1 on.
     pub first: u32,
 }
 

@@ -33,8 +33,8 @@ pub fn lines_of_header(header: &Header) -> u32
     }
 }
 
-/// The first line of a text, with its LF if it has one, and what follows it; None where there is no line.
-pub fn first_line(bytes: &[u8]) -> Option<(&[u8], &[u8])>
+// The first line of a text, with its LF if it has one, and what follows it; None where there is no line.
+fn first_line(bytes: &[u8]) -> Option<(&[u8], &[u8])>
     ensures { MatchOption result (bytes.now ≡ []) (λ r. BeginsWithLine bytes.now r.0.now r.1.now) }
 {
     let mut reader = LineReader::new(bytes);

@@ -7,7 +7,8 @@ ghost use Rattle.refutation_terms.specs.Tree.{domains_at};
 ghost use Rattle.tree_walk.specs.States.{IsStateOf};
 ghost use Rattle.refutation_checker.specs.Judged.{IsIdleSplit};
 ghost use Rattle.refutation_checker.specs.Sound.{StandsBehind};
-ghost use Rattle.refutation_checker.specs.Chunks.{IsWithin, StopsWalk, IsStopped, IsLast, IsLineWalked, AreLinesWalked, IsCutOff, AreChunks, IsJudgeable, EndsLines, line_count, feeds};
+ghost use Rattle.refutation_checker.specs.Chunks.{IsWithin, StopsWalk, IsStopped, IsLast, IsLineWalked, AreLinesWalked, IsCutOff, AreChunks, IsJudgeable, EndsLines, IsFew, line_count, feeds};
+ghost use Rattle.std.specs.Int.{div_ceil};
 
 use crate::chunk::Chunk;
 use refutation_log::{LineReader, read_line};
@@ -16,10 +17,28 @@ use rwsp_model::{Fail, Problem};
 use std::alloc::{AllocError, Global};
 use tree_walk::Walk;
 
-/// The lines from some place on, cut into chunks of so many lines each, of which the last may have fewer. A line that isn't
-/// spelled, an idle split and a line behind the whole tree are refused by the chunk that holds them, there or before: so
-/// such a chunk has all further lines, and is the last.
-pub fn chunks_of<'a>(
+/// The lines from some place on, cut into chunks of equal length, of which the last may be shorter: one for each worker at most.
+pub fn chunks_for<'a>(
+    alloc: Global,
+    problem: &Problem,
+    all: Chunk<'a>,
+    workers: u32,
+) -> Result<Vec<Chunk<'a>>, AllocError>
+    requires start { IsJudgeable problem.now all }
+    requires some { all.bytes ≢ [] }
+    requires workers { 1 ≤ workers }
+    ensures chunks { IfOk result (λ v. (turn : Option Turn) (earlier : List TheLine) → StandsBehind problem.now turn earlier all.entry →
+        AreChunks problem.now turn (div_ceil (line_count all.entry.bytes) workers) earlier all.entry.bytes v.items) }
+    ensures each { IfOk result (λ v. All (IsJudgeable problem.now) v.items) }
+    ensures few { IfOk result (λ v. length v.items ≤ workers) }
+{
+    let size = count_lines(all.bytes).div_ceil(workers as usize);
+    chunks_of(alloc, problem, all, size)
+}
+
+// Chunks of so many lines each. A line that isn't spelled, an idle split and a line behind the whole tree are refused by the
+// chunk that holds them, there or before: so such a chunk has all further lines, and is the last.
+fn chunks_of<'a>(
     alloc: Global,
     problem: &Problem,
     all: Chunk<'a>,
@@ -30,6 +49,7 @@ pub fn chunks_of<'a>(
     ensures chunks { IfOk result (λ v. (turn : Option Turn) (earlier : List TheLine) → StandsBehind problem.now turn earlier all.entry →
         AreChunks problem.now turn size earlier all.entry.bytes v.items) }
     ensures each { IfOk result (λ v. All (IsJudgeable problem.now) v.items) }
+    ensures few { IfOk result (λ v. IsFew (length v.items) size all.entry.bytes) }
 {
     let mut chunks = Vec::new(alloc);
     let mut rest = all;
@@ -184,9 +204,9 @@ fn lines_end(bytes: &[u8], size: usize) -> usize
     bytes.len()
 }
 
-/// The number of lines, of which the last one may have no LF.
+// The number of lines, of which the last one may have no LF.
 #[tactic(auto, using(crate::proofs::Feeds::fed_at_end))]
-pub fn count_lines(bytes: &[u8]) -> usize
+fn count_lines(bytes: &[u8]) -> usize
     requires { 0 < length bytes.now }
     ensures value { result ≡ line_count bytes.now }
     ensures some { 1 ≤ result }

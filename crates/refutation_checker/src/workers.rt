@@ -6,7 +6,7 @@ ghost use Rattle.refutation_checker.specs.Sound.{StandsBehind, IsJudged};
 ghost use Rattle.refutation_checker.specs.Chunks.{IsJudgeable, joined_from};
 
 use crate::chunk::{Chunk, judge_chunk};
-use crate::scan::{chunks_of, count_lines};
+use crate::scan::chunks_for;
 use potential_bounds::Gate;
 use refutation_terms::LogRefusal;
 use rwsp_model::{Fail, Problem, RuleList};
@@ -32,8 +32,7 @@ pub fn judge_by_workers<R: Threads + Sync, G: Gate>(
         IsJudged problem.now named.now turn earlier all.entry.bytes result }
 {
     problem.keeps_limits();
-    let size = count_lines(all.bytes).div_ceil(workers as usize);
-    let Ok(chunks) = chunks_of(alloc, problem, all, size) else {
+    let Ok(chunks) = chunks_for(alloc, problem, all, workers) else {
         return Err(Fail::Memory);
     };
     let answers = thread::map_vec(

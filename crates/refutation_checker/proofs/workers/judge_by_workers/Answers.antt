@@ -1,5 +1,7 @@
 use Rattle.std.proofs.Common.{◌≡◌, length, get_or, false, sym, subst, arith, Ok}
+use Rattle.std.specs.Int.{div_ceil}
 use Rattle.refutation_checker.specs.Sound.{Start, IsJudged}
+use Rattle.refutation_checker.specs.Chunks.{line_count}
 use Rattle.refutation_checker.proofs.Joining.{Answer, IsAnswerTo, answers_to, joined}
 use Rattle.refutation_checker.proofs.workers.judge_by_workers.Goals as goal
 
@@ -13,4 +15,4 @@ returns-in-Ok-answers g c turn earlier st =
     let are = answers_to P R chunks answers c.args.all (Ok false) count
     (λ i less. let given = (c.in-Ok-answers.ensures.each i (Ok false) less).1 in subst (λ (s : Start). IsAnswerTo P R s (get_or answers i (Ok false))) (sym (given.job_is c.args.all)) given.call.met) in
     subst (λ (a : Answer). IsJudged P R turn earlier c.args.all.bytes a) (sym c.joined.ensures)
-    (joined P R turn c.div_ceil-size.result chunks answers earlier c.args.all.bytes false c.keeps_limits.ensures are (c.in-Ok.ensures.chunks turn earlier st) c.requires.some)
+    (joined P R turn (div_ceil (line_count c.args.all.bytes) c.args.workers) chunks answers earlier c.args.all.bytes false c.keeps_limits.ensures are (c.in-Ok.ensures.chunks turn earlier st) c.requires.some)
