@@ -1,5 +1,5 @@
 -- A change of domains narrows them at its position: for callers.
-use Rattle.std.proofs.Common.{◌≡◌, ◌≢◌, ◌∙◌, ℕ, List, [], ap, sym, get_or-set_other, Bool, IsTrue, ◌&&◌}
+use Rattle.std.proofs.Common.{◌≡◌, ◌∙◌, ℕ, List, [], ap, sym, get_or-set_other, Bool, ◌&&◌}
 use Rattle.domain_store.specs.Store.{Store, domain_at, has_domain, changed, HasSameShape}
 use Rattle.refutation_terms.proofs.Tests.{right_of}
 use Rattle.propagators.specs.Looks.{IsNarrowedAt}
