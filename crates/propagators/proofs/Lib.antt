@@ -4,3 +4,4 @@ mod Lying
 mod Runs
 mod Over
 mod Watching
+pub mod Narrowing

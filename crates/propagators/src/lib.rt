@@ -8,6 +8,8 @@ mod look;
 mod pair;
 mod propagator;
 mod run;
+#[cfg(test)]
+mod tests;
 mod window;
 mod window_over;
 

@@ -46,8 +46,8 @@ impl<A: Propagator, B: Propagator> Propagator for Pair<A, B> {
         if let Look::Quiet = first {
             return Ok(second);
         }
-        if let Look::Closed(line) = second {
-            return Ok(Look::Closed(line));
+        if let Look::Closed(closing) = second {
+            return Ok(Look::Closed(closing));
         }
         Ok(first)
     }
