@@ -1,8 +1,11 @@
 -- A log has one reduction, and what is read and passes is not refused.
 use Rattle.std.proofs.Common.{◌≡◌, ◌≤◌, length, ℕ, zero, suc, List, [], ◌∷◌, sym, ◌∙◌, subst, inl, inr}
-use Rattle.std.specs.Prelude.{◌≢◌, ◌⊎◌, reverse}
+use Rattle.std.specs.Prelude.{◌≢◌, ◌⊎◌, reverse, Err}
 use Rattle.rwsp_terms.specs.Instance.{Instance}
 use Rattle.rwsp_model.specs.Validity.{KeepsLimits}
+use Rattle.rwsp_model.specs.Refusals.{MatchAnswer}
+use Rattle.rwsp_model.specs.declared.fail.Fail.{Fail}
+use Rattle.rwsp_model.specs.declared.fail.Fail.TheVariants.{Refused}
 use Rattle.refutation_terms.specs.declared.lines.LogRefusal.{LogRefusal}
 use Rattle.refutation_terms.specs.Log.{Log, Passes}
 use Rattle.refutation_terms.specs.Strip.{strip, StripsTo, DescendsTo, ReducesIn, IsReduced}
@@ -47,5 +50,5 @@ reduced P bytes g h short e passes r p each together = (short, (g, (e, passes), 
 pub refused_text : (P : Instance) (bytes : List ℕ) (g : Log) (why : LogRefusal) → length bytes ≤ 536870912 → bytes ≡ log_text P g → IsRefused P (log_text P g) why → IsReduction (LogRefused why) P bytes
 refused_text P bytes g why short e h = (short, subst (λ (text : List ℕ). IsRefused P text why) (sym e) h)
 
-pub printable_text : (P : Instance) (g : Log) (why : LogRefusal) → IsRefused P (log_text P g) why → HasSymbols P why
-printable_text P g why h = printable P (log_text P g) why h
+pub printable_text : (P : Instance) (g : Log) (fail : Fail LogRefusal) (why : LogRefusal) (Q : Log → Type 0) → fail ≡ Refused why → MatchAnswer (Err fail) Q (IsRefused P (log_text P g)) → HasSymbols P why
+printable_text P g fail why Q e h = printable P (log_text P g) why (subst (λ (f : Fail LogRefusal). MatchAnswer (Err f) Q (IsRefused P (log_text P g))) e h)

@@ -1,4 +1,4 @@
-use Rattle.std.proofs.Common.{ℕ, List, refl, subst, sym}
+use Rattle.std.proofs.Common.{ℕ, List, Err, ap, subst, sym}
 use Rattle.std.proofs.lemmas.Result.{IfOk-weaker}
 use Rattle.rwsp_file.specs.Spelling.{SpellsProblem}
 use Rattle.rwsp.specs.Commands.{second_name}
@@ -32,4 +32,5 @@ returns-in-Err-ReadFault-answer_on-clause-fault g c e =
     let P = c.in-Ok.problem in
     let read : IsRead held words P = subst (λ (name : List ℕ). WhereTold (held name) (λ file. IsShort Kinds.Problem file × SpellsProblem file P)) c.word_at.ensures c.in-Ok.ensures.problem in
     let said = c.in-Err-ReadFault-answer_on.ensures in
-    second_fault held (g.S.Shelf.faults c.args.shelf.now) (g.S.Shelf.faults c.problem_in.new.shelf) (g.S.Shelf.faults c.answer_on.new.shelf) words c.in-Some.command P c.in-Some.ensures (said.second refl) read (c.problem_in.ensures.faults (second_name words)) (said.fault refl)
+    let stopped = ap Err c.in-Err-ReadFault-answer_on.field-0-is in
+    second_fault held (g.S.Shelf.faults c.args.shelf.now) (g.S.Shelf.faults c.problem_in.new.shelf) (g.S.Shelf.faults c.answer_on.new.shelf) words c.in-Some.command P c.in-Some.ensures (said.second stopped) read (c.problem_in.ensures.faults (second_name words)) (said.fault stopped)
