@@ -1,6 +1,10 @@
 // Command lines over files in memory: what is printed, to the byte, and the status.
+mod logs;
+mod plans;
+
 use crate::answer::{Answer, Outcome};
 use crate::run::run;
+use potential_bounds::NoGate;
 use rwsp_io::{MemoryShelf, MemorySink};
 use std::alloc::{AllocError, Global};
 use std::test::Fail;
@@ -45,7 +49,7 @@ fn ends<R: Threads + Sync>(
     let words = words_of(alloc, words)?;
     let mut shelf = shelf_of(alloc, files)?;
     let mut sink = MemorySink::new(alloc, 10_000, 7, Vec::new(alloc))?;
-    let outcome = run(rt, alloc, &words, &mut shelf, &mut sink);
+    let outcome = run(rt, alloc, &words, &mut shelf, &mut sink, &NoGate);
     Ok(outcome.status() == status && sink.bytes() == text.as_bytes())
 }
 
@@ -247,12 +251,12 @@ fn files_that_are_too_long(rt: HostRuntime) -> Result<(), Fail> {
     ]?;
     let mut shelf = MemoryShelf::new(files, 100_000, Vec::new(alloc));
     let mut sink = MemorySink::new(alloc, 100, 100, Vec::new(alloc))?;
-    let outcome = run(&rt, alloc, &words, &mut shelf, &mut sink);
+    let outcome = run(&rt, alloc, &words, &mut shelf, &mut sink, &NoGate);
     assert_eq!(rt; outcome.status(), 3);
     assert_eq!(rt; sink.bytes(), b"too long: roster\n".as_slice());
     let words = words_of(alloc, &["verify", "R", "F"])?;
     let mut sink = MemorySink::new(alloc, 100, 100, Vec::new(alloc))?;
-    let outcome = run(&rt, alloc, &words, &mut shelf, &mut sink);
+    let outcome = run(&rt, alloc, &words, &mut shelf, &mut sink, &NoGate);
     assert_eq!(rt; outcome.status(), 3);
     assert_eq!(rt; sink.bytes(), b"too long: problem\n".as_slice());
     Ok(())
@@ -266,8 +270,8 @@ fn writes_that_fail(rt: HostRuntime) -> Result<(), Fail> {
     for room in 0..6usize {
         let mut shelf = shelf_of(alloc, &[("F", NINE_WEEKS), ("R", NINE_WEEKS_ROSTER)])?;
         let mut sink = MemorySink::new(alloc, room, 1, Vec::new(alloc))?;
-        let outcome = run(&rt, alloc, &words, &mut shelf, &mut sink);
-        assert_eq!(rt; outcome, Outcome::WriteFault(Answer::Meets));
+        let outcome = run(&rt, alloc, &words, &mut shelf, &mut sink, &NoGate);
+        assert!(rt; matches!(&outcome, Outcome::WriteFault(Answer::Meets)));
         assert_eq!(rt; outcome.status(), 7);
         assert_eq!(rt; sink.bytes(), &b"meets\n"[..room]);
     }
@@ -293,13 +297,13 @@ fn reads_that_fail(rt: HostRuntime) -> Result<(), Fail> {
         ]?;
         let mut shelf = MemoryShelf::new(files, 7, vec![in alloc; call]?);
         let mut sink = MemorySink::new(alloc, 100, 100, Vec::new(alloc))?;
-        let outcome = run(&rt, alloc, &words, &mut shelf, &mut sink);
-        if outcome == Outcome::ReadFault {
+        let outcome = run(&rt, alloc, &words, &mut shelf, &mut sink, &NoGate);
+        if matches!(&outcome, Outcome::ReadFault) {
             assert_eq!(rt; sink.bytes(), b"".as_slice());
             assert_eq!(rt; refused, call - 1);
             refused = call;
         } else {
-            assert_eq!(rt; outcome, Outcome::Done(Answer::Meets));
+            assert!(rt; matches!(&outcome, Outcome::Done(Answer::Meets)));
             assert_eq!(rt; sink.bytes(), b"meets\n".as_slice());
         }
     }
@@ -411,7 +415,7 @@ fn the_longest_problem(rt: HostRuntime) -> Result<(), Fail> {
         let files = vec![in alloc; (String::from_str(alloc, "F")?, file)]?;
         let mut shelf = MemoryShelf::new(files, 100_000, Vec::new(alloc));
         let mut sink = MemorySink::new(alloc, 1000, 1000, Vec::new(alloc))?;
-        let outcome = run(&rt, alloc, &words, &mut shelf, &mut sink);
+        let outcome = run(&rt, alloc, &words, &mut shelf, &mut sink, &NoGate);
         assert_eq!(rt; outcome.status(), status);
         assert_eq!(rt; sink.bytes(), text.as_bytes());
     }
@@ -427,8 +431,8 @@ fn a_fault_behind_the_last_byte(rt: HostRuntime) -> Result<(), Fail> {
     let files = vec![in alloc; (String::from_str(alloc, "F")?, file)]?;
     let mut shelf = MemoryShelf::new(files, 100, vec![in alloc; 3u64]?);
     let mut sink = MemorySink::new(alloc, 1000, 1000, Vec::new(alloc))?;
-    let outcome = run(&rt, alloc, &words, &mut shelf, &mut sink);
-    assert_eq!(rt; outcome, Outcome::ReadFault);
+    let outcome = run(&rt, alloc, &words, &mut shelf, &mut sink, &NoGate);
+    assert!(rt; matches!(&outcome, Outcome::ReadFault));
     assert_eq!(rt; outcome.status(), 6);
     assert_eq!(rt; sink.bytes(), b"".as_slice());
     Ok(())

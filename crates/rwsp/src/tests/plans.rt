@@ -1,0 +1,129 @@
+// Rosters and refutations: what `plan` prints is right by `verify` and `check`.
+use super::logs::{TOO_MANY, TWOS, checks};
+use super::{NINE_WEEKS, TWO_DAYS, ends, shelf_of, verifies, words_of};
+use crate::run::run;
+use potential_bounds::NoGate;
+use rwsp_io::MemorySink;
+use std::alloc::{AllocError, Global};
+use std::test::Fail;
+use std::thread::Threads;
+
+// Three of five days, in twos: there is no roster, and no leaf holds at the first line.
+const THREE_OF_FIVE: &str = "1\n5\n1\n3\nD 360 480 2 2\n1 2\n2 2\n0 0\n";
+
+// What is printed with this status, or nothing with another.
+fn printed<R: Threads + Sync>(
+    rt: &R,
+    alloc: Global,
+    words: &[&str],
+    problem: &str,
+    status: u8,
+) -> Result<Vec<u8>, AllocError> {
+    let words = words_of(alloc, words)?;
+    let mut shelf = shelf_of(alloc, &[("F", problem)])?;
+    let mut sink = MemorySink::new(alloc, 1_000_000, 100_000, Vec::new(alloc))?;
+    let outcome = run(rt, alloc, &words, &mut shelf, &mut sink, &NoGate);
+    if outcome.status() == status {
+        Vec::from_slice(alloc, sink.bytes())
+    } else {
+        Ok(Vec::new(alloc))
+    }
+}
+
+// Whether `plan` refutes, and `check` accepts what it prints.
+fn is_refuted<R: Threads + Sync>(rt: &R, alloc: Global, problem: &str) -> Result<bool, AllocError> {
+    let log = printed(rt, alloc, &["plan", "F"], problem, 1)?;
+    let words = words_of(alloc, &["check", "F", "G"])?;
+    let files = vec![in alloc;
+        (
+            String::from_str(alloc, "F")?,
+            Vec::from_slice(alloc, problem.as_bytes())?
+        ),
+        (String::from_str(alloc, "G")?, log),
+    ]?;
+    let mut shelf = rwsp_io::MemoryShelf::new(files, 1000, Vec::new(alloc));
+    let mut sink = MemorySink::new(alloc, 1000, 1000, Vec::new(alloc))?;
+    let outcome = run(rt, alloc, &words, &mut shelf, &mut sink, &NoGate);
+    Ok(outcome.status() == 0)
+}
+
+#[test]
+fn the_only_roster_is_found(rt: HostRuntime) -> Result<(), Fail> {
+    let files = [("F", TWO_DAYS)];
+    assert!(rt; ends(&rt, rt.alloc(), &["plan", "F"], &files, 0, "D -\n")?);
+    Ok(())
+}
+
+#[test]
+fn refutations_are_accepted(rt: HostRuntime) -> Result<(), Fail> {
+    let none = "2\n1\n1\n0 0\nD 360 480 1 1\n1 1\n1 1\n0 0\n";
+    let full_column = "2\n2\n2\n2 0\n1 0\nD 360 480 1 4\nN 1320 480 1 4\n1 4\n1 4\n0 0\n";
+    let crossed = "2\n2\n1\n1 1\nD 360 480 3 2\n1 4\n1 4\n0 0\n";
+    let all_off = "2\n1\n1\n0 0\nD 360 480 1 7\n1 7\n1 7\n0 0\n";
+    for problem in [
+        TOO_MANY,
+        TWOS,
+        THREE_OF_FIVE,
+        none,
+        full_column,
+        crossed,
+        all_off,
+    ] {
+        assert!(rt; is_refuted(&rt, rt.alloc(), problem)?, "{problem}");
+    }
+    Ok(())
+}
+
+// A budget of one line is spent on the first split.
+#[test]
+fn a_budget_of_one_line(rt: HostRuntime) -> Result<(), Fail> {
+    let alloc = rt.alloc();
+    for problem in [THREE_OF_FIVE, TWOS] {
+        let text = printed(&rt, alloc, &["plan", "F", "--budget", "1"], problem, 4)?;
+        let log = String::from_utf8(text).ok().ok_or("a text")?;
+        let front = "rwsp-log 2\nrules 7\nturn D 1\nsplit ";
+        assert!(rt; log.as_str().starts_with(front));
+        assert!(rt; log.as_str().ends_with(" D\nopen\nopen\n"));
+        assert!(rt;
+            checks(
+                &rt,
+                alloc,
+                problem,
+                log.as_str(),
+                5,
+                "log refused: open line 5\n"
+            )?
+        );
+    }
+    Ok(())
+}
+
+// The nine weeks have a roster, and what is found meets all rules.
+#[test]
+fn a_roster_for_nine_weeks(rt: HostRuntime) -> Result<(), Fail> {
+    let alloc = rt.alloc();
+    let text = printed(&rt, alloc, &["plan", "F"], NINE_WEEKS, 0)?;
+    let roster = String::from_utf8(text).ok().ok_or("a text")?;
+    assert!(rt; verifies(&rt, alloc, NINE_WEEKS, roster.as_str(), 0, "meets\n")?);
+    Ok(())
+}
+
+#[test]
+fn options_beyond_their_limits(rt: HostRuntime) -> Result<(), Fail> {
+    let usage =
+        "usage: rwsp plan FILE [--budget B] | check FILE LOG [--workers N] | verify FILE ROSTER | reduce FILE LOG | show FILE | trial NUMBER WEEKS\n";
+    let cases: [&[&str]; 8] = [
+        &["plan", "F", "--budget", "0"],
+        &["plan", "F", "--budget", "200001"],
+        &["plan", "--budget", "5", "F"],
+        &["plan", "F", "--budget", "0000000005"],
+        &["check", "F", "G", "--workers", "0"],
+        &["check", "F", "G", "--workers", "65"],
+        &["check", "F", "--workers", "4"],
+        &["reduce", "F"],
+    ];
+    for words in cases {
+        assert!(rt; ends(&rt, rt.alloc(), words, &[], 2, usage)?);
+    }
+    Ok(())
+}
