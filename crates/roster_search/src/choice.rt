@@ -1,11 +1,12 @@
 // Where a search splits when no leaf says so.
-ghost use Rattle.std.specs.Prelude.{◌≡◌, ℕ, ◌<◌, ◌≤◌, length, false, IsTrue, None, MatchOption};
-ghost use Rattle.rwsp_terms.specs.Instance.{IsSymbol};
+ghost use Rattle.std.specs.Prelude.{◌≡◌, ℕ, ◌<◌, ◌≤◌, length, false, IsTrue, None, MatchOption, pos, neg_ℤ, ◌≤ℤ◌};
+ghost use Rattle.std.specs.Option.{IfSome};
+ghost use Rattle.rwsp_terms.specs.Instance.{Instance, IsSymbol, IsClass};
 ghost use Rattle.domain_store.specs.Store.{BelongsTo, IsDecided, domain_at, has_domain};
 ghost use Rattle.tree_walk.specs.Splits.{is_idle_in};
 
 use domain_store::Domains;
-use rwsp_model::{Problem, Symbol};
+use rwsp_model::{Class, Problem, Symbol};
 
 /// A position, counted from 0, and a symbol of its domain.
 #[derive(Clone, Copy)]
@@ -16,15 +17,153 @@ pub struct Choice {
 
 /// A position with two symbols or more, and one of them; None where each position has one symbol.
 ///
-/// It is the first such position, and the symbol that is needed most there.
+/// It is the first such position. A block of one shift, of days off or of work that the days before it have begun goes on until
+/// it has its least length. Else a day off is taken where fewer of them have been given than is their share up to there, and
+/// otherwise the shift that is needed most.
 pub fn choose(problem: &Problem, domains: &Domains) -> Option<Choice>
     requires { BelongsTo problem.now domains.now }
     ensures { MatchOption result (IsDecided domains.now) (λ c. (c.p < length domains.now.sets) × (is_idle_in domains.now c.p c.x.number ≡ false)) }
 {
     domains.facts();
     let p = first_open(domains)?;
-    let x = most_needed(problem, domains, p)?;
+    let x = wanted_at(problem, domains, p)?;
     Some(Choice { p, x })
+}
+
+// The symbol that is tried first at a position.
+fn wanted_at(problem: &Problem, domains: &Domains, p: u32) -> Option<Symbol>
+    requires belongs { BelongsTo problem.now domains.now }
+    requires position { p < length domains.now.sets }
+    ensures { MatchOption result ((x : ℕ) → x ≤ domains.now.shifts → has_domain domains.now p x ≡ false) (λ x. IsTrue (has_domain domains.now p x.number)) }
+{
+    if let Some(x) = unfinished(problem, domains, p) {
+        return Some(x);
+    }
+    if works_on(problem, domains, p) || !is_off_due(problem, domains, p) {
+        if let Some(x) = most_needed_shift(problem, domains, p) {
+            return Some(x);
+        }
+    }
+    if domains.has(p, Symbol::OFF) {
+        return Some(Symbol::OFF);
+    }
+    most_needed(problem, domains, p)
+}
+
+// Whether the positions before this one have fewer days off than their share of those that are needed in all.
+fn is_off_due(problem: &Problem, domains: &Domains, p: u32) -> bool
+    requires { p < length domains.now.sets }
+{
+    let cells = i64::from(domains.cells());
+    let share = off_needed(problem) * i64::from(p + 1);
+    i64::from(off_before(domains, p)) * cells < share
+}
+
+// How many days off are needed in all.
+fn off_needed(problem: &Problem) -> i64
+    ensures above { neg_ℤ (pos 134400) ≤ℤ result }
+    ensures below { result ≤ℤ pos 16800 }
+{
+    let mut total = 0;
+    for day in 0..problem.days() {
+        total += i64::from(problem.demand_least(Symbol::OFF, day + 1));
+    }
+    total
+}
+
+// How many positions before this one are off for sure.
+fn off_before(domains: &Domains, p: u32) -> u32
+    requires { p < length domains.now.sets }
+    ensures { result ≤ p }
+{
+    let mut count = 0;
+    for q in 0..p {
+        if is_alone(domains, q, Symbol::OFF) {
+            count += 1;
+        }
+    }
+    count
+}
+
+// The symbol of the day before, where its block is shorter than the least length and may go on.
+fn unfinished(problem: &Problem, domains: &Domains, p: u32) -> Option<Symbol>
+    requires belongs { BelongsTo problem.now domains.now }
+    requires position { p < length domains.now.sets }
+    ensures { IfSome result (λ x. IsTrue (has_domain domains.now p x.number)) }
+{
+    domains.facts();
+    if p == 0 {
+        return None;
+    }
+    let x = domains.only(p - 1)?;
+    if !domains.has(p, x) {
+        return None;
+    }
+    if block_before(domains, p, x) < problem.bounds(class_of(x)).least {
+        Some(x)
+    } else {
+        None
+    }
+}
+
+fn class_of(x: Symbol) -> Class
+    ensures { (P : Instance) → IsSymbol P x → IsClass P result }
+{
+    if x.number == 0 {
+        Class::Off
+    } else {
+        Class::Shift(x)
+    }
+}
+
+// How many positions in a row before this one have the symbol alone.
+fn block_before(domains: &Domains, p: u32, x: Symbol) -> u32
+    requires { p < length domains.now.sets }
+{
+    for back in 0..p {
+        if !is_alone(domains, p - 1 - back, x) {
+            return back;
+        }
+    }
+    p
+}
+
+fn is_alone(domains: &Domains, p: u32, x: Symbol) -> bool
+    requires { p < length domains.now.sets }
+{
+    match domains.only(p) {
+        Some(only) => only.number == x.number,
+        None => false,
+    }
+}
+
+// Whether the days before the position are a block of work that is shorter than the least length.
+fn works_on(problem: &Problem, domains: &Domains, p: u32) -> bool
+    requires { p < length domains.now.sets }
+{
+    let count = work_before(domains, p);
+    0 < count && count < problem.bounds(Class::Work).least
+}
+
+// How many positions in a row before this one have one shift alone.
+fn work_before(domains: &Domains, p: u32) -> u32
+    requires { p < length domains.now.sets }
+{
+    for back in 0..p {
+        if !has_one_shift(domains, p - 1 - back) {
+            return back;
+        }
+    }
+    p
+}
+
+fn has_one_shift(domains: &Domains, p: u32) -> bool
+    requires { p < length domains.now.sets }
+{
+    match domains.only(p) {
+        Some(x) => x.number > 0,
+        None => false,
+    }
 }
 
 // The first position with two symbols or more.
@@ -58,6 +197,28 @@ fn is_better(here: &Wanted, best: &Option<Wanted>) -> bool
                 > i64::from(best.weeks) * i64::from(here.places)
         }
         None => true,
+    }
+}
+
+// The shift of the domain that is needed most on the day of the position, of several the lowest.
+fn most_needed_shift(problem: &Problem, domains: &Domains, p: u32) -> Option<Symbol>
+    requires belongs { BelongsTo problem.now domains.now }
+    requires position { p < length domains.now.sets }
+    ensures { IfSome result (λ x. IsTrue (has_domain domains.now p x.number)) }
+{
+    let mut best: Option<Wanted> = None;
+    for i in 0..domains.shifts() {
+        let x = Symbol { number: i + 1 };
+        if domains.has(p, x) {
+            let here = need_of(problem, domains, p, x);
+            if is_better(&here, &best) {
+                best = Some(here);
+            }
+        }
+    }
+    match best {
+        Some(wanted) => Some(wanted.x),
+        None => None,
     }
 }
 
