@@ -83,7 +83,7 @@ fn a_budget_of_one_line(rt: HostRuntime) -> Result<(), Fail> {
         let log = String::from_utf8(text).ok().ok_or("a text")?;
         let front = "rwsp-log 2\nrules 7\nturn D 1\nsplit ";
         assert!(rt; log.as_str().starts_with(front));
-        assert!(rt; log.as_str().ends_with(" D\nopen\nopen\n"));
+        assert!(rt; log.as_str().ends_with("\nopen\nopen\n"));
         assert!(rt;
             checks(
                 &rt,
