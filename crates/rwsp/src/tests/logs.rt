@@ -192,48 +192,31 @@ fn logs_with_a_turn_that_are_refused(rt: HostRuntime) -> Result<(), Fail> {
     Ok(())
 }
 
-// A log that is cut after some of its lines, or before its last byte.
+// A log that is cut after some of its lines, or before its last byte, or goes on behind its tree.
 #[test]
 fn logs_that_are_cut(rt: HostRuntime) -> Result<(), Fail> {
-    let mut cut = 0usize;
-    for (i, byte) in SPLIT.as_bytes().iter().enumerate() {
-        assert!(rt;
-            *byte != b'\n'
-                || i + 1 == SPLIT.len()
-                || checks(
-                    &rt,
-                    rt.alloc(),
-                    TWOS,
-                    &SPLIT[..i + 1],
-                    5,
-                    "log refused: ends\n"
-                )?
-        );
-        cut = i;
+    let ends = "log refused: ends\n";
+    let cases = [
+        ("", ends),
+        ("rwsp-log 1\n", ends),
+        ("rwsp-log 1\nrules 1 2 3 4\n", ends),
+        ("rwsp-log 1\nrules 1 2 3 4\nsplit 1 1 D\n", ends),
+        (
+            "rwsp-log 1\nrules 1 2 3 4\nsplit 1 1 D\ndead 1 1 7 rules 1 2 3 4\n",
+            ends,
+        ),
+        (
+            "rwsp-log 1\nrules 1 2 3 4\nsplit 1 1 D\ndead 1 1 7 rules 1 2 3 4\ndead 1 1 7 rules 1 2 3 4",
+            "log refused: form line 5\n",
+        ),
+        (
+            "rwsp-log 1\nrules 1 2 3 4\nsplit 1 1 D\ndead 1 1 7 rules 1 2 3 4\ndead 1 1 7 rules 1 2 3 4\nopen\n",
+            "log refused: extra line 6\n",
+        ),
+    ];
+    for (log, text) in cases {
+        assert!(rt; checks(&rt, rt.alloc(), TWOS, log, 5, text)?, "{text}");
     }
-    let without_feed = &SPLIT[..cut];
-    assert!(rt; checks(&rt, rt.alloc(), TWOS, "", 5, "log refused: ends\n")?);
-    assert!(rt;
-        checks(
-            &rt,
-            rt.alloc(),
-            TWOS,
-            without_feed,
-            5,
-            "log refused: form line 5\n"
-        )?
-    );
-    let longer = "rwsp-log 1\nrules 7\nday 1 - over\nany thing\n";
-    assert!(rt;
-        checks(
-            &rt,
-            rt.alloc(),
-            TOO_MANY,
-            longer,
-            5,
-            "log refused: extra line 4\n"
-        )?
-    );
     Ok(())
 }
 
