@@ -1,36 +1,24 @@
 -- Counts over a range, and counters after one set has changed.
 use Rattle.std.proofs.Common.{◌≡◌, ◌≢◌, ℕ, zero, suc, ◌+◌, ◌-◌, ◌*◌, ◌/◌, ◌%◌, ◌<◌, ◌≤◌, List, [], length, get_or, set, refl, ap, sym, ◌∙◌, arith, Bool, true, false, count_by, subst, get_or-set_same, get_or-set_other, inl, inr, replicate, ◌++◌, take, drop, ◌&&◌, ◌||◌, ◌==◌, not}
 use Rattle.std.specs.List.{range_with_len, list_all}
-use Rattle.std.proofs.lemmas.Bool.{cases_order, cases_eq, eq-eqb, ne_eqb}
+use Rattle.std.proofs.lemmas.Bool.{cases_order, cases_eq, eq-eqb, ne_eqb, and_from, and_parts, and_left, and_right, or_left, or_right, or_from}
 use Rattle.std.proofs.lemmas.List.{length-set, length-replicate, ext_get_or, get_or_read, drop_all, take_all, append-nil}
 use Rattle.std.proofs.lemmas.List.Sums.{count_by-le-length, sum_by-cons}
 use Rattle.std.proofs.lemmas.List.FromFn.{length-range_with_len}
 use Rattle.std.proofs.lemmas.Nat.{div_below, mod_below, div-mul-add, mod-mul-add, div-add-mod'}
+use Rattle.rwsp_terms.proofs.Counting.{count_next, count_same, not_all}
 use Rattle.domain_store.specs.Sets.{has_symbol}
 use Rattle.domain_store.specs.Store.{Store, domain_at}
 use Rattle.demand_counts.specs.Counted.{Counted, StandsFor, HasShapeOf, DiffersAtMostAt, with_set}
 use Rattle.demand_counts.specs.Tallies.{column_count, Tallies, TestsOf, IsRecounted, IsTallied, is_held, is_alone, one_if}
-
-count-next : (f : ℕ → Bool) (a n : ℕ) → count_by f (range_with_len a (suc n)) ≡ one_if (f a) + count_by f (range_with_len (a + 1) n)
-count-next f a n = sum_by-cons (λ x. one_if (f x)) a (range_with_len (a + 1) n)
-
--- two tests that agree on a range count the same there
-pub count_same : (f g : ℕ → Bool) (a n : ℕ) → ((i : ℕ) → a ≤ i → i < a + n → f i ≡ g i) → count_by f (range_with_len a n) ≡ count_by g (range_with_len a n)
-count_same f g a zero same = refl
-count_same f g a (suc n) same =
-    let here : f a ≡ g a = same a (omega arith) (omega arith) in
-    let more : count_by f (range_with_len (a + 1) n) ≡ count_by g (range_with_len (a + 1) n) = count_same f g (a + 1) n (λ i le lt. same i (omega (arith, le)) (omega (arith, lt))) in
-    let e : count_by f (range_with_len a (suc n)) ≡ one_if (f a) + count_by f (range_with_len (a + 1) n) = count-next f a n in
-    let d : count_by g (range_with_len a (suc n)) ≡ one_if (g a) + count_by g (range_with_len (a + 1) n) = count-next g a n in
-    let h : one_if (f a) ≡ one_if (g a) = ap (λ b. one_if b) here in
-    omega arith
+use Rattle.refutation_terms.proofs.Alone.{other_fails}
 
 -- two tests that agree on a range but at one number
 pub count_apart : (f g : ℕ → Bool) (a n i : ℕ) → a ≤ i → i < a + n → ((j : ℕ) → j ≢ i → f j ≡ g j) → count_by f (range_with_len a n) + one_if (g i) ≡ count_by g (range_with_len a n) + one_if (f i)
 count_apart f g a zero i le lt same = absurd (omega (arith, le, lt))
 count_apart f g a (suc n) i le lt same =
-    let e : count_by f (range_with_len a (suc n)) ≡ one_if (f a) + count_by f (range_with_len (a + 1) n) = count-next f a n in
-    let d : count_by g (range_with_len a (suc n)) ≡ one_if (g a) + count_by g (range_with_len (a + 1) n) = count-next g a n in
+    let e : count_by f (range_with_len a (suc n)) ≡ one_if (f a) + count_by f (range_with_len (a + 1) n) = count_next f a n in
+    let d : count_by g (range_with_len a (suc n)) ≡ one_if (g a) + count_by g (range_with_len (a + 1) n) = count_next g a n in
     elim (cases_eq a i) [
       | inl here ↦
           let later : count_by f (range_with_len (a + 1) n) ≡ count_by g (range_with_len (a + 1) n) = count_same f g (a + 1) n (λ j above below. same j (omega (arith, above, here))) in
@@ -48,7 +36,7 @@ count_apart f g a (suc n) i le lt same =
 pub count_has : (f : ℕ → Bool) (a n i : ℕ) → a ≤ i → i < a + n → one_if (f i) ≤ count_by f (range_with_len a n)
 count_has f a zero i le lt = absurd (omega (arith, le, lt))
 count_has f a (suc n) i le lt =
-    let e : count_by f (range_with_len a (suc n)) ≡ one_if (f a) + count_by f (range_with_len (a + 1) n) = count-next f a n in
+    let e : count_by f (range_with_len a (suc n)) ≡ one_if (f a) + count_by f (range_with_len (a + 1) n) = count_next f a n in
     elim (cases_eq a i) [
       | inl here ↦
           let first : one_if (f a) ≡ one_if (f i) = ap (λ k. one_if (f k)) here in
@@ -62,7 +50,7 @@ count_has f a (suc n) i le lt =
 pub count_none : (f : ℕ → Bool) (a n : ℕ) → ((i : ℕ) → f i ≡ false) → count_by f (range_with_len a n) ≡ 0
 count_none f a zero none = refl
 count_none f a (suc n) none =
-    let e : count_by f (range_with_len a (suc n)) ≡ one_if (f a) + count_by f (range_with_len (a + 1) n) = count-next f a n in
+    let e : count_by f (range_with_len a (suc n)) ≡ one_if (f a) + count_by f (range_with_len (a + 1) n) = count_next f a n in
     let here : one_if (f a) ≡ 0 = ap (λ b. one_if b) (none a) in
     let rest : count_by f (range_with_len (a + 1) n) ≡ 0 = count_none f (a + 1) n none in
     omega arith
@@ -174,38 +162,6 @@ tallies_empty test days weeks n none = record {
   each = λ k x less small. zero_at (days * 9) (k * 9 + x) ∙ sym (count_none (λ i. test x (get_or (replicate {A = List ℕ} n []) (i * days + k) [])) 0 weeks (λ i. ap (test x) (empty_at n (i * days + k)) ∙ none x));
 }
 
-and_true : (a b : Bool) → a ≡ true → b ≡ true → (a && b) ≡ true
-and_true true b ha hb = hb
-and_true false b ha hb = ha
-
-and_parts : (a b : Bool) → (a && b) ≡ true → (a ≡ true) × (b ≡ true)
-and_parts true b h = (refl, h)
-and_parts false b h = absurd (cc)
-
-and_left : (a b : Bool) → a ≡ false → (a && b) ≡ false
-and_left true b h = absurd (cc)
-and_left false b h = refl
-
-and_right : (a b : Bool) → b ≡ false → (a && b) ≡ false
-and_right true b h = h
-and_right false b h = refl
-
--- a test of all numbers below one more
-pub all_more : (test : ℕ → Bool) (a n : ℕ) → list_all test (range_with_len a n) ≡ true → test (a + n) ≡ true → list_all test (range_with_len a (suc n)) ≡ true
-all_more test a zero all here = let e : a + 0 ≡ a = omega arith in and_true (test a) true (sym (ap test e) ∙ here) refl
-all_more test a (suc n) all here =
-    let parts = and_parts (test a) (list_all test (range_with_len (a + 1) n)) all in
-    let e : a + suc n ≡ a + 1 + n = omega arith in
-    and_true (test a) (list_all test (range_with_len (a + 1) (suc n))) parts.0 (all_more test (a + 1) n parts.1 (sym (ap test e) ∙ here))
-
--- one number that fails
-pub all_fails : (test : ℕ → Bool) (a n i : ℕ) → i < n → test (a + i) ≡ false → list_all test (range_with_len a n) ≡ false
-all_fails test a zero i lt fails = absurd (omega arith)
-all_fails test a (suc n) zero lt fails = let e : a + 0 ≡ a = omega arith in and_left (test a) (list_all test (range_with_len (a + 1) n)) (sym (ap test e) ∙ fails)
-all_fails test a (suc n) (suc i) lt fails =
-    let e : a + suc i ≡ a + 1 + i = omega arith in
-    and_right (test a) (list_all test (range_with_len (a + 1) n)) (all_fails test (a + 1) n i (omega (arith, lt)) (sym (ap test e) ∙ fails))
-
 -- one flag more
 pub flag_set : (flags : List Bool) (x : ℕ) (b : Bool) (test : ℕ → Bool) → x < length flags → ((y : ℕ) → y < x → get_or flags y false ≡ test y) → b ≡ test x
     → (y : ℕ) → y < x + 1 → get_or (set flags x b) y false ≡ test y
@@ -270,41 +226,11 @@ tally_few test days weeks sets items day x r tallies some le small read =
     let at : r ≡ get_or items ((day - 1) * 9 + x) 0 = get_or_read items ((day - 1) * 9 + x) r within read 0 in
     omega (arith, at, tallies.each (day - 1) x less small, column_small (test x) days weeks sets (day - 1))
 
-or_left : (a b : Bool) → a ≡ true → (a || b) ≡ true
-or_left true b h = refl
-or_left false b h = absurd (cc)
-
-or_right : (a b : Bool) → b ≡ true → (a || b) ≡ true
-or_right true b h = refl
-or_right false b h = h
-
-or_false : (a b : Bool) → a ≡ false → b ≡ false → (a || b) ≡ false
-or_false true b h g = absurd (cc)
-or_false false b h g = g
-
--- the test of a symbol that isn't alone in a set
-pub same_passes : (z x : ℕ) (held : Bool) → z ≡ x → ((z == x) || not held) ≡ true
-same_passes z x held same = or_left (z == x) (not held) (eq-eqb z x same)
-
-pub absent_passes : (z x : ℕ) (held : Bool) → held ≡ false → ((z == x) || not held) ≡ true
-absent_passes z x held absent = or_right (z == x) (not held) (ap not absent)
-
-pub other_fails : (z x : ℕ) (held : Bool) → z ≢ x → held ≡ true → ((z == x) || not held) ≡ false
-other_fails z x held other there = or_false (z == x) (not held) (ne_eqb z x other) (ap not there)
-
-pub all_one_more : (test : ℕ → Bool) (n : ℕ) → list_all test (range_with_len 0 n) ≡ true → test n ≡ true → list_all test (range_with_len 0 (n + 1)) ≡ true
-all_one_more test n all here =
-    let e : suc n ≡ n + 1 = omega arith in
-    let z : n ≡ 0 + n = omega arith in
-    let P : ℕ → Type 0 = λ m. list_all test (range_with_len 0 m) ≡ true in
-    subst P e (all_more test 0 n all (sym (ap test z) ∙ here))
-
 -- a set that has another symbol hasn't one alone
 pub not_alone : (last x z : ℕ) (s : List ℕ) → z < last + 1 → z ≢ x → has_symbol s z ≡ true → is_alone last x s ≡ false
 not_alone last x z s lt other there =
     let test : ℕ → Bool = λ z. (z == x) || not (has_symbol s z) in
-    let e : 0 + z ≡ z = omega arith in
-    and_right (has_symbol s x) (list_all test (range_with_len 0 (last + 1))) (all_fails test 0 (last + 1) z lt (ap test e ∙ other_fails z x (has_symbol s z) other there))
+    and_right (has_symbol s x) (list_all test (range_with_len 0 (last + 1))) (not_all test (last + 1) z lt (other_fails z x (has_symbol s z) other there))
 
 -- nothing is counted where all sets are empty
 pub tallied_empty : (days weeks shifts cells : ℕ) (sets : List (List ℕ)) (fixed possible : List ℕ) → 1 ≤ days → weeks ≤ 600 → cells ≤ 4200 → shifts ≤ 8 → cells ≡ weeks * days

@@ -2,7 +2,7 @@
 use Rattle.std.specs.Prelude.{◌≡◌, ℕ, ◌+◌, ◌<◌, List, [], ◌∷◌, ◌==◌, Option, Some, None, ℤ, pos, neg_ℤ, ◌+ℤ◌, ◌≤ℤ◌, int_lt, length, slice_index_or, All, AllPairs, if◌then◌else◌}
 use Rattle.std.specs.Option.{option_map}
 use Rattle.rwsp_terms.specs.declared.data.Symbol.{Symbol}
-use Rattle.rwsp_terms.specs.Window.{off_symbol}
+use Rattle.rwsp_terms.specs.Instance.{off_symbol}
 use Rattle.layered_cycle.specs.declared.step.Step.{Step}
 use Rattle.layered_cycle.specs.declared.choice.Choice.{Choice}
 use Rattle.layered_cycle.specs.Graph.{StepBefore}

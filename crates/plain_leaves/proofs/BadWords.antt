@@ -2,16 +2,9 @@
 use Rattle.std.proofs.Common.{◌≡◌, ℕ, zero, suc, ◌+◌, ◌-◌, ◌<◌, List, [], ◌∷◌, ◌++◌, length, get_or, refl, ap, sym, ◌∙◌, arith, subst, length-append}
 use Rattle.rwsp_terms.specs.declared.data.Symbol.{Symbol}
 use Rattle.rwsp_terms.specs.declared.data.Class.{Class}
-use Rattle.rwsp_terms.specs.Window.{off_symbol, InClass, TooShort}
-
-front : (xs ys : List Symbol) (i : ℕ) (d : Symbol) → i < length xs → get_or (xs ++ ys) i d ≡ get_or xs i d
-front [] ys i d h = absurd (omega (arith, h))
-front (x ∷ xs) ys zero d h = refl
-front (x ∷ xs) ys (suc i) d h = front xs ys i d (omega (arith, h))
-
-seam : (xs : List Symbol) (y d : Symbol) → get_or (xs ++ y ∷ []) (length xs) d ≡ y
-seam [] y d = refl
-seam (x ∷ xs) y d = seam xs y d
+use Rattle.rwsp_terms.specs.Instance.{off_symbol}
+use Rattle.rwsp_terms.specs.Window.{InClass, TooShort}
+use Rattle.rwsp_terms.proofs.Windows.{get_or-front, get_or-seam}
 
 later : (x : Symbol) (v : List Symbol) (i : ℕ) (d : Symbol) → get_or (x ∷ v) (1 + i) d ≡ get_or v i d
 later x v i d = let e : 1 + i ≡ suc i = omega arith in ap (λ k. get_or (x ∷ v) k d) e
@@ -57,14 +50,14 @@ short_of_parts c least x v parts h = record {
   within = λ i d lt.
       let less : i < suc (length v) - 2 = omega (arith, lt, parts.long) in
       let same : get_or v i off_symbol ≡ get_or parts.block i d =
-      ap (λ w. get_or w i off_symbol) parts.whole ∙ front parts.block (parts.last ∷ []) i off_symbol lt ∙ other_default parts.block i off_symbol d lt in
+      ap (λ w. get_or w i off_symbol) parts.whole ∙ get_or-front parts.block (parts.last ∷ []) i off_symbol lt ∙ other_default parts.block i off_symbol d lt in
       let e : get_or (x ∷ v) (1 + i) off_symbol ≡ get_or v i off_symbol = later x v i off_symbol in
       subst (InClass c) (e ∙ same) (h.within i less);
   ends = λ in_it.
       let at : suc (length v) - 1 ≡ 1 + length parts.block = omega (arith, parts.long) in
       let same : get_or (x ∷ v) (suc (length v) - 1) off_symbol ≡ parts.last =
       ap (λ i. get_or (x ∷ v) i off_symbol) at ∙ later x v (length parts.block) off_symbol
-      ∙ ap (λ w. get_or w (length parts.block) off_symbol) parts.whole ∙ seam parts.block parts.last off_symbol in
+      ∙ ap (λ w. get_or w (length parts.block) off_symbol) parts.whole ∙ get_or-seam parts.block parts.last off_symbol in
       h.ends (subst (InClass c) (sym same) in_it);
   some = omega (arith, h.some, parts.long);
   few = omega (arith, h.few, parts.long);
@@ -87,12 +80,12 @@ word_too_short c least u h =
       within = λ i lt.
           let less : i < t = omega (arith, lt, long) in
           let same : get_or u (1 + i) off_symbol ≡ get_or h.block i off_symbol =
-          at (1 + i) ∙ later h.before (h.block ++ h.after ∷ []) i off_symbol ∙ front h.block (h.after ∷ []) i off_symbol less in
+          at (1 + i) ∙ later h.before (h.block ++ h.after ∷ []) i off_symbol ∙ get_or-front h.block (h.after ∷ []) i off_symbol less in
           subst (InClass c) (sym same) (h.within i off_symbol less);
       ends = λ in_it.
           let e : length u - 1 ≡ 1 + t = omega (arith, long) in
           let same : get_or u (length u - 1) off_symbol ≡ h.after =
-          ap (λ i. get_or u i off_symbol) e ∙ at (1 + t) ∙ later h.before (h.block ++ h.after ∷ []) t off_symbol ∙ seam h.block h.after off_symbol in
+          ap (λ i. get_or u i off_symbol) e ∙ at (1 + t) ∙ later h.before (h.block ++ h.after ∷ []) t off_symbol ∙ get_or-seam h.block h.after off_symbol in
           h.ends (subst (InClass c) same in_it);
     }
 

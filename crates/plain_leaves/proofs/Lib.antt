@@ -1,4 +1,3 @@
-pub mod Counting
 pub mod Domains
 pub mod BadWords
 pub mod Words

@@ -1,13 +1,14 @@
 -- Words over domains, and which domains make all of them bad.
 use Rattle.std.proofs.Common.{◌≡◌, ℕ, zero, suc, ◌+◌, ◌-◌, ◌%◌, ◌<◌, List, [], ◌∷◌, length, get_or, IsTrue, Some, refl, ap, sym, ◌∙◌, arith, subst}
 use Rattle.std.specs.Prelude.{slice_get}
+use Rattle.std.proofs.lemmas.Option.{same_Some}
 use Rattle.rwsp_terms.specs.declared.data.Symbol.{Symbol}
 use Rattle.rwsp_terms.specs.declared.data.Class.{Class}
 use Rattle.rwsp_terms.specs.declared.data.Class.TheVariants.{Shift}
 use Rattle.rwsp_terms.specs.declared.data.Rule.{Rule}
 use Rattle.rwsp_terms.specs.declared.data.Rule.TheVariants.{Pair, Triple, Day}
-use Rattle.rwsp_terms.specs.Instance.{Instance, cells, symbol_numbered}
-use Rattle.rwsp_terms.specs.Window.{off_symbol, InClass, TooLong, TooShort, Bad}
+use Rattle.rwsp_terms.specs.Instance.{Instance, cells, symbol_numbered, off_symbol}
+use Rattle.rwsp_terms.specs.Window.{InClass, TooLong, TooShort, Bad}
 use Rattle.refutation_terms.specs.Word.{Over}
 use Rattle.domain_store.specs.Store.{Store, has_domain}
 use Rattle.plain_leaves.specs.Runs.{LiesIn, LiesOutside, IsLongRun, IsShortRun, IsPairRun, IsTripleRun, EachWord}
@@ -137,12 +138,9 @@ pair_words P S k x p len f is run u long over =
           (place_in P S (Shift x.1) p 1 u off_symbol f run.second over (omega (arith, long, run.long))),
     )
 
-same_pair : (x y : Symbol × Symbol) → Some x ≡ Some y → x ≡ y
-same_pair x y e = cc
-
 pair_word : (P : Instance) (k : ℕ) (x : Symbol × Symbol) (u : List Symbol) → slice_get P.pairs k ≡ Some x → Bad P (Pair k) u → u ≡ x.0 ∷ x.1 ∷ []
 pair_word P k x u is h =
-    let same : h.0 ≡ x = same_pair h.0 x (sym h.1 ∙ is) in
+    let same : h.0 ≡ x = same_Some h.0 x (sym h.1 ∙ is) in
     h.2 ∙ ap (λ (y : Symbol × Symbol). y.0 ∷ y.1 ∷ []) same
 
 pub pair_domains : (P : Instance) (S : Store) (k : ℕ) (x : Symbol × Symbol) (p len : ℕ) → IsFilled P S → slice_get P.pairs k ≡ Some x → EachWord P (Bad P (Pair k)) S p len → IsPairRun x S p len
@@ -168,12 +166,9 @@ triple_words P S k x p len f is run u long over =
           (place_in P S (Shift x.2) p 2 u off_symbol f run.third over (omega (arith, long, run.long))),
     )
 
-same_triple : (x y : Symbol × Symbol × Symbol) → Some x ≡ Some y → x ≡ y
-same_triple x y e = cc
-
 triple_word : (P : Instance) (k : ℕ) (x : Symbol × Symbol × Symbol) (u : List Symbol) → slice_get P.triples k ≡ Some x → Bad P (Triple k) u → u ≡ x.0 ∷ x.1 ∷ x.2 ∷ []
 triple_word P k x u is h =
-    let same : h.0 ≡ x = same_triple h.0 x (sym h.1 ∙ is) in
+    let same : h.0 ≡ x = same_Some h.0 x (sym h.1 ∙ is) in
     h.2 ∙ ap (λ (y : Symbol × Symbol × Symbol). y.0 ∷ y.1 ∷ y.2 ∷ []) same
 
 pub triple_domains : (P : Instance) (S : Store) (k : ℕ) (x : Symbol × Symbol × Symbol) (p len : ℕ) → IsFilled P S → slice_get P.triples k ≡ Some x → EachWord P (Bad P (Triple k)) S p len → IsTripleRun x S p len

@@ -24,7 +24,7 @@ fn is_only(problem: &Problem, doms: &Domains, p: u32, x: Symbol) -> bool
 }
 
 // How many weeks hold the symbol on the day for sure.
-#[tactic(auto, using(crate::proofs::Counting::count_then, crate::proofs::Counting::count_else))]
+#[tactic(auto, using(rwsp_terms::proofs::Counting::count_then, rwsp_terms::proofs::Counting::count_else))]
 fn count_fixed(problem: &Problem, doms: &Domains, day: u32, x: Symbol) -> u32
     requires domains { BelongsTo problem.now doms.now }
     requires day { IsDay problem.now day }
@@ -41,7 +41,7 @@ fn count_fixed(problem: &Problem, doms: &Domains, day: u32, x: Symbol) -> u32
 }
 
 // How many weeks can hold the symbol on the day.
-#[tactic(auto, using(crate::proofs::Counting::count_then, crate::proofs::Counting::count_else))]
+#[tactic(auto, using(rwsp_terms::proofs::Counting::count_then, rwsp_terms::proofs::Counting::count_else))]
 fn count_possible(problem: &Problem, doms: &Domains, day: u32, x: Symbol) -> u32
     requires domains { BelongsTo problem.now doms.now }
     requires day { IsDay problem.now day }

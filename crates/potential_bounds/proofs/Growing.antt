@@ -13,6 +13,7 @@ use Rattle.refutation_terms.specs.Sharp.{both_signs, plain_bounds}
 use Rattle.rwsp_terms.specs.Weights.{IsWeight, AreWeights, ComesBefore, weight_at}
 use Rattle.rwsp_terms.specs.Places.{SetsWeight}
 use Rattle.rwsp_terms.proofs.SameLists.{same_weights}
+use Rattle.rwsp_terms.proofs.Counting.{range_more}
 use Rattle.potential_bounds.specs.Days.{weight_of, weights_of_day}
 
 -- an earlier entry isn't for the place of a later one
@@ -62,14 +63,6 @@ set_last y new e h small all sets = same_weights new (y ++ e ∷ []) sets.weight
     same : (j x : ℕ) → weight_at new j x ≡ weight_at (y ++ e ∷ []) j x
     same j x = by_place j x (e.day == j) (e.symbol.number == x) refl refl
 
--- one number more of a range
-pub range_snoc : (a n : ℕ) → range_with_len a (n + 1) ≡ range_with_len a n ++ (a + n) ∷ []
-range_snoc a zero = ap (λ k. k ∷ []) (omega arith)
-range_snoc a (suc n) =
-    let more : suc n + 1 ≡ suc (n + 1) = omega arith in
-    let last : a + 1 + n ≡ a + suc n = omega arith in
-    ap (range_with_len a) more ∙ ap (λ r. a ∷ r) (range_snoc (a + 1) n) ∙ ap (λ k. a ∷ (range_with_len (a + 1) n ++ k ∷ [])) last
-
 -- a day's weights grow by one
 pub record GrowsInDay (old w : List Weight) (day first i : ℕ) (v : ℤ) : Type 0 where
   pub is : w ≡ old ++ weights_of_day day (range_with_len first i) v
@@ -87,7 +80,7 @@ day_grown old w new day first i v h more =
     let lt : first + i < first + (i + 1) = omega arith in
     let P : List Weight → Type 0 = All (λ e. ComesBefore e (weight_of day (first + (i + 1)) v)) in
     let f : ℕ → Weight = λ x. weight_of day x v in
-    let grown : weights_of_day day (range_with_len first (i + 1)) v ≡ weights_of_day day (range_with_len first i) v ++ weight_of day (first + i) v ∷ [] = ap (map f) (range_snoc first i) ∙ map-append f (range_with_len first i) ((first + i) ∷ []) in
+    let grown : weights_of_day day (range_with_len first (i + 1)) v ≡ weights_of_day day (range_with_len first i) v ++ weight_of day (first + i) v ∷ [] = ap (map f) (range_more first i) ∙ map-append f (range_with_len first i) ((first + i) ∷ []) in
     record {
       is =
           more ∙ ap (λ z. z ++ weight_of day (first + i) v ∷ []) h.is
@@ -115,7 +108,7 @@ days_grown w new xs i v h more =
     let P : List Weight → Type 0 = All (λ e. e.day < i + 1 + 1) in
     let next : 1 + i ≡ i + 1 = omega arith in
     let grown : flat_map f (range_with_len 1 (i + 1)) ≡ flat_map f (range_with_len 1 i) ++ weights_of_day (i + 1) xs v =
-    ap (flat_map f) (range_snoc 1 i) ∙ flat_map-append f (range_with_len 1 i) ((1 + i) ∷ []) ∙ ap (λ z. flat_map f (range_with_len 1 i) ++ z) (append-nil (f (1 + i))) ∙ ap (λ k. flat_map f (range_with_len 1 i) ++ f k) next in
+    ap (flat_map f) (range_more 1 i) ∙ flat_map-append f (range_with_len 1 i) ((1 + i) ∷ []) ∙ ap (λ z. flat_map f (range_with_len 1 i) ++ z) (append-nil (f (1 + i))) ∙ ap (λ k. flat_map f (range_with_len 1 i) ++ f k) next in
     record {
       is = more ∙ ap (λ z. z ++ weights_of_day (i + 1) xs v) h.is ∙ sym grown;
       before = subst P (sym more) (All-append (λ e. e.day < i + 1 + 1) w (weights_of_day (i + 1) xs v) (λ k d lt. omega (arith, h.before k d lt)) (all_of_day (i + 1) xs v (i + 1 + 1) (omega arith)));
@@ -127,7 +120,7 @@ bounds_grown P old new i is more =
     let f : ℕ → List (List Weight) = λ x. both_signs P (x ∷ []) in
     let next : 1 + i ≡ i + 1 = omega arith in
     let grown : flat_map f (range_with_len 1 (i + 1)) ≡ flat_map f (range_with_len 1 i) ++ f (i + 1) =
-    ap (flat_map f) (range_snoc 1 i) ∙ flat_map-append f (range_with_len 1 i) ((1 + i) ∷ []) ∙ ap (λ z. flat_map f (range_with_len 1 i) ++ z) (append-nil (f (1 + i))) ∙ ap (λ k. flat_map f (range_with_len 1 i) ++ f k) next in
+    ap (flat_map f) (range_more 1 i) ∙ flat_map-append f (range_with_len 1 i) ((1 + i) ∷ []) ∙ ap (λ z. flat_map f (range_with_len 1 i) ++ z) (append-nil (f (1 + i))) ∙ ap (λ k. flat_map f (range_with_len 1 i) ++ f k) next in
     more ∙ ap (λ z. z ++ f (i + 1)) is ∙ append_assoc (both_signs P (range_with_len 1 (shift_count P))) (flat_map f (range_with_len 1 i)) (f (i + 1)) ∙ ap (λ z. both_signs P (range_with_len 1 (shift_count P)) ++ z) (sym grown)
 
 -- how many plain bounds there are

@@ -2,6 +2,5 @@ pub mod Products
 pub mod Growing
 pub mod HeavyWords
 pub mod Chunks
-pub mod Counting
 pub mod Stepping
 pub mod Searching

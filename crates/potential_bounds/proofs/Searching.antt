@@ -10,22 +10,13 @@ use Rattle.rwsp_terms.proofs.SameLists.{same_weights}
 use Rattle.refutation_terms.specs.Word.{Domains}
 use Rattle.refutation_terms.specs.Escape.{ComesFirst, IsLeastHeaviest}
 use Rattle.refutation_terms.specs.Sharp.{step, IsNext, IsSearched, HoldsAtTop}
+use Rattle.refutation_terms.proofs.Causes.{first_same}
 use Rattle.domain_store.specs.Store.{has_domain}
 use Rattle.layered_cycle.specs.declared.best.HeavyWord.{HeavyWord}
 use Rattle.layered_cycle.specs.WordGraph.{WordGraph}
 use Rattle.potential_bounds.specs.Heaviest.{IsHeaviestFound, IsOneTurn}
 use Rattle.potential_bounds.specs.Searched.{NoneHolds, IsFollowing, AreWithin, AreStepped}
 use Rattle.potential_bounds.proofs.Stepping.{IsInside, inside_or_not, zero_outside, stepped_within}
-
--- of two words that both come first each is the other
-first_same : (u v : List Symbol) → ComesFirst u v → ComesFirst v u → u ≡ v
-first_same [] [] a b = refl
-first_same [] (y ∷ v) a b = absurd b
-first_same (x ∷ u) [] a b = absurd a
-first_same (x ∷ u) (y ∷ v) (inl a) (inl b) = absurd (omega (arith, a, b))
-first_same (x ∷ u) (y ∷ v) (inl a) (inr b) = let e : y.number ≡ x.number = ap (λ (z : Symbol). z.number) b.0 in absurd (omega (arith, a, e))
-first_same (x ∷ u) (y ∷ v) (inr a) (inl b) = let e : x.number ≡ y.number = ap (λ (z : Symbol). z.number) a.0 in absurd (omega (arith, b, e))
-first_same (x ∷ u) (y ∷ v) (inr a) (inr b) = ap (λ (z : Symbol). z ∷ u) a.0 ∙ ap (λ w. y ∷ w) (first_same u v a.1 b.1)
 
 next_same : (P : Instance) (D : Domains) (R : List ℕ) (y a b : List Weight) → IsNext P D R y a → IsNext P D R y b → a ≡ b
 next_same P D R y a b h k = same_weights a b h.are_weights.0 k.are_weights.0 same

@@ -1,8 +1,7 @@
 // The search for weights whose bound holds.
 ghost use Rattle.std.specs.Prelude.{◌≡◌, ℕ, ◌+◌, ◌-◌, ◌*◌, ◌<◌, ◌≤◌, ◌==◌, ◌≤ℤ◌, pos, neg_ℤ, length, count_by, slice_index_or, IfOk, OnOk};
 ghost use Rattle.std.specs.List.{range_with_len};
-ghost use Rattle.rwsp_terms.specs.Instance.{cells, IsDay, IsSymbol};
-ghost use Rattle.rwsp_terms.specs.Window.{off_symbol};
+ghost use Rattle.rwsp_terms.specs.Instance.{cells, IsDay, IsSymbol, off_symbol};
 ghost use Rattle.rwsp_terms.specs.Roster.{weeks_with};
 ghost use Rattle.rwsp_terms.specs.Weights.{weight_at};
 ghost use Rattle.refutation_terms.specs.Sharp.{step};
@@ -147,7 +146,7 @@ fn weeks_with(problem: &Problem, word: &[Symbol], day: u32, x: Symbol) -> u32
     count_weeks(word, problem.days(), problem.weeks(), day, x)
 }
 
-#[tactic(auto, using(crate::proofs::Counting::count_then, crate::proofs::Counting::count_else))]
+#[tactic(auto, using(rwsp_terms::proofs::Counting::count_then, rwsp_terms::proofs::Counting::count_else))]
 fn count_weeks(word: &[Symbol], days: u32, weeks: u32, day: u32, x: Symbol) -> u32
     requires few { (days ≤ 28) × (weeks ≤ 600) }
     requires word { length word.now ≡ weeks * days }

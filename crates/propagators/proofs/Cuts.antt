@@ -8,37 +8,26 @@ use Rattle.std.proofs.lemmas.Int.{ints}
 use Rattle.std.proofs.lemmas.Bool.{cases_eq, eq-eqb, ne_eqb}
 use Rattle.std.proofs.lemmas.Nat.{div_below, mod_below, div-mul-add, mod-mul-add, div-add-mod'}
 use Rattle.std.proofs.lemmas.List.Sums.{list_all-from_AllPass}
+use Rattle.std.proofs.Math.Bool.{and-true, and-false, or-true}
 use Rattle.rwsp_terms.specs.declared.data.Symbol.{Symbol}
 use Rattle.rwsp_terms.specs.Instance.{Instance, cells, shift_count, least, greatest, IsDay, symbol_numbered}
+use Rattle.rwsp_terms.proofs.Counting.{count_same, cond_mono, count_next, count_mono}
 use Rattle.refutation_terms.specs.declared.lines.Line.TheVariants.{Split, Window, Day, Dead, Bound, Unfinished}
 use Rattle.refutation_terms.specs.Word.{Domains}
 use Rattle.refutation_terms.specs.Leaf.{is_only, fixed, possible, HasTooMany, HasTooFew}
 use Rattle.refutation_terms.specs.Tree.{First, narrowed, is_idle}
 use Rattle.refutation_terms.specs.Log.{Holds, LineFits}
-use Rattle.refutation_terms.proofs.Counts.{count_next, count_mono}
-use Rattle.refutation_terms.proofs.Tests.{left_of}
-use Rattle.plain_leaves.proofs.Counting.{not_only}
+use Rattle.refutation_terms.proofs.Tests.{left_of, passes_by}
+use Rattle.refutation_terms.proofs.Alone.{not_only}
 use Rattle.demand_counts.specs.Tallies.{one_if}
 use Rattle.domain_store.specs.Store.{Store, has_domain}
 use Rattle.demand_counts.specs.Overruns.{IsWithinDemand, IsFirstOverrun}
 use Rattle.demand_counts.proofs.Standing.{holds_where_overrun, holds_nowhere}
-use Rattle.demand_counts.proofs.TallyLemmas.{count_same, count_apart}
+use Rattle.demand_counts.proofs.TallyLemmas.{count_apart}
 use Rattle.propagators.specs.Looks.{Closes, IsClosing, IsCut}
 use Rattle.propagators.specs.Days.{IsDayLeaf, IsDaySpent, Saturates, place, TakesNone, IsPlaceBeside, IsDayCut}
 
 -- tests
-
-and_true_right : (a : Bool) → (a && true) ≡ a
-and_true_right true = refl
-and_true_right false = refl
-
-and_false_right : (a : Bool) → (a && false) ≡ false
-and_false_right true = refl
-and_false_right false = refl
-
-or_true_right : (a : Bool) → (a || true) ≡ true
-or_true_right true = refl
-or_true_right false = refl
 
 useful_has : (held only : Bool) → (not held || only) ≡ false → held ≡ true
 useful_has true only h = refl
@@ -70,12 +59,6 @@ no_other_alone P D p x z le h =
 test_there : (f : ℕ → Bool) (a i : ℕ) (b : Bool) → a ≡ i → f i ≡ b → cond {A = ℕ} (f a) 1 0 ≡ cond {A = ℕ} b 1 0
 test_there f a i b here e = ap (λ k. cond {A = ℕ} (f k) 1 0) here ∙ ap (λ c. cond {A = ℕ} c 1 0) e
 
-one_less : (b c : Bool) → (b ≡ true → c ≡ true) → cond b 1 0 ≤ cond c 1 0
-one_less true true h = omega arith
-one_less true false h = let e : false ≡ true = h refl in absurd (cc)
-one_less false true h = omega arith
-one_less false false h = omega arith
-
 -- where one test fails that another passes, and passes nowhere else either, fewer pass it
 fewer : (f g : ℕ → Bool) (a n i : ℕ) → a ≤ i → i < a + n → ((k : ℕ) → f k ≡ true → g k ≡ true) → f i ≡ false → g i ≡ true → count_by f (range_with_len a n) < count_by g (range_with_len a n)
 fewer f g a zero i le lt both fails passes = absurd (omega (arith, le, lt))
@@ -91,7 +74,7 @@ fewer f g a (suc n) i le lt both fails passes =
       | inr other ↦
           let next : a + 1 ≤ i = omega arith in
           let rest : count_by f (range_with_len (a + 1) n) < count_by g (range_with_len (a + 1) n) = fewer f g (a + 1) n i next (omega (arith, lt)) both fails passes in
-          let here : cond {A = ℕ} (f a) 1 0 ≤ cond {A = ℕ} (g a) 1 0 = one_less (f a) (g a) (both a) in
+          let here : cond {A = ℕ} (f a) 1 0 ≤ cond {A = ℕ} (g a) 1 0 = cond_mono (f a) (g a) (both a) in
           omega (arith, e, d, rest, here)
     ]
 
@@ -99,10 +82,6 @@ fewer f g a (suc n) i le lt both fails passes =
 
 pub idle_absent : (P : Instance) (D : Domains) (p x : ℕ) → D p x ≡ false → is_idle P D p x ≡ true
 idle_absent P D p x h = ap (λ b. not b || is_only P D p x) h
-
-passes_by : (a b : Bool) → (b ≡ true → a ≡ true) → (a || not b) ≡ true
-passes_by a true h = ap (λ c. c || false) (h refl)
-passes_by a false h = or_true_right a
 
 only_by : (P : Instance) (D : Domains) (p x : ℕ) → D p x ≡ true → ((z : ℕ) → D p z ≡ true → z ≡ x) → is_only P D p x ≡ true
 only_by P D p x here alone =
@@ -126,7 +105,7 @@ fewer_fixed P D i j x lt h =
 
 cut_other : (D : Domains) (p q : ℕ) (x : Symbol) → q ≢ p → narrowed D (Split p x) First q ≡ D q
 cut_other D p q x other =
-    fun_ext (λ z. ap (λ b. D q z && (not b || (z == x.number))) (ne_eqb p q (λ e. other (sym e))) ∙ and_true_right (D q z))
+    fun_ext (λ z. ap (λ b. D q z && (not b || (z == x.number))) (ne_eqb p q (λ e. other (sym e))) ∙ and-true (D q z))
 
 cut_here : (D : Domains) (p z : ℕ) (x : Symbol) → narrowed D (Split p x) First p z ≡ (D p z && (z == x.number))
 cut_here D p z x = ap (λ b. D p z && (not b || (z == x.number))) (eq-eqb p p refl)
@@ -135,7 +114,7 @@ cut_symbol : (D : Domains) (p : ℕ) (x : Symbol) → D p x.number ≡ true → 
 cut_symbol D p x has = cut_here D p x.number x ∙ ap (λ b. b && (x.number == x.number)) has ∙ eq-eqb x.number x.number refl
 
 cut_away : (D : Domains) (p z : ℕ) (x : Symbol) → z ≢ x.number → narrowed D (Split p x) First p z ≡ false
-cut_away D p z x other = cut_here D p z x ∙ ap (λ b. D p z && b) (ne_eqb z x.number other) ∙ and_false_right (D p z)
+cut_away D p z x other = cut_here D p z x ∙ ap (λ b. D p z && b) (ne_eqb z x.number other) ∙ and-false (D p z)
 
 only_elsewhere : (P : Instance) (D : Domains) (p q z : ℕ) (x : Symbol) → q ≢ p → is_only P (narrowed D (Split p x) First) q z ≡ is_only P D q z
 only_elsewhere P D p q z x other =

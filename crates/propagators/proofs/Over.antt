@@ -3,6 +3,7 @@ use Rattle.std.proofs.Common.{◌≡◌, ℕ, zero, suc, ◌+◌, ◌-◌, ◌*�
 use Rattle.std.specs.Prelude.{slice_get, Option, None}
 use Rattle.std.proofs.Math.Nat.{mul-add-mod_self_right}
 use Rattle.std.proofs.lemmas.Nat.{div-add-mod'}
+use Rattle.std.proofs.lemmas.Option.{same_Some}
 use Rattle.rwsp_terms.specs.declared.data.Symbol.{Symbol}
 use Rattle.rwsp_terms.specs.declared.data.Class.{Class}
 use Rattle.rwsp_terms.specs.declared.data.Class.TheVariants.{Shift, Off, Work}
@@ -16,7 +17,7 @@ use Rattle.domain_store.specs.Store.{Store, has_domain}
 use Rattle.plain_leaves.specs.Runs.{LiesIn, LiesOutside, StaysIn, IsLongRun, IsShortRun, IsPairRun, IsTripleRun, EachWord}
 use Rattle.plain_leaves.proofs.Domains.{IsFilled}
 use Rattle.plain_leaves.proofs.Words.{long_words, long_domains, short_words, short_domains, pair_words, pair_domains, triple_words, triple_domains, day_blocks_none}
-use Rattle.propagators.specs.Windows.{IsRun, IsFound, IsRunAnswer, IsWindow, NoWindowOver}
+use Rattle.propagators.specs.Windows.{IsRun, IsRunFound, IsRunAnswer, IsWindow, NoWindowOver}
 
 -- days of one position
 
@@ -128,7 +129,7 @@ mod_mod n a some =
     ap (λ k. k % n) (sym d) ∙ front_mod n a 0 ∙ ap (λ k. k % n) e
 
 pub window_of_run : (P : Instance) (S : Store) (r : Rule) (number day start len n : ℕ) → rule_of P number ≡ Some r → 1 ≤ number → number ≤ length (rules P) → IsFilled P S → 0 < cells P → n ≡ cells P
-    → IsFound (IsRun P S r) day start len → IsWindow P S number (start % n) len
+    → IsRunFound (IsRun P S r) day start len → IsWindow P S number (start % n) len
 window_of_run P S r number day start len n is some many f some_cells cells_is found =
     let long : n ≡ length S.sets = cells_is ∙ sym f.long in
     let some_n : 0 < n = omega (arith, some_cells, cells_is) in
@@ -159,9 +160,6 @@ start_before n q p i some lt less over few =
       same = sym (mul-add-mod_self_right 16800 n p) ∙ ap (λ m. m % n) (sym whole) ∙ mul-add-mod_self_right ((p + i) / n) n (q + 16800 * n - i);
     }
 
-same_rule : (r s : Rule) → Some r ≡ Some s → r ≡ s
-same_rule r s e = cc
-
 pub no_window_over : (P : Instance) (S : Store) (r : Rule) (number q : ℕ) → rule_of P number ≡ Some r → IsRule P r → IsFilled P S → q < cells P
     → ((start len : ℕ) → start ≤ q + 16800 * cells P → q + 16800 * cells P < start + len → IsRun P S r start len → ⊥) → NoWindowOver P S number q
 no_window_over P S r number q is rule f lt none p len window (i, less, over) =
@@ -169,25 +167,19 @@ no_window_over P S r number q is rule f lt none p len window (i, less, over) =
     let some : 0 < cells P = omega (arith, lt) in
     let start = q + 16800 * cells P - i in
     let at = start_before (cells P) q p i some lt window.fits.2 over few in
-    let r_is : window.holds.0 ≡ r = same_rule window.holds.0 r (sym window.holds.1 ∙ is) in
+    let r_is : window.holds.0 ≡ r = same_Some window.holds.0 r (sym window.holds.1 ∙ is) in
     let each : EachWord P (Bad P r) S p len = subst (λ s. EachWord P (Bad P s) S p len) r_is window.holds.2 in
     let same : p % length S.sets ≡ (q + 16800 * cells P - i) % length S.sets = ap (λ m. p % m) f.long ∙ at.same ∙ ap (λ m. (q + 16800 * cells P - i) % m) (sym f.long) in
     none (q + 16800 * cells P - i) len at.early (omega (arith, at.place, less)) (run_at P S r p (q + 16800 * cells P - i) len same (words_run P S r p len f rule each))
 
 -- a pair's or a triple's own runs
 
-same_pair : (x y : Symbol × Symbol) → Some x ≡ Some y → x ≡ y
-same_pair x y e = cc
-
-same_triple : (x y : Symbol × Symbol × Symbol) → Some x ≡ Some y → x ≡ y
-same_triple x y e = cc
-
 pub pair_answer : (P : Instance) (S : Store) (k day : ℕ) (x : Symbol × Symbol) (r : Option (ℕ × ℕ)) → slice_get P.pairs k ≡ Some x → IsRunAnswer (IsPairRun x S) day r → IsRunAnswer (IsRun P S (Pair k)) day r
 pair_answer P S k day x None is answer = λ start len early late run.
-    answer start len early late (subst (λ y. IsPairRun y S start len) (same_pair run.0 x (sym run.1 ∙ is)) run.2)
+    answer start len early late (subst (λ y. IsPairRun y S start len) (same_Some run.0 x (sym run.1 ∙ is)) run.2)
 pair_answer P S k day x (Some r) is answer = record { run = (x, is, answer.run); early = answer.early; short = answer.short }
 
 pub triple_answer : (P : Instance) (S : Store) (k day : ℕ) (x : Symbol × Symbol × Symbol) (r : Option (ℕ × ℕ)) → slice_get P.triples k ≡ Some x → IsRunAnswer (IsTripleRun x S) day r → IsRunAnswer (IsRun P S (Triple k)) day r
 triple_answer P S k day x None is answer = λ start len early late run.
-    answer start len early late (subst (λ y. IsTripleRun y S start len) (same_triple run.0 x (sym run.1 ∙ is)) run.2)
+    answer start len early late (subst (λ y. IsTripleRun y S start len) (same_Some run.0 x (sym run.1 ∙ is)) run.2)
 triple_answer P S k day x (Some r) is answer = record { run = (x, is, answer.run); early = answer.early; short = answer.short }

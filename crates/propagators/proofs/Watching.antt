@@ -66,10 +66,6 @@ or_cases false false c e = inr (refl, refl)
 unlike : (b : Bool) → b ≡ true → b ≡ false → ⊥
 unlike b h g = cc
 
-pub not_false : (b : Bool) → not b ≡ false → b ≡ true
-not_false true h = refl
-not_false false h = absurd (cc)
-
 or_keeps : (a b c : Bool) → c ≡ (a || b) → a ≡ true → c ≡ true
 or_keeps true b c e h = e
 or_keeps false b c e h = absurd (cc)

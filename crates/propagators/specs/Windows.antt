@@ -64,11 +64,11 @@ IsRun P S (Triple k) day len = (x : Symbol × Symbol × Symbol) × (slice_get P.
 IsRun P S (Day j) day len = ⊥
 
 -- such days, or there are none among which the day is
-pub record IsFound (Is : ℕ → ℕ → Type 0) (day start len : ℕ) : Type 0 where
+pub record IsRunFound (Is : ℕ → ℕ → Type 0) (day start len : ℕ) : Type 0 where
   pub run : Is start len
   pub early : start ≤ day
   pub short : len ≤ 10001
 
 abbrev pub IsRunAnswer : (ℕ → ℕ → Type 0) → ℕ → Option (ℕ × ℕ) → Type 0
 IsRunAnswer Is day None = (start len : ℕ) → start ≤ day → day < start + len → Is start len → ⊥
-IsRunAnswer Is day (Some r) = IsFound Is day r.0 r.1
+IsRunAnswer Is day (Some r) = IsRunFound Is day r.0 r.1

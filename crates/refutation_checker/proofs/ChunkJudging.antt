@@ -12,9 +12,10 @@ use Rattle.refutation_terms.specs.Verdict.{Cause, Reading, IsNextLine, header_li
 use Rattle.refutation_log.specs.Printing.{lines_text}
 use Rattle.refutation_log.specs.ReadLog.{log_with}
 use Rattle.tree_walk.specs.States.{State, IsStateOf}
-use Rattle.refutation_checker.specs.Reads.{Judging, IsLineRead}
-use Rattle.refutation_checker.specs.Sound.{AreSoundBehind, AreAllSound, IsRefusedBehind, Start, StandsBehind}
+use Rattle.refutation_checker.specs.LineTexts.{Judging, IsLineRead}
+use Rattle.refutation_checker.specs.ChunkVerdicts.{AreSoundBehind, AreAllSound, IsRefusedBehind, Start, StandsBehind}
 use Rattle.refutation_checker.proofs.SoundLines.{lines_joined, sound_joined}
+use Rattle.refutation_checker.proofs.Walking.{some_bytes}
 
 -- sound lines have been read, as far as what is left
 pub record JudgedUpTo (P : Instance) (R : List ℕ) (turn : Option Turn) (earlier : List Line) (bytes left : List ℕ) (w : State) (number : ℕ) : Type 0 where
@@ -39,10 +40,6 @@ judged_none P R s left w number e f g = record {
     counted = g ∙ h.counted ∙ ap (λ ls. header_lines turn + length ls + 1) (sym (append-nil earlier));
   };
 }
-
-some_bytes : (bytes : List ℕ) → bytes ≢ [] → 1 ≤ length bytes
-some_bytes [] h = absurd (h refl)
-some_bytes (b ∷ bytes) h = omega arith
 
 -- what a judge says of a line that it reads
 abbrev pub Reads : Judging → State → State → List ℕ → ℕ → Type 0

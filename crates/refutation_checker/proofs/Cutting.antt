@@ -8,9 +8,10 @@ use Rattle.rwsp_terms.specs.Instance.{Instance}
 use Rattle.refutation_terms.specs.declared.lines.Line.{Line}
 use Rattle.refutation_terms.specs.declared.lines.Turn.{Turn}
 use Rattle.tree_walk.specs.States.{IsStateOf}
-use Rattle.refutation_checker.specs.Sound.{Start, StandsBehind}
+use Rattle.refutation_checker.specs.ChunkVerdicts.{Start, StandsBehind}
 use Rattle.refutation_checker.specs.Chunks.{feeds, line_count, HasFirstLines, LeadsTo, IsCutOff, AreChunks, IsJudgeable, IsFew}
 use Rattle.refutation_checker.proofs.Feeds.{lines_of_both, some_line}
+use Rattle.refutation_checker.proofs.Walking.{some_bytes}
 
 -- the chunks so far: they hold all bytes, or the next ones go on behind them
 pub record IsOpen (P : Instance) (size : ℕ) (turn : Option Turn) (earlier : List Line) (bytes : List ℕ) (chunks : List Start) (rest : Start) : Type 0 where
@@ -61,10 +62,6 @@ cut_on P size turn earlier bytes chunks old chunk rest o c to =
           (o.goes_on (chunk ∷ more)
           (same_place P turn (earlier ++ o.lines) old chunk c.walk c.first o.behind, c.lines turn (earlier ++ o.lines) o.behind, rest.bytes, c.whole, inr (to.lines, to.fit, to.text, subst (λ ls. AreChunks P turn size ls rest.bytes more) (sym longer) a)));
     }
-
-some_bytes : (bytes : List ℕ) → bytes ≢ [] → 1 ≤ length bytes
-some_bytes [] h = absurd (h refl)
-some_bytes (b ∷ bytes) h = omega arith
 
 chunk_judgeable : (P : Instance) (size : ℕ) (old chunk rest : Start) → IsJudgeable P old → IsCutOff P size old chunk rest → IsJudgeable P chunk
 chunk_judgeable P size old chunk rest h c =

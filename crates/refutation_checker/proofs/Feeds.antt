@@ -6,6 +6,7 @@ use Rattle.std.proofs.Math.Nat.{mul-le-mul_right}
 use Rattle.std.proofs.lemmas.List.{take_all, get_or-append-add}
 use Rattle.std.proofs.lemmas.List.Sums.{count_by_more_yes, count_by_more_no, sum_by-append}
 use Rattle.refutation_checker.specs.Chunks.{feeds, line_count, IsFew}
+use Rattle.refutation_log.proofs.LogLines.{some_bytes}
 
 pub fed : (bytes : List ℕ) (i : ℕ) → i < length bytes → get_or bytes i 0 ≡ 10 → feeds (take (i + 1) bytes) ≡ feeds (take i bytes) + 1
 fed bytes i less e = count_by_more_yes (λ b. b == 10) bytes i 0 less (eq-eqb (get_or bytes i 0) 10 e)
@@ -29,10 +30,6 @@ fed_at_end bytes some e =
 
 pub feeds_joined : (a b : List ℕ) → feeds (a ++ b) ≡ feeds a + feeds b
 feeds_joined a b = sum_by-append (λ c. cond (c == 10) 1 0) a b
-
-some_bytes : (bytes : List ℕ) → bytes ≢ [] → 0 < length bytes
-some_bytes [] h = absurd (h refl)
-some_bytes (b ∷ bytes) h = omega arith
 
 last_of : (a b : List ℕ) → b ≢ [] → get_or (a ++ b) (length (a ++ b) - 1) 0 ≡ get_or b (length b - 1) 0
 last_of a b some =

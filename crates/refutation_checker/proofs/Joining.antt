@@ -14,13 +14,13 @@ use Rattle.refutation_terms.specs.declared.lines.LogRefusal.{LogRefusal}
 use Rattle.refutation_terms.specs.Tree.{IsTree}
 use Rattle.refutation_terms.specs.LogText.{raw, line_text, fields}
 use Rattle.refutation_terms.specs.Verdict.{HasNoFeed, IsNextLine, Cause, Reading}
-use Rattle.refutation_log.specs.Printing.{lines_text}
+use Rattle.refutation_log.specs.Printing.{lines_text, EachFits}
 use Rattle.refutation_log.specs.ReadLog.{log_with}
-use Rattle.refutation_log.proofs.LogLines.{EachFits as EachLineFits}
 use Rattle.refutation_log.proofs.OneText.{one_list}
-use Rattle.refutation_checker.specs.Sound.{AreSoundBehind, AreAllSound, IsRefusedBehind, IsJudged, Start, StandsBehind}
-use Rattle.refutation_checker.specs.Chunks.{EachFits, AreChunks, joined_from}
+use Rattle.refutation_checker.specs.ChunkVerdicts.{AreSoundBehind, AreAllSound, IsRefusedBehind, IsJudged, Start, StandsBehind}
+use Rattle.refutation_checker.specs.Chunks.{AreChunks, joined_from}
 use Rattle.refutation_checker.proofs.SoundLines.{lines_joined, sound_joined}
+use Rattle.refutation_checker.proofs.Walking.{some_bytes}
 
 abbrev pub Answer : Type 0
 Answer = Result Bool (Fail LogRefusal)
@@ -42,17 +42,9 @@ answers_to P R (c ∷ chunks) [] s d e h = absurd (omega (arith, e))
 answers_to P R (c ∷ chunks) (a ∷ answers) s d e h = (h 0 (omega arith), answers_to P R chunks answers s d (omega (arith, e)) (λ i less. h (suc i) (omega (arith, less))))
 
 -- lines that are sound fit
-fit_from_sound : (P : Instance) (R : List ℕ) (turn : Option Turn) (earlier lines : List Line) → AreSoundBehind P R turn earlier lines → EachLineFits P lines
+fit_from_sound : (P : Instance) (R : List ℕ) (turn : Option Turn) (earlier lines : List Line) → AreSoundBehind P R turn earlier lines → EachFits P lines
 fit_from_sound P R turn earlier [] h = tt
 fit_from_sound P R turn earlier (l ∷ lines) h = (h.0.fits, fit_from_sound P R turn (earlier ++ l ∷ []) lines h.1)
-
-each_fits : (P : Instance) (lines : List Line) → EachFits P lines → EachLineFits P lines
-each_fits P [] h = tt
-each_fits P (l ∷ lines) h = (h.0, each_fits P lines h.1)
-
-some_bytes : (bytes : List ℕ) → bytes ≢ [] → 1 ≤ length bytes
-some_bytes [] h = absurd (h refl)
-some_bytes (b ∷ bytes) h = omega arith
 
 -- bytes without LF, one at least, don't end with LF
 no_feed_at_end : (a line b : List ℕ) → line ≢ [] → HasNoFeed line → a ++ line ≡ b ++ 10 ∷ [] → ⊥
@@ -143,7 +135,7 @@ goes_below : (P : Instance) (R : List ℕ) (turn : Option Turn) (size : ℕ) (ea
 goes_below P R turn size earlier c d below chunks whole limits followed all =
     elim followed [
       | inl none ↦ absurd (let no : d ∷ chunks ≡ [] = none.1 in cc)
-      | inr goes ↦ subst (λ ls. AreChunks P turn size (earlier ++ ls) below (d ∷ chunks)) (one_list P goes.0 all.lines limits (each_fits P goes.0 goes.1) (fit_from_sound P R turn earlier all.lines all.sound) (sym goes.2 ∙ all.text)) goes.3
+      | inr goes ↦ subst (λ ls. AreChunks P turn size (earlier ++ ls) below (d ∷ chunks)) (one_list P goes.0 all.lines limits goes.1 (fit_from_sound P R turn earlier all.lines all.sound) (sym goes.2 ∙ all.text)) goes.3
     ]
 
 joined_behind : (P : Instance) (R : List ℕ) (turn : Option Turn) (size : ℕ) (c : Start) (cs : List Start) (answers : List Answer) (earlier : List Line) (bytes : List ℕ) (before : Bool) → KeepsLimits P → AreAnswersTo P R (c ∷ cs) answers → AreChunks P turn size earlier bytes (c ∷ cs) → IsJudged P R turn earlier bytes (joined_from before answers)

@@ -17,8 +17,8 @@ use Rattle.refutation_terms.proofs.Spelled.{spelled_lines_fit}
 use Rattle.domain_store.specs.Store.{Store, BelongsTo, has_domain, IsStore, HasDomains}
 use Rattle.tree_walk.specs.States.{State, IsStateOf}
 use Rattle.tree_walk.proofs.Idle.{idle_in_store}
-use Rattle.refutation_checker.specs.Judged.{StandsPlainly, IsPlainlySound, IsIdleSplit, PlainCause, HoldsByWords, IsSound, LineCause}
-use Rattle.refutation_checker.specs.Reads.{IsLineRead, MayStep}
+use Rattle.refutation_checker.specs.LineVerdicts.{StandsPlainly, IsPlainlySound, IsIdleSplit, PlainCause, HoldsByWords, IsSound, LineCause}
+use Rattle.refutation_checker.specs.LineTexts.{IsLineRead, MayStep}
 use Rattle.refutation_checker.proofs.SameDomains.{AreSame, turned_round, same_idle, same_holds, same_escapes}
 
 pub plain_is_cause : (P : Instance) (named : List ℕ) (D : Domains) (n : ℕ) (line : Line) (why : LogRefusal) → PlainCause P named D n line why → LineCause P named D n line why
@@ -74,12 +74,6 @@ same_cause P named D E n line (Refusals.Turn i) some fits same h = h
 pub same_sound : (P : Instance) (named : List ℕ) (D E : Domains) (line : Line) → 0 < cells P → LineFits P line → AreSame P D E → IsSound P named D line → IsSound P named E line
 same_sound P named D E line some fits same h = record { named_all = h.named_all; short = h.short; holds = same_holds P D E line some fits same h.holds }
 
-pub some_cells : (P : Instance) → KeepsLimits P → 0 < cells P
-some_cells P k = grind (arith, k.some_days, k.some_weeks)
-
-pub cells_of_walk : (P : Instance) (S : Store) → IsStore S → BelongsTo P S → length S.sets ≡ cells P
-cells_of_walk P S now belongs = now.long ∙ ap (λ n. n * S.days) belongs.weeks ∙ ap (λ n. P.weeks * n) belongs.days
-
 -- a line that holds may be read
 pub may_step : (P : Instance) (S : Store) (line : Line) → IsStore S → HasDomains S → BelongsTo P S → length S.sets ≡ cells P → LineFits P line → Holds P (has_domain S) line → MayStep S line
 may_step P S (Split p x) now tests belongs long fits h =
@@ -93,7 +87,7 @@ may_step P S Unfinished now tests belongs long fits h = tt
 
 -- by the text of the line
 
-idle_text : (P : Instance) (D : Domains) (bytes : List ℕ) (line : Line) → Spells P bytes line → IsIdleSplit P D line → SplitsIdly P D bytes
+pub idle_text : (P : Instance) (D : Domains) (bytes : List ℕ) (line : Line) → Spells P bytes line → IsIdleSplit P D line → SplitsIdly P D bytes
 idle_text P D bytes (Split p x) spelled h = (p, x, spelled, h)
 idle_text P D bytes (Window rule p len) spelled h = absurd h
 idle_text P D bytes (Day j x over) spelled h = absurd h

@@ -12,7 +12,7 @@ use Rattle.refutation_terms.specs.Tree.{is_idle}
 use Rattle.refutation_terms.specs.Log.{Holds}
 use Rattle.refutation_terms.proofs.InWords.{idle_as_said}
 use Rattle.domain_store.specs.Store.{Store, has_domain, domain_at, BelongsTo, HasDomains}
-use Rattle.refutation_checker.specs.Judged.{StandsPlainly}
+use Rattle.refutation_checker.specs.LineVerdicts.{StandsPlainly}
 
 -- a symbol of a domain of two or more may be split off
 pub may_split : (P : Instance) (S : Store) (p x : ℕ) → BelongsTo P S → HasDomains S → IsTrue (has_domain S p x) → 2 ≤ length (domain_at S p) → is_idle P (has_domain S) p x ≡ false

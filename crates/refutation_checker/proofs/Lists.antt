@@ -2,19 +2,14 @@
 use Rattle.std.proofs.Common.{◌≡◌, ◌⊎◌, ℕ, ◌+◌, ◌<◌, ◌≤◌, List, [], length, Some, sym, subst, ◌∙◌, arith, inl, inr}
 use Rattle.std.proofs.lemmas.Bool.{cases_lt}
 use Rattle.std.specs.Prelude.{Contains, ◌↔◌, Option, None, MatchOption}
+use Rattle.std.proofs.lemmas.Option.{same_Some}
 use Rattle.rwsp_terms.specs.Instance.{Instance}
 use Rattle.rwsp_terms.specs.Rules.{rules, rule_of, Names, IsShort, NamesShortOnly}
 use Rattle.rwsp_terms.specs.declared.data.Rule.{Rule}
-use Rattle.rwsp_model.proofs.Numbering.{rule_numbered, number_within, one_number, some_injective}
+use Rattle.rwsp_model.proofs.Numbering.{rule_numbered, number_within, one_number, rule_in_range}
 use Rattle.refutation_terms.specs.Verdict.{IsLeast, IsUnnamed, IsLongIn}
 use Rattle.refutation_log.specs.Cited.{Adds, IsCited}
 use Rattle.refutation_checker.specs.Outside.{IsOutside, HoldsUpTo, IsShortIn}
-
--- a number of a rule is one of the list of all rules
-pub numbered_within : (P : Instance) (k : ℕ) (r : Rule) → rule_of P k ≡ Some r → (0 < k) × (k ≤ length (rules P))
-numbered_within P k r is =
-    let found = rule_numbered P k r is in
-    (omega (arith, found.1), omega (arith, found.1, number_within P r found.0))
 
 nothing : (k : ℕ) → Contains {X = ℕ} [] k → ⊥
 nothing k h = omega (arith, h.1)
@@ -31,7 +26,7 @@ pub all_named : (P : Instance) (Cited : Rule → Type 0) (empty cited named : Li
     → ((r : Rule) → Names P cited r ↔ (Names P empty r ⊎ Cited r)) → last ≡ length (rules P) → HoldsUpTo cited named last → (r : Rule) → Cited r → Names P named r
 all_named P Cited empty cited named last adds names is holds r cites =
     let in_it = (names r).1 (inr cites) in
-    let within = numbered_within P in_it.0 r in_it.2 in
+    let within = rule_in_range P in_it.0 r in_it.2 in
     (in_it.0, holds in_it.0 (omega (arith, within.1, is)) in_it.1, in_it.2)
 
 pub least_unnamed : (P : Instance) (Cited : Rule → Type 0) (empty cited named : List ℕ) (k : ℕ) → empty ≡ [] → Adds empty cited (IsCited P Cited)
@@ -57,7 +52,7 @@ least_of cited named n below here gone =
 
 pub all_short : (P : Instance) (R : List ℕ) (n : ℕ) → n ≡ length (rules P) + 1 → ((k : ℕ) → k < n → IsShortIn P R k) → NamesShortOnly P R
 all_short P R n is below r named =
-    let within = numbered_within P named.0 r named.2 in
+    let within = rule_in_range P named.0 r named.2 in
     below named.0 (omega (arith, within.1, is)) r named.2 named.1
 
 pub least_long_of : (P : Instance) (R : List ℕ) (n : ℕ) → ((k : ℕ) → k < n → IsShortIn P R k) → IsLongIn P R n → IsLeast (IsLongIn P R) n
@@ -65,7 +60,7 @@ least_long_of P R n below here =
     (here, λ i h. elim (cases_lt i n) [ inl less ↦ absurd (h.3 (below i less h.0 h.1 h.2)) | inr more ↦ more ])
 
 pub none_at_zero : (P : Instance) (R : List ℕ) (n : ℕ) → n ≡ 1 → (k : ℕ) → k < n → IsShortIn P R k
-none_at_zero P R n is k less r numbered in_it = absurd (let within = numbered_within P k r numbered in omega (arith, within.0))
+none_at_zero P R n is k less r numbered in_it = absurd (let within = rule_in_range P k r numbered in omega (arith, within.0))
 
 pub short_of : (P : Instance) (R : List ℕ) (k : ℕ) (r : Rule) → rule_of P k ≡ Some r → IsShort P r → IsShortIn P R k
-short_of P R k r is short q same in_it = subst (IsShort P) (some_injective r q (sym is ∙ same)) short
+short_of P R k r is short q same in_it = subst (IsShort P) (same_Some r q (sym is ∙ same)) short

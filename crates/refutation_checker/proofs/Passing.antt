@@ -5,7 +5,7 @@ use Rattle.std.specs.List.{join_with_byte, flat_map}
 use Rattle.std.specs.Fmt.{decimal}
 use Rattle.std.specs.declared.alloc.AllocError.{AllocError}
 use Rattle.std.proofs.Math.Seq.{drop-cons, take-length}
-use Rattle.std.proofs.lemmas.Bool.{cases_lt}
+use Rattle.std.proofs.lemmas.Bool.{cases_lt, cases_Bool}
 use Rattle.std.proofs.lemmas.List.{take_more, length-take-le, take-append-drop, take-append-le, get_or-take}
 use Rattle.std.proofs.lemmas.List.Concat.{flat_map-append}
 use Rattle.std.proofs.lemmas.Option.{same_Some, slice_get_within, slice_get-get_or, get_or_from_slice_get}
@@ -26,27 +26,21 @@ use Rattle.refutation_terms.specs.LogText.{raw, line_text, log_text, header_text
 use Rattle.refutation_terms.specs.Verdict.{Reading, BeforeTurn, IsLeast, IsUnnamed, IsSoundSoFar, IsRefusedLine, IsRefused, TurnCause, TreeCause, header_lines}
 use Rattle.refutation_terms.specs.Spelling.{HasNames}
 use Rattle.refutation_terms.proofs.Spelled.{fitting_lines_are_spelled}
-use Rattle.refutation_terms.proofs.Tests.{either}
 use Rattle.refutation_terms.proofs.Trees.{part_is_not_whole, tree_is_whole}
 use Rattle.refutation_log.specs.Printing.{lines_text}
 use Rattle.refutation_log.proofs.HeaderTexts.{turn_visible}
 use Rattle.refutation_log.proofs.LineTexts.{small_from}
-use Rattle.refutation_log.proofs.OneText.{name_there, symbol_named, body_feedless, feedless_words}
+use Rattle.refutation_log.proofs.OneText.{name_there, symbol_named, body_feedless, feedless_words, has_names}
 use Rattle.refutation_log.proofs.PrintedTexts.{line_piece, joined_lines}
 use Rattle.tree_walk.specs.States.{State, IsStateOf}
 use Rattle.tree_walk.proofs.Stack.{read_is_tree}
-use Rattle.refutation_checker.specs.Judged.{IsSound, LineCause}
-use Rattle.refutation_checker.specs.Passed.{IsSoundTurn, TurnFault, IsTurnFault, AreSound, IsPassed, IsRefusedAt}
+use Rattle.refutation_checker.specs.LineVerdicts.{IsSound, LineCause}
+use Rattle.refutation_checker.specs.Turns.{IsSoundTurn, TurnFault, IsTurnFault}
+use Rattle.refutation_checker.specs.LogVerdicts.{AreSound, IsPassed, IsRefusedAt}
 use Rattle.refutation_checker.proofs.Judging.{cause_of_text}
+use Rattle.refutation_log.specs.ReadLog.{log_with}
 
 -- turns
-
--- a number of the rule of a day is its only one
-pub day_unnamed : (P : Instance) (named : List ℕ) (day k : ℕ) → rule_of P k ≡ Some (TheRules.Day day) → (Contains named k → ⊥) → IsLeast (IsUnnamed P named (λ r. r ≡ TheRules.Day day)) k
-day_unnamed P named day k is gone = (
-  (TheRules.Day day, is, refl, λ held. gone (subst (Contains named) (one_number P held.0 k (TheRules.Day day) held.2 is) held.1)),
-  λ i h. let same : k ≡ i = one_number P k i (TheRules.Day day) is (h.1 ∙ ap (λ r. Some r) h.2) in omega (arith, same),
-)
 
 pub day_named : (P : Instance) (named : List ℕ) (t : Turn) (k : ℕ) → rule_of P k ≡ Some (TheRules.Day t.day) → Contains named k → (r : Rule) → TurnCites (Some t) r → Names P named r
 day_named P named t k is held r cites = (k, held, is ∙ ap (λ r. Some r) (sym cites))
@@ -62,7 +56,7 @@ no_front lines k tree less front =
 
 pub still_part : (P : Instance) (turn : Option Turn) (lines : List Line) (w : State) → IsStateOf P turn lines w → (IsTree lines → ⊥) → w.whole ≡ false
 still_part P turn lines w state part =
-    elim (either w.whole) [
+    elim (cases_Bool w.whole) [
       | inl whole ↦ absurd (part ((read_is_tree w.whole (length w.store.sets) w.store (opening P turn) w.splits lines state.read).0 whole))
       | inr e ↦ e
     ]
@@ -126,9 +120,6 @@ passes_all P g fits tree turn sound = record {
   holds = λ k line here. (sound k line (slice_get_within g.lines k line here) here).holds;
 }
 
-abbrev log_of : List ℕ → Option Turn → List Line → Log
-log_of named turn lines = record { named = named; turn = turn; lines = lines }
-
 at_take : (lines : List Line) (i k : ℕ) (line : Line) → i ≤ length lines → slice_get (take i lines) k ≡ Some line → (k < i) × (slice_get lines k ≡ Some line)
 at_take lines i k line le here =
     let less : k < i = omega (arith, slice_get_within (take i lines) k line here, length-take-le i lines le) in
@@ -138,7 +129,7 @@ take_take : (lines : List Line) (i k : ℕ) → k ≤ i → i ≤ length lines �
 take_take lines i k le within =
     sym (take-append-le k (take i lines) (drop i lines) (omega (arith, le, length-take-le i lines within))) ∙ ap (take k) (take-append-drop i lines)
 
-sound_front : (P : Instance) (g : Log) (i : ℕ) → Fits P g → IsTree g.lines → IsSoundTurn P g.named g.turn → AreSound P g i → i < length g.lines → IsSoundSoFar P (log_of g.named g.turn (take i g.lines))
+sound_front : (P : Instance) (g : Log) (i : ℕ) → Fits P g → IsTree g.lines → IsSoundTurn P g.named g.turn → AreSound P g i → i < length g.lines → IsSoundSoFar P (log_with g.named g.turn (take i g.lines))
 sound_front P g i fits tree turn sound less =
     let within : i ≤ length g.lines = omega (arith, less) in
     let at : (k : ℕ) (line : Line) → slice_get (take i g.lines) k ≡ Some line → IsSound P g.named (domains_at P g.turn g.lines k) line =
@@ -160,9 +151,6 @@ sound_front P g i fits tree turn sound less =
           λ front. no_front g.lines k tree (omega (arith, short, within)) (subst IsTree (take_take g.lines i k (omega (arith, short)) within) front);
     }
 
-has_names : (P : Instance) → KeepsLimits P → HasNames P
-has_names P limits x is = (name_there P x.number limits is, symbol_named P x limits is)
-
 lines_cut : (P : Instance) (lines : List Line) (i : ℕ) (line : Line) → slice_get lines i ≡ Some line → lines_text P lines ≡ lines_text P (take i lines) ++ (line_text P (raw P line) ++ lines_text P (drop (suc i) lines))
 lines_cut P lines i line here =
     let f = line_piece P in
@@ -178,7 +166,7 @@ lines_cut P lines i line here =
 refused_line : (P : Instance) (g : Log) (i : ℕ) (why : LogRefusal) → KeepsLimits P → Fits P g → IsTree g.lines → IsSoundTurn P g.named g.turn → IsRefusedAt P g i why → IsRefusedLine P (log_text P g) why
 refused_line P g i why limits fits tree turn at =
     let less = slice_get_within g.lines i at.line at.here in
-    let front = log_of g.named g.turn (take i g.lines) in
+    let front = log_with g.named g.turn (take i g.lines) in
     let bytes = line_text P (raw P at.line) in
     let rest = lines_text P (drop (suc i) g.lines) in
     let fit : LineFits P at.line = fits.lines i at.line at.here in
@@ -215,7 +203,7 @@ refused_at P g i Refusals.Ends limits fits tree turn at = absurd at.cause
 refused_at P g i (Refusals.Extra n) limits fits tree turn at = refused_line P g i (Refusals.Extra n) limits fits tree turn at
 refused_at P g i (Refusals.Turn n) limits fits tree turn at = refused_line P g i (Refusals.Turn n) limits fits tree turn at
 
-turn_line : (P : Instance) (named : List ℕ) (t : Turn) (lines : List Line) (why : LogRefusal) → KeepsLimits P → AreRules P named → TurnFits P (Some t) → TurnCause P named (turn_text (name_of P t.x) t.day) why → IsRefusedLine P (log_text P (log_of named (Some t) lines)) why
+turn_line : (P : Instance) (named : List ℕ) (t : Turn) (lines : List Line) (why : LogRefusal) → KeepsLimits P → AreRules P named → TurnFits P (Some t) → TurnCause P named (turn_text (name_of P t.x) t.day) why → IsRefusedLine P (log_text P (log_with named (Some t) lines)) why
 turn_line P named t lines why limits are fits cause =
     let name = name_of P t.x in
     let words : List (List ℕ) = codes "turn" ∷ name ∷ decimal t.day ∷ [] in
@@ -229,7 +217,7 @@ turn_line P named t lines why limits are fits cause =
       cause = cause;
     }
 
-turn_fault_refused : (P : Instance) (named : List ℕ) (t : Turn) (lines : List Line) (why : LogRefusal) → KeepsLimits P → AreRules P named → TurnFits P (Some t) → TurnFault P named t why → IsRefused P (log_text P (log_of named (Some t) lines)) why
+turn_fault_refused : (P : Instance) (named : List ℕ) (t : Turn) (lines : List Line) (why : LogRefusal) → KeepsLimits P → AreRules P named → TurnFits P (Some t) → TurnFault P named t why → IsRefused P (log_text P (log_with named (Some t) lines)) why
 turn_fault_refused P named t lines (Refusals.Form n) limits are fits h = absurd h
 turn_fault_refused P named t lines (Refusals.Name n) limits are fits h = absurd h
 turn_fault_refused P named t lines (Refusals.Unnamed n k) limits are fits h =
@@ -246,7 +234,7 @@ turn_fault_refused P named t lines (Refusals.Turn n) limits are fits h =
     turn_line P named t lines (Refusals.Turn n) limits are fits
     (h.0, (t.day, t.x, (name_of P t.x, (name_there P t.x.number limits fits.1, fits.0, refl), symbol_named P t.x limits fits.1), h.1, h.2))
 
-pub turn_refused : (P : Instance) (named : List ℕ) (turn : Option Turn) (lines : List Line) (why : LogRefusal) → KeepsLimits P → AreRules P named → TurnFits P turn → IsTurnFault P named turn why → IsRefused P (log_text P (log_of named turn lines)) why
+pub turn_refused : (P : Instance) (named : List ℕ) (turn : Option Turn) (lines : List Line) (why : LogRefusal) → KeepsLimits P → AreRules P named → TurnFits P turn → IsTurnFault P named turn why → IsRefused P (log_text P (log_with named turn lines)) why
 turn_refused P named None lines why limits are fits h = absurd h
 turn_refused P named (Some t) lines why limits are fits h = turn_fault_refused P named t lines why limits are fits h
 

@@ -7,6 +7,7 @@ use Rattle.std.proofs.lemmas.Nat.{mul-add-lt}
 use Rattle.rwsp_terms.specs.declared.data.Symbol.{Symbol}
 use Rattle.rwsp_terms.specs.declared.data.Weight.{Weight}
 use Rattle.rwsp_terms.specs.Instance.{Instance, cells, shift_count, IsDay, least, greatest}
+use Rattle.rwsp_terms.proofs.Counting.{count_mono}
 use Rattle.refutation_terms.specs.declared.lines.Line.{Line}
 use Rattle.refutation_terms.specs.declared.lines.Line.TheVariants.{Split, Window, Day, Dead, Bound, Unfinished}
 use Rattle.refutation_terms.specs.Word.{Domains, Over}
@@ -15,7 +16,7 @@ use Rattle.refutation_terms.specs.Escape.{IsCleanOver, IsHeaviest}
 use Rattle.refutation_terms.specs.Tree.{is_idle}
 use Rattle.refutation_terms.specs.Log.{Holds, LineFits}
 use Rattle.refutation_terms.specs.Verdict.{Escapes}
-use Rattle.refutation_terms.proofs.Counts.{count_mono}
+use Rattle.refutation_terms.proofs.Counts.{in_column}
 
 -- the two have the same symbols at each position
 abbrev pub AreSame : Instance → Domains → Domains → Type 0
@@ -42,20 +43,15 @@ same_count f g n same =
     let high : count_by g (range_with_len 0 n) ≤ count_by f (range_with_len 0 n) = count_mono g f 0 n (λ i le less yes. same i (omega (arith, less)) ∙ yes) in
     omega (arith, low, high)
 
-in_cells : (P : Instance) (i j : ℕ) → i < P.weeks → IsDay P j → i * P.days + (j - 1) < cells P
-in_cells P i j week day =
-    let inside : i * P.days + (j - 1) < P.days * P.weeks = mul-add-lt i P.days (j - 1) P.weeks week (omega (arith, day.0, day.1)) in
-    omega (arith, inside, mul_comm P.days P.weeks)
-
 same_fixed : (P : Instance) (D E : Domains) (j x : ℕ) → IsDay P j → AreSame P D E → fixed P D j x ≡ fixed P E j x
 same_fixed P D E j x day same =
     same_count (λ i. is_only P D (i * P.days + (j - 1)) x) (λ i. is_only P E (i * P.days + (j - 1)) x) P.weeks
-    (λ i less. same_only P D E (i * P.days + (j - 1)) x (in_cells P i j less day) same)
+    (λ i less. same_only P D E (i * P.days + (j - 1)) x (in_column P i j less day) same)
 
 same_possible : (P : Instance) (D E : Domains) (j x : ℕ) → IsDay P j → AreSame P D E → possible P D j x ≡ possible P E j x
 same_possible P D E j x day same =
     same_count (λ i. D (i * P.days + (j - 1)) x) (λ i. E (i * P.days + (j - 1)) x) P.weeks
-    (λ i less. same (i * P.days + (j - 1)) x (in_cells P i j less day))
+    (λ i less. same (i * P.days + (j - 1)) x (in_column P i j less day))
 
 -- by words over them
 same_over : (P : Instance) (D E : Domains) (p : ℕ) (u : List Symbol) → 0 < cells P → AreSame P D E → Over P D p u → Over P E p u

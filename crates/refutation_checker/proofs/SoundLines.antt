@@ -17,8 +17,8 @@ use Rattle.refutation_terms.specs.Verdict.{Reading, IsSoundSoFar, IsAccepted, En
 use Rattle.refutation_log.specs.Printing.{lines_text}
 use Rattle.refutation_log.specs.ReadLog.{log_with}
 use Rattle.refutation_checker.specs.Headers.{HasHeader}
-use Rattle.refutation_checker.specs.Reads.{IsSoundNext}
-use Rattle.refutation_checker.specs.Sound.{IsSoundHeader, AreSoundBehind, AreAllSound, IsRefusedBehind}
+use Rattle.refutation_checker.specs.LineTexts.{IsSoundNext}
+use Rattle.refutation_checker.specs.ChunkVerdicts.{IsSoundHeader, AreSoundBehind, AreAllSound, IsRefusedBehind}
 use Rattle.refutation_checker.proofs.HeaderFaults.{refused_at_line}
 
 pub lines_joined : (P : Instance) (a b : List Line) → lines_text P (a ++ b) ≡ lines_text P a ++ lines_text P b

@@ -4,6 +4,7 @@ use Rattle.std.specs.Prelude.{MatchBool, Result, Ok, Err, IfOk}
 use Rattle.std.proofs.lemmas.List.{append-nil}
 use Rattle.rwsp_terms.specs.Instance.{Instance, cells}
 use Rattle.domain_store.specs.Store.{Store, IsStore}
+use Rattle.rwsp_terms.proofs.Elements.{all_joined}
 use Rattle.refutation_terms.specs.declared.lines.Line.{Line}
 use Rattle.refutation_terms.specs.declared.lines.Line.TheVariants.{Split, Window, Day, Dead, Bound, Unfinished}
 use Rattle.refutation_terms.specs.declared.lines.Turn.{Turn}
@@ -12,17 +13,14 @@ use Rattle.refutation_terms.specs.LogText.{raw, line_text}
 use Rattle.refutation_terms.specs.Verdict.{Spells, SplitsIdly}
 use Rattle.refutation_terms.specs.Word.{Domains}
 use Rattle.refutation_terms.specs.Tree.{domains_at}
-use Rattle.refutation_log.specs.Printing.{lines_text}
+use Rattle.refutation_log.specs.Printing.{lines_text, EachFits}
 use Rattle.refutation_log.proofs.Named.{spelled_fits}
 use Rattle.tree_walk.specs.States.{State, IsStateOf}
 use Rattle.tree_walk.proofs.Idle.{positions_of}
-use Rattle.refutation_checker.specs.Judged.{IsIdleSplit}
-use Rattle.refutation_checker.specs.Chunks.{StopsWalk, IsWithin, IsLineWalked, EachFits}
+use Rattle.refutation_checker.specs.LineVerdicts.{IsIdleSplit}
+use Rattle.refutation_checker.specs.Chunks.{StopsWalk, IsWithin, IsLineWalked}
 use Rattle.refutation_checker.proofs.SoundLines.{lines_joined}
-
-pub ok_along : {T E : Type 0} (r : Result T E) (A B : T → Type 0) → ((x : T) → A x → B x) → IfOk r A → IfOk r B
-ok_along (Ok x) A B f h = f x h
-ok_along (Err e) A B f h = tt
+use Rattle.refutation_checker.proofs.Judging.{idle_text}
 
 within : (P : Instance) (n : ℕ) (line : Line) → n ≡ cells P → LineFits P line → IsWithin n line
 within P n (Split p x) e h = omega (arith, e, h.0)
@@ -36,14 +34,6 @@ pub spelled_within : (P : Instance) (w : State) (S : Store) (bytes : List ℕ) (
 spelled_within P w S bytes line is store h spells =
     within P (length w.store.sets) line (positions_of P w.store (subst IsStore is store) h.2.belongs) (spelled_fits P bytes line spells).1
 
-idly : (P : Instance) (D : Domains) (bytes : List ℕ) (line : Line) → Spells P bytes line → IsIdleSplit P D line → SplitsIdly P D bytes
-idly P D bytes (Split p x) spells idle = (p, x, spells, idle)
-idly P D bytes (Window rule p len) spells idle = absurd idle
-idly P D bytes (Day j x over) spells idle = absurd idle
-idly P D bytes (Dead p len R) spells idle = absurd idle
-idly P D bytes (Bound p turns R y) spells idle = absurd idle
-idly P D bytes Unfinished spells idle = absurd idle
-
 -- a line that was spelled, by whether the walk goes on
 pub line_walked : (P : Instance) (w w' : State) (bytes : List ℕ) (line : Line) (read : Bool) → Spells P bytes line
     → ((Q : Instance) (turn : Option Turn) (earlier : List Line) → IsStateOf Q turn earlier w → MatchBool read (IsStateOf Q turn (earlier ++ line ∷ []) w') (IsIdleSplit Q (domains_at Q turn earlier (length earlier)) line))
@@ -52,15 +42,11 @@ line_walked P w w' bytes line true spells goes turn earlier state =
     let fits = spelled_fits P bytes line spells in
     record { line = line; fits = fits.1; text = fits.0; walked = goes P turn earlier state }
 line_walked P w w' bytes line false spells goes turn earlier state =
-    inr (inr (inr (idly P (domains_at P turn earlier (length earlier)) bytes line spells (goes P turn earlier state))))
+    inr (inr (inr (idle_text P (domains_at P turn earlier (length earlier)) bytes line spells (goes P turn earlier state))))
 
 pub line_read : (b : Bool) (A B : Type 0) → b ≡ true → MatchBool b A B → A
 line_read true A B e h = h
 line_read false A B e h = absurd (cc)
-
-fits_joined : (P : Instance) (a b : List Line) → EachFits P a → EachFits P b → EachFits P (a ++ b)
-fits_joined P [] b h k = k
-fits_joined P (l ∷ a) b h k = (h.0, fits_joined P a b h.1 k)
 
 -- lines that fit have been walked through, as far as what is left
 pub record WalkedUpTo (P : Instance) (turn : Option Turn) (earlier : List Line) (bytes left : List ℕ) (w : State) (count : ℕ) : Type 0 where
@@ -74,7 +60,7 @@ pub record WalkedSoFar (P : Instance) (old w : State) (bytes left : List ℕ) (c
   pub few : count + length left ≤ length bytes
   pub each : (turn : Option Turn) (earlier : List Line) → IsStateOf P turn earlier old → WalkedUpTo P turn earlier bytes left w count
 
-some_bytes : (bytes : List ℕ) → bytes ≢ [] → 1 ≤ length bytes
+pub some_bytes : (bytes : List ℕ) → bytes ≢ [] → 1 ≤ length bytes
 some_bytes [] h = absurd (h refl)
 some_bytes (b ∷ bytes) h = omega arith
 
@@ -86,7 +72,7 @@ walk_on P turn earlier all left bytes rest w w' count so e reads =
     let size : length (so.lines ++ read.line ∷ []) ≡ length so.lines + 1 = length-append so.lines (read.line ∷ []) in
     record {
       lines = so.lines ++ read.line ∷ [];
-      fit = fits_joined P so.lines (read.line ∷ []) so.fit (read.fits, tt);
+      fit = all_joined (LineFits P) so.lines (read.line ∷ []) so.fit (read.fits, tt);
       text =
           so.text ∙ ap (λ t. lines_text P so.lines ++ t) (e ∙ ap (λ t. t ++ rest) (sym one))
           ∙ sym (append_assoc (lines_text P so.lines) (lines_text P (read.line ∷ [])) rest)

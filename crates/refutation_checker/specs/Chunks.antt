@@ -10,9 +10,9 @@ use Rattle.refutation_terms.specs.Log.{LineFits}
 use Rattle.refutation_terms.specs.Tree.{IsTree, domains_at}
 use Rattle.refutation_terms.specs.LogText.{raw, line_text}
 use Rattle.refutation_terms.specs.Verdict.{SpellsNothing, SpellsUnknown, SplitsIdly, IsNextLine}
-use Rattle.refutation_log.specs.Printing.{lines_text}
+use Rattle.refutation_log.specs.Printing.{lines_text, EachFits}
 use Rattle.tree_walk.specs.States.{State, IsStateOf}
-use Rattle.refutation_checker.specs.Sound.{Start, StandsBehind}
+use Rattle.refutation_checker.specs.ChunkVerdicts.{Start, StandsBehind}
 
 -- a split is at one of n positions
 abbrev pub IsWithin : ℕ → Line → Type 0
@@ -25,11 +25,6 @@ pub record IsLineWalked (P : Instance) (turn : Option Turn) (earlier : List Line
   pub fits : LineFits P line
   pub text : bytes ≡ line_text P (raw P line)
   pub walked : IsStateOf P turn (earlier ++ line ∷ []) w
-
--- each line fits the problem
-abbrev pub EachFits : Instance → List Line → Type 0
-EachFits P [] = Unit {0}
-EachFits P (line ∷ lines) = LineFits P line × EachFits P lines
 
 -- the bytes are the text of so many lines that fit the problem, and the walk has read them
 pub record AreLinesWalked (P : Instance) (turn : Option Turn) (earlier : List Line) (bytes : List ℕ) (count : ℕ) (w : State) : Type 0 where

@@ -8,7 +8,7 @@ use Rattle.refutation_terms.specs.declared.lines.LogRefusal.{LogRefusal}
 use Rattle.refutation_terms.specs.declared.lines.LogRefusal.TheVariants as Refusals
 use Rattle.refutation_terms.specs.LogText.{header_text}
 use Rattle.refutation_terms.specs.Verdict.{IsLeast, IsUnnamed, IsNextLine}
-use Rattle.refutation_checker.specs.Sound.{IsSoundHeader}
+use Rattle.refutation_checker.specs.ChunkVerdicts.{IsSoundHeader}
 
 -- the text begins with this line, and this is the rest
 pub record BeginsWithLine (text line rest : List ℕ) : Type 0 where
@@ -20,9 +20,3 @@ pub record BeginsWithLine (text line rest : List ℕ) : Type 0 where
 pub record HasHeader (P : Instance) (text : List ℕ) (named : List ℕ) (turn : Option Turn) (body : List ℕ) : Type 0 where
   pub sound : IsSoundHeader P named turn
   pub whole : text ≡ header_text P named turn ++ body
-
--- why the turn of line 3 is refused
-abbrev pub IsTurnAtFault : Instance → List ℕ → Turn → LogRefusal → Type 0
-IsTurnAtFault P named t (Refusals.Unnamed i k) = (i ≡ 3) × IsLeast (IsUnnamed P named (λ r. r ≡ TheRules.Day t.day)) k
-IsTurnAtFault P named t (Refusals.Turn i) = (i ≡ 3) × Names P named (TheRules.Day t.day) × (least P t.x.number t.day <ℤ pos 1)
-IsTurnAtFault P named t why = ⊥

@@ -1,7 +1,8 @@
 pub mod Outside
-pub mod Judged
-pub mod Reads
-pub mod Passed
-pub mod Sound
+pub mod LineVerdicts
+pub mod LineTexts
+pub mod Turns
+pub mod LogVerdicts
+pub mod ChunkVerdicts
 pub mod Headers
 pub mod Chunks

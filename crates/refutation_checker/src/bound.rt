@@ -3,7 +3,7 @@ ghost use Rattle.std.specs.Prelude.{◌≡◌, ℕ, ◌*◌, ◌<◌, ◌≤◌,
 ghost use Rattle.rwsp_terms.specs.Instance.{cells};
 ghost use Rattle.refutation_terms.specs.Leaf.{IsTooLight};
 ghost use Rattle.domain_store.specs.Store.{BelongsTo, has_domain};
-ghost use Rattle.refutation_checker.specs.Judged.{EscapesBound};
+ghost use Rattle.refutation_checker.specs.LineVerdicts.{EscapesBound};
 
 use domain_store::Domains;
 use potential_bounds::{heaviest, total};

@@ -2,7 +2,7 @@
 ghost use Rattle.std.specs.Prelude.{◌≡◌, ℕ, ◌+◌, ◌^◌, ◌<◌, List, length, Option, MatchOption};
 ghost use Rattle.refutation_terms.specs.declared.lines.Line.{Line};
 ghost use Rattle.refutation_terms.specs.declared.lines.Turn.{Turn};
-ghost use Rattle.refutation_checker.specs.Sound.{StandsBehind, IsJudged};
+ghost use Rattle.refutation_checker.specs.ChunkVerdicts.{StandsBehind, IsJudged};
 
 use crate::Judge;
 use refutation_log::LineReader;
@@ -25,7 +25,7 @@ pub struct Chunk<'a> {
 }
 
 impl<'a> Model for Chunk<'a> {
-    ghost use Rattle.refutation_checker.specs.Sound.{Start};
+    ghost use Rattle.refutation_checker.specs.ChunkVerdicts.{Start};
 
     ghost Value = { Start };
 

@@ -1,18 +1,17 @@
 // The header of a log's text, judged: its version, the rules that it names, and its turn.
-ghost use Rattle.std.specs.Prelude.{◌≡◌, ◌++◌, [], Some, None, MatchOption, MatchResult, true};
+ghost use Rattle.std.specs.Prelude.{◌≡◌, ◌++◌, [], Some, MatchOption, MatchResult, true};
 ghost use Rattle.rwsp_terms.specs.Instance.{name_of};
 ghost use Rattle.rwsp_model.specs.Refusals.{MatchAnswer};
-ghost use Rattle.rwsp_terms.specs.declared.data.Rule.{Rule as TheRule};
-ghost use Rattle.rwsp_terms.specs.Rules.{Names};
-ghost use Rattle.refutation_terms.specs.Log.{AreRules, TurnFits, TurnCites, IsAllowed};
+ghost use Rattle.refutation_terms.specs.Log.{AreRules};
 ghost use Rattle.refutation_terms.specs.LogText.{version_text, rules_text, turn_text};
-ghost use Rattle.refutation_terms.specs.Verdict.{IsRefused, TurnCause, header_lines};
-ghost use Rattle.refutation_checker.specs.Headers.{BeginsWithLine, HasHeader, IsTurnAtFault};
-ghost use Rattle.refutation_checker.specs.Sound.{IsSoundHeader};
+ghost use Rattle.refutation_terms.specs.Verdict.{IsRefused, TurnCause};
+ghost use Rattle.refutation_checker.specs.Headers.{BeginsWithLine, HasHeader};
+ghost use Rattle.refutation_checker.specs.ChunkVerdicts.{IsSoundHeader};
 
+use crate::turn::turn_fault;
 use refutation_log::{LineReader, LineRefusal, read_rules, read_turn, read_version};
 use refutation_terms::{LogRefusal, Turn};
-use rwsp_model::{Fail, Problem, Rule, RuleList, number_of};
+use rwsp_model::{Fail, Problem, RuleList};
 use std::alloc::Global;
 
 /// What stands in front of a log's lines, and the bytes of these lines.
@@ -21,16 +20,6 @@ pub struct Header<'a> {
     pub named: RuleList,
     pub turn: Option<Turn>,
     pub body: &'a [u8],
-}
-
-/// The number of lines of the header.
-pub fn lines_of_header(header: &Header) -> u32
-    ensures value { result ≡ header_lines header.now.turn }
-{
-    match header.turn {
-        None => 2,
-        Some(_) => 3,
-    }
 }
 
 // The first line of a text, with its LF if it has one, and what follows it; None where there is no line.
@@ -148,21 +137,4 @@ fn judge_turn(problem: &Problem, bytes: &[u8], named: &RuleList) -> Result<Turn,
         None => Ok(turn),
         Some(why) => Err(why),
     }
-}
-
-// Why a turn is refused: the rule of its day isn't named, or no week must hold its symbol then.
-fn turn_fault(problem: &Problem, named: &RuleList, turn: Turn) -> Option<LogRefusal>
-    requires { TurnFits problem.now (Some turn) }
-    ensures { MatchOption result
-        (IsAllowed problem.now (Some turn) × ((r : TheRule) → TurnCites (Some turn) r → Names problem.now named.now r))
-        (IsTurnAtFault problem.now named.now turn) }
-{
-    let day = number_of(problem, Rule::Day(turn.day));
-    if !named.holds(day) {
-        return Some(LogRefusal::Unnamed(3, day));
-    }
-    if problem.demand_least(turn.x, turn.day) < 1 {
-        return Some(LogRefusal::Turn(3));
-    }
-    None
 }

@@ -11,8 +11,8 @@ ghost use Rattle.refutation_terms.specs.Log.{LineFits, ListsShortOnly};
 ghost use Rattle.refutation_terms.specs.Verdict.{Cause, Reading, Escapes, header_lines};
 ghost use Rattle.domain_store.specs.Store.{BelongsTo, has_domain};
 ghost use Rattle.tree_walk.specs.States.{IsStateOf};
-ghost use Rattle.refutation_checker.specs.Judged.{EscapesBound, HoldsByWords, IsSound, LineCause};
-ghost use Rattle.refutation_checker.specs.Reads.{IsLineRead, IsSpellingRefusal, MayStep};
+ghost use Rattle.refutation_checker.specs.LineVerdicts.{EscapesBound, HoldsByWords, IsSound, LineCause};
+ghost use Rattle.refutation_checker.specs.LineTexts.{IsLineRead, IsSpellingRefusal, MayStep};
 
 use crate::bound::bound_escape;
 use crate::kept_tails::tails_of;
@@ -38,7 +38,7 @@ pub struct Judge<'a> {
 
 impl<'a> Model for Judge<'a> {
     ghost use Rattle.std.specs.Prelude.{◌≡◌, IfSome};
-    ghost use Rattle.refutation_checker.specs.Reads.{Judging};
+    ghost use Rattle.refutation_checker.specs.LineTexts.{Judging};
 
     ghost Value = { Judging };
 

@@ -13,6 +13,7 @@ mod plain;
 mod scan;
 #[cfg(test)]
 mod tests;
+mod turn;
 mod verdict;
 mod workers;
 

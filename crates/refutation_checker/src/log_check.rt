@@ -1,17 +1,18 @@
 // The verdict on a log without its text.
-ghost use Rattle.std.specs.Prelude.{◌≡◌, ℕ, ◌+◌, ◌<◌, ◌≤◌, length, Option, IfOk, MatchOption, Some};
+ghost use Rattle.std.specs.Prelude.{◌≡◌, ℕ, ◌+◌, ◌<◌, ◌≤◌, length, IfOk, MatchOption};
 ghost use Rattle.rwsp_model.specs.Refusals.{MatchAnswer};
 ghost use Rattle.refutation_terms.specs.Tree.{IsTree};
 ghost use Rattle.refutation_terms.specs.Log.{Fits, TurnFits, Passes};
 ghost use Rattle.refutation_terms.specs.LogText.{log_text};
-ghost use Rattle.refutation_terms.specs.Verdict.{IsRefused, header_lines};
-ghost use Rattle.refutation_checker.specs.Passed.{IsSoundTurn, IsTurnFault, TurnFault, AreSound, IsPassed, IsRefusedAt};
+ghost use Rattle.refutation_terms.specs.Verdict.{IsRefused};
+ghost use Rattle.refutation_checker.specs.LogVerdicts.{AreSound, IsPassed, IsRefusedAt};
+ghost use Rattle.refutation_checker.specs.Turns.{IsSoundTurn, IsTurnFault};
 
 use crate::Judge;
-use refutation_log::Log;
+use crate::turn::turn_fault;
+use refutation_log::{Log, lines_of_header};
 use refutation_terms::{LogRefusal, Turn};
-use rwsp_model::{Fail, Problem, RuleList, number_of};
-use rwsp_terms::Rule;
+use rwsp_model::{Fail, Problem, RuleList};
 use std::alloc::{AllocError, Global};
 use tree_walk::Walk;
 
@@ -52,20 +53,6 @@ fn turn_refusal(problem: &Problem, named: &RuleList, turn: Option<Turn>) -> Opti
         Some(turn) => turn_fault(problem, named, turn),
         None => None,
     }
-}
-
-fn turn_fault(problem: &Problem, named: &RuleList, turn: Turn) -> Option<LogRefusal>
-    requires { TurnFits problem.now (Some turn) }
-    ensures { MatchOption result (IsSoundTurn problem.now named.now (Some turn)) (TurnFault problem.now named.now turn) }
-{
-    let number = number_of(problem, Rule::Day(turn.day));
-    if !named.holds(number) {
-        return Some(LogRefusal::Unnamed(3, number));
-    }
-    if problem.demand_least(turn.x, turn.day) < 1 {
-        return Some(LogRefusal::Turn(3));
-    }
-    None
 }
 
 // The cause of the first line of the tree that has one.
@@ -113,17 +100,6 @@ fn pass_at(
         alloc,
         walk,
         &lines[i],
-        header_len(log.turn()) + i as u32 + 1,
+        lines_of_header(log.turn()) + i as u32 + 1,
     )
-}
-
-// How many lines a header has.
-fn header_len(turn: Option<Turn>) -> u32
-    ensures value { result ≡ header_lines turn }
-    ensures few { result ≤ 3 }
-{
-    match turn {
-        None => 2,
-        Some(_) => 3,
-    }
 }

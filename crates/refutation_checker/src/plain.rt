@@ -3,7 +3,7 @@ ghost use Rattle.std.specs.Prelude.{◌≡◌, ℕ, ◌<◌, ◌≤◌, ◌↔�
 ghost use Rattle.refutation_terms.specs.Log.{LineFits};
 ghost use Rattle.refutation_terms.specs.Tree.{is_idle};
 ghost use Rattle.domain_store.specs.Store.{BelongsTo, has_domain};
-ghost use Rattle.refutation_checker.specs.Judged.{StandsPlainly, IsPlainlySound, IsPlainFailure, PlainCause};
+ghost use Rattle.refutation_checker.specs.LineVerdicts.{StandsPlainly, IsPlainlySound, IsPlainFailure, PlainCause};
 
 use crate::{long_rule, unnamed};
 use domain_store::Domains;

@@ -5,8 +5,8 @@ ghost use Rattle.refutation_terms.specs.declared.lines.Line.{Line as TheLine};
 ghost use Rattle.refutation_terms.specs.declared.lines.Turn.{Turn};
 ghost use Rattle.refutation_terms.specs.Tree.{domains_at};
 ghost use Rattle.tree_walk.specs.States.{IsStateOf};
-ghost use Rattle.refutation_checker.specs.Judged.{IsIdleSplit};
-ghost use Rattle.refutation_checker.specs.Sound.{StandsBehind};
+ghost use Rattle.refutation_checker.specs.LineVerdicts.{IsIdleSplit};
+ghost use Rattle.refutation_checker.specs.ChunkVerdicts.{StandsBehind};
 ghost use Rattle.refutation_checker.specs.Chunks.{IsWithin, StopsWalk, IsStopped, IsLast, IsLineWalked, AreLinesWalked, IsCutOff, AreChunks, IsJudgeable, EndsLines, IsFew, line_count, feeds};
 ghost use Rattle.std.specs.Int.{div_ceil};
 

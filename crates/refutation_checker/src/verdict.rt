@@ -3,12 +3,13 @@ ghost use Rattle.std.specs.Prelude.{◌≡◌, ◌≤◌, length, [], IfOk};
 ghost use Rattle.rwsp_model.specs.Refusals.{MatchAnswer};
 ghost use Rattle.refutation_terms.specs.Log.{Log as LogValue, TurnFits};
 ghost use Rattle.refutation_terms.specs.Verdict.{IsAccepted, IsRefused};
-ghost use Rattle.refutation_checker.specs.Sound.{StandsBehind, IsJudged};
+ghost use Rattle.refutation_checker.specs.ChunkVerdicts.{StandsBehind, IsJudged};
 
 use crate::chunk::{Chunk, judge_chunk};
-use crate::header::{Header, judge_header, lines_of_header};
+use crate::header::{Header, judge_header};
 use crate::workers::judge_by_workers;
 use potential_bounds::Gate;
+use refutation_log::lines_of_header;
 use refutation_terms::LogRefusal;
 use rwsp_model::{Fail, Problem, RuleList};
 use std::alloc::{AllocError, Global};
@@ -62,7 +63,7 @@ fn body_of<'a>(
         number: 1,
         walk,
         bytes: header.body,
-        first: lines_of_header(header) + 1,
+        first: lines_of_header(header.turn) + 1,
     })
 }
 

@@ -2,7 +2,7 @@
 ghost use Rattle.std.specs.Prelude.{◌≡◌, ◌≢◌, ◌≤◌, List, [], Option, false};
 ghost use Rattle.refutation_terms.specs.declared.lines.Line.{Line};
 ghost use Rattle.refutation_terms.specs.declared.lines.Turn.{Turn};
-ghost use Rattle.refutation_checker.specs.Sound.{StandsBehind, IsJudged};
+ghost use Rattle.refutation_checker.specs.ChunkVerdicts.{StandsBehind, IsJudged};
 ghost use Rattle.refutation_checker.specs.Chunks.{IsJudgeable, joined_from};
 
 use crate::chunk::{Chunk, judge_chunk};

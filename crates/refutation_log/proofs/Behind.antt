@@ -13,7 +13,7 @@ use Rattle.rwsp_terms.specs.declared.data.Weight.{Weight}
 use Rattle.rwsp_terms.specs.Weights.{ComesBefore, weight_at, AreWeights, IsWeight}
 use Rattle.rwsp_terms.specs.Places.{is_at, SetsWeight}
 use Rattle.rwsp_terms.proofs.Ascending.{increasing_from_pairs, weight_past, weight_first, test_from_here, here_from_test}
-use Rattle.rwsp_terms.proofs.SameLists.{same_rule_lists, same_weights}
+use Rattle.rwsp_terms.proofs.SameLists.{same_rule_lists, same_weights, before_all}
 use Rattle.refutation_log.specs.Reading.{precedes, precedes_if, last_precedes, weight_of, IsValue}
 use Rattle.refutation_log.proofs.CitedRules.{not_here}
 
@@ -25,12 +25,6 @@ number_behind old new n up below up' holds =
       λ c. ⊎_elim (λ (o : Contains old k). Contains-append_left old (n ∷ []) k o) (λ (e : k ≡ n). subst (Contains (old ++ n ∷ [])) (sym e) (Contains-push old n)) ((holds k).0 c),
       λ c. (holds k).1 (⊎_elim (λ (o : Contains old k). inl o) (λ (e : n ≡ k). inr (sym e)) (Contains-push_cases old n k c)),
     ))
-
-pub comes_trans : (a b c : Weight) → ComesBefore a b → ComesBefore b c → ComesBefore a c
-comes_trans a b c (inl p) (inl q) = inl (omega (arith, p, q))
-comes_trans a b c (inl p) (inr q) = inl (omega (arith, p, q.0))
-comes_trans a b c (inr p) (inl q) = inl (omega (arith, p.0, q))
-comes_trans a b c (inr p) (inr q) = inr (p.0 ∙ q.0, omega (arith, p.1, q.1))
 
 comes_by : (a : Weight) (j x : ℕ) (b c d : Bool) → (b ≡ true → a.day < j) → (c ≡ true → a.day ≡ j) → (d ≡ true → a.symbol.number < x) → (b || (c && d)) ≡ true → (a.day < j) ⊎ ((a.day ≡ j) × (a.symbol.number < x))
 comes_by a j x true c d f g h e = inl (f refl)
@@ -61,7 +55,7 @@ all_before z j x v pairs e k d less =
     let here : precedes_if (Some (get_or z m d)) j x.number ≡ true = ap (λ o. precedes_if o j x.number) (sym (slice_get-get_or z m d lt)) ∙ e in
     let last : ComesBefore (get_or z m d) (weight_of j x v) = comes_from_test (get_or z m d) j x v here in
     ⊎_elim
-    (λ (l : k < m). comes_trans (get_or z k d) (get_or z m d) (weight_of j x v) (pairs k m d l lt) last)
+    (λ (l : k < m). before_all (get_or z k d) (get_or z m d) (weight_of j x v) (pairs k m d l lt) last)
     (λ (l : m ≤ k). let same : m ≡ k = omega (arith, l, less) in subst (λ i. ComesBefore (get_or z i d) (weight_of j x v)) same last)
     (cases_lt k m)
 

@@ -11,9 +11,9 @@ use Rattle.refutation_terms.specs.LogText.{RawBound, NamedWeight}
 use Rattle.refutation_log.specs.declared.refusal.LineRefusal.{LineRefusal}
 use Rattle.refutation_log.specs.declared.gather.Gathered.{Gathered}
 use Rattle.refutation_log.specs.declared.gather.Gathered.TheVariants.{Rising, Falling, Unknown}
-use Rattle.refutation_log.specs.Reading.{head_at, rules_at, word_at, weights_at, bound_at, longest, Answers, IsBound, Gives, GivesAll}
+use Rattle.refutation_log.specs.Reading.{head_at, rules_at, word_at, weights_at, bound_at, most_turns, Answers, IsBound, Gives, GivesAll}
 
-read_bound : (P : Instance) (ws h r u : List (List ℕ)) (p turns : ℕ) (R : List ℕ) (y : List NamedWeight) → head_at P (longest P) ws ≡ Some ((p, turns), h) → rules_at P h ≡ (R, r) → word_at (codes "weights") r ≡ Some u → weights_at P u ≡ Some y → bound_at P ws ≡ Some (RawBound p turns R y)
+read_bound : (P : Instance) (ws h r u : List (List ℕ)) (p turns : ℕ) (R : List ℕ) (y : List NamedWeight) → head_at P (most_turns P) ws ≡ Some ((p, turns), h) → rules_at P h ≡ (R, r) → word_at (codes "weights") r ≡ Some u → weights_at P u ≡ Some y → bound_at P ws ≡ Some (RawBound p turns R y)
 unfolding bound_at
 read_bound P ws h r u p turns R y a b c d = rw (a, b, c, d) refl
 
@@ -25,11 +25,11 @@ answer_by P p turns R y Falling g result b =
 answer_by P p turns R y Unknown g result b =
     subst (Answers P (Some (RawBound p turns R y))) (sym b) (ap (λ o. option_map (λ (v : List Weight). Bound p turns R v) o) g)
 
-bound_by : (P : Instance) (ws h r u : List (List ℕ)) (p turns : ℕ) (R : List ℕ) (s : Gathered) (result : Result Line (Fail LineRefusal)) (o : Option (List NamedWeight)) → head_at P (longest P) ws ≡ Some ((p, turns), h) → rules_at P h ≡ (R, r) → word_at (codes "weights") r ≡ Some u → weights_at P u ≡ o → GivesAll P o (Some s) → IsBound p turns R s result → Answers P (bound_at P ws) result
+bound_by : (P : Instance) (ws h r u : List (List ℕ)) (p turns : ℕ) (R : List ℕ) (s : Gathered) (result : Result Line (Fail LineRefusal)) (o : Option (List NamedWeight)) → head_at P (most_turns P) ws ≡ Some ((p, turns), h) → rules_at P h ≡ (R, r) → word_at (codes "weights") r ≡ Some u → weights_at P u ≡ o → GivesAll P o (Some s) → IsBound p turns R s result → Answers P (bound_at P ws) result
 bound_by P ws h r u p turns R s result None a b c d g k = absurd g
 bound_by P ws h r u p turns R s result (Some y) a b c d g k =
     subst (λ o. Answers P o result) (sym (read_bound P ws h r u p turns R y a b c d)) (answer_by P p turns R y s g result k)
 
-pub bound_answered : (P : Instance) (high : ℕ) (ws h r u : List (List ℕ)) (p turns : ℕ) (R : List ℕ) (s : Gathered) (result : Result Line (Fail LineRefusal)) → high ≡ longest P → head_at P high ws ≡ Some ((p, turns), h) → rules_at P h ≡ (R, r) → word_at (codes "weights") r ≡ Some u → GivesAll P (weights_at P u) (Some s) → IsBound p turns R s result → Answers P (bound_at P ws) result
+pub bound_answered : (P : Instance) (high : ℕ) (ws h r u : List (List ℕ)) (p turns : ℕ) (R : List ℕ) (s : Gathered) (result : Result Line (Fail LineRefusal)) → high ≡ most_turns P → head_at P high ws ≡ Some ((p, turns), h) → rules_at P h ≡ (R, r) → word_at (codes "weights") r ≡ Some u → GivesAll P (weights_at P u) (Some s) → IsBound p turns R s result → Answers P (bound_at P ws) result
 bound_answered P high ws h r u p turns R s result e a b c g k =
     bound_by P ws h r u p turns R s result (weights_at P u) (ap (λ n. head_at P n ws) (sym e) ∙ a) b c refl g k

@@ -1,8 +1,9 @@
 -- The numbers of the rules that a line cites.
 use Rattle.std.proofs.Common.{◌≡◌, ◌≢◌, ℕ, zero, suc, ◌+◌, ◌<◌, ◌≤◌, List, [], ◌∷◌, length, get_or, refl, ap, sym, ◌∙◌, subst, arith, ◌⊎◌, inl, inr, ⊎_elim, Some, Bool, true, false, pos}
 use Rattle.std.specs.Prelude.{Contains, ◌↔◌, slice_get, AllPairs}
-use Rattle.std.proofs.lemmas.Option.{slice_get-get_or}
+use Rattle.std.proofs.lemmas.Option.{slice_get-get_or, same_Some}
 use Rattle.std.proofs.lemmas.List.Elements.{All-contains}
+use Rattle.std.proofs.lemmas.Bool.{false_from_ne_true}
 use Rattle.rwsp_terms.specs.declared.data.Weight.{Weight}
 use Rattle.rwsp_terms.specs.declared.data.Rule.{Rule}
 use Rattle.rwsp_terms.specs.declared.data.Rule.TheVariants.{Day, MaxOff}
@@ -12,7 +13,7 @@ use Rattle.rwsp_terms.specs.Rules.{rule_of, rules, Names}
 use Rattle.rwsp_terms.specs.Weights.{ComesBefore, weight_at, AreWeights, IsWeight}
 use Rattle.rwsp_terms.specs.Places.{is_at}
 use Rattle.rwsp_terms.proofs.Ascending.{Contains-cons, Contains-first, weight_past, weight_first, test_from_here, here_from_test}
-use Rattle.rwsp_model.proofs.Numbering.{one_number, some_injective, number_at_place}
+use Rattle.rwsp_model.proofs.Numbering.{one_number, number_at_place}
 use Rattle.rwsp_model.specs.RuleNumbers.{place_of}
 use Rattle.refutation_terms.specs.declared.lines.Line.{Line}
 use Rattle.refutation_terms.specs.declared.lines.Line.TheVariants.{Split, Window, Day as DayLeaf, Dead, Bound, Unfinished}
@@ -62,13 +63,9 @@ turn_cited P t k = (λ e. (Day t.day, e, refl), λ q. q.1 ∙ ap (λ (r : Rule).
 
 -- weights
 
-pub false_from : (b : Bool) → (b ≡ true → ⊥) → b ≡ false
-false_from true h = absurd (h refl)
-false_from false h = refl
-
 pub not_here : (a e : Weight) → ComesBefore a e → is_at a e.day e.symbol.number ≡ false
 not_here a e before =
-    false_from (is_at a e.day e.symbol.number)
+    false_from_ne_true (is_at a e.day e.symbol.number)
     (λ t. let here = here_from_test a e.day e.symbol.number t in
     ⊎_elim (λ (l : a.day < e.day). omega (arith, l, here.0)) (λ (l : (a.day ≡ e.day) × (a.symbol.number < e.symbol.number)). omega (arith, l.1, here.1)) before)
 
@@ -132,7 +129,7 @@ pub names_added : (P : Instance) (old new : List ℕ) (Cited : Rule → Type 0) 
 names_added P old new Cited numbered adds r = (
   λ n. ⊎_elim
       (λ (o : Contains old n.0). inl (n.0, o, n.2))
-      (λ (q : IsCited P Cited n.0). inr (subst Cited (some_injective q.0 r (sym q.1 ∙ n.2)) q.2))
+      (λ (q : IsCited P Cited n.0). inr (subst Cited (same_Some q.0 r (sym q.1 ∙ n.2)) q.2))
       ((adds n.0).0 n.1),
   λ h. ⊎_elim
       (λ (n : Names P old r). (n.0, (adds n.0).1 (inl n.1), n.2))

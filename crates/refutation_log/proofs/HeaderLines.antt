@@ -7,10 +7,10 @@ use Rattle.refutation_terms.specs.declared.lines.LogRefusal.TheVariants as Refus
 use Rattle.refutation_terms.specs.Log.{AreRules, TurnFits}
 use Rattle.refutation_terms.specs.LogText.{version_text, rules_text, turn_text}
 use Rattle.refutation_terms.specs.Verdict.{Versioned, BeforeTurn, IsNextLine}
+use Rattle.refutation_terms.proofs.Spelled.{symbol_of-name}
 use Rattle.refutation_log.specs.Refusals.{SpellsRules, SpellsThisTurn, IsTurnRefused}
 use Rattle.refutation_log.specs.declared.refusal.LineRefusal.TheVariants.{Form, Name}
 use Rattle.refutation_log.specs.ReadLog.{EndsUnread, IsUnreadLine}
-use Rattle.refutation_log.proofs.Named.{named}
 
 pub ends_versioned : (P : Instance) (has_turn : Bool) (old : List ℕ) → old ≡ [] → EndsUnread P (version_text has_turn ++ old)
 ends_versioned P has_turn old e = record {
@@ -66,5 +66,5 @@ turn_unread_name P R old bytes rest are e next h = record {
 
 pub turn_spelled : (P : Instance) (bytes old rest : List ℕ) (t : Turn) → old ≡ bytes ++ rest → SpellsThisTurn P bytes t → TurnFits P (Some t) × (old ≡ turn_text (name_of P t.x) t.day ++ rest)
 turn_spelled P bytes old rest t e h =
-    let n = named P h.0 t.x h.2 in
+    let n = symbol_of-name P h.0 t.x h.2 in
     ((h.1.1, n.0), e ∙ ap (λ b. b ++ rest) (h.1.2 ∙ ap (λ name. turn_text name t.day) (sym n.1)))

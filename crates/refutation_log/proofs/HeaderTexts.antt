@@ -101,7 +101,3 @@ turn_missed P bytes body k e h name day spells =
 
 pub turn_no_feed : (P : Instance) (bytes : List ℕ) → ((body : List ℕ) → bytes ≢ body ++ 10 ∷ []) → (name : List ℕ) (day : ℕ) → SpellsTurn P bytes name day → ⊥
 turn_no_feed P bytes none name day spells = none (join_with_byte 32 (codes "turn" ∷ name ∷ decimal day ∷ [])) spells.2
-
-pub on_ok_all : {T E : Type 0} (r : Result T E) (A B : T → Type 0) → ((x : T) → A x → B x) → IfOk r A → IfOk r B
-on_ok_all (Ok x) A B f h = f x h
-on_ok_all (Err e) A B f h = tt

@@ -25,9 +25,9 @@ use Rattle.refutation_log.specs.Refusals.{IsLineRefused}
 use Rattle.refutation_log.specs.declared.refusal.LineRefusal.{LineRefusal}
 use Rattle.refutation_log.specs.declared.refusal.LineRefusal.TheVariants.{Form, Name}
 use Rattle.refutation_log.specs.Reading.{is_visible, raw_at, Answers, IsValue}
-use Rattle.refutation_log.proofs.Numerals.{own}
 use Rattle.refutation_log.proofs.ReadParts.{Ascend, are_rules_only, seen_found, seen_only}
 use Rattle.refutation_log.proofs.ReadLines.{IsSmall, raw_found, raw_only}
+use Rattle.rwsp_text.proofs.Printed.{ascii_digits_model}
 
 -- no blank within, and no end of a line
 
@@ -55,7 +55,7 @@ digits_blankless (b ∷ w) h =
     All-cons (λ b. is_visible b ≡ true) b w (digit_blankless b p.0) (digits_blankless w p.1)
 
 pub decimal_blankless : (n : ℕ) → n < 10 ^ 9 → Blankless (decimal n)
-decimal_blankless n small = digits_blankless (decimal n) (digits_decimal own n (omega (arith, small)))
+decimal_blankless n small = digits_blankless (decimal n) (digits_decimal ascii_digits_model n (omega (arith, small)))
 
 pub name_blankless : (w : List ℕ) → IsName w → Blankless w
 name_blankless w h = All-weaker (λ b. (b ≢ 32) × (b ≢ 9) × (b ≢ 13) × (b ≢ 10)) (λ b. is_visible b ≡ true) (λ b s. seen_only b s) w h.visible

@@ -19,7 +19,7 @@ use Rattle.refutation_terms.specs.Log.{LineFits, AreRules, TurnFits}
 use Rattle.refutation_terms.specs.LogText.{raw, line_text, log_text, header_text}
 use Rattle.refutation_terms.specs.Verdict.{Spells, Reading, IsNextLine, header_lines}
 use Rattle.refutation_terms.proofs.Trees.{tree_is_whole, whole_is_tree}
-use Rattle.refutation_log.specs.Printing.{lines_text}
+use Rattle.refutation_log.specs.Printing.{lines_text, EachFits}
 use Rattle.refutation_log.specs.ReadLog.{IsReadSoFar, IsUnread, EndsUnread, IsTreeLineRefused, open_after, log_with}
 use Rattle.refutation_log.proofs.PrintedTexts.{line_piece, joined_lines}
 use Rattle.refutation_log.proofs.Named.{spelled_fits}
@@ -28,11 +28,6 @@ lines_text_push : (P : Instance) (lines : List Line) (line : Line) → lines_tex
 lines_text_push P lines line =
     sym (joined_lines P (lines ++ line ∷ [])) ∙ flat_map-append (line_piece P) lines (line ∷ [])
     ∙ ap (λ t. t ++ (line_piece P line ++ [])) (joined_lines P lines) ∙ ap (λ t. lines_text P lines ++ t) (append-nil (line_piece P line))
-
--- each line fits
-abbrev pub EachFits : Instance → List Line → Type 0
-EachFits P [] = Unit {0}
-EachFits P (line ∷ lines) = LineFits P line × EachFits P lines
 
 fits_push : (P : Instance) (lines : List Line) (line : Line) → EachFits P lines → LineFits P line → EachFits P (lines ++ line ∷ [])
 fits_push P [] line h f = (f, tt)
@@ -107,7 +102,7 @@ parts_more lines line k parts whole lt tree =
     (λ (l : length lines ≤ k). whole (subst IsTree (take_all k lines l) cut))
     (cases_lt k (length lines))
 
-some_bytes : (bytes : List ℕ) → bytes ≢ [] → 0 < length bytes
+pub some_bytes : (bytes : List ℕ) → bytes ≢ [] → 0 < length bytes
 some_bytes [] h = absurd (h refl)
 some_bytes (b ∷ bytes) h = omega arith
 

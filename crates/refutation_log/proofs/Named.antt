@@ -16,8 +16,8 @@ use Rattle.refutation_terms.specs.declared.lines.Line.TheVariants.{Split, Window
 use Rattle.refutation_terms.specs.Log.{LineFits}
 use Rattle.refutation_terms.specs.LogText.{RawLine, RawSplit, RawWindow, RawDay, RawDead, RawBound, RawUnfinished, NamedWeight, named_weight, weights_of, raw, line_of, line_text, IsInRange, WeightIsInRange, Ascends}
 use Rattle.refutation_terms.specs.Verdict.{Spells}
+use Rattle.refutation_terms.proofs.Spelled.{symbol_of-name, mapped}
 use Rattle.refutation_log.specs.Reading.{weight_of}
-use Rattle.refutation_log.proofs.Numerals.{map_found}
 use Rattle.refutation_log.proofs.ReadParts.{same_bytes}
 use Rattle.refutation_log.proofs.WeightsRead.{inverted}
 
@@ -34,20 +34,17 @@ shift_named : (P : Instance) (name : List ℕ) (k : ℕ) → position (λ row. b
 shift_named P name k h =
     let p = position-Some (λ (row : ShiftRow). bytes_eq name row.name) P.shifts k off_row h in
     let e : k + 1 ≡ suc k = omega arith in
-    let named : name_in (slice_get P.shifts k) ≡ name =
+    let symbol_of-name : name_in (slice_get P.shifts k) ≡ name =
     ap name_in (slice_get-get_or P.shifts k off_row p.0) ∙ sym (same_bytes name (get_or P.shifts k off_row).name p.1) in
-    subst (λ n. HasName P name (symbol_numbered n)) (sym e) (omega (arith, p.0), named)
+    subst (λ n. HasName P name (symbol_numbered n)) (sym e) (omega (arith, p.0), symbol_of-name)
 
 named_by : (P : Instance) (name : List ℕ) (x : Symbol) (b : Bool) → bytes_eq name off_name ≡ b → cond b (Some (symbol_numbered 0)) (option_map (λ k. symbol_numbered (k + 1)) (position (λ row. bytes_eq name row.name) P.shifts)) ≡ Some x → HasName P name x
 named_by P name x true t h =
     let e : symbol_numbered 0 ≡ x = cc in
     along P name (symbol_numbered 0) x e (omega arith, sym (same_bytes name off_name t))
 named_by P name x false t h =
-    let m = map_found (λ k. symbol_numbered (k + 1)) (position (λ row. bytes_eq name row.name) P.shifts) x h in
+    let m = mapped (λ k. symbol_numbered (k + 1)) (position (λ row. bytes_eq name row.name) P.shifts) x h in
     along P name (symbol_numbered (m.0 + 1)) x m.2 (shift_named P name m.0 m.1)
-
-pub named : (P : Instance) (name : List ℕ) (x : Symbol) → symbol_of P name ≡ Some x → IsSymbol P x × (name_of P x ≡ name)
-named P name x h = named_by P name x (bytes_eq name off_name) refl h
 
 -- weights
 
@@ -55,7 +52,7 @@ weights_back : (P : Instance) (y : List NamedWeight) (z : List Weight) → weigh
 weights_back P [] z h = let e : [] ≡ z = cc in ap (map (named_weight P)) (sym e)
 weights_back P (a ∷ y) z h =
     let i = inverted a (symbol_of P a.name) (weights_of P y) z h in
-    let n = named P a.name i.0 i.2 in
+    let n = symbol_of-name P a.name i.0 i.2 in
     ap (map (named_weight P)) i.4
     ∙ ap (λ name. record { day = a.day; name = name; value = a.value } ∷ map (named_weight P) i.1) n.1
     ∙ ap (λ us. a ∷ us) (weights_back P y i.1 i.3)
@@ -66,7 +63,7 @@ weights_fit P [] z h r =
     subst (λ (w : List Weight). All (λ e. IsDay P e.day × IsSymbol P e.symbol) w × All IsWeight w) e (All-nil (λ (e : Weight). IsDay P e.day × IsSymbol P e.symbol), All-nil IsWeight)
 weights_fit P (a ∷ y) z h r =
     let i = inverted a (symbol_of P a.name) (weights_of P y) z h in
-    let n = named P a.name i.0 i.2 in
+    let n = symbol_of-name P a.name i.0 i.2 in
     let here : WeightIsInRange P a = All-head (WeightIsInRange P) a y r in
     let rest = weights_fit P y i.1 i.3 (All-tail (WeightIsInRange P) a y r) in
     let w : Weight = weight_of a.day i.0 a.value in
@@ -80,19 +77,19 @@ same_line P a b r e h = subst (λ l. (raw P l ≡ r) × LineFits P l) e h
 
 line_back : (P : Instance) (r : RawLine) (line : Line) → IsInRange P r → line_of P r ≡ Some line → Ascends line → (raw P line ≡ r) × LineFits P line
 line_back P (RawSplit p name) line h e up =
-    let m = map_found (λ (x : Symbol). Split p x) (symbol_of P name) line e in
-    let n = named P name m.0 m.1 in
+    let m = mapped (λ (x : Symbol). Split p x) (symbol_of P name) line e in
+    let n = symbol_of-name P name m.0 m.1 in
     same_line P (Split p m.0) line (RawSplit p name) m.2 (ap (λ w. RawSplit p w) n.1, (h.0, n.0))
 line_back P (RawWindow rule p len) line h e up =
     let s : Window rule p len ≡ line = cc in same_line P (Window rule p len) line (RawWindow rule p len) s (refl, h)
 line_back P (RawDay j name over) line h e up =
-    let m = map_found (λ (x : Symbol). Day j x over) (symbol_of P name) line e in
-    let n = named P name m.0 m.1 in
+    let m = mapped (λ (x : Symbol). Day j x over) (symbol_of P name) line e in
+    let n = symbol_of-name P name m.0 m.1 in
     same_line P (Day j m.0 over) line (RawDay j name over) m.2 (ap (λ w. RawDay j w over) n.1, (h.0, n.0))
 line_back P (RawDead p len R) line h e up =
     let s : Dead p len R ≡ line = cc in same_line P (Dead p len R) line (RawDead p len R) s (refl, h)
 line_back P (RawBound p turns R y) line h e up =
-    let m = map_found (λ (z : List Weight). Bound p turns R z) (weights_of P y) line e in
+    let m = mapped (λ (z : List Weight). Bound p turns R z) (weights_of P y) line e in
     let fit = weights_fit P y m.0 m.1 h.3 in
     let asc : AllPairs ComesBefore m.0 = subst Ascends (sym m.2) up in
     same_line P (Bound p turns R m.0) line (RawBound p turns R y) m.2

@@ -16,16 +16,16 @@ use Rattle.refutation_terms.specs.Log.{Log, Fits, LineFits, AreRules}
 use Rattle.refutation_terms.specs.LogText.{RawLine, raw, line_of, line_text, log_text, version_text, rules_text, turn_text, numbers, IsWritten, Ascends}
 use Rattle.refutation_terms.specs.Verdict.{Front, Start, Versioned, BeforeTurn, Reading, front_text, IsNextLine, IsWhole, Cause, VersionCause, RulesCause, TurnCause, TreeCause, SpellsTurn}
 use Rattle.refutation_terms.proofs.Trees.{tree_is_whole, part_is_not_whole}
+use Rattle.refutation_terms.proofs.Texts.{each_fits}
 use Rattle.refutation_log.specs.FieldList.{fields_of}
-use Rattle.refutation_log.specs.Printing.{lines_text}
-use Rattle.refutation_log.specs.ReadLog.{IsReadCause, IsReadSoFar, IsRead, IsUnread, IsUnreadLine, EndsUnread}
+use Rattle.refutation_log.specs.Printing.{lines_text, EachFits}
+use Rattle.refutation_log.specs.ReadLog.{IsReadCause, IsReadSoFar, IsRead, IsUnread, IsUnreadLine, EndsUnread, log_with}
 use Rattle.refutation_log.specs.Reading.{raw_at, turn_at}
 use Rattle.refutation_log.proofs.RulesFront.{same_pairs}
 use Rattle.refutation_log.proofs.ReadLines.{IsSmall}
 use Rattle.refutation_log.proofs.LineTexts.{written_read, small_from, word_blankless}
 use Rattle.refutation_log.proofs.HeaderTexts.{rules_visible, turn_visible, turn_spelled_read}
-use Rattle.refutation_log.proofs.LogLines.{EachFits}
-use Rattle.refutation_log.proofs.OneText.{log_of, Feedless, body, symbol_named, name_there, line_there, cut, body_feedless, one_rules, one_turn, one_line, each_fits, feedless_words, nothing_ends, one_text}
+use Rattle.refutation_log.proofs.OneText.{Feedless, body, symbol_named, name_there, line_there, cut, body_feedless, one_rules, one_turn, one_line, feedless_words, nothing_ends, one_text}
 
 -- the first line of a text
 
@@ -71,7 +71,7 @@ abbrev behind_rules : Instance → Option Turn → List Line → List ℕ
 behind_rules P None ls = lines_text P ls
 behind_rules P (Some t) ls = turn_text (name_of P t.x) t.day ++ lines_text P ls
 
-split_text : (P : Instance) (R : List ℕ) (t : Option Turn) (ls : List Line) → log_text P (log_of R t ls) ≡ version_text (has_turn t) ++ (rules_text R ++ behind_rules P t ls)
+split_text : (P : Instance) (R : List ℕ) (t : Option Turn) (ls : List Line) → log_text P (log_with R t ls) ≡ version_text (has_turn t) ++ (rules_text R ++ behind_rules P t ls)
 split_text P R None ls = append_assoc (version_text false) (rules_text R) (lines_text P ls)
 split_text P R (Some t) ls =
     append_assoc (version_text true ++ rules_text R) (turn_text (name_of P t.x) t.day) (lines_text P ls)
@@ -90,13 +90,13 @@ begins P (l ∷ ls) (m ∷ ms) u limits f g e =
     let b = begins P ls ms u limits f.1 g.1 c.1 in
     (b.0, ap (λ z. z ∷ ms) (sym (one_line P l m limits f.0 g.0 c.0)) ∙ ap (λ z. l ∷ z) b.1, b.2, b.3)
 
-lines_begin : (P : Instance) (R S : List ℕ) (t u : Option Turn) (ls ms : List Line) (x : List ℕ) → KeepsLimits P → Fits P (log_of R t ls) → Fits P (log_of S u ms) → log_text P (log_of R t ls) ++ x ≡ log_text P (log_of S u ms) → Begins P ls ms x
+lines_begin : (P : Instance) (R S : List ℕ) (t u : Option Turn) (ls ms : List Line) (x : List ℕ) → KeepsLimits P → Fits P (log_with R t ls) → Fits P (log_with S u ms) → log_text P (log_with R t ls) ++ x ≡ log_text P (log_with S u ms) → Begins P ls ms x
 lines_begin P R S None None ls ms x limits f g e =
     let v = one_version false false (rules_text R ++ (lines_text P ls ++ x)) (rules_text S ++ lines_text P ms) (sym (three P R ls x) ∙ e ∙ split_text P S None ms) in
     let r = one_rules P R S (lines_text P ls ++ x) (lines_text P ms) limits f.named g.named v.1 in
     begins P ls ms x limits (each_fits P ls f.lines) (each_fits P ms g.lines) r.1
   where
-    three : (P : Instance) (R : List ℕ) (ls : List Line) (x : List ℕ) → log_text P (log_of R None ls) ++ x ≡ version_text false ++ (rules_text R ++ (lines_text P ls ++ x))
+    three : (P : Instance) (R : List ℕ) (ls : List Line) (x : List ℕ) → log_text P (log_with R None ls) ++ x ≡ version_text false ++ (rules_text R ++ (lines_text P ls ++ x))
     three P R ls x = append_assoc (version_text false ++ rules_text R) (lines_text P ls) x ∙ append_assoc (version_text false) (rules_text R) (lines_text P ls ++ x)
 lines_begin P R S None (Some u) ls ms x limits f g e = let h : 49 ≡ 50 = ap (λ w. get_or w 9 0) e in absurd (omega (arith, h))
 lines_begin P R S (Some t) None ls ms x limits f g e = let h : 50 ≡ 49 = ap (λ w. get_or w 9 0) e in absurd (omega (arith, h))
@@ -107,7 +107,7 @@ lines_begin P R S (Some t) (Some u) ls ms x limits f g e =
     let q = one_turn P t u (lines_text P ls ++ x) (lines_text P ms) limits f.turn g.turn r.1 in
     begins P ls ms x limits (each_fits P ls f.lines) (each_fits P ms g.lines) q.1
   where
-    four : (P : Instance) (R : List ℕ) (t : Turn) (ls : List Line) (x : List ℕ) → log_text P (log_of R (Some t) ls) ++ x ≡ version_text true ++ (rules_text R ++ (turn_text (name_of P t.x) t.day ++ (lines_text P ls ++ x)))
+    four : (P : Instance) (R : List ℕ) (t : Turn) (ls : List Line) (x : List ℕ) → log_text P (log_with R (Some t) ls) ++ x ≡ version_text true ++ (rules_text R ++ (turn_text (name_of P t.x) t.day ++ (lines_text P ls ++ x)))
     four P R t ls x =
         append_assoc (version_text true ++ rules_text R ++ turn_text (name_of P t.x) t.day) (lines_text P ls) x
         ∙ append_assoc (version_text true ++ rules_text R) (turn_text (name_of P t.x) t.day) (lines_text P ls ++ x)
@@ -211,7 +211,7 @@ tree_line P h S u ms why line rest (m ∷ more) limits tree next e t f r (inr c)
     let l = first_line (body P m) (lines_text P more) line rest (body_feedless P m limits f.0) (sym t) next in
     not_unspelled P h.named _ line m why (domains_at P h.turn h.lines (length h.lines)) limits f.0 l.0 r c.1
 
-by_front : (P : Instance) (S : List ℕ) (u : Option Turn) (ms : List Line) (why : LogRefusal) (front : Front) (line rest : List ℕ) → KeepsLimits P → Fits P (log_of S u ms) → IsTree ms → IsRead P front → log_text P (log_of S u ms) ≡ front_text P front ++ line ++ rest → IsNextLine line rest → Cause P front line why → IsReadCause why → ⊥
+by_front : (P : Instance) (S : List ℕ) (u : Option Turn) (ms : List Line) (why : LogRefusal) (front : Front) (line rest : List ℕ) → KeepsLimits P → Fits P (log_with S u ms) → IsTree ms → IsRead P front → log_text P (log_with S u ms) ≡ front_text P front ++ line ++ rest → IsNextLine line rest → Cause P front line why → IsReadCause why → ⊥
 by_front P S u ms why Start line rest limits f tree read e next c r =
     version_cause line (has_turn u) why (version_line (has_turn u) (rules_text S ++ behind_rules P u ms) line rest (sym (split_text P S u ms) ∙ e) next) c
 by_front P S u ms why (Versioned w) line rest limits f tree read e next c r =
@@ -240,7 +240,7 @@ version_some : (v : Bool) → version_text v ≡ [] → ⊥
 version_some false e = cc
 version_some true e = cc
 
-by_end : (P : Instance) (S : List ℕ) (u : Option Turn) (ms : List Line) (front : Front) → KeepsLimits P → Fits P (log_of S u ms) → IsTree ms → IsRead P front → log_text P (log_of S u ms) ≡ front_text P front → (IsWhole front → ⊥) → ⊥
+by_end : (P : Instance) (S : List ℕ) (u : Option Turn) (ms : List Line) (front : Front) → KeepsLimits P → Fits P (log_with S u ms) → IsTree ms → IsRead P front → log_text P (log_with S u ms) ≡ front_text P front → (IsWhole front → ⊥) → ⊥
 by_end P S u ms Start limits f tree read e open' =
     version_some (has_turn u) (left_nothing (version_text (has_turn u)) (rules_text S ++ behind_rules P u ms) (sym (split_text P S u ms) ∙ e))
 by_end P S u ms (Versioned w) limits f tree read e open' =
@@ -256,7 +256,7 @@ by_end P S (Some t) ms (BeforeTurn R) limits f tree read e open' =
     let q = one_rules P S R (a ++ lines_text P ms) [] limits f.named read v.1 in
     front_ends (join_with_byte 32 (codes "turn" ∷ name_of P t.x ∷ decimal t.day ∷ [])) (left_nothing a (lines_text P ms) q.1)
 by_end P S u ms (Reading h) limits f tree read e open' =
-    let same = one_text P (log_of S u ms) h limits f read.fits e in
+    let same = one_text P (log_with S u ms) h limits f read.fits e in
     open' (subst (λ (g : Log). IsTree g.lines) same tree)
 
 not_refused_by : (P : Instance) (g : Log) (why : LogRefusal) → KeepsLimits P → Fits P g → IsTree g.lines → IsUnreadLine P (log_text P g) why → ⊥

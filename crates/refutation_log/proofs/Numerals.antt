@@ -11,6 +11,8 @@ use Rattle.std.proofs.lemmas.Bool.{leb-true, le-leb, eq-eqb, ne_eqb, eqb-true, a
 use Rattle.std.proofs.lemmas.Int.{ints}
 use Rattle.rwsp_text.specs.Numbers.{number_of, value_of}
 use Rattle.refutation_log.specs.Reading.{◌>>=◌, is_plain, within, number_in, value_in, negated, IsValue}
+use Rattle.refutation_terms.proofs.Spelled.{mapped}
+use Rattle.rwsp_text.proofs.Printed.{ascii_digits_model}
 
 pub if_some : {A : Type 0} (b : Bool) (o : Option A) (a : A) → cond b o None ≡ Some a → (b ≡ true) × (o ≡ Some a)
 if_some true o a e = (refl, e)
@@ -28,13 +30,6 @@ bind_found (Some a) f b e = (a, refl, e)
 
 pub bind_only : {A B : Type 0} (o : Option A) (f : A → Option B) (a : A) (r : Option B) → o ≡ Some a → f a ≡ r → (o >>= f) ≡ r
 bind_only o f a r e h = ap (λ z. z >>= f) e ∙ h
-
-pub map_found : {A B : Type 0} (f : A → B) (o : Option A) (b : B) → option_map f o ≡ Some b → (a : A) × (o ≡ Some a) × (f a ≡ b)
-map_found f None b e = absurd (cc)
-map_found f (Some a) b e = (a, refl, let s : f a ≡ b = cc in s)
-
-pub own : IsNumeralModel (λ ds. list_all is_ascii_digit ds ≡ true) value_of
-own = numerals_by_fold (λ ds. list_all is_ascii_digit ds ≡ true) (search rules) (λ n ds. fold (λ m digit. m * 10 + (digit - 48)) n ds) (search rules)
 
 plain_alone : (w : List ℕ) → 0 < length w → is_plain w ≡ true → get_or w 0 0 ≡ 48 → length w ≡ 1
 plain_alone w some p e =
@@ -56,9 +51,9 @@ number_found low high w n h =
     let tests = and_parts (nat_le 1 (length w) && nat_le (length w) 9) (list_all is_ascii_digit w) t.0 in
     let lens = and_parts (nat_le 1 (length w)) (nat_le (length w) 9) tests.0 in
     let some : 0 < length w = leb-true 1 (length w) lens.0 in
-    let short : value_of w < 10 ^ 9 = digits_value_short own w 9 tests.1 (leb-true (length w) 9 lens.1) in
+    let short : value_of w < 10 ^ 9 = digits_value_short ascii_digits_model w 9 tests.1 (leb-true (length w) 9 lens.1) in
     let small : value_of w < 2 ^ 64 = omega (arith, short) in
-    let text : decimal (value_of w) ≡ w = decimal-digits_value own w tests.1 some (plain_alone w some p.0) small in (
+    let text : decimal (value_of w) ≡ w = decimal-digits_value ascii_digits_model w tests.1 some (plain_alone w some p.0) small in (
       subst (λ m. low ≤ m) same (leb-true low q.0 bounds.0),
       subst (λ m. m ≤ high) same (leb-true q.0 high bounds.1),
       sym text ∙ ap decimal value,
@@ -83,8 +78,8 @@ number_of_decimal n small =
     if_true (nat_le 1 (length (decimal n)) && nat_le (length (decimal n)) 9 && list_all is_ascii_digit (decimal n)) (Some (value_of (decimal n))) None
     (and_from (nat_le 1 (length (decimal n)) && nat_le (length (decimal n)) 9) (list_all is_ascii_digit (decimal n))
     (and_from (nat_le 1 (length (decimal n))) (nat_le (length (decimal n)) 9) (le-leb 1 (length (decimal n)) some) (le-leb (length (decimal n)) 9 few))
-    (digits_decimal own n big))
-    ∙ ap (λ m. Some m) (digits_value-decimal own n big)
+    (digits_decimal ascii_digits_model n big))
+    ∙ ap (λ m. Some m) (digits_value-decimal ascii_digits_model n big)
 
 pub number_only : (low high n : ℕ) → low ≤ n → n ≤ high → high < 10 ^ 9 → number_in low high (decimal n) ≡ Some n
 unfolding number_in
@@ -106,13 +101,13 @@ word_no_number low high = refl
 
 value_by : (c : ℕ) (cs : List ℕ) (v : ℤ) (b : Bool) → (c == 45) ≡ b → cond b (option_map negated (number_in 1 1000 cs)) (option_map pos (number_in 1 1000 (c ∷ cs))) ≡ Some v → (c ∷ cs ≡ signed_decimal v) × IsValue v
 value_by c cs v true t h =
-    let m = map_found negated (number_in 1 1000 cs) v h in
+    let m = mapped negated (number_in 1 1000 cs) v h in
     let f = number_found 1 1000 cs m.0 m.1 in
     let text : c ∷ cs ≡ signed_decimal (negated m.0) = ap (λ d. d ∷ cs) (eqb-true c 45 t) ∙ ap (λ w. 45 ∷ w) (f.2 ∙ ap decimal (sym (ℕ_suc m.0 f.0))) in
     let fits : IsValue (negated m.0) = (omega (arith, ints, f.0, f.1), omega (arith, ints), λ e. cc) in
     (text ∙ ap signed_decimal m.2, subst IsValue m.2 fits)
 value_by c cs v false t h =
-    let m = map_found pos (number_in 1 1000 (c ∷ cs)) v h in
+    let m = mapped pos (number_in 1 1000 (c ∷ cs)) v h in
     let f = number_found 1 1000 (c ∷ cs) m.0 m.1 in
     let fits : IsValue (pos m.0) = (omega (arith, ints), omega (arith, ints, f.1), λ e. let z : m.0 ≡ 0 = cc in omega (arith, z, f.0)) in
     (f.2 ∙ ap signed_decimal m.2, subst IsValue m.2 fits)

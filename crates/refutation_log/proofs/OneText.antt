@@ -5,7 +5,7 @@ use Rattle.std.specs.Option.{option_map}
 use Rattle.std.specs.Str.{bytes_eq}
 use Rattle.std.specs.List.{position_or_len, join_with_byte}
 use Rattle.std.specs.Fmt.{decimal}
-use Rattle.std.proofs.lemmas.Bool.{lt-ltb}
+use Rattle.std.proofs.lemmas.Bool.{lt-ltb, false_from_ne_true}
 use Rattle.std.proofs.lemmas.List.{append_cancel_left}
 use Rattle.std.proofs.lemmas.List.Sums.{position_or_len_is}
 use Rattle.std.proofs.lemmas.List.Elements.{All-nil, All-cons, All-head, All-tail, All-weaker, All-append}
@@ -15,28 +15,28 @@ use Rattle.rwsp_terms.specs.declared.data.Weight.{Weight}
 use Rattle.rwsp_terms.specs.declared.data.ShiftRow.{ShiftRow}
 use Rattle.rwsp_terms.specs.Instance.{Instance, IsDay, IsSymbol, off_name, symbol_numbered, symbol_of, name_of, name_numbered, name_in, no_bounds}
 use Rattle.rwsp_terms.specs.Weights.{IsWeight}
-use Rattle.rwsp_model.specs.Validity.{KeepsLimits, IsName as IsShiftName, is_blank}
+use Rattle.rwsp_model.specs.Validity.{KeepsLimits, IsShiftName, is_blank}
+use Rattle.rwsp_model.proofs.Numbering.{rules_are_many}
 use Rattle.refutation_terms.specs.declared.lines.Line.{Line}
 use Rattle.refutation_terms.specs.declared.lines.Line.TheVariants.{Split, Window, Day, Dead, Bound, Unfinished}
 use Rattle.refutation_terms.specs.declared.lines.Turn.{Turn}
 use Rattle.refutation_terms.specs.Log.{Log, Fits, LineFits, AreRules}
 use Rattle.refutation_terms.specs.LogText.{named_weight, with_weight, weights_of, raw, line_of, line_text, log_text, version_text, rules_text, turn_text, numbers, fields, IsName, IsInRange, WeightIsInRange, Ascends}
+use Rattle.refutation_terms.specs.Spelling.{HasNames, IsWritable}
+use Rattle.refutation_terms.proofs.Fronts.{texts_distinct}
+use Rattle.refutation_terms.proofs.Texts.{each_fits}
 use Rattle.refutation_log.specs.FieldList.{fields_of}
-use Rattle.refutation_log.specs.Printing.{lines_text}
+use Rattle.refutation_log.specs.Printing.{lines_text, EachFits}
 use Rattle.refutation_log.specs.Reading.{raw_at, named_at, turn_at, is_visible}
 use Rattle.refutation_log.proofs.Numerals.{if_true, if_false}
 use Rattle.refutation_log.proofs.RulesFront.{same_pairs}
-use Rattle.refutation_log.proofs.CitedRules.{false_from}
 use Rattle.refutation_log.proofs.ReadParts.{same_bytes, bytes_same, seen_found}
 use Rattle.refutation_log.proofs.LineTexts.{Each, fields_blankless, written_read, small_from}
 use Rattle.refutation_log.proofs.HeaderTexts.{rules_spelled, rules_visible, turn_spelled_read, turn_visible}
-use Rattle.refutation_log.proofs.LogLines.{EachFits}
+use Rattle.refutation_log.specs.ReadLog.{log_with}
 
 abbrev pub turn_of : ℕ → Symbol → Turn
 turn_of day x = record { day = day; x = x }
-
-abbrev pub log_of : List ℕ → Option Turn → List Line → Log
-log_of R t ls = record { named = R; turn = t; lines = ls }
 
 -- the symbol of a name
 
@@ -50,7 +50,7 @@ position_at p xs k less before here =
     if_true (nat_lt (position_or_len p xs) (length xs)) (Some (position_or_len p xs)) None (lt-ltb (position_or_len p xs) (length xs) lt) ∙ ap (λ n. Some n) at
 
 other_bytes : (a b : List ℕ) → a ≢ b → bytes_eq a b ≡ false
-other_bytes a b ne = false_from (bytes_eq a b) (λ t. ne (same_bytes a b t))
+other_bytes a b ne = false_from_ne_true (bytes_eq a b) (λ t. ne (same_bytes a b t))
 
 row_named : (P : Instance) (k : ℕ) → KeepsLimits P → k < length P.shifts → symbol_of P (get_or P.shifts k off_row).name ≡ Some (symbol_numbered (suc k))
 row_named P k limits less =
@@ -116,6 +116,14 @@ line_there P (Bound p turns R y) limits f =
     let w = weights_there P y limits f.3.1 f.3.0.small in
     ((f.0, f.1, f.2, w.1), ap (λ o. option_map (λ y. Bound p turns R y) o) w.0, f.3.0.ascends)
 line_there P Unfinished limits f = (tt, refl, tt)
+
+pub has_names : (P : Instance) → KeepsLimits P → HasNames P
+has_names P limits x is = (name_there P x.number limits is, symbol_named P x limits is)
+
+pub is_writable : (P : Instance) → KeepsLimits P → IsWritable P
+is_writable P limits =
+    let many = rules_are_many P in
+    (omega (arith, limits.few_days), omega (arith, limits.few_weeks), omega (arith, many, limits.few_shifts, limits.few_days, limits.few_pairs, limits.few_triples))
 
 abbrev pub body : Instance → Line → List ℕ
 body P line = join_with_byte 32 (fields P (raw P line))
@@ -204,37 +212,5 @@ one_turn P t u r s limits f g e =
     made : (d e : ℕ) (x y : Symbol) → d ≡ e → x ≡ y → turn_of d x ≡ turn_of e y
     made d e x y p q = ap (λ z. turn_of z x) p ∙ ap (turn_of e) q
 
-pub each_fits : (P : Instance) (lines : List Line) → ((k : ℕ) (line : Line) → slice_get lines k ≡ Some line → LineFits P line) → EachFits P lines
-each_fits P [] h = tt
-each_fits P (l ∷ lines) h = (h 0 l refl, each_fits P lines (λ k line e. h (suc k) line e))
-
-parts : (a b c : List ℕ) → (a ++ b) ++ c ≡ a ++ (b ++ c)
-parts a b c = append_assoc a b c
-
-made_log : (R S : List ℕ) (t u : Option Turn) (ls ms : List Line) → R ≡ S → t ≡ u → ls ≡ ms → log_of R t ls ≡ log_of S u ms
-made_log R S t u ls ms p q r = ap (λ z. log_of z t ls) p ∙ ap (λ z. log_of S z ls) q ∙ ap (log_of S u) r
-
-same_logs : (P : Instance) (R S : List ℕ) (t u : Option Turn) (ls ms : List Line) → KeepsLimits P → Fits P (log_of R t ls) → Fits P (log_of S u ms) → log_text P (log_of R t ls) ≡ log_text P (log_of S u ms) → log_of R t ls ≡ log_of S u ms
-same_logs P R S None None ls ms limits f g e =
-    let v = version_text false in
-    let cut_off : rules_text R ++ lines_text P ls ≡ rules_text S ++ lines_text P ms =
-    append_cancel_left v (rules_text R ++ lines_text P ls) (rules_text S ++ lines_text P ms) (sym (parts v (rules_text R) (lines_text P ls)) ∙ e ∙ parts v (rules_text S) (lines_text P ms)) in
-    let r = one_rules P R S (lines_text P ls) (lines_text P ms) limits f.named g.named cut_off in
-    made_log R S None None ls ms r.0 refl (one_list P ls ms limits (each_fits P ls f.lines) (each_fits P ms g.lines) r.1)
-same_logs P R S None (Some u) ls ms limits f g e = let no : 49 ≡ 50 = ap (λ w. get_or w 9 0) e in absurd (omega (arith, no))
-same_logs P R S (Some t) None ls ms limits f g e = let no : 50 ≡ 49 = ap (λ w. get_or w 9 0) e in absurd (omega (arith, no))
-same_logs P R S (Some t) (Some u) ls ms limits f g e =
-    let v = version_text true in
-    let a = turn_text (name_of P t.x) t.day in
-    let b = turn_text (name_of P u.x) u.day in
-    let cut_off : rules_text R ++ (a ++ lines_text P ls) ≡ rules_text S ++ (b ++ lines_text P ms) =
-    append_cancel_left v (rules_text R ++ (a ++ lines_text P ls)) (rules_text S ++ (b ++ lines_text P ms)) (sym (four v (rules_text R) a (lines_text P ls)) ∙ e ∙ four v (rules_text S) b (lines_text P ms)) in
-    let r = one_rules P R S (a ++ lines_text P ls) (b ++ lines_text P ms) limits f.named g.named cut_off in
-    let q = one_turn P t u (lines_text P ls) (lines_text P ms) limits f.turn g.turn r.1 in
-    made_log R S (Some t) (Some u) ls ms r.0 (ap (λ z. Some z) q.0) (one_list P ls ms limits (each_fits P ls f.lines) (each_fits P ms g.lines) q.1)
-  where
-    four : (a b c d : List ℕ) → ((a ++ b) ++ c) ++ d ≡ a ++ (b ++ (c ++ d))
-    four a b c d = append_assoc (a ++ b) c d ∙ append_assoc a b (c ++ d)
-
 pub one_text : (P : Instance) (g h : Log) → KeepsLimits P → Fits P g → Fits P h → log_text P g ≡ log_text P h → g ≡ h
-one_text P g h limits f k e = same_logs P g.named h.named g.turn h.turn g.lines h.lines limits f k e
+one_text P g h limits f k e = texts_distinct P g h (is_writable P limits) (has_names P limits) f k e

@@ -10,7 +10,7 @@ use Rattle.rwsp_terms.specs.Instance.{Instance, cells}
 use Rattle.rwsp_terms.specs.Rules.{rules}
 use Rattle.refutation_terms.specs.Log.{AreRules}
 use Rattle.refutation_terms.specs.LogText.{RawLine, RawSplit, RawWindow, RawDay, RawDead, RawBound, RawUnfinished, NamedWeight, IsInRange, fields, place, numbers, way, weight_fields}
-use Rattle.refutation_log.specs.Reading.{◌>>=◌, number_at, name_at, word_at, way_at, done_at, place_at, rules_front, rules_at, weights_at, split_at, window_at, day_at, head_at, dead_at, bound_at, open_at, raw_at, longest, pick}
+use Rattle.refutation_log.specs.Reading.{◌>>=◌, number_at, name_at, word_at, way_at, done_at, place_at, rules_front, rules_at, weights_at, split_at, window_at, day_at, head_at, dead_at, bound_at, open_at, raw_at, most_turns, pick}
 use Rattle.refutation_log.proofs.Numerals.{bind_found, bind_only, word_no_number}
 use Rattle.refutation_log.proofs.RulesFront.{pair_of, same_pairs}
 use Rattle.refutation_log.proofs.ReadParts.{Stops, number_at_found, number_at_only, name_at_found, name_at_only, word_at_found, word_at_only, way_at_found, way_at_only, done_found, place_found, place_only, rules_found_by, rules_only_by, are_rules_found, are_rules_only, weights_found, weights_only, same_bytes}
@@ -156,13 +156,13 @@ dead_only P p len R s h =
 bound_found : (P : Instance) (ws : List (List ℕ)) (raw : RawLine) → IsSmall P → bound_at P ws ≡ Some raw → Found P (codes "bound") ws raw
 unfolding bound_at
 bound_found P ws raw s h =
-    let a = bind_found (head_at P (longest P) ws) (λ head. word_at (codes "weights") (rules_at P head.1).1 >>= (λ rest. weights_at P rest >>= (λ y. Some (RawBound head.0.0 head.0.1 (rules_at P head.1).0 y)))) raw h in
+    let a = bind_found (head_at P (most_turns P) ws) (λ head. word_at (codes "weights") (rules_at P head.1).1 >>= (λ rest. weights_at P rest >>= (λ y. Some (RawBound head.0.0 head.0.1 (rules_at P head.1).0 y)))) raw h in
     let p = a.0.0.0 in
     let turns = a.0.0.1 in
     let R = (rules_at P a.0.1).0 in
     let w = bind_found (word_at (codes "weights") (rules_at P a.0.1).1) (λ rest. weights_at P rest >>= (λ y. Some (RawBound p turns R y))) raw a.2 in
     let y = bind_found (weights_at P w.0) (λ y. Some (RawBound p turns R y)) raw w.2 in
-    let f = head_found P (longest P) p turns ws a.0.1 a.1 in
+    let f = head_found P (most_turns P) p turns ws a.0.1 a.1 in
     let r = rules_are_found P a.0.1 in
     let word = word_at_found (codes "weights") (rules_at P a.0.1).1 w.0 w.1 in
     let g = weights_found P w.0 y.0 y.1 in
@@ -179,11 +179,11 @@ unfolding bound_at
 bound_only P p turns R y s h =
     let rest : List (List ℕ) = codes "weights" ∷ flat_map weight_fields y in
     let read : rules_at P (numbers R ++ rest) ≡ (R, rest) = rules_are_read P R rest s h.2 word_no_number in
-    let few : turns ≤ longest P = (le-div_iff_mul-le {k = cells P} {x = turns} {y = 16800} s.some_cells).1 h.1.1 in
+    let few : turns ≤ most_turns P = (le-div_iff_mul-le {k = cells P} {x = turns} {y = 16800} s.some_cells).1 h.1.1 in
     let some : 1 ≤ turns = positive turns (cells P) h.1.0 in
-    let small : longest P < 10 ^ 9 = let le = div-le_self 16800 (cells P) in omega (arith, le) in
-    bind_only (head_at P (longest P) (place P p ++ (decimal turns ∷ codes "rules" ∷ numbers R ++ rest))) (λ head. word_at (codes "weights") (rules_at P head.1).1 >>= (λ rest. weights_at P rest >>= (λ y. Some (RawBound head.0.0 head.0.1 (rules_at P head.1).0 y)))) ((p, turns), numbers R ++ rest) (Some (RawBound p turns R y))
-    (head_only P (longest P) p turns (numbers R ++ rest) s h.0 some few small)
+    let small : most_turns P < 10 ^ 9 = let le = div-le_self 16800 (cells P) in omega (arith, le) in
+    bind_only (head_at P (most_turns P) (place P p ++ (decimal turns ∷ codes "rules" ∷ numbers R ++ rest))) (λ head. word_at (codes "weights") (rules_at P head.1).1 >>= (λ rest. weights_at P rest >>= (λ y. Some (RawBound head.0.0 head.0.1 (rules_at P head.1).0 y)))) ((p, turns), numbers R ++ rest) (Some (RawBound p turns R y))
+    (head_only P (most_turns P) p turns (numbers R ++ rest) s h.0 some few small)
     (ap (λ r. word_at (codes "weights") r.1 >>= (λ rest. weights_at P rest >>= (λ y. Some (RawBound p turns r.0 y)))) read
     ∙ bind_only (word_at (codes "weights") rest) (λ rest. weights_at P rest >>= (λ y. Some (RawBound p turns R y))) (flat_map weight_fields y) (Some (RawBound p turns R y)) (word_at_only (codes "weights") (flat_map weight_fields y))
     (bind_only (weights_at P (flat_map weight_fields y)) (λ y. Some (RawBound p turns R y)) y (Some (RawBound p turns R y)) (weights_only P y s.few_days h.3) refl))

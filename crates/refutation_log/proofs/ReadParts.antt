@@ -15,8 +15,9 @@ use Rattle.rwsp_terms.specs.Instance.{Instance, cells}
 use Rattle.rwsp_terms.specs.Rules.{rules}
 use Rattle.refutation_terms.specs.Log.{AreRules}
 use Rattle.refutation_terms.specs.LogText.{IsName, NamedWeight, WeightIsInRange, numbers, place, way, weight_fields}
-use Rattle.refutation_log.specs.Reading.{◌>>=◌, number_in, value_in, is_name, is_visible, number_at, name_at, word_at, way_at, done_at, place_at, front_onto, rules_front, weight_from, triple, weights_at}
-use Rattle.refutation_log.proofs.Numerals.{if_some, if_true, bind_found, bind_only, map_found, number_found, number_only, value_found, value_only}
+use Rattle.refutation_terms.proofs.Spelled.{mapped}
+use Rattle.refutation_log.specs.Reading.{◌>>=◌, number_in, value_in, is_name, is_visible, number_at, name_at, word_at, way_at, done_at, place_at, front_onto, rules_front, weight_from, weight_of_fields, weights_at}
+use Rattle.refutation_log.proofs.Numerals.{if_some, if_true, bind_found, bind_only, number_found, number_only, value_found, value_only}
 use Rattle.refutation_log.proofs.RulesFront.{pair_of, same_pairs}
 
 abbrev Fields : Type 0
@@ -30,7 +31,7 @@ pub number_at_found : (low high n : ℕ) (ws rest : Fields) → number_at low hi
 unfolding number_at
 number_at_found low high n [] rest h = absurd (cc)
 number_at_found low high n (w ∷ ws) rest h =
-    let m = map_found (λ (k : ℕ). pair_of k ws) (number_in low high w) (n, rest) h in
+    let m = mapped (λ (k : ℕ). pair_of k ws) (number_in low high w) (n, rest) h in
     let same = same_pairs m.0 n ws rest (ap (λ p. Some p) m.2) in
     let f = number_found low high w n (m.1 ∙ ap (λ k. Some k) same.0) in
     (f.0, f.1, ap (λ z. z ∷ ws) f.2 ∙ ap (λ us. decimal n ∷ us) same.1)
@@ -256,7 +257,7 @@ triple_by P d n v (Some j) true (Some z) e p q r h =
     ) in
     subst (λ (w : NamedWeight). (d ∷ n ∷ v ∷ [] ≡ weight_fields w) × WeightIsInRange P w) same there
 
-triple_only : (P : Instance) (e : NamedWeight) → P.days ≤ 28 → WeightIsInRange P e → triple P (decimal e.day) e.name (signed_decimal e.value) ≡ Some e
+triple_only : (P : Instance) (e : NamedWeight) → P.days ≤ 28 → WeightIsInRange P e → weight_of_fields P (decimal e.day) e.name (signed_decimal e.value) ≡ Some e
 triple_only P e few h =
     ap (λ o. weight_from o e.name (is_name e.name) (value_in (signed_decimal e.value))) (number_only 1 P.days e.day h.0.0 h.0.1 (omega (arith, few)))
     ∙ ap (λ b. weight_from (Some e.day) e.name b (value_in (signed_decimal e.value))) (name_only e.name h.1)
@@ -267,7 +268,7 @@ weights_found P [] y h = let e : [] ≡ y = cc in subst (λ z. ([] ≡ flat_map 
 weights_found P (d ∷ []) y h = absurd (cc)
 weights_found P (d ∷ n ∷ []) y h = absurd (cc)
 weights_found P (d ∷ n ∷ v ∷ ws) y h =
-    let e = bind_found (triple P d n v) (λ e. weights_at P ws >>= (λ z. Some (e ∷ z))) y h in
+    let e = bind_found (weight_of_fields P d n v) (λ e. weights_at P ws >>= (λ z. Some (e ∷ z))) y h in
     let z = bind_found (weights_at P ws) (λ z. Some (e.0 ∷ z)) y e.2 in
     let t = triple_by P d n v (number_in 1 P.days d) (is_name n) (value_in v) e.0 refl refl refl e.1 in
     let r = weights_found P ws z.0 z.1 in
@@ -278,6 +279,6 @@ weights_found P (d ∷ n ∷ v ∷ ws) y h =
 pub weights_only : (P : Instance) (y : List NamedWeight) → P.days ≤ 28 → All (WeightIsInRange P) y → weights_at P (flat_map weight_fields y) ≡ Some y
 weights_only P [] few h = refl
 weights_only P (e ∷ y) few h =
-    bind_only (triple P (decimal e.day) e.name (signed_decimal e.value)) (λ a. weights_at P (flat_map weight_fields y) >>= (λ z. Some (a ∷ z))) e (Some (e ∷ y))
+    bind_only (weight_of_fields P (decimal e.day) e.name (signed_decimal e.value)) (λ a. weights_at P (flat_map weight_fields y) >>= (λ z. Some (a ∷ z))) e (Some (e ∷ y))
     (triple_only P e few (All-head (WeightIsInRange P) e y h))
     (bind_only (weights_at P (flat_map weight_fields y)) (λ z. Some (e ∷ z)) y (Some (e ∷ y)) (weights_only P y few (All-tail (WeightIsInRange P) e y h)) refl)

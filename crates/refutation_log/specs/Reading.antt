@@ -120,8 +120,8 @@ unfoldable pub turn_at : Instance → List (List ℕ) → Option (List ℕ × �
 turn_at P ws = word_at (codes "turn") ws >>= (λ rest. name_at rest >>= (λ name. number_at 1 P.days name.1 >>= (λ day. done_at {X = List ℕ × ℕ} (name.0, day.0) day.1)))
 
 -- a weight
-unfoldable pub weight_at : Instance → List (List ℕ) → Option (NamedWeight × List (List ℕ))
-weight_at P ws = number_at 1 P.days ws >>= (λ day. name_at day.1 >>= (λ name. value_at name.1 >>= (λ value. Some (record { day = day.0; name = name.0; value = value.0 }, value.1))))
+unfoldable pub weight_in : Instance → List (List ℕ) → Option (NamedWeight × List (List ℕ))
+weight_in P ws = number_at 1 P.days ws >>= (λ day. name_at day.1 >>= (λ name. value_at name.1 >>= (λ value. Some (record { day = day.0; name = name.0; value = value.0 }, value.1))))
 
 -- a weight from its three fields
 abbrev pub weight_from : Option ℕ → List ℕ → Bool → Option ℤ → Option NamedWeight
@@ -130,21 +130,21 @@ weight_from (Some day) name false value = None
 weight_from (Some day) name true None = None
 weight_from (Some day) name true (Some value) = Some (record { day = day; name = name; value = value })
 
-abbrev pub triple : Instance → List ℕ → List ℕ → List ℕ → Option NamedWeight
-triple P day name value = weight_from (number_in 1 P.days day) name (is_name name) (value_in value)
+abbrev pub weight_of_fields : Instance → List ℕ → List ℕ → List ℕ → Option NamedWeight
+weight_of_fields P day name value = weight_from (number_in 1 P.days day) name (is_name name) (value_in value)
 
 -- all fields as weights
 abbrev pub weights_at : Instance → List (List ℕ) → Option (List NamedWeight)
 weights_at P [] = Some []
 weights_at P (d ∷ []) = None
 weights_at P (d ∷ n ∷ []) = None
-weights_at P (d ∷ n ∷ v ∷ ws) = triple P d n v >>= (λ e. weights_at P ws >>= (λ y. Some (e ∷ y)))
+weights_at P (d ∷ n ∷ v ∷ ws) = weight_of_fields P d n v >>= (λ e. weights_at P ws >>= (λ y. Some (e ∷ y)))
 
-abbrev pub longest : Instance → ℕ
-longest P = 16800 / cells P
+abbrev pub most_turns : Instance → ℕ
+most_turns P = 16800 / cells P
 
 unfoldable pub bound_at : Instance → List (List ℕ) → Option RawLine
-bound_at P ws = head_at P (longest P) ws >>= (λ head. word_at (codes "weights") (rules_at P head.1).1 >>= (λ rest. weights_at P rest >>= (λ y. Some (RawBound head.0.0 head.0.1 (rules_at P head.1).0 y))))
+bound_at P ws = head_at P (most_turns P) ws >>= (λ head. word_at (codes "weights") (rules_at P head.1).1 >>= (λ rest. weights_at P rest >>= (λ y. Some (RawBound head.0.0 head.0.1 (rules_at P head.1).0 y))))
 
 abbrev pub open_at : List (List ℕ) → Option RawLine
 open_at ws = done_at RawUnfinished ws

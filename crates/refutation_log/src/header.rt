@@ -1,5 +1,6 @@
 // The header of a log's text: its version, the rules that it names, and its turn.
-ghost use Rattle.std.specs.Prelude.{◌≡◌, Option, Some, None, IfOk, MatchOption, MatchResult};
+ghost use Rattle.std.specs.Prelude.{◌≡◌, ◌≤◌, Option, Some, None, IfOk, MatchOption, MatchResult};
+ghost use Rattle.refutation_terms.specs.Verdict.{header_lines};
 ghost use Rattle.refutation_log.specs.FieldList.{fields_of};
 ghost use Rattle.refutation_log.specs.Refusals.{SpellsVersion, SpellsRules, SpellsThisTurn, IsTurnRefused};
 ghost use Rattle.refutation_log.specs.Reading.{named_at, turn_at};
@@ -11,6 +12,17 @@ use refutation_terms::Turn;
 use rwsp_model::Problem;
 use rwsp_terms::RuleList;
 use std::alloc::{AllocError, Global};
+
+/// The number of lines of a header: three with a turn, else two.
+pub fn lines_of_header(turn: Option<Turn>) -> u32
+    ensures value { result ≡ header_lines turn }
+    ensures few { result ≤ 3 }
+{
+    match turn {
+        None => 2,
+        Some(_) => 3,
+    }
+}
 
 /// Whether the log has a turn, as its first line says; None where the line spells no version.
 pub fn read_version(bytes: &[u8]) -> Option<bool>

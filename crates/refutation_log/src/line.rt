@@ -7,7 +7,7 @@ ghost use Rattle.refutation_terms.specs.LogText.{RawSplit, RawWindow, RawDay};
 ghost use Rattle.refutation_terms.specs.Verdict.{Spells};
 ghost use Rattle.refutation_log.specs.FieldList.{fields_of};
 ghost use Rattle.refutation_log.specs.Refusals.{IsLineRefused};
-ghost use Rattle.refutation_log.specs.Reading.{split_at, window_at, day_at, head_at, rules_at, dead_at, weight_at, weights_at, bound_at, open_at, raw_at, Reads, Answers, GivesAll, longest, IsBound, IsValue};
+ghost use Rattle.refutation_log.specs.Reading.{split_at, window_at, day_at, head_at, rules_at, dead_at, weight_in, weights_at, bound_at, open_at, raw_at, Reads, Answers, GivesAll, most_turns, IsBound, IsValue};
 
 use crate::LineRefusal;
 use crate::fields::Fields;
@@ -212,9 +212,9 @@ fn read_dead(
     }
 }
 
-#[tactic(auto, unfolding(crate::specs::Reading::weight_at))]
+#[tactic(auto, unfolding(crate::specs::Reading::weight_in))]
 fn weight<'a>(problem: &Problem, fields: &mut Fields<'a>) -> Option<(u32, &'a [u8], i32)>
-    ensures value { MatchOption result (weight_at problem.now fields.old ≡ None) (λ r. weight_at problem.now fields.old ≡ Some (record { day = r.0; name = r.1.now; value = r.2 }, fields.new)) }
+    ensures value { MatchOption result (weight_in problem.now fields.old ≡ None) (λ r. weight_in problem.now fields.old ≡ Some (record { day = r.0; name = r.1.now; value = r.2 }, fields.new)) }
     ensures range { IfSome result (λ r. IsValue r.2) }
 {
     let day = fields.number(1, problem.days())?;
@@ -249,7 +249,7 @@ fn read_bound(
 ) -> Result<Line, Fail<LineRefusal>>
     ensures { Answers problem.now (bound_at problem.now fields.old) result }
 {
-    let Some((p, turns)) = head(problem, fields, longest(problem)) else {
+    let Some((p, turns)) = head(problem, fields, most_turns(problem)) else {
         return Err(FORM);
     };
     let Ok(rules) = rule_numbers(alloc, problem, fields) else {
@@ -266,8 +266,8 @@ fn read_bound(
 }
 
 // The most turns that a leaf may speak of.
-fn longest(problem: &Problem) -> u32
-    ensures { result ≡ longest problem.now }
+fn most_turns(problem: &Problem) -> u32
+    ensures { result ≡ most_turns problem.now }
 {
     problem.keeps_limits();
     16_800 / problem.cells()

@@ -5,11 +5,11 @@ ghost use Rattle.rwsp_model.specs.Refusals.{MatchAnswer};
 ghost use Rattle.refutation_terms.specs.Tree.{IsTree};
 ghost use Rattle.refutation_terms.specs.Log.{Fits, AreRules, TurnFits};
 ghost use Rattle.refutation_terms.specs.LogText.{log_text, header_text, version_text, rules_text, turn_text};
-ghost use Rattle.refutation_terms.specs.Verdict.{Spells, header_lines};
+ghost use Rattle.refutation_terms.specs.Verdict.{Spells};
 ghost use Rattle.refutation_log.specs.Printing.{lines_text};
 ghost use Rattle.refutation_log.specs.ReadLog.{IsUnread, IsReadSoFar, IsTreeLineRefused, open_after, log_with};
 
-use crate::header::{read_rules, read_turn, read_version};
+use crate::header::{lines_of_header, read_rules, read_turn, read_version};
 use crate::line::read_line;
 use crate::{LineReader, LineRefusal, Log};
 use refutation_terms::{Line, LogRefusal, Turn};
@@ -37,7 +37,7 @@ pub fn read_log(alloc: Global, problem: &Problem, bytes: &[u8]) -> Result<Log, F
     match reader.next() {
         None => Ok(Log::of(header.named, header.turn, lines)),
         Some(_) => Err(Fail::Refused(LogRefusal::Extra(
-            lines_of_header(&header) + lines.len() as u32 + 1,
+            lines_of_header(header.turn) + lines.len() as u32 + 1,
         ))),
     }
 }
@@ -47,15 +47,6 @@ pub fn read_log(alloc: Global, problem: &Problem, bytes: &[u8]) -> Result<Log, F
 struct Header {
     named: RuleList,
     turn: Option<Turn>,
-}
-
-fn lines_of_header(header: &Header) -> u32
-    ensures { result ≡ header_lines header.now.turn }
-{
-    match header.turn {
-        None => 2,
-        Some(_) => 3,
-    }
 }
 
 fn read_header(
@@ -155,7 +146,7 @@ fn read_lines(
         (IsUnread problem.now (header_text problem.now header.now.named header.now.turn ++ reader.old)) }
 {
     problem.keeps_limits();
-    let first = lines_of_header(header) + 1;
+    let first = lines_of_header(header.turn) + 1;
     let mut lines = Vec::new(alloc);
     let mut count: u64 = 1;
     while count > 0 {

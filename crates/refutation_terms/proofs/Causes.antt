@@ -23,6 +23,7 @@ use Rattle.refutation_terms.specs.Spelling.{IsWritable, HasNames}
 use Rattle.refutation_terms.proofs.TextParts.{same_fields}
 use Rattle.refutation_terms.proofs.TextLines.{same_line, line_fields, line_has_fields, day_small}
 use Rattle.refutation_terms.proofs.Texts.{turn_fields, turn_line}
+use Rattle.refutation_terms.proofs.Sound.{too_light}
 
 least_same : (A : ℕ → Type 0) (k m : ℕ) → IsLeast A k → IsLeast A m → k ≡ m
 least_same A k m a b = let x : k ≤ m = a.1 m b.0 in let y : m ≤ k = b.1 k a.0 in omega (arith, x, y)
@@ -45,7 +46,7 @@ not_unknown P bytes a w sa u =
     let clash : Some a ≡ None = sym sa.2 ∙ ap (line_of P) same ∙ u.2 in cc
 
 -- the words that show an escape are one
-first_same : (u v : List Symbol) → ComesFirst u v → ComesFirst v u → u ≡ v
+pub first_same : (u v : List Symbol) → ComesFirst u v → ComesFirst v u → u ≡ v
 first_same [] [] a b = refl
 first_same [] (y ∷ v) a b = absurd b
 first_same (x ∷ u) [] a b = absurd a
@@ -146,15 +147,12 @@ idle_not_holding P D (Dead p len R) i h = absurd i
 idle_not_holding P D (Bound p turns R y) i h = absurd i
 idle_not_holding P D Unfinished i h = absurd i
 
-heavy_not_light : (w t : ℤ) → w <ℤ t → t ≤ℤ w → ⊥
-heavy_not_light w t a b = omega (arith, ints)
-
 pub escaped_not_holding : (P : Instance) (D : Domains) (line : Line) (u : List Symbol) → Escapes P D line u → Holds P D line → ⊥
 escaped_not_holding P D (Split p x) u e h = absurd e
 escaped_not_holding P D (Window number p len) u e h = absurd e
 escaped_not_holding P D (Day j x over) u e h = absurd e
 escaped_not_holding P D (Dead p len R) u e h = h u e.clean.long e.clean.over e.clean.clean
-escaped_not_holding P D (Bound p turns R y) u e h = heavy_not_light (weight P y p u) (pos turns *ℤ total P y) (h u e.0.heavy.clean.long e.0.heavy.clean.over e.0.heavy.clean.clean) e.1
+escaped_not_holding P D (Bound p turns R y) u e h = too_light (weight P y p u) (pos turns *ℤ total P y) (h u e.0.heavy.clean.long e.0.heavy.clean.over e.0.heavy.clean.clean) e.1
 escaped_not_holding P D Unfinished u e h = absurd e
 
 open_cites_none : (P : Instance) (line : Line) (r : Rule) → line ≡ Unfinished → Cites P line r → ⊥

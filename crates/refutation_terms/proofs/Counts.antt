@@ -8,31 +8,12 @@ use Rattle.std.proofs.lemmas.List.Sums.{AllPass-from_list_all, sum_by-cons}
 use Rattle.std.proofs.Math.Nat.{mul-le-mul_right}
 use Rattle.std.proofs.lemmas.Bool.{eqb-true, eq-eqb}
 use Rattle.rwsp_terms.specs.declared.data.Symbol.{Symbol}
-use Rattle.rwsp_terms.specs.Instance.{Instance, cells, shift_count, least, greatest, IsDay}
-use Rattle.rwsp_terms.specs.Window.{off_symbol}
+use Rattle.rwsp_terms.specs.Instance.{Instance, cells, shift_count, least, greatest, IsDay, off_symbol}
 use Rattle.rwsp_terms.specs.Roster.{MeetsDay, weeks_with}
+use Rattle.rwsp_terms.proofs.Counting.{cond_mono, count_next, count_mono}
 use Rattle.refutation_terms.specs.Word.{Domains, Within}
 use Rattle.refutation_terms.specs.Leaf.{is_only, fixed, possible, HasTooMany, HasTooFew}
 use Rattle.refutation_terms.proofs.Tests.{right_of}
-
-cond_mono : (b c : Bool) → (b ≡ true → c ≡ true) → cond b 1 0 ≤ cond c 1 0
-cond_mono true true h = omega arith
-cond_mono true false h = let e : false ≡ true = h refl in absurd (cc)
-cond_mono false true h = omega arith
-cond_mono false false h = omega arith
-
-pub count_next : (f : ℕ → Bool) (a n : ℕ) → count_by f (range_with_len a (suc n)) ≡ cond (f a) 1 0 + count_by f (range_with_len (a + 1) n)
-count_next f a n = sum_by-cons (λ x. cond (f x) 1 0) a (range_with_len (a + 1) n)
-
--- where each that passes one test passes another, no more pass the one
-pub count_mono : (f g : ℕ → Bool) (a n : ℕ) → ((i : ℕ) → a ≤ i → i < a + n → f i ≡ true → g i ≡ true) → count_by f (range_with_len a n) ≤ count_by g (range_with_len a n)
-count_mono f g a zero h = omega arith
-count_mono f g a (suc n) h =
-    let here : cond (f a) 1 0 ≤ cond (g a) 1 0 = cond_mono (f a) (g a) (h a (omega arith) (omega arith)) in
-    let more : count_by f (range_with_len (a + 1) n) ≤ count_by g (range_with_len (a + 1) n) = count_mono f g (a + 1) n (λ i le lt. h i (omega (arith, le)) (omega (arith, lt))) in
-    let e : count_by f (range_with_len a (suc n)) ≡ cond (f a) 1 0 + count_by f (range_with_len (a + 1) n) = count_next f a n in
-    let d : count_by g (range_with_len a (suc n)) ≡ cond (g a) 1 0 + count_by g (range_with_len (a + 1) n) = count_next g a n in
-    omega arith
 
 apart_up : (g : ℤ) (c f : ℕ) → pos c ≤ℤ g → f ≤ c → g <ℤ pos f → ⊥
 apart_up g c f a b d = omega (arith, ints)

@@ -2,7 +2,7 @@
 use Rattle.std.proofs.Common.{◌≡◌, ℕ, suc, ◌+◌, ◌<◌, List, [], ◌∷◌, ◌++◌, length, get_or, refl, ap, sym, ◌∙◌, subst, arith, inl, inr, Bool, true, false, IsTrue, ◌&&◌, ◌==◌, not, Some, None, Option}
 use Rattle.std.specs.Prelude.{nat_lt, All, slice_get}
 use Rattle.std.specs.List.{list_all, AllByRecursion}
-use Rattle.std.proofs.lemmas.Bool.{eqb-true, eq-eqb, eqb-false, ltb-true, lt-ltb}
+use Rattle.std.proofs.lemmas.Bool.{eqb-true, eq-eqb, eqb-false, ltb-true, lt-ltb, cases_Bool}
 use Rattle.std.proofs.lemmas.List.Sums.{AllPass-from_list_all, list_all-from_AllPass}
 use Rattle.rwsp_terms.specs.declared.data.Symbol.{Symbol}
 use Rattle.rwsp_terms.specs.declared.data.Class.{Class}
@@ -11,7 +11,7 @@ use Rattle.rwsp_terms.specs.declared.data.Rule.{Rule}
 use Rattle.rwsp_terms.specs.declared.data.Rule.TheVariants.{MaxShift, MinShift, MaxOff, MinOff, MaxWork, MinWork, Pair, Triple, Day}
 use Rattle.rwsp_terms.specs.Instance.{Instance, bounds, symbol_numbered}
 use Rattle.rwsp_terms.specs.Window.{Bad, InClass, TooLong, TooShort}
-use Rattle.refutation_terms.proofs.Tests.{both, left_of, right_of, not_passed, failed_by_not, either}
+use Rattle.refutation_terms.proofs.Tests.{both, left_of, right_of, not_passed, failed_by_not}
 
 -- whether a symbol is in a class
 abbrev pub in_class : Class → Symbol → Bool
@@ -36,8 +36,8 @@ all_along P Q xs f h k d lt = f (get_or xs k d) (h k d lt)
 in_class_all : (c : Class) (u : List Symbol) → IsTrue (list_all (in_class c) u) → All (InClass c) u
 in_class_all c u h = all_along (λ y. in_class c y ≡ true) (InClass c) u (in_class-true c) (AllPass-from_list_all (in_class c) u h)
 
-passes_class : (c : Class) (y : Symbol) → InClass c y → in_class c y ≡ true
-passes_class c y h = elim (either (in_class c y)) [ inl e ↦ e | inr e ↦ absurd (in_class-false c y e h) ]
+pub passes_class : (c : Class) (y : Symbol) → InClass c y → in_class c y ≡ true
+passes_class c y h = elim (cases_Bool (in_class c y)) [ inl e ↦ e | inr e ↦ absurd (in_class-false c y e h) ]
 
 all_in_class : (c : Class) (u : List Symbol) → All (InClass c) u → IsTrue (list_all (in_class c) u)
 all_in_class c u h = list_all-from_AllPass (in_class c) u (all_along (InClass c) (λ y. in_class c y ≡ true) u (passes_class c) h)
@@ -121,7 +121,7 @@ is_short-true c least (x ∷ u) h =
     }
 
 fails_class : (c : Class) (y : Symbol) → (InClass c y → ⊥) → in_class c y ≡ false
-fails_class c y h = elim (either (in_class c y)) [ inl e ↦ absurd (h (in_class-true c y e)) | inr e ↦ e ]
+fails_class c y h = elim (cases_Bool (in_class c y)) [ inl e ↦ absurd (h (in_class-true c y e)) | inr e ↦ e ]
 
 short_rest-from : (c : Class) (least t : ℕ) (block : List Symbol) (after : Symbol) → IsTrue (list_all (in_class c) block) → in_class c after ≡ false → 0 < t + length block → t + length block < least → short_rest c least t (block ++ after ∷ []) ≡ true
 short_rest-from c least t [] after h e some few =

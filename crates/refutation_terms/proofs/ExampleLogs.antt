@@ -9,6 +9,7 @@ use Rattle.rwsp_terms.specs.declared.data.Rule.TheVariants as TheRules
 use Rattle.rwsp_terms.specs.Instance.{Instance, shift_count, IsDay, IsSymbol}
 use Rattle.rwsp_terms.specs.Rules.{Names, rule_of}
 use Rattle.rwsp_terms.specs.Weights.{ComesBefore, IsWeight}
+use Rattle.rwsp_terms.proofs.Elements.{all_from}
 use Rattle.refutation_terms.specs.declared.lines.Line.{Line}
 use Rattle.refutation_terms.specs.declared.lines.Line.TheVariants.{Window, Dead, Bound, Unfinished}
 use Rattle.refutation_terms.specs.declared.lines.Turn.{Turn}
@@ -18,7 +19,7 @@ use Rattle.refutation_terms.specs.Log.{Fits, Cites, TurnCites, HoldsAt, LineFits
 use Rattle.refutation_terms.specs.Examples.{two_in_a_row, two_in_a_row_log, two_of_four, two_of_four_log, three_of_six, split_log, turn_log, open_log, one_cell, one_cell_log, shift_D, weighs}
 use Rattle.refutation_terms.proofs.Tests.{left_of}
 use Rattle.refutation_terms.proofs.Words.{AreSmall, is_dead, is_too_light, is_blocked, is_clean}
-use Rattle.refutation_terms.proofs.Lists.{each_at, all_from, are_rules, pairs_of_one, pairs_of_two, named_too, short_only, weighed_day}
+use Rattle.refutation_terms.proofs.Lists.{each_at, are_rules, pairs_of_one, pairs_of_two, named_too, short_only, weighed_day}
 
 -- the domains at a line have no symbols above K
 pub small_at : (P : Instance) (turn : Option Turn) (lines : List Line) (k : ℕ) → AreSmall P (domains_at P turn lines k)
@@ -84,7 +85,7 @@ turn_log_passes = record {
 pub open_log_fails : Passes three_of_six open_log → ⊥
 open_log_fails passes = passes.holds 1 Unfinished refl
 
-one_weighs : (day : ℕ) → IsWeight (weighs day)
+pub one_weighs : (day : ℕ) → IsWeight (weighs day)
 one_weighs day = (le_z_yes tt, le_z_yes tt, λ e. cc)
 
 two_in_a_row_cited : (r : Rule) → Cites two_in_a_row (Bound 0 1 (1 ∷ []) (weighs 1 ∷ weighs 2 ∷ [])) r → Names two_in_a_row two_in_a_row_log.named r

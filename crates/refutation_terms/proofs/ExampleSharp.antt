@@ -10,6 +10,7 @@ use Rattle.rwsp_terms.specs.Instance.{cells, shift_count, IsDay, IsSymbol, symbo
 use Rattle.rwsp_terms.specs.Roster.{IsRule}
 use Rattle.rwsp_terms.specs.Rules.{Names, IsShort}
 use Rattle.rwsp_terms.specs.Weights.{ComesBefore, IsWeight, weight_at}
+use Rattle.rwsp_terms.proofs.Elements.{all_from}
 use Rattle.refutation_terms.specs.declared.lines.Line.{Line}
 use Rattle.refutation_terms.specs.declared.lines.Line.TheVariants.{Split, Unfinished}
 use Rattle.refutation_terms.specs.Word.{full}
@@ -18,7 +19,7 @@ use Rattle.refutation_terms.specs.Escape.{IsLeastHeaviest}
 use Rattle.refutation_terms.specs.Sharp.{NamesAllShort, IsDemanded, IsFirstTurn, IsUndecided, IsSharp, IsSearched, step}
 use Rattle.refutation_terms.specs.Examples.{three_of_six, turn_log, open_log, two_in_a_row, shift_D, blocks_dead, short_rules, searched_weights, weight_of}
 use Rattle.refutation_terms.proofs.Named.{named-IsRule}
-use Rattle.refutation_terms.proofs.Lists.{each_at, all_from, are_rules, pairs_of_two, short_only}
+use Rattle.refutation_terms.proofs.Lists.{each_at, are_rules, pairs_of_two, short_only}
 use Rattle.refutation_terms.proofs.Words.{AreSmall, is_clean, least_heaviest}
 use Rattle.std.proofs.lemmas.Bool.{leb-true}
 use Rattle.refutation_terms.specs.Tree.{Leaf, Node}

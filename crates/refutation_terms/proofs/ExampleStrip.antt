@@ -11,6 +11,7 @@ use Rattle.rwsp_terms.specs.declared.data.Rule.TheVariants as TheRules
 use Rattle.rwsp_terms.specs.Instance.{IsDay, IsSymbol, symbol_numbered}
 use Rattle.rwsp_terms.specs.Rules.{Names, NamesShortOnly}
 use Rattle.rwsp_terms.specs.Weights.{ComesBefore, IsWeight}
+use Rattle.rwsp_terms.proofs.Elements.{all_from}
 use Rattle.refutation_terms.specs.declared.lines.Line.TheVariants.{Bound}
 use Rattle.refutation_terms.specs.Word.{Over, Clean, weight, total}
 use Rattle.refutation_terms.specs.Tree.{Leaf, domains_at}
@@ -18,8 +19,9 @@ use Rattle.refutation_terms.specs.Log.{Log, AreRules, AreWeightsOf, LineFits, Ci
 use Rattle.refutation_terms.specs.Strip.{DescendsTo, IsReduced}
 use Rattle.refutation_terms.specs.Examples.{two_on_day_one, day_log, wide_log, narrow_log, weighs}
 use Rattle.refutation_terms.proofs.Words.{every, is_too_light, is_clean}
-use Rattle.refutation_terms.proofs.Lists.{each_at, all_from, are_rules, pairs_of_one, pairs_of_two, has_number, named_too, short_only, weighed_day}
-use Rattle.refutation_terms.proofs.ExampleLogs.{small_at}
+use Rattle.refutation_terms.proofs.Lists.{each_at, are_rules, pairs_of_one, pairs_of_two, has_number, named_too, short_only, weighed_day}
+use Rattle.refutation_terms.proofs.ExampleLogs.{small_at, one_weighs}
+use Rattle.refutation_terms.proofs.Sound.{too_light}
 
 abbrev DaysNamed : List ℕ → List Weight → Type 0
 DaysNamed named y = AllByRecursion (λ e. Names two_on_day_one named (TheRules.Day e.day)) y
@@ -49,16 +51,10 @@ day_passes named R y named_rules rules weights within days short test = record {
       (is_too_light two_on_day_one (domains_at two_on_day_one None (Bound 0 1 R y ∷ []) 0) 0 1 R y (small_at two_on_day_one None (Bound 0 1 R y ∷ []) 0) test, tt);
 }
 
-heavy_enough : (w t : ℤ) → w <ℤ t → t ≤ℤ w → ⊥
-heavy_enough w t a b = omega (arith, ints)
-
 -- and doesn't where a clean word weighs the total
 day_fails : (named R : List ℕ) (y : List Weight) (u : List Symbol) → length u ≡ 3 → Over two_on_day_one (domains_at two_on_day_one None (Bound 0 1 R y ∷ []) 0) 0 u → Clean two_on_day_one R u → (pos 1 *ℤ total two_on_day_one y) ≤ℤ weight two_on_day_one y 0 u → Passes two_on_day_one (day_log named R y) → ⊥
 day_fails named R y u long over clean heavy passes =
-    heavy_enough (weight two_on_day_one y 0 u) (pos 1 *ℤ total two_on_day_one y) (passes.holds 0 (Bound 0 1 R y) refl u long over clean) heavy
-
-one_weighs : (day : ℕ) → IsWeight (weighs day)
-one_weighs day = (le_z_yes tt, le_z_yes tt, λ e. cc)
+    too_light (weight two_on_day_one y 0 u) (pos 1 *ℤ total two_on_day_one y) (passes.holds 0 (Bound 0 1 R y) refl u long over clean) heavy
 
 one_and_three : AreWeightsOf two_on_day_one (weighs 1 ∷ weighs 3 ∷ [])
 one_and_three = (

@@ -9,6 +9,7 @@ use Rattle.rwsp_terms.specs.declared.data.Rule.TheVariants as TheRules
 use Rattle.rwsp_terms.specs.Instance.{Instance, cells}
 use Rattle.rwsp_terms.specs.Rules.{rule_of, Names}
 use Rattle.rwsp_terms.specs.Weights.{ComesBefore}
+use Rattle.rwsp_terms.proofs.Elements.{all_from}
 use Rattle.refutation_terms.specs.declared.lines.Line.{Line}
 use Rattle.refutation_terms.specs.declared.lines.Line.TheVariants.{Split, Bound, Unfinished}
 use Rattle.refutation_terms.specs.declared.lines.LogRefusal.TheVariants as Refusals
@@ -20,7 +21,7 @@ use Rattle.refutation_terms.specs.Verdict.{Reading, BeforeTurn, IsSoundSoFar, Is
 use Rattle.refutation_terms.specs.Examples.{two_of_four, three_of_six, split_log, blocks_dead, shift_D, weighs, one_turn_text, open_text, cut_text, extra_text, idle_text, unnamed_turn_text, none_demanded, none_demanded_text, split_text, heavy_word}
 use Rattle.refutation_terms.proofs.Tests.{left_of, right_of, failed_by_not}
 use Rattle.refutation_terms.proofs.Trees.{tree_is_whole}
-use Rattle.refutation_terms.proofs.Lists.{each_at, all_from, are_rules, pairs_of_one, named_too, short_only, weighed_day}
+use Rattle.refutation_terms.proofs.Lists.{each_at, are_rules, pairs_of_one, named_too, short_only, weighed_day}
 use Rattle.refutation_terms.proofs.Words.{is_clean, least_heaviest}
 use Rattle.refutation_terms.proofs.ExampleLogs.{small_at, split_log_passes}
 use Rattle.refutation_terms.proofs.ExampleTexts.{d1, d2, d3, d4, d7, split_written}

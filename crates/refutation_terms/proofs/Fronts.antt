@@ -1,14 +1,15 @@
 -- A text begins with one front of so many lines.
 use Rattle.std.proofs.Common.{◌≡◌, ◌≢◌, ◌⊎◌, ℕ, zero, suc, ◌+◌, ◌<◌, ◌≤◌, List, [], ◌∷◌, ◌++◌, length, get_or, map, refl, ap, sym, ◌∙◌, subst, append_assoc, arith, inl, inr, Bool, true, false, Option, Some, None}
+use Rattle.std.specs.List.{AllByRecursion}
 use Rattle.std.proofs.lemmas.List.{append-nil}
 use Rattle.rwsp_terms.specs.Instance.{Instance, name_of}
 use Rattle.refutation_terms.specs.declared.lines.Line.{Line}
 use Rattle.refutation_terms.specs.declared.lines.Turn.{Turn}
-use Rattle.refutation_terms.specs.Log.{Log, Fits, TurnFits, AreRules}
+use Rattle.refutation_terms.specs.Log.{Log, Fits, TurnFits, AreRules, LineFits}
 use Rattle.refutation_terms.specs.LogText.{numbers, text_of}
 use Rattle.refutation_terms.specs.Spelling.{IsWritable, HasNames, TextsAreDistinct}
 use Rattle.refutation_terms.proofs.TextLines.{numbers_same, rules_small}
-use Rattle.refutation_terms.proofs.Texts.{text_lines, AreFieldLines, one_is_longer, version_fields, rules_fields, turn_fields, header_fields, lines_fields, log_fields, log_written, log_lines, each_fits, EachFits, lines_longer, turn_same}
+use Rattle.refutation_terms.proofs.Texts.{text_lines, AreFieldLines, one_is_longer, version_fields, rules_fields, turn_fields, header_fields, lines_fields, log_fields, log_written, log_lines, each_fits, lines_longer, turn_same}
 
 second_byte : List (List ℕ) → ℕ
 second_byte [] = 0
@@ -36,7 +37,7 @@ record GoesOn (P : Instance) (named : List ℕ) (turn : Option Turn) (lines : Li
   longer : lines' ≡ lines ++ more
   written : zs ≡ lines_fields P more
 
-goes_on : (P : Instance) (named : List ℕ) (turn : Option Turn) (lines : List Line) (named' : List ℕ) (turn' : Option Turn) (lines' : List Line) (zs : List (List (List ℕ))) → IsWritable P → HasNames P → AreRules P named → AreRules P named' → TurnFits P turn → TurnFits P turn' → EachFits P lines → EachFits P lines' → header_fields P named' turn' ++ lines_fields P lines' ≡ header_fields P named turn ++ lines_fields P lines ++ zs → GoesOn P named turn lines named' turn' lines' zs
+goes_on : (P : Instance) (named : List ℕ) (turn : Option Turn) (lines : List Line) (named' : List ℕ) (turn' : Option Turn) (lines' : List Line) (zs : List (List (List ℕ))) → IsWritable P → HasNames P → AreRules P named → AreRules P named' → TurnFits P turn → TurnFits P turn' → AllByRecursion (LineFits P) lines → AllByRecursion (LineFits P) lines' → header_fields P named' turn' ++ lines_fields P lines' ≡ header_fields P named turn ++ lines_fields P lines ++ zs → GoesOn P named turn lines named' turn' lines' zs
 goes_on P named None lines named' None lines' zs w n hr hq ht hu hl hm e =
     let rules : rules_fields named ≡ rules_fields named' = cc in
     let rest : lines_fields P lines' ≡ lines_fields P lines ++ zs = cc in

@@ -3,16 +3,17 @@ use Rattle.std.proofs.Common.{◌≡◌, ◌≢◌, ◌⊎◌, ℕ, zero, suc, �
 use Rattle.std.specs.Prelude.{All, AllPairs, Contains, slice_get, nat_lt, nat_le, ℤ, if◌then◌else◌}
 use Rattle.std.specs.List.{list_all, AllByRecursion}
 use Rattle.std.specs.List.Sorted.{IsStrictlyIncreasing}
-use Rattle.std.proofs.lemmas.Bool.{eqb-true, leb-true, ltb-true}
+use Rattle.std.proofs.lemmas.Bool.{eqb-true, leb-true, ltb-true, cases_Bool}
 use Rattle.rwsp_terms.specs.declared.data.Weight.{Weight}
 use Rattle.rwsp_terms.specs.declared.data.Rule.{Rule}
 use Rattle.rwsp_terms.specs.declared.data.Rule.TheVariants as TheRules
 use Rattle.rwsp_terms.specs.Instance.{Instance}
 use Rattle.rwsp_terms.specs.Rules.{rules, rule_of, Names, IsShort, NamesShortOnly}
 use Rattle.rwsp_terms.specs.Weights.{weight_at}
+use Rattle.rwsp_terms.proofs.Elements.{all_from}
 use Rattle.refutation_terms.specs.declared.lines.Line.{Line}
 use Rattle.refutation_terms.specs.Log.{AreRules, HasWeight}
-use Rattle.refutation_terms.proofs.Tests.{left_of, right_of, either}
+use Rattle.refutation_terms.proofs.Tests.{left_of, right_of}
 
 abbrev pub EachFrom : (ℕ → Line → Type 0) → List Line → Type 0
 EachFrom Q [] = Unit {0}
@@ -22,11 +23,6 @@ pub each_at : (Q : ℕ → Line → Type 0) (lines : List Line) → EachFrom Q l
 each_at Q [] h k line e = absurd (cc)
 each_at Q (l ∷ lines) h zero line e = let same : l ≡ line = cc in subst (Q 0) same h.0
 each_at Q (l ∷ lines) h (suc k) line e = each_at (λ k. Q (suc k)) lines h.1 k line e
-
-pub all_from : {A : Type 0} (P : A → Type 0) (xs : List A) → AllByRecursion P xs → All P xs
-all_from P [] h k d lt = absurd (omega (arith, lt))
-all_from P (x ∷ xs) h zero d lt = h.0
-all_from P (x ∷ xs) h (suc k) d lt = all_from P xs h.1 k d (omega (arith, lt))
 
 abbrev pub increases : List ℕ → Bool
 increases [] = true
@@ -68,7 +64,7 @@ has_number (i ∷ R) k = (i == k) || has_number R k
 
 has_number-Contains : (R : List ℕ) (k : ℕ) → has_number R k ≡ true → Contains R k
 has_number-Contains [] k h = absurd (cc)
-has_number-Contains (i ∷ R) k h = has_by i R k (either (i == k)) h (λ m. has_number-Contains R k m)
+has_number-Contains (i ∷ R) k h = has_by i R k (cases_Bool (i == k)) h (λ m. has_number-Contains R k m)
   where
     has_by : (i : ℕ) (R : List ℕ) (k : ℕ) → ((i == k) ≡ true) ⊎ ((i == k) ≡ false) → has_number (i ∷ R) k ≡ true → (has_number R k ≡ true → Contains R k) → Contains (i ∷ R) k
     has_by i R k (inl e) h more = (0, omega arith, eqb-true i k e)
@@ -105,7 +101,7 @@ if_false false u v e = refl
 -- a day that has a weight is that of an entry
 pub weighed_day : (P : Instance) (named : List ℕ) (y : List Weight) → AllByRecursion (λ e. Names P named (TheRules.Day e.day)) y → (j : ℕ) → HasWeight y j → Names P named (TheRules.Day j)
 weighed_day P named [] h j w = absurd (w.1 refl)
-weighed_day P named (e ∷ y) h j w = weighed_by P named e y h j w.0 (either ((e.day == j) && (e.symbol.number == w.0))) w.1 (λ m. weighed_day P named y h.1 j (w.0, m))
+weighed_day P named (e ∷ y) h j w = weighed_by P named e y h j w.0 (cases_Bool ((e.day == j) && (e.symbol.number == w.0))) w.1 (λ m. weighed_day P named y h.1 j (w.0, m))
   where
     weighed_by : (P : Instance) (named : List ℕ) (e : Weight) (y : List Weight) → AllByRecursion (λ e. Names P named (TheRules.Day e.day)) (e ∷ y) → (j x : ℕ) → (((e.day == j) && (e.symbol.number == x)) ≡ true) ⊎ (((e.day == j) && (e.symbol.number == x)) ≡ false) → weight_at (e ∷ y) j x ≢ pos 0 → (weight_at y j x ≢ pos 0 → Names P named (TheRules.Day j)) → Names P named (TheRules.Day j)
     weighed_by P named e y h j x (inl t) ne more = subst (λ d. Names P named (TheRules.Day d)) (eqb-true e.day j (left_of (e.day == j) (e.symbol.number == x) t)) h.0

@@ -1,7 +1,7 @@
 -- No domain at a line is empty where no earlier split is idle.
 use Rattle.std.proofs.Common.{◌≡◌, ◌⊎◌, ℕ, zero, suc, ◌+◌, ◌-◌, ◌<◌, ◌≤◌, List, length, take, Option, Some, None, refl, sym, subst, arith, length-append, inl, inr, true, false, IsTrue, ◌==◌}
 use Rattle.std.specs.Prelude.{slice_get, nat_le}
-use Rattle.std.proofs.lemmas.Bool.{eqb-true, eq-eqb, leb-true, le-leb}
+use Rattle.std.proofs.lemmas.Bool.{eqb-true, eq-eqb, leb-true, le-leb, cases_Bool, cases_lt}
 use Rattle.rwsp_terms.specs.declared.data.Symbol.{Symbol}
 use Rattle.rwsp_terms.specs.Instance.{Instance, shift_count}
 use Rattle.refutation_terms.specs.declared.lines.Line.{Line}
@@ -11,16 +11,15 @@ use Rattle.refutation_terms.specs.Word.{Domains, full}
 use Rattle.refutation_terms.specs.Tree.{Tree, Leaf, Node, lines_in, Side, First, Second, side_takes, line_leaves, lines_leave, narrowed, turn_leaves, opening, is_idle}
 use Rattle.refutation_terms.specs.Log.{TurnFits}
 use Rattle.refutation_terms.specs.Laws.{DomainsAreNeverEmpty}
-use Rattle.refutation_terms.proofs.Tests.{both, left_of, where_passed, not_passed, either}
+use Rattle.refutation_terms.proofs.Tests.{both, left_of, where_passed, not_passed}
 use Rattle.refutation_terms.proofs.InWords.{there, another}
-use Rattle.refutation_terms.proofs.Trees.{less_or_not}
 use Rattle.refutation_terms.proofs.TreeDomains.{behind, behind_none, behind_first, behind_second, got_left, got_right}
 
 abbrev HasSome : Domains → Type 0
 HasSome D = (p : ℕ) → (z : ℕ) × IsTrue (D p z)
 
 side_has_some : (D : Domains) (p : ℕ) (x : Symbol) (a : Side) (z : ℕ) → HasSome D → IsTrue (D p z) → IsTrue (side_takes a (z == x.number)) → HasSome (narrowed D (Split p x) a)
-side_has_some D p x a z some inside takes q = side_by q (either (p == q))
+side_has_some D p x a z some inside takes q = side_by q (cases_Bool (p == q))
   where
     side_by : (q : ℕ) → ((p == q) ≡ true) ⊎ ((p == q) ≡ false) → (y : ℕ) × IsTrue (narrowed D (Split p x) a q y)
     side_by q (inl e) = let same = eqb-true p q e in
@@ -60,7 +59,7 @@ has_some_at P (Node p x a b) D (suc k) some lt h =
     in_sides P p x a b D k lt h
     (λ less. has_some_at P a (narrowed D (Split p x) First) k first less)
     (λ m less. has_some_at P b (narrowed D (Split p x) Second) m second less)
-    (less_or_not k (length (lines_in a)))
+    (cases_lt k (length (lines_in a)))
 
 -- opening domains have a symbol everywhere
 opening_has_some : (P : Instance) (turn : Option Turn) → TurnFits P turn → HasSome (opening P turn)

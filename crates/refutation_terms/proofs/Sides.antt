@@ -1,13 +1,12 @@
 -- The two sides of a split.
 use Rattle.std.proofs.Common.{◌⊎◌, ℕ, ◌<◌, List, get_or, refl, subst, IsTrue, inl, inr, ◌==◌}
-use Rattle.std.proofs.lemmas.Bool.{eqb-true, eq-eqb}
+use Rattle.std.proofs.lemmas.Bool.{eqb-true, eq-eqb, cases_Bool}
 use Rattle.rwsp_terms.specs.declared.data.Symbol.{Symbol}
-use Rattle.rwsp_terms.specs.Instance.{Instance, cells}
-use Rattle.rwsp_terms.specs.Window.{off_symbol}
+use Rattle.rwsp_terms.specs.Instance.{Instance, cells, off_symbol}
 use Rattle.refutation_terms.specs.declared.lines.Line.TheVariants.{Split}
 use Rattle.refutation_terms.specs.Word.{Domains, Within}
 use Rattle.refutation_terms.specs.Tree.{Side, First, Second, side_takes, line_leaves, narrowed}
-use Rattle.refutation_terms.proofs.Tests.{both, right_of, where_passed, passed_there, not_passed, either, never_both}
+use Rattle.refutation_terms.proofs.Tests.{both, right_of, where_passed, passed_there, not_passed, never_both}
 
 -- a roster is in the side that takes its symbol
 in_side : (P : Instance) (D : Domains) (p : ℕ) (x : Symbol) (s : List Symbol) (a : Side) → IsTrue (side_takes a ((get_or s p off_symbol).number == x.number)) → Within P D s → Within P (narrowed D (Split p x) a) s
@@ -21,7 +20,7 @@ in_side P D p x s a takes w = record {
 
 pub in_either_side : (P : Instance) (D : Domains) (p : ℕ) (x : Symbol) (s : List Symbol) → Within P D s → Within P (narrowed D (Split p x) First) s ⊎ Within P (narrowed D (Split p x) Second) s
 in_either_side P D p x s w =
-    elim (either ((get_or s p off_symbol).number == x.number)) [
+    elim (cases_Bool ((get_or s p off_symbol).number == x.number)) [
       | inl e ↦ inl (in_side P D p x s First e w)
       | inr e ↦ inr (in_side P D p x s Second (not_passed ((get_or s p off_symbol).number == x.number) e) w)
     ]

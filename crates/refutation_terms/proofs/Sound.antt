@@ -6,8 +6,8 @@ use Rattle.std.proofs.lemmas.Bool.{eqb-true, eq-eqb, le-leb}
 use Rattle.rwsp_terms.specs.declared.data.Symbol.{Symbol}
 use Rattle.rwsp_terms.specs.declared.data.Rule.{Rule}
 use Rattle.rwsp_terms.specs.declared.data.Rule.TheVariants as TheRules
-use Rattle.rwsp_terms.specs.Instance.{Instance, cells, shift_count, IsDay}
-use Rattle.rwsp_terms.specs.Window.{Bad, window, off_symbol}
+use Rattle.rwsp_terms.specs.Instance.{Instance, cells, shift_count, IsDay, off_symbol}
+use Rattle.rwsp_terms.specs.Window.{Bad, window}
 use Rattle.rwsp_terms.specs.Roster.{IsRoster, MeetsDay}
 use Rattle.rwsp_terms.specs.Rules.{Names, Meets}
 use Rattle.rwsp_terms.proofs.Windows.{length-window}
@@ -32,7 +32,7 @@ pub record IsProved (P : Instance) (named : List ℕ) (D : Domains) (line : Line
   pub fits : LineFits P line
   pub cited : (r : Rule) → Cites P line r → Names P named r
 
-too_light : (w t : ℤ) → w <ℤ t → t ≤ℤ w → ⊥
+pub too_light : (w t : ℤ) → w <ℤ t → t ≤ℤ w → ⊥
 too_light w t a b = omega (arith, ints)
 
 cells_some : (P : Instance) (p : ℕ) → p < cells P → 0 < cells P

@@ -12,18 +12,14 @@ use Rattle.rwsp_terms.specs.declared.data.ShiftRow.{ShiftRow}
 use Rattle.rwsp_terms.specs.declared.data.Weight.{Weight}
 use Rattle.rwsp_terms.specs.Instance.{Instance, IsDay, IsSymbol, no_bounds, off_name, symbol_numbered, symbol_of, name_in, name_numbered, name_of}
 use Rattle.rwsp_terms.specs.Weights.{ComesBefore, IsWeight}
+use Rattle.rwsp_terms.proofs.Elements.{all_from, all_to}
 use Rattle.refutation_terms.specs.declared.lines.Line.{Line}
 use Rattle.refutation_terms.specs.declared.lines.Line.TheVariants.{Split, Window, Day, Dead, Bound, Unfinished}
 use Rattle.refutation_terms.specs.Log.{LineFits}
 use Rattle.refutation_terms.specs.LogText.{NamedWeight, RawLine, RawSplit, RawWindow, RawDay, RawDead, RawBound, RawUnfinished, named_weight, raw, line_text, WeightIsInRange, IsInRange, with_weight, weights_of, line_of, Ascends}
 use Rattle.refutation_terms.specs.Spelling.{HasNames, SpelledLinesFit, FittingLinesAreSpelled}
-use Rattle.refutation_terms.proofs.Lists.{all_from}
 
-pub all_to : {A : Type 0} (P : A → Type 0) (xs : List A) → All P xs → AllByRecursion P xs
-all_to P [] h = tt
-all_to P (x ∷ xs) h = (h 0 x (omega arith), all_to P xs (λ k d lt. h (suc k) d (omega (arith, lt))))
-
-mapped : {A B : Type 0} (f : A → B) (o : Option A) (y : B) → option_map f o ≡ Some y → (x : A) × (o ≡ Some x) × (f x ≡ y)
+pub mapped : {A B : Type 0} (f : A → B) (o : Option A) (y : B) → option_map f o ≡ Some y → (x : A) × (o ≡ Some x) × (f x ≡ y)
 mapped f None y e = absurd (cc)
 mapped f (Some x) y e = (x, refl, let same : f x ≡ y = cc in same)
 

@@ -1,5 +1,6 @@
 -- Tests of symbols and positions.
-use Rattle.std.proofs.Common.{◌≡◌, ◌⊎◌, refl, inl, inr, IsTrue, Bool, true, false, ◌&&◌, ◌||◌, not}
+use Rattle.std.proofs.Common.{◌≡◌, ◌⊎◌, refl, ap, inl, inr, IsTrue, Bool, true, false, ◌&&◌, ◌||◌, not}
+use Rattle.std.proofs.Math.Bool.{or-true}
 
 pub both : (a b : Bool) → IsTrue a → IsTrue b → IsTrue (a && b)
 both true b h k = k
@@ -30,10 +31,10 @@ pub failed_by_not : (a : Bool) → IsTrue (not a) → a ≡ false
 failed_by_not true h = absurd (cc)
 failed_by_not false h = refl
 
-pub either : (b : Bool) → (b ≡ true) ⊎ (b ≡ false)
-either true = inl refl
-either false = inr refl
-
 pub never_both : (b : Bool) → IsTrue b → IsTrue (not b) → ⊥
 never_both true h k = cc
 never_both false h k = cc
+
+pub passes_by : (a b : Bool) → (b ≡ true → a ≡ true) → (a || not b) ≡ true
+passes_by a true h = ap (λ c. c || false) (h refl)
+passes_by a false h = or-true a

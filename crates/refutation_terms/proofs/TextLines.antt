@@ -10,10 +10,10 @@ use Rattle.std.proofs.lemmas.Nat.{mod_below, div-add-mod'}
 use Rattle.std.proofs.Math.Nat.{div-lt_iff_lt-mul}
 use Rattle.rwsp_terms.specs.Instance.{Instance, cells, IsDay}
 use Rattle.rwsp_terms.specs.Rules.{rules}
+use Rattle.rwsp_terms.proofs.Elements.{all_to}
 use Rattle.refutation_terms.specs.Log.{AreRules}
 use Rattle.refutation_terms.specs.LogText.{NamedWeight, RawLine, RawSplit, RawWindow, RawDay, RawDead, RawBound, RawUnfinished, numbers, place, way, weight_fields, fields, WeightIsInRange, IsInRange}
 use Rattle.refutation_terms.specs.Spelling.{IsWritable}
-use Rattle.refutation_terms.proofs.Spelled.{all_to}
 use Rattle.refutation_terms.proofs.TextParts.{IsField, AreFields, AreDigits, decimal_is_digits, decimal_is_field, tested_field, name_is_field}
 
 -- numbers that are written

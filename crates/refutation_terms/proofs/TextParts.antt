@@ -5,9 +5,9 @@ use Rattle.std.specs.Fmt.{decimal}
 use Rattle.std.proofs.lemmas.Fmt.{decimal_by_steps}
 use Rattle.std.proofs.lemmas.Bool.{eqb-false}
 use Rattle.std.proofs.lemmas.Nat.{mod_below}
+use Rattle.rwsp_terms.proofs.Elements.{all_to}
 use Rattle.refutation_terms.specs.LogText.{text_of, IsName}
 use Rattle.refutation_terms.proofs.Tests.{left_of, right_of, failed_by_not}
-use Rattle.refutation_terms.proofs.Spelled.{all_to}
 
 -- neither a blank nor LF
 abbrev pub IsInField : ℕ → Type 0

@@ -67,7 +67,7 @@ lines_fields P lines = map (λ line. fields P (raw P line)) lines
 abbrev pub log_fields : Instance → Log → List (List (List ℕ))
 log_fields P g = header_fields P g.named g.turn ++ lines_fields P g.lines
 
-version_written : (b : Bool) → version_text b ≡ text_of (version_fields b)
+pub version_written : (b : Bool) → version_text b ≡ text_of (version_fields b)
 version_written false = refl
 version_written true = refl
 
@@ -100,14 +100,11 @@ turn_line P name day w n d = (omega arith, (tested_field (codes "turn") refl, (n
 pub tree_line : (P : Instance) (line : Line) → IsWritable P → HasNames P → LineFits P line → IsFieldLine (fields P (raw P line))
 tree_line P line w n h = (line_has_fields P (raw P line), line_fields P (raw P line) w (spell P line n h).0)
 
-abbrev pub EachFits : Instance → List Line → Type 0
-EachFits P lines = AllByRecursion (LineFits P) lines
-
-pub each_fits : (P : Instance) (lines : List Line) → ((k : ℕ) (line : Line) → slice_get lines k ≡ Some line → LineFits P line) → EachFits P lines
+pub each_fits : (P : Instance) (lines : List Line) → ((k : ℕ) (line : Line) → slice_get lines k ≡ Some line → LineFits P line) → AllByRecursion (LineFits P) lines
 each_fits P [] h = tt
 each_fits P (line ∷ lines) h = (h 0 line refl, each_fits P lines (λ k l e. h (suc k) l e))
 
-pub tree_lines : (P : Instance) (lines : List Line) → IsWritable P → HasNames P → EachFits P lines → AreFieldLines (lines_fields P lines)
+pub tree_lines : (P : Instance) (lines : List Line) → IsWritable P → HasNames P → AllByRecursion (LineFits P) lines → AreFieldLines (lines_fields P lines)
 tree_lines P [] w n h = tt
 tree_lines P (line ∷ lines) w n h = (tree_line P line w n h.0, tree_lines P lines w n h.1)
 
@@ -132,7 +129,7 @@ pub same_tree_line : (P : Instance) (a b : Line) → IsWritable P → HasNames P
 same_tree_line P a b w n ha hb e = same_raw P a b n ha hb (same_line P (raw P a) (raw P b) w (spell P a n ha).0 (spell P b n hb).0 e)
 
 -- lines that go on where others end
-pub lines_longer : (P : Instance) (a b : List Line) (zs : List (List (List ℕ))) → IsWritable P → HasNames P → EachFits P a → EachFits P b → lines_fields P b ≡ lines_fields P a ++ zs → (more : List Line) × (b ≡ a ++ more) × (zs ≡ lines_fields P more)
+pub lines_longer : (P : Instance) (a b : List Line) (zs : List (List (List ℕ))) → IsWritable P → HasNames P → AllByRecursion (LineFits P) a → AllByRecursion (LineFits P) b → lines_fields P b ≡ lines_fields P a ++ zs → (more : List Line) × (b ≡ a ++ more) × (zs ≡ lines_fields P more)
 lines_longer P [] b zs w n ha hb e = (b, refl, sym e)
 lines_longer P (x ∷ a) [] zs w n ha hb e = absurd (cc)
 lines_longer P (x ∷ a) (y ∷ b) zs w n ha hb e =

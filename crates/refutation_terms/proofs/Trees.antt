@@ -2,6 +2,7 @@
 use Rattle.std.proofs.Common.{◌≡◌, ◌⊎◌, ℕ, zero, suc, ◌+◌, ◌-◌, ◌<◌, ◌≤◌, List, [], ◌∷◌, ◌++◌, length, take, Some, None, refl, ap, sym, ◌∙◌, append_assoc, arith, length-append, inl, inr}
 use Rattle.std.proofs.lemmas.List.{append-nil, take-append-le}
 use Rattle.std.proofs.Math.Seq.{take-append-add}
+use Rattle.std.proofs.lemmas.Bool.{cases_lt}
 use Rattle.refutation_terms.specs.declared.lines.Line.{Line}
 use Rattle.refutation_terms.specs.declared.lines.Line.TheVariants.{Split, Window, Day, Dead, Bound, Unfinished}
 use Rattle.refutation_terms.specs.Tree.{IsLeaf, Tree, Leaf, Node, lines_in, IsTree, after_trees}
@@ -76,15 +77,10 @@ part_is_not_whole_by a b n k in_a past_a in_b lt (inr more) =
     let less : k - length a < length b = omega (arith, more, lt, length-append a b) in
     ap (λ i. after_trees (suc (suc n)) (take i (a ++ b))) e ∙ ap (after_trees (suc (suc n))) (take-append-add a b (k - length a)) ∙ past_a (take (k - length a) b) ∙ in_b (k - length a) less
 
-pub less_or_not : (k n : ℕ) → (k < n) ⊎ (n ≤ k)
-less_or_not k zero = inr (omega arith)
-less_or_not zero (suc n) = inl (omega arith)
-less_or_not (suc k) (suc n) = elim (less_or_not k n) [ inl h ↦ inl (omega (arith, h)) | inr h ↦ inr (omega (arith, h)) ]
-
 -- no front of a tree is a whole tree but the tree
 pub part_is_not_whole : (t : Tree) (n k : ℕ) → k < length (lines_in t) → after_trees (suc n) (take k (lines_in t)) ≡ None
 part_is_not_whole (Leaf line h) n zero lt = refl
 part_is_not_whole (Leaf line h) n (suc k) lt = absurd (omega (arith, lt))
 part_is_not_whole (Node p x a b) n zero lt = refl
 part_is_not_whole (Node p x a b) n (suc k) lt =
-    part_is_not_whole_by (lines_in a) (lines_in b) n k (λ i less. part_is_not_whole a (suc n) i less) (tree_is_read a (suc n)) (λ i less. part_is_not_whole b n i less) (omega (arith, lt)) (less_or_not k (length (lines_in a)))
+    part_is_not_whole_by (lines_in a) (lines_in b) n k (λ i less. part_is_not_whole a (suc n) i less) (tree_is_read a (suc n)) (λ i less. part_is_not_whole b n i less) (omega (arith, lt)) (cases_lt k (length (lines_in a)))

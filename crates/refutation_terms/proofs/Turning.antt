@@ -9,13 +9,14 @@ use Rattle.std.proofs.Math.Nat.{add-mod-mod, add-mod_right, add-mul-mod_self_rig
 use Rattle.rwsp_terms.specs.declared.data.Symbol.{Symbol}
 use Rattle.rwsp_terms.specs.declared.data.Rule.{Rule}
 use Rattle.rwsp_terms.specs.declared.data.Rule.TheVariants.{MaxShift, MinShift, MaxOff, MinOff, MaxWork, MinWork, Pair, Triple, Day}
-use Rattle.rwsp_terms.specs.Instance.{Instance, cells, least, greatest, IsDay, IsSymbol, symbol_numbered}
-use Rattle.rwsp_terms.specs.Window.{Bad, cell, window, off_symbol}
+use Rattle.rwsp_terms.specs.Instance.{Instance, cells, least, greatest, IsDay, IsSymbol, symbol_numbered, off_symbol}
+use Rattle.rwsp_terms.specs.Window.{Bad, cell, window}
 use Rattle.rwsp_terms.specs.Roster.{IsRoster, IsRule, MeetsDay, MeetsRule, HasNoBadWindow, weeks_with}
 use Rattle.rwsp_terms.proofs.Windows.{length-window, get_or-window}
+use Rattle.rwsp_terms.proofs.Counting.{count_same, count_next}
 use Rattle.refutation_terms.specs.Word.{turned}
 use Rattle.refutation_terms.proofs.Windows.{window-same, no_bad_window}
-use Rattle.refutation_terms.proofs.Counts.{count_next, in_column}
+use Rattle.refutation_terms.proofs.Counts.{in_column}
 
 pub length-turned : (P : Instance) (k : ℕ) (s : List Symbol) → length (turned P k s) ≡ cells P
 length-turned P k s = length-window s (k * P.days) (cells P)
@@ -47,14 +48,6 @@ turned-IsRoster P k s some roster = record {
       let there : (k * P.days + i) % length s < length s = mod_below (k * P.days + i) (length s) positive in
       subst (IsSymbol P) (sym (get_or-window s (k * P.days) (cells P) i d less)) (roster.symbols ((k * P.days + i) % length s) off_symbol there);
 }
-
--- counts over a range, as for sums
-count_same : (f g : ℕ → Bool) (a n : ℕ) → ((i : ℕ) → a ≤ i → i < a + n → f i ≡ g i) → count_by f (range_with_len a n) ≡ count_by g (range_with_len a n)
-count_same f g a zero h = refl
-count_same f g a (suc n) h =
-    let here : f a ≡ g a = h a (omega arith) (omega arith) in
-    let more : count_by f (range_with_len (a + 1) n) ≡ count_by g (range_with_len (a + 1) n) = count_same f g (a + 1) n (λ i le lt. h i (omega (arith, le)) (omega (arith, lt))) in
-    count_next f a n ∙ ap (λ b. cond b 1 0 + count_by f (range_with_len (a + 1) n)) here ∙ ap (λ c. cond (g a) 1 0 + c) more ∙ sym (count_next g a n)
 
 count_shift : (f : ℕ → Bool) (b a n : ℕ) → count_by f (range_with_len (b + a) n) ≡ count_by (λ i. f (b + i)) (range_with_len a n)
 count_shift f b a zero = refl

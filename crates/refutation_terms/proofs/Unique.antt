@@ -10,6 +10,7 @@ use Rattle.rwsp_terms.specs.declared.data.Rule.{Rule}
 use Rattle.rwsp_terms.specs.declared.data.Rule.TheVariants as TheRules
 use Rattle.rwsp_terms.specs.Instance.{Instance, least, name_of, symbol_of}
 use Rattle.rwsp_terms.specs.Rules.{Names}
+use Rattle.rwsp_terms.proofs.Elements.{all_from, all_to}
 use Rattle.refutation_terms.specs.declared.lines.Line.{Line}
 use Rattle.refutation_terms.specs.declared.lines.Turn.{Turn}
 use Rattle.refutation_terms.specs.declared.lines.LogRefusal.{LogRefusal}
@@ -20,11 +21,10 @@ use Rattle.refutation_terms.specs.Log.{Log, LineFits, TurnFits, AreRules, Holds,
 use Rattle.refutation_terms.specs.LogText.{raw, fields, text_of, line_text, version_text, rules_text, turn_text}
 use Rattle.refutation_terms.specs.Verdict.{Front, Start, Versioned, BeforeTurn, Reading, front_text, HasNoCause, IsSoundSoFar, IsWhole, header_lines, Cause, VersionCause, RulesCause, HasNoFeed, IsNextLine, IsRefusedLine, EndsEarly, IsRefused, IsAccepted}
 use Rattle.refutation_terms.specs.Spelling.{IsWritable, HasNames, VerdictIsUnique}
-use Rattle.refutation_terms.proofs.Spelled.{all_to, fitting_lines_are_spelled}
-use Rattle.refutation_terms.proofs.Lists.{all_from}
+use Rattle.refutation_terms.proofs.Spelled.{fitting_lines_are_spelled}
 use Rattle.refutation_terms.proofs.Trees.{part_is_not_whole, tree_is_whole}
 use Rattle.refutation_terms.proofs.TextParts.{IsInField, AreFields}
-use Rattle.refutation_terms.proofs.Texts.{text_lines, AreFieldLines, Longer, one_is_longer, version_fields, rules_fields, turn_fields, header_fields, lines_fields, log_fields, log_written, version_line, rules_line, log_lines}
+use Rattle.refutation_terms.proofs.Texts.{text_lines, AreFieldLines, Longer, one_is_longer, version_fields, rules_fields, turn_fields, header_fields, lines_fields, log_fields, log_written, version_line, rules_line, log_lines, version_written}
 use Rattle.refutation_terms.proofs.Fronts.{fields_after, texts_distinct, same_text_lines, versions_differ, version_same, rules_same, log_goes_on, log_same}
 use Rattle.refutation_terms.proofs.Causes.{spells_same, not_unknown, long_not_short, idle_not_holding, escaped_not_holding, Reason, OfName, OfIdle, OfLong, OfFail, OfEscape, OfOpen, Level, Nothing, Unknown, Known, level_of, tree_cause_same, version_cause, rules_cause, extra_cause, turns_same, TurnReason, NoTurn, NoName, NoDay, NoDemand, turn_reason, turn_cause_same}
 
@@ -34,10 +34,6 @@ front_fields P Start = []
 front_fields P (Versioned b) = version_fields b ∷ []
 front_fields P (BeforeTurn R) = version_fields true ∷ rules_fields R ∷ []
 front_fields P (Reading g) = log_fields P g
-
-version_written : (b : Bool) → version_text b ≡ text_of (version_fields b)
-version_written false = refl
-version_written true = refl
 
 front_written : (P : Instance) (F : Front) → front_text P F ≡ text_lines (front_fields P F)
 front_written P Start = refl

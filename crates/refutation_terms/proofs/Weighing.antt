@@ -9,8 +9,8 @@ use Rattle.std.proofs.Math.Nat.{add-mul-mod_self_right, add-mod_right, mod-eq_of
 use Rattle.std.proofs.Math.IntN.{zero-*ℤ}
 use Rattle.rwsp_terms.specs.declared.data.Symbol.{Symbol}
 use Rattle.rwsp_terms.specs.declared.data.Weight.{Weight}
-use Rattle.rwsp_terms.specs.Instance.{Instance, cells, shift_count, least, greatest, IsDay}
-use Rattle.rwsp_terms.specs.Window.{cell, window, off_symbol}
+use Rattle.rwsp_terms.specs.Instance.{Instance, cells, shift_count, least, greatest, IsDay, off_symbol}
+use Rattle.rwsp_terms.specs.Window.{cell, window}
 use Rattle.rwsp_terms.specs.Roster.{IsRoster, MeetsDay, weeks_with}
 use Rattle.rwsp_terms.specs.Weights.{weight_at}
 use Rattle.refutation_terms.specs.Word.{weight, int_sum_by, least_weight, total}

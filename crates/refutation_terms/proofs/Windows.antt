@@ -6,8 +6,8 @@ use Rattle.std.proofs.lemmas.Nat.{mod_below}
 use Rattle.rwsp_terms.specs.declared.data.Symbol.{Symbol}
 use Rattle.rwsp_terms.specs.declared.data.Rule.{Rule}
 use Rattle.rwsp_terms.specs.declared.data.Rule.TheVariants.{MaxShift, MinShift, MaxOff, MinOff, MaxWork, MinWork, Pair, Triple, Day}
-use Rattle.rwsp_terms.specs.Instance.{Instance, cells}
-use Rattle.rwsp_terms.specs.Window.{Bad, cell, window, off_symbol}
+use Rattle.rwsp_terms.specs.Instance.{Instance, cells, off_symbol}
+use Rattle.rwsp_terms.specs.Window.{Bad, cell, window}
 use Rattle.rwsp_terms.specs.Roster.{MeetsRule, HasNoBadWindow}
 use Rattle.rwsp_terms.specs.Rules.{Meets}
 use Rattle.rwsp_terms.proofs.Windows.{length-window, window-add}

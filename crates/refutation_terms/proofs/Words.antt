@@ -4,7 +4,7 @@ use Rattle.std.specs.Prelude.{◌*ℤ◌, nat_lt, ◌≤ℤ◌, ◌<ℤ◌}
 use Rattle.std.specs.List.{range_with_len, list_all}
 use Rattle.std.specs.Int.Signed.{lt_z, lt_z_yes, le_z, le_z_yes}
 use Rattle.std.proofs.lemmas.Int.{ints}
-use Rattle.std.proofs.lemmas.Bool.{eqb-true, ltb-true}
+use Rattle.std.proofs.lemmas.Bool.{eqb-true, ltb-true, or_left, or_right, or_parts, or_cases}
 use Rattle.std.proofs.lemmas.Float.{T_from_true}
 use Rattle.std.proofs.lemmas.List.{append-nil}
 use Rattle.rwsp_terms.specs.declared.data.Symbol.{Symbol}
@@ -19,6 +19,7 @@ use Rattle.refutation_terms.specs.Leaf.{IsBlocked, IsDead, IsTooLight}
 use Rattle.refutation_terms.proofs.Tests.{left_of, right_of}
 use Rattle.refutation_terms.proofs.Counts.{all_in_range}
 use Rattle.refutation_terms.proofs.Decide.{is_bad, is_bad-true, is_bad-from}
+use Rattle.refutation_terms.proofs.Sound.{too_light}
 
 -- whether a word is bad for one of the rules
 abbrev pub bad_for : Instance → Option Rule → List Symbol → Bool
@@ -38,22 +39,6 @@ more_names P k R r n = (n.0, (suc n.1.0, omega (arith, n.1.1), n.1.2), n.2)
 bad_for-true : (P : Instance) (o : Option Rule) (u : List Symbol) → bad_for P o u ≡ true → (r : Rule) × (o ≡ Some r) × Bad P r u
 bad_for-true P None u h = absurd (cc)
 bad_for-true P (Some r) u h = (r, refl, is_bad-true P r u h)
-
-or_cases : (a b : Bool) → (a || b) ≡ true → (a ≡ true) ⊎ (b ≡ true)
-or_cases true b h = inl refl
-or_cases false b h = inr h
-
-or_left : (a b : Bool) → a ≡ true → (a || b) ≡ true
-or_left true b h = refl
-or_left false b h = absurd (cc)
-
-or_right : (a b : Bool) → b ≡ true → (a || b) ≡ true
-or_right true b h = refl
-or_right false b h = h
-
-or_false : (a b : Bool) → (a || b) ≡ false → (a ≡ false) × (b ≡ false)
-or_false true b h = absurd (cc)
-or_false false b h = (refl, h)
 
 bad_for_some-true : (P : Instance) (R : List ℕ) (u : List Symbol) → bad_for_some P R u ≡ true → BadForSome P R u
 bad_for_some-true P [] u h = absurd (cc)
@@ -153,14 +138,14 @@ no_bad_front P R front [] [] a b h bad =
     let yes : bad_for_some P R front ≡ true = bad_at P R front bad.1.1.0 bad.1.0 bad.0 a b bad.1.1.1 bad.1.1.2 bad.1.2 (subst (Bad P bad.0) (append-nil front) bad.2) in cc
 no_bad_front P R front [] (y ∷ after) a b h bad =
     let yes : bad_for_some P R front ≡ true = bad_at P R front bad.1.1.0 bad.1.0 bad.0 a b bad.1.1.1 bad.1.1.2 bad.1.2 (subst (Bad P bad.0) (append-nil front) bad.2) in
-    let no : bad_for_some P R front ≡ false = (or_false (bad_for_some P R front) (has_bad_front P R (front ++ y ∷ []) after) h).0 in cc
+    let no : bad_for_some P R front ≡ false = (or_parts (bad_for_some P R front) (has_bad_front P R (front ++ y ∷ []) after) h).0 in cc
 no_bad_front P R front (x ∷ part) after a b h bad =
-    let more : has_bad_front P R (front ++ x ∷ []) (part ++ after) ≡ false = (or_false (bad_for_some P R front) (has_bad_front P R (front ++ x ∷ []) (part ++ after)) h).1 in
+    let more : has_bad_front P R (front ++ x ∷ []) (part ++ after) ≡ false = (or_parts (bad_for_some P R front) (has_bad_front P R (front ++ x ∷ []) (part ++ after)) h).1 in
     no_bad_front P R (front ++ x ∷ []) part after a b more (subst (BadForSome P R) (sym (append_assoc front (x ∷ []) part)) bad)
 
 bad_front_of : (P : Instance) (R : List ℕ) (u : List Symbol) → has_bad_part P R u ≡ false → has_bad_front P R [] u ≡ false
 bad_front_of P R [] h = h
-bad_front_of P R (x ∷ u) h = (or_false (has_bad_front P R [] (x ∷ u)) (has_bad_part P R u) h).0
+bad_front_of P R (x ∷ u) h = (or_parts (has_bad_front P R [] (x ∷ u)) (has_bad_part P R u) h).0
 
 -- a word without a bad part is clean
 pub is_clean : (P : Instance) (R : List ℕ) (u : List Symbol) → P.pairs ≡ [] → P.triples ≡ [] → has_bad_part P R u ≡ false → Clean P R u
@@ -169,7 +154,7 @@ is_clean P R u a b h [] part after e r named bad =
 is_clean P R [] a b h (x ∷ before) part after e r named bad = absurd (cc)
 is_clean P R (y ∷ u) a b h (x ∷ before) part after e r named bad =
     let rest : u ≡ before ++ part ++ after = cc in
-    is_clean P R u a b (or_false (has_bad_front P R [] (y ∷ u)) (has_bad_part P R u) h).1 before part after rest r named bad
+    is_clean P R u a b (or_parts (has_bad_front P R [] (y ∷ u)) (has_bad_part P R u) h).1 before part after rest r named bad
 
 -- whether a word comes first
 abbrev pub comes_first : List Symbol → List Symbol → Bool
@@ -186,9 +171,6 @@ comes_first-true (x ∷ u) (y ∷ v) h =
       | inr rest ↦ inr (ap symbol_numbered (eqb-true x.number y.number (left_of (x.number == y.number) (comes_first u v) rest)), comes_first-true u v (right_of (x.number == y.number) (comes_first u v) rest))
     ]
 
-lighter : (z w : ℤ) → z <ℤ w → w ≤ℤ z → ⊥
-lighter z w a b = omega (arith, ints)
-
 -- the least of the heaviest words, by two tests of every word
 pub least_heaviest : (P : Instance) (D : Domains) (p len : ℕ) (R : List ℕ) (y : List Weight) (w : List Symbol) → AreSmall P D → IsCleanOver P D p len R w → every P D R (λ u. le_z (weight P y p u) (weight P y p w)) p len [] ≡ true → every P D R (λ u. lt_z (weight P y p u) (weight P y p w) || comes_first w u) p len [] ≡ true → IsLeastHeaviest P D p len R y w
 least_heaviest P D p len R y w small clean a b = record {
@@ -198,7 +180,7 @@ least_heaviest P D p len R y w small clean a b = record {
   };
   least = λ v h.
       elim (or_cases (lt_z (weight P y p v) (weight P y p w)) (comes_first w v) (every_word P D R (λ u. lt_z (weight P y p u) (weight P y p w) || comes_first w u) small p len [] v b h.clean.long h.clean.over h.clean.clean)) [
-        | inl less ↦ absurd (lighter (weight P y p v) (weight P y p w) (lt_z_yes (T_from_true (lt_z (weight P y p v) (weight P y p w)) less)) (h.heaviest w clean))
+        | inl less ↦ absurd (too_light (weight P y p v) (weight P y p w) (lt_z_yes (T_from_true (lt_z (weight P y p v) (weight P y p w)) less)) (h.heaviest w clean))
         | inr first ↦ comes_first-true w v first
       ];
 }

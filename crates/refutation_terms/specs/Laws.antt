@@ -3,8 +3,8 @@ use Rattle.std.specs.Prelude.{◌≡◌, ◌≢◌, ◌⊎◌, ◌↔◌, ℕ, �
 use Rattle.rwsp_terms.specs.declared.data.Symbol.{Symbol}
 use Rattle.rwsp_terms.specs.declared.data.Weight.{Weight}
 use Rattle.rwsp_terms.specs.declared.data.Rule.{Rule}
-use Rattle.rwsp_terms.specs.Instance.{Instance, cells, shift_count, least, greatest, IsDay, IsSymbol}
-use Rattle.rwsp_terms.specs.Window.{window, off_symbol}
+use Rattle.rwsp_terms.specs.Instance.{Instance, cells, shift_count, least, greatest, IsDay, IsSymbol, off_symbol}
+use Rattle.rwsp_terms.specs.Window.{window}
 use Rattle.rwsp_terms.specs.Roster.{IsRoster, IsRule, MeetsDay, MeetsRule}
 use Rattle.rwsp_terms.specs.Rules.{Meets}
 use Rattle.refutation_terms.specs.declared.lines.Line.{Line}

@@ -5,8 +5,8 @@ use Rattle.std.specs.List.{range_with_len}
 use Rattle.rwsp_terms.specs.declared.data.Symbol.{Symbol}
 use Rattle.rwsp_terms.specs.declared.data.Weight.{Weight}
 use Rattle.rwsp_terms.specs.declared.data.Rule.{Rule}
-use Rattle.rwsp_terms.specs.Instance.{Instance, cells, shift_count, least, greatest}
-use Rattle.rwsp_terms.specs.Window.{Bad, off_symbol, window}
+use Rattle.rwsp_terms.specs.Instance.{Instance, cells, shift_count, least, greatest, off_symbol}
+use Rattle.rwsp_terms.specs.Window.{Bad, window}
 use Rattle.rwsp_terms.specs.Roster.{IsRoster}
 use Rattle.rwsp_terms.specs.Rules.{Names}
 use Rattle.rwsp_terms.specs.Weights.{weight_at}

@@ -3,6 +3,7 @@ use Rattle.std.proofs.Common.{◌≡◌, ℕ, ◌+◌, ◌-◌, ◌*◌, ◌/◌
 use Rattle.std.proofs.lemmas.Bool.{cases_lt, cases_order}
 use Rattle.std.proofs.Math.Nat.{mul-le-mul_right}
 use Rattle.std.proofs.lemmas.Nat.{div-mul-add, mod-mul-add}
+use Rattle.std.proofs.lemmas.Option.{same_Some}
 use Rattle.rwsp_terms.specs.Instance.{Instance}
 use Rattle.rwsp_terms.specs.Window.{Bad}
 use Rattle.rwsp_terms.specs.Roster.{MeetsRule, MeetsAll, IsRule}
@@ -99,13 +100,10 @@ same_number P s a b f g =
       | inr other ↦ elim other [ inl less ↦ absurd (not_earlier P s a b f g less) | inr more ↦ absurd (not_earlier P s b a g f more) ]
     ]
 
-same_some : (x y : Rule) → Some x ≡ Some y → x ≡ y
-same_some x y e = cc
-
 pub first_broken-same : (P : Instance) (s : List Symbol) (a b : Broken) → IsFirstBroken P s a → IsFirstBroken P s b → a ≡ b
 first_broken-same P s a b f g =
     let number : a.rule ≡ b.rule = same_number P s a b f g in
-    let rule : f.rule ≡ g.rule = same_some f.rule g.rule (sym f.number ∙ ap (rule_of P) number ∙ g.number) in
+    let rule : f.rule ≡ g.rule = same_Some f.rule g.rule (sym f.number ∙ ap (rule_of P) number ∙ g.number) in
     same_answer a b number (same_place P g.rule s a b (subst (λ r. BreaksFirst P r s a) rule f.breaks) g.breaks)
 
 -- the answer that is made of a place

@@ -1,4 +1,3 @@
-pub mod Counting
 pub mod FirstBroken
 pub mod FirstSequence
 pub mod Runs

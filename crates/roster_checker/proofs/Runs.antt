@@ -3,7 +3,8 @@ use Rattle.std.proofs.Common.{◌≡◌, ℕ, suc, ◌+◌, ◌-◌, ◌<◌, �
 use Rattle.std.specs.Prelude.{slice_index_or, Bool, true, not, IsTrue}
 use Rattle.std.proofs.lemmas.Bool.{cases_lt, cases_order}
 use Rattle.std.proofs.Math.Nat.{add-mod_right}
-use Rattle.rwsp_terms.specs.Window.{off_symbol, window, cell, InClass, TooLong, TooShort, IsShortBlock}
+use Rattle.rwsp_terms.specs.Instance.{off_symbol}
+use Rattle.rwsp_terms.specs.Window.{window, cell, InClass, TooLong, TooShort, IsShortBlock}
 use Rattle.rwsp_terms.specs.declared.data.Symbol.{Symbol}
 use Rattle.rwsp_terms.specs.declared.data.Class.{Class}
 use Rattle.rwsp_terms.proofs.Windows.{length-window, TooLong-from_cells, cells-from_TooLong, TooShort-from_cells, cells-from_TooShort}

@@ -2,8 +2,7 @@
 ghost use Rattle.std.specs.Prelude.{◌≡◌, ℕ, ◌+◌, ◌-◌, ◌*◌, ◌<◌, ◌≤◌, ◌↔◌, ◌≤ℤ◌, length, slice_index_or, IsTrue, pos, count_by, ◌==◌};
 ghost use Rattle.std.specs.List.{range_with_len};
 ghost use Rattle.rwsp_terms.specs.Roster.{weeks_with, MeetsDay};
-ghost use Rattle.rwsp_terms.specs.Instance.{least, greatest, shift_count, IsDay};
-ghost use Rattle.rwsp_terms.specs.Window.{off_symbol};
+ghost use Rattle.rwsp_terms.specs.Instance.{least, greatest, shift_count, IsDay, off_symbol};
 
 use rwsp_model::{Problem, Symbol};
 
@@ -18,7 +17,7 @@ fn holds(cells: &[Symbol], days: u32, week: u32, day: u32, number: u8) -> bool
 }
 
 // How many weeks hold the symbol on the day.
-#[tactic(auto, using(crate::proofs::Counting::count_then, crate::proofs::Counting::count_else))]
+#[tactic(auto, using(rwsp_terms::proofs::Counting::count_then, rwsp_terms::proofs::Counting::count_else))]
 fn count_weeks(cells: &[Symbol], days: u32, weeks: u32, number: u8, day: u32) -> u32
     requires days { (days ≤ 28) × (weeks ≤ 600) }
     requires cells { length cells.now ≡ weeks * days }

@@ -12,12 +12,14 @@ use Rattle.std.proofs.lemmas.Slice.Eq.{bytes_eq-Decides}
 use Rattle.std.proofs.lemmas.Option.{slice_get-get_or}
 use Rattle.std.proofs.lemmas.Bool.{cond-true, cond-false, lt-ltb, ne_eqb, false_from_ne_true, or_parts}
 use Rattle.std.proofs.Math.Seq.{take-add}
+use Rattle.std.proofs.lemmas.List.FromFn.{length-range_with_len}
 use Rattle.rwsp_text.specs.Lexemes.{lines_of, words_of_line, has_some, is_space}
 use Rattle.rwsp_terms.specs.Instance.{Instance, symbol_of, name_of, name_in, name_numbered, shift_count, symbol_numbered, off_name, IsSymbol, no_bounds}
 use Rattle.rwsp_terms.specs.Roster.{IsRoster}
 use Rattle.rwsp_terms.specs.declared.data.Symbol.{Symbol}
 use Rattle.rwsp_terms.specs.declared.data.ShiftRow.{ShiftRow}
-use Rattle.rwsp_model.specs.Validity.{KeepsLimits, IsName, is_blank}
+use Rattle.rwsp_terms.proofs.Elements.{all_joined}
+use Rattle.rwsp_model.specs.Validity.{KeepsLimits, IsShiftName, is_blank}
 use Rattle.rwsp_model.proofs.Limits.{valid_keeps}
 use Rattle.roster_print.specs.RosterText.{weeks_of, week_at, week_text, roster_text, SpellsRoster}
 use Rattle.roster_print.specs.Laws.{PrintedIsSpelled, PrintedIsShort}
@@ -76,14 +78,10 @@ no_end_in : (word : List ℕ) → AllByRecursion IsPlain word → AllByRecursion
 no_end_in [] h = tt
 no_end_in (b ∷ word) h = (h.0.1, no_end_in word h.1)
 
-all_both : {X : Type 0} (Q : X → Type 0) (xs ys : List X) → AllByRecursion Q xs → AllByRecursion Q ys → AllByRecursion Q (xs ++ ys)
-all_both Q [] ys h k = k
-all_both Q (x ∷ xs) ys h k = (h.0, all_both Q xs ys h.1 k)
-
 no_end_joined : (words : List (List ℕ)) → AllByRecursion IsWord words → AllByRecursion (λ b. is_end b ≡ false) (join_with_byte 32 words)
 no_end_joined [] h = tt
 no_end_joined (word ∷ []) h = no_end_in word h.0.plain
-no_end_joined (word ∷ next ∷ words) h = all_both (λ b. is_end b ≡ false) word (32 ∷ join_with_byte 32 (next ∷ words)) (no_end_in word h.0.plain) (refl, no_end_joined (next ∷ words) h.1)
+no_end_joined (word ∷ next ∷ words) h = all_joined (λ b. is_end b ≡ false) word (32 ∷ join_with_byte 32 (next ∷ words)) (no_end_in word h.0.plain) (refl, no_end_joined (next ∷ words) h.1)
 
 -- a line that is printed, and what follows
 line_printed : (words : List (List ℕ)) (rest : List ℕ) → AllByRecursion IsWord words → lines_of ((join_with_byte 32 words ++ 10 ∷ []) ++ rest) ≡ join_with_byte 32 words ∷ lines_of rest
@@ -108,10 +106,6 @@ weeks_printed week (k ∷ ks) h =
 all_range : (Q : ℕ → Type 0) (a n : ℕ) → ((k : ℕ) → a ≤ k → k < a + n → Q k) → AllByRecursion Q (range_with_len a n)
 all_range Q a zero h = tt
 all_range Q a (suc n) h = (h a (omega arith) (omega arith), all_range Q (a + 1) n (λ k low high. h k (omega arith) (omega arith)))
-
-length-range : (a n : ℕ) → length (range_with_len a n) ≡ n
-length-range a zero = refl
-length-range a (suc n) = ap suc (length-range (a + 1) n)
 
 -- the weeks, one behind the other, are the cells
 weeks_joined : (d : ℕ) (s : List Symbol) (a n : ℕ) → flat_map (λ k. take d (drop (k * d) s)) (range_with_len a n) ≡ take (n * d) (drop (a * d) s)
@@ -139,7 +133,7 @@ some_in : (name : List ℕ) → 1 ≤ length name → has_some name ≡ true
 some_in [] h = absurd (omega arith)
 some_in (b ∷ name) h = refl
 
-name_is_word : (name : List ℕ) → IsName name → IsWord name
+name_is_word : (name : List ℕ) → IsShiftName name → IsWord name
 name_is_word name h = record { some = some_in name h.some; plain = plain_in name h.unbroken; no_comment = ne_eqb (slice_index name 0) 35 h.no_hash }
 
 numbered_is_word : (P : Instance) → KeepsLimits P → (n : ℕ) → n ≤ shift_count P → IsWord (name_numbered P n)
@@ -242,7 +236,7 @@ printed_spells P s limits h =
     let weeks = weeks_of_text P s limits h in
     let Days : List (List (List ℕ)) → Type 0 = λ w. All (λ week. length week ≡ P.days) w in
     record {
-      weeks = ap length weeks ∙ length-map ks (week_names P s) ∙ length-range 0 P.weeks;
+      weeks = ap length weeks ∙ length-map ks (week_names P s) ∙ length-range_with_len 0 P.weeks;
       days = subst Days (sym weeks) (All-from_recursion (λ week. length week ≡ P.days) (map (week_names P s) ks) (days_printed P s h ks (all_range (λ k. k < P.weeks) 0 P.weeks (λ k low high. omega arith))));
       names = ap (λ w. map (symbol_of P) (flat_map (λ week. week) w)) weeks ∙ symbols_printed P s limits h ks ∙ ap (map Some) (cells_joined P s h);
     }
@@ -293,7 +287,7 @@ printed_is_short P s valid h =
     let limits = valid_keeps P valid in
     let ks = range_with_len 0 P.weeks in
     let all : length (roster_text P s) ≤ length ks * (33 * P.days + 1) = length-weeks (λ k. week_text P (week_at P s k)) (33 * P.days + 1) ks (all_range (λ k. length (week_text P (week_at P s k)) ≤ 33 * P.days + 1) 0 P.weeks (λ k low high. week_is_short P s limits h k (omega arith))) in
-    let count : length ks ≡ P.weeks = length-range 0 P.weeks in
+    let count : length ks ≡ P.weeks = length-range_with_len 0 P.weeks in
     let size : length ks * (33 * P.days + 1) ≡ P.weeks * (33 * P.days + 1) = ap (λ n. n * (33 * P.days + 1)) count in
     let spread : P.weeks * (33 * P.days + 1) ≡ 33 * (P.weeks * P.days) + P.weeks = omega arith in
     let cells : P.weeks * P.days ≤ 4200 = limits.few_cells in

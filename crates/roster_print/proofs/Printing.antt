@@ -4,9 +4,9 @@ use Rattle.std.specs.Prelude.{map, All, slice_range, ◌==◌, slice_get}
 use Rattle.std.specs.List.{flat_map, range_with_len, join_with_byte}
 use Rattle.std.proofs.lemmas.List.{take_more, flat_map_more, take_all}
 use Rattle.std.proofs.lemmas.List.Elements.{All-take, All-drop}
-use Rattle.rwsp_terms.specs.Instance.{Instance, name_of, IsSymbol}
-use Rattle.rwsp_terms.specs.Window.{off_symbol}
+use Rattle.rwsp_terms.specs.Instance.{Instance, name_of, IsSymbol, off_symbol}
 use Rattle.rwsp_terms.specs.declared.data.Symbol.{Symbol}
+use Rattle.rwsp_terms.proofs.Counting.{range_more}
 use Rattle.roster_print.specs.RosterText.{week_at, week_text}
 use Rattle.roster_print.specs.RuleText.{pair_list, triple_list}
 use Rattle.std.proofs.lemmas.Option.{slice_get-get_or}
@@ -37,13 +37,6 @@ join_from P (x ∷ rest) old mid new h e f =
     ∙ ap (λ t. t ++ flat_map (λ y. 32 ∷ name_of P y) rest) e
     ∙ append_assoc old (name_of P x) (flat_map (λ y. 32 ∷ name_of P y) rest)
     ∙ ap (λ t. old ++ t) (sym (join_blanks P x rest))
-
-range_more : (a n : ℕ) → range_with_len a (n + 1) ≡ range_with_len a n ++ (a + n) ∷ []
-range_more a zero = let e : a ≡ a + 0 = omega arith in ap (λ k. k ∷ []) e
-range_more a (suc n) =
-    let e : suc n + 1 ≡ suc (n + 1) = omega arith in
-    let f : a + 1 + n ≡ a + suc n = omega arith in
-    ap (range_with_len a) e ∙ ap (λ ks. a ∷ ks) (range_more (a + 1) n ∙ ap (λ k. range_with_len (a + 1) n ++ k ∷ []) f)
 
 -- one week more
 pub week_more : (f : ℕ → List ℕ) (n : ℕ) (out : List ℕ) → out ≡ flat_map f (range_with_len 0 n) → out ++ f n ≡ flat_map f (range_with_len 0 (n + 1))

@@ -6,6 +6,7 @@ use Rattle.std.proofs.Math.Path.{fun_ext}
 use Rattle.std.proofs.Math.Nat.{mul-pos}
 use Rattle.rwsp_terms.specs.declared.data.Symbol.{Symbol}
 use Rattle.rwsp_terms.specs.Instance.{Instance, cells, least, greatest, IsDay}
+use Rattle.rwsp_terms.proofs.Counting.{count_same, count_next}
 use Rattle.refutation_terms.specs.declared.lines.Line.{Line}
 use Rattle.refutation_terms.specs.declared.lines.Line.TheVariants.{Split, Window, Day, Dead, Bound, Unfinished}
 use Rattle.refutation_terms.specs.Word.{Domains, Over}
@@ -13,7 +14,7 @@ use Rattle.refutation_terms.specs.Leaf.{is_only, fixed, possible}
 use Rattle.refutation_terms.specs.Tree.{is_idle}
 use Rattle.refutation_terms.specs.Log.{Holds, LineFits}
 use Rattle.rwsp_model.specs.Validity.{KeepsLimits}
-use Rattle.refutation_terms.proofs.Counts.{count_next, in_column}
+use Rattle.refutation_terms.proofs.Counts.{in_column}
 
 abbrev pub Agree : Instance → Domains → Domains → Type 0
 Agree P D E = (q z : ℕ) → q < cells P → D q z ≡ E q z
@@ -33,23 +34,14 @@ only_by P D E q x e = ap (λ (f : ℕ → Bool). is_only P (λ a. f) q x) e
 pub row_alike : (P : Instance) (D E : Domains) (q : ℕ) → Agree P D E → q < cells P → D q ≡ E q
 row_alike P D E q h lt = fun_ext (λ z. h q z lt)
 
-pub count_alike : (f g : ℕ → Bool) (a n : ℕ) → ((i : ℕ) → a ≤ i → i < a + n → f i ≡ g i) → count_by f (range_with_len a n) ≡ count_by g (range_with_len a n)
-count_alike f g a zero h = refl
-count_alike f g a (suc n) h =
-    let here : f a ≡ g a = h a (omega arith) (omega arith) in
-    let more : count_by f (range_with_len (a + 1) n) ≡ count_by g (range_with_len (a + 1) n) = count_alike f g (a + 1) n (λ i le lt. h i (omega (arith, le)) (omega (arith, lt))) in
-    let e = count_next f a n in
-    let d = count_next g a n in
-    cc
-
 fixed_alike : (P : Instance) (D E : Domains) (j x : ℕ) → IsDay P j → Agree P D E → fixed P D j x ≡ fixed P E j x
 fixed_alike P D E j x day h =
-    count_alike (λ i. is_only P D (i * P.days + (j - 1)) x) (λ i. is_only P E (i * P.days + (j - 1)) x) 0 P.weeks
+    count_same (λ i. is_only P D (i * P.days + (j - 1)) x) (λ i. is_only P E (i * P.days + (j - 1)) x) 0 P.weeks
     (λ i le lt. only_by P D E (i * P.days + (j - 1)) x (row_alike P D E (i * P.days + (j - 1)) h (in_column P i j (omega (arith, lt)) day)))
 
 possible_alike : (P : Instance) (D E : Domains) (j x : ℕ) → IsDay P j → Agree P D E → possible P D j x ≡ possible P E j x
 possible_alike P D E j x day h =
-    count_alike (λ i. D (i * P.days + (j - 1)) x) (λ i. E (i * P.days + (j - 1)) x) 0 P.weeks
+    count_same (λ i. D (i * P.days + (j - 1)) x) (λ i. E (i * P.days + (j - 1)) x) 0 P.weeks
     (λ i le lt. h (i * P.days + (j - 1)) x (in_column P i j (omega (arith, lt)) day))
 
 pub idle_alike : (P : Instance) (D E : Domains) (q x : ℕ) → Agree P D E → q < cells P → is_idle P D q x ≡ is_idle P E q x
@@ -64,9 +56,3 @@ holds_alike P D E (Day j x false) some fits h holds = subst (λ n. pos n <ℤ le
 holds_alike P D E (Dead p len R) some fits h holds = λ u long o. holds u long (over_alike P E D some (agree_back P D E h) p u o)
 holds_alike P D E (Bound p turns R y) some fits h holds = λ u long o. holds u long (over_alike P E D some (agree_back P D E h) p u o)
 holds_alike P D E Unfinished some fits h holds = holds
-
-pub some_cells : (P : Instance) → KeepsLimits P → 0 < cells P
-some_cells P k =
-    let weeks : 0 < P.weeks = omega (arith, k.some_weeks) in
-    let days : 0 < P.days = omega (arith, k.some_days) in
-    mul-pos weeks days

@@ -16,7 +16,7 @@ use Rattle.tree_walk.specs.declared.open_split.OpenSplit.{OpenSplit}
 use Rattle.tree_walk.specs.Splits.{InSplits, IsNone, HasRead, lacking_in}
 use Rattle.tree_walk.specs.States.{State, IsStateOf, open_trees}
 use Rattle.roster_search.specs.declared.progress.Progress.{Progress}
-use Rattle.roster_search.specs.Written.{Stands, IsCitedIn, IsWritten}
+use Rattle.roster_search.specs.Written.{Stands, IsCitedIn, IsProgress}
 use Rattle.roster_search.proofs.Growing.{EachAt, one_more, got_in, got_one}
 
 pub no_names : (P : Instance) (r : Rule) → Names P [] r → ⊥
@@ -67,7 +67,7 @@ pub record IsNext (P : Instance) (a b : Progress) (line : Line) : Type 0 where
   pub opened : open_trees b.walk ≤ open_trees a.walk + 1
 
 -- one line more is written
-pub written_next : (P : Instance) (a b : Progress) (line : Line) → IsWritten P a → IsNext P a b line → IsWritten P b
+pub written_next : (P : Instance) (a b : Progress) (line : Line) → IsProgress P a → IsNext P a b line → IsProgress P b
 written_next P a b line w n =
     let all : List Line = a.lines.items ++ line ∷ [] in
     let long : length b.lines.items ≡ length all = ap length n.lines in

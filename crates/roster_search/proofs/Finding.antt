@@ -8,7 +8,7 @@ use Rattle.refutation_terms.specs.declared.lines.Turn.{Turn}
 use Rattle.roster_search.specs.declared.found.Found.{Found}
 use Rattle.roster_search.specs.declared.found.Found.TheVariants.{Roster, NoRoster, Undecided}
 use Rattle.roster_search.specs.declared.progress.Progress.{Progress}
-use Rattle.roster_search.specs.Founds.{IsForced, IsFound, IsUndecided}
+use Rattle.roster_search.specs.Founds.{IsForced, IsFound, HasSpentBudget}
 use Rattle.roster_search.specs.Written.{IsUnderWay, IsEnded, AreForced}
 use Rattle.roster_search.proofs.Growing.{got_in, domains_before}
 use Rattle.roster_search.proofs.Logs.{open_rest}
@@ -44,7 +44,7 @@ found_by P turn budget leaves spent s (Undecided g) u e = (
 )
 
 -- a search is undecided under small budgets alone
-pub undecided_small : (P : Instance) (turn : Option Turn) (budget : ℕ) (lines : List Line) (found : Found) → IsEnded P turn budget lines found → IsUndecided found → budget + 1 < 2 * (shift_count P + 1) ^ cells P
+pub undecided_small : (P : Instance) (turn : Option Turn) (budget : ℕ) (lines : List Line) (found : Found) → IsEnded P turn budget lines found → HasSpentBudget found → budget + 1 < 2 * (shift_count P + 1) ^ cells P
 undecided_small P turn budget lines (Roster r) e u = absurd u
 undecided_small P turn budget lines (NoRoster g) e u = absurd u
 undecided_small P turn budget lines (Undecided g) e u = spent_budgets_small P g budget e.0

@@ -13,7 +13,7 @@ use Rattle.tree_walk.proofs.Moves.{state_domains}
 use Rattle.propagators.specs.Looks.{Closes}
 use Rattle.roster_search.specs.declared.progress.Progress.{Progress}
 use Rattle.roster_search.specs.Founds.{IsForced}
-use Rattle.roster_search.specs.Written.{IsWritten, IsSplitOff, IsUnderWay, AreForced}
+use Rattle.roster_search.specs.Written.{IsProgress, IsSplitOff, IsUnderWay, AreForced}
 use Rattle.roster_search.proofs.Growing.{EachAt, one_more, split_more}
 
 abbrev pub Leaves : Type 1
@@ -41,7 +41,7 @@ same_forced P leaves spent D p q x y e h =
     subst (λ r. IsForced P leaves spent D r y) ep (subst (IsForced P leaves spent D p) ex h)
 
 -- behind a leaf
-pub leaf_under_way : (P : Instance) (turn : Option Turn) (budget : ℕ) (leaves : Leaves) (spent : Spent) (a b : Progress) (line : Line) → IsUnderWay P turn budget leaves spent a → IsWritten P b → IsLeaf line → b.turn ≡ a.turn → b.lines.items ≡ a.lines.items ++ line ∷ [] → length b.lines.items ≤ budget → IsUnderWay P turn budget leaves spent b
+pub leaf_under_way : (P : Instance) (turn : Option Turn) (budget : ℕ) (leaves : Leaves) (spent : Spent) (a b : Progress) (line : Line) → IsUnderWay P turn budget leaves spent a → IsProgress P b → IsLeaf line → b.turn ≡ a.turn → b.lines.items ≡ a.lines.items ++ line ∷ [] → length b.lines.items ≤ budget → IsUnderWay P turn budget leaves spent b
 leaf_under_way P turn budget leaves spent a b line u w leaf same lines few = record {
   written = w;
   same_turn = same ∙ u.same_turn;

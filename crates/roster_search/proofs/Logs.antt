@@ -19,12 +19,9 @@ use Rattle.tree_walk.specs.Splits.{lacking_in}
 use Rattle.tree_walk.specs.States.{State, open_trees}
 use Rattle.roster_search.specs.declared.progress.Progress.{Progress}
 use Rattle.roster_search.specs.declared.found.Found.TheVariants.{NoRoster, Undecided}
-use Rattle.roster_search.specs.Written.{IsWritten, NamesCited, IsEnded}
+use Rattle.roster_search.specs.Written.{IsProgress, NamesCited, IsEnded}
 use Rattle.roster_search.proofs.Growing.{got_in, domains_before}
-
-rule_in_range : (P : Instance) (k : ℕ) (r : Rule) → rule_of P k ≡ Some r → (0 < k) × (k ≤ length (rules P))
-rule_in_range P zero r e = absurd (cc)
-rule_in_range P (suc k) r e = let lt = slice_get_within (rules P) k r e in (omega arith, omega (arith, lt))
+use Rattle.rwsp_model.proofs.Numbering.{rule_in_range}
 
 are_rules : (P : Instance) (R : List ℕ) → IsStrictlyIncreasing R → ((k : ℕ) → Contains R k → (r : Rule) × (rule_of P k ≡ Some r)) → AreRules P R
 are_rules P R up h = (
@@ -49,7 +46,7 @@ each_in Q ls rest each here opened k line e = elim (got_in ls rest k line e) [
   | inr at ↦ subst Q (sym (opened at.0 line at.2)) here
 ]
 
-grounded : (P : Instance) (s : Progress) (rest : List Line) → IsWritten P s → IsAllowed P s.turn → IsStrictlyIncreasing s.named → AreOpen rest → IsGrounded P (log_of s rest)
+grounded : (P : Instance) (s : Progress) (rest : List Line) → IsProgress P s → IsAllowed P s.turn → IsStrictlyIncreasing s.named → AreOpen rest → IsGrounded P (log_of s rest)
 grounded P s rest w allowed up opened = record {
   fits = record {
     named = are_rules P s.named up w.numbers;
@@ -62,13 +59,13 @@ grounded P s rest w allowed up opened = record {
   short = each_in (ListsShortOnly P) s.lines.items rest (λ k line e. (w.stand k line e).short) tt opened;
 }
 
-holds_before : (P : Instance) (s : Progress) (rest : List Line) → IsWritten P s → (k : ℕ) (line : Line) → k < length s.lines.items → slice_get (s.lines.items ++ rest) k ≡ Some line → HoldsAt P (log_of s rest) k line
+holds_before : (P : Instance) (s : Progress) (rest : List Line) → IsProgress P s → (k : ℕ) (line : Line) → k < length s.lines.items → slice_get (s.lines.items ++ rest) k ≡ Some line → HoldsAt P (log_of s rest) k line
 holds_before P s rest w k line lt e = elim (got_in s.lines.items rest k line e) [
   | inl at ↦ subst (λ D. Holds P D line) (sym (domains_before P s.turn s.lines.items rest k (omega (arith, lt)))) (w.stand k line at.1).holds
   | inr at ↦ absurd (omega (arith, lt, at.1))
 ]
 
-names_cited : (P : Instance) (s : Progress) (rest : List Line) → IsWritten P s → NamesCited P s.turn (log_of s rest)
+names_cited : (P : Instance) (s : Progress) (rest : List Line) → IsProgress P s → NamesCited P s.turn (log_of s rest)
 names_cited P s rest w = record {
   same_turn = refl;
   cited = λ r n. elim ((w.cited r).0 n) [
@@ -90,7 +87,7 @@ none_open : AreOpen none
 none_open m line e = absurd (cc)
 
 -- a whole tree passes
-pub passing_end : (P : Instance) (s : Progress) (budget : ℕ) (g : Log) → IsWritten P s → IsAllowed P s.turn → IsStrictlyIncreasing s.named → IsTree s.lines.items → length s.lines.items ≤ budget → g.named ≡ s.named → g.turn ≡ s.turn → g.lines ≡ s.lines.items → IsEnded P s.turn budget s.lines.items (NoRoster g)
+pub passing_end : (P : Instance) (s : Progress) (budget : ℕ) (g : Log) → IsProgress P s → IsAllowed P s.turn → IsStrictlyIncreasing s.named → IsTree s.lines.items → length s.lines.items ≤ budget → g.named ≡ s.named → g.turn ≡ s.turn → g.lines ≡ s.lines.items → IsEnded P s.turn budget s.lines.items (NoRoster g)
 passing_end P s budget g w allowed up tree few a b c =
     let whole : s.lines.items ++ none ≡ s.lines.items = append-nil s.lines.items in
     let is : log_of s none ≡ g = sym (same_log g (log_of s none) a b (c ∙ sym whole)) in
@@ -123,7 +120,7 @@ pub some_open : (w : State) → w.whole ≡ false → 1 ≤ open_trees w
 some_open w part = let e : open_trees w ≡ lacking_in w.splits + 1 = ap (λ b. cond b 0 (lacking_in w.splits + 1)) part in omega arith
 
 -- lines that have used up the budget, with the rest left open
-pub spent_end : (P : Instance) (s : Progress) (budget n : ℕ) (g : Log) → IsWritten P s → IsAllowed P s.turn → IsStrictlyIncreasing s.named → IsTree (s.lines.items ++ replicate n Unfinished) → length s.lines.items ≤ budget → budget ≤ length s.lines.items → 1 ≤ n → g.named ≡ s.named → g.turn ≡ s.turn → g.lines ≡ s.lines.items ++ replicate n Unfinished → IsEnded P s.turn budget s.lines.items (Undecided g)
+pub spent_end : (P : Instance) (s : Progress) (budget n : ℕ) (g : Log) → IsProgress P s → IsAllowed P s.turn → IsStrictlyIncreasing s.named → IsTree (s.lines.items ++ replicate n Unfinished) → length s.lines.items ≤ budget → budget ≤ length s.lines.items → 1 ≤ n → g.named ≡ s.named → g.turn ≡ s.turn → g.lines ≡ s.lines.items ++ replicate n Unfinished → IsEnded P s.turn budget s.lines.items (Undecided g)
 spent_end P s budget n g w allowed up tree few all some a b c =
     let rest : List Line = replicate n Unfinished in
     let is : log_of s rest ≡ g = sym (same_log g (log_of s rest) a b c) in

@@ -11,11 +11,12 @@ use Rattle.rwsp_terms.specs.declared.data.ShiftRow.{ShiftRow}
 use Rattle.rwsp_terms.specs.declared.data.Symbol.{Symbol}
 use Rattle.rwsp_terms.specs.declared.data.Rule.{Rule}
 use Rattle.rwsp_terms.specs.declared.data.Rule.TheVariants.{MaxShift, MinShift, MaxOff, MinOff, MaxWork, MinWork, Pair, Triple, Day}
-use Rattle.rwsp_terms.specs.Instance.{Instance, cells, shift_count, least, greatest, bounds_of, symbol_numbered, IsDay}
-use Rattle.rwsp_terms.specs.Window.{off_symbol, cell, window, TooLong, TooShort, Bad}
+use Rattle.rwsp_terms.specs.Instance.{Instance, cells, shift_count, least, greatest, bounds_of, symbol_numbered, IsDay, off_symbol}
+use Rattle.rwsp_terms.specs.Window.{cell, window, TooLong, TooShort, Bad}
 use Rattle.rwsp_terms.specs.Roster.{weeks_with, MeetsDay, HasNoBadWindow, MeetsRule, IsRule, IsRoster, MeetsAll}
 use Rattle.rwsp_terms.specs.Rules.{rules, rule_of}
 use Rattle.rwsp_terms.proofs.Windows.{length-window}
+use Rattle.rwsp_terms.proofs.Counting.{count_mono}
 use Rattle.rwsp_model.specs.Validity.{KeepsLimits, AreSmall}
 use Rattle.rwsp_model.specs.RuleNumbers.{place_of}
 use Rattle.rwsp_model.proofs.Numbering.{number_at_place, number_within}
@@ -23,11 +24,11 @@ use Rattle.refutation_terms.specs.declared.lines.Line.TheVariants as Lines
 use Rattle.refutation_terms.specs.Word.{Over}
 use Rattle.refutation_terms.specs.Leaf.{is_only, fixed, possible}
 use Rattle.refutation_terms.specs.Log.{LineFits, Holds}
-use Rattle.refutation_terms.proofs.Counts.{count_mono, in_column}
+use Rattle.refutation_terms.proofs.Counts.{in_column}
 use Rattle.refutation_terms.proofs.Tests.{both}
 use Rattle.domain_store.specs.Store.{Store, BelongsTo, IsDecided, domain_at, has_domain, IsStore, HasDomains}
 use Rattle.tree_walk.proofs.Idle.{positions_of}
-use Rattle.roster_search.proofs.Alike.{some_cells}
+use Rattle.rwsp_model.proofs.Limits.{some_cells}
 
 -- decided domains, and the roster of their symbols
 pub record IsAlone (P : Instance) (S : Store) (s : List Symbol) : Type 0 where

@@ -8,18 +8,17 @@ use Rattle.std.proofs.lemmas.List.FromFn.{length-range_with_len}
 use Rattle.std.proofs.lemmas.List.Sums.{count_by-le-length}
 use Rattle.rwsp_terms.specs.declared.data.Symbol.{Symbol}
 use Rattle.rwsp_terms.specs.Instance.{Instance, cells, shift_count}
+use Rattle.rwsp_terms.proofs.Counting.{count_same, count_next}
 use Rattle.refutation_terms.specs.declared.lines.Line.{Line}
 use Rattle.refutation_terms.specs.declared.lines.Line.TheVariants.{Split, Unfinished}
 use Rattle.refutation_terms.specs.Word.{Domains}
 use Rattle.refutation_terms.specs.Tree.{Tree, Leaf, Node, lines_in, First, Second, lines_leave, narrowed, opening, domains_at, is_idle}
 use Rattle.refutation_terms.specs.Log.{Log, LineFits, IsSpent}
 use Rattle.refutation_terms.proofs.Tests.{both, left_of}
-use Rattle.refutation_terms.proofs.Counts.{count_next}
 use Rattle.refutation_terms.proofs.InWords.{there, another}
 use Rattle.refutation_terms.proofs.NeverEmpty.{domains_never_empty}
 use Rattle.refutation_terms.proofs.TreeDomains.{EachLine, EachInOrder, in_tree}
 use Rattle.roster_search.specs.Laws.{SpentBudgetsAreSmall}
-use Rattle.roster_search.proofs.Alike.{count_alike}
 
 -- the product of the first n numbers
 abbrev product : (ℕ → ℕ) → ℕ → ℕ
@@ -140,8 +139,8 @@ parted P D p x fits useful =
     let x_small : x.number ≤ last = fits.1 in
     let z_small : other.0 ≤ last = other.1 in
     record {
-      first = λ q apart. count_alike (A q) (D q) 0 (last + 1) (λ z le lt. side_elsewhere D p q z (z == x.number) apart);
-      second = λ q apart. count_alike (B q) (D q) 0 (last + 1) (λ z le lt. side_elsewhere D p q z (not (z == x.number)) apart);
+      first = λ q apart. count_same (A q) (D q) 0 (last + 1) (λ z le lt. side_elsewhere D p q z (z == x.number) apart);
+      second = λ q apart. count_same (B q) (D q) 0 (last + 1) (λ z le lt. side_elsewhere D p q z (not (z == x.number)) apart);
       whole = count_parts (D p) (A p) (B p) 0 (last + 1)
           (λ z. part_at (D p z) (z == x.number) ∙ ap (λ b. cond b 1 0 + cond (D p z && not (z == x.number)) 1 0) (sym (here_a z)) ∙ ap (λ b. cond (A p z) 1 0 + cond b 1 0) (sym (here_b z)));
       some_first = count_some (A p) 0 (last + 1) x.number (omega arith) (omega (arith, x_small))

@@ -35,6 +35,6 @@ IsFound P turn budget leaves spent (NoRoster g) = Passes P g × (size g ≤ budg
 IsFound P turn budget leaves spent (Undecided g) = IsSpent P g budget × IsSearchLog P turn leaves spent g
 
 -- the budget was spent
-abbrev pub IsUndecided : Found → Type 0
-IsUndecided (Undecided g) = Unit {0}
-IsUndecided found = ⊥
+abbrev pub HasSpentBudget : Found → Type 0
+HasSpentBudget (Undecided g) = Unit {0}
+HasSpentBudget found = ⊥

@@ -29,7 +29,7 @@ abbrev pub IsCitedIn : Instance → Option Turn → List Line → Rule → Type 
 IsCitedIn P turn lines r = TurnCites turn r ⊎ ((k : ℕ) × (line : Line) × (slice_get lines k ≡ Some line) × Cites P line r)
 
 -- the lines stand under the domains at them, the walk is behind them, and what they and the turn cite is named
-pub record IsWritten (P : Instance) (s : Progress) : Type 0 where
+pub record IsProgress (P : Instance) (s : Progress) : Type 0 where
   pub state : IsStateOf P s.turn s.lines.items s.walk
   pub turn_fits : TurnFits P s.turn
   pub stand : (k : ℕ) (line : Line) → slice_get s.lines.items k ≡ Some line → Stands P (domains_at P s.turn s.lines.items k) line
@@ -47,7 +47,7 @@ IsSplitWithLeaf p x added = (added ≡ Split p x ∷ []) ⊎ ((leaf : Line) × I
 
 -- such lines were written, and only the domain of their position became smaller
 pub record IsSplitOff (P : Instance) (before after : Progress) (p : ℕ) (x : Symbol) : Type 0 where
-  pub written : IsWritten P after
+  pub written : IsProgress P after
   pub same_turn : after.turn ≡ before.turn
   pub added : List Line
   pub split : IsSplitWithLeaf p x added
@@ -56,7 +56,7 @@ pub record IsSplitOff (P : Instance) (before after : Progress) (p : ℕ) (x : Sy
 
 -- the lines of a search with this budget, whose splits are as the propagator says
 pub record IsUnderWay (P : Instance) (turn : Option Turn) (budget : ℕ) (leaves : Store → Line → Type 0) (spent : Store → ℕ → Symbol → Type 0) (s : Progress) : Type 0 where
-  pub written : IsWritten P s
+  pub written : IsProgress P s
   pub same_turn : s.turn ≡ turn
   pub forced : AreForced P leaves spent turn s.lines.items
   pub few : length s.lines.items ≤ budget

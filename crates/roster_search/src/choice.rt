@@ -10,7 +10,7 @@ use rwsp_model::{Class, Problem, Symbol};
 
 /// A position, counted from 0, and a symbol of its domain.
 #[derive(Clone, Copy)]
-pub struct Choice {
+pub struct NextSplit {
     pub p: u32,
     pub x: Symbol,
 }
@@ -20,14 +20,14 @@ pub struct Choice {
 /// It is the first such position. A block of one shift, of days off or of work that the days before it have begun goes on until
 /// it has its least length. Else a day off is taken where fewer of them have been given than is their share up to there, and
 /// otherwise the shift that is needed most.
-pub fn choose(problem: &Problem, domains: &Domains) -> Option<Choice>
+pub fn choose(problem: &Problem, domains: &Domains) -> Option<NextSplit>
     requires { BelongsTo problem.now domains.now }
     ensures { MatchOption result (IsDecided domains.now) (λ c. (c.p < length domains.now.sets) × (is_idle_in domains.now c.p c.x.number ≡ false)) }
 {
     domains.facts();
     let p = first_open(domains)?;
     let x = wanted_at(problem, domains, p)?;
-    Some(Choice { p, x })
+    Some(NextSplit { p, x })
 }
 
 // The symbol that is tried first at a position.

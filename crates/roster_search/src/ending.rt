@@ -2,7 +2,7 @@
 ghost use Rattle.std.specs.Prelude.{◌≡◌, ℕ, ◌+◌, ◌<◌, ◌≤◌, ◌++◌, length, replicate, false, IfOk};
 ghost use Rattle.refutation_terms.specs.declared.lines.Line.TheVariants.{Unfinished};
 ghost use Rattle.refutation_terms.specs.Log.{IsAllowed};
-ghost use Rattle.roster_search.specs.Written.{IsWritten, IsEnded};
+ghost use Rattle.roster_search.specs.Written.{IsProgress, IsEnded};
 
 use crate::Found;
 use crate::progress::Progress;
@@ -14,7 +14,7 @@ use std::alloc::AllocError;
 /// The log of the lines, once they are a whole tree or the budget is spent. What is open then is left
 /// unfinished.
 pub fn end(problem: &Problem, budget: u32, progress: Progress) -> Result<Found, AllocError>
-    requires written { IsWritten problem.now progress }
+    requires written { IsProgress problem.now progress }
     requires allowed { IsAllowed problem.now progress.turn }
     requires few { length progress.lines.items ≤ budget }
     requires budget { budget ≤ 200000 }

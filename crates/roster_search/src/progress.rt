@@ -9,7 +9,7 @@ ghost use Rattle.rwsp_terms.specs.declared.data.Rule.{Rule};
 ghost use Rattle.domain_store.specs.Store.{has_domain, IsStore, HasDomains};
 ghost use Rattle.tree_walk.specs.Splits.{is_idle_in};
 ghost use Rattle.propagators.specs.Looks.{IsLeafOf};
-ghost use Rattle.roster_search.specs.Written.{IsWritten, IsSplitOff};
+ghost use Rattle.roster_search.specs.Written.{IsProgress, IsSplitOff};
 
 use refutation_log::{put_cited, put_turn_cited};
 use refutation_terms::{Line, Turn};
@@ -31,7 +31,7 @@ impl Progress {
     /// No line yet.
     pub fn new(alloc: Global, problem: &Problem, turn: Option<Turn>) -> Result<Progress, AllocError>
         requires { TurnFits problem.now turn }
-        ensures written { IfOk result (λ s. IsWritten problem.now s) }
+        ensures written { IfOk result (λ s. IsProgress problem.now s) }
         ensures turn { IfOk result (λ s. s.turn ≡ turn) }
         ensures none { IfOk result (λ s. s.lines.items ≡ []) }
     {
@@ -70,10 +70,10 @@ impl Progress {
     /// Writes a leaf. After want of memory the lines are of no use.
     pub fn close(&mut self, problem: &Problem, line: Line) -> Result<(), AllocError>
         requires part { self.old.walk.whole ≡ false }
-        requires written { IsWritten problem.now self.old }
+        requires written { IsProgress problem.now self.old }
         requires leaf { IsLeafOf problem.now line }
         requires holds { Holds problem.now (domains_at problem.now self.old.turn self.old.lines.items (length self.old.lines.items)) line }
-        ensures written { IfOk result (λ _. IsWritten problem.now self.new) }
+        ensures written { IfOk result (λ _. IsProgress problem.now self.new) }
         ensures turn { self.new.turn ≡ self.old.turn }
         ensures lines { IfOk result (λ _. self.new.lines.items ≡ self.old.lines.items ++ line ∷ []) }
     {
@@ -88,7 +88,7 @@ impl Progress {
         requires part { self.old.walk.whole ≡ false }
         requires position { p < length self.old.walk.store.sets }
         requires useful { is_idle_in self.old.walk.store p x.number ≡ false }
-        ensures off { IfOk result (λ _. (P : Instance) → IsWritten P self.old → IsSplitOff P self.old self.new p x) }
+        ensures off { IfOk result (λ _. (P : Instance) → IsProgress P self.old → IsSplitOff P self.old self.new p x) }
         ensures lines { IfOk result (λ _. self.new.lines.items ≡ self.old.lines.items ++ Split p x ∷ []) }
         ensures part { IfOk result (λ _. self.new.walk.whole ≡ false) }
         ensures turn { self.new.turn ≡ self.old.turn }
@@ -111,7 +111,7 @@ impl Progress {
         line: Line,
     ) -> Result<(), AllocError>
         requires part { self.old.walk.whole ≡ false }
-        requires written { IsWritten problem.now self.old }
+        requires written { IsProgress problem.now self.old }
         requires room { length self.old.lines.items < budget }
         requires position { p < cells problem.now }
         requires useful { is_idle problem.now (has_domain self.old.walk.store) p x.number ≡ false }

@@ -6,7 +6,7 @@ ghost use Rattle.refutation_terms.specs.declared.lines.Line.{Line};
 ghost use Rattle.refutation_terms.specs.declared.lines.Line.TheVariants.{Window, Day};
 ghost use Rattle.refutation_terms.specs.Log.{LineFits, TurnFits, IsAllowed};
 ghost use Rattle.domain_store.specs.Store.{Store};
-ghost use Rattle.roster_search.specs.Founds.{IsFound, IsUndecided};
+ghost use Rattle.roster_search.specs.Founds.{IsFound, HasSpentBudget};
 
 use crate::Found;
 use crate::ending::end;
@@ -34,7 +34,7 @@ pub fn search<A: Propagator>(
     requires windows { (S : Store) (number p len : ℕ) → LineFits problem.now (Window number p len) → A.leaves prop.old S (Window number p len) }
     requires days { (S : Store) (j : ℕ) (x : Symbol) (over : Bool) → LineFits problem.now (Day j x over) → A.leaves prop.old S (Day j x over) }
     ensures found { IfOk result (λ found. IsFound problem.now turn budget (A.leaves prop.old) (A.spent prop.old) found) }
-    ensures complete { IfOk result (λ found. IsUndecided found → budget + 1 < 2 * (shift_count problem.now + 1) ^ cells problem.now) }
+    ensures complete { IfOk result (λ found. HasSpentBudget found → budget + 1 < 2 * (shift_count problem.now + 1) ^ cells problem.now) }
     ensures serves { (P : Instance) → A.serves prop.old P ↔ A.serves prop.new P }
     ensures leaves { (S : Store) (line : Line) → A.leaves prop.old S line ↔ A.leaves prop.new S line }
     ensures spent { (S : Store) (p : ℕ) (x : Symbol) → A.spent prop.old S p x ↔ A.spent prop.new S p x }

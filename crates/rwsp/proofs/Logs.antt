@@ -23,8 +23,8 @@ use Rattle.refutation_terms.specs.Verdict.{Escapes, TreeCause, Cause, Front, Sta
 use Rattle.refutation_terms.proofs.Tests.{left_of}
 use Rattle.refutation_terms.proofs.Sound.{passing_leaves_none}
 use Rattle.refutation_terms.proofs.Unique.{verdict_unique}
-use Rattle.refutation_log.proofs.OneText.{symbol_named, name_there}
-use Rattle.rwsp.specs.Inputs.{IsShort}
+use Rattle.refutation_log.proofs.OneText.{symbol_named, name_there, has_names, is_writable}
+use Rattle.rwsp.specs.Inputs.{IsWithinLimit}
 use Rattle.rwsp.specs.Plans.{IsPlanned}
 use Rattle.rwsp.specs.Answers.{IsLogAnswer, LeavesNoRoster}
 use Rattle.rwsp.specs.Texts.{IsPrintable, HasSymbols}
@@ -33,9 +33,9 @@ use Rattle.rwsp.specs.declared.answer.Answer.{Answer}
 use Rattle.rwsp.specs.declared.answer.Answer.TheVariants.{Roster, NoRoster, Undecided, Accepted, LogRefused, Reduced, Meets, Shown, Breaks, RosterRefused, Usage, FileRefused, TooLong}
 
 -- the rules of a log that passes leave no roster
-pub accepted : (P : Instance) (bytes R : List ℕ) → IsShort Kinds.Log bytes → (g : Log) × IsAccepted P bytes g × (g.named ≡ R) → IsLogAnswer (Accepted R) P bytes
+pub accepted : (P : Instance) (bytes R : List ℕ) → IsWithinLimit Kinds.Log bytes → (g : Log) × IsAccepted P bytes g × (g.named ≡ R) → IsLogAnswer (Accepted R) P bytes
 accepted P bytes R short h =
-    (short, h, λ s met. passing_leaves_none P h.0 s h.1.1 (subst (λ (named : List ℕ). MeetsRules P named s) (sym h.2) met))
+    (short, h, λ s met. passing_leaves_none P h.0 s h.1.1 (subst (λ (has_names : List ℕ). MeetsRules P has_names s) (sym h.2) met))
 
 -- the symbols of a word over domains that have no others
 
@@ -57,7 +57,7 @@ escaping P D Unfinished w known h = absurd h
 caused : (P : Instance) (front : Front) (bytes : List ℕ) (n : ℕ) (w : List Symbol) → Cause P front bytes (Refusals.Escape n w) → All (IsSymbol P) w
 caused P Start bytes n w h = absurd h
 caused P (Versioned has_turn) bytes n w h = absurd h
-caused P (BeforeTurn named) bytes n w h = absurd h
+caused P (BeforeTurn has_names) bytes n w h = absurd h
 caused P (Reading g) bytes n w (inl h) = absurd h.1
 caused P (Reading g) bytes n w (inr h) =
     let line = h.1.1.0 in
@@ -94,16 +94,6 @@ planned_printable P budget (TooLong kind) h = absurd h
 
 -- what the limits say of texts
 
-writable : (P : Instance) → KeepsLimits P → IsWritable P
-writable P limits =
-    let d : P.days < 2 ^ 32 = omega (arith, limits.few_days) in
-    let n : P.weeks < 2 ^ 32 = omega (arith, limits.few_weeks) in
-    let r : length (rules P) < 2 ^ 32 = omega (arith, rules_are_many P, limits.few_shifts, limits.few_pairs, limits.few_triples, limits.few_days) in
-    (d, n, r)
-
-named : (P : Instance) → KeepsLimits P → HasNames P
-named P limits x is = (name_there P x.number limits is, symbol_named P x limits is)
-
 -- a text has one verdict
 pub one_verdict : (P : Instance) (text : List ℕ) (a b : Result Log LogRefusal) → KeepsLimits P → IsVerdict P text a → IsVerdict P text b → a ≡ b
-one_verdict P text a b limits h k = verdict_unique P text a b (writable P limits) (named P limits) h k
+one_verdict P text a b limits h k = verdict_unique P text a b (is_writable P limits) (has_names P limits) h k

@@ -26,11 +26,11 @@ use Rattle.refutation_terms.specs.Log.{Log as LogValue}
 use Rattle.refutation_terms.specs.LogText.{log_text}
 use Rattle.refutation_terms.specs.Verdict.{IsAccepted, IsRefused}
 use Rattle.rwsp.specs.Commands.{Words, IsForm, HasNoForm, IsCount, greatest_budget, most_workers, problem_name, second_name}
-use Rattle.rwsp.specs.Inputs.{WhereTold, IsShort, IsTooLong, IsProblemOf}
+use Rattle.rwsp.specs.Inputs.{WhereTold, IsWithinLimit, IsTooLong, IsProblemOf}
 use Rattle.rwsp.specs.Plans.{IsPlanned}
 use Rattle.rwsp.specs.Answers.{IsAnswer, IsAnswerOn, IsAnswerTo, IsOfFile, IsOfRoster, IsOfLog, IsFileAnswer, IsRosterAnswer, IsLogAnswer, IsReduction}
 use Rattle.rwsp.specs.Texts.{IsTextOf, text_of}
-use Rattle.rwsp.specs.Laws.{AnswersAreOne, TextsAreOne, ProblemsAreAnswered, RefutationsAreAccepted, IsFound}
+use Rattle.rwsp.specs.Laws.{AnswersAreOne, TextsAreOne, ProblemsAreAnswered, RefutationsAreAccepted, IsOfSearch}
 use Rattle.rwsp.specs.declared.command.Command.{Command}
 use Rattle.rwsp.specs.declared.command.Command.TheVariants.{Plan, Check, Verify, Reduce, Show}
 use Rattle.rwsp.specs.declared.answer.InputKind.{InputKind}
@@ -41,15 +41,15 @@ use Rattle.refutation_terms.specs.Strip.{IsReduced}
 use Rattle.rwsp.proofs.Logs.{one_verdict}
 use Rattle.rwsp.proofs.Reductions.{one_reduced}
 
-not_both : (kind : InputKind) (bytes : List ℕ) → IsTooLong kind bytes → IsShort kind bytes → ⊥
+not_both : (kind : InputKind) (bytes : List ℕ) → IsTooLong kind bytes → IsWithinLimit kind bytes → ⊥
 not_both kind bytes long short = omega arith
 
 -- how a roster's bytes end the job for an instance
 data RosterEnd (P : Instance) (bytes : List ℕ) (answer : Answer) : Type 0 where
   long : IsTooLong Kinds.Roster bytes → answer ≡ TooLong Kinds.Roster → RosterEnd P bytes answer
-  refused : (why : RosterRefusal) → IsShort Kinds.Roster bytes → refusal_of_roster P bytes ≡ Some why → answer ≡ RosterRefused why → RosterEnd P bytes answer
-  met : (s : List Symbol) → IsShort Kinds.Roster bytes → SpellsRoster P bytes s → MeetsAll P s → answer ≡ Meets → RosterEnd P bytes answer
-  broken : (s : List Symbol) (b : Broken) → IsShort Kinds.Roster bytes → SpellsRoster P bytes s → IsFirstBroken P s b → answer ≡ Breaks b → RosterEnd P bytes answer
+  refused : (why : RosterRefusal) → IsWithinLimit Kinds.Roster bytes → refusal_of_roster P bytes ≡ Some why → answer ≡ RosterRefused why → RosterEnd P bytes answer
+  met : (s : List Symbol) → IsWithinLimit Kinds.Roster bytes → SpellsRoster P bytes s → MeetsAll P s → answer ≡ Meets → RosterEnd P bytes answer
+  broken : (s : List Symbol) (b : Broken) → IsWithinLimit Kinds.Roster bytes → SpellsRoster P bytes s → IsFirstBroken P s b → answer ≡ Breaks b → RosterEnd P bytes answer
 
 roster_end : (P : Instance) (bytes : List ℕ) (answer : Answer) → IsRosterAnswer answer P bytes → RosterEnd P bytes answer
 roster_end P bytes (TooLong Kinds.Roster) h = long h refl
@@ -108,8 +108,8 @@ one_roster_end P bytes a b (broken t k u q m e) (broken t' k' u' q' m' f) =
 -- how a log's bytes end the job for an instance
 data LogEnd (P : Instance) (bytes : List ℕ) (answer : Answer) : Type 0 where
   long_log : IsTooLong Kinds.Log bytes → answer ≡ TooLong Kinds.Log → LogEnd P bytes answer
-  refused_log : (why : LogRefusal) → IsShort Kinds.Log bytes → IsRefused P bytes why → answer ≡ LogRefused why → LogEnd P bytes answer
-  accepted_log : (g : LogValue) → IsShort Kinds.Log bytes → IsAccepted P bytes g → answer ≡ Accepted g.named → LogEnd P bytes answer
+  refused_log : (why : LogRefusal) → IsWithinLimit Kinds.Log bytes → IsRefused P bytes why → answer ≡ LogRefused why → LogEnd P bytes answer
+  accepted_log : (g : LogValue) → IsWithinLimit Kinds.Log bytes → IsAccepted P bytes g → answer ≡ Accepted g.named → LogEnd P bytes answer
 
 log_end : (P : Instance) (bytes : List ℕ) (answer : Answer) → IsLogAnswer answer P bytes → LogEnd P bytes answer
 log_end P bytes (TooLong Kinds.Log) h = long_log h refl
@@ -167,8 +167,8 @@ same_count word limit m n h k =
 -- how a log's bytes end a reduction for an instance
 data ReductionEnd (P : Instance) (bytes : List ℕ) (answer : Answer) : Type 0 where
   long_reduction : IsTooLong Kinds.Log bytes → answer ≡ TooLong Kinds.Log → ReductionEnd P bytes answer
-  refused_reduction : (why : LogRefusal) → IsShort Kinds.Log bytes → IsRefused P bytes why → answer ≡ LogRefused why → ReductionEnd P bytes answer
-  reduced_log : (g h : LogValue) → IsShort Kinds.Log bytes → IsAccepted P bytes g → IsReduced P g h → answer ≡ Reduced h → ReductionEnd P bytes answer
+  refused_reduction : (why : LogRefusal) → IsWithinLimit Kinds.Log bytes → IsRefused P bytes why → answer ≡ LogRefused why → ReductionEnd P bytes answer
+  reduced_log : (g h : LogValue) → IsWithinLimit Kinds.Log bytes → IsAccepted P bytes g → IsReduced P g h → answer ≡ Reduced h → ReductionEnd P bytes answer
 
 reduction_end : (P : Instance) (bytes : List ℕ) (answer : Answer) → IsReduction answer P bytes → ReductionEnd P bytes answer
 reduction_end P bytes (TooLong Kinds.Log) h = long_reduction h refl
@@ -307,7 +307,7 @@ at_missing told Q e h = subst (λ (t : Told). WhereTold t Q) e h
 
 -- two answers to a command for an instance, over what the second file tells
 
-found : (P : Instance) (budget : ℕ) (a : Answer) → IsPlanned P budget a → IsFound a
+found : (P : Instance) (budget : ℕ) (a : Answer) → IsPlanned P budget a → IsOfSearch a
 found P budget (Roster s) h = tt
 found P budget (NoRoster g) h = tt
 found P budget (Undecided g) h = tt
@@ -334,7 +334,7 @@ one_reduction : (P : Instance) (told : Told) (a b : Answer) → KeepsLimits P �
 one_reduction P told a b limits (inl e) h k = absurd (at_missing told (IsReduction a P) e h)
 one_reduction P told a b limits (inr r) h k = one_reduction_end P r.0 a b limits (reduction_end P r.0 a (at_bytes told r.0 (IsReduction a P) r.1 h)) (reduction_end P r.0 b (at_bytes told r.0 (IsReduction b P) r.1 k))
 
-one_on : (command : Command) (P : Instance) (told : Told) (a b : Answer) → KeepsLimits P → IsThere told → IsAnswerOn command told P a → IsAnswerOn command told P b → (a ≡ b) ⊎ (IsFound a × IsFound b)
+one_on : (command : Command) (P : Instance) (told : Told) (a b : Answer) → KeepsLimits P → IsThere told → IsAnswerOn command told P a → IsAnswerOn command told P b → (a ≡ b) ⊎ (IsOfSearch a × IsOfSearch b)
 one_on Show P told a b limits there h k = inl (h ∙ sym k)
 one_on Verify P told a b limits there h k = inl (one_roster_answer P told a b there h.1 k.1)
 one_on (Check workers) P told a b limits there h k = inl (one_log_answer P told a b limits there h.1 k.1)
@@ -345,7 +345,7 @@ one_on (Plan budget) P told a b limits there h k = inr (found P budget a h, foun
 
 data FileEnd (file : List ℕ) (answer : Answer) : Type 0 where
   too_long : IsTooLong Kinds.Problem file → answer ≡ TooLong Kinds.Problem → FileEnd file answer
-  unread : (why : FileRefusal) → IsShort Kinds.Problem file → file_refusal file ≡ Some why → answer ≡ FileRefused why → FileEnd file answer
+  unread : (why : FileRefusal) → IsWithinLimit Kinds.Problem file → file_refusal file ≡ Some why → answer ≡ FileRefused why → FileEnd file answer
 
 file_end : (file : List ℕ) (answer : Answer) → IsFileAnswer answer file → FileEnd file answer
 file_end file (TooLong Kinds.Problem) h = too_long h refl
@@ -378,16 +378,16 @@ unread_by file P why None e m spells = absurd (cc)
 unread_by file P why (Some other) e m spells = m P spells
 
 -- a file that spells an instance has no answer by itself
-not_by_itself : TextsSpellOrFail → (file : List ℕ) (P : Instance) (a : Answer) → IsShort Kinds.Problem file → SpellsProblem file P → FileEnd file a → ⊥
+not_by_itself : TextsSpellOrFail → (file : List ℕ) (P : Instance) (a : Answer) → IsWithinLimit Kinds.Problem file → SpellsProblem file P → FileEnd file a → ⊥
 not_by_itself decide file P a short spells (too_long l e) = not_both Kinds.Problem file l short
 not_by_itself decide file P a short spells (unread why s r e) = unread_by file P why (file_refusal file) r (decide file) spells
 
 -- two answers to a command over a file that is there
 
 abbrev AtFile : Command → Told → List ℕ → Answer → Type 0
-AtFile command second file answer = IsShort Kinds.Problem file × ((P : Instance) × SpellsProblem file P × IsAnswerOn command second P answer)
+AtFile command second file answer = IsWithinLimit Kinds.Problem file × ((P : Instance) × SpellsProblem file P × IsAnswerOn command second P answer)
 
-both_ends : TextsSpellOne → TextsSpellOrFail → (command : Command) (second : Told) (file : List ℕ) (a b : Answer) → IsThere second → FileEnd file a ⊎ AtFile command second file a → FileEnd file b ⊎ AtFile command second file b → (a ≡ b) ⊎ (IsFound a × IsFound b)
+both_ends : TextsSpellOne → TextsSpellOrFail → (command : Command) (second : Told) (file : List ℕ) (a b : Answer) → IsThere second → FileEnd file a ⊎ AtFile command second file a → FileEnd file b ⊎ AtFile command second file b → (a ≡ b) ⊎ (IsOfSearch a × IsOfSearch b)
 both_ends one decide command second file a b there (inl x) (inl y) = inl (one_file_end file a b x y)
 both_ends one decide command second file a b there (inl x) (inr k) = absurd (not_by_itself decide file k.1.0 a k.0 k.1.1 x)
 both_ends one decide command second file a b there (inr h) (inl y) = absurd (not_by_itself decide file h.1.0 b h.0 h.1.1 y)
@@ -404,7 +404,7 @@ nothing_at : (command : Command) (held : List ℕ → Told) (words : Words) (a :
 nothing_at command held words a e (inl h) = at_missing (held (problem_name words)) (IsFileAnswer a) e h.1
 nothing_at command held words a e (inr h) = at_missing (held (problem_name words)) (λ f. AtFile command (held (second_name words)) f a) e h
 
-one_to : TextsSpellOne → TextsSpellOrFail → (command : Command) (held : List ℕ → Told) (words : Words) (a b : Answer) → IsThere (held (problem_name words)) → IsThere (held (second_name words)) → IsAnswerTo command held words a → IsAnswerTo command held words b → (a ≡ b) ⊎ (IsFound a × IsFound b)
+one_to : TextsSpellOne → TextsSpellOrFail → (command : Command) (held : List ℕ → Told) (words : Words) (a b : Answer) → IsThere (held (problem_name words)) → IsThere (held (second_name words)) → IsAnswerTo command held words a → IsAnswerTo command held words b → (a ≡ b) ⊎ (IsOfSearch a × IsOfSearch b)
 one_to one decide command held words a b (inl e) there h k = absurd (nothing_at command held words a e h)
 one_to one decide command held words a b (inr f) there h k = both_ends one decide command (held (second_name words)) f.0 a b there (ends_at command held words f.0 a f.1 h) (ends_at command held words f.0 b f.1 k)
 
@@ -418,7 +418,7 @@ one_answer one decide held words a b told (inr h) (inr k) =
 
 -- the answers over a file that spells an instance
 
-of_command : TextsSpellOne → TextsSpellOrFail → (command : Command) (second : Told) (file : List ℕ) (P : Instance) (a : Answer) → IsShort Kinds.Problem file → SpellsProblem file P → FileEnd file a ⊎ AtFile command second file a → IsAnswerOn command second P a
+of_command : TextsSpellOne → TextsSpellOrFail → (command : Command) (second : Told) (file : List ℕ) (P : Instance) (a : Answer) → IsWithinLimit Kinds.Problem file → SpellsProblem file P → FileEnd file a ⊎ AtFile command second file a → IsAnswerOn command second P a
 of_command one decide command second file P a short spells (inl x) = absurd (not_by_itself decide file P a short spells x)
 of_command one decide command second file P a short spells (inr h) = subst (λ (Q : Instance). IsAnswerOn command second Q a) (one file h.1.0 P h.1.1 spells) h.1.2
 

@@ -15,10 +15,11 @@ use Rattle.refutation_checker.proofs.SameDomains.{AreSame, turned_round, same_id
 use Rattle.domain_store.specs.Store.{Store, has_domain}
 use Rattle.propagators.specs.Looks.{Closes}
 use Rattle.propagators.specs.Days.{IsDaySpent}
-use Rattle.roster_search.specs.Founds.{IsForced, IsSearchLog, IsFound, IsUndecided}
+use Rattle.roster_search.specs.Founds.{IsForced, IsSearchLog, IsFound, HasSpentBudget}
 use Rattle.roster_search.specs.declared.found.Found.{Found}
 use Rattle.roster_search.specs.declared.found.Found.TheVariants as Founds
 use Rattle.rwsp.specs.Plans.{IsPlannedSplit, IsPlannedLog, IsPlanned, answer_of}
+use Rattle.rwsp_model.proofs.Limits.{some_cells}
 
 abbrev AllWindows : Instance → (Store → Line → Type 0) → Type 0
 AllWindows P leaves = (S : Store) (number p len : ℕ) → LineFits P (Window number p len) → leaves S (Window number p len)
@@ -68,10 +69,7 @@ planned_log P turn leaves spent g some first windows days spend h =
       splits = λ k p x at. planned_split P leaves spent (domains_at P g.turn g.lines k) p x some windows days spend (subst (λ (t : Option Turn). IsForced P leaves spent (domains_at P t g.lines k) p x) (sym h.same_turn) (h.splits k p x at));
     }
 
-some_cells : (P : Instance) → KeepsLimits P → 0 < cells P
-some_cells P limits = grind (arith, limits.some_days, limits.some_weeks)
-
-pub planned_as_found : (P : Instance) (turn : Option Turn) (budget : ℕ) (leaves : Store → Line → Type 0) (spent : Store → ℕ → Symbol → Type 0) (found : Found) → KeepsLimits P → IsFirstTurn P turn → AllWindows P leaves → AllDays P leaves → DaysSpend P spent → IsFound P turn budget leaves spent found → (IsUndecided found → budget + 1 < 2 * (shift_count P + 1) ^ cells P) → IsPlanned P budget (answer_of found)
+pub planned_as_found : (P : Instance) (turn : Option Turn) (budget : ℕ) (leaves : Store → Line → Type 0) (spent : Store → ℕ → Symbol → Type 0) (found : Found) → KeepsLimits P → IsFirstTurn P turn → AllWindows P leaves → AllDays P leaves → DaysSpend P spent → IsFound P turn budget leaves spent found → (HasSpentBudget found → budget + 1 < 2 * (shift_count P + 1) ^ cells P) → IsPlanned P budget (answer_of found)
 planned_as_found P turn budget leaves spent (Founds.Roster s) limits first windows days spend h few = h
 planned_as_found P turn budget leaves spent (Founds.NoRoster g) limits first windows days spend h few = (h.0, h.1, planned_log P turn leaves spent g (some_cells P limits) first windows days spend h.2)
 planned_as_found P turn budget leaves spent (Founds.Undecided g) limits first windows days spend h few = (h.0, planned_log P turn leaves spent g (some_cells P limits) first windows days spend h.1, few tt)

@@ -5,7 +5,7 @@ use Rattle.rwsp_io.specs.Told.{Told, Silent, Missing, Bytes, Rose}
 use Rattle.rwsp_terms.specs.Instance.{Instance}
 use Rattle.rwsp_file.specs.Spelling.{SpellsProblem}
 use Rattle.rwsp.specs.Commands.{Words, IsForm, ReadsSecond, problem_name, second_name}
-use Rattle.rwsp.specs.Inputs.{WhereTold, IsShort, OfProblem, IsProblemOf}
+use Rattle.rwsp.specs.Inputs.{WhereTold, IsWithinLimit, OfProblem, IsProblemOf}
 use Rattle.rwsp.specs.Answers.{IsAnswer, IsAnswerOn, IsOfFile, IsFileAnswer, IsReadFault}
 use Rattle.rwsp.specs.Texts.{IsTextOf, HasFixedText, text_of}
 use Rattle.rwsp.specs.declared.command.Command.{Command}
@@ -19,13 +19,13 @@ told_weaker (Bytes bytes) Q R f h = f bytes h
 
 -- the problem's file was read and spells the problem
 abbrev pub IsRead : (List ℕ → Told) → Words → Instance → Type 0
-IsRead held words P = WhereTold (held (problem_name words)) (λ file. IsShort Kinds.Problem file × SpellsProblem file P)
+IsRead held words P = WhereTold (held (problem_name words)) (λ file. IsWithinLimit Kinds.Problem file × SpellsProblem file P)
 
 problem_of : (held : List ℕ → Told) (words : Words) (P : Instance) → IsRead held words P → IsProblemOf held words P
-problem_of held words P h = told_weaker (held (problem_name words)) (λ file. IsShort Kinds.Problem file × SpellsProblem file P) (λ file. SpellsProblem file P) (λ file k. k.1) h
+problem_of held words P h = told_weaker (held (problem_name words)) (λ file. IsWithinLimit Kinds.Problem file × SpellsProblem file P) (λ file. SpellsProblem file P) (λ file k. k.1) h
 
 of_problem : (held : List ℕ → Told) (words : Words) (P : Instance) (Q : Instance → Type 0) → IsRead held words P → Q P → OfProblem held words Q
-of_problem held words P Q h q = told_weaker (held (problem_name words)) (λ file. IsShort Kinds.Problem file × SpellsProblem file P) (λ file. IsShort Kinds.Problem file × ((P : Instance) × SpellsProblem file P × Q P)) (λ file k. (k.0, (P, k.1, q))) h
+of_problem held words P Q h q = told_weaker (held (problem_name words)) (λ file. IsWithinLimit Kinds.Problem file × SpellsProblem file P) (λ file. IsWithinLimit Kinds.Problem file × ((P : Instance) × SpellsProblem file P × Q P)) (λ file k. (k.0, (P, k.1, q))) h
 
 -- an answer of the file by itself
 pub file_answer : (held : List ℕ → Told) (words : Words) (command : Command) (answer : Answer) → IsForm words command → IsOfFile answer → WhereTold (held (problem_name words)) (IsFileAnswer answer) → IsAnswer held words answer

@@ -14,7 +14,7 @@ use Rattle.refutation_terms.specs.Strip.{IsReduced}
 use Rattle.refutation_terms.specs.Verdict.{IsAccepted, IsRefused}
 use Rattle.rule_reducer.specs.Needs.{NeedsEach, NeedsTogether}
 use Rattle.rwsp.specs.Commands.{Words, IsForm, HasNoForm, ReadsSecond, problem_name, second_name}
-use Rattle.rwsp.specs.Inputs.{WhereTold, IsShort, IsTooLong, OfProblem}
+use Rattle.rwsp.specs.Inputs.{WhereTold, IsWithinLimit, IsTooLong, OfProblem}
 use Rattle.rwsp.specs.Plans.{IsPlanned}
 use Rattle.rwsp.specs.declared.command.Command.{Command}
 use Rattle.rwsp.specs.declared.command.Command.TheVariants.{Plan, Check, Verify, Reduce, Show}
@@ -25,7 +25,7 @@ use Rattle.rwsp.specs.declared.answer.Answer.TheVariants.{Meets, Breaks, RosterR
 -- what an answer says of the bytes of a problem file
 abbrev pub IsFileAnswer : Answer → List ℕ → Type 0
 IsFileAnswer (TooLong Problem) file = IsTooLong Problem file
-IsFileAnswer (FileRefused why) file = IsShort Problem file × (file_refusal file ≡ Some why)
+IsFileAnswer (FileRefused why) file = IsWithinLimit Problem file × (file_refusal file ≡ Some why)
 IsFileAnswer answer file = ⊥
 
 -- no roster meets the rules
@@ -35,17 +35,17 @@ LeavesNoRoster P R = (s : List Symbol) → MeetsRules P R s → ⊥
 -- what an answer says of an instance and the bytes of a roster
 abbrev pub IsRosterAnswer : Answer → Instance → List ℕ → Type 0
 IsRosterAnswer (TooLong Roster) P bytes = IsTooLong Roster bytes
-IsRosterAnswer (RosterRefused why) P bytes = IsShort Roster bytes × (refusal_of_roster P bytes ≡ Some why)
-IsRosterAnswer Meets P bytes = IsShort Roster bytes × ((s : List Symbol) × SpellsRoster P bytes s × MeetsAll P s)
-IsRosterAnswer (Breaks broken) P bytes = IsShort Roster bytes × ((s : List Symbol) × SpellsRoster P bytes s × IsFirstBroken P s broken)
+IsRosterAnswer (RosterRefused why) P bytes = IsWithinLimit Roster bytes × (refusal_of_roster P bytes ≡ Some why)
+IsRosterAnswer Meets P bytes = IsWithinLimit Roster bytes × ((s : List Symbol) × SpellsRoster P bytes s × MeetsAll P s)
+IsRosterAnswer (Breaks broken) P bytes = IsWithinLimit Roster bytes × ((s : List Symbol) × SpellsRoster P bytes s × IsFirstBroken P s broken)
 IsRosterAnswer answer P bytes = ⊥
 
 -- what an answer says of an instance and the bytes of a log: accepted are the rules that the header of a log names which passes, and
 -- no roster meets them
 abbrev pub IsLogAnswer : Answer → Instance → List ℕ → Type 0
 IsLogAnswer (TooLong Log) P bytes = IsTooLong Log bytes
-IsLogAnswer (LogRefused why) P bytes = IsShort Log bytes × IsRefused P bytes why
-IsLogAnswer (Accepted R) P bytes = IsShort Log bytes × ((g : LogValue) × IsAccepted P bytes g × (g.named ≡ R)) × LeavesNoRoster P R
+IsLogAnswer (LogRefused why) P bytes = IsWithinLimit Log bytes × IsRefused P bytes why
+IsLogAnswer (Accepted R) P bytes = IsWithinLimit Log bytes × ((g : LogValue) × IsAccepted P bytes g × (g.named ≡ R)) × LeavesNoRoster P R
 IsLogAnswer answer P bytes = ⊥
 
 -- a log that passes, and can't do without any rule that it names, nor without several window rules
@@ -57,8 +57,8 @@ pub record IsSparing (P : Instance) (g : LogValue) : Type 0 where
 -- what an answer of a reduction says of an instance and the bytes of a log: reduced is the log that passes
 abbrev pub IsReduction : Answer → Instance → List ℕ → Type 0
 IsReduction (TooLong Log) P bytes = IsTooLong Log bytes
-IsReduction (LogRefused why) P bytes = IsShort Log bytes × IsRefused P bytes why
-IsReduction (Reduced h) P bytes = IsShort Log bytes × ((g : LogValue) × IsAccepted P bytes g × IsReduced P g h) × IsSparing P h
+IsReduction (LogRefused why) P bytes = IsWithinLimit Log bytes × IsRefused P bytes why
+IsReduction (Reduced h) P bytes = IsWithinLimit Log bytes × ((g : LogValue) × IsAccepted P bytes g × IsReduced P g h) × IsSparing P h
 IsReduction answer P bytes = ⊥
 
 -- an answer that the problem's file has by itself

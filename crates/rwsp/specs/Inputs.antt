@@ -20,8 +20,8 @@ longest Roster = 1048576
 longest Log = 536870912
 
 -- at most as long as its kind may be
-abbrev pub IsShort : InputKind → List ℕ → Type 0
-IsShort kind bytes = length bytes ≤ longest kind
+abbrev pub IsWithinLimit : InputKind → List ℕ → Type 0
+IsWithinLimit kind bytes = length bytes ≤ longest kind
 
 -- longer than that
 abbrev pub IsTooLong : InputKind → List ℕ → Type 0
@@ -29,7 +29,7 @@ IsTooLong kind bytes = longest kind < length bytes
 
 -- a fact about the instance that the first file spells
 abbrev pub OfProblem : (List ℕ → Told) → Words → (Instance → Type 0) → Type 0
-OfProblem held words Q = WhereTold (held (problem_name words)) (λ file. IsShort Problem file × ((P : Instance) × SpellsProblem file P × Q P))
+OfProblem held words Q = WhereTold (held (problem_name words)) (λ file. IsWithinLimit Problem file × ((P : Instance) × SpellsProblem file P × Q P))
 
 -- the instance is the one that the first file spells
 abbrev pub IsProblemOf : (List ℕ → Told) → Words → Instance → Type 0

@@ -5,7 +5,7 @@ use Rattle.rwsp_terms.specs.Instance.{Instance}
 use Rattle.rwsp_file.specs.Spelling.{SpellsProblem}
 use Rattle.refutation_terms.specs.Log.{Log}
 use Rattle.rwsp.specs.Commands.{Words, IsForm, problem_name, second_name}
-use Rattle.rwsp.specs.Inputs.{IsShort}
+use Rattle.rwsp.specs.Inputs.{IsWithinLimit}
 use Rattle.rwsp.specs.Plans.{IsPlanned}
 use Rattle.rwsp.specs.Answers.{IsAnswer, IsAnswerOn, IsOfLog, IsLogAnswer}
 use Rattle.rwsp.specs.Texts.{IsTextOf, text_of}
@@ -19,17 +19,17 @@ abbrev pub AreTold : (List ℕ → Told) → Words → Type 0
 AreTold held words = (held (problem_name words) ≢ Silent) × (held (second_name words) ≢ Silent)
 
 -- an answer that a search gives, which is free to choose among those that are right
-abbrev pub IsFound : Answer → Type 0
-IsFound (Roster s) = Unit {0}
-IsFound (NoRoster g) = Unit {0}
-IsFound (Undecided g) = Unit {0}
-IsFound answer = ⊥
+abbrev pub IsOfSearch : Answer → Type 0
+IsOfSearch (Roster s) = Unit {0}
+IsOfSearch (NoRoster g) = Unit {0}
+IsOfSearch (Undecided g) = Unit {0}
+IsOfSearch answer = ⊥
 
 -- two answers to the same words over the same files are equal, or both are what a search gives
 abbrev pub AnswersAreOne : Type 0
 AnswersAreOne =
     (held : List ℕ → Told) (words : Words) (a b : Answer) → AreTold held words → IsAnswer held words a → IsAnswer held words b
-    → (a ≡ b) ⊎ (IsFound a × IsFound b)
+    → (a ≡ b) ⊎ (IsOfSearch a × IsOfSearch b)
 
 -- an answer has one text
 abbrev pub TextsAreOne : Type 0
@@ -41,12 +41,12 @@ TextsAreOne =
 abbrev pub ProblemsAreAnswered : Type 0
 ProblemsAreAnswered =
     (held : List ℕ → Told) (words : Words) (command : Command) (file : List ℕ) (P : Instance) (a : Answer)
-    → IsForm words command → held (problem_name words) ≡ Bytes file → IsShort Kinds.Problem file → SpellsProblem file P → IsAnswer held words a
+    → IsForm words command → held (problem_name words) ≡ Bytes file → IsWithinLimit Kinds.Problem file → SpellsProblem file P → IsAnswer held words a
     → IsAnswerOn command (held (second_name words)) P a
 
 -- the text of a refutation that `plan` writes for what a file spells is accepted by `check` over that file, with the rules that it names
 abbrev pub RefutationsAreAccepted : Type 0
 RefutationsAreAccepted =
     (file : List ℕ) (P : Instance) (budget : ℕ) (g : Log) (a : Answer)
-    → SpellsProblem file P → IsPlanned P budget (NoRoster g) → IsShort Kinds.Log (text_of P (NoRoster g)) → IsOfLog a → IsLogAnswer a P (text_of P (NoRoster g))
+    → SpellsProblem file P → IsPlanned P budget (NoRoster g) → IsWithinLimit Kinds.Log (text_of P (NoRoster g)) → IsOfLog a → IsLogAnswer a P (text_of P (NoRoster g))
     → a ≡ Accepted g.named

@@ -2,7 +2,7 @@
 ghost use Rattle.std.specs.Prelude.{◌≡◌, ℕ, ◌≤◌, List, length, IfOk, IfErr};
 ghost use Rattle.rwsp_io.specs.Told.{NeverFall, Rose};
 ghost use Rattle.rwsp_file.specs.Spelling.{SpellsProblem};
-ghost use Rattle.rwsp.specs.Inputs.{WhereTold, IsShort, longest};
+ghost use Rattle.rwsp.specs.Inputs.{WhereTold, IsWithinLimit, longest};
 ghost use Rattle.rwsp.specs.Answers.{IsRosterAnswer, IsOfRoster, IsLogAnswer, IsOfLog, IsReduction, IsOfReduction};
 ghost use Rattle.rwsp.specs.Texts.{IsPrintable};
 ghost use Rattle.rwsp.specs.Exits.{IsReadExit, IsProblemExit, IsSecondExit};
@@ -48,7 +48,7 @@ fn bytes_in<S: Shelf>(
     kind: InputKind,
 ) -> Result<Vec<u8>, Exit>
     ensures bytes { IfOk result (λ v. WhereTold (S.held shelf.old name.now) (λ bytes. v.items ≡ bytes)) }
-    ensures short { IfOk result (λ v. IsShort kind v.items) }
+    ensures short { IfOk result (λ v. IsWithinLimit kind v.items) }
     ensures exit { IfErr result (IsReadExit (S.held shelf.old name.now) (Rose (S.faults shelf.old name.now) (S.faults shelf.new name.now)) kind) }
     ensures held { (other : List ℕ) → S.held shelf.new other ≡ S.held shelf.old other }
     ensures faults { NeverFall (S.faults shelf.old) (S.faults shelf.new) }
@@ -63,7 +63,7 @@ fn bytes_in<S: Shelf>(
 
 /// The problem that a file spells.
 pub fn problem_in<S: Shelf>(alloc: Global, shelf: &mut S, name: &str) -> Result<Problem, Exit>
-    ensures problem { IfOk result (λ P. WhereTold (S.held shelf.old name.now) (λ file. IsShort Kinds.Problem file × SpellsProblem file P)) }
+    ensures problem { IfOk result (λ P. WhereTold (S.held shelf.old name.now) (λ file. IsWithinLimit Kinds.Problem file × SpellsProblem file P)) }
     ensures exit { IfErr result (IsProblemExit (S.held shelf.old name.now) (Rose (S.faults shelf.old name.now) (S.faults shelf.new name.now))) }
     ensures held { (other : List ℕ) → S.held shelf.new other ≡ S.held shelf.old other }
     ensures faults { NeverFall (S.faults shelf.old) (S.faults shelf.new) }

@@ -17,8 +17,10 @@ use Rattle.rwsp_file.proofs.Readers.{IsReader, bind_ok, then_ok, some_ok, test_o
 use Rattle.rwsp_file.specs.declared.refusal.FileRefusal.{FileRefusal}
 use Rattle.rwsp_file.specs.declared.refusal.FileRefusal.TheVariants.{Number, Range}
 use Rattle.std.proofs.lemmas.List.Folds.{list_all-append}
-use Rattle.std.proofs.lemmas.Bool.{eqb-true}
+use Rattle.std.proofs.lemmas.Bool.{eqb-true, and_parts, not-false}
 use Rattle.std.proofs.Math.Seq.{take-append_seam, drop-append-add}
+use Rattle.std.proofs.Math.Bool.{and-false}
+use Rattle.std.proofs.lemmas.Option.{same_Some}
 
 -- what is there and passes a test
 checked : {A : Type 0} (o : Option A) (test : A → Bool) (why bad : FileRefusal) (x : A) → test x ≡ true → o ≡ Some x → (or_refuse o why >>= (λ m. if test m then Ok m else Err bad)) ≡ Ok x
@@ -88,18 +90,10 @@ no_number true true c text e = ap (λ d. if d then Some (value_of text) else Non
 no_number true false c text e = refl
 no_number false b c text e = refl
 
-dot_fails : (b : Bool) → (b && false) ≡ false
-dot_fails true = refl
-dot_fails false = refl
-
 dotted : (least rest : List ℕ) → number_of (least ++ 46 ∷ rest) ≡ None
 dotted least rest =
     no_number (nat_le 1 (length (least ++ 46 ∷ rest))) (nat_le (length (least ++ 46 ∷ rest)) 9) (list_all is_ascii_digit (least ++ 46 ∷ rest)) (least ++ 46 ∷ rest)
-    (list_all-append is_ascii_digit least (46 ∷ rest) ∙ dot_fails (list_all is_ascii_digit least))
-
-not_false : (b : Bool) → not b ≡ false → b ≡ true
-not_false true e = refl
-not_false false e = absurd (cc)
+    (list_all-append is_ascii_digit least (46 ∷ rest) ∙ and-false (list_all is_ascii_digit least))
 
 dot_of : (b : ℕ) → is_dot b ≡ true → b ≡ 46
 dot_of b e = eqb-true b 46 e
@@ -111,14 +105,10 @@ place_step : (b : Bool) (k n : ℕ) → b ≡ false → k ≡ n → cond (not b)
 place_step true k n e h = absurd (cc)
 place_step false k n e h = omega arith
 
-pub both_true : (a b : Bool) → (a && b) ≡ true → (a ≡ true) × (b ≡ true)
-both_true true b e = (refl, e)
-both_true false b e = absurd (cc)
-
 place_of_dot : (least rest : List ℕ) → list_all is_ascii_digit least ≡ true → position_or_len is_dot (least ++ 46 ∷ rest) ≡ length least
 place_of_dot [] rest e = refl
 place_of_dot (b ∷ bs) rest e =
-    let parts : (is_ascii_digit b ≡ true) × (list_all is_ascii_digit bs ≡ true) = both_true (is_ascii_digit b) (list_all is_ascii_digit bs) e in
+    let parts : (is_ascii_digit b ≡ true) × (list_all is_ascii_digit bs ≡ true) = and_parts (is_ascii_digit b) (list_all is_ascii_digit bs) e in
     place_step (is_dot b) (position_or_len is_dot (bs ++ 46 ∷ rest)) (length bs) (digit_no_dot b parts.0) (place_of_dot bs rest parts.1)
 
 -- what stands round the first dot
@@ -135,14 +125,11 @@ cut_at_dot text c cs e =
     let lt : position_or_len is_dot text < length text = omega (arith, ap length e, length-drop (position_or_len is_dot text + 1) text) in
     let stop : not (is_dot (get_or text (position_or_len is_dot text) 0)) ≡ false = prefix_len_stops (λ x. not (is_dot x)) text 0 lt in
     split_at_first is_dot text 0 lt
-    ∙ ap (λ b. before_first is_dot text ++ b ∷ after_first is_dot text) (dot_of _ (not_false _ stop))
+    ∙ ap (λ b. before_first is_dot text ++ b ∷ after_first is_dot text) (dot_of _ (not-false _ stop))
     ∙ ap (λ t. before_first is_dot text ++ 46 ∷ t) e
 
 abbrev pub range_between : ℕ → ℕ → Bounds
 range_between n m = record { least = n; greatest = m }
-
-pub some_same : {A : Type 0} (x y : A) → Some x ≡ Some y → x ≡ y
-some_same x y e = cc
 
 range_parts : (o : Option ℕ) (rest : List ℕ) (b : Bounds) → range_from o rest ≡ Some b → (o ≡ Some b.least) × (cs : List ℕ) × (rest ≡ 46 ∷ cs) × (number_of cs ≡ Some b.greatest)
 range_parts None rest b e = absurd (cc)
@@ -152,7 +139,7 @@ range_parts (Some n) (c ∷ cs) b e = at (c == 46) refl (number_of cs) refl e wh
       (Some n ≡ Some b.least) × (ds : List ℕ) × (c ∷ cs ≡ 46 ∷ ds) × (number_of ds ≡ Some b.greatest)
   at true d None m h = absurd (cc)
   at true d (Some x) m h =
-      let same : range_between n x ≡ b = some_same (range_between n x) b h in
+      let same : range_between n x ≡ b = same_Some (range_between n x) b h in
       (ap (λ (r : Bounds). Some r.least) same, cs, ap (λ k. k ∷ cs) (eqb-true c 46 d), m ∙ ap (λ (r : Bounds). Some r.greatest) same)
   at false d o m h = absurd (cc)
 
@@ -179,7 +166,7 @@ demand_found text b e = at (number_of text) refl e where
   at : (o : Option ℕ) → number_of text ≡ o → range_or (range_of text) o ≡ Some b → IsDemand b text
   at None n h = inr (range_found text b h)
   at (Some k) n h =
-      let same : range_between k k ≡ b = some_same (range_between k k) b h in
+      let same : range_between k k ≡ b = same_Some (range_between k k) b h in
       inl (n ∙ ap (λ (r : Bounds). Some r.least) same, sym (ap (λ (r : Bounds). r.greatest) same) ∙ ap (λ (r : Bounds). r.least) same)
 
 pub demand_only : (text : List ℕ) (b : Bounds) → IsDemand b text → demand_of text ≡ Some b

@@ -27,9 +27,6 @@ place_or_length k n le = grind (arith, nat_tests)
 pub place_of_failing : {X : Type 0} (p : X → Bool) (xs : List X) → unwrap_or (position (λ x. not (p x)) xs) (length xs) ≡ prefix_len p xs
 place_of_failing p xs = place_or_length _ (length xs) (prefix_len-le-length (λ x. not (not (p x))) xs) ∙ twice_not p xs
 
-pub prefix_within : {X : Type 0} (p : X → Bool) (xs : List X) → prefix_len p xs ≤ length xs
-prefix_within p xs = prefix_len-le-length p xs
-
 is_found : (k n : ℕ) → is_some (cond (nat_lt k n) (Some k) None) ≡ nat_lt k n
 is_found k n = at (nat_lt k n) where
   at : (b : Bool) → is_some (cond b (Some k) None) ≡ b

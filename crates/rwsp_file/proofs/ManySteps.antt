@@ -6,7 +6,7 @@ use Rattle.rwsp_model.specs.declared.fail.Fail.{Fail}
 use Rattle.rwsp_model.specs.declared.fail.Fail.TheVariants.{Refused, Memory}
 use Rattle.rwsp_file.specs.declared.refusal.FileRefusal.{FileRefusal}
 
-many_suc : {X : Type 0} (read : List X → Unread → Result (X × Unread) FileRefusal) (n : ℕ) (all : List X) (u : Unread) → many read (suc n) all u ≡ (read all u >>= (λ x. many read n (all ++ x.0 ∷ []) x.1))
+pub many_suc : {X : Type 0} (read : List X → Unread → Result (X × Unread) FileRefusal) (n : ℕ) (all : List X) (u : Unread) → many read (suc n) all u ≡ (read all u >>= (λ x. many read n (all ++ x.0 ∷ []) x.1))
 unfolding many
 many_suc read n all u = refl
 
@@ -22,7 +22,7 @@ many_err read n i all u why lt h =
     let one_less : n - i ≡ suc (n - (i + 1)) = omega (arith, lt) in
     ap (λ k. many read k all u) one_less ∙ many_suc read (n - (i + 1)) all u ∙ ap (λ r. r >>= (λ y. many read (n - (i + 1)) (all ++ y.0 ∷ []) y.1)) h
 
-many_zero : {X : Type 0} (read : List X → Unread → Result (X × Unread) FileRefusal) (all : List X) (u : Unread) → many read 0 all u ≡ Ok (all, u)
+pub many_zero : {X : Type 0} (read : List X → Unread → Result (X × Unread) FileRefusal) (all : List X) (u : Unread) → many read 0 all u ≡ Ok (all, u)
 unfolding many
 many_zero read all u = refl
 

@@ -3,6 +3,7 @@ use Rattle.std.proofs.Common.{◌≡◌, ℕ, suc, ◌+◌, List, [], ◌∷◌,
 use Rattle.std.specs.Prelude.{position, if◌then◌else◌}
 use Rattle.std.specs.List.{list_any, prefix_len}
 use Rattle.std.specs.Str.{bytes_eq}
+use Rattle.std.proofs.lemmas.List.{map_push}
 use Rattle.rwsp_terms.specs.declared.data.ShiftRow.{ShiftRow}
 
 pub prefix_len-map : {X Y : Type 0} (f : X → Y) (p : Y → Bool) (xs : List X) → prefix_len p (map f xs) ≡ prefix_len (λ x. p (f x)) xs
@@ -30,10 +31,6 @@ same_position f g p xs ys e = sym (position-map f p xs) ∙ ap (position p) e �
 pub same_list_any : {X Y Z : Type 0} (f : X → Z) (g : Y → Z) (p : Z → Bool) (xs : List X) (ys : List Y) → map f xs ≡ map g ys → list_any (λ x. p (f x)) xs ≡ list_any (λ y. p (g y)) ys
 same_list_any f g p xs ys e = sym (list_any-map f p xs) ∙ ap (list_any p) e ∙ list_any-map g p ys
 
-pub map-append_one : {X Y : Type 0} (f : X → Y) (xs : List X) (x : X) → map f (xs ++ x ∷ []) ≡ map f xs ++ f x ∷ []
-map-append_one f [] x = refl
-map-append_one f (y ∷ ys) x = ap (λ zs. f y ∷ zs) (map-append_one f ys x)
-
 -- a new name goes behind the keys, as its shift goes behind the shifts
 pub push_names : (keys keys' : List (Vec ℕ Global)) (rows rows' : List ShiftRow) (name : Vec ℕ Global) (row : ShiftRow) →
     map (λ k. k.items) keys ≡ map (λ r. r.name) rows →
@@ -46,5 +43,5 @@ push_names keys keys' rows rows' name row same k r n fresh =
     let none : list_any (λ v. bytes_eq name.items (items v)) keys ≡ false =
     same_list_any items names (bytes_eq name.items) keys rows same ∙ ap (λ t. list_any (λ s. bytes_eq t (names s)) rows) n ∙ fresh in
     let grown : keys' ≡ keys ++ name ∷ [] = k ∙ ap (λ b. if b then keys else keys ++ name ∷ []) none in
-    ap (map items) grown ∙ map-append_one items keys name ∙ ap (λ ks. ks ++ name.items ∷ []) same ∙ ap (λ t. map names rows ++ t ∷ []) n
-    ∙ sym (map-append_one names rows row) ∙ sym (ap (map names) r)
+    ap (map items) grown ∙ map_push items keys name ∙ ap (λ ks. ks ++ name.items ∷ []) same ∙ ap (λ t. map names rows ++ t ∷ []) n
+    ∙ sym (map_push names rows row) ∙ sym (ap (map names) r)

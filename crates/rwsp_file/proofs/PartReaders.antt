@@ -1,6 +1,7 @@
 -- The readers of the parts of a text.
 use Rattle.std.proofs.Common.{◌≡◌, ℕ, List, [], ◌∷◌, ◌++◌, length, true, Result, Ok, refl, subst, map}
 use Rattle.std.specs.List.{flat_map}
+use Rattle.std.proofs.lemmas.List.Concat.{flat_map_single}
 use Rattle.rwsp_terms.specs.Instance.{Instance}
 use Rattle.rwsp_terms.specs.declared.data.Bounds.{Bounds}
 use Rattle.rwsp_model.specs.Validity.{is_between, is_small_range}
@@ -10,7 +11,7 @@ use Rattle.rwsp_file.specs.Reading.{Unread, ◌>>=◌, number_at, weeks_at, size
 use Rattle.rwsp_file.specs.declared.fields.Size.{Size}
 use Rattle.rwsp_file.specs.declared.fields.Frame.{Frame}
 use Rattle.rwsp_file.specs.declared.refusal.FileRefusal.{FileRefusal}
-use Rattle.rwsp_file.proofs.Readers.{IsReader, AllAfter, bind_ok, then_ok, ok_same, given, with_fields, many_reader, flat_map_one}
+use Rattle.rwsp_file.proofs.Readers.{IsReader, AllAfter, bind_ok, then_ok, ok_same, given, with_fields, many_reader}
 use Rattle.rwsp_file.proofs.FieldReaders.{number_reader, weeks_reader, demand_reader, AreWeeks}
 use Rattle.rwsp_file.proofs.RowReader.{IsGoodRow, shift_reader}
 use Rattle.rwsp_file.proofs.SymbolReader.{HasNames, IsPair, IsTriple, pair_fields, triple_fields, pair_reader, triple_reader}
@@ -168,7 +169,7 @@ IsDemandRow days row = (length row ≡ days) × AllAfter (λ _ b. is_small_range
 
 pub demand_row_reader : (days : ℕ) → IsReader (IsDemandRow days) (map DemandField) (demand_row_at days)
 demand_row_reader days =
-    with_fields (IsDemandRow days) (flat_map (λ b. DemandField b ∷ [])) (map DemandField) (demand_row_at days) (flat_map_one DemandField)
+    with_fields (IsDemandRow days) (flat_map (λ b. DemandField b ∷ [])) (map DemandField) (demand_row_at days) (flat_map_single DemandField)
     (many_reader (λ _ b. is_small_range b ≡ true) (λ b. DemandField b ∷ []) (each demand_at) (λ _. demand_reader) days)
 
 pub demand_rows_reader : (size : Size) → IsReader (λ rows. (length rows ≡ size.shifts) × AllAfter (λ _ row. IsDemandRow size.days row) [] rows) (flat_map (map DemandField)) (demand_rows_at size)
@@ -176,7 +177,7 @@ demand_rows_reader size = many_reader (λ _ row. IsDemandRow size.days row) (map
 
 pub shift_rows_reader : (count : ℕ) → IsReader (λ rows. (length rows ≡ count) × AllAfter IsGoodRow [] rows) (map ShiftField) (shift_rows_at count)
 shift_rows_reader count =
-    with_fields (λ rows. (length rows ≡ count) × AllAfter IsGoodRow [] rows) (flat_map (λ row. ShiftField row ∷ [])) (map ShiftField) (shift_rows_at count) (flat_map_one ShiftField)
+    with_fields (λ rows. (length rows ≡ count) × AllAfter IsGoodRow [] rows) (flat_map (λ row. ShiftField row ∷ [])) (map ShiftField) (shift_rows_at count) (flat_map_single ShiftField)
     (many_reader IsGoodRow (λ row. ShiftField row ∷ []) shift_at shift_reader count)
 
 pub pairs_reader : (P : Instance) (names : HasNames P) (count : ℕ) → IsReader (λ xs. (length xs ≡ count) × AllAfter (λ _. IsPair P) [] xs) (flat_map (pair_fields P)) (pairs_at P.shifts count)

@@ -4,7 +4,7 @@ use Rattle.std.specs.Prelude.{All, if◌then◌else◌, slice_index}
 use Rattle.std.specs.List.{flat_map, list_all, AllByRecursion}
 use Rattle.std.specs.Char.{is_ascii_digit}
 use Rattle.std.specs.Fmt.{decimal}
-use Rattle.std.proofs.lemmas.Bool.{eqb-true}
+use Rattle.std.proofs.lemmas.Bool.{eqb-true, and_parts, or_parts}
 use Rattle.std.proofs.lemmas.Bool.Decides.{nat_tests}
 use Rattle.std.proofs.lemmas.Fmt.{decimal_nonempty}
 use Rattle.rwsp_text.specs.Lexemes.{Lexeme, is_space}
@@ -14,22 +14,18 @@ use Rattle.rwsp_terms.specs.Instance.{Instance, shift_count, name_of, name_numbe
 use Rattle.rwsp_terms.specs.declared.data.Bounds.{Bounds}
 use Rattle.rwsp_terms.specs.declared.data.ShiftRow.{ShiftRow}
 use Rattle.rwsp_terms.specs.declared.data.Symbol.{Symbol}
-use Rattle.rwsp_model.specs.Validity.{IsValid, KeepsLimits, IsName, IsSmallRange, AreSmall, is_blank}
+use Rattle.rwsp_terms.proofs.Elements.{all_to, all_joined}
+use Rattle.rwsp_model.specs.Validity.{IsValid, KeepsLimits, IsShiftName, IsSmallRange, AreSmall, is_blank}
 use Rattle.rwsp_model.proofs.Limits.{valid_keeps}
 use Rattle.rwsp_file.specs.Spelling.{Field, Spell, fields, IsDemand, IsRow, on_line, past_line, SpellsProblem}
 use Rattle.rwsp_file.specs.Spelling.Field.{DemandField, ShiftField}
 use Rattle.rwsp_file.specs.Text.{demand_text, bounds_words, shift_words, lines_of_words, pair_words, triple_words, problem_text}
 use Rattle.rwsp_file.specs.Laws.{CanonicalTextsSpell}
-use Rattle.rwsp_file.proofs.FieldReaders.{both_true}
 use Rattle.rwsp_file.proofs.SymbolReader.{in_place, no_row, pair_fields, triple_fields}
 use Rattle.rwsp_file.proofs.Whole.{fields_from_shifts, fields_from_frame, sequence_fields}
-use Rattle.rwsp_file.proofs.WordForms.{all_joined, all_images, all_weaker}
+use Rattle.rwsp_file.proofs.WordForms.{all_images, all_weaker}
 use Rattle.rwsp_file.proofs.PrintSteps.{IsPrinted, lexeme, numbered, text_lexemes, later, line_cut}
 use Rattle.rwsp_file.proofs.TextLaws.{texts_spell_one}
-
-from_index : {X : Type 0} (P : X → Type 0) (xs : List X) → All P xs → AllByRecursion P xs
-from_index P [] h = tt
-from_index P (x ∷ xs) h = (h 0 x (omega arith), from_index P xs (λ k d less. h (suc k) d (omega (arith, less))))
 
 -- words that may be printed
 
@@ -42,13 +38,13 @@ digit_no_hash b e = grind (arith, nat_tests)
 digit_bytes : (ds : List ℕ) → list_all is_ascii_digit ds ≡ true → AllByRecursion IsWordByte ds
 digit_bytes [] e = tt
 digit_bytes (d ∷ ds) e =
-    let h : (is_ascii_digit d ≡ true) × (list_all is_ascii_digit ds ≡ true) = both_true (is_ascii_digit d) (list_all is_ascii_digit ds) e in
+    let h : (is_ascii_digit d ≡ true) × (list_all is_ascii_digit ds ≡ true) = and_parts (is_ascii_digit d) (list_all is_ascii_digit ds) e in
     (digit_byte d h.0, digit_bytes ds h.1)
 
 printed_digits : (ds rest : List ℕ) → 0 < length ds → list_all is_ascii_digit ds ≡ true → AllByRecursion IsWordByte rest → IsPrinted (ds ++ rest)
 printed_digits [] rest some e all = absurd (omega (arith, some))
 printed_digits (d ∷ ds) rest some e all =
-    let h : (is_ascii_digit d ≡ true) × (list_all is_ascii_digit ds ≡ true) = both_true (is_ascii_digit d) (list_all is_ascii_digit ds) e in
+    let h : (is_ascii_digit d ≡ true) × (list_all is_ascii_digit ds ≡ true) = and_parts (is_ascii_digit d) (list_all is_ascii_digit ds) e in
     (digit_no_hash d h.0, (digit_byte d h.0, all_joined IsWordByte ds rest (digit_bytes ds h.1) all))
 
 -- numbers of up to nine digits
@@ -74,10 +70,6 @@ printed_demand b h = at (b.least == b.greatest) where
       printed_digits (decimal b.least) (46 ∷ 46 ∷ decimal b.greatest) (decimal_nonempty b.least few) (digits_printed b.least l)
       ((refl, refl), ((refl, refl), digit_bytes (decimal b.greatest) (digits_printed b.greatest g)))
 
-both_false : (a b : Bool) → (a || b) ≡ false → (a ≡ false) × (b ≡ false)
-both_false true b e = absurd (cc)
-both_false false b e = (refl, e)
-
 is_other : (b : ℕ) → b ≢ 35 → (b == 35) ≡ false
 is_other b h = at (b == 35) refl where
   at : (t : Bool) → (b == 35) ≡ t → t ≡ false
@@ -87,10 +79,10 @@ is_other b h = at (b == 35) refl where
 printed_word : (word : List ℕ) → 1 ≤ length word → slice_index word 0 ≢ 35 → AllByRecursion (λ b. is_blank b ≡ false) word → IsPrinted word
 printed_word [] some hash all = absurd (omega (arith, some))
 printed_word (b ∷ bs) some hash all =
-    (is_other b hash, all_weaker (λ c. is_blank c ≡ false) IsWordByte (λ c e. both_false (is_space c) (c == 10) e) (b ∷ bs) all)
+    (is_other b hash, all_weaker (λ c. is_blank c ≡ false) IsWordByte (λ c e. or_parts (is_space c) (c == 10) e) (b ∷ bs) all)
 
-printed_name : (name : List ℕ) → IsName name → IsPrinted name
-printed_name name h = printed_word name h.some h.no_hash (from_index (λ b. is_blank b ≡ false) name h.unbroken)
+printed_name : (name : List ℕ) → IsShiftName name → IsPrinted name
+printed_name name h = printed_word name h.some h.no_hash (all_to (λ b. is_blank b ≡ false) name h.unbroken)
 
 printed_symbol : (P : Instance) → KeepsLimits P → (n : ℕ) → n ≤ shift_count P → IsPrinted (name_numbered P n)
 printed_symbol P k zero le = (refl, ((refl, refl), tt))
@@ -100,15 +92,15 @@ printed_symbol P k (suc n) le =
 
 -- a shift that may be printed
 pub record IsPrintedRow (row : ShiftRow) : Type 0 where
-  pub name : IsName row.name
+  pub name : IsShiftName row.name
   pub times : (row.start ≤ 10000) × (row.length ≤ 10000)
   pub blocks : AreSmall row.bounds
 
 rows_printed : (P : Instance) → KeepsLimits P → AllByRecursion IsPrintedRow P.shifts
-rows_printed P k = from_index IsPrintedRow P.shifts (λ i d less. record { name = k.names i d less; times = k.times i d less; blocks = k.blocks i d less })
+rows_printed P k = all_to IsPrintedRow P.shifts (λ i d less. record { name = k.names i d less; times = k.times i d less; blocks = k.blocks i d less })
 
 demand_printed : (P : Instance) → KeepsLimits P → AllByRecursion (AllByRecursion IsSmallRange) P.demand
-demand_printed P k = from_index (AllByRecursion IsSmallRange) P.demand (λ i d less. from_index IsSmallRange (get_or P.demand i d) (k.demand i d less))
+demand_printed P k = all_to (AllByRecursion IsSmallRange) P.demand (λ i d less. all_to IsSmallRange (get_or P.demand i d) (k.demand i d less))
 
 abbrev AreLines : List (List (List ℕ)) → Type 0
 AreLines lines = AllByRecursion (AllByRecursion IsPrinted) lines
@@ -144,10 +136,10 @@ lines_printed P k =
                     (printed_number (length P.pairs) pairs, (printed_number (length P.triples) triples, tt)),
                     all_joined (AllByRecursion IsPrinted) (map (λ (x : Symbol × Symbol). name_of P x.0 ∷ name_of P x.1 ∷ []) P.pairs) _
                         (all_images (AllByRecursion IsPrinted) (λ (x : Symbol × Symbol). name_of P x.0 ∷ name_of P x.1 ∷ []) P.pairs
-                        (from_index (λ (x : Symbol × Symbol). AllByRecursion IsPrinted (name_of P x.0 ∷ name_of P x.1 ∷ [])) P.pairs
+                        (all_to (λ (x : Symbol × Symbol). AllByRecursion IsPrinted (name_of P x.0 ∷ name_of P x.1 ∷ [])) P.pairs
                         (λ i d less. (printed_symbol P k _ (k.known_pairs i d less).0, (printed_symbol P k _ (k.known_pairs i d less).1, tt)))))
                         (all_images (AllByRecursion IsPrinted) (λ (x : Symbol × Symbol × Symbol). name_of P x.0 ∷ name_of P x.1 ∷ name_of P x.2 ∷ []) P.triples
-                        (from_index (λ (x : Symbol × Symbol × Symbol). AllByRecursion IsPrinted (name_of P x.0 ∷ name_of P x.1 ∷ name_of P x.2 ∷ [])) P.triples
+                        (all_to (λ (x : Symbol × Symbol × Symbol). AllByRecursion IsPrinted (name_of P x.0 ∷ name_of P x.1 ∷ name_of P x.2 ∷ [])) P.triples
                         (λ i d less. (printed_symbol P k _ (k.known_triples i d less).0, (printed_symbol P k _ (k.known_triples i d less).1, (printed_symbol P k _ (k.known_triples i d less).2, tt)))))),
                   ),
                 ),

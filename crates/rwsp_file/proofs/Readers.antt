@@ -6,6 +6,7 @@ use Rattle.rwsp_text.specs.Lexemes.{Lexeme}
 use Rattle.rwsp_file.specs.Spelling.{Field, Spell}
 use Rattle.rwsp_file.specs.Reading.{Unread, ◌>>=◌, or_refuse, next_of, next_at, many}
 use Rattle.rwsp_file.specs.declared.refusal.FileRefusal.{FileRefusal}
+use Rattle.rwsp_file.proofs.ManySteps.{many_suc, many_zero}
 
 -- what is read is spelled, and what is spelled is read, where F gives the fields of a value that has V
 pub record IsReader {X : Type 0} (V : X → Type 0) (F : X → List Field) (read : Unread → Result (X × Unread) FileRefusal) : Type 0 where
@@ -91,14 +92,6 @@ abbrev pub AllAfter : {X : Type 0} → (List X → X → Type 0) → List X → 
 AllAfter V all [] = Unit {0}
 AllAfter V all (x ∷ xs) = V all x × AllAfter V (all ++ x ∷ []) xs
 
-many_none : {X : Type 0} (read : List X → Unread → Result (X × Unread) FileRefusal) (all : List X) (u : Unread) → many read 0 all u ≡ Ok (all, u)
-unfolding many
-many_none read all u = refl
-
-many_more : {X : Type 0} (read : List X → Unread → Result (X × Unread) FileRefusal) (n : ℕ) (all : List X) (u : Unread) → many read (suc n) all u ≡ (read all u >>= (λ x. many read n (all ++ x.0 ∷ []) x.1))
-unfolding many
-many_more read n all u = refl
-
 module _ {X : Type 0} (V : List X → X → Type 0) (F : X → List Field) (read : List X → Unread → Result (X × Unread) FileRefusal) (one : (all : List X) → IsReader (V all) F (read all)) where
   -- what was read behind what there was
   pub record Behind (n : ℕ) (all ys : List X) (u v : Unread) : Type 0 where
@@ -121,7 +114,7 @@ module _ {X : Type 0} (V : List X → X → Type 0) (F : X → List Field) (read
 
   pub many_found : (n : ℕ) (all ys : List X) (u v : Unread) → many read n all u ≡ Ok (ys, v) → Behind n all ys u v
   many_found zero all ys u v e =
-      let same : (all, u) ≡ (ys, v) = ok_same (all, u) (ys, v) (sym (many_none read all u) ∙ e) in
+      let same : (all, u) ≡ (ys, v) = ok_same (all, u) (ys, v) (sym (many_zero read all u) ∙ e) in
       record {
         xs = [];
         whole = sym (ap (λ (q : List X × Unread). q.0) same) ∙ sym (append-nil all);
@@ -131,19 +124,19 @@ module _ {X : Type 0} (V : List X → X → Type 0) (F : X → List Field) (read
       }
   many_found (suc n) all ys u v e =
       let step : (x : X × Unread) × (read all u ≡ Ok x) × (many read n (all ++ x.0 ∷ []) x.1 ≡ Ok (ys, v)) =
-      bind_ok (read all u) (λ x. many read n (all ++ x.0 ∷ []) x.1) (ys, v) (sym (many_more read n all u) ∙ e) in
+      bind_ok (read all u) (λ x. many read n (all ++ x.0 ∷ []) x.1) (ys, v) (sym (many_suc read n all u) ∙ e) in
       many_found_step n all ys u v step.0.0 step.0.1 step.1 (many_found n (all ++ step.0.0 ∷ []) ys step.0.1 v step.2)
 
   pub many_only : (xs all : List X) (u : Unread) (fs : List Field) → AllAfter V all xs → Spell (flat_map F xs ++ fs) u.lexemes →
       (v : Unread) × (many read (length xs) all u ≡ Ok (all ++ xs, v)) × Spell fs v.lexemes
-  many_only [] all u fs valid s = (u, many_none read all u ∙ ap (λ (zs : List X). Ok (zs, u)) (sym (append-nil all)), s)
+  many_only [] all u fs valid s = (u, many_zero read all u ∙ ap (λ (zs : List X). Ok (zs, u)) (sym (append-nil all)), s)
   many_only (x ∷ xs) all u fs valid s =
       let a : (m : Unread) × (read all u ≡ Ok (x, m)) × Spell (flat_map F xs ++ fs) m.lexemes =
       (one all).only u x (flat_map F xs ++ fs) valid.0 (subst (λ (gs : List Field). Spell gs u.lexemes) (append_assoc (F x) (flat_map F xs) fs) s) in
       let b : (v : Unread) × (many read (length xs) (all ++ x ∷ []) a.0 ≡ Ok ((all ++ x ∷ []) ++ xs, v)) × Spell fs v.lexemes =
       many_only xs (all ++ x ∷ []) a.0 fs valid.1 a.2 in (
         b.0,
-        many_more read (length xs) all u
+        many_suc read (length xs) all u
             ∙ then_ok (read all u) (λ y. many read (length xs) (all ++ y.0 ∷ []) y.1) (x, a.0) (all ++ (x ∷ xs), b.0) a.1
             (b.1 ∙ ap (λ (zs : List X). Ok (zs, b.0)) (append_assoc all (x ∷ []) xs)),
         b.2,
@@ -170,7 +163,3 @@ module _ {X : Type 0} (V : List X → X → Type 0) (F : X → List Field) (read
 
   pub many_reader : IsReader (λ xs. (length xs ≡ n) × AllAfter V [] xs) (flat_map F) (many read n [])
   many_reader = record { found = all_found; only = all_only }
-
-pub flat_map_one : {X Y : Type 0} (f : X → Y) (xs : List X) → flat_map (λ x. f x ∷ []) xs ≡ map f xs
-flat_map_one f [] = refl
-flat_map_one f (x ∷ xs) = ap (λ ys. f x ∷ ys) (flat_map_one f xs)

@@ -1,6 +1,7 @@
 -- The reader of a shift's row.
 use Rattle.std.proofs.Common.{◌≡◌, ℕ, List, [], ◌∷◌, true, Some, Result, Ok, Err, refl, ap, sym, ◌∙◌, subst}
 use Rattle.std.specs.Prelude.{if◌then◌else◌}
+use Rattle.std.proofs.lemmas.Option.{same_Some}
 use Rattle.rwsp_text.specs.Lexemes.{Lexeme}
 use Rattle.rwsp_text.specs.Numbers.{number_of}
 use Rattle.rwsp_terms.specs.declared.data.Bounds.{Bounds}
@@ -13,7 +14,7 @@ use Rattle.rwsp_file.specs.declared.row.RowWords.{RowWords}
 use Rattle.rwsp_file.specs.declared.refusal.FileRefusal.{FileRefusal}
 use Rattle.rwsp_file.specs.declared.refusal.FileRefusal.TheVariants.{Name, Row}
 use Rattle.rwsp_file.proofs.Readers.{IsReader, bind_ok, then_ok, some_ok, test_ok, ok_same, given, next_found, next_only, no_lexemes}
-use Rattle.rwsp_file.proofs.FieldReaders.{limited_found, limited_only, some_same}
+use Rattle.rwsp_file.proofs.FieldReaders.{limited_found, limited_only}
 
 -- the words are those of the shift
 abbrev pub AreWordsOf : ShiftRow → RowWords → Type 0
@@ -25,8 +26,8 @@ words_found (a ∷ []) r row e h = absurd (cc)
 words_found (a ∷ b ∷ []) r row e h = absurd (cc)
 words_found (a ∷ b ∷ c ∷ []) r row e h = absurd (cc)
 words_found (a ∷ b ∷ c ∷ d ∷ []) r row e h = absurd (cc)
-words_found (a ∷ b ∷ c ∷ d ∷ f ∷ []) r row e h = subst (AreWordsOf row) (sym (some_same (row_words a b c d f) r e)) h
-words_found (a ∷ b ∷ c ∷ d ∷ f ∷ g ∷ []) r row e h = subst (AreWordsOf row) (sym (some_same (row_words a b c f g) r e)) h
+words_found (a ∷ b ∷ c ∷ d ∷ f ∷ []) r row e h = subst (AreWordsOf row) (sym (same_Some (row_words a b c d f) r e)) h
+words_found (a ∷ b ∷ c ∷ d ∷ f ∷ g ∷ []) r row e h = subst (AreWordsOf row) (sym (same_Some (row_words a b c f g) r e)) h
 words_found (a ∷ b ∷ c ∷ d ∷ f ∷ g ∷ i ∷ js) r row e h = absurd (cc)
 
 pub words_only : (words : List Lexeme) (row : ShiftRow) → IsRow row words → (r : RowWords) × (words_of_row words ≡ Some r) × AreWordsOf row r

@@ -5,8 +5,9 @@ use Rattle.std.specs.Option.{option_map}
 use Rattle.std.specs.Str.{bytes_eq}
 use Rattle.std.proofs.lemmas.List.Quantifiers.{position-Some}
 use Rattle.std.proofs.lemmas.List.Folds.{list_any_at}
-use Rattle.std.proofs.lemmas.Option.{slice_get-get_or}
+use Rattle.std.proofs.lemmas.Option.{slice_get-get_or, same_Some}
 use Rattle.std.proofs.lemmas.Slice.Eq.{bytes_eq-Decides}
+use Rattle.std.proofs.lemmas.Bool.{cases_order}
 use Rattle.rwsp_terms.specs.Instance.{Instance, shift_count, off_name, name_of, name_numbered, name_in, symbol_numbered}
 use Rattle.rwsp_terms.specs.declared.data.ShiftRow.{ShiftRow}
 use Rattle.rwsp_terms.specs.declared.data.Symbol.{Symbol}
@@ -15,10 +16,9 @@ use Rattle.rwsp_file.specs.Spelling.Field.{NameField}
 use Rattle.rwsp_file.specs.Reading.{Unread, ◌>>=◌, or_refuse, symbol_in, symbol_at, pair_at, triple_at}
 use Rattle.rwsp_file.specs.declared.refusal.FileRefusal.TheVariants.{Unknown}
 use Rattle.rwsp_file.proofs.Readers.{IsReader, bind_ok, then_ok, some_ok, ok_same, given, word_reader}
-use Rattle.rwsp_file.proofs.FieldReaders.{some_same}
 use Rattle.rwsp_file.proofs.Lines.{is_some-position}
 
--- names by which shifts can be told apart, and from the day off
+-- names by which shifts can be told cases_order, and from the day off
 pub record HasNames (P : Instance) : Type 0 where
   pub no_dash : All (λ (row : ShiftRow). row.name ≢ off_name) P.shifts
   pub distinct : AllPairs (λ (a b : ShiftRow). a.name ≢ b.name) P.shifts
@@ -37,11 +37,11 @@ symbol_found P text x e = at (bytes_eq text off_name) refl (position (test_name 
   at : (b : Bool) → bytes_eq text off_name ≡ b → (o : Option ℕ) → position (test_name text) P.shifts ≡ o → cond b (Some (symbol_numbered 0)) (option_map (λ k. symbol_numbered (k + 1)) o) ≡ Some x →
       (x.number ≤ shift_count P) × (text ≡ name_of P x)
   at true d o p h =
-      let same : symbol_numbered 0 ≡ x = some_same (symbol_numbered 0) x h in
+      let same : symbol_numbered 0 ≡ x = same_Some (symbol_numbered 0) x h in
       subst (λ (y : Symbol). (y.number ≤ shift_count P) × (text ≡ name_of P y)) same (omega arith, (bytes_eq-Decides text off_name).0 d)
   at false d None p h = absurd (cc)
   at false d (Some k) p h =
-      let same : symbol_numbered (k + 1) ≡ x = some_same (symbol_numbered (k + 1)) x h in
+      let same : symbol_numbered (k + 1) ≡ x = same_Some (symbol_numbered (k + 1)) x h in
       let f : (k < length P.shifts) × (test_name text (get_or P.shifts k no_row) ≡ true) × ((j : ℕ) → j < k → test_name text (get_or P.shifts j no_row) ≡ false) =
       position-Some (test_name text) P.shifts k no_row p in
       let named : text ≡ (get_or P.shifts k no_row).name = (bytes_eq-Decides text (get_or P.shifts k no_row).name).0 f.1 in
@@ -55,18 +55,8 @@ not_equal a b h = at (bytes_eq a b) refl where
   at true e = absurd (h ((bytes_eq-Decides a b).0 e))
   at false e = refl
 
-apart : (i k : ℕ) → (i ≡ k) ⊎ ((i < k) ⊎ (k < i))
-apart zero zero = inl refl
-apart zero (suc k) = inr (inl (omega arith))
-apart (suc i) zero = inr (inr (omega arith))
-apart (suc i) (suc k) = at (apart i k) where
-  at : (i ≡ k) ⊎ ((i < k) ⊎ (k < i)) → (suc i ≡ suc k) ⊎ ((suc i < suc k) ⊎ (suc k < suc i))
-  at (inl h) = inl (ap suc h)
-  at (inr (inl h)) = inr (inl (omega (arith, h)))
-  at (inr (inr h)) = inr (inr (omega (arith, h)))
-
 the_place : (P : Instance) (names : HasNames P) (k i : ℕ) → k < length P.shifts → i < length P.shifts → (get_or P.shifts k no_row).name ≡ (get_or P.shifts i no_row).name → i ≡ k
-the_place P names k i lk li e = at (apart i k) where
+the_place P names k i lk li e = at (cases_order i k) where
   at : (i ≡ k) ⊎ ((i < k) ⊎ (k < i)) → i ≡ k
   at (inl h) = h
   at (inr (inl h)) = absurd (names.distinct i k no_row h lk (sym e))

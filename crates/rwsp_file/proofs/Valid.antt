@@ -3,29 +3,29 @@ use Rattle.std.proofs.Common.{◌≡◌, ◌≢◌, ℕ, ◌*◌, ◌<◌, List,
 use Rattle.std.specs.Prelude.{All, AllPairs}
 use Rattle.std.specs.List.{flat_map, list_any, AllByRecursion}
 use Rattle.std.specs.Str.{bytes_eq}
-use Rattle.std.proofs.lemmas.Bool.{leb-true}
+use Rattle.std.proofs.lemmas.Bool.{leb-true, and_from, and_parts, not_from_false}
 use Rattle.std.proofs.lemmas.List.{get_or-take, length-take-le, get_or_default}
 use Rattle.std.proofs.lemmas.List.Folds.{list_any_none}
 use Rattle.rwsp_text.specs.Lexemes.{Lexeme}
 use Rattle.rwsp_terms.specs.Instance.{Instance, off_name}
 use Rattle.rwsp_terms.specs.declared.data.Bounds.{Bounds}
 use Rattle.rwsp_terms.specs.declared.data.ShiftRow.{ShiftRow}
-use Rattle.rwsp_model.specs.Validity.{IsValid, KeepsLimits, IsName, IsSmallRange, is_small_range, AreSmall}
+use Rattle.rwsp_terms.proofs.Elements.{all_from}
+use Rattle.rwsp_model.specs.Validity.{IsValid, KeepsLimits, IsShiftName, IsSmallRange, is_small_range, AreSmall}
 use Rattle.rwsp_model.proofs.Limits.{keeps_valid}
 use Rattle.rwsp_file.specs.Spelling.{Spell, fields}
 use Rattle.rwsp_file.specs.Spelling.Field.{DemandField, ShiftField}
 use Rattle.rwsp_file.specs.Reading.{is_new_name}
-use Rattle.rwsp_file.proofs.FieldReaders.{both_true}
 use Rattle.rwsp_file.proofs.RowReader.{IsGoodRow}
-use Rattle.rwsp_file.proofs.Chains.{after_at, after_from, between_found, between_only, le_test, and_true}
+use Rattle.rwsp_file.proofs.Chains.{after_at, after_from, between_found, between_only, le_test}
 use Rattle.rwsp_file.proofs.SymbolReader.{IsPair, IsTriple, not_equal}
 use Rattle.rwsp_file.proofs.PartReaders.{IsDemandRow, AreBounds, size_fields, make_size}
 use Rattle.rwsp_file.proofs.Whole.{IsRead, good_names, no_other, fields_from_demand, fields_from_shifts, fields_from_frame}
-use Rattle.rwsp_file.proofs.WordForms.{IsWord, IsWordField, AreWords, names_are_words, all_front, all_mapped, by_index}
+use Rattle.rwsp_file.proofs.WordForms.{IsWord, IsWordField, AreWords, names_are_words, all_front, all_mapped}
 
 small_range : (b : Bounds) → is_small_range b ≡ true → IsSmallRange b
 small_range b e =
-    let h : (nat_le b.least 600 ≡ true) × (nat_le b.greatest 600 ≡ true) = both_true (nat_le b.least 600) (nat_le b.greatest 600) e in
+    let h : (nat_le b.least 600 ≡ true) × (nat_le b.greatest 600 ≡ true) = and_parts (nat_le b.least 600) (nat_le b.greatest 600) e in
     (leb-true b.least 600 h.0, leb-true b.greatest 600 h.1)
 
 small_bounds : (b : Bounds) → AreBounds b → AreSmall b
@@ -70,16 +70,12 @@ read_valid P r words = keeps_valid P (record {
   good_row : (P : Instance) (r : IsRead P) (i : ℕ) (d : ShiftRow) → i < length P.shifts → IsGoodRow (take i P.shifts) (get_or P.shifts i d)
   good_row P r i d less = after_at IsGoodRow [] P.shifts r.shifts i d less
 
-not_true : (t : Bool) → t ≡ false → not t ≡ true
-not_true true e = absurd (cc)
-not_true false e = refl
-
-new_name : (rows : List ShiftRow) (i : ℕ) (d : ShiftRow) → i < length rows → IsName (get_or rows i d).name → AllPairs (λ (a b : ShiftRow). a.name ≢ b.name) rows → is_new_name (take i rows) (get_or rows i d).name ≡ true
+new_name : (rows : List ShiftRow) (i : ℕ) (d : ShiftRow) → i < length rows → IsShiftName (get_or rows i d).name → AllPairs (λ (a b : ShiftRow). a.name ≢ b.name) rows → is_new_name (take i rows) (get_or rows i d).name ≡ true
 new_name rows i d less name distinct =
-    and_true (nat_le (length (get_or rows i d).name) 32 && not (bytes_eq (get_or rows i d).name off_name)) (not (list_any (λ row. bytes_eq (get_or rows i d).name row.name) (take i rows)))
-    (and_true (nat_le (length (get_or rows i d).name) 32) (not (bytes_eq (get_or rows i d).name off_name)) (le_test (length (get_or rows i d).name) 32 name.few)
-    (not_true _ (not_equal (get_or rows i d).name off_name name.no_dash)))
-    (not_true _ (list_any_none (λ row. bytes_eq (get_or rows i d).name row.name) (take i rows) (λ j e within.
+    and_from (nat_le (length (get_or rows i d).name) 32 && not (bytes_eq (get_or rows i d).name off_name)) (not (list_any (λ row. bytes_eq (get_or rows i d).name row.name) (take i rows)))
+    (and_from (nat_le (length (get_or rows i d).name) 32) (not (bytes_eq (get_or rows i d).name off_name)) (le_test (length (get_or rows i d).name) 32 name.few)
+    (not_from_false _ (not_equal (get_or rows i d).name off_name name.no_dash)))
+    (not_from_false _ (list_any_none (λ row. bytes_eq (get_or rows i d).name row.name) (take i rows) (λ j e within.
     let long : length (take i rows) ≡ i = length-take-le i rows (omega (arith, less)) in
     let before : j < i = omega (arith, within, long) in
     let here : get_or (take i rows) j e ≡ get_or rows j e = get_or-take i rows j e before in
@@ -88,7 +84,7 @@ new_name rows i d less name distinct =
     (sym (same ∙ ap (λ (row : ShiftRow). row.name) here) ∙ ap (λ (row : ShiftRow). row.name) (get_or_default rows i d e less))))))
 
 small_test : (b : Bounds) → IsSmallRange b → is_small_range b ≡ true
-small_test b h = and_true (nat_le b.least 600) (nat_le b.greatest 600) (le_test b.least 600 h.0) (le_test b.greatest 600 h.1)
+small_test b h = and_from (nat_le b.least 600) (nat_le b.greatest 600) (le_test b.least 600 h.0) (le_test b.greatest 600 h.1)
 
 -- an instance that keeps the limits may be read
 pub keeps_read : (P : Instance) → KeepsLimits P → IsRead P
@@ -125,4 +121,4 @@ names_spelled P ws s all =
     let demand : AllByRecursion IsWordField (fields_from_demand P) = (all_front IsWordField (size_fields (make_size P.days P.weeks (length P.shifts))) (fields_from_demand P) whole).1 in
     let shifts : AllByRecursion IsWordField (fields_from_shifts P) = (all_front IsWordField (flat_map (map DemandField) P.demand) (fields_from_shifts P) demand).1 in
     let rows : AllByRecursion IsWordField (map ShiftField P.shifts) = (all_front IsWordField (map ShiftField P.shifts) (fields_from_frame P) shifts).0 in
-    by_index (λ (row : ShiftRow). IsWord row.name) P.shifts (all_mapped IsWordField ShiftField P.shifts rows)
+    all_from (λ (row : ShiftRow). IsWord row.name) P.shifts (all_mapped IsWordField ShiftField P.shifts rows)

@@ -6,6 +6,7 @@ use Rattle.std.specs.Str.{bytes_eq}
 use Rattle.std.proofs.lemmas.List.{get_or-take, length-take-le}
 use Rattle.std.proofs.lemmas.List.Folds.{list_any_at}
 use Rattle.std.proofs.lemmas.Slice.Eq.{bytes_eq-Decides}
+use Rattle.std.proofs.lemmas.Bool.{and_parts}
 use Rattle.rwsp_text.specs.Lexemes.{Lexeme}
 use Rattle.rwsp_terms.specs.Instance.{Instance, off_name}
 use Rattle.rwsp_terms.specs.declared.data.Bounds.{Bounds}
@@ -18,7 +19,6 @@ use Rattle.rwsp_file.specs.declared.fields.Size.{Size}
 use Rattle.rwsp_file.specs.declared.fields.Frame.{Frame}
 use Rattle.rwsp_file.specs.declared.refusal.FileRefusal.{FileRefusal}
 use Rattle.rwsp_file.proofs.Readers.{AllAfter, bind_ok, then_ok, ok_same, given}
-use Rattle.rwsp_file.proofs.FieldReaders.{both_true}
 use Rattle.rwsp_file.proofs.RowReader.{IsGoodRow}
 use Rattle.rwsp_file.proofs.Chains.{after_at}
 use Rattle.rwsp_file.proofs.SymbolReader.{HasNames, IsPair, IsTriple, pair_fields, triple_fields}
@@ -28,8 +28,8 @@ use Rattle.rwsp_file.proofs.PartReaders.{IsSize, IsFrame, IsDemandRow, size_fiel
 pub no_other : (name : List ℕ) (earlier : List ShiftRow) → is_new_name earlier name ≡ true → (nat_le (length name) 32 ≡ true) × (name ≢ off_name) × (list_any (λ row. bytes_eq name row.name) earlier ≡ false)
 no_other name earlier e =
     let a : ((nat_le (length name) 32 && not (bytes_eq name off_name)) ≡ true) × (not (list_any (λ row. bytes_eq name row.name) earlier) ≡ true) =
-    both_true (nat_le (length name) 32 && not (bytes_eq name off_name)) (not (list_any (λ row. bytes_eq name row.name) earlier)) e in
-    let b : (nat_le (length name) 32 ≡ true) × (not (bytes_eq name off_name) ≡ true) = both_true (nat_le (length name) 32) (not (bytes_eq name off_name)) a.0 in
+    and_parts (nat_le (length name) 32 && not (bytes_eq name off_name)) (not (list_any (λ row. bytes_eq name row.name) earlier)) e in
+    let b : (nat_le (length name) 32 ≡ true) × (not (bytes_eq name off_name) ≡ true) = and_parts (nat_le (length name) 32) (not (bytes_eq name off_name)) a.0 in
     (b.0, λ same. absurd (clash (bytes_eq name off_name) ((bytes_eq-Decides name off_name).1 same) b.1), is_not _ a.1) where
       clash : (t : Bool) → t ≡ true → not t ≡ true → ⊥
       clash true e h = absurd (cc)

@@ -2,9 +2,10 @@
 use Rattle.std.proofs.Common.{◌≡◌, ◌≢◌, ℕ, zero, suc, ◌+◌, ◌≤◌, List, [], ◌∷◌, ◌++◌, length, take, Bool, true, false, not, ◌||◌, ◌==◌, cond, refl, subst, map, arith}
 use Rattle.std.specs.Prelude.{All, filter, take_while, slice_index}
 use Rattle.std.specs.List.{flat_map, AllByRecursion, slice_split, onto_first, prefix_len, enumerate_from}
-use Rattle.std.proofs.lemmas.Bool.{eq-eqb}
+use Rattle.std.proofs.lemmas.Bool.{eq-eqb, or_from}
 use Rattle.rwsp_text.specs.Lexemes.{Lexeme, is_space, has_some, lines_of, words_of_line, lexemes}
 use Rattle.rwsp_terms.specs.declared.data.ShiftRow.{ShiftRow}
+use Rattle.rwsp_terms.proofs.Elements.{all_from, all_joined}
 use Rattle.rwsp_model.specs.Validity.{is_blank}
 use Rattle.rwsp_file.specs.Spelling.{Field, Spell, IsRow, on_line, past_line, is_on_line}
 use Rattle.rwsp_file.specs.Spelling.Field.{NumberField, DemandField, ShiftField, NameField}
@@ -48,18 +49,9 @@ pub all_front : {X : Type 0} (P : X → Type 0) (xs ys : List X) → AllByRecurs
 all_front P [] ys h = (tt, h)
 all_front P (x ∷ xs) ys h = ((h.0, (all_front P xs ys h.1).0), (all_front P xs ys h.1).1)
 
-pub all_joined : {X : Type 0} (P : X → Type 0) (xs ys : List X) → AllByRecursion P xs → AllByRecursion P ys → AllByRecursion P (xs ++ ys)
-all_joined P [] ys a b = b
-all_joined P (x ∷ xs) ys a b = (a.0, all_joined P xs ys a.1 b)
-
 pub all_mapped : {X Y : Type 0} (P : Y → Type 0) (f : X → Y) (xs : List X) → AllByRecursion P (map f xs) → AllByRecursion (λ x. P (f x)) xs
 all_mapped P f [] h = tt
 all_mapped P f (x ∷ xs) h = (h.0, all_mapped P f xs h.1)
-
-pub by_index : {X : Type 0} (P : X → Type 0) (xs : List X) → AllByRecursion P xs → All P xs
-by_index P [] h k d less = absurd (omega (arith, less))
-by_index P (x ∷ xs) h zero d less = h.0
-by_index P (x ∷ xs) h (suc k) d less = by_index P xs h.1 k d (omega (arith, less))
 
 -- the parts of a list that is cut
 
@@ -114,10 +106,6 @@ InLine b = ((b == 10) ≡ false) × Unit {0}
 abbrev InWord : ℕ → Type 0
 InWord b = (is_space b ≡ false) × InLine b
 
-neither : (a b : Bool) → a ≡ false → b ≡ false → (a || b) ≡ false
-neither true b e h = absurd (cc)
-neither false b e h = h
-
 some_byte : (word : List ℕ) → has_some word ≡ true → 1 ≤ length word
 some_byte [] e = absurd (cc)
 some_byte (b ∷ bs) e = omega arith
@@ -131,7 +119,7 @@ no_hash_of b e same = clash (b == 35) (eq-eqb b 35 same) e where
 word_form : (word : List ℕ) → (AllByRecursion InWord word × (has_some word ≡ true)) × (not (slice_index word 0 == 35) ≡ true) → IsWord word
 word_form word h = record {
   some = some_byte word h.0.1;
-  unbroken = by_index (λ b. is_blank b ≡ false) word (all_weaker InWord (λ b. is_blank b ≡ false) (λ b i. neither (is_space b) (b == 10) i.0 i.1.0) word h.0.0);
+  unbroken = all_from (λ b. is_blank b ≡ false) word (all_weaker InWord (λ b. is_blank b ≡ false) (λ b i. or_from (is_space b) (b == 10) i.0 i.1.0) word h.0.0);
   no_hash = no_hash_of (slice_index word 0) h.1;
 }
 

@@ -4,7 +4,8 @@ use Rattle.std.specs.Prelude.{position, nat_le, slice_index, ◌==◌, All, AllP
 use Rattle.std.specs.Bool.{Decides}
 use Rattle.std.specs.List.{list_all, list_any, prefix_len}
 use Rattle.std.specs.Str.{bytes_eq}
-use Rattle.std.proofs.lemmas.Bool.{leb-true, ltb-false, le-ltb}
+use Rattle.std.proofs.Math.Nat.{mul-pos}
+use Rattle.std.proofs.lemmas.Bool.{leb-true, ltb-false, le-ltb, and_from, and_parts}
 use Rattle.std.proofs.lemmas.Bool.Decides.{nat_tests, Decides-eqb, Decides-and, Decides-not, Decides-like, Decides-by_and}
 use Rattle.std.proofs.lemmas.List.{take_more, append_assoc, append-nil, get_or-take, length-take-le, get_or_default}
 use Rattle.std.proofs.lemmas.List.Folds.{list_any_none, list_any_at}
@@ -13,7 +14,7 @@ use Rattle.rwsp_terms.specs.Instance.{Instance, cells, shift_count, off_name}
 use Rattle.rwsp_terms.specs.declared.data.Bounds.{Bounds}
 use Rattle.rwsp_terms.specs.declared.data.ShiftRow.{ShiftRow}
 use Rattle.rwsp_terms.specs.declared.data.Symbol.{Symbol}
-use Rattle.rwsp_model.specs.Validity.{IsValid, KeepsLimits, limit_refusal, name_refusal, limits_kept, has_shape, are_small, AreSmall, is_small_range, IsSmallRange, is_between, is_name, is_blank, IsName, is_named_well, bad_name_from}
+use Rattle.rwsp_model.specs.Validity.{IsValid, KeepsLimits, limit_refusal, name_refusal, limits_kept, has_shape, are_small, AreSmall, is_small_range, IsSmallRange, is_between, is_shift_name, is_blank, IsShiftName, is_named_well, bad_name_from}
 use Rattle.rwsp_model.specs.declared.refusal.PartsRefusal.{PartsRefusal}
 use Rattle.rwsp_model.specs.declared.refusal.PartsRefusal.TheVariants.{Shape}
 
@@ -41,9 +42,9 @@ is_false : (b : Bool) → Decides (not b) (b ≡ false)
 is_false true = (λ h. absurd (cc), λ h. absurd (cc))
 is_false false = (λ h. refl, λ h. refl)
 
-Decides-name : (name : List ℕ) → Decides (is_name name) (IsName name)
+Decides-name : (name : List ℕ) → Decides (is_shift_name name) (IsShiftName name)
 Decides-name name =
-    let tests : Decides (is_name name) (((((1 ≤ length name) × (length name ≤ 32)) × All (λ b. is_blank b ≡ false) name) × (slice_index name 0 ≢ 35)) × (name ≢ off_name)) =
+    let tests : Decides (is_shift_name name) (((((1 ≤ length name) × (length name ≤ 32)) × All (λ b. is_blank b ≡ false) name) × (slice_index name 0 ≢ 35)) × (name ≢ off_name)) =
     Decides-and (is_between 1 32 (length name) && list_all (λ b. not (is_blank b)) name && not (slice_index name 0 == 35)) (not (bytes_eq name off_name))
     (Decides-and (is_between 1 32 (length name) && list_all (λ b. not (is_blank b)) name) (not (slice_index name 0 == 35))
     (Decides-and (is_between 1 32 (length name)) (list_all (λ b. not (is_blank b)) name)
@@ -51,7 +52,7 @@ Decides-name name =
     (Decides-all (λ b. not (is_blank b)) (λ b. is_blank b ≡ false) (λ b. is_false (is_blank b)) name))
     (Decides-not (slice_index name 0 == 35) (Decides-eqb (slice_index name 0) 35)))
     (is_none_of off_name name) in
-    Decides-like (is_name name)
+    Decides-like (is_shift_name name)
     (λ h. record { some = h.0.0.0.0; few = h.0.0.0.1; unbroken = h.0.0.1; no_hash = h.0.1; no_dash = h.1 })
     (λ n. ((((n.some, n.few), n.unbroken), n.no_hash), n.no_dash))
     tests
@@ -65,8 +66,8 @@ unlike name earlier =
       λ all. ap not (list_any_none p earlier (λ i d less. (is_false (p (get_or earlier i d))).0 ((is_none_of (get_or earlier i d).name name).1 (all i d less)))),
     )
 
-Decides-named_well : (earlier : List ShiftRow) (row : ShiftRow) → Decides (is_named_well earlier row) (IsName row.name × All (λ (other : ShiftRow). row.name ≢ other.name) earlier)
-Decides-named_well earlier row = Decides-and (is_name row.name) (not (list_any (λ other. bytes_eq row.name other.name) earlier)) (Decides-name row.name) (unlike row.name earlier)
+Decides-named_well : (earlier : List ShiftRow) (row : ShiftRow) → Decides (is_named_well earlier row) (IsShiftName row.name × All (λ (other : ShiftRow). row.name ≢ other.name) earlier)
+Decides-named_well earlier row = Decides-and (is_shift_name row.name) (not (list_any (λ other. bytes_eq row.name other.name) earlier)) (Decides-name row.name) (unlike row.name earlier)
 
 -- each row is named well behind those before it
 unfoldable AllNamed : List ShiftRow → List ShiftRow → Type 0
@@ -98,7 +99,7 @@ none_where_named earlier k (row ∷ rows) h =
 
 -- every name is one, and no two shifts share one
 unfoldable Names : List ShiftRow → Type 0
-Names rows = All (λ (row : ShiftRow). IsName row.name) rows × AllPairs (λ (a b : ShiftRow). a.name ≢ b.name) rows
+Names rows = All (λ (row : ShiftRow). IsShiftName row.name) rows × AllPairs (λ (a b : ShiftRow). a.name ≢ b.name) rows
 
 names_where_none : (rows : List ShiftRow) → bad_name_from [] 1 rows ≡ None → Names rows
 unfolding AllNamed Names
@@ -161,38 +162,30 @@ none_broken ks h =
     let n = prefix_len (λ k. not (not k)) ks in
     ap (λ (b : Bool). cond b (Some n) None) (le-ltb n (length ks) (long_front ks h))
 
-both : (a b : Bool) → (a && b) ≡ true → (a ≡ true) × (b ≡ true)
-both true b h = (refl, h)
-both false b h = absurd (cc)
-
-join : (a b : Bool) → a ≡ true → b ≡ true → (a && b) ≡ true
-join true b p q = q
-join false b p q = absurd (cc)
-
 nine : (a b c d e f g i j : Bool) → list_all (λ k. k) (a ∷ b ∷ c ∷ d ∷ e ∷ f ∷ g ∷ i ∷ j ∷ []) ≡ true → (a ≡ true) × (b ≡ true) × (c ≡ true) × (d ≡ true) × (e ≡ true) × (f ≡ true) × (g ≡ true) × (i ≡ true) × (j ≡ true)
 nine a b c d e f g i j h =
-    let k1 = both a (b && (c && (d && (e && (f && (g && (i && (j && true)))))))) h in
-    let k2 = both b (c && (d && (e && (f && (g && (i && (j && true))))))) k1.1 in
-    let k3 = both c (d && (e && (f && (g && (i && (j && true)))))) k2.1 in
-    let k4 = both d (e && (f && (g && (i && (j && true))))) k3.1 in
-    let k5 = both e (f && (g && (i && (j && true)))) k4.1 in
-    let k6 = both f (g && (i && (j && true))) k5.1 in
-    let k7 = both g (i && (j && true)) k6.1 in
-    let k8 = both i (j && true) k7.1 in
-    let k9 = both j true k8.1 in
+    let k1 = and_parts a (b && (c && (d && (e && (f && (g && (i && (j && true)))))))) h in
+    let k2 = and_parts b (c && (d && (e && (f && (g && (i && (j && true))))))) k1.1 in
+    let k3 = and_parts c (d && (e && (f && (g && (i && (j && true)))))) k2.1 in
+    let k4 = and_parts d (e && (f && (g && (i && (j && true))))) k3.1 in
+    let k5 = and_parts e (f && (g && (i && (j && true)))) k4.1 in
+    let k6 = and_parts f (g && (i && (j && true))) k5.1 in
+    let k7 = and_parts g (i && (j && true)) k6.1 in
+    let k8 = and_parts i (j && true) k7.1 in
+    let k9 = and_parts j true k8.1 in
     (k1.0, k2.0, k3.0, k4.0, k5.0, k6.0, k7.0, k8.0, k9.0)
 
 nine_joined : (a b c d e f g i j : Bool) → a ≡ true → b ≡ true → c ≡ true → d ≡ true → e ≡ true → f ≡ true → g ≡ true → i ≡ true → j ≡ true → list_all (λ k. k) (a ∷ b ∷ c ∷ d ∷ e ∷ f ∷ g ∷ i ∷ j ∷ []) ≡ true
 nine_joined a b c d e f g i j k1 k2 k3 k4 k5 k6 k7 k8 k9 =
-    join a (b && (c && (d && (e && (f && (g && (i && (j && true)))))))) k1
-    (join b (c && (d && (e && (f && (g && (i && (j && true))))))) k2
-    (join c (d && (e && (f && (g && (i && (j && true)))))) k3
-    (join d (e && (f && (g && (i && (j && true))))) k4
-    (join e (f && (g && (i && (j && true)))) k5
-    (join f (g && (i && (j && true))) k6
-    (join g (i && (j && true)) k7
-    (join i (j && true) k8
-    (join j true k9 refl))))))))
+    and_from a (b && (c && (d && (e && (f && (g && (i && (j && true)))))))) k1
+    (and_from b (c && (d && (e && (f && (g && (i && (j && true))))))) k2
+    (and_from c (d && (e && (f && (g && (i && (j && true)))))) k3
+    (and_from d (e && (f && (g && (i && (j && true))))) k4
+    (and_from e (f && (g && (i && (j && true)))) k5
+    (and_from f (g && (i && (j && true))) k6
+    (and_from g (i && (j && true)) k7
+    (and_from i (j && true) k8
+    (and_from j true k9 refl))))))))
 
 Decides-pair : (last : ℕ) (x : Symbol × Symbol) → Decides (nat_le x.0.number last && nat_le x.1.number last) ((x.0.number ≤ last) × (x.1.number ≤ last))
 Decides-pair last x = Decides-and (nat_le x.0.number last) (nat_le x.1.number last) (Decides-leb x.0.number last) (Decides-leb x.1.number last)
@@ -314,3 +307,9 @@ bad_here rows i d h e = bad_step (take i rows) (i + 1) rows i d h ∙ ap (λ b. 
 
 pub bad_later : (rows : List ShiftRow) (i : ℕ) (d : ShiftRow) → i < length rows → is_named_well (take i rows) (get_or rows i d) ≡ true → bad_name_from (take i rows) (i + 1) (drop i rows) ≡ bad_name_from (take (i + 1) rows) (i + 1 + 1) (drop (i + 1) rows)
 bad_later rows i d h e = bad_step (take i rows) (i + 1) rows i d h ∙ ap (λ b. cond b (bad_name_from (take i rows ++ (get_or rows i d) ∷ []) (i + 1 + 1) (drop (i + 1) rows)) (Some (i + 1))) e ∙ ap (λ (front : List ShiftRow). bad_name_from front (i + 1 + 1) (drop (i + 1) rows)) (sym (take_more rows i d h))
+
+pub some_cells : (P : Instance) → KeepsLimits P → 0 < cells P
+some_cells P limits =
+    let weeks : 0 < P.weeks = omega (arith, limits.some_weeks) in
+    let days : 0 < P.days = omega (arith, limits.some_days) in
+    mul-pos weeks days

@@ -4,7 +4,7 @@ use Rattle.std.specs.Prelude.{slice_get, map, Contains, ◌↔◌}
 use Rattle.std.specs.List.{range_with_len, flat_map}
 use Rattle.std.proofs.lemmas.List.{get_or_append_left, get_or-append-add}
 use Rattle.std.proofs.lemmas.List.FromFn.{length-map-range_with_len, get_or-map-range_with_len}
-use Rattle.std.proofs.lemmas.Option.{slice_get-get_or, slice_get_within, get_or_from_slice_get}
+use Rattle.std.proofs.lemmas.Option.{slice_get-get_or, slice_get_within, get_or_from_slice_get, same_Some}
 use Rattle.std.proofs.lemmas.Bool.{cases_lt}
 use Rattle.rwsp_terms.specs.Instance.{Instance, shift_count}
 use Rattle.rwsp_terms.specs.Roster.{IsRule}
@@ -208,14 +208,11 @@ rule_there P n h =
     (cases_lt n (2 * k + 4)))
     (cases_lt n (2 * k))
 
-pub some_injective : (a b : Rule) → Some a ≡ Some b → a ≡ b
-some_injective a b e = cc
-
 -- the rule at a place is a rule, and its place is this one
 pub rule_found : (P : Instance) (n : ℕ) (r : Rule) → slice_get (rules P) n ≡ Some r → IsRule P r × (place_of P r ≡ n)
 rule_found P n r h =
     let there = rule_there P n (slice_get_within (rules P) n r h) in
-    let same : there.0 ≡ r = some_injective there.0 r (sym (rule_at_place P there.0 there.1) ∙ ap (slice_get (rules P)) there.2 ∙ h) in
+    let same : there.0 ≡ r = same_Some there.0 r (sym (rule_at_place P there.0 there.1) ∙ ap (slice_get (rules P)) there.2 ∙ h) in
     subst (λ (z : Rule). IsRule P z × (place_of P z ≡ n)) same (there.1, there.2)
 
 pub rule_numbered : (P : Instance) (n : ℕ) (r : Rule) → rule_of P n ≡ Some r → IsRule P r × (place_of P r + 1 ≡ n)
@@ -228,6 +225,10 @@ number_at_place P r (suc n) h e = let same : n ≡ place_of P r = omega (arith, 
 
 pub number_within : (P : Instance) (r : Rule) → IsRule P r → place_of P r + 1 ≤ length (rules P)
 number_within P r h = let below = place_below P r h in omega (arith, below)
+
+pub rule_in_range : (P : Instance) (k : ℕ) (r : Rule) → rule_of P k ≡ Some r → (0 < k) × (k ≤ length (rules P))
+rule_in_range P zero r e = absurd (cc)
+rule_in_range P (suc k) r e = let lt = slice_get_within (rules P) k r e in (omega arith, omega (arith, lt))
 
 pub one_number : (P : Instance) (m n : ℕ) (r : Rule) → rule_of P m ≡ Some r → rule_of P n ≡ Some r → m ≡ n
 one_number P m n r a b = let f = rule_numbered P m r a in let g = rule_numbered P n r b in omega (arith, f.1, g.1)

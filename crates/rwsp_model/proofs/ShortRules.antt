@@ -3,12 +3,12 @@ use Rattle.std.proofs.Common.{◌≡◌, ◌≢◌, ℕ, zero, suc, ◌+◌, ◌
 use Rattle.std.specs.Prelude.{Contains, ◌↔◌}
 use Rattle.std.specs.List.Sorted.{IsStrictlyIncreasing}
 use Rattle.std.proofs.lemmas.Bool.{cases_eq}
-use Rattle.std.proofs.lemmas.Option.{slice_get_within}
+use Rattle.std.proofs.lemmas.Option.{slice_get_within, same_Some}
 use Rattle.rwsp_terms.specs.Instance.{Instance}
 use Rattle.rwsp_terms.specs.Rules.{rules, rule_of, IsShort}
 use Rattle.rwsp_terms.specs.declared.data.Rule.{Rule}
 use Rattle.rwsp_model.specs.RuleNumbers.{place_of, IsShortNumber, ListsShortRules}
-use Rattle.rwsp_model.proofs.Numbering.{rule_numbered, number_at_place, some_injective}
+use Rattle.rwsp_model.proofs.Numbering.{rule_numbered, number_at_place}
 
 -- a list with the number of a short rule more
 pub put_short : (P : Instance) (old new : List ℕ) (n : ℕ) (r : Rule) → rule_of P n ≡ Some r → IsShort P r → ((k : ℕ) → Contains new k ↔ (Contains old k ⊎ (k ≡ n))) → (k : ℕ) → Contains new k ↔ (Contains old k ⊎ ((k ≡ n) × IsShortNumber P k))
@@ -58,7 +58,7 @@ lists_all P R n all lists = record {
   numbers = λ k. (λ c. ((lists.numbers k).0 c).1, λ h. (lists.numbers k).1 (upto P k n all h, h));
   short_only = λ r named.
       let short = ((lists.numbers named.0).0 named.1).1 in
-      let same : short.0 ≡ r = some_injective short.0 r (sym short.1 ∙ named.2) in
+      let same : short.0 ≡ r = same_Some short.0 r (sym short.1 ∙ named.2) in
       subst (λ (z : Rule). IsShort P z) same short.2;
   all_short = λ r h short.
       let number : rule_of P (place_of P r + 1) ≡ Some r = number_at_place P r (place_of P r + 1) h refl in

@@ -46,8 +46,8 @@ abbrev pub is_blank : ℕ → Bool
 is_blank b = (b == 32) || (b == 9) || (b == 13) || (b == 10)
 
 -- a word that may name a shift, by itself
-abbrev pub is_name : List ℕ → Bool
-is_name name =
+abbrev pub is_shift_name : List ℕ → Bool
+is_shift_name name =
     is_between 1 32 (length name)
     && list_all (λ b. not (is_blank b)) name
     && not (slice_index name 0 == 35)
@@ -55,7 +55,7 @@ is_name name =
 
 -- the name may name a shift and is none of the earlier names
 abbrev pub is_named_well : List ShiftRow → ShiftRow → Bool
-is_named_well earlier row = is_name row.name && not (list_any (λ other. bytes_eq row.name other.name) earlier)
+is_named_well earlier row = is_shift_name row.name && not (list_any (λ other. bytes_eq row.name other.name) earlier)
 
 -- the first shift that isn't named well, where the rows count from k on and others come earlier
 abbrev pub bad_name_from : List ShiftRow → ℕ → List ShiftRow → Option ℕ
@@ -86,7 +86,7 @@ abbrev pub AreSmall : Bounds → Type 0
 AreSmall b = (b.least ≤ 10000) × (b.greatest ≤ 10000)
 
 -- 1 to 32 bytes with no blank, tab or line end, no `#` in front, and not the name of the day off
-pub record IsName (name : List ℕ) : Type 0 where
+pub record IsShiftName (name : List ℕ) : Type 0 where
   pub some : 1 ≤ length name
   pub few : length name ≤ 32
   pub unbroken : All (λ b. is_blank b ≡ false) name
@@ -113,7 +113,7 @@ pub record KeepsLimits (P : Instance) : Type 0 where
   pub work : AreSmall P.work
   pub few_pairs : length P.pairs ≤ 64
   pub few_triples : length P.triples ≤ 64
-  pub names : All (λ row. IsName row.name) P.shifts
+  pub names : All (λ row. IsShiftName row.name) P.shifts
   pub distinct : AllPairs (λ a b. a.name ≢ b.name) P.shifts
 
 -- the name of a symbol among these shifts

@@ -3,7 +3,7 @@ ghost use Rattle.std.specs.Prelude.{◌≡◌, ℕ, ◌+◌, ◌-◌, ◌*◌, �
 ghost use Rattle.std.specs.List.{list_all, list_any};
 ghost use Rattle.std.specs.Str.{bytes_eq};
 ghost use Rattle.rwsp_model.specs.Parts.{instance_of};
-ghost use Rattle.rwsp_model.specs.Validity.{refusal_of, has_shape, are_small, is_small_range, is_between, limits_kept, is_name, is_named_well, bad_name_from, is_blank};
+ghost use Rattle.rwsp_model.specs.Validity.{refusal_of, has_shape, are_small, is_small_range, is_between, limits_kept, is_shift_name, is_named_well, bad_name_from, is_blank};
 
 use crate::{Parts, PartsRefusal};
 use rwsp_terms::{Bounds, DemandRow, ShiftRow, Symbol};
@@ -122,8 +122,8 @@ fn has_no_blank(name: &[u8]) -> bool
     name.iter().all(|b| !is_blank(*b))
 }
 
-fn is_name(name: &[u8]) -> bool
-    ensures { result ≡ is_name name.now }
+fn is_shift_name(name: &[u8]) -> bool
+    ensures { result ≡ is_shift_name name.now }
 {
     if name.is_empty() || name.len() > 32 {
         return false;
@@ -148,7 +148,7 @@ fn is_named_well(earlier: &[ShiftRow], row: &ShiftRow) -> bool
     ensures { result ≡ is_named_well earlier.now row.now }
 {
     let name = row.name.bytes();
-    let good = is_name(name);
+    let good = is_shift_name(name);
     let taken = is_among(earlier, name);
     good && !taken
 }

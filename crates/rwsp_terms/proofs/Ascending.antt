@@ -10,7 +10,7 @@ use Rattle.std.proofs.lemmas.List.Elements.{All-head, All-tail, All-append, All-
 use Rattle.std.proofs.lemmas.List.Quantifiers.{all_pairs_remove}
 use Rattle.std.proofs.lemmas.List.Kept.{AllPairs-from_increasing}
 use Rattle.std.proofs.lemmas.List.Sorted.{IsPermutation-insert, IsPermutation-sym, Contains-permutation}
-use Rattle.std.proofs.lemmas.Bool.{cases_lt, cases_eq}
+use Rattle.std.proofs.lemmas.Bool.{cases_lt, cases_eq, and_parts}
 use Rattle.std.proofs.lemmas.Bool.Decides.{nat_tests}
 use Rattle.rwsp_terms.specs.Weights.{ComesBefore, IsWeight, AreWeights, weight_at}
 use Rattle.rwsp_terms.specs.Places.{BelongsIn, is_at, Precedes, Follows, Holds, Lacks, SetsWeight}
@@ -120,12 +120,8 @@ rising xs up i j le less =
 abbrev pub IsHere : Weight → ℕ → ℕ → Type 0
 IsHere e j x = (e.day ≡ j) × (e.symbol.number ≡ x)
 
-both : (a b : Bool) → (a && b) ≡ true → (a ≡ true) × (b ≡ true)
-both true b h = (refl, h)
-both false b h = absurd (cc)
-
 pub here_from_test : (e : Weight) (j x : ℕ) → is_at e j x ≡ true → IsHere e j x
-here_from_test e j x h = let b = both (eqb e.day j) (eqb e.symbol.number x) h in (eqb-true _ _ b.0, eqb-true _ _ b.1)
+here_from_test e j x h = let b = and_parts (eqb e.day j) (eqb e.symbol.number x) h in (eqb-true _ _ b.0, eqb-true _ _ b.1)
 
 pub test_from_here : (e : Weight) (j x : ℕ) → IsHere e j x → is_at e j x ≡ true
 test_from_here e j x h = grind (arith, nat_tests)

@@ -62,7 +62,7 @@ follows a e h = ⊎_elim (λ (l : a.day < e.day). inl l) (λ (l : (a.day ≡ e.d
 off_behind : (a : Weight) (z : List Weight) → All (ComesBefore a) z → weight_at z a.day a.symbol.number ≡ pos 0
 off_behind a z h = weight_none z a.day a.symbol.number (All-weaker (ComesBefore a) (λ (e : Weight). is_at e a.day a.symbol.number ≡ false) (λ e before. off_after e a.day a.symbol.number (follows a e before)) z h)
 
-before_all : (a b e : Weight) → ComesBefore a b → ComesBefore b e → ComesBefore a e
+pub before_all : (a b e : Weight) → ComesBefore a b → ComesBefore b e → ComesBefore a e
 before_all a b e p q = grind arith
 
 -- the first entry of one isn't before that of the other

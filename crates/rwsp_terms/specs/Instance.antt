@@ -88,6 +88,10 @@ IsDay P j = (0 < j) × (j ≤ P.days)
 abbrev pub symbol_numbered : ℕ → Symbol
 symbol_numbered n = record { number = n }
 
+-- the day off
+abbrev pub off_symbol : Symbol
+off_symbol = record { number = 0 }
+
 -- the name `-` of the day off
 abbrev pub off_name : List ℕ
 off_name = 45 ∷ []

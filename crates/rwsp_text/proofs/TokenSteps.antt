@@ -9,14 +9,11 @@ use Rattle.std.proofs.Common.{◌≡◌, ℕ, suc, ◌+◌, ◌<◌, ◌≤◌, 
 use Rattle.std.specs.Prelude.{not, ◌==◌, ◌&&◌, ◌||◌, slice_range}
 use Rattle.std.specs.List.{prefix_len, AllByRecursion}
 use Rattle.std.proofs.lemmas.List.{drop_all, drop-drop, take-append-drop}
+use Rattle.std.proofs.lemmas.Bool.{and_parts, not-false, not-true}
 use Rattle.rwsp_text.specs.Lexemes.{is_space, lexemes_from}
 use Rattle.rwsp_text.specs.Places.{is_word_byte, is_no_end, lexeme_at}
 use Rattle.rwsp_text.specs.Steps.{IsNoEnd, EndsLine, IsWordByte, Ends}
 use Rattle.rwsp_text.proofs.TextSteps.{at_line_end, at_space, at_word, at_comment}
-
-both : (a b : Bool) → (a && b) ≡ true → (a ≡ true) × (b ≡ true)
-both true b h = (refl, h)
-both false b h = absurd (cc)
 
 prefix_step : (p : ℕ → Bool) (xs : List ℕ) (i : ℕ) → i < length xs → prefix_len p (drop i xs) ≡ cond (p (get_or xs i 0)) (1 + prefix_len p (drop (i + 1) xs)) 0
 prefix_step p xs i h = let next : suc i ≡ i + 1 = omega arith in ap (prefix_len p) (drop-cons xs i 0 h ∙ ap (λ n. get_or xs i 0 ∷ drop n xs) next)
@@ -68,21 +65,13 @@ step_end bs at line h e = ap (lexemes_from line) (rest_at bs at h ∙ ap (λ b. 
 pub step_space : (bs : List ℕ) (at line : ℕ) → at < length bs → is_space (get_or bs at 0) ≡ true → lexemes_from line (drop at bs) ≡ lexemes_from line (drop (at + 1) bs)
 step_space bs at line h e = ap (lexemes_from line) (rest_at bs at h) ∙ at_space line (get_or bs at 0) (drop (at + 1) bs) e
 
-not_true : (b : Bool) → not b ≡ true → b ≡ false
-not_true true h = absurd (cc)
-not_true false h = refl
-
 no_end_of : (t : List ℕ) → AllByRecursion (λ b. is_no_end b ≡ true) t → AllByRecursion IsNoEnd t
 no_end_of [] h = tt
-no_end_of (b ∷ t) h = (not_true (b == 10) h.0, no_end_of t h.1)
-
-not_false : (b : Bool) → not b ≡ false → b ≡ true
-not_false true h = refl
-not_false false h = absurd (cc)
+no_end_of (b ∷ t) h = (not-true (b == 10) h.0, no_end_of t h.1)
 
 line_end_of : (bs : List ℕ) → Stops is_no_end bs → EndsLine bs
 line_end_of [] h = tt
-line_end_of (b ∷ bs) h = eqb-true b 10 (not_false (b == 10) h)
+line_end_of (b ∷ bs) h = eqb-true b 10 (not-false (b == 10) h)
 
 -- a comment at the front of a list
 comment_front : (line : ℕ) (r : List ℕ) → lexemes_from line (35 ∷ r) ≡ lexemes_from line (drop (prefix_len is_no_end r) r)
@@ -101,7 +90,7 @@ step_comment bs at line h e =
     ap (lexemes_from line) here ∙ comment_front line (drop (at + 1) bs) ∙ ap (lexemes_from line) (drop-drop k (at + 1) bs ∙ ap (λ n. drop n bs) place)
 
 word_byte_of : (b : ℕ) → is_word_byte b ≡ true → IsWordByte b
-word_byte_of b h = let k = both (not (is_space b)) (not (b == 10)) h in (not_true (is_space b) k.0, not_true (b == 10) k.1)
+word_byte_of b h = let k = and_parts (not (is_space b)) (not (b == 10)) h in (not-true (is_space b) k.0, not-true (b == 10) k.1)
 
 word_bytes_of : (t : List ℕ) → AllByRecursion (λ b. is_word_byte b ≡ true) t → AllByRecursion IsWordByte t
 word_bytes_of [] h = tt

@@ -8,9 +8,11 @@ use Rattle.std.proofs.lemmas.List.Elements.{All-get_or}
 use Rattle.std.proofs.lemmas.List.Folds.{list_all_at}
 use Rattle.std.proofs.lemmas.List.Sums.{list_all-from_AllPass}
 use Rattle.std.proofs.lemmas.List.FromFn.{length-range_with_len, get_or-range_with_len}
+use Rattle.std.proofs.Math.Bool.{or-true}
 use Rattle.rwsp_terms.specs.Instance.{Instance, cells}
 use Rattle.refutation_terms.specs.Word.{Domains}
 use Rattle.refutation_terms.specs.Tree.{is_idle}
+use Rattle.refutation_terms.proofs.Tests.{passes_by}
 use Rattle.domain_store.specs.Sets.{IsDomain}
 use Rattle.domain_store.specs.Store.{Store, BelongsTo, domain_at, has_domain, IsStore, HasDomains}
 use Rattle.tree_walk.specs.Splits.{is_idle_in}
@@ -18,14 +20,6 @@ use Rattle.tree_walk.specs.Splits.{is_idle_in}
 -- the numbers up to K that are x or not in the domain
 abbrev alone_test : Store → ℕ → ℕ → ℕ → Bool
 alone_test S p x z = (z == x) || not (has_domain S p z)
-
-or-true : (a : Bool) → (a || true) ≡ true
-or-true true = refl
-or-true false = refl
-
-passes_by : (a b : Bool) → (b ≡ true → a ≡ true) → (a || not b) ≡ true
-passes_by a true h = ap (λ c. c || false) (h refl)
-passes_by a false h = or-true a
 
 where_one : (S : Store) (p x last : ℕ) → HasDomains S → length (domain_at S p) ≡ 1 → has_domain S p x ≡ true → list_all (alone_test S p x) (range_with_len 0 (last + 1)) ≡ true
 where_one S p x last tests one has =

@@ -22,14 +22,6 @@ use Rattle.tree_walk.specs.States.{IsStateOf, IsWalk}
 use Rattle.tree_walk.proofs.Stack.{leaf_read, split_read, second_ended, first_ended, innermost, read_leaves, read_is_tree, read_whole, read_part}
 use Rattle.tree_walk.proofs.Idle.{idle_in_store, held_where_useful, more_where_useful, positions_of}
 
-pub not_false : (b : Bool) → not b ≡ true → b ≡ false
-not_false true h = absurd (cc)
-not_false false h = refl
-
-pub not_true : (b : Bool) → not b ≡ false → b ≡ true
-not_true true h = refl
-not_true false h = absurd (cc)
-
 -- the split on top of the stack
 pub on_top : (n : ℕ) (S : Store) (D : Domains) (splits outer : List OpenSplit) (lines : List Line) (o : OpenSplit) → splits ≡ outer ++ o ∷ [] → InSplits IsTree n S D 0 splits lines → (E : Domains) × (since : ℕ) × IsSplitAt n S E since o
 on_top n S D splits outer lines o e h = innermost IsTree n S o outer D 0 lines (subst (λ s. InSplits IsTree n S D 0 s lines) e h)

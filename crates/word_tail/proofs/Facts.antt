@@ -1,5 +1,6 @@
 -- The facts of a tail, and those of a word with one symbol more.
 use Rattle.std.proofs.Common.{◌≡◌, ◌⊎◌, ℕ, ◌+◌, List, [], ◌∷◌, ◌++◌, Option, Some, None, Bool, true, false, cond, ◌&&◌, refl, ap, sym, ◌∙◌, inl, inr, arith, eqb, eq-eqb}
+use Rattle.std.proofs.Math.Bool.{and-false}
 use Rattle.rwsp_terms.specs.declared.data.Symbol.{Symbol}
 use Rattle.word_tail.specs.declared.tail.Tail.{Tail}
 use Rattle.word_tail.specs.Tails.{is_same, last_of, before_last_of, capped, run_of, work_of, are_all, all_work_in, run_by, all_one_by, tail_of}
@@ -17,10 +18,6 @@ empty_by w h (inr s) = let last : last_of w ≡ Some s.1 = ap last_of s.2 ∙ la
 pub none_empty : (w : List Symbol) → last_of w ≡ None → w ≡ []
 none_empty w h = empty_by w h (ends w)
 
-and_false : (b : Bool) → (b && false) ≡ false
-and_false true = refl
-and_false false = refl
-
 pub run_else : (w : List Symbol) (a x : Symbol) → last_of w ≡ Some a → eqb a.number x.number ≡ false → 0 ≡ capped (run_of x w)
 run_else w a x last e =
     let s = last_split w a last in
@@ -33,7 +30,7 @@ run_none w x h = ap (λ v. capped (run_of x v)) (sym (none_empty w h))
 pub all_else : (w : List Symbol) (a x : Symbol) → last_of w ≡ Some a → eqb a.number x.number ≡ false → false ≡ are_all x w
 all_else w a x last e =
     let s = last_split w a last in
-    sym (ap (are_all x) s.1 ∙ list_all_longer (is_same x) s.0 a ∙ ap (λ k. are_all x s.0 && k) e ∙ and_false (are_all x s.0))
+    sym (ap (are_all x) s.1 ∙ list_all_longer (is_same x) s.0 a ∙ ap (λ k. are_all x s.0 && k) e ∙ and-false (are_all x s.0))
 
 pub all_none : (w : List Symbol) (x : Symbol) → last_of w ≡ None → true ≡ are_all x w
 all_none w x h = ap (are_all x) (sym (none_empty w h))

@@ -6,6 +6,7 @@ use Rattle.word_tail.specs.declared.limits.Lengths.{Lengths}
 use Rattle.std.specs.Prelude.{◌↔◌, IsTrue, Contains, slice_get}
 use Rattle.std.proofs.lemmas.Option.{get_or_from_slice_get, slice_get_within}
 use Rattle.std.proofs.lemmas.Bool.{cases_lt}
+use Rattle.std.proofs.Math.Bool.{and-false}
 use Rattle.rwsp_terms.specs.declared.data.Symbol.{Symbol}
 use Rattle.rwsp_terms.specs.declared.data.Class.{Class}
 use Rattle.rwsp_terms.specs.declared.data.Class.TheVariants.{Shift, Off, Work}
@@ -109,20 +110,16 @@ unset zero k = refl
 unset (suc n) zero = refl
 unset (suc n) (suc k) = unset n k
 
-and_false : (b : Bool) → (b && false) ≡ false
-and_false true = refl
-and_false false = refl
-
 pub no_pairs : (P : Instance) (R : List ℕ) (table : List Bool) → table ≡ replicate 81 false → HoldsPairs P R table 0
 no_pairs P R table e a b =
     let none : get_or table (9 * a.number + b.number) false ≡ false = ap (λ t. get_or t (9 * a.number + b.number) false) e ∙ unset 81 (9 * a.number + b.number) in
-    let unheld : pair_in table a b ≡ false = ap (λ k. ltb a.number 9 && ltb b.number 9 && k) none ∙ and_false (ltb a.number 9 && ltb b.number 9) in
+    let unheld : pair_in table a b ≡ false = ap (λ k. ltb a.number 9 && ltb b.number 9 && k) none ∙ and-false (ltb a.number 9 && ltb b.number 9) in
     (λ t. absurd (cc), λ k. absurd (omega (arith, k.1)))
 
 pub no_triples : (P : Instance) (R : List ℕ) (table : List Bool) → table ≡ replicate 729 false → HoldsTriples P R table 0
 no_triples P R table e a b c =
     let none : get_or table (81 * a.number + 9 * b.number + c.number) false ≡ false = ap (λ t. get_or t (81 * a.number + 9 * b.number + c.number) false) e ∙ unset 729 (81 * a.number + 9 * b.number + c.number) in
-    let unheld : triple_in table a b c ≡ false = ap (λ k. ltb a.number 9 && ltb b.number 9 && ltb c.number 9 && k) none ∙ and_false (ltb a.number 9 && ltb b.number 9 && ltb c.number 9) in
+    let unheld : triple_in table a b c ≡ false = ap (λ k. ltb a.number 9 && ltb b.number 9 && ltb c.number 9 && k) none ∙ and-false (ltb a.number 9 && ltb b.number 9 && ltb c.number 9) in
     (λ t. absurd (cc), λ k. absurd (omega (arith, k.1)))
 
 -- one entry more of the lengths by symbols

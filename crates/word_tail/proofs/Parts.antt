@@ -12,6 +12,7 @@ use Rattle.rwsp_terms.specs.Window.{Bad, InClass, TooLong, TooShort}
 use Rattle.word_tail.specs.Tails.{is_same, is_shift, last_of, before_last_of}
 use Rattle.word_tail.specs.Ends.{max_rule, min_rule, EndsBadly}
 use Rattle.word_tail.proofs.Lists.{Passes, front_same, last_same, ends, reverse_longer, end_block, end_long, end_taken, end_split, not_all}
+use Rattle.refutation_terms.proofs.Decide.{in_class-true, passes_class}
 
 -- the class as a test
 abbrev pub in_class : Class → Symbol → Bool
@@ -19,21 +20,11 @@ in_class (Shift x) y = is_same x y
 in_class Off y = eqb y.number 0
 in_class Work y = is_shift y
 
-pub passes_class : (c : Class) (y : Symbol) → InClass c y → in_class c y ≡ true
-passes_class (Shift x) y h = eq-eqb y.number x.number (ap (λ (s : Symbol). s.number) h)
-passes_class Off y h = eq-eqb y.number 0 h
-passes_class Work y h = lt-ltb 0 y.number h
-
-pub class_passed : (c : Class) (y : Symbol) → in_class c y ≡ true → InClass c y
-class_passed (Shift x) y h = ap symbol_numbered (eqb-true y.number x.number h)
-class_passed Off y h = eqb-true y.number 0 h
-class_passed Work y h = ltb-true 0 y.number h
-
 pub outside : (c : Class) (y : Symbol) → ¬ InClass c y → in_class c y ≡ false
 outside c y h = by (in_class c y) refl
   where
     by : (b : Bool) → in_class c y ≡ b → in_class c y ≡ false
-    by true e = absurd (h (class_passed c y e))
+    by true e = absurd (h (in_class-true c y e))
     by false e = e
 
 pub not_inside : (c : Class) (y : Symbol) → in_class c y ≡ false → ¬ InClass c y
@@ -46,7 +37,7 @@ all_pass c (y ∷ ys) h = (passes_class c y (h 0 y (omega arith)), all_pass c ys
 
 pub all_passed : (c : Class) (u : List Symbol) → Passes (in_class c) u → All (InClass c) u
 all_passed c [] h k d lt = absurd (omega (arith, lt))
-all_passed c (y ∷ ys) h zero d lt = class_passed c y h.0
+all_passed c (y ∷ ys) h zero d lt = in_class-true c y h.0
 all_passed c (y ∷ ys) h (suc k) d lt = all_passed c ys h.1 k d (omega (arith, lt))
 
 -- the rules on blocks, as what breaks them

@@ -1,9 +1,11 @@
 -- No number so far is another symbol of the set.
 use Rattle.std.proofs.Common.{◌||◌, ◌==◌, not, sym, ◌∙◌}
+use Rattle.rwsp_terms.proofs.Counting.{all_one_more}
 use Rattle.domain_store.specs.Sets.{has_symbol}
-use Rattle.demand_counts.proofs.TallyLemmas.{all_one_more, same_passes, absent_passes, not_alone}
+use Rattle.demand_counts.proofs.TallyLemmas.{not_alone}
 use Rattle.demand_counts.proofs.recount.is_alone.Goals as goal
 use Rattle.demand_counts.proofs.recount.is_alone.Goals.{else-z-x-via-then-z-x+else-has, else-z-x-via-else-z-x}
+use Rattle.refutation_terms.proofs.Alone.{same_passes, absent_passes}
 
 pub loop-z-preserved : goal.loop-z-preserved
 loop-z-preserved c =

@@ -1,10 +1,11 @@
 -- No number so far is another symbol of the domain.
 use Rattle.std.proofs.Common.{◌||◌, ◌==◌, not, sym, ◌∙◌, ◌+◌, ◌<◌, arith}
 use Rattle.rwsp_terms.specs.Instance.{shift_count}
+use Rattle.rwsp_terms.proofs.Counting.{all_one_more}
 use Rattle.domain_store.specs.Store.{has_domain}
-use Rattle.plain_leaves.proofs.Counting.{all_one_more, same_passes, absent_passes, not_only}
 use Rattle.plain_leaves.proofs.day.is_only.Goals as goal
 use Rattle.plain_leaves.proofs.day.is_only.Goals.{else-number-x-via-then-number-x+else-has, else-number-x-via-else-number-x}
+use Rattle.refutation_terms.proofs.Alone.{same_passes, absent_passes, not_only}
 
 pub loop-number-preserved : goal.loop-number-preserved
 loop-number-preserved c =

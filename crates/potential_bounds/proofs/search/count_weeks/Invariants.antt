@@ -1,7 +1,7 @@
 use Rattle.std.proofs.Common.{◌≡◌, ◌+◌, ◌-◌, ◌*◌, ◌≤◌, ◌==◌}
 use Rattle.std.specs.Prelude.{count_by, slice_index_or}
 use Rattle.std.specs.List.{range_with_len}
-use Rattle.rwsp_terms.specs.Window.{off_symbol}
+use Rattle.rwsp_terms.specs.Instance.{off_symbol}
 use Rattle.potential_bounds.proofs.search.count_weeks.Given as goal
 
 abbrev pub invariant-loop-week : goal.invariant-loop-week

@@ -1,5 +1,5 @@
 use Rattle.std.proofs.Common.{ap, ◌∙◌}
-use Rattle.refutation_checker.specs.Sound.{Start}
+use Rattle.refutation_checker.specs.ChunkVerdicts.{Start}
 use Rattle.refutation_checker.proofs.ChunkJudging.{judge_is, judged_none, judged_more, judged_refused, judged_all}
 use Rattle.refutation_checker.proofs.chunk.judge_chunk.Goals as goal
 

@@ -24,5 +24,5 @@ returns-clause-passed c =
     let line = c.index-lines-i.result in
     let read : line ≡ get_or g.lines c.args.i line = subst (λ (ls : List Line). line ≡ get_or ls c.args.i line) c.lines-lines.ensures.value c.index-lines-i.is in
     let here : slice_get g.lines c.args.i ≡ Some line = slice_get_read g.lines (length g.lines) c.args.i line refl c.requires.place read in
-    passed_next c.args.judge.now.problem g c.args.i _ line c.args.walk.now c.pass.new.walk c.pass.result here c.requires.before (omega (arith, c.header_len.ensures.value, ap header_lines c.turn.ensures))
+    passed_next c.args.judge.now.problem g c.args.i _ line c.args.walk.now c.pass.new.walk c.pass.result here c.requires.before (omega (arith, c.lines_of_header.ensures.value, ap header_lines c.turn.ensures))
     (rw c.requires.named at c.pass.ensures.passed)

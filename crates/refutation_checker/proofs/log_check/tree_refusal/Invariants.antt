@@ -1,5 +1,5 @@
 use Rattle.std.proofs.Common.{◌≡◌}
-use Rattle.refutation_checker.specs.Passed.{IsPassed}
+use Rattle.refutation_checker.specs.LogVerdicts.{IsPassed}
 use Rattle.refutation_checker.proofs.log_check.tree_refusal.Given as goal
 
 abbrev pub invariant-loop-i : goal.invariant-loop-i

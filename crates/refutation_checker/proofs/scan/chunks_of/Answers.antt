@@ -1,5 +1,5 @@
 use Rattle.std.proofs.Common.{◌≡◌, ◌≢◌, [], ap, rules}
-use Rattle.refutation_checker.specs.Sound.{Start}
+use Rattle.refutation_checker.specs.ChunkVerdicts.{Start}
 use Rattle.refutation_checker.proofs.Cutting.{cut_more, cut_all, few_in_all, none_left}
 use Rattle.refutation_checker.proofs.scan.chunks_of.Goals as goal
 

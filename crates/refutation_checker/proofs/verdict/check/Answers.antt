@@ -2,7 +2,7 @@ use Rattle.std.proofs.Common.{◌≡◌, ℕ, List, []}
 use Rattle.refutation_terms.specs.Log.{Log as LogValue}
 use Rattle.refutation_terms.specs.Verdict.{IsAccepted, IsRefused}
 use Rattle.refutation_log.proofs.LogLines.{fail_along}
-use Rattle.refutation_checker.specs.Sound.{AreAllSound, IsRefusedBehind}
+use Rattle.refutation_checker.specs.ChunkVerdicts.{AreAllSound, IsRefusedBehind}
 use Rattle.refutation_checker.proofs.SoundLines.{accepted, ends, refused}
 use Rattle.refutation_checker.proofs.verdict.check.Goals as goal
 

@@ -3,4 +3,4 @@ use Rattle.refutation_log.proofs.line.read_bound.Goals as goal
 
 pub returns-in-Ok-Some : goal.returns-in-Ok-Some
 returns-in-Ok-Some c =
-    bound_answered c.args.problem.now _ _ _ _ _ _ _ _ c.in-Ok-Some.state _ c.longest.ensures c.in-Some.ensures c.in-Ok.ensures c.in-Some-word.ensures (rw c.in-Ok-Some.field-0-is at c.in-Ok-Some.ensures) c.bound_of.ensures
+    bound_answered c.args.problem.now _ _ _ _ _ _ _ _ c.in-Ok-Some.state _ c.most_turns.ensures c.in-Some.ensures c.in-Ok.ensures c.in-Some-word.ensures (rw c.in-Ok-Some.field-0-is at c.in-Ok-Some.ensures) c.bound_of.ensures

@@ -5,7 +5,7 @@ use Rattle.rwsp_terms.specs.Instance.{cells, shift_count}
 use Rattle.refutation_terms.specs.declared.lines.Line.TheVariants.{Window, Day}
 use Rattle.refutation_terms.specs.declared.lines.Turn.{Turn}
 use Rattle.roster_search.specs.declared.found.Found.{Found}
-use Rattle.roster_search.specs.Founds.{IsFound, IsUndecided}
+use Rattle.roster_search.specs.Founds.{IsFound, HasSpentBudget}
 use Rattle.roster_search.specs.Written.{IsUnderWay, IsEnded}
 use Rattle.roster_search.proofs.Finding.{found_by, undecided_small}
 use Rattle.roster_search.proofs.Forced.{under_way_by, under_way_back}
@@ -67,6 +67,6 @@ returns-clause-complete g c =
     let s = c.loop-alloc.progress in
     IfOk-weaker c.end.result
     (λ (found : Found). IsEnded P s.turn c.args.budget s.lines.items found)
-    (λ (found : Found). IsUndecided found → c.args.budget + 1 < 2 * (shift_count P + 1) ^ cells P)
+    (λ (found : Found). HasSpentBudget found → c.args.budget + 1 < 2 * (shift_count P + 1) ^ cells P)
     (λ found h undecided. undecided_small P s.turn c.args.budget s.lines.items found h undecided)
     c.end.ensures

@@ -9,9 +9,10 @@ use Rattle.propagators.specs.declared.look.Look.TheVariants.{Closed, Cut}
 use Rattle.propagators.specs.Looks.{IsLook}
 use Rattle.rwsp_model.specs.declared.roster.Roster.{Roster}
 use Rattle.roster_search.specs.Written.{IsUnderWay}
-use Rattle.roster_search.proofs.Alike.{holds_alike, some_cells}
+use Rattle.roster_search.proofs.Alike.{holds_alike}
 use Rattle.roster_search.proofs.Forced.{leaf_under_way, split_under_way, under_way_by, under_way_back}
 use Rattle.roster_search.proofs.step.step.Goals as goal
+use Rattle.rwsp_model.proofs.Limits.{some_cells}
 
 pub close-requires-clause-holds : goal.close-requires-clause-holds
 close-requires-clause-holds g c =

@@ -1,7 +1,8 @@
 -- Ending a tree, split by split.
 use Rattle.std.proofs.Common.{◌<◌, ◌≤◌, length, sym, subst, ◌∙◌, IsTrue}
+use Rattle.std.proofs.lemmas.Bool.{not-false, not-true}
 use Rattle.domain_store.specs.Store.{has_domain, domain_at}
-use Rattle.tree_walk.proofs.Moves.{on_top, side_closed, side_crossed, not_true, not_false, lacking_past_second, lacking_past_first}
+use Rattle.tree_walk.proofs.Moves.{on_top, side_closed, side_crossed, lacking_past_second, lacking_past_first}
 use Rattle.tree_walk.proofs.ending.end_tree.Goals as goal
 
 pub undo_to-requires : goal.undo_to-requires
@@ -27,13 +28,13 @@ remove-requires-clause-another c =
 pub returns-then-not-split-clause-ended : goal.returns-then-not-split-clause-ended
 returns-then-not-split-clause-ended c D lines h =
     side_crossed (length c.args.domains.now.sets) c.loop-split.domains c.undo_to.new.self c.remove.new.self D c.loop-split.splits.items c.pop.new.self.items c.put_back.new.splits.items lines c.in-Some.split _
-    c.in-Some.ensures.items (not_false c.in-Some.split.in_second c.if-not-split.true) c.undo_to.ensures.undone c.undo_to.ensures.marks c.remove.ensures.changed c.remove.ensures.has c.remove.ensures.marks c.put_back.ensures
+    c.in-Some.ensures.items (not-true c.in-Some.split.in_second c.if-not-split.true) c.undo_to.ensures.undone c.undo_to.ensures.marks c.remove.ensures.changed c.remove.ensures.has c.remove.ensures.marks c.put_back.ensures
     (c.loop-split.invariant.behind D lines h)
 
 pub returns-then-not-split-clause-counted : goal.returns-then-not-split-clause-counted
 returns-then-not-split-clause-counted c =
     sym c.loop-split.invariant.counted
-    ∙ lacking_past_first c.loop-split.splits.items c.pop.new.self.items c.put_back.new.splits.items c.in-Some.split c.in-Some.ensures.items (not_false c.in-Some.split.in_second c.if-not-split.true) c.put_back.ensures
+    ∙ lacking_past_first c.loop-split.splits.items c.pop.new.self.items c.put_back.new.splits.items c.in-Some.split c.in-Some.ensures.items (not-true c.in-Some.split.in_second c.if-not-split.true) c.put_back.ensures
 
 pub loop-split-preserved : goal.loop-split-preserved
 loop-split-preserved c = record {
@@ -43,9 +44,9 @@ loop-split-preserved c = record {
     shifts = c.undo_to.ensures.same.shifts ∙ c.loop-split.invariant.same.shifts;
     positions = c.undo_to.ensures.same.positions ∙ c.loop-split.invariant.same.positions;
   };
-  counted = sym (lacking_past_second c.loop-split.splits.items c.pop.new.self.items c.in-Some.split c.in-Some.ensures.items (not_true c.in-Some.split.in_second c.if-not-split.false)) ∙ c.loop-split.invariant.counted;
+  counted = sym (lacking_past_second c.loop-split.splits.items c.pop.new.self.items c.in-Some.split c.in-Some.ensures.items (not-false c.in-Some.split.in_second c.if-not-split.false)) ∙ c.loop-split.invariant.counted;
   behind = λ D lines h.
       side_closed (length c.args.domains.now.sets) c.loop-split.domains c.undo_to.new.self D c.loop-split.splits.items c.pop.new.self.items lines c.in-Some.split
-      c.in-Some.ensures.items (not_true c.in-Some.split.in_second c.if-not-split.false) c.undo_to.ensures.undone c.undo_to.ensures.marks
+      c.in-Some.ensures.items (not-false c.in-Some.split.in_second c.if-not-split.false) c.undo_to.ensures.undone c.undo_to.ensures.marks
       (c.loop-split.invariant.behind D lines h);
 }

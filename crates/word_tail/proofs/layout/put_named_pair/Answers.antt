@@ -1,7 +1,7 @@
 use Rattle.std.proofs.Common.{◌<◌, length, ap, sym, ◌∙◌, arith}
 use Rattle.std.specs.Prelude.{slice_get}
 use Rattle.std.proofs.lemmas.Option.{slice_get-get_or}
-use Rattle.rwsp_terms.specs.Window.{off_symbol}
+use Rattle.rwsp_terms.specs.Instance.{off_symbol}
 use Rattle.word_tail.proofs.Layouts.{next_pair}
 use Rattle.word_tail.proofs.layout.put_named_pair.Goals as goal
 

@@ -1,9 +1,10 @@
 -- The known domain and the new one.
 use Rattle.std.proofs.Common.{◌≡◌, ◌∙◌, ◌<◌, [], length, get_or, ap, sym, arith, false, ◌||◌, not}
 use Rattle.std.proofs.lemmas.List.{get_or_read}
+use Rattle.std.proofs.lemmas.Bool.{not-false}
 use Rattle.domain_store.specs.Sets.{has_symbol}
 use Rattle.propagators.specs.Windows.{WindowWatch}
-use Rattle.propagators.proofs.Watching.{taken_over, not_false}
+use Rattle.propagators.proofs.Watching.{taken_over}
 use Rattle.propagators.proofs.window.WindowProp.put.Goals as goal
 
 pub is_part-is_lost-requires : goal.is_part-is_lost-requires
@@ -25,5 +26,5 @@ invariant_of-self c =
     let was : c.index-was_pending.result.now ≡ get_or pending c.args.p false = get_or_read pending c.args.p c.index-was_pending.result.now flagged c.index-was_pending.ensures false in
     taken_over c.self.inside.problem items pending c.args.p c.args.set (c.index-was_pending.result.now || not c.is_part-is_lost.result) (not c.is_part-is_lost.result)
     c.self.invariant lt (ap (λ b. b || not c.is_part-is_lost.result) was)
-    (λ kept x has. c.is_part-is_lost.ensures (not_false c.is_part-is_lost.result kept) x (ap (λ s. has_symbol s x) known ∙ has))
+    (λ kept x has. c.is_part-is_lost.ensures (not-false c.is_part-is_lost.result kept) x (ap (λ s. has_symbol s x) known ∙ has))
     c.requires.small

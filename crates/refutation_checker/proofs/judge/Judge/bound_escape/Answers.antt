@@ -2,8 +2,8 @@ use Rattle.std.proofs.Common.{subst}
 use Rattle.std.specs.Prelude.{MatchOption}
 use Rattle.refutation_terms.specs.Leaf.{IsTooLight}
 use Rattle.domain_store.specs.Store.{has_domain}
-use Rattle.refutation_checker.specs.Judged.{EscapesBound}
-use Rattle.refutation_checker.specs.Reads.{Judging}
+use Rattle.refutation_checker.specs.LineVerdicts.{EscapesBound}
+use Rattle.refutation_checker.specs.LineTexts.{Judging}
 use Rattle.refutation_checker.proofs.judge.Judge.bound_escape.Goals as goal
 
 -- The tail rules are of the same list.

@@ -3,7 +3,7 @@ use Rattle.std.specs.Prelude.{MatchOption}
 use Rattle.refutation_terms.specs.Leaf.{IsDead}
 use Rattle.refutation_terms.specs.Escape.{IsLeastClean}
 use Rattle.domain_store.specs.Store.{has_domain}
-use Rattle.refutation_checker.specs.Reads.{Judging}
+use Rattle.refutation_checker.specs.LineTexts.{Judging}
 use Rattle.refutation_checker.proofs.judge.Judge.dead_escape.Goals as goal
 
 -- The tail rules are of the same problem and the same list.

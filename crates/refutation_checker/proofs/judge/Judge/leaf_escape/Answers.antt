@@ -4,7 +4,7 @@ use Rattle.std.specs.Prelude.{IfOk, MatchOption}
 use Rattle.refutation_terms.specs.declared.lines.Line.{Line}
 use Rattle.refutation_terms.specs.Verdict.{Escapes}
 use Rattle.domain_store.specs.Store.{has_domain}
-use Rattle.refutation_checker.specs.Judged.{HoldsByWords}
+use Rattle.refutation_checker.specs.LineVerdicts.{HoldsByWords}
 use Rattle.refutation_checker.proofs.judge.Judge.leaf_escape.Goals as goal
 
 pub returns-in-Dead-clause-escape : goal.returns-in-Dead-clause-escape

@@ -3,11 +3,13 @@ use Rattle.std.proofs.Common.{◌<◌, length, subst}
 use Rattle.rwsp_terms.specs.Instance.{cells}
 use Rattle.refutation_terms.specs.Tree.{domains_at}
 use Rattle.domain_store.specs.Store.{Store, IsStore, HasDomains, has_domain}
-use Rattle.refutation_checker.specs.Judged.{IsSound}
-use Rattle.refutation_checker.specs.Reads.{Judging}
+use Rattle.refutation_checker.specs.LineVerdicts.{IsSound}
+use Rattle.refutation_checker.specs.LineTexts.{Judging}
 use Rattle.refutation_checker.proofs.SameDomains.{AreSame}
-use Rattle.refutation_checker.proofs.Judging.{same_cause, same_sound, may_step, some_cells, cells_of_walk}
+use Rattle.refutation_checker.proofs.Judging.{same_cause, same_sound, may_step}
 use Rattle.refutation_checker.proofs.judge.Judge.pass.Goals as goal
+use Rattle.tree_walk.proofs.Idle.{positions_of}
+use Rattle.rwsp_model.proofs.Limits.{some_cells}
 
 pub returns-in-Some-clause-passed : goal.returns-in-Some-clause-passed
 returns-in-Some-clause-passed c =
@@ -29,7 +31,7 @@ step-requires-clause-useful c =
     let state = c.requires.state.2 in
     let sound : IsSound P c.args.self.now.named (has_domain S) c.args.line.now =
     subst (λ (T : Store). IsSound P c.args.self.now.named (has_domain T) c.args.line.now) c.domains-2.ensures.value (rw c.in_default.is at c.in_ok-why.ensures.cause) in
-    may_step P S c.args.line.now now tests state.belongs (cells_of_walk P S now state.belongs) c.requires.line sound.holds
+    may_step P S c.args.line.now now tests state.belongs (positions_of P S now state.belongs) c.requires.line sound.holds
 
 pub returns-clause-passed : goal.returns-clause-passed
 returns-clause-passed c =

@@ -1,7 +1,7 @@
 use Rattle.std.proofs.Common.{subst, IsTrue}
 use Rattle.refutation_terms.specs.Verdict.{Spells}
 use Rattle.refutation_terms.proofs.Spelled.{spelled_lines_fit}
-use Rattle.refutation_checker.specs.Reads.{Judging}
+use Rattle.refutation_checker.specs.LineTexts.{Judging}
 use Rattle.refutation_checker.proofs.Judging.{passed_reads}
 use Rattle.refutation_checker.proofs.judge.Judge.read.Goals as goal
 

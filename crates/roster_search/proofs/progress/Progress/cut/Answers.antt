@@ -11,9 +11,10 @@ use Rattle.tree_walk.specs.States.{IsStateOf}
 use Rattle.tree_walk.proofs.Idle.{positions_of, idle_in_store}
 use Rattle.tree_walk.proofs.Moves.{state_domains}
 use Rattle.roster_search.specs.Written.{IsSplitWithLeaf}
-use Rattle.roster_search.proofs.Alike.{holds_alike, some_cells}
+use Rattle.roster_search.proofs.Alike.{holds_alike}
 use Rattle.roster_search.proofs.Narrowing.{narrowed_at, first_side}
 use Rattle.roster_search.proofs.progress.Progress.cut.Goals as goal
+use Rattle.rwsp_model.proofs.Limits.{some_cells}
 
 pub split-requires-clause-useful : goal.split-requires-clause-useful
 split-requires-clause-useful c =

@@ -14,7 +14,7 @@ use Rattle.refutation_terms.specs.Verdict.{Cause, Reading, IsNextLine, header_li
 use Rattle.refutation_log.specs.Printing.{lines_text}
 use Rattle.refutation_log.specs.ReadLog.{log_with}
 use Rattle.tree_walk.specs.States.{State, IsStateOf}
-use Rattle.refutation_checker.specs.Reads.{IsSoundNext}
+use Rattle.refutation_checker.specs.LineTexts.{IsSoundNext}
 
 -- a header that is refused for no cause
 pub record IsSoundHeader (P : Instance) (named : List ℕ) (turn : Option Turn) : Type 0 where

@@ -1,0 +1,23 @@
+// The turn of a header, judged.
+ghost use Rattle.std.specs.Prelude.{◌≡◌, ◌≤◌, Some, MatchOption};
+ghost use Rattle.refutation_terms.specs.Log.{TurnFits};
+ghost use Rattle.refutation_checker.specs.Turns.{IsSoundTurn, TurnFault};
+
+use refutation_terms::{LogRefusal, Turn};
+use rwsp_model::{Problem, Rule, RuleList, number_of};
+
+/// Why the turn of line 3 is refused: the rule of its day isn't named, or no week must hold its
+/// symbol then.
+pub fn turn_fault(problem: &Problem, named: &RuleList, turn: Turn) -> Option<LogRefusal>
+    requires { TurnFits problem.now (Some turn) }
+    ensures { MatchOption result (IsSoundTurn problem.now named.now (Some turn)) (TurnFault problem.now named.now turn) }
+{
+    let day = number_of(problem, Rule::Day(turn.day));
+    if !named.holds(day) {
+        return Some(LogRefusal::Unnamed(3, day));
+    }
+    if problem.demand_least(turn.x, turn.day) < 1 {
+        return Some(LogRefusal::Turn(3));
+    }
+    None
+}
