@@ -6,17 +6,6 @@ ghost use Rattle.plain_leaves.specs.Runs.{LiesIn, LiesOutside};
 use domain_store::Domains;
 use rwsp_model::{Class, Symbol};
 
-// Whether the symbol is in the class.
-fn is_in(class: Class, x: Symbol) -> bool
-    ensures { IsTrue result ↔ InClass class x }
-{
-    match class {
-        Class::Shift(shift) => x.number == shift.number,
-        Class::Off => x.number == 0,
-        Class::Work => x.number > 0,
-    }
-}
-
 /// Whether the domain of a day has no symbol outside the class. Days count from 0 round the cycle, without end.
 pub fn lies_in(doms: &Domains, class: Class, day: u32) -> bool
     requires { 0 < length doms.now.sets }
@@ -26,7 +15,7 @@ pub fn lies_in(doms: &Domains, class: Class, day: u32) -> bool
     let p = day % doms.cells();
     for number in 0..doms.shifts() + 1 {
         let x = Symbol { number };
-        if doms.has(p, x) && !is_in(class, x) {
+        if doms.has(p, x) && !class.has(x) {
             return false;
         }
     }
@@ -42,7 +31,7 @@ pub fn lies_outside(doms: &Domains, class: Class, day: u32) -> bool
     let p = day % doms.cells();
     for number in 0..doms.shifts() + 1 {
         let x = Symbol { number };
-        if doms.has(p, x) && is_in(class, x) {
+        if doms.has(p, x) && class.has(x) {
             return false;
         }
     }

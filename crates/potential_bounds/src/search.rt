@@ -1,8 +1,6 @@
 // The search for weights whose bound holds.
 ghost use Rattle.std.specs.Prelude.{◌≡◌, ℕ, ◌+◌, ◌-◌, ◌*◌, ◌<◌, ◌≤◌, ◌==◌, ◌≤ℤ◌, pos, neg_ℤ, length, count_by, slice_index_or, IfOk, OnOk};
-ghost use Rattle.std.specs.List.{range_with_len};
-ghost use Rattle.rwsp_terms.specs.Instance.{cells, IsDay, IsSymbol, off_symbol};
-ghost use Rattle.rwsp_terms.specs.Roster.{weeks_with};
+ghost use Rattle.rwsp_terms.specs.Instance.{cells, IsDay, IsSymbol};
 ghost use Rattle.rwsp_terms.specs.Weights.{weight_at};
 ghost use Rattle.refutation_terms.specs.Sharp.{step};
 ghost use Rattle.domain_store.specs.Store.{has_domain, BelongsTo};
@@ -13,7 +11,7 @@ use crate::first::one_turn;
 use crate::heavy::{heaviest_in, is_light};
 use domain_store::Domains;
 use layered_cycle::Layers;
-use rwsp_model::{Problem, Weights};
+use rwsp_model::{Problem, Weights, weeks_with};
 use rwsp_terms::Symbol;
 use std::alloc::{AllocError, Global};
 use word_tail::TailRules;
@@ -125,7 +123,7 @@ fn step(problem: &Problem, weights: &Weights, word: &[Symbol], day: u32, x: Symb
     ensures above { neg_ℤ (pos 1000) ≤ℤ result }
     ensures below { result ≤ℤ pos 1000 }
 {
-    let weeks = weeks_with(problem, word, day, x) as i32;
+    let weeks = weeks_with(problem, word, x, day) as i32;
     let weight = weights.at(day, x);
     if problem.demand_greatest(x, day) < weeks {
         weight - 1
@@ -134,41 +132,4 @@ fn step(problem: &Problem, weights: &Weights, word: &[Symbol], day: u32, x: Symb
     } else {
         weight
     }
-}
-
-// How many weeks of a word of one turn hold the symbol on the day.
-fn weeks_with(problem: &Problem, word: &[Symbol], day: u32, x: Symbol) -> u32
-    requires word { length word.now ≡ cells problem.now }
-    requires day { IsDay problem.now day }
-    ensures value { result ≡ weeks_with problem.now word.now x.number day }
-    ensures few { result ≤ 600 }
-{
-    count_weeks(word, problem.days(), problem.weeks(), day, x)
-}
-
-#[tactic(auto, using(rwsp_terms::proofs::Counting::count_then, rwsp_terms::proofs::Counting::count_else))]
-fn count_weeks(word: &[Symbol], days: u32, weeks: u32, day: u32, x: Symbol) -> u32
-    requires few { (days ≤ 28) × (weeks ≤ 600) }
-    requires word { length word.now ≡ weeks * days }
-    requires day { (0 < day) × (day ≤ days) }
-    ensures value { result ≡ count_by (λ i. (slice_index_or word.now (i * days + (day - 1)) off_symbol).number == x.number) (range_with_len 0 weeks) }
-    ensures few { result ≤ 600 }
-{
-    let mut count = 0;
-    for week in 0..weeks {
-        if holds(word, days, week, day, x) {
-            count += 1;
-        }
-    }
-    count
-}
-
-// Whether the week holds the symbol on the day. Weeks count from 0.
-fn holds(word: &[Symbol], days: u32, week: u32, day: u32, x: Symbol) -> bool
-    requires few { (days ≤ 28) × (week < 600) }
-    requires day { (0 < day) × (day ≤ days) }
-    requires within { week * days + (day - 1) < length word.now }
-    ensures { result ≡ ((slice_index_or word.now (week * days + (day - 1)) off_symbol).number == x.number) }
-{
-    word[(week * days + (day - 1)) as usize].number == x.number
 }

@@ -8,7 +8,7 @@ use Rattle.rwsp_terms.specs.declared.data.Rule.{Rule}
 use Rattle.rwsp_terms.specs.declared.data.Rule.TheVariants as TheRules
 use Rattle.rwsp_terms.specs.Instance.{cells, shift_count, IsDay, IsSymbol, symbol_numbered}
 use Rattle.rwsp_terms.specs.Roster.{IsRule}
-use Rattle.rwsp_terms.specs.Rules.{Names, IsShort}
+use Rattle.rwsp_terms.specs.Rules.{Names, IsShort, NamesShortRules}
 use Rattle.rwsp_terms.specs.Weights.{ComesBefore, IsWeight, weight_at}
 use Rattle.rwsp_terms.proofs.Elements.{all_from}
 use Rattle.refutation_terms.specs.declared.lines.Line.{Line}
@@ -16,7 +16,7 @@ use Rattle.refutation_terms.specs.declared.lines.Line.TheVariants.{Split, Unfini
 use Rattle.refutation_terms.specs.Word.{full}
 use Rattle.refutation_terms.specs.Log.{IsSpent, HoldsAt, AreWeightsOf, LineFits, Cites, ListsShortOnly}
 use Rattle.refutation_terms.specs.Escape.{IsLeastHeaviest}
-use Rattle.refutation_terms.specs.Sharp.{NamesAllShort, IsDemanded, IsFirstTurn, IsUndecided, IsSharp, IsSearched, step}
+use Rattle.refutation_terms.specs.Sharp.{IsDemanded, IsFirstTurn, IsUndecided, IsSharp, IsSearched, step}
 use Rattle.refutation_terms.specs.Examples.{three_of_six, turn_log, open_log, two_in_a_row, shift_D, blocks_dead, short_rules, searched_weights, weight_of}
 use Rattle.refutation_terms.proofs.Named.{named-IsRule}
 use Rattle.refutation_terms.proofs.Lists.{each_at, are_rules, pairs_of_two, short_only}
@@ -39,7 +39,7 @@ six_are_short (TheRules.Pair k) is short = absurd (omega (arith, is))
 six_are_short (TheRules.Triple k) is short = absurd (omega (arith, is))
 six_are_short (TheRules.Day j) is short = absurd short
 
-pub all_six_short : NamesAllShort three_of_six short_rules
+pub all_six_short : NamesShortRules three_of_six short_rules
 all_six_short r = (
   λ n. (named-IsRule three_of_six short_rules r n, short_only three_of_six short_rules (lit≤ tt, (lit≤ tt, (lit≤ tt, (lit≤ tt, (lit≤ tt, (lit≤ tt, tt)))))) r n),
   λ h. six_are_short r h.0 h.1,

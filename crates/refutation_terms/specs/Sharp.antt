@@ -1,12 +1,11 @@
 -- When a log is sharp: it splits only where no leaf is at hand, and splits on what is forced where something is.
-use Rattle.std.specs.Prelude.{◌≡◌, ◌⊎◌, ◌↔◌, ℕ, zero, suc, ◌*◌, ◌<◌, ◌≤◌, List, [], ◌∷◌, ◌++◌, length, slice_get, map, Bool, false, Option, Some, None, ℤ, pos, negsuc, ◌+ℤ◌, ◌-ℤ◌, ◌≤ℤ◌, int_lt, if◌then◌else◌}
+use Rattle.std.specs.Prelude.{◌≡◌, ◌⊎◌, ℕ, zero, suc, ◌*◌, ◌<◌, ◌≤◌, List, [], ◌∷◌, ◌++◌, length, slice_get, map, Bool, false, Option, Some, None, ℤ, pos, negsuc, ◌+ℤ◌, ◌-ℤ◌, ◌≤ℤ◌, int_lt, if◌then◌else◌}
 use Rattle.std.specs.List.{range_with_len, flat_map}
 use Rattle.rwsp_terms.specs.declared.data.Symbol.{Symbol}
 use Rattle.rwsp_terms.specs.declared.data.Weight.{Weight}
-use Rattle.rwsp_terms.specs.declared.data.Rule.{Rule}
 use Rattle.rwsp_terms.specs.Instance.{Instance, cells, shift_count, least, greatest, IsShift, IsDay, symbol_numbered}
-use Rattle.rwsp_terms.specs.Roster.{IsRule, weeks_with}
-use Rattle.rwsp_terms.specs.Rules.{Names, IsShort}
+use Rattle.rwsp_terms.specs.Roster.{weeks_with}
+use Rattle.rwsp_terms.specs.Rules.{NamesShortRules}
 use Rattle.rwsp_terms.specs.Weights.{weight_at}
 use Rattle.refutation_terms.specs.declared.lines.Line.{Line}
 use Rattle.refutation_terms.specs.declared.lines.Line.TheVariants.{Split, Window, Day, Unfinished}
@@ -16,10 +15,6 @@ use Rattle.refutation_terms.specs.Leaf.{IsDead, IsTooLight}
 use Rattle.refutation_terms.specs.Tree.{First, narrowed, opening, domains_at, is_idle}
 use Rattle.refutation_terms.specs.Log.{Log, Holds, LineFits, AreWeightsOf}
 use Rattle.refutation_terms.specs.Escape.{IsLeastHeaviest}
-
--- the list names the short rules of the problem, and no others
-abbrev pub NamesAllShort : Instance → List ℕ → Type 0
-NamesAllShort P R = (r : Rule) → Names P R r ↔ (IsRule P r × IsShort P r)
 
 -- some window leaf of the problem holds
 abbrev pub SomeWindowHolds : Instance → Domains → Type 0
@@ -105,7 +100,7 @@ pub record IsSharpSplit (P : Instance) (D : Domains) (R : List ℕ) (p : ℕ) (x
 -- a sharp log, by the list of all short rules
 pub record IsSharp (P : Instance) (g : Log) : Type 0 where
   pub short : List ℕ
-  pub all_short : NamesAllShort P short
+  pub all_short : NamesShortRules P short
   pub splits : (k p : ℕ) (x : Symbol) → slice_get g.lines k ≡ Some (Split p x) → IsSharpSplit P (domains_at P g.turn g.lines k) short p x
   pub top : (line : Line) → slice_get g.lines 0 ≡ Some line → IsUndecided line → NoBoundHolds P (opening P g.turn) short
   pub turn : IsFirstTurn P g.turn

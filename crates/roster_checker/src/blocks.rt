@@ -4,7 +4,7 @@ ghost use Rattle.rwsp_terms.specs.Window.{InClass, cell, TooLong, TooShort, IsSh
 ghost use Rattle.roster_checker.specs.FirstBroken.{IsFirst};
 ghost use Rattle.roster_checker.specs.Scan.{HasNone, IsRun};
 
-use crate::cycle::{is_in, symbol_at};
+use crate::cycle::symbol_at;
 use crate::place::Place;
 use rwsp_terms::{Class, Symbol};
 
@@ -15,7 +15,7 @@ fn run_past(cells: &[Symbol], class: Class, position: u32, run: u32) -> u32
     requires run { IsRun cells.now class position run }
     ensures { IsRun cells.now class (position + 1) result }
 {
-    if is_in(class, symbol_at(cells, position)) {
+    if class.has(symbol_at(cells, position)) {
         run + 1
     } else {
         0
@@ -51,7 +51,7 @@ fn ends_short(cells: &[Symbol], class: Class, least: u32, position: u32, run: u3
     if run == 0 || least <= run || position <= run {
         return false;
     }
-    !is_in(class, symbol_at(cells, position))
+    !class.has(symbol_at(cells, position))
 }
 
 /// The first window of a block shorter than the least length and the two days round it, which are outside the class.

@@ -1,8 +1,8 @@
 // The endless word that repeats the cells.
 ghost use Rattle.std.specs.Prelude.{◌≡◌, ℕ, ◌<◌, ◌↔◌, length, IsTrue};
-ghost use Rattle.rwsp_terms.specs.Window.{InClass, cell};
+ghost use Rattle.rwsp_terms.specs.Window.{cell};
 
-use rwsp_terms::{Class, Symbol};
+use rwsp_terms::Symbol;
 
 /// The symbol at a position of the endless word.
 pub fn symbol_at(cells: &[Symbol], position: u32) -> Symbol
@@ -22,15 +22,4 @@ pub fn is_same(a: Symbol, b: Symbol) -> bool
     ensures { IsTrue result ↔ (a ≡ b) }
 {
     a.number == b.number
-}
-
-/// Whether the symbol is in the class.
-pub fn is_in(class: Class, symbol: Symbol) -> bool
-    ensures { IsTrue result ↔ InClass class symbol }
-{
-    match class {
-        Class::Shift(shift) => symbol.number == shift.number,
-        Class::Off => symbol.number == 0,
-        Class::Work => symbol.number > 0,
-    }
 }

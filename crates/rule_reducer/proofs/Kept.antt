@@ -10,7 +10,7 @@ use Rattle.std.proofs.lemmas.List.Elements.{All-take, All-filter}
 use Rattle.std.proofs.lemmas.List.Kept.{AllPairs-filter, AllPairs-from_increasing, IsStrictlyIncreasing-filter}
 use Rattle.rwsp_terms.specs.declared.data.Rule.TheVariants.{Day}
 use Rattle.rwsp_terms.specs.declared.data.Weight.{Weight}
-use Rattle.rwsp_terms.specs.Places.{BelongsIn, Lacks, SetsWeight}
+use Rattle.rwsp_terms.specs.Places.{NumberBelongs, EntryBelongs, SetsWeight}
 use Rattle.rwsp_terms.specs.Weights.{AreWeights, ComesBefore, IsWeight, weight_at}
 use Rattle.rwsp_terms.proofs.Ascending.{increasing_from_pairs, insert_increasing, Contains-insert, Contains-cons, Contains-first, Contains-later, inserted}
 use Rattle.rwsp_terms.proofs.SameLists.{same_rule_lists, same_weights, WeighSame}
@@ -21,7 +21,7 @@ use Rattle.refutation_terms.specs.Strip.{without, without_day}
 -- a number that is put behind lower ones
 pub put_last : (old new : List ℕ) (n : ℕ) → IsStrictlyIncreasing old → IsStrictlyIncreasing new → All (λ k. k < n) old → ((k : ℕ) → Contains new k ↔ (Contains old k ⊎ (k ≡ n))) → new ≡ old ++ n ∷ []
 put_last old new n up up' low holds =
-    let belongs : BelongsIn old (length old) n = (omega arith, (λ k less. low k 0 less), λ k ge less. absurd (omega (arith, ge, less))) in
+    let belongs : NumberBelongs old (length old) n = (omega arith, (λ k less. low k 0 less), λ k ge less. absurd (omega (arith, ge, less))) in
     same_rule_lists new (insert old (length old) n) up'
     (insert_increasing old (length old) n belongs up)
     (λ k. (λ c. (Contains-insert old (length old) n k).1 ((holds k).0 c), λ c. (holds k).1 ((Contains-insert old (length old) n k).0 c)))
@@ -129,7 +129,7 @@ front_ascends R n i up within =
 -- a weight that is put behind others
 pub put_weight_last : (old new : List Weight) (e : Weight) → AreWeights old → All (λ (a : Weight). ComesBefore a e) old → IsWeight e → SetsWeight old new e.day e.symbol.number e.value → new ≡ old ++ e ∷ []
 put_weight_last old new e are before some sets =
-    let lacks : Lacks old e.day e.symbol.number (length old) = record {
+    let lacks : EntryBelongs old e.day e.symbol.number (length old) = record {
       within = omega arith;
       before = λ k d less. before k d less;
       after = λ k d ge less. absurd (omega (arith, ge, less));

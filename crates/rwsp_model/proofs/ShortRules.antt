@@ -5,9 +5,9 @@ use Rattle.std.specs.List.Sorted.{IsStrictlyIncreasing}
 use Rattle.std.proofs.lemmas.Bool.{cases_eq}
 use Rattle.std.proofs.lemmas.Option.{slice_get_within, same_Some}
 use Rattle.rwsp_terms.specs.Instance.{Instance}
-use Rattle.rwsp_terms.specs.Rules.{rules, rule_of, IsShort}
+use Rattle.rwsp_terms.specs.Rules.{rules, rule_of, IsShort, NamesShortRules}
 use Rattle.rwsp_terms.specs.declared.data.Rule.{Rule}
-use Rattle.rwsp_model.specs.RuleNumbers.{place_of, IsShortNumber, ListsShortRules}
+use Rattle.rwsp_model.specs.RuleNumbers.{place_of, IsShortNumber}
 use Rattle.rwsp_model.proofs.Numbering.{rule_numbered, number_at_place}
 
 -- a list with the number of a short rule more
@@ -52,16 +52,16 @@ upto : (P : Instance) (k n : ℕ) → n ≡ length (rules P) → IsShortNumber P
 upto P zero n all h = omega arith
 upto P (suc k) n all h = let within = slice_get_within (rules P) k h.0 h.1 in omega (arith, within, all)
 
-pub lists_all : (P : Instance) (R : List ℕ) (n : ℕ) → n ≡ length (rules P) → ListsUpTo P R n → ListsShortRules P R
-lists_all P R n all lists = record {
-  ascends = lists.ascends;
-  numbers = λ k. (λ c. ((lists.numbers k).0 c).1, λ h. (lists.numbers k).1 (upto P k n all h, h));
-  short_only = λ r named.
-      let short = ((lists.numbers named.0).0 named.1).1 in
+pub lists_all : (P : Instance) (R : List ℕ) (n : ℕ) → n ≡ length (rules P) → ListsUpTo P R n → (k : ℕ) → Contains R k ↔ IsShortNumber P k
+lists_all P R n all lists k = (λ c. ((lists.numbers k).0 c).1, λ h. (lists.numbers k).1 (upto P k n all h, h))
+
+pub names_all : (P : Instance) (R : List ℕ) → ((k : ℕ) → Contains R k ↔ IsShortNumber P k) → NamesShortRules P R
+names_all P R numbers r = (
+  λ named.
+      let short = (numbers named.0).0 named.1 in
       let same : short.0 ≡ r = same_Some short.0 r (sym short.1 ∙ named.2) in
-      subst (λ (z : Rule). IsShort P z) same short.2;
-  all_short = λ r h short.
-      let number : rule_of P (place_of P r + 1) ≡ Some r = number_at_place P r (place_of P r + 1) h refl in
-      let of : IsShortNumber P (place_of P r + 1) = (r, number, short) in
-      (place_of P r + 1, (lists.numbers (place_of P r + 1)).1 (upto P (place_of P r + 1) n all of, of), number);
-}
+      ((rule_numbered P named.0 r named.2).0, subst (λ (z : Rule). IsShort P z) same short.2),
+  λ h.
+      let number : rule_of P (place_of P r + 1) ≡ Some r = number_at_place P r (place_of P r + 1) h.0 refl in
+      (place_of P r + 1, (numbers (place_of P r + 1)).1 (r, number, h.1), number),
+)

@@ -1,9 +1,7 @@
 -- Where rules stand in the list of all rules, and which numbers are those of short rules.
-use Rattle.std.specs.Prelude.{◌≡◌, ◌↔◌, ℕ, ◌+◌, ◌-◌, ◌*◌, List, length, Some, Contains}
-use Rattle.std.specs.List.Sorted.{IsStrictlyIncreasing}
+use Rattle.std.specs.Prelude.{◌≡◌, ℕ, ◌+◌, ◌-◌, ◌*◌, length, Some}
 use Rattle.rwsp_terms.specs.Instance.{Instance, shift_count}
-use Rattle.rwsp_terms.specs.Roster.{IsRule}
-use Rattle.rwsp_terms.specs.Rules.{rule_of, IsShort, Names, NamesShortOnly}
+use Rattle.rwsp_terms.specs.Rules.{rule_of, IsShort}
 use Rattle.rwsp_terms.specs.declared.data.Rule.{Rule}
 use Rattle.rwsp_terms.specs.declared.data.Rule.TheVariants.{MaxShift, MinShift, MaxOff, MinOff, MaxWork, MinWork, Pair, Triple, Day}
 
@@ -22,10 +20,3 @@ place_of P (Day j) = 2 * shift_count P + 4 + length P.pairs + length P.triples +
 -- the number of a short rule
 abbrev pub IsShortNumber : Instance → ℕ → Type 0
 IsShortNumber P k = (r : Rule) × (rule_of P k ≡ Some r) × IsShort P r
-
--- the list of all short rules
-pub record ListsShortRules (P : Instance) (R : List ℕ) : Type 0 where
-  pub ascends : IsStrictlyIncreasing R
-  pub numbers : (k : ℕ) → Contains R k ↔ IsShortNumber P k
-  pub short_only : NamesShortOnly P R
-  pub all_short : (r : Rule) → IsRule P r → IsShort P r → Names P R r

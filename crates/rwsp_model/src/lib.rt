@@ -12,6 +12,7 @@ mod sharing;
 #[cfg(test)]
 mod tests;
 mod validity;
+mod weeks;
 
 pub use fail::Fail;
 pub use laws::{
@@ -25,3 +26,4 @@ pub use rules::{is_short, number_of, rule_at, rule_count, short_rules};
 pub use rwsp_terms::{
     Bounds, Class, DemandRow, Name, Rule, RuleList, ShiftRow, Symbol, Weight, Weights, Word,
 };
+pub use weeks::weeks_with;

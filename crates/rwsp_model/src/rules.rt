@@ -3,8 +3,8 @@ ghost use Rattle.std.specs.Prelude.{◌≡◌, ◌↔◌, ◌⊎◌, ℕ, ◌+�
 ghost use Rattle.std.specs.List.Sorted.{IsStrictlyIncreasing};
 ghost use Rattle.rwsp_terms.specs.Instance.{Instance, shift_count};
 ghost use Rattle.rwsp_terms.specs.Roster.{IsRule};
-ghost use Rattle.rwsp_terms.specs.Rules.{rules, rule_of, IsShort};
-ghost use Rattle.rwsp_model.specs.RuleNumbers.{place_of, IsShortNumber, ListsShortRules};
+ghost use Rattle.rwsp_terms.specs.Rules.{rules, rule_of, IsShort, NamesShortRules};
+ghost use Rattle.rwsp_model.specs.RuleNumbers.{place_of, IsShortNumber};
 
 use crate::Problem;
 use rwsp_terms::{Class, Rule, RuleList, Symbol};
@@ -159,7 +159,9 @@ fn put_if_short(list: &mut RuleList, problem: &Problem, number: u32) -> Result<(
 
 /// The list of all short rules.
 pub fn short_rules(alloc: Global, problem: &Problem) -> Result<RuleList, AllocError>
-    ensures { IfOk result (λ R. ListsShortRules problem.now R) }
+    ensures ascends { IfOk result (λ R. IsStrictlyIncreasing R) }
+    ensures numbers { IfOk result (λ R. (k : ℕ) → Contains R k ↔ IsShortNumber problem.now k) }
+    ensures rules { IfOk result (λ R. NamesShortRules problem.now R) }
 {
     let mut list = RuleList::new(alloc);
     for place in 0..rule_count(problem) {

@@ -1,8 +1,8 @@
 ghost use Rattle.std.specs.Prelude.{◌≡◌};
 
 use crate::{
-    Bounds, Class, DemandRow, Name, Parts, PartsRefusal, Problem, Rule, RuleList, ShiftRow, Symbol,
-    Weights, number_of, rule_at, rule_count, short_rules,
+    Bounds, Class, DemandRow, Name, Parts, PartsRefusal, Problem, Rule, ShiftRow, Symbol,
+    number_of, rule_at, rule_count, short_rules,
 };
 use std::alloc::{AllocError, Global};
 use std::test::Fail;
@@ -266,27 +266,5 @@ fn what_a_problem_tells(rt: HostRuntime) -> Result<(), Fail> {
         problem.demand_greatest(off, 7),
     ];
     assert_eq!(rt; demand, [1, 2, -3, 0], "3 weeks, and 3 to 6 shifts");
-    Ok(())
-}
-
-#[test]
-fn lists_in_order(rt: HostRuntime) -> Result<(), Fail> {
-    let mut named = RuleList::new(rt.alloc());
-    for number in [7, 3, 176, 3] {
-        named.put(number)?;
-    }
-    assert_eq!(rt; named.numbers(), [3, 7, 176].as_slice());
-    assert_eq!(rt; [named.holds(7), named.holds(8)], [true, false]);
-    let mut weights = Weights::new(rt.alloc());
-    for (day, number, value) in [(2, 1, -1000), (1, 3, 5), (1, 2, 1), (1, 3, 0)] {
-        weights.put(day, symbol(number), value)?;
-    }
-    assert_eq!(rt; weights.len(), 2);
-    let values = [
-        weights.at(2, symbol(1)),
-        weights.at(1, symbol(2)),
-        weights.at(1, symbol(3)),
-    ];
-    assert_eq!(rt; values, [-1000, 1, 0]);
     Ok(())
 }

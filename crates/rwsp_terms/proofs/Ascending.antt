@@ -1,5 +1,5 @@
 -- Numbers and weights in order, and what an edit of them leaves.
-use Rattle.std.proofs.Common.{◌≡◌, ◌≢◌, ℕ, zero, suc, ◌+◌, ◌-◌, ◌<◌, ◌≤◌, List, [], ◌∷◌, ◌++◌, length, get_or, set, take, drop, drop-cons, Bool, true, false, cond, ◌&&◌, refl, ap, sym, ◌∙◌, subst, arith, ◌⊎◌, inl, inr, ⊎_elim, eqb, eqb-true}
+use Rattle.std.proofs.Common.{◌≡◌, ◌≢◌, ℕ, zero, suc, ◌+◌, ◌-◌, ◌<◌, ◌≤◌, List, [], ◌∷◌, ◌++◌, length, get_or, set, take, drop, drop-cons, Bool, true, false, cond, refl, ap, sym, ◌∙◌, subst, arith, ◌⊎◌, inl, inr, ⊎_elim, eqb, eqb-true}
 use Rattle.std.specs.Prelude.{All, AllPairs, Contains, ℤ, pos, ◌↔◌}
 use Rattle.std.specs.List.{insert, remove}
 use Rattle.std.specs.List.Sorted.{IsStrictlyIncreasing, IsPermutation}
@@ -13,7 +13,7 @@ use Rattle.std.proofs.lemmas.List.Sorted.{IsPermutation-insert, IsPermutation-sy
 use Rattle.std.proofs.lemmas.Bool.{cases_lt, cases_eq, and_parts}
 use Rattle.std.proofs.lemmas.Bool.Decides.{nat_tests}
 use Rattle.rwsp_terms.specs.Weights.{ComesBefore, IsWeight, AreWeights, weight_at}
-use Rattle.rwsp_terms.specs.Places.{BelongsIn, is_at, Precedes, Follows, Holds, Lacks, SetsWeight}
+use Rattle.rwsp_terms.specs.Places.{NumberBelongs, is_at, Precedes, Follows, EntryStands, EntryBelongs, SetsWeight}
 use Rattle.rwsp_terms.specs.declared.data.Weight.{Weight}
 
 -- where an element of a list with one more stood
@@ -69,7 +69,7 @@ AllPairs-insert R xs i y within pairs below above = λ a b d lt less.
 pub increasing_from_pairs : (xs : List ℕ) → AllPairs (λ a b. a < b) xs → IsStrictlyIncreasing xs
 increasing_from_pairs xs h = λ k less. h k (k + 1) 0 (omega arith) less
 
-pub insert_increasing : (xs : List ℕ) (i y : ℕ) → BelongsIn xs i y → IsStrictlyIncreasing xs → IsStrictlyIncreasing (insert xs i y)
+pub insert_increasing : (xs : List ℕ) (i y : ℕ) → NumberBelongs xs i y → IsStrictlyIncreasing xs → IsStrictlyIncreasing (insert xs i y)
 insert_increasing xs i y place up =
     increasing_from_pairs (insert xs i y)
     (AllPairs-insert (λ a b. a < b) xs i y place.0 (AllPairs-from_increasing xs up)
@@ -158,7 +158,7 @@ after_here a b j x h before =
 after_follower : (a b : Weight) (j x : ℕ) → Follows a j x → ComesBefore a b → Follows b j x
 after_follower a b j x h before = grind arith
 
-pub holds_here : (y : List Weight) (j x i : ℕ) (e : Weight) → AllPairs ComesBefore y → i < length y → ((k : ℕ) (d : Weight) → k < i → Precedes (get_or y k d) j x) → is_at (get_or y i e) j x ≡ true → Holds y j x i
+pub holds_here : (y : List Weight) (j x i : ℕ) (e : Weight) → AllPairs ComesBefore y → i < length y → ((k : ℕ) (d : Weight) → k < i → Precedes (get_or y k d) j x) → is_at (get_or y i e) j x ≡ true → EntryStands y j x i
 holds_here y j x i e up less before h =
     let found : IsHere (get_or y i e) j x = here_from_test (get_or y i e) j x h in
     let all : (d : Weight) → IsHere (get_or y i d) j x = λ d. subst (λ (z : Weight). IsHere z j x) (get_or_default y i e d less) found in
@@ -169,7 +169,7 @@ holds_here y j x i e up less before h =
       after = λ k d lt within. after_here (get_or y i d) (get_or y k d) j x (all d) (up i k d lt within);
     }
 
-pub lacks_here : (y : List Weight) (j x i : ℕ) (e : Weight) → AllPairs ComesBefore y → i < length y → ((k : ℕ) (d : Weight) → k < i → Precedes (get_or y k d) j x) → ((d : Weight) → i < length y → Precedes (get_or y i d) j x → ⊥) → is_at (get_or y i e) j x ≡ false → Lacks y j x i
+pub lacks_here : (y : List Weight) (j x i : ℕ) (e : Weight) → AllPairs ComesBefore y → i < length y → ((k : ℕ) (d : Weight) → k < i → Precedes (get_or y k d) j x) → ((d : Weight) → i < length y → Precedes (get_or y i d) j x → ⊥) → is_at (get_or y i e) j x ≡ false → EntryBelongs y j x i
 lacks_here y j x i e up less before next h =
     let here : Follows (get_or y i e) j x = follows_else (get_or y i e) j x (next e less) h in
     let all : (d : Weight) → Follows (get_or y i d) j x = λ d. subst (λ (z : Weight). Follows z j x) (get_or_default y i e d less) here in
@@ -226,7 +226,7 @@ split_at y i d less = sym (take-append-drop i y) ∙ ap (λ z. take i y ++ z) (d
 comes_first : (a b : Weight) → Follows b a.day a.symbol.number → ComesBefore a b
 comes_first a b h = ⊎_elim (λ (l : a.day < b.day). inl l) (λ (l : (b.day ≡ a.day) × (a.symbol.number < b.symbol.number)). inr (sym l.0, l.1)) h
 
-pub inserted : (y : List Weight) (i : ℕ) (e : Weight) → AreWeights y → Lacks y e.day e.symbol.number i → IsWeight e → SetsWeight y (insert y i e) e.day e.symbol.number e.value
+pub inserted : (y : List Weight) (i : ℕ) (e : Weight) → AreWeights y → EntryBelongs y e.day e.symbol.number i → IsWeight e → SetsWeight y (insert y i e) e.day e.symbol.number e.value
 inserted y i e w lacks value = record {
   weights = record {
     ascends = AllPairs-insert ComesBefore y i e lacks.within w.ascends (λ k d low. lacks.before k d low) (λ k d high less. comes_first e (get_or y k d) (lacks.after k d high less));
@@ -238,7 +238,7 @@ inserted y i e w lacks value = record {
       ∙ ap (λ (l : List Weight). weight_at l k z) (take-append-drop i y);
 }
 
-pub left_out : (y : List Weight) (i j x : ℕ) (value : ℤ) → value ≡ pos 0 → AreWeights y → Lacks y j x i → SetsWeight y y j x value
+pub left_out : (y : List Weight) (i j x : ℕ) (value : ℤ) → value ≡ pos 0 → AreWeights y → EntryBelongs y j x i → SetsWeight y y j x value
 left_out y i j x value none w lacks = record {
   weights = w;
   here = ap (λ (l : List Weight). weight_at l j x) (sym (take-append-drop i y))
@@ -248,7 +248,7 @@ left_out y i j x value none w lacks = record {
   elsewhere = λ k z other. refl;
 }
 
-pub removed : (y : List Weight) (i j x : ℕ) (d : Weight) (value : ℤ) → value ≡ pos 0 → AreWeights y → Holds y j x i → SetsWeight y (remove y i) j x value
+pub removed : (y : List Weight) (i j x : ℕ) (d : Weight) (value : ℤ) → value ≡ pos 0 → AreWeights y → EntryStands y j x i → SetsWeight y (remove y i) j x value
 removed y i j x d value none w holds =
     let within : suc i ≤ length y = omega (arith, holds.within) in
     let front : i ≤ length y = omega (arith, holds.within) in
@@ -272,7 +272,7 @@ before_same_key : (a b e : Weight) → b.day ≡ e.day → b.symbol.number ≡ e
 before_same_key a b e p q h = grind arith
 
 -- an entry that takes the place of one with its day and symbol
-AllPairs-set : (y : List Weight) (i : ℕ) (e : Weight) → Holds y e.day e.symbol.number i → AllPairs ComesBefore y → AllPairs ComesBefore (set y i e)
+AllPairs-set : (y : List Weight) (i : ℕ) (e : Weight) → EntryStands y e.day e.symbol.number i → AllPairs ComesBefore y → AllPairs ComesBefore (set y i e)
 AllPairs-set y i e holds up = λ a b d lt less.
     let long : length (set y i e) ≡ length y = length-set y i e in
     let old : ComesBefore (get_or y a d) (get_or y b d) = up a b d lt (omega arith) in
@@ -296,7 +296,7 @@ set_split y i e less =
     ∙ ap (λ (l : List Weight). l ++ drop i (set y i e)) (take-set y i e)
     ∙ ap (λ (l : List Weight). take i y ++ l) (drop-set y i e less ∙ ap (λ n. e ∷ drop n y) next)
 
-pub changed : (y : List Weight) (i : ℕ) (e : Weight) → AreWeights y → Holds y e.day e.symbol.number i → IsWeight e → SetsWeight y (set y i e) e.day e.symbol.number e.value
+pub changed : (y : List Weight) (i : ℕ) (e : Weight) → AreWeights y → EntryStands y e.day e.symbol.number i → IsWeight e → SetsWeight y (set y i e) e.day e.symbol.number e.value
 changed y i e w holds value =
     let split : set y i e ≡ take i y ++ (e ∷ drop (suc i) y) = set_split y i e holds.within in
     record {

@@ -4,12 +4,12 @@ use Rattle.rwsp_terms.specs.Weights.{AreWeights, weight_at}
 use Rattle.rwsp_terms.specs.declared.data.Weight.{Weight}
 
 -- the number stands at place i
-abbrev pub StandsIn : List ℕ → ℕ → ℕ → Type 0
-StandsIn xs i x = (i < length xs) × (slice_index xs i ≡ x)
+abbrev pub NumberStands : List ℕ → ℕ → ℕ → Type 0
+NumberStands xs i x = (i < length xs) × (slice_index xs i ≡ x)
 
 -- lower numbers stand before place i, and greater ones from it on
-abbrev pub BelongsIn : List ℕ → ℕ → ℕ → Type 0
-BelongsIn xs i x =
+abbrev pub NumberBelongs : List ℕ → ℕ → ℕ → Type 0
+NumberBelongs xs i x =
     (i ≤ length xs)
     × ((k : ℕ) → k < i → slice_index xs k < x)
     × ((k : ℕ) → i ≤ k → k < length xs → x < slice_index xs k)
@@ -27,14 +27,14 @@ abbrev pub Follows : Weight → ℕ → ℕ → Type 0
 Follows e j x = (j < e.day) ⊎ ((e.day ≡ j) × (x < e.symbol.number))
 
 -- the entry of symbol x on day j stands at place i
-pub record Holds (y : List Weight) (j x i : ℕ) : Type 0 where
+pub record EntryStands (y : List Weight) (j x i : ℕ) : Type 0 where
   pub within : i < length y
   pub before : (k : ℕ) (d : Weight) → k < i → Precedes (slice_index_or y k d) j x
   pub here : (d : Weight) → ((slice_index_or y i d).day ≡ j) × ((slice_index_or y i d).symbol.number ≡ x)
   pub after : (k : ℕ) (d : Weight) → i < k → k < length y → Follows (slice_index_or y k d) j x
 
 -- there is no entry of symbol x on day j, and it belongs at place i
-pub record Lacks (y : List Weight) (j x i : ℕ) : Type 0 where
+pub record EntryBelongs (y : List Weight) (j x i : ℕ) : Type 0 where
   pub within : i ≤ length y
   pub before : (k : ℕ) (d : Weight) → k < i → Precedes (slice_index_or y k d) j x
   pub after : (k : ℕ) (d : Weight) → i ≤ k → k < length y → Follows (slice_index_or y k d) j x

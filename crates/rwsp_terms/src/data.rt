@@ -1,5 +1,6 @@
-// Plain data, with no fact about it but what it holds.
-ghost use Rattle.std.specs.Prelude.{◌≡◌, ℕ, List};
+// Plain data, with no invariant.
+ghost use Rattle.std.specs.Prelude.{◌≡◌, ◌↔◌, ◌<◌, IsTrue};
+ghost use Rattle.rwsp_terms.specs.Window.{InClass};
 
 use std::alloc::AllocError;
 use std::marker::Model;
@@ -27,6 +28,19 @@ pub enum Class {
     Shift(Symbol),
     Off,
     Work,
+}
+
+impl Class {
+    /// Whether the symbol is in the class.
+    pub fn has(self, x: Symbol) -> bool
+        ensures { IsTrue result ↔ InClass self x }
+    {
+        match self {
+            Class::Shift(shift) => x.number == shift.number,
+            Class::Off => x.number == 0,
+            Class::Work => x.number > 0,
+        }
+    }
 }
 
 /// A rule of a problem. Pairs and triples count from 0, days from 1.
@@ -58,6 +72,8 @@ pub struct Name {
 }
 
 impl Model for Name {
+    ghost use Rattle.std.specs.Prelude.{List, ℕ};
+
     ghost Value = { List ℕ };
 
     ghost view = { λ n. n.bytes.items };

@@ -3,9 +3,15 @@
 
 mod data;
 mod laws;
-mod lists;
+mod rule_list;
 mod sharing;
+#[cfg(test)]
+mod tests;
+mod weights;
+mod word;
 
 pub use data::{Bounds, Class, DemandRow, Name, Rule, ShiftRow, Symbol, Weight};
 pub use laws::{rule_lists_are_sets, weights_are_told_by_values, window_is_long};
-pub use lists::{RuleList, Weights, Word};
+pub use rule_list::RuleList;
+pub use weights::Weights;
+pub use word::Word;

@@ -8,5 +8,5 @@ returns-clause-yes c = λ yes. (
   c.args.position - c.args.run - 1,
   omega arith,
   run_is_block c.args.cells.now c.args.class c.args.least c.args.position c.args.run (c.args.position - c.args.run - 1)
-      c.requires.run (omega arith) (omega arith) (omega arith) (λ inside. not_both c.is_in.result (c.is_in.ensures.1 (subst (InClass c.args.class) (sym c.symbol_at.ensures) inside)) yes),
+      c.requires.run (omega arith) (omega arith) (omega arith) (λ inside. not_both c.has.result (c.has.ensures.1 (subst (InClass c.args.class) (sym c.symbol_at.ensures) inside)) yes),
 )

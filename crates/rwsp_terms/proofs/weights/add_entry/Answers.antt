@@ -2,7 +2,7 @@ use Rattle.std.proofs.Common.{◌≢◌, arith}
 use Rattle.std.specs.Prelude.{pos}
 use Rattle.std.proofs.lemmas.Int.{ints}
 use Rattle.rwsp_terms.proofs.Ascending.{inserted, left_out}
-use Rattle.rwsp_terms.proofs.lists.add_entry.Goals as goal
+use Rattle.rwsp_terms.proofs.weights.add_entry.Goals as goal
 
 pub returns-in_ok-insert-clause-sets : goal.returns-in_ok-insert-clause-sets
 returns-in_ok-insert-clause-sets c =

@@ -2,7 +2,7 @@ use Rattle.std.proofs.Common.{◌≢◌, arith}
 use Rattle.std.specs.Prelude.{pos}
 use Rattle.std.proofs.lemmas.Int.{ints}
 use Rattle.rwsp_terms.proofs.Ascending.{changed, removed}
-use Rattle.rwsp_terms.proofs.lists.change_entry.Goals as goal
+use Rattle.rwsp_terms.proofs.weights.change_entry.Goals as goal
 
 pub returns-then-entry-eq0 : goal.returns-then-entry-eq0
 returns-then-entry-eq0 c =
