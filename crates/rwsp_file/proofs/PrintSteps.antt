@@ -4,7 +4,7 @@ use Rattle.std.specs.List.{flat_map, AllByRecursion, prefix_len}
 use Rattle.std.proofs.Math.Seq.{take-append_seam, drop-append_seam}
 use Rattle.std.proofs.lemmas.Bool.Decides.{nat_tests}
 use Rattle.rwsp_text.specs.Lexemes.{Lexeme, lexemes_from}
-use Rattle.rwsp_text.specs.Steps.{IsWordByte}
+use Rattle.rwsp_text.proofs.Steps.{IsWordByte}
 use Rattle.rwsp_text.proofs.TextSteps.{at_word, at_space, at_line_end}
 use Rattle.rwsp_file.specs.Spelling.{is_on_line, on_line, past_line}
 use Rattle.rwsp_file.specs.Text.{joined, line_text}

@@ -3,11 +3,13 @@ use Rattle.std.specs.Prelude.{ℕ, List, Bool, not, ◌==◌, ◌&&◌, slice_ra
 use Rattle.rwsp_text.specs.Lexemes.{Lexeme, is_space}
 use Rattle.rwsp_text.specs.declared.scan.Token.{Token}
 
+-- a byte that a word may have
 abbrev pub is_word_byte : ℕ → Bool
 is_word_byte b = not (is_space b) && not (b == 10)
 
-abbrev pub is_no_end : ℕ → Bool
-is_no_end b = not (b == 10)
+-- a byte that doesn't end a line
+abbrev pub is_no_line_end : ℕ → Bool
+is_no_line_end b = not (b == 10)
 
 -- the lexeme that a token stands for
 abbrev pub lexeme_at : List ℕ → Token → Lexeme

@@ -4,7 +4,7 @@ ghost use Rattle.std.specs.Option.{option_to_list};
 ghost use Rattle.rwsp_text.specs.Lexemes.{lexemes_from};
 ghost use Rattle.std.specs.List.{prefix_len, AllByRecursion};
 ghost use Rattle.rwsp_text.specs.Lexemes.{is_space, lexemes};
-ghost use Rattle.rwsp_text.specs.Places.{is_word_byte, is_no_end, lexeme_at};
+ghost use Rattle.rwsp_text.specs.Places.{is_word_byte, is_no_line_end, lexeme_at};
 
 use std::alloc::{AllocError, Global};
 
@@ -46,9 +46,9 @@ fn word_end(bytes: &[u8], at: usize) -> usize
 
 #[tactic(auto, using(crate::proofs::TokenSteps::prefix_more, crate::proofs::TokenSteps::prefix_stop, crate::proofs::TokenSteps::prefix_all))]
 fn comment_end(bytes: &[u8], at: usize) -> usize
-    requires { (at < length bytes.now) × (is_no_end (slice_index bytes.now at) ≡ true) }
+    requires { (at < length bytes.now) × (is_no_line_end (slice_index bytes.now at) ≡ true) }
     ensures moves { (at < result) × (result ≤ length bytes.now) }
-    ensures value { result ≡ at + prefix_len is_no_end (drop at bytes.now) }
+    ensures value { result ≡ at + prefix_len is_no_line_end (drop at bytes.now) }
 {
     for i in at + 1..bytes.len() {
         if bytes[i] == b'\n' {
