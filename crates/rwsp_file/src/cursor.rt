@@ -1,7 +1,7 @@
 // A cursor over the words of a text.
 ghost use Rattle.std.specs.Prelude.{◌≡◌, ℕ, ◌≤◌, List, [], ◌∷◌, length, map, IfOk, MatchOption, position, not, ◌==◌};
-ghost use Rattle.std.specs.List.{AllByRecursion, prefix_len};
-ghost use Rattle.rwsp_text.specs.Places.{lexeme_at};
+ghost use Rattle.std.specs.List.{prefix_len};
+ghost use Rattle.rwsp_text.specs.Places.{lexeme_at, AreWithin};
 ghost use Rattle.rwsp_file.specs.Spelling.{on_line, past_line};
 ghost use Rattle.rwsp_file.specs.Reading.{next_at, limited, number_at, bounds_at};
 ghost use Rattle.rwsp_file.specs.Reads.{Reads};
@@ -35,17 +35,15 @@ pub struct Cursor<'a> {
 }
 
 impl<'a> Model for Cursor<'a> {
-    ghost use Rattle.std.specs.Prelude.{List, map, ◌≤◌, length};
-    ghost use Rattle.std.specs.List.{AllByRecursion};
-    ghost use Rattle.rwsp_text.specs.Lexemes.{Lexeme};
-    ghost use Rattle.rwsp_text.specs.Places.{lexeme_at};
+    ghost use Rattle.std.specs.Prelude.{map};
+    ghost use Rattle.rwsp_text.specs.Places.{lexeme_at, AreWithin};
     ghost use Rattle.rwsp_file.specs.Reading.{Unread};
 
     ghost Value = { Unread };
 
     ghost view = { λ c. record { lexemes = map (lexeme_at c.bytes.now) c.tokens.now; end = c.end } };
 
-    ghost invariant = { λ c. AllByRecursion (λ t. (t.start ≤ t.end) × (t.end ≤ length c.bytes.now)) c.tokens.now };
+    ghost invariant = { λ c. AreWithin c.bytes.now c.tokens.now };
 }
 
 impl<'a> Word<'a> {
@@ -82,7 +80,7 @@ impl<'a> Word<'a> {
 impl<'a> Cursor<'a> {
     /// The words that stand at these tokens of the bytes.
     pub fn of(bytes: &'a [u8], tokens: &'a [Token], end: u32) -> Cursor<'a>
-        requires { AllByRecursion (λ t. (t.start ≤ t.end) × (t.end ≤ length bytes.now)) tokens.now }
+        requires { AreWithin bytes.now tokens.now }
         ensures { result ≡ record { lexemes = map (lexeme_at bytes.entry.now) tokens.entry.now; end = end } }
     {
         Cursor { bytes, tokens, end }

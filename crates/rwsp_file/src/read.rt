@@ -1,6 +1,5 @@
 // Reading problem files.
 ghost use Rattle.std.specs.Prelude.{◌≡◌, ◌==◌, ◌≤◌, count_by, length, Some, IfOk, map};
-ghost use Rattle.std.specs.List.{AllByRecursion};
 ghost use Rattle.rwsp_text.specs.Lexemes.{last_line};
 ghost use Rattle.rwsp_text.specs.Places.{lexeme_at};
 ghost use Rattle.rwsp_model.specs.Refusals.{IfRefused};

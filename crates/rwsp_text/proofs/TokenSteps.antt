@@ -11,7 +11,7 @@ use Rattle.std.specs.List.{prefix_len, AllByRecursion}
 use Rattle.std.proofs.lemmas.List.{drop_all, drop-drop, take-append-drop}
 use Rattle.std.proofs.lemmas.Bool.{and_parts, not-false, not-true}
 use Rattle.rwsp_text.specs.Lexemes.{is_space, lexemes_from}
-use Rattle.rwsp_text.specs.Places.{is_word_byte, is_no_line_end, lexeme_at}
+use Rattle.rwsp_text.specs.Places.{is_word_byte, is_no_line_end, lexeme_at, IsWithin, AreWithin}
 use Rattle.rwsp_text.proofs.Steps.{IsNoLineEnd, EndsLine, IsWordByte, Ends}
 use Rattle.rwsp_text.proofs.TextSteps.{at_line_end, at_space, at_word, at_comment}
 
@@ -133,10 +133,8 @@ pub lexemes_go_on : (bytes : List ℕ) (all more : List Token) (left left' whole
 lexemes_go_on bytes all more left left' whole h e =
     ap (λ w. w ++ left') (map-append (lexeme_at bytes) all more) ∙ append_assoc (map (lexeme_at bytes) all) (map (lexeme_at bytes) more) left' ∙ ap (λ w. map (lexeme_at bytes) all ++ w) (sym e) ∙ h
 
-abbrev IsWithin : List ℕ → Token → Type 0
-IsWithin bytes t = (t.start ≤ t.end) × (t.end ≤ length bytes)
-
-pub within_more : (bytes : List ℕ) (all : List Token) (o : Option Token) → AllByRecursion (λ t. (t.start ≤ t.end) × (t.end ≤ length bytes)) all → IfSome o (λ t. (t.start ≤ t.end) × (t.end ≤ length bytes)) → AllByRecursion (λ t. (t.start ≤ t.end) × (t.end ≤ length bytes)) (all ++ option_to_list o)
+-- the tokens so far and that of a step
+pub within_more : (bytes : List ℕ) (all : List Token) (o : Option Token) → AreWithin bytes all → IfSome o (IsWithin bytes) → AreWithin bytes (all ++ option_to_list o)
 within_more bytes [] None h k = tt
 within_more bytes [] (Some t) h k = (k, tt)
 within_more bytes (a ∷ all) o h k = (h.0, within_more bytes all o h.1 k)
