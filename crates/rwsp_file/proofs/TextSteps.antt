@@ -1,20 +1,20 @@
 -- Steps of printing a canonical text.
 use Rattle.std.proofs.Common.{◌≡◌, ℕ, zero, suc, ◌+◌, ◌-◌, ◌<◌, ◌≤◌, List, [], ◌∷◌, ◌++◌, length, get_or, take, Some, refl, ap, sym, ◌∙◌, arith, map, append_assoc, append-nil}
 use Rattle.std.specs.Prelude.{pos, slice_get}
-use Rattle.std.specs.List.{flat_map}
+use Rattle.std.specs.List.{flat_map, join_with_byte}
 use Rattle.std.proofs.lemmas.List.{take_more, take_all, map_push}
 use Rattle.std.proofs.lemmas.Option.{slice_get-get_or}
 use Rattle.rwsp_terms.specs.Instance.{Instance, least, greatest, shift_demand, range_in, no_bounds, name_numbered, name_in}
 use Rattle.rwsp_terms.specs.declared.data.Bounds.{Bounds}
-use Rattle.rwsp_file.specs.Text.{joined, line_text, demand_text, range_at, shift_at, no_shift, size_lines, frame_lines, shift_words, pair_words, triple_words, problem_text}
+use Rattle.rwsp_file.specs.Text.{line_text, demand_text, range_at, shift_at, no_shift, size_lines, frame_lines, shift_words, pair_words, triple_words, problem_text}
 use Rattle.std.proofs.lemmas.Grind.{flat_map-append}
 
 -- one more word of a line
-joined_push : (words : List (List ℕ)) (word : List ℕ) → 0 < length words → joined (words ++ word ∷ []) ≡ joined words ++ 32 ∷ word
+joined_push : (words : List (List ℕ)) (word : List ℕ) → 0 < length words → join_with_byte 32 (words ++ word ∷ []) ≡ join_with_byte 32 words ++ 32 ∷ word
 joined_push [] word some = absurd (omega (arith, some))
 joined_push (v ∷ []) word some = refl
 joined_push (v ∷ u ∷ us) word some =
-    ap (λ t. v ++ 32 ∷ t) (joined_push (u ∷ us) word (omega arith)) ∙ sym (append_assoc v (32 ∷ joined (u ∷ us)) (32 ∷ word))
+    ap (λ t. v ++ 32 ∷ t) (joined_push (u ∷ us) word (omega arith)) ∙ sym (append_assoc v (32 ∷ join_with_byte 32 (u ∷ us)) (32 ∷ word))
 
 map_long : {X Y : Type 0} (f : X → Y) (xs : List X) → length (map f xs) ≡ length xs
 map_long f [] = refl
@@ -26,27 +26,27 @@ some_front (x ∷ xs) zero p q = absurd (omega (arith, p))
 some_front (x ∷ xs) (suc i) p q = omega arith
 
 -- one more demand of a row
-pub demand_more : (row : List Bounds) (i : ℕ) (start old new : List ℕ) → 0 < i → i < length row → old ≡ start ++ joined (map demand_text (take i row)) → new ≡ old ++ 32 ∷ demand_text (get_or row i no_bounds) →
-    new ≡ start ++ joined (map demand_text (take (i + 1) row))
+pub demand_more : (row : List Bounds) (i : ℕ) (start old new : List ℕ) → 0 < i → i < length row → old ≡ start ++ join_with_byte 32 (map demand_text (take i row)) → new ≡ old ++ 32 ∷ demand_text (get_or row i no_bounds) →
+    new ≡ start ++ join_with_byte 32 (map demand_text (take (i + 1) row))
 demand_more row i start old new some less o n =
     let front : List (List ℕ) = map demand_text (take i row) in
     let more : map demand_text (take (i + 1) row) ≡ map demand_text (take i row) ++ demand_text (get_or row i no_bounds) ∷ [] =
     ap (map demand_text) (take_more row i no_bounds less) ∙ map_push demand_text (take i row) (get_or row i no_bounds) in
     let long : 0 < length (map demand_text (take i row)) = omega (arith, map_long demand_text (take i row), some_front row i some less) in
     n ∙ ap (λ t. t ++ 32 ∷ demand_text (get_or row i no_bounds)) o
-    ∙ append_assoc start (joined (map demand_text (take i row))) (32 ∷ demand_text (get_or row i no_bounds))
+    ∙ append_assoc start (join_with_byte 32 (map demand_text (take i row))) (32 ∷ demand_text (get_or row i no_bounds))
     ∙ ap (λ t. start ++ t) (sym (joined_push (map demand_text (take i row)) (demand_text (get_or row i no_bounds)) long))
-    ∙ ap (λ ws. start ++ joined ws) (sym more)
+    ∙ ap (λ ws. start ++ join_with_byte 32 ws) (sym more)
 
 -- the first demand of a row
-pub demand_first : (row : List Bounds) (start new : List ℕ) → 0 < length row → new ≡ start ++ demand_text (get_or row 0 no_bounds) → new ≡ start ++ joined (map demand_text (take 1 row))
+pub demand_first : (row : List Bounds) (start new : List ℕ) → 0 < length row → new ≡ start ++ demand_text (get_or row 0 no_bounds) → new ≡ start ++ join_with_byte 32 (map demand_text (take 1 row))
 demand_first [] start new some n = absurd (omega (arith, some))
 demand_first (b ∷ row) start new some n = n
 
 -- a row with its line's end
-pub demand_line : (row : List Bounds) (i : ℕ) (start old new : List ℕ) → length row ≤ i → old ≡ start ++ joined (map demand_text (take i row)) → new ≡ old ++ 10 ∷ [] → new ≡ start ++ line_text (map demand_text row)
+pub demand_line : (row : List Bounds) (i : ℕ) (start old new : List ℕ) → length row ≤ i → old ≡ start ++ join_with_byte 32 (map demand_text (take i row)) → new ≡ old ++ 10 ∷ [] → new ≡ start ++ line_text (map demand_text row)
 demand_line row i start old new all o n =
-    n ∙ ap (λ t. t ++ 10 ∷ []) (o ∙ ap (λ r. start ++ joined (map demand_text r)) (take_all i row all)) ∙ append_assoc start (joined (map demand_text row)) (10 ∷ [])
+    n ∙ ap (λ t. t ++ 10 ∷ []) (o ∙ ap (λ r. start ++ join_with_byte 32 (map demand_text r)) (take_all i row all)) ∙ append_assoc start (join_with_byte 32 (map demand_text row)) (10 ∷ [])
 
 flat_map_push : {X Y : Type 0} (f : X → List Y) (xs : List X) (x : X) → flat_map f (xs ++ x ∷ []) ≡ flat_map f xs ++ f x
 flat_map_push f [] x = append-nil (f x)

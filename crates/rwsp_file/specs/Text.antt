@@ -1,6 +1,6 @@
 -- The canonical text of an instance.
 use Rattle.std.specs.Prelude.{ℕ, List, [], ◌∷◌, ◌++◌, length, map, slice_index_or, ◌==◌, if◌then◌else◌}
-use Rattle.std.specs.List.{flat_map}
+use Rattle.std.specs.List.{flat_map, join_with_byte}
 use Rattle.std.specs.Fmt.{decimal}
 use Rattle.rwsp_terms.specs.Instance.{Instance, name_of, no_bounds}
 use Rattle.rwsp_terms.specs.declared.data.Bounds.{Bounds}
@@ -42,14 +42,8 @@ lines_of_words P =
     ++ (map (pair_words P) P.pairs
     ++ map (triple_words P) P.triples))))
 
--- words with single blanks between them
-abbrev pub joined : List (List ℕ) → List ℕ
-joined [] = []
-joined (word ∷ []) = word
-joined (word ∷ words) = word ++ 32 ∷ joined words
-
 abbrev pub line_text : List (List ℕ) → List ℕ
-line_text words = joined words ++ 10 ∷ []
+line_text words = join_with_byte 32 words ++ 10 ∷ []
 
 -- the canonical text: no comments, single blanks, and a line feed at each line's end
 abbrev pub problem_text : Instance → List ℕ
