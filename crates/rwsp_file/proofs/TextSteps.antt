@@ -6,7 +6,7 @@ use Rattle.std.proofs.lemmas.List.{take_more, take_all, map_push}
 use Rattle.std.proofs.lemmas.Option.{slice_get-get_or}
 use Rattle.rwsp_terms.specs.Instance.{Instance, least, greatest, shift_demand, range_in, no_bounds, name_numbered, name_in}
 use Rattle.rwsp_terms.specs.declared.data.Bounds.{Bounds}
-use Rattle.rwsp_file.specs.Text.{line_text, demand_text, range_at, shift_at, no_shift, size_lines, frame_lines, shift_words, pair_words, triple_words, problem_text}
+use Rattle.rwsp_file.specs.Text.{line_text, demand_text, range_at, row_of_shift, no_shift, size_lines, frame_lines, shift_words, pair_words, triple_words, problem_text}
 use Rattle.std.proofs.lemmas.Grind.{flat_map-append}
 
 -- one more word of a line
@@ -86,12 +86,12 @@ greatest_at P k i less =
 pub place_at : (k : ℕ) → k + 1 - 1 ≡ k
 place_at k = omega arith
 
-pub name_at : (P : Instance) (k : ℕ) → k < length P.shifts → name_numbered P (k + 1) ≡ (shift_at P k).name
+pub name_at : (P : Instance) (k : ℕ) → k < length P.shifts → name_numbered P (k + 1) ≡ (row_of_shift P k).name
 name_at P k less =
     let next : k + 1 ≡ suc k = omega arith in
     ap (name_numbered P) next ∙ ap name_in (slice_get-get_or P.shifts k no_shift less)
 
-pub row_of_place : (P : Instance) (k : ℕ) → k < length P.shifts → slice_get P.shifts (k + 1 - 1) ≡ Some (shift_at P k)
+pub row_of_place : (P : Instance) (k : ℕ) → k < length P.shifts → slice_get P.shifts (k + 1 - 1) ≡ Some (row_of_shift P k)
 row_of_place P k less = ap (slice_get P.shifts) (place_at k) ∙ slice_get-get_or P.shifts k no_shift less
 
 -- two parts behind another are one

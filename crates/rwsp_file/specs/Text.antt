@@ -49,17 +49,18 @@ line_text words = join_with_byte 32 words ++ 10 ∷ []
 abbrev pub problem_text : Instance → List ℕ
 problem_text P = flat_map line_text (lines_of_words P)
 
--- by places, counted from 0: the demands of a shift, the demand of a shift on a day, and a shift
+-- the demands of the shift at a place, counted from 0
+abbrev pub demand_row : Instance → ℕ → List Bounds
+demand_row P k = slice_index_or P.demand k []
 
-abbrev pub row_at : Instance → ℕ → List Bounds
-row_at P k = slice_index_or P.demand k []
-
+-- the demand of the shift at a place on a day, both counted from 0
 abbrev pub range_at : Instance → ℕ → ℕ → Bounds
-range_at P k i = slice_index_or (row_at P k) i no_bounds
+range_at P k i = slice_index_or (demand_row P k) i no_bounds
 
 -- no shift, in place of one that isn't there
 abbrev pub no_shift : ShiftRow
 no_shift = record { name = []; start = 0; length = 0; bounds = no_bounds }
 
-abbrev pub shift_at : Instance → ℕ → ShiftRow
-shift_at P k = slice_index_or P.shifts k no_shift
+-- the shift at a place, counted from 0
+abbrev pub row_of_shift : Instance → ℕ → ShiftRow
+row_of_shift P k = slice_index_or P.shifts k no_shift

@@ -3,7 +3,7 @@ ghost use Rattle.std.specs.Prelude.{◌≡◌, ℕ, ◌+◌, ◌-◌, ◌<◌, �
 ghost use Rattle.std.specs.List.{flat_map};
 ghost use Rattle.std.specs.Fmt.{decimal};
 ghost use Rattle.rwsp_terms.specs.Instance.{name_of, IsSymbol};
-ghost use Rattle.rwsp_file.specs.Text.{demand_text, bounds_words, line_text, pair_words, triple_words, problem_text, range_at, row_at, shift_at, shift_words, size_lines, frame_lines};
+ghost use Rattle.rwsp_file.specs.Text.{demand_text, bounds_words, line_text, pair_words, triple_words, problem_text, range_at, demand_row, row_of_shift, shift_words, size_lines, frame_lines};
 
 use rwsp_model::{Bounds, Class, Problem, Symbol};
 use rwsp_text::put_number;
@@ -113,7 +113,7 @@ fn put_next_demand(out: &mut Vec<u8>, range: Bounds) -> Result<(), AllocError>
 #[tactic(auto, using(crate::proofs::TextSteps::demand_first, crate::proofs::TextSteps::demand_more, crate::proofs::TextSteps::demand_line))]
 fn put_demand_row(out: &mut Vec<u8>, problem: &Problem, place: u8) -> Result<(), AllocError>
     requires { place < length problem.now.shifts }
-    ensures { OnOk result (out.new.items ≡ out.old.items ++ line_text (map demand_text (row_at problem.now place))) }
+    ensures { OnOk result (out.new.items ≡ out.old.items ++ line_text (map demand_text (demand_row problem.now place))) }
 {
     problem.keeps_limits();
     let days = problem.days();
@@ -139,7 +139,7 @@ fn put_demand_rows(out: &mut Vec<u8>, problem: &Problem) -> Result<(), AllocErro
 // The start, the length and the bounds of the blocks of the shift at a place, counted from 0.
 fn numbers_at(problem: &Problem, place: u8) -> (u32, u32, Bounds)
     requires { place < length problem.now.shifts }
-    ensures { let row = shift_at problem.now place in result ≡ (row.start, row.length, row.bounds) }
+    ensures { let row = row_of_shift problem.now place in result ≡ (row.start, row.length, row.bounds) }
 {
     problem.keeps_limits();
     let shift = Symbol { number: place + 1 };
@@ -153,7 +153,7 @@ fn numbers_at(problem: &Problem, place: u8) -> (u32, u32, Bounds)
 // The name of the shift at a place, counted from 0, and a blank.
 fn put_name_at(out: &mut Vec<u8>, problem: &Problem, place: u8) -> Result<(), AllocError>
     requires { place < length problem.now.shifts }
-    ensures { OnOk result (out.new.items ≡ out.old.items ++ ((shift_at problem.now place).name ++ 32 ∷ [])) }
+    ensures { OnOk result (out.new.items ≡ out.old.items ++ ((row_of_shift problem.now place).name ++ 32 ∷ [])) }
 {
     problem.keeps_limits();
     put_name_and(out, problem, Symbol { number: place + 1 }, b' ')
@@ -162,7 +162,7 @@ fn put_name_at(out: &mut Vec<u8>, problem: &Problem, place: u8) -> Result<(), Al
 // A line of the shift at a place, counted from 0.
 fn put_shift(out: &mut Vec<u8>, problem: &Problem, place: u8) -> Result<(), AllocError>
     requires { place < length problem.now.shifts }
-    ensures { OnOk result (out.new.items ≡ out.old.items ++ line_text (shift_words (shift_at problem.now place))) }
+    ensures { OnOk result (out.new.items ≡ out.old.items ++ line_text (shift_words (row_of_shift problem.now place))) }
 {
     let (start, length, bounds) = numbers_at(problem, place);
     put_name_at(out, problem, place)?;
