@@ -7,7 +7,7 @@ use Rattle.rwsp_text.specs.Lexemes.{Lexeme, lexemes_from}
 use Rattle.rwsp_text.proofs.Steps.{IsWordByte}
 use Rattle.rwsp_text.proofs.TextSteps.{at_word, at_space, at_line_end}
 use Rattle.rwsp_file.specs.Spelling.{is_on_line, on_line, past_line}
-use Rattle.rwsp_file.specs.Text.{line_text}
+use Rattle.rwsp_file.specs.Text.{file_line}
 
 -- a word as it may be printed
 abbrev pub IsPrinted : List ℕ → Type 0
@@ -39,11 +39,11 @@ line_lexemes n (word ∷ next ∷ words) rest h =
     ∙ ap (λ ls. lexeme n word ∷ ls) (at_space n 32 (join_with_byte 32 (next ∷ words) ++ 10 ∷ rest) refl ∙ line_lexemes n (next ∷ words) rest h.1)
 
 -- the lexemes of a text of lines
-pub text_lexemes : (n : ℕ) (lines : List (List (List ℕ))) → AllByRecursion (AllByRecursion IsPrinted) lines → lexemes_from n (flat_map line_text lines) ≡ numbered n lines
+pub text_lexemes : (n : ℕ) (lines : List (List (List ℕ))) → AllByRecursion (AllByRecursion IsPrinted) lines → lexemes_from n (flat_map file_line lines) ≡ numbered n lines
 text_lexemes n [] h = refl
 text_lexemes n (line ∷ lines) h =
-    ap (lexemes_from n) (append_assoc (join_with_byte 32 line) (10 ∷ []) (flat_map line_text lines))
-    ∙ line_lexemes n line (flat_map line_text lines) h.0
+    ap (lexemes_from n) (append_assoc (join_with_byte 32 line) (10 ∷ []) (flat_map file_line lines))
+    ∙ line_lexemes n line (flat_map file_line lines) h.0
     ∙ ap (λ ls. map (lexeme n) line ++ ls) (text_lexemes (n + 1) lines h.1)
 
 -- no later line is this one

@@ -6,7 +6,7 @@ use Rattle.std.proofs.lemmas.List.{take_more, take_all, map_push}
 use Rattle.std.proofs.lemmas.Option.{slice_get-get_or}
 use Rattle.rwsp_terms.specs.Instance.{Instance, least, greatest, shift_demand, range_in, no_bounds, name_numbered, name_in}
 use Rattle.rwsp_terms.specs.declared.data.Bounds.{Bounds}
-use Rattle.rwsp_file.specs.Text.{line_text, demand_text, range_at, row_of_shift, no_shift, size_lines, frame_lines, shift_words, pair_words, triple_words, problem_text}
+use Rattle.rwsp_file.specs.Text.{file_line, demand_text, range_at, row_of_shift, no_shift, size_lines, frame_lines, shift_words, pair_words, triple_words, problem_text}
 use Rattle.std.proofs.lemmas.Grind.{flat_map-append}
 
 -- one more word of a line
@@ -44,7 +44,7 @@ demand_first [] start new some n = absurd (omega (arith, some))
 demand_first (b ∷ row) start new some n = n
 
 -- a row with its line's end
-pub demand_line : (row : List Bounds) (i : ℕ) (start old new : List ℕ) → length row ≤ i → old ≡ start ++ join_with_byte 32 (map demand_text (take i row)) → new ≡ old ++ 10 ∷ [] → new ≡ start ++ line_text (map demand_text row)
+pub demand_line : (row : List Bounds) (i : ℕ) (start old new : List ℕ) → length row ≤ i → old ≡ start ++ join_with_byte 32 (map demand_text (take i row)) → new ≡ old ++ 10 ∷ [] → new ≡ start ++ file_line (map demand_text row)
 demand_line row i start old new all o n =
     n ∙ ap (λ t. t ++ 10 ∷ []) (o ∙ ap (λ r. start ++ join_with_byte 32 (map demand_text r)) (take_all i row all)) ∙ append_assoc start (join_with_byte 32 (map demand_text row)) (10 ∷ [])
 
@@ -53,17 +53,17 @@ flat_map_push f [] x = append-nil (f x)
 flat_map_push f (y ∷ ys) x = ap (λ zs. f y ++ zs) (flat_map_push f ys x) ∙ sym (append_assoc (f y) (flat_map f ys) (f x))
 
 -- one more line
-pub lines_more : {X : Type 0} (g : X → List (List ℕ)) (xs : List X) (i : ℕ) (d : X) (start old new : List ℕ) → i < length xs → old ≡ start ++ flat_map line_text (map g (take i xs)) → new ≡ old ++ line_text (g (get_or xs i d)) →
-    new ≡ start ++ flat_map line_text (map g (take (i + 1) xs))
+pub lines_more : {X : Type 0} (g : X → List (List ℕ)) (xs : List X) (i : ℕ) (d : X) (start old new : List ℕ) → i < length xs → old ≡ start ++ flat_map file_line (map g (take i xs)) → new ≡ old ++ file_line (g (get_or xs i d)) →
+    new ≡ start ++ flat_map file_line (map g (take (i + 1) xs))
 lines_more g xs i d start old new less o n =
-    n ∙ ap (λ t. t ++ line_text (g (get_or xs i d))) o
-    ∙ append_assoc start (flat_map line_text (map g (take i xs))) (line_text (g (get_or xs i d)))
-    ∙ ap (λ t. start ++ t) (sym (flat_map_push line_text (map g (take i xs)) (g (get_or xs i d))))
-    ∙ ap (λ ls. start ++ flat_map line_text ls) (sym (ap (map g) (take_more xs i d less) ∙ map_push g (take i xs) (get_or xs i d)))
+    n ∙ ap (λ t. t ++ file_line (g (get_or xs i d))) o
+    ∙ append_assoc start (flat_map file_line (map g (take i xs))) (file_line (g (get_or xs i d)))
+    ∙ ap (λ t. start ++ t) (sym (flat_map_push file_line (map g (take i xs)) (g (get_or xs i d))))
+    ∙ ap (λ ls. start ++ flat_map file_line ls) (sym (ap (map g) (take_more xs i d less) ∙ map_push g (take i xs) (get_or xs i d)))
 
 -- all lines
-pub lines_all : {X : Type 0} (g : X → List (List ℕ)) (xs : List X) (i : ℕ) (start old : List ℕ) → length xs ≤ i → old ≡ start ++ flat_map line_text (map g (take i xs)) → old ≡ start ++ flat_map line_text (map g xs)
-lines_all g xs i start old all o = o ∙ ap (λ ys. start ++ flat_map line_text (map g ys)) (take_all i xs all)
+pub lines_all : {X : Type 0} (g : X → List (List ℕ)) (xs : List X) (i : ℕ) (start old : List ℕ) → length xs ≤ i → old ≡ start ++ flat_map file_line (map g (take i xs)) → old ≡ start ++ flat_map file_line (map g xs)
+lines_all g xs i start old all o = o ∙ ap (λ ys. start ++ flat_map file_line (map g ys)) (take_all i xs all)
 
 -- what the accessors of a problem give
 
@@ -95,19 +95,19 @@ pub row_of_place : (P : Instance) (k : ℕ) → k < length P.shifts → slice_ge
 row_of_place P k less = ap (slice_get P.shifts) (place_at k) ∙ slice_get-get_or P.shifts k no_shift less
 
 -- two parts behind another are one
-behind : (xs ys : List (List (List ℕ))) (a b c : List ℕ) → b ≡ a ++ flat_map line_text xs → c ≡ b ++ flat_map line_text ys → c ≡ a ++ flat_map line_text (xs ++ ys)
+behind : (xs ys : List (List (List ℕ))) (a b c : List ℕ) → b ≡ a ++ flat_map file_line xs → c ≡ b ++ flat_map file_line ys → c ≡ a ++ flat_map file_line (xs ++ ys)
 behind xs ys a b c hb hc =
-    hc ∙ ap (λ t. t ++ flat_map line_text ys) hb ∙ append_assoc a (flat_map line_text xs) (flat_map line_text ys)
-    ∙ ap (λ t. a ++ t) (sym (flat_map-append line_text xs ys))
+    hc ∙ ap (λ t. t ++ flat_map file_line ys) hb ∙ append_assoc a (flat_map file_line xs) (flat_map file_line ys)
+    ∙ ap (λ t. a ++ t) (sym (flat_map-append file_line xs ys))
 
 -- the parts of a text, one behind another
-pub whole_text : (P : Instance) (a b c d e f : List ℕ) → a ≡ flat_map line_text (size_lines P) → b ≡ a ++ flat_map line_text (map (map demand_text) P.demand) → c ≡ b ++ flat_map line_text (map shift_words P.shifts) →
-    d ≡ c ++ flat_map line_text (frame_lines P) → e ≡ d ++ flat_map line_text (map (pair_words P) P.pairs) → f ≡ e ++ flat_map line_text (map (triple_words P) P.triples) → f ≡ problem_text P
+pub whole_text : (P : Instance) (a b c d e f : List ℕ) → a ≡ flat_map file_line (size_lines P) → b ≡ a ++ flat_map file_line (map (map demand_text) P.demand) → c ≡ b ++ flat_map file_line (map shift_words P.shifts) →
+    d ≡ c ++ flat_map file_line (frame_lines P) → e ≡ d ++ flat_map file_line (map (pair_words P) P.pairs) → f ≡ e ++ flat_map file_line (map (triple_words P) P.triples) → f ≡ problem_text P
 whole_text P a b c d e f ha hb hc hd he hf =
-    let s1 : f ≡ d ++ flat_map line_text (map (pair_words P) P.pairs ++ map (triple_words P) P.triples) = behind (map (pair_words P) P.pairs) (map (triple_words P) P.triples) d e f he hf in
-    let s2 : f ≡ c ++ flat_map line_text (frame_lines P ++ (map (pair_words P) P.pairs ++ map (triple_words P) P.triples)) = behind (frame_lines P) (map (pair_words P) P.pairs ++ map (triple_words P) P.triples) c d f hd s1 in
-    let s3 : f ≡ b ++ flat_map line_text (map shift_words P.shifts ++ (frame_lines P ++ (map (pair_words P) P.pairs ++ map (triple_words P) P.triples))) =
+    let s1 : f ≡ d ++ flat_map file_line (map (pair_words P) P.pairs ++ map (triple_words P) P.triples) = behind (map (pair_words P) P.pairs) (map (triple_words P) P.triples) d e f he hf in
+    let s2 : f ≡ c ++ flat_map file_line (frame_lines P ++ (map (pair_words P) P.pairs ++ map (triple_words P) P.triples)) = behind (frame_lines P) (map (pair_words P) P.pairs ++ map (triple_words P) P.triples) c d f hd s1 in
+    let s3 : f ≡ b ++ flat_map file_line (map shift_words P.shifts ++ (frame_lines P ++ (map (pair_words P) P.pairs ++ map (triple_words P) P.triples))) =
     behind (map shift_words P.shifts) (frame_lines P ++ (map (pair_words P) P.pairs ++ map (triple_words P) P.triples)) b c f hc s2 in
-    let s4 : f ≡ a ++ flat_map line_text (map (map demand_text) P.demand ++ (map shift_words P.shifts ++ (frame_lines P ++ (map (pair_words P) P.pairs ++ map (triple_words P) P.triples)))) =
+    let s4 : f ≡ a ++ flat_map file_line (map (map demand_text) P.demand ++ (map shift_words P.shifts ++ (frame_lines P ++ (map (pair_words P) P.pairs ++ map (triple_words P) P.triples)))) =
     behind (map (map demand_text) P.demand) (map shift_words P.shifts ++ (frame_lines P ++ (map (pair_words P) P.pairs ++ map (triple_words P) P.triples))) a b f hb s3 in
     behind (size_lines P) (map (map demand_text) P.demand ++ (map shift_words P.shifts ++ (frame_lines P ++ (map (pair_words P) P.pairs ++ map (triple_words P) P.triples)))) [] a f ha s4

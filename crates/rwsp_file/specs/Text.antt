@@ -42,12 +42,13 @@ lines_of_words P =
     ++ (map (pair_words P) P.pairs
     ++ map (triple_words P) P.triples))))
 
-abbrev pub line_text : List (List ℕ) → List ℕ
-line_text words = join_with_byte 32 words ++ 10 ∷ []
+-- a line of the file: its words with single blanks between them, and a line feed
+abbrev pub file_line : List (List ℕ) → List ℕ
+file_line words = join_with_byte 32 words ++ 10 ∷ []
 
 -- the canonical text: no comments, single blanks, and a line feed at each line's end
 abbrev pub problem_text : Instance → List ℕ
-problem_text P = flat_map line_text (lines_of_words P)
+problem_text P = flat_map file_line (lines_of_words P)
 
 -- the demands of the shift at a place, counted from 0
 abbrev pub demand_row : Instance → ℕ → List Bounds
