@@ -11,14 +11,14 @@ use rwsp_model::Bounds;
 use rwsp_text::{Token, number};
 use std::marker::Model;
 
-/// A word, and the number of its line.
+/// A word of a text, and the number of its line.
 #[derive(Drop)]
-pub struct Word<'a> {
+pub struct Lexeme<'a> {
     text: &'a [u8],
     line: u32,
 }
 
-impl<'a> Model for Word<'a> {
+impl<'a> Model for Lexeme<'a> {
     ghost use Rattle.rwsp_text.specs.Lexemes.{Lexeme};
 
     ghost Value = { Lexeme };
@@ -46,7 +46,7 @@ impl<'a> Model for Cursor<'a> {
     ghost invariant = { λ c. AreWithin c.bytes.now c.tokens.now };
 }
 
-impl<'a> Word<'a> {
+impl<'a> Lexeme<'a> {
     /// The bytes of the word.
     pub fn text(&self) -> &'a [u8]
         ensures { result.now ≡ self.now.text }
@@ -88,7 +88,7 @@ impl<'a> Cursor<'a> {
 
     /// The next word.
     #[tactic(auto, unfolding(crate::specs::Reading::next_at))]
-    pub fn next(&mut self) -> Result<Word<'a>, FileRefusal>
+    pub fn next(&mut self) -> Result<Lexeme<'a>, FileRefusal>
         ensures { Reads (next_at self.old) result self.new }
     {
         match self.pop() {
@@ -118,7 +118,7 @@ impl<'a> Cursor<'a> {
     }
 
     /// The next word, where there is one.
-    pub fn pop(&mut self) -> Option<Word<'a>>
+    pub fn pop(&mut self) -> Option<Lexeme<'a>>
         ensures { MatchOption result
             ((self.old.lexemes ≡ []) × (self.new ≡ self.old))
             (λ w. self.old ≡ record { lexemes = w ∷ self.new.lexemes; end = self.new.end }) }
@@ -127,7 +127,7 @@ impl<'a> Cursor<'a> {
             return None;
         };
         self.tokens = rest;
-        Some(Word {
+        Some(Lexeme {
             text: &self.bytes[token.start..token.end],
             line: token.line,
         })

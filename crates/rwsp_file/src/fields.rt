@@ -5,7 +5,7 @@ ghost use Rattle.rwsp_file.specs.Reading.{limited_weeks, weeks_at, size_at, dema
 ghost use Rattle.rwsp_file.specs.Reads.{Reads, ReadsUnless};
 
 use crate::FileRefusal;
-use crate::cursor::{Cursor, Word};
+use crate::cursor::{Cursor, Lexeme};
 use crate::demand::demand;
 use rwsp_model::{Bounds, DemandRow, Fail};
 use std::alloc::Global;
@@ -28,7 +28,7 @@ pub struct Frame {
 }
 
 #[tactic(auto, unfolding(crate::specs::Reading::limited_weeks))]
-fn limited_weeks(days: u32, word: &Word) -> Result<u32, FileRefusal>
+fn limited_weeks(days: u32, word: &Lexeme) -> Result<u32, FileRefusal>
     requires { days ≤ 28 }
     ensures { result ≡ limited_weeks days word.now }
 {

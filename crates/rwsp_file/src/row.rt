@@ -7,7 +7,7 @@ ghost use Rattle.rwsp_file.specs.Reading.{words_of_row, row_words_at, is_new_nam
 ghost use Rattle.rwsp_file.specs.Reads.{Reads, ReadsUnless, GivesUnless};
 
 use crate::FileRefusal;
-use crate::cursor::{Cursor, Word};
+use crate::cursor::{Cursor, Lexeme};
 use crate::shifts::Shifts;
 use rwsp_model::{Bounds, Fail, Name, ShiftRow};
 use std::alloc::Global;
@@ -15,15 +15,15 @@ use std::alloc::Global;
 /// The words of a shift, without its long name.
 #[derive(Drop)]
 pub struct RowWords<'a> {
-    pub name: Word<'a>,
-    pub start: Word<'a>,
-    pub minutes: Word<'a>,
-    pub least: Word<'a>,
-    pub greatest: Word<'a>,
+    pub name: Lexeme<'a>,
+    pub start: Lexeme<'a>,
+    pub minutes: Lexeme<'a>,
+    pub least: Lexeme<'a>,
+    pub greatest: Lexeme<'a>,
 }
 
 // The words of a shift from the first of its line and the others.
-fn words_of_row<'a>(name: Word<'a>, others: &mut Cursor<'a>) -> Option<RowWords<'a>>
+fn words_of_row<'a>(name: Lexeme<'a>, others: &mut Cursor<'a>) -> Option<RowWords<'a>>
     ensures { result ≡ words_of_row (name.entry ∷ others.old.lexemes) }
 {
     let start = others.pop()?;
@@ -78,7 +78,7 @@ fn is_new_name(shifts: &Shifts, name: &[u8]) -> bool
 }
 
 #[tactic(auto, unfolding(crate::specs::Reading::new_name))]
-fn check_name(shifts: &Shifts, word: &Word) -> Result<(), FileRefusal>
+fn check_name(shifts: &Shifts, word: &Lexeme) -> Result<(), FileRefusal>
     ensures name { MatchResult result (λ _. new_name shifts.now word.now ≡ Ok word.now.text) (λ why. new_name shifts.now word.now ≡ Err why) }
     ensures fresh { IfOk result (λ _. list_any (λ other. bytes_eq word.now.text other.name) shifts.now ≡ false) }
 {
@@ -100,7 +100,7 @@ fn numbers_of_row(words: &RowWords) -> Result<(u32, u32, Bounds), FileRefusal>
     Ok((start, minutes, Bounds { least, greatest }))
 }
 
-fn copied_name(alloc: Global, word: &Word) -> Result<Name, Fail<FileRefusal>>
+fn copied_name(alloc: Global, word: &Lexeme) -> Result<Name, Fail<FileRefusal>>
     ensures { GivesUnless (λ name. name) (Ok word.now.text) result }
 {
     match Vec::from_slice(alloc, word.text()) {
