@@ -7,6 +7,7 @@ ghost use Rattle.rwsp_file.specs.Reading.{next_at, limited, number_at, bounds_at
 ghost use Rattle.rwsp_file.specs.Reads.{Reads};
 
 use crate::FileRefusal;
+use crate::limits::{BLOCK, Limit};
 use rwsp_model::Bounds;
 use rwsp_text::{Token, number};
 use std::marker::Model;
@@ -61,17 +62,17 @@ impl<'a> Lexeme<'a> {
         self.line
     }
 
-    /// The number that the word spells, where it keeps the limit of the number `limit`.
+    /// The number that the word spells, where it keeps the limit.
     #[tactic(auto, unfolding(crate::specs::Reading::limited))]
-    pub fn limited(&self, limit: u32, least: u32, greatest: u32) -> Result<u32, FileRefusal>
-        ensures value { result ≡ limited limit least greatest self.now }
-        ensures within { IfOk result (λ n. (least ≤ n) × (n ≤ greatest)) }
+    pub fn limited(&self, limit: Limit) -> Result<u32, FileRefusal>
+        ensures value { result ≡ limited limit.number limit.least limit.greatest self.now }
+        ensures within { IfOk result (λ n. (limit.least ≤ n) × (n ≤ limit.greatest)) }
     {
         let Some(n) = number(self.text) else {
             return Err(FileRefusal::Number(self.line));
         };
-        if n < least || n > greatest {
-            return Err(FileRefusal::Range(self.line, limit));
+        if n < limit.least || n > limit.greatest {
+            return Err(FileRefusal::Range(self.line, limit.number));
         }
         Ok(n)
     }
@@ -97,14 +98,14 @@ impl<'a> Cursor<'a> {
         }
     }
 
-    /// The next word as a number that keeps the limit of the number `limit`.
+    /// The next word as a number that keeps the limit.
     #[tactic(auto, unfolding(crate::specs::Reading::number_at))]
-    pub fn number(&mut self, limit: u32, least: u32, greatest: u32) -> Result<u32, FileRefusal>
-        ensures value { Reads (number_at limit least greatest self.old) result self.new }
-        ensures within { IfOk result (λ n. (least ≤ n) × (n ≤ greatest)) }
+    pub fn number(&mut self, limit: Limit) -> Result<u32, FileRefusal>
+        ensures value { Reads (number_at limit.number limit.least limit.greatest self.old) result self.new }
+        ensures within { IfOk result (λ n. (limit.least ≤ n) × (n ≤ limit.greatest)) }
     {
         let word = self.next()?;
-        word.limited(limit, least, greatest)
+        word.limited(limit)
     }
 
     /// The next two words as the bounds of blocks.
@@ -112,8 +113,8 @@ impl<'a> Cursor<'a> {
     pub fn bounds(&mut self) -> Result<Bounds, FileRefusal>
         ensures { Reads (bounds_at self.old) result self.new }
     {
-        let least = self.number(7, 0, 10_000)?;
-        let greatest = self.number(7, 0, 10_000)?;
+        let least = self.number(BLOCK)?;
+        let greatest = self.number(BLOCK)?;
         Ok(Bounds { least, greatest })
     }
 

@@ -8,6 +8,7 @@ ghost use Rattle.rwsp_file.specs.Reads.{Reads, ReadsUnless, GivesUnless};
 
 use crate::FileRefusal;
 use crate::cursor::{Cursor, Lexeme};
+use crate::limits::{BLOCK, MINUTES};
 use crate::shifts::Shifts;
 use rwsp_model::{Bounds, Fail, Name, ShiftRow};
 use std::alloc::Global;
@@ -93,10 +94,10 @@ fn check_name(shifts: &Shifts, word: &Lexeme) -> Result<(), FileRefusal>
 fn numbers_of_row(words: &RowWords) -> Result<(u32, u32, Bounds), FileRefusal>
     ensures { result ≡ numbers_of_row words.now }
 {
-    let start = words.start.limited(6, 0, 10_000)?;
-    let minutes = words.minutes.limited(6, 0, 10_000)?;
-    let least = words.least.limited(7, 0, 10_000)?;
-    let greatest = words.greatest.limited(7, 0, 10_000)?;
+    let start = words.start.limited(MINUTES)?;
+    let minutes = words.minutes.limited(MINUTES)?;
+    let least = words.least.limited(BLOCK)?;
+    let greatest = words.greatest.limited(BLOCK)?;
     Ok((start, minutes, Bounds { least, greatest }))
 }
 
