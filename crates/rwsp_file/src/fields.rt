@@ -106,10 +106,7 @@ fn read_demand_row(
 {
     let mut ranges = Vec::new(alloc);
     for day in 0..days {
-        let range = match read_demand_of_day(cursor) {
-            Ok(range) => range,
-            Err(refusal) => return Err(Fail::Refused(refusal)),
-        };
+        let range = read_demand_of_day(cursor).map_err(Fail::Refused)?;
         if ranges.push(range).is_err() {
             return Err(Fail::Memory);
         }
@@ -128,10 +125,7 @@ pub fn read_demand(
 {
     let mut rows = Vec::new(alloc);
     for shift in 0..size.shifts {
-        let row = match read_demand_row(alloc, size.days, cursor) {
-            Ok(row) => row,
-            Err(fail) => return Err(fail),
-        };
+        let row = read_demand_row(alloc, size.days, cursor)?;
         if rows.push(row).is_err() {
             return Err(Fail::Memory);
         }

@@ -115,13 +115,8 @@ fn shift_of(alloc: Global, shifts: &Shifts, words: &RowWords) -> Result<ShiftRow
     ensures value { GivesUnless (λ row. row) (shift_of shifts.now words.now) result }
     ensures fresh { IfOk result (λ row. list_any (λ other. bytes_eq row.name other.name) shifts.now ≡ false) }
 {
-    if let Err(refusal) = check_name(shifts, &words.name) {
-        return Err(Fail::Refused(refusal));
-    }
-    let (start, length, bounds) = match numbers_of_row(words) {
-        Ok(numbers) => numbers,
-        Err(refusal) => return Err(Fail::Refused(refusal)),
-    };
+    check_name(shifts, &words.name).map_err(Fail::Refused)?;
+    let (start, length, bounds) = numbers_of_row(words).map_err(Fail::Refused)?;
     let name = copied_name(alloc, &words.name)?;
     Ok(ShiftRow {
         name,
@@ -140,10 +135,7 @@ fn read_shift(
     ensures value { ReadsUnless (λ row. row) (shift_at shifts.now cursor.old) result cursor.new }
     ensures fresh { IfOk result (λ row. list_any (λ other. bytes_eq row.name other.name) shifts.now ≡ false) }
 {
-    let words = match read_row_words(cursor) {
-        Ok(words) => words,
-        Err(refusal) => return Err(Fail::Refused(refusal)),
-    };
+    let words = read_row_words(cursor).map_err(Fail::Refused)?;
     shift_of(alloc, shifts, &words)
 }
 
@@ -159,10 +151,7 @@ pub fn read_shifts(
 {
     let mut shifts = Shifts::new(alloc);
     for shift in 0..count {
-        let row = match read_shift(alloc, &shifts, cursor) {
-            Ok(row) => row,
-            Err(fail) => return Err(fail),
-        };
+        let row = read_shift(alloc, &shifts, cursor)?;
         shifts = match shifts.with(alloc, row) {
             Ok(shifts) => shifts,
             Err(_) => return Err(Fail::Memory),
