@@ -1,3 +1,4 @@
+-- The lexemes of a text that begins with the end of a line, a space, a word or a comment.
 use Rattle.std.proofs.Common.{◌≡◌, ℕ, suc, arith, take, append-nil, ◌+◌, List, [], ◌∷◌, ◌++◌, map, true, false, refl, ap, sym, ◌∙◌, subst, cond, Bool, eqb-true}
 use Rattle.std.specs.Prelude.{filter, take_while, not, ◌==◌, slice_index, ◌||◌}
 use Rattle.std.specs.List.{flat_map, enumerate_from, slice_split, onto_first, AllByRecursion, prefix_len}

@@ -1,4 +1,4 @@
--- The front of a list that passes a test, step by step.
+-- Steps over the bytes of a text: the front of a list that passes a test, and the lexemes that it adds.
 use Rattle.std.proofs.Common.{append_assoc, append-nil, Option, Some, None}
 use Rattle.std.proofs.lemmas.List.{map-append}
 use Rattle.std.specs.Prelude.{map, IfSome}

@@ -1,9 +1,8 @@
 // The lexemes of a text, by where they stand.
-ghost use Rattle.std.specs.Prelude.{◌≡◌, ℕ, ◌+◌, ◌<◌, ◌≤◌, ◌||◌, ◌==◌, not, length, IfOk, map, slice_range, ◌-◌, ◌++◌, drop, IfSome, slice_index, true, OnOk};
+ghost use Rattle.std.specs.Prelude.{◌≡◌, ◌+◌, ◌<◌, ◌≤◌, length, IfOk, map, ◌-◌, ◌++◌, drop, IfSome, slice_index, true, OnOk};
 ghost use Rattle.std.specs.Option.{option_to_list};
-ghost use Rattle.rwsp_text.specs.Lexemes.{lexemes_from};
 ghost use Rattle.std.specs.List.{prefix_len};
-ghost use Rattle.rwsp_text.specs.Lexemes.{is_space, lexemes};
+ghost use Rattle.rwsp_text.specs.Lexemes.{is_space, lexemes, lexemes_from};
 ghost use Rattle.rwsp_text.specs.Places.{is_word_byte, is_no_line_end, lexeme_at, IsWithin, AreWithin};
 
 use std::alloc::{AllocError, Global};
@@ -30,6 +29,7 @@ fn is_word_byte(b: u8) -> bool
     !space && !end
 }
 
+// Where the word ends that goes on at a place.
 #[tactic(auto, using(crate::proofs::TokenSteps::prefix_more, crate::proofs::TokenSteps::prefix_stop, crate::proofs::TokenSteps::prefix_all))]
 fn word_end(bytes: &[u8], at: usize) -> usize
     requires { (at < length bytes.now) × (is_word_byte (slice_index bytes.now at) ≡ true) }
@@ -44,6 +44,7 @@ fn word_end(bytes: &[u8], at: usize) -> usize
     bytes.len()
 }
 
+// Where the line ends whose comment goes on at a place.
 #[tactic(auto, using(crate::proofs::TokenSteps::prefix_more, crate::proofs::TokenSteps::prefix_stop, crate::proofs::TokenSteps::prefix_all))]
 fn comment_end(bytes: &[u8], at: usize) -> usize
     requires { (at < length bytes.now) × (is_no_line_end (slice_index bytes.now at) ≡ true) }
@@ -89,6 +90,7 @@ fn step(bytes: &[u8], at: usize, line: u32) -> (Option<Token>, usize, u32)
     (Some(token), end, line)
 }
 
+// Appends the token, where there is one.
 fn note(all: &mut Vec<Token>, token: Option<Token>) -> Result<(), AllocError>
     ensures { OnOk result (all.new.items ≡ all.old.items ++ option_to_list token) }
 {
