@@ -1,6 +1,5 @@
 -- What tokens of a text stand for, and the cells that their words name.
-use Rattle.std.specs.Prelude.{◌≡◌, ℕ, ◌≤◌, ◌++◌, List, length, Some, map, slice_range}
-use Rattle.std.specs.List.{AllByRecursion}
+use Rattle.std.specs.Prelude.{◌≡◌, ℕ, ◌++◌, List, Some, map, slice_range}
 use Rattle.rwsp_text.specs.declared.scan.Token.{Token}
 use Rattle.rwsp_terms.specs.Instance.{Instance, symbol_of}
 use Rattle.rwsp_terms.specs.declared.data.Symbol.{Symbol}
@@ -8,10 +7,6 @@ use Rattle.rwsp_terms.specs.declared.data.Symbol.{Symbol}
 -- the words of tokens
 abbrev pub words_at : List ℕ → List Token → List (List ℕ)
 words_at text tokens = map (λ t. slice_range text t.start t.end) tokens
-
--- each token stands in the text
-abbrev pub AreWithin : List ℕ → List Token → Type 0
-AreWithin text tokens = AllByRecursion (λ t. (t.start ≤ t.end) × (t.end ≤ length text)) tokens
 
 -- the new cells are the old ones and then those that the words name
 abbrev pub AppendsNamed : Instance → List (List ℕ) → List Symbol → List Symbol → Type 0

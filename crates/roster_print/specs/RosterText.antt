@@ -19,7 +19,7 @@ pub record SpellsRoster (P : Instance) (bytes : List ℕ) (s : List Symbol) : Ty
 abbrev pub week_at : Instance → List Symbol → ℕ → List Symbol
 week_at P s k = take P.days (drop (k * P.days) s)
 
--- names with single blanks between them, and a line feed
+-- the line of a week: the names of its symbols with single blanks between them, and a line feed
 abbrev pub week_text : Instance → List Symbol → List ℕ
 week_text P week = join_with_byte 32 (map (name_of P) week) ++ 10 ∷ []
 

@@ -2,13 +2,14 @@
 ghost use Rattle.std.specs.Prelude.{◌≡◌, ◌≤◌, ◌++◌, List, [], ◌∷◌, length, Some, None, IfOk, OnOk, true, is_none, ◌==◌, position};
 ghost use Rattle.std.specs.List.{list_any, flat_map, position_or_len};
 ghost use Rattle.rwsp_text.specs.Lexemes.{lines_of, words_of_line, has_some};
+ghost use Rattle.rwsp_text.specs.Places.{AreWithin};
 ghost use Rattle.rwsp_terms.specs.Instance.{symbol_of};
 ghost use Rattle.rwsp_terms.specs.declared.data.Symbol.{Symbol};
 ghost use Rattle.rwsp_terms.specs.Roster.{IsRoster};
 ghost use Rattle.rwsp_model.specs.Refusals.{IfRefused};
 ghost use Rattle.roster_print.specs.RosterText.{SpellsRoster};
 ghost use Rattle.roster_print.specs.Refusal.{refusal_of_roster, week_refusal, first_refusal, numbered_weeks};
-ghost use Rattle.roster_print.specs.Reading.{words_at, AreWithin, AppendsNamed};
+ghost use Rattle.roster_print.specs.Reading.{words_at, AppendsNamed};
 
 use crate::RosterRefusal;
 use rwsp_model::{Fail, Problem, Roster, Symbol};

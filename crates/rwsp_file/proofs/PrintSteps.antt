@@ -1,13 +1,13 @@
 -- The lexemes of a canonical text.
 use Rattle.std.proofs.Common.{◌≡◌, ℕ, suc, ◌+◌, ◌<◌, List, [], ◌∷◌, ◌++◌, length, Bool, true, false, ◌==◌, cond, refl, ap, ◌∙◌, map, arith, take, drop, append_assoc}
-use Rattle.std.specs.List.{flat_map, AllByRecursion, prefix_len}
+use Rattle.std.specs.List.{flat_map, AllByRecursion, prefix_len, join_with_byte}
 use Rattle.std.proofs.Math.Seq.{take-append_seam, drop-append_seam}
 use Rattle.std.proofs.lemmas.Bool.Decides.{nat_tests}
 use Rattle.rwsp_text.specs.Lexemes.{Lexeme, lexemes_from}
-use Rattle.rwsp_text.specs.Steps.{IsWordByte}
+use Rattle.rwsp_text.proofs.Steps.{IsWordByte}
 use Rattle.rwsp_text.proofs.TextSteps.{at_word, at_space, at_line_end}
 use Rattle.rwsp_file.specs.Spelling.{is_on_line, on_line, past_line}
-use Rattle.rwsp_file.specs.Text.{joined, line_text}
+use Rattle.rwsp_file.specs.Text.{file_line}
 
 -- a word as it may be printed
 abbrev pub IsPrinted : List ℕ → Type 0
@@ -30,20 +30,20 @@ last_word_at : (n : ℕ) (word : List ℕ) (rest : List ℕ) → IsPrinted word 
 last_word_at n [] rest h = absurd h
 last_word_at n (b ∷ bs) rest h = at_word n b bs (10 ∷ rest) h.0 h.1 refl
 
-line_lexemes : (n : ℕ) (words : List (List ℕ)) (rest : List ℕ) → AllByRecursion IsPrinted words → lexemes_from n (joined words ++ 10 ∷ rest) ≡ map (lexeme n) words ++ lexemes_from (n + 1) rest
+line_lexemes : (n : ℕ) (words : List (List ℕ)) (rest : List ℕ) → AllByRecursion IsPrinted words → lexemes_from n (join_with_byte 32 words ++ 10 ∷ rest) ≡ map (lexeme n) words ++ lexemes_from (n + 1) rest
 line_lexemes n [] rest h = at_line_end n rest
 line_lexemes n (word ∷ []) rest h = last_word_at n word rest h.0 ∙ ap (λ ls. lexeme n word ∷ ls) (at_line_end n rest)
 line_lexemes n (word ∷ next ∷ words) rest h =
-    ap (lexemes_from n) (append_assoc word (32 ∷ joined (next ∷ words)) (10 ∷ rest))
-    ∙ word_at n word (joined (next ∷ words) ++ 10 ∷ rest) h.0
-    ∙ ap (λ ls. lexeme n word ∷ ls) (at_space n 32 (joined (next ∷ words) ++ 10 ∷ rest) refl ∙ line_lexemes n (next ∷ words) rest h.1)
+    ap (lexemes_from n) (append_assoc word (32 ∷ join_with_byte 32 (next ∷ words)) (10 ∷ rest))
+    ∙ word_at n word (join_with_byte 32 (next ∷ words) ++ 10 ∷ rest) h.0
+    ∙ ap (λ ls. lexeme n word ∷ ls) (at_space n 32 (join_with_byte 32 (next ∷ words) ++ 10 ∷ rest) refl ∙ line_lexemes n (next ∷ words) rest h.1)
 
 -- the lexemes of a text of lines
-pub text_lexemes : (n : ℕ) (lines : List (List (List ℕ))) → AllByRecursion (AllByRecursion IsPrinted) lines → lexemes_from n (flat_map line_text lines) ≡ numbered n lines
+pub text_lexemes : (n : ℕ) (lines : List (List (List ℕ))) → AllByRecursion (AllByRecursion IsPrinted) lines → lexemes_from n (flat_map file_line lines) ≡ numbered n lines
 text_lexemes n [] h = refl
 text_lexemes n (line ∷ lines) h =
-    ap (lexemes_from n) (append_assoc (joined line) (10 ∷ []) (flat_map line_text lines))
-    ∙ line_lexemes n line (flat_map line_text lines) h.0
+    ap (lexemes_from n) (append_assoc (join_with_byte 32 line) (10 ∷ []) (flat_map file_line lines))
+    ∙ line_lexemes n line (flat_map file_line lines) h.0
     ∙ ap (λ ls. map (lexeme n) line ++ ls) (text_lexemes (n + 1) lines h.1)
 
 -- no later line is this one

@@ -8,7 +8,7 @@ use Rattle.std.proofs.lemmas.Bool.{eqb-true, and_parts, or_parts}
 use Rattle.std.proofs.lemmas.Bool.Decides.{nat_tests}
 use Rattle.std.proofs.lemmas.Fmt.{decimal_nonempty}
 use Rattle.rwsp_text.specs.Lexemes.{Lexeme, is_space}
-use Rattle.rwsp_text.specs.Steps.{IsWordByte}
+use Rattle.rwsp_text.proofs.Steps.{IsWordByte}
 use Rattle.rwsp_text.proofs.Printed.{printed_is_read, digits_printed}
 use Rattle.rwsp_terms.specs.Instance.{Instance, shift_count, name_of, name_numbered}
 use Rattle.rwsp_terms.specs.declared.data.Bounds.{Bounds}

@@ -1,20 +1,20 @@
 -- Steps of printing a canonical text.
 use Rattle.std.proofs.Common.{◌≡◌, ℕ, zero, suc, ◌+◌, ◌-◌, ◌<◌, ◌≤◌, List, [], ◌∷◌, ◌++◌, length, get_or, take, Some, refl, ap, sym, ◌∙◌, arith, map, append_assoc, append-nil}
 use Rattle.std.specs.Prelude.{pos, slice_get}
-use Rattle.std.specs.List.{flat_map}
+use Rattle.std.specs.List.{flat_map, join_with_byte}
 use Rattle.std.proofs.lemmas.List.{take_more, take_all, map_push}
 use Rattle.std.proofs.lemmas.Option.{slice_get-get_or}
 use Rattle.rwsp_terms.specs.Instance.{Instance, least, greatest, shift_demand, range_in, no_bounds, name_numbered, name_in}
 use Rattle.rwsp_terms.specs.declared.data.Bounds.{Bounds}
-use Rattle.rwsp_file.specs.Text.{joined, line_text, demand_text, range_at, shift_at, no_shift, size_lines, frame_lines, shift_words, pair_words, triple_words, problem_text}
+use Rattle.rwsp_file.specs.Text.{file_line, demand_text, range_at, row_of_shift, no_shift, size_lines, frame_lines, shift_words, pair_words, triple_words, problem_text}
 use Rattle.std.proofs.lemmas.Grind.{flat_map-append}
 
 -- one more word of a line
-joined_push : (words : List (List ℕ)) (word : List ℕ) → 0 < length words → joined (words ++ word ∷ []) ≡ joined words ++ 32 ∷ word
+joined_push : (words : List (List ℕ)) (word : List ℕ) → 0 < length words → join_with_byte 32 (words ++ word ∷ []) ≡ join_with_byte 32 words ++ 32 ∷ word
 joined_push [] word some = absurd (omega (arith, some))
 joined_push (v ∷ []) word some = refl
 joined_push (v ∷ u ∷ us) word some =
-    ap (λ t. v ++ 32 ∷ t) (joined_push (u ∷ us) word (omega arith)) ∙ sym (append_assoc v (32 ∷ joined (u ∷ us)) (32 ∷ word))
+    ap (λ t. v ++ 32 ∷ t) (joined_push (u ∷ us) word (omega arith)) ∙ sym (append_assoc v (32 ∷ join_with_byte 32 (u ∷ us)) (32 ∷ word))
 
 map_long : {X Y : Type 0} (f : X → Y) (xs : List X) → length (map f xs) ≡ length xs
 map_long f [] = refl
@@ -26,44 +26,44 @@ some_front (x ∷ xs) zero p q = absurd (omega (arith, p))
 some_front (x ∷ xs) (suc i) p q = omega arith
 
 -- one more demand of a row
-pub demand_more : (row : List Bounds) (i : ℕ) (start old new : List ℕ) → 0 < i → i < length row → old ≡ start ++ joined (map demand_text (take i row)) → new ≡ old ++ 32 ∷ demand_text (get_or row i no_bounds) →
-    new ≡ start ++ joined (map demand_text (take (i + 1) row))
+pub demand_more : (row : List Bounds) (i : ℕ) (start old new : List ℕ) → 0 < i → i < length row → old ≡ start ++ join_with_byte 32 (map demand_text (take i row)) → new ≡ old ++ 32 ∷ demand_text (get_or row i no_bounds) →
+    new ≡ start ++ join_with_byte 32 (map demand_text (take (i + 1) row))
 demand_more row i start old new some less o n =
     let front : List (List ℕ) = map demand_text (take i row) in
     let more : map demand_text (take (i + 1) row) ≡ map demand_text (take i row) ++ demand_text (get_or row i no_bounds) ∷ [] =
     ap (map demand_text) (take_more row i no_bounds less) ∙ map_push demand_text (take i row) (get_or row i no_bounds) in
     let long : 0 < length (map demand_text (take i row)) = omega (arith, map_long demand_text (take i row), some_front row i some less) in
     n ∙ ap (λ t. t ++ 32 ∷ demand_text (get_or row i no_bounds)) o
-    ∙ append_assoc start (joined (map demand_text (take i row))) (32 ∷ demand_text (get_or row i no_bounds))
+    ∙ append_assoc start (join_with_byte 32 (map demand_text (take i row))) (32 ∷ demand_text (get_or row i no_bounds))
     ∙ ap (λ t. start ++ t) (sym (joined_push (map demand_text (take i row)) (demand_text (get_or row i no_bounds)) long))
-    ∙ ap (λ ws. start ++ joined ws) (sym more)
+    ∙ ap (λ ws. start ++ join_with_byte 32 ws) (sym more)
 
 -- the first demand of a row
-pub demand_first : (row : List Bounds) (start new : List ℕ) → 0 < length row → new ≡ start ++ demand_text (get_or row 0 no_bounds) → new ≡ start ++ joined (map demand_text (take 1 row))
+pub demand_first : (row : List Bounds) (start new : List ℕ) → 0 < length row → new ≡ start ++ demand_text (get_or row 0 no_bounds) → new ≡ start ++ join_with_byte 32 (map demand_text (take 1 row))
 demand_first [] start new some n = absurd (omega (arith, some))
 demand_first (b ∷ row) start new some n = n
 
 -- a row with its line's end
-pub demand_line : (row : List Bounds) (i : ℕ) (start old new : List ℕ) → length row ≤ i → old ≡ start ++ joined (map demand_text (take i row)) → new ≡ old ++ 10 ∷ [] → new ≡ start ++ line_text (map demand_text row)
+pub demand_line : (row : List Bounds) (i : ℕ) (start old new : List ℕ) → length row ≤ i → old ≡ start ++ join_with_byte 32 (map demand_text (take i row)) → new ≡ old ++ 10 ∷ [] → new ≡ start ++ file_line (map demand_text row)
 demand_line row i start old new all o n =
-    n ∙ ap (λ t. t ++ 10 ∷ []) (o ∙ ap (λ r. start ++ joined (map demand_text r)) (take_all i row all)) ∙ append_assoc start (joined (map demand_text row)) (10 ∷ [])
+    n ∙ ap (λ t. t ++ 10 ∷ []) (o ∙ ap (λ r. start ++ join_with_byte 32 (map demand_text r)) (take_all i row all)) ∙ append_assoc start (join_with_byte 32 (map demand_text row)) (10 ∷ [])
 
 flat_map_push : {X Y : Type 0} (f : X → List Y) (xs : List X) (x : X) → flat_map f (xs ++ x ∷ []) ≡ flat_map f xs ++ f x
 flat_map_push f [] x = append-nil (f x)
 flat_map_push f (y ∷ ys) x = ap (λ zs. f y ++ zs) (flat_map_push f ys x) ∙ sym (append_assoc (f y) (flat_map f ys) (f x))
 
 -- one more line
-pub lines_more : {X : Type 0} (g : X → List (List ℕ)) (xs : List X) (i : ℕ) (d : X) (start old new : List ℕ) → i < length xs → old ≡ start ++ flat_map line_text (map g (take i xs)) → new ≡ old ++ line_text (g (get_or xs i d)) →
-    new ≡ start ++ flat_map line_text (map g (take (i + 1) xs))
+pub lines_more : {X : Type 0} (g : X → List (List ℕ)) (xs : List X) (i : ℕ) (d : X) (start old new : List ℕ) → i < length xs → old ≡ start ++ flat_map file_line (map g (take i xs)) → new ≡ old ++ file_line (g (get_or xs i d)) →
+    new ≡ start ++ flat_map file_line (map g (take (i + 1) xs))
 lines_more g xs i d start old new less o n =
-    n ∙ ap (λ t. t ++ line_text (g (get_or xs i d))) o
-    ∙ append_assoc start (flat_map line_text (map g (take i xs))) (line_text (g (get_or xs i d)))
-    ∙ ap (λ t. start ++ t) (sym (flat_map_push line_text (map g (take i xs)) (g (get_or xs i d))))
-    ∙ ap (λ ls. start ++ flat_map line_text ls) (sym (ap (map g) (take_more xs i d less) ∙ map_push g (take i xs) (get_or xs i d)))
+    n ∙ ap (λ t. t ++ file_line (g (get_or xs i d))) o
+    ∙ append_assoc start (flat_map file_line (map g (take i xs))) (file_line (g (get_or xs i d)))
+    ∙ ap (λ t. start ++ t) (sym (flat_map_push file_line (map g (take i xs)) (g (get_or xs i d))))
+    ∙ ap (λ ls. start ++ flat_map file_line ls) (sym (ap (map g) (take_more xs i d less) ∙ map_push g (take i xs) (get_or xs i d)))
 
 -- all lines
-pub lines_all : {X : Type 0} (g : X → List (List ℕ)) (xs : List X) (i : ℕ) (start old : List ℕ) → length xs ≤ i → old ≡ start ++ flat_map line_text (map g (take i xs)) → old ≡ start ++ flat_map line_text (map g xs)
-lines_all g xs i start old all o = o ∙ ap (λ ys. start ++ flat_map line_text (map g ys)) (take_all i xs all)
+pub lines_all : {X : Type 0} (g : X → List (List ℕ)) (xs : List X) (i : ℕ) (start old : List ℕ) → length xs ≤ i → old ≡ start ++ flat_map file_line (map g (take i xs)) → old ≡ start ++ flat_map file_line (map g xs)
+lines_all g xs i start old all o = o ∙ ap (λ ys. start ++ flat_map file_line (map g ys)) (take_all i xs all)
 
 -- what the accessors of a problem give
 
@@ -86,28 +86,28 @@ greatest_at P k i less =
 pub place_at : (k : ℕ) → k + 1 - 1 ≡ k
 place_at k = omega arith
 
-pub name_at : (P : Instance) (k : ℕ) → k < length P.shifts → name_numbered P (k + 1) ≡ (shift_at P k).name
+pub name_at : (P : Instance) (k : ℕ) → k < length P.shifts → name_numbered P (k + 1) ≡ (row_of_shift P k).name
 name_at P k less =
     let next : k + 1 ≡ suc k = omega arith in
     ap (name_numbered P) next ∙ ap name_in (slice_get-get_or P.shifts k no_shift less)
 
-pub row_of_place : (P : Instance) (k : ℕ) → k < length P.shifts → slice_get P.shifts (k + 1 - 1) ≡ Some (shift_at P k)
+pub row_of_place : (P : Instance) (k : ℕ) → k < length P.shifts → slice_get P.shifts (k + 1 - 1) ≡ Some (row_of_shift P k)
 row_of_place P k less = ap (slice_get P.shifts) (place_at k) ∙ slice_get-get_or P.shifts k no_shift less
 
 -- two parts behind another are one
-behind : (xs ys : List (List (List ℕ))) (a b c : List ℕ) → b ≡ a ++ flat_map line_text xs → c ≡ b ++ flat_map line_text ys → c ≡ a ++ flat_map line_text (xs ++ ys)
+behind : (xs ys : List (List (List ℕ))) (a b c : List ℕ) → b ≡ a ++ flat_map file_line xs → c ≡ b ++ flat_map file_line ys → c ≡ a ++ flat_map file_line (xs ++ ys)
 behind xs ys a b c hb hc =
-    hc ∙ ap (λ t. t ++ flat_map line_text ys) hb ∙ append_assoc a (flat_map line_text xs) (flat_map line_text ys)
-    ∙ ap (λ t. a ++ t) (sym (flat_map-append line_text xs ys))
+    hc ∙ ap (λ t. t ++ flat_map file_line ys) hb ∙ append_assoc a (flat_map file_line xs) (flat_map file_line ys)
+    ∙ ap (λ t. a ++ t) (sym (flat_map-append file_line xs ys))
 
 -- the parts of a text, one behind another
-pub whole_text : (P : Instance) (a b c d e f : List ℕ) → a ≡ flat_map line_text (size_lines P) → b ≡ a ++ flat_map line_text (map (map demand_text) P.demand) → c ≡ b ++ flat_map line_text (map shift_words P.shifts) →
-    d ≡ c ++ flat_map line_text (frame_lines P) → e ≡ d ++ flat_map line_text (map (pair_words P) P.pairs) → f ≡ e ++ flat_map line_text (map (triple_words P) P.triples) → f ≡ problem_text P
+pub whole_text : (P : Instance) (a b c d e f : List ℕ) → a ≡ flat_map file_line (size_lines P) → b ≡ a ++ flat_map file_line (map (map demand_text) P.demand) → c ≡ b ++ flat_map file_line (map shift_words P.shifts) →
+    d ≡ c ++ flat_map file_line (frame_lines P) → e ≡ d ++ flat_map file_line (map (pair_words P) P.pairs) → f ≡ e ++ flat_map file_line (map (triple_words P) P.triples) → f ≡ problem_text P
 whole_text P a b c d e f ha hb hc hd he hf =
-    let s1 : f ≡ d ++ flat_map line_text (map (pair_words P) P.pairs ++ map (triple_words P) P.triples) = behind (map (pair_words P) P.pairs) (map (triple_words P) P.triples) d e f he hf in
-    let s2 : f ≡ c ++ flat_map line_text (frame_lines P ++ (map (pair_words P) P.pairs ++ map (triple_words P) P.triples)) = behind (frame_lines P) (map (pair_words P) P.pairs ++ map (triple_words P) P.triples) c d f hd s1 in
-    let s3 : f ≡ b ++ flat_map line_text (map shift_words P.shifts ++ (frame_lines P ++ (map (pair_words P) P.pairs ++ map (triple_words P) P.triples))) =
+    let s1 : f ≡ d ++ flat_map file_line (map (pair_words P) P.pairs ++ map (triple_words P) P.triples) = behind (map (pair_words P) P.pairs) (map (triple_words P) P.triples) d e f he hf in
+    let s2 : f ≡ c ++ flat_map file_line (frame_lines P ++ (map (pair_words P) P.pairs ++ map (triple_words P) P.triples)) = behind (frame_lines P) (map (pair_words P) P.pairs ++ map (triple_words P) P.triples) c d f hd s1 in
+    let s3 : f ≡ b ++ flat_map file_line (map shift_words P.shifts ++ (frame_lines P ++ (map (pair_words P) P.pairs ++ map (triple_words P) P.triples))) =
     behind (map shift_words P.shifts) (frame_lines P ++ (map (pair_words P) P.pairs ++ map (triple_words P) P.triples)) b c f hc s2 in
-    let s4 : f ≡ a ++ flat_map line_text (map (map demand_text) P.demand ++ (map shift_words P.shifts ++ (frame_lines P ++ (map (pair_words P) P.pairs ++ map (triple_words P) P.triples)))) =
+    let s4 : f ≡ a ++ flat_map file_line (map (map demand_text) P.demand ++ (map shift_words P.shifts ++ (frame_lines P ++ (map (pair_words P) P.pairs ++ map (triple_words P) P.triples)))) =
     behind (map (map demand_text) P.demand) (map shift_words P.shifts ++ (frame_lines P ++ (map (pair_words P) P.pairs ++ map (triple_words P) P.triples))) a b f hb s3 in
     behind (size_lines P) (map (map demand_text) P.demand ++ (map shift_words P.shifts ++ (frame_lines P ++ (map (pair_words P) P.pairs ++ map (triple_words P) P.triples)))) [] a f ha s4

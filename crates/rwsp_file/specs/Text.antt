@@ -1,6 +1,6 @@
 -- The canonical text of an instance.
 use Rattle.std.specs.Prelude.{ℕ, List, [], ◌∷◌, ◌++◌, length, map, slice_index_or, ◌==◌, if◌then◌else◌}
-use Rattle.std.specs.List.{flat_map}
+use Rattle.std.specs.List.{flat_map, join_with_byte}
 use Rattle.std.specs.Fmt.{decimal}
 use Rattle.rwsp_terms.specs.Instance.{Instance, name_of, no_bounds}
 use Rattle.rwsp_terms.specs.declared.data.Bounds.{Bounds}
@@ -42,30 +42,26 @@ lines_of_words P =
     ++ (map (pair_words P) P.pairs
     ++ map (triple_words P) P.triples))))
 
--- words with single blanks between them
-abbrev pub joined : List (List ℕ) → List ℕ
-joined [] = []
-joined (word ∷ []) = word
-joined (word ∷ words) = word ++ 32 ∷ joined words
-
-abbrev pub line_text : List (List ℕ) → List ℕ
-line_text words = joined words ++ 10 ∷ []
+-- a line of the file: its words with single blanks between them, and a line feed
+abbrev pub file_line : List (List ℕ) → List ℕ
+file_line words = join_with_byte 32 words ++ 10 ∷ []
 
 -- the canonical text: no comments, single blanks, and a line feed at each line's end
 abbrev pub problem_text : Instance → List ℕ
-problem_text P = flat_map line_text (lines_of_words P)
+problem_text P = flat_map file_line (lines_of_words P)
 
--- by places, counted from 0: the demands of a shift, the demand of a shift on a day, and a shift
+-- the demands of the shift at a place, counted from 0
+abbrev pub demand_row : Instance → ℕ → List Bounds
+demand_row P k = slice_index_or P.demand k []
 
-abbrev pub row_at : Instance → ℕ → List Bounds
-row_at P k = slice_index_or P.demand k []
-
+-- the demand of the shift at a place on a day, both counted from 0
 abbrev pub range_at : Instance → ℕ → ℕ → Bounds
-range_at P k i = slice_index_or (row_at P k) i no_bounds
+range_at P k i = slice_index_or (demand_row P k) i no_bounds
 
 -- no shift, in place of one that isn't there
 abbrev pub no_shift : ShiftRow
 no_shift = record { name = []; start = 0; length = 0; bounds = no_bounds }
 
-abbrev pub shift_at : Instance → ℕ → ShiftRow
-shift_at P k = slice_index_or P.shifts k no_shift
+-- the shift at a place, counted from 0
+abbrev pub row_of_shift : Instance → ℕ → ShiftRow
+row_of_shift P k = slice_index_or P.shifts k no_shift

@@ -1,24 +1,25 @@
 // A cursor over the words of a text.
 ghost use Rattle.std.specs.Prelude.{◌≡◌, ℕ, ◌≤◌, List, [], ◌∷◌, length, map, IfOk, MatchOption, position, not, ◌==◌};
-ghost use Rattle.std.specs.List.{AllByRecursion, prefix_len};
-ghost use Rattle.rwsp_text.specs.Places.{lexeme_at};
+ghost use Rattle.std.specs.List.{prefix_len};
+ghost use Rattle.rwsp_text.specs.Places.{lexeme_at, AreWithin};
 ghost use Rattle.rwsp_file.specs.Spelling.{on_line, past_line};
 ghost use Rattle.rwsp_file.specs.Reading.{next_at, limited, number_at, bounds_at};
 ghost use Rattle.rwsp_file.specs.Reads.{Reads};
 
 use crate::FileRefusal;
+use crate::limits::{BLOCK, Limit};
 use rwsp_model::Bounds;
 use rwsp_text::{Token, number};
 use std::marker::Model;
 
-/// A word, and the number of its line.
+/// A word of a text, and the number of its line.
 #[derive(Drop)]
-pub struct Word<'a> {
+pub struct Lexeme<'a> {
     text: &'a [u8],
     line: u32,
 }
 
-impl<'a> Model for Word<'a> {
+impl<'a> Model for Lexeme<'a> {
     ghost use Rattle.rwsp_text.specs.Lexemes.{Lexeme};
 
     ghost Value = { Lexeme };
@@ -35,20 +36,18 @@ pub struct Cursor<'a> {
 }
 
 impl<'a> Model for Cursor<'a> {
-    ghost use Rattle.std.specs.Prelude.{List, map, ◌≤◌, length};
-    ghost use Rattle.std.specs.List.{AllByRecursion};
-    ghost use Rattle.rwsp_text.specs.Lexemes.{Lexeme};
-    ghost use Rattle.rwsp_text.specs.Places.{lexeme_at};
+    ghost use Rattle.std.specs.Prelude.{map};
+    ghost use Rattle.rwsp_text.specs.Places.{lexeme_at, AreWithin};
     ghost use Rattle.rwsp_file.specs.Reading.{Unread};
 
     ghost Value = { Unread };
 
     ghost view = { λ c. record { lexemes = map (lexeme_at c.bytes.now) c.tokens.now; end = c.end } };
 
-    ghost invariant = { λ c. AllByRecursion (λ t. (t.start ≤ t.end) × (t.end ≤ length c.bytes.now)) c.tokens.now };
+    ghost invariant = { λ c. AreWithin c.bytes.now c.tokens.now };
 }
 
-impl<'a> Word<'a> {
+impl<'a> Lexeme<'a> {
     /// The bytes of the word.
     pub fn text(&self) -> &'a [u8]
         ensures { result.now ≡ self.now.text }
@@ -63,17 +62,17 @@ impl<'a> Word<'a> {
         self.line
     }
 
-    /// The number that the word spells, where it keeps the limit of the number `limit`.
+    /// The number that the word spells, where it keeps the limit.
     #[tactic(auto, unfolding(crate::specs::Reading::limited))]
-    pub fn limited(&self, limit: u32, least: u32, greatest: u32) -> Result<u32, FileRefusal>
-        ensures value { result ≡ limited limit least greatest self.now }
-        ensures within { IfOk result (λ n. (least ≤ n) × (n ≤ greatest)) }
+    pub fn limited(&self, limit: Limit) -> Result<u32, FileRefusal>
+        ensures value { result ≡ limited limit.number limit.least limit.greatest self.now }
+        ensures within { IfOk result (λ n. (limit.least ≤ n) × (n ≤ limit.greatest)) }
     {
         let Some(n) = number(self.text) else {
             return Err(FileRefusal::Number(self.line));
         };
-        if n < least || n > greatest {
-            return Err(FileRefusal::Range(self.line, limit));
+        if n < limit.least || n > limit.greatest {
+            return Err(FileRefusal::Range(self.line, limit.number));
         }
         Ok(n)
     }
@@ -82,7 +81,7 @@ impl<'a> Word<'a> {
 impl<'a> Cursor<'a> {
     /// The words that stand at these tokens of the bytes.
     pub fn of(bytes: &'a [u8], tokens: &'a [Token], end: u32) -> Cursor<'a>
-        requires { AllByRecursion (λ t. (t.start ≤ t.end) × (t.end ≤ length bytes.now)) tokens.now }
+        requires { AreWithin bytes.now tokens.now }
         ensures { result ≡ record { lexemes = map (lexeme_at bytes.entry.now) tokens.entry.now; end = end } }
     {
         Cursor { bytes, tokens, end }
@@ -90,7 +89,7 @@ impl<'a> Cursor<'a> {
 
     /// The next word.
     #[tactic(auto, unfolding(crate::specs::Reading::next_at))]
-    pub fn next(&mut self) -> Result<Word<'a>, FileRefusal>
+    pub fn next(&mut self) -> Result<Lexeme<'a>, FileRefusal>
         ensures { Reads (next_at self.old) result self.new }
     {
         match self.pop() {
@@ -99,14 +98,14 @@ impl<'a> Cursor<'a> {
         }
     }
 
-    /// The next word as a number that keeps the limit of the number `limit`.
+    /// The next word as a number that keeps the limit.
     #[tactic(auto, unfolding(crate::specs::Reading::number_at))]
-    pub fn number(&mut self, limit: u32, least: u32, greatest: u32) -> Result<u32, FileRefusal>
-        ensures value { Reads (number_at limit least greatest self.old) result self.new }
-        ensures within { IfOk result (λ n. (least ≤ n) × (n ≤ greatest)) }
+    pub fn number(&mut self, limit: Limit) -> Result<u32, FileRefusal>
+        ensures value { Reads (number_at limit.number limit.least limit.greatest self.old) result self.new }
+        ensures within { IfOk result (λ n. (limit.least ≤ n) × (n ≤ limit.greatest)) }
     {
         let word = self.next()?;
-        word.limited(limit, least, greatest)
+        word.limited(limit)
     }
 
     /// The next two words as the bounds of blocks.
@@ -114,13 +113,13 @@ impl<'a> Cursor<'a> {
     pub fn bounds(&mut self) -> Result<Bounds, FileRefusal>
         ensures { Reads (bounds_at self.old) result self.new }
     {
-        let least = self.number(7, 0, 10_000)?;
-        let greatest = self.number(7, 0, 10_000)?;
+        let least = self.number(BLOCK)?;
+        let greatest = self.number(BLOCK)?;
         Ok(Bounds { least, greatest })
     }
 
     /// The next word, where there is one.
-    pub fn pop(&mut self) -> Option<Word<'a>>
+    pub fn pop(&mut self) -> Option<Lexeme<'a>>
         ensures { MatchOption result
             ((self.old.lexemes ≡ []) × (self.new ≡ self.old))
             (λ w. self.old ≡ record { lexemes = w ∷ self.new.lexemes; end = self.new.end }) }
@@ -129,7 +128,7 @@ impl<'a> Cursor<'a> {
             return None;
         };
         self.tokens = rest;
-        Some(Word {
+        Some(Lexeme {
             text: &self.bytes[token.start..token.end],
             line: token.line,
         })

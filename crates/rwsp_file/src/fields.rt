@@ -5,8 +5,9 @@ ghost use Rattle.rwsp_file.specs.Reading.{limited_weeks, weeks_at, size_at, dema
 ghost use Rattle.rwsp_file.specs.Reads.{Reads, ReadsUnless};
 
 use crate::FileRefusal;
-use crate::cursor::{Cursor, Word};
+use crate::cursor::{Cursor, Lexeme};
 use crate::demand::demand;
+use crate::limits::{CELLS, DAYS, DEMAND, PAIRS, SHIFTS, TRIPLES, WEEKS};
 use rwsp_model::{Bounds, DemandRow, Fail};
 use std::alloc::Global;
 
@@ -28,13 +29,13 @@ pub struct Frame {
 }
 
 #[tactic(auto, unfolding(crate::specs::Reading::limited_weeks))]
-fn limited_weeks(days: u32, word: &Word) -> Result<u32, FileRefusal>
+fn limited_weeks(days: u32, word: &Lexeme) -> Result<u32, FileRefusal>
     requires { days ≤ 28 }
     ensures { result ≡ limited_weeks days word.now }
 {
-    let weeks = word.limited(2, 1, 600)?;
-    if weeks * days > 4_200 {
-        return Err(FileRefusal::Range(word.line(), 3));
+    let weeks = word.limited(WEEKS)?;
+    if weeks * days > CELLS.greatest {
+        return Err(FileRefusal::Range(word.line(), CELLS.number));
     }
     Ok(weeks)
 }
@@ -54,9 +55,9 @@ pub fn read_size(cursor: &mut Cursor) -> Result<Size, FileRefusal>
     ensures value { Reads (size_at cursor.old) result cursor.new }
     ensures few { IfOk result (λ size. size.shifts ≤ 8) }
 {
-    let days = cursor.number(1, 1, 28)?;
+    let days = cursor.number(DAYS)?;
     let weeks = read_weeks(days, cursor)?;
-    let shifts = cursor.number(4, 1, 8)?;
+    let shifts = cursor.number(SHIFTS)?;
     Ok(Size {
         days,
         weeks,
@@ -71,8 +72,8 @@ pub fn read_frame(cursor: &mut Cursor) -> Result<Frame, FileRefusal>
 {
     let off = cursor.bounds()?;
     let work = cursor.bounds()?;
-    let pairs = cursor.number(8, 0, 64)?;
-    let triples = cursor.number(9, 0, 64)?;
+    let pairs = cursor.number(PAIRS)?;
+    let triples = cursor.number(TRIPLES)?;
     Ok(Frame {
         off,
         work,
@@ -89,8 +90,8 @@ fn read_demand_of_day(cursor: &mut Cursor) -> Result<Bounds, FileRefusal>
     let Some(range) = demand(word.text()) else {
         return Err(FileRefusal::Number(word.line()));
     };
-    if range.least > 600 || range.greatest > 600 {
-        return Err(FileRefusal::Range(word.line(), 5));
+    if range.least > DEMAND.greatest || range.greatest > DEMAND.greatest {
+        return Err(FileRefusal::Range(word.line(), DEMAND.number));
     }
     Ok(range)
 }
@@ -105,10 +106,7 @@ fn read_demand_row(
 {
     let mut ranges = Vec::new(alloc);
     for day in 0..days {
-        let range = match read_demand_of_day(cursor) {
-            Ok(range) => range,
-            Err(refusal) => return Err(Fail::Refused(refusal)),
-        };
+        let range = read_demand_of_day(cursor).map_err(Fail::Refused)?;
         if ranges.push(range).is_err() {
             return Err(Fail::Memory);
         }
@@ -127,10 +125,7 @@ pub fn read_demand(
 {
     let mut rows = Vec::new(alloc);
     for shift in 0..size.shifts {
-        let row = match read_demand_row(alloc, size.days, cursor) {
-            Ok(row) => row,
-            Err(fail) => return Err(fail),
-        };
+        let row = read_demand_row(alloc, size.days, cursor)?;
         if rows.push(row).is_err() {
             return Err(Fail::Memory);
         }

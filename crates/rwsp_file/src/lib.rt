@@ -5,6 +5,7 @@ mod cursor;
 mod demand;
 mod fields;
 mod laws;
+mod limits;
 mod print;
 mod read;
 mod refusal;

@@ -3,7 +3,7 @@ ghost use Rattle.std.specs.Prelude.{◌≡◌, ℕ, ◌+◌, ◌-◌, ◌<◌, �
 ghost use Rattle.std.specs.List.{flat_map};
 ghost use Rattle.std.specs.Fmt.{decimal};
 ghost use Rattle.rwsp_terms.specs.Instance.{name_of, IsSymbol};
-ghost use Rattle.rwsp_file.specs.Text.{demand_text, bounds_words, line_text, pair_words, triple_words, problem_text, range_at, row_at, shift_at, shift_words, size_lines, frame_lines};
+ghost use Rattle.rwsp_file.specs.Text.{demand_text, bounds_words, file_line, pair_words, triple_words, problem_text, range_at, demand_row, row_of_shift, shift_words, size_lines, frame_lines};
 
 use rwsp_model::{Bounds, Class, Problem, Symbol};
 use rwsp_text::put_number;
@@ -51,14 +51,14 @@ fn put_demand(out: &mut Vec<u8>, range: Bounds) -> Result<(), AllocError>
 
 // A line of one number.
 fn put_count(out: &mut Vec<u8>, count: u32) -> Result<(), AllocError>
-    ensures { OnOk result (out.new.items ≡ out.old.items ++ line_text (decimal count ∷ [])) }
+    ensures { OnOk result (out.new.items ≡ out.old.items ++ file_line (decimal count ∷ [])) }
 {
     put_number_and(out, count, b'\n')
 }
 
 // A line of two numbers.
 fn put_two(out: &mut Vec<u8>, first: u32, second: u32) -> Result<(), AllocError>
-    ensures { OnOk result (out.new.items ≡ out.old.items ++ line_text (decimal first ∷ decimal second ∷ [])) }
+    ensures { OnOk result (out.new.items ≡ out.old.items ++ file_line (decimal first ∷ decimal second ∷ [])) }
 {
     put_number_and(out, first, b' ')?;
     put_number_and(out, second, b'\n')
@@ -66,7 +66,7 @@ fn put_two(out: &mut Vec<u8>, first: u32, second: u32) -> Result<(), AllocError>
 
 fn put_pair(out: &mut Vec<u8>, problem: &Problem, pair: (Symbol, Symbol)) -> Result<(), AllocError>
     requires { (pair.0.number ≤ length problem.now.shifts) × (pair.1.number ≤ length problem.now.shifts) }
-    ensures { OnOk result (out.new.items ≡ out.old.items ++ line_text (pair_words problem.now pair)) }
+    ensures { OnOk result (out.new.items ≡ out.old.items ++ file_line (pair_words problem.now pair)) }
 {
     put_name_and(out, problem, pair.0, b' ')?;
     put_name_and(out, problem, pair.1, b'\n')
@@ -78,7 +78,7 @@ fn put_triple(
     triple: (Symbol, Symbol, Symbol),
 ) -> Result<(), AllocError>
     requires { (triple.0.number ≤ length problem.now.shifts) × (triple.1.number ≤ length problem.now.shifts) × (triple.2.number ≤ length problem.now.shifts) }
-    ensures { OnOk result (out.new.items ≡ out.old.items ++ line_text (triple_words problem.now triple)) }
+    ensures { OnOk result (out.new.items ≡ out.old.items ++ file_line (triple_words problem.now triple)) }
 {
     put_name_and(out, problem, triple.0, b' ')?;
     put_name_and(out, problem, triple.1, b' ')?;
@@ -113,7 +113,7 @@ fn put_next_demand(out: &mut Vec<u8>, range: Bounds) -> Result<(), AllocError>
 #[tactic(auto, using(crate::proofs::TextSteps::demand_first, crate::proofs::TextSteps::demand_more, crate::proofs::TextSteps::demand_line))]
 fn put_demand_row(out: &mut Vec<u8>, problem: &Problem, place: u8) -> Result<(), AllocError>
     requires { place < length problem.now.shifts }
-    ensures { OnOk result (out.new.items ≡ out.old.items ++ line_text (map demand_text (row_at problem.now place))) }
+    ensures { OnOk result (out.new.items ≡ out.old.items ++ file_line (map demand_text (demand_row problem.now place))) }
 {
     problem.keeps_limits();
     let days = problem.days();
@@ -127,7 +127,7 @@ fn put_demand_row(out: &mut Vec<u8>, problem: &Problem, place: u8) -> Result<(),
 // A line for each row of demands.
 #[tactic(auto, using(crate::proofs::TextSteps::lines_more, crate::proofs::TextSteps::lines_all))]
 fn put_demand_rows(out: &mut Vec<u8>, problem: &Problem) -> Result<(), AllocError>
-    ensures { OnOk result (out.new.items ≡ out.old.items ++ flat_map line_text (map (map demand_text) problem.now.demand)) }
+    ensures { OnOk result (out.new.items ≡ out.old.items ++ flat_map file_line (map (map demand_text) problem.now.demand)) }
 {
     problem.keeps_limits();
     for place in 0..problem.shifts() {
@@ -139,7 +139,7 @@ fn put_demand_rows(out: &mut Vec<u8>, problem: &Problem) -> Result<(), AllocErro
 // The start, the length and the bounds of the blocks of the shift at a place, counted from 0.
 fn numbers_at(problem: &Problem, place: u8) -> (u32, u32, Bounds)
     requires { place < length problem.now.shifts }
-    ensures { let row = shift_at problem.now place in result ≡ (row.start, row.length, row.bounds) }
+    ensures { let row = row_of_shift problem.now place in result ≡ (row.start, row.length, row.bounds) }
 {
     problem.keeps_limits();
     let shift = Symbol { number: place + 1 };
@@ -153,7 +153,7 @@ fn numbers_at(problem: &Problem, place: u8) -> (u32, u32, Bounds)
 // The name of the shift at a place, counted from 0, and a blank.
 fn put_name_at(out: &mut Vec<u8>, problem: &Problem, place: u8) -> Result<(), AllocError>
     requires { place < length problem.now.shifts }
-    ensures { OnOk result (out.new.items ≡ out.old.items ++ ((shift_at problem.now place).name ++ 32 ∷ [])) }
+    ensures { OnOk result (out.new.items ≡ out.old.items ++ ((row_of_shift problem.now place).name ++ 32 ∷ [])) }
 {
     problem.keeps_limits();
     put_name_and(out, problem, Symbol { number: place + 1 }, b' ')
@@ -162,7 +162,7 @@ fn put_name_at(out: &mut Vec<u8>, problem: &Problem, place: u8) -> Result<(), Al
 // A line of the shift at a place, counted from 0.
 fn put_shift(out: &mut Vec<u8>, problem: &Problem, place: u8) -> Result<(), AllocError>
     requires { place < length problem.now.shifts }
-    ensures { OnOk result (out.new.items ≡ out.old.items ++ line_text (shift_words (shift_at problem.now place))) }
+    ensures { OnOk result (out.new.items ≡ out.old.items ++ file_line (shift_words (row_of_shift problem.now place))) }
 {
     let (start, length, bounds) = numbers_at(problem, place);
     put_name_at(out, problem, place)?;
@@ -174,7 +174,7 @@ fn put_shift(out: &mut Vec<u8>, problem: &Problem, place: u8) -> Result<(), Allo
 // A line for each shift.
 #[tactic(auto, using(crate::proofs::TextSteps::lines_more, crate::proofs::TextSteps::lines_all))]
 fn put_shifts(out: &mut Vec<u8>, problem: &Problem) -> Result<(), AllocError>
-    ensures { OnOk result (out.new.items ≡ out.old.items ++ flat_map line_text (map shift_words problem.now.shifts)) }
+    ensures { OnOk result (out.new.items ≡ out.old.items ++ flat_map file_line (map shift_words problem.now.shifts)) }
 {
     for place in 0..problem.shifts() {
         put_shift(out, problem, place)?;
@@ -185,7 +185,7 @@ fn put_shifts(out: &mut Vec<u8>, problem: &Problem) -> Result<(), AllocError>
 // A line for each pair.
 #[tactic(auto, using(crate::proofs::TextSteps::lines_more, crate::proofs::TextSteps::lines_all))]
 fn put_pairs(out: &mut Vec<u8>, problem: &Problem) -> Result<(), AllocError>
-    ensures { OnOk result (out.new.items ≡ out.old.items ++ flat_map line_text (map (pair_words problem.now) problem.now.pairs)) }
+    ensures { OnOk result (out.new.items ≡ out.old.items ++ flat_map file_line (map (pair_words problem.now) problem.now.pairs)) }
 {
     problem.keeps_limits();
     let pairs = problem.pairs();
@@ -198,7 +198,7 @@ fn put_pairs(out: &mut Vec<u8>, problem: &Problem) -> Result<(), AllocError>
 // A line for each triple.
 #[tactic(auto, using(crate::proofs::TextSteps::lines_more, crate::proofs::TextSteps::lines_all))]
 fn put_triples(out: &mut Vec<u8>, problem: &Problem) -> Result<(), AllocError>
-    ensures { OnOk result (out.new.items ≡ out.old.items ++ flat_map line_text (map (triple_words problem.now) problem.now.triples)) }
+    ensures { OnOk result (out.new.items ≡ out.old.items ++ flat_map file_line (map (triple_words problem.now) problem.now.triples)) }
 {
     problem.keeps_limits();
     let triples = problem.triples();
@@ -210,7 +210,7 @@ fn put_triples(out: &mut Vec<u8>, problem: &Problem) -> Result<(), AllocError>
 
 // The days, the weeks and the number of shifts, each on a line.
 fn put_size(out: &mut Vec<u8>, problem: &Problem) -> Result<(), AllocError>
-    ensures { OnOk result (out.new.items ≡ out.old.items ++ flat_map line_text (size_lines problem.now)) }
+    ensures { OnOk result (out.new.items ≡ out.old.items ++ flat_map file_line (size_lines problem.now)) }
 {
     put_count(out, problem.days())?;
     put_count(out, problem.weeks())?;
@@ -219,14 +219,14 @@ fn put_size(out: &mut Vec<u8>, problem: &Problem) -> Result<(), AllocError>
 
 // A line of the bounds of blocks.
 fn put_bounds(out: &mut Vec<u8>, bounds: Bounds) -> Result<(), AllocError>
-    ensures { OnOk result (out.new.items ≡ out.old.items ++ line_text (bounds_words bounds)) }
+    ensures { OnOk result (out.new.items ≡ out.old.items ++ file_line (bounds_words bounds)) }
 {
     put_two(out, bounds.least, bounds.greatest)
 }
 
 // A line of the numbers of pairs and triples.
 fn put_counts(out: &mut Vec<u8>, problem: &Problem) -> Result<(), AllocError>
-    ensures { OnOk result (out.new.items ≡ out.old.items ++ line_text (decimal (length problem.now.pairs) ∷ decimal (length problem.now.triples) ∷ [])) }
+    ensures { OnOk result (out.new.items ≡ out.old.items ++ file_line (decimal (length problem.now.pairs) ∷ decimal (length problem.now.triples) ∷ [])) }
 {
     let pairs = problem.pairs().len() as u32;
     let triples = problem.triples().len() as u32;
@@ -235,7 +235,7 @@ fn put_counts(out: &mut Vec<u8>, problem: &Problem) -> Result<(), AllocError>
 
 // The bounds of the blocks of days off and of work, and the numbers of pairs and triples, each two on a line.
 fn put_frame(out: &mut Vec<u8>, problem: &Problem) -> Result<(), AllocError>
-    ensures { OnOk result (out.new.items ≡ out.old.items ++ flat_map line_text (frame_lines problem.now)) }
+    ensures { OnOk result (out.new.items ≡ out.old.items ++ flat_map file_line (frame_lines problem.now)) }
 {
     put_bounds(out, problem.bounds(Class::Off))?;
     put_bounds(out, problem.bounds(Class::Work))?;

@@ -1,6 +1,5 @@
 // Reading problem files.
 ghost use Rattle.std.specs.Prelude.{◌≡◌, ◌==◌, ◌≤◌, count_by, length, Some, IfOk, map};
-ghost use Rattle.std.specs.List.{AllByRecursion};
 ghost use Rattle.rwsp_text.specs.Lexemes.{last_line};
 ghost use Rattle.rwsp_text.specs.Places.{lexeme_at};
 ghost use Rattle.rwsp_model.specs.Refusals.{IfRefused};
@@ -36,16 +35,10 @@ fn last_line(bytes: &[u8]) -> u32
 fn read_parts(alloc: Global, cursor: &mut Cursor) -> Result<Parts, Fail<FileRefusal>>
     ensures { GivesUnless instance_of (reading cursor.old) result }
 {
-    let size = match read_size(cursor) {
-        Ok(size) => size,
-        Err(refusal) => return Err(Fail::Refused(refusal)),
-    };
+    let size = read_size(cursor).map_err(Fail::Refused)?;
     let demand = read_demand(alloc, size, cursor)?;
     let shifts = read_shifts(alloc, size.shifts, cursor)?;
-    let frame = match read_frame(cursor) {
-        Ok(frame) => frame,
-        Err(refusal) => return Err(Fail::Refused(refusal)),
-    };
+    let frame = read_frame(cursor).map_err(Fail::Refused)?;
     let (pairs, triples) = read_sequences(alloc, &shifts, frame, cursor)?;
     Ok(Parts {
         days: size.days,
@@ -77,10 +70,7 @@ pub fn read_problem(alloc: Global, bytes: &[u8]) -> Result<Problem, Fail<FileRef
     ensures ok { IfOk result (λ P. SpellsProblem bytes.now P) }
     ensures refused { IfRefused result (λ why. file_refusal bytes.now ≡ Some why) }
 {
-    let parts = match parts_of(alloc, bytes) {
-        Ok(parts) => parts,
-        Err(fail) => return Err(fail),
-    };
+    let parts = parts_of(alloc, bytes)?;
     match Problem::of(parts) {
         Ok(problem) => Ok(problem),
         Err(_) => unreachable!(),

@@ -6,7 +6,16 @@ pub enum FileRefusal {
     Ends(u32),
     /// No number, or no demand.
     Number(u32),
-    /// A number that breaks a limit.
+    /// A number that breaks a limit:
+    /// 1. the days, 1 to 28;
+    /// 2. the weeks, 1 to 600;
+    /// 3. the days of all weeks, at most 4,200;
+    /// 4. the shifts, 1 to 8;
+    /// 5. both numbers of a demand, at most 600;
+    /// 6. the start and the length of a shift, at most 10,000 minutes;
+    /// 7. both bounds of blocks, at most 10,000 days;
+    /// 8. the number of pairs, at most 64;
+    /// 9. the number of triples, at most 64.
     Range(u32, u32),
     /// A shift that has not five or six words on its line.
     Row(u32),

@@ -7,7 +7,8 @@ ghost use Rattle.rwsp_file.specs.Reading.{words_of_row, row_words_at, is_new_nam
 ghost use Rattle.rwsp_file.specs.Reads.{Reads, ReadsUnless, GivesUnless};
 
 use crate::FileRefusal;
-use crate::cursor::{Cursor, Word};
+use crate::cursor::{Cursor, Lexeme};
+use crate::limits::{BLOCK, MINUTES};
 use crate::shifts::Shifts;
 use rwsp_model::{Bounds, Fail, Name, ShiftRow};
 use std::alloc::Global;
@@ -15,15 +16,15 @@ use std::alloc::Global;
 /// The words of a shift, without its long name.
 #[derive(Drop)]
 pub struct RowWords<'a> {
-    pub name: Word<'a>,
-    pub start: Word<'a>,
-    pub minutes: Word<'a>,
-    pub least: Word<'a>,
-    pub greatest: Word<'a>,
+    pub name: Lexeme<'a>,
+    pub start: Lexeme<'a>,
+    pub minutes: Lexeme<'a>,
+    pub least: Lexeme<'a>,
+    pub greatest: Lexeme<'a>,
 }
 
 // The words of a shift from the first of its line and the others.
-fn words_of_row<'a>(name: Word<'a>, others: &mut Cursor<'a>) -> Option<RowWords<'a>>
+fn words_of_row<'a>(name: Lexeme<'a>, others: &mut Cursor<'a>) -> Option<RowWords<'a>>
     ensures { result ≡ words_of_row (name.entry ∷ others.old.lexemes) }
 {
     let start = others.pop()?;
@@ -78,7 +79,7 @@ fn is_new_name(shifts: &Shifts, name: &[u8]) -> bool
 }
 
 #[tactic(auto, unfolding(crate::specs::Reading::new_name))]
-fn check_name(shifts: &Shifts, word: &Word) -> Result<(), FileRefusal>
+fn check_name(shifts: &Shifts, word: &Lexeme) -> Result<(), FileRefusal>
     ensures name { MatchResult result (λ _. new_name shifts.now word.now ≡ Ok word.now.text) (λ why. new_name shifts.now word.now ≡ Err why) }
     ensures fresh { IfOk result (λ _. list_any (λ other. bytes_eq word.now.text other.name) shifts.now ≡ false) }
 {
@@ -93,14 +94,14 @@ fn check_name(shifts: &Shifts, word: &Word) -> Result<(), FileRefusal>
 fn numbers_of_row(words: &RowWords) -> Result<(u32, u32, Bounds), FileRefusal>
     ensures { result ≡ numbers_of_row words.now }
 {
-    let start = words.start.limited(6, 0, 10_000)?;
-    let minutes = words.minutes.limited(6, 0, 10_000)?;
-    let least = words.least.limited(7, 0, 10_000)?;
-    let greatest = words.greatest.limited(7, 0, 10_000)?;
+    let start = words.start.limited(MINUTES)?;
+    let minutes = words.minutes.limited(MINUTES)?;
+    let least = words.least.limited(BLOCK)?;
+    let greatest = words.greatest.limited(BLOCK)?;
     Ok((start, minutes, Bounds { least, greatest }))
 }
 
-fn copied_name(alloc: Global, word: &Word) -> Result<Name, Fail<FileRefusal>>
+fn copied_name(alloc: Global, word: &Lexeme) -> Result<Name, Fail<FileRefusal>>
     ensures { GivesUnless (λ name. name) (Ok word.now.text) result }
 {
     match Vec::from_slice(alloc, word.text()) {
@@ -114,13 +115,8 @@ fn shift_of(alloc: Global, shifts: &Shifts, words: &RowWords) -> Result<ShiftRow
     ensures value { GivesUnless (λ row. row) (shift_of shifts.now words.now) result }
     ensures fresh { IfOk result (λ row. list_any (λ other. bytes_eq row.name other.name) shifts.now ≡ false) }
 {
-    if let Err(refusal) = check_name(shifts, &words.name) {
-        return Err(Fail::Refused(refusal));
-    }
-    let (start, length, bounds) = match numbers_of_row(words) {
-        Ok(numbers) => numbers,
-        Err(refusal) => return Err(Fail::Refused(refusal)),
-    };
+    check_name(shifts, &words.name).map_err(Fail::Refused)?;
+    let (start, length, bounds) = numbers_of_row(words).map_err(Fail::Refused)?;
     let name = copied_name(alloc, &words.name)?;
     Ok(ShiftRow {
         name,
@@ -139,10 +135,7 @@ fn read_shift(
     ensures value { ReadsUnless (λ row. row) (shift_at shifts.now cursor.old) result cursor.new }
     ensures fresh { IfOk result (λ row. list_any (λ other. bytes_eq row.name other.name) shifts.now ≡ false) }
 {
-    let words = match read_row_words(cursor) {
-        Ok(words) => words,
-        Err(refusal) => return Err(Fail::Refused(refusal)),
-    };
+    let words = read_row_words(cursor).map_err(Fail::Refused)?;
     shift_of(alloc, shifts, &words)
 }
 
@@ -158,10 +151,7 @@ pub fn read_shifts(
 {
     let mut shifts = Shifts::new(alloc);
     for shift in 0..count {
-        let row = match read_shift(alloc, &shifts, cursor) {
-            Ok(row) => row,
-            Err(fail) => return Err(fail),
-        };
+        let row = read_shift(alloc, &shifts, cursor)?;
         shifts = match shifts.with(alloc, row) {
             Ok(shifts) => shifts,
             Err(_) => return Err(Fail::Memory),

@@ -74,10 +74,7 @@ fn read_pairs(
 {
     let mut pairs = Vec::new(alloc);
     for i in 0..count {
-        let pair = match read_pair(shifts, cursor) {
-            Ok(pair) => pair,
-            Err(refusal) => return Err(Fail::Refused(refusal)),
-        };
+        let pair = read_pair(shifts, cursor).map_err(Fail::Refused)?;
         if pairs.push(pair).is_err() {
             return Err(Fail::Memory);
         }
@@ -98,10 +95,7 @@ fn read_triples(
 {
     let mut triples = Vec::new(alloc);
     for i in 0..count {
-        let triple = match read_triple(shifts, cursor) {
-            Ok(triple) => triple,
-            Err(refusal) => return Err(Fail::Refused(refusal)),
-        };
+        let triple = read_triple(shifts, cursor).map_err(Fail::Refused)?;
         if triples.push(triple).is_err() {
             return Err(Fail::Memory);
         }
@@ -134,8 +128,6 @@ pub fn read_sequences(
 {
     let pairs = read_pairs(alloc, shifts, frame.pairs, cursor)?;
     let triples = read_triples(alloc, shifts, frame.triples, cursor)?;
-    match read_end(cursor) {
-        Ok(()) => Ok((pairs, triples)),
-        Err(refusal) => Err(Fail::Refused(refusal)),
-    }
+    read_end(cursor).map_err(Fail::Refused)?;
+    Ok((pairs, triples))
 }

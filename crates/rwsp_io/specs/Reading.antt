@@ -3,16 +3,9 @@ use Rattle.std.specs.Prelude.{Result, Ok, Err}
 use Rattle.rwsp_io.specs.declared.shelf.ReadFail.{ReadFail}
 use Rattle.rwsp_io.specs.declared.shelf.ReadFail.TheVariants.{Fault, TooLong, Memory}
 
--- too long, want of memory aside
-abbrev pub IsTooLong : {T : Type 0} → Result T ReadFail → Type 0
-IsTooLong (Ok v) = ⊥
-IsTooLong (Err Fault) = ⊥
-IsTooLong (Err TooLong) = Unit {0}
-IsTooLong (Err Memory) = Unit {0}
-
--- anything but too long
-abbrev pub IsNotTooLong : {T : Type 0} → Result T ReadFail → Type 0
-IsNotTooLong (Ok v) = Unit {0}
-IsNotTooLong (Err Fault) = Unit {0}
-IsNotTooLong (Err TooLong) = ⊥
-IsNotTooLong (Err Memory) = Unit {0}
+-- too long, or there was no memory to tell
+abbrev pub IsTooLongUnlessMemory : {T : Type 0} → Result T ReadFail → Type 0
+IsTooLongUnlessMemory (Ok v) = ⊥
+IsTooLongUnlessMemory (Err Fault) = ⊥
+IsTooLongUnlessMemory (Err TooLong) = Unit {0}
+IsTooLongUnlessMemory (Err Memory) = Unit {0}

@@ -4,7 +4,7 @@ ghost use Rattle.std.specs.Result.{IsOkUnless};
 ghost use Rattle.std.specs.Io.{ReadsAtMost};
 ghost use Rattle.std.specs.Io.KnownBytes.{ReadConsumes, Consumes, IsAtEnd};
 ghost use Rattle.rwsp_io.specs.Told.{Told, Bytes, Missing, told_bytes, Rose, NeverFall, AllRose};
-ghost use Rattle.rwsp_io.specs.Reading.{IsTooLong, IsNotTooLong};
+ghost use Rattle.rwsp_io.specs.Reading.{IsTooLongUnlessMemory};
 
 use std::alloc::{AllocError, Global};
 
@@ -109,7 +109,8 @@ pub fn read_all<S: Shelf>(
         → limit < length bytes → IsErr result }
     ensures refused { (bytes : List ℕ) → S.held shelf.old name.now ≡ Bytes bytes
         → limit < length bytes
-        → ¬ Rose (S.faults shelf.old name.now) (S.faults shelf.new name.now) → IsTooLong result }
+        → ¬ Rose (S.faults shelf.old name.now) (S.faults shelf.new name.now)
+        → IsTooLongUnlessMemory result }
     ensures read { (bytes : List ℕ) → S.held shelf.old name.now ≡ Bytes bytes
         → length bytes ≤ limit
         → ¬ Rose (S.faults shelf.old name.now) (S.faults shelf.new name.now)
@@ -153,7 +154,7 @@ fn read_piece<S: Shelf>(
     ensures taken { IfOk result (λ k.
         Consumes (S.left shelf.old) (S.left shelf.new) (take k (drop filled bytes.new.items))) }
     ensures end { IfOk result (λ k. k ≡ 0 → IsAtEnd (S.left shelf.new)) }
-    ensures failure { IsNotTooLong result }
+    ensures failure { ¬ IsErrOf result ReadFail.TooLong }
     ensures fault { IsErrOf result ReadFail.Fault → AllRose (S.faults shelf.old) (S.faults shelf.new) }
     ensures chosen { S.chosen shelf.new ≡ true }
     ensures held { (other : List ℕ) → S.held shelf.new other ≡ S.held shelf.old other }

@@ -89,7 +89,7 @@ fn a_full_sink_keeps_a_prefix(rt: HostRuntime) -> Result<(), Fail> {
 }
 
 #[test]
-fn the_system_is_read_and_written(rt: HostRuntime) -> Result<(), Fail> {
+fn files_of_the_system_are_read(rt: HostRuntime) -> Result<(), Fail> {
     let alloc = rt.alloc();
     let folder = env::temp_dir(&rt)?;
     let path = format!(in alloc; "{}/rwsp_io_{}", folder.as_str(), process::id(rt.process()))?;
@@ -115,7 +115,11 @@ fn the_system_is_read_and_written(rt: HostRuntime) -> Result<(), Fail> {
             Err(ReadFail::Fault)
         )
     );
+    Ok(())
+}
 
+#[test]
+fn standard_output_takes_a_text(rt: HostRuntime) -> Result<(), Fail> {
     let mut sink = RealSink::new(&rt);
     assert_eq!(rt; write_all(&mut sink, b"written\n".as_slice()), Ok(()));
     Ok(())

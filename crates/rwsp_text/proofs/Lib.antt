@@ -1,3 +1,4 @@
+pub mod Steps
 pub mod TextSteps
 pub mod TokenSteps
 pub mod Printed

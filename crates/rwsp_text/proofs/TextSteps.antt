@@ -1,8 +1,9 @@
+-- The lexemes of a text that begins with the end of a line, a space, a word or a comment.
 use Rattle.std.proofs.Common.{◌≡◌, ℕ, suc, arith, take, append-nil, ◌+◌, List, [], ◌∷◌, ◌++◌, map, true, false, refl, ap, sym, ◌∙◌, subst, cond, Bool, eqb-true}
 use Rattle.std.specs.Prelude.{filter, take_while, not, ◌==◌, slice_index, ◌||◌}
 use Rattle.std.specs.List.{flat_map, enumerate_from, slice_split, onto_first, AllByRecursion, prefix_len}
 use Rattle.rwsp_text.specs.Lexemes.{Lexeme, words_of_line, lines_of, is_space, has_some}
-use Rattle.rwsp_text.specs.Steps.{AtLineEnd, AtSpace, AtWord, IsWordByte, Ends, IsNoEnd, EndsLine, AtComment}
+use Rattle.rwsp_text.proofs.Steps.{AtLineEnd, AtSpace, AtWord, IsWordByte, Ends, IsNoLineEnd, EndsLine, AtComment}
 
 pub at_line_end : AtLineEnd
 at_line_end n bs = refl
@@ -110,7 +111,7 @@ at_word n b t bs h all ends =
     ∙ ap (λ ws. map (λ word. record { text = word; line = n }) ws ++ line_lexemes (n + 1) c.1) (line_word b t c.0 c.2 h all c.4)
     ∙ ap (λ ls. record { text = b ∷ t; line = n } ∷ line_lexemes n ls) (sym c.3)
 
-lines_no_end : (t bs first : List ℕ) (rest : List (List ℕ)) → AllByRecursion IsNoEnd t → lines_of bs ≡ first ∷ rest → lines_of (t ++ bs) ≡ (t ++ first) ∷ rest
+lines_no_end : (t bs first : List ℕ) (rest : List (List ℕ)) → AllByRecursion IsNoLineEnd t → lines_of bs ≡ first ∷ rest → lines_of (t ++ bs) ≡ (t ++ first) ∷ rest
 lines_no_end [] bs first rest h e = e
 lines_no_end (b ∷ t) bs first rest h e = onto_line b (t ++ bs) h.0 ∙ onto_cut b (lines_of (t ++ bs)) (t ++ first) rest (lines_no_end t bs first rest h.1 e)
 
@@ -128,7 +129,7 @@ empty_line (b ∷ bs) e = (lines_of bs, ap (λ c. lines_of (c ∷ bs)) e)
 pub at_comment : AtComment
 at_comment n t bs h ends =
     let c = empty_line bs ends in
-    let all : AllByRecursion IsNoEnd (35 ∷ t) = (refl, h) in
+    let all : AllByRecursion IsNoLineEnd (35 ∷ t) = (refl, h) in
     ap (line_lexemes n) (lines_no_end (35 ∷ t) bs [] c.0 all c.1)
     ∙ ap (λ ws. map (λ word. record { text = word; line = n }) ws ++ line_lexemes (n + 1) c.0) (comment_line (t ++ []))
     ∙ ap (line_lexemes n) (sym c.1)

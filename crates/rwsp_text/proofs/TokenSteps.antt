@@ -1,4 +1,4 @@
--- The front of a list that passes a test, step by step.
+-- Steps over the bytes of a text: the front of a list that passes a test, and the lexemes that it adds.
 use Rattle.std.proofs.Common.{append_assoc, append-nil, Option, Some, None}
 use Rattle.std.proofs.lemmas.List.{map-append}
 use Rattle.std.specs.Prelude.{map, IfSome}
@@ -11,8 +11,8 @@ use Rattle.std.specs.List.{prefix_len, AllByRecursion}
 use Rattle.std.proofs.lemmas.List.{drop_all, drop-drop, take-append-drop}
 use Rattle.std.proofs.lemmas.Bool.{and_parts, not-false, not-true}
 use Rattle.rwsp_text.specs.Lexemes.{is_space, lexemes_from}
-use Rattle.rwsp_text.specs.Places.{is_word_byte, is_no_end, lexeme_at}
-use Rattle.rwsp_text.specs.Steps.{IsNoEnd, EndsLine, IsWordByte, Ends}
+use Rattle.rwsp_text.specs.Places.{is_word_byte, is_no_line_end, lexeme_at, IsWithin, AreWithin}
+use Rattle.rwsp_text.proofs.Steps.{IsNoLineEnd, EndsLine, IsWordByte, Ends}
 use Rattle.rwsp_text.proofs.TextSteps.{at_line_end, at_space, at_word, at_comment}
 
 prefix_step : (p : ℕ → Bool) (xs : List ℕ) (i : ℕ) → i < length xs → prefix_len p (drop i xs) ≡ cond (p (get_or xs i 0)) (1 + prefix_len p (drop (i + 1) xs)) 0
@@ -65,28 +65,28 @@ step_end bs at line h e = ap (lexemes_from line) (rest_at bs at h ∙ ap (λ b. 
 pub step_space : (bs : List ℕ) (at line : ℕ) → at < length bs → is_space (get_or bs at 0) ≡ true → lexemes_from line (drop at bs) ≡ lexemes_from line (drop (at + 1) bs)
 step_space bs at line h e = ap (lexemes_from line) (rest_at bs at h) ∙ at_space line (get_or bs at 0) (drop (at + 1) bs) e
 
-no_end_of : (t : List ℕ) → AllByRecursion (λ b. is_no_end b ≡ true) t → AllByRecursion IsNoEnd t
+no_end_of : (t : List ℕ) → AllByRecursion (λ b. is_no_line_end b ≡ true) t → AllByRecursion IsNoLineEnd t
 no_end_of [] h = tt
 no_end_of (b ∷ t) h = (not-true (b == 10) h.0, no_end_of t h.1)
 
-line_end_of : (bs : List ℕ) → Stops is_no_end bs → EndsLine bs
+line_end_of : (bs : List ℕ) → Stops is_no_line_end bs → EndsLine bs
 line_end_of [] h = tt
 line_end_of (b ∷ bs) h = eqb-true b 10 (not-false (b == 10) h)
 
 -- a comment at the front of a list
-comment_front : (line : ℕ) (r : List ℕ) → lexemes_from line (35 ∷ r) ≡ lexemes_from line (drop (prefix_len is_no_end r) r)
+comment_front : (line : ℕ) (r : List ℕ) → lexemes_from line (35 ∷ r) ≡ lexemes_from line (drop (prefix_len is_no_line_end r) r)
 comment_front line r =
-    let f = front is_no_end r in
-    let k = prefix_len is_no_end r in
+    let f = front is_no_line_end r in
+    let k = prefix_len is_no_line_end r in
     let cut : r ≡ take k r ++ drop k r = sym (take-append-drop k r) in
     ap (λ w. lexemes_from line (35 ∷ w)) cut ∙ at_comment line (take k r) (drop k r) (no_end_of (take k r) f.0) (line_end_of (drop k r) f.1)
 
-pub step_comment : (bs : List ℕ) (at line : ℕ) → at < length bs → get_or bs at 0 ≡ 35 → lexemes_from line (drop at bs) ≡ lexemes_from line (drop (at + prefix_len is_no_end (drop at bs)) bs)
+pub step_comment : (bs : List ℕ) (at line : ℕ) → at < length bs → get_or bs at 0 ≡ 35 → lexemes_from line (drop at bs) ≡ lexemes_from line (drop (at + prefix_len is_no_line_end (drop at bs)) bs)
 step_comment bs at line h e =
     let here : drop at bs ≡ 35 ∷ drop (at + 1) bs = rest_at bs at h ∙ ap (λ b. b ∷ drop (at + 1) bs) e in
-    let k = prefix_len is_no_end (drop (at + 1) bs) in
-    let long : prefix_len is_no_end (drop at bs) ≡ 1 + k = ap (prefix_len is_no_end) here in
-    let place : at + 1 + k ≡ at + prefix_len is_no_end (drop at bs) = omega (arith, long) in
+    let k = prefix_len is_no_line_end (drop (at + 1) bs) in
+    let long : prefix_len is_no_line_end (drop at bs) ≡ 1 + k = ap (prefix_len is_no_line_end) here in
+    let place : at + 1 + k ≡ at + prefix_len is_no_line_end (drop at bs) = omega (arith, long) in
     ap (lexemes_from line) here ∙ comment_front line (drop (at + 1) bs) ∙ ap (lexemes_from line) (drop-drop k (at + 1) bs ∙ ap (λ n. drop n bs) place)
 
 word_byte_of : (b : ℕ) → is_word_byte b ≡ true → IsWordByte b
@@ -133,10 +133,8 @@ pub lexemes_go_on : (bytes : List ℕ) (all more : List Token) (left left' whole
 lexemes_go_on bytes all more left left' whole h e =
     ap (λ w. w ++ left') (map-append (lexeme_at bytes) all more) ∙ append_assoc (map (lexeme_at bytes) all) (map (lexeme_at bytes) more) left' ∙ ap (λ w. map (lexeme_at bytes) all ++ w) (sym e) ∙ h
 
-abbrev IsWithin : List ℕ → Token → Type 0
-IsWithin bytes t = (t.start ≤ t.end) × (t.end ≤ length bytes)
-
-pub within_more : (bytes : List ℕ) (all : List Token) (o : Option Token) → AllByRecursion (λ t. (t.start ≤ t.end) × (t.end ≤ length bytes)) all → IfSome o (λ t. (t.start ≤ t.end) × (t.end ≤ length bytes)) → AllByRecursion (λ t. (t.start ≤ t.end) × (t.end ≤ length bytes)) (all ++ option_to_list o)
+-- the tokens so far and that of a step
+pub within_more : (bytes : List ℕ) (all : List Token) (o : Option Token) → AreWithin bytes all → IfSome o (IsWithin bytes) → AreWithin bytes (all ++ option_to_list o)
 within_more bytes [] None h k = tt
 within_more bytes [] (Some t) h k = (k, tt)
 within_more bytes (a ∷ all) o h k = (h.0, within_more bytes all o h.1 k)

@@ -1,4 +1,3 @@
 pub mod Lexemes
 pub mod Numbers
 pub mod Places
-pub mod Steps

@@ -1,9 +1,9 @@
 // Numbers in decimal digits.
-ghost use Rattle.std.specs.Prelude.{◌≡◌, ℕ, ◌+◌, ◌<◌, ◌≤◌, ◌^◌, ◌++◌, List, length, Option, true, OnOk, OnErr};
+ghost use Rattle.std.specs.Prelude.{◌≡◌, ◌+◌, ◌<◌, ◌≤◌, ◌^◌, ◌++◌, length, true, OnOk, OnErr};
 ghost use Rattle.std.specs.List.{list_all};
 ghost use Rattle.std.specs.Char.{is_ascii_digit};
 ghost use Rattle.std.specs.Fmt.{decimal};
-ghost use Rattle.rwsp_text.specs.Numbers.{number_of, value_of, PrintedIsRead};
+ghost use Rattle.rwsp_text.specs.Numbers.{number_of, value_of};
 
 use std::alloc::AllocError;
 
@@ -45,9 +45,3 @@ pub fn put_number(out: &mut Vec<u8>, value: u64) -> Result<(), AllocError>
     let digits = value.to_string(*out.allocator())?;
     out.extend_from_slice(digits.as_bytes())
 }
-
-/// A number below a thousand million that is printed and read is the number.
-#[tactic(auto, using(crate::proofs::Printed::printed_is_read))]
-pub fn printed_is_read()
-    ensures { PrintedIsRead }
-{}

@@ -2,9 +2,11 @@
 #![tactic(auto)]
 
 mod digits;
+mod laws;
 mod scan;
 
-pub use digits::{number, printed_is_read, put_number};
+pub use digits::{number, put_number};
+pub use laws::printed_is_read;
 pub use scan::{Token, tokens};
 
 #[cfg(test)]

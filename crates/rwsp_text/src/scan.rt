@@ -1,10 +1,9 @@
 // The lexemes of a text, by where they stand.
-ghost use Rattle.std.specs.Prelude.{◌≡◌, ℕ, ◌+◌, ◌<◌, ◌≤◌, ◌||◌, ◌==◌, not, length, IfOk, map, slice_range, ◌-◌, ◌++◌, drop, IfSome, slice_index, true, OnOk};
+ghost use Rattle.std.specs.Prelude.{◌≡◌, ◌+◌, ◌<◌, ◌≤◌, length, IfOk, map, ◌-◌, ◌++◌, drop, IfSome, slice_index, true, OnOk};
 ghost use Rattle.std.specs.Option.{option_to_list};
-ghost use Rattle.rwsp_text.specs.Lexemes.{lexemes_from};
-ghost use Rattle.std.specs.List.{prefix_len, AllByRecursion};
-ghost use Rattle.rwsp_text.specs.Lexemes.{is_space, lexemes};
-ghost use Rattle.rwsp_text.specs.Places.{is_word_byte, is_no_end, lexeme_at};
+ghost use Rattle.std.specs.List.{prefix_len};
+ghost use Rattle.rwsp_text.specs.Lexemes.{is_space, lexemes, lexemes_from};
+ghost use Rattle.rwsp_text.specs.Places.{is_word_byte, is_no_line_end, lexeme_at, IsWithin, AreWithin};
 
 use std::alloc::{AllocError, Global};
 
@@ -30,6 +29,7 @@ fn is_word_byte(b: u8) -> bool
     !space && !end
 }
 
+// Where the word ends that goes on at a place.
 #[tactic(auto, using(crate::proofs::TokenSteps::prefix_more, crate::proofs::TokenSteps::prefix_stop, crate::proofs::TokenSteps::prefix_all))]
 fn word_end(bytes: &[u8], at: usize) -> usize
     requires { (at < length bytes.now) × (is_word_byte (slice_index bytes.now at) ≡ true) }
@@ -44,11 +44,12 @@ fn word_end(bytes: &[u8], at: usize) -> usize
     bytes.len()
 }
 
+// Where the line ends whose comment goes on at a place.
 #[tactic(auto, using(crate::proofs::TokenSteps::prefix_more, crate::proofs::TokenSteps::prefix_stop, crate::proofs::TokenSteps::prefix_all))]
 fn comment_end(bytes: &[u8], at: usize) -> usize
-    requires { (at < length bytes.now) × (is_no_end (slice_index bytes.now at) ≡ true) }
+    requires { (at < length bytes.now) × (is_no_line_end (slice_index bytes.now at) ≡ true) }
     ensures moves { (at < result) × (result ≤ length bytes.now) }
-    ensures value { result ≡ at + prefix_len is_no_end (drop at bytes.now) }
+    ensures value { result ≡ at + prefix_len is_no_line_end (drop at bytes.now) }
 {
     for i in at + 1..bytes.len() {
         if bytes[i] == b'\n' {
@@ -67,7 +68,7 @@ fn step(bytes: &[u8], at: usize, line: u32) -> (Option<Token>, usize, u32)
     ensures moves { (at < result.1) × (result.1 ≤ length bytes.now) }
     ensures line { result.2 ≤ line + (result.1 - at) }
     ensures lexemes { lexemes_from line (drop at bytes.now) ≡ map (lexeme_at bytes.now) (option_to_list result.0) ++ lexemes_from result.2 (drop result.1 bytes.now) }
-    ensures within { IfSome result.0 (λ t. (t.start ≤ t.end) × (t.end ≤ length bytes.now)) }
+    ensures within { IfSome result.0 (IsWithin bytes.now) }
 {
     let b = bytes[at];
     if b == b'\n' {
@@ -89,6 +90,7 @@ fn step(bytes: &[u8], at: usize, line: u32) -> (Option<Token>, usize, u32)
     (Some(token), end, line)
 }
 
+// Appends the token, where there is one.
 fn note(all: &mut Vec<Token>, token: Option<Token>) -> Result<(), AllocError>
     ensures { OnOk result (all.new.items ≡ all.old.items ++ option_to_list token) }
 {
@@ -103,7 +105,7 @@ fn note(all: &mut Vec<Token>, token: Option<Token>) -> Result<(), AllocError>
 pub fn tokens(alloc: Global, bytes: &[u8]) -> Result<Vec<Token>, AllocError>
     requires { length bytes.now ≤ 1048576 }
     ensures lexemes { IfOk result (λ v. map (lexeme_at bytes.now) v.items ≡ lexemes bytes.now) }
-    ensures within { IfOk result (λ v. AllByRecursion (λ t. (t.start ≤ t.end) × (t.end ≤ length bytes.now)) v.items) }
+    ensures within { IfOk result (λ v. AreWithin bytes.now v.items) }
 {
     let mut all = Vec::new(alloc);
     let mut at = 0;

@@ -1,7 +1,7 @@
 use Rattle.std.proofs.Common.{◌≡◌, ◌++◌, map, take}
 use Rattle.std.specs.List.{flat_map}
-use Rattle.rwsp_file.specs.Text.{line_text, triple_words}
+use Rattle.rwsp_file.specs.Text.{file_line, triple_words}
 use Rattle.rwsp_file.proofs.print.put_triples.Given as goal
 
 abbrev pub invariant-loop-i : goal.invariant-loop-i
-invariant-loop-i l = l.out.items ≡ l.fn.out.items ++ flat_map line_text (map (triple_words l.problem) (take l.i l.triples))
+invariant-loop-i l = l.out.items ≡ l.fn.out.items ++ flat_map file_line (map (triple_words l.problem) (take l.i l.triples))

@@ -11,9 +11,9 @@ no_refusal o why e h = absurd (cc)
 
 pub unreachable-requires : goal.unreachable-requires
 unreachable-requires c =
-    let spelled : SpellsProblem c.args.bytes.now (instance_of c.in-Ok.parts) = reading_spells c.args.bytes.now (instance_of c.in-Ok.parts) c.in-Ok.ensures in
-    no_refusal (refusal_of (instance_of c.in-Ok.parts)) _ spelled.valid c.in-Err-of.ensures
+    let spelled : SpellsProblem c.args.bytes.now (instance_of c.in_ok-parts.parts) = reading_spells c.args.bytes.now (instance_of c.in_ok-parts.parts) c.in_ok-parts.ensures in
+    no_refusal (refusal_of (instance_of c.in_ok-parts.parts)) _ spelled.valid c.in-Err.ensures
 
 pub returns-clause-ok : goal.returns-clause-ok
 returns-clause-ok c =
-    subst (SpellsProblem c.args.bytes.now) (sym c.in-Ok-of.ensures.0) (reading_spells c.args.bytes.now (instance_of c.in-Ok.parts) c.in-Ok.ensures)
+    subst (SpellsProblem c.args.bytes.now) (sym c.in-Ok.ensures.0) (reading_spells c.args.bytes.now (instance_of c.in_ok-parts.parts) c.in_ok-parts.ensures)

@@ -1,9 +1,7 @@
 use Rattle.std.proofs.Common.{◌≡◌, ◌+◌, ◌-◌, ◌≤◌, ◌++◌, length, drop}
 use Rattle.std.specs.Prelude.{map}
-use Rattle.std.specs.List.{AllByRecursion}
-use Rattle.rwsp_text.specs.Lexemes.{lexemes}
-use Rattle.rwsp_text.specs.Lexemes.{lexemes_from}
-use Rattle.rwsp_text.specs.Places.{lexeme_at}
+use Rattle.rwsp_text.specs.Lexemes.{lexemes, lexemes_from}
+use Rattle.rwsp_text.specs.Places.{lexeme_at, AreWithin}
 use Rattle.rwsp_text.proofs.scan.tokens.Given as goal
 
 abbrev pub invariant-loop-at : goal.invariant-loop-at
@@ -11,7 +9,7 @@ invariant-loop-at l = record {
   within : l.at ≤ length l.bytes;
   lines : l.line ≤ l.at + 1;
   lexemes : map (lexeme_at l.bytes) l.all.items ++ lexemes_from l.line (drop l.at l.bytes) ≡ lexemes l.bytes;
-  ranges : AllByRecursion (λ t. (t.start ≤ t.end) × (t.end ≤ length l.bytes)) l.all.items;
+  ranges : AreWithin l.bytes l.all.items;
 }
 
 abbrev pub decreases-loop-at : goal.decreases-loop-at

@@ -3,11 +3,13 @@ use Rattle.std.specs.Prelude.{◌≡◌, ℕ, ◌+◌, List, [], ◌∷◌, ◌+
 use Rattle.std.specs.List.{AllByRecursion}
 use Rattle.rwsp_text.specs.Lexemes.{is_space, lexemes_from}
 
+-- what `is_word_byte` tests
 abbrev pub IsWordByte : ℕ → Type 0
 IsWordByte b = (is_space b ≡ false) × ((b == 10) ≡ false)
 
-abbrev pub IsNoEnd : ℕ → Type 0
-IsNoEnd b = (b == 10) ≡ false
+-- what `is_no_line_end` tests
+abbrev pub IsNoLineEnd : ℕ → Type 0
+IsNoLineEnd b = (b == 10) ≡ false
 
 -- nothing, or a byte that no word has
 abbrev pub Ends : List ℕ → Type 0
@@ -29,4 +31,4 @@ abbrev pub AtWord : Type 0
 AtWord = (n b : ℕ) (t bs : List ℕ) → (b == 35) ≡ false → AllByRecursion IsWordByte (b ∷ t) → Ends bs → lexemes_from n ((b ∷ t) ++ bs) ≡ record { text = b ∷ t; line = n } ∷ lexemes_from n bs
 
 abbrev pub AtComment : Type 0
-AtComment = (n : ℕ) (t bs : List ℕ) → AllByRecursion IsNoEnd t → EndsLine bs → lexemes_from n ((35 ∷ t) ++ bs) ≡ lexemes_from n bs
+AtComment = (n : ℕ) (t bs : List ℕ) → AllByRecursion IsNoLineEnd t → EndsLine bs → lexemes_from n ((35 ∷ t) ++ bs) ≡ lexemes_from n bs

@@ -1,0 +1,72 @@
+// The limits of the numbers in a file.
+
+/// A limit: the number by which a refusal names it, and the least and the greatest number that keep it.
+#[derive(Clone, Copy)]
+pub struct Limit {
+    pub number: u32,
+    pub least: u32,
+    pub greatest: u32,
+}
+
+/// How many days a week has.
+pub const DAYS: Limit = Limit {
+    number: 1,
+    least: 1,
+    greatest: 28,
+};
+
+/// How many weeks there are.
+pub const WEEKS: Limit = Limit {
+    number: 2,
+    least: 1,
+    greatest: 600,
+};
+
+/// How many days all weeks have.
+pub const CELLS: Limit = Limit {
+    number: 3,
+    least: 1,
+    greatest: 4_200,
+};
+
+/// How many shifts there are.
+pub const SHIFTS: Limit = Limit {
+    number: 4,
+    least: 1,
+    greatest: 8,
+};
+
+/// Both numbers of a demand.
+pub const DEMAND: Limit = Limit {
+    number: 5,
+    least: 0,
+    greatest: 600,
+};
+
+/// The start and the length of a shift, in minutes.
+pub const MINUTES: Limit = Limit {
+    number: 6,
+    least: 0,
+    greatest: 10_000,
+};
+
+/// Both bounds of blocks, in days.
+pub const BLOCK: Limit = Limit {
+    number: 7,
+    least: 0,
+    greatest: 10_000,
+};
+
+/// How many pairs are forbidden.
+pub const PAIRS: Limit = Limit {
+    number: 8,
+    least: 0,
+    greatest: 64,
+};
+
+/// How many triples are forbidden.
+pub const TRIPLES: Limit = Limit {
+    number: 9,
+    least: 0,
+    greatest: 64,
+};
