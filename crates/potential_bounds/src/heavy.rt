@@ -53,6 +53,24 @@ pub fn heaviest_in(
     best_word(alloc, layers.layers(), layers.counts(), &gain)
 }
 
+// The layers for the words of one turn from position 0 on.
+pub fn one_turn(
+    alloc: Global,
+    problem: &Problem,
+    tails: &TailRules,
+    doms: &Domains,
+) -> Result<Layers, AllocError>
+    requires same { tails.now.problem ≡ problem.now }
+    requires belongs { BelongsTo problem.now doms.now }
+    ensures problem { IfOk result (λ g. g.problem ≡ problem.now) }
+    ensures rules { IfOk result (λ g. g.rules ≡ tails.now.rules) }
+    ensures domains { IfOk result (λ g. g.store ≡ doms.now) }
+    ensures turn { IfOk result IsOneTurn }
+{
+    problem.keeps_limits();
+    Layers::of(alloc, tails, doms, 0, problem.cells())
+}
+
 /// Whether the bound of one turn from position 0 on holds: whether every word of the layers weighs less than the total.
 pub fn holds_at_top(alloc: Global, layers: &Layers, weights: &Weights) -> Result<bool, AllocError>
     requires { IsOneTurn layers.now }

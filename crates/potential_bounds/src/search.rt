@@ -9,8 +9,7 @@ ghost use Rattle.domain_store.specs.Store.{has_domain, BelongsTo};
 ghost use Rattle.potential_bounds.specs.Heaviest.{IsOneTurn};
 ghost use Rattle.potential_bounds.specs.Searched.{IsFirstSearched, IsFollowing, AreWithin, AreStepped, AreSteppedOn};
 
-use crate::first::one_turn;
-use crate::heavy::{heaviest_in, is_light};
+use crate::heavy::{heaviest_in, is_light, one_turn};
 use domain_store::Domains;
 use layered_cycle::Layers;
 use rwsp_model::{Problem, Weights};

@@ -3,7 +3,7 @@ use Rattle.std.specs.List.{range_with_len}
 use Rattle.rwsp_terms.specs.Instance.{shift_count}
 use Rattle.refutation_terms.specs.Word.{int_sum_by, least_weight}
 use Rattle.potential_bounds.proofs.Products.{IsBetween}
-use Rattle.potential_bounds.proofs.sums.total.Given as goal
+use Rattle.potential_bounds.proofs.totals.total.Given as goal
 
 abbrev pub invariant-loop-i : goal.invariant-loop-i
 invariant-loop-i l =

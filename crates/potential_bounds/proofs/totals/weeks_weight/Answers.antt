@@ -2,7 +2,7 @@ use Rattle.std.proofs.Common.{◌≡◌, ◌∙◌, ap, arith, w64, to_z, of_z}
 use Rattle.std.specs.Prelude.{◌*ℤ◌}
 use Rattle.std.proofs.lemmas.Int.{ints}
 use Rattle.potential_bounds.proofs.Products.{IsBetween, product_small}
-use Rattle.potential_bounds.proofs.sums.weeks_weight.Goals as goal
+use Rattle.potential_bounds.proofs.totals.weeks_weight.Goals as goal
 
 pub returns-clause-above : goal.returns-clause-above
 returns-clause-above c =

@@ -1,7 +1,7 @@
 use Rattle.std.proofs.Common.{arith}
 use Rattle.std.proofs.lemmas.Int.{ints}
 use Rattle.potential_bounds.proofs.Products.{sum_step}
-use Rattle.potential_bounds.proofs.sums.day_total.Goals as goal
+use Rattle.potential_bounds.proofs.totals.day_total.Goals as goal
 
 pub loop-number-preserved : goal.loop-number-preserved
 loop-number-preserved c =

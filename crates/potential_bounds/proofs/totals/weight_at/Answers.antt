@@ -3,7 +3,7 @@ use Rattle.std.proofs.lemmas.Int.{ints}
 use Rattle.rwsp_terms.specs.declared.data.Weight.{Weight}
 use Rattle.rwsp_terms.specs.Weights.{AreWeights, weight_at}
 use Rattle.potential_bounds.proofs.Products.{IsBetween, weight_small}
-use Rattle.potential_bounds.proofs.sums.weight_at.Goals as goal
+use Rattle.potential_bounds.proofs.totals.weight_at.Goals as goal
 
 pub returns-clause-low : goal.returns-clause-low
 returns-clause-low c =

@@ -1,7 +1,7 @@
 use Rattle.std.proofs.Common.{arith}
 use Rattle.std.proofs.lemmas.Int.{ints}
 use Rattle.potential_bounds.proofs.Products.{sum_step}
-use Rattle.potential_bounds.proofs.sums.total.Goals as goal
+use Rattle.potential_bounds.proofs.totals.total.Goals as goal
 
 pub loop-i-preserved : goal.loop-i-preserved
 loop-i-preserved c =

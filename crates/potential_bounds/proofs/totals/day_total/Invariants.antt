@@ -2,7 +2,7 @@ use Rattle.std.proofs.Common.{◌≡◌, ◌*◌}
 use Rattle.std.specs.List.{range_with_len}
 use Rattle.refutation_terms.specs.Word.{int_sum_by, least_weight}
 use Rattle.potential_bounds.proofs.Products.{IsBetween}
-use Rattle.potential_bounds.proofs.sums.day_total.Given as goal
+use Rattle.potential_bounds.proofs.totals.day_total.Given as goal
 
 abbrev pub invariant-loop-number : goal.invariant-loop-number
 invariant-loop-number l =
