@@ -4,10 +4,10 @@ ghost use Rattle.std.specs.List.{range_with_len};
 ghost use Rattle.rwsp_terms.specs.Instance.{cells, IsDay, IsSymbol, off_symbol};
 ghost use Rattle.rwsp_terms.specs.Roster.{weeks_with};
 ghost use Rattle.rwsp_terms.specs.Weights.{weight_at};
-ghost use Rattle.refutation_terms.specs.Sharp.{step};
+ghost use Rattle.refutation_terms.specs.Sharp.{step, AreStepped};
 ghost use Rattle.domain_store.specs.Store.{has_domain, BelongsTo};
 ghost use Rattle.potential_bounds.specs.Heaviest.{IsOneTurn};
-ghost use Rattle.potential_bounds.specs.Searched.{IsFirstSearched, IsFollowing, AreWithin, AreStepped, AreSteppedOn};
+ghost use Rattle.potential_bounds.specs.Searched.{IsFirstSearched, IsFollowing, AreWithin, AreSteppedOn};
 
 use crate::heavy::{heaviest_in, is_light, one_turn};
 use domain_store::Domains;
