@@ -20,14 +20,14 @@ impl Lengths {
 
 /// The rules of a list, by kind.
 #[derive(Debug, Drop)]
-pub(crate) struct Limits {
+pub(crate) struct RuleTables {
     /// Of the blocks of one symbol, by its number.
     pub symbols: [Lengths; 9],
     /// Of the blocks of shifts.
     pub work: Lengths,
     /// Whether a symbol may not follow another, at 9 times the first number plus the second.
     pub pairs: Vec<bool>,
-    /// The same of three symbols, at 81 times the first number plus 9 times the second plus the third.
+    /// Whether three symbols may not follow each other, at 81 times the first number plus 9 times the second plus the third.
     pub triples: Vec<bool>,
 }
 
@@ -51,7 +51,7 @@ fn falls_short(days: u8, least: Option<u32>) -> bool
     }
 }
 
-impl Limits {
+impl RuleTables {
     ghost use Rattle.word_tail.specs.Tables.{no_lengths, pair_in, triple_in, Tells};
     ghost use Rattle.word_tail.specs.Ends.{BreaksRunMax, BreaksWorkMax, BreaksRunMin, BreaksWorkMin, BreaksPair, BreaksTriple, BreaksAny};
 
@@ -92,7 +92,7 @@ impl Limits {
         exceeds(tail.run_of(x), self.of_symbol(x).greatest)
     }
 
-    // Whether it makes the block of shifts at the end too long.
+    // Whether the symbol makes the block of shifts at the end too long.
     fn breaks_work_max(&self, tail: Tail, x: Symbol) -> bool
         ensures { Tells self.now tail x result BreaksWorkMax }
     {
@@ -102,7 +102,7 @@ impl Limits {
         exceeds(tail.work, self.work.greatest)
     }
 
-    // Whether it ends a block of equal symbols that is too short.
+    // Whether the symbol ends a block of equal symbols that is too short.
     fn breaks_run_min(&self, tail: Tail, x: Symbol) -> bool
         ensures { Tells self.now tail x result BreaksRunMin }
     {
@@ -119,21 +119,21 @@ impl Limits {
         falls_short(tail.run, self.of_symbol(last).least)
     }
 
-    // Whether it ends a block of shifts that is too short.
+    // Whether the symbol ends a block of shifts that is too short.
     fn breaks_work_min(&self, tail: Tail, x: Symbol) -> bool
         ensures { Tells self.now tail x result BreaksWorkMin }
     {
         if x.number > 0 {
             return false;
         }
-        // So may shifts that the word begins with.
+        // Shifts that the word begins with may have begun before the word.
         if tail.all_work {
             return false;
         }
         falls_short(tail.work, self.work.least)
     }
 
-    // Whether it may not follow the last symbol.
+    // Whether the symbol may not follow the last one.
     fn breaks_pair(&self, tail: Tail, x: Symbol) -> bool
         requires { length self.now.pairs.items ≡ 81 }
         ensures { Tells self.now tail x result BreaksPair }
@@ -144,7 +144,7 @@ impl Limits {
         }
     }
 
-    // Whether it may not follow the last two.
+    // Whether the symbol may not follow the last two.
     fn breaks_triple(&self, tail: Tail, x: Symbol) -> bool
         requires { length self.now.triples.items ≡ 729 }
         ensures { Tells self.now tail x result BreaksTriple }
@@ -159,7 +159,7 @@ impl Limits {
     }
 
     // Whether the word and the symbol end in a part that breaks a rule of the list.
-    pub fn forbid(&self, tail: Tail, x: Symbol) -> bool
+    pub fn forbids(&self, tail: Tail, x: Symbol) -> bool
         requires pairs { length self.now.pairs.items ≡ 81 }
         requires triples { length self.now.triples.items ≡ 729 }
         ensures { Tells self.now tail x result BreaksAny }

@@ -1,5 +1,5 @@
 use Rattle.word_tail.proofs.Layouts.{shift_of_rule}
-use Rattle.word_tail.proofs.layout.limits_of.Goals as goal
+use Rattle.word_tail.proofs.layout.tables_of.Goals as goal
 
 pub returns : goal.returns
 returns c =

@@ -1,7 +1,7 @@
 use Rattle.std.specs.Prelude.{◌++◌, ◌∷◌, []}
 use Rattle.word_tail.specs.Ends.{BreaksPair}
 use Rattle.word_tail.proofs.RuleTests.{pair_last, never, no_pair}
-use Rattle.word_tail.proofs.limits.Limits.breaks_pair.Goals as goal
+use Rattle.word_tail.proofs.tables.RuleTables.breaks_pair.Goals as goal
 
 pub returns-in-Some : goal.returns-in-Some
 returns-in-Some c = λ P R w tables h.

@@ -1,5 +1,5 @@
 use Rattle.word_tail.proofs.RuleTests.{run_max}
-use Rattle.word_tail.proofs.limits.Limits.breaks_run_max.Goals as goal
+use Rattle.word_tail.proofs.tables.RuleTables.breaks_run_max.Goals as goal
 
 pub returns : goal.returns
 returns c = λ P R w tables h.

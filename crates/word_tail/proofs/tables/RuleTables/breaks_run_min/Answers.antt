@@ -2,7 +2,7 @@ use Rattle.std.proofs.Common.{◌∙◌, sym}
 use Rattle.word_tail.specs.Ends.{BreaksRunMin}
 use Rattle.std.specs.Prelude.{◌++◌, ◌∷◌, []}
 use Rattle.word_tail.proofs.RuleTests.{run_min, never, no_run_min_same, no_run_min_whole}
-use Rattle.word_tail.proofs.limits.Limits.breaks_run_min.Goals as goal
+use Rattle.word_tail.proofs.tables.RuleTables.breaks_run_min.Goals as goal
 
 pub returns-then-eq : goal.returns-then-eq
 returns-then-eq c = λ P R w tables h.

@@ -1,7 +1,7 @@
 use Rattle.std.specs.Prelude.{◌++◌, ◌∷◌, []}
 use Rattle.word_tail.specs.Ends.{BreaksTriple}
 use Rattle.word_tail.proofs.RuleTests.{triple_last, never, no_triple_before}
-use Rattle.word_tail.proofs.limits.Limits.breaks_triple.Goals as goal
+use Rattle.word_tail.proofs.tables.RuleTables.breaks_triple.Goals as goal
 
 pub returns-in-Some-before : goal.returns-in-Some-before
 returns-in-Some-before c = λ P R w tables h.

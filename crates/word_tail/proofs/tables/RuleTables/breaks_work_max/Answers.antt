@@ -1,7 +1,7 @@
 use Rattle.std.proofs.Common.{◌<◌, ap, sym, arith}
 use Rattle.word_tail.specs.declared.tail.Tail.{Tail}
 use Rattle.word_tail.proofs.RuleTests.{work_max}
-use Rattle.word_tail.proofs.limits.Limits.breaks_work_max.Goals as goal
+use Rattle.word_tail.proofs.tables.RuleTables.breaks_work_max.Goals as goal
 
 pub returns : goal.returns
 returns c = λ P R w tables h.

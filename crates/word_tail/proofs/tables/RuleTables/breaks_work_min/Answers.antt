@@ -2,7 +2,7 @@ use Rattle.std.proofs.Common.{◌≡◌, arith}
 use Rattle.std.specs.Prelude.{◌++◌, ◌∷◌, []}
 use Rattle.word_tail.specs.Ends.{BreaksWorkMin}
 use Rattle.word_tail.proofs.RuleTests.{work_min, never, no_work_min_whole}
-use Rattle.word_tail.proofs.limits.Limits.breaks_work_min.Goals as goal
+use Rattle.word_tail.proofs.tables.RuleTables.breaks_work_min.Goals as goal
 
 pub returns-then-tail : goal.returns-then-tail
 returns-then-tail c = λ P R w tables h.

@@ -3,8 +3,8 @@ use Rattle.rwsp_terms.specs.declared.data.Symbol.{Symbol}
 use Rattle.rwsp_terms.specs.declared.data.Rule.TheVariants.{MaxWork, MinWork, Pair}
 use Rattle.word_tail.specs.Ends.{BreaksRunMax, BreaksWorkMax, BreaksRunMin, BreaksWorkMin, BreaksPair, BreaksAny}
 use Rattle.word_tail.proofs.Words.{any_run_max, any_run_min, tells_true, tells_false, last_kind}
-use Rattle.word_tail.proofs.limits.Limits.forbid.Goals as goal
-use Rattle.word_tail.proofs.limits.Limits.forbid.Goals.{then-breaks_run_max-via-then-breaks_run_max, then-breaks_run_max-via-else-breaks_run_max+then-breaks_work_max, then-breaks_run_min-via-then-breaks_run_min, then-breaks_run_min-via-else-breaks_run_min+then-breaks_work_min}
+use Rattle.word_tail.proofs.tables.RuleTables.forbids.Goals as goal
+use Rattle.word_tail.proofs.tables.RuleTables.forbids.Goals.{then-breaks_run_max-via-then-breaks_run_max, then-breaks_run_max-via-else-breaks_run_max+then-breaks_work_max, then-breaks_run_min-via-then-breaks_run_min, then-breaks_run_min-via-else-breaks_run_min+then-breaks_work_min}
 
 pub returns-then-breaks_run_max : goal.returns-then-breaks_run_max
 returns-then-breaks_run_max c = λ P R w tables h.
