@@ -10,35 +10,36 @@ use crate::Layer;
 use crate::growth::{Growth, next_layer};
 use domain_store::Domains;
 use std::alloc::{AllocError, Global};
-use word_tail::{Tail, TailRules};
+use word_tail::{Tail, TailRules, empty_word_is_clean};
 
-// The layers, and how many nodes stand before and behind each.
+// The layers, and how many nodes stand before each and behind the last.
 #[derive(Debug, Drop)]
-pub struct Lattice {
+pub struct LayeredGraph {
     pub layers: Vec<Layer>,
-    pub counts: Vec<u32>,
+    pub node_counts: Vec<u32>,
 }
 
 // The layers for the words of this length from a position on.
-pub fn lattice_of(
+pub fn graph_of(
     alloc: Global,
     tails: &TailRules,
     doms: &Domains,
     p: u32,
     len: u32,
-) -> Result<Lattice, AllocError>
+) -> Result<LayeredGraph, AllocError>
     requires belongs { BelongsTo tails.now.problem doms.now }
     requires position { p < cells tails.now.problem }
     requires few { len ≤ 16800 }
     ensures words { IfOk result (λ g. (u : List Symbol) → IsCleanOver tails.now.problem (has_domain doms.now) p len tails.now.rules u ↔ Leads g.layers.items 0 u) }
     ensures long { IfOk result (λ g. length g.layers.items ≡ len) }
-    ensures layers { IfOk result (λ g. AreLayers g.counts.items g.layers.items) }
+    ensures layers { IfOk result (λ g. AreLayers g.node_counts.items g.layers.items) }
 {
+    empty_word_is_clean();
     doms.facts();
     let cells = doms.cells();
     let mut layers = Vec::new(alloc);
-    let mut counts = Vec::new(alloc);
-    counts.push(1)?;
+    let mut node_counts = Vec::new(alloc);
+    node_counts.push(1)?;
     let mut nodes = Vec::new(alloc);
     nodes.push(Tail::empty())?;
     for i in 0..len {
@@ -50,8 +51,11 @@ pub fn lattice_of(
             &nodes,
         )?;
         layers.push(Layer::of(steps))?;
-        counts.push(next.len() as u32)?;
+        node_counts.push(next.len() as u32)?;
         nodes = next;
     }
-    Ok(Lattice { layers, counts })
+    Ok(LayeredGraph {
+        layers,
+        node_counts,
+    })
 }
