@@ -39,7 +39,7 @@ pub fn search_weights(
     search_in(alloc, &layers, rounds)
 }
 
-// The same by the words of layers.
+// The first of the weights of so many rounds whose bound of one turn holds, by the words of the layers.
 fn search_in(alloc: Global, layers: &Layers, rounds: u32) -> Result<Option<Weights>, AllocError>
     requires turn { IsOneTurn layers.now }
     requires few { rounds ≤ 1000 }
