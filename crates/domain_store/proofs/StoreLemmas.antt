@@ -374,3 +374,18 @@ store_has_domains S now = record {
       let inside : p < length S.sets = inside-where-some S.sets p (omega arith) in
       another-of (domain_at S p) x (All-get_or (IsDomain S.shifts) S.sets p [] inside now.domains).ascends two;
 }
+
+-- a position that has this symbol alone, by the test
+pub has_where_alone : (S : Store) (p x : ℕ) → domain_at S p ≡ x ∷ [] → has_domain S p x ≡ true
+has_where_alone S p x e = ap (λ set. has_symbol set x) e ∙ or_left (eqb x x) false (eq-eqb x x refl)
+
+alone-by-test : (last x : ℕ) (set : List ℕ) → IsDomain last set → ((y : ℕ) → has_symbol set y ≡ true → y ≡ x) → set ≡ x ∷ []
+alone-by-test last x [] domain each = absurd (omega (arith, domain.some))
+alone-by-test last x (y ∷ []) domain each = ap (λ z. z ∷ []) (each y (or_left (eqb y y) false (eq-eqb y y refl)))
+alone-by-test last x (a ∷ b ∷ set) domain each = let other = another-of (a ∷ b ∷ set) x domain.ascends (omega arith) in absurd (other.1 (each other.0 other.2))
+
+pub alone_by_test : (S : Store) (p x : ℕ) (test : Bool) → IsStore S → p < length S.sets → test ≡ true ↔ (domain_at S p ≡ x ∷ []) → test ≡ true ↔ ((y : ℕ) → has_domain S p y ≡ true → y ≡ x)
+alone_by_test S p x test now inside only = (
+  (λ yes y has. sym (at-once x y (ap (λ set. has_symbol set y) (sym (only.0 yes)) ∙ has))),
+  (λ each. only.1 (alone-by-test S.shifts x (domain_at S p) (All-get_or (IsDomain S.shifts) S.sets p [] inside now.domains) each)),
+)

@@ -2,8 +2,9 @@
 use Rattle.std.specs.Prelude.{◌≡◌, ℕ, ◌*◌, ◌≤◌}
 use Rattle.domain_store.specs.Store.{Store, IsStoreThroughout, spare}
 
--- at most this many changes can be on the trail, since each takes a symbol
+-- a store with the count of the symbols to spare, and a trail with room for all changes that there can be
 pub record IsKept (S : Store) (count capacity : ℕ) : Type 0 where
   pub store : IsStoreThroughout S
   pub counted : count ≡ spare S.sets
+  -- each change takes a symbol
   pub room : S.weeks * S.days * S.shifts ≤ capacity

@@ -80,13 +80,15 @@ pub record IsStore (S : Store) : Type 0 where
   -- each change took a symbol at least, and leaves one
   pub room : length S.trail + spare S.sets ≤ S.weeks * S.days * S.shifts
 
--- the same by the test
+-- what is so of each store's domains, by the test of a symbol
 pub record HasDomains (S : Store) : Type 0 where
+  -- no other position has symbols, and none has one above the last
   pub known : (p x : ℕ) → IsTrue (has_domain S p x) → (p < length S.sets) × (x ≤ S.shifts)
   pub some : (p : ℕ) → p < length S.sets → (x : ℕ) × IsTrue (has_domain S p x)
+  -- a domain of one symbol has no other, and a larger one has another beside any
   pub alone : (p x y : ℕ) → length (domain_at S p) ≡ 1 → IsTrue (has_domain S p x) → IsTrue (has_domain S p y) → x ≡ y
   pub others : (p x : ℕ) → 2 ≤ length (domain_at S p) → (y : ℕ) × (y ≢ x) × IsTrue (has_domain S p y)
 
--- it was so at each mark too
+-- it is a store now, and as it stood with each shorter trail
 abbrev pub IsStoreThroughout : Store → Type 0
 IsStoreThroughout S = (len : ℕ) → len ≤ length S.trail → IsStore (store_at S len)

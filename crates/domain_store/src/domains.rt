@@ -172,6 +172,19 @@ impl Domains {
         }
     }
 
+    /// Whether the domain of the position has the symbol and no other.
+    #[tactic(auto, using(crate::proofs::StoreLemmas::has_where_alone))]
+    pub fn has_only(&self, p: u32, x: Symbol) -> bool
+        requires { p < length self.now.sets }
+        ensures only { IsTrue result ↔ (domain_at self.now p ≡ x.number ∷ []) }
+        ensures held { IsTrue result → IsTrue (has_domain self.now p x.number) }
+        ensures others { IsTrue result ↔ ((y : ℕ) → IsTrue (has_domain self.now p y) → y ≡ x.number) }
+    {
+        self.facts();
+        let set = &self.sets[p as usize];
+        set.is_only(x.number)
+    }
+
     /// How many changes the trail has.
     pub fn trail_len(&self) -> usize
         ensures { result ≡ length self.now.trail }

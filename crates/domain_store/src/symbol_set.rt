@@ -114,6 +114,13 @@ impl SymbolSet {
     {
         if self.size() == 1 { self.first() } else { None }
     }
+
+    /// Whether the set has the symbol and no other.
+    pub fn is_only(&self, x: u8) -> bool
+        ensures { IsTrue result ↔ (self.now ≡ x ∷ []) }
+    {
+        self.only() == Some(x)
+    }
 }
 
 fn count_set(flags: &[bool]) -> usize

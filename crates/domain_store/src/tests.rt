@@ -1,6 +1,6 @@
 // Small domains worked by hand.
-ghost use Rattle.std.specs.Prelude.{◌<◌, length};
-ghost use Rattle.domain_store.specs.Store.{HasSameShape};
+ghost use Rattle.std.specs.Prelude.{◌≡◌, ◌<◌, ◌≤◌, length, IsTrue};
+ghost use Rattle.domain_store.specs.Store.{domain_at, has_domain, HasSameShape};
 
 use crate::{Domains, Mark};
 use rwsp_model::{Bounds, DemandRow, Name, Parts, Problem, ShiftRow, Symbol};
@@ -8,127 +8,131 @@ use std::alloc::{AllocError, Global};
 use std::process::Abort;
 use std::test::Fail;
 
-fn shift(alloc: Global, name: u8) -> Result<ShiftRow, AllocError> {
-    Ok(ShiftRow {
-        name: Name::of(vec![in alloc; name]?),
-        start: 360,
-        length: 480,
-        bounds: Bounds {
-            least: 1,
-            greatest: 2,
-        },
-    })
-}
-
-fn demand(alloc: Global) -> Result<DemandRow, AllocError> {
-    let range = Bounds {
-        least: 0,
-        greatest: 1,
-    };
-    Ok(DemandRow::of(vec![in alloc; range, range]?))
-}
-
 // Two weeks of two days, with the shifts D and N.
 fn small_problem(rt: &impl Abort, alloc: Global) -> Result<Problem, AllocError> {
     let bounds = Bounds {
-        least: 1,
-        greatest: 4,
+        least: 0,
+        greatest: 2,
     };
+    let mut demand = Vec::new(alloc);
+    let mut shifts = Vec::new(alloc);
+    for name in [b'D', b'N'] {
+        demand.push(DemandRow::of(vec![in alloc; bounds, bounds]?))?;
+        shifts.push(ShiftRow {
+            name: Name::of(vec![in alloc; name]?),
+            start: 360,
+            length: 480,
+            bounds,
+        })?;
+    }
     let parts = Parts {
         days: 2,
         weeks: 2,
-        demand: vec![in alloc; demand(alloc)?, demand(alloc)?]?,
-        shifts: vec![in alloc; shift(alloc, b'D')?, shift(alloc, b'N')?]?,
+        demand,
+        shifts,
         off: bounds,
         work: bounds,
-        pairs: vec![in alloc]?,
-        triples: vec![in alloc]?,
+        pairs: Vec::new(alloc),
+        triples: Vec::new(alloc),
     };
     Ok(Problem::of(parts).expect(rt, "a problem"))
 }
 
-// That the position may have the symbols of these numbers and no others.
-fn expect(rt: &impl Abort, domains: &Domains, p: u32, numbers: &[u8]) {
-    assert!(rt; p < domains.cells());
-    for number in 0..10 {
-        let held = domains.has(p, Symbol { number });
-        assert_eq!(rt; held, numbers.contains(&number));
+fn small_domains(rt: &impl Abort, alloc: Global) -> Result<Domains, AllocError> {
+    let problem = small_problem(rt, alloc)?;
+    Domains::new(alloc, &problem)
+}
+
+// That each position may have the symbols of its letters, and no others.
+fn expect(rt: &impl Abort, domains: &Domains, letters: &[u8; 15]) {
+    for p in 0..4u32 {
+        assert!(rt; p < domains.cells());
+        for number in 0..10u8 {
+            let held = domains.has(p, Symbol { number });
+            let wanted = number < 3 && letters[4 * p as usize + number as usize] != b'.';
+            assert_eq!(rt; held, wanted, "{p} {number}");
+        }
     }
 }
 
-fn keep(rt: &impl Abort, domains: &mut Domains, p: u32, number: u8)
-    ensures { HasSameShape domains.old domains.new }
+#[derive(Clone, Copy, Debug)]
+enum Step {
+    // leaves the position the symbol alone
+    Keep(u32, u8),
+    // takes the symbol from the position
+    Take(u32, u8),
+    // undoes all changes but so many
+    UndoTo(usize),
+}
+
+// The symbol of the number, which the position has beside another.
+fn open(rt: &impl Abort, domains: &Domains, p: u32, number: u8) -> Symbol
+    ensures value { result.number ≡ number }
+    ensures position { p < length domains.now.sets }
+    ensures held { IsTrue (has_domain domains.now p number) }
+    ensures another { 2 ≤ length (domain_at domains.now p) }
 {
     let x = Symbol { number };
     assert!(rt; p < domains.cells());
     assert!(rt; domains.has(p, x));
     assert!(rt; domains.size(p) >= 2);
-    domains.set_only(p, x);
+    x
 }
 
-fn take(rt: &impl Abort, domains: &mut Domains, p: u32, number: u8)
+fn go(rt: &impl Abort, domains: &mut Domains, step: Step)
     ensures { HasSameShape domains.old domains.new }
 {
-    let x = Symbol { number };
-    assert!(rt; p < domains.cells());
-    assert!(rt; domains.has(p, x));
-    assert!(rt; domains.size(p) >= 2);
-    domains.remove(p, x);
-}
-
-fn undo(rt: &impl Abort, domains: &mut Domains, mark: Mark) {
-    assert!(rt; mark.len <= domains.trail_len());
-    domains.undo_to(mark);
-}
-
-#[test]
-fn changes_are_undone(rt: HostRuntime) -> Result<(), Fail> {
-    let problem = small_problem(&rt, rt.alloc())?;
-    let mut domains = Domains::new(rt.alloc(), &problem)?;
-    expect(&rt, &domains, 3, &[0, 1, 2]);
-    take(&rt, &mut domains, 0, 1);
-    keep(&rt, &mut domains, 1, 2);
-    let mark = domains.mark();
-    take(&rt, &mut domains, 0, 0);
-    expect(&rt, &domains, 0, &[2]);
-    assert_eq!(rt; domains.trail_len(), 3);
-    undo(&rt, &mut domains, mark);
-    expect(&rt, &domains, 0, &[0, 2]);
-    expect(&rt, &domains, 1, &[2]);
-    undo(&rt, &mut domains, Mark { len: 0 });
-    expect(&rt, &domains, 0, &[0, 1, 2]);
-    expect(&rt, &domains, 1, &[0, 1, 2]);
-    Ok(())
+    match step {
+        Step::Keep(p, number) => {
+            let x = open(rt, domains, p, number);
+            domains.set_only(p, x);
+        }
+        Step::Take(p, number) => {
+            let x = open(rt, domains, p, number);
+            domains.remove(p, x);
+        }
+        Step::UndoTo(len) => {
+            assert!(rt; len <= domains.trail_len());
+            domains.undo_to(Mark { len });
+        }
+    }
 }
 
 #[test]
-fn a_deeper_undo_ends_a_mark(rt: HostRuntime) -> Result<(), Fail> {
-    let problem = small_problem(&rt, rt.alloc())?;
-    let mut domains = Domains::new(rt.alloc(), &problem)?;
-    let start = domains.mark();
-    take(&rt, &mut domains, 3, 0);
-    let later = domains.mark();
-    undo(&rt, &mut domains, start);
-    take(&rt, &mut domains, 3, 2);
-    keep(&rt, &mut domains, 0, 0);
-    undo(&rt, &mut domains, later);
-    expect(&rt, &domains, 3, &[0, 1]);
-    expect(&rt, &domains, 0, &[0, 1, 2]);
+fn changes_and_their_undoing(rt: HostRuntime) -> Result<(), Fail> {
+    let mut domains = small_domains(&rt, rt.alloc())?;
+    expect(&rt, &domains, b"-DN -DN -DN -DN");
+    for (step, len, letters) in [
+        (Step::Take(0, 1), 1, b"-.N -DN -DN -DN"),
+        (Step::Keep(1, 2), 2, b"-.N ..N -DN -DN"),
+        (Step::Take(0, 0), 3, b"..N ..N -DN -DN"),
+        (Step::UndoTo(2), 2, b"-.N ..N -DN -DN"),
+        (Step::UndoTo(0), 0, b"-DN -DN -DN -DN"),
+        // A deeper undo ends a mark: other changes stand there then.
+        (Step::Take(3, 0), 1, b"-DN -DN -DN .DN"),
+        (Step::UndoTo(0), 0, b"-DN -DN -DN -DN"),
+        (Step::Take(3, 2), 1, b"-DN -DN -DN -D."),
+        (Step::Keep(0, 0), 2, b"-.. -DN -DN -D."),
+        (Step::UndoTo(1), 1, b"-DN -DN -DN -D."),
+    ] {
+        go(&rt, &mut domains, step);
+        assert_eq!(rt; domains.trail_len(), len);
+        assert_eq!(rt; domains.mark(), Mark { len });
+        expect(&rt, &domains, letters);
+    }
     Ok(())
 }
 
 #[test]
 fn a_copy_goes_its_own_way(rt: HostRuntime) -> Result<(), Fail> {
-    let problem = small_problem(&rt, rt.alloc())?;
-    let mut domains = Domains::new(rt.alloc(), &problem)?;
-    let mark = domains.mark();
-    keep(&rt, &mut domains, 2, 1);
+    let mut domains = small_domains(&rt, rt.alloc())?;
+    go(&rt, &mut domains, Step::Keep(2, 1));
     let mut copy = domains.copy()?;
-    take(&rt, &mut copy, 3, 1);
-    undo(&rt, &mut copy, mark);
-    expect(&rt, &copy, 2, &[0, 1, 2]);
-    expect(&rt, &domains, 2, &[1]);
-    expect(&rt, &domains, 3, &[0, 1, 2]);
+    go(&rt, &mut copy, Step::Take(3, 1));
+    expect(&rt, &copy, b"-DN -DN .D. -.N");
+    go(&rt, &mut copy, Step::UndoTo(0));
+    expect(&rt, &copy, b"-DN -DN -DN -DN");
+    expect(&rt, &domains, b"-DN -DN .D. -DN");
     Ok(())
 }
 
@@ -136,12 +140,12 @@ fn a_copy_goes_its_own_way(rt: HostRuntime) -> Result<(), Fail> {
 fn decided_domains_make_a_roster(rt: HostRuntime) -> Result<(), Fail> {
     let problem = small_problem(&rt, rt.alloc())?;
     let mut domains = Domains::new(rt.alloc(), &problem)?;
-    keep(&rt, &mut domains, 0, 1);
-    keep(&rt, &mut domains, 1, 2);
-    keep(&rt, &mut domains, 2, 0);
-    take(&rt, &mut domains, 3, 0);
+    go(&rt, &mut domains, Step::Keep(0, 1));
+    go(&rt, &mut domains, Step::Keep(1, 2));
+    go(&rt, &mut domains, Step::Keep(2, 0));
+    go(&rt, &mut domains, Step::Take(3, 0));
     assert!(rt; !domains.decided());
-    take(&rt, &mut domains, 3, 2);
+    go(&rt, &mut domains, Step::Take(3, 2));
     assert!(rt; domains.decided());
     let roster = domains.to_roster(&problem)?;
     let wanted = [1, 2, 0, 1].map(|number| Symbol { number });

@@ -12,7 +12,6 @@ use Rattle.refutation_terms.proofs.Windows.{clean-part}
 use Rattle.word_tail.specs.Listed.{Listed}
 use Rattle.word_tail.specs.Tails.{tail_of}
 use Rattle.word_tail.specs.declared.tail.Tail.{Tail}
-use Rattle.word_tail.proofs.Words.{empty_clean}
 use Rattle.word_tail.proofs.Lists.{ends}
 use Rattle.layered_cycle.specs.declared.step.Step.{Step}
 use Rattle.layered_cycle.specs.Graph.{Leads, IsLayer, AreLayers}
@@ -51,15 +50,15 @@ pub record Reaches (T : Listed) (D : Domains) (p i : ℕ) (layers : List (List S
   pub only : (u : List Symbol) (k : ℕ) → LeadsTo layers 0 u k → IsCleanOver T.problem D p i T.rules u × StandsAt nodes k (tail_of u)
   pub each : (k : ℕ) → k < length nodes → (u : List Symbol) × LeadsTo layers 0 u k
 
-pub reaches_none : (T : Listed) (D : Domains) (p : ℕ) → Reaches T D p 0 [] (tail_of [] ∷ [])
-reaches_none T D p = record { found = found; only = only; each = λ k h. ([], omega (arith, h)) }
+pub reaches_none : (T : Listed) (D : Domains) (p : ℕ) → Clean T.problem T.rules [] → Reaches T D p 0 [] (tail_of [] ∷ [])
+reaches_none T D p clean = record { found = found; only = only; each = λ k h. ([], omega (arith, h)) }
   where
     found : (u : List Symbol) → IsCleanOver T.problem D p 0 T.rules u → (k : ℕ) × StandsAt (tail_of [] ∷ []) k (tail_of u) × LeadsTo [] 0 u k
     found [] h = (0, (omega arith, refl), refl)
     found (x ∷ u) h = absurd (omega (arith, h.long))
 
     only : (u : List Symbol) (k : ℕ) → LeadsTo [] 0 u k → IsCleanOver T.problem D p 0 T.rules u × StandsAt (tail_of [] ∷ []) k (tail_of u)
-    only [] k h = (record { long = refl; over = tt; clean = empty_clean T.problem T.rules }, (omega (arith, h), subst (λ (n : ℕ). get_or (tail_of [] ∷ []) n (tail_of []) ≡ tail_of []) h refl))
+    only [] k h = (record { long = refl; over = tt; clean = clean }, (omega (arith, h), subst (λ (n : ℕ). get_or (tail_of [] ∷ []) n (tail_of []) ≡ tail_of []) h refl))
     only (x ∷ u) k h = absurd h
 
 pub reaches_more : (T : Listed) (D : Domains) (p i q : ℕ) (layers : List (List Step)) (nodes : List Tail) (steps : List Step) (next : List Tail) → q ≡ (p + i) % cells T.problem → Reaches T D p i layers nodes → Grown T D q nodes steps next (length nodes) 0 → Reaches T D p (i + 1) (layers ++ steps ∷ []) next
@@ -142,9 +141,9 @@ pub record Built (T : Listed) (D : Domains) (p i : ℕ) (layers : List (List Ste
   pub counted : slice_index counts (length layers) ≡ length nodes
   pub few : length nodes < 2 ^ 32
 
-pub built_none : (T : Listed) (D : Domains) (p : ℕ) → Built T D p 0 [] (1 ∷ []) (tail_of [] ∷ [])
-built_none T D p = record {
-  reaches = reaches_none T D p;
+pub built_none : (T : Listed) (D : Domains) (p : ℕ) → Clean T.problem T.rules [] → Built T D p 0 [] (1 ∷ []) (tail_of [] ∷ [])
+built_none T D p clean = record {
+  reaches = reaches_none T D p clean;
   are_layers = record { long = refl; first = refl; each = λ i h. absurd (omega (arith, h)) };
   long = refl;
   counted = refl;
@@ -160,17 +159,13 @@ built_more T D p i q layers counts nodes steps next place b g = record {
   few = g.few;
 }
 
--- the nodes behind some layers
-abbrev pub AreNodes : Listed → Domains → ℕ → ℕ → List Tail → Type 0
-AreNodes T D p i nodes = (layers : List (List Step)) × Reaches T D p i layers nodes
-
 -- the nodes behind some layers, numbered below the bound
 pub record AreTails (T : Listed) (D : Domains) (p i : ℕ) (nodes : List Tail) : Type 0 where
-  pub behind : AreNodes T D p i nodes
+  pub behind : (layers : List (List Step)) × Reaches T D p i layers nodes
   pub few : length nodes < 2 ^ 32
 
-pub tails_none : (T : Listed) (D : Domains) (p : ℕ) → AreTails T D p 0 (tail_of [] ∷ [])
-tails_none T D p = record { behind = ([], reaches_none T D p); few = omega arith }
+pub tails_none : (T : Listed) (D : Domains) (p : ℕ) → Clean T.problem T.rules [] → AreTails T D p 0 (tail_of [] ∷ [])
+tails_none T D p clean = record { behind = ([], reaches_none T D p clean); few = omega arith }
 
 pub tails_more : (T : Listed) (D : Domains) (p i q : ℕ) (nodes : List Tail) (steps : List Step) (next : List Tail) → q ≡ (p + i) % cells T.problem → AreTails T D p i nodes → Grown T D q nodes steps next (length nodes) 0 → AreTails T D p (i + 1) next
 tails_more T D p i q nodes steps next place a g = record {

@@ -16,9 +16,10 @@ pub record WordGraph : Type 0 where
   -- the position of the words' first day, and their length in days
   pub position : ℕ
   pub len : ℕ
-  -- the steps of each day, and the numbers of nodes before and behind
+  -- the steps of each day
   pub layers : List (List Step)
-  pub counts : List ℕ
+  -- how many nodes stand before each day, and behind the last
+  pub node_counts : List ℕ
 
 -- what is so of each word graph
 pub record IsWordGraph (g : WordGraph) : Type 0 where
@@ -27,6 +28,6 @@ pub record IsWordGraph (g : WordGraph) : Type 0 where
   pub some : 1 ≤ g.len
   pub few : g.len ≤ 16800
   pub long : length g.layers ≡ g.len
-  pub layers : AreLayers g.counts g.layers
+  pub layers : AreLayers g.node_counts g.layers
   -- the clean words over the domains are those that lead to the end
   pub words : (u : List Symbol) → IsCleanOver g.problem (has_domain g.store) g.position g.len g.rules u ↔ Leads g.layers 0 u

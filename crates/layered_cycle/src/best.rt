@@ -21,17 +21,6 @@ pub trait Gain {
         ensures high { result ≤ℤ pos 1000 };
 }
 
-/// No symbol gains anything.
-pub struct NoGain;
-
-impl Gain for NoGain {
-    ghost gain_of = { λ g day x. pos 0 };
-
-    fn gain(&self, _day: u32, _symbol: Symbol) -> i32 {
-        0
-    }
-}
-
 /// A word with its weight.
 #[derive(Debug, Drop)]
 pub struct HeavyWord {
@@ -40,18 +29,18 @@ pub struct HeavyWord {
 }
 
 /// The heaviest word that leads through the layers, and the least of that weight; None exactly where no word leads through them.
-/// The layers have so many nodes each.
+/// So many nodes stand before each layer, and behind the last.
 pub fn best_word<G: Gain>(
     alloc: Global,
     layers: &[Layer],
-    counts: &[u32],
+    node_counts: &[u32],
     gain: &G,
 ) -> Result<Option<HeavyWord>, AllocError>
     requires few { length layers.now ≤ 16800 }
-    requires layers { AreLayers counts.now layers.now }
+    requires layers { AreLayers node_counts.now layers.now }
     ensures { IfOk result (λ found. MatchOption found (NoneLeads layers.now) (λ h. IsBest (G.gain_of gain.now) layers.now h.weight h.word)) }
 {
-    let rows = rows_of(alloc, layers, counts, gain)?;
+    let rows = rows_of(alloc, layers, node_counts, gain)?;
     match rows.first().at(0) {
         Some(choice) => {
             let word = word_by(alloc, rows)?;
@@ -68,22 +57,22 @@ pub fn best_word<G: Gain>(
 fn rows_of<G: Gain>(
     alloc: Global,
     layers: &[Layer],
-    counts: &[u32],
+    node_counts: &[u32],
     gain: &G,
 ) -> Result<Rows, AllocError>
     requires few { length layers.now ≤ 16800 }
-    requires layers { AreLayers counts.now layers.now }
+    requires layers { AreLayers node_counts.now layers.now }
     ensures rows { IfOk result (λ rows. AreRows (G.gain_of gain.now) 0 layers.now rows) }
     ensures first { IfOk result (λ rows. length (first_row rows) ≡ 1) }
 {
-    let end = ChoiceRow::of(alloc, counts[layers.len()], Some(END))?;
+    let end = ChoiceRow::of(alloc, node_counts[layers.len()], Some(END))?;
     let mut rows = Rows::of(alloc, end);
     let mut day = layers.len();
     while 0 < day {
         day -= 1;
         let row = row_before(
             alloc,
-            counts[day],
+            node_counts[day],
             layers[day].steps(),
             rows.first(),
             day as u32,

@@ -1,18 +1,18 @@
 // Cuts.
-ghost use Rattle.std.specs.Prelude.{ℕ, ◌<◌, ◌≤◌, List, IfOk, MatchBool, MatchOption};
+ghost use Rattle.std.specs.Prelude.{ℕ, ◌<◌, ◌≤◌, List, IfOk, MatchBool, MatchOption, pos};
 ghost use Rattle.rwsp_terms.specs.Instance.{cells};
 ghost use Rattle.rwsp_terms.specs.declared.data.Symbol.{Symbol};
 ghost use Rattle.refutation_terms.specs.Leaf.{IsDead};
 ghost use Rattle.refutation_terms.specs.Escape.{IsCleanOver, IsLeastClean};
 ghost use Rattle.domain_store.specs.Store.{has_domain, BelongsTo};
 
+use crate::graph::{LayeredGraph, graph_of};
 use crate::growth::{Growth, next_layer};
-use crate::lattice::{Lattice, lattice_of};
-use crate::{HeavyWord, NoGain, best_word};
+use crate::{Gain, HeavyWord, best_word};
 use domain_store::Domains;
-use rwsp_terms::Word;
+use rwsp_terms::{Symbol, Word};
 use std::alloc::{AllocError, Global};
-use word_tail::{Tail, TailRules};
+use word_tail::{Tail, TailRules, empty_word_is_clean};
 
 /// A cut between the days of the cycle: whether clean words go on from there.
 pub struct Cut;
@@ -33,6 +33,7 @@ impl Cut {
             ((u : List Symbol) × IsCleanOver tails.now.problem (has_domain doms.now) p len tails.now.rules u)
             (IsDead tails.now.problem (has_domain doms.now) p len tails.now.rules)) }
     {
+        empty_word_is_clean();
         doms.facts();
         let cells = doms.cells();
         let mut nodes = Vec::new(alloc);
@@ -63,9 +64,23 @@ pub fn escape(
         (IsDead tails.now.problem (has_domain doms.now) p len tails.now.rules)
         (λ w. IsLeastClean tails.now.problem (has_domain doms.now) p len tails.now.rules w)) }
 {
-    let Lattice { layers, counts } = lattice_of(alloc, tails, doms, p, len)?;
-    match best_word(alloc, &layers, &counts, &NoGain)? {
+    let LayeredGraph {
+        layers,
+        node_counts,
+    } = graph_of(alloc, tails, doms, p, len)?;
+    match best_word(alloc, &layers, &node_counts, &NoGain)? {
         Some(HeavyWord { weight: _, word }) => Ok(Some(word)),
         None => Ok(None),
+    }
+}
+
+// No symbol gains anything.
+struct NoGain;
+
+impl Gain for NoGain {
+    ghost gain_of = { λ g day x. pos 0 };
+
+    fn gain(&self, _day: u32, _symbol: Symbol) -> i32 {
+        0
     }
 }

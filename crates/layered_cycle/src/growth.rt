@@ -42,6 +42,7 @@ fn node_of(nodes: &mut Vec<Tail>, tail: Tail) -> Result<u32, AllocError>
         return Ok(place as u32);
     }
     let place = nodes.len();
+    // Never so: the nodes differ, and words of nine symbols have fewer than a million tails.
     if place >= u32::MAX as usize {
         return Err(AllocError);
     }

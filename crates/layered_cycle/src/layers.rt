@@ -7,7 +7,7 @@ ghost use Rattle.domain_store.specs.Store.{has_domain, BelongsTo};
 ghost use Rattle.layered_cycle.specs.Graph.{Leads};
 
 use crate::Layer;
-use crate::lattice::{Lattice, lattice_of};
+use crate::graph::{LayeredGraph, graph_of};
 use domain_store::Domains;
 use rwsp_model::{Problem, RuleList};
 use std::alloc::{AllocError, Global};
@@ -24,8 +24,7 @@ pub struct Layers {
     domains: Domains,
     position: u32,
     len: u32,
-    layers: Vec<Layer>,
-    counts: Vec<u32>,
+    graph: LayeredGraph,
 }
 
 impl Model for Layers {
@@ -33,9 +32,9 @@ impl Model for Layers {
 
     ghost Value = { WordGraph };
 
-    ghost view = { λ g. record { problem = g.problem; rules = g.rules; store = g.domains; position = g.position; len = g.len; layers = g.layers.items; counts = g.counts.items } };
+    ghost view = { λ g. record { problem = g.problem; rules = g.rules; store = g.domains; position = g.position; len = g.len; layers = g.graph.layers.items; node_counts = g.graph.node_counts.items } };
 
-    ghost invariant = { λ g. IsWordGraph (record { problem = g.problem; rules = g.rules; store = g.domains; position = g.position; len = g.len; layers = g.layers.items; counts = g.counts.items }) };
+    ghost invariant = { λ g. IsWordGraph (record { problem = g.problem; rules = g.rules; store = g.domains; position = g.position; len = g.len; layers = g.graph.layers.items; node_counts = g.graph.node_counts.items }) };
 }
 
 impl Layers {
@@ -60,7 +59,7 @@ impl Layers {
         ensures graph { IfOk result IsWordGraph }
         ensures words { IfOk result (λ g. (u : List Symbol) → IsCleanOver tails.now.problem (has_domain doms.now) p len tails.now.rules u ↔ Leads g.layers 0 u) }
     {
-        let Lattice { layers, counts } = lattice_of(alloc, tails, doms, p, len)?;
+        let graph = graph_of(alloc, tails, doms, p, len)?;
         let problem = tails.problem().copy()?;
         let rules = tails.rules().copy()?;
         let domains = doms.copy()?;
@@ -70,8 +69,7 @@ impl Layers {
             domains,
             position: p,
             len,
-            layers,
-            counts,
+            graph,
         })
     }
 
@@ -79,7 +77,7 @@ impl Layers {
     pub fn facts(&self)
         ensures { IsWordGraph self.now }
     {
-        let _ = &self.layers;
+        let _ = &self.graph;
     }
 
     /// The problem.
@@ -121,13 +119,13 @@ impl Layers {
     pub fn layers(&self) -> &[Layer]
         ensures { result.now ≡ self.now.layers }
     {
-        &self.layers
+        &self.graph.layers
     }
 
     /// How many nodes stand before each layer, and behind the last.
-    pub fn counts(&self) -> &[u32]
-        ensures { result.now ≡ self.now.counts }
+    pub fn node_counts(&self) -> &[u32]
+        ensures { result.now ≡ self.now.node_counts }
     {
-        &self.counts
+        &self.graph.node_counts
     }
 }

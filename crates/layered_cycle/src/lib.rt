@@ -4,15 +4,15 @@
 mod best;
 mod choice;
 mod cut;
+mod graph;
 mod growth;
-mod lattice;
 mod layers;
 mod sharing;
 mod step;
 #[cfg(test)]
 mod tests;
 
-pub use best::{Gain, HeavyWord, NoGain, best_word};
+pub use best::{Gain, HeavyWord, best_word};
 pub use cut::{Cut, escape};
 pub use layers::Layers;
 pub use step::{Layer, Step};

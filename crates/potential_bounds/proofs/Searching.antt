@@ -1,5 +1,5 @@
 -- The weights of a round are one, and the search goes on from round to round.
-use Rattle.std.proofs.Common.{◌≡◌, ℕ, zero, suc, ◌+◌, List, [], ◌∷◌, refl, ap, sym, ◌∙◌, subst, arith, inl, inr, ⊎_elim, below_more, Option, Some, Bool, false}
+use Rattle.std.proofs.Common.{◌≡◌, ℕ, zero, suc, ◌+◌, List, [], ap, sym, ◌∙◌, subst, arith, ⊎_elim, below_more, Option, Some, Bool, false}
 use Rattle.std.specs.Prelude.{◌↔◌, IsTrue}
 use Rattle.std.proofs.lemmas.Int.{ints}
 use Rattle.rwsp_terms.specs.declared.data.Symbol.{Symbol}
@@ -8,26 +8,26 @@ use Rattle.rwsp_terms.specs.Instance.{Instance, cells}
 use Rattle.rwsp_terms.specs.Weights.{weight_at}
 use Rattle.rwsp_terms.proofs.SameLists.{same_weights}
 use Rattle.refutation_terms.specs.Word.{Domains}
-use Rattle.refutation_terms.specs.Escape.{ComesFirst, IsLeastHeaviest}
-use Rattle.refutation_terms.specs.Sharp.{step, IsNext, IsSearched, HoldsAtTop}
+use Rattle.refutation_terms.specs.Escape.{IsLeastHeaviest}
+use Rattle.refutation_terms.specs.Sharp.{step, AreStepped, IsNext, IsSearched, HoldsAtTop}
 use Rattle.refutation_terms.proofs.Causes.{first_same}
 use Rattle.domain_store.specs.Store.{has_domain}
 use Rattle.layered_cycle.specs.declared.best.HeavyWord.{HeavyWord}
 use Rattle.layered_cycle.specs.WordGraph.{WordGraph}
 use Rattle.potential_bounds.specs.Heaviest.{IsHeaviestFound, IsOneTurn}
-use Rattle.potential_bounds.specs.Searched.{NoneHolds, IsFollowing, AreWithin, AreStepped}
+use Rattle.potential_bounds.specs.Searched.{NoneHolds, IsFollowing, AreWithin}
 use Rattle.potential_bounds.proofs.Stepping.{IsInside, inside_or_not, zero_outside, stepped_within}
 
 next_same : (P : Instance) (D : Domains) (R : List ℕ) (y a b : List Weight) → IsNext P D R y a → IsNext P D R y b → a ≡ b
-next_same P D R y a b h k = same_weights a b h.are_weights.0 k.are_weights.0 same
+next_same P D R y a b h k = same_weights a b h.stepped.are_weights.0 k.stepped.are_weights.0 same
   where
     word : h.word ≡ k.word
     word = first_same h.word k.word (h.is_heaviest.least k.word k.is_heaviest.heavy) (k.is_heaviest.least h.word h.is_heaviest.heavy)
 
     same : (j x : ℕ) → weight_at a j x ≡ weight_at b j x
     same j x =
-        ⊎_elim (λ (inside : IsInside P j x). h.values j x inside.0 inside.1 ∙ ap (λ w. step P y w j x) word ∙ sym (k.values j x inside.0 inside.1))
-        (λ (outside : IsInside P j x → ⊥). zero_outside P a h.are_weights j x outside ∙ sym (zero_outside P b k.are_weights j x outside))
+        ⊎_elim (λ (inside : IsInside P j x). h.stepped.values j x inside.0 inside.1 ∙ ap (λ w. step P y w j x) word ∙ sym (k.stepped.values j x inside.0 inside.1))
+        (λ (outside : IsInside P j x → ⊥). zero_outside P a h.stepped.are_weights j x outside ∙ sym (zero_outside P b k.stepped.are_weights j x outside))
         (inside_or_not P j x)
 
 searched_same : (P : Instance) (D : Domains) (R : List ℕ) (k : ℕ) (y z : List Weight) → IsSearched P D R k y → IsSearched P D R k z → y ≡ z
@@ -53,7 +53,7 @@ reached_start P D R y is =
     }
 
 next_within : (P : Instance) (D : Domains) (R : List ℕ) (n : ℕ) (y next : List Weight) → AreWithin n y → IsNext P D R y next → AreWithin (n + 1) next
-next_within P D R n y next h is = stepped_within P y next is.word n h (record { are_weights = is.are_weights; values = is.values })
+next_within P D R n y next h is = stepped_within P y next is.word n h is.stepped
 
 pub reached_more : (P : Instance) (D : Domains) (R : List ℕ) (k : ℕ) (y next : List Weight) → IsReached P D R k y → IsFollowing P D R y (Some next) → IsReached P D R (k + 1) next
 reached_more P D R k y next h is =
@@ -70,7 +70,7 @@ reached_more P D R k y next h is =
 
 -- the weights a step on by the least of the heaviest words follow, where the bound doesn't hold
 pub followed : (g : WordGraph) (y : List Weight) (found : Option HeavyWord) (h : HeavyWord) (P : Instance) (word : List Symbol) (light : Bool) (next : List Weight) → IsOneTurn g → IsHeaviestFound g.problem (has_domain g.store) g.position g.len g.rules y found → found ≡ Some h → IsTrue light ↔ HoldsAtTop g.problem (has_domain g.store) g.rules y → light ≡ false → P ≡ g.problem → word ≡ h.word → AreStepped P y word next → IsFollowing g.problem (has_domain g.store) g.rules y (Some next)
-followed g y found h P word light next turn is some test fails same letters stepped = (never, record { word = h.word; is_heaviest = heaviest; are_weights = here.are_weights; values = here.values })
+followed g y found h P word light next turn is some test fails same letters stepped = (never, record { word = h.word; is_heaviest = heaviest; stepped = here })
   where
     never : HoldsAtTop g.problem (has_domain g.store) g.rules y → ⊥
     never holds =

@@ -10,8 +10,8 @@ use Rattle.rwsp_terms.specs.Roster.{weeks_with}
 use Rattle.rwsp_terms.specs.Weights.{IsWeight, AreWeights, ComesBefore, weight_at}
 use Rattle.rwsp_terms.specs.Places.{SetsWeight}
 use Rattle.refutation_terms.specs.Log.{AreWeightsOf}
-use Rattle.refutation_terms.specs.Sharp.{step}
-use Rattle.potential_bounds.specs.Searched.{AreWithin, AreStepped, AreSteppedOn}
+use Rattle.refutation_terms.specs.Sharp.{step, AreStepped}
+use Rattle.potential_bounds.specs.Searched.{AreWithin, AreSteppedOn}
 use Rattle.potential_bounds.proofs.Products.{IsBetween}
 
 -- a day and a symbol of the problem

@@ -2,10 +2,9 @@
 use Rattle.std.specs.Prelude.{◌≡◌, ℕ, ◌<◌, ◌≤◌, List, Option, Some, None, neg_ℤ, pos, ◌≤ℤ◌}
 use Rattle.rwsp_terms.specs.declared.data.Symbol.{Symbol}
 use Rattle.rwsp_terms.specs.declared.data.Weight.{Weight}
-use Rattle.rwsp_terms.specs.Instance.{Instance, shift_count, IsDay}
+use Rattle.rwsp_terms.specs.Instance.{Instance, shift_count}
 use Rattle.rwsp_terms.specs.Weights.{weight_at}
 use Rattle.refutation_terms.specs.Word.{Domains}
-use Rattle.refutation_terms.specs.Log.{AreWeightsOf}
 use Rattle.refutation_terms.specs.Sharp.{step, IsNext, IsSearched, HoldsAtTop}
 
 -- none of the first so many rounds has weights whose bound holds
@@ -25,11 +24,6 @@ IsFollowing P D R y (Some next) = (HoldsAtTop P D R y → ⊥) × IsNext P D R y
 -- each value is one from -n to n
 abbrev pub AreWithin : ℕ → List Weight → Type 0
 AreWithin n y = (j x : ℕ) → (neg_ℤ (pos n) ≤ℤ weight_at y j x) × (weight_at y j x ≤ℤ pos n)
-
--- each weight went by one step, by a word
-pub record AreStepped (P : Instance) (y : List Weight) (word : List Symbol) (next : List Weight) : Type 0 where
-  pub are_weights : AreWeightsOf P next
-  pub values : (j x : ℕ) → IsDay P j → x ≤ shift_count P → weight_at next j x ≡ step P y word j x
 
 -- on one day each weight went by one step, and on other days nothing changed
 pub record AreSteppedOn (P : Instance) (y : List Weight) (word : List Symbol) (day : ℕ) (old new : List Weight) : Type 0 where

@@ -6,7 +6,8 @@ ghost use Rattle.domain_store.specs.Store.{has_domain, BelongsTo};
 ghost use Rattle.potential_bounds.specs.Heaviest.{IsOneTurn};
 ghost use Rattle.potential_bounds.specs.First.{IsFirst, first_answer};
 
-use crate::heavy::holds_at_top;
+use crate::gate::Gate;
+use crate::heavy::{holds_at_top, one_turn};
 use crate::plain::plain_bounds;
 use domain_store::Domains;
 use layered_cycle::Layers;
@@ -15,18 +16,6 @@ use std::alloc::{AllocError, Global};
 use std::thread;
 use std::thread::Threads;
 use word_tail::TailRules;
-
-/// What each worker passes before it begins a chunk. Chunks count from 1.
-pub trait Gate: Sync {
-    fn enter(&self, chunk: u32);
-}
-
-/// A gate that lets every worker pass at once.
-pub struct NoGate;
-
-impl Gate for NoGate {
-    fn enter(&self, _chunk: u32) {}
-}
 
 /// The index of the first plain bound that holds with the rules of the tails, for one turn from position 0; none exactly where none does.
 /// The bounds are cut into chunks of equal length, one for each worker, and each worker passes the gate once.
@@ -77,24 +66,6 @@ fn first_holding<R: Threads + Sync, G: Gate>(
         { first_of_chunk(alloc, layers, gate, (start / size) as u32 + 1, start, chunk) },
     )?;
     first_answer(&answers)
-}
-
-// The layers for the words of one turn from position 0 on.
-pub fn one_turn(
-    alloc: Global,
-    problem: &Problem,
-    tails: &TailRules,
-    doms: &Domains,
-) -> Result<Layers, AllocError>
-    requires same { tails.now.problem ≡ problem.now }
-    requires belongs { BelongsTo problem.now doms.now }
-    ensures problem { IfOk result (λ g. g.problem ≡ problem.now) }
-    ensures rules { IfOk result (λ g. g.rules ≡ tails.now.rules) }
-    ensures domains { IfOk result (λ g. g.store ≡ doms.now) }
-    ensures turn { IfOk result IsOneTurn }
-{
-    problem.keeps_limits();
-    Layers::of(alloc, tails, doms, 0, problem.cells())
 }
 
 // The first bound of a chunk that holds, by its index among all.

@@ -36,7 +36,7 @@ pub fn heaviest(
     heaviest_in(alloc, &layers, weights)
 }
 
-/// The same of the words of layers.
+/// The weight of the heaviest words of the layers, with the least of them. None exactly where no word leads through them.
 pub fn heaviest_in(
     alloc: Global,
     layers: &Layers,
@@ -50,7 +50,25 @@ pub fn heaviest_in(
         position: layers.position(),
         days: layers.problem().days(),
     };
-    best_word(alloc, layers.layers(), layers.counts(), &gain)
+    best_word(alloc, layers.layers(), layers.node_counts(), &gain)
+}
+
+// The layers for the words of one turn from position 0 on.
+pub fn one_turn(
+    alloc: Global,
+    problem: &Problem,
+    tails: &TailRules,
+    doms: &Domains,
+) -> Result<Layers, AllocError>
+    requires same { tails.now.problem ≡ problem.now }
+    requires belongs { BelongsTo problem.now doms.now }
+    ensures problem { IfOk result (λ g. g.problem ≡ problem.now) }
+    ensures rules { IfOk result (λ g. g.rules ≡ tails.now.rules) }
+    ensures domains { IfOk result (λ g. g.store ≡ doms.now) }
+    ensures turn { IfOk result IsOneTurn }
+{
+    problem.keeps_limits();
+    Layers::of(alloc, tails, doms, 0, problem.cells())
 }
 
 /// Whether the bound of one turn from position 0 on holds: whether every word of the layers weighs less than the total.
@@ -64,7 +82,7 @@ pub fn holds_at_top(alloc: Global, layers: &Layers, weights: &Weights) -> Result
     }
 }
 
-/// The same by the heaviest word of the layers.
+// Whether the bound of one turn from position 0 on holds, by the heaviest word of the layers.
 pub fn is_light(layers: &Layers, weights: &Weights, heavy: &HeavyWord) -> bool
     requires turn { IsOneTurn layers.now }
     requires heavy { IsHeaviestFound layers.now.problem (has_domain layers.now.store) layers.now.position layers.now.len layers.now.rules weights.now (Some heavy.now) }

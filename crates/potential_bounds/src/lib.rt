@@ -2,17 +2,19 @@
 #![tactic(auto)]
 
 mod first;
+mod gate;
 mod heavy;
 mod plain;
 mod search;
-mod sums;
 #[cfg(test)]
 mod tests;
+mod totals;
 
-pub use first::{Gate, NoGate, first_plain};
+pub use first::first_plain;
+pub use gate::{Gate, NoGate};
 pub use heavy::{heaviest, heaviest_in, holds_at_top};
 pub use layered_cycle::HeavyWord;
 pub use plain::plain_bounds;
 pub use rwsp_model::Weights;
 pub use search::search_weights;
-pub use sums::total;
+pub use totals::total;

@@ -2,13 +2,12 @@
 ghost use Rattle.std.specs.Prelude.{◌≡◌, ℕ, ◌+◌, ◌-◌, ◌*◌, ◌<◌, ◌≤◌, ◌==◌, ◌≤ℤ◌, pos, neg_ℤ, length, count_by, slice_index_or, IfOk, OnOk};
 ghost use Rattle.rwsp_terms.specs.Instance.{cells, IsDay, IsSymbol};
 ghost use Rattle.rwsp_terms.specs.Weights.{weight_at};
-ghost use Rattle.refutation_terms.specs.Sharp.{step};
+ghost use Rattle.refutation_terms.specs.Sharp.{step, AreStepped};
 ghost use Rattle.domain_store.specs.Store.{has_domain, BelongsTo};
 ghost use Rattle.potential_bounds.specs.Heaviest.{IsOneTurn};
-ghost use Rattle.potential_bounds.specs.Searched.{IsFirstSearched, IsFollowing, AreWithin, AreStepped, AreSteppedOn};
+ghost use Rattle.potential_bounds.specs.Searched.{IsFirstSearched, IsFollowing, AreWithin, AreSteppedOn};
 
-use crate::first::one_turn;
-use crate::heavy::{heaviest_in, is_light};
+use crate::heavy::{heaviest_in, is_light, one_turn};
 use domain_store::Domains;
 use layered_cycle::Layers;
 use rwsp_model::{Problem, Weights, weeks_with};
@@ -38,7 +37,7 @@ pub fn search_weights(
     search_in(alloc, &layers, rounds)
 }
 
-// The same by the words of layers.
+// The first of the weights of so many rounds whose bound of one turn holds, by the words of the layers.
 fn search_in(alloc: Global, layers: &Layers, rounds: u32) -> Result<Option<Weights>, AllocError>
     requires turn { IsOneTurn layers.now }
     requires few { rounds ≤ 1000 }

@@ -175,14 +175,18 @@ two_rounds = (
     record {
       word = symbol_numbered 0 ∷ symbol_numbered 1 ∷ [];
       is_heaviest = first_word;
-      are_weights = round_one_weights;
-      values = each_value (λ j x. weight_at (weight_of 1 0 (negsuc 0) ∷ weight_of 1 1 (pos 1) ∷ []) j x ≡ step two_in_a_row [] (symbol_numbered 0 ∷ symbol_numbered 1 ∷ []) j x) refl refl refl refl;
+      stepped = record {
+        are_weights = round_one_weights;
+        values = each_value (λ j x. weight_at (weight_of 1 0 (negsuc 0) ∷ weight_of 1 1 (pos 1) ∷ []) j x ≡ step two_in_a_row [] (symbol_numbered 0 ∷ symbol_numbered 1 ∷ []) j x) refl refl refl refl;
+      };
     },
   ),
   record {
     word = symbol_numbered 1 ∷ symbol_numbered 0 ∷ [];
     is_heaviest = second_word;
-    are_weights = searched_are_weights;
-    values = each_value (λ j x. weight_at searched_weights j x ≡ step two_in_a_row (weight_of 1 0 (negsuc 0) ∷ weight_of 1 1 (pos 1) ∷ []) (symbol_numbered 1 ∷ symbol_numbered 0 ∷ []) j x) refl refl refl refl;
+    stepped = record {
+      are_weights = searched_are_weights;
+      values = each_value (λ j x. weight_at searched_weights j x ≡ step two_in_a_row (weight_of 1 0 (negsuc 0) ∷ weight_of 1 1 (pos 1) ∷ []) (symbol_numbered 1 ∷ symbol_numbered 0 ∷ []) j x) refl refl refl refl;
+    };
   },
 )

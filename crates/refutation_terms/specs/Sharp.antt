@@ -52,12 +52,16 @@ step P y h j x =
     if int_lt (greatest P x j) (pos (weeks_with P h x j)) then weight_at y j x -ℤ pos 1
     else (if int_lt (pos (weeks_with P h x j)) (least P x j) then weight_at y j x +ℤ pos 1 else weight_at y j x)
 
+-- each weight went by one step, by a word
+pub record AreStepped (P : Instance) (y : List Weight) (word : List Symbol) (next : List Weight) : Type 0 where
+  pub are_weights : AreWeightsOf P next
+  pub values : (j x : ℕ) → IsDay P j → x ≤ shift_count P → weight_at next j x ≡ step P y word j x
+
 -- the weights that follow others in the search, by the least of the heaviest clean words of one turn
 pub record IsNext (P : Instance) (D : Domains) (R : List ℕ) (y next : List Weight) : Type 0 where
   pub word : List Symbol
   pub is_heaviest : IsLeastHeaviest P D 0 (cells P) R y word
-  pub are_weights : AreWeightsOf P next
-  pub values : (j x : ℕ) → IsDay P j → x ≤ shift_count P → weight_at next j x ≡ step P y word j x
+  pub stepped : AreStepped P y word next
 
 -- the weights searched in round k, counted from 0: at first 0 everywhere. The rounds end where no clean word is left
 abbrev pub IsSearched : Instance → Domains → List ℕ → ℕ → List Weight → Type 0

@@ -1,8 +1,8 @@
 -- What the laid out rules of a list are.
-use Rattle.std.proofs.Common.{◌≡◌, ◌⊎◌, ℕ, zero, suc, ◌+◌, ◌*◌, ◌<◌, ◌≤◌, List, length, get_or, Option, Some, Bool, true, false, ◌&&◌, refl, ap, sym, ◌∙◌, subst, inl, inr, ⊎_elim, arith, ltb, replicate}
+use Rattle.std.proofs.Common.{◌≡◌, ◌⊎◌, ℕ, zero, suc, ◌+◌, ◌*◌, ◌<◌, ◌≤◌, List, length, get_or, Option, Some, Bool, false, ◌&&◌, refl, ap, sym, ◌∙◌, subst, inl, inr, ⊎_elim, arith, ltb, replicate}
 use Rattle.std.proofs.Common.{◌≢◌, set, below_more, get_or-set_other, get_or-set_same}
 use Rattle.std.proofs.lemmas.List.{get_or_past}
-use Rattle.word_tail.specs.declared.limits.Lengths.{Lengths}
+use Rattle.word_tail.specs.declared.tables.Lengths.{Lengths}
 use Rattle.std.specs.Prelude.{◌↔◌, IsTrue, Contains, slice_get}
 use Rattle.std.proofs.lemmas.Option.{get_or_from_slice_get, slice_get_within}
 use Rattle.std.proofs.lemmas.Bool.{cases_lt}

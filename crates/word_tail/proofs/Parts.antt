@@ -1,13 +1,12 @@
 -- What the bad parts at the end of a word are, by the block there and by its last symbols.
-use Rattle.std.proofs.Common.{◌≡◌, ◌⊎◌, ℕ, zero, suc, ◌+◌, ◌<◌, ◌≤◌, List, [], ◌∷◌, ◌++◌, length, Some, None, Bool, true, false, refl, ap, sym, ◌∙◌, inl, inr, append_assoc, arith, eqb, eqb-true, eq-eqb, ltb-true}
+use Rattle.std.proofs.Common.{◌≡◌, ◌⊎◌, ℕ, zero, suc, ◌+◌, ◌<◌, ◌≤◌, List, [], ◌∷◌, ◌++◌, length, Some, None, Bool, true, false, refl, ap, sym, ◌∙◌, inl, inr, append_assoc, arith, eqb}
 use Rattle.std.specs.Prelude.{All, slice_get}
 use Rattle.std.specs.List.{suffix_len, list_all}
-use Rattle.std.proofs.lemmas.Bool.{lt-ltb}
 use Rattle.rwsp_terms.specs.declared.data.Symbol.{Symbol}
 use Rattle.rwsp_terms.specs.declared.data.Class.{Class}
 use Rattle.rwsp_terms.specs.declared.data.Class.TheVariants.{Shift, Off, Work}
 use Rattle.rwsp_terms.specs.declared.data.Rule.TheVariants.{Pair, Triple}
-use Rattle.rwsp_terms.specs.Instance.{Instance, bounds, symbol_numbered}
+use Rattle.rwsp_terms.specs.Instance.{Instance, bounds}
 use Rattle.rwsp_terms.specs.Window.{Bad, InClass, TooLong, TooShort}
 use Rattle.word_tail.specs.Tails.{is_same, is_shift, last_of, before_last_of}
 use Rattle.word_tail.specs.Ends.{max_rule, min_rule, EndsBadly}

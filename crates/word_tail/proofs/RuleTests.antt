@@ -11,8 +11,8 @@ use Rattle.word_tail.specs.Ends.{max_rule, min_rule, class_numbered, Breaks, Bre
 use Rattle.word_tail.specs.Tables.{IsGreatest, IsLeast, AreTables, no_lengths}
 use Rattle.std.proofs.Common.{ltb}
 use Rattle.std.proofs.lemmas.Bool.{lt-ltb}
-use Rattle.word_tail.specs.declared.limits.Lengths.{Lengths}
-use Rattle.word_tail.specs.declared.limits.Limits.{Limits}
+use Rattle.word_tail.specs.declared.tables.Lengths.{Lengths}
+use Rattle.word_tail.specs.declared.tables.RuleTables.{RuleTables}
 use Rattle.word_tail.proofs.Lists.{suffix_len_longer}
 use Rattle.word_tail.specs.declared.tail.Tail.{Tail}
 use Rattle.word_tail.specs.Tails.{tail_of, all_work_in}
@@ -91,10 +91,10 @@ class_at zero y = refl
 class_at (suc n) y = refl
 
 -- the lengths of the blocks of a symbol
-greatest_at : (P : Instance) (R : List ℕ) (l : Limits) (n : ℕ) (lengths : Lengths) → AreTables P R l → lengths ≡ slice_index_or l.symbols n no_lengths → IsGreatest P R (class_numbered n) lengths.greatest
+greatest_at : (P : Instance) (R : List ℕ) (l : RuleTables) (n : ℕ) (lengths : Lengths) → AreTables P R l → lengths ≡ slice_index_or l.symbols n no_lengths → IsGreatest P R (class_numbered n) lengths.greatest
 greatest_at P R l n lengths tables e = subst (λ (k : Lengths). IsGreatest P R (class_numbered n) k.greatest) (sym e) (tables.symbols n).greatest
 
-least_at : (P : Instance) (R : List ℕ) (l : Limits) (n : ℕ) (lengths : Lengths) → AreTables P R l → lengths ≡ slice_index_or l.symbols n no_lengths → IsLeast P R (class_numbered n) lengths.least
+least_at : (P : Instance) (R : List ℕ) (l : RuleTables) (n : ℕ) (lengths : Lengths) → AreTables P R l → lengths ≡ slice_index_or l.symbols n no_lengths → IsLeast P R (class_numbered n) lengths.least
 least_at P R l n lengths tables e = subst (λ (k : Lengths). IsLeast P R (class_numbered n) k.least) (sym e) (tables.symbols n).least
 
 -- a run at the end is too long
@@ -102,13 +102,13 @@ run_max_by : (P : Instance) (R : List ℕ) (w : List Symbol) (x : Symbol) (n : �
 run_max_by P R w x n result true e tells b = tells (subst (λ k. Breaks P R (max_rule (class_numbered k)) (w ++ x ∷ [])) (sym (eqb-true x.number n e)) b)
 run_max_by P R w x n result false e tells b = absurd (not_max P R (class_numbered n) w x (class_at n x ∙ e) b)
 
-pub run_max : (P : Instance) (R : List ℕ) (l : Limits) (w : List Symbol) (x : Symbol) (days : ℕ) (lengths : Lengths) (result : Bool) → AreTables P R l → days ≡ capped (run_of x w) → lengths ≡ slice_index_or l.symbols x.number no_lengths → TellsExcess lengths.greatest days result → IsTrue result ↔ BreaksRunMax P R (w ++ x ∷ [])
+pub run_max : (P : Instance) (R : List ℕ) (l : RuleTables) (w : List Symbol) (x : Symbol) (days : ℕ) (lengths : Lengths) (result : Bool) → AreTables P R l → days ≡ capped (run_of x w) → lengths ≡ slice_index_or l.symbols x.number no_lengths → TellsExcess lengths.greatest days result → IsTrue result ↔ BreaksRunMax P R (w ++ x ∷ [])
 run_max P R l w x days lengths result tables long e tells =
     let core = max_decides P R (class_numbered x.number) w x lengths.greatest days result (greatest_at P R l x.number lengths tables e) (class_at x.number x ∙ eq-eqb x.number x.number refl) (long ∙ ap capped (sym (block_at x.number w))) tells in
     (λ t. (x.number, core.0 t), λ b. run_max_by P R w x b.0 result (eqb x.number b.0) refl core.1 b.1)
 
 -- the shifts at the end are too many
-pub work_max : (P : Instance) (R : List ℕ) (l : Limits) (w : List Symbol) (x : Symbol) (days : ℕ) (result : Bool) → AreTables P R l → days ≡ capped (work_of w) → 0 < x.number → TellsExcess l.work.greatest days result → IsTrue result ↔ BreaksWorkMax P R (w ++ x ∷ [])
+pub work_max : (P : Instance) (R : List ℕ) (l : RuleTables) (w : List Symbol) (x : Symbol) (days : ℕ) (result : Bool) → AreTables P R l → days ≡ capped (work_of w) → 0 < x.number → TellsExcess l.work.greatest days result → IsTrue result ↔ BreaksWorkMax P R (w ++ x ∷ [])
 work_max P R l w x days result tables long shift tells =
     max_decides P R Work w x l.work.greatest days result tables.work.greatest (lt-ltb 0 x.number shift) long tells
 
@@ -127,7 +127,7 @@ run_min_at P R w x a n last b =
     let cut = ends_min P (class_numbered n) w x b.1 in
     last_class n w a last cut.some (eqb a.number n) refl
 
-pub run_min : (P : Instance) (R : List ℕ) (l : Limits) (w : List Symbol) (t : Tail) (x a : Symbol) (lengths : Lengths) (result : Bool) → AreTables P R l → tail_of w ≡ t → t.last ≡ Some a → eqb a.number x.number ≡ false → t.all_one ≡ false → lengths ≡ slice_index_or l.symbols a.number no_lengths → TellsLack lengths.least t.run result → IsTrue result ↔ BreaksRunMin P R (w ++ x ∷ [])
+pub run_min : (P : Instance) (R : List ℕ) (l : RuleTables) (w : List Symbol) (t : Tail) (x a : Symbol) (lengths : Lengths) (result : Bool) → AreTables P R l → tail_of w ≡ t → t.last ≡ Some a → eqb a.number x.number ≡ false → t.all_one ≡ false → lengths ≡ slice_index_or l.symbols a.number no_lengths → TellsLack lengths.least t.run result → IsTrue result ↔ BreaksRunMin P R (w ++ x ∷ [])
 run_min P R l w t x a lengths result tables h last other begun e tells =
     let out : in_class (class_numbered a.number) x ≡ false = class_at a.number x ∙ eqb_comm x.number a.number ∙ other in
     let part : list_all (in_class (class_numbered a.number)) w ≡ false = all_at a.number w ∙ sym (all_last w t a h last) ∙ begun in
@@ -151,7 +151,7 @@ no_run_min_whole P R w t x a h last whole b =
     cc
 
 -- the shifts before a day off are too few
-pub work_min : (P : Instance) (R : List ℕ) (l : Limits) (w : List Symbol) (t : Tail) (x : Symbol) (result : Bool) → AreTables P R l → tail_of w ≡ t → x.number ≡ 0 → t.all_work ≡ false → TellsLack l.work.least t.work result → IsTrue result ↔ BreaksWorkMin P R (w ++ x ∷ [])
+pub work_min : (P : Instance) (R : List ℕ) (l : RuleTables) (w : List Symbol) (t : Tail) (x : Symbol) (result : Bool) → AreTables P R l → tail_of w ≡ t → x.number ≡ 0 → t.all_work ≡ false → TellsLack l.work.least t.work result → IsTrue result ↔ BreaksWorkMin P R (w ++ x ∷ [])
 work_min P R l w t x result tables h off begun tells =
     min_decides P R Work w x l.work.least t.work result tables.work.least (ap (λ n. ltb 0 n) off) (ap (λ (s : Tail). s.all_work) h ∙ begun) (sym (ap (λ (s : Tail). s.work) h)) tells
 
@@ -163,7 +163,7 @@ no_work_min_whole P R w t x h whole b =
     cc
 
 -- the last two symbols may not follow each other
-pub pair_last : (P : Instance) (R : List ℕ) (l : Limits) (w : List Symbol) (t : Tail) (x a : Symbol) (result : Bool) → AreTables P R l → tail_of w ≡ t → t.last ≡ Some a → result ≡ pair_in l.pairs.items a x → IsTrue result ↔ BreaksPair P R (w ++ x ∷ [])
+pub pair_last : (P : Instance) (R : List ℕ) (l : RuleTables) (w : List Symbol) (t : Tail) (x a : Symbol) (result : Bool) → AreTables P R l → tail_of w ≡ t → t.last ≡ Some a → result ≡ pair_in l.pairs.items a x → IsTrue result ↔ BreaksPair P R (w ++ x ∷ [])
 pair_last P R l w t x a result tables h last e =
     let tells = tables.pairs a x in (
       λ y. let n = tells.0 (sym e ∙ y) in (n.0, (n.1, pair_ends P n.0 w a x (last_is w t h ∙ last) n.2)),
@@ -179,7 +179,7 @@ no_pair P R w t x h none b =
     cc
 
 -- nor the last three
-pub triple_last : (P : Instance) (R : List ℕ) (l : Limits) (w : List Symbol) (t : Tail) (x a b : Symbol) (result : Bool) → AreTables P R l → tail_of w ≡ t → t.before ≡ Some a → t.last ≡ Some b → result ≡ triple_in l.triples.items a b x → IsTrue result ↔ BreaksTriple P R (w ++ x ∷ [])
+pub triple_last : (P : Instance) (R : List ℕ) (l : RuleTables) (w : List Symbol) (t : Tail) (x a b : Symbol) (result : Bool) → AreTables P R l → tail_of w ≡ t → t.before ≡ Some a → t.last ≡ Some b → result ≡ triple_in l.triples.items a b x → IsTrue result ↔ BreaksTriple P R (w ++ x ∷ [])
 triple_last P R l w t x a b result tables h before last e =
     let tells = tables.triples a b x in
     let before_is : before_last_of w ≡ t.before = ap (λ (s : Tail). s.before) h in (

@@ -12,7 +12,7 @@ use Rattle.rwsp_terms.specs.Window.{Bad}
 use Rattle.refutation_terms.specs.Word.{Clean}
 use Rattle.word_tail.specs.Ends.{max_rule, min_rule, class_numbered, Breaks, BreaksRunMax, BreaksWorkMax, BreaksRunMin, BreaksWorkMin, BreaksPair, BreaksTriple, BreaksAny}
 use Rattle.word_tail.specs.Tables.{AreTables}
-use Rattle.word_tail.specs.declared.limits.Limits.{Limits}
+use Rattle.word_tail.specs.declared.tables.RuleTables.{RuleTables}
 use Rattle.word_tail.proofs.Lists.{parts_of_longer}
 
 -- a word that ends in a bad part isn't clean
@@ -45,7 +45,7 @@ pub record BreaksNone (P : Instance) (R : List ℕ) (v : List Symbol) : Type 0 w
   pub pair : ¬ BreaksPair P R v
   pub triple : ¬ BreaksTriple P R v
 
-none_of : (P : Instance) (R : List ℕ) (l : Limits) (v : List Symbol) → AreTables P R l → BreaksNone P R v → (r : Rule) → Breaks P R r v → ⊥
+none_of : (P : Instance) (R : List ℕ) (l : RuleTables) (v : List Symbol) → AreTables P R l → BreaksNone P R v → (r : Rule) → Breaks P R r v → ⊥
 none_of P R l v tables none (MaxShift x) b =
     let same : class_numbered x.number ≡ Shift x = shift_numbered x.number (tables.shifts x (inl b.0)) in
     none.run_max (x.number, subst (λ c. Breaks P R (max_rule c) v) (sym same) b)
@@ -60,7 +60,7 @@ none_of P R l v tables none (Pair k) b = none.pair (k, b)
 none_of P R l v tables none (Triple k) b = none.triple (k, b)
 none_of P R l v tables none (Day j) b = b.1.3
 
-pub breaks_none : (P : Instance) (R : List ℕ) (l : Limits) (v : List Symbol) → AreTables P R l → BreaksNone P R v → ¬ BreaksAny P R v
+pub breaks_none : (P : Instance) (R : List ℕ) (l : RuleTables) (v : List Symbol) → AreTables P R l → BreaksNone P R v → ¬ BreaksAny P R v
 breaks_none P R l v tables none b = none_of P R l v tables none b.0 b.1
 
 -- and one that breaks a rule of some kind breaks a rule
@@ -78,7 +78,7 @@ pub tells_false : (Q : Type 0) (b : Bool) → b ≡ false → IsTrue b ↔ Q →
 tells_false Q b e tells q = let t : b ≡ true = tells.1 q in cc
 
 -- where no other kind is broken, the last kind decides
-last_by : (P : Instance) (R : List ℕ) (l : Limits) (v : List Symbol) → AreTables P R l → ¬ BreaksRunMax P R v → ¬ BreaksWorkMax P R v → ¬ BreaksRunMin P R v → ¬ BreaksWorkMin P R v → ¬ BreaksPair P R v → (b : Bool) → IsTrue b ↔ BreaksTriple P R v → BreaksAny P R v → IsTrue b
+last_by : (P : Instance) (R : List ℕ) (l : RuleTables) (v : List Symbol) → AreTables P R l → ¬ BreaksRunMax P R v → ¬ BreaksWorkMax P R v → ¬ BreaksRunMin P R v → ¬ BreaksWorkMin P R v → ¬ BreaksPair P R v → (b : Bool) → IsTrue b ↔ BreaksTriple P R v → BreaksAny P R v → IsTrue b
 last_by P R l v tables run_max work_max run_min work_min pair true tells any = refl
 last_by P R l v tables run_max work_max run_min work_min pair false tells any =
     absurd (breaks_none P R l v tables (record {
@@ -90,7 +90,7 @@ last_by P R l v tables run_max work_max run_min work_min pair false tells any =
       triple = tells_false (BreaksTriple P R v) false refl tells;
     }) any)
 
-pub last_kind : (P : Instance) (R : List ℕ) (l : Limits) (v : List Symbol) → AreTables P R l → ¬ BreaksRunMax P R v → ¬ BreaksWorkMax P R v → ¬ BreaksRunMin P R v → ¬ BreaksWorkMin P R v → ¬ BreaksPair P R v → (b : Bool) → IsTrue b ↔ BreaksTriple P R v → IsTrue b ↔ BreaksAny P R v
+pub last_kind : (P : Instance) (R : List ℕ) (l : RuleTables) (v : List Symbol) → AreTables P R l → ¬ BreaksRunMax P R v → ¬ BreaksWorkMax P R v → ¬ BreaksRunMin P R v → ¬ BreaksWorkMin P R v → ¬ BreaksPair P R v → (b : Bool) → IsTrue b ↔ BreaksTriple P R v → IsTrue b ↔ BreaksAny P R v
 last_kind P R l v tables run_max work_max run_min work_min pair b tells =
     (λ t. let k = tells.0 t in (Triple k.0, k.1), last_by P R l v tables run_max work_max run_min work_min pair b tells)
 

@@ -9,12 +9,13 @@ use Rattle.rwsp_terms.specs.Instance.{Instance, symbol_numbered}
 use Rattle.rwsp_terms.specs.Window.{Bad}
 use Rattle.rwsp_terms.specs.Rules.{Names}
 
--- the rules on the blocks of a class
+-- the rule on the greatest length of a class's blocks
 abbrev pub max_rule : Class → Rule
 max_rule (Shift x) = MaxShift x
 max_rule Off = MaxOff
 max_rule Work = MaxWork
 
+-- the rule on the least length of a class's blocks
 abbrev pub min_rule : Class → Rule
 min_rule (Shift x) = MinShift x
 min_rule Off = MinOff
@@ -33,17 +34,19 @@ EndsBadly P r w = (before part : List Symbol) × (w ≡ before ++ part) × Bad P
 abbrev pub Breaks : Instance → List ℕ → Rule → List Symbol → Type 0
 Breaks P R r w = Names P R r × EndsBadly P r w
 
--- a block at the end is too long: one of the same symbol, or one of shifts
+-- the block of one symbol at the end is too long
 abbrev pub BreaksRunMax : Instance → List ℕ → List Symbol → Type 0
 BreaksRunMax P R w = (n : ℕ) × Breaks P R (max_rule (class_numbered n)) w
 
+-- the block of shifts at the end is too long
 abbrev pub BreaksWorkMax : Instance → List ℕ → List Symbol → Type 0
 BreaksWorkMax P R w = Breaks P R MaxWork w
 
--- the block before the last symbol is too short
+-- the block of one symbol before the last symbol is too short
 abbrev pub BreaksRunMin : Instance → List ℕ → List Symbol → Type 0
 BreaksRunMin P R w = (n : ℕ) × Breaks P R (min_rule (class_numbered n)) w
 
+-- the block of shifts before the last symbol is too short
 abbrev pub BreaksWorkMin : Instance → List ℕ → List Symbol → Type 0
 BreaksWorkMin P R w = Breaks P R MinWork w
 
@@ -51,7 +54,7 @@ BreaksWorkMin P R w = Breaks P R MinWork w
 abbrev pub BreaksPair : Instance → List ℕ → List Symbol → Type 0
 BreaksPair P R w = (k : ℕ) × Breaks P R (Pair k) w
 
--- nor the last three
+-- the last three symbols may not follow each other
 abbrev pub BreaksTriple : Instance → List ℕ → List Symbol → Type 0
 BreaksTriple P R w = (k : ℕ) × Breaks P R (Triple k) w
 

@@ -6,8 +6,8 @@ use Rattle.rwsp_terms.specs.declared.data.Class.TheVariants.{Work}
 use Rattle.rwsp_terms.specs.declared.data.Rule.TheVariants.{MaxShift, MinShift, Pair, Triple}
 use Rattle.rwsp_terms.specs.Instance.{Instance, bounds}
 use Rattle.rwsp_terms.specs.Rules.{Names}
-use Rattle.word_tail.specs.declared.limits.Lengths.{Lengths}
-use Rattle.word_tail.specs.declared.limits.Limits.{Limits}
+use Rattle.word_tail.specs.declared.tables.Lengths.{Lengths}
+use Rattle.word_tail.specs.declared.tables.RuleTables.{RuleTables}
 use Rattle.word_tail.specs.declared.tail.Tail.{Tail}
 use Rattle.word_tail.specs.Tails.{tail_of}
 use Rattle.word_tail.specs.Ends.{max_rule, min_rule, class_numbered}
@@ -19,7 +19,7 @@ IsGreatest P R c greatest =
     (¬ Names P R (max_rule c))
     (λ m. Names P R (max_rule c) × ((bounds P c).greatest ≡ m) × (m ≤ 30))
 
--- the least length
+-- the least length of a class's blocks, where the list names the rule
 abbrev pub IsLeast : Instance → List ℕ → Class → Option ℕ → Type 0
 IsLeast P R c least =
     MatchOption least
@@ -33,35 +33,38 @@ pub record AreLengths (P : Instance) (R : List ℕ) (c : Class) (l : Lengths) : 
 abbrev pub no_lengths : Lengths
 no_lengths = record { least = None; greatest = None }
 
--- the entry of two symbols in a table of 9 by 9, and of three in one of 9 by 9 by 9
+-- the entry of two symbols in a table of 9 by 9
 abbrev pub pair_in : List Bool → Symbol → Symbol → Bool
 pair_in table a b = nat_lt a.number 9 && nat_lt b.number 9 && slice_index_or table (9 * a.number + b.number) false
 
+-- the entry of three symbols in a table of 9 by 9 by 9
 abbrev pub triple_in : List Bool → Symbol → Symbol → Symbol → Bool
 triple_in table a b c =
     nat_lt a.number 9 && nat_lt b.number 9 && nat_lt c.number 9
     && slice_index_or table (81 * a.number + 9 * b.number + c.number) false
 
--- the list names a rule against the pair, or against the triple
+-- the list names a rule against the pair
 abbrev pub NamesPair : Instance → List ℕ → Symbol → Symbol → Type 0
 NamesPair P R a b = (k : ℕ) × Names P R (Pair k) × (slice_get P.pairs k ≡ Some (a, b))
 
+-- the list names a rule against the triple
 abbrev pub NamesTriple : Instance → List ℕ → Symbol → Symbol → Symbol → Type 0
 NamesTriple P R a b c = (k : ℕ) × Names P R (Triple k) × (slice_get P.triples k ≡ Some (a, b, c))
 
--- a table holds the pairs of the rules before the n-th, or their triples
+-- the table holds the pairs that the list names, of the first n
 abbrev pub HoldsPairs : Instance → List ℕ → List Bool → ℕ → Type 0
 HoldsPairs P R table n =
     (a b : Symbol)
     → IsTrue (pair_in table a b) ↔ ((k : ℕ) × (k < n) × Names P R (Pair k) × (slice_get P.pairs k ≡ Some (a, b)))
 
+-- the table holds the triples that the list names, of the first n
 abbrev pub HoldsTriples : Instance → List ℕ → List Bool → ℕ → Type 0
 HoldsTriples P R table n =
     (a b c : Symbol)
     → IsTrue (triple_in table a b c) ↔ ((k : ℕ) × (k < n) × Names P R (Triple k) × (slice_get P.triples k ≡ Some (a, b, c)))
 
 -- the tables hold the rules of the list
-pub record AreTables (P : Instance) (R : List ℕ) (l : Limits) : Type 0 where
+pub record AreTables (P : Instance) (R : List ℕ) (l : RuleTables) : Type 0 where
   pub symbols : (n : ℕ) → AreLengths P R (class_numbered n) (slice_index_or l.symbols n no_lengths)
   pub shifts : (x : Symbol) → Names P R (MaxShift x) ⊎ Names P R (MinShift x) → 0 < x.number
   pub work : AreLengths P R Work l.work
@@ -71,7 +74,7 @@ pub record AreTables (P : Instance) (R : List ℕ) (l : Limits) : Type 0 where
   pub triples : (a b c : Symbol) → IsTrue (triple_in l.triples.items a b c) ↔ NamesTriple P R a b c
 
 -- for each word with the tail: the test says whether the word and the symbol break a rule of the kind at their end
-abbrev pub Tells : Limits → Tail → Symbol → Bool → (Instance → List ℕ → List Symbol → Type 0) → Type 0
+abbrev pub Tells : RuleTables → Tail → Symbol → Bool → (Instance → List ℕ → List Symbol → Type 0) → Type 0
 Tells l tail x test BreaksKind =
     (P : Instance) (R : List ℕ) (w : List Symbol)
     → AreTables P R l → tail_of w ≡ tail → IsTrue test ↔ BreaksKind P R (w ++ x ∷ [])

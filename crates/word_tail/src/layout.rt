@@ -7,7 +7,7 @@ ghost use Rattle.rwsp_terms.specs.declared.data.Symbol.{Symbol};
 ghost use Rattle.word_tail.specs.Ends.{max_rule, min_rule, class_numbered};
 ghost use Rattle.word_tail.specs.Tables.{IsGreatest, IsLeast, AreLengths, AreTables, no_lengths, pair_in, triple_in, HoldsPairs, HoldsTriples, NamesPair, NamesTriple};
 
-use crate::limits::{Lengths, Limits};
+use crate::tables::{Lengths, RuleTables};
 use rwsp_model::{Problem, Rule, RuleList, every_rule_is_listed, number_of, rules_have_one_number};
 use rwsp_terms::{Class, Symbol};
 use std::alloc::{AllocError, Global};
@@ -33,7 +33,7 @@ fn max_rule(class: Class) -> Rule
     }
 }
 
-// The rule on the least length.
+// The rule on the least length of a class's blocks.
 fn min_rule(class: Class) -> Rule
     ensures value { result ≡ min_rule class }
     ensures rule { (P : Instance) → IsClass P class → IsRule P result }
@@ -184,17 +184,17 @@ fn triples_of(alloc: Global, problem: &Problem, list: &RuleList) -> Result<Vec<b
 }
 
 /// The rules of a list that names short rules only, laid out by kind.
-pub(crate) fn limits_of(
+pub(crate) fn tables_of(
     alloc: Global,
     problem: &Problem,
     list: &RuleList,
-) -> Result<Limits, AllocError>
+) -> Result<RuleTables, AllocError>
     requires { NamesShortOnly problem.now list.now }
     ensures { IfOk result (λ l. AreTables problem.now list.now l) }
 {
     every_rule_is_listed();
     problem.keeps_limits();
-    Ok(Limits {
+    Ok(RuleTables {
         symbols: symbol_lengths(problem, list),
         work: lengths_of(problem, list, Class::Work),
         pairs: pairs_of(alloc, problem, list)?,

@@ -3,8 +3,8 @@
 
 mod laws;
 mod layout;
-mod limits;
 mod sharing;
+mod tables;
 mod tail;
 mod tail_rules;
 #[cfg(test)]

@@ -5,8 +5,8 @@ ghost use Rattle.refutation_terms.specs.Word.{Clean};
 ghost use Rattle.word_tail.specs.Tails.{tail_of};
 
 use crate::Tail;
-use crate::layout::limits_of;
-use crate::limits::Limits;
+use crate::layout::tables_of;
+use crate::tables::RuleTables;
 use rwsp_model::{Problem, RuleList};
 use rwsp_terms::Symbol;
 use std::alloc::{AllocError, Global};
@@ -17,7 +17,7 @@ use std::marker::Model;
 pub struct TailRules {
     problem: Problem,
     list: RuleList,
-    limits: Limits,
+    tables: RuleTables,
 }
 
 impl Model for TailRules {
@@ -28,7 +28,7 @@ impl Model for TailRules {
 
     ghost view = { λ t. record { problem = t.problem; rules = t.list } };
 
-    ghost invariant = { λ t. AreTables t.problem t.list t.limits };
+    ghost invariant = { λ t. AreTables t.problem t.list t.tables };
 }
 
 impl TailRules {
@@ -37,13 +37,13 @@ impl TailRules {
         requires { NamesShortOnly problem.now rules.now }
         ensures { IfOk result (λ t. (t.problem ≡ problem.now) × (t.rules ≡ rules.now)) }
     {
-        let limits = limits_of(alloc, problem, rules)?;
+        let tables = tables_of(alloc, problem, rules)?;
         let problem = problem.copy()?;
         let list = rules.copy()?;
         Ok(TailRules {
             problem,
             list,
-            limits,
+            tables,
         })
     }
 
@@ -71,7 +71,7 @@ impl TailRules {
             (¬ IsClean (w ++ x ∷ []))
             (λ t. IsClean (w ++ x ∷ []) × (t ≡ tail_of (w ++ x ∷ []))) }
     {
-        if self.limits.forbid(tail, x) {
+        if self.tables.forbids(tail, x) {
             None
         } else {
             Some(tail.longer(x))

@@ -8,9 +8,13 @@ const DAY: Symbol = Symbol { number: 1 };
 
 const NIGHT: Symbol = Symbol { number: 2 };
 
-fn shift(alloc: Global, name: &[u8], bounds: Bounds) -> Result<ShiftRow, AllocError> {
+fn range(least: u32, greatest: u32) -> Bounds {
+    Bounds { least, greatest }
+}
+
+fn shift(alloc: Global, name: u8, bounds: Bounds) -> Result<ShiftRow, AllocError> {
     Ok(ShiftRow {
-        name: Name::of(name.to_vec(alloc)?),
+        name: Name::of(vec![in alloc; name]?),
         start: 360,
         length: 480,
         bounds,
@@ -18,40 +22,22 @@ fn shift(alloc: Global, name: &[u8], bounds: Bounds) -> Result<ShiftRow, AllocEr
 }
 
 fn demand(alloc: Global) -> Result<DemandRow, AllocError> {
-    let mut ranges = Vec::new(alloc);
-    for _ in 0..7 {
-        ranges.push(Bounds {
-            least: 1,
-            greatest: 1,
-        })?;
-    }
-    Ok(DemandRow::of(ranges))
+    Ok(DemandRow::of(vec![in alloc; range(1, 1); 7]?))
 }
 
 // Blocks of 2 to 3 days D, of 2 to 30 nights N, of 2 days off at least and of 3 days of work at least;
 // no D behind an N, and no N behind two D.
 fn parts(alloc: Global) -> Result<Parts, AllocError> {
-    let days = Bounds {
-        least: 2,
-        greatest: 3,
-    };
-    let nights = Bounds {
-        least: 2,
-        greatest: 30,
-    };
     Ok(Parts {
         days: 7,
         weeks: 3,
         demand: vec![in alloc; demand(alloc)?, demand(alloc)?]?,
-        shifts: vec![in alloc; shift(alloc, b"D", days)?, shift(alloc, b"N", nights)?]?,
-        off: Bounds {
-            least: 2,
-            greatest: 40,
-        },
-        work: Bounds {
-            least: 3,
-            greatest: 40,
-        },
+        shifts: vec![in alloc;
+            shift(alloc, b'D', range(2, 3))?,
+            shift(alloc, b'N', range(2, 30))?,
+        ]?,
+        off: range(2, 40),
+        work: range(3, 40),
         pairs: vec![in alloc; (NIGHT, DAY)]?,
         triples: vec![in alloc; (DAY, DAY, NIGHT)]?,
     })

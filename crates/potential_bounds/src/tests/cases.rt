@@ -39,15 +39,15 @@ pub struct Case {
     pub without: Option<(u32, Symbol)>,
 }
 
-// With the shift D alone: its blocks, those of the day off, and those of work.
-pub fn one_shift(days: u32, weeks: u32, demand: Bounds, blocks: [Bounds; 3]) -> Case {
-    let [day, off, work] = blocks;
+// A problem with shifts up to the last, and domains of all symbols: the blocks of D, of N, of the day off and of work.
+fn whole(days: u32, weeks: u32, demand: Bounds, last: u8, blocks: [Bounds; 4]) -> Case {
+    let [day, night, off, work] = blocks;
     Case {
         days,
         weeks,
         demand,
-        shifts: [day, day],
-        last: 1,
+        shifts: [day, night],
+        last,
         off,
         work,
         pair: None,
@@ -57,21 +57,16 @@ pub fn one_shift(days: u32, weeks: u32, demand: Bounds, blocks: [Bounds; 3]) -> 
     }
 }
 
+// With the shift D alone: its blocks, those of the day off, and those of work.
+pub fn one_shift(days: u32, weeks: u32, demand: Bounds, blocks: [Bounds; 3]) -> Case {
+    let [day, off, work] = blocks;
+    whole(days, weeks, demand, 1, [day, day, off, work])
+}
+
 // With D and N.
 pub fn two_shifts(days: u32, weeks: u32, shifts: [Bounds; 2], off: Bounds, work: Bounds) -> Case {
-    Case {
-        days,
-        weeks,
-        demand: range(0, 1),
-        shifts,
-        last: 2,
-        off,
-        work,
-        pair: None,
-        triple: None,
-        only: None,
-        without: None,
-    }
+    let [day, night] = shifts;
+    whole(days, weeks, range(0, 1), 2, [day, night, off, work])
 }
 
 // Blocks of single days, one D in each week of two days.
@@ -99,11 +94,7 @@ fn shift(alloc: Global, name: u8, bounds: Bounds) -> Result<ShiftRow, AllocError
 }
 
 fn demand(alloc: Global, case: &Case) -> Result<DemandRow, AllocError> {
-    let mut ranges = Vec::new(alloc);
-    for _ in 0..case.days {
-        ranges.push(case.demand)?;
-    }
-    Ok(DemandRow::of(ranges))
+    Ok(DemandRow::of(vec![in alloc; case.demand; case.days as usize]?))
 }
 
 fn parts_of(alloc: Global, case: &Case) -> Result<Parts, AllocError> {

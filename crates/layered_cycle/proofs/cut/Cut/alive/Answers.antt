@@ -7,7 +7,7 @@ use Rattle.layered_cycle.proofs.Reached.{AreTails, tails_none, tails_more, alive
 use Rattle.layered_cycle.proofs.cut.Cut.alive.Goals as goal
 
 pub loop-i-init : goal.loop-i-init
-loop-i-init c = rw (c.in_ok-push.ensures.items, c.new-nodes.ensures.items, c.empty.ensures) (tails_none c.args.tails.now (has_domain c.args.doms.now) c.args.p)
+loop-i-init c = rw (c.in_ok-push.ensures.items, c.new-nodes.ensures.items, c.empty.ensures) (tails_none c.args.tails.now (has_domain c.args.doms.now) c.args.p (c.empty_word_is_clean.ensures c.args.tails.now.problem c.args.tails.now.rules))
 
 pub loop-i-preserved : goal.loop-i-preserved
 loop-i-preserved c =

@@ -1,6 +1,0 @@
-use Rattle.domain_store.specs.Store.{has_domain}
-use Rattle.layered_cycle.proofs.Reached.{Built}
-use Rattle.layered_cycle.proofs.lattice.lattice_of.Given as goal
-
-abbrev pub invariant-loop-i : goal.invariant-loop-i
-invariant-loop-i l = Built l.tails (has_domain l.doms) l.p l.i l.layers.items l.counts.items l.nodes.items

@@ -1,8 +1,0 @@
-use Rattle.std.proofs.Common.{arith}
-use Rattle.std.proofs.lemmas.Int.{ints}
-use Rattle.potential_bounds.proofs.Products.{sum_step}
-use Rattle.potential_bounds.proofs.sums.total.Goals as goal
-
-pub loop-i-preserved : goal.loop-i-preserved
-loop-i-preserved c =
-    sum_step _ _ _ _ _ _ _ _ c.loop-i.invariant.0 c.loop-i.invariant.1 c.day_total-sum.ensures.value (omega arith) (omega (arith, ints, c.day_total-sum.ensures.above), omega (arith, ints, c.day_total-sum.ensures.below)) (omega (arith, ints, c.loop-i.invariant.1.0, c.loop-i.invariant.1.1, c.day_total-sum.ensures.above, c.day_total-sum.ensures.below, c.loop-i.auto.i-end, c.loop-i-test.true))

@@ -1,0 +1,175 @@
+// The rules of a list laid out by kind, so that a step looks each kind up once.
+ghost use Rattle.std.specs.Prelude.{◌≡◌, ◌<◌, ◌≤◌, ◌↔◌, IsTrue, length, slice_index_or, MatchOption};
+
+use crate::Tail;
+use rwsp_terms::Symbol;
+
+/// The least and the greatest length of the blocks of a class, in days, where the list has a rule.
+#[derive(Clone, Copy, Debug)]
+pub(crate) struct Lengths {
+    pub least: Option<u32>,
+    pub greatest: Option<u32>,
+}
+
+impl Lengths {
+    pub const NONE: Lengths = Lengths {
+        least: None,
+        greatest: None,
+    };
+}
+
+/// The rules of a list, by kind.
+#[derive(Debug, Drop)]
+pub(crate) struct RuleTables {
+    /// Of the blocks of one symbol, by its number.
+    pub symbols: [Lengths; 9],
+    /// Of the blocks of shifts.
+    pub work: Lengths,
+    /// Whether a symbol may not follow another, at 9 times the first number plus the second.
+    pub pairs: Vec<bool>,
+    /// Whether three symbols may not follow each other, at 81 times the first number plus 9 times the second plus the third.
+    pub triples: Vec<bool>,
+}
+
+// Whether one more day makes a block of so many days too long.
+fn exceeds(days: u8, greatest: Option<u32>) -> bool
+    ensures { MatchOption greatest (¬ IsTrue result) (λ m. IsTrue result ↔ (m ≤ days)) }
+{
+    match greatest {
+        Some(greatest) => greatest <= days as u32,
+        None => false,
+    }
+}
+
+// Whether a block of so many days is there and too short.
+fn falls_short(days: u8, least: Option<u32>) -> bool
+    ensures { MatchOption least (¬ IsTrue result) (λ m. IsTrue result ↔ ((0 < days) × (days < m))) }
+{
+    match least {
+        Some(least) => 0 < days && (days as u32) < least,
+        None => false,
+    }
+}
+
+impl RuleTables {
+    ghost use Rattle.word_tail.specs.Tables.{no_lengths, pair_in, triple_in, Tells};
+    ghost use Rattle.word_tail.specs.Ends.{BreaksRunMax, BreaksWorkMax, BreaksRunMin, BreaksWorkMin, BreaksPair, BreaksTriple, BreaksAny};
+
+    // The lengths of the blocks of one symbol.
+    fn of_symbol(&self, x: Symbol) -> Lengths
+        ensures { result ≡ slice_index_or self.now.symbols x.number no_lengths }
+    {
+        if x.number < 9 {
+            self.symbols[x.number as usize]
+        } else {
+            Lengths::NONE
+        }
+    }
+
+    // Whether the second symbol may not follow the first.
+    fn has_pair(&self, a: Symbol, b: Symbol) -> bool
+        requires { length self.now.pairs.items ≡ 81 }
+        ensures { result ≡ pair_in self.now.pairs.items a b }
+    {
+        a.number < 9 && b.number < 9 && self.pairs[9 * a.number as usize + b.number as usize]
+    }
+
+    // Whether the three symbols may not follow each other.
+    fn has_triple(&self, a: Symbol, b: Symbol, c: Symbol) -> bool
+        requires { length self.now.triples.items ≡ 729 }
+        ensures { result ≡ triple_in self.now.triples.items a b c }
+    {
+        a.number < 9
+            && b.number < 9
+            && c.number < 9
+            && self.triples[81 * a.number as usize + 9 * b.number as usize + c.number as usize]
+    }
+
+    // Whether the symbol makes the block of equal symbols at the end too long.
+    fn breaks_run_max(&self, tail: Tail, x: Symbol) -> bool
+        ensures { Tells self.now tail x result BreaksRunMax }
+    {
+        exceeds(tail.run_of(x), self.of_symbol(x).greatest)
+    }
+
+    // Whether the symbol makes the block of shifts at the end too long.
+    fn breaks_work_max(&self, tail: Tail, x: Symbol) -> bool
+        ensures { Tells self.now tail x result BreaksWorkMax }
+    {
+        if x.number == 0 {
+            return false;
+        }
+        exceeds(tail.work, self.work.greatest)
+    }
+
+    // Whether the symbol ends a block of equal symbols that is too short.
+    fn breaks_run_min(&self, tail: Tail, x: Symbol) -> bool
+        ensures { Tells self.now tail x result BreaksRunMin }
+    {
+        let Some(last) = tail.last else {
+            return false;
+        };
+        if last == x {
+            return false;
+        }
+        // A run that the word begins with may have begun before the word.
+        if tail.all_one {
+            return false;
+        }
+        falls_short(tail.run, self.of_symbol(last).least)
+    }
+
+    // Whether the symbol ends a block of shifts that is too short.
+    fn breaks_work_min(&self, tail: Tail, x: Symbol) -> bool
+        ensures { Tells self.now tail x result BreaksWorkMin }
+    {
+        if x.number > 0 {
+            return false;
+        }
+        // Shifts that the word begins with may have begun before the word.
+        if tail.all_work {
+            return false;
+        }
+        falls_short(tail.work, self.work.least)
+    }
+
+    // Whether the symbol may not follow the last one.
+    fn breaks_pair(&self, tail: Tail, x: Symbol) -> bool
+        requires { length self.now.pairs.items ≡ 81 }
+        ensures { Tells self.now tail x result BreaksPair }
+    {
+        match tail.last {
+            Some(last) => self.has_pair(last, x),
+            None => false,
+        }
+    }
+
+    // Whether the symbol may not follow the last two.
+    fn breaks_triple(&self, tail: Tail, x: Symbol) -> bool
+        requires { length self.now.triples.items ≡ 729 }
+        ensures { Tells self.now tail x result BreaksTriple }
+    {
+        let Some(last) = tail.last else {
+            return false;
+        };
+        match tail.before {
+            Some(before) => self.has_triple(before, last, x),
+            None => false,
+        }
+    }
+
+    // Whether the word and the symbol end in a part that breaks a rule of the list.
+    pub fn forbids(&self, tail: Tail, x: Symbol) -> bool
+        requires pairs { length self.now.pairs.items ≡ 81 }
+        requires triples { length self.now.triples.items ≡ 729 }
+        ensures { Tells self.now tail x result BreaksAny }
+    {
+        if self.breaks_run_max(tail, x) || self.breaks_work_max(tail, x) {
+            return true;
+        }
+        if self.breaks_run_min(tail, x) || self.breaks_work_min(tail, x) {
+            return true;
+        }
+        self.breaks_pair(tail, x) || self.breaks_triple(tail, x)
+    }
+}
