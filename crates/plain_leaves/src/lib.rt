@@ -9,4 +9,5 @@ mod tests;
 mod window;
 
 pub use day::day_holds;
+pub use domain::{lies_in, lies_outside};
 pub use window::window_holds;

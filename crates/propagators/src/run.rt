@@ -3,8 +3,8 @@ ghost use Rattle.std.specs.Prelude.{◌≡◌, ℕ, ◌+◌, ◌-◌, ◌<◌, �
 ghost use Rattle.plain_leaves.specs.Runs.{LiesIn, StaysIn, IsLongRun, IsShortRun, IsPairRun, IsTripleRun};
 ghost use Rattle.propagators.specs.Windows.{IsRunAnswer};
 
-use crate::domain::{lies_in, lies_outside};
 use domain_store::Domains;
+use plain_leaves::{lies_in, lies_outside};
 use rwsp_model::{Class, Symbol};
 
 // How many days right before this one lie in the class, counted up to a most.
