@@ -33,7 +33,7 @@ fn count_fixed(problem: &Problem, doms: &Domains, day: u32, x: Symbol) -> u32
 {
     let mut count = 0;
     for week in 0..problem.weeks() {
-        if is_only(problem, doms, place(problem, doms, week, day), x) {
+        if is_only(problem, doms, position_of(problem, doms, week, day), x) {
             count += 1;
         }
     }
@@ -50,15 +50,15 @@ fn count_possible(problem: &Problem, doms: &Domains, day: u32, x: Symbol) -> u32
 {
     let mut count = 0;
     for week in 0..problem.weeks() {
-        if doms.has(place(problem, doms, week, day), x) {
+        if doms.has(position_of(problem, doms, week, day), x) {
             count += 1;
         }
     }
     count
 }
 
-// The position of the day in the week. Weeks count from 0, days from 1.
-fn place(problem: &Problem, doms: &Domains, week: u32, day: u32) -> u32
+/// The position of the day in the week. Weeks and positions count from 0, days from 1.
+pub fn position_of(problem: &Problem, doms: &Domains, week: u32, day: u32) -> u32
     requires domains { BelongsTo problem.now doms.now }
     requires week { week < problem.now.weeks }
     requires day { IsDay problem.now day }

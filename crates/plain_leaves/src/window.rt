@@ -35,14 +35,16 @@ fn misses_least(problem: &Problem, doms: &Domains, class: Class, p: u32, len: u3
     is_short_run(doms, class, problem.bounds(class).least, p, len)
 }
 
-fn pair_at(problem: &Problem, k: u32) -> (Symbol, Symbol)
+/// The two symbols of a pair that may not follow each other. Pairs count from 0.
+pub fn pair_at(problem: &Problem, k: u32) -> (Symbol, Symbol)
     requires { k < length problem.now.pairs }
     ensures { slice_get problem.now.pairs k ≡ Some result }
 {
     problem.pairs()[k as usize]
 }
 
-fn triple_at(problem: &Problem, k: u32) -> (Symbol, Symbol, Symbol)
+/// The three symbols of a triple that may not follow each other. Triples count from 0.
+pub fn triple_at(problem: &Problem, k: u32) -> (Symbol, Symbol, Symbol)
     requires { k < length problem.now.triples }
     ensures { slice_get problem.now.triples k ≡ Some result }
 {

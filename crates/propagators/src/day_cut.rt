@@ -10,6 +10,7 @@ ghost use Rattle.propagators.specs.Days.{AreCountsOf, place, TakesNone, IsSatura
 use crate::Look;
 use demand_counts::Counts;
 use domain_store::Domains;
+use plain_leaves::position_of;
 use refutation_terms::Line;
 use rwsp_model::{Problem, Symbol};
 
@@ -161,25 +162,12 @@ fn place_beside(problem: &Problem, doms: &Domains, day: u32, x: Symbol) -> Optio
     ensures { IsPlaceAnswer problem.now (has_domain doms.now) day x.number result }
 {
     for week in 0..problem.weeks() {
-        let p = place_of(problem, doms, week, day);
+        let p = position_of(problem, doms, week, day);
         if let Some(other) = neighbour(problem, doms, p, x) {
             return Some((p, other));
         }
     }
     None
-}
-
-// The position of the day in the week. Weeks count from 0, days from 1.
-fn place_of(problem: &Problem, doms: &Domains, week: u32, day: u32) -> u32
-    requires domains { BelongsTo problem.now doms.now }
-    requires week { week < problem.now.weeks }
-    requires day { IsDay problem.now day }
-    ensures value { result ≡ place problem.now week day }
-    ensures within { result < length doms.now.sets }
-{
-    problem.keeps_limits();
-    doms.facts();
-    week * problem.days() + (day - 1)
 }
 
 // A symbol that stands beside this one in the domain of the position.

@@ -4,7 +4,7 @@ ghost use Rattle.plain_leaves.specs.Runs.{LiesIn, StaysIn, IsLongRun, IsShortRun
 ghost use Rattle.propagators.specs.Windows.{IsRunAnswer};
 
 use domain_store::Domains;
-use plain_leaves::{lies_in, lies_outside};
+use plain_leaves::{is_pair_run, is_triple_run, lies_in, lies_outside};
 use rwsp_model::{Class, Symbol};
 
 // How many days right before this one lie in the class, counted up to a most.
@@ -99,17 +99,6 @@ pub fn short_run(doms: &Domains, class: Class, least: u32, day: u32) -> Option<(
     }
 }
 
-fn is_pair(doms: &Domains, pair: (Symbol, Symbol), day: u32) -> bool
-    requires sets { 0 < length doms.now.sets }
-    requires day { day ≤ 90000000 }
-    ensures { IsTrue result ↔ IsPairRun pair doms.now day 2 }
-{
-    if !lies_in(doms, Class::Shift(pair.0), day) {
-        return false;
-    }
-    lies_in(doms, Class::Shift(pair.1), day + 1)
-}
-
 /// Two days that can hold the two symbols alone.
 pub fn pair_run(doms: &Domains, pair: (Symbol, Symbol), day: u32) -> Option<(u32, u32)>
     requires sets { 0 < length doms.now.sets }
@@ -117,25 +106,11 @@ pub fn pair_run(doms: &Domains, pair: (Symbol, Symbol), day: u32) -> Option<(u32
     ensures { IsRunAnswer (IsPairRun pair doms.now) day result }
 {
     for back in 0..2 {
-        if is_pair(doms, pair, day - back) {
+        if is_pair_run(doms, pair, day - back, 2) {
             return Some((day - back, 2));
         }
     }
     None
-}
-
-fn is_triple(doms: &Domains, triple: (Symbol, Symbol, Symbol), day: u32) -> bool
-    requires sets { 0 < length doms.now.sets }
-    requires day { day ≤ 90000000 }
-    ensures { IsTrue result ↔ IsTripleRun triple doms.now day 3 }
-{
-    if !lies_in(doms, Class::Shift(triple.0), day) {
-        return false;
-    }
-    if !lies_in(doms, Class::Shift(triple.1), day + 1) {
-        return false;
-    }
-    lies_in(doms, Class::Shift(triple.2), day + 2)
 }
 
 /// Three days that can hold the three symbols alone.
@@ -145,7 +120,7 @@ pub fn triple_run(doms: &Domains, triple: (Symbol, Symbol, Symbol), day: u32) ->
     ensures { IsRunAnswer (IsTripleRun triple doms.now) day result }
 {
     for back in 0..3 {
-        if is_triple(doms, triple, day - back) {
+        if is_triple_run(doms, triple, day - back, 3) {
             return Some((day - back, 3));
         }
     }
