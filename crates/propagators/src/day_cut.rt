@@ -117,8 +117,8 @@ fn saturation(
     requires symbol { IsSymbol problem.now x }
     ensures { IsSaturation problem.now (has_domain doms.now) day x.number result }
 {
-    let fixed = fixed_weeks(problem, counts, doms, day, x);
-    let possible = possible_weeks(problem, counts, doms, day, x);
+    let fixed = counts.fixed(x, day);
+    let possible = counts.possible(x, day);
     if possible <= fixed {
         return None;
     }
@@ -129,30 +129,6 @@ fn saturation(
         return Some(false);
     }
     None
-}
-
-// How many weeks hold the symbol on the day for sure.
-fn fixed_weeks(problem: &Problem, counts: &Counts, doms: &Domains, day: u32, x: Symbol) -> u32
-    requires counts { AreCountsOf problem.now doms.now counts.now }
-    requires day { IsDay problem.now day }
-    requires symbol { IsSymbol problem.now x }
-    ensures value { result ≡ fixed problem.now (has_domain doms.now) day x.number }
-    ensures few { result ≤ 600 }
-{
-    problem.keeps_limits();
-    counts.fixed(x, day)
-}
-
-// How many can hold it.
-fn possible_weeks(problem: &Problem, counts: &Counts, doms: &Domains, day: u32, x: Symbol) -> u32
-    requires counts { AreCountsOf problem.now doms.now counts.now }
-    requires day { IsDay problem.now day }
-    requires symbol { IsSymbol problem.now x }
-    ensures value { result ≡ possible problem.now (has_domain doms.now) day x.number }
-    ensures few { result ≤ 600 }
-{
-    problem.keeps_limits();
-    counts.possible(x, day)
 }
 
 // The first position of the day that has the symbol beside another, which is told too.
