@@ -2,9 +2,10 @@
 ghost use Rattle.std.specs.Prelude.{◌≡◌, ℕ, ◌+◌, ◌-◌, ◌*◌, ◌<◌, ◌≤◌, ◌↔◌, length, IsTrue, count_by, true, false};
 ghost use Rattle.std.specs.List.{range_with_len};
 ghost use Rattle.rwsp_terms.specs.Instance.{IsDay, IsSymbol};
-ghost use Rattle.refutation_terms.specs.Leaf.{is_only, fixed, possible, HasTooMany, HasTooFew};
+ghost use Rattle.refutation_terms.specs.declared.lines.Line.TheVariants.{Day};
+ghost use Rattle.refutation_terms.specs.Leaf.{is_only, fixed, possible};
+ghost use Rattle.refutation_terms.specs.Log.{Holds};
 ghost use Rattle.domain_store.specs.Store.{BelongsTo, has_domain};
-ghost use Rattle.plain_leaves.specs.Runs.{IsOverrun};
 
 use domain_store::Domains;
 use rwsp_model::{Problem, Symbol};
@@ -76,7 +77,7 @@ pub fn day_holds(problem: &Problem, doms: &Domains, day: u32, x: Symbol, over: b
     requires domains { BelongsTo problem.now doms.now }
     requires day { IsDay problem.now day }
     requires symbol { IsSymbol problem.now x }
-    ensures { IsTrue result ↔ IsOverrun problem.now (has_domain doms.now) day x.number over }
+    ensures { IsTrue result ↔ Holds problem.now (has_domain doms.now) (Day day x over) }
 {
     if over {
         let fixed = count_fixed(problem, doms, day, x) as i32;
