@@ -39,8 +39,8 @@ fn days_after(doms: &Domains, class: Class, day: u32, most: u32) -> u32
     most
 }
 
-/// The first day and the number of days of a run that is longer than the greatest length. Where there is none, none has
-/// the day in it. It costs at most two steps for each day of the greatest length.
+/// The first day and the number of days of a run that is longer than the greatest length; None: no such run has the day in
+/// it. Days count from 0 round the cycle, without end. It costs at most two steps for each day of the greatest length.
 pub fn long_run(doms: &Domains, class: Class, greatest: u32, day: u32) -> Option<(u32, u32)>
     requires sets { 0 < length doms.now.sets }
     requires day { (16800 ≤ day) × (day ≤ 90000000) }
@@ -80,8 +80,8 @@ fn short_run_from(doms: &Domains, class: Class, least: u32, day: u32) -> Option<
     Some(block + 2)
 }
 
-/// The first day and the number of days of a block that is shorter than the least length, with the days outside before it
-/// and behind it. Where there is none, none has the day in it. It costs at most three steps for each day of the least length.
+/// The first day and the number of days of a block that is shorter than the least length, with the day outside before it and
+/// the one behind it; None: no such days have the day among them. Days count from 0 round the cycle, without end. It costs at most three steps for each day of the least length.
 pub fn short_run(doms: &Domains, class: Class, least: u32, day: u32) -> Option<(u32, u32)>
     requires sets { 0 < length doms.now.sets }
     requires day { (16800 ≤ day) × (day ≤ 90000000) }
@@ -99,7 +99,8 @@ pub fn short_run(doms: &Domains, class: Class, least: u32, day: u32) -> Option<(
     }
 }
 
-/// Two days that can hold the two symbols alone.
+/// The first day and the number, two, of days that can hold the two symbols alone; None: no such days have the day among them.
+/// Days count from 0 round the cycle, without end.
 pub fn pair_run(doms: &Domains, pair: (Symbol, Symbol), day: u32) -> Option<(u32, u32)>
     requires sets { 0 < length doms.now.sets }
     requires day { (16800 ≤ day) × (day ≤ 90000000) }
@@ -113,7 +114,8 @@ pub fn pair_run(doms: &Domains, pair: (Symbol, Symbol), day: u32) -> Option<(u32
     None
 }
 
-/// Three days that can hold the three symbols alone.
+/// The first day and the number, three, of days that can hold the three symbols alone; None: no such days have the day among
+/// them. Days count from 0 round the cycle, without end.
 pub fn triple_run(doms: &Domains, triple: (Symbol, Symbol, Symbol), day: u32) -> Option<(u32, u32)>
     requires sets { 0 < length doms.now.sets }
     requires day { (16800 ≤ day) × (day ≤ 90000000) }
