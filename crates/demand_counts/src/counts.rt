@@ -1,5 +1,5 @@
 // Counts of the symbols of each day under domains.
-ghost use Rattle.std.specs.Prelude.{◌≡◌, ℕ, ◌+◌, ◌-◌, ◌*◌, ◌<◌, ◌≤◌, IfOk, [], length, replicate, slice_index_or, IsTrue, ◌↔◌};
+ghost use Rattle.std.specs.Prelude.{◌≡◌, ◌+◌, ◌-◌, ◌*◌, ◌<◌, ◌≤◌, IfOk, [], length, replicate, slice_index_or, IsTrue, ◌↔◌};
 ghost use Rattle.rwsp_terms.specs.Instance.{Instance, shift_count, IsDay, IsSymbol};
 ghost use Rattle.refutation_terms.specs.Leaf.{fixed, possible, HasTooMany, HasTooFew};
 ghost use Rattle.domain_store.specs.Store.{Store, domain_at, has_domain, BelongsTo};

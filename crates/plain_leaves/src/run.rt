@@ -1,6 +1,6 @@
 // Whether the domains of days in a row make every word over them bad for a kind of rule. Days count from 0 round the cycle,
 // without end.
-ghost use Rattle.std.specs.Prelude.{◌≡◌, ℕ, ◌+◌, ◌-◌, ◌<◌, ◌≤◌, ◌^◌, ◌↔◌, length, IsTrue};
+ghost use Rattle.std.specs.Prelude.{◌+◌, ◌-◌, ◌<◌, ◌≤◌, ◌^◌, ◌↔◌, length, IsTrue};
 ghost use Rattle.plain_leaves.specs.Runs.{StaysIn, IsLongRun, IsShortRun, IsPairRun, IsTripleRun};
 
 use crate::domain::{lies_in, lies_outside};

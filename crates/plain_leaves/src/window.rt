@@ -1,5 +1,5 @@
 // Window leaves: every word over the domains of days in a row is bad for a rule.
-ghost use Rattle.std.specs.Prelude.{◌≡◌, ℕ, ◌+◌, ◌<◌, ◌≤◌, ◌↔◌, List, length, IsTrue, slice_get, Some};
+ghost use Rattle.std.specs.Prelude.{◌≡◌, ◌<◌, ◌≤◌, ◌↔◌, length, IsTrue, slice_get, Some};
 ghost use Rattle.rwsp_terms.specs.Instance.{cells, bounds, IsClass};
 ghost use Rattle.rwsp_terms.specs.Window.{TooLong, TooShort, Bad};
 ghost use Rattle.rwsp_terms.specs.Roster.{IsRule};

@@ -1,11 +1,11 @@
 // Symbols that a day leaf takes away.
 ghost use Rattle.std.specs.Prelude.{◌≡◌, ℕ, ◌+◌, ◌-◌, ◌<◌, ◌≤◌, length, MatchOption, true, false};
-ghost use Rattle.rwsp_terms.specs.Instance.{cells, shift_count, IsDay, IsSymbol};
+ghost use Rattle.rwsp_terms.specs.Instance.{shift_count, IsDay, IsSymbol};
 ghost use Rattle.refutation_terms.specs.Leaf.{fixed, possible};
 ghost use Rattle.domain_store.specs.Store.{has_domain, BelongsTo};
 ghost use Rattle.refutation_terms.specs.declared.lines.Line.TheVariants.{Day};
 ghost use Rattle.propagators.specs.declared.look.Look.TheVariants.{Cut};
-ghost use Rattle.propagators.specs.Days.{AreCountsOf, place, TakesNone, IsSaturation, IsNeighbour, IsPlaceAnswer, IsDayCut};
+ghost use Rattle.propagators.specs.Days.{AreCountsOf, TakesNone, IsSaturation, IsNeighbour, IsPlaceAnswer, IsDayCut};
 
 use crate::Look;
 use demand_counts::Counts;

@@ -1,5 +1,5 @@
 // Days in a row, one of them given, whose domains make every word over them bad for a kind of rule.
-ghost use Rattle.std.specs.Prelude.{◌≡◌, ℕ, ◌+◌, ◌-◌, ◌<◌, ◌≤◌, ◌↔◌, length, IsTrue, MatchOption};
+ghost use Rattle.std.specs.Prelude.{ℕ, ◌+◌, ◌-◌, ◌<◌, ◌≤◌, length, MatchOption};
 ghost use Rattle.plain_leaves.specs.Runs.{LiesIn, StaysIn, IsLongRun, IsShortRun, IsPairRun, IsTripleRun};
 ghost use Rattle.propagators.specs.Windows.{IsRunAnswer};
 

@@ -1,5 +1,5 @@
 // Windows over a position that make every word over their domains bad for a rule.
-ghost use Rattle.std.specs.Prelude.{◌≡◌, ℕ, ◌+◌, ◌*◌, ◌<◌, ◌≤◌, length, slice_get, Some, MatchOption};
+ghost use Rattle.std.specs.Prelude.{◌≡◌, ℕ, ◌<◌, ◌≤◌, length, MatchOption};
 ghost use Rattle.rwsp_terms.specs.declared.data.Rule.TheVariants.{Pair, Triple};
 ghost use Rattle.rwsp_terms.specs.Instance.{cells, bounds, IsClass};
 ghost use Rattle.rwsp_terms.specs.Roster.{IsRule};
