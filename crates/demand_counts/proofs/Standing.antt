@@ -7,7 +7,7 @@ use Rattle.refutation_terms.specs.Log.{Holds}
 use Rattle.refutation_terms.specs.declared.lines.Line.TheVariants.{Day}
 use Rattle.domain_store.specs.Store.{Store, changed, BelongsTo, HasSameShape}
 use Rattle.demand_counts.specs.Counted.{Counted, StandsFor, HasShapeOf, CountsFor, DiffersAtMostAt}
-use Rattle.demand_counts.specs.Overruns.{Overruns, IsWithinDemand}
+use Rattle.demand_counts.specs.Overruns.{Misses, IsWithinDemand}
 
 -- one change makes domains differ at its position alone
 pub differs_where_changed : (C : Counted) (S T : Store) (p : ℕ) (s : List ℕ) → StandsFor C S → T ≡ changed S p s → DiffersAtMostAt C T p
@@ -27,7 +27,7 @@ pub counts_for_problem : (P : Instance) (C : Counted) (S : Store) → BelongsTo 
 counts_for_problem P C S belongs stands = record { days = stands.days ∙ belongs.days; weeks = stands.weeks ∙ belongs.weeks; shifts = stands.shifts ∙ belongs.shifts }
 
 -- an overrun is a leaf that holds
-pub holds_where_overrun : (P : Instance) (D : Domains) (j : ℕ) (x : Symbol) (over : Bool) → Overruns P D j x.number over → Holds P D (Day j x over)
+pub holds_where_overrun : (P : Instance) (D : Domains) (j : ℕ) (x : Symbol) (over : Bool) → Misses P D j x.number over → Holds P D (Day j x over)
 holds_where_overrun P D j x true h = h
 holds_where_overrun P D j x false h = h.0
 

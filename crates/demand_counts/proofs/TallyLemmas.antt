@@ -1,9 +1,9 @@
 -- Counts over a range, and counters after one set has changed.
-use Rattle.std.proofs.Common.{◌≡◌, ◌≢◌, ℕ, zero, suc, ◌+◌, ◌-◌, ◌*◌, ◌/◌, ◌%◌, ◌<◌, ◌≤◌, List, [], length, get_or, set, refl, ap, sym, ◌∙◌, arith, Bool, true, false, count_by, subst, get_or-set_same, get_or-set_other, inl, inr, replicate, ◌++◌, take, drop, ◌&&◌, ◌||◌, ◌==◌, not}
+use Rattle.std.proofs.Common.{◌≡◌, ◌≢◌, ℕ, zero, suc, ◌+◌, ◌-◌, ◌*◌, ◌/◌, ◌%◌, ◌<◌, ◌≤◌, List, [], length, get_or, set, refl, ap, sym, ◌∙◌, arith, Bool, true, false, count_by, subst, get_or-set_same, get_or-set_other, inl, inr, replicate, ◌++◌, take, drop, ◌||◌, ◌==◌, not}
 use Rattle.std.specs.List.{range_with_len, list_all}
-use Rattle.std.proofs.lemmas.Bool.{cases_order, cases_eq, eq-eqb, ne_eqb, and_from, and_parts, and_left, and_right, or_left, or_right, or_from}
+use Rattle.std.proofs.lemmas.Bool.{cases_order, cases_eq, and_right}
 use Rattle.std.proofs.lemmas.List.{length-set, length-replicate, ext_get_or, get_or_read, drop_all, take_all, append-nil}
-use Rattle.std.proofs.lemmas.List.Sums.{count_by-le-length, sum_by-cons}
+use Rattle.std.proofs.lemmas.List.Sums.{count_by-le-length}
 use Rattle.std.proofs.lemmas.List.FromFn.{length-range_with_len}
 use Rattle.std.proofs.lemmas.Nat.{div_below, mod_below, div-mul-add, mod-mul-add, div-add-mod'}
 use Rattle.rwsp_terms.proofs.Counting.{count_next, count_same, not_all}

@@ -10,15 +10,15 @@ pub record IsWithinDemand (P : Instance) (D : Domains) (j x : ℕ) : Type 0 wher
   pub not_over : HasTooMany P D j x → ⊥
   pub not_short : HasTooFew P D j x → ⊥
 
--- over (true): too many hold the symbol for sure. Short (false): too few can hold it, and it isn't over
-abbrev pub Overruns : Instance → Domains → ℕ → ℕ → Bool → Type 0
-Overruns P D j x true = HasTooMany P D j x
-Overruns P D j x false = HasTooFew P D j x × (HasTooMany P D j x → ⊥)
+-- how the symbol misses its demand. Over (true): too many hold it for sure. Short (false): too few can hold it, and it isn't over
+abbrev pub Misses : Instance → Domains → ℕ → ℕ → Bool → Type 0
+Misses P D j x true = HasTooMany P D j x
+Misses P D j x false = HasTooFew P D j x × (HasTooMany P D j x → ⊥)
 
 -- the first of a day by symbol, and then over before short
 pub record IsFirstOfDay (P : Instance) (D : Domains) (j x : ℕ) (over : Bool) : Type 0 where
   pub symbol : x ≤ shift_count P
-  pub holds : Overruns P D j x over
+  pub holds : Misses P D j x over
   pub before : (y : ℕ) → y < x → IsWithinDemand P D j y
 
 -- the first by day
@@ -30,7 +30,7 @@ pub record IsFirstOverrun (P : Instance) (D : Domains) (j x : ℕ) (over : Bool)
 -- the symbol's own overrun, or none
 abbrev pub IsSymbolAnswer : Instance → Domains → ℕ → ℕ → Option Bool → Type 0
 IsSymbolAnswer P D j x None = IsWithinDemand P D j x
-IsSymbolAnswer P D j x (Some over) = Overruns P D j x over
+IsSymbolAnswer P D j x (Some over) = Misses P D j x over
 
 -- the first of the day, or none
 abbrev pub IsDayAnswer : Instance → Domains → ℕ → Option (Symbol × Bool) → Type 0

@@ -1,5 +1,5 @@
 // Counts of the symbols of each day under domains.
-ghost use Rattle.std.specs.Prelude.{◌≡◌, ℕ, ◌+◌, ◌-◌, ◌*◌, ◌<◌, ◌≤◌, IfOk, [], length, replicate, slice_index_or, IsTrue, ◌↔◌};
+ghost use Rattle.std.specs.Prelude.{◌≡◌, ◌+◌, ◌-◌, ◌*◌, ◌<◌, ◌≤◌, IfOk, [], length, replicate, slice_index_or, IsTrue, ◌↔◌};
 ghost use Rattle.rwsp_terms.specs.Instance.{Instance, shift_count, IsDay, IsSymbol};
 ghost use Rattle.refutation_terms.specs.Leaf.{fixed, possible, HasTooMany, HasTooFew};
 ghost use Rattle.domain_store.specs.Store.{Store, domain_at, has_domain, BelongsTo};
@@ -83,6 +83,7 @@ impl Counts {
         ensures kept { result ≡ column_count (is_alone self.now.shifts x.number) self.now.days self.now.weeks self.now.sets (day - 1) }
         ensures value { (P : Instance) (S : Store) → BelongsTo P S → StandsFor self.now S → result ≡ fixed P (has_domain S) day x.number }
         ensures few { result ≤ self.now.weeks }
+        ensures small { result ≤ 600 }
     {
         self.fixed[(day as usize - 1) * 9 + x.number as usize]
     }
@@ -94,6 +95,7 @@ impl Counts {
         ensures kept { result ≡ column_count (is_held x.number) self.now.days self.now.weeks self.now.sets (day - 1) }
         ensures value { (P : Instance) (S : Store) → BelongsTo P S → StandsFor self.now S → result ≡ possible P (has_domain S) day x.number }
         ensures few { result ≤ self.now.weeks }
+        ensures small { result ≤ 600 }
     {
         self.possible[(day as usize - 1) * 9 + x.number as usize]
     }
@@ -158,41 +160,20 @@ impl Counts {
         requires symbol { IsSymbol problem.now x }
         ensures { IsTrue result ↔ HasTooMany problem.now (has_counted self.now) day x.number }
     {
-        let fixed = self.fixed_for(problem, day, x) as i32;
+        let fixed = self.fixed(x, day) as i32;
         fixed > problem.demand_greatest(x, day)
     }
 
     // Whether fewer weeks can hold the symbol on the day than must hold it.
+    #[tactic(auto, using(crate::proofs::OverrunLemmas::possible_here))]
     fn is_short(&self, problem: &Problem, day: u32, x: Symbol) -> bool
         requires problem { CountsFor problem.now self.now }
         requires day { IsDay problem.now day }
         requires symbol { IsSymbol problem.now x }
         ensures { IsTrue result ↔ HasTooFew problem.now (has_counted self.now) day x.number }
     {
-        let possible = self.possible_for(problem, day, x) as i32;
+        let possible = self.possible(x, day) as i32;
         possible < problem.demand_least(x, day)
-    }
-
-    fn fixed_for(&self, problem: &Problem, day: u32, x: Symbol) -> u32
-        requires problem { CountsFor problem.now self.now }
-        requires day { IsDay problem.now day }
-        requires symbol { IsSymbol problem.now x }
-        ensures value { result ≡ fixed problem.now (has_counted self.now) day x.number }
-        ensures few { result ≤ 600 }
-    {
-        self.facts();
-        self.fixed(x, day)
-    }
-
-    fn possible_for(&self, problem: &Problem, day: u32, x: Symbol) -> u32
-        requires problem { CountsFor problem.now self.now }
-        requires day { IsDay problem.now day }
-        requires symbol { IsSymbol problem.now x }
-        ensures value { result ≡ possible problem.now (has_counted self.now) day x.number }
-        ensures few { result ≤ 600 }
-    {
-        self.facts();
-        self.possible(x, day)
     }
 
     // What is so of all counts.

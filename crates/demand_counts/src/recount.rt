@@ -1,5 +1,5 @@
 // How counters change with a domain.
-ghost use Rattle.std.specs.Prelude.{◌≡◌, ℕ, ◌+◌, ◌*◌, ◌<◌, ◌≤◌, Bool, false, length, slice_index, slice_index_or};
+ghost use Rattle.std.specs.Prelude.{◌≡◌, ℕ, ◌+◌, ◌<◌, ◌≤◌, false, length, slice_index, slice_index_or};
 ghost use Rattle.demand_counts.specs.Tallies.{is_held, is_alone, TestsOf, IsRecounted, one_if};
 
 use domain_store::SymbolSet;

@@ -1,5 +1,5 @@
 // Counts of small domains worked by hand.
-ghost use Rattle.domain_store.specs.Store.{BelongsTo, HasSameShape};
+ghost use Rattle.domain_store.specs.Store.{HasSameShape};
 ghost use Rattle.demand_counts.specs.Counted.{StandsFor};
 
 use crate::Counts;

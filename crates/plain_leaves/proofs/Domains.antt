@@ -1,23 +1,7 @@
--- One domain by its symbols up to the last.
-use Rattle.std.proofs.Common.{◌≡◌, ℕ, ◌+◌, ◌*◌, ◌%◌, ◌<◌, length, IsTrue, ap, sym, ◌∙◌, subst, arith}
-use Rattle.rwsp_terms.specs.declared.data.Class.{Class}
-use Rattle.rwsp_terms.specs.Instance.{Instance, cells, symbol_numbered}
-use Rattle.rwsp_terms.specs.Window.{InClass}
+-- Stores with a symbol for each cell of a problem.
+use Rattle.std.proofs.Common.{◌≡◌, ℕ, ◌*◌, ◌%◌, ◌<◌, length, IsTrue, ap, sym, ◌∙◌, subst, arith}
+use Rattle.rwsp_terms.specs.Instance.{Instance, cells}
 use Rattle.domain_store.specs.Store.{Store, has_domain, BelongsTo, IsStore, HasDomains}
-use Rattle.plain_leaves.specs.Runs.{LiesIn, LiesOutside}
-
--- each symbol below n that the domain of the position has is in the class
-abbrev pub IsInBelow : Class → Store → ℕ → ℕ → Type 0
-IsInBelow c S q n = (k : ℕ) → k < n → IsTrue (has_domain S q k) → InClass c (symbol_numbered k)
-
-abbrev pub IsOutsideBelow : Class → Store → ℕ → ℕ → Type 0
-IsOutsideBelow c S q n = (k : ℕ) → k < n → IsTrue (has_domain S q k) → InClass c (symbol_numbered k) → ⊥
-
-pub lies_in_whole : (c : Class) (S : Store) (day : ℕ) → HasDomains S → IsInBelow c S (day % length S.sets) (S.shifts + 1) → LiesIn c S day
-lies_in_whole c S day h below x has = below x.number (omega (arith, (h.known (day % length S.sets) x.number has).1)) has
-
-pub lies_outside_whole : (c : Class) (S : Store) (day : ℕ) → HasDomains S → IsOutsideBelow c S (day % length S.sets) (S.shifts + 1) → LiesOutside c S day
-lies_outside_whole c S day h below x has = below x.number (omega (arith, (h.known (day % length S.sets) x.number has).1)) has
 
 -- the store has a domain for each cell, and in each a symbol
 pub record IsFilled (P : Instance) (S : Store) : Type 0 where

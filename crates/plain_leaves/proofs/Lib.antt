@@ -1,3 +1,4 @@
+mod Lying
 pub mod Domains
 pub mod BadWords
 pub mod Words

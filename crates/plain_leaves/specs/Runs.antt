@@ -1,12 +1,11 @@
 -- What the domains of days in a row must be for every word over them to be bad.
-use Rattle.std.specs.Prelude.{◌≡◌, ℕ, ◌+◌, ◌-◌, ◌%◌, ◌<◌, List, length, IsTrue, Bool, true, false}
+use Rattle.std.specs.Prelude.{◌≡◌, ℕ, ◌+◌, ◌-◌, ◌%◌, ◌<◌, List, length, IsTrue}
 use Rattle.rwsp_terms.specs.declared.data.Symbol.{Symbol}
 use Rattle.rwsp_terms.specs.declared.data.Class.{Class}
 use Rattle.rwsp_terms.specs.declared.data.Class.TheVariants.{Shift}
 use Rattle.rwsp_terms.specs.Instance.{Instance}
 use Rattle.rwsp_terms.specs.Window.{InClass}
-use Rattle.refutation_terms.specs.Word.{Domains, Over}
-use Rattle.refutation_terms.specs.Leaf.{HasTooMany, HasTooFew}
+use Rattle.refutation_terms.specs.Word.{Over}
 use Rattle.domain_store.specs.Store.{Store, has_domain}
 
 -- the domain of the day, counted on and on round the cycle, has no symbol outside the class
@@ -50,8 +49,3 @@ pub record IsTripleRun (triple : Symbol × Symbol × Symbol) (S : Store) (p len 
 -- every word of this length over the domains from p on is of this kind
 abbrev pub EachWord : Instance → (List Symbol → Type 0) → Store → ℕ → ℕ → Type 0
 EachWord P IsKind S p len = (u : List Symbol) → length u ≡ len → Over P (has_domain S) p u → IsKind u
-
--- over (true): too many weeks hold the symbol on the day for sure. Short (false): too few can hold it
-abbrev pub IsOverrun : Instance → Domains → ℕ → ℕ → Bool → Type 0
-IsOverrun P D j x true = HasTooMany P D j x
-IsOverrun P D j x false = HasTooFew P D j x

@@ -1,10 +1,10 @@
 // Day leaves: too many weeks hold a symbol on a day for sure, or too few can.
-ghost use Rattle.std.specs.Prelude.{◌≡◌, ℕ, ◌+◌, ◌-◌, ◌*◌, ◌<◌, ◌≤◌, ◌↔◌, length, IsTrue, count_by, true, false};
-ghost use Rattle.std.specs.List.{range_with_len};
+ghost use Rattle.std.specs.Prelude.{◌≡◌, ◌+◌, ◌-◌, ◌*◌, ◌<◌, ◌≤◌, ◌↔◌, length, IsTrue};
 ghost use Rattle.rwsp_terms.specs.Instance.{IsDay, IsSymbol};
-ghost use Rattle.refutation_terms.specs.Leaf.{is_only, fixed, possible, HasTooMany, HasTooFew};
+ghost use Rattle.refutation_terms.specs.declared.lines.Line.TheVariants.{Day};
+ghost use Rattle.refutation_terms.specs.Leaf.{is_only, fixed, possible};
+ghost use Rattle.refutation_terms.specs.Log.{Holds};
 ghost use Rattle.domain_store.specs.Store.{BelongsTo, has_domain};
-ghost use Rattle.plain_leaves.specs.Runs.{IsOverrun};
 
 use domain_store::Domains;
 use rwsp_model::{Problem, Symbol};
@@ -33,7 +33,7 @@ fn count_fixed(problem: &Problem, doms: &Domains, day: u32, x: Symbol) -> u32
 {
     let mut count = 0;
     for week in 0..problem.weeks() {
-        if is_only(problem, doms, place(problem, doms, week, day), x) {
+        if is_only(problem, doms, position_of(problem, doms, week, day), x) {
             count += 1;
         }
     }
@@ -50,15 +50,15 @@ fn count_possible(problem: &Problem, doms: &Domains, day: u32, x: Symbol) -> u32
 {
     let mut count = 0;
     for week in 0..problem.weeks() {
-        if doms.has(place(problem, doms, week, day), x) {
+        if doms.has(position_of(problem, doms, week, day), x) {
             count += 1;
         }
     }
     count
 }
 
-// The position of the day in the week. Weeks count from 0, days from 1.
-fn place(problem: &Problem, doms: &Domains, week: u32, day: u32) -> u32
+/// The position of the day in the week. Weeks and positions count from 0, days from 1.
+pub fn position_of(problem: &Problem, doms: &Domains, week: u32, day: u32) -> u32
     requires domains { BelongsTo problem.now doms.now }
     requires week { week < problem.now.weeks }
     requires day { IsDay problem.now day }
@@ -76,7 +76,7 @@ pub fn day_holds(problem: &Problem, doms: &Domains, day: u32, x: Symbol, over: b
     requires domains { BelongsTo problem.now doms.now }
     requires day { IsDay problem.now day }
     requires symbol { IsSymbol problem.now x }
-    ensures { IsTrue result ↔ IsOverrun problem.now (has_domain doms.now) day x.number over }
+    ensures { IsTrue result ↔ Holds problem.now (has_domain doms.now) (Day day x over) }
 {
     if over {
         let fixed = count_fixed(problem, doms, day, x) as i32;

@@ -1,39 +1,48 @@
-// Whether one domain lies in a class or outside.
-ghost use Rattle.std.specs.Prelude.{◌≡◌, ℕ, ◌<◌, ◌^◌, ◌↔◌, length, IsTrue};
-ghost use Rattle.rwsp_terms.specs.Window.{InClass};
+// Whether the domain of one day lies in a class or outside.
+ghost use Rattle.std.specs.Prelude.{◌≡◌, ℕ, ◌<◌, ◌↔◌, length, IsTrue};
+ghost use Rattle.domain_store.specs.Store.{has_domain};
 ghost use Rattle.plain_leaves.specs.Runs.{LiesIn, LiesOutside};
 
 use domain_store::Domains;
 use rwsp_model::{Class, Symbol};
 
-/// Whether the domain of a day has no symbol outside the class. Days count from 0 round the cycle, without end.
+/// Whether the domain of the day has no symbol outside the class. Days count from 0 round the cycle, without end. It costs
+/// the same for each class.
 pub fn lies_in(doms: &Domains, class: Class, day: u32) -> bool
     requires { 0 < length doms.now.sets }
     ensures { IsTrue result ↔ LiesIn class doms.now day }
 {
     doms.facts();
     let p = day % doms.cells();
-    for number in 0..doms.shifts() + 1 {
-        let x = Symbol { number };
-        if doms.has(p, x) && !class.has(x) {
-            return false;
-        }
+    match class {
+        Class::Shift(shift) => is_alone(doms, p, shift),
+        Class::Off => is_alone(doms, p, Symbol::OFF),
+        Class::Work => !doms.has(p, Symbol::OFF),
     }
-    true
 }
 
-/// Whether the domain of a day has no symbol in the class.
+/// Whether the domain of the day has no symbol in the class. Days count from 0 round the cycle, without end.
 pub fn lies_outside(doms: &Domains, class: Class, day: u32) -> bool
     requires { 0 < length doms.now.sets }
     ensures { IsTrue result ↔ LiesOutside class doms.now day }
 {
     doms.facts();
     let p = day % doms.cells();
-    for number in 0..doms.shifts() + 1 {
-        let x = Symbol { number };
-        if doms.has(p, x) && class.has(x) {
-            return false;
-        }
+    match class {
+        Class::Shift(shift) => !doms.has(p, shift),
+        Class::Off => !doms.has(p, Symbol::OFF),
+        Class::Work => is_alone(doms, p, Symbol::OFF),
     }
-    true
+}
+
+// Whether the domain of the position has this symbol alone.
+fn is_alone(doms: &Domains, p: u32, x: Symbol) -> bool
+    requires { p < length doms.now.sets }
+    ensures { IsTrue result ↔ ((y : ℕ) → IsTrue (has_domain doms.now p y) → y ≡ x.number) }
+{
+    doms.facts();
+    if doms.size(p) != 1 {
+        return false;
+    }
+    doms.has(p, x)
 }

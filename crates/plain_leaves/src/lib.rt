@@ -8,5 +8,7 @@ mod run;
 mod tests;
 mod window;
 
-pub use day::day_holds;
-pub use window::window_holds;
+pub use day::{day_holds, position_of};
+pub use domain::{lies_in, lies_outside};
+pub use run::{is_pair_run, is_triple_run};
+pub use window::{pair_at, triple_at, window_holds};

@@ -1,12 +1,13 @@
-// Whether the domains of days in a row make every word over them bad for a kind of rule.
-ghost use Rattle.std.specs.Prelude.{◌≡◌, ℕ, ◌+◌, ◌-◌, ◌<◌, ◌≤◌, ◌^◌, ◌↔◌, length, IsTrue};
+// Whether the domains of days in a row make every word over them bad for a kind of rule. Days count from 0 round the cycle,
+// without end.
+ghost use Rattle.std.specs.Prelude.{◌+◌, ◌-◌, ◌<◌, ◌≤◌, ◌^◌, ◌↔◌, length, IsTrue};
 ghost use Rattle.plain_leaves.specs.Runs.{StaysIn, IsLongRun, IsShortRun, IsPairRun, IsTripleRun};
 
 use crate::domain::{lies_in, lies_outside};
 use domain_store::Domains;
 use rwsp_model::{Class, Symbol};
 
-// Whether the domains of so many days from a position on lie in the class.
+// Whether the domains of the `len` days from day `p` on lie in the class.
 fn stays_in(doms: &Domains, class: Class, p: u32, len: u32) -> bool
     requires sets { 0 < length doms.now.sets }
     requires small { p + len < 2 ^ 32 }
@@ -20,7 +21,7 @@ fn stays_in(doms: &Domains, class: Class, p: u32, len: u32) -> bool
     true
 }
 
-/// Whether it is one day more than the greatest length, all in the class.
+/// Whether the `len` days from day `p` on are one more than the greatest length, and the domain of each lies in the class.
 pub fn is_long_run(doms: &Domains, class: Class, greatest: u32, p: u32, len: u32) -> bool
     requires sets { 0 < length doms.now.sets }
     requires small { p + len < 2 ^ 32 }
@@ -33,7 +34,8 @@ pub fn is_long_run(doms: &Domains, class: Class, greatest: u32, p: u32, len: u32
     stays_in(doms, class, p, len)
 }
 
-/// Whether it is fewer days than the least length, one at least, between two days outside the class.
+/// Whether the `len` days from day `p` on are a day outside the class, then days in it, one at least and fewer than the
+/// least length, then a day outside, by the domain of each.
 pub fn is_short_run(doms: &Domains, class: Class, least: u32, p: u32, len: u32) -> bool
     requires sets { 0 < length doms.now.sets }
     requires small { p + len < 2 ^ 32 }
@@ -55,7 +57,8 @@ pub fn is_short_run(doms: &Domains, class: Class, least: u32, p: u32, len: u32) 
     stays_in(doms, class, p + 1, len - 2)
 }
 
-/// Whether it is two days that can hold the two symbols alone.
+/// Whether the `len` days from day `p` on are two, and the domain of each has the symbol of its place alone. Days count from 0
+/// round the cycle, without end.
 pub fn is_pair_run(doms: &Domains, pair: (Symbol, Symbol), p: u32, len: u32) -> bool
     requires sets { 0 < length doms.now.sets }
     requires small { p + len < 2 ^ 32 }
@@ -70,7 +73,8 @@ pub fn is_pair_run(doms: &Domains, pair: (Symbol, Symbol), p: u32, len: u32) -> 
     lies_in(doms, Class::Shift(pair.1), p + 1)
 }
 
-/// Whether it is three days that can hold the three symbols alone.
+/// Whether the `len` days from day `p` on are three, and the domain of each has the symbol of its place alone. Days count from
+/// 0 round the cycle, without end.
 pub fn is_triple_run(doms: &Domains, triple: (Symbol, Symbol, Symbol), p: u32, len: u32) -> bool
     requires sets { 0 < length doms.now.sets }
     requires small { p + len < 2 ^ 32 }

@@ -42,12 +42,6 @@ fn one_shift(
     Ok(Problem::of(parts).expect(rt, "a problem"))
 }
 
-fn full(alloc: Global, problem: &Problem) -> Result<Domains, AllocError>
-    ensures { IfOk result (λ S. BelongsTo problem.now S) }
-{
-    Domains::new(alloc, problem)
-}
-
 // The domains that leave the only cell the symbol.
 fn only(rt: &impl Abort, alloc: Global, problem: &Problem, x: Symbol) -> Result<Domains, AllocError>
     ensures { IfOk result (λ S. BelongsTo problem.now S) }
@@ -88,7 +82,7 @@ fn a_cell_repeats_itself(rt: HostRuntime) -> Result<(), Fail> {
 #[test]
 fn a_demand_asks_for_too_many(rt: HostRuntime) -> Result<(), Fail> {
     let problem = one_shift(&rt, rt.alloc(), 2, 3)?;
-    let doms = full(rt.alloc(), &problem)?;
+    let doms = Domains::new(rt.alloc(), &problem)?;
     let day = 1;
     assert!(rt; day <= problem.days() && D.number <= problem.shifts());
     // two weeks less three shifts leave a day off -1 times

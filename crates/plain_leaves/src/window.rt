@@ -1,5 +1,5 @@
 // Window leaves: every word over the domains of days in a row is bad for a rule.
-ghost use Rattle.std.specs.Prelude.{◌≡◌, ℕ, ◌+◌, ◌<◌, ◌≤◌, ◌↔◌, List, length, IsTrue, slice_get, Some};
+ghost use Rattle.std.specs.Prelude.{◌≡◌, ◌<◌, ◌≤◌, ◌↔◌, length, IsTrue, slice_get, Some};
 ghost use Rattle.rwsp_terms.specs.Instance.{cells, bounds, IsClass};
 ghost use Rattle.rwsp_terms.specs.Window.{TooLong, TooShort, Bad};
 ghost use Rattle.rwsp_terms.specs.Roster.{IsRule};
@@ -35,14 +35,16 @@ fn misses_least(problem: &Problem, doms: &Domains, class: Class, p: u32, len: u3
     is_short_run(doms, class, problem.bounds(class).least, p, len)
 }
 
-fn pair_at(problem: &Problem, k: u32) -> (Symbol, Symbol)
+/// The two symbols of a pair that may not follow each other. Pairs count from 0.
+pub fn pair_at(problem: &Problem, k: u32) -> (Symbol, Symbol)
     requires { k < length problem.now.pairs }
     ensures { slice_get problem.now.pairs k ≡ Some result }
 {
     problem.pairs()[k as usize]
 }
 
-fn triple_at(problem: &Problem, k: u32) -> (Symbol, Symbol, Symbol)
+/// The three symbols of a triple that may not follow each other. Triples count from 0.
+pub fn triple_at(problem: &Problem, k: u32) -> (Symbol, Symbol, Symbol)
     requires { k < length problem.now.triples }
     ensures { slice_get problem.now.triples k ≡ Some result }
 {

@@ -1,6 +1,5 @@
 mod Pairs
 mod Cuts
-mod Lying
 mod Runs
 mod Over
 mod Watching

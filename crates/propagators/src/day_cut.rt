@@ -1,15 +1,16 @@
 // Symbols that a day leaf takes away.
 ghost use Rattle.std.specs.Prelude.{◌≡◌, ℕ, ◌+◌, ◌-◌, ◌<◌, ◌≤◌, length, MatchOption, true, false};
-ghost use Rattle.rwsp_terms.specs.Instance.{cells, shift_count, IsDay, IsSymbol};
+ghost use Rattle.rwsp_terms.specs.Instance.{shift_count, IsDay, IsSymbol};
 ghost use Rattle.refutation_terms.specs.Leaf.{fixed, possible};
 ghost use Rattle.domain_store.specs.Store.{has_domain, BelongsTo};
 ghost use Rattle.refutation_terms.specs.declared.lines.Line.TheVariants.{Day};
 ghost use Rattle.propagators.specs.declared.look.Look.TheVariants.{Cut};
-ghost use Rattle.propagators.specs.Days.{AreCountsOf, place, TakesNone, IsSaturation, IsNeighbour, IsPlaceAnswer, IsDayCut};
+ghost use Rattle.propagators.specs.Days.{AreCountsOf, TakesNone, IsSaturation, IsNeighbour, IsPlaceAnswer, IsDayCut};
 
 use crate::Look;
 use demand_counts::Counts;
 use domain_store::Domains;
+use plain_leaves::position_of;
 use refutation_terms::Line;
 use rwsp_model::{Problem, Symbol};
 
@@ -116,8 +117,8 @@ fn saturation(
     requires symbol { IsSymbol problem.now x }
     ensures { IsSaturation problem.now (has_domain doms.now) day x.number result }
 {
-    let fixed = fixed_weeks(problem, counts, doms, day, x);
-    let possible = possible_weeks(problem, counts, doms, day, x);
+    let fixed = counts.fixed(x, day);
+    let possible = counts.possible(x, day);
     if possible <= fixed {
         return None;
     }
@@ -130,30 +131,6 @@ fn saturation(
     None
 }
 
-// How many weeks hold the symbol on the day for sure.
-fn fixed_weeks(problem: &Problem, counts: &Counts, doms: &Domains, day: u32, x: Symbol) -> u32
-    requires counts { AreCountsOf problem.now doms.now counts.now }
-    requires day { IsDay problem.now day }
-    requires symbol { IsSymbol problem.now x }
-    ensures value { result ≡ fixed problem.now (has_domain doms.now) day x.number }
-    ensures few { result ≤ 600 }
-{
-    problem.keeps_limits();
-    counts.fixed(x, day)
-}
-
-// How many can hold it.
-fn possible_weeks(problem: &Problem, counts: &Counts, doms: &Domains, day: u32, x: Symbol) -> u32
-    requires counts { AreCountsOf problem.now doms.now counts.now }
-    requires day { IsDay problem.now day }
-    requires symbol { IsSymbol problem.now x }
-    ensures value { result ≡ possible problem.now (has_domain doms.now) day x.number }
-    ensures few { result ≤ 600 }
-{
-    problem.keeps_limits();
-    counts.possible(x, day)
-}
-
 // The first position of the day that has the symbol beside another, which is told too.
 fn place_beside(problem: &Problem, doms: &Domains, day: u32, x: Symbol) -> Option<(u32, Symbol)>
     requires domains { BelongsTo problem.now doms.now }
@@ -161,25 +138,12 @@ fn place_beside(problem: &Problem, doms: &Domains, day: u32, x: Symbol) -> Optio
     ensures { IsPlaceAnswer problem.now (has_domain doms.now) day x.number result }
 {
     for week in 0..problem.weeks() {
-        let p = place_of(problem, doms, week, day);
+        let p = position_of(problem, doms, week, day);
         if let Some(other) = neighbour(problem, doms, p, x) {
             return Some((p, other));
         }
     }
     None
-}
-
-// The position of the day in the week. Weeks count from 0, days from 1.
-fn place_of(problem: &Problem, doms: &Domains, week: u32, day: u32) -> u32
-    requires domains { BelongsTo problem.now doms.now }
-    requires week { week < problem.now.weeks }
-    requires day { IsDay problem.now day }
-    ensures value { result ≡ place problem.now week day }
-    ensures within { result < length doms.now.sets }
-{
-    problem.keeps_limits();
-    doms.facts();
-    week * problem.days() + (day - 1)
 }
 
 // A symbol that stands beside this one in the domain of the position.

@@ -3,7 +3,6 @@
 
 mod day;
 mod day_cut;
-mod domain;
 mod look;
 mod pair;
 mod propagator;

@@ -1,10 +1,10 @@
 // Days in a row, one of them given, whose domains make every word over them bad for a kind of rule.
-ghost use Rattle.std.specs.Prelude.{◌≡◌, ℕ, ◌+◌, ◌-◌, ◌<◌, ◌≤◌, ◌↔◌, length, IsTrue, MatchOption};
+ghost use Rattle.std.specs.Prelude.{ℕ, ◌+◌, ◌-◌, ◌<◌, ◌≤◌, length, MatchOption};
 ghost use Rattle.plain_leaves.specs.Runs.{LiesIn, StaysIn, IsLongRun, IsShortRun, IsPairRun, IsTripleRun};
 ghost use Rattle.propagators.specs.Windows.{IsRunAnswer};
 
-use crate::domain::{lies_in, lies_outside};
 use domain_store::Domains;
+use plain_leaves::{is_pair_run, is_triple_run, lies_in, lies_outside};
 use rwsp_model::{Class, Symbol};
 
 // How many days right before this one lie in the class, counted up to a most.
@@ -39,8 +39,8 @@ fn days_after(doms: &Domains, class: Class, day: u32, most: u32) -> u32
     most
 }
 
-/// The first day and the number of days of a run that is longer than the greatest length. Where there is none, none has
-/// the day in it. It costs at most two steps for each day of the greatest length.
+/// The first day and the number of days of a run that is longer than the greatest length; None: no such run has the day in
+/// it. Days count from 0 round the cycle, without end. It costs at most two steps for each day of the greatest length.
 pub fn long_run(doms: &Domains, class: Class, greatest: u32, day: u32) -> Option<(u32, u32)>
     requires sets { 0 < length doms.now.sets }
     requires day { (16800 ≤ day) × (day ≤ 90000000) }
@@ -80,8 +80,8 @@ fn short_run_from(doms: &Domains, class: Class, least: u32, day: u32) -> Option<
     Some(block + 2)
 }
 
-/// The first day and the number of days of a block that is shorter than the least length, with the days outside before it
-/// and behind it. Where there is none, none has the day in it. It costs at most three steps for each day of the least length.
+/// The first day and the number of days of a block that is shorter than the least length, with the day outside before it and
+/// the one behind it; None: no such days have the day among them. Days count from 0 round the cycle, without end. It costs at most three steps for each day of the least length.
 pub fn short_run(doms: &Domains, class: Class, least: u32, day: u32) -> Option<(u32, u32)>
     requires sets { 0 < length doms.now.sets }
     requires day { (16800 ≤ day) × (day ≤ 90000000) }
@@ -99,53 +99,30 @@ pub fn short_run(doms: &Domains, class: Class, least: u32, day: u32) -> Option<(
     }
 }
 
-fn is_pair(doms: &Domains, pair: (Symbol, Symbol), day: u32) -> bool
-    requires sets { 0 < length doms.now.sets }
-    requires day { day ≤ 90000000 }
-    ensures { IsTrue result ↔ IsPairRun pair doms.now day 2 }
-{
-    if !lies_in(doms, Class::Shift(pair.0), day) {
-        return false;
-    }
-    lies_in(doms, Class::Shift(pair.1), day + 1)
-}
-
-/// Two days that can hold the two symbols alone.
+/// The first day and the number, two, of days that can hold the two symbols alone; None: no such days have the day among them.
+/// Days count from 0 round the cycle, without end.
 pub fn pair_run(doms: &Domains, pair: (Symbol, Symbol), day: u32) -> Option<(u32, u32)>
     requires sets { 0 < length doms.now.sets }
     requires day { (16800 ≤ day) × (day ≤ 90000000) }
     ensures { IsRunAnswer (IsPairRun pair doms.now) day result }
 {
     for back in 0..2 {
-        if is_pair(doms, pair, day - back) {
+        if is_pair_run(doms, pair, day - back, 2) {
             return Some((day - back, 2));
         }
     }
     None
 }
 
-fn is_triple(doms: &Domains, triple: (Symbol, Symbol, Symbol), day: u32) -> bool
-    requires sets { 0 < length doms.now.sets }
-    requires day { day ≤ 90000000 }
-    ensures { IsTrue result ↔ IsTripleRun triple doms.now day 3 }
-{
-    if !lies_in(doms, Class::Shift(triple.0), day) {
-        return false;
-    }
-    if !lies_in(doms, Class::Shift(triple.1), day + 1) {
-        return false;
-    }
-    lies_in(doms, Class::Shift(triple.2), day + 2)
-}
-
-/// Three days that can hold the three symbols alone.
+/// The first day and the number, three, of days that can hold the three symbols alone; None: no such days have the day among
+/// them. Days count from 0 round the cycle, without end.
 pub fn triple_run(doms: &Domains, triple: (Symbol, Symbol, Symbol), day: u32) -> Option<(u32, u32)>
     requires sets { 0 < length doms.now.sets }
     requires day { (16800 ≤ day) × (day ≤ 90000000) }
     ensures { IsRunAnswer (IsTripleRun triple doms.now) day result }
 {
     for back in 0..3 {
-        if is_triple(doms, triple, day - back) {
+        if is_triple_run(doms, triple, day - back, 3) {
             return Some((day - back, 3));
         }
     }

@@ -1,12 +1,12 @@
 // The leaves of windows.
-ghost use Rattle.std.specs.Prelude.{◌≡◌, ℕ, ◌+◌, ◌*◌, ◌<◌, ◌≤◌, ◌↔◌, length, IfOk, MatchOption, IsTrue, true, false, [], slice_set, slice_index_or, replicate};
+ghost use Rattle.std.specs.Prelude.{◌≡◌, ℕ, ◌<◌, ◌≤◌, ◌↔◌, length, IfOk, MatchOption, IsTrue, true, false, [], slice_set, slice_index_or};
 ghost use Rattle.rwsp_terms.specs.declared.data.Symbol.{Symbol};
-ghost use Rattle.rwsp_terms.specs.Instance.{Instance, cells};
+ghost use Rattle.rwsp_terms.specs.Instance.{cells};
 ghost use Rattle.refutation_terms.specs.declared.lines.Line.{Line};
 ghost use Rattle.refutation_terms.specs.declared.lines.Line.TheVariants.{Window};
 ghost use Rattle.refutation_terms.specs.Log.{LineFits};
 ghost use Rattle.domain_store.specs.Sets.{has_symbol};
-ghost use Rattle.domain_store.specs.Store.{Store, BelongsTo, domain_at, has_domain};
+ghost use Rattle.domain_store.specs.Store.{Store, BelongsTo, domain_at};
 ghost use Rattle.propagators.specs.Windows.{IsWindowLeaf, IsWatch, IsWindow};
 
 use crate::window_over::{WindowLeaf, window_over};

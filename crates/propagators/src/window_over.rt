@@ -1,5 +1,5 @@
 // Windows over a position that make every word over their domains bad for a rule.
-ghost use Rattle.std.specs.Prelude.{◌≡◌, ℕ, ◌+◌, ◌*◌, ◌<◌, ◌≤◌, length, slice_get, Some, MatchOption};
+ghost use Rattle.std.specs.Prelude.{◌≡◌, ℕ, ◌<◌, ◌≤◌, length, MatchOption};
 ghost use Rattle.rwsp_terms.specs.declared.data.Rule.TheVariants.{Pair, Triple};
 ghost use Rattle.rwsp_terms.specs.Instance.{cells, bounds, IsClass};
 ghost use Rattle.rwsp_terms.specs.Roster.{IsRule};
@@ -11,8 +11,9 @@ ghost use Rattle.propagators.specs.Windows.{IsWindow, NoWindowOver, IsRun, IsRun
 
 use crate::run::{long_run, pair_run, short_run, triple_run};
 use domain_store::Domains;
+use plain_leaves::{pair_at, triple_at};
 use refutation_terms::Line;
-use rwsp_model::{Class, Problem, Rule, Symbol, rule_at, rule_count};
+use rwsp_model::{Class, Problem, Rule, rule_at, rule_count};
 
 /// A window leaf. Rules count from 1, positions from 0.
 #[derive(Clone, Copy, Debug)]
@@ -133,18 +134,4 @@ fn triple_of(problem: &Problem, doms: &Domains, k: u32, day: u32) -> Option<(u32
     ensures { IsRunAnswer (IsRun problem.now doms.now (Triple k)) day result }
 {
     triple_run(doms, triple_at(problem, k), day)
-}
-
-fn pair_at(problem: &Problem, k: u32) -> (Symbol, Symbol)
-    requires { k < length problem.now.pairs }
-    ensures { slice_get problem.now.pairs k ≡ Some result }
-{
-    problem.pairs()[k as usize]
-}
-
-fn triple_at(problem: &Problem, k: u32) -> (Symbol, Symbol, Symbol)
-    requires { k < length problem.now.triples }
-    ensures { slice_get problem.now.triples k ≡ Some result }
-{
-    problem.triples()[k as usize]
 }

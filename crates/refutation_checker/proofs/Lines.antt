@@ -4,7 +4,6 @@ use Rattle.std.proofs.lemmas.Bool.{cases_lt}
 use Rattle.std.specs.Prelude.{◌↔◌}
 use Rattle.rwsp_terms.specs.Instance.{Instance}
 use Rattle.rwsp_terms.specs.declared.data.Symbol.{Symbol}
-use Rattle.plain_leaves.specs.Runs.{IsOverrun}
 use Rattle.refutation_terms.specs.declared.lines.Line.{Line}
 use Rattle.refutation_terms.specs.declared.lines.Line.TheVariants.{Day}
 use Rattle.refutation_terms.specs.Word.{Domains}
@@ -30,15 +29,6 @@ split_of_many P S p x n h is some idle =
       | inr more ↦ more
     ]
 
--- a day leaf by its way
-overrun_holds : (P : Instance) (D : Domains) (j : ℕ) (x : Symbol) (over : Bool) → IsOverrun P D j x.number over → Holds P D (Day j x over)
-overrun_holds P D j x true h = h
-overrun_holds P D j x false h = h
-
-holds_overrun : (P : Instance) (D : Domains) (j : ℕ) (x : Symbol) (over : Bool) → Holds P D (Day j x over) → IsOverrun P D j x.number over
-holds_overrun P D j x true h = h
-holds_overrun P D j x false h = h
-
-pub day_stands : (P : Instance) (D : Domains) (line : Line) (j : ℕ) (x : Symbol) (over b : Bool) → line ≡ Day j x over → (IsTrue b ↔ IsOverrun P D j x.number over) → IsTrue b ↔ StandsPlainly P D line
-day_stands P D line j x over b is test =
-    subst (λ (l : Line). IsTrue b ↔ StandsPlainly P D l) (sym is) (λ t. overrun_holds P D j x over (test.0 t), λ h. test.1 (holds_overrun P D j x over h))
+-- a day leaf
+pub day_stands : (P : Instance) (D : Domains) (line : Line) (j : ℕ) (x : Symbol) (over b : Bool) → line ≡ Day j x over → (IsTrue b ↔ Holds P D (Day j x over)) → IsTrue b ↔ StandsPlainly P D line
+day_stands P D line j x over b is test = subst (λ (l : Line). IsTrue b ↔ StandsPlainly P D l) (sym is) test

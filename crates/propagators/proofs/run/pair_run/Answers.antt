@@ -9,7 +9,7 @@ pub loop-back-preserved : goal.loop-back-preserved
 loop-back-preserved c =
     let S = c.args.doms.now in
     let IsNone : ℕ → Type 0 = λ i. IsPairRun c.args.pair S (c.args.day - i) 2 → ⊥ in
-    below_more IsNone c.loop-back.back c.loop-back.invariant (λ run. let is = c.is_pair.ensures.1 run in absurd (cc))
+    below_more IsNone c.loop-back.back c.loop-back.invariant (λ run. let is = c.is_pair_run.ensures.1 run in absurd (cc))
 
 pub returns : goal.returns
 returns c start len early late run =

@@ -13,3 +13,8 @@ returns-clause-few c =
     let small : c.args.x.number < 9 = omega (arith, c.requires.symbol, shifts, c.self.invariant.few_shifts) in
     let le : c.args.day ≤ c.self.inside.days = omega (arith, c.requires.day.1, days) in
     omega (arith, weeks, tally_few is_held c.self.inside.days c.self.inside.weeks c.self.inside.sets.items c.self.inside.possible.items c.args.day c.args.x.number c.index.result.now c.self.invariant.possible_counted c.requires.day.0 le small c.index.ensures)
+
+pub returns-clause-small : goal.returns-clause-small
+returns-clause-small c =
+    let weeks : c.self.inside.weeks ≡ c.args.self.now.weeks = ap (λ (C : Counted). C.weeks) c.self.view_is in
+    omega (arith, weeks, returns-clause-few c, c.self.invariant.few_weeks)

@@ -1,8 +1,8 @@
 -- Of two symbols or more none is alone.
 use Rattle.std.proofs.Common.{◌≤◌, length, sym, ◌∙◌, arith}
 use Rattle.domain_store.specs.Store.{domain_at}
-use Rattle.propagators.proofs.Lying.{only_of_one, has_of_only, not_only_of_two}
-use Rattle.propagators.proofs.domain.is_alone.Goals as goal
+use Rattle.plain_leaves.proofs.Lying.{only_of_one, has_of_only, not_only_of_two}
+use Rattle.plain_leaves.proofs.domain.is_alone.Goals as goal
 
 pub returns-then-size-ne1 : goal.returns-then-size-ne1
 returns-then-size-ne1 c =

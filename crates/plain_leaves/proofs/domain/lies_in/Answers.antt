@@ -1,7 +1,7 @@
 -- By the one symbol of the class, or by the day off.
 use Rattle.std.proofs.Common.{IsTrue}
-use Rattle.propagators.proofs.Lying.{only_at, has_at, in_shift, in_off, in_work}
-use Rattle.propagators.proofs.domain.lies_in.Goals as goal
+use Rattle.plain_leaves.proofs.Lying.{only_at, has_at, in_shift, in_off, in_work}
+use Rattle.plain_leaves.proofs.domain.lies_in.Goals as goal
 
 pub returns-in-Shift : goal.returns-in-Shift
 returns-in-Shift c =

@@ -1,7 +1,7 @@
 -- By the day off.
 use Rattle.std.proofs.Common.{IsTrue}
-use Rattle.propagators.proofs.Lying.{only_at, has_at, outside_off, outside_work}
-use Rattle.propagators.proofs.domain.lies_outside.Goals as goal
+use Rattle.plain_leaves.proofs.Lying.{only_at, has_at, outside_off, outside_work}
+use Rattle.plain_leaves.proofs.domain.lies_outside.Goals as goal
 
 pub returns-in-Off : goal.returns-in-Off
 returns-in-Off c =
