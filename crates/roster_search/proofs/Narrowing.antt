@@ -12,7 +12,7 @@ use Rattle.rwsp_terms.proofs.SameLists.{same_rule_lists}
 use Rattle.refutation_terms.specs.declared.lines.Line.{Line}
 use Rattle.refutation_terms.specs.declared.lines.Line.TheVariants.{Split}
 use Rattle.refutation_terms.specs.declared.lines.Turn.{Turn}
-use Rattle.refutation_terms.specs.Word.{Domains}
+use Rattle.refutation_terms.specs.Word.{Domains, AreSame}
 use Rattle.refutation_terms.specs.Tree.{First, narrowed, line_leaves, lines_leave, side, domains_at}
 use Rattle.refutation_terms.proofs.Tests.{left_of}
 use Rattle.domain_store.specs.Sets.{has_symbol, IsDomain}
@@ -23,7 +23,6 @@ use Rattle.tree_walk.proofs.Moves.{state_domains}
 use Rattle.propagators.specs.Looks.{IsNarrowedAt}
 use Rattle.roster_search.specs.Written.{IsSplitWithLeaf}
 use Rattle.roster_search.proofs.Growing.{EndNone, domains_behind, split_ends_none, leaf_ends_one, leaf_leaves}
-use Rattle.roster_search.proofs.Alike.{Agree}
 
 set_contains : (set : List ℕ) (x : ℕ) → has_symbol set x ≡ true → Contains set x
 set_contains [] x h = absurd (cc)
@@ -97,7 +96,7 @@ narrowed_at P turn ls added v w p x sv sw a b added_is inside =
     }
 
 -- the domains at the first side of a split
-pub first_side : (P : Instance) (turn : Option Turn) (ls : List Line) (D : Domains) (p : ℕ) (x : Symbol) → Agree P D (domains_at P turn ls (length ls)) → Agree P (narrowed D (Split p x) First) (domains_at P turn (ls ++ Split p x ∷ []) (length (ls ++ Split p x ∷ [])))
+pub first_side : (P : Instance) (turn : Option Turn) (ls : List Line) (D : Domains) (p : ℕ) (x : Symbol) → AreSame P D (domains_at P turn ls (length ls)) → AreSame P (narrowed D (Split p x) First) (domains_at P turn (ls ++ Split p x ∷ []) (length (ls ++ Split p x ∷ [])))
 first_side P turn ls D p x same q z lt =
     ap (λ b. b && line_leaves (Split p x) First q z) (same q z lt)
     ∙ ap (λ b. domains_at P turn ls (length ls) q z && b) (sym (and-true (line_leaves (Split p x) First q z)))

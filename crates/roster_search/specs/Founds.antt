@@ -1,12 +1,12 @@
 -- What a search finds.
-use Rattle.std.specs.Prelude.{◌≡◌, ℕ, ◌<◌, ◌≤◌, slice_get, Option, Some}
+use Rattle.std.specs.Prelude.{◌≡◌, ℕ, ◌≤◌, slice_get, Option, Some}
 use Rattle.rwsp_terms.specs.declared.data.Symbol.{Symbol}
-use Rattle.rwsp_terms.specs.Instance.{Instance, cells}
+use Rattle.rwsp_terms.specs.Instance.{Instance}
 use Rattle.rwsp_terms.specs.Roster.{MeetsAll}
 use Rattle.refutation_terms.specs.declared.lines.Line.{Line}
 use Rattle.refutation_terms.specs.declared.lines.Line.TheVariants.{Split}
 use Rattle.refutation_terms.specs.declared.lines.Turn.{Turn}
-use Rattle.refutation_terms.specs.Word.{Domains}
+use Rattle.refutation_terms.specs.Word.{Domains, AreSame}
 use Rattle.refutation_terms.specs.Tree.{domains_at}
 use Rattle.refutation_terms.specs.Log.{Log, Passes, IsSpent, NamesOnlyCited, size}
 use Rattle.domain_store.specs.Store.{Store, BelongsTo, has_domain}
@@ -18,7 +18,7 @@ use Rattle.roster_search.specs.declared.found.Found.TheVariants.{Roster, NoRoste
 pub record IsForced (P : Instance) (leaves : Store → Line → Type 0) (spent : Store → ℕ → Symbol → Type 0) (D : Domains) (p : ℕ) (x : Symbol) : Type 0 where
   pub store : Store
   pub belongs : BelongsTo P store
-  pub agrees : (q z : ℕ) → q < cells P → has_domain store q z ≡ D q z
+  pub agrees : AreSame P (has_domain store) D
   pub not_closed : Closes P (leaves store) store → ⊥
   pub forced : (q : ℕ) (z : Symbol) → spent store q z → spent store p x
 

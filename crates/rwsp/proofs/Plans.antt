@@ -7,11 +7,11 @@ use Rattle.rwsp_model.specs.Validity.{KeepsLimits}
 use Rattle.refutation_terms.specs.declared.lines.Line.{Line}
 use Rattle.refutation_terms.specs.declared.lines.Line.TheVariants.{Split, Window, Day}
 use Rattle.refutation_terms.specs.declared.lines.Turn.{Turn}
-use Rattle.refutation_terms.specs.Word.{Domains}
+use Rattle.refutation_terms.specs.Word.{Domains, AreSame}
 use Rattle.refutation_terms.specs.Tree.{First, narrowed, line_leaves, domains_at}
 use Rattle.refutation_terms.specs.Log.{Log, LineFits}
 use Rattle.refutation_terms.specs.Sharp.{SomeWindowHolds, SomeDayHolds, IsFirstTurn}
-use Rattle.refutation_checker.proofs.SameDomains.{AreSame, turned_round, same_idle, same_holds}
+use Rattle.refutation_terms.proofs.SameDomains.{turned_round, same_idle, same_holds}
 use Rattle.domain_store.specs.Store.{Store, has_domain}
 use Rattle.propagators.specs.Looks.{Closes}
 use Rattle.propagators.specs.Days.{IsDaySpent}

@@ -12,7 +12,7 @@ use Rattle.rwsp_model.specs.Validity.{KeepsLimits}
 use Rattle.refutation_terms.specs.declared.lines.Line.{Line}
 use Rattle.refutation_terms.specs.declared.lines.Line.TheVariants.{Split, Unfinished}
 use Rattle.refutation_terms.specs.declared.lines.Turn.{Turn}
-use Rattle.refutation_terms.specs.Word.{Domains}
+use Rattle.refutation_terms.specs.Word.{Domains, AreSame}
 use Rattle.refutation_terms.specs.Tree.{IsLeaf, IsTree, after_trees, opening, lines_leave, domains_at, is_idle}
 use Rattle.refutation_terms.specs.Log.{TurnFits}
 use Rattle.domain_store.specs.Store.{Store, store_at, domain_at, has_domain, changed, full_store, HasSameShape, BelongsTo, IsStore, HasDomains}
@@ -50,7 +50,7 @@ side_crossed n S T U D splits outer after lines o set e first at_mark same chang
     subst (λ s. InSplits IsNone n U D 0 s lines) (sym is) done
 
 -- a walk that has read no line
-pub at_start : (P : Instance) (turn : Option Turn) (S : Store) (splits : List OpenSplit) → IsStore S → BelongsTo P S → splits ≡ [] → Agrees (cells P) S (opening P turn) → IsStateOf P turn [] (record { store = S; splits = splits; whole = false })
+pub at_start : (P : Instance) (turn : Option Turn) (S : Store) (splits : List OpenSplit) → IsStore S → BelongsTo P S → splits ≡ [] → AreSame P (has_domain S) (opening P turn) → IsStateOf P turn [] (record { store = S; splits = splits; whole = false })
 at_start P turn S splits now belongs none agrees =
     let here : Agrees (length S.sets) S (opening P turn) = λ p z lt. agrees p z (subst (λ m. p < m) (positions_of P S now belongs) lt) in
     record {
@@ -110,7 +110,7 @@ still_walk S T splits after whole ended part same ends w =
     (w.0, w.1, w.2 ++ Unfinished ∷ [], behind_leaf w.0 w.1 w.2 Unfinished S T splits after whole ended tt part same ends w.3)
 
 -- the domains are those of the next line
-pub state_domains : (P : Instance) (turn : Option Turn) (lines : List Line) (S : Store) (splits : List OpenSplit) (whole : Bool) → IsStore S → IsStateOf P turn lines (record { store = S; splits = splits; whole = whole }) → (p x : ℕ) → p < cells P → has_domain S p x ≡ domains_at P turn lines (length lines) p x
+pub state_domains : (P : Instance) (turn : Option Turn) (lines : List Line) (S : Store) (splits : List OpenSplit) (whole : Bool) → IsStore S → IsStateOf P turn lines (record { store = S; splits = splits; whole = whole }) → AreSame P (has_domain S) (domains_at P turn lines (length lines))
 state_domains P turn lines S splits whole now w p x lt =
     let inside : p < length S.sets = subst (λ m. p < m) (sym (positions_of P S now w.belongs)) lt in
     let le : length lines ≤ length lines = omega arith in

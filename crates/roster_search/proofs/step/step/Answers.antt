@@ -2,6 +2,7 @@
 use Rattle.std.proofs.Common.{◌≡◌, ◌+◌, [], ◌∷◌, length, ap, ◌∙◌, subst, arith, length-append, None, Option}
 use Rattle.std.proofs.lemmas.Result.{IfOk-weaker}
 use Rattle.refutation_terms.specs.Tree.{domains_at}
+use Rattle.refutation_terms.proofs.SameDomains.{same_holds}
 use Rattle.domain_store.specs.Store.{Store, has_domain}
 use Rattle.tree_walk.proofs.Moves.{state_domains}
 use Rattle.propagators.specs.declared.look.Look.{Look}
@@ -9,7 +10,6 @@ use Rattle.propagators.specs.declared.look.Look.TheVariants.{Closed, Cut}
 use Rattle.propagators.specs.Looks.{IsLook}
 use Rattle.rwsp_model.specs.declared.roster.Roster.{Roster}
 use Rattle.roster_search.specs.Written.{IsUnderWay}
-use Rattle.roster_search.proofs.Alike.{holds_alike}
 use Rattle.roster_search.proofs.Forced.{leaf_under_way, split_under_way, under_way_by, under_way_back}
 use Rattle.roster_search.proofs.step.step.Goals as goal
 use Rattle.rwsp_model.proofs.Limits.{some_cells}
@@ -24,7 +24,7 @@ close-requires-clause-holds g c =
     let look : IsLook P (leaves S) (spent S) S (Closed c.in-Closed.line) =
     subst (λ (k : Look). IsLook P (leaves S) (spent S) S k) c.in-Closed.is
     (subst (λ (T : Store). IsLook P (leaves T) (spent T) T c.in_ok-line.field-0) c.domains.ensures.value (c.in_ok-line.ensures.look P c.requires.serves)) in
-    holds_alike P (has_domain S) (domains_at P a.turn a.lines.items (length a.lines.items)) c.in-Closed.line (some_cells P c.keeps_limits.ensures) look.is_leaf.fits
+    same_holds P (has_domain S) (domains_at P a.turn a.lines.items (length a.lines.items)) c.in-Closed.line (some_cells P c.keeps_limits.ensures) look.is_leaf.fits
     (λ q z lt. state_domains P a.turn a.lines.items S a.walk.splits a.walk.whole c.domain_facts.ensures.store c.requires.under_way.written.state q z lt)
     look.holds
 

@@ -6,12 +6,12 @@ use Rattle.refutation_terms.specs.declared.lines.Line.TheVariants.{Split}
 use Rattle.refutation_terms.specs.declared.lines.Turn.{Turn}
 use Rattle.refutation_terms.specs.Tree.{domains_at, narrowed, First}
 use Rattle.refutation_terms.specs.Log.{Holds}
+use Rattle.refutation_terms.proofs.SameDomains.{same_holds}
 use Rattle.domain_store.specs.Store.{has_domain}
 use Rattle.tree_walk.specs.States.{IsStateOf}
 use Rattle.tree_walk.proofs.Idle.{positions_of, idle_in_store}
 use Rattle.tree_walk.proofs.Moves.{state_domains}
 use Rattle.roster_search.specs.Written.{IsSplitWithLeaf}
-use Rattle.roster_search.proofs.Alike.{holds_alike}
 use Rattle.roster_search.proofs.Narrowing.{narrowed_at, first_side}
 use Rattle.roster_search.proofs.progress.Progress.cut.Goals as goal
 use Rattle.rwsp_model.proofs.Limits.{some_cells}
@@ -33,7 +33,7 @@ close-requires-clause-holds c =
     let S = a.walk.store in
     let all : List Line = a.lines.items ++ Split c.args.p x ∷ [] in
     let there : Holds P (domains_at P a.turn all (length all)) c.args.line =
-    holds_alike P (narrowed (has_domain S) (Split c.args.p x) First) (domains_at P a.turn all (length all)) c.args.line (some_cells P c.keeps_limits.ensures) c.requires.leaf.fits
+    same_holds P (narrowed (has_domain S) (Split c.args.p x) First) (domains_at P a.turn all (length all)) c.args.line (some_cells P c.keeps_limits.ensures) c.requires.leaf.fits
     (first_side P a.turn a.lines.items (has_domain S) c.args.p x (λ q z lt. state_domains P a.turn a.lines.items S a.walk.splits a.walk.whole c.domain_facts.ensures.store c.requires.written.state q z lt))
     c.requires.holds in
     subst (λ (t : Option Turn). Holds P (domains_at P t b.lines.items (length b.lines.items)) c.args.line) (sym c.in_ok-split.ensures.turn)
