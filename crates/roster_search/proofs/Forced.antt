@@ -12,8 +12,8 @@ use Rattle.domain_store.specs.Store.{Store, has_domain, IsStore}
 use Rattle.tree_walk.proofs.Moves.{state_domains}
 use Rattle.propagators.specs.Looks.{Closes}
 use Rattle.roster_search.specs.declared.progress.Progress.{Progress}
-use Rattle.roster_search.specs.Founds.{IsForced}
-use Rattle.roster_search.specs.Written.{IsProgress, IsSplitOff, IsUnderWay, AreForced}
+use Rattle.roster_search.specs.Founds.{IsForced, AreForced}
+use Rattle.roster_search.specs.Written.{IsProgress, IsSplitOff, IsUnderWay}
 use Rattle.roster_search.proofs.Growing.{EachAt, one_more, split_more}
 
 abbrev pub Leaves : Type 1
