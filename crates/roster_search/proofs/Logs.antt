@@ -15,7 +15,7 @@ use Rattle.refutation_terms.specs.Tree.{IsTree, after_trees}
 use Rattle.refutation_terms.specs.Log.{Log, LineFits, Holds, HoldsAt, Cites, ListsShortOnly, IsAllowed, AreRules, IsGrounded, Passes, IsSpent, size, is_worked}
 use Rattle.refutation_terms.proofs.Trees.{whole_is_tree}
 use Rattle.refutation_terms.proofs.TreeDomains.{got_left}
-use Rattle.tree_walk.specs.Splits.{lacking_in}
+use Rattle.tree_walk.specs.Splits.{second_sides_to_come}
 use Rattle.tree_walk.specs.States.{State, open_trees}
 use Rattle.roster_search.specs.declared.progress.Progress.{Progress}
 use Rattle.roster_search.specs.declared.found.Found.TheVariants.{NoRoster, Undecided}
@@ -118,7 +118,7 @@ pub rest_ends : (ls : List Line) (n : ℕ) → after_trees 1 (ls ++ replicate n 
 rest_ends ls n e = whole_is_tree (ls ++ replicate n Unfinished) (e ∙ rest_is_read n)
 
 pub some_open : (w : State) → w.whole ≡ false → 1 ≤ open_trees w
-some_open w part = let e : open_trees w ≡ lacking_in w.splits + 1 = ap (λ b. cond b 0 (lacking_in w.splits + 1)) part in omega arith
+some_open w part = let e : open_trees w ≡ second_sides_to_come w.splits + 1 = ap (λ b. cond b 0 (second_sides_to_come w.splits + 1)) part in omega arith
 
 -- lines that have used up the budget, with the rest left open
 pub spent_end : (P : Instance) (s : Progress) (budget n : ℕ) (g : Log) → IsProgress P s → IsAllowed P s.turn → IsStrictlyIncreasing s.named → IsTree (s.lines.items ++ replicate n Unfinished) → length s.lines.items ≤ budget → budget ≤ length s.lines.items → 1 ≤ n → g.named ≡ s.named → g.turn ≡ s.turn → g.lines ≡ s.lines.items ++ replicate n Unfinished → IsEnded P s.turn budget s.lines.items (Undecided g)

@@ -8,7 +8,7 @@ ghost use Rattle.refutation_terms.specs.Word.{AreSame};
 ghost use Rattle.refutation_terms.specs.Tree.{IsLeaf, IsTree, after_trees, opening, domains_at, is_idle};
 ghost use Rattle.refutation_terms.specs.Log.{TurnFits};
 ghost use Rattle.domain_store.specs.Store.{HasSameShape, has_domain, BelongsTo};
-ghost use Rattle.tree_walk.specs.Splits.{lacking_in, is_idle_in};
+ghost use Rattle.tree_walk.specs.Splits.{second_sides_to_come, is_idle_in};
 
 use crate::ending::end_tree;
 use crate::open_split::OpenSplit;
@@ -109,7 +109,7 @@ impl Walk {
         if self.whole {
             0
         } else {
-            lacking(&self.splits) + 1
+            second_sides_to_come(&self.splits) + 1
         }
     }
 
@@ -173,9 +173,9 @@ fn copied_splits(alloc: Global, splits: &[OpenSplit]) -> Result<Vec<OpenSplit>, 
     Ok(copies)
 }
 
-// How many open splits are in their first side.
-fn lacking(splits: &[OpenSplit]) -> usize
-    ensures value { result ≡ lacking_in splits.now }
+// How many of the open splits are in their first side, so that their second is still to come.
+fn second_sides_to_come(splits: &[OpenSplit]) -> usize
+    ensures value { result ≡ second_sides_to_come splits.now }
     ensures few { result ≤ length splits.now }
 {
     splits.iter().filter(|split| !split.in_second).count()
