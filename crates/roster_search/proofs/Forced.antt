@@ -10,7 +10,8 @@ use Rattle.refutation_terms.specs.Word.{Domains}
 use Rattle.refutation_terms.specs.Tree.{IsLeaf, domains_at}
 use Rattle.domain_store.specs.Store.{Store, has_domain, IsStore}
 use Rattle.tree_walk.proofs.Moves.{state_domains}
-use Rattle.propagators.specs.Looks.{Closes}
+use Rattle.propagators.specs.declared.look.Look.{Look}
+use Rattle.propagators.specs.Looks.{Closes, IsLook}
 use Rattle.roster_search.specs.declared.progress.Progress.{Progress}
 use Rattle.roster_search.specs.Founds.{IsForced, AreForced}
 use Rattle.roster_search.specs.Written.{IsProgress, IsSplitOff, IsUnderWay}
@@ -21,6 +22,10 @@ Leaves = Store → Line → Type 0
 
 abbrev pub Spent : Type 1
 Spent = Store → ℕ → Symbol → Type 0
+
+-- what was seen, of the domains at hand
+pub seen : (P : Instance) (leaves : Leaves) (spent : Spent) (S T : Store) (look other : Look) → T ≡ S → look ≡ other → IsLook P (leaves T) (spent T) T look → IsLook P (leaves S) (spent S) S other
+seen P leaves spent S T look other at is h = subst (λ k. IsLook P (leaves S) (spent S) S k) is (subst (λ U. IsLook P (leaves U) (spent U) U look) at h)
 
 abbrev IsForcedLine : Instance → Leaves → Spent → Domains → Line → Type 0
 IsForcedLine P leaves spent D line = (p : ℕ) (x : Symbol) → line ≡ Split p x → IsForced P leaves spent D p x
