@@ -17,8 +17,10 @@ close-requires-clause-holds g c =
     let P = c.args.problem.now in
     let a = c.args.progress.now in
     let S = a.walk.store in
-    let look : IsLook P (g.A.Propagator.leaves c.args.prop.now S) (g.A.Propagator.spent c.args.prop.now S) S (Closed c.in-Closed.line) =
-    seen P (g.A.Propagator.leaves c.args.prop.now) (g.A.Propagator.spent c.args.prop.now) S c.domains.result.now c.in_ok-line.field-0 (Closed c.in-Closed.line) c.domains.ensures.value c.in-Closed.is (c.in_ok-line.ensures.look P c.requires.serves) in
+    let leaves = g.A.Propagator.leaves c.args.propagator.now in
+    let spent = g.A.Propagator.spent c.args.propagator.now in
+    let look : IsLook P (leaves S) (spent S) S (Closed c.in-Closed.line) =
+    seen P leaves spent S c.domains.result.now c.in_ok-line.field-0 (Closed c.in-Closed.line) c.domains.ensures.value c.in-Closed.is (c.in_ok-line.ensures.look P c.requires.serves) in
     same_holds P (has_domain S) (domains_at P a.turn a.lines.items (length a.lines.items)) c.in-Closed.line (some_cells P c.keeps_limits.ensures) look.is_leaf.fits
     (state_domains P a.turn a.lines.items S a.walk.splits a.walk.whole c.domain_facts.ensures.store c.requires.under_way.written.state)
     look.holds
@@ -27,16 +29,20 @@ pub met_roster-requires-clause-windows : goal.met_roster-requires-clause-windows
 met_roster-requires-clause-windows g c number p len fits holds =
     let P = c.args.problem.now in
     let S = c.args.progress.now.walk.store in
-    let look : IsLook P (g.A.Propagator.leaves c.args.prop.now S) (g.A.Propagator.spent c.args.prop.now S) S Quiet =
-    seen P (g.A.Propagator.leaves c.args.prop.now) (g.A.Propagator.spent c.args.prop.now) S c.domains.result.now c.in_ok-line.field-0 Quiet c.domains.ensures.value c.in-Quiet.is (c.in_ok-line.ensures.look P c.requires.serves) in
+    let leaves = g.A.Propagator.leaves c.args.propagator.now in
+    let spent = g.A.Propagator.spent c.args.propagator.now in
+    let look : IsLook P (leaves S) (spent S) S Quiet =
+    seen P leaves spent S c.domains.result.now c.in_ok-line.field-0 Quiet c.domains.ensures.value c.in-Quiet.is (c.in_ok-line.ensures.look P c.requires.serves) in
     look.0 (Window number p len, c.requires.windows S number p len fits, subst (λ (T : Store). Holds P (has_domain T) (Window number p len)) c.domains-in-None.ensures.value holds)
 
 pub met_roster-requires-clause-days : goal.met_roster-requires-clause-days
 met_roster-requires-clause-days g c j x over fits holds =
     let P = c.args.problem.now in
     let S = c.args.progress.now.walk.store in
-    let look : IsLook P (g.A.Propagator.leaves c.args.prop.now S) (g.A.Propagator.spent c.args.prop.now S) S Quiet =
-    seen P (g.A.Propagator.leaves c.args.prop.now) (g.A.Propagator.spent c.args.prop.now) S c.domains.result.now c.in_ok-line.field-0 Quiet c.domains.ensures.value c.in-Quiet.is (c.in_ok-line.ensures.look P c.requires.serves) in
+    let leaves = g.A.Propagator.leaves c.args.propagator.now in
+    let spent = g.A.Propagator.spent c.args.propagator.now in
+    let look : IsLook P (leaves S) (spent S) S Quiet =
+    seen P leaves spent S c.domains.result.now c.in_ok-line.field-0 Quiet c.domains.ensures.value c.in-Quiet.is (c.in_ok-line.ensures.look P c.requires.serves) in
     look.0 (Day j x over, c.requires.days S j x over fits, subst (λ (T : Store). Holds P (has_domain T) (Day j x over)) c.domains-in-None.ensures.value holds)
 
 pub returns-in_ok-close-in-Closed-clause-under_way :
@@ -46,8 +52,8 @@ returns-in_ok-close-in-Closed-clause-under_way g c none =
     let a = c.args.progress.now in
     let b = c.close.new.self in
     let S = a.walk.store in
-    let leaves = g.A.Propagator.leaves c.args.prop.now in
-    let spent = g.A.Propagator.spent c.args.prop.now in
+    let leaves = g.A.Propagator.leaves c.args.propagator.now in
+    let spent = g.A.Propagator.spent c.args.propagator.now in
     let look : IsLook P (leaves S) (spent S) S (Closed c.in-Closed.line) =
     seen P leaves spent S c.domains.result.now c.in_ok-line.field-0 (Closed c.in-Closed.line) c.domains.ensures.value c.in-Closed.is (c.in_ok-line.ensures.look P c.requires.serves) in
     let long : length b.lines.items ≡ length a.lines.items + 1 = ap length c.in_ok-close-in-Closed.ensures.lines ∙ length-append a.lines.items (c.in-Closed.line ∷ []) in
@@ -60,8 +66,8 @@ returns-in_ok-cut-in-Cut-clause-under_way g c none =
     let a = c.args.progress.now in
     let b = c.cut.new.self in
     let S = a.walk.store in
-    let leaves = g.A.Propagator.leaves c.args.prop.now in
-    let spent = g.A.Propagator.spent c.args.prop.now in
+    let leaves = g.A.Propagator.leaves c.args.propagator.now in
+    let spent = g.A.Propagator.spent c.args.propagator.now in
     let look : IsLook P (leaves S) (spent S) S (Cut c.in-Cut.p c.in-Cut.x c.in-Cut.line) =
     seen P leaves spent S c.domains.result.now c.in_ok-line.field-0 (Cut c.in-Cut.p c.in-Cut.x c.in-Cut.line) c.domains.ensures.value c.in-Cut.is (c.in_ok-line.ensures.look P c.requires.serves) in
     split_under_way P a.turn c.args.budget leaves spent a b c.in-Cut.p c.in-Cut.x c.requires.under_way c.in_ok-cut-in-Cut.ensures.off c.in_ok-cut-in-Cut.ensures.few c.domain_facts.ensures.store
@@ -74,8 +80,8 @@ returns-in_ok-split-in-Some-clause-under_way g c none =
     let a = c.args.progress.now in
     let b = c.split.new.self in
     let S = a.walk.store in
-    let leaves = g.A.Propagator.leaves c.args.prop.now in
-    let spent = g.A.Propagator.spent c.args.prop.now in
+    let leaves = g.A.Propagator.leaves c.args.propagator.now in
+    let spent = g.A.Propagator.spent c.args.propagator.now in
     let look : IsLook P (leaves S) (spent S) S Quiet =
     seen P leaves spent S c.domains.result.now c.in_ok-line.field-0 Quiet c.domains.ensures.value c.in-Quiet.is (c.in_ok-line.ensures.look P c.requires.serves) in
     let long : length b.lines.items ≡ length a.lines.items + 1 = ap length c.in_ok-split-in-Some.ensures.lines ∙ length-append a.lines.items (Split c.in-Some.split.p c.in-Some.split.x ∷ []) in
