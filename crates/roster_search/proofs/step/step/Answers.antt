@@ -5,7 +5,6 @@ use Rattle.refutation_terms.specs.Log.{Holds}
 use Rattle.refutation_terms.specs.Tree.{domains_at}
 use Rattle.refutation_terms.proofs.SameDomains.{same_holds}
 use Rattle.domain_store.specs.Store.{Store, has_domain}
-use Rattle.tree_walk.proofs.Moves.{state_domains}
 use Rattle.propagators.specs.declared.look.Look.TheVariants.{Closed, Cut, Quiet}
 use Rattle.propagators.specs.Looks.{IsLook}
 use Rattle.roster_search.proofs.Forced.{seen, leaf_under_way, split_under_way}
@@ -22,7 +21,7 @@ close-requires-clause-holds g c =
     let look : IsLook P (leaves S) (spent S) S (Closed c.in-Closed.line) =
     seen P leaves spent S c.domains.result.now c.in_ok-line.field-0 (Closed c.in-Closed.line) c.domains.ensures.value c.in-Closed.is (c.in_ok-line.ensures.look P c.requires.serves) in
     same_holds P (has_domain S) (domains_at P a.turn a.lines.items (length a.lines.items)) c.in-Closed.line (some_cells P c.keeps_limits.ensures) look.is_leaf.fits
-    (state_domains P a.turn a.lines.items S a.walk.splits a.walk.whole c.domain_facts.ensures.store c.requires.under_way.written.state)
+    (c.domain_facts.ensures.same P c.requires.under_way.written)
     look.holds
 
 pub met_roster-requires-clause-windows : goal.met_roster-requires-clause-windows
@@ -70,7 +69,7 @@ returns-in_ok-cut-in-Cut-clause-under_way g c none =
     let spent = g.A.Propagator.spent c.args.propagator.now in
     let look : IsLook P (leaves S) (spent S) S (Cut c.in-Cut.p c.in-Cut.x c.in-Cut.line) =
     seen P leaves spent S c.domains.result.now c.in_ok-line.field-0 (Cut c.in-Cut.p c.in-Cut.x c.in-Cut.line) c.domains.ensures.value c.in-Cut.is (c.in_ok-line.ensures.look P c.requires.serves) in
-    split_under_way P a.turn c.args.budget leaves spent a b c.in-Cut.p c.in-Cut.x c.requires.under_way c.in_ok-cut-in-Cut.ensures.off c.in_ok-cut-in-Cut.ensures.few c.domain_facts.ensures.store
+    split_under_way P a.turn c.args.budget leaves spent a b c.in-Cut.p c.in-Cut.x c.requires.under_way c.in_ok-cut-in-Cut.ensures.off c.in_ok-cut-in-Cut.ensures.few (c.domain_facts.ensures.same P c.requires.under_way.written)
     look.0 (λ q z s. look.1.is_spent)
 
 pub returns-in_ok-split-in-Some-clause-under_way :
@@ -86,4 +85,4 @@ returns-in_ok-split-in-Some-clause-under_way g c none =
     seen P leaves spent S c.domains.result.now c.in_ok-line.field-0 Quiet c.domains.ensures.value c.in-Quiet.is (c.in_ok-line.ensures.look P c.requires.serves) in
     let long : length b.lines.items ≡ length a.lines.items + 1 = ap length c.in_ok-split-in-Some.ensures.lines ∙ length-append a.lines.items (Split c.in-Some.split.p c.in-Some.split.x ∷ []) in
     split_under_way P a.turn c.args.budget leaves spent a b c.in-Some.split.p c.in-Some.split.x
-    c.requires.under_way (c.in_ok-split-in-Some.ensures.off P c.requires.under_way.written) (omega (arith, long, c.requires.room)) c.domain_facts.ensures.store look.0 (λ q z s. absurd (look.1 q z s))
+    c.requires.under_way (c.in_ok-split-in-Some.ensures.off P c.requires.under_way.written) (omega (arith, long, c.requires.room)) (c.domain_facts.ensures.same P c.requires.under_way.written) look.0 (λ q z s. absurd (look.1 q z s))
