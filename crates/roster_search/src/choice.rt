@@ -78,7 +78,7 @@ fn off_before(domains: &Domains, p: u32) -> u32
 {
     let mut count = 0;
     for q in 0..p {
-        if is_alone(domains, q, Symbol::OFF) {
+        if is_surely(domains, q, Class::Off) {
             count += 1;
         }
     }
@@ -96,16 +96,15 @@ fn unfinished(problem: &Problem, domains: &Domains, p: u32) -> Option<Symbol>
         return None;
     }
     let x = domains.only(p - 1)?;
-    if !domains.has(p, x) {
-        return None;
-    }
-    if block_before(domains, p, x) < problem.bounds(class_of(x)).least {
+    let class = class_of(x);
+    if domains.has(p, x) && block_before(domains, p, class) < problem.bounds(class).least {
         Some(x)
     } else {
         None
     }
 }
 
+// The class whose blocks the symbol is in: days off, or its own shift.
 fn class_of(x: Symbol) -> Class
     ensures { (P : Instance) → IsSymbol P x → IsClass P result }
 {
@@ -116,53 +115,41 @@ fn class_of(x: Symbol) -> Class
     }
 }
 
-// How many positions in a row before this one have the symbol alone.
-fn block_before(domains: &Domains, p: u32, x: Symbol) -> u32
-    requires { p < length domains.now.sets }
-{
-    for back in 0..p {
-        if !is_alone(domains, p - 1 - back, x) {
-            return back;
-        }
-    }
-    p
-}
-
-fn is_alone(domains: &Domains, p: u32, x: Symbol) -> bool
-    requires { p < length domains.now.sets }
-{
-    match domains.only(p) {
-        Some(only) => only.number == x.number,
-        None => false,
-    }
-}
-
 // Whether the days before the position are a block of work that is shorter than the least length.
 fn works_on(problem: &Problem, domains: &Domains, p: u32) -> bool
     requires { p < length domains.now.sets }
 {
-    let count = work_before(domains, p);
+    let count = block_before(domains, p, Class::Work);
     0 < count && count < problem.bounds(Class::Work).least
 }
 
-// How many positions in a row before this one have one shift alone.
-fn work_before(domains: &Domains, p: u32) -> u32
+// How many positions in a row before this one are surely in the class.
+fn block_before(domains: &Domains, p: u32, class: Class) -> u32
     requires { p < length domains.now.sets }
 {
     for back in 0..p {
-        if !has_one_shift(domains, p - 1 - back) {
+        if !is_surely(domains, p - 1 - back, class) {
             return back;
         }
     }
     p
 }
 
-fn has_one_shift(domains: &Domains, p: u32) -> bool
+// Whether the position has one symbol, and that is in the class.
+fn is_surely(domains: &Domains, p: u32, class: Class) -> bool
     requires { p < length domains.now.sets }
 {
     match domains.only(p) {
-        Some(x) => x.number > 0,
+        Some(x) => is_in(class, x),
         None => false,
+    }
+}
+
+fn is_in(class: Class, x: Symbol) -> bool {
+    match class {
+        Class::Shift(shift) => x.number == shift.number,
+        Class::Off => x.number == 0,
+        Class::Work => x.number > 0,
     }
 }
 
