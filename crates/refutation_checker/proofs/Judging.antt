@@ -9,17 +9,17 @@ use Rattle.refutation_terms.specs.declared.lines.Line.TheVariants.{Split, Window
 use Rattle.refutation_terms.specs.declared.lines.Turn.{Turn}
 use Rattle.refutation_terms.specs.declared.lines.LogRefusal.{LogRefusal}
 use Rattle.refutation_terms.specs.declared.lines.LogRefusal.TheVariants as Refusals
-use Rattle.refutation_terms.specs.Word.{Domains}
+use Rattle.refutation_terms.specs.Word.{Domains, AreSame}
 use Rattle.refutation_terms.specs.Tree.{IsTree, domains_at}
 use Rattle.refutation_terms.specs.Log.{Holds, LineFits}
 use Rattle.refutation_terms.specs.Verdict.{Cause, Reading, Spells, TreeCause, SplitsIdly, header_lines}
+use Rattle.refutation_terms.proofs.SameDomains.{turned_round, same_idle, same_holds, same_escapes}
 use Rattle.refutation_terms.proofs.Spelled.{spelled_lines_fit}
 use Rattle.domain_store.specs.Store.{Store, BelongsTo, has_domain, IsStore, HasDomains}
 use Rattle.tree_walk.specs.States.{State, IsStateOf}
 use Rattle.tree_walk.proofs.Idle.{idle_in_store}
 use Rattle.refutation_checker.specs.LineVerdicts.{StandsPlainly, IsPlainlySound, IsIdleSplit, PlainCause, HoldsByWords, IsSound, LineCause}
 use Rattle.refutation_checker.specs.LineTexts.{IsLineRead, MayStep}
-use Rattle.refutation_checker.proofs.SameDomains.{AreSame, turned_round, same_idle, same_holds, same_escapes}
 
 pub plain_is_cause : (P : Instance) (named : List ℕ) (D : Domains) (n : ℕ) (line : Line) (why : LogRefusal) → PlainCause P named D n line why → LineCause P named D n line why
 plain_is_cause P named D n line (Refusals.Form i) h = h

@@ -4,6 +4,7 @@ pub mod Sides
 pub mod Trees
 pub mod TreeDomains
 pub mod Counts
+pub mod SameDomains
 pub mod Alone
 pub mod Sums
 pub mod Weighing

@@ -15,6 +15,10 @@ use Rattle.rwsp_terms.specs.Weights.{weight_at}
 abbrev pub Domains : Type 0
 Domains = ℕ → ℕ → Bool
 
+-- the two leave the same symbols at each position
+abbrev pub AreSame : Instance → Domains → Domains → Type 0
+AreSame P D E = (p x : ℕ) → p < cells P → D p x ≡ E p x
+
 -- each position has a symbol, and none above K
 pub record AreDomains (P : Instance) (D : Domains) : Type 0 where
   pub symbols : (p x : ℕ) → p < cells P → IsTrue (D p x) → x ≤ shift_count P

@@ -13,7 +13,7 @@ use Rattle.refutation_terms.specs.Log.{TurnFits, TurnCites, Cites}
 use Rattle.refutation_terms.proofs.TreeDomains.{got_left, got_right}
 use Rattle.domain_store.specs.Store.{Store}
 use Rattle.tree_walk.specs.declared.open_split.OpenSplit.{OpenSplit}
-use Rattle.tree_walk.specs.Splits.{InSplits, IsNone, HasRead, lacking_in}
+use Rattle.tree_walk.specs.Splits.{InSplits, IsNone, HasRead, second_sides_to_come}
 use Rattle.tree_walk.specs.States.{State, IsStateOf, open_trees}
 use Rattle.roster_search.specs.declared.progress.Progress.{Progress}
 use Rattle.roster_search.specs.Written.{Stands, IsCitedIn, IsProgress}
@@ -54,7 +54,7 @@ pub one_open : (P : Instance) (turn : Option Turn) (w : State) → w.whole ≡ f
 one_open P turn w part h =
     let read : HasRead false (length w.store.sets) w.store (opening P turn) w.splits [] = subst (λ b. HasRead b (length w.store.sets) w.store (opening P turn) w.splits []) part h.read in
     let none : w.splits ≡ [] = no_splits (length w.store.sets) w.store (opening P turn) 0 w.splits [] read refl in
-    let e : open_trees w ≡ 1 = ap (λ b. cond b 0 (lacking_in w.splits + 1)) part ∙ ap (λ s. lacking_in s + 1) none in
+    let e : open_trees w ≡ 1 = ap (λ b. cond b 0 (second_sides_to_come w.splits + 1)) part ∙ ap (λ s. second_sides_to_come s + 1) none in
     omega arith
 
 pub record IsNext (P : Instance) (a b : Progress) (line : Line) : Type 0 where

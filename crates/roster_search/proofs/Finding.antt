@@ -8,8 +8,8 @@ use Rattle.refutation_terms.specs.declared.lines.Turn.{Turn}
 use Rattle.roster_search.specs.declared.found.Found.{Found}
 use Rattle.roster_search.specs.declared.found.Found.TheVariants.{Roster, NoRoster, Undecided}
 use Rattle.roster_search.specs.declared.progress.Progress.{Progress}
-use Rattle.roster_search.specs.Founds.{IsForced, IsFound, HasSpentBudget}
-use Rattle.roster_search.specs.Written.{IsUnderWay, IsEnded, AreForced}
+use Rattle.roster_search.specs.Founds.{IsForced, AreForced, IsFound, HasSpentBudget}
+use Rattle.roster_search.specs.Written.{IsUnderWay, IsEnded}
 use Rattle.roster_search.proofs.Growing.{got_in, domains_before}
 use Rattle.roster_search.proofs.Logs.{open_rest}
 use Rattle.roster_search.proofs.Volume.{spent_budgets_small}
@@ -29,16 +29,14 @@ found_by P turn budget leaves spent s (NoRoster g) u e = (
   e.0,
   e.1,
   record {
-    same_turn = e.2.same_turn ∙ u.same_turn;
-    cited = e.2.cited;
+    of_turn = record { same_turn = e.2.same_turn ∙ u.same_turn; cited = e.2.cited };
     splits = subst (AreForced P leaves spent turn) (sym e.3) u.forced;
   },
 )
 found_by P turn budget leaves spent s (Undecided g) u e = (
   e.0,
   record {
-    same_turn = e.1.same_turn ∙ u.same_turn;
-    cited = e.1.cited;
+    of_turn = record { same_turn = e.1.same_turn ∙ u.same_turn; cited = e.1.cited };
     splits = subst (AreForced P leaves spent turn) (sym e.2.1) (rest_forced P leaves spent turn s.lines.items e.2.0 u.forced);
   },
 )

@@ -6,14 +6,14 @@ use Rattle.rwsp_terms.specs.Instance.{Instance}
 use Rattle.refutation_terms.specs.declared.lines.Line.{Line}
 use Rattle.refutation_terms.specs.declared.lines.Line.TheVariants.{Split}
 use Rattle.refutation_terms.specs.declared.lines.Turn.{Turn}
-use Rattle.refutation_terms.specs.Word.{Domains}
+use Rattle.refutation_terms.specs.Word.{Domains, AreSame}
 use Rattle.refutation_terms.specs.Tree.{IsLeaf, domains_at}
-use Rattle.domain_store.specs.Store.{Store, has_domain, IsStore}
-use Rattle.tree_walk.proofs.Moves.{state_domains}
-use Rattle.propagators.specs.Looks.{Closes}
+use Rattle.domain_store.specs.Store.{Store, has_domain}
+use Rattle.propagators.specs.declared.look.Look.{Look}
+use Rattle.propagators.specs.Looks.{Closes, IsLook}
 use Rattle.roster_search.specs.declared.progress.Progress.{Progress}
-use Rattle.roster_search.specs.Founds.{IsForced}
-use Rattle.roster_search.specs.Written.{IsProgress, IsSplitOff, IsUnderWay, AreForced}
+use Rattle.roster_search.specs.Founds.{IsForced, AreForced}
+use Rattle.roster_search.specs.Written.{IsProgress, IsSplitOff, IsUnderWay}
 use Rattle.roster_search.proofs.Growing.{EachAt, one_more, split_more}
 
 abbrev pub Leaves : Type 1
@@ -21,6 +21,10 @@ Leaves = Store → Line → Type 0
 
 abbrev pub Spent : Type 1
 Spent = Store → ℕ → Symbol → Type 0
+
+-- what was seen, of the domains at hand
+pub seen : (P : Instance) (leaves : Leaves) (spent : Spent) (S T : Store) (look other : Look) → T ≡ S → look ≡ other → IsLook P (leaves T) (spent T) T look → IsLook P (leaves S) (spent S) S other
+seen P leaves spent S T look other at is h = subst (λ k. IsLook P (leaves S) (spent S) S k) is (subst (λ U. IsLook P (leaves U) (spent U) U look) at h)
 
 abbrev IsForcedLine : Instance → Leaves → Spent → Domains → Line → Type 0
 IsForcedLine P leaves spent D line = (p : ℕ) (x : Symbol) → line ≡ Split p x → IsForced P leaves spent D p x
@@ -52,13 +56,12 @@ leaf_under_way P turn budget leaves spent a b line u w leaf same lines few = rec
 }
 
 -- behind a split
-pub split_under_way : (P : Instance) (turn : Option Turn) (budget : ℕ) (leaves : Leaves) (spent : Spent) (a b : Progress) (p : ℕ) (x : Symbol) → IsUnderWay P turn budget leaves spent a → IsSplitOff P a b p x → length b.lines.items ≤ budget → IsStore a.walk.store → (Closes P (leaves a.walk.store) a.walk.store → ⊥) → ((q : ℕ) (z : Symbol) → spent a.walk.store q z → spent a.walk.store p x) → IsUnderWay P turn budget leaves spent b
-split_under_way P turn budget leaves spent a b p x u off few store not_closed forced =
+pub split_under_way : (P : Instance) (turn : Option Turn) (budget : ℕ) (leaves : Leaves) (spent : Spent) (a b : Progress) (p : ℕ) (x : Symbol) → IsUnderWay P turn budget leaves spent a → IsSplitOff P a b p x → length b.lines.items ≤ budget → AreSame P (has_domain a.walk.store) (domains_at P a.turn a.lines.items (length a.lines.items)) → (Closes P (leaves a.walk.store) a.walk.store → ⊥) → ((q : ℕ) (z : Symbol) → spent a.walk.store q z → spent a.walk.store p x) → IsUnderWay P turn budget leaves spent b
+split_under_way P turn budget leaves spent a b p x u off few same not_closed forced =
     let here : IsForced P leaves spent (domains_at P turn a.lines.items (length a.lines.items)) p x = record {
       store = a.walk.store;
       belongs = u.written.state.belongs;
-      agrees = λ q z lt. subst (λ t. has_domain a.walk.store q z ≡ domains_at P t a.lines.items (length a.lines.items) q z) u.same_turn
-          (state_domains P a.turn a.lines.items a.walk.store a.walk.splits a.walk.whole store u.written.state q z lt);
+      agrees = subst (λ t. AreSame P (has_domain a.walk.store) (domains_at P t a.lines.items (length a.lines.items))) u.same_turn same;
       not_closed = not_closed;
       forced = forced;
     } in

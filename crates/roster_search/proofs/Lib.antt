@@ -1,5 +1,4 @@
 pub mod Growing
-pub mod Alike
 pub mod Narrowing
 pub mod Cited
 pub mod Logs

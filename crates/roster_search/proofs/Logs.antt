@@ -7,7 +7,7 @@ use Rattle.std.proofs.lemmas.List.Sums.{count_by-le-length}
 use Rattle.std.proofs.lemmas.Option.{slice_get_within}
 use Rattle.rwsp_terms.specs.declared.data.Rule.{Rule}
 use Rattle.rwsp_terms.specs.Instance.{Instance}
-use Rattle.rwsp_terms.specs.Rules.{rules, rule_of, Names}
+use Rattle.rwsp_terms.specs.Rules.{rule_of, Names}
 use Rattle.refutation_terms.specs.declared.lines.Line.{Line}
 use Rattle.refutation_terms.specs.declared.lines.Line.TheVariants.{Unfinished}
 use Rattle.refutation_terms.specs.declared.lines.Turn.{Turn}
@@ -15,11 +15,12 @@ use Rattle.refutation_terms.specs.Tree.{IsTree, after_trees}
 use Rattle.refutation_terms.specs.Log.{Log, LineFits, Holds, HoldsAt, Cites, ListsShortOnly, IsAllowed, AreRules, IsGrounded, Passes, IsSpent, size, is_worked}
 use Rattle.refutation_terms.proofs.Trees.{whole_is_tree}
 use Rattle.refutation_terms.proofs.TreeDomains.{got_left}
-use Rattle.tree_walk.specs.Splits.{lacking_in}
+use Rattle.tree_walk.specs.Splits.{second_sides_to_come}
 use Rattle.tree_walk.specs.States.{State, open_trees}
 use Rattle.roster_search.specs.declared.progress.Progress.{Progress}
 use Rattle.roster_search.specs.declared.found.Found.TheVariants.{NoRoster, Undecided}
-use Rattle.roster_search.specs.Written.{IsProgress, NamesCited, IsEnded}
+use Rattle.roster_search.specs.Founds.{IsLogOfTurn}
+use Rattle.roster_search.specs.Written.{IsProgress, IsEnded}
 use Rattle.roster_search.proofs.Growing.{got_in, domains_before}
 use Rattle.rwsp_model.proofs.Numbering.{rule_in_range}
 
@@ -65,8 +66,8 @@ holds_before P s rest w k line lt e = elim (got_in s.lines.items rest k line e) 
   | inr at ↦ absurd (omega (arith, lt, at.1))
 ]
 
-names_cited : (P : Instance) (s : Progress) (rest : List Line) → IsProgress P s → NamesCited P s.turn (log_of s rest)
-names_cited P s rest w = record {
+log_of_turn : (P : Instance) (s : Progress) (rest : List Line) → IsProgress P s → IsLogOfTurn P s.turn (log_of s rest)
+log_of_turn P s rest w = record {
   same_turn = refl;
   cited = λ r n. elim ((w.cited r).0 n) [
     | inl turn ↦ inl turn
@@ -100,7 +101,7 @@ passing_end P s budget g w allowed up tree few a b c =
     } in (
       subst (Passes P) is passes,
       omega (arith, worked, long, few),
-      subst (NamesCited P s.turn) is (names_cited P s none w),
+      subst (IsLogOfTurn P s.turn) is (log_of_turn P s none w),
       c,
     )
 
@@ -117,7 +118,7 @@ pub rest_ends : (ls : List Line) (n : ℕ) → after_trees 1 (ls ++ replicate n 
 rest_ends ls n e = whole_is_tree (ls ++ replicate n Unfinished) (e ∙ rest_is_read n)
 
 pub some_open : (w : State) → w.whole ≡ false → 1 ≤ open_trees w
-some_open w part = let e : open_trees w ≡ lacking_in w.splits + 1 = ap (λ b. cond b 0 (lacking_in w.splits + 1)) part in omega arith
+some_open w part = let e : open_trees w ≡ second_sides_to_come w.splits + 1 = ap (λ b. cond b 0 (second_sides_to_come w.splits + 1)) part in omega arith
 
 -- lines that have used up the budget, with the rest left open
 pub spent_end : (P : Instance) (s : Progress) (budget n : ℕ) (g : Log) → IsProgress P s → IsAllowed P s.turn → IsStrictlyIncreasing s.named → IsTree (s.lines.items ++ replicate n Unfinished) → length s.lines.items ≤ budget → budget ≤ length s.lines.items → 1 ≤ n → g.named ≡ s.named → g.turn ≡ s.turn → g.lines ≡ s.lines.items ++ replicate n Unfinished → IsEnded P s.turn budget s.lines.items (Undecided g)
@@ -134,6 +135,6 @@ spent_end P s budget n g w allowed up tree few all some a b c =
       unfinished = omega (arith, long, many, few, some);
     } in (
       subst (λ l. IsSpent P l budget) is spent,
-      subst (NamesCited P s.turn) is (names_cited P s rest w),
+      subst (IsLogOfTurn P s.turn) is (log_of_turn P s rest w),
       (n, c),
     )

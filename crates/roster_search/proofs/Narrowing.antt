@@ -1,5 +1,5 @@
 -- The domains behind a split, maybe with the leaf of its first side.
-use Rattle.std.proofs.Common.{◌≡◌, ◌≢◌, ◌⊎◌, ℕ, zero, suc, ◌<◌, List, [], ◌∷◌, ◌++◌, length, get_or, Option, refl, ap, sym, ◌∙◌, subst, arith, inl, inr, Bool, true, false, ◌&&◌, ◌||◌, ◌==◌, not}
+use Rattle.std.proofs.Common.{◌≡◌, ◌≢◌, ℕ, zero, suc, ◌<◌, List, [], ◌∷◌, ◌++◌, length, get_or, Option, ap, sym, ◌∙◌, subst, arith, inl, inr, true, false, ◌&&◌, ◌||◌, ◌==◌, not}
 use Rattle.std.specs.Prelude.{Contains}
 use Rattle.std.specs.List.Sorted.{IsStrictlyIncreasing}
 use Rattle.std.proofs.Math.Bool.{and-true, or-true}
@@ -12,18 +12,15 @@ use Rattle.rwsp_terms.proofs.SameLists.{same_rule_lists}
 use Rattle.refutation_terms.specs.declared.lines.Line.{Line}
 use Rattle.refutation_terms.specs.declared.lines.Line.TheVariants.{Split}
 use Rattle.refutation_terms.specs.declared.lines.Turn.{Turn}
-use Rattle.refutation_terms.specs.Word.{Domains}
+use Rattle.refutation_terms.specs.Word.{Domains, AreSame}
 use Rattle.refutation_terms.specs.Tree.{First, narrowed, line_leaves, lines_leave, side, domains_at}
 use Rattle.refutation_terms.proofs.Tests.{left_of}
 use Rattle.domain_store.specs.Sets.{has_symbol, IsDomain}
-use Rattle.domain_store.specs.Store.{domain_at, has_domain, IsStore}
-use Rattle.tree_walk.specs.States.{State, IsStateOf}
+use Rattle.domain_store.specs.Store.{Store, BelongsTo, domain_at, has_domain, IsStore}
 use Rattle.tree_walk.proofs.Idle.{positions_of}
-use Rattle.tree_walk.proofs.Moves.{state_domains}
 use Rattle.propagators.specs.Looks.{IsNarrowedAt}
 use Rattle.roster_search.specs.Written.{IsSplitWithLeaf}
 use Rattle.roster_search.proofs.Growing.{EndNone, domains_behind, split_ends_none, leaf_ends_one, leaf_leaves}
-use Rattle.roster_search.proofs.Alike.{Agree}
 
 set_contains : (set : List ℕ) (x : ℕ) → has_symbol set x ≡ true → Contains set x
 set_contains [] x h = absurd (cc)
@@ -65,19 +62,25 @@ pub ends_none : (p : ℕ) (x : Symbol) (added : List Line) → IsSplitWithLeaf p
 ends_none p x added (inl e) = subst EndNone (sym e) (split_ends_none p x)
 ends_none p x added (inr h) = subst EndNone (sym h.2) (leaf_ends_one p x h.0 h.1)
 
+-- a store for the instance that has the domains behind the lines
+pub record HasDomainsBehind (P : Instance) (turn : Option Turn) (ls : List Line) (S : Store) : Type 0 where
+  pub store : IsStore S
+  pub belongs : BelongsTo P S
+  pub same : AreSame P (has_domain S) (domains_at P turn ls (length ls))
+
 -- the store behind these lines, by the store before them
-has_behind : (P : Instance) (turn : Option Turn) (ls added : List Line) (v w : State) (p : ℕ) (x : Symbol) → IsStore v.store → IsStore w.store → IsStateOf P turn ls v → IsStateOf P turn (ls ++ added) w → IsSplitWithLeaf p x added → (q z : ℕ) → q < cells P → has_domain w.store q z ≡ (has_domain v.store q z && lines_leave added q z)
-has_behind P turn ls added v w p x sv sw a b added_is q z lt =
-    state_domains P turn (ls ++ added) w.store w.splits w.whole sw b q z lt
+has_behind : (P : Instance) (turn : Option Turn) (ls added : List Line) (v w : Store) (p : ℕ) (x : Symbol) → HasDomainsBehind P turn ls v → HasDomainsBehind P turn (ls ++ added) w → IsSplitWithLeaf p x added → (q z : ℕ) → q < cells P → has_domain w q z ≡ (has_domain v q z && lines_leave added q z)
+has_behind P turn ls added v w p x a b added_is q z lt =
+    b.same q z lt
     ∙ domains_behind P turn ls added q z (ends_none p x added added_is)
-    ∙ ap (λ h. h && lines_leave added q z) (sym (state_domains P turn ls v.store v.splits v.whole sv a q z lt))
+    ∙ ap (λ h. h && lines_leave added q z) (sym (a.same q z lt))
 
 -- only the domain of the split's position becomes smaller
-pub narrowed_at : (P : Instance) (turn : Option Turn) (ls added : List Line) (v w : State) (p : ℕ) (x : Symbol) → IsStore v.store → IsStore w.store → IsStateOf P turn ls v → IsStateOf P turn (ls ++ added) w → IsSplitWithLeaf p x added → p < cells P → IsNarrowedAt v.store w.store p
-narrowed_at P turn ls added v w p x sv sw a b added_is inside =
-    let many_v : length v.store.sets ≡ cells P = positions_of P v.store sv a.belongs in
-    let many_w : length w.store.sets ≡ cells P = positions_of P w.store sw b.belongs in
-    let has = has_behind P turn ls added v w p x sv sw a b added_is in
+pub narrowed_at : (P : Instance) (turn : Option Turn) (ls added : List Line) (v w : Store) (p : ℕ) (x : Symbol) → HasDomainsBehind P turn ls v → HasDomainsBehind P turn (ls ++ added) w → IsSplitWithLeaf p x added → p < cells P → IsNarrowedAt v w p
+narrowed_at P turn ls added v w p x a b added_is inside =
+    let many_v : length v.sets ≡ cells P = positions_of P v a.store a.belongs in
+    let many_w : length w.sets ≡ cells P = positions_of P w b.store b.belongs in
+    let has = has_behind P turn ls added v w p x a b added_is in
     record {
       shape = record {
         days = b.belongs.days ∙ sym a.belongs.days;
@@ -87,17 +90,17 @@ narrowed_at P turn ls added v w p x sv sw a b added_is inside =
       };
       others = λ q other. elim (cases_lt q (cells P)) [
         | inl lt ↦
-            let here_v : IsDomain v.store.shifts (domain_at v.store q) = All-get_or (IsDomain v.store.shifts) v.store.sets q [] (omega (arith, lt, many_v)) sv.domains in
-            let here_w : IsDomain w.store.shifts (domain_at w.store q) = All-get_or (IsDomain w.store.shifts) w.store.sets q [] (omega (arith, lt, many_w)) sw.domains in
-            same_sets (domain_at w.store q) (domain_at v.store q) here_w.ascends here_v.ascends
-            (λ z. has q z lt ∙ ap (λ l. has_domain v.store q z && l) (leaves_others p q z x added other added_is) ∙ and-true (has_domain v.store q z))
-        | inr ge ↦ get_or_past w.store.sets q [] (omega (arith, ge, many_w)) ∙ sym (get_or_past v.store.sets q [] (omega (arith, ge, many_v)))
+            let here_v : IsDomain v.shifts (domain_at v q) = All-get_or (IsDomain v.shifts) v.sets q [] (omega (arith, lt, many_v)) a.store.domains in
+            let here_w : IsDomain w.shifts (domain_at w q) = All-get_or (IsDomain w.shifts) w.sets q [] (omega (arith, lt, many_w)) b.store.domains in
+            same_sets (domain_at w q) (domain_at v q) here_w.ascends here_v.ascends
+            (λ z. has q z lt ∙ ap (λ l. has_domain v q z && l) (leaves_others p q z x added other added_is) ∙ and-true (has_domain v q z))
+        | inr ge ↦ get_or_past w.sets q [] (omega (arith, ge, many_w)) ∙ sym (get_or_past v.sets q [] (omega (arith, ge, many_v)))
       ];
-      fewer = λ z h. left_of (has_domain v.store p z) (lines_leave added p z) (sym (has p z inside) ∙ h);
+      fewer = λ z h. left_of (has_domain v p z) (lines_leave added p z) (sym (has p z inside) ∙ h);
     }
 
 -- the domains at the first side of a split
-pub first_side : (P : Instance) (turn : Option Turn) (ls : List Line) (D : Domains) (p : ℕ) (x : Symbol) → Agree P D (domains_at P turn ls (length ls)) → Agree P (narrowed D (Split p x) First) (domains_at P turn (ls ++ Split p x ∷ []) (length (ls ++ Split p x ∷ [])))
+pub first_side : (P : Instance) (turn : Option Turn) (ls : List Line) (D : Domains) (p : ℕ) (x : Symbol) → AreSame P D (domains_at P turn ls (length ls)) → AreSame P (narrowed D (Split p x) First) (domains_at P turn (ls ++ Split p x ∷ []) (length (ls ++ Split p x ∷ [])))
 first_side P turn ls D p x same q z lt =
     ap (λ b. b && line_leaves (Split p x) First q z) (same q z lt)
     ∙ ap (λ b. domains_at P turn ls (length ls) q z && b) (sym (and-true (line_leaves (Split p x) First q z)))

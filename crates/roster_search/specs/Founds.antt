@@ -1,12 +1,12 @@
 -- What a search finds.
-use Rattle.std.specs.Prelude.{◌≡◌, ℕ, ◌<◌, ◌≤◌, slice_get, Option, Some}
+use Rattle.std.specs.Prelude.{◌≡◌, ℕ, ◌≤◌, List, slice_get, Option, Some}
 use Rattle.rwsp_terms.specs.declared.data.Symbol.{Symbol}
-use Rattle.rwsp_terms.specs.Instance.{Instance, cells}
+use Rattle.rwsp_terms.specs.Instance.{Instance}
 use Rattle.rwsp_terms.specs.Roster.{MeetsAll}
 use Rattle.refutation_terms.specs.declared.lines.Line.{Line}
 use Rattle.refutation_terms.specs.declared.lines.Line.TheVariants.{Split}
 use Rattle.refutation_terms.specs.declared.lines.Turn.{Turn}
-use Rattle.refutation_terms.specs.Word.{Domains}
+use Rattle.refutation_terms.specs.Word.{Domains, AreSame}
 use Rattle.refutation_terms.specs.Tree.{domains_at}
 use Rattle.refutation_terms.specs.Log.{Log, Passes, IsSpent, NamesOnlyCited, size}
 use Rattle.domain_store.specs.Store.{Store, BelongsTo, has_domain}
@@ -18,15 +18,23 @@ use Rattle.roster_search.specs.declared.found.Found.TheVariants.{Roster, NoRoste
 pub record IsForced (P : Instance) (leaves : Store → Line → Type 0) (spent : Store → ℕ → Symbol → Type 0) (D : Domains) (p : ℕ) (x : Symbol) : Type 0 where
   pub store : Store
   pub belongs : BelongsTo P store
-  pub agrees : (q z : ℕ) → q < cells P → has_domain store q z ≡ D q z
+  pub agrees : AreSame P (has_domain store) D
   pub not_closed : Closes P (leaves store) store → ⊥
   pub forced : (q : ℕ) (z : Symbol) → spent store q z → spent store p x
 
--- a log with this turn that names what it cites and no more, and splits as the propagator says
-pub record IsSearchLog (P : Instance) (turn : Option Turn) (leaves : Store → Line → Type 0) (spent : Store → ℕ → Symbol → Type 0) (g : Log) : Type 0 where
+-- each split is as the propagator says
+abbrev pub AreForced : Instance → (Store → Line → Type 0) → (Store → ℕ → Symbol → Type 0) → Option Turn → List Line → Type 0
+AreForced P leaves spent turn lines = (k p : ℕ) (x : Symbol) → slice_get lines k ≡ Some (Split p x) → IsForced P leaves spent (domains_at P turn lines k) p x
+
+-- a log with this turn that names what it cites and no more
+pub record IsLogOfTurn (P : Instance) (turn : Option Turn) (g : Log) : Type 0 where
   pub same_turn : g.turn ≡ turn
   pub cited : NamesOnlyCited P g
-  pub splits : (k p : ℕ) (x : Symbol) → slice_get g.lines k ≡ Some (Split p x) → IsForced P leaves spent (domains_at P turn g.lines k) p x
+
+-- such a log, whose splits are as the propagator says
+pub record IsSearchLog (P : Instance) (turn : Option Turn) (leaves : Store → Line → Type 0) (spent : Store → ℕ → Symbol → Type 0) (g : Log) : Type 0 where
+  pub of_turn : IsLogOfTurn P turn g
+  pub splits : AreForced P leaves spent turn g.lines
 
 -- a roster that meets every rule; or a log that passes, of at most the budget's size; or one that has spent the budget
 abbrev pub IsFound : Instance → Option Turn → ℕ → (Store → Line → Type 0) → (Store → ℕ → Symbol → Type 0) → Found → Type 0

@@ -9,11 +9,11 @@ use Rattle.refutation_terms.specs.declared.lines.Line.TheVariants.{Split, Unfini
 use Rattle.refutation_terms.specs.declared.lines.Turn.{Turn}
 use Rattle.refutation_terms.specs.Word.{Domains}
 use Rattle.refutation_terms.specs.Tree.{IsLeaf, domains_at}
-use Rattle.refutation_terms.specs.Log.{Log, LineFits, TurnFits, Holds, Cites, TurnCites, ListsShortOnly, Passes, IsSpent, NamesOnlyCited, size}
+use Rattle.refutation_terms.specs.Log.{LineFits, TurnFits, Holds, Cites, TurnCites, ListsShortOnly, Passes, IsSpent, size}
 use Rattle.domain_store.specs.Store.{Store}
 use Rattle.tree_walk.specs.States.{IsStateOf, open_trees}
 use Rattle.propagators.specs.Looks.{IsNarrowedAt}
-use Rattle.roster_search.specs.Founds.{IsForced}
+use Rattle.roster_search.specs.Founds.{AreForced, IsLogOfTurn}
 use Rattle.roster_search.specs.declared.progress.Progress.{Progress}
 use Rattle.roster_search.specs.declared.found.Found.{Found}
 use Rattle.roster_search.specs.declared.found.Found.TheVariants.{Roster, NoRoster, Undecided}
@@ -37,10 +37,6 @@ pub record IsProgress (P : Instance) (s : Progress) : Type 0 where
   pub numbers : (k : ℕ) → Contains s.named k → (r : Rule) × (rule_of P k ≡ Some r)
   pub few_open : open_trees s.walk ≤ length s.lines.items + 1
 
--- each split is as the propagator says
-abbrev pub AreForced : Instance → (Store → Line → Type 0) → (Store → ℕ → Symbol → Type 0) → Option Turn → List Line → Type 0
-AreForced P leaves spent turn lines = (k p : ℕ) (x : Symbol) → slice_get lines k ≡ Some (Split p x) → IsForced P leaves spent (domains_at P turn lines k) p x
-
 -- a split, and maybe the leaf of its first side
 abbrev pub IsSplitWithLeaf : ℕ → Symbol → List Line → Type 0
 IsSplitWithLeaf p x added = (added ≡ Split p x ∷ []) ⊎ ((leaf : Line) × IsLeaf leaf × (added ≡ Split p x ∷ leaf ∷ []))
@@ -61,13 +57,8 @@ pub record IsUnderWay (P : Instance) (turn : Option Turn) (budget : ℕ) (leaves
   pub forced : AreForced P leaves spent turn s.lines.items
   pub few : length s.lines.items ≤ budget
 
--- a log that names what it cites and no more
-pub record NamesCited (P : Instance) (turn : Option Turn) (g : Log) : Type 0 where
-  pub same_turn : g.turn ≡ turn
-  pub cited : NamesOnlyCited P g
-
 -- the log of these lines: one that passes, or one that has spent the budget and leaves the rest unfinished
 abbrev pub IsEnded : Instance → Option Turn → ℕ → List Line → Found → Type 0
 IsEnded P turn budget lines (Roster s) = ⊥
-IsEnded P turn budget lines (NoRoster g) = Passes P g × (size g ≤ budget) × NamesCited P turn g × (g.lines ≡ lines)
-IsEnded P turn budget lines (Undecided g) = IsSpent P g budget × NamesCited P turn g × ((n : ℕ) × (g.lines ≡ lines ++ replicate n Unfinished))
+IsEnded P turn budget lines (NoRoster g) = Passes P g × (size g ≤ budget) × IsLogOfTurn P turn g × (g.lines ≡ lines)
+IsEnded P turn budget lines (Undecided g) = IsSpent P g budget × IsLogOfTurn P turn g × ((n : ℕ) × (g.lines ≡ lines ++ replicate n Unfinished))

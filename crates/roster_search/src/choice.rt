@@ -1,10 +1,11 @@
 // Where a search splits when no leaf says so.
-ghost use Rattle.std.specs.Prelude.{◌≡◌, ℕ, ◌<◌, ◌≤◌, length, false, IsTrue, None, MatchOption, pos, neg_ℤ, ◌≤ℤ◌};
+ghost use Rattle.std.specs.Prelude.{◌≡◌, ℕ, ◌<◌, ◌≤◌, length, false, IsTrue, MatchOption, pos, neg_ℤ, ◌≤ℤ◌};
 ghost use Rattle.std.specs.Option.{IfSome};
 ghost use Rattle.rwsp_terms.specs.Instance.{Instance, IsSymbol, IsClass};
 ghost use Rattle.domain_store.specs.Store.{BelongsTo, IsDecided, domain_at, has_domain};
 ghost use Rattle.tree_walk.specs.Splits.{is_idle_in};
 
+use crate::need::most_needed_shift;
 use domain_store::Domains;
 use rwsp_model::{Class, Problem, Symbol};
 
@@ -39,15 +40,14 @@ fn wanted_at(problem: &Problem, domains: &Domains, p: u32) -> Option<Symbol>
     if let Some(x) = unfinished(problem, domains, p) {
         return Some(x);
     }
-    if works_on(problem, domains, p) || !is_off_due(problem, domains, p) {
-        if let Some(x) = most_needed_shift(problem, domains, p) {
-            return Some(x);
-        }
-    }
-    if domains.has(p, Symbol::OFF) {
+    let may_rest = domains.has(p, Symbol::OFF);
+    if may_rest && !works_on(problem, domains, p) && is_off_due(problem, domains, p) {
         return Some(Symbol::OFF);
     }
-    most_needed(problem, domains, p)
+    if let Some(x) = most_needed_shift(problem, domains, p) {
+        return Some(x);
+    }
+    if may_rest { Some(Symbol::OFF) } else { None }
 }
 
 // Whether the positions before this one have fewer days off than their share of those that are needed in all.
@@ -78,7 +78,7 @@ fn off_before(domains: &Domains, p: u32) -> u32
 {
     let mut count = 0;
     for q in 0..p {
-        if is_alone(domains, q, Symbol::OFF) {
+        if is_surely(domains, q, Class::Off) {
             count += 1;
         }
     }
@@ -96,16 +96,15 @@ fn unfinished(problem: &Problem, domains: &Domains, p: u32) -> Option<Symbol>
         return None;
     }
     let x = domains.only(p - 1)?;
-    if !domains.has(p, x) {
-        return None;
-    }
-    if block_before(domains, p, x) < problem.bounds(class_of(x)).least {
+    let class = class_of(x);
+    if domains.has(p, x) && block_before(domains, p, class) < problem.bounds(class).least {
         Some(x)
     } else {
         None
     }
 }
 
+// The class whose blocks the symbol is in: days off, or its own shift.
 fn class_of(x: Symbol) -> Class
     ensures { (P : Instance) → IsSymbol P x → IsClass P result }
 {
@@ -116,53 +115,41 @@ fn class_of(x: Symbol) -> Class
     }
 }
 
-// How many positions in a row before this one have the symbol alone.
-fn block_before(domains: &Domains, p: u32, x: Symbol) -> u32
-    requires { p < length domains.now.sets }
-{
-    for back in 0..p {
-        if !is_alone(domains, p - 1 - back, x) {
-            return back;
-        }
-    }
-    p
-}
-
-fn is_alone(domains: &Domains, p: u32, x: Symbol) -> bool
-    requires { p < length domains.now.sets }
-{
-    match domains.only(p) {
-        Some(only) => only.number == x.number,
-        None => false,
-    }
-}
-
 // Whether the days before the position are a block of work that is shorter than the least length.
 fn works_on(problem: &Problem, domains: &Domains, p: u32) -> bool
     requires { p < length domains.now.sets }
 {
-    let count = work_before(domains, p);
+    let count = block_before(domains, p, Class::Work);
     0 < count && count < problem.bounds(Class::Work).least
 }
 
-// How many positions in a row before this one have one shift alone.
-fn work_before(domains: &Domains, p: u32) -> u32
+// How many positions in a row before this one are surely in the class.
+fn block_before(domains: &Domains, p: u32, class: Class) -> u32
     requires { p < length domains.now.sets }
 {
     for back in 0..p {
-        if !has_one_shift(domains, p - 1 - back) {
+        if !is_surely(domains, p - 1 - back, class) {
             return back;
         }
     }
     p
 }
 
-fn has_one_shift(domains: &Domains, p: u32) -> bool
+// Whether the position has one symbol, and that is in the class.
+fn is_surely(domains: &Domains, p: u32, class: Class) -> bool
     requires { p < length domains.now.sets }
 {
     match domains.only(p) {
-        Some(x) => x.number > 0,
+        Some(x) => is_in(class, x),
         None => false,
+    }
+}
+
+fn is_in(class: Class, x: Symbol) -> bool {
+    match class {
+        Class::Shift(shift) => x.number == shift.number,
+        Class::Off => x.number == 0,
+        Class::Work => x.number > 0,
     }
 }
 
@@ -176,109 +163,4 @@ fn first_open(domains: &Domains) -> Option<u32>
         }
     }
     None
-}
-
-// A symbol of a domain, and how much it is needed on a day: so many weeks still need it, of so many
-// that may have it or not.
-#[derive(Clone, Copy)]
-struct Wanted {
-    x: Symbol,
-    weeks: i32,
-    places: i32,
-}
-
-// Whether the symbol is needed more than the best so far, as fractions.
-fn is_better(here: &Wanted, best: &Option<Wanted>) -> bool
-    ensures { best.now ≡ None → IsTrue result }
-{
-    match best {
-        Some(best) => {
-            i64::from(here.weeks) * i64::from(best.places)
-                > i64::from(best.weeks) * i64::from(here.places)
-        }
-        None => true,
-    }
-}
-
-// The shift of the domain that is needed most on the day of the position, of several the lowest.
-fn most_needed_shift(problem: &Problem, domains: &Domains, p: u32) -> Option<Symbol>
-    requires belongs { BelongsTo problem.now domains.now }
-    requires position { p < length domains.now.sets }
-    ensures { IfSome result (λ x. IsTrue (has_domain domains.now p x.number)) }
-{
-    let mut best: Option<Wanted> = None;
-    for i in 0..domains.shifts() {
-        let x = Symbol { number: i + 1 };
-        if domains.has(p, x) {
-            let here = need_of(problem, domains, p, x);
-            if is_better(&here, &best) {
-                best = Some(here);
-            }
-        }
-    }
-    match best {
-        Some(wanted) => Some(wanted.x),
-        None => None,
-    }
-}
-
-// The symbol of the domain that is needed most on the day of the position, of several the lowest.
-fn most_needed(problem: &Problem, domains: &Domains, p: u32) -> Option<Symbol>
-    requires belongs { BelongsTo problem.now domains.now }
-    requires position { p < length domains.now.sets }
-    ensures { MatchOption result ((x : ℕ) → x ≤ domains.now.shifts → has_domain domains.now p x ≡ false) (λ x. IsTrue (has_domain domains.now p x.number)) }
-{
-    let mut best: Option<Wanted> = None;
-    for number in 0..domains.shifts() + 1 {
-        let x = Symbol { number };
-        if domains.has(p, x) {
-            let here = need_of(problem, domains, p, x);
-            if is_better(&here, &best) {
-                best = Some(here);
-            }
-        }
-    }
-    match best {
-        Some(wanted) => Some(wanted.x),
-        None => None,
-    }
-}
-
-// How much the symbol is needed on the day of the position.
-fn need_of(problem: &Problem, domains: &Domains, p: u32, x: Symbol) -> Wanted
-    requires symbol { IsSymbol problem.now x }
-    ensures { result.x ≡ x }
-{
-    let days = problem.days();
-    let column = count_column(domains, p % days, days, x);
-    Wanted {
-        x,
-        weeks: problem.demand_least(x, p % days + 1) - column.fixed as i32,
-        places: column.possible as i32 - column.fixed as i32,
-    }
-}
-
-// How many positions of a day hold a symbol for sure, and how many can hold it.
-#[derive(Clone, Copy)]
-struct Column {
-    fixed: u32,
-    possible: u32,
-}
-
-// The counts of the positions that are whole weeks behind the first.
-fn count_column(domains: &Domains, first: u32, days: u32, x: Symbol) -> Column
-    requires some { 1 ≤ days }
-    requires few { (first ≤ 28) × (days ≤ 28) }
-    ensures { (result.fixed ≤ result.possible) × (result.possible ≤ 5000) }
-{
-    let mut fixed = 0;
-    let mut possible = 0;
-    let mut q = first;
-    while q < domains.cells() {
-        let held = domains.has(q, x);
-        possible += u32::from(held);
-        fixed += u32::from(held && domains.size(q) == 1);
-        q += days;
-    }
-    Column { fixed, possible }
 }

@@ -5,10 +5,12 @@ mod choice;
 mod decided;
 mod ending;
 mod found;
-pub mod laws;
+mod laws;
+mod need;
 mod progress;
 mod searching;
 mod step;
 
 pub use found::Found;
+pub use laws::spent_budgets_are_small;
 pub use searching::search;

@@ -2,6 +2,7 @@
 ghost use Rattle.std.specs.Prelude.{◌≡◌, ◌↔◌, ℕ, ◌<◌, ◌≤◌, [], ◌∷◌, ◌++◌, length, true, false, IsTrue, Some, Contains, IfOk};
 ghost use Rattle.rwsp_terms.specs.Instance.{Instance, cells};
 ghost use Rattle.refutation_terms.specs.declared.lines.Line.TheVariants.{Split};
+ghost use Rattle.refutation_terms.specs.Word.{AreSame};
 ghost use Rattle.refutation_terms.specs.Tree.{First, narrowed, domains_at, is_idle};
 ghost use Rattle.refutation_terms.specs.Log.{TurnFits, Holds, TurnCites};
 ghost use Rattle.rwsp_terms.specs.Rules.{rule_of, Names};
@@ -63,6 +64,7 @@ impl Progress {
     pub fn domain_facts(&self)
         ensures store { IsStore self.now.walk.store }
         ensures tests { HasDomains self.now.walk.store }
+        ensures same { (P : Instance) → IsProgress P self.now → AreSame P (has_domain self.now.walk.store) (domains_at P self.now.turn self.now.lines.items (length self.now.lines.items)) }
     {
         self.walk.domains().facts();
     }

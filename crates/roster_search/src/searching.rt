@@ -25,24 +25,24 @@ pub fn search<A: Propagator>(
     alloc: Global,
     problem: &Problem,
     turn: Option<Turn>,
-    prop: &mut A,
+    propagator: &mut A,
     budget: u32,
 ) -> Result<Found, AllocError>
     requires budget { (1 ≤ budget) × (budget ≤ 200000) }
     requires turn { TurnFits problem.now turn × IsAllowed problem.now turn }
-    requires serves { A.serves prop.old problem.now }
-    requires windows { (S : Store) (number p len : ℕ) → LineFits problem.now (Window number p len) → A.leaves prop.old S (Window number p len) }
-    requires days { (S : Store) (j : ℕ) (x : Symbol) (over : Bool) → LineFits problem.now (Day j x over) → A.leaves prop.old S (Day j x over) }
-    ensures found { IfOk result (λ found. IsFound problem.now turn budget (A.leaves prop.old) (A.spent prop.old) found) }
+    requires serves { A.serves propagator.old problem.now }
+    requires windows { (S : Store) (number p len : ℕ) → LineFits problem.now (Window number p len) → A.leaves propagator.old S (Window number p len) }
+    requires days { (S : Store) (j : ℕ) (x : Symbol) (over : Bool) → LineFits problem.now (Day j x over) → A.leaves propagator.old S (Day j x over) }
+    ensures found { IfOk result (λ found. IsFound problem.now turn budget (A.leaves propagator.old) (A.spent propagator.old) found) }
     ensures complete { IfOk result (λ found. HasSpentBudget found → budget + 1 < 2 * (shift_count problem.now + 1) ^ cells problem.now) }
-    ensures serves { (P : Instance) → A.serves prop.old P ↔ A.serves prop.new P }
-    ensures leaves { (S : Store) (line : Line) → A.leaves prop.old S line ↔ A.leaves prop.new S line }
-    ensures spent { (S : Store) (p : ℕ) (x : Symbol) → A.spent prop.old S p x ↔ A.spent prop.new S p x }
+    ensures serves { (P : Instance) → A.serves propagator.old P ↔ A.serves propagator.new P }
+    ensures leaves { (S : Store) (line : Line) → A.leaves propagator.old S line ↔ A.leaves propagator.new S line }
+    ensures spent { (S : Store) (p : ℕ) (x : Symbol) → A.spent propagator.old S p x ↔ A.spent propagator.new S p x }
 {
     let mut progress = Progress::new(alloc, problem, turn)?;
-    prop.undone(progress.walk.domains());
+    propagator.undone(progress.walk.domains());
     while progress.goes_on(budget) {
-        match step(alloc, problem, budget, prop, &mut progress)? {
+        match step(alloc, problem, budget, propagator, &mut progress)? {
             Some(roster) => return Ok(Found::Roster(roster)),
             None => {}
         }

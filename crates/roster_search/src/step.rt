@@ -8,7 +8,6 @@ ghost use Rattle.refutation_terms.specs.declared.lines.Line.TheVariants.{Window,
 ghost use Rattle.refutation_terms.specs.declared.lines.Turn.{Turn};
 ghost use Rattle.refutation_terms.specs.Log.{LineFits};
 ghost use Rattle.domain_store.specs.Store.{Store};
-ghost use Rattle.propagators.specs.Looks.{Closes};
 ghost use Rattle.roster_search.specs.Written.{IsUnderWay};
 
 use crate::choice::choose;
@@ -18,79 +17,51 @@ use propagators::{Look, Propagator};
 use rwsp_model::{Problem, Roster};
 use std::alloc::{AllocError, Global};
 
-/// Looks at the domains behind the lines, and writes the leaf that holds there, or a split: at least one
-/// line. Or it gives the roster of decided domains, where no leaf holds.
+/// Looks at the domains behind the lines, and writes the leaf that holds there, or a split: of a spent
+/// symbol with the leaf of its first side, or else of its own choice. Or it gives the roster of decided
+/// domains, where no leaf holds.
 pub fn step<A: Propagator>(
     alloc: Global,
     problem: &Problem,
     budget: u32,
-    prop: &mut A,
+    propagator: &mut A,
     progress: &mut Progress,
 ) -> Result<Option<Roster>, AllocError>
-    requires under_way { IsUnderWay problem.now progress.old.turn budget (A.leaves prop.old) (A.spent prop.old) progress.old }
+    requires under_way { IsUnderWay problem.now progress.old.turn budget (A.leaves propagator.old) (A.spent propagator.old) progress.old }
     requires part { progress.old.walk.whole ≡ false }
     requires room { length progress.old.lines.items < budget }
-    requires serves { A.serves prop.old problem.now }
-    requires tracks { A.tracks prop.old progress.old.walk.store }
-    requires windows { (S : Store) (number p len : ℕ) → LineFits problem.now (Window number p len) → A.leaves prop.old S (Window number p len) }
-    requires days { (S : Store) (j : ℕ) (x : Symbol) (over : Bool) → LineFits problem.now (Day j x over) → A.leaves prop.old S (Day j x over) }
-    ensures under_way { IfOk result (λ found. found ≡ None → IsUnderWay problem.now progress.old.turn budget (A.leaves prop.old) (A.spent prop.old) progress.new) }
+    requires serves { A.serves propagator.old problem.now }
+    requires tracks { A.tracks propagator.old progress.old.walk.store }
+    requires windows { (S : Store) (number p len : ℕ) → LineFits problem.now (Window number p len) → A.leaves propagator.old S (Window number p len) }
+    requires days { (S : Store) (j : ℕ) (x : Symbol) (over : Bool) → LineFits problem.now (Day j x over) → A.leaves propagator.old S (Day j x over) }
+    ensures under_way { IfOk result (λ found. found ≡ None → IsUnderWay problem.now progress.old.turn budget (A.leaves propagator.old) (A.spent propagator.old) progress.new) }
     ensures longer { IfOk result (λ found. found ≡ None → length progress.old.lines.items < length progress.new.lines.items) }
-    ensures tracks { IfOk result (λ found. found ≡ None → A.tracks prop.new progress.new.walk.store) }
+    ensures tracks { IfOk result (λ found. found ≡ None → A.tracks propagator.new progress.new.walk.store) }
     ensures roster { IfOk result (λ found. IfSome found (λ s. (s.days ≡ problem.now.days) × MeetsAll problem.now s.cells)) }
-    ensures serves { (P : Instance) → A.serves prop.old P ↔ A.serves prop.new P }
-    ensures leaves { (S : Store) (line : Line) → A.leaves prop.old S line ↔ A.leaves prop.new S line }
-    ensures spent { (S : Store) (p : ℕ) (x : Symbol) → A.spent prop.old S p x ↔ A.spent prop.new S p x }
+    ensures serves { (P : Instance) → A.serves propagator.old P ↔ A.serves propagator.new P }
+    ensures leaves { (S : Store) (line : Line) → A.leaves propagator.old S line ↔ A.leaves propagator.new S line }
+    ensures spent { (S : Store) (p : ℕ) (x : Symbol) → A.spent propagator.old S p x ↔ A.spent propagator.new S p x }
 {
     problem.keeps_limits();
     progress.domain_facts();
-    match prop.look(alloc, progress.walk.domains())? {
+    match propagator.look(alloc, progress.walk.domains())? {
         Look::Closed(line) => {
             progress.close(problem, line)?;
-            prop.undone(progress.walk.domains());
+            propagator.undone(progress.walk.domains());
             Ok(None)
         }
         Look::Cut { p, x, line } => {
             progress.cut(problem, budget, p, x, line)?;
-            prop.narrowed(progress.walk.domains(), p);
+            propagator.narrowed(progress.walk.domains(), p);
             Ok(None)
         }
-        Look::Quiet => quiet(problem, budget, prop, progress),
-    }
-}
-
-// Where no leaf holds and no symbol is spent: writes a split of its own choice, or gives the roster of
-// decided domains.
-fn quiet<A: Propagator>(
-    problem: &Problem,
-    budget: u32,
-    prop: &mut A,
-    progress: &mut Progress,
-) -> Result<Option<Roster>, AllocError>
-    requires under_way { IsUnderWay problem.now progress.old.turn budget (A.leaves prop.old) (A.spent prop.old) progress.old }
-    requires part { progress.old.walk.whole ≡ false }
-    requires room { length progress.old.lines.items < budget }
-    requires serves { A.serves prop.old problem.now }
-    requires tracks { A.tracks prop.old progress.old.walk.store }
-    requires open { Closes problem.now (A.leaves prop.old progress.old.walk.store) progress.old.walk.store → ⊥ }
-    requires none_spent { (p : ℕ) (x : Symbol) → A.spent prop.old progress.old.walk.store p x → ⊥ }
-    requires windows { (S : Store) (number p len : ℕ) → LineFits problem.now (Window number p len) → A.leaves prop.old S (Window number p len) }
-    requires days { (S : Store) (j : ℕ) (x : Symbol) (over : Bool) → LineFits problem.now (Day j x over) → A.leaves prop.old S (Day j x over) }
-    ensures under_way { IfOk result (λ found. found ≡ None → IsUnderWay problem.now progress.old.turn budget (A.leaves prop.old) (A.spent prop.old) progress.new) }
-    ensures longer { IfOk result (λ found. found ≡ None → length progress.old.lines.items < length progress.new.lines.items) }
-    ensures tracks { IfOk result (λ found. found ≡ None → A.tracks prop.new progress.new.walk.store) }
-    ensures roster { IfOk result (λ found. IfSome found (λ s. (s.days ≡ problem.now.days) × MeetsAll problem.now s.cells)) }
-    ensures serves { (P : Instance) → A.serves prop.old P ↔ A.serves prop.new P }
-    ensures leaves { (S : Store) (line : Line) → A.leaves prop.old S line ↔ A.leaves prop.new S line }
-    ensures spent { (S : Store) (p : ℕ) (x : Symbol) → A.spent prop.old S p x ↔ A.spent prop.new S p x }
-{
-    progress.domain_facts();
-    match choose(problem, progress.walk.domains()) {
-        Some(choice) => {
-            progress.split(choice.p, choice.x)?;
-            prop.narrowed(progress.walk.domains(), choice.p);
-            Ok(None)
-        }
-        None => Ok(Some(met_roster(problem, progress.walk.domains())?)),
+        Look::Quiet => match choose(problem, progress.walk.domains()) {
+            Some(split) => {
+                progress.split(split.p, split.x)?;
+                propagator.narrowed(progress.walk.domains(), split.p);
+                Ok(None)
+            }
+            None => Ok(Some(met_roster(problem, progress.walk.domains())?)),
+        },
     }
 }

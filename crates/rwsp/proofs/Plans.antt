@@ -7,11 +7,11 @@ use Rattle.rwsp_model.specs.Validity.{KeepsLimits}
 use Rattle.refutation_terms.specs.declared.lines.Line.{Line}
 use Rattle.refutation_terms.specs.declared.lines.Line.TheVariants.{Split, Window, Day}
 use Rattle.refutation_terms.specs.declared.lines.Turn.{Turn}
-use Rattle.refutation_terms.specs.Word.{Domains}
+use Rattle.refutation_terms.specs.Word.{Domains, AreSame}
 use Rattle.refutation_terms.specs.Tree.{First, narrowed, line_leaves, domains_at}
 use Rattle.refutation_terms.specs.Log.{Log, LineFits}
 use Rattle.refutation_terms.specs.Sharp.{SomeWindowHolds, SomeDayHolds, IsFirstTurn}
-use Rattle.refutation_checker.proofs.SameDomains.{AreSame, turned_round, same_idle, same_holds}
+use Rattle.refutation_terms.proofs.SameDomains.{turned_round, same_idle, same_holds}
 use Rattle.domain_store.specs.Store.{Store, has_domain}
 use Rattle.propagators.specs.Looks.{Closes}
 use Rattle.propagators.specs.Days.{IsDaySpent}
@@ -64,9 +64,9 @@ planned_split P leaves spent D p x some windows days spend h =
 planned_log : (P : Instance) (turn : Option Turn) (leaves : Store → Line → Type 0) (spent : Store → ℕ → Symbol → Type 0) (g : Log) → 0 < cells P → IsFirstTurn P turn → AllWindows P leaves → AllDays P leaves → DaysSpend P spent → IsSearchLog P turn leaves spent g → IsPlannedLog P g
 planned_log P turn leaves spent g some first windows days spend h =
     record {
-      cited = h.cited;
-      turn = subst (IsFirstTurn P) (sym h.same_turn) first;
-      splits = λ k p x at. planned_split P leaves spent (domains_at P g.turn g.lines k) p x some windows days spend (subst (λ (t : Option Turn). IsForced P leaves spent (domains_at P t g.lines k) p x) (sym h.same_turn) (h.splits k p x at));
+      cited = h.of_turn.cited;
+      turn = subst (IsFirstTurn P) (sym h.of_turn.same_turn) first;
+      splits = λ k p x at. planned_split P leaves spent (domains_at P g.turn g.lines k) p x some windows days spend (subst (λ (t : Option Turn). IsForced P leaves spent (domains_at P t g.lines k) p x) (sym h.of_turn.same_turn) (h.splits k p x at));
     }
 
 pub planned_as_found : (P : Instance) (turn : Option Turn) (budget : ℕ) (leaves : Store → Line → Type 0) (spent : Store → ℕ → Symbol → Type 0) (found : Found) → KeepsLimits P → IsFirstTurn P turn → AllWindows P leaves → AllDays P leaves → DaysSpend P spent → IsFound P turn budget leaves spent found → (HasSpentBudget found → budget + 1 < 2 * (shift_count P + 1) ^ cells P) → IsPlanned P budget (answer_of found)

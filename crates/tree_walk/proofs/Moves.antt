@@ -12,12 +12,12 @@ use Rattle.rwsp_model.specs.Validity.{KeepsLimits}
 use Rattle.refutation_terms.specs.declared.lines.Line.{Line}
 use Rattle.refutation_terms.specs.declared.lines.Line.TheVariants.{Split, Unfinished}
 use Rattle.refutation_terms.specs.declared.lines.Turn.{Turn}
-use Rattle.refutation_terms.specs.Word.{Domains}
+use Rattle.refutation_terms.specs.Word.{Domains, AreSame}
 use Rattle.refutation_terms.specs.Tree.{IsLeaf, IsTree, after_trees, opening, lines_leave, domains_at, is_idle}
 use Rattle.refutation_terms.specs.Log.{TurnFits}
 use Rattle.domain_store.specs.Store.{Store, store_at, domain_at, has_domain, changed, full_store, HasSameShape, BelongsTo, IsStore, HasDomains}
 use Rattle.tree_walk.specs.declared.open_split.OpenSplit.{OpenSplit}
-use Rattle.tree_walk.specs.Splits.{Agrees, IsSplitAt, IsNone, InSplits, HasRead, IsBehindTree, lacking_in, is_idle_in}
+use Rattle.tree_walk.specs.Splits.{Agrees, IsSplitAt, IsNone, InSplits, HasRead, IsBehindTree, second_sides_to_come, is_idle_in}
 use Rattle.tree_walk.specs.States.{IsStateOf, IsWalk}
 use Rattle.tree_walk.proofs.Stack.{leaf_read, split_read, second_ended, first_ended, innermost, read_leaves, read_is_tree, read_whole, read_part}
 use Rattle.tree_walk.proofs.Idle.{idle_in_store, held_where_useful, more_where_useful, positions_of}
@@ -50,7 +50,7 @@ side_crossed n S T U D splits outer after lines o set e first at_mark same chang
     subst (λ s. InSplits IsNone n U D 0 s lines) (sym is) done
 
 -- a walk that has read no line
-pub at_start : (P : Instance) (turn : Option Turn) (S : Store) (splits : List OpenSplit) → IsStore S → BelongsTo P S → splits ≡ [] → Agrees (cells P) S (opening P turn) → IsStateOf P turn [] (record { store = S; splits = splits; whole = false })
+pub at_start : (P : Instance) (turn : Option Turn) (S : Store) (splits : List OpenSplit) → IsStore S → BelongsTo P S → splits ≡ [] → AreSame P (has_domain S) (opening P turn) → IsStateOf P turn [] (record { store = S; splits = splits; whole = false })
 at_start P turn S splits now belongs none agrees =
     let here : Agrees (length S.sets) S (opening P turn) = λ p z lt. agrees p z (subst (λ m. p < m) (positions_of P S now belongs) lt) in
     record {
@@ -110,7 +110,7 @@ still_walk S T splits after whole ended part same ends w =
     (w.0, w.1, w.2 ++ Unfinished ∷ [], behind_leaf w.0 w.1 w.2 Unfinished S T splits after whole ended tt part same ends w.3)
 
 -- the domains are those of the next line
-pub state_domains : (P : Instance) (turn : Option Turn) (lines : List Line) (S : Store) (splits : List OpenSplit) (whole : Bool) → IsStore S → IsStateOf P turn lines (record { store = S; splits = splits; whole = whole }) → (p x : ℕ) → p < cells P → has_domain S p x ≡ domains_at P turn lines (length lines) p x
+pub state_domains : (P : Instance) (turn : Option Turn) (lines : List Line) (S : Store) (splits : List OpenSplit) (whole : Bool) → IsStore S → IsStateOf P turn lines (record { store = S; splits = splits; whole = whole }) → AreSame P (has_domain S) (domains_at P turn lines (length lines))
 state_domains P turn lines S splits whole now w p x lt =
     let inside : p < length S.sets = subst (λ m. p < m) (sym (positions_of P S now w.belongs)) lt in
     let le : length lines ≤ length lines = omega arith in
@@ -129,7 +129,7 @@ pub state_ended : (P : Instance) (turn : Option Turn) (lines rest : List Line) (
 state_ended P turn lines rest S splits whole ended w =
     read_whole (length S.sets) S (opening P turn) splits lines rest (subst (λ b. HasRead b (length S.sets) S (opening P turn) splits lines) ended w.read)
 
-pub state_open : (P : Instance) (turn : Option Turn) (lines rest : List Line) (S : Store) (splits : List OpenSplit) (whole : Bool) → whole ≡ false → IsStateOf P turn lines (record { store = S; splits = splits; whole = whole }) → after_trees 1 (lines ++ rest) ≡ after_trees (lacking_in splits + 1) rest
+pub state_open : (P : Instance) (turn : Option Turn) (lines rest : List Line) (S : Store) (splits : List OpenSplit) (whole : Bool) → whole ≡ false → IsStateOf P turn lines (record { store = S; splits = splits; whole = whole }) → after_trees 1 (lines ++ rest) ≡ after_trees (second_sides_to_come splits + 1) rest
 state_open P turn lines rest S splits whole part w =
     read_part (length S.sets) S (opening P turn) splits lines rest (part_of P turn lines S splits whole part w)
 
@@ -156,29 +156,29 @@ abbrev pub in_first : Bool → ℕ
 in_first second = cond (not second) 1 0
 
 -- the open splits in their first side, with one more on top
-pub lacking_more : (outer : List OpenSplit) (o : OpenSplit) → lacking_in (outer ++ o ∷ []) ≡ lacking_in outer + in_first o.in_second
-lacking_more outer o =
-    let one : lacking_in (o ∷ []) ≡ in_first o.in_second = sum_by-cons (λ b. in_first b.in_second) o [] ∙ omega arith in
-    sum_by-append (λ b. in_first b.in_second) outer (o ∷ []) ∙ ap (λ n. lacking_in outer + n) one
+pub to_come_with_one_more : (outer : List OpenSplit) (o : OpenSplit) → second_sides_to_come (outer ++ o ∷ []) ≡ second_sides_to_come outer + in_first o.in_second
+to_come_with_one_more outer o =
+    let one : second_sides_to_come (o ∷ []) ≡ in_first o.in_second = sum_by-cons (λ b. in_first b.in_second) o [] ∙ omega arith in
+    sum_by-append (λ b. in_first b.in_second) outer (o ∷ []) ∙ ap (λ n. second_sides_to_come outer + n) one
 
-pub lacking_past_second : (splits outer : List OpenSplit) (o : OpenSplit) → splits ≡ outer ++ o ∷ [] → o.in_second ≡ true → lacking_in splits ≡ lacking_in outer
-lacking_past_second splits outer o e second =
+pub to_come_past_second : (splits outer : List OpenSplit) (o : OpenSplit) → splits ≡ outer ++ o ∷ [] → o.in_second ≡ true → second_sides_to_come splits ≡ second_sides_to_come outer
+to_come_past_second splits outer o e second =
     let none : in_first o.in_second ≡ 0 = ap in_first second in
-    ap lacking_in e ∙ lacking_more outer o ∙ omega (arith, none)
+    ap second_sides_to_come e ∙ to_come_with_one_more outer o ∙ omega (arith, none)
 
-pub lacking_past_first : (splits outer after : List OpenSplit) (o : OpenSplit) → splits ≡ outer ++ o ∷ [] → o.in_second ≡ false → after ≡ outer ++ (record o { in_second = true }) ∷ [] → lacking_in splits ≡ lacking_in after + 1
-lacking_past_first splits outer after o e first is =
+pub to_come_past_first : (splits outer after : List OpenSplit) (o : OpenSplit) → splits ≡ outer ++ o ∷ [] → o.in_second ≡ false → after ≡ outer ++ (record o { in_second = true }) ∷ [] → second_sides_to_come splits ≡ second_sides_to_come after + 1
+to_come_past_first splits outer after o e first is =
     let one : in_first o.in_second ≡ 1 = ap in_first first in
-    let same : lacking_in after ≡ lacking_in outer = lacking_past_second after outer (record o { in_second = true }) is refl in
-    ap lacking_in e ∙ lacking_more outer o ∙ omega (arith, one, same)
+    let same : second_sides_to_come after ≡ second_sides_to_come outer = to_come_past_second after outer (record o { in_second = true }) is refl in
+    ap second_sides_to_come e ∙ to_come_with_one_more outer o ∙ omega (arith, one, same)
 
-pub open_behind_split : (whole : Bool) (splits after : List OpenSplit) (o : OpenSplit) → whole ≡ false → o.in_second ≡ false → after ≡ splits ++ o ∷ [] → cond whole 0 (lacking_in after + 1) ≡ cond whole 0 (lacking_in splits + 1) + 1
+pub open_behind_split : (whole : Bool) (splits after : List OpenSplit) (o : OpenSplit) → whole ≡ false → o.in_second ≡ false → after ≡ splits ++ o ∷ [] → cond whole 0 (second_sides_to_come after + 1) ≡ cond whole 0 (second_sides_to_come splits + 1) + 1
 open_behind_split true splits after o part first is = absurd (cc)
 open_behind_split false splits after o part first is =
     let one : in_first o.in_second ≡ 1 = ap in_first first in
-    let e : lacking_in after ≡ lacking_in splits + in_first o.in_second = ap lacking_in is ∙ lacking_more splits o in
+    let e : second_sides_to_come after ≡ second_sides_to_come splits + in_first o.in_second = ap second_sides_to_come is ∙ to_come_with_one_more splits o in
     omega (arith, one, e)
 
-pub open_behind_leaf : (whole ended : Bool) (splits after : List OpenSplit) → whole ≡ false → lacking_in splits ≡ cond ended 0 (lacking_in after + 1) → cond whole 0 (lacking_in splits + 1) ≡ cond ended 0 (lacking_in after + 1) + 1
+pub open_behind_leaf : (whole ended : Bool) (splits after : List OpenSplit) → whole ≡ false → second_sides_to_come splits ≡ cond ended 0 (second_sides_to_come after + 1) → cond whole 0 (second_sides_to_come splits + 1) ≡ cond ended 0 (second_sides_to_come after + 1) + 1
 open_behind_leaf true ended splits after part e = absurd (cc)
 open_behind_leaf false ended splits after part e = ap (λ n. n + 1) e

@@ -14,7 +14,7 @@ use Rattle.refutation_terms.proofs.TreeDomains.{in_first, in_second, tree_leaves
 use Rattle.refutation_terms.proofs.AsSaid.{past_front}
 use Rattle.domain_store.specs.Store.{Store, store_at, domain_at, has_domain}
 use Rattle.tree_walk.specs.declared.open_split.OpenSplit.{OpenSplit}
-use Rattle.tree_walk.specs.Splits.{Agrees, IsSplitAt, IsFirstSide, side_in, IsNone, InSplits, HasRead, lacking_in}
+use Rattle.tree_walk.specs.Splits.{Agrees, IsSplitAt, IsFirstSide, side_in, IsNone, InSplits, HasRead, second_sides_to_come}
 
 -- the outermost marks come before what is inside
 under_all : (Q : List Line → Type 0) (n : ℕ) (S : Store) (limit : ℕ) (tail : List OpenSplit) → ((D : Domains) (from : ℕ) (rest : List Line) → InSplits Q n S D from tail rest → from ≤ limit) → (outer : List OpenSplit) (D : Domains) (from : ℕ) (lines : List Line) → InSplits Q n S D from (outer ++ tail) lines → from ≤ limit
@@ -166,12 +166,12 @@ left_by false first rest more k count none inner =
     ap (λ ls. after_trees (suc (suc k)) (ls ++ (rest ++ more))) none ∙ inner (suc k) ∙ ap (λ i. after_trees (suc i) more) e
 
 -- the trees that are still open are those of the first sides, and one
-pub trees_left : (n : ℕ) (S : Store) (splits : List OpenSplit) (D : Domains) (from : ℕ) (lines : List Line) → InSplits IsNone n S D from splits lines → (k : ℕ) (more : List Line) → after_trees (suc k) (lines ++ more) ≡ after_trees (suc (lacking_in splits + k)) more
+pub trees_left : (n : ℕ) (S : Store) (splits : List OpenSplit) (D : Domains) (from : ℕ) (lines : List Line) → InSplits IsNone n S D from splits lines → (k : ℕ) (more : List Line) → after_trees (suc k) (lines ++ more) ≡ after_trees (suc (second_sides_to_come splits + k)) more
 trees_left n S [] D from lines h k more =
     ap (λ ls. after_trees (suc k) (ls ++ more)) h.2 ∙ ap (λ i. after_trees (suc i) more) (sym (zero-add k))
 trees_left n S (o ∷ splits) D from lines h k more =
     ap (λ ls. after_trees (suc k) (ls ++ more)) h.3 ∙ ap (after_trees (suc (suc k))) (append_assoc h.1 h.2 more)
-    ∙ left_by o.in_second h.1 h.2 more k (lacking_in splits) h.4 (λ i. trees_left n S splits (narrowed D (Split o.p o.x) (side_in o.in_second)) o.mark.len h.2 h.5 i more)
+    ∙ left_by o.in_second h.1 h.2 more k (second_sides_to_come splits) h.4 (λ i. trees_left n S splits (narrowed D (Split o.p o.x) (side_in o.in_second)) o.mark.len h.2 h.5 i more)
     ∙ ap (λ i. after_trees (suc (i + k)) more) (sym (sum_by-cons (λ b. cond (not b.in_second) 1 0) o splits))
 
 -- so inside splits no whole tree was read
@@ -220,7 +220,7 @@ read_is_tree false n S D splits lines h = (
 pub read_whole : (n : ℕ) (S : Store) (D : Domains) (splits : List OpenSplit) (lines rest : List Line) → HasRead true n S D splits lines → after_trees 1 (lines ++ rest) ≡ after_trees 0 rest
 read_whole n S D splits lines rest h = past_front lines rest h.1.2
 
-pub read_part : (n : ℕ) (S : Store) (D : Domains) (splits : List OpenSplit) (lines rest : List Line) → HasRead false n S D splits lines → after_trees 1 (lines ++ rest) ≡ after_trees (lacking_in splits + 1) rest
+pub read_part : (n : ℕ) (S : Store) (D : Domains) (splits : List OpenSplit) (lines rest : List Line) → HasRead false n S D splits lines → after_trees 1 (lines ++ rest) ≡ after_trees (second_sides_to_come splits + 1) rest
 read_part n S D splits lines rest h =
-    let e : suc (lacking_in splits + 0) ≡ lacking_in splits + 1 = omega arith in
+    let e : suc (second_sides_to_come splits + 0) ≡ second_sides_to_come splits + 1 = omega arith in
     trees_left n S splits D 0 lines h 0 rest ∙ ap (λ i. after_trees i rest) e

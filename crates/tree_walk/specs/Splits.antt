@@ -48,9 +48,9 @@ HasRead false n S D splits lines = InSplits IsNone n S D 0 splits lines
 abbrev pub IsBehindTree : Store → List OpenSplit → Type 0
 IsBehindTree S splits = (D : Domains) × (lines : List Line) × InSplits IsTree (length S.sets) S D 0 splits lines
 
--- how many of the splits are in their first side
-abbrev pub lacking_in : List OpenSplit → ℕ
-lacking_in splits = count_by (λ o. not o.in_second) splits
+-- how many of the splits are in their first side, so that their second is still to come
+abbrev pub second_sides_to_come : List OpenSplit → ℕ
+second_sides_to_come splits = count_by (λ o. not o.in_second) splits
 
 -- a split at the position is idle under the domains of the store: the symbol isn't in the domain, or is alone there
 abbrev pub is_idle_in : Store → ℕ → ℕ → Bool

@@ -6,7 +6,7 @@ use Rattle.refutation_terms.specs.declared.lines.Turn.{Turn}
 use Rattle.refutation_terms.specs.Tree.{opening}
 use Rattle.domain_store.specs.Store.{Store, BelongsTo}
 use Rattle.tree_walk.specs.declared.open_split.OpenSplit.{OpenSplit}
-use Rattle.tree_walk.specs.Splits.{HasRead, lacking_in}
+use Rattle.tree_walk.specs.Splits.{HasRead, second_sides_to_come}
 
 pub record State : Type 0 where
   pub store : Store
@@ -26,4 +26,4 @@ IsWalk w = (P : Instance) × (turn : Option Turn) × (lines : List Line) × IsSt
 
 -- how many whole trees must still follow
 abbrev pub open_trees : State → ℕ
-open_trees w = cond w.whole 0 (lacking_in w.splits + 1)
+open_trees w = cond w.whole 0 (second_sides_to_come w.splits + 1)

@@ -4,7 +4,7 @@ ghost use Rattle.refutation_terms.specs.declared.lines.Line.{Line};
 ghost use Rattle.refutation_terms.specs.Word.{Domains as DomainTest};
 ghost use Rattle.refutation_terms.specs.Tree.{IsTree};
 ghost use Rattle.domain_store.specs.Store.{HasSameShape};
-ghost use Rattle.tree_walk.specs.Splits.{InSplits, HasRead, IsBehindTree, lacking_in};
+ghost use Rattle.tree_walk.specs.Splits.{InSplits, HasRead, IsBehindTree, second_sides_to_come};
 
 use crate::open_split::OpenSplit;
 use domain_store::Domains;
@@ -15,7 +15,7 @@ pub fn end_tree(domains: &mut Domains, splits: &mut Vec<OpenSplit>) -> bool
     requires { IsBehindTree domains.old splits.old.items }
     ensures same { HasSameShape domains.old domains.new }
     ensures ended { (D : DomainTest) (lines : List Line) → InSplits IsTree (length domains.old.sets) domains.old D 0 splits.old.items lines → HasRead result (length domains.old.sets) domains.new D splits.new.items lines }
-    ensures counted { lacking_in splits.old.items ≡ cond result 0 (lacking_in splits.new.items + 1) }
+    ensures counted { second_sides_to_come splits.old.items ≡ cond result 0 (second_sides_to_come splits.new.items + 1) }
 {
     while let Some(split) = splits.pop() {
         domains.undo_to(split.mark);

@@ -6,24 +6,13 @@ use std::alloc::{AllocError, Global};
 use std::process::Abort;
 use std::test::Fail;
 
-fn shift(alloc: Global, name: u8) -> Result<ShiftRow, AllocError> {
+fn shift(alloc: Global, name: u8, bounds: Bounds) -> Result<ShiftRow, AllocError> {
     Ok(ShiftRow {
         name: Name::of(vec![in alloc; name]?),
         start: 360,
         length: 480,
-        bounds: Bounds {
-            least: 1,
-            greatest: 2,
-        },
+        bounds,
     })
-}
-
-fn demand(alloc: Global) -> Result<DemandRow, AllocError> {
-    let range = Bounds {
-        least: 0,
-        greatest: 1,
-    };
-    Ok(DemandRow::of(vec![in alloc; range, range]?))
 }
 
 // Two weeks of two days, with the shifts D and N.
@@ -32,11 +21,18 @@ fn small_problem(rt: &impl Abort, alloc: Global) -> Result<Problem, AllocError> 
         least: 1,
         greatest: 4,
     };
+    let range = Bounds {
+        least: 0,
+        greatest: 1,
+    };
     let parts = Parts {
         days: 2,
         weeks: 2,
-        demand: vec![in alloc; demand(alloc)?, demand(alloc)?]?,
-        shifts: vec![in alloc; shift(alloc, b'D')?, shift(alloc, b'N')?]?,
+        demand: vec![in alloc;
+            DemandRow::of(vec![in alloc; range, range]?),
+            DemandRow::of(vec![in alloc; range, range]?),
+        ]?,
+        shifts: vec![in alloc; shift(alloc, b'D', bounds)?, shift(alloc, b'N', bounds)?]?,
         off: bounds,
         work: bounds,
         pairs: vec![in alloc]?,

@@ -4,10 +4,11 @@ ghost use Rattle.rwsp_terms.specs.Instance.{Instance, cells};
 ghost use Rattle.refutation_terms.specs.declared.lines.Line.{Line};
 ghost use Rattle.refutation_terms.specs.declared.lines.Line.TheVariants.{Split};
 ghost use Rattle.refutation_terms.specs.declared.lines.Turn.{Turn as TheTurn};
+ghost use Rattle.refutation_terms.specs.Word.{AreSame};
 ghost use Rattle.refutation_terms.specs.Tree.{IsLeaf, IsTree, after_trees, opening, domains_at, is_idle};
 ghost use Rattle.refutation_terms.specs.Log.{TurnFits};
 ghost use Rattle.domain_store.specs.Store.{HasSameShape, has_domain, BelongsTo};
-ghost use Rattle.tree_walk.specs.Splits.{lacking_in, Agrees, is_idle_in};
+ghost use Rattle.tree_walk.specs.Splits.{second_sides_to_come, is_idle_in};
 
 use crate::ending::end_tree;
 use crate::open_split::OpenSplit;
@@ -85,7 +86,7 @@ impl Walk {
     pub fn domains(&self) -> &Domains
         ensures value { result.now ≡ self.now.store }
         ensures has { (P : Instance) (turn : Option TheTurn) (lines : List Line) → IsStateOf P turn lines self.now →
-            (p x : ℕ) → p < cells P → has_domain result.now p x ≡ domains_at P turn lines (length lines) p x }
+            AreSame P (has_domain result.now) (domains_at P turn lines (length lines)) }
     {
         self.domains.facts();
         &self.domains
@@ -108,7 +109,7 @@ impl Walk {
         if self.whole {
             0
         } else {
-            lacking(&self.splits) + 1
+            second_sides_to_come(&self.splits) + 1
         }
     }
 
@@ -172,9 +173,9 @@ fn copied_splits(alloc: Global, splits: &[OpenSplit]) -> Result<Vec<OpenSplit>, 
     Ok(copies)
 }
 
-// How many open splits are in their first side.
-fn lacking(splits: &[OpenSplit]) -> usize
-    ensures value { result ≡ lacking_in splits.now }
+// How many of the open splits are in their first side, so that their second is still to come.
+fn second_sides_to_come(splits: &[OpenSplit]) -> usize
+    ensures value { result ≡ second_sides_to_come splits.now }
     ensures few { result ≤ length splits.now }
 {
     splits.iter().filter(|split| !split.in_second).count()
@@ -188,7 +189,7 @@ fn opening_domains(
 ) -> Result<Domains, AllocError>
     requires { TurnFits problem.now turn }
     ensures belongs { IfOk result (λ D. BelongsTo problem.now D) }
-    ensures has { IfOk result (λ D. Agrees (cells problem.now) D (opening problem.now turn)) }
+    ensures has { IfOk result (λ D. AreSame problem.now (has_domain D) (opening problem.now turn)) }
 {
     let mut domains = Domains::new(alloc, problem)?;
     if let Some(turn) = turn {

@@ -15,10 +15,10 @@ pub step-requires-clause-under_way : goal.step-requires-clause-under_way
 step-requires-clause-under_way g c =
     let P = c.args.problem.now in
     let s = c.loop-alloc.progress in
-    let leaves = g.A.Propagator.leaves c.args.prop.now in
-    let spent = g.A.Propagator.spent c.args.prop.now in
-    let leaves' = g.A.Propagator.leaves c.loop-alloc.prop in
-    let spent' = g.A.Propagator.spent c.loop-alloc.prop in
+    let leaves = g.A.Propagator.leaves c.args.propagator.now in
+    let spent = g.A.Propagator.spent c.args.propagator.now in
+    let leaves' = g.A.Propagator.leaves c.loop-alloc.propagator in
+    let spent' = g.A.Propagator.spent c.loop-alloc.propagator in
     subst (λ (t : Option Turn). IsUnderWay P t c.args.budget leaves' spent' s) (sym c.loop-alloc.invariant.under_way.same_turn)
     (under_way_by P c.args.turn c.args.budget leaves leaves' spent spent' s c.loop-alloc.invariant.leaves c.loop-alloc.invariant.spent c.loop-alloc.invariant.under_way)
 
@@ -35,10 +35,10 @@ loop-alloc-preserved g c =
     let b = c.step.new.progress in
     let i = c.loop-alloc.invariant in
     let e = c.step.ensures in
-    let leaves = g.A.Propagator.leaves c.args.prop.now in
-    let spent = g.A.Propagator.spent c.args.prop.now in
-    let leaves' = g.A.Propagator.leaves c.loop-alloc.prop in
-    let spent' = g.A.Propagator.spent c.loop-alloc.prop in
+    let leaves = g.A.Propagator.leaves c.args.propagator.now in
+    let spent = g.A.Propagator.spent c.args.propagator.now in
+    let leaves' = g.A.Propagator.leaves c.loop-alloc.propagator in
+    let spent' = g.A.Propagator.spent c.loop-alloc.propagator in
     let none : c.in_ok-roster.field-0 ≡ None = c.in-None.is in
     record {
       under_way = under_way_back P c.args.turn c.args.budget leaves leaves' spent spent' b i.leaves i.spent
@@ -53,8 +53,8 @@ pub returns-clause-found : goal.returns-clause-found
 returns-clause-found g c =
     let P = c.args.problem.now in
     let s = c.loop-alloc.progress in
-    let leaves = g.A.Propagator.leaves c.args.prop.now in
-    let spent = g.A.Propagator.spent c.args.prop.now in
+    let leaves = g.A.Propagator.leaves c.args.propagator.now in
+    let spent = g.A.Propagator.spent c.args.propagator.now in
     IfOk-weaker c.end.result
     (λ (found : Found). IsEnded P s.turn c.args.budget s.lines.items found)
     (λ (found : Found). IsFound P c.args.turn c.args.budget leaves spent found)

@@ -8,11 +8,11 @@ use Rattle.roster_search.proofs.searching.search.Given as goal
 
 abbrev pub invariant-loop-alloc : goal.invariant-loop-alloc
 invariant-loop-alloc g l = record {
-  under_way : IsUnderWay l.problem l.fn.turn l.budget (g.A.Propagator.leaves l.fn.prop) (g.A.Propagator.spent l.fn.prop) l.progress;
-  tracks : g.A.Propagator.tracks l.prop l.progress.walk.store;
-  serves : (P : Instance) → g.A.Propagator.serves l.fn.prop P ↔ g.A.Propagator.serves l.prop P;
-  leaves : (S : Store) (line : Line) → g.A.Propagator.leaves l.fn.prop S line ↔ g.A.Propagator.leaves l.prop S line;
-  spent : (S : Store) (p : ℕ) (x : Symbol) → g.A.Propagator.spent l.fn.prop S p x ↔ g.A.Propagator.spent l.prop S p x;
+  under_way : IsUnderWay l.problem l.fn.turn l.budget (g.A.Propagator.leaves l.fn.propagator) (g.A.Propagator.spent l.fn.propagator) l.progress;
+  tracks : g.A.Propagator.tracks l.propagator l.progress.walk.store;
+  serves : (P : Instance) → g.A.Propagator.serves l.fn.propagator P ↔ g.A.Propagator.serves l.propagator P;
+  leaves : (S : Store) (line : Line) → g.A.Propagator.leaves l.fn.propagator S line ↔ g.A.Propagator.leaves l.propagator S line;
+  spent : (S : Store) (p : ℕ) (x : Symbol) → g.A.Propagator.spent l.fn.propagator S p x ↔ g.A.Propagator.spent l.propagator S p x;
 }
 
 abbrev pub decreases-loop-alloc : goal.decreases-loop-alloc

@@ -2,7 +2,7 @@
 use Rattle.std.proofs.Common.{◌<◌, ◌≤◌, length, sym, subst, ◌∙◌, IsTrue}
 use Rattle.std.proofs.lemmas.Bool.{not-false, not-true}
 use Rattle.domain_store.specs.Store.{has_domain, domain_at}
-use Rattle.tree_walk.proofs.Moves.{on_top, side_closed, side_crossed, lacking_past_second, lacking_past_first}
+use Rattle.tree_walk.proofs.Moves.{on_top, side_closed, side_crossed, to_come_past_second, to_come_past_first}
 use Rattle.tree_walk.proofs.ending.end_tree.Goals as goal
 
 pub undo_to-requires : goal.undo_to-requires
@@ -34,7 +34,7 @@ returns-then-not-split-clause-ended c D lines h =
 pub returns-then-not-split-clause-counted : goal.returns-then-not-split-clause-counted
 returns-then-not-split-clause-counted c =
     sym c.loop-split.invariant.counted
-    ∙ lacking_past_first c.loop-split.splits.items c.pop.new.self.items c.put_back.new.splits.items c.in-Some.split c.in-Some.ensures.items (not-true c.in-Some.split.in_second c.if-not-split.true) c.put_back.ensures
+    ∙ to_come_past_first c.loop-split.splits.items c.pop.new.self.items c.put_back.new.splits.items c.in-Some.split c.in-Some.ensures.items (not-true c.in-Some.split.in_second c.if-not-split.true) c.put_back.ensures
 
 pub loop-split-preserved : goal.loop-split-preserved
 loop-split-preserved c = record {
@@ -44,7 +44,7 @@ loop-split-preserved c = record {
     shifts = c.undo_to.ensures.same.shifts ∙ c.loop-split.invariant.same.shifts;
     positions = c.undo_to.ensures.same.positions ∙ c.loop-split.invariant.same.positions;
   };
-  counted = sym (lacking_past_second c.loop-split.splits.items c.pop.new.self.items c.in-Some.split c.in-Some.ensures.items (not-false c.in-Some.split.in_second c.if-not-split.false)) ∙ c.loop-split.invariant.counted;
+  counted = sym (to_come_past_second c.loop-split.splits.items c.pop.new.self.items c.in-Some.split c.in-Some.ensures.items (not-false c.in-Some.split.in_second c.if-not-split.false)) ∙ c.loop-split.invariant.counted;
   behind = λ D lines h.
       side_closed (length c.args.domains.now.sets) c.loop-split.domains c.undo_to.new.self D c.loop-split.splits.items c.pop.new.self.items lines c.in-Some.split
       c.in-Some.ensures.items (not-false c.in-Some.split.in_second c.if-not-split.false) c.undo_to.ensures.undone c.undo_to.ensures.marks

@@ -1,11 +1,11 @@
 -- The domains of the walk are those at the line.
 use Rattle.std.proofs.Common.{◌<◌, length, subst}
 use Rattle.rwsp_terms.specs.Instance.{cells}
+use Rattle.refutation_terms.specs.Word.{AreSame}
 use Rattle.refutation_terms.specs.Tree.{domains_at}
 use Rattle.domain_store.specs.Store.{Store, IsStore, HasDomains, has_domain}
 use Rattle.refutation_checker.specs.LineVerdicts.{IsSound}
 use Rattle.refutation_checker.specs.LineTexts.{Judging}
-use Rattle.refutation_checker.proofs.SameDomains.{AreSame}
 use Rattle.refutation_checker.proofs.Judging.{same_cause, same_sound, may_step}
 use Rattle.refutation_checker.proofs.judge.Judge.pass.Goals as goal
 use Rattle.tree_walk.proofs.Idle.{positions_of}

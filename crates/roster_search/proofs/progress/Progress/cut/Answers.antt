@@ -6,13 +6,11 @@ use Rattle.refutation_terms.specs.declared.lines.Line.TheVariants.{Split}
 use Rattle.refutation_terms.specs.declared.lines.Turn.{Turn}
 use Rattle.refutation_terms.specs.Tree.{domains_at, narrowed, First}
 use Rattle.refutation_terms.specs.Log.{Holds}
+use Rattle.refutation_terms.proofs.SameDomains.{same_holds}
 use Rattle.domain_store.specs.Store.{has_domain}
-use Rattle.tree_walk.specs.States.{IsStateOf}
 use Rattle.tree_walk.proofs.Idle.{positions_of, idle_in_store}
-use Rattle.tree_walk.proofs.Moves.{state_domains}
 use Rattle.roster_search.specs.Written.{IsSplitWithLeaf}
-use Rattle.roster_search.proofs.Alike.{holds_alike}
-use Rattle.roster_search.proofs.Narrowing.{narrowed_at, first_side}
+use Rattle.roster_search.proofs.Narrowing.{HasDomainsBehind, narrowed_at, first_side}
 use Rattle.roster_search.proofs.progress.Progress.cut.Goals as goal
 use Rattle.rwsp_model.proofs.Limits.{some_cells}
 
@@ -33,8 +31,8 @@ close-requires-clause-holds c =
     let S = a.walk.store in
     let all : List Line = a.lines.items ++ Split c.args.p x ∷ [] in
     let there : Holds P (domains_at P a.turn all (length all)) c.args.line =
-    holds_alike P (narrowed (has_domain S) (Split c.args.p x) First) (domains_at P a.turn all (length all)) c.args.line (some_cells P c.keeps_limits.ensures) c.requires.leaf.fits
-    (first_side P a.turn a.lines.items (has_domain S) c.args.p x (λ q z lt. state_domains P a.turn a.lines.items S a.walk.splits a.walk.whole c.domain_facts.ensures.store c.requires.written.state q z lt))
+    same_holds P (narrowed (has_domain S) (Split c.args.p x) First) (domains_at P a.turn all (length all)) c.args.line (some_cells P c.keeps_limits.ensures) c.requires.leaf.fits
+    (first_side P a.turn a.lines.items (has_domain S) c.args.p x (c.domain_facts.ensures.same P c.requires.written))
     c.requires.holds in
     subst (λ (t : Option Turn). Holds P (domains_at P t b.lines.items (length b.lines.items)) c.args.line) (sym c.in_ok-split.ensures.turn)
     (subst (λ (ls : List Line). Holds P (domains_at P a.turn ls (length ls)) c.args.line) (sym c.in_ok-split.ensures.lines) there)
@@ -50,13 +48,15 @@ returns-in_ok-close-clause-off c =
     let turn : b.turn ≡ a.turn = c.close.ensures.turn ∙ c.in_ok-split.ensures.turn in
     let lines : b.lines.items ≡ a.lines.items ++ added = c.in_ok-close.ensures.lines ∙ ap (λ (ls : List Line). ls ++ c.args.line ∷ []) c.in_ok-split.ensures.lines ∙ append_assoc a.lines.items (Split p x ∷ []) (c.args.line ∷ []) in
     let kind : IsSplitWithLeaf p x added = inr (c.args.line, c.requires.leaf.leaf, refl) in
-    let state : IsStateOf P a.turn (a.lines.items ++ added) b.walk =
-    subst (λ (ls : List Line). IsStateOf P a.turn ls b.walk) lines (subst (λ (t : Option Turn). IsStateOf P t b.lines.items b.walk) turn c.in_ok-close.ensures.written.state) in
+    let w = c.in_ok-close.ensures.written in
+    let before : HasDomainsBehind P a.turn a.lines.items a.walk.store = record { store = c.domain_facts.ensures.store; belongs = c.requires.written.state.belongs; same = c.domain_facts.ensures.same P c.requires.written } in
+    let behind : HasDomainsBehind P b.turn b.lines.items b.walk.store = record { store = c.domain_facts-then-has_room.ensures.store; belongs = w.state.belongs; same = c.domain_facts-then-has_room.ensures.same P w } in
     record {
-      written = c.in_ok-close.ensures.written;
+      written = w;
       same_turn = turn;
       added = added;
       split = kind;
       lines = lines;
-      narrowed = narrowed_at P a.turn a.lines.items added a.walk b.walk p x c.domain_facts.ensures.store c.domain_facts-then-has_room.ensures.store c.requires.written.state state kind c.requires.position;
+      narrowed = narrowed_at P a.turn a.lines.items added a.walk.store b.walk.store p x before
+          (subst (λ (ls : List Line). HasDomainsBehind P a.turn ls b.walk.store) lines (subst (λ (t : Option Turn). HasDomainsBehind P t b.lines.items b.walk.store) turn behind)) kind c.requires.position;
     }

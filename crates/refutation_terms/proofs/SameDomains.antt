@@ -1,26 +1,21 @@
 -- What is said of domains rests on their positions alone.
-use Rattle.std.proofs.Common.{◌≡◌, ℕ, ◌+◌, ◌-◌, ◌*◌, ◌%◌, ◌<◌, ◌≤◌, List, [], ◌∷◌, ap, sym, ◌∙◌, subst, arith, Bool, true, false, IsTrue, ◌&&◌, ◌||◌, ◌==◌, not, count_by, mul_comm}
+use Rattle.std.proofs.Common.{◌≡◌, ℕ, ◌+◌, ◌-◌, ◌*◌, ◌%◌, ◌<◌, ◌≤◌, List, [], ◌∷◌, ap, sym, ◌∙◌, subst, arith, Bool, true, false, IsTrue, ◌&&◌, ◌||◌, ◌==◌, not}
 use Rattle.std.specs.Prelude.{pos, ◌<ℤ◌}
 use Rattle.std.specs.List.{range_with_len, list_all}
 use Rattle.std.proofs.Math.Path.{fun_ext}
-use Rattle.std.proofs.lemmas.Nat.{mul-add-lt}
 use Rattle.rwsp_terms.specs.declared.data.Symbol.{Symbol}
 use Rattle.rwsp_terms.specs.declared.data.Weight.{Weight}
 use Rattle.rwsp_terms.specs.Instance.{Instance, cells, shift_count, IsDay, least, greatest}
-use Rattle.rwsp_terms.proofs.Counting.{count_mono}
+use Rattle.rwsp_terms.proofs.Counting.{count_same}
 use Rattle.refutation_terms.specs.declared.lines.Line.{Line}
 use Rattle.refutation_terms.specs.declared.lines.Line.TheVariants.{Split, Window, Day, Dead, Bound, Unfinished}
-use Rattle.refutation_terms.specs.Word.{Domains, Over}
+use Rattle.refutation_terms.specs.Word.{Domains, AreSame, Over}
 use Rattle.refutation_terms.specs.Leaf.{is_only, fixed, possible}
 use Rattle.refutation_terms.specs.Escape.{IsCleanOver, IsHeaviest}
 use Rattle.refutation_terms.specs.Tree.{is_idle}
 use Rattle.refutation_terms.specs.Log.{Holds, LineFits}
 use Rattle.refutation_terms.specs.Verdict.{Escapes}
 use Rattle.refutation_terms.proofs.Counts.{in_column}
-
--- the two have the same symbols at each position
-abbrev pub AreSame : Instance → Domains → Domains → Type 0
-AreSame P D E = (p x : ℕ) → p < cells P → D p x ≡ E p x
 
 pub turned_round : (P : Instance) (D E : Domains) → AreSame P D E → AreSame P E D
 turned_round P D E same p x inside = sym (same p x inside)
@@ -37,21 +32,15 @@ same_idle P D E p x inside same =
     ap (λ b. not b || is_only P D p x) (same p x inside) ∙ ap (λ b. not (E p x) || b) (same_only P D E p x inside same)
 
 -- by counts over the weeks
-same_count : (f g : ℕ → Bool) (n : ℕ) → ((i : ℕ) → i < n → f i ≡ g i) → count_by f (range_with_len 0 n) ≡ count_by g (range_with_len 0 n)
-same_count f g n same =
-    let low : count_by f (range_with_len 0 n) ≤ count_by g (range_with_len 0 n) = count_mono f g 0 n (λ i le less yes. sym (same i (omega (arith, less))) ∙ yes) in
-    let high : count_by g (range_with_len 0 n) ≤ count_by f (range_with_len 0 n) = count_mono g f 0 n (λ i le less yes. same i (omega (arith, less)) ∙ yes) in
-    omega (arith, low, high)
-
 same_fixed : (P : Instance) (D E : Domains) (j x : ℕ) → IsDay P j → AreSame P D E → fixed P D j x ≡ fixed P E j x
 same_fixed P D E j x day same =
-    same_count (λ i. is_only P D (i * P.days + (j - 1)) x) (λ i. is_only P E (i * P.days + (j - 1)) x) P.weeks
-    (λ i less. same_only P D E (i * P.days + (j - 1)) x (in_column P i j less day) same)
+    count_same (λ i. is_only P D (i * P.days + (j - 1)) x) (λ i. is_only P E (i * P.days + (j - 1)) x) 0 P.weeks
+    (λ i le less. same_only P D E (i * P.days + (j - 1)) x (in_column P i j (omega (arith, less)) day) same)
 
 same_possible : (P : Instance) (D E : Domains) (j x : ℕ) → IsDay P j → AreSame P D E → possible P D j x ≡ possible P E j x
 same_possible P D E j x day same =
-    same_count (λ i. D (i * P.days + (j - 1)) x) (λ i. E (i * P.days + (j - 1)) x) P.weeks
-    (λ i less. same (i * P.days + (j - 1)) x (in_column P i j less day))
+    count_same (λ i. D (i * P.days + (j - 1)) x) (λ i. E (i * P.days + (j - 1)) x) 0 P.weeks
+    (λ i le less. same (i * P.days + (j - 1)) x (in_column P i j (omega (arith, less)) day))
 
 -- by words over them
 same_over : (P : Instance) (D E : Domains) (p : ℕ) (u : List Symbol) → 0 < cells P → AreSame P D E → Over P D p u → Over P E p u

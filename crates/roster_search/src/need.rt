@@ -1,0 +1,90 @@
+// How much each symbol of a domain is needed on its day.
+ghost use Rattle.std.specs.Prelude.{◌≡◌, ℕ, ◌<◌, ◌≤◌, length, false, IsTrue, None, MatchOption};
+ghost use Rattle.rwsp_terms.specs.Instance.{IsSymbol};
+ghost use Rattle.domain_store.specs.Store.{BelongsTo, has_domain};
+
+use domain_store::Domains;
+use rwsp_model::{Problem, Symbol};
+
+/// The shift of the domain that is needed most on the day of the position, of several the lowest.
+pub fn most_needed_shift(problem: &Problem, domains: &Domains, p: u32) -> Option<Symbol>
+    requires belongs { BelongsTo problem.now domains.now }
+    requires position { p < length domains.now.sets }
+    ensures { MatchOption result ((x : ℕ) → 1 ≤ x → x ≤ domains.now.shifts → has_domain domains.now p x ≡ false) (λ x. (1 ≤ x.number) × IsTrue (has_domain domains.now p x.number)) }
+{
+    let mut best: Option<Wanted> = None;
+    for i in 0..domains.shifts() {
+        let x = Symbol { number: i + 1 };
+        if domains.has(p, x) {
+            let here = need_of(problem, domains, p, x);
+            if is_better(&here, &best) {
+                best = Some(here);
+            }
+        }
+    }
+    match best {
+        Some(wanted) => Some(wanted.x),
+        None => None,
+    }
+}
+
+// A symbol of a domain, and how much it is needed on a day: so many weeks still need it, of so many
+// that may have it or not.
+#[derive(Clone, Copy)]
+struct Wanted {
+    x: Symbol,
+    weeks: i32,
+    places: i32,
+}
+
+// Whether the symbol is needed more than the best so far, as fractions.
+fn is_better(here: &Wanted, best: &Option<Wanted>) -> bool
+    ensures { best.now ≡ None → IsTrue result }
+{
+    match best {
+        Some(best) => {
+            i64::from(here.weeks) * i64::from(best.places)
+                > i64::from(best.weeks) * i64::from(here.places)
+        }
+        None => true,
+    }
+}
+
+// How much the symbol is needed on the day of the position.
+fn need_of(problem: &Problem, domains: &Domains, p: u32, x: Symbol) -> Wanted
+    requires symbol { IsSymbol problem.now x }
+    ensures { result.x ≡ x }
+{
+    let days = problem.days();
+    let column = count_column(domains, p % days, days, x);
+    Wanted {
+        x,
+        weeks: problem.demand_least(x, p % days + 1) - column.fixed as i32,
+        places: column.possible as i32 - column.fixed as i32,
+    }
+}
+
+// How many positions of a day hold a symbol for sure, and how many can hold it.
+#[derive(Clone, Copy)]
+struct Column {
+    fixed: u32,
+    possible: u32,
+}
+
+// The counts of the positions that are whole weeks behind the first.
+fn count_column(domains: &Domains, first: u32, days: u32, x: Symbol) -> Column
+    requires some { 1 ≤ days }
+    requires few { (first ≤ 28) × (days ≤ 28) }
+    ensures { (result.fixed ≤ result.possible) × (result.possible ≤ 5000) }
+{
+    let mut fixed = 0;
+    let mut possible = 0;
+    let mut q = first;
+    while q < domains.cells() {
+        let held = domains.has(q, x);
+        possible += u32::from(held);
+        fixed += u32::from(held && domains.size(q) == 1);
+        q += days;
+    }
+    Column { fixed, possible }
+}
