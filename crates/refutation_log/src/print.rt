@@ -29,8 +29,8 @@ pub fn print_log(alloc: Global, problem: &Problem, log: &Log) -> Result<Vec<u8>,
     Ok(out)
 }
 
-/// Appends the text of the line, with its LF.
-pub fn put_line(out: &mut Vec<u8>, problem: &Problem, line: &Line) -> Result<(), AllocError>
+// Appends the text of the line, with its LF.
+fn put_line(out: &mut Vec<u8>, problem: &Problem, line: &Line) -> Result<(), AllocError>
     requires { LineFits problem.now line.now }
     ensures ok { OnOk result (out.new.items ≡ out.old.items ++ line_text problem.now (raw problem.now line.now)) }
     ensures err { OnErr result (out.new.items ≡ out.old.items) }
