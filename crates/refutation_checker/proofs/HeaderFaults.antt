@@ -12,9 +12,9 @@ use Rattle.refutation_terms.specs.declared.lines.LogRefusal.{LogRefusal}
 use Rattle.refutation_terms.specs.declared.lines.LogRefusal.TheVariants as Refusals
 use Rattle.refutation_terms.specs.Log.{AreRules, TurnFits, TurnCites, IsAllowed}
 use Rattle.refutation_terms.specs.LogText.{version_text, rules_text, turn_text}
-use Rattle.refutation_terms.specs.Verdict.{Front, Start, Versioned, BeforeTurn, Reading, Cause, TurnCause, EndsEarly, IsRefused, IsRefusedLine, IsLeast, IsUnnamed}
+use Rattle.refutation_terms.specs.Verdict.{Front, Start, Versioned, BeforeTurn, Reading, Cause, TurnCause, TurnsTo, EndsEarly, IsRefused, IsRefusedLine, IsLeast, IsUnnamed}
 use Rattle.refutation_terms.proofs.Spelled.{symbol_of-name}
-use Rattle.refutation_log.specs.Refusals.{SpellsRules, SpellsThisTurn}
+use Rattle.refutation_log.specs.Refusals.{SpellsRules}
 use Rattle.refutation_checker.specs.Headers.{BeginsWithLine}
 use Rattle.refutation_checker.specs.Turns.{IsSoundTurn, TurnFault}
 use Rattle.refutation_checker.specs.ChunkVerdicts.{IsSoundHeader}
@@ -86,15 +86,15 @@ day_unnamed P R j k is none = (
   λ i h. (let same : i ≡ k = one_number P i k (TheRules.Day j) (h.1 ∙ ap Some h.2) is in omega (arith, same)),
 )
 
-pub turn_fits : (P : Instance) (line : List ℕ) (t : Turn) → SpellsThisTurn P line t → TurnFits P (Some t)
+pub turn_fits : (P : Instance) (line : List ℕ) (t : Turn) → TurnsTo P line t.day t.x → TurnFits P (Some t)
 turn_fits P line t h = (h.1.1, (symbol_of-name P h.0 t.x h.2).0)
 
-pub turn_stands : (P : Instance) (R line : List ℕ) (t : Turn) → AreRules P R → SpellsThisTurn P line t → IsSoundTurn P R (Some t) → IsSoundHeader P R (Some t) × (line ≡ turn_text (name_of P t.x) t.day)
+pub turn_stands : (P : Instance) (R line : List ℕ) (t : Turn) → AreRules P R → TurnsTo P line t.day t.x → IsSoundTurn P R (Some t) → IsSoundHeader P R (Some t) × (line ≡ turn_text (name_of P t.x) t.day)
 turn_stands P R line t are h ok =
     let n = symbol_of-name P h.0 t.x h.2 in
     (record { rules = are; fits = (h.1.1, n.0); allowed = ok.allowed; cited = ok.named_day }, h.1.2 ∙ ap (λ name. turn_text name t.day) (sym n.1))
 
-pub turn_at_fault : (P : Instance) (R line : List ℕ) (t : Turn) (why : LogRefusal) → SpellsThisTurn P line t → TurnFault P R t why → TurnCause P R line why
+pub turn_at_fault : (P : Instance) (R line : List ℕ) (t : Turn) (why : LogRefusal) → TurnsTo P line t.day t.x → TurnFault P R t why → TurnCause P R line why
 turn_at_fault P R line t (Refusals.Form i) h f = absurd f
 turn_at_fault P R line t (Refusals.Name i) h f = absurd f
 turn_at_fault P R line t (Refusals.Unnamed i k) h f = (f.0, (t.day, t.x, h, f.1))

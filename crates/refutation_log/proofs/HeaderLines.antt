@@ -6,9 +6,9 @@ use Rattle.refutation_terms.specs.declared.lines.Turn.{Turn}
 use Rattle.refutation_terms.specs.declared.lines.LogRefusal.TheVariants as Refusals
 use Rattle.refutation_terms.specs.Log.{AreRules, TurnFits}
 use Rattle.refutation_terms.specs.LogText.{version_text, rules_text, turn_text}
-use Rattle.refutation_terms.specs.Verdict.{Versioned, BeforeTurn, IsNextLine}
+use Rattle.refutation_terms.specs.Verdict.{Versioned, BeforeTurn, IsNextLine, TurnsTo}
 use Rattle.refutation_terms.proofs.Spelled.{symbol_of-name}
-use Rattle.refutation_log.specs.Refusals.{SpellsRules, SpellsThisTurn, IsTurnRefused}
+use Rattle.refutation_log.specs.Refusals.{SpellsRules, IsTurnRefused}
 use Rattle.refutation_log.specs.declared.refusal.LineRefusal.TheVariants.{Form, Name}
 use Rattle.refutation_log.specs.ReadLog.{EndsUnread, IsUnreadLine}
 
@@ -64,7 +64,7 @@ turn_unread_name P R old bytes rest are e next h = record {
   by_reading = tt;
 }
 
-pub turn_spelled : (P : Instance) (bytes old rest : List ℕ) (t : Turn) → old ≡ bytes ++ rest → SpellsThisTurn P bytes t → TurnFits P (Some t) × (old ≡ turn_text (name_of P t.x) t.day ++ rest)
+pub turn_spelled : (P : Instance) (bytes old rest : List ℕ) (t : Turn) → old ≡ bytes ++ rest → TurnsTo P bytes t.day t.x → TurnFits P (Some t) × (old ≡ turn_text (name_of P t.x) t.day ++ rest)
 turn_spelled P bytes old rest t e h =
     let n = symbol_of-name P h.0 t.x h.2 in
     ((h.1.1, n.0), e ∙ ap (λ b. b ++ rest) (h.1.2 ∙ ap (λ name. turn_text name t.day) (sym n.1)))

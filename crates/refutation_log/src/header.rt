@@ -1,8 +1,8 @@
 // The header of a log's text: its version, the rules that it names, and its turn.
 ghost use Rattle.std.specs.Prelude.{◌≡◌, ◌≤◌, Option, Some, None, IfOk, MatchOption, MatchResult};
-ghost use Rattle.refutation_terms.specs.Verdict.{header_lines};
+ghost use Rattle.refutation_terms.specs.Verdict.{header_lines, TurnsTo};
 ghost use Rattle.refutation_log.specs.FieldList.{fields_of};
-ghost use Rattle.refutation_log.specs.Refusals.{SpellsVersion, SpellsRules, SpellsThisTurn, IsTurnRefused};
+ghost use Rattle.refutation_log.specs.Refusals.{SpellsVersion, SpellsRules, IsTurnRefused};
 ghost use Rattle.refutation_log.specs.Reading.{named_at, turn_at};
 
 use crate::LineRefusal;
@@ -70,7 +70,7 @@ fn rules_of(alloc: Global, problem: &Problem, body: &[u8]) -> Result<Option<Rule
 
 /// The turn that the third line spells.
 pub fn read_turn(problem: &Problem, bytes: &[u8]) -> Result<Turn, LineRefusal>
-    ensures { MatchResult result (SpellsThisTurn problem.now bytes.now) (IsTurnRefused problem.now bytes.now) }
+    ensures { MatchResult result (λ t. TurnsTo problem.now bytes.now t.day t.x) (IsTurnRefused problem.now bytes.now) }
 {
     problem.keeps_limits();
     let Some(body) = body_of(bytes) else {
