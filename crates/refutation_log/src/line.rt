@@ -1,6 +1,7 @@
 // Lines of a log's text, read by their fields.
 ghost use Rattle.std.specs.Prelude.{◌≡◌, ◌≢◌, ◌<◌, ◌≤◌, ◌≤ℤ◌, ◌++◌, ◌∷◌, ℕ, List, [], length, Option, Some, None, MatchOption, IfOk, IfSome, OnOk, pos, negsuc, All};
 ghost use Rattle.std.specs.List.Sorted.{IsStrictlyIncreasing};
+ghost use Rattle.rwsp_terms.specs.Instance.{Instance};
 ghost use Rattle.rwsp_terms.specs.Rules.{rules};
 ghost use Rattle.rwsp_model.specs.Refusals.{MatchAnswer};
 ghost use Rattle.refutation_terms.specs.LogText.{RawSplit, RawWindow, RawDay};
@@ -59,16 +60,15 @@ fn read_body(alloc: Global, problem: &Problem, body: &[u8]) -> Result<Line, Fail
     } else if word == b"bound".as_slice() {
         read_bound(alloc, problem, &mut fields)
     } else if word == b"open".as_slice() {
-        read_open(problem, &fields)
+        read_open(&fields)
     } else {
         Err(FORM)
     }
 }
 
-fn read_open(problem: &Problem, fields: &Fields) -> Result<Line, Fail<LineRefusal>>
-    ensures { Answers problem.now (open_at fields.now) result }
+fn read_open(fields: &Fields) -> Result<Line, Fail<LineRefusal>>
+    ensures { (P : Instance) → Answers P (open_at fields.now) result }
 {
-    let _ = problem;
     if fields.is_done() {
         Ok(Line::Unfinished)
     } else {
@@ -181,7 +181,6 @@ pub fn rule_numbers(
 }
 
 // Puts a number behind all others.
-
 fn put_behind(list: &mut RuleList, n: u32) -> Result<(), AllocError>
     requires ascends { IsStrictlyIncreasing list.old }
     requires last { All (λ k. k < n) list.old }
