@@ -65,5 +65,6 @@ abbrev pub open_after : ℕ → Line → ℕ
 open_after n (Split p x) = n + 1
 open_after n leaf = n - 1
 
+-- the log of these rules, this turn and these lines
 abbrev pub log_with : List ℕ → Option Turn → List Line → Log
 log_with named turn lines = record { named = named; turn = turn; lines = lines }

@@ -8,7 +8,8 @@ ghost use Rattle.refutation_terms.specs.LogText.{RawSplit, RawWindow, RawDay};
 ghost use Rattle.refutation_terms.specs.Verdict.{Spells};
 ghost use Rattle.refutation_log.specs.FieldList.{fields_of};
 ghost use Rattle.refutation_log.specs.Refusals.{IsLineRefused};
-ghost use Rattle.refutation_log.specs.Reading.{split_at, window_at, day_at, head_at, rules_at, dead_at, weight_in, weights_at, bound_at, open_at, raw_at, Reads, Answers, GivesAll, most_turns, IsBound, IsValue};
+ghost use Rattle.refutation_log.specs.Reading.{split_at, window_at, day_at, head_at, rules_at, dead_at, weight_in, weights_at, bound_at, open_at, raw_at, Reads, Answers, most_turns, IsValue};
+ghost use Rattle.refutation_log.specs.Gathering.{GivesAll, IsBound};
 
 use crate::LineRefusal;
 use crate::fields::Fields;
