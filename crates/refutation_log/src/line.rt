@@ -1,14 +1,13 @@
 // Lines of a log's text, read by their fields.
 ghost use Rattle.std.specs.Prelude.{◌≡◌, ◌≢◌, ◌<◌, ◌≤◌, ◌≤ℤ◌, ◌++◌, ◌∷◌, ℕ, List, [], length, Option, Some, None, MatchOption, IfOk, IfSome, OnOk, pos, negsuc, All};
 ghost use Rattle.std.specs.List.Sorted.{IsStrictlyIncreasing};
-ghost use Rattle.rwsp_terms.specs.Instance.{Instance};
 ghost use Rattle.rwsp_terms.specs.Rules.{rules};
 ghost use Rattle.rwsp_model.specs.Refusals.{MatchAnswer};
 ghost use Rattle.refutation_terms.specs.LogText.{RawSplit, RawWindow, RawDay};
 ghost use Rattle.refutation_terms.specs.Verdict.{Spells};
 ghost use Rattle.refutation_log.specs.FieldList.{fields_of};
 ghost use Rattle.refutation_log.specs.Refusals.{IsLineRefused};
-ghost use Rattle.refutation_log.specs.Reading.{split_at, window_at, day_at, head_at, rules_at, dead_at, weight_in, weights_at, bound_at, open_at, raw_at, Reads, Answers, most_turns, IsValue};
+ghost use Rattle.refutation_log.specs.Reading.{split_at, window_at, day_at, head_at, rules_at, dead_at, weight_in, weights_at, bound_at, raw_at, Reads, Answers, most_turns, IsValue};
 ghost use Rattle.refutation_log.specs.Gathering.{GivesAll, IsBound};
 
 use crate::LineRefusal;
@@ -60,17 +59,7 @@ fn read_body(alloc: Global, problem: &Problem, body: &[u8]) -> Result<Line, Fail
         read_dead(alloc, problem, &mut fields)
     } else if word == b"bound".as_slice() {
         read_bound(alloc, problem, &mut fields)
-    } else if word == b"open".as_slice() {
-        read_open(&fields)
-    } else {
-        Err(FORM)
-    }
-}
-
-fn read_open(fields: &Fields) -> Result<Line, Fail<LineRefusal>>
-    ensures { (P : Instance) → Answers P (open_at fields.now) result }
-{
-    if fields.is_done() {
+    } else if word == b"open".as_slice() && fields.is_done() {
         Ok(Line::Unfinished)
     } else {
         Err(FORM)
