@@ -16,7 +16,7 @@ ghost use Rattle.refutation_checker.specs.LineTexts.{IsLineRead, IsSpellingRefus
 
 use crate::bound::bound_escape;
 use crate::kept_tails::tails_of;
-use crate::plain_refusal;
+use crate::plain::plain_refusal;
 use domain_store::Domains;
 use layered_cycle::escape;
 use refutation_log::{LineRefusal, read_line};
@@ -89,7 +89,7 @@ impl<'a> Judge<'a> {
 
     /// Judges the next line of a tree, line `number` of all, under the domains of the walk: None
     /// where it has no cause, and then the walk has read it.
-    pub(crate) fn pass(
+    pub fn pass(
         &mut self,
         alloc: Global,
         walk: &mut Walk,

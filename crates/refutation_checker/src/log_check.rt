@@ -7,7 +7,7 @@ ghost use Rattle.refutation_terms.specs.LogText.{log_text};
 ghost use Rattle.refutation_terms.specs.Verdict.{IsRefused};
 ghost use Rattle.refutation_checker.specs.LogVerdicts.{AreSound, IsPassed, IsRefusedAt};
 
-use crate::Judge;
+use crate::judge::Judge;
 use crate::turn::turn_refusal;
 use refutation_log::{Log, lines_of_header};
 use refutation_terms::LogRefusal;
