@@ -44,11 +44,11 @@ sound_so_far P R turn text body lines header sound = record {
     fits = record { named = header.read.rules; turn = header.read.fits; lines = λ k line e. (sound_at P R turn [] lines sound k line e).fits };
     turn = header.sound.allowed;
     turn_named = header.sound.named_day;
-    named = λ k line r e. (sound_at P R turn [] lines sound k line e).named_all r;
-    short = λ k line e. (sound_at P R turn [] lines sound k line e).short;
+    named = λ k line r e. (sound_at P R turn [] lines sound k line e).sound.named_all r;
+    short = λ k line e. (sound_at P R turn [] lines sound k line e).sound.short;
   };
   holds = λ k line e.
-      subst (λ ls. Holds P (λ p z. opening P turn p z && lines_leave ls p z) line) (take_all (length (take k lines)) (take k lines) (omega arith)) (sound_at P R turn [] lines sound k line e).holds;
+      subst (λ ls. Holds P (λ p z. opening P turn p z && lines_leave ls p z) line) (take_all (length (take k lines)) (take k lines) (omega arith)) (sound_at P R turn [] lines sound k line e).sound.holds;
   in_tree = λ k less.
       (sound_at P R turn [] lines sound k (get_or lines k Unfinished) (slice_get-get_or lines k Unfinished less)).in_tree;
 }
