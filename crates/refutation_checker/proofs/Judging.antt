@@ -122,7 +122,7 @@ passed_read P named turn lines bytes line number w None spelled part is h =
     record {
       line = line;
       spelled = fit.1;
-      sound = record { in_tree = part; fits = fit.0; holds = h.0.holds; named_all = h.0.named_all; short = h.0.short };
+      sound = record { in_tree = part; fits = fit.0; sound = h.0 };
       walked = h.1;
     }
 passed_read P named turn lines bytes line number w (Some why) spelled part is h =

@@ -203,40 +203,40 @@ refused_at P g i Refusals.Ends limits fits tree turn at = absurd at.cause
 refused_at P g i (Refusals.Extra n) limits fits tree turn at = refused_line P g i (Refusals.Extra n) limits fits tree turn at
 refused_at P g i (Refusals.Turn n) limits fits tree turn at = refused_line P g i (Refusals.Turn n) limits fits tree turn at
 
-turn_line : (P : Instance) (named : List ℕ) (t : Turn) (lines : List Line) (why : LogRefusal) → KeepsLimits P → AreRules P named → TurnFits P (Some t) → TurnCause P named (turn_text (name_of P t.x) t.day) why → IsRefusedLine P (log_text P (log_with named (Some t) lines)) why
-turn_line P named t lines why limits are fits cause =
+turn_line : (P : Instance) (named : List ℕ) (t : Turn) (rest : List ℕ) (why : LogRefusal) → KeepsLimits P → AreRules P named → TurnFits P (Some t) → TurnCause P named (turn_text (name_of P t.x) t.day) why → IsRefusedLine P (header_text P named (Some t) ++ rest) why
+turn_line P named t rest why limits are fits cause =
     let name = name_of P t.x in
     let words : List (List ℕ) = codes "turn" ∷ name ∷ decimal t.day ∷ [] in
     record {
       front = BeforeTurn named;
       line = turn_text name t.day;
-      rest = lines_text P lines;
+      rest = rest;
       no_cause = are;
       whole = refl;
       is_line = inl (join_with_byte 32 words, feedless_words words (turn_visible P name t.day (small_from P limits) (name_there P t.x.number limits fits.1) fits.0), refl);
       cause = cause;
     }
 
-turn_fault_refused : (P : Instance) (named : List ℕ) (t : Turn) (lines : List Line) (why : LogRefusal) → KeepsLimits P → AreRules P named → TurnFits P (Some t) → TurnFault P named t why → IsRefused P (log_text P (log_with named (Some t) lines)) why
-turn_fault_refused P named t lines (Refusals.Form n) limits are fits h = absurd h
-turn_fault_refused P named t lines (Refusals.Name n) limits are fits h = absurd h
-turn_fault_refused P named t lines (Refusals.Unnamed n k) limits are fits h =
-    turn_line P named t lines (Refusals.Unnamed n k) limits are fits
+turn_fault_refused : (P : Instance) (named : List ℕ) (t : Turn) (rest : List ℕ) (why : LogRefusal) → KeepsLimits P → AreRules P named → TurnFits P (Some t) → TurnFault P named t why → IsRefused P (header_text P named (Some t) ++ rest) why
+turn_fault_refused P named t rest (Refusals.Form n) limits are fits h = absurd h
+turn_fault_refused P named t rest (Refusals.Name n) limits are fits h = absurd h
+turn_fault_refused P named t rest (Refusals.Unnamed n k) limits are fits h =
+    turn_line P named t rest (Refusals.Unnamed n k) limits are fits
     (h.0, (t.day, t.x, (name_of P t.x, (name_there P t.x.number limits fits.1, fits.0, refl), symbol_named P t.x limits fits.1), h.1))
-turn_fault_refused P named t lines (Refusals.Idle n) limits are fits h = absurd h
-turn_fault_refused P named t lines (Refusals.Long n k) limits are fits h = absurd h
-turn_fault_refused P named t lines (Refusals.Fails n) limits are fits h = absurd h
-turn_fault_refused P named t lines (Refusals.Escape n w) limits are fits h = absurd h
-turn_fault_refused P named t lines (Refusals.Unfinished n) limits are fits h = absurd h
-turn_fault_refused P named t lines Refusals.Ends limits are fits h = absurd h
-turn_fault_refused P named t lines (Refusals.Extra n) limits are fits h = absurd h
-turn_fault_refused P named t lines (Refusals.Turn n) limits are fits h =
-    turn_line P named t lines (Refusals.Turn n) limits are fits
+turn_fault_refused P named t rest (Refusals.Idle n) limits are fits h = absurd h
+turn_fault_refused P named t rest (Refusals.Long n k) limits are fits h = absurd h
+turn_fault_refused P named t rest (Refusals.Fails n) limits are fits h = absurd h
+turn_fault_refused P named t rest (Refusals.Escape n w) limits are fits h = absurd h
+turn_fault_refused P named t rest (Refusals.Unfinished n) limits are fits h = absurd h
+turn_fault_refused P named t rest Refusals.Ends limits are fits h = absurd h
+turn_fault_refused P named t rest (Refusals.Extra n) limits are fits h = absurd h
+turn_fault_refused P named t rest (Refusals.Turn n) limits are fits h =
+    turn_line P named t rest (Refusals.Turn n) limits are fits
     (h.0, (t.day, t.x, (name_of P t.x, (name_there P t.x.number limits fits.1, fits.0, refl), symbol_named P t.x limits fits.1), h.1, h.2))
 
-pub turn_refused : (P : Instance) (named : List ℕ) (turn : Option Turn) (lines : List Line) (why : LogRefusal) → KeepsLimits P → AreRules P named → TurnFits P turn → IsTurnFault P named turn why → IsRefused P (log_text P (log_with named turn lines)) why
-turn_refused P named None lines why limits are fits h = absurd h
-turn_refused P named (Some t) lines why limits are fits h = turn_fault_refused P named t lines why limits are fits h
+pub turn_refused : (P : Instance) (named : List ℕ) (turn : Option Turn) (rest : List ℕ) (why : LogRefusal) → KeepsLimits P → AreRules P named → TurnFits P turn → IsTurnFault P named turn why → IsRefused P (header_text P named turn ++ rest) why
+turn_refused P named None rest why limits are fits h = absurd h
+turn_refused P named (Some t) rest why limits are fits h = turn_fault_refused P named t rest why limits are fits h
 
 -- what the judging of all lines found
 pub tree_judged : (P : Instance) (g : Log) (answer : Result (Option LogRefusal) AllocError) → KeepsLimits P → Fits P g → IsTree g.lines → IsSoundTurn P g.named g.turn

@@ -18,7 +18,7 @@ use Rattle.refutation_log.specs.Printing.{lines_text}
 use Rattle.refutation_log.specs.ReadLog.{log_with}
 use Rattle.refutation_checker.specs.Headers.{HasHeader}
 use Rattle.refutation_checker.specs.LineTexts.{IsSoundNext}
-use Rattle.refutation_checker.specs.ChunkVerdicts.{IsSoundHeader, AreSoundBehind, AreAllSound, IsRefusedBehind}
+use Rattle.refutation_checker.specs.ChunkVerdicts.{AreSoundBehind, AreAllSound, IsRefusedBehind}
 use Rattle.refutation_checker.proofs.HeaderFaults.{refused_at_line}
 
 pub lines_joined : (P : Instance) (a b : List Line) → lines_text P (a ++ b) ≡ lines_text P a ++ lines_text P b
@@ -38,17 +38,17 @@ sound_at P R turn earlier (l ∷ lines) h zero line e =
 sound_at P R turn earlier (l ∷ lines) h (suc k) line e =
     subst (λ ls. IsSoundNext P R turn ls line) (append_assoc earlier (l ∷ []) (take k lines)) (sound_at P R turn (earlier ++ l ∷ []) lines h.1 k line e)
 
-pub sound_so_far : (P : Instance) (R : List ℕ) (turn : Option Turn) (lines : List Line) → IsSoundHeader P R turn → AreSoundBehind P R turn [] lines → IsSoundSoFar P (log_with R turn lines)
-sound_so_far P R turn lines header sound = record {
+pub sound_so_far : (P : Instance) (R : List ℕ) (turn : Option Turn) (text body : List ℕ) (lines : List Line) → HasHeader P text R turn body → AreSoundBehind P R turn [] lines → IsSoundSoFar P (log_with R turn lines)
+sound_so_far P R turn text body lines header sound = record {
   grounded = record {
-    fits = record { named = header.rules; turn = header.fits; lines = λ k line e. (sound_at P R turn [] lines sound k line e).fits };
-    turn = header.allowed;
-    turn_named = header.cited;
-    named = λ k line r e. (sound_at P R turn [] lines sound k line e).named_all r;
-    short = λ k line e. (sound_at P R turn [] lines sound k line e).short;
+    fits = record { named = header.read.rules; turn = header.read.fits; lines = λ k line e. (sound_at P R turn [] lines sound k line e).fits };
+    turn = header.sound.allowed;
+    turn_named = header.sound.named_day;
+    named = λ k line r e. (sound_at P R turn [] lines sound k line e).sound.named_all r;
+    short = λ k line e. (sound_at P R turn [] lines sound k line e).sound.short;
   };
   holds = λ k line e.
-      subst (λ ls. Holds P (λ p z. opening P turn p z && lines_leave ls p z) line) (take_all (length (take k lines)) (take k lines) (omega arith)) (sound_at P R turn [] lines sound k line e).holds;
+      subst (λ ls. Holds P (λ p z. opening P turn p z && lines_leave ls p z) line) (take_all (length (take k lines)) (take k lines) (omega arith)) (sound_at P R turn [] lines sound k line e).sound.holds;
   in_tree = λ k less.
       (sound_at P R turn [] lines sound k (get_or lines k Unfinished) (slice_get-get_or lines k Unfinished less)).in_tree;
 }
@@ -56,20 +56,20 @@ sound_so_far P R turn lines header sound = record {
 -- the bytes of a body behind its header
 text_of_log : (P : Instance) (R text body more : List ℕ) (turn : Option Turn) (lines : List Line) → HasHeader P text R turn body → body ≡ lines_text P lines ++ more → text ≡ log_text P (log_with R turn lines) ++ more
 text_of_log P R text body more turn lines h e =
-    h.whole ∙ ap (λ t. header_text P R turn ++ t) e ∙ sym (append_assoc (header_text P R turn) (lines_text P lines) more)
+    h.read.whole ∙ ap (λ t. header_text P R turn ++ t) e ∙ sym (append_assoc (header_text P R turn) (lines_text P lines) more)
 
 text_of_all : (P : Instance) (R text body : List ℕ) (turn : Option Turn) (lines : List Line) → HasHeader P text R turn body → body ≡ lines_text P lines → text ≡ log_text P (log_with R turn lines)
-text_of_all P R text body turn lines h e = h.whole ∙ ap (λ t. header_text P R turn ++ t) e
+text_of_all P R text body turn lines h e = h.read.whole ∙ ap (λ t. header_text P R turn ++ t) e
 
 pub accepted : (P : Instance) (R text body : List ℕ) (turn : Option Turn) → HasHeader P text R turn body → AreAllSound P R turn [] body true → (g : Log) × IsAccepted P text g × (g.named ≡ R)
 accepted P R text body turn h all =
-    let so = sound_so_far P R turn all.lines h.sound all.sound in
+    let so = sound_so_far P R turn text body all.lines h all.sound in
     (log_with R turn all.lines, (text_of_all P R text body turn all.lines h all.text, record { grounded = so.grounded; tree = all.tree.0 refl; holds = so.holds }), refl)
 
 pub ends : (P : Instance) (R text body : List ℕ) (turn : Option Turn) → HasHeader P text R turn body → AreAllSound P R turn [] body false → EndsEarly P text
 ends P R text body turn h all = record {
   front = Reading (log_with R turn all.lines);
-  no_cause = sound_so_far P R turn all.lines h.sound all.sound;
+  no_cause = sound_so_far P R turn text body all.lines h all.sound;
   whole = text_of_all P R text body turn all.lines h all.text;
   not_whole = λ tree. (let t : IsTrue false = all.tree.1 tree in cc);
 }
@@ -81,7 +81,7 @@ refused P R text body turn why h r =
       front = Reading (log_with R turn r.lines);
       line = r.line;
       rest = r.rest;
-      no_cause = sound_so_far P R turn r.lines h.sound r.sound;
+      no_cause = sound_so_far P R turn text body r.lines h r.sound;
       whole =
           text_of_log P R text body (r.line ++ r.rest) turn r.lines h (r.text ∙ append_assoc (lines_text P r.lines) r.line r.rest)
           ∙ sym (append_assoc (log_text P (log_with R turn r.lines)) r.line r.rest);

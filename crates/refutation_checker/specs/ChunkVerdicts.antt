@@ -1,27 +1,17 @@
 -- Lines that are judged behind other lines, and the answer to the bytes of such lines.
 use Rattle.std.specs.Prelude.{◌≡◌, ◌↔◌, ℕ, ◌+◌, List, [], ◌∷◌, ◌++◌, length, Option, Bool, IsTrue, Result}
-use Rattle.rwsp_terms.specs.declared.data.Rule.{Rule}
 use Rattle.rwsp_terms.specs.Instance.{Instance}
-use Rattle.rwsp_terms.specs.Rules.{Names}
 use Rattle.rwsp_model.specs.Refusals.{MatchAnswer}
 use Rattle.rwsp_model.specs.declared.fail.Fail.{Fail}
 use Rattle.refutation_terms.specs.declared.lines.Line.{Line}
 use Rattle.refutation_terms.specs.declared.lines.Turn.{Turn}
 use Rattle.refutation_terms.specs.declared.lines.LogRefusal.{LogRefusal}
 use Rattle.refutation_terms.specs.Tree.{IsTree}
-use Rattle.refutation_terms.specs.Log.{AreRules, TurnFits, TurnCites, IsAllowed}
 use Rattle.refutation_terms.specs.Verdict.{Cause, Reading, IsNextLine, header_lines}
 use Rattle.refutation_log.specs.Printing.{lines_text}
 use Rattle.refutation_log.specs.ReadLog.{log_with}
 use Rattle.tree_walk.specs.States.{State, IsStateOf}
 use Rattle.refutation_checker.specs.LineTexts.{IsSoundNext}
-
--- a header that is refused for no cause
-pub record IsSoundHeader (P : Instance) (named : List ℕ) (turn : Option Turn) : Type 0 where
-  pub rules : AreRules P named
-  pub fits : TurnFits P turn
-  pub allowed : IsAllowed P turn
-  pub cited : (r : Rule) → TurnCites turn r → Names P named r
 
 -- behind the earlier lines, none of the further lines is refused
 abbrev pub AreSoundBehind : Instance → List ℕ → Option Turn → List Line → List Line → Type 0

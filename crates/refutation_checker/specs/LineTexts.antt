@@ -1,12 +1,10 @@
 -- The lines of a log, judged one after the other.
 use Rattle.std.specs.Prelude.{◌≡◌, ℕ, ◌<◌, false, List, [], ◌∷◌, ◌++◌, length, Option}
-use Rattle.rwsp_terms.specs.declared.data.Rule.{Rule}
 use Rattle.rwsp_terms.specs.Instance.{Instance}
-use Rattle.rwsp_terms.specs.Rules.{Names}
 use Rattle.refutation_terms.specs.declared.lines.Line.{Line}
 use Rattle.refutation_terms.specs.declared.lines.Turn.{Turn}
 use Rattle.refutation_terms.specs.Tree.{IsTree, domains_at}
-use Rattle.refutation_terms.specs.Log.{Cites, Holds, LineFits, ListsShortOnly}
+use Rattle.refutation_terms.specs.Log.{LineFits}
 use Rattle.refutation_terms.specs.LogText.{raw, line_text}
 use Rattle.refutation_terms.specs.declared.lines.Line.TheVariants.{Split}
 use Rattle.refutation_terms.specs.declared.lines.LogRefusal.{LogRefusal}
@@ -16,6 +14,7 @@ use Rattle.refutation_log.specs.declared.refusal.LineRefusal.TheVariants as Line
 use Rattle.domain_store.specs.Store.{Store}
 use Rattle.tree_walk.specs.Splits.{is_idle_in}
 use Rattle.tree_walk.specs.States.{State, IsStateOf}
+use Rattle.refutation_checker.specs.LineVerdicts.{IsSound}
 
 -- the problem of a judge, and the rules that the header names
 pub record Judging : Type 0 where
@@ -26,9 +25,7 @@ pub record Judging : Type 0 where
 pub record IsSoundNext (P : Instance) (named : List ℕ) (turn : Option Turn) (lines : List Line) (line : Line) : Type 0 where
   pub in_tree : IsTree lines → ⊥
   pub fits : LineFits P line
-  pub holds : Holds P (domains_at P turn lines (length lines)) line
-  pub named_all : (r : Rule) → Cites P line r → Names P named r
-  pub short : ListsShortOnly P line
+  pub sound : IsSound P named (domains_at P turn lines (length lines)) line
 
 -- the bytes are the text of such a line, and the walk has read it
 pub record IsLineRead (P : Instance) (named : List ℕ) (turn : Option Turn) (lines : List Line) (bytes : List ℕ) (w : State) : Type 0 where

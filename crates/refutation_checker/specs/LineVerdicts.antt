@@ -1,5 +1,5 @@
 -- What can be judged of a line without searching for a word.
-use Rattle.std.specs.Prelude.{◌≡◌, ℕ, ◌*◌, List, true, pos, ◌*ℤ◌, ◌≤ℤ◌}
+use Rattle.std.specs.Prelude.{◌≡◌, ℕ, List, true, }
 use Rattle.rwsp_terms.specs.declared.data.Rule.{Rule}
 use Rattle.rwsp_terms.specs.declared.data.Symbol.{Symbol}
 use Rattle.rwsp_terms.specs.declared.data.Weight.{Weight}
@@ -51,10 +51,6 @@ abbrev pub IsPlainFailure : ℕ → Line → LogRefusal → Type 0
 IsPlainFailure n (Split p x) why = why ≡ Refusals.Idle n
 IsPlainFailure n Unfinished why = why ≡ Refusals.Unfinished n
 IsPlainFailure n line why = why ≡ Refusals.Fails n
-
--- the least of the heaviest clean words of so many turns, which weighs at least so many times the total
-abbrev pub EscapesBound : Instance → Domains → ℕ → ℕ → List ℕ → List Weight → List Symbol → Type 0
-EscapesBound P D p turns R y w = IsLeastHeaviest P D p (turns * cells P) R y w × ((pos turns *ℤ total P y) ≤ℤ weight P y p w)
 
 -- a dead or a bound leaf that holds. Nothing is said of other lines
 abbrev pub HoldsByWords : Instance → Domains → Line → Type 0

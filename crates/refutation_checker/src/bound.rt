@@ -1,9 +1,10 @@
 // The word that escapes a bound leaf.
 ghost use Rattle.std.specs.Prelude.{◌≡◌, ℕ, ◌*◌, ◌<◌, ◌≤◌, IsTrue, false, IfOk, MatchOption, pos, neg_ℤ, ◌*ℤ◌, ◌<ℤ◌, ◌≤ℤ◌};
 ghost use Rattle.rwsp_terms.specs.Instance.{cells};
+ghost use Rattle.refutation_terms.specs.declared.lines.Line.TheVariants.{Bound};
 ghost use Rattle.refutation_terms.specs.Leaf.{IsTooLight};
+ghost use Rattle.refutation_terms.specs.Verdict.{Escapes};
 ghost use Rattle.domain_store.specs.Store.{BelongsTo, has_domain};
-ghost use Rattle.refutation_checker.specs.LineVerdicts.{EscapesBound};
 
 use domain_store::Domains;
 use potential_bounds::{heaviest, total};
@@ -30,7 +31,7 @@ pub fn bound_escape(
     requires few { turns * cells problem.now ≤ 16800 }
     ensures { IfOk result (λ found. MatchOption found
         (IsTooLight problem.now (has_domain doms.now) p turns tails.now.rules weights.now)
-        (EscapesBound problem.now (has_domain doms.now) p turns tails.now.rules weights.now)) }
+        (Escapes problem.now (has_domain doms.now) (Bound p turns tails.now.rules weights.now))) }
 {
     problem.keeps_limits();
     let Some(heavy) = heaviest(alloc, problem, tails, doms, p, turns, weights)? else {

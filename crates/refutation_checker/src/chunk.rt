@@ -4,7 +4,7 @@ ghost use Rattle.refutation_terms.specs.declared.lines.Line.{Line};
 ghost use Rattle.refutation_terms.specs.declared.lines.Turn.{Turn};
 ghost use Rattle.refutation_checker.specs.ChunkVerdicts.{StandsBehind, IsJudged};
 
-use crate::Judge;
+use crate::judge::Judge;
 use refutation_log::LineReader;
 use refutation_terms::LogRefusal;
 use rwsp_model::{Fail, Problem, RuleList};

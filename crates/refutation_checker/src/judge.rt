@@ -3,6 +3,7 @@ ghost use Rattle.std.specs.Prelude.{◌≡◌, ℕ, ◌+◌, ◌*◌, ◌<◌, �
 ghost use Rattle.rwsp_terms.specs.Instance.{Instance, cells};
 ghost use Rattle.rwsp_terms.specs.Rules.{NamesShortOnly};
 ghost use Rattle.refutation_terms.specs.declared.lines.Line.{Line};
+ghost use Rattle.refutation_terms.specs.declared.lines.Line.TheVariants.{Bound};
 ghost use Rattle.refutation_terms.specs.declared.lines.Turn.{Turn};
 ghost use Rattle.refutation_terms.specs.Tree.{domains_at};
 ghost use Rattle.refutation_terms.specs.Leaf.{IsDead, IsTooLight};
@@ -11,12 +12,12 @@ ghost use Rattle.refutation_terms.specs.Log.{LineFits, ListsShortOnly};
 ghost use Rattle.refutation_terms.specs.Verdict.{Cause, Reading, Escapes, header_lines};
 ghost use Rattle.domain_store.specs.Store.{BelongsTo, has_domain};
 ghost use Rattle.tree_walk.specs.States.{IsStateOf};
-ghost use Rattle.refutation_checker.specs.LineVerdicts.{EscapesBound, HoldsByWords, IsSound, LineCause};
+ghost use Rattle.refutation_checker.specs.LineVerdicts.{HoldsByWords, IsSound, LineCause};
 ghost use Rattle.refutation_checker.specs.LineTexts.{IsLineRead, IsSpellingRefusal, MayStep};
 
 use crate::bound::bound_escape;
 use crate::kept_tails::tails_of;
-use crate::plain_refusal;
+use crate::plain::plain_refusal;
 use domain_store::Domains;
 use layered_cycle::escape;
 use refutation_log::{LineRefusal, read_line};
@@ -89,7 +90,7 @@ impl<'a> Judge<'a> {
 
     /// Judges the next line of a tree, line `number` of all, under the domains of the walk: None
     /// where it has no cause, and then the walk has read it.
-    pub(crate) fn pass(
+    pub fn pass(
         &mut self,
         alloc: Global,
         walk: &mut Walk,
@@ -210,7 +211,7 @@ impl<'a> Judge<'a> {
         ensures same { self.new ≡ self.old }
         ensures escape { IfOk result (λ found. MatchOption found
             (IsTooLight self.old.problem (has_domain doms.now) p turns rules.now weights.now)
-            (EscapesBound self.old.problem (has_domain doms.now) p turns rules.now weights.now)) }
+            (Escapes self.old.problem (has_domain doms.now) (Bound p turns rules.now weights.now))) }
     {
         let tails = tails_of(alloc, self.problem, self.tails.take(), rules)?;
         let found = bound_escape(alloc, self.problem, &tails, doms, p, turns, weights)?;

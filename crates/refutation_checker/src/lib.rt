@@ -17,10 +17,6 @@ mod turn;
 mod verdict;
 mod workers;
 
-pub use judge::Judge;
 pub use log_check::check_log;
-pub use long::long_rule;
-pub use named::unnamed;
-pub use plain::plain_refusal;
 pub use potential_bounds::{Gate, NoGate};
 pub use verdict::{check, check_with};

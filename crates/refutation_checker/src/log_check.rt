@@ -2,17 +2,16 @@
 ghost use Rattle.std.specs.Prelude.{◌≡◌, ℕ, ◌+◌, ◌<◌, ◌≤◌, length, IfOk, MatchOption};
 ghost use Rattle.rwsp_model.specs.Refusals.{MatchAnswer};
 ghost use Rattle.refutation_terms.specs.Tree.{IsTree};
-ghost use Rattle.refutation_terms.specs.Log.{Fits, TurnFits, Passes};
+ghost use Rattle.refutation_terms.specs.Log.{Fits, Passes};
 ghost use Rattle.refutation_terms.specs.LogText.{log_text};
 ghost use Rattle.refutation_terms.specs.Verdict.{IsRefused};
 ghost use Rattle.refutation_checker.specs.LogVerdicts.{AreSound, IsPassed, IsRefusedAt};
-ghost use Rattle.refutation_checker.specs.Turns.{IsSoundTurn, IsTurnFault};
 
-use crate::Judge;
-use crate::turn::turn_fault;
+use crate::judge::Judge;
+use crate::turn::turn_refusal;
 use refutation_log::{Log, lines_of_header};
-use refutation_terms::{LogRefusal, Turn};
-use rwsp_model::{Fail, Problem, RuleList};
+use refutation_terms::LogRefusal;
+use rwsp_model::{Fail, Problem};
 use std::alloc::{AllocError, Global};
 use tree_walk::Walk;
 
@@ -42,17 +41,6 @@ fn log_refusal(
         return Ok(Some(why));
     }
     tree_refusal(alloc, problem, log)
-}
-
-// The cause of a turn, whose line is the third.
-fn turn_refusal(problem: &Problem, named: &RuleList, turn: Option<Turn>) -> Option<LogRefusal>
-    requires { TurnFits problem.now turn }
-    ensures { MatchOption result (IsSoundTurn problem.now named.now turn) (IsTurnFault problem.now named.now turn) }
-{
-    match turn {
-        Some(turn) => turn_fault(problem, named, turn),
-        None => None,
-    }
 }
 
 // The cause of the first line of the tree that has one.

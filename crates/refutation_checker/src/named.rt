@@ -1,9 +1,8 @@
 // The rules that a line cites and the header doesn't name.
 ghost use Rattle.std.specs.Prelude.{◌≡◌, ℕ, ◌≤◌, ◌<◌, ◌+◌, IfOk, MatchOption};
-ghost use Rattle.rwsp_terms.specs.Rules.{Names};
-ghost use Rattle.rwsp_terms.specs.declared.data.Rule.{Rule};
 ghost use Rattle.refutation_terms.specs.Log.{Cites, LineFits};
 ghost use Rattle.refutation_terms.specs.Verdict.{IsLeast, IsUnnamed};
+ghost use Rattle.refutation_checker.specs.LineVerdicts.{NamesCited};
 ghost use Rattle.refutation_checker.specs.Outside.{IsOutside, HoldsUpTo};
 
 use refutation_log::put_cited;
@@ -34,7 +33,7 @@ pub fn unnamed(
 ) -> Result<Option<u32>, AllocError>
     requires { LineFits problem.now line.now }
     ensures { IfOk result (λ found. MatchOption found
-        ((r : Rule) → Cites problem.now line.now r → Names problem.now named.now r)
+        (NamesCited problem.now named.now line.now)
         (λ k. IsLeast (IsUnnamed problem.now named.now (Cites problem.now line.now)) k)) }
 {
     let mut cited = RuleList::new(alloc);

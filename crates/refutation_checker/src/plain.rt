@@ -5,7 +5,8 @@ ghost use Rattle.refutation_terms.specs.Tree.{is_idle};
 ghost use Rattle.domain_store.specs.Store.{BelongsTo, has_domain};
 ghost use Rattle.refutation_checker.specs.LineVerdicts.{StandsPlainly, IsPlainlySound, IsPlainFailure, PlainCause};
 
-use crate::{long_rule, unnamed};
+use crate::long::long_rule;
+use crate::named::unnamed;
 use domain_store::Domains;
 use plain_leaves::{day_holds, window_holds};
 use refutation_terms::{Line, LogRefusal};

@@ -1,14 +1,14 @@
 // The turn of a header, judged.
 ghost use Rattle.std.specs.Prelude.{◌≡◌, ◌≤◌, Some, MatchOption};
 ghost use Rattle.refutation_terms.specs.Log.{TurnFits};
-ghost use Rattle.refutation_checker.specs.Turns.{IsSoundTurn, TurnFault};
+ghost use Rattle.refutation_checker.specs.Turns.{IsSoundTurn, TurnFault, IsTurnFault};
 
 use refutation_terms::{LogRefusal, Turn};
 use rwsp_model::{Problem, Rule, RuleList, number_of};
 
-/// Why the turn of line 3 is refused: the rule of its day isn't named, or no week must hold its
-/// symbol then.
-pub fn turn_fault(problem: &Problem, named: &RuleList, turn: Turn) -> Option<LogRefusal>
+// Why the turn of line 3 is refused: the rule of its day isn't named, or no week must hold its
+// symbol then.
+fn turn_fault(problem: &Problem, named: &RuleList, turn: Turn) -> Option<LogRefusal>
     requires { TurnFits problem.now (Some turn) }
     ensures { MatchOption result (IsSoundTurn problem.now named.now (Some turn)) (TurnFault problem.now named.now turn) }
 {
@@ -20,4 +20,15 @@ pub fn turn_fault(problem: &Problem, named: &RuleList, turn: Turn) -> Option<Log
         return Some(LogRefusal::Turn(3));
     }
     None
+}
+
+/// The cause of a turn, whose line is the third; None where there is none, and for no turn.
+pub fn turn_refusal(problem: &Problem, named: &RuleList, turn: Option<Turn>) -> Option<LogRefusal>
+    requires { TurnFits problem.now turn }
+    ensures { MatchOption result (IsSoundTurn problem.now named.now turn) (IsTurnFault problem.now named.now turn) }
+{
+    match turn {
+        Some(turn) => turn_fault(problem, named, turn),
+        None => None,
+    }
 }

@@ -6,10 +6,10 @@ ghost use Rattle.refutation_terms.specs.Verdict.{IsAccepted, IsRefused};
 ghost use Rattle.refutation_checker.specs.ChunkVerdicts.{StandsBehind, IsJudged};
 
 use crate::chunk::{Chunk, judge_chunk};
-use crate::header::{Header, judge_header};
+use crate::header::judge_header;
 use crate::workers::judge_by_workers;
 use potential_bounds::Gate;
-use refutation_log::lines_of_header;
+use refutation_log::{Header, lines_of_header};
 use refutation_terms::LogRefusal;
 use rwsp_model::{Fail, Problem, RuleList};
 use std::alloc::{AllocError, Global};

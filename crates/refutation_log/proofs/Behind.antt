@@ -14,7 +14,8 @@ use Rattle.rwsp_terms.specs.Weights.{ComesBefore, weight_at, AreWeights, IsWeigh
 use Rattle.rwsp_terms.specs.Places.{is_at, SetsWeight}
 use Rattle.rwsp_terms.proofs.Ascending.{increasing_from_pairs, weight_past, weight_first, test_from_here, here_from_test}
 use Rattle.rwsp_terms.proofs.SameLists.{same_rule_lists, same_weights, before_all}
-use Rattle.refutation_log.specs.Reading.{precedes, precedes_if, last_precedes, weight_of, IsValue}
+use Rattle.refutation_log.specs.Reading.{IsValue}
+use Rattle.refutation_log.specs.Gathering.{precedes, precedes_if, last_precedes, weight_of}
 use Rattle.refutation_log.proofs.CitedRules.{not_here}
 
 pub number_behind : (old new : List ℕ) (n : ℕ) → IsStrictlyIncreasing old → All (λ k. k < n) old → IsStrictlyIncreasing new → ((k : ℕ) → Contains new k ↔ (Contains old k ⊎ (k ≡ n))) → new ≡ old ++ n ∷ []

@@ -11,7 +11,8 @@ use Rattle.refutation_terms.specs.LogText.{RawBound, NamedWeight}
 use Rattle.refutation_log.specs.declared.refusal.LineRefusal.{LineRefusal}
 use Rattle.refutation_log.specs.declared.gather.Gathered.{Gathered}
 use Rattle.refutation_log.specs.declared.gather.Gathered.TheVariants.{Rising, Falling, Unknown}
-use Rattle.refutation_log.specs.Reading.{head_at, rules_at, word_at, weights_at, bound_at, most_turns, Answers, IsBound, Gives, GivesAll}
+use Rattle.refutation_log.specs.Reading.{head_at, rules_at, word_at, weights_at, bound_at, most_turns, Answers}
+use Rattle.refutation_log.specs.Gathering.{IsBound, Gives, GivesAll}
 
 read_bound : (P : Instance) (ws h r u : List (List ℕ)) (p turns : ℕ) (R : List ℕ) (y : List NamedWeight) → head_at P (most_turns P) ws ≡ Some ((p, turns), h) → rules_at P h ≡ (R, r) → word_at (codes "weights") r ≡ Some u → weights_at P u ≡ Some y → bound_at P ws ≡ Some (RawBound p turns R y)
 unfolding bound_at

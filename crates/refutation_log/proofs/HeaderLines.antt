@@ -1,70 +1,95 @@
 -- Why a text is refused at its header.
-use Rattle.std.proofs.Common.{◌≡◌, ℕ, List, [], ◌++◌, refl, ap, sym, ◌∙◌, append_assoc, Some, None, Bool, true}
+use Rattle.std.proofs.Common.{◌≡◌, ℕ, List, [], ◌++◌, refl, ap, sym, ◌∙◌, append_assoc, Some, None, Bool, true, false, subst}
 use Rattle.std.proofs.lemmas.List.{append-nil}
 use Rattle.rwsp_terms.specs.Instance.{Instance, name_of}
 use Rattle.refutation_terms.specs.declared.lines.Turn.{Turn}
+use Rattle.refutation_terms.specs.declared.lines.LogRefusal.{LogRefusal}
 use Rattle.refutation_terms.specs.declared.lines.LogRefusal.TheVariants as Refusals
 use Rattle.refutation_terms.specs.Log.{AreRules, TurnFits}
 use Rattle.refutation_terms.specs.LogText.{version_text, rules_text, turn_text}
-use Rattle.refutation_terms.specs.Verdict.{Versioned, BeforeTurn, IsNextLine}
+use Rattle.refutation_terms.specs.Verdict.{Front, Start, Versioned, BeforeTurn, front_text, HasNoCause, IsWhole, IsRefusedLine, IsNextLine, Cause, TurnsTo}
 use Rattle.refutation_terms.proofs.Spelled.{symbol_of-name}
-use Rattle.refutation_log.specs.Refusals.{SpellsRules, SpellsThisTurn, IsTurnRefused}
+use Rattle.refutation_log.specs.Refusals.{SpellsVersion, SpellsRules, IsTurnRefused}
 use Rattle.refutation_log.specs.declared.refusal.LineRefusal.TheVariants.{Form, Name}
-use Rattle.refutation_log.specs.ReadLog.{EndsUnread, IsUnreadLine}
+use Rattle.refutation_log.specs.ReadLog.{IsReadCause, IsRead, IsUnreadLine, IsHeaderRefused, BeginsWithHeader}
 
-pub ends_versioned : (P : Instance) (has_turn : Bool) (old : List ℕ) → old ≡ [] → EndsUnread P (version_text has_turn ++ old)
-ends_versioned P has_turn old e = record {
-  front = Versioned has_turn;
-  read = tt;
-  whole = ap (λ t. version_text has_turn ++ t) e ∙ append-nil (version_text has_turn);
-  not_whole = λ h. h;
-}
+-- a text that ends in its header is refused by reading, and as the verdict is
+ends_both : (P : Instance) (text : List ℕ) (front : Front) → IsRead P front → HasNoCause P front → text ≡ front_text P front → (IsWhole front → ⊥) → IsHeaderRefused P text Refusals.Ends
+ends_both P text front read none whole not_whole = (
+  record { front = front; read = read; whole = whole; not_whole = not_whole },
+  record { front = front; no_cause = none; whole = whole; not_whole = not_whole },
+)
 
-pub rules_unread : (P : Instance) (has_turn : Bool) (old bytes rest : List ℕ) → old ≡ bytes ++ rest → IsNextLine bytes rest → SpellsRules P bytes None → IsUnreadLine P (version_text has_turn ++ old) (Refusals.Form 2)
-rules_unread P has_turn old bytes rest e next h = record {
-  front = Versioned has_turn;
-  line = bytes;
-  rest = rest;
-  read = tt;
-  whole = ap (λ t. version_text has_turn ++ t) e ∙ sym (append_assoc (version_text has_turn) bytes rest);
-  is_line = next;
-  cause = (refl, h);
-  by_reading = tt;
-}
+-- and so is a line of the header
+line_both : (P : Instance) (text : List ℕ) (why : LogRefusal) (front : Front) (line rest : List ℕ) → IsRead P front → HasNoCause P front → text ≡ front_text P front ++ line ++ rest → IsNextLine line rest → Cause P front line why → IsReadCause why → IsUnreadLine P text why × IsRefusedLine P text why
+line_both P text why front line rest read none whole next cause by_reading = (
+  record { front = front; line = line; rest = rest; read = read; whole = whole; is_line = next; cause = cause; by_reading = by_reading },
+  record { front = front; line = line; rest = rest; no_cause = none; whole = whole; is_line = next; cause = cause },
+)
 
-pub ends_before_turn : (P : Instance) (R old : List ℕ) → AreRules P R → old ≡ [] → EndsUnread P (version_text true ++ rules_text R ++ old)
-ends_before_turn P R old are e = record {
-  front = BeforeTurn R;
-  read = are;
-  whole = ap (λ t. version_text true ++ rules_text R ++ t) e ∙ append-nil (version_text true ++ rules_text R);
-  not_whole = λ h. h;
-}
+-- what is left behind a front ends, or goes on with a line
+ended : (front old : List ℕ) → old ≡ [] → front ++ old ≡ front
+ended front old e = ap (λ t. front ++ t) e ∙ append-nil front
 
-pub turn_unread_form : (P : Instance) (R old bytes rest : List ℕ) → AreRules P R → old ≡ bytes ++ rest → IsNextLine bytes rest → IsTurnRefused P bytes Form → IsUnreadLine P (version_text true ++ rules_text R ++ old) (Refusals.Form 3)
-turn_unread_form P R old bytes rest are e next h = record {
-  front = BeforeTurn R;
-  line = bytes;
-  rest = rest;
-  read = are;
-  whole = ap (λ t. version_text true ++ rules_text R ++ t) e ∙ sym (append_assoc (version_text true ++ rules_text R) bytes rest);
-  is_line = next;
-  cause = (refl, h);
-  by_reading = tt;
-}
+goes_on : (front old line rest : List ℕ) → old ≡ line ++ rest → front ++ old ≡ front ++ line ++ rest
+goes_on front old line rest e = ap (λ t. front ++ t) e ∙ sym (append_assoc front line rest)
 
-pub turn_unread_name : (P : Instance) (R old bytes rest : List ℕ) → AreRules P R → old ≡ bytes ++ rest → IsNextLine bytes rest → IsTurnRefused P bytes Name → IsUnreadLine P (version_text true ++ rules_text R ++ old) (Refusals.Name 3)
-turn_unread_name P R old bytes rest are e next h = record {
-  front = BeforeTurn R;
-  line = bytes;
-  rest = rest;
-  read = are;
-  whole = ap (λ t. version_text true ++ rules_text R ++ t) e ∙ sym (append_assoc (version_text true ++ rules_text R) bytes rest);
-  is_line = next;
-  cause = (refl, h);
-  by_reading = tt;
-}
+pub ends_at_start : (P : Instance) (old : List ℕ) → old ≡ [] → IsHeaderRefused P old Refusals.Ends
+ends_at_start P old e = ends_both P old Start tt tt e (λ h. h)
 
-pub turn_spelled : (P : Instance) (bytes old rest : List ℕ) (t : Turn) → old ≡ bytes ++ rest → SpellsThisTurn P bytes t → TurnFits P (Some t) × (old ≡ turn_text (name_of P t.x) t.day ++ rest)
+pub version_unread : (P : Instance) (old line rest : List ℕ) → old ≡ line ++ rest → IsNextLine line rest → SpellsVersion line None → IsHeaderRefused P old (Refusals.Form 1)
+version_unread P old line rest e next h = line_both P old (Refusals.Form 1) Start line rest tt tt e next (refl, h) tt
+
+pub ends_versioned : (P : Instance) (has_turn : Bool) (old : List ℕ) → old ≡ [] → IsHeaderRefused P (version_text has_turn ++ old) Refusals.Ends
+ends_versioned P has_turn old e =
+    ends_both P (version_text has_turn ++ old) (Versioned has_turn) tt tt (ended (version_text has_turn) old e) (λ h. h)
+
+pub rules_unread : (P : Instance) (has_turn : Bool) (old line rest : List ℕ) → old ≡ line ++ rest → IsNextLine line rest → SpellsRules P line None → IsHeaderRefused P (version_text has_turn ++ old) (Refusals.Form 2)
+rules_unread P has_turn old line rest e next h =
+    line_both P (version_text has_turn ++ old) (Refusals.Form 2) (Versioned has_turn) line rest tt tt (goes_on (version_text has_turn) old line rest e) next (refl, h) tt
+
+pub ends_before_turn : (P : Instance) (R old : List ℕ) → AreRules P R → old ≡ [] → IsHeaderRefused P (version_text true ++ rules_text R ++ old) Refusals.Ends
+ends_before_turn P R old are e =
+    let front = version_text true ++ rules_text R in
+    ends_both P (front ++ old) (BeforeTurn R) are are (ended front old e) (λ h. h)
+
+pub turn_unread_form : (P : Instance) (R old line rest : List ℕ) → AreRules P R → old ≡ line ++ rest → IsNextLine line rest → IsTurnRefused P line Form → IsHeaderRefused P (version_text true ++ rules_text R ++ old) (Refusals.Form 3)
+turn_unread_form P R old line rest are e next h =
+    let front = version_text true ++ rules_text R in
+    line_both P (front ++ old) (Refusals.Form 3) (BeforeTurn R) line rest are are (goes_on front old line rest e) next (refl, h) tt
+
+pub turn_unread_name : (P : Instance) (R old line rest : List ℕ) → AreRules P R → old ≡ line ++ rest → IsNextLine line rest → IsTurnRefused P line Name → IsHeaderRefused P (version_text true ++ rules_text R ++ old) (Refusals.Name 3)
+turn_unread_name P R old line rest are e next h =
+    let front = version_text true ++ rules_text R in
+    line_both P (front ++ old) (Refusals.Name 3) (BeforeTurn R) line rest are are (goes_on front old line rest e) next (refl, h) tt
+
+pub turn_spelled : (P : Instance) (bytes old rest : List ℕ) (t : Turn) → old ≡ bytes ++ rest → TurnsTo P bytes t.day t.x → TurnFits P (Some t) × (old ≡ turn_text (name_of P t.x) t.day ++ rest)
 turn_spelled P bytes old rest t e h =
     let n = symbol_of-name P h.0 t.x h.2 in
     ((h.1.1, n.0), e ∙ ap (λ b. b ++ rest) (h.1.2 ∙ ap (λ name. turn_text name t.day) (sym n.1)))
+
+pub header_without_turn : (P : Instance) (text R one two rest : List ℕ) (v : Bool) → v ≡ false → text ≡ version_text v ++ one → AreRules P R → one ≡ rules_text R ++ two → rest ≡ two → BeginsWithHeader P text R None rest
+header_without_turn P text R one two rest v off e are f g = record {
+  rules = are;
+  fits = tt;
+  whole = e ∙ ap (λ b. version_text b ++ one) off ∙ ap (λ t. version_text false ++ t) (f ∙ ap (λ t. rules_text R ++ t) (sym g)) ∙ sym (append_assoc (version_text false) (rules_text R) rest);
+}
+
+-- the header in front of its turn
+before_turn : (text R one two : List ℕ) (v : Bool) → v ≡ true → text ≡ version_text v ++ one → one ≡ rules_text R ++ two → text ≡ version_text true ++ rules_text R ++ two
+before_turn text R one two v on e f =
+    e ∙ ap (λ b. version_text b ++ one) on ∙ ap (λ t. version_text true ++ t) f ∙ sym (append_assoc (version_text true) (rules_text R) two)
+
+pub header_with_turn : (P : Instance) (text R one two three rest : List ℕ) (v : Bool) (t : Turn) → v ≡ true → text ≡ version_text v ++ one → AreRules P R → one ≡ rules_text R ++ two → TurnFits P (Some t) → two ≡ turn_text (name_of P t.x) t.day ++ three → rest ≡ three → BeginsWithHeader P text R (Some t) rest
+header_with_turn P text R one two three rest v t on e are f fits g h =
+    let front = version_text true ++ rules_text R in
+    record {
+      rules = are;
+      fits = fits;
+      whole =
+          before_turn text R one two v on e f ∙ ap (λ z. front ++ z) (g ∙ ap (λ z. turn_text (name_of P t.x) t.day ++ z) (sym h))
+          ∙ sym (append_assoc front (turn_text (name_of P t.x) t.day) rest);
+    }
+
+pub refused_before_turn : (P : Instance) (text R one two : List ℕ) (v : Bool) (why : LogRefusal) → v ≡ true → text ≡ version_text v ++ one → one ≡ rules_text R ++ two → IsHeaderRefused P (version_text true ++ rules_text R ++ two) why → IsHeaderRefused P text why
+refused_before_turn P text R one two v why on e f h = subst (λ z. IsHeaderRefused P z why) (sym (before_turn text R one two v on e f)) h

@@ -17,7 +17,7 @@ use Rattle.refutation_terms.specs.Log.{LineFits}
 use Rattle.refutation_terms.specs.LogText.{RawLine, RawSplit, RawWindow, RawDay, RawDead, RawBound, RawUnfinished, NamedWeight, named_weight, weights_of, raw, line_of, line_text, IsInRange, WeightIsInRange, Ascends}
 use Rattle.refutation_terms.specs.Verdict.{Spells}
 use Rattle.refutation_terms.proofs.Spelled.{symbol_of-name, mapped}
-use Rattle.refutation_log.specs.Reading.{weight_of}
+use Rattle.refutation_log.specs.Gathering.{weight_of}
 use Rattle.refutation_log.proofs.ReadParts.{same_bytes}
 use Rattle.refutation_log.proofs.WeightsRead.{inverted}
 

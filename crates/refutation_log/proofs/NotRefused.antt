@@ -1,6 +1,6 @@
 -- The text of a log is not refused by reading.
-use Rattle.std.proofs.Common.{◌≡◌, ◌≢◌, ℕ, zero, suc, ◌+◌, ◌<◌, ◌≤◌, List, [], ◌∷◌, ◌++◌, length, take, get_or, refl, ap, sym, ◌∙◌, subst, arith, Option, Some, None, Bool, true, false, append_assoc, length-append, ◌⊎◌, inl, inr, ⊎_elim}
-use Rattle.std.specs.Prelude.{All, codes, IfSome}
+use Rattle.std.proofs.Common.{◌≡◌, ◌≢◌, ℕ, ◌<◌, List, [], ◌∷◌, ◌++◌, length, take, get_or, refl, ap, sym, ◌∙◌, subst, arith, Option, Some, None, Bool, true, false, append_assoc, length-append, inl, inr}
+use Rattle.std.specs.Prelude.{codes, IfSome}
 use Rattle.std.specs.List.{join_with_byte}
 use Rattle.std.specs.Fmt.{decimal}
 use Rattle.std.proofs.lemmas.List.{append_cancel_left, append-nil, take_all, take-append-le}
@@ -13,16 +13,13 @@ use Rattle.refutation_terms.specs.declared.lines.LogRefusal.{LogRefusal}
 use Rattle.refutation_terms.specs.declared.lines.LogRefusal.TheVariants as Refusals
 use Rattle.refutation_terms.specs.Tree.{IsTree, after_trees, lines_in, domains_at}
 use Rattle.refutation_terms.specs.Log.{Log, Fits, LineFits, AreRules}
-use Rattle.refutation_terms.specs.LogText.{RawLine, raw, line_of, line_text, log_text, version_text, rules_text, turn_text, numbers, IsWritten, Ascends}
+use Rattle.refutation_terms.specs.LogText.{raw, line_of, line_text, log_text, version_text, rules_text, turn_text, numbers, IsWritten, Ascends}
 use Rattle.refutation_terms.specs.Verdict.{Front, Start, Versioned, BeforeTurn, Reading, front_text, IsNextLine, IsWhole, Cause, VersionCause, RulesCause, TurnCause, TreeCause, SpellsTurn}
 use Rattle.refutation_terms.proofs.Trees.{tree_is_whole, part_is_not_whole}
 use Rattle.refutation_terms.proofs.Texts.{each_fits}
-use Rattle.refutation_log.specs.FieldList.{fields_of}
 use Rattle.refutation_log.specs.Printing.{lines_text, EachFits}
-use Rattle.refutation_log.specs.ReadLog.{IsReadCause, IsReadSoFar, IsRead, IsUnread, IsUnreadLine, EndsUnread, log_with}
-use Rattle.refutation_log.specs.Reading.{raw_at, turn_at}
+use Rattle.refutation_log.specs.ReadLog.{IsReadCause, IsRead, IsUnread, IsUnreadLine, log_with}
 use Rattle.refutation_log.proofs.RulesFront.{same_pairs}
-use Rattle.refutation_log.proofs.ReadLines.{IsSmall}
 use Rattle.refutation_log.proofs.LineTexts.{written_read, small_from, word_blankless}
 use Rattle.refutation_log.proofs.HeaderTexts.{rules_visible, turn_visible, turn_spelled_read}
 use Rattle.refutation_log.proofs.OneText.{Feedless, body, symbol_named, name_there, line_there, cut, body_feedless, one_rules, one_turn, one_line, feedless_words, nothing_ends, one_text}

@@ -1,12 +1,11 @@
 -- No two logs have one text.
-use Rattle.std.proofs.Common.{◌≡◌, ◌≢◌, ℕ, zero, suc, ◌+◌, ◌<◌, ◌≤◌, List, [], ◌∷◌, ◌++◌, length, get_or, map, refl, ap, sym, ◌∙◌, subst, arith, Option, Some, None, Bool, true, false, append_assoc}
-use Rattle.std.specs.Prelude.{All, IfSome, slice_get, position, codes, nat_lt}
+use Rattle.std.proofs.Common.{◌≡◌, ◌≢◌, ℕ, zero, suc, ◌+◌, ◌<◌, ◌≤◌, List, [], ◌∷◌, ◌++◌, length, get_or, map, refl, ap, sym, ◌∙◌, subst, arith, Some, None, Bool, true, false}
+use Rattle.std.specs.Prelude.{All, IfSome, position, codes, nat_lt}
 use Rattle.std.specs.Option.{option_map}
 use Rattle.std.specs.Str.{bytes_eq}
 use Rattle.std.specs.List.{position_or_len, join_with_byte}
 use Rattle.std.specs.Fmt.{decimal}
 use Rattle.std.proofs.lemmas.Bool.{lt-ltb, false_from_ne_true}
-use Rattle.std.proofs.lemmas.List.{append_cancel_left}
 use Rattle.std.proofs.lemmas.List.Sums.{position_or_len_is}
 use Rattle.std.proofs.lemmas.List.Elements.{All-nil, All-cons, All-head, All-tail, All-weaker, All-append}
 use Rattle.std.proofs.lemmas.Option.{slice_get-get_or}
@@ -21,10 +20,9 @@ use Rattle.refutation_terms.specs.declared.lines.Line.{Line}
 use Rattle.refutation_terms.specs.declared.lines.Line.TheVariants.{Split, Window, Day, Dead, Bound, Unfinished}
 use Rattle.refutation_terms.specs.declared.lines.Turn.{Turn}
 use Rattle.refutation_terms.specs.Log.{Log, Fits, LineFits, AreRules}
-use Rattle.refutation_terms.specs.LogText.{named_weight, with_weight, weights_of, raw, line_of, line_text, log_text, version_text, rules_text, turn_text, numbers, fields, IsName, IsInRange, WeightIsInRange, Ascends}
+use Rattle.refutation_terms.specs.LogText.{named_weight, with_weight, weights_of, raw, line_of, line_text, log_text, rules_text, turn_text, numbers, fields, IsName, IsInRange, WeightIsInRange, Ascends}
 use Rattle.refutation_terms.specs.Spelling.{HasNames, IsWritable}
 use Rattle.refutation_terms.proofs.Fronts.{texts_distinct}
-use Rattle.refutation_terms.proofs.Texts.{each_fits}
 use Rattle.refutation_log.specs.FieldList.{fields_of}
 use Rattle.refutation_log.specs.Printing.{lines_text, EachFits}
 use Rattle.refutation_log.specs.Reading.{raw_at, named_at, turn_at, is_visible}
@@ -33,7 +31,6 @@ use Rattle.refutation_log.proofs.RulesFront.{same_pairs}
 use Rattle.refutation_log.proofs.ReadParts.{same_bytes, bytes_same, seen_found}
 use Rattle.refutation_log.proofs.LineTexts.{Each, fields_blankless, written_read, small_from}
 use Rattle.refutation_log.proofs.HeaderTexts.{rules_spelled, rules_visible, turn_spelled_read, turn_visible}
-use Rattle.refutation_log.specs.ReadLog.{log_with}
 
 abbrev pub turn_of : ℕ → Symbol → Turn
 turn_of day x = record { day = day; x = x }

@@ -1,6 +1,6 @@
 -- A line is read where its fields spell a written line, and as that line.
 use Rattle.std.proofs.Common.{◌≡◌, ℕ, zero, suc, ◌*◌, ◌^◌, ◌<◌, ◌≤◌, List, [], ◌∷◌, ◌++◌, length, refl, ap, sym, ◌∙◌, subst, arith, ◌⊎◌, inl, inr, ⊎_elim, Option, Some, None, Bool, true, false}
-use Rattle.std.specs.Prelude.{codes}
+use Rattle.std.specs.Prelude.{codes, cond}
 use Rattle.std.specs.List.{flat_map}
 use Rattle.std.specs.Str.{bytes_eq}
 use Rattle.std.specs.Fmt.{decimal}
@@ -10,7 +10,7 @@ use Rattle.rwsp_terms.specs.Instance.{Instance, cells}
 use Rattle.rwsp_terms.specs.Rules.{rules}
 use Rattle.refutation_terms.specs.Log.{AreRules}
 use Rattle.refutation_terms.specs.LogText.{RawLine, RawSplit, RawWindow, RawDay, RawDead, RawBound, RawUnfinished, NamedWeight, IsInRange, fields, place, numbers, way, weight_fields}
-use Rattle.refutation_log.specs.Reading.{◌>>=◌, number_at, name_at, word_at, way_at, done_at, place_at, rules_front, rules_at, weights_at, split_at, window_at, day_at, head_at, dead_at, bound_at, open_at, raw_at, most_turns, pick}
+use Rattle.refutation_log.specs.Reading.{◌>>=◌, number_at, name_at, word_at, way_at, done_at, place_at, rules_front, rules_at, weights_at, split_at, window_at, day_at, head_at, dead_at, bound_at, open_at, raw_at, most_turns}
 use Rattle.refutation_log.proofs.Numerals.{bind_found, bind_only, word_no_number}
 use Rattle.refutation_log.proofs.RulesFront.{pair_of, same_pairs}
 use Rattle.refutation_log.proofs.ReadParts.{Stops, number_at_found, number_at_only, name_at_found, name_at_only, word_at_found, word_at_only, way_at_found, way_at_only, done_found, place_found, place_only, rules_found_by, rules_only_by, are_rules_found, are_rules_only, weights_found, weights_only, same_bytes}
@@ -199,7 +199,7 @@ open_found P ws raw h =
 
 -- the first word
 
-picked : {X : Type 0} (b : Bool) (x y : Option X) (z : X) → pick b x y ≡ Some z → ((b ≡ true) × (x ≡ Some z)) ⊎ (y ≡ Some z)
+picked : {X : Type 0} (b : Bool) (x y : Option X) (z : X) → cond b x y ≡ Some z → ((b ≡ true) × (x ≡ Some z)) ⊎ (y ≡ Some z)
 picked true x y z h = inl (refl, h)
 picked false x y z h = inr h
 
@@ -211,23 +211,23 @@ unfolding raw_at
 raw_found P [] raw s h = absurd (cc)
 raw_found P (w ∷ ws) raw s h =
     ⊎_elim (λ (q : (bytes_eq w (codes "split") ≡ true) × (split_at P ws ≡ Some raw)). first_word P w (codes "split") ws raw q.0 (split_found P ws raw q.1))
-    (λ (h1 : pick (bytes_eq w (codes "window")) (window_at P ws) (pick (bytes_eq w (codes "day")) (day_at P ws) (pick (bytes_eq w (codes "dead")) (dead_at P ws) (pick (bytes_eq w (codes "bound")) (bound_at P ws) (pick (bytes_eq w (codes "open")) (open_at ws) None)))) ≡ Some raw).
+    (λ (h1 : cond (bytes_eq w (codes "window")) (window_at P ws) (cond (bytes_eq w (codes "day")) (day_at P ws) (cond (bytes_eq w (codes "dead")) (dead_at P ws) (cond (bytes_eq w (codes "bound")) (bound_at P ws) (cond (bytes_eq w (codes "open")) (open_at ws) None)))) ≡ Some raw).
     ⊎_elim (λ (q : (bytes_eq w (codes "window") ≡ true) × (window_at P ws ≡ Some raw)). first_word P w (codes "window") ws raw q.0 (window_found P ws raw q.1))
-    (λ (h2 : pick (bytes_eq w (codes "day")) (day_at P ws) (pick (bytes_eq w (codes "dead")) (dead_at P ws) (pick (bytes_eq w (codes "bound")) (bound_at P ws) (pick (bytes_eq w (codes "open")) (open_at ws) None))) ≡ Some raw).
+    (λ (h2 : cond (bytes_eq w (codes "day")) (day_at P ws) (cond (bytes_eq w (codes "dead")) (dead_at P ws) (cond (bytes_eq w (codes "bound")) (bound_at P ws) (cond (bytes_eq w (codes "open")) (open_at ws) None))) ≡ Some raw).
     ⊎_elim (λ (q : (bytes_eq w (codes "day") ≡ true) × (day_at P ws ≡ Some raw)). first_word P w (codes "day") ws raw q.0 (day_found P ws raw q.1))
-    (λ (h3 : pick (bytes_eq w (codes "dead")) (dead_at P ws) (pick (bytes_eq w (codes "bound")) (bound_at P ws) (pick (bytes_eq w (codes "open")) (open_at ws) None)) ≡ Some raw).
+    (λ (h3 : cond (bytes_eq w (codes "dead")) (dead_at P ws) (cond (bytes_eq w (codes "bound")) (bound_at P ws) (cond (bytes_eq w (codes "open")) (open_at ws) None)) ≡ Some raw).
     ⊎_elim (λ (q : (bytes_eq w (codes "dead") ≡ true) × (dead_at P ws ≡ Some raw)). first_word P w (codes "dead") ws raw q.0 (dead_found P ws raw q.1))
-    (λ (h4 : pick (bytes_eq w (codes "bound")) (bound_at P ws) (pick (bytes_eq w (codes "open")) (open_at ws) None) ≡ Some raw).
+    (λ (h4 : cond (bytes_eq w (codes "bound")) (bound_at P ws) (cond (bytes_eq w (codes "open")) (open_at ws) None) ≡ Some raw).
     ⊎_elim (λ (q : (bytes_eq w (codes "bound") ≡ true) × (bound_at P ws ≡ Some raw)). first_word P w (codes "bound") ws raw q.0 (bound_found P ws raw s q.1))
-    (λ (h5 : pick (bytes_eq w (codes "open")) (open_at ws) None ≡ Some raw).
+    (λ (h5 : cond (bytes_eq w (codes "open")) (open_at ws) None ≡ Some raw).
     ⊎_elim (λ (q : (bytes_eq w (codes "open") ≡ true) × (open_at ws ≡ Some raw)). first_word P w (codes "open") ws raw q.0 (open_found P ws raw q.1))
     (λ (h6 : None ≡ Some raw). absurd (cc))
     (picked (bytes_eq w (codes "open")) (open_at ws) None raw h5))
-    (picked (bytes_eq w (codes "bound")) (bound_at P ws) (pick (bytes_eq w (codes "open")) (open_at ws) None) raw h4))
-    (picked (bytes_eq w (codes "dead")) (dead_at P ws) (pick (bytes_eq w (codes "bound")) (bound_at P ws) (pick (bytes_eq w (codes "open")) (open_at ws) None)) raw h3))
-    (picked (bytes_eq w (codes "day")) (day_at P ws) (pick (bytes_eq w (codes "dead")) (dead_at P ws) (pick (bytes_eq w (codes "bound")) (bound_at P ws) (pick (bytes_eq w (codes "open")) (open_at ws) None))) raw h2))
-    (picked (bytes_eq w (codes "window")) (window_at P ws) (pick (bytes_eq w (codes "day")) (day_at P ws) (pick (bytes_eq w (codes "dead")) (dead_at P ws) (pick (bytes_eq w (codes "bound")) (bound_at P ws) (pick (bytes_eq w (codes "open")) (open_at ws) None)))) raw h1))
-    (picked (bytes_eq w (codes "split")) (split_at P ws) (pick (bytes_eq w (codes "window")) (window_at P ws) (pick (bytes_eq w (codes "day")) (day_at P ws) (pick (bytes_eq w (codes "dead")) (dead_at P ws) (pick (bytes_eq w (codes "bound")) (bound_at P ws) (pick (bytes_eq w (codes "open")) (open_at ws) None))))) raw h)
+    (picked (bytes_eq w (codes "bound")) (bound_at P ws) (cond (bytes_eq w (codes "open")) (open_at ws) None) raw h4))
+    (picked (bytes_eq w (codes "dead")) (dead_at P ws) (cond (bytes_eq w (codes "bound")) (bound_at P ws) (cond (bytes_eq w (codes "open")) (open_at ws) None)) raw h3))
+    (picked (bytes_eq w (codes "day")) (day_at P ws) (cond (bytes_eq w (codes "dead")) (dead_at P ws) (cond (bytes_eq w (codes "bound")) (bound_at P ws) (cond (bytes_eq w (codes "open")) (open_at ws) None))) raw h2))
+    (picked (bytes_eq w (codes "window")) (window_at P ws) (cond (bytes_eq w (codes "day")) (day_at P ws) (cond (bytes_eq w (codes "dead")) (dead_at P ws) (cond (bytes_eq w (codes "bound")) (bound_at P ws) (cond (bytes_eq w (codes "open")) (open_at ws) None)))) raw h1))
+    (picked (bytes_eq w (codes "split")) (split_at P ws) (cond (bytes_eq w (codes "window")) (window_at P ws) (cond (bytes_eq w (codes "day")) (day_at P ws) (cond (bytes_eq w (codes "dead")) (dead_at P ws) (cond (bytes_eq w (codes "bound")) (bound_at P ws) (cond (bytes_eq w (codes "open")) (open_at ws) None))))) raw h)
 
 pub raw_only : (P : Instance) (raw : RawLine) → IsSmall P → IsInRange P raw → raw_at P (fields P raw) ≡ Some raw
 unfolding raw_at

@@ -1,6 +1,6 @@
 -- Reading weights one after another.
 use Rattle.std.proofs.Common.{◌≡◌, ◌≢◌, ℕ, ◌-◌, ◌<◌, List, [], ◌∷◌, ◌++◌, length, get_or, refl, ap, sym, ◌∙◌, subst, arith, Option, Some, None, Bool, true, false, append_assoc, length-append}
-use Rattle.std.specs.Prelude.{ℤ, AllPairs}
+use Rattle.std.specs.Prelude.{ℤ, AllPairs, cond}
 use Rattle.std.specs.Option.{option_map}
 use Rattle.std.proofs.lemmas.List.{append-nil, get_or_append_left}
 use Rattle.std.proofs.lemmas.List.Quantifiers.{all_pairs_push}
@@ -12,7 +12,8 @@ use Rattle.rwsp_terms.specs.Weights.{ComesBefore}
 use Rattle.refutation_terms.specs.LogText.{NamedWeight, with_weight, weights_of}
 use Rattle.refutation_log.specs.declared.gather.Gathered.{Gathered}
 use Rattle.refutation_log.specs.declared.gather.Gathered.TheVariants.{Rising, Falling, Unknown}
-use Rattle.refutation_log.specs.Reading.{◌>>=◌, number_in, value_in, is_name, number_at, name_at, value_at, weight_in, weight_from, weight_of_fields, weights_at, Gives, GivesAll, added, pick, last_precedes, precedes, precedes_if, weight_of}
+use Rattle.refutation_log.specs.Reading.{◌>>=◌, number_in, value_in, is_name, number_at, name_at, value_at, weight_in, weight_from, weight_of_fields, weights_at}
+use Rattle.refutation_log.specs.Gathering.{Gives, GivesAll, added, last_precedes, precedes, precedes_if, weight_of}
 use Rattle.refutation_log.proofs.RulesFront.{same_pairs}
 use Rattle.refutation_log.proofs.Behind.{all_before, test_from_comes}
 
@@ -135,7 +136,7 @@ last_pair (a ∷ y) j x v e pairs =
     let no : precedes_if (Some (get_or z m w)) j x.number ≡ false = ap (λ o. precedes_if o j x.number) (sym (slice_get-get_or z m w lt)) ∙ e in
     cc
 
-gives_by : (P : Instance) (y : List NamedWeight) (e : NamedWeight) (z : List Weight) (x : Symbol) (b : Bool) → weights_of P y ≡ Some z → AllPairs ComesBefore z → symbol_of P e.name ≡ Some x → last_precedes z e.day x.number ≡ b → Gives P (y ++ e ∷ []) (pick b (Rising (z ++ weight_of e.day x e.value ∷ [])) Falling)
+gives_by : (P : Instance) (y : List NamedWeight) (e : NamedWeight) (z : List Weight) (x : Symbol) (b : Bool) → weights_of P y ≡ Some z → AllPairs ComesBefore z → symbol_of P e.name ≡ Some x → last_precedes z e.day x.number ≡ b → Gives P (y ++ e ∷ []) (cond b (Rising (z ++ weight_of e.day x e.value ∷ [])) Falling)
 gives_by P y e z x true h pairs s t =
     (known_behind P y e z x h s, all_pairs_push ComesBefore z (weight_of e.day x e.value) pairs (λ k d lt. all_before z e.day x e.value pairs t k d lt))
 gives_by P y e z x false h pairs s t =

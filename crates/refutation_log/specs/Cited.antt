@@ -1,9 +1,9 @@
 -- Which numbers of rules are added to a list.
-use Rattle.std.specs.Prelude.{◌≡◌, ◌⊎◌, ◌↔◌, ℕ, ◌<◌, List, Some, Contains, All, length, slice_get}
+use Rattle.std.specs.Prelude.{◌≡◌, ◌⊎◌, ◌↔◌, ℕ, ◌<◌, List, Some, Contains, length, slice_get}
 use Rattle.rwsp_terms.specs.declared.data.Weight.{Weight}
 use Rattle.rwsp_terms.specs.declared.data.Rule.{Rule}
 use Rattle.rwsp_terms.specs.declared.data.Rule.TheVariants.{Day}
-use Rattle.rwsp_terms.specs.Instance.{Instance, IsDay, IsSymbol}
+use Rattle.rwsp_terms.specs.Instance.{Instance}
 use Rattle.rwsp_terms.specs.Rules.{rule_of}
 
 -- the new list holds what the old one holds, and the numbers that are new
@@ -25,7 +25,3 @@ IsDayRule P j k = rule_of P k ≡ Some (Day j)
 -- the number of the rule of a day on which something is listed
 abbrev pub IsWeighedDayRule : Instance → List Weight → ℕ → Type 0
 IsWeighedDayRule P y k = (m : ℕ) × (e : Weight) × (m < length y) × (slice_get y m ≡ Some e) × IsDayRule P e.day k
-
--- weights on days and symbols of the problem alone
-abbrev pub AllFit : Instance → List Weight → Type 0
-AllFit P y = All (λ e. IsDay P e.day × IsSymbol P e.symbol) y

@@ -1,5 +1,6 @@
 pub mod Cited
 pub mod FieldList
+pub mod Gathering
 pub mod Printing
 pub mod Reading
 pub mod ReadLog

@@ -1,8 +1,8 @@
 -- Parts of the text of a log.
-use Rattle.std.specs.Prelude.{ℕ, List, ◌∷◌, map}
+use Rattle.std.specs.Prelude.{ℕ, List, ◌∷◌, map, All}
 use Rattle.std.specs.List.{AllByRecursion, concat, flat_map}
 use Rattle.rwsp_terms.specs.declared.data.Weight.{Weight}
-use Rattle.rwsp_terms.specs.Instance.{Instance}
+use Rattle.rwsp_terms.specs.Instance.{Instance, IsDay, IsSymbol}
 use Rattle.refutation_terms.specs.declared.lines.Line.{Line}
 use Rattle.refutation_terms.specs.Log.{LineFits}
 use Rattle.refutation_terms.specs.LogText.{raw, line_text, weight_fields, named_weight}
@@ -22,3 +22,7 @@ EachFits P lines = AllByRecursion (LineFits P) lines
 -- the fields of weights
 abbrev pub words_of : Instance → List Weight → List (List ℕ)
 words_of P y = flat_map weight_fields (map (named_weight P) y)
+
+-- weights on days and symbols of the problem alone
+abbrev pub WeightsFit : Instance → List Weight → Type 0
+WeightsFit P y = All (λ e. IsDay P e.day × IsSymbol P e.symbol) y

@@ -7,8 +7,9 @@ use Rattle.refutation_terms.specs.declared.lines.Turn.{Turn}
 use Rattle.refutation_terms.specs.declared.lines.LogRefusal.{LogRefusal}
 use Rattle.refutation_terms.specs.declared.lines.LogRefusal.TheVariants as Refusals
 use Rattle.refutation_terms.specs.Tree.{IsTree}
-use Rattle.refutation_terms.specs.Log.{Log, Fits, AreRules}
-use Rattle.refutation_terms.specs.Verdict.{Front, Start, Versioned, BeforeTurn, Reading, front_text, IsWhole, IsNextLine, Cause}
+use Rattle.refutation_terms.specs.Log.{Log, Fits, AreRules, TurnFits}
+use Rattle.refutation_terms.specs.LogText.{header_text}
+use Rattle.refutation_terms.specs.Verdict.{Front, Start, Versioned, BeforeTurn, Reading, front_text, IsWhole, IsNextLine, Cause, IsRefused}
 use Rattle.refutation_log.specs.Refusals.{IsLineRefused}
 use Rattle.refutation_log.specs.declared.refusal.LineRefusal.TheVariants as Lines
 
@@ -54,6 +55,16 @@ abbrev pub IsUnread : Instance → List ℕ → LogRefusal → Type 0
 IsUnread P text Refusals.Ends = EndsUnread P text
 IsUnread P text why = IsUnreadLine P text why
 
+-- the text is refused at its header, by reading and as the verdict is
+abbrev pub IsHeaderRefused : Instance → List ℕ → LogRefusal → Type 0
+IsHeaderRefused P text why = IsUnread P text why × IsRefused P text why
+
+-- the text begins with a header that fits the problem, and the rest is its body
+pub record BeginsWithHeader (P : Instance) (text : List ℕ) (named : List ℕ) (turn : Option Turn) (body : List ℕ) : Type 0 where
+  pub rules : AreRules P named
+  pub fits : TurnFits P turn
+  pub whole : text ≡ header_text P named turn ++ body
+
 -- why a line of the tree isn't read, as text line n
 abbrev pub IsTreeLineRefused : Instance → List ℕ → ℕ → LogRefusal → Type 0
 IsTreeLineRefused P bytes n (Refusals.Form i) = (i ≡ n) × IsLineRefused P bytes Lines.Form
@@ -65,5 +76,6 @@ abbrev pub open_after : ℕ → Line → ℕ
 open_after n (Split p x) = n + 1
 open_after n leaf = n - 1
 
+-- the log of these rules, this turn and these lines
 abbrev pub log_with : List ℕ → Option Turn → List Line → Log
 log_with named turn lines = record { named = named; turn = turn; lines = lines }

@@ -1,23 +1,17 @@
 -- Reading a line of a log from its fields, one after another.
-use Rattle.std.specs.Prelude.{◌≡◌, ◌≢◌, ℕ, ◌+◌, ◌-◌, ◌*◌, ◌/◌, List, [], ◌∷◌, ◌++◌, length, slice_index, slice_get, Option, Some, None, Bool, true, false, not, ◌&&◌, ◌||◌, ◌==◌, nat_le, nat_lt, if◌then◌else◌, ℤ, pos, negsuc, ◌≤ℤ◌, codes, AllPairs, Result, Ok, Err}
+use Rattle.std.specs.Prelude.{◌≡◌, ◌≢◌, ℕ, ◌+◌, ◌-◌, ◌*◌, ◌/◌, List, [], ◌∷◌, length, slice_index, Option, Some, None, Bool, true, false, not, ◌&&◌, ◌||◌, ◌==◌, cond, nat_le, if◌then◌else◌, ℤ, pos, negsuc, ◌≤ℤ◌, codes, Result, Ok, Err}
 use Rattle.std.specs.List.{list_all}
 use Rattle.std.specs.Option.{option_map}
 use Rattle.std.specs.Str.{bytes_eq}
 use Rattle.rwsp_text.specs.Numbers.{number_of}
-use Rattle.rwsp_terms.specs.declared.data.Symbol.{Symbol}
-use Rattle.rwsp_terms.specs.declared.data.Weight.{Weight}
 use Rattle.rwsp_terms.specs.Instance.{Instance, cells}
 use Rattle.rwsp_terms.specs.Rules.{rules}
-use Rattle.rwsp_terms.specs.Weights.{ComesBefore}
 use Rattle.rwsp_model.specs.declared.fail.Fail.{Fail}
 use Rattle.rwsp_model.specs.declared.fail.Fail.TheVariants.{Refused, Memory}
 use Rattle.refutation_terms.specs.declared.lines.Line.{Line}
-use Rattle.refutation_terms.specs.declared.lines.Line.TheVariants.{Bound}
-use Rattle.refutation_terms.specs.LogText.{RawLine, RawSplit, RawWindow, RawDay, RawDead, RawBound, RawUnfinished, NamedWeight, line_of, weights_of, Ascends}
+use Rattle.refutation_terms.specs.LogText.{RawLine, RawSplit, RawWindow, RawDay, RawDead, RawBound, RawUnfinished, NamedWeight, line_of, Ascends}
 use Rattle.refutation_log.specs.declared.refusal.LineRefusal.{LineRefusal}
 use Rattle.refutation_log.specs.declared.refusal.LineRefusal.TheVariants.{Form, Name}
-use Rattle.refutation_log.specs.declared.gather.Gathered.{Gathered}
-use Rattle.refutation_log.specs.declared.gather.Gathered.TheVariants.{Rising, Falling, Unknown}
 
 infixl 10 ◌>>=◌
 abbrev pub ◌>>=◌ : {A B : Type 0} → Option A → (A → Option B) → Option B
@@ -149,28 +143,21 @@ bound_at P ws = head_at P (most_turns P) ws >>= (λ head. word_at (codes "weight
 abbrev pub open_at : List (List ℕ) → Option RawLine
 open_at ws = done_at RawUnfinished ws
 
-abbrev pub pick : {X : Type 0} → Bool → X → X → X
-pick true x y = x
-pick false x y = y
-
 -- a line by its first field
 unfoldable pub raw_at : Instance → List (List ℕ) → Option RawLine
 raw_at P [] = None
 raw_at P (w ∷ ws) =
-    pick (bytes_eq w (codes "split")) (split_at P ws)
-    (pick (bytes_eq w (codes "window")) (window_at P ws)
-    (pick (bytes_eq w (codes "day")) (day_at P ws)
-    (pick (bytes_eq w (codes "dead")) (dead_at P ws)
-    (pick (bytes_eq w (codes "bound")) (bound_at P ws)
-    (pick (bytes_eq w (codes "open")) (open_at ws) None)))))
+    cond (bytes_eq w (codes "split")) (split_at P ws)
+    (cond (bytes_eq w (codes "window")) (window_at P ws)
+    (cond (bytes_eq w (codes "day")) (day_at P ws)
+    (cond (bytes_eq w (codes "dead")) (dead_at P ws)
+    (cond (bytes_eq w (codes "bound")) (bound_at P ws)
+    (cond (bytes_eq w (codes "open")) (open_at ws) None)))))
 
 -- what a reader gave and left is what reading gives; where it gave nothing, nothing is said of what is left
 abbrev pub Reads : {X : Type 0} → Option (X × List (List ℕ)) → Option X → List (List ℕ) → Type 0
 Reads read None left = read ≡ None
 Reads read (Some x) left = read ≡ Some (x, left)
-
-abbrev pub ReadsBytes : Option (List ℕ × List (List ℕ)) → Option (List ℕ) → List (List ℕ) → Type 0
-ReadsBytes read taken left = Reads read taken left
 
 abbrev pub ReadsRest : {X : Type 0} → Option (List (List ℕ)) → Option X → List (List ℕ) → Type 0
 ReadsRest read None left = read ≡ None
@@ -195,43 +182,3 @@ abbrev pub Answers : Instance → Option RawLine → Result Line (Fail LineRefus
 Answers P read (Ok line) = IsAnswer P read (Ok line)
 Answers P read (Err Memory) = Unit {0}
 Answers P read (Err (Refused why)) = IsAnswer P read (Err why)
-
--- the answer to the gathered weights of a bound
-abbrev pub IsBound : ℕ → ℕ → List ℕ → Gathered → Result Line (Fail LineRefusal) → Type 0
-IsBound p turns R (Rising z) r = r ≡ Ok (Bound p turns R z)
-IsBound p turns R Falling r = r ≡ Err (Refused Form)
-IsBound p turns R Unknown r = r ≡ Err (Refused Name)
-
--- weights that were read: all names known and ascending, all known, or not all known
-abbrev pub Gives : Instance → List NamedWeight → Gathered → Type 0
-Gives P y (Rising z) = (weights_of P y ≡ Some z) × AllPairs ComesBefore z
-Gives P y Falling = (z : List Weight) × (weights_of P y ≡ Some z) × (AllPairs ComesBefore z → ⊥)
-Gives P y Unknown = weights_of P y ≡ None
-
--- the same of what reading gives, if it gives any
-abbrev pub GivesAll : Instance → Option (List NamedWeight) → Option Gathered → Type 0
-GivesAll P None None = Unit {0}
-GivesAll P None (Some s) = ⊥
-GivesAll P (Some y) None = ⊥
-GivesAll P (Some y) (Some s) = Gives P y s
-
--- the last of the weights comes before symbol x on day j
-abbrev pub precedes : Weight → ℕ → ℕ → Bool
-precedes e j x = nat_lt e.day j || ((e.day == j) && nat_lt e.symbol.number x)
-
-abbrev pub precedes_if : Option Weight → ℕ → ℕ → Bool
-precedes_if None j x = true
-precedes_if (Some e) j x = precedes e j x
-
-abbrev pub last_precedes : List Weight → ℕ → ℕ → Bool
-last_precedes z j x = precedes_if (slice_get z (length z - 1)) j x
-
-abbrev pub weight_of : ℕ → Symbol → ℤ → Weight
-weight_of j x v = record { day = j; symbol = x; value = v }
-
--- one weight more
-abbrev pub added : Gathered → Option Symbol → ℕ → ℤ → Gathered
-added s None j v = Unknown
-added Unknown (Some x) j v = Unknown
-added Falling (Some x) j v = Falling
-added (Rising z) (Some x) j v = pick (last_precedes z j x.number) (Rising (z ++ weight_of j x v ∷ [])) Falling

@@ -1,10 +1,9 @@
 -- Why a line of text is no line of a log.
 use Rattle.std.specs.Prelude.{◌≡◌, ◌≢◌, ℕ, List, Option, None, Some, Bool}
-use Rattle.rwsp_terms.specs.Instance.{Instance, symbol_of}
+use Rattle.rwsp_terms.specs.Instance.{Instance}
 use Rattle.refutation_terms.specs.LogText.{rules_text, version_text}
 use Rattle.refutation_terms.specs.Log.{AreRules}
-use Rattle.refutation_terms.specs.Verdict.{SpellsNothing, SpellsUnknown, SpellsTurn, SpellsNoTurn, TurnsToUnknown}
-use Rattle.refutation_terms.specs.declared.lines.Turn.{Turn}
+use Rattle.refutation_terms.specs.Verdict.{SpellsNothing, SpellsUnknown, SpellsNoTurn, TurnsToUnknown}
 use Rattle.refutation_log.specs.declared.refusal.LineRefusal.{LineRefusal}
 use Rattle.refutation_log.specs.declared.refusal.LineRefusal.TheVariants.{Form, Name}
 
@@ -17,10 +16,6 @@ IsLineRefused P bytes Name = SpellsUnknown P bytes
 abbrev pub IsTurnRefused : Instance → List ℕ → LineRefusal → Type 0
 IsTurnRefused P bytes Form = SpellsNoTurn P bytes
 IsTurnRefused P bytes Name = TurnsToUnknown P bytes
-
--- the bytes spell the turn
-abbrev pub SpellsThisTurn : Instance → List ℕ → Turn → Type 0
-SpellsThisTurn P bytes t = (name : List ℕ) × SpellsTurn P bytes name t.day × (symbol_of P name ≡ Some t.x)
 
 -- the bytes spell this list of rules, or none
 abbrev pub SpellsRules : Instance → List ℕ → Option (List ℕ) → Type 0

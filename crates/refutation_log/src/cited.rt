@@ -4,7 +4,8 @@ ghost use Rattle.rwsp_terms.specs.declared.data.Rule.{Rule};
 ghost use Rattle.rwsp_terms.specs.Instance.{IsDay};
 ghost use Rattle.rwsp_terms.specs.Rules.{Names};
 ghost use Rattle.refutation_terms.specs.Log.{LineFits, Cites, TurnCites};
-ghost use Rattle.refutation_log.specs.Cited.{Adds, AddsSome, IsCited, IsDayRule, IsWeighedDayRule, AllFit};
+ghost use Rattle.refutation_log.specs.Cited.{Adds, AddsSome, IsCited, IsDayRule, IsWeighedDayRule};
+ghost use Rattle.refutation_log.specs.Printing.{WeightsFit};
 
 use refutation_terms::{Line, Turn};
 use rwsp_model::{Problem, number_of};
@@ -29,13 +30,13 @@ fn put_line_cited(rules: &mut RuleList, problem: &Problem, line: &Line) -> Resul
     match line {
         Line::Split { .. } | Line::Unfinished => Ok(()),
         Line::Window { rule, .. } => rules.put(*rule),
-        Line::Day { day, .. } => put_day(rules, problem, *day),
+        Line::Day { day, .. } => put_day_rule(rules, problem, *day),
         Line::Dead { rules: cited, .. } => put_all(rules, cited),
         Line::Bound {
             rules: cited,
             weights,
             ..
-        } => put_bound(rules, problem, cited, weights),
+        } => put_cited_of_bound(rules, problem, cited, weights),
     }
 }
 
@@ -46,10 +47,10 @@ pub fn put_turn_cited(rules: &mut RuleList, problem: &Problem, turn: Turn) -> Re
     ensures names { OnOk result ((r : Rule) → Names problem.now rules.new r ↔ (Names problem.now rules.old r ⊎ TurnCites (Some turn) r)) }
     ensures err { OnErr result (rules.new ≡ rules.old) }
 {
-    put_day(rules, problem, turn.day)
+    put_day_rule(rules, problem, turn.day)
 }
 
-fn put_day(rules: &mut RuleList, problem: &Problem, day: u32) -> Result<(), AllocError>
+fn put_day_rule(rules: &mut RuleList, problem: &Problem, day: u32) -> Result<(), AllocError>
     requires { IsDay problem.now day }
     ensures ok { OnOk result (Adds rules.old rules.new (IsDayRule problem.now day)) }
     ensures err { OnErr result (rules.new ≡ rules.old) }
@@ -68,23 +69,23 @@ fn put_all(rules: &mut RuleList, cited: &RuleList) -> Result<(), AllocError>
 }
 
 fn put_days(rules: &mut RuleList, problem: &Problem, weights: &Weights) -> Result<(), AllocError>
-    requires { AllFit problem.now weights.now }
+    requires { WeightsFit problem.now weights.now }
     ensures ok { OnOk result (Adds rules.old rules.new (IsWeighedDayRule problem.now weights.now)) }
     ensures err { OnErr result (AddsSome rules.old rules.new (IsWeighedDayRule problem.now weights.now)) }
 {
     for entry in weights.entries() {
-        put_day(rules, problem, entry.day)?;
+        put_day_rule(rules, problem, entry.day)?;
     }
     Ok(())
 }
 
-fn put_bound(
+fn put_cited_of_bound(
     rules: &mut RuleList,
     problem: &Problem,
     cited: &RuleList,
     weights: &Weights,
 ) -> Result<(), AllocError>
-    requires { AllFit problem.now weights.now }
+    requires { WeightsFit problem.now weights.now }
     ensures ok { OnOk result (Adds rules.old rules.new (λ k. Contains cited.now k ⊎ IsWeighedDayRule problem.now weights.now k)) }
     ensures err { OnErr result (AddsSome rules.old rules.new (λ k. Contains cited.now k ⊎ IsWeighedDayRule problem.now weights.now k)) }
 {

@@ -3,7 +3,7 @@ ghost use Rattle.std.specs.Prelude.{◌≡◌, ◌≢◌, ◌<◌, ◌≤◌, �
 ghost use Rattle.std.specs.List.{list_all};
 ghost use Rattle.rwsp_terms.specs.Instance.{cells};
 ghost use Rattle.refutation_log.specs.FieldList.{fields_of, fields_after, rest_of};
-ghost use Rattle.refutation_log.specs.Reading.{is_plain, number_in, value_in, IsValue, is_visible, is_name, number_at, name_at, value_at, word_at, way_at, place_at, Reads, TakesNumber, ReadsBytes, ReadsRest};
+ghost use Rattle.refutation_log.specs.Reading.{is_plain, number_in, value_in, IsValue, is_visible, is_name, number_at, name_at, value_at, word_at, way_at, place_at, Reads, TakesNumber, ReadsRest};
 
 use rwsp_model::Problem;
 use rwsp_text::number;

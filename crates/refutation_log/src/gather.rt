@@ -2,7 +2,8 @@
 ghost use Rattle.std.specs.Prelude.{◌≡◌, ◌++◌, ◌∷◌, [], ◌≤ℤ◌, ◌≢◌, pos, negsuc, IfOk, OnOk, Option, List, AllPairs, true};
 ghost use Rattle.rwsp_terms.specs.Instance.{symbol_of};
 ghost use Rattle.rwsp_terms.specs.Weights.{AreWeights};
-ghost use Rattle.refutation_log.specs.Reading.{precedes, last_precedes, weight_of, added, IsValue};
+ghost use Rattle.refutation_log.specs.Reading.{IsValue};
+ghost use Rattle.refutation_log.specs.Gathering.{precedes, last_precedes, weight_of, added};
 
 use rwsp_model::Problem;
 use rwsp_terms::{Symbol, Weight, Weights};

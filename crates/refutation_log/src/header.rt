@@ -1,15 +1,20 @@
 // The header of a log's text: its version, the rules that it names, and its turn.
-ghost use Rattle.std.specs.Prelude.{◌≡◌, ◌≤◌, Option, Some, None, IfOk, MatchOption, MatchResult};
-ghost use Rattle.refutation_terms.specs.Verdict.{header_lines};
+ghost use Rattle.std.specs.Prelude.{◌≡◌, ◌≤◌, ◌++◌, Option, Some, None, IfOk, MatchOption, MatchResult, true};
+ghost use Rattle.rwsp_terms.specs.Instance.{Instance, name_of};
+ghost use Rattle.rwsp_model.specs.Refusals.{MatchAnswer};
+ghost use Rattle.refutation_terms.specs.Log.{AreRules, TurnFits};
+ghost use Rattle.refutation_terms.specs.LogText.{header_text, version_text, rules_text, turn_text};
+ghost use Rattle.refutation_terms.specs.Verdict.{header_lines, TurnsTo};
 ghost use Rattle.refutation_log.specs.FieldList.{fields_of};
-ghost use Rattle.refutation_log.specs.Refusals.{SpellsVersion, SpellsRules, SpellsThisTurn, IsTurnRefused};
+ghost use Rattle.refutation_log.specs.Refusals.{SpellsVersion, SpellsRules, IsTurnRefused};
 ghost use Rattle.refutation_log.specs.Reading.{named_at, turn_at};
+ghost use Rattle.refutation_log.specs.ReadLog.{IsHeaderRefused, BeginsWithHeader};
 
-use crate::LineRefusal;
 use crate::fields::Fields;
 use crate::line::{body_of, rule_numbers};
-use refutation_terms::Turn;
-use rwsp_model::Problem;
+use crate::{LineReader, LineRefusal};
+use refutation_terms::{LogRefusal, Turn};
+use rwsp_model::{Fail, Problem};
 use rwsp_terms::RuleList;
 use std::alloc::{AllocError, Global};
 
@@ -24,8 +29,109 @@ pub fn lines_of_header(turn: Option<Turn>) -> u32
     }
 }
 
-/// Whether the log has a turn, as its first line says; None where the line spells no version.
-pub fn read_version(bytes: &[u8]) -> Option<bool>
+/// What stands in front of a log's lines, and the bytes of these lines.
+#[derive(Debug, Drop)]
+pub struct Header<'a> {
+    pub named: RuleList,
+    pub turn: Option<Turn>,
+    pub body: &'a [u8],
+}
+
+/// The header of a text. Refused are a line that isn't spelled as it should be, a turn to a name that is no symbol's, and
+/// a text that ends before its header does; what the turn says isn't looked at.
+pub fn read_header<'a>(
+    alloc: Global,
+    problem: &Problem,
+    bytes: &'a [u8],
+) -> Result<Header<'a>, Fail<LogRefusal>>
+    ensures { MatchAnswer result
+        (λ h. BeginsWithHeader problem.now bytes.now h.named h.turn h.body.now)
+        (IsHeaderRefused problem.now bytes.now) }
+{
+    let mut reader = LineReader::new(bytes);
+    let has_turn = match version_line(&mut reader) {
+        Ok(has_turn) => has_turn,
+        Err(why) => return Err(Fail::Refused(why)),
+    };
+    let named = match rules_line(alloc, problem, &mut reader, has_turn) {
+        Ok(named) => named,
+        Err(fail) => return Err(fail),
+    };
+    if !has_turn {
+        return Ok(Header {
+            named,
+            turn: None,
+            body: reader.rest(),
+        });
+    }
+    match turn_line(problem, &mut reader, &named) {
+        Ok(turn) => Ok(Header {
+            named,
+            turn: Some(turn),
+            body: reader.rest(),
+        }),
+        Err(why) => Err(Fail::Refused(why)),
+    }
+}
+
+// Whether the first line says that there is a turn.
+fn version_line(reader: &mut LineReader) -> Result<bool, LogRefusal>
+    ensures { (P : Instance) → MatchResult result (λ v. reader.old ≡ version_text v ++ reader.new) (IsHeaderRefused P reader.old) }
+{
+    let Some(bytes) = reader.next() else {
+        return Err(LogRefusal::Ends);
+    };
+    match read_version(bytes) {
+        None => Err(LogRefusal::Form(1)),
+        Some(has_turn) => Ok(has_turn),
+    }
+}
+
+// The rules that the second line names.
+fn rules_line(
+    alloc: Global,
+    problem: &Problem,
+    reader: &mut LineReader,
+    has_turn: bool,
+) -> Result<RuleList, Fail<LogRefusal>>
+    ensures { MatchAnswer result
+        (λ R. AreRules problem.now R × (reader.old ≡ rules_text R ++ reader.new))
+        (IsHeaderRefused problem.now (version_text has_turn ++ reader.old)) }
+{
+    let Some(bytes) = reader.next() else {
+        return Err(Fail::Refused(LogRefusal::Ends));
+    };
+    match read_rules(alloc, problem, bytes) {
+        Err(_) => Err(Fail::Memory),
+        Ok(None) => Err(Fail::Refused(LogRefusal::Form(2))),
+        Ok(Some(named)) => Ok(named),
+    }
+}
+
+// The turn of the third line.
+fn turn_line(
+    problem: &Problem,
+    reader: &mut LineReader,
+    named: &RuleList,
+) -> Result<Turn, LogRefusal>
+    requires { AreRules problem.now named.now }
+    ensures { MatchResult result
+        (λ t. TurnFits problem.now (Some t) × (reader.old ≡ turn_text (name_of problem.now t.x) t.day ++ reader.new))
+        (IsHeaderRefused problem.now (version_text true ++ rules_text named.now ++ reader.old)) }
+{
+    problem.keeps_limits();
+    let Some(bytes) = reader.next() else {
+        return Err(LogRefusal::Ends);
+    };
+    match read_turn(problem, bytes) {
+        Ok(turn) => Ok(turn),
+        Err(LineRefusal::Form) => Err(LogRefusal::Form(3)),
+        Err(LineRefusal::Name) => Err(LogRefusal::Name(3)),
+    }
+}
+
+// Whether the log has a turn, as its first line says; None where the line spells no version.
+fn read_version(bytes: &[u8]) -> Option<bool>
     ensures { SpellsVersion bytes.now result }
 {
     if bytes == b"rwsp-log 1\n".as_slice() {
@@ -37,8 +143,8 @@ pub fn read_version(bytes: &[u8]) -> Option<bool>
     }
 }
 
-/// The rules that the second line names; None where the line spells no list of rules.
-pub fn read_rules(
+// The rules that the second line names; None where the line spells no list of rules.
+fn read_rules(
     alloc: Global,
     problem: &Problem,
     bytes: &[u8],
@@ -68,9 +174,9 @@ fn rules_of(alloc: Global, problem: &Problem, body: &[u8]) -> Result<Option<Rule
     }
 }
 
-/// The turn that the third line spells.
-pub fn read_turn(problem: &Problem, bytes: &[u8]) -> Result<Turn, LineRefusal>
-    ensures { MatchResult result (SpellsThisTurn problem.now bytes.now) (IsTurnRefused problem.now bytes.now) }
+// The turn that the third line spells.
+fn read_turn(problem: &Problem, bytes: &[u8]) -> Result<Turn, LineRefusal>
+    ensures { MatchResult result (λ t. TurnsTo problem.now bytes.now t.day t.x) (IsTurnRefused problem.now bytes.now) }
 {
     problem.keeps_limits();
     let Some(body) = body_of(bytes) else {

@@ -17,11 +17,11 @@ mod tests;
 mod turn;
 
 pub use cited::{put_cited, put_turn_cited};
-pub use header::{lines_of_header, read_rules, read_turn, read_version};
+pub use header::{Header, lines_of_header, read_header};
 pub use laws::{logs_have_one_text, texts_of_logs_are_read};
 pub use line::read_line;
-pub use log::Log;
-pub use print::{print_log, put_line};
+pub use log::{Log, copy_line};
+pub use print::print_log;
 pub use read::read_log;
 pub use reader::LineReader;
 pub use refusal::LineRefusal;

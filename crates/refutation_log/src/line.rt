@@ -7,7 +7,8 @@ ghost use Rattle.refutation_terms.specs.LogText.{RawSplit, RawWindow, RawDay};
 ghost use Rattle.refutation_terms.specs.Verdict.{Spells};
 ghost use Rattle.refutation_log.specs.FieldList.{fields_of};
 ghost use Rattle.refutation_log.specs.Refusals.{IsLineRefused};
-ghost use Rattle.refutation_log.specs.Reading.{split_at, window_at, day_at, head_at, rules_at, dead_at, weight_in, weights_at, bound_at, open_at, raw_at, Reads, Answers, GivesAll, most_turns, IsBound, IsValue};
+ghost use Rattle.refutation_log.specs.Reading.{split_at, window_at, day_at, head_at, rules_at, dead_at, weight_in, weights_at, bound_at, raw_at, Reads, Answers, most_turns, IsValue};
+ghost use Rattle.refutation_log.specs.Gathering.{GivesAll, IsBound};
 
 use crate::LineRefusal;
 use crate::fields::Fields;
@@ -58,18 +59,7 @@ fn read_body(alloc: Global, problem: &Problem, body: &[u8]) -> Result<Line, Fail
         read_dead(alloc, problem, &mut fields)
     } else if word == b"bound".as_slice() {
         read_bound(alloc, problem, &mut fields)
-    } else if word == b"open".as_slice() {
-        read_open(problem, &fields)
-    } else {
-        Err(FORM)
-    }
-}
-
-fn read_open(problem: &Problem, fields: &Fields) -> Result<Line, Fail<LineRefusal>>
-    ensures { Answers problem.now (open_at fields.now) result }
-{
-    let _ = problem;
-    if fields.is_done() {
+    } else if word == b"open".as_slice() && fields.is_done() {
         Ok(Line::Unfinished)
     } else {
         Err(FORM)
@@ -181,7 +171,6 @@ pub fn rule_numbers(
 }
 
 // Puts a number behind all others.
-
 fn put_behind(list: &mut RuleList, n: u32) -> Result<(), AllocError>
     requires ascends { IsStrictlyIncreasing list.old }
     requires last { All (λ k. k < n) list.old }

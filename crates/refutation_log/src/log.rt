@@ -1,8 +1,10 @@
-ghost use Rattle.std.specs.Prelude.{◌≡◌, ◌≤◌, length, Option};
+// Logs, and copies of them.
+ghost use Rattle.std.specs.Prelude.{◌≡◌, ◌≤◌, length, Option, IfOk};
 ghost use Rattle.refutation_terms.specs.Tree.{IsTree};
 
 use refutation_terms::{Line, Turn};
 use rwsp_terms::RuleList;
+use std::alloc::{AllocError, Global};
 use std::marker::Model;
 
 /// The rules that a refutation names, its turn if it has one, and its lines, which are one whole tree.
@@ -61,4 +63,72 @@ impl Log {
     {
         &self.lines
     }
+
+    /// The same log once more.
+    pub fn copy(&self) -> Result<Log, AllocError>
+        ensures { IfOk result (λ same. same ≡ self.now) }
+    {
+        let named = self.named.copy()?;
+        let lines = copy_lines(*self.lines.allocator(), &self.lines)?;
+        Ok(Log {
+            named,
+            turn: self.turn,
+            lines,
+        })
+    }
+}
+
+/// The same line once more.
+pub fn copy_line(line: &Line) -> Result<Line, AllocError>
+    ensures { IfOk result (λ same. same ≡ line.now) }
+{
+    match line {
+        Line::Split { p, x } => Ok(Line::Split { p: *p, x: *x }),
+        Line::Window { rule, p, len } => Ok(Line::Window {
+            rule: *rule,
+            p: *p,
+            len: *len,
+        }),
+        Line::Day { day, x, over } => Ok(Line::Day {
+            day: *day,
+            x: *x,
+            over: *over,
+        }),
+        Line::Dead { p, len, rules } => {
+            let rules = rules.copy()?;
+            Ok(Line::Dead {
+                p: *p,
+                len: *len,
+                rules,
+            })
+        }
+        Line::Bound {
+            p,
+            turns,
+            rules,
+            weights,
+        } => {
+            let rules = rules.copy()?;
+            let weights = weights.copy()?;
+            Ok(Line::Bound {
+                p: *p,
+                turns: *turns,
+                rules,
+                weights,
+            })
+        }
+        Line::Unfinished => Ok(Line::Unfinished),
+    }
+}
+
+// The same lines once more.
+fn copy_lines(alloc: Global, lines: &[Line]) -> Result<Vec<Line>, AllocError>
+    ensures { IfOk result (λ same. same.items ≡ lines.now) }
+{
+    let mut same = Vec::new(alloc);
+    for line in lines {
+        let copied = copy_line(line)?;
+        same.push(copied)?;
+    }
+    Ok(same)
 }

@@ -8,8 +8,7 @@ ghost use Rattle.rwsp_terms.specs.declared.data.Weight.{Weight};
 ghost use Rattle.refutation_terms.specs.declared.lines.Line.{Line};
 ghost use Rattle.refutation_terms.specs.Log.{Fits, LineFits, TurnFits};
 ghost use Rattle.refutation_terms.specs.LogText.{RawSplit, RawWindow, RawDay, RawDead, RawBound, raw, fields, line_text, log_text, header_text, rules_text, version_text, turn_text, place, numbers, weight_fields, named_weight, way};
-ghost use Rattle.refutation_log.specs.Cited.{AllFit};
-ghost use Rattle.refutation_log.specs.Printing.{spaced, lines_text, words_of};
+ghost use Rattle.refutation_log.specs.Printing.{spaced, lines_text, words_of, WeightsFit};
 
 use crate::Log;
 use refutation_terms::{Line, Turn};
@@ -29,8 +28,8 @@ pub fn print_log(alloc: Global, problem: &Problem, log: &Log) -> Result<Vec<u8>,
     Ok(out)
 }
 
-/// Appends the text of the line, with its LF.
-pub fn put_line(out: &mut Vec<u8>, problem: &Problem, line: &Line) -> Result<(), AllocError>
+// Appends the text of the line, with its LF.
+fn put_line(out: &mut Vec<u8>, problem: &Problem, line: &Line) -> Result<(), AllocError>
     requires { LineFits problem.now line.now }
     ensures ok { OnOk result (out.new.items ≡ out.old.items ++ line_text problem.now (raw problem.now line.now)) }
     ensures err { OnErr result (out.new.items ≡ out.old.items) }
@@ -189,7 +188,7 @@ fn put_bound(
     weights: &[Weight],
 ) -> Result<(), AllocError>
     requires place { p < cells problem.now }
-    requires symbols { AllFit problem.now weights.now }
+    requires symbols { WeightsFit problem.now weights.now }
     ensures { OnOk result (out.new.items ≡ out.old.items ++ join_with_byte 32 (fields problem.now (RawBound p turns rules.now (map (named_weight problem.now) weights.now)))) }
 {
     out.extend_from_slice(b"bound")?;
@@ -249,7 +248,7 @@ fn put_numbers(out: &mut Vec<u8>, all: &[u32]) -> Result<(), AllocError>
 
 #[tactic(auto, using(crate::proofs::PrintedTexts::pieces_more, crate::proofs::PrintedTexts::spaced_weights))]
 fn put_weights(out: &mut Vec<u8>, problem: &Problem, entries: &[Weight]) -> Result<(), AllocError>
-    requires { AllFit problem.now entries.now }
+    requires { WeightsFit problem.now entries.now }
     ensures { OnOk result (out.new.items ≡ out.old.items ++ spaced (words_of problem.now entries.now)) }
 {
     for entry in entries {

@@ -1,20 +1,18 @@
 // A log read from its text, line by line.
-ghost use Rattle.std.specs.Prelude.{◌≡◌, ◌≤◌, ◌<◌, ◌+◌, ◌^◌, ◌++◌, ◌∷◌, [], ℕ, List, length, MatchResult, OnOk, Some, true};
-ghost use Rattle.rwsp_terms.specs.Instance.{name_of};
+ghost use Rattle.std.specs.Prelude.{◌≡◌, ◌≤◌, ◌<◌, ◌+◌, ◌^◌, ◌++◌, ◌∷◌, [], ℕ, List, length, OnOk};
 ghost use Rattle.rwsp_model.specs.Refusals.{MatchAnswer};
 ghost use Rattle.refutation_terms.specs.Tree.{IsTree};
 ghost use Rattle.refutation_terms.specs.Log.{Fits, AreRules, TurnFits};
-ghost use Rattle.refutation_terms.specs.LogText.{log_text, header_text, version_text, rules_text, turn_text};
+ghost use Rattle.refutation_terms.specs.LogText.{log_text, header_text};
 ghost use Rattle.refutation_terms.specs.Verdict.{Spells};
 ghost use Rattle.refutation_log.specs.Printing.{lines_text};
 ghost use Rattle.refutation_log.specs.ReadLog.{IsUnread, IsReadSoFar, IsTreeLineRefused, open_after, log_with};
 
-use crate::header::{lines_of_header, read_rules, read_turn, read_version};
+use crate::header::{Header, lines_of_header, read_header};
 use crate::line::read_line;
 use crate::{LineReader, LineRefusal, Log};
-use refutation_terms::{Line, LogRefusal, Turn};
+use refutation_terms::{Line, LogRefusal};
 use rwsp_model::{Fail, Problem};
-use rwsp_terms::RuleList;
 use std::alloc::{AllocError, Global};
 
 /// The log that a text spells. Refused are a line that isn't spelled as one, a name that is no symbol's, a text that
@@ -25,11 +23,11 @@ pub fn read_log(alloc: Global, problem: &Problem, bytes: &[u8]) -> Result<Log, F
         (λ g. (bytes.now ≡ log_text problem.now g) × Fits problem.now g × IsTree g.lines)
         (IsUnread problem.now bytes.now) }
 {
-    let mut reader = LineReader::new(bytes);
-    let header = match read_header(alloc, problem, &mut reader) {
+    let header = match read_header(alloc, problem, bytes) {
         Ok(header) => header,
         Err(fail) => return Err(fail),
     };
+    let mut reader = LineReader::new(header.body);
     let lines = match read_lines(alloc, problem, &mut reader, &header) {
         Ok(lines) => lines,
         Err(fail) => return Err(fail),
@@ -39,96 +37,6 @@ pub fn read_log(alloc: Global, problem: &Problem, bytes: &[u8]) -> Result<Log, F
         Some(_) => Err(Fail::Refused(LogRefusal::Extra(
             lines_of_header(header.turn) + lines.len() as u32 + 1,
         ))),
-    }
-}
-
-// What stands in front of the lines.
-#[derive(Drop)]
-struct Header {
-    named: RuleList,
-    turn: Option<Turn>,
-}
-
-fn read_header(
-    alloc: Global,
-    problem: &Problem,
-    reader: &mut LineReader,
-) -> Result<Header, Fail<LogRefusal>>
-    ensures { MatchAnswer result
-        (λ h. AreRules problem.now h.named × TurnFits problem.now h.turn × (reader.old ≡ header_text problem.now h.named h.turn ++ reader.new))
-        (IsUnread problem.now reader.old) }
-{
-    let has_turn = match version_line(problem, reader) {
-        Ok(has_turn) => has_turn,
-        Err(why) => return Err(Fail::Refused(why)),
-    };
-    let named = match rules_line(alloc, problem, reader, has_turn) {
-        Ok(named) => named,
-        Err(fail) => return Err(fail),
-    };
-    if !has_turn {
-        return Ok(Header { named, turn: None });
-    }
-    match turn_line(problem, reader, &named) {
-        Ok(turn) => Ok(Header {
-            named,
-            turn: Some(turn),
-        }),
-        Err(why) => Err(Fail::Refused(why)),
-    }
-}
-
-fn version_line(problem: &Problem, reader: &mut LineReader) -> Result<bool, LogRefusal>
-    ensures { MatchResult result (λ v. reader.old ≡ version_text v ++ reader.new) (IsUnread problem.now reader.old) }
-{
-    let _ = problem;
-    let Some(bytes) = reader.next() else {
-        return Err(LogRefusal::Ends);
-    };
-    match read_version(bytes) {
-        None => Err(LogRefusal::Form(1)),
-        Some(has_turn) => Ok(has_turn),
-    }
-}
-
-fn rules_line(
-    alloc: Global,
-    problem: &Problem,
-    reader: &mut LineReader,
-    has_turn: bool,
-) -> Result<RuleList, Fail<LogRefusal>>
-    ensures { MatchAnswer result
-        (λ R. AreRules problem.now R × (reader.old ≡ rules_text R ++ reader.new))
-        (IsUnread problem.now (version_text has_turn ++ reader.old)) }
-{
-    let Some(bytes) = reader.next() else {
-        return Err(Fail::Refused(LogRefusal::Ends));
-    };
-    match read_rules(alloc, problem, bytes) {
-        Err(_) => Err(Fail::Memory),
-        Ok(None) => Err(Fail::Refused(LogRefusal::Form(2))),
-        Ok(Some(named)) => Ok(named),
-    }
-}
-
-fn turn_line(
-    problem: &Problem,
-    reader: &mut LineReader,
-    named: &RuleList,
-) -> Result<Turn, LogRefusal>
-    requires { AreRules problem.now named.now }
-    ensures { MatchResult result
-        (λ t. TurnFits problem.now (Some t) × (reader.old ≡ turn_text (name_of problem.now t.x) t.day ++ reader.new))
-        (IsUnread problem.now (version_text true ++ rules_text named.now ++ reader.old)) }
-{
-    problem.keeps_limits();
-    let Some(bytes) = reader.next() else {
-        return Err(LogRefusal::Ends);
-    };
-    match read_turn(problem, bytes) {
-        Ok(turn) => Ok(turn),
-        Err(LineRefusal::Form) => Err(LogRefusal::Form(3)),
-        Err(LineRefusal::Name) => Err(LogRefusal::Name(3)),
     }
 }
 

@@ -39,6 +39,13 @@ impl<'a> LineReader<'a> {
         self.bytes = rest;
         Some(line)
     }
+
+    /// The bytes that are left.
+    pub fn rest(&self) -> &'a [u8]
+        ensures { result.now ≡ self.now }
+    {
+        self.bytes
+    }
 }
 
 // Where the first line ends, behind its LF.

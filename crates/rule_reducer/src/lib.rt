@@ -2,7 +2,6 @@
 #![tactic(auto)]
 
 mod cited;
-mod copy;
 mod descent;
 mod lists;
 mod passing;

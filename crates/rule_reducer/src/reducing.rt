@@ -7,7 +7,6 @@ ghost use Rattle.refutation_terms.specs.Strip.{IsReduced};
 ghost use Rattle.refutation_terms.specs.Verdict.{IsRefused};
 ghost use Rattle.rule_reducer.specs.Needs.{NeedsEach, NeedsTogether};
 
-use crate::copy::copy_log;
 use crate::descent::descend;
 use refutation_checker::check_log;
 use refutation_log::Log;
@@ -21,7 +20,7 @@ fn descend_to_end(alloc: Global, problem: &Problem, log: &Log) -> Result<Log, Al
     ensures reduced { IfOk result (IsReduced problem.now log.now) }
     ensures passes { IfOk result (Passes problem.now) }
 {
-    let mut reduced = copy_log(alloc, log)?;
+    let mut reduced = log.copy()?;
     loop {
         let named = reduced.named().len();
         descend(alloc, problem, &mut reduced)?;

@@ -6,9 +6,8 @@ ghost use Rattle.rwsp_terms.specs.Rules.{rules, rule_of};
 ghost use Rattle.refutation_terms.specs.Log.{Fits};
 ghost use Rattle.refutation_terms.specs.Strip.{strip_line, strip};
 
-use crate::copy::copy_line;
 use crate::lists::{weights_without, without};
-use refutation_log::Log;
+use refutation_log::{Log, copy_line};
 use refutation_terms::Line;
 use rwsp_model::{Problem, Rule, number_of, rule_at};
 use std::alloc::{AllocError, Global};

@@ -15,9 +15,9 @@ returns-in-Window-clause-ok c =
 pub returns-in-Day-clause-ok : goal.returns-in-Day-clause-ok
 returns-in-Day-clause-ok c =
     let P = c.args.problem.now in
-    on_ok c.put_day.result _ _
+    on_ok c.put_day_rule.result _ _
     (λ h. adds_same _ _ (IsDayRule P c.in-Day.day) _ h (cited_along P _ _ (IsDayRule P c.in-Day.day) c.in-Day.is (day_cited P c.in-Day.day c.in-Day.x c.in-Day.over) c.requires))
-    c.put_day.ensures.ok
+    c.put_day_rule.ensures.ok
 
 pub returns-in-Dead-clause-ok : goal.returns-in-Dead-clause-ok
 returns-in-Dead-clause-ok c =
@@ -37,14 +37,14 @@ pub returns-in-Bound-clause-ok : goal.returns-in-Bound-clause-ok
 returns-in-Bound-clause-ok c =
     let P = c.args.problem.now in
     let A = λ (k : ℕ). Contains c.in-Bound.cited k ⊎ IsWeighedDayRule P c.in-Bound.weights k in
-    on_ok c.put_bound.result _ _
+    on_ok c.put_cited_of_bound.result _ _
     (λ h. adds_same _ _ A _ h (cited_along P _ _ A c.in-Bound.is (bound_cited P c.in-Bound.p c.in-Bound.turns c.in-Bound.cited c.in-Bound.weights) c.requires))
-    c.put_bound.ensures.ok
+    c.put_cited_of_bound.ensures.ok
 
 pub returns-in-Bound-clause-err : goal.returns-in-Bound-clause-err
 returns-in-Bound-clause-err c =
     let P = c.args.problem.now in
     let A = λ (k : ℕ). Contains c.in-Bound.cited k ⊎ IsWeighedDayRule P c.in-Bound.weights k in
-    on_err c.put_bound.result _ _
+    on_err c.put_cited_of_bound.result _ _
     (λ h. some_same _ _ A _ h (cited_along P _ _ A c.in-Bound.is (bound_cited P c.in-Bound.p c.in-Bound.turns c.in-Bound.cited c.in-Bound.weights) c.requires))
-    c.put_bound.ensures.err
+    c.put_cited_of_bound.ensures.err

@@ -2,7 +2,7 @@ use Rattle.std.proofs.Common.{◌≡◌, subst, sym, ap, ◌∙◌, arith, w32, 
 use Rattle.std.proofs.lemmas.Int.{to_z-of_z, ints}
 use Rattle.rwsp_terms.specs.Instance.{symbol_of}
 use Rattle.refutation_log.specs.declared.gather.Gathered.TheVariants.{Rising}
-use Rattle.refutation_log.specs.Reading.{added}
+use Rattle.refutation_log.specs.Gathering.{added}
 use Rattle.refutation_log.proofs.WeightsRead.{SoFar, so_far_none, so_far_more, so_far_all, so_far_missed, weight_shortens}
 use Rattle.refutation_log.proofs.line.weights.Goals as goal
 

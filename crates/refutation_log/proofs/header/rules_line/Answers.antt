@@ -1,5 +1,5 @@
 use Rattle.refutation_log.proofs.HeaderLines.{ends_versioned, rules_unread}
-use Rattle.refutation_log.proofs.read.rules_line.Goals as goal
+use Rattle.refutation_log.proofs.header.rules_line.Goals as goal
 
 pub returns-in_default : goal.returns-in_default
 returns-in_default c = ends_versioned c.args.problem.now c.args.has_turn _ c.in_default.ensures.line

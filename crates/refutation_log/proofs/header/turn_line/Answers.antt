@@ -1,5 +1,5 @@
 use Rattle.refutation_log.proofs.HeaderLines.{ends_before_turn, turn_unread_form, turn_unread_name, turn_spelled}
-use Rattle.refutation_log.proofs.read.turn_line.Goals as goal
+use Rattle.refutation_log.proofs.header.turn_line.Goals as goal
 
 pub returns-in_default : goal.returns-in_default
 returns-in_default c = ends_before_turn c.args.problem.now c.args.named.now _ c.requires c.in_default.ensures.line

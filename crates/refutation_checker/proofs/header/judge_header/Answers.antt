@@ -1,0 +1,23 @@
+use Rattle.std.proofs.Common.{sym, subst}
+use Rattle.refutation_terms.specs.Verdict.{IsRefused}
+use Rattle.refutation_log.specs.ReadLog.{BeginsWithHeader, IsHeaderRefused}
+use Rattle.refutation_log.proofs.LogLines.{fail_along}
+use Rattle.refutation_checker.proofs.Passing.{turn_refused}
+use Rattle.refutation_checker.proofs.header.judge_header.Goals as goal
+
+pub returns-in-Err : goal.returns-in-Err
+returns-in-Err c =
+    fail_along c.in-Err.fail _ _ (IsHeaderRefused c.args.problem.now c.args.bytes.now) (IsRefused c.args.problem.now c.args.bytes.now) (λ why h. h.1) c.in-Err.ensures
+
+pub turn_refusal-requires : goal.turn_refusal-requires
+turn_refusal-requires c = c.in-Ok.ensures.fits
+
+pub returns-in-None : goal.returns-in-None
+returns-in-None c = record { read = c.in-Ok.ensures; sound = c.in-None.ensures }
+
+pub returns : goal.returns
+returns c =
+    let P = c.args.problem.now in
+    let h = c.in-Ok.header in
+    let read = c.in-Ok.ensures in
+    subst (λ text. IsRefused P text c.in-Some.why) (sym read.whole) (turn_refused P h.named h.turn h.body.now c.in-Some.why c.keeps_limits.ensures read.rules read.fits c.in-Some.ensures)
