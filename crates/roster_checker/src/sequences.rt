@@ -1,8 +1,9 @@
 // Sequences of two or three symbols, anywhere round the cycle.
-ghost use Rattle.std.specs.Prelude.{◌≡◌, ℕ, ◌+◌, ◌<◌, ◌^◌, ◌↔◌, length, IsTrue, MatchOption};
+ghost use Rattle.std.specs.Prelude.{◌≡◌, ◌+◌, ◌<◌, ◌^◌, ◌↔◌, length, IsTrue, MatchOption};
+ghost use Rattle.rwsp_terms.specs.Roster.{HasNoWindow};
 ghost use Rattle.rwsp_terms.specs.Window.{cell};
 ghost use Rattle.roster_checker.specs.FirstBroken.{IsFirst};
-ghost use Rattle.roster_checker.specs.Scan.{HasNone, IsPair, IsTriple};
+ghost use Rattle.roster_checker.specs.Scan.{IsPair, IsTriple};
 
 use crate::cycle::{is_same, symbol_at};
 use crate::place::Place;
@@ -18,7 +19,7 @@ fn is_pair_at(cells: &[Symbol], p: u32, pair: (Symbol, Symbol)) -> bool
 /// The first place of the pair.
 pub fn first_pair(cells: &[Symbol], pair: (Symbol, Symbol)) -> Option<Place>
     requires { (0 < length cells.now) × (length cells.now < 2 ^ 31) }
-    ensures { MatchOption result (HasNone (IsPair pair) cells.now) (λ w. IsFirst (IsPair pair) cells.now w.position w.length) }
+    ensures { MatchOption result (HasNoWindow (IsPair pair) cells.now) (λ w. IsFirst (IsPair pair) cells.now w.position w.length) }
 {
     for position in 0..cells.len() as u32 {
         if is_pair_at(cells, position, pair) {
@@ -43,7 +44,7 @@ fn is_triple_at(cells: &[Symbol], p: u32, triple: (Symbol, Symbol, Symbol)) -> b
 /// The first place of the triple.
 pub fn first_triple(cells: &[Symbol], triple: (Symbol, Symbol, Symbol)) -> Option<Place>
     requires { (0 < length cells.now) × (length cells.now < 2 ^ 31) }
-    ensures { MatchOption result (HasNone (IsTriple triple) cells.now) (λ w. IsFirst (IsTriple triple) cells.now w.position w.length) }
+    ensures { MatchOption result (HasNoWindow (IsTriple triple) cells.now) (λ w. IsFirst (IsTriple triple) cells.now w.position w.length) }
 {
     for position in 0..cells.len() as u32 {
         if is_triple_at(cells, position, triple) {
