@@ -1,5 +1,5 @@
 // The endless word that repeats the cells.
-ghost use Rattle.std.specs.Prelude.{◌≡◌, ℕ, ◌<◌, ◌↔◌, length, IsTrue};
+ghost use Rattle.std.specs.Prelude.{◌≡◌, ◌<◌, ◌↔◌, length, IsTrue};
 ghost use Rattle.rwsp_terms.specs.Window.{cell};
 
 use rwsp_terms::Symbol;
