@@ -5,7 +5,7 @@ ghost use Rattle.rwsp_terms.specs.Window.{cell};
 ghost use Rattle.roster_checker.specs.FirstBroken.{IsFirst};
 ghost use Rattle.roster_checker.specs.Scan.{IsPair, IsTriple};
 
-use crate::cycle::{is_same, symbol_at};
+use crate::cycle::symbol_at;
 use crate::place::Place;
 use rwsp_terms::Symbol;
 
@@ -13,7 +13,7 @@ fn is_pair_at(cells: &[Symbol], p: u32, pair: (Symbol, Symbol)) -> bool
     requires { (p < length cells.now) × (length cells.now < 2 ^ 31) }
     ensures { IsTrue result ↔ ((cell cells.now p ≡ pair.0) × (cell cells.now (p + 1) ≡ pair.1)) }
 {
-    is_same(symbol_at(cells, p), pair.0) && is_same(symbol_at(cells, p + 1), pair.1)
+    symbol_at(cells, p) == pair.0 && symbol_at(cells, p + 1) == pair.1
 }
 
 /// The first place of the pair.
@@ -36,9 +36,9 @@ fn is_triple_at(cells: &[Symbol], p: u32, triple: (Symbol, Symbol, Symbol)) -> b
     requires { (p < length cells.now) × (length cells.now < 2 ^ 31) }
     ensures { IsTrue result ↔ ((cell cells.now p ≡ triple.0) × (cell cells.now (p + 1) ≡ triple.1) × (cell cells.now (p + 2) ≡ triple.2)) }
 {
-    is_same(symbol_at(cells, p), triple.0)
-        && is_same(symbol_at(cells, p + 1), triple.1)
-        && is_same(symbol_at(cells, p + 2), triple.2)
+    symbol_at(cells, p) == triple.0
+        && symbol_at(cells, p + 1) == triple.1
+        && symbol_at(cells, p + 2) == triple.2
 }
 
 /// The first place of the triple.
