@@ -24,7 +24,7 @@ use Rattle.refutation_terms.specs.Tree.{IsTree, after_trees, lines_in, opening, 
 use Rattle.refutation_terms.specs.Log.{Log, Fits, LineFits, TurnFits, TurnCites, AreRules, Passes, Holds}
 use Rattle.refutation_terms.specs.LogText.{raw, line_text, log_text, header_text, turn_text, fields}
 use Rattle.refutation_terms.specs.Verdict.{Reading, BeforeTurn, IsLeast, IsUnnamed, IsSoundSoFar, IsRefusedLine, IsRefused, TurnCause, TreeCause, header_lines}
-use Rattle.refutation_terms.specs.Spelling.{HasNames}
+use Rattle.refutation_terms.specs.TextLaws.{HasNames}
 use Rattle.refutation_terms.proofs.Spelled.{fitting_lines_are_spelled}
 use Rattle.refutation_terms.proofs.Trees.{part_is_not_whole, tree_is_whole}
 use Rattle.refutation_log.specs.Printing.{lines_text}

@@ -21,7 +21,7 @@ use Rattle.refutation_terms.specs.declared.lines.Line.TheVariants.{Split, Window
 use Rattle.refutation_terms.specs.declared.lines.Turn.{Turn}
 use Rattle.refutation_terms.specs.Log.{Log, Fits, LineFits, AreRules}
 use Rattle.refutation_terms.specs.LogText.{named_weight, with_weight, weights_of, raw, line_of, line_text, log_text, rules_text, turn_text, numbers, fields, IsName, IsInRange, WeightIsInRange, Ascends}
-use Rattle.refutation_terms.specs.Spelling.{HasNames, IsWritable}
+use Rattle.refutation_terms.specs.TextLaws.{HasNames, IsWritable}
 use Rattle.refutation_terms.proofs.Fronts.{texts_distinct}
 use Rattle.refutation_log.specs.FieldList.{fields_of}
 use Rattle.refutation_log.specs.Printing.{lines_text, EachFits}

@@ -1,7 +1,6 @@
 -- One cause for a line that is refused.
-use Rattle.std.proofs.Common.{◌≡◌, ℕ, ◌≤◌, List, [], ◌∷◌, ◌++◌, refl, ap, sym, ◌∙◌, subst, arith, inl, inr, true, false, Some, None, pos, ℤ}
-use Rattle.std.specs.Prelude.{◌≤ℤ◌, ◌<ℤ◌, ◌*ℤ◌}
-use Rattle.std.proofs.lemmas.Int.{ints}
+use Rattle.std.proofs.Common.{◌≡◌, ℕ, ◌≤◌, List, [], ◌∷◌, ◌++◌, refl, ap, sym, ◌∙◌, subst, arith, inl, inr, true, false, Some, None, pos}
+use Rattle.std.specs.Prelude.{◌<ℤ◌, ◌*ℤ◌}
 use Rattle.std.specs.Fmt.{decimal}
 use Rattle.std.proofs.lemmas.Fmt.{decimal_injective}
 use Rattle.rwsp_terms.specs.declared.data.Symbol.{Symbol}
@@ -15,11 +14,11 @@ use Rattle.refutation_terms.specs.declared.lines.LogRefusal.{LogRefusal}
 use Rattle.refutation_terms.specs.declared.lines.LogRefusal.TheVariants as Refusals
 use Rattle.refutation_terms.specs.Word.{Domains, weight, total}
 use Rattle.refutation_terms.specs.Tree.{is_idle}
-use Rattle.refutation_terms.specs.Log.{Holds, Cites, ListsShortOnly}
+use Rattle.refutation_terms.specs.Log.{Holds, Cites, CitesOnlyNamed, ListsShortOnly}
 use Rattle.refutation_terms.specs.Escape.{ComesFirst}
 use Rattle.refutation_terms.specs.LogText.{RawLine, raw, fields, text_of, line_text, line_of, turn_text, IsName, IsWritten}
 use Rattle.refutation_terms.specs.Verdict.{IsLeast, IsUnnamed, ListsLong, IsPlainLeaf, Escapes, SpellsNothing, SpellsUnknown, Spells, TreeCause, SpellsTurn, SpellsNoTurn, TurnCause, RulesCause, VersionCause, ExtraCause}
-use Rattle.refutation_terms.specs.Spelling.{IsWritable, HasNames}
+use Rattle.refutation_terms.specs.TextLaws.{IsWritable, HasNames}
 use Rattle.refutation_terms.proofs.TextParts.{same_fields}
 use Rattle.refutation_terms.proofs.TextLines.{same_line, line_fields, line_has_fields, day_small}
 use Rattle.refutation_terms.proofs.Texts.{turn_fields, turn_line}
@@ -71,16 +70,13 @@ abbrev pub IsIdleLine : Instance → Domains → Line → Type 0
 IsIdleLine P D (Split p x) = is_idle P D p x.number ≡ true
 IsIdleLine P D line = ⊥
 
-abbrev pub AllNamed : Instance → List ℕ → Line → Type 0
-AllNamed P named line = (r : Rule) → Cites P line r → Names P named r
-
 -- why a line that is spelled is refused
 pub data Reason (P : Instance) (named : List ℕ) (D : Domains) (n : ℕ) (line : Line) (why : LogRefusal) : Type 0 where
   OfName : (k : ℕ) → IsLeast (IsUnnamed P named (Cites P line)) k → why ≡ Refusals.Unnamed n k → Reason P named D n line why
   OfIdle : IsIdleLine P D line → why ≡ Refusals.Idle n → Reason P named D n line why
-  OfLong : AllNamed P named line → (k : ℕ) → IsLeast (ListsLong P line) k → why ≡ Refusals.Long n k → Reason P named D n line why
-  OfFail : AllNamed P named line → IsPlainLeaf line → (Holds P D line → ⊥) → why ≡ Refusals.Fails n → Reason P named D n line why
-  OfEscape : AllNamed P named line → ListsShortOnly P line → (u : List Symbol) → Escapes P D line u → why ≡ Refusals.Escape n u → Reason P named D n line why
+  OfLong : CitesOnlyNamed P named line → (k : ℕ) → IsLeast (ListsLong P line) k → why ≡ Refusals.Long n k → Reason P named D n line why
+  OfFail : CitesOnlyNamed P named line → IsPlainLeaf line → (Holds P D line → ⊥) → why ≡ Refusals.Fails n → Reason P named D n line why
+  OfEscape : CitesOnlyNamed P named line → ListsShortOnly P line → (u : List Symbol) → Escapes P D line u → why ≡ Refusals.Escape n u → Reason P named D n line why
   OfOpen : line ≡ Unfinished → why ≡ Refusals.Unfinished n → Reason P named D n line why
 
 idle_cites_none : (P : Instance) (D : Domains) (line : Line) (r : Rule) → IsIdleLine P D line → Cites P line r → ⊥

@@ -1,16 +1,16 @@
 -- Counting the positions of a day.
-use Rattle.std.proofs.Common.{◌≡◌, ℕ, zero, suc, ◌+◌, ◌-◌, ◌*◌, ◌<◌, ◌≤◌, List, length, get_or, refl, ◌∙◌, subst, arith, Bool, true, false, cond, IsTrue, ◌||◌, ◌==◌, not, count_by, pos, ℤ}
+use Rattle.std.proofs.Common.{◌≡◌, ℕ, suc, ◌+◌, ◌-◌, ◌*◌, ◌<◌, ◌≤◌, List, length, get_or, refl, ◌∙◌, subst, arith, Bool, true, false, IsTrue, ◌||◌, ◌==◌, not, pos, ℤ}
 use Rattle.std.specs.Prelude.{◌<ℤ◌, ◌≤ℤ◌}
 use Rattle.std.specs.List.{range_with_len, list_all}
 use Rattle.std.proofs.lemmas.Int.{ints}
 use Rattle.std.proofs.lemmas.List.FromFn.{length-range_with_len, get_or-range_with_len}
-use Rattle.std.proofs.lemmas.List.Sums.{AllPass-from_list_all, sum_by-cons}
+use Rattle.std.proofs.lemmas.List.Sums.{AllPass-from_list_all}
 use Rattle.std.proofs.Math.Nat.{mul-le-mul_right}
 use Rattle.std.proofs.lemmas.Bool.{eqb-true, eq-eqb}
 use Rattle.rwsp_terms.specs.declared.data.Symbol.{Symbol}
 use Rattle.rwsp_terms.specs.Instance.{Instance, cells, shift_count, least, greatest, IsDay, off_symbol}
 use Rattle.rwsp_terms.specs.Roster.{MeetsDay, weeks_with}
-use Rattle.rwsp_terms.proofs.Counting.{cond_mono, count_next, count_mono}
+use Rattle.rwsp_terms.proofs.Counting.{count_mono}
 use Rattle.refutation_terms.specs.Word.{Domains, Within}
 use Rattle.refutation_terms.specs.Leaf.{is_only, fixed, possible, HasTooMany, HasTooFew}
 use Rattle.refutation_terms.proofs.Tests.{right_of}

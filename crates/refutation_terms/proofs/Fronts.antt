@@ -7,7 +7,7 @@ use Rattle.refutation_terms.specs.declared.lines.Line.{Line}
 use Rattle.refutation_terms.specs.declared.lines.Turn.{Turn}
 use Rattle.refutation_terms.specs.Log.{Log, Fits, TurnFits, AreRules, LineFits}
 use Rattle.refutation_terms.specs.LogText.{numbers, text_of}
-use Rattle.refutation_terms.specs.Spelling.{IsWritable, HasNames, TextsAreDistinct}
+use Rattle.refutation_terms.specs.TextLaws.{IsWritable, HasNames, TextsAreDistinct}
 use Rattle.refutation_terms.proofs.TextLines.{numbers_same, rules_small}
 use Rattle.refutation_terms.proofs.Texts.{text_lines, AreFieldLines, one_is_longer, version_fields, rules_fields, turn_fields, header_fields, lines_fields, log_fields, log_written, log_lines, each_fits, lines_longer, turn_same}
 

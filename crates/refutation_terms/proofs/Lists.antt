@@ -1,6 +1,6 @@
 -- Facts of short lists that are known, one element at a time.
 use Rattle.std.proofs.Common.{◌≡◌, ◌≢◌, ◌⊎◌, ℕ, zero, suc, ◌+◌, ◌<◌, ◌≤◌, List, [], ◌∷◌, length, get_or, refl, ap, sym, ◌∙◌, subst, arith, inl, inr, Bool, true, false, IsTrue, ◌&&◌, ◌||◌, ◌==◌, Option, Some, None, pos}
-use Rattle.std.specs.Prelude.{All, AllPairs, Contains, slice_get, nat_lt, nat_le, ℤ, if◌then◌else◌}
+use Rattle.std.specs.Prelude.{AllPairs, Contains, slice_get, nat_lt, nat_le, ℤ, if◌then◌else◌}
 use Rattle.std.specs.List.{list_all, AllByRecursion}
 use Rattle.std.specs.List.Sorted.{IsStrictlyIncreasing}
 use Rattle.std.proofs.lemmas.Bool.{eqb-true, leb-true, ltb-true, cases_Bool}

@@ -1,5 +1,5 @@
 -- Tests of symbols and positions.
-use Rattle.std.proofs.Common.{◌≡◌, ◌⊎◌, refl, ap, inl, inr, IsTrue, Bool, true, false, ◌&&◌, ◌||◌, not}
+use Rattle.std.proofs.Common.{◌≡◌, refl, ap, IsTrue, Bool, true, false, ◌&&◌, ◌||◌, not}
 use Rattle.std.proofs.Math.Bool.{or-true}
 
 pub both : (a b : Bool) → IsTrue a → IsTrue b → IsTrue (a && b)

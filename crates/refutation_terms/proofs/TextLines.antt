@@ -13,7 +13,7 @@ use Rattle.rwsp_terms.specs.Rules.{rules}
 use Rattle.rwsp_terms.proofs.Elements.{all_to}
 use Rattle.refutation_terms.specs.Log.{AreRules}
 use Rattle.refutation_terms.specs.LogText.{NamedWeight, RawLine, RawSplit, RawWindow, RawDay, RawDead, RawBound, RawUnfinished, numbers, place, way, weight_fields, fields, WeightIsInRange, IsInRange}
-use Rattle.refutation_terms.specs.Spelling.{IsWritable}
+use Rattle.refutation_terms.specs.TextLaws.{IsWritable}
 use Rattle.refutation_terms.proofs.TextParts.{IsField, AreFields, AreDigits, decimal_is_digits, decimal_is_field, tested_field, name_is_field}
 
 -- numbers that are written

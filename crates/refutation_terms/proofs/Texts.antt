@@ -10,7 +10,7 @@ use Rattle.refutation_terms.specs.declared.lines.Line.{Line}
 use Rattle.refutation_terms.specs.declared.lines.Turn.{Turn}
 use Rattle.refutation_terms.specs.Log.{Log, Fits, LineFits, TurnFits, AreRules}
 use Rattle.refutation_terms.specs.LogText.{raw, numbers, fields, text_of, line_text, version_text, rules_text, turn_text, header_text, log_text, line_of, IsName}
-use Rattle.refutation_terms.specs.Spelling.{IsWritable, HasNames}
+use Rattle.refutation_terms.specs.TextLaws.{IsWritable, HasNames}
 use Rattle.refutation_terms.proofs.Spelled.{spell}
 use Rattle.refutation_terms.proofs.TextParts.{AreFields, same_fields, tested_field, decimal_is_field, name_is_field}
 use Rattle.refutation_terms.proofs.TextLines.{same_line, line_fields, line_has_fields, numbers_fields, rules_small, day_small}

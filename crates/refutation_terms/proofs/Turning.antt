@@ -11,7 +11,7 @@ use Rattle.rwsp_terms.specs.declared.data.Rule.{Rule}
 use Rattle.rwsp_terms.specs.declared.data.Rule.TheVariants.{MaxShift, MinShift, MaxOff, MinOff, MaxWork, MinWork, Pair, Triple, Day}
 use Rattle.rwsp_terms.specs.Instance.{Instance, cells, least, greatest, IsDay, IsSymbol, symbol_numbered, off_symbol}
 use Rattle.rwsp_terms.specs.Window.{Bad, cell, window}
-use Rattle.rwsp_terms.specs.Roster.{IsRoster, IsRule, MeetsDay, MeetsRule, HasNoBadWindow, weeks_with}
+use Rattle.rwsp_terms.specs.Roster.{IsRoster, IsRule, MeetsDay, MeetsRule, HasNoWindow, weeks_with}
 use Rattle.rwsp_terms.proofs.Windows.{length-window, get_or-window}
 use Rattle.rwsp_terms.proofs.Counting.{count_same, count_next}
 use Rattle.refutation_terms.specs.Word.{turned}
@@ -133,11 +133,11 @@ back_place P k p s long some =
     le_times k zero w h = absurd (omega (arith, h))
     le_times k (suc n) w h = let e : k * (suc n * w) ≡ k * w + k * (n * w) = omega arith in omega (arith, e)
 
-no_bad-turned : (P : Instance) (k : ℕ) (r : Rule) (s : List Symbol) → 0 < cells P → length s ≡ cells P → HasNoBadWindow P r s → HasNoBadWindow P r (turned P k s)
+no_bad-turned : (P : Instance) (k : ℕ) (r : Rule) (s : List Symbol) → 0 < cells P → length s ≡ cells P → HasNoWindow (Bad P r) s → HasNoWindow (Bad P r) (turned P k s)
 no_bad-turned P k r s some long h p len lt bad =
     no_bad_window P r s (omega (arith, some, long)) h (k * P.days + p) len (subst (Bad P r) (window-turned P k s p len some long) bad)
 
-no_bad-back : (P : Instance) (k : ℕ) (r : Rule) (s : List Symbol) → 0 < cells P → length s ≡ cells P → HasNoBadWindow P r (turned P k s) → HasNoBadWindow P r s
+no_bad-back : (P : Instance) (k : ℕ) (r : Rule) (s : List Symbol) → 0 < cells P → length s ≡ cells P → HasNoWindow (Bad P r) (turned P k s) → HasNoWindow (Bad P r) s
 no_bad-back P k r s some long h p len lt bad =
     let q = back_place P k p s long some in
     let positive : 0 < length (turned P k s) = omega (arith, some, length-turned P k s) in

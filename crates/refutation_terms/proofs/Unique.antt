@@ -20,7 +20,7 @@ use Rattle.refutation_terms.specs.Tree.{IsTree, after_trees, domains_at, opening
 use Rattle.refutation_terms.specs.Log.{Log, LineFits, TurnFits, AreRules, Holds, Cites, TurnCites, IsAllowed, ListsShortOnly, IsGrounded, Passes}
 use Rattle.refutation_terms.specs.LogText.{raw, fields, text_of, line_text, version_text, rules_text, turn_text}
 use Rattle.refutation_terms.specs.Verdict.{Front, Start, Versioned, BeforeTurn, Reading, front_text, HasNoCause, IsSoundSoFar, IsWhole, header_lines, Cause, VersionCause, RulesCause, HasNoFeed, IsNextLine, IsRefusedLine, EndsEarly, IsRefused, IsAccepted}
-use Rattle.refutation_terms.specs.Spelling.{IsWritable, HasNames, VerdictIsUnique}
+use Rattle.refutation_terms.specs.TextLaws.{IsWritable, HasNames, VerdictIsUnique}
 use Rattle.refutation_terms.proofs.Spelled.{fitting_lines_are_spelled}
 use Rattle.refutation_terms.proofs.Trees.{part_is_not_whole, tree_is_whole}
 use Rattle.refutation_terms.proofs.TextParts.{IsInField, AreFields}

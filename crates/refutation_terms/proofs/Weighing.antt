@@ -11,10 +11,10 @@ use Rattle.rwsp_terms.specs.declared.data.Symbol.{Symbol}
 use Rattle.rwsp_terms.specs.declared.data.Weight.{Weight}
 use Rattle.rwsp_terms.specs.Instance.{Instance, cells, shift_count, least, greatest, IsDay, off_symbol}
 use Rattle.rwsp_terms.specs.Window.{cell, window}
-use Rattle.rwsp_terms.specs.Roster.{IsRoster, MeetsDay, weeks_with}
+use Rattle.rwsp_terms.specs.Roster.{IsRoster, weeks_with}
 use Rattle.rwsp_terms.specs.Weights.{weight_at}
 use Rattle.refutation_terms.specs.Word.{weight, int_sum_by, least_weight, total}
-use Rattle.refutation_terms.specs.Log.{HasWeight}
+use Rattle.refutation_terms.specs.Laws.{MeetsWeighedDays, HasSingleNumbers}
 use Rattle.refutation_terms.proofs.Counts.{in_column}
 use Rattle.refutation_terms.proofs.Sums.{sum_same, sum_le, sum_shift, sum_periods, sum_rows, sum_exchange, sum_by_number, times_pos_le, min_between, min_same}
 
@@ -98,35 +98,28 @@ min_zero v l c g e =
 equal_le : (a b : ℤ) → a ≡ b → a ≤ℤ b
 equal_le a b e = omega (arith, ints)
 
-abbrev pub DaysAreMet : Instance → List Weight → List Symbol → Type 0
-DaysAreMet P y s = (j : ℕ) → IsDay P j → HasWeight y j → MeetsDay P j s
-
-weeks_weigh_enough : (P : Instance) (y : List Weight) (s : List Symbol) (j x : ℕ) → DaysAreMet P y s → IsDay P j → x ≤ shift_count P → (weight_at y j x ≡ pos 0) ⊎ (weight_at y j x ≢ pos 0) → least_weight P y j x ≤ℤ weeks_weight P y s j x
+weeks_weigh_enough : (P : Instance) (y : List Weight) (s : List Symbol) (j x : ℕ) → MeetsWeighedDays P y s → IsDay P j → x ≤ shift_count P → (weight_at y j x ≡ pos 0) ⊎ (weight_at y j x ≢ pos 0) → least_weight P y j x ≤ℤ weeks_weight P y s j x
 weeks_weigh_enough P y s j x met day small (inl e) = equal_le (least_weight P y j x) (weeks_weight P y s j x) (min_zero (weight_at y j x) (least P x j) (pos (weeks_with P s x j)) (greatest P x j) e)
 weeks_weigh_enough P y s j x met day small (inr ne) =
     let bounds = met j day (x, ne) x small in
     min_between (weight_at y j x) (least P x j) (pos (weeks_with P s x j)) (greatest P x j) bounds.0 bounds.1
 
-pub days_weigh_enough : (P : Instance) (y : List Weight) (s : List Symbol) → DaysAreMet P y s → total P y ≤ℤ int_sum_by (day_weight P y s) (range_with_len 1 P.days)
+pub days_weigh_enough : (P : Instance) (y : List Weight) (s : List Symbol) → MeetsWeighedDays P y s → total P y ≤ℤ int_sum_by (day_weight P y s) (range_with_len 1 P.days)
 days_weigh_enough P y s met =
     sum_le (λ j. int_sum_by (λ x. least_weight P y j x) (range_with_len 0 (shift_count P + 1))) (day_weight P y s) 1 P.days
     (λ j le lt. sum_le (λ x. least_weight P y j x) (λ x. weeks_weight P y s j x) 0 (shift_count P + 1)
     (λ x low high. weeks_weigh_enough P y s j x met (omega (arith, le), omega (arith, lt)) (omega (arith, high)) (weighs_or_not (weight_at y j x))))
 
 -- where the day rules are met that the weights bear on, a window of whole turns weighs at least so many times the total
-pub window_weighs_enough : (P : Instance) (y : List Weight) (s : List Symbol) (p turns : ℕ) → IsRoster P s → DaysAreMet P y s → (pos turns *ℤ total P y) ≤ℤ weight P y p (window s p (turns * cells P))
+pub window_weighs_enough : (P : Instance) (y : List Weight) (s : List Symbol) (p turns : ℕ) → IsRoster P s → MeetsWeighedDays P y s → (pos turns *ℤ total P y) ≤ℤ weight P y p (window s p (turns * cells P))
 window_weighs_enough P y s p turns roster met =
     subst (λ z. (pos turns *ℤ total P y) ≤ℤ z) (sym (turns_weight P y s p turns roster))
     (times_pos_le turns (total P y) (int_sum_by (day_weight P y s) (range_with_len 1 P.days)) (days_weigh_enough P y s met))
 
--- and where these days have single numbers, exactly so
-abbrev pub AreSingle : Instance → List Weight → Type 0
-AreSingle P y = (j x : ℕ) → IsDay P j → HasWeight y j → x ≤ shift_count P → least P x j ≡ greatest P x j
-
 squeezed : (l c g : ℤ) → l ≤ℤ c → c ≤ℤ g → l ≡ g → (l ≡ c) × (g ≡ c)
 squeezed l c g a b e = (omega (arith, ints), omega (arith, ints))
 
-weeks_weigh_exactly : (P : Instance) (y : List Weight) (s : List Symbol) (j x : ℕ) → DaysAreMet P y s → AreSingle P y → IsDay P j → x ≤ shift_count P → (weight_at y j x ≡ pos 0) ⊎ (weight_at y j x ≢ pos 0) → least_weight P y j x ≡ weeks_weight P y s j x
+weeks_weigh_exactly : (P : Instance) (y : List Weight) (s : List Symbol) (j x : ℕ) → MeetsWeighedDays P y s → HasSingleNumbers P y → IsDay P j → x ≤ shift_count P → (weight_at y j x ≡ pos 0) ⊎ (weight_at y j x ≢ pos 0) → least_weight P y j x ≡ weeks_weight P y s j x
 weeks_weigh_exactly P y s j x met single day small (inl e) = min_zero (weight_at y j x) (least P x j) (pos (weeks_with P s x j)) (greatest P x j) e
 weeks_weigh_exactly P y s j x met single day small (inr ne) =
     let bounds = met j day (x, ne) x small in
@@ -134,7 +127,8 @@ weeks_weigh_exactly P y s j x met single day small (inr ne) =
     let v = weight_at y j x in
     ap (λ z. int_min (v *ℤ z) (v *ℤ greatest P x j)) same.0 ∙ ap (λ z. int_min (v *ℤ pos (weeks_with P s x j)) (v *ℤ z)) same.1 ∙ min_same (v *ℤ pos (weeks_with P s x j))
 
-pub window_weighs_exactly : (P : Instance) (y : List Weight) (s : List Symbol) (p turns : ℕ) → IsRoster P s → DaysAreMet P y s → AreSingle P y → weight P y p (window s p (turns * cells P)) ≡ pos turns *ℤ total P y
+-- and where these days have single numbers, exactly so
+pub window_weighs_exactly : (P : Instance) (y : List Weight) (s : List Symbol) (p turns : ℕ) → IsRoster P s → MeetsWeighedDays P y s → HasSingleNumbers P y → weight P y p (window s p (turns * cells P)) ≡ pos turns *ℤ total P y
 window_weighs_exactly P y s p turns roster met single =
     turns_weight P y s p turns roster
     ∙ ap (λ z. pos turns *ℤ z) (sym (sum_same (λ j. int_sum_by (λ x. least_weight P y j x) (range_with_len 0 (shift_count P + 1))) (day_weight P y s) 1 P.days

@@ -8,7 +8,7 @@ use Rattle.rwsp_terms.specs.declared.data.Rule.{Rule}
 use Rattle.rwsp_terms.specs.declared.data.Rule.TheVariants.{MaxShift, MinShift, MaxOff, MinOff, MaxWork, MinWork, Pair, Triple, Day}
 use Rattle.rwsp_terms.specs.Instance.{Instance, cells, off_symbol}
 use Rattle.rwsp_terms.specs.Window.{Bad, cell, window}
-use Rattle.rwsp_terms.specs.Roster.{MeetsRule, HasNoBadWindow}
+use Rattle.rwsp_terms.specs.Roster.{MeetsRule, HasNoWindow}
 use Rattle.rwsp_terms.specs.Rules.{Meets}
 use Rattle.rwsp_terms.proofs.Windows.{length-window, window-add}
 use Rattle.refutation_terms.specs.Word.{Domains, Within, Over, Clean}
@@ -37,7 +37,7 @@ over-window P D s p (suc len) some w =
     (subst (λ m. IsTrue (D (p % cells P) (get_or s (p % m) off_symbol).number)) (sym long) here, over-window P D s (p + 1) len some w)
 
 -- a rule that is met has no bad window from any position
-pub no_bad_window : (P : Instance) (r : Rule) (s : List Symbol) → 0 < length s → HasNoBadWindow P r s → (p len : ℕ) → Bad P r (window s p len) → ⊥
+pub no_bad_window : (P : Instance) (r : Rule) (s : List Symbol) → 0 < length s → HasNoWindow (Bad P r) s → (p len : ℕ) → Bad P r (window s p len) → ⊥
 no_bad_window P r s some h p len bad =
     h (p % length s) len (mod_below p (length s) some) (subst (Bad P r) (window-same s p (p % length s) len (sym (mod-mod p (length s)))) bad)
 

@@ -1,9 +1,8 @@
 -- Going through all words over domains.
-use Rattle.std.proofs.Common.{◌≡◌, ◌⊎◌, ℕ, zero, suc, ◌+◌, ◌*◌, ◌%◌, ◌<◌, ◌≤◌, List, [], ◌∷◌, ◌++◌, length, get_or, refl, ap, sym, ◌∙◌, subst, append_assoc, arith, inl, inr, Bool, true, false, IsTrue, ◌||◌, not, Option, Some, None, pos, ◌==◌, ℤ, ◌&&◌}
-use Rattle.std.specs.Prelude.{◌*ℤ◌, nat_lt, ◌≤ℤ◌, ◌<ℤ◌}
+use Rattle.std.proofs.Common.{◌≡◌, ℕ, zero, suc, ◌+◌, ◌*◌, ◌%◌, ◌<◌, ◌≤◌, List, [], ◌∷◌, ◌++◌, length, get_or, refl, ap, sym, ◌∙◌, subst, append_assoc, arith, inl, inr, Bool, true, false, IsTrue, ◌||◌, not, Option, Some, None, pos, ◌==◌, ◌&&◌}
+use Rattle.std.specs.Prelude.{◌*ℤ◌, nat_lt}
 use Rattle.std.specs.List.{range_with_len, list_all}
 use Rattle.std.specs.Int.Signed.{lt_z, lt_z_yes, le_z, le_z_yes}
-use Rattle.std.proofs.lemmas.Int.{ints}
 use Rattle.std.proofs.lemmas.Bool.{eqb-true, ltb-true, or_left, or_right, or_parts, or_cases}
 use Rattle.std.proofs.lemmas.Float.{T_from_true}
 use Rattle.std.proofs.lemmas.List.{append-nil}

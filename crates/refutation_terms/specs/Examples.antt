@@ -12,7 +12,8 @@ use Rattle.refutation_terms.specs.Log.{Log}
 abbrev pub from_to : ℕ → ℕ → Bounds
 from_to a b = record { least = a; greatest = b }
 
--- days, weeks, the demand of D day by day, and the bounds of the blocks of D, of days off and of work
+-- days, weeks, the demand of D day by day, and the bounds of the blocks of D, of days off and of work.
+-- Rules 1 and 2 bound the blocks of D, 3 and 4 the days off, 5 and 6 the work; the days follow from 7 on
 abbrev pub one_shift : ℕ → ℕ → List Bounds → Bounds → Bounds → Bounds → Instance
 one_shift days weeks demand block off work = record {
   days = days;
@@ -25,14 +26,15 @@ one_shift days weeks demand block off work = record {
   triples = [];
 }
 
--- rules 1 and 2 bound the blocks of D, 3 and 4 the days off, 5 and 6 the work; the days follow from 7 on
+-- the shift D
 abbrev pub shift_D : Symbol
 shift_D = record { number = 1 }
 
+-- D weighs 1 on the day
 abbrev pub weighs : ℕ → Weight
 weighs day = record { day = day; symbol = shift_D; value = pos 1 }
 
--- the lines of a text
+-- the text of these lines
 abbrev pub text : List (List ℕ) → List ℕ
 text lines = flat_map (λ line. line ++ 10 ∷ []) lines
 
@@ -121,17 +123,19 @@ none_demanded_text = text (codes "rwsp-log 2" ∷ codes "rules 7" ∷ codes "tur
 abbrev pub heavy_word : List Symbol
 heavy_word = shift_D ∷ record { number = 0 } ∷ record { number = 0 } ∷ shift_D ∷ []
 
--- the weights that the search finds in round 2 for D on both days: D for more, days off for less
+-- what the symbol of the number weighs on the day
 abbrev pub weight_of : ℕ → ℕ → ℤ → Weight
 weight_of day symbol value = record { day = day; symbol = record { number = symbol }; value = value }
 
+-- the weights that the search finds in round 2 for D on both days: D for more, days off for less
 abbrev pub searched_weights : List Weight
 searched_weights = weight_of 1 0 (negsuc 0) ∷ weight_of 1 1 (pos 1) ∷ weight_of 2 0 (negsuc 0) ∷ weight_of 2 1 (pos 1) ∷ []
 
--- its plain bounds: +1 and -1 on all shifts, which is D alone, and again on D
+-- D weighs so much on each of two days
 abbrev pub on_both_days : ℤ → List Weight
 on_both_days value = weight_of 1 1 value ∷ weight_of 2 1 value ∷ []
 
+-- the plain bounds for D on both days: +1 and -1 on all shifts, which is D alone, and again on D
 abbrev pub four_bounds : List (List Weight)
 four_bounds = on_both_days (pos 1) ∷ on_both_days (negsuc 0) ∷ on_both_days (pos 1) ∷ on_both_days (negsuc 0) ∷ []
 

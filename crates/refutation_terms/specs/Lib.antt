@@ -7,6 +7,6 @@ pub mod Sharp
 pub mod Strip
 pub mod LogText
 pub mod Verdict
-pub mod Spelling
+pub mod TextLaws
 pub mod Laws
 pub mod Examples

@@ -28,9 +28,13 @@ IsLength len = (0 < len) × (len ≤ 16800)
 abbrev pub AreRules : Instance → List ℕ → Type 0
 AreRules P R = IsStrictlyIncreasing R × All (λ k. (0 < k) × (k ≤ length (rules P))) R
 
--- weights on days and symbols of the problem
+-- each weight is that of a symbol of the problem on one of its days
+abbrev pub WeightsFit : Instance → List Weight → Type 0
+WeightsFit P y = All (λ e. IsDay P e.day × IsSymbol P e.symbol) y
+
+-- weights in order, on days and symbols of the problem
 abbrev pub AreWeightsOf : Instance → List Weight → Type 0
-AreWeightsOf P y = AreWeights y × All (λ e. IsDay P e.day × IsSymbol P e.symbol) y
+AreWeightsOf P y = AreWeights y × WeightsFit P y
 
 -- the numbers of a line are in their ranges, and its symbols are the problem's
 abbrev pub LineFits : Instance → Line → Type 0
@@ -74,6 +78,10 @@ Cites P (Day j x over) r = r ≡ TheRules.Day j
 Cites P (Dead p len R) r = Names P R r
 Cites P (Bound p turns R y) r = Names P R r ⊎ ((j : ℕ) × HasWeight y j × (r ≡ TheRules.Day j))
 Cites P Unfinished r = ⊥
+
+-- each rule that the line rests on is named
+abbrev pub CitesOnlyNamed : Instance → List ℕ → Line → Type 0
+CitesOnlyNamed P named line = (r : Rule) → Cites P line r → Names P named r
 
 -- the rule that a turn rests on
 abbrev pub TurnCites : Option Turn → Rule → Type 0

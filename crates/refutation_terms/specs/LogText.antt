@@ -28,11 +28,11 @@ pub data RawLine : Type 0 where
   RawBound : (p turns : ℕ) (R : List ℕ) (y : List NamedWeight) → RawLine
   RawUnfinished : RawLine
 
--- the line with the names of its symbols
+-- a weight with the name of its symbol
 abbrev pub named_weight : Instance → Weight → NamedWeight
 named_weight P e = record { day = e.day; name = name_of P e.symbol; value = e.value }
 
--- and the line itself
+-- a line with the names of its symbols
 abbrev pub raw : Instance → Line → RawLine
 raw P (Split p x) = RawSplit p (name_of P x)
 raw P (Window rule p len) = RawWindow rule p len

@@ -12,7 +12,7 @@ use Rattle.refutation_terms.specs.declared.lines.LogRefusal.{LogRefusal}
 use Rattle.refutation_terms.specs.declared.lines.LogRefusal.TheVariants as Refusals
 use Rattle.refutation_terms.specs.Word.{Domains, weight, total}
 use Rattle.refutation_terms.specs.Tree.{IsTree, domains_at, is_idle}
-use Rattle.refutation_terms.specs.Log.{Log, Holds, HoldsAt, AreRules, Cites, ListsShortOnly, IsGrounded, Passes}
+use Rattle.refutation_terms.specs.Log.{Log, Holds, HoldsAt, AreRules, Cites, CitesOnlyNamed, ListsShortOnly, IsGrounded, Passes}
 use Rattle.refutation_terms.specs.Escape.{IsLeastClean, IsLeastHeaviest}
 use Rattle.refutation_terms.specs.LogText.{RawLine, IsName, IsWritten, line_of, version_text, rules_text, turn_text, log_text}
 
@@ -60,7 +60,7 @@ Spells P bytes line = (raw : RawLine) × IsWritten P bytes raw × (line_of P raw
 
 -- and each rule that it cites is named
 abbrev pub SpellsNamed : Instance → List ℕ → List ℕ → Line → Type 0
-SpellsNamed P named bytes line = Spells P bytes line × ((r : Rule) → Cites P line r → Names P named r)
+SpellsNamed P named bytes line = Spells P bytes line × CitesOnlyNamed P named line
 
 -- the line that the bytes spell cites a rule that isn't named, and this is the least one
 abbrev pub CitesUnnamed : Instance → List ℕ → List ℕ → ℕ → Type 0

@@ -1,4 +1,5 @@
-// The definitions tried on small problems. Each function's contract says that a log passes or doesn't, or what its text is.
+// The definitions tried on small problems. Each function's contract says that a log passes or doesn't, is sharp, spent or
+// reduced, what its text is, the verdict on a text, or what the search for weights finds.
 ghost use Rattle.std.specs.Prelude.{◌≡◌, ℕ, List, [], ◌∷◌, Ok, Err};
 ghost use Rattle.refutation_terms.specs.Word.{full};
 ghost use Rattle.refutation_terms.specs.Log.{Passes, IsSpent, size};

@@ -1,6 +1,6 @@
 // Laws of the definitions. Each function's contract is the law, and specs/Laws.antt states it.
 ghost use Rattle.refutation_terms.specs.Laws.{TreesAreAsSaid, WalksReadTrees, SidesAreAsSaid, DomainsAreAsSaid, IdleIsAsSaid, OverIsAsSaid, DomainsAreNeverEmpty, WindowsAreOver, SidesTakeAll, SidesShareNone, WindowsAreClean, PartsAreClean, FewerRulesAreClean, WindowsWeighEnough, WindowsWeighExactly, TurningKeepsRules, TurningKeepsLists, SomeTurnHasIt, PassingLeavesNoRoster, PassingIsNotSpent};
-ghost use Rattle.refutation_terms.specs.Spelling.{SpelledLinesFit, FittingLinesAreSpelled, TextsAreDistinct, VerdictIsUnique};
+ghost use Rattle.refutation_terms.specs.TextLaws.{SpelledLinesFit, FittingLinesAreSpelled, TextsAreDistinct, VerdictIsUnique};
 
 /// A log that passes, with or without a turn, and a roster that meets the rules that it names exclude each other.
 pub fn passing_leaves_no_roster()

@@ -1,3 +1,4 @@
+pub mod BlockCells
 pub mod FirstBroken
 pub mod FirstSequence
 pub mod Runs

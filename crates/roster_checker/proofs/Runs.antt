@@ -4,12 +4,14 @@ use Rattle.std.specs.Prelude.{slice_index_or, Bool, true, not, IsTrue}
 use Rattle.std.proofs.lemmas.Bool.{cases_lt, cases_order}
 use Rattle.std.proofs.Math.Nat.{add-mod_right}
 use Rattle.rwsp_terms.specs.Instance.{off_symbol}
-use Rattle.rwsp_terms.specs.Window.{window, cell, InClass, TooLong, TooShort, IsShortBlock}
+use Rattle.rwsp_terms.specs.Roster.{HasNoWindow}
+use Rattle.rwsp_terms.specs.Window.{window, cell, InClass, TooLong, TooShort}
 use Rattle.rwsp_terms.specs.declared.data.Symbol.{Symbol}
 use Rattle.rwsp_terms.specs.declared.data.Class.{Class}
-use Rattle.rwsp_terms.proofs.Windows.{length-window, TooLong-from_cells, cells-from_TooLong, TooShort-from_cells, cells-from_TooShort}
+use Rattle.rwsp_terms.proofs.Windows.{length-window}
 use Rattle.roster_checker.specs.FirstBroken.{IsFirst}
-use Rattle.roster_checker.specs.Scan.{HasNone, IsRun}
+use Rattle.roster_checker.specs.Scan.{IsRun, IsShortBlock}
+use Rattle.roster_checker.proofs.BlockCells.{TooLong-from_cells, cells-from_TooLong, TooShort-from_cells, cells-from_TooShort}
 
 -- a test and its opposite
 pub not_both : (b : Bool) → IsTrue b → IsTrue (not b) → ⊥
@@ -138,7 +140,7 @@ no_block_past s c least end here none q t lt b =
     ]
 
 -- no window is too short where no short block ends early enough
-pub none_too_short : (s : List Symbol) (c : Class) (least end : ℕ) → end ≡ length s + least → ((q t : ℕ) → q + 1 + t < end → IsShortBlock s c least q t → ⊥) → HasNone (TooShort c least) s
+pub none_too_short : (s : List Symbol) (c : Class) (least end : ℕ) → end ≡ length s + least → ((q t : ℕ) → q + 1 + t < end → IsShortBlock s c least q t → ⊥) → HasNoWindow (TooShort c least) s
 none_too_short s c least end e none p len lt bad =
     let b = cells-from_TooShort s c least p len bad in
     none p (length bad.block) (omega (arith, b.few)) b

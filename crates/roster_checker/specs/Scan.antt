@@ -1,18 +1,14 @@
 -- What the parts of the check decide. No public contract cites these.
-use Rattle.std.specs.Prelude.{◌≡◌, ℕ, ◌+◌, ◌<◌, ◌≤◌, List, [], ◌∷◌, length}
+use Rattle.std.specs.Prelude.{◌≡◌, ℕ, ◌+◌, ◌<◌, ◌≤◌, List, [], ◌∷◌}
 use Rattle.rwsp_terms.specs.Instance.{Instance}
 use Rattle.rwsp_terms.specs.Roster.{MeetsDay}
-use Rattle.rwsp_terms.specs.Window.{InClass, cell, window, Bad}
+use Rattle.rwsp_terms.specs.Window.{InClass, cell, Bad}
 use Rattle.rwsp_terms.specs.declared.data.Symbol.{Symbol}
 use Rattle.rwsp_terms.specs.declared.data.Class.{Class}
 use Rattle.rwsp_terms.specs.declared.data.Rule.{Rule}
 use Rattle.rwsp_terms.specs.declared.data.Rule.TheVariants.{Day}
 use Rattle.roster_checker.specs.FirstBroken.{IsFirst, position_of}
 use Rattle.roster_checker.specs.declared.broken.Broken.{Broken}
-
--- no window is of the kind
-abbrev pub HasNone : (List Symbol → Type 0) → List Symbol → Type 0
-HasNone IsKind s = (p len : ℕ) → p < length s → IsKind (window s p len) → ⊥
 
 abbrev pub IsPair : Symbol × Symbol → List Symbol → Type 0
 IsPair x u = u ≡ x.0 ∷ x.1 ∷ []
@@ -25,6 +21,14 @@ pub record IsRun (s : List Symbol) (c : Class) (position run : ℕ) : Type 0 whe
   pub few : run ≤ position
   pub within : (i : ℕ) → position ≤ i + run → i < position → InClass c (cell s i)
   pub starts : (i : ℕ) → i + 1 + run ≡ position → InClass c (cell s i) → ⊥
+
+-- a block of t days behind position p that is too short, by the cells
+pub record IsShortBlock (s : List Symbol) (c : Class) (least p t : ℕ) : Type 0 where
+  pub starts : InClass c (cell s p) → ⊥
+  pub within : (i : ℕ) → i < t → InClass c (cell s (p + 1 + i))
+  pub ends : InClass c (cell s (p + 1 + t)) → ⊥
+  pub some : 0 < t
+  pub few : t < least
 
 -- the position and the length of the first window that breaks the rule; for a day whose demand isn't met, its position in the first week, and 0
 abbrev pub IsFirstPlace : Instance → Rule → List Symbol → ℕ → ℕ → Type 0

@@ -1,8 +1,9 @@
 // Blocks of one class, anywhere round the cycle. A run is the block that ends right before a position.
-ghost use Rattle.std.specs.Prelude.{◌≡◌, ℕ, ◌+◌, ◌-◌, ◌<◌, ◌≤◌, ◌^◌, ◌↔◌, length, IsTrue, MatchOption};
-ghost use Rattle.rwsp_terms.specs.Window.{InClass, cell, TooLong, TooShort, IsShortBlock};
+ghost use Rattle.std.specs.Prelude.{◌≡◌, ℕ, ◌+◌, ◌-◌, ◌<◌, ◌^◌, length, IsTrue, MatchOption};
+ghost use Rattle.rwsp_terms.specs.Roster.{HasNoWindow};
+ghost use Rattle.rwsp_terms.specs.Window.{TooLong, TooShort};
 ghost use Rattle.roster_checker.specs.FirstBroken.{IsFirst};
-ghost use Rattle.roster_checker.specs.Scan.{HasNone, IsRun};
+ghost use Rattle.roster_checker.specs.Scan.{IsRun, IsShortBlock};
 
 use crate::cycle::symbol_at;
 use crate::place::Place;
@@ -26,7 +27,7 @@ fn run_past(cells: &[Symbol], class: Class, position: u32, run: u32) -> u32
 pub fn first_too_long(cells: &[Symbol], class: Class, greatest: u32) -> Option<Place>
     requires cells { (0 < length cells.now) × (length cells.now < 2 ^ 31) }
     requires greatest { greatest < 2 ^ 31 - 1 }
-    ensures { MatchOption result (HasNone (TooLong class greatest) cells.now) (λ w. IsFirst (TooLong class greatest) cells.now w.position w.length) }
+    ensures { MatchOption result (HasNoWindow (TooLong class greatest) cells.now) (λ w. IsFirst (TooLong class greatest) cells.now w.position w.length) }
 {
     let mut run = 0;
     for end in 0..cells.len() as u32 + greatest {
@@ -58,7 +59,7 @@ fn ends_short(cells: &[Symbol], class: Class, least: u32, position: u32, run: u3
 pub fn first_too_short(cells: &[Symbol], class: Class, least: u32) -> Option<Place>
     requires cells { (0 < length cells.now) × (length cells.now < 2 ^ 31) }
     requires least { least < 2 ^ 31 }
-    ensures { MatchOption result (HasNone (TooShort class least) cells.now) (λ w. IsFirst (TooShort class least) cells.now w.position w.length) }
+    ensures { MatchOption result (HasNoWindow (TooShort class least) cells.now) (λ w. IsFirst (TooShort class least) cells.now w.position w.length) }
 {
     let mut run = 0;
     for end in 0..cells.len() as u32 + least {

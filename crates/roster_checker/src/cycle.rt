@@ -1,5 +1,5 @@
 // The endless word that repeats the cells.
-ghost use Rattle.std.specs.Prelude.{◌≡◌, ℕ, ◌<◌, ◌↔◌, length, IsTrue};
+ghost use Rattle.std.specs.Prelude.{◌≡◌, ◌<◌, length};
 ghost use Rattle.rwsp_terms.specs.Window.{cell};
 
 use rwsp_terms::Symbol;
@@ -15,11 +15,4 @@ pub fn symbol_at(cells: &[Symbol], position: u32) -> Symbol
     } else {
         cells[position % cells.len()]
     }
-}
-
-/// Whether two symbols are the same.
-pub fn is_same(a: Symbol, b: Symbol) -> bool
-    ensures { IsTrue result ↔ (a ≡ b) }
-{
-    a.number == b.number
 }

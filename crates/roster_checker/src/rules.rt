@@ -1,11 +1,11 @@
 // Where a rule is broken first.
-ghost use Rattle.std.specs.Prelude.{◌≡◌, ℕ, ◌+◌, ◌-◌, ◌*◌, ◌<◌, ◌≤◌, ◌^◌, length, MatchOption};
+ghost use Rattle.std.specs.Prelude.{◌≡◌, ◌-◌, ◌*◌, ◌<◌, ◌^◌, length, MatchOption};
 ghost use Rattle.rwsp_terms.specs.Instance.{bounds, IsClass, IsDay};
 ghost use Rattle.rwsp_terms.specs.Window.{TooLong, TooShort, Bad};
-ghost use Rattle.rwsp_terms.specs.Roster.{MeetsRule, MeetsDay, IsRule};
+ghost use Rattle.rwsp_terms.specs.Roster.{HasNoWindow, MeetsRule, MeetsDay, IsRule};
 ghost use Rattle.rwsp_terms.specs.declared.data.Rule.TheVariants.{Pair, Triple, Day};
 ghost use Rattle.roster_checker.specs.FirstBroken.{IsFirst};
-ghost use Rattle.roster_checker.specs.Scan.{HasNone, IsFirstPlace};
+ghost use Rattle.roster_checker.specs.Scan.{IsFirstPlace};
 
 use crate::blocks::{first_too_long, first_too_short};
 use crate::days::day_is_met;
@@ -16,7 +16,7 @@ use rwsp_model::{Class, Problem, Rule, Symbol};
 fn first_over_greatest(problem: &Problem, cells: &[Symbol], class: Class) -> Option<Place>
     requires cells { (0 < length cells.now) × (length cells.now < 2 ^ 31) }
     requires class { IsClass problem.now class }
-    ensures { MatchOption result (HasNone (TooLong class (bounds problem.now class).greatest) cells.now)
+    ensures { MatchOption result (HasNoWindow (TooLong class (bounds problem.now class).greatest) cells.now)
         (λ w. IsFirst (TooLong class (bounds problem.now class).greatest) cells.now w.position w.length) }
 {
     first_too_long(cells, class, problem.bounds(class).greatest)
@@ -25,7 +25,7 @@ fn first_over_greatest(problem: &Problem, cells: &[Symbol], class: Class) -> Opt
 fn first_under_least(problem: &Problem, cells: &[Symbol], class: Class) -> Option<Place>
     requires cells { (0 < length cells.now) × (length cells.now < 2 ^ 31) }
     requires class { IsClass problem.now class }
-    ensures { MatchOption result (HasNone (TooShort class (bounds problem.now class).least) cells.now)
+    ensures { MatchOption result (HasNoWindow (TooShort class (bounds problem.now class).least) cells.now)
         (λ w. IsFirst (TooShort class (bounds problem.now class).least) cells.now w.position w.length) }
 {
     first_too_short(cells, class, problem.bounds(class).least)
@@ -35,7 +35,7 @@ fn first_under_least(problem: &Problem, cells: &[Symbol], class: Class) -> Optio
 fn first_of_pair(problem: &Problem, cells: &[Symbol], k: u32) -> Option<Place>
     requires cells { (0 < length cells.now) × (length cells.now < 2 ^ 31) }
     requires pair { k < length problem.now.pairs }
-    ensures { MatchOption result (HasNone (Bad problem.now (Pair k)) cells.now) (λ w. IsFirst (Bad problem.now (Pair k)) cells.now w.position w.length) }
+    ensures { MatchOption result (HasNoWindow (Bad problem.now (Pair k)) cells.now) (λ w. IsFirst (Bad problem.now (Pair k)) cells.now w.position w.length) }
 {
     first_pair(cells, problem.pairs()[k as usize])
 }
@@ -44,7 +44,7 @@ fn first_of_pair(problem: &Problem, cells: &[Symbol], k: u32) -> Option<Place>
 fn first_of_triple(problem: &Problem, cells: &[Symbol], k: u32) -> Option<Place>
     requires cells { (0 < length cells.now) × (length cells.now < 2 ^ 31) }
     requires triple { k < length problem.now.triples }
-    ensures { MatchOption result (HasNone (Bad problem.now (Triple k)) cells.now) (λ w. IsFirst (Bad problem.now (Triple k)) cells.now w.position w.length) }
+    ensures { MatchOption result (HasNoWindow (Bad problem.now (Triple k)) cells.now) (λ w. IsFirst (Bad problem.now (Triple k)) cells.now w.position w.length) }
 {
     first_triple(cells, problem.triples()[k as usize])
 }

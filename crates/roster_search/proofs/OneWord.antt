@@ -13,7 +13,7 @@ use Rattle.rwsp_terms.specs.declared.data.Rule.{Rule}
 use Rattle.rwsp_terms.specs.declared.data.Rule.TheVariants.{MaxShift, MinShift, MaxOff, MinOff, MaxWork, MinWork, Pair, Triple, Day}
 use Rattle.rwsp_terms.specs.Instance.{Instance, cells, shift_count, least, greatest, bounds_of, symbol_numbered, IsDay, off_symbol}
 use Rattle.rwsp_terms.specs.Window.{cell, window, TooLong, TooShort, Bad}
-use Rattle.rwsp_terms.specs.Roster.{weeks_with, MeetsDay, HasNoBadWindow, MeetsRule, IsRule, IsRoster, MeetsAll}
+use Rattle.rwsp_terms.specs.Roster.{weeks_with, MeetsDay, HasNoWindow, MeetsRule, IsRule, IsRoster, MeetsAll}
 use Rattle.rwsp_terms.specs.Rules.{rules, rule_of}
 use Rattle.rwsp_terms.proofs.Windows.{length-window}
 use Rattle.rwsp_terms.proofs.Counting.{count_mono}
@@ -92,7 +92,7 @@ NoWindowHolds P S = (number p len : ℕ) → LineFits P (Lines.Window number p l
 abbrev pub NoDayHolds : Instance → Store → Type 0
 NoDayHolds P S = (j : ℕ) (x : Symbol) (over : Bool) → LineFits P (Lines.Day j x over) → Holds P (has_domain S) (Lines.Day j x over) → ⊥
 
-no_bad_window : (P : Instance) (S : Store) (s : List Symbol) (r : Rule) → IsAlone P S s → NoWindowHolds P S → IsRule P r → HasNoBadWindow P r s
+no_bad_window : (P : Instance) (S : Store) (s : List Symbol) (r : Rule) → IsAlone P S s → NoWindowHolds P S → IsRule P r → HasNoWindow (Bad P r) s
 no_bad_window P S s r a none is p len lt bad =
     let number : ℕ = place_of P r + 1 in
     let at : rule_of P number ≡ Some r = number_at_place P r number is refl in
@@ -136,7 +136,7 @@ meets_day P S s j a none day x small =
     not_above : (g : ℤ) (c f : ℕ) → c ≤ f → (g <ℤ pos f → ⊥) → pos c ≤ℤ g
     not_above g c f le h = by_lt_z g (pos f) (λ less. absurd (h less)) (λ more. omega (arith, ints))
 
-meets_by : (P : Instance) (r : Rule) (s : List Symbol) → HasNoBadWindow P r s → ((j : ℕ) → r ≡ Day j → MeetsDay P j s) → MeetsRule P r s
+meets_by : (P : Instance) (r : Rule) (s : List Symbol) → HasNoWindow (Bad P r) s → ((j : ℕ) → r ≡ Day j → MeetsDay P j s) → MeetsRule P r s
 meets_by P (MaxShift x) s h day = h
 meets_by P (MinShift x) s h day = h
 meets_by P MaxOff s h day = h

@@ -7,7 +7,7 @@ use Rattle.rwsp_model.proofs.Numbering.{rules_are_many}
 use Rattle.refutation_terms.specs.declared.lines.LogRefusal.{LogRefusal}
 use Rattle.refutation_terms.specs.Log.{Log, Passes}
 use Rattle.refutation_terms.specs.LogText.{log_text}
-use Rattle.refutation_terms.specs.Spelling.{HasNames, IsWritable}
+use Rattle.refutation_terms.specs.TextLaws.{HasNames, IsWritable}
 use Rattle.refutation_terms.specs.Verdict.{IsRefused}
 use Rattle.refutation_terms.proofs.Unique.{verdict_unique}
 use Rattle.refutation_log.proofs.OneText.{symbol_named, name_there, has_names, is_writable}

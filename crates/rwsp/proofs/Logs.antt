@@ -18,7 +18,7 @@ use Rattle.refutation_terms.specs.Word.{Domains, Over}
 use Rattle.refutation_terms.specs.Tree.{domains_at, opening, turn_leaves, lines_leave}
 use Rattle.refutation_terms.specs.Log.{Log}
 use Rattle.refutation_terms.specs.LogText.{log_text}
-use Rattle.refutation_terms.specs.Spelling.{IsWritable, HasNames}
+use Rattle.refutation_terms.specs.TextLaws.{IsWritable, HasNames}
 use Rattle.refutation_terms.specs.Verdict.{Escapes, TreeCause, Cause, Front, Start, Versioned, BeforeTurn, Reading, IsRefused, IsAccepted, IsVerdict}
 use Rattle.refutation_terms.proofs.Tests.{left_of}
 use Rattle.refutation_terms.proofs.Sound.{passing_leaves_none}

@@ -8,12 +8,12 @@ use Rattle.std.proofs.lemmas.List.Folds.{list_any_at}
 use Rattle.std.proofs.lemmas.Option.{slice_get-get_or, same_Some}
 use Rattle.std.proofs.lemmas.Slice.Eq.{bytes_eq-Decides}
 use Rattle.std.proofs.lemmas.Bool.{cases_order}
-use Rattle.rwsp_terms.specs.Instance.{Instance, shift_count, off_name, name_of, name_numbered, name_in, symbol_numbered}
+use Rattle.rwsp_terms.specs.Instance.{Instance, shift_count, off_name, name_of, name_numbered, name_in, symbol_among, symbol_numbered}
 use Rattle.rwsp_terms.specs.declared.data.ShiftRow.{ShiftRow}
 use Rattle.rwsp_terms.specs.declared.data.Symbol.{Symbol}
 use Rattle.rwsp_file.specs.Spelling.{Field, Spell, name_fields}
 use Rattle.rwsp_file.specs.Spelling.Field.{NameField}
-use Rattle.rwsp_file.specs.Reading.{Unread, ◌>>=◌, or_refuse, symbol_in, symbol_at, pair_at, triple_at}
+use Rattle.rwsp_file.specs.Reading.{Unread, ◌>>=◌, or_refuse, symbol_at, pair_at, triple_at}
 use Rattle.rwsp_file.specs.declared.refusal.FileRefusal.TheVariants.{Unknown}
 use Rattle.rwsp_file.proofs.Readers.{IsReader, bind_ok, then_ok, some_ok, ok_same, given, word_reader}
 use Rattle.rwsp_file.proofs.Lines.{is_some-position}
@@ -32,7 +32,7 @@ no_row = record { name = []; start = 0; length = 0; bounds = record { least = 0;
 pub in_place : (P : Instance) (k : ℕ) → k < length P.shifts → name_numbered P (suc k) ≡ (get_or P.shifts k no_row).name
 in_place P k less = ap name_in (slice_get-get_or P.shifts k no_row less)
 
-symbol_found : (P : Instance) (text : List ℕ) (x : Symbol) → symbol_in P.shifts text ≡ Some x → (x.number ≤ shift_count P) × (text ≡ name_of P x)
+symbol_found : (P : Instance) (text : List ℕ) (x : Symbol) → symbol_among P.shifts text ≡ Some x → (x.number ≤ shift_count P) × (text ≡ name_of P x)
 symbol_found P text x e = at (bytes_eq text off_name) refl (position (test_name text) P.shifts) refl e where
   at : (b : Bool) → bytes_eq text off_name ≡ b → (o : Option ℕ) → position (test_name text) P.shifts ≡ o → cond b (Some (symbol_numbered 0)) (option_map (λ k. symbol_numbered (k + 1)) o) ≡ Some x →
       (x.number ≤ shift_count P) × (text ≡ name_of P x)
@@ -77,13 +77,13 @@ position_of_name P names k less =
     position-Some (test_name (get_or P.shifts k no_row).name) P.shifts o.0 no_row o.1 in
     o.1 ∙ ap Some (the_place P names k o.0 less f.0 ((bytes_eq-Decides (get_or P.shifts k no_row).name (get_or P.shifts o.0 no_row).name).0 f.1))
 
-symbol_only : (P : Instance) (names : HasNames P) (n : ℕ) → n ≤ shift_count P → symbol_in P.shifts (name_numbered P n) ≡ Some (symbol_numbered n)
+symbol_only : (P : Instance) (names : HasNames P) (n : ℕ) → n ≤ shift_count P → symbol_among P.shifts (name_numbered P n) ≡ Some (symbol_numbered n)
 symbol_only P names zero le = refl
 symbol_only P names (suc k) le =
     let less : k < length P.shifts = omega (arith, le) in
     let off : bytes_eq (get_or P.shifts k no_row).name off_name ≡ false = not_equal _ _ (names.no_dash k no_row less) in
     let next : k + 1 ≡ suc k = omega arith in
-    ap (symbol_in P.shifts) (in_place P k less)
+    ap (symbol_among P.shifts) (in_place P k less)
     ∙ ap (λ b. cond b (Some (symbol_numbered 0)) (option_map (λ j. symbol_numbered (j + 1)) (position (test_name (get_or P.shifts k no_row).name) P.shifts))) off
     ∙ ap (option_map (λ j. symbol_numbered (j + 1))) (position_of_name P names k less)
     ∙ ap (λ n. Some (symbol_numbered n)) next
@@ -92,12 +92,12 @@ symbol_only P names (suc k) le =
 pub symbol_reader : (P : Instance) → HasNames P → IsReader (λ x. x.number ≤ shift_count P) (λ x. NameField (name_of P x) ∷ []) (symbol_at P.shifts)
 unfolding symbol_at
 symbol_reader P names =
-    word_reader (λ x. x.number ≤ shift_count P) (λ x. NameField (name_of P x)) (λ w. or_refuse (symbol_in P.shifts w.text) (Unknown w.line)) (symbol_at P.shifts) (λ u. refl)
+    word_reader (λ x. x.number ≤ shift_count P) (λ x. NameField (name_of P x)) (λ w. or_refuse (symbol_among P.shifts w.text) (Unknown w.line)) (symbol_at P.shifts) (λ u. refl)
     (λ w x e.
-    let f : (x.number ≤ shift_count P) × (w.text ≡ name_of P x) = symbol_found P w.text x (some_ok (symbol_in P.shifts w.text) (Unknown w.line) x e) in
+    let f : (x.number ≤ shift_count P) × (w.text ≡ name_of P x) = symbol_found P w.text x (some_ok (symbol_among P.shifts w.text) (Unknown w.line) x e) in
     (f.0, λ fs ws s. (f.1, s)))
     (λ w x fs ws valid s.
-    (ap (λ t. or_refuse (symbol_in P.shifts t) (Unknown w.line)) s.0 ∙ ap (λ o. or_refuse o (Unknown w.line)) (symbol_only P names x.number valid), s.1))
+    (ap (λ t. or_refuse (symbol_among P.shifts t) (Unknown w.line)) s.0 ∙ ap (λ o. or_refuse o (Unknown w.line)) (symbol_only P names x.number valid), s.1))
 
 abbrev pub IsPair : Instance → Symbol × Symbol → Type 0
 IsPair P x = (x.0.number ≤ shift_count P) × (x.1.number ≤ shift_count P)

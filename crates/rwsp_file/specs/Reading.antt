@@ -1,11 +1,11 @@
 -- Reading the lexemes of a text one after another, up to the first failure.
-use Rattle.std.specs.Prelude.{ℕ, zero, suc, ◌+◌, ◌*◌, List, [], ◌∷◌, ◌++◌, length, Option, Some, None, Result, Ok, Err, Bool, not, ◌&&◌, ◌==◌, nat_le, position, cond, if◌then◌else◌}
+use Rattle.std.specs.Prelude.{ℕ, zero, suc, ◌+◌, ◌*◌, List, [], ◌∷◌, ◌++◌, length, Option, Some, None, Result, Ok, Err, Bool, not, ◌&&◌, ◌==◌, nat_le, if◌then◌else◌}
 use Rattle.std.specs.Option.{option_map}
 use Rattle.std.specs.List.{list_any, before_first, after_first}
 use Rattle.std.specs.Str.{bytes_eq}
 use Rattle.rwsp_text.specs.Lexemes.{Lexeme, lexemes, last_line}
 use Rattle.rwsp_text.specs.Numbers.{number_of}
-use Rattle.rwsp_terms.specs.Instance.{Instance, symbol_numbered, off_name}
+use Rattle.rwsp_terms.specs.Instance.{Instance, symbol_among, off_name}
 use Rattle.rwsp_terms.specs.declared.data.Bounds.{Bounds}
 use Rattle.rwsp_terms.specs.declared.data.ShiftRow.{ShiftRow}
 use Rattle.rwsp_terms.specs.declared.data.Symbol.{Symbol}
@@ -183,16 +183,10 @@ frame_at u = do
   triples ← number_at 9 0 64 pairs.1
   Ok (record { off = off.0; work = work.0; pairs = pairs.0; triples = triples.0 }, triples.1)
 
--- the symbol of a name: 0 for the day off, and from 1 on for the shifts
-abbrev pub symbol_in : List ShiftRow → List ℕ → Option Symbol
-symbol_in rows name =
-    cond (bytes_eq name off_name) (Some (symbol_numbered 0))
-    (option_map (λ k. symbol_numbered (k + 1)) (position (λ row. bytes_eq name row.name) rows))
-
 unfoldable pub symbol_at : List ShiftRow → Unread → Result (Symbol × Unread) FileRefusal
 symbol_at rows u = do
   w ← next_at u
-  x ← or_refuse (symbol_in rows w.0.text) (Unknown w.0.line)
+  x ← or_refuse (symbol_among rows w.0.text) (Unknown w.0.line)
   Ok (x, w.1)
 
 unfoldable pub pair_at : List ShiftRow → Unread → Result ((Symbol × Symbol) × Unread) FileRefusal

@@ -1,6 +1,7 @@
 // Reading the forbidden sequences.
 ghost use Rattle.std.specs.Prelude.{◌≡◌, ℕ, List, length, ◌≤◌, IfOk};
-ghost use Rattle.rwsp_file.specs.Reading.{symbol_in, symbol_at, pair_at, triple_at, pairs_at, triples_at, nothing_of, sequences_at};
+ghost use Rattle.rwsp_terms.specs.Instance.{symbol_among};
+ghost use Rattle.rwsp_file.specs.Reading.{symbol_at, pair_at, triple_at, pairs_at, triples_at, nothing_of, sequences_at};
 ghost use Rattle.rwsp_file.specs.Reads.{Reads, ReadsUnless, GivesUnless};
 
 use crate::FileRefusal;
@@ -12,7 +13,7 @@ use std::alloc::Global;
 
 fn symbol_in(shifts: &Shifts, name: &[u8]) -> Option<Symbol>
     requires { length shifts.now ≤ 8 }
-    ensures { result ≡ symbol_in shifts.now name.now }
+    ensures { result ≡ symbol_among shifts.now name.now }
 {
     if name == b"-".as_slice() {
         return Some(Symbol::OFF);

@@ -1,8 +1,8 @@
 -- Which instances are valid, and the first reason against one that isn't.
-use Rattle.std.specs.Prelude.{◌≡◌, ◌≢◌, ℕ, ◌+◌, ◌*◌, ◌≤◌, List, [], ◌∷◌, ◌++◌, length, Option, Some, None, Bool, false, not, ◌&&◌, ◌||◌, ◌==◌, nat_le, slice_index, slice_get, zero, suc, if◌then◌else◌, position, All, AllPairs}
+use Rattle.std.specs.Prelude.{◌≡◌, ◌≢◌, ℕ, ◌+◌, ◌*◌, ◌≤◌, List, [], ◌∷◌, ◌++◌, length, Option, Some, None, Bool, false, not, ◌&&◌, ◌||◌, ◌==◌, nat_le, slice_index, if◌then◌else◌, position, All, AllPairs}
 use Rattle.std.specs.List.{list_all, list_any}
 use Rattle.std.specs.Str.{bytes_eq}
-use Rattle.rwsp_terms.specs.Instance.{Instance, cells, shift_count, off_name, name_in}
+use Rattle.rwsp_terms.specs.Instance.{Instance, cells, shift_count, off_name}
 use Rattle.rwsp_terms.specs.declared.data.Bounds.{Bounds}
 use Rattle.rwsp_terms.specs.declared.data.ShiftRow.{ShiftRow}
 use Rattle.rwsp_model.specs.declared.refusal.PartsRefusal.{PartsRefusal}
@@ -115,8 +115,3 @@ pub record KeepsLimits (P : Instance) : Type 0 where
   pub few_triples : length P.triples ≤ 64
   pub names : All (λ row. IsShiftName row.name) P.shifts
   pub distinct : AllPairs (λ a b. a.name ≢ b.name) P.shifts
-
--- the name of a symbol among these shifts
-abbrev pub name_from : List ShiftRow → ℕ → List ℕ
-name_from rows zero = off_name
-name_from rows (suc k) = name_in (slice_get rows k)

@@ -1,5 +1,5 @@
 // How many weeks are to hold a symbol on a day.
-ghost use Rattle.std.specs.Prelude.{◌≡◌, ℕ, ◌+◌, ◌-◌, ◌*◌, ◌<◌, ◌≤◌, ◌≤ℤ◌, pos, negsuc, length, All, slice_index_or};
+ghost use Rattle.std.specs.Prelude.{◌≡◌, ◌+◌, ◌-◌, ◌<◌, ◌≤◌, ◌≤ℤ◌, pos, negsuc, length, All, slice_index_or};
 ghost use Rattle.std.specs.List.{sum_by};
 ghost use Rattle.rwsp_terms.specs.Instance.{least, greatest, no_bounds};
 ghost use Rattle.rwsp_model.specs.Parts.{instance_of};

@@ -1,9 +1,9 @@
-ghost use Rattle.std.specs.Prelude.{◌≡◌, ℕ, ◌+◌, ◌-◌, ◌*◌, ◌<◌, ◌≤◌, ◌≤ℤ◌, pos, negsuc, List, [], ◌∷◌, length, Option, Some, None, MatchResult, IfOk, IfSome, slice_get, position};
+ghost use Rattle.std.specs.Prelude.{◌≡◌, ◌+◌, ◌-◌, ◌*◌, ◌<◌, ◌≤◌, ◌≤ℤ◌, pos, negsuc, length, Option, Some, None, MatchResult, IfOk, IfSome, slice_get, position};
 ghost use Rattle.std.specs.Option.{option_map};
 ghost use Rattle.std.specs.Str.{bytes_eq};
-ghost use Rattle.rwsp_terms.specs.Instance.{bounds, shift_count, cells, symbol_of, name_of, least, greatest, IsClass, IsSymbol, IsShift, IsDay};
+ghost use Rattle.rwsp_terms.specs.Instance.{bounds, shift_count, cells, symbol_of, name_of, name_among, least, greatest, IsClass, IsSymbol, IsShift, IsDay};
 ghost use Rattle.rwsp_model.specs.Parts.{instance_of};
-ghost use Rattle.rwsp_model.specs.Validity.{refusal_of, KeepsLimits, name_from};
+ghost use Rattle.rwsp_model.specs.Validity.{refusal_of, KeepsLimits};
 
 use crate::{PartsRefusal, demand, validity};
 use rwsp_terms::{Bounds, Class, DemandRow, ShiftRow, Symbol};
@@ -222,7 +222,7 @@ fn copy_of(parts: &Parts) -> Result<Parts, AllocError>
 
 fn name_among(rows: &[ShiftRow], number: u8) -> &[u8]
     requires { number ≤ length rows.now }
-    ensures { result.now ≡ name_from rows.now number }
+    ensures { result.now ≡ name_among rows.now number }
 {
     if number == 0 {
         b"-".as_slice()

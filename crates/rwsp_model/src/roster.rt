@@ -1,4 +1,4 @@
-ghost use Rattle.std.specs.Prelude.{◌≡◌, ℕ, ◌+◌, ◌-◌, ◌*◌, ◌<◌, ◌≤◌, length, slice_get, Some};
+ghost use Rattle.std.specs.Prelude.{◌≡◌, ◌+◌, ◌-◌, ◌*◌, ◌<◌, ◌≤◌, length, slice_get, Some};
 ghost use Rattle.rwsp_terms.specs.Roster.{IsRoster};
 
 use crate::Problem;
@@ -13,7 +13,7 @@ pub struct Roster {
 }
 
 impl Model for Roster {
-    ghost use Rattle.rwsp_terms.specs.Roster.{Schedule};
+    ghost use Rattle.rwsp_model.specs.Schedule.{Schedule};
 
     ghost Value = { Schedule };
 

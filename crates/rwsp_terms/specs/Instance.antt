@@ -96,19 +96,26 @@ off_symbol = record { number = 0 }
 abbrev pub off_name : List ℕ
 off_name = 45 ∷ []
 
--- the symbol that has the name
-abbrev pub symbol_of : Instance → List ℕ → Option Symbol
-symbol_of P name =
+-- the symbol that has the name, among these shifts
+abbrev pub symbol_among : List ShiftRow → List ℕ → Option Symbol
+symbol_among rows name =
     cond (bytes_eq name off_name) (Some (symbol_numbered 0))
-    (option_map (λ k. symbol_numbered (k + 1)) (position (λ row. bytes_eq name row.name) P.shifts))
+    (option_map (λ k. symbol_numbered (k + 1)) (position (λ row. bytes_eq name row.name) rows))
+
+abbrev pub symbol_of : Instance → List ℕ → Option Symbol
+symbol_of P = symbol_among P.shifts
 
 abbrev pub name_in : Option ShiftRow → List ℕ
 name_in None = []
 name_in (Some row) = row.name
 
+-- the name of a symbol by its number, among these shifts
+abbrev pub name_among : List ShiftRow → ℕ → List ℕ
+name_among rows zero = off_name
+name_among rows (suc k) = name_in (slice_get rows k)
+
 abbrev pub name_numbered : Instance → ℕ → List ℕ
-name_numbered P zero = off_name
-name_numbered P (suc k) = name_in (slice_get P.shifts k)
+name_numbered P = name_among P.shifts
 
 -- the name of a symbol
 abbrev pub name_of : Instance → Symbol → List ℕ

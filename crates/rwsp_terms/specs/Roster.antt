@@ -15,13 +15,13 @@ weeks_with P s x j = count_by (λ i. (slice_index_or s (i * P.days + (j - 1)) of
 abbrev pub MeetsDay : Instance → ℕ → List Symbol → Type 0
 MeetsDay P j s = (x : ℕ) → x ≤ shift_count P → (least P x j ≤ℤ pos (weeks_with P s x j)) × (pos (weeks_with P s x j) ≤ℤ greatest P x j)
 
--- no window is bad
-abbrev pub HasNoBadWindow : Instance → Rule → List Symbol → Type 0
-HasNoBadWindow P r s = (p len : ℕ) → p < length s → Bad P r (window s p len) → ⊥
+-- no window is of the kind
+abbrev pub HasNoWindow : (List Symbol → Type 0) → List Symbol → Type 0
+HasNoWindow IsKind s = (p len : ℕ) → p < length s → IsKind (window s p len) → ⊥
 
 abbrev pub MeetsRule : Instance → Rule → List Symbol → Type 0
 MeetsRule P (Day j) s = MeetsDay P j s
-MeetsRule P r s = HasNoBadWindow P r s
+MeetsRule P r s = HasNoWindow (Bad P r) s
 
 -- the rules of an instance
 abbrev pub IsRule : Instance → Rule → Type 0
@@ -44,8 +44,3 @@ pub record IsRoster (P : Instance) (s : List Symbol) : Type 0 where
 pub record MeetsAll (P : Instance) (s : List Symbol) : Type 0 where
   pub is_roster : IsRoster P s
   pub rules : (r : Rule) → IsRule P r → MeetsRule P r s
-
--- what a roster keeps: the days of its problem, and its cells in order
-pub record Schedule : Type 0 where
-  pub days : ℕ
-  pub cells : List Symbol

@@ -1,5 +1,5 @@
 use Rattle.std.proofs.Common.{◌≡◌, ◌-◌, arith, subst, refl}
-use Rattle.rwsp_terms.specs.Window.{IsShortBlock}
+use Rattle.roster_checker.specs.Scan.{IsShortBlock}
 use Rattle.roster_checker.proofs.Runs.{too_short_found, none_too_short}
 use Rattle.roster_checker.proofs.blocks.first_too_short.Goals as goal
 

@@ -1,6 +1,5 @@
 use Rattle.std.proofs.Common.{ℕ, ◌+◌, ◌<◌}
-use Rattle.rwsp_terms.specs.Window.{IsShortBlock}
-use Rattle.roster_checker.specs.Scan.{IsRun}
+use Rattle.roster_checker.specs.Scan.{IsRun, IsShortBlock}
 use Rattle.roster_checker.proofs.blocks.first_too_short.Given as goal
 
 abbrev pub invariant-loop-end : goal.invariant-loop-end
