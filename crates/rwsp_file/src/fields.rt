@@ -1,6 +1,5 @@
 // Reading the fields of a text in their order.
-ghost use Rattle.std.specs.Prelude.{◌≡◌, ℕ, List, MatchResult, IfOk, ◌≤◌, Ok, Err};
-ghost use Rattle.rwsp_model.specs.declared.fail.Fail.TheVariants.{Refused};
+ghost use Rattle.std.specs.Prelude.{◌≡◌, IfOk, ◌≤◌};
 ghost use Rattle.rwsp_file.specs.Reading.{limited_weeks, weeks_at, size_at, demand_at, demand_row_at, demand_rows_at, frame_at};
 ghost use Rattle.rwsp_file.specs.Reads.{Reads, ReadsUnless};
 

@@ -1,7 +1,6 @@
 // Reading problem files.
-ghost use Rattle.std.specs.Prelude.{◌≡◌, ◌==◌, ◌≤◌, count_by, length, Some, IfOk, map};
+ghost use Rattle.std.specs.Prelude.{◌≡◌, ◌==◌, ◌≤◌, count_by, length, Some, IfOk};
 ghost use Rattle.rwsp_text.specs.Lexemes.{last_line};
-ghost use Rattle.rwsp_text.specs.Places.{lexeme_at};
 ghost use Rattle.rwsp_model.specs.Refusals.{IfRefused};
 ghost use Rattle.rwsp_model.specs.Parts.{instance_of};
 ghost use Rattle.rwsp_file.specs.Spelling.{SpellsProblem};

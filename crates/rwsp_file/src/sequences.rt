@@ -1,5 +1,5 @@
 // Reading the forbidden sequences.
-ghost use Rattle.std.specs.Prelude.{◌≡◌, ℕ, List, length, ◌≤◌, IfOk};
+ghost use Rattle.std.specs.Prelude.{◌≡◌, length, ◌≤◌};
 ghost use Rattle.rwsp_file.specs.Reading.{symbol_in, symbol_at, pair_at, triple_at, pairs_at, triples_at, nothing_of, sequences_at};
 ghost use Rattle.rwsp_file.specs.Reads.{Reads, ReadsUnless, GivesUnless};
 
@@ -17,12 +17,10 @@ fn symbol_in(shifts: &Shifts, name: &[u8]) -> Option<Symbol>
     if name == b"-".as_slice() {
         return Some(Symbol::OFF);
     }
-    match shifts.place(name) {
-        Some(place) => Some(Symbol {
-            number: place as u8 + 1,
-        }),
-        None => None,
-    }
+    let place = shifts.place(name)?;
+    Some(Symbol {
+        number: place as u8 + 1,
+    })
 }
 
 #[tactic(auto, unfolding(crate::specs::Reading::symbol_at))]
@@ -31,10 +29,7 @@ fn read_symbol(shifts: &Shifts, cursor: &mut Cursor) -> Result<Symbol, FileRefus
     ensures { Reads (symbol_at shifts.now cursor.old) result cursor.new }
 {
     let word = cursor.next()?;
-    match symbol_in(shifts, word.text()) {
-        Some(symbol) => Ok(symbol),
-        None => Err(FileRefusal::Unknown(word.line())),
-    }
+    symbol_in(shifts, word.text()).ok_or(FileRefusal::Unknown(word.line()))
 }
 
 #[tactic(auto, unfolding(crate::specs::Reading::pair_at))]
