@@ -95,7 +95,7 @@ fn read_demand_of_day(cursor: &mut Cursor) -> Result<Bounds, FileRefusal>
     Ok(range)
 }
 
-#[tactic(auto, using(crate::proofs::ManySteps::many_ok, crate::proofs::ManySteps::loop_err, crate::proofs::ManySteps::loop_done))]
+#[tactic(auto, using(crate::proofs::ManySteps::many_ok, crate::proofs::ManySteps::loop_done))]
 fn read_demand_row(
     alloc: Global,
     days: u32,
@@ -114,7 +114,7 @@ fn read_demand_row(
 }
 
 /// Reads a row of demands for each shift.
-#[tactic(auto, using(crate::proofs::ManySteps::many_ok, crate::proofs::ManySteps::loop_err, crate::proofs::ManySteps::loop_done))]
+#[tactic(auto, using(crate::proofs::ManySteps::many_ok, crate::proofs::ManySteps::loop_done))]
 pub fn read_demand(
     alloc: Global,
     size: Size,

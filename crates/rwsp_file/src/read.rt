@@ -55,9 +55,8 @@ fn parts_of(alloc: Global, bytes: &[u8]) -> Result<Parts, Fail<FileRefusal>>
     requires { length bytes.now ≤ 1048576 }
     ensures { GivesUnless instance_of (reading (unread_of bytes.now)) result }
 {
-    let tokens = match tokens(alloc, bytes) {
-        Ok(tokens) => tokens,
-        Err(_) => return Err(Fail::Memory),
+    let Ok(tokens) = tokens(alloc, bytes) else {
+        return Err(Fail::Memory);
     };
     let mut cursor = Cursor::of(bytes, &tokens, last_line(bytes));
     read_parts(alloc, &mut cursor)

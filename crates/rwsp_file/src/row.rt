@@ -103,10 +103,10 @@ fn numbers_of_row(words: &RowWords) -> Result<(u32, u32, Bounds), FileRefusal>
 fn copied_name(alloc: Global, word: &Lexeme) -> Result<Name, Fail<FileRefusal>>
     ensures { GivesUnless (λ name. name) (Ok word.now.text) result }
 {
-    match Vec::from_slice(alloc, word.text()) {
-        Ok(bytes) => Ok(Name::of(bytes)),
-        Err(_) => Err(Fail::Memory),
-    }
+    let Ok(bytes) = Vec::from_slice(alloc, word.text()) else {
+        return Err(Fail::Memory);
+    };
+    Ok(Name::of(bytes))
 }
 
 #[tactic(auto, unfolding(crate::specs::Reading::shift_of))]
@@ -151,10 +151,10 @@ pub fn read_shifts(
     let mut shifts = Shifts::new(alloc);
     for shift in 0..count {
         let row = read_shift(alloc, &shifts, cursor)?;
-        shifts = match shifts.with(alloc, row) {
-            Ok(shifts) => shifts,
-            Err(_) => return Err(Fail::Memory),
+        let Ok(longer) = shifts.with(alloc, row) else {
+            return Err(Fail::Memory);
         };
+        shifts = longer;
     }
     Ok(shifts)
 }

@@ -57,7 +57,7 @@ fn read_triple(
 }
 
 // Reads so many pairs.
-#[tactic(auto, using(crate::proofs::ManySteps::many_ok, crate::proofs::ManySteps::loop_err, crate::proofs::ManySteps::loop_done))]
+#[tactic(auto, using(crate::proofs::ManySteps::many_ok, crate::proofs::ManySteps::loop_done))]
 fn read_pairs(
     alloc: Global,
     shifts: &Shifts,
@@ -78,7 +78,7 @@ fn read_pairs(
 }
 
 // Reads so many triples.
-#[tactic(auto, using(crate::proofs::ManySteps::many_ok, crate::proofs::ManySteps::loop_err, crate::proofs::ManySteps::loop_done))]
+#[tactic(auto, using(crate::proofs::ManySteps::many_ok, crate::proofs::ManySteps::loop_done))]
 fn read_triples(
     alloc: Global,
     shifts: &Shifts,
