@@ -7,10 +7,12 @@ use Rattle.rwsp_terms.specs.declared.data.Symbol.{Symbol}
 use Rattle.rwsp_terms.specs.declared.data.Rule.{Rule}
 use Rattle.rwsp_terms.specs.declared.data.Rule.TheVariants.{MaxShift, MinShift, MaxOff, MinOff, MaxWork, MinWork, Pair, Triple, Day}
 
+-- the symbols of the forbidden pair at a place, where there is one
 abbrev pub pair_list : Option (Symbol × Symbol) → List Symbol
 pair_list None = []
 pair_list (Some x) = x.0 ∷ x.1 ∷ []
 
+-- the symbols of the forbidden triple at a place, where there is one
 abbrev pub triple_list : Option (Symbol × Symbol × Symbol) → List Symbol
 triple_list None = []
 triple_list (Some x) = x.0 ∷ x.1 ∷ x.2 ∷ []
@@ -19,6 +21,7 @@ triple_list (Some x) = x.0 ∷ x.1 ∷ x.2 ∷ []
 abbrev pub not_text : Instance → List Symbol → List ℕ
 not_text P word = codes "not" ++ flat_map (λ x. 32 ∷ name_of P x) word
 
+-- what is printed of a rule; the days count from 1
 abbrev pub rule_text : Instance → Rule → List ℕ
 rule_text P (MaxShift x) = codes "max shift " ++ name_of P x
 rule_text P (MinShift x) = codes "min shift " ++ name_of P x

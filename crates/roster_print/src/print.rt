@@ -1,5 +1,5 @@
 // The text of a roster.
-ghost use Rattle.std.specs.Prelude.{◌≡◌, ◌++◌, [], ◌∷◌, All, IfOk, OnOk, map};
+ghost use Rattle.std.specs.Prelude.{◌≡◌, ◌++◌, All, IfOk, OnOk, map};
 ghost use Rattle.std.specs.List.{join_with_byte};
 ghost use Rattle.rwsp_terms.specs.Instance.{IsSymbol, name_of};
 ghost use Rattle.rwsp_terms.specs.Roster.{IsRoster};

@@ -1,5 +1,5 @@
 // The roster that a text spells.
-ghost use Rattle.std.specs.Prelude.{◌≡◌, ◌≤◌, ◌++◌, List, [], ◌∷◌, length, Some, None, IfOk, OnOk, true, is_none, ◌==◌, position};
+ghost use Rattle.std.specs.Prelude.{◌≡◌, ◌≤◌, List, [], ◌∷◌, length, Some, None, IfOk, OnOk, true, is_none, ◌==◌, position};
 ghost use Rattle.std.specs.List.{list_any, flat_map, position_or_len};
 ghost use Rattle.rwsp_text.specs.Lexemes.{lines_of, words_of_line, has_some};
 ghost use Rattle.rwsp_text.specs.Places.{AreWithin};
@@ -76,8 +76,7 @@ fn words_of(alloc: Global, text: &[u8]) -> Result<Vec<Token>, AllocError>
         words_at text.now words.items ≡ words_of_line text.now) }
     ensures within { IfOk result (λ words. AreWithin text.now words.items) }
 {
-    let words = tokens(alloc, text)?;
-    Ok(words)
+    tokens(alloc, text)
 }
 
 // Appends the symbols of a line. Whether it has words, and so is a week.

@@ -47,8 +47,7 @@ fn pair_text(alloc: Global, problem: &Problem, place: u32) -> Result<Vec<u8>, Al
 {
     problem.keeps_limits();
     let (x, y) = problem.pairs()[place as usize];
-    let text = not_sequence(alloc, problem, &[x, y])?;
-    Ok(text)
+    not_sequence(alloc, problem, &[x, y])
 }
 
 fn triple_text(alloc: Global, problem: &Problem, place: u32) -> Result<Vec<u8>, AllocError>
@@ -58,8 +57,7 @@ fn triple_text(alloc: Global, problem: &Problem, place: u32) -> Result<Vec<u8>, 
 {
     problem.keeps_limits();
     let (x, y, z) = problem.triples()[place as usize];
-    let text = not_sequence(alloc, problem, &[x, y, z])?;
-    Ok(text)
+    not_sequence(alloc, problem, &[x, y, z])
 }
 
 fn text_of(alloc: Global, problem: &Problem, rule: Rule) -> Result<Vec<u8>, AllocError>

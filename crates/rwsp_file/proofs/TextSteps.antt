@@ -67,8 +67,8 @@ lines_all g xs i start old all o = o ∙ ap (λ ys. start ++ flat_map file_line 
 
 -- what the accessors of a problem give
 
-demand_at : (P : Instance) (k i : ℕ) → k < length P.demand → shift_demand P (suc k) (i + 1) ≡ range_at P k i
-demand_at P k i less =
+range_there : (P : Instance) (k i : ℕ) → k < length P.demand → shift_demand P (suc k) (i + 1) ≡ range_at P k i
+range_there P k i less =
     let a : suc k - 1 ≡ k = omega arith in
     let b : i + 1 - 1 ≡ i = omega arith in
     ap (λ n. range_in (slice_get P.demand n) (i + 1 - 1)) a ∙ ap (λ n. range_in (slice_get P.demand k) n) b ∙ ap (λ o. range_in o i) (slice_get-get_or P.demand k [] less)
@@ -76,12 +76,12 @@ demand_at P k i less =
 pub least_at : (P : Instance) (k i : ℕ) → k < length P.demand → least P (k + 1) (i + 1) ≡ pos (range_at P k i).least
 least_at P k i less =
     let next : k + 1 ≡ suc k = omega arith in
-    ap (λ n. least P n (i + 1)) next ∙ ap (λ (b : Bounds). pos b.least) (demand_at P k i less)
+    ap (λ n. least P n (i + 1)) next ∙ ap (λ (b : Bounds). pos b.least) (range_there P k i less)
 
 pub greatest_at : (P : Instance) (k i : ℕ) → k < length P.demand → greatest P (k + 1) (i + 1) ≡ pos (range_at P k i).greatest
 greatest_at P k i less =
     let next : k + 1 ≡ suc k = omega arith in
-    ap (λ n. greatest P n (i + 1)) next ∙ ap (λ (b : Bounds). pos b.greatest) (demand_at P k i less)
+    ap (λ n. greatest P n (i + 1)) next ∙ ap (λ (b : Bounds). pos b.greatest) (range_there P k i less)
 
 pub place_at : (k : ℕ) → k + 1 - 1 ≡ k
 place_at k = omega arith

@@ -1,5 +1,5 @@
 -- What reading shows of an instance is that it keeps the limits.
-use Rattle.std.proofs.Common.{◌≡◌, ◌≢◌, ℕ, ◌*◌, ◌<◌, List, [], ◌++◌, length, get_or, take, Bool, true, false, not, ◌&&◌, refl, ap, sym, ◌∙◌, arith, nat_le, map}
+use Rattle.std.proofs.Common.{◌≡◌, ◌≢◌, ℕ, ◌*◌, ◌<◌, List, [], ◌++◌, length, get_or, take, true, not, ◌&&◌, ap, sym, ◌∙◌, arith, nat_le, map}
 use Rattle.std.specs.Prelude.{All, AllPairs}
 use Rattle.std.specs.List.{flat_map, list_any, AllByRecursion}
 use Rattle.std.specs.Str.{bytes_eq}

@@ -1,5 +1,5 @@
 -- The forms of words: no blanks, no `#` in front, and at least one byte.
-use Rattle.std.proofs.Common.{◌≡◌, ◌≢◌, ℕ, zero, suc, ◌+◌, ◌≤◌, List, [], ◌∷◌, ◌++◌, length, take, Bool, true, false, not, ◌||◌, ◌==◌, cond, refl, subst, map, arith}
+use Rattle.std.proofs.Common.{◌≡◌, ◌≢◌, ℕ, suc, ◌+◌, ◌≤◌, List, [], ◌∷◌, ◌++◌, length, take, Bool, true, false, not, ◌==◌, cond, refl, subst, map, arith}
 use Rattle.std.specs.Prelude.{All, filter, take_while, slice_index}
 use Rattle.std.specs.List.{flat_map, AllByRecursion, slice_split, onto_first, prefix_len, enumerate_from}
 use Rattle.std.proofs.lemmas.Bool.{eq-eqb, or_from}

@@ -12,6 +12,8 @@ abbrev pub demand_text : Bounds → List ℕ
 demand_text range =
     if range.least == range.greatest then decimal range.least else decimal range.least ++ 46 ∷ 46 ∷ decimal range.greatest
 
+-- the words of the bounds of blocks, of a shift, of a pair and of a triple
+
 abbrev pub bounds_words : Bounds → List (List ℕ)
 bounds_words b = decimal b.least ∷ decimal b.greatest ∷ []
 

@@ -1,5 +1,5 @@
 // A cursor over the words of a text.
-ghost use Rattle.std.specs.Prelude.{◌≡◌, ℕ, ◌≤◌, List, [], ◌∷◌, length, map, IfOk, MatchOption, position, not, ◌==◌};
+ghost use Rattle.std.specs.Prelude.{◌≡◌, ◌≤◌, [], ◌∷◌, length, map, IfOk, MatchOption, position, not, ◌==◌};
 ghost use Rattle.std.specs.List.{prefix_len};
 ghost use Rattle.rwsp_text.specs.Places.{lexeme_at, AreWithin};
 ghost use Rattle.rwsp_file.specs.Spelling.{on_line, past_line};
@@ -92,10 +92,7 @@ impl<'a> Cursor<'a> {
     pub fn next(&mut self) -> Result<Lexeme<'a>, FileRefusal>
         ensures { Reads (next_at self.old) result self.new }
     {
-        match self.pop() {
-            Some(word) => Ok(word),
-            None => Err(FileRefusal::Ends(self.end)),
-        }
+        self.pop().ok_or(FileRefusal::Ends(self.end))
     }
 
     /// The next word as a number that keeps the limit.

@@ -1,7 +1,6 @@
 // Demands.
-ghost use Rattle.std.specs.Prelude.{◌≡◌, ◌==◌, List, position};
+ghost use Rattle.std.specs.Prelude.{◌≡◌, position};
 ghost use Rattle.rwsp_file.specs.Reading.{demand_of, range_of, range_from, is_dot};
-ghost use Rattle.rwsp_text.specs.Numbers.{number_of};
 
 use rwsp_model::Bounds;
 use rwsp_text::number;
@@ -27,9 +26,7 @@ fn place_of_dot(text: &[u8]) -> Option<usize>
 fn range(text: &[u8]) -> Option<Bounds>
     ensures { result ≡ range_of text.now }
 {
-    let Some(place) = place_of_dot(text) else {
-        return None;
-    };
+    let place = place_of_dot(text)?;
     range_from(number(&text[..place]), &text[place + 1..])
 }
 

@@ -1,6 +1,5 @@
 // Reading the fields of a text in their order.
-ghost use Rattle.std.specs.Prelude.{◌≡◌, ℕ, List, MatchResult, IfOk, ◌≤◌, Ok, Err};
-ghost use Rattle.rwsp_model.specs.declared.fail.Fail.TheVariants.{Refused};
+ghost use Rattle.std.specs.Prelude.{◌≡◌, IfOk, ◌≤◌};
 ghost use Rattle.rwsp_file.specs.Reading.{limited_weeks, weeks_at, size_at, demand_at, demand_row_at, demand_rows_at, frame_at};
 ghost use Rattle.rwsp_file.specs.Reads.{Reads, ReadsUnless};
 
@@ -96,7 +95,7 @@ fn read_demand_of_day(cursor: &mut Cursor) -> Result<Bounds, FileRefusal>
     Ok(range)
 }
 
-#[tactic(auto, using(crate::proofs::ManySteps::many_ok, crate::proofs::ManySteps::loop_err, crate::proofs::ManySteps::loop_done))]
+#[tactic(auto, using(crate::proofs::ManySteps::many_ok, crate::proofs::ManySteps::loop_done))]
 fn read_demand_row(
     alloc: Global,
     days: u32,
@@ -115,7 +114,7 @@ fn read_demand_row(
 }
 
 /// Reads a row of demands for each shift.
-#[tactic(auto, using(crate::proofs::ManySteps::many_ok, crate::proofs::ManySteps::loop_err, crate::proofs::ManySteps::loop_done))]
+#[tactic(auto, using(crate::proofs::ManySteps::many_ok, crate::proofs::ManySteps::loop_done))]
 pub fn read_demand(
     alloc: Global,
     size: Size,

@@ -1,5 +1,5 @@
 // Printing problem files.
-ghost use Rattle.std.specs.Prelude.{◌≡◌, ℕ, ◌+◌, ◌-◌, ◌<◌, ◌≤◌, List, [], ◌∷◌, ◌++◌, length, IfOk, OnOk, map, take, slice_get, slice_index_or, Some};
+ghost use Rattle.std.specs.Prelude.{◌≡◌, ◌+◌, ◌<◌, ◌≤◌, [], ◌∷◌, ◌++◌, length, IfOk, OnOk, map};
 ghost use Rattle.std.specs.List.{flat_map};
 ghost use Rattle.std.specs.Fmt.{decimal};
 ghost use Rattle.rwsp_terms.specs.Instance.{name_of, IsSymbol};
@@ -65,7 +65,7 @@ fn put_two(out: &mut Vec<u8>, first: u32, second: u32) -> Result<(), AllocError>
 }
 
 fn put_pair(out: &mut Vec<u8>, problem: &Problem, pair: (Symbol, Symbol)) -> Result<(), AllocError>
-    requires { (pair.0.number ≤ length problem.now.shifts) × (pair.1.number ≤ length problem.now.shifts) }
+    requires { IsSymbol problem.now pair.0 × IsSymbol problem.now pair.1 }
     ensures { OnOk result (out.new.items ≡ out.old.items ++ file_line (pair_words problem.now pair)) }
 {
     put_name_and(out, problem, pair.0, b' ')?;
@@ -77,7 +77,7 @@ fn put_triple(
     problem: &Problem,
     triple: (Symbol, Symbol, Symbol),
 ) -> Result<(), AllocError>
-    requires { (triple.0.number ≤ length problem.now.shifts) × (triple.1.number ≤ length problem.now.shifts) × (triple.2.number ≤ length problem.now.shifts) }
+    requires { IsSymbol problem.now triple.0 × IsSymbol problem.now triple.1 × IsSymbol problem.now triple.2 }
     ensures { OnOk result (out.new.items ≡ out.old.items ++ file_line (triple_words problem.now triple)) }
 {
     put_name_and(out, problem, triple.0, b' ')?;

@@ -1,7 +1,6 @@
 // Reading problem files.
-ghost use Rattle.std.specs.Prelude.{◌≡◌, ◌==◌, ◌≤◌, count_by, length, Some, IfOk, map};
+ghost use Rattle.std.specs.Prelude.{◌≡◌, ◌==◌, ◌≤◌, count_by, length, Some, IfOk};
 ghost use Rattle.rwsp_text.specs.Lexemes.{last_line};
-ghost use Rattle.rwsp_text.specs.Places.{lexeme_at};
 ghost use Rattle.rwsp_model.specs.Refusals.{IfRefused};
 ghost use Rattle.rwsp_model.specs.Parts.{instance_of};
 ghost use Rattle.rwsp_file.specs.Spelling.{SpellsProblem};
@@ -56,9 +55,8 @@ fn parts_of(alloc: Global, bytes: &[u8]) -> Result<Parts, Fail<FileRefusal>>
     requires { length bytes.now ≤ 1048576 }
     ensures { GivesUnless instance_of (reading (unread_of bytes.now)) result }
 {
-    let tokens = match tokens(alloc, bytes) {
-        Ok(tokens) => tokens,
-        Err(_) => return Err(Fail::Memory),
+    let Ok(tokens) = tokens(alloc, bytes) else {
+        return Err(Fail::Memory);
     };
     let mut cursor = Cursor::of(bytes, &tokens, last_line(bytes));
     read_parts(alloc, &mut cursor)

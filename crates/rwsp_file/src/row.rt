@@ -1,8 +1,7 @@
 // Reading the rows of shifts.
-ghost use Rattle.std.specs.Prelude.{◌≡◌, ℕ, List, ◌∷◌, length, IfOk, MatchResult, Ok, Err, false, not};
+ghost use Rattle.std.specs.Prelude.{◌≡◌, ◌∷◌, length, IfOk, MatchResult, Ok, Err, false};
 ghost use Rattle.std.specs.List.{list_any};
 ghost use Rattle.std.specs.Str.{bytes_eq};
-ghost use Rattle.rwsp_terms.specs.declared.data.ShiftRow.{ShiftRow};
 ghost use Rattle.rwsp_file.specs.Reading.{words_of_row, row_words_at, is_new_name, new_name, numbers_of_row, shift_of, shift_at, shift_rows_at};
 ghost use Rattle.rwsp_file.specs.Reads.{Reads, ReadsUnless, GivesUnless};
 
@@ -12,6 +11,9 @@ use crate::limits::{BLOCK, MINUTES};
 use crate::shifts::Shifts;
 use rwsp_model::{Bounds, Fail, Name, ShiftRow};
 use std::alloc::Global;
+
+// The longest name of a shift, in bytes.
+const LONGEST_NAME: usize = 32;
 
 /// The words of a shift, without its long name.
 #[derive(Drop)]
@@ -59,10 +61,7 @@ fn read_row_words<'a>(cursor: &mut Cursor<'a>) -> Result<RowWords<'a>, FileRefus
     let first = cursor.next()?;
     let line = first.line();
     let mut others = cursor.take_line(line);
-    match words_of_row(first, &mut others) {
-        Some(words) => Ok(words),
-        None => Err(FileRefusal::Row(line)),
-    }
+    words_of_row(first, &mut others).ok_or(FileRefusal::Row(line))
 }
 
 fn is_taken(shifts: &Shifts, name: &[u8]) -> bool
@@ -75,7 +74,7 @@ fn is_new_name(shifts: &Shifts, name: &[u8]) -> bool
     ensures { result ≡ is_new_name shifts.now name.now }
 {
     let taken = is_taken(shifts, name);
-    name.len() <= 32 && name != b"-".as_slice() && !taken
+    name.len() <= LONGEST_NAME && name != b"-".as_slice() && !taken
 }
 
 #[tactic(auto, unfolding(crate::specs::Reading::new_name))]
@@ -104,10 +103,10 @@ fn numbers_of_row(words: &RowWords) -> Result<(u32, u32, Bounds), FileRefusal>
 fn copied_name(alloc: Global, word: &Lexeme) -> Result<Name, Fail<FileRefusal>>
     ensures { GivesUnless (λ name. name) (Ok word.now.text) result }
 {
-    match Vec::from_slice(alloc, word.text()) {
-        Ok(bytes) => Ok(Name::of(bytes)),
-        Err(_) => Err(Fail::Memory),
-    }
+    let Ok(bytes) = Vec::from_slice(alloc, word.text()) else {
+        return Err(Fail::Memory);
+    };
+    Ok(Name::of(bytes))
 }
 
 #[tactic(auto, unfolding(crate::specs::Reading::shift_of))]
@@ -152,10 +151,10 @@ pub fn read_shifts(
     let mut shifts = Shifts::new(alloc);
     for shift in 0..count {
         let row = read_shift(alloc, &shifts, cursor)?;
-        shifts = match shifts.with(alloc, row) {
-            Ok(shifts) => shifts,
-            Err(_) => return Err(Fail::Memory),
+        let Ok(longer) = shifts.with(alloc, row) else {
+            return Err(Fail::Memory);
         };
+        shifts = longer;
     }
     Ok(shifts)
 }

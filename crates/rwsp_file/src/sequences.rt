@@ -1,5 +1,5 @@
 // Reading the forbidden sequences.
-ghost use Rattle.std.specs.Prelude.{◌≡◌, ℕ, List, length, ◌≤◌, IfOk};
+ghost use Rattle.std.specs.Prelude.{◌≡◌, length, ◌≤◌};
 ghost use Rattle.rwsp_terms.specs.Instance.{symbol_among};
 ghost use Rattle.rwsp_file.specs.Reading.{symbol_at, pair_at, triple_at, pairs_at, triples_at, nothing_of, sequences_at};
 ghost use Rattle.rwsp_file.specs.Reads.{Reads, ReadsUnless, GivesUnless};
@@ -18,12 +18,10 @@ fn symbol_in(shifts: &Shifts, name: &[u8]) -> Option<Symbol>
     if name == b"-".as_slice() {
         return Some(Symbol::OFF);
     }
-    match shifts.place(name) {
-        Some(place) => Some(Symbol {
-            number: place as u8 + 1,
-        }),
-        None => None,
-    }
+    let place = shifts.place(name)?;
+    Some(Symbol {
+        number: place as u8 + 1,
+    })
 }
 
 #[tactic(auto, unfolding(crate::specs::Reading::symbol_at))]
@@ -32,10 +30,7 @@ fn read_symbol(shifts: &Shifts, cursor: &mut Cursor) -> Result<Symbol, FileRefus
     ensures { Reads (symbol_at shifts.now cursor.old) result cursor.new }
 {
     let word = cursor.next()?;
-    match symbol_in(shifts, word.text()) {
-        Some(symbol) => Ok(symbol),
-        None => Err(FileRefusal::Unknown(word.line())),
-    }
+    symbol_in(shifts, word.text()).ok_or(FileRefusal::Unknown(word.line()))
 }
 
 #[tactic(auto, unfolding(crate::specs::Reading::pair_at))]
@@ -63,7 +58,7 @@ fn read_triple(
 }
 
 // Reads so many pairs.
-#[tactic(auto, using(crate::proofs::ManySteps::many_ok, crate::proofs::ManySteps::loop_err, crate::proofs::ManySteps::loop_done))]
+#[tactic(auto, using(crate::proofs::ManySteps::many_ok, crate::proofs::ManySteps::loop_done))]
 fn read_pairs(
     alloc: Global,
     shifts: &Shifts,
@@ -84,7 +79,7 @@ fn read_pairs(
 }
 
 // Reads so many triples.
-#[tactic(auto, using(crate::proofs::ManySteps::many_ok, crate::proofs::ManySteps::loop_err, crate::proofs::ManySteps::loop_done))]
+#[tactic(auto, using(crate::proofs::ManySteps::many_ok, crate::proofs::ManySteps::loop_done))]
 fn read_triples(
     alloc: Global,
     shifts: &Shifts,

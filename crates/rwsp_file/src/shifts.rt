@@ -1,5 +1,5 @@
 // The shifts of a text, whose names are looked up.
-ghost use Rattle.std.specs.Prelude.{◌≡◌, ℕ, List, [], ◌∷◌, ◌++◌, IfOk, IfSome, position, false, ◌<◌, length, not};
+ghost use Rattle.std.specs.Prelude.{◌≡◌, List, [], ◌∷◌, ◌++◌, IfOk, IfSome, position, false, ◌<◌, length};
 ghost use Rattle.std.specs.List.{list_any};
 ghost use Rattle.std.specs.Str.{bytes_eq};
 ghost use Rattle.rwsp_terms.specs.declared.data.ShiftRow.{ShiftRow};

@@ -34,6 +34,7 @@ shelf_step s = s.step
 abbrev pub sink_got : MemorySink → Option (List ℕ)
 sink_got s = Some s.bytes.items
 
+-- how often a put has failed
 abbrev pub sink_faults : MemorySink → ℕ
 sink_faults s = s.faults
 
