@@ -137,6 +137,17 @@ fn a_copy_goes_its_own_way(rt: HostRuntime) -> Result<(), Fail> {
 }
 
 #[test]
+fn a_symbol_alone(rt: HostRuntime) -> Result<(), Fail> {
+    let mut domains = small_domains(&rt, rt.alloc())?;
+    go(&rt, &mut domains, Step::Keep(2, 1));
+    for (p, number, alone) in [(2, 1, true), (2, 0, false), (3, 1, false)] {
+        assert!(rt; p < domains.cells());
+        assert_eq!(rt; domains.has_only(p, Symbol { number }), alone);
+    }
+    Ok(())
+}
+
+#[test]
 fn decided_domains_make_a_roster(rt: HostRuntime) -> Result<(), Fail> {
     let problem = small_problem(&rt, rt.alloc())?;
     let mut domains = Domains::new(rt.alloc(), &problem)?;

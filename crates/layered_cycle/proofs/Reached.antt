@@ -1,5 +1,5 @@
 -- The nodes that clean words lead to.
-use Rattle.std.proofs.Common.{◌≡◌, ◌⊎◌, ℕ, ◌+◌, ◌%◌, ◌<◌, ◌^◌, List, [], ◌∷◌, ◌++◌, length, get_or, refl, ap, sym, ◌∙◌, subst, inl, inr, arith, length-append}
+use Rattle.std.proofs.Common.{◌≡◌, ◌⊎◌, ℕ, ◌+◌, ◌%◌, ◌<◌, ◌^◌, List, [], ◌∷◌, ◌++◌, length, get_or, refl, ap, sym, subst, inl, inr, arith, length-append}
 use Rattle.std.specs.Prelude.{IsTrue, slice_index, ◌↔◌, Bool, true, false, not, ◌==◌, MatchBool}
 use Rattle.std.proofs.lemmas.List.Elements.{Contains-get_or}
 use Rattle.std.proofs.lemmas.List.{get_or_push}
@@ -61,8 +61,8 @@ reaches_none T D p clean = record { found = found; only = only; each = λ k h. (
     only [] k h = (record { long = refl; over = tt; clean = clean }, (omega (arith, h), subst (λ (n : ℕ). get_or (tail_of [] ∷ []) n (tail_of []) ≡ tail_of []) h refl))
     only (x ∷ u) k h = absurd h
 
-pub reaches_more : (T : Listed) (D : Domains) (p i q : ℕ) (layers : List (List Step)) (nodes : List Tail) (steps : List Step) (next : List Tail) → q ≡ (p + i) % cells T.problem → Reaches T D p i layers nodes → Grown T D q nodes steps next (length nodes) 0 → Reaches T D p (i + 1) (layers ++ steps ∷ []) next
-reaches_more T D p i q layers nodes steps next place r g = record { found = found; only = only; each = each }
+pub reaches_more : (T : Listed) (D : Domains) (p i : ℕ) (layers : List (List Step)) (nodes : List Tail) (steps : List Step) (next : List Tail) → Reaches T D p i layers nodes → Grown T D ((p + i) % cells T.problem) nodes steps next (length nodes) 0 → Reaches T D p (i + 1) (layers ++ steps ∷ []) next
+reaches_more T D p i layers nodes steps next r g = record { found = found; only = only; each = each }
   where
     P : Instance
     P = T.problem
@@ -76,7 +76,7 @@ reaches_more T D p i q layers nodes steps next place r g = record { found = foun
     found_longer : (w : List Symbol) (x : Symbol) → IsCleanOver P D p (i + 1) R (w ++ x ∷ []) → Goal (w ++ x ∷ [])
     found_longer w x h =
         let long : length w ≡ i = omega (arith, h.long, length-append w (x ∷ [])) in
-        let inside : IsTrue (D q x.number) = subst (λ (k : ℕ). IsTrue (D k x.number)) (ap (λ (n : ℕ). (p + n) % cells P) long ∙ sym place) (over_last P D p w x h.over) in
+        let inside : IsTrue (D ((p + i) % cells P) x.number) = subst (λ (n : ℕ). IsTrue (D ((p + n) % cells P) x.number)) long (over_last P D p w x h.over) in
         let front : IsCleanOver P D p i R w = record { long = long; over = over_front P D p w x h.over; clean = clean_front P R w x h.clean } in
         let f = r.found w front in
         let step = g.complete f.0 x w (inl f.1.0) inside front.clean f.1 h.clean in
@@ -100,7 +100,7 @@ reaches_more T D p i q layers nodes steps next place r g = record { found = foun
         let long : length w ≡ i = before.0.long in
         let s = g.sound (step_by last.node_before x k) last.step in
         let l = s.leads w clean before.1 in
-        let inside : Inside P D p (length w) x = subst (λ (n : ℕ). IsTrue (D n x.number)) (place ∙ ap (λ (n : ℕ). (p + n) % cells P) (sym long)) s.inside in
+        let inside : Inside P D p (length w) x = subst (λ (n : ℕ). IsTrue (D ((p + n) % cells P) x.number)) (sym long) s.inside in
         let over : Over P D p (w ++ x ∷ []) = over_longer P D p w x before.0.over inside in
         let whole : IsCleanOver P D p (i + 1) R (w ++ x ∷ []) = record { long = omega (arith, length-append w (x ∷ [])); over = over; clean = l.0 } in
         subst (λ (v : List Symbol). IsCleanOver P D p (i + 1) R v × StandsAt next k (tail_of v)) (sym last.whole) (whole, l.1)
@@ -150,10 +150,10 @@ built_none T D p clean = record {
   few = omega arith;
 }
 
-pub built_more : (T : Listed) (D : Domains) (p i q : ℕ) (layers : List (List Step)) (counts : List ℕ) (nodes : List Tail) (steps : List Step) (next : List Tail) → q ≡ (p + i) % cells T.problem → Built T D p i layers counts nodes → Grown T D q nodes steps next (length nodes) 0 → Built T D p (i + 1) (layers ++ steps ∷ []) (counts ++ length next ∷ []) next
-built_more T D p i q layers counts nodes steps next place b g = record {
-  reaches = reaches_more T D p i q layers nodes steps next place b.reaches g;
-  are_layers = layers_more counts layers (length nodes) (length next) steps b.are_layers b.counted (is_layer T D q nodes steps next g);
+pub built_more : (T : Listed) (D : Domains) (p i : ℕ) (layers : List (List Step)) (counts : List ℕ) (nodes : List Tail) (steps : List Step) (next : List Tail) → Built T D p i layers counts nodes → Grown T D ((p + i) % cells T.problem) nodes steps next (length nodes) 0 → Built T D p (i + 1) (layers ++ steps ∷ []) (counts ++ length next ∷ []) next
+built_more T D p i layers counts nodes steps next b g = record {
+  reaches = reaches_more T D p i layers nodes steps next b.reaches g;
+  are_layers = layers_more counts layers (length nodes) (length next) steps b.are_layers b.counted (is_layer T D ((p + i) % cells T.problem) nodes steps next g);
   long = (let long : length layers ≡ i = b.long in omega (arith, length-append layers (steps ∷ [])));
   counted = (let long : length counts ≡ length layers + 1 = b.are_layers.long in get_or_push counts (length next) 0 (length (layers ++ steps ∷ [])) (omega (arith, length-append layers (steps ∷ []))));
   few = g.few;
@@ -167,9 +167,9 @@ pub record AreTails (T : Listed) (D : Domains) (p i : ℕ) (nodes : List Tail) :
 pub tails_none : (T : Listed) (D : Domains) (p : ℕ) → Clean T.problem T.rules [] → AreTails T D p 0 (tail_of [] ∷ [])
 tails_none T D p clean = record { behind = ([], reaches_none T D p clean); few = omega arith }
 
-pub tails_more : (T : Listed) (D : Domains) (p i q : ℕ) (nodes : List Tail) (steps : List Step) (next : List Tail) → q ≡ (p + i) % cells T.problem → AreTails T D p i nodes → Grown T D q nodes steps next (length nodes) 0 → AreTails T D p (i + 1) next
-tails_more T D p i q nodes steps next place a g = record {
-  behind = (a.behind.0 ++ steps ∷ [], reaches_more T D p i q a.behind.0 nodes steps next place a.behind.1 g);
+pub tails_more : (T : Listed) (D : Domains) (p i : ℕ) (nodes : List Tail) (steps : List Step) (next : List Tail) → AreTails T D p i nodes → Grown T D ((p + i) % cells T.problem) nodes steps next (length nodes) 0 → AreTails T D p (i + 1) next
+tails_more T D p i nodes steps next a g = record {
+  behind = (a.behind.0 ++ steps ∷ [], reaches_more T D p i a.behind.0 nodes steps next a.behind.1 g);
   few = g.few;
 }
 

@@ -7,7 +7,7 @@ ghost use Rattle.refutation_terms.specs.Escape.{IsCleanOver, IsLeastClean};
 ghost use Rattle.domain_store.specs.Store.{has_domain, BelongsTo};
 
 use crate::graph::{LayeredGraph, graph_of};
-use crate::growth::{Growth, next_layer};
+use crate::growth::{Growth, layer_of_day};
 use crate::{Gain, HeavyWord, best_word};
 use domain_store::Domains;
 use rwsp_terms::{Symbol, Word};
@@ -34,15 +34,13 @@ impl Cut {
             (IsDead tails.now.problem (has_domain doms.now) p len tails.now.rules)) }
     {
         empty_word_is_clean();
-        doms.facts();
-        let cells = doms.cells();
         let mut nodes = Vec::new(alloc);
         nodes.push(Tail::empty())?;
         for i in 0..len {
             let Growth {
                 steps: _,
                 nodes: next,
-            } = next_layer(alloc, tails, doms, (p + i) % cells, &nodes)?;
+            } = layer_of_day(alloc, tails, doms, p, i, &nodes)?;
             nodes = next;
         }
         Ok(!nodes.is_empty())

@@ -7,7 +7,7 @@ ghost use Rattle.domain_store.specs.Store.{has_domain, BelongsTo};
 ghost use Rattle.layered_cycle.specs.Graph.{Leads, AreLayers};
 
 use crate::Layer;
-use crate::growth::{Growth, next_layer};
+use crate::growth::{Growth, layer_of_day};
 use domain_store::Domains;
 use std::alloc::{AllocError, Global};
 use word_tail::{Tail, TailRules, empty_word_is_clean};
@@ -35,21 +35,13 @@ pub fn graph_of(
     ensures layers { IfOk result (λ g. AreLayers g.node_counts.items g.layers.items) }
 {
     empty_word_is_clean();
-    doms.facts();
-    let cells = doms.cells();
     let mut layers = Vec::new(alloc);
     let mut node_counts = Vec::new(alloc);
     node_counts.push(1)?;
     let mut nodes = Vec::new(alloc);
     nodes.push(Tail::empty())?;
     for i in 0..len {
-        let Growth { steps, nodes: next } = next_layer(
-            alloc,
-            tails,
-            doms,
-            (p + i) % cells,
-            &nodes,
-        )?;
+        let Growth { steps, nodes: next } = layer_of_day(alloc, tails, doms, p, i, &nodes)?;
         layers.push(Layer::of(steps))?;
         node_counts.push(next.len() as u32)?;
         nodes = next;

@@ -1,8 +1,8 @@
 // One layer more.
-ghost use Rattle.std.specs.Prelude.{◌≡◌, ℕ, ◌+◌, ◌<◌, ◌≤◌, ◌^◌, List, length, IfOk, OnOk, vec_len};
+ghost use Rattle.std.specs.Prelude.{◌≡◌, ℕ, ◌+◌, ◌%◌, ◌<◌, ◌≤◌, ◌^◌, List, length, IfOk, OnOk, vec_len};
 ghost use Rattle.std.specs.Option.{IfSome};
-ghost use Rattle.rwsp_terms.specs.Instance.{Instance};
-ghost use Rattle.domain_store.specs.Store.{has_domain};
+ghost use Rattle.rwsp_terms.specs.Instance.{Instance, cells};
+ghost use Rattle.domain_store.specs.Store.{has_domain, BelongsTo};
 ghost use Rattle.layered_cycle.specs.Grown.{StandsAt, Extends, Grown};
 
 use crate::Step;
@@ -104,7 +104,7 @@ impl Growth {
 }
 
 // The steps from all nodes by the symbols of the position's domain.
-pub fn next_layer(
+fn next_layer(
     alloc: Global,
     tails: &TailRules,
     doms: &Domains,
@@ -123,4 +123,24 @@ pub fn next_layer(
         growth.put_steps(tails, doms, q, nodes, from)?;
     }
     Ok(growth)
+}
+
+// The layer of the day that comes so many days behind the position, round the cycle.
+pub fn layer_of_day(
+    alloc: Global,
+    tails: &TailRules,
+    doms: &Domains,
+    p: u32,
+    i: u32,
+    nodes: &[Tail],
+) -> Result<Growth, AllocError>
+    requires belongs { BelongsTo tails.now.problem doms.now }
+    requires position { p < cells tails.now.problem }
+    requires day { i < 16800 }
+    requires few { length nodes.now < 2 ^ 32 }
+    ensures { IfOk result (λ g. Grown tails.now (has_domain doms.now) ((p + i) % cells tails.now.problem) nodes.now g.steps.items g.nodes.items (length nodes.now) 0) }
+{
+    doms.facts();
+    let q = (p + i) % doms.cells();
+    next_layer(alloc, tails, doms, q, nodes)
 }

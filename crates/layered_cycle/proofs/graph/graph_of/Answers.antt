@@ -1,4 +1,4 @@
-use Rattle.std.proofs.Common.{◌≡◌, ℕ, ◌+◌, ◌*◌, ◌%◌, length, List, ap, ◌∙◌, subst, rules, arith}
+use Rattle.std.proofs.Common.{◌≡◌, ℕ, ◌+◌, ◌%◌, length, List, subst, rules, arith}
 use Rattle.rwsp_terms.specs.Instance.{cells}
 use Rattle.domain_store.specs.Store.{has_domain}
 use Rattle.word_tail.specs.declared.tail.Tail.{Tail}
@@ -13,12 +13,10 @@ pub loop-i-preserved : goal.loop-i-preserved
 loop-i-preserved c =
     let T = c.args.tails.now in
     let D = has_domain c.args.doms.now in
-    let q : ℕ = (c.args.p + c.loop-i.i) % c.cells-cells.result in
-    let size : c.cells-cells.result ≡ cells T.problem = c.cells-cells.ensures.value ∙ ap (λ (n : ℕ). n * c.args.doms.now.days) c.requires.belongs.weeks ∙ ap (λ (n : ℕ). T.problem.weeks * n) c.requires.belongs.days in
-    let place : q ≡ (c.args.p + c.loop-i.i) % cells T.problem = ap (λ (n : ℕ). (c.args.p + c.loop-i.i) % n) size in
+    let q : ℕ = (c.args.p + c.loop-i.i) % cells T.problem in
     let grown : Grown T D q c.loop-i.nodes.items c.in_ok-steps.field-0.steps.items c.in_ok-steps.field-0.nodes.items (length c.loop-i.nodes.items) 0 =
     subst (λ (xs : List Tail). Grown T D q xs c.in_ok-steps.field-0.steps.items c.in_ok-steps.field-0.nodes.items (length xs) 0) c.deref.ensures.value c.in_ok-steps.ensures in
-    let built = built_more T D c.args.p c.loop-i.i q c.loop-i.layers.items c.loop-i.node_counts.items c.loop-i.nodes.items _ _ place c.loop-i.invariant grown in
+    let built = built_more T D c.args.p c.loop-i.i c.loop-i.layers.items c.loop-i.node_counts.items c.loop-i.nodes.items _ _ c.loop-i.invariant grown in
     let len : c.len.result ≡ length c.in_ok-steps.field-0.nodes.items = search rules in
     rw (c.in_ok-push-3.ensures.items, c.in_ok-push-4.ensures.items, c.of.ensures, len) built
 
