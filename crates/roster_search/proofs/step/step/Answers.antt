@@ -32,7 +32,7 @@ pub quiet-requires-clause-under_way : goal.quiet-requires-clause-under_way
 quiet-requires-clause-under_way g c =
     let a = c.args.progress.now in
     under_way_by c.args.problem.now a.turn c.args.budget (g.A.Propagator.leaves c.args.prop.now) (g.A.Propagator.leaves c.look.new.self) (g.A.Propagator.spent c.args.prop.now) (g.A.Propagator.spent c.look.new.self) a
-    c.look.ensures.leaves c.look.ensures.spent c.requires.under_way
+    c.look.ensures.same.leaves c.look.ensures.same.spent c.requires.under_way
 
 pub returns-in_ok-close-in-Closed-clause-under_way :
     goal.returns-in_ok-close-in-Closed-clause-under_way
@@ -76,5 +76,5 @@ returns-in-Quiet-clause-under_way g c =
     IfOk-weaker c.quiet.result
     (λ (found : Option Roster). found ≡ None → IsUnderWay P a.turn c.args.budget leaves' spent' b)
     (λ (found : Option Roster). found ≡ None → IsUnderWay P a.turn c.args.budget leaves spent b)
-    (λ found h none. under_way_back P a.turn c.args.budget leaves leaves' spent spent' b c.look.ensures.leaves c.look.ensures.spent (h none))
+    (λ found h none. under_way_back P a.turn c.args.budget leaves leaves' spent spent' b c.look.ensures.same.leaves c.look.ensures.same.spent (h none))
     c.quiet.ensures.under_way
