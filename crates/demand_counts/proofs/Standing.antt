@@ -5,8 +5,8 @@ use Rattle.rwsp_terms.specs.Instance.{Instance}
 use Rattle.refutation_terms.specs.Word.{Domains}
 use Rattle.refutation_terms.specs.Log.{Holds}
 use Rattle.refutation_terms.specs.declared.lines.Line.TheVariants.{Day}
-use Rattle.domain_store.specs.Store.{Store, changed, BelongsTo, HasSameShape}
-use Rattle.demand_counts.specs.Counted.{Counted, StandsFor, HasShapeOf, CountsFor, DiffersAtMostAt}
+use Rattle.domain_store.specs.Store.{Store, changed}
+use Rattle.demand_counts.specs.Counted.{Counted, StandsFor, DiffersAtMostAt}
 use Rattle.demand_counts.specs.Overruns.{Misses, IsWithinDemand}
 
 -- one change makes domains differ at its position alone
@@ -17,14 +17,6 @@ differs_where_changed C S T p s stands change =
       shape = record { days = stands.days; weeks = stands.weeks; shifts = stands.shifts };
       others = λ q other. ap (λ sets. get_or sets q []) stands.sets ∙ sym (get_or-set_other S.sets p q s [] other);
     })
-
--- what narrows or undoes domains keeps their shape
-pub shape_kept : (C : Counted) (S T : Store) → StandsFor C S → HasSameShape S T → HasShapeOf C T
-shape_kept C S T stands same = record { days = stands.days ∙ sym same.days; weeks = stands.weeks ∙ sym same.weeks; shifts = stands.shifts ∙ sym same.shifts }
-
--- counts of a problem's domains are for the problem
-pub counts_for_problem : (P : Instance) (C : Counted) (S : Store) → BelongsTo P S → StandsFor C S → CountsFor P C
-counts_for_problem P C S belongs stands = record { days = stands.days ∙ belongs.days; weeks = stands.weeks ∙ belongs.weeks; shifts = stands.shifts ∙ belongs.shifts }
 
 -- an overrun is a leaf that holds
 pub holds_where_overrun : (P : Instance) (D : Domains) (j : ℕ) (x : Symbol) (over : Bool) → Misses P D j x.number over → Holds P D (Day j x over)

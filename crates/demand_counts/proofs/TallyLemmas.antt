@@ -113,10 +113,6 @@ tally_small test days weeks sets p row old tallies some at x small =
     let index : get_or old (row + x) 0 ≡ get_or old (p % days * 9 + x) 0 = ap (λ r. get_or old (r + x) 0) at in
     omega (arith, counted, index, column_small (test x) days weeks sets (p % days))
 
--- the nine counters of a day are there
-pub row_within : (p days row n : ℕ) → 0 < days → row ≡ p % days * 9 → n ≡ days * 9 → row + 9 ≤ n
-row_within p days row n some at long = omega (arith, mod_below p days some)
-
 -- counters that were recounted count the changed sets
 pub tallies_moved : (test : ℕ → List ℕ → Bool) (days weeks : ℕ) (sets : List (List ℕ)) (p : ℕ) (before after : List ℕ) (were are : List Bool) (row : ℕ) (old new : List ℕ)
     → Tallies test days weeks sets old → 0 < days → p < weeks * days → p < length sets → before ≡ get_or sets p [] → row ≡ p % days * 9
@@ -199,14 +195,6 @@ narrowed_stands C S p s differs long full within same =
             | inr other ↦ get_or-set_other C.sets p q s [] other ∙ differs.others q other
           ]);
     }
-
--- one position more has been taken over
-pub more_taken : (a b : List (List ℕ)) (p : ℕ) (s : List ℕ) → p < length a → s ≡ get_or b p [] → ((q : ℕ) → q < p → get_or a q [] ≡ get_or b q []) → (q : ℕ) → q < p + 1 → get_or (set a p s) q [] ≡ get_or b q []
-more_taken a b p s within same done q less =
-    elim (cases_eq q p) [
-      | inl at ↦ ap (λ i. get_or (set a p s) i []) at ∙ get_or-set_same a p s [] within ∙ same ∙ ap (λ i. get_or b i []) (sym at)
-      | inr other ↦ get_or-set_other a p q s [] other ∙ done q (omega (arith, less, other))
-    ]
 
 -- all have been taken over
 pub all_taken : (C : Counted) (S : Store) → HasShapeOf C S → length C.sets ≡ length S.sets → ((q : ℕ) → q < length S.sets → get_or C.sets q [] ≡ get_or S.sets q []) → StandsFor C S

@@ -2,6 +2,7 @@
 #![tactic(auto)]
 
 mod counts;
+mod overruns;
 mod recount;
 mod sharing;
 #[cfg(test)]

@@ -1,4 +1,5 @@
 mod Pairs
+mod CutCounts
 mod Cuts
 mod Runs
 mod Over

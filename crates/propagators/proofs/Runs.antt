@@ -1,19 +1,11 @@
 -- Runs of days before and behind a day.
-use Rattle.std.proofs.Common.{◌≡◌, ℕ, zero, suc, ◌+◌, ◌-◌, ◌%◌, ◌<◌, ◌≤◌, ◌⊎◌, inl, inr, length, sym, subst, arith}
+use Rattle.std.proofs.Common.{◌≡◌, ℕ, zero, suc, ◌+◌, ◌-◌, ◌%◌, ◌<◌, ◌≤◌, ◌⊎◌, inl, inr, length, subst, arith}
 use Rattle.std.proofs.lemmas.Bool.{cases_eq, cases_lt}
 use Rattle.rwsp_terms.specs.declared.data.Symbol.{Symbol}
 use Rattle.rwsp_terms.specs.declared.data.Class.{Class}
 use Rattle.rwsp_terms.specs.Instance.{symbol_numbered}
 use Rattle.domain_store.specs.Store.{Store, HasDomains}
 use Rattle.plain_leaves.specs.Runs.{LiesIn, LiesOutside, StaysIn, IsLongRun, IsShortRun, IsPairRun, IsTripleRun}
-
--- one day more behind
-pub one_more_after : (c : Class) (S : Store) (day n : ℕ) → StaysIn c S day n → LiesIn c S (day + n) → StaysIn c S day (n + 1)
-one_more_after c S day n stays here i less =
-    elim (cases_eq i n) [
-      | inl same ↦ subst (λ k. LiesIn c S (day + k)) (sym same) here
-      | inr other ↦ stays i (omega (arith, less, other))
-    ]
 
 -- one day more before
 pub one_more_before : (c : Class) (S : Store) (day n : ℕ) → n < day → StaysIn c S (day - n) n → LiesIn c S (day - n - 1) → StaysIn c S (day - (n + 1)) (n + 1)

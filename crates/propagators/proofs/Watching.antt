@@ -12,8 +12,8 @@ use Rattle.refutation_terms.specs.Log.{LineFits}
 use Rattle.domain_store.specs.Sets.{has_symbol}
 use Rattle.domain_store.specs.Store.{Store, BelongsTo, domain_at, IsStore, HasDomains}
 use Rattle.plain_leaves.proofs.Domains.{positions}
-use Rattle.propagators.specs.Looks.{Closes, IsClosing}
-use Rattle.propagators.specs.Windows.{IsWindowLeaf, WindowWatch, has_known, LiesOver, IsWatch, IsWindow, NoWindowOver}
+use Rattle.propagators.specs.Looks.{Closes}
+use Rattle.propagators.specs.Windows.{IsWindowLeaf, WindowWatch, has_known, LiesOver, IsWatch, NoWindowOver}
 
 -- words over domains that have all symbols of others where the words lie
 
@@ -181,13 +181,6 @@ none_awaited w S watch same none (Window number p len, among, holds) =
     let inside : (p + q.2.0) % cells w.problem < cells w.problem = omega (arith, some) in
     let within : q.0 < cells w.problem = subst (λ k. k < cells w.problem) q.2.2 inside in
     unlike (get_or w.pending q.0 false) q.1 (none q.0 within)
-
-pub closing_window : (P : Instance) (S : Store) (number p len : ℕ) → IsWindow P S number p len → IsClosing P (IsWindowLeaf P) S (Window number p len)
-closing_window P S number p len window = record {
-  is_leaf = record { leaf = tt; fits = window.fits; short = tt };
-  among = window.fits;
-  holds = window.holds;
-}
 
 -- one position was taken over, and the others were the same
 pub same_once_taken : (sets : List (List ℕ)) (S : Store) (p : ℕ) → length sets ≡ length S.sets → p < length S.sets → ((q : ℕ) → q ≢ p → get_or sets q [] ≡ domain_at S q) → set sets p (domain_at S p) ≡ S.sets

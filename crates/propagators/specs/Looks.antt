@@ -1,9 +1,9 @@
 -- What a propagator says of domains.
-use Rattle.std.specs.Prelude.{◌≡◌, ◌≢◌, ℕ, ◌<◌, false, IsTrue}
+use Rattle.std.specs.Prelude.{◌≡◌, ◌≢◌, ◌↔◌, ℕ, ◌<◌, Bool, false, IsTrue}
 use Rattle.rwsp_terms.specs.declared.data.Symbol.{Symbol}
 use Rattle.rwsp_terms.specs.Instance.{Instance, cells}
 use Rattle.refutation_terms.specs.declared.lines.Line.{Line}
-use Rattle.refutation_terms.specs.declared.lines.Line.TheVariants.{Split}
+use Rattle.refutation_terms.specs.declared.lines.Line.TheVariants.{Split, Window, Day}
 use Rattle.refutation_terms.specs.Tree.{IsLeaf, First, narrowed, is_idle}
 use Rattle.refutation_terms.specs.Log.{Holds, LineFits, ListsShortOnly}
 use Rattle.domain_store.specs.Store.{Store, HasSameShape, domain_at, has_domain}
@@ -39,6 +39,17 @@ abbrev pub IsLook : Instance → (Line → Type 0) → (ℕ → Symbol → Type 
 IsLook P leaves spent S Quiet = (Closes P leaves S → ⊥) × ((p : ℕ) (x : Symbol) → spent p x → ⊥)
 IsLook P leaves spent S (Closed line) = IsClosing P leaves S line
 IsLook P leaves spent S (Cut p x line) = (Closes P leaves S → ⊥) × IsCut P spent S p x line
+
+-- the leaves include all window and day leaves of the problem
+pub record HasPlainLeaves (P : Instance) (leaves : Store → Line → Type 0) : Type 0 where
+  pub windows : (S : Store) (number p len : ℕ) → LineFits P (Window number p len) → leaves S (Window number p len)
+  pub days : (S : Store) (j : ℕ) (x : Symbol) (over : Bool) → LineFits P (Day j x over) → leaves S (Day j x over)
+
+-- before and now the same problems are served, with the same leaves and the same spent symbols
+pub record SameReasons (serves_before serves_now : Instance → Type 0) (leaves_before leaves_now : Store → Line → Type 0) (spent_before spent_now : Store → ℕ → Symbol → Type 0) : Type 0 where
+  pub serves : (P : Instance) → serves_before P ↔ serves_now P
+  pub leaves : (S : Store) (line : Line) → leaves_before S line ↔ leaves_now S line
+  pub spent : (S : Store) (p : ℕ) (x : Symbol) → spent_before S p x ↔ spent_now S p x
 
 -- the domains differ at one position at most, and there some symbols of the domain before are left
 pub record IsNarrowedAt (before now : Store) (p : ℕ) : Type 0 where

@@ -1,10 +1,10 @@
 // The one view that a search has of its reasons.
-ghost use Rattle.std.specs.Prelude.{ℕ, ◌<◌, ◌↔◌, length, IfOk};
+ghost use Rattle.std.specs.Prelude.{ℕ, ◌<◌, length, IfOk};
 ghost use Rattle.rwsp_terms.specs.declared.data.Symbol.{Symbol};
 ghost use Rattle.rwsp_terms.specs.Instance.{Instance};
 ghost use Rattle.refutation_terms.specs.declared.lines.Line.{Line};
 ghost use Rattle.domain_store.specs.Store.{Store, BelongsTo};
-ghost use Rattle.propagators.specs.Looks.{IsLook, IsNarrowedAt};
+ghost use Rattle.propagators.specs.Looks.{IsLook, IsNarrowedAt, SameReasons};
 
 use crate::Look;
 use domain_store::Domains;
@@ -32,9 +32,7 @@ pub trait Propagator {
         requires tracked { tracks self.old doms.now }
         ensures look { IfOk result (λ look. (P : Instance) → serves self.old P → IsLook P (leaves self.old doms.now) (spent self.old doms.now) doms.now look) }
         ensures tracks { tracks self.new doms.now }
-        ensures serves { (P : Instance) → serves self.old P ↔ serves self.new P }
-        ensures leaves { (S : Store) (line : Line) → leaves self.old S line ↔ leaves self.new S line }
-        ensures spent { (S : Store) (p : ℕ) (x : Symbol) → spent self.old S p x ↔ spent self.new S p x };
+        ensures same { SameReasons (serves self.old) (serves self.new) (leaves self.old) (leaves self.new) (spent self.old) (spent self.new) };
 
     /// Tracks the present domains, which differ from tracked ones at position `p` alone, where symbols were taken away.
     fn narrowed(&mut self, doms: &Domains, p: u32)
@@ -42,15 +40,11 @@ pub trait Propagator {
         requires position { p < length doms.now.sets }
         requires tracked { (before : Store) × tracks self.old before × IsNarrowedAt before doms.now p }
         ensures tracks { tracks self.new doms.now }
-        ensures serves { (P : Instance) → serves self.old P ↔ serves self.new P }
-        ensures leaves { (S : Store) (line : Line) → leaves self.old S line ↔ leaves self.new S line }
-        ensures spent { (S : Store) (p : ℕ) (x : Symbol) → spent self.old S p x ↔ spent self.new S p x };
+        ensures same { SameReasons (serves self.old) (serves self.new) (leaves self.old) (leaves self.new) (spent self.old) (spent self.new) };
 
     /// Tracks the present domains, whichever domains of its problem it tracked before.
     fn undone(&mut self, doms: &Domains)
         requires problem { (P : Instance) × serves self.old P × BelongsTo P doms.now }
         ensures tracks { tracks self.new doms.now }
-        ensures serves { (P : Instance) → serves self.old P ↔ serves self.new P }
-        ensures leaves { (S : Store) (line : Line) → leaves self.old S line ↔ leaves self.new S line }
-        ensures spent { (S : Store) (p : ℕ) (x : Symbol) → spent self.old S p x ↔ spent self.new S p x };
+        ensures same { SameReasons (serves self.old) (serves self.new) (leaves self.old) (leaves self.new) (spent self.old) (spent self.new) };
 }

@@ -1,4 +1,5 @@
-// Days in a row, one of them given, whose domains make every word over them bad for a kind of rule.
+// Days in a row, one of them given, whose domains make every word over them bad for a kind of rule. Days count from 0 round
+// the cycle, without end.
 ghost use Rattle.std.specs.Prelude.{ℕ, ◌+◌, ◌-◌, ◌<◌, ◌≤◌, length, MatchOption};
 ghost use Rattle.plain_leaves.specs.Runs.{LiesIn, StaysIn, IsLongRun, IsShortRun, IsPairRun, IsTripleRun};
 ghost use Rattle.propagators.specs.Windows.{IsRunAnswer};
@@ -40,7 +41,7 @@ fn days_after(doms: &Domains, class: Class, day: u32, most: u32) -> u32
 }
 
 /// The first day and the number of days of a run that is longer than the greatest length; None: no such run has the day in
-/// it. Days count from 0 round the cycle, without end. It costs at most two steps for each day of the greatest length.
+/// it. It costs at most two steps for each day of the greatest length.
 pub fn long_run(doms: &Domains, class: Class, greatest: u32, day: u32) -> Option<(u32, u32)>
     requires sets { 0 < length doms.now.sets }
     requires day { (16800 ≤ day) × (day ≤ 90000000) }
@@ -81,7 +82,8 @@ fn short_run_from(doms: &Domains, class: Class, least: u32, day: u32) -> Option<
 }
 
 /// The first day and the number of days of a block that is shorter than the least length, with the day outside before it and
-/// the one behind it; None: no such days have the day among them. Days count from 0 round the cycle, without end. It costs at most three steps for each day of the least length.
+/// the one behind it; None: no such days have the day among them. It costs at most three steps for each day of the least
+/// length.
 pub fn short_run(doms: &Domains, class: Class, least: u32, day: u32) -> Option<(u32, u32)>
     requires sets { 0 < length doms.now.sets }
     requires day { (16800 ≤ day) × (day ≤ 90000000) }
@@ -100,7 +102,6 @@ pub fn short_run(doms: &Domains, class: Class, least: u32, day: u32) -> Option<(
 }
 
 /// The first day and the number, two, of days that can hold the two symbols alone; None: no such days have the day among them.
-/// Days count from 0 round the cycle, without end.
 pub fn pair_run(doms: &Domains, pair: (Symbol, Symbol), day: u32) -> Option<(u32, u32)>
     requires sets { 0 < length doms.now.sets }
     requires day { (16800 ≤ day) × (day ≤ 90000000) }
@@ -115,7 +116,7 @@ pub fn pair_run(doms: &Domains, pair: (Symbol, Symbol), day: u32) -> Option<(u32
 }
 
 /// The first day and the number, three, of days that can hold the three symbols alone; None: no such days have the day among
-/// them. Days count from 0 round the cycle, without end.
+/// them.
 pub fn triple_run(doms: &Domains, triple: (Symbol, Symbol, Symbol), day: u32) -> Option<(u32, u32)>
     requires sets { 0 < length doms.now.sets }
     requires day { (16800 ≤ day) × (day ≤ 90000000) }

@@ -5,7 +5,8 @@ use Rattle.domain_store.specs.Store.{has_domain}
 use Rattle.propagators.specs.declared.look.Look.{Look}
 use Rattle.propagators.specs.Looks.{IsLook}
 use Rattle.propagators.specs.Days.{IsDayLeaf, IsDaySpent}
-use Rattle.propagators.proofs.Cuts.{held, closing_day, none_closes, cut_day, none_spent}
+use Rattle.propagators.proofs.CutCounts.{held}
+use Rattle.propagators.proofs.Cuts.{closing_day, none_closes, cut_day, none_spent}
 use Rattle.propagators.proofs.day.seen.Goals as goal
 
 pub returns-in-Some : goal.returns-in-Some

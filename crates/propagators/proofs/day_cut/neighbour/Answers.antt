@@ -2,7 +2,7 @@
 use Rattle.std.proofs.Common.{◌<◌, ◌≤◌, ◌≡◌, true, sym, ◌∙◌, arith}
 use Rattle.rwsp_terms.specs.Instance.{shift_count}
 use Rattle.domain_store.specs.Store.{has_domain}
-use Rattle.propagators.proofs.Cuts.{useful, idle_alone}
+use Rattle.propagators.proofs.CutCounts.{useful, idle_alone}
 use Rattle.propagators.proofs.day_cut.neighbour.Goals as goal
 
 pub returns-then-has : goal.returns-then-has

@@ -2,7 +2,7 @@
 use Rattle.std.proofs.Common.{◌≡◌, rules, arith}
 use Rattle.refutation_terms.specs.Leaf.{fixed, possible}
 use Rattle.domain_store.specs.Store.{has_domain}
-use Rattle.propagators.proofs.Cuts.{fewer_fixed}
+use Rattle.propagators.proofs.CutCounts.{fewer_fixed}
 use Rattle.propagators.proofs.day_cut.saturation.Goals as goal
 
 pub returns-then-possible-fixed : goal.returns-then-possible-fixed
