@@ -13,7 +13,7 @@ use Rattle.refutation_terms.specs.Log.{TurnFits, TurnCites, Cites}
 use Rattle.refutation_terms.proofs.TreeDomains.{got_left, got_right}
 use Rattle.domain_store.specs.Store.{Store}
 use Rattle.tree_walk.specs.declared.open_split.OpenSplit.{OpenSplit}
-use Rattle.tree_walk.specs.Splits.{InSplits, IsNone, HasRead, second_sides_to_come}
+use Rattle.tree_walk.specs.Splits.{InSplits, NoLines, HasRead, second_sides_to_come}
 use Rattle.tree_walk.specs.States.{State, IsStateOf, open_trees}
 use Rattle.roster_search.specs.declared.progress.Progress.{Progress}
 use Rattle.roster_search.specs.Written.{Stands, IsCitedIn, IsProgress}
@@ -45,7 +45,7 @@ more_cited P turn ls line r (inl (inl h)) = inl h
 more_cited P turn ls line r (inl (inr h)) = inr (h.0, h.1, got_left ls (line ∷ []) h.0 h.1 h.2, h.3)
 more_cited P turn ls line r (inr h) = inr (length ls + 0, line, got_right ls (line ∷ []) 0 line refl, h)
 
-no_splits : (n : ℕ) (S : Store) (D : Domains) (from : ℕ) (splits : List OpenSplit) (lines : List Line) → InSplits IsNone n S D from splits lines → lines ≡ [] → splits ≡ []
+no_splits : (n : ℕ) (S : Store) (D : Domains) (from : ℕ) (splits : List OpenSplit) (lines : List Line) → InSplits NoLines n S D from splits lines → lines ≡ [] → splits ≡ []
 no_splits n S D from [] lines h e = refl
 no_splits n S D from (o ∷ splits) lines h e = let clash : [] ≡ Split o.p o.x ∷ (h.1 ++ h.2) = sym e ∙ h.3 in absurd (cc)
 

@@ -66,8 +66,8 @@ holds_before P s rest w k line lt e = elim (got_in s.lines.items rest k line e) 
   | inr at ↦ absurd (omega (arith, lt, at.1))
 ]
 
-log_of_turn : (P : Instance) (s : Progress) (rest : List Line) → IsProgress P s → IsLogOfTurn P s.turn (log_of s rest)
-log_of_turn P s rest w = record {
+is_log_of_turn : (P : Instance) (s : Progress) (rest : List Line) → IsProgress P s → IsLogOfTurn P s.turn (log_of s rest)
+is_log_of_turn P s rest w = record {
   same_turn = refl;
   cited = λ r n. elim ((w.cited r).0 n) [
     | inl turn ↦ inl turn
@@ -101,7 +101,7 @@ passing_end P s budget g w allowed up tree few a b c =
     } in (
       subst (Passes P) is passes,
       omega (arith, worked, long, few),
-      subst (IsLogOfTurn P s.turn) is (log_of_turn P s none w),
+      subst (IsLogOfTurn P s.turn) is (is_log_of_turn P s none w),
       c,
     )
 
@@ -135,6 +135,6 @@ spent_end P s budget n g w allowed up tree few all some a b c =
       unfinished = omega (arith, long, many, few, some);
     } in (
       subst (λ l. IsSpent P l budget) is spent,
-      subst (IsLogOfTurn P s.turn) is (log_of_turn P s rest w),
+      subst (IsLogOfTurn P s.turn) is (is_log_of_turn P s rest w),
       (n, c),
     )

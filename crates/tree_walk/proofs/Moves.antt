@@ -17,7 +17,7 @@ use Rattle.refutation_terms.specs.Tree.{IsLeaf, IsTree, after_trees, opening, li
 use Rattle.refutation_terms.specs.Log.{TurnFits}
 use Rattle.domain_store.specs.Store.{Store, store_at, domain_at, has_domain, changed, full_store, HasSameShape, BelongsTo, IsStore, HasDomains}
 use Rattle.tree_walk.specs.declared.open_split.OpenSplit.{OpenSplit}
-use Rattle.tree_walk.specs.Splits.{Agrees, IsSplitAt, IsNone, InSplits, HasRead, IsBehindTree, second_sides_to_come, is_idle_in}
+use Rattle.tree_walk.specs.Splits.{Agrees, IsSplitAt, NoLines, InSplits, HasRead, IsBehindTree, second_sides_to_come, is_idle_in}
 use Rattle.tree_walk.specs.States.{IsStateOf, IsWalk}
 use Rattle.tree_walk.proofs.Stack.{leaf_read, split_read, second_ended, first_ended, innermost, read_leaves, read_is_tree, read_whole, read_part}
 use Rattle.tree_walk.proofs.Idle.{idle_in_store, held_where_useful, more_where_useful, positions_of}
@@ -39,15 +39,15 @@ side_closed n S T D splits outer lines o e second at_mark same h =
     second_ended n S T D outer lines o second at_mark same (undone_room n S T D splits outer lines o e at_mark h) (subst (λ s. InSplits IsTree n S D 0 s lines) e h)
 
 -- the first side gives way to the second
-pub side_crossed : (n : ℕ) (S T U : Store) (D : Domains) (splits outer after : List OpenSplit) (lines : List Line) (o : OpenSplit) (set : List ℕ) → splits ≡ outer ++ o ∷ [] → o.in_second ≡ false → T ≡ store_at S o.mark.len → ((len : ℕ) → len ≤ o.mark.len → store_at T len ≡ store_at S len) → U ≡ changed T o.p set → ((q y : ℕ) → has_domain U q y ≡ ((not (q == o.p) || not (y == o.x.number)) && has_domain T q y)) → ((len : ℕ) → len ≤ length T.trail → store_at U len ≡ store_at T len) → after ≡ outer ++ (record o { in_second = true }) ∷ [] → InSplits IsTree n S D 0 splits lines → InSplits IsNone n U D 0 after lines
+pub side_crossed : (n : ℕ) (S T U : Store) (D : Domains) (splits outer after : List OpenSplit) (lines : List Line) (o : OpenSplit) (set : List ℕ) → splits ≡ outer ++ o ∷ [] → o.in_second ≡ false → T ≡ store_at S o.mark.len → ((len : ℕ) → len ≤ o.mark.len → store_at T len ≡ store_at S len) → U ≡ changed T o.p set → ((q y : ℕ) → has_domain U q y ≡ ((not (q == o.p) || not (y == o.x.number)) && has_domain T q y)) → ((len : ℕ) → len ≤ length T.trail → store_at U len ≡ store_at T len) → after ≡ outer ++ (record o { in_second = true }) ∷ [] → InSplits IsTree n S D 0 splits lines → InSplits NoLines n U D 0 after lines
 side_crossed n S T U D splits outer after lines o set e first at_mark same change has kept is h =
     let room : o.mark.len ≤ length T.trail = undone_room n S T D splits outer lines o e at_mark h in
     let longer : length U.trail ≡ length T.trail + 1 = ap (λ V. length V.trail) change ∙ length_push T.trail (record { position = o.p; before = domain_at T o.p }) in
     let there : (q y : ℕ) → has_domain U q y ≡ ((not (q == o.p) || not (y == o.x.number)) && has_domain (store_at S o.mark.len) q y) = λ q y. has q y ∙ ap (λ V. (not (q == o.p) || not (y == o.x.number)) && has_domain V q y) at_mark in
     let stands : (len : ℕ) → len ≤ o.mark.len → store_at U len ≡ store_at S len = λ len le. kept len (omega (arith, le, room)) ∙ same len le in
-    let done : InSplits IsNone n U D 0 (outer ++ (record o { in_second = true }) ∷ []) lines =
+    let done : InSplits NoLines n U D 0 (outer ++ (record o { in_second = true }) ∷ []) lines =
     first_ended n S U D outer lines o first there stands (omega (arith, room, longer)) (subst (λ s. InSplits IsTree n S D 0 s lines) e h) in
-    subst (λ s. InSplits IsNone n U D 0 s lines) (sym is) done
+    subst (λ s. InSplits NoLines n U D 0 s lines) (sym is) done
 
 -- a walk that has read no line
 pub at_start : (P : Instance) (turn : Option Turn) (S : Store) (splits : List OpenSplit) → IsStore S → BelongsTo P S → splits ≡ [] → AreSame P (has_domain S) (opening P turn) → IsStateOf P turn [] (record { store = S; splits = splits; whole = false })
@@ -55,7 +55,7 @@ at_start P turn S splits now belongs none agrees =
     let here : Agrees (length S.sets) S (opening P turn) = λ p z lt. agrees p z (subst (λ m. p < m) (positions_of P S now belongs) lt) in
     record {
       belongs = belongs;
-      read = subst (λ s. InSplits IsNone (length S.sets) S (opening P turn) 0 s []) (sym none) (omega arith, here, refl);
+      read = subst (λ s. InSplits NoLines (length S.sets) S (opening P turn) 0 s []) (sym none) (omega arith, here, refl);
     }
 
 belongs_still : (P : Instance) (S T : Store) → BelongsTo P S → HasSameShape S T → BelongsTo P T
@@ -65,7 +65,7 @@ belongs_still P S T b same = record {
   shifts = same.shifts ∙ b.shifts;
 }
 
-part_of : (P : Instance) (turn : Option Turn) (lines : List Line) (S : Store) (splits : List OpenSplit) (whole : Bool) → whole ≡ false → IsStateOf P turn lines (record { store = S; splits = splits; whole = whole }) → InSplits IsNone (length S.sets) S (opening P turn) 0 splits lines
+part_of : (P : Instance) (turn : Option Turn) (lines : List Line) (S : Store) (splits : List OpenSplit) (whole : Bool) → whole ≡ false → IsStateOf P turn lines (record { store = S; splits = splits; whole = whole }) → InSplits NoLines (length S.sets) S (opening P turn) 0 splits lines
 part_of P turn lines S splits whole part w = subst (λ b. HasRead b (length S.sets) S (opening P turn) splits lines) part w.read
 
 -- a split was read
@@ -73,9 +73,9 @@ pub behind_split : (P : Instance) (turn : Option Turn) (lines : List Line) (S T 
 behind_split P turn lines S T splits after whole p x o part is_p is_x first at_end here position useful change same has kept is w =
     let grown : length T.trail ≡ length S.trail + 1 = ap (λ V. length V.trail) change ∙ length_push S.trail (record { position = p; before = domain_at S p }) in
     let longer : length S.trail ≤ length T.trail = omega (arith, grown) in
-    let as_split : (q : ℕ) (y : Symbol) → q ≡ o.p → y ≡ o.x → InSplits IsNone (length S.sets) T (opening P turn) 0 (splits ++ o ∷ []) (lines ++ Split q y ∷ []) = λ q y eq ey.
-    subst (λ r. InSplits IsNone (length S.sets) T (opening P turn) 0 (splits ++ o ∷ []) (lines ++ Split r y ∷ [])) (sym eq)
-    (subst (λ z. InSplits IsNone (length S.sets) T (opening P turn) 0 (splits ++ o ∷ []) (lines ++ Split o.p z ∷ [])) (sym ey)
+    let as_split : (q : ℕ) (y : Symbol) → q ≡ o.p → y ≡ o.x → InSplits NoLines (length S.sets) T (opening P turn) 0 (splits ++ o ∷ []) (lines ++ Split q y ∷ []) = λ q y eq ey.
+    subst (λ r. InSplits NoLines (length S.sets) T (opening P turn) 0 (splits ++ o ∷ []) (lines ++ Split r y ∷ [])) (sym eq)
+    (subst (λ z. InSplits NoLines (length S.sets) T (opening P turn) 0 (splits ++ o ∷ []) (lines ++ Split o.p z ∷ [])) (sym ey)
     (split_read (length S.sets) S T (opening P turn) splits lines o first at_end
     (subst (λ r. r < length S.sets) (sym is_p) position)
     (subst (λ r. IsTrue (has_domain S r o.x.number)) (sym is_p) (subst (λ z. IsTrue (has_domain S p z.number)) (sym is_x) (held_where_useful S p x.number useful)))
@@ -85,10 +85,10 @@ behind_split P turn lines S T splits after whole p x o part is_p is_x first at_e
     (subst (λ z. (q y : ℕ) → has_domain T q y ≡ ((not (q == p) || (y == z.number)) && has_domain S q y)) (sym is_x) has))
     kept longer
     (part_of P turn lines S splits whole part w))) in
-    let there : InSplits IsNone (length S.sets) T (opening P turn) 0 after (lines ++ Split p x ∷ []) = subst (λ s. InSplits IsNone (length S.sets) T (opening P turn) 0 s (lines ++ Split p x ∷ [])) (sym is) (as_split p x (sym is_p) (sym is_x)) in
+    let there : InSplits NoLines (length S.sets) T (opening P turn) 0 after (lines ++ Split p x ∷ []) = subst (λ s. InSplits NoLines (length S.sets) T (opening P turn) 0 s (lines ++ Split p x ∷ [])) (sym is) (as_split p x (sym is_p) (sym is_x)) in
     record {
       belongs = belongs_still P S T w.belongs same;
-      read = subst (λ b. HasRead b (length T.sets) T (opening P turn) after (lines ++ Split p x ∷ [])) (sym part) (subst (λ n. InSplits IsNone n T (opening P turn) 0 after (lines ++ Split p x ∷ [])) (sym same.positions) there);
+      read = subst (λ b. HasRead b (length T.sets) T (opening P turn) after (lines ++ Split p x ∷ [])) (sym part) (subst (λ n. InSplits NoLines n T (opening P turn) 0 after (lines ++ Split p x ∷ [])) (sym same.positions) there);
     }
 
 -- a leaf was read: it is a tree, and ends what it ends

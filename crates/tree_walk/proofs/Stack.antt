@@ -4,7 +4,7 @@ use Rattle.std.specs.Prelude.{◌↔◌}
 use Rattle.std.proofs.lemmas.Bool.{cases_eq, eq-eqb, ne_eqb}
 use Rattle.std.proofs.lemmas.List.Sums.{sum_by-cons}
 use Rattle.std.proofs.lemmas.List.{append-nil}
-use Rattle.std.proofs.Math.Bool.{and_assoc, and-true}
+use Rattle.std.proofs.Math.Bool.{and_assoc, and_comm, and-true}
 use Rattle.refutation_terms.specs.declared.lines.Line.{Line}
 use Rattle.refutation_terms.specs.declared.lines.Line.TheVariants.{Split}
 use Rattle.refutation_terms.specs.Word.{Domains}
@@ -14,7 +14,7 @@ use Rattle.refutation_terms.proofs.TreeDomains.{in_first, in_second, tree_leaves
 use Rattle.refutation_terms.proofs.AsSaid.{past_front}
 use Rattle.domain_store.specs.Store.{Store, store_at, domain_at, has_domain}
 use Rattle.tree_walk.specs.declared.open_split.OpenSplit.{OpenSplit}
-use Rattle.tree_walk.specs.Splits.{Agrees, IsSplitAt, IsFirstSide, side_in, IsNone, InSplits, HasRead, second_sides_to_come}
+use Rattle.tree_walk.specs.Splits.{Agrees, IsSplitAt, IsFirstSide, side_in, NoLines, InSplits, HasRead, second_sides_to_come}
 
 -- the outermost marks come before what is inside
 under_all : (Q : List Line → Type 0) (n : ℕ) (S : Store) (limit : ℕ) (tail : List OpenSplit) → ((D : Domains) (from : ℕ) (rest : List Line) → InSplits Q n S D from tail rest → from ≤ limit) → (outer : List OpenSplit) (D : Domains) (from : ℕ) (lines : List Line) → InSplits Q n S D from (outer ++ tail) lines → from ≤ limit
@@ -51,11 +51,11 @@ outer_kept Q R n S T limit tail new_tail added same room under step (o ∷ outer
     )
 
 -- a leaf is a whole tree
-pub leaf_read : (n : ℕ) (S : Store) (D : Domains) (splits : List OpenSplit) (lines : List Line) (leaf : Line) → IsLeaf leaf → InSplits IsNone n S D 0 splits lines → InSplits IsTree n S D 0 splits (lines ++ leaf ∷ [])
+pub leaf_read : (n : ℕ) (S : Store) (D : Domains) (splits : List OpenSplit) (lines : List Line) (leaf : Line) → IsLeaf leaf → InSplits NoLines n S D 0 splits lines → InSplits IsTree n S D 0 splits (lines ++ leaf ∷ [])
 leaf_read n S D splits lines leaf is_leaf h =
-    let inner : InSplits IsNone n S D 0 (splits ++ []) lines = subst (λ s. InSplits IsNone n S D 0 s lines) (sym (append-nil splits)) h in
+    let inner : InSplits NoLines n S D 0 (splits ++ []) lines = subst (λ s. InSplits NoLines n S D 0 s lines) (sym (append-nil splits)) h in
     let done : InSplits IsTree n S D 0 (splits ++ []) (lines ++ leaf ∷ []) =
-    outer_kept IsNone IsTree n S S (length S.trail) [] [] (leaf ∷ []) (λ len le. refl) (omega arith) (λ E from rest i. i.0)
+    outer_kept NoLines IsTree n S S (length S.trail) [] [] (leaf ∷ []) (λ len le. refl) (omega arith) (λ E from rest i. i.0)
     (λ E from rest i. (i.0, i.1, (Leaf leaf is_leaf, sym (ap (λ ls. ls ++ leaf ∷ []) i.2)))) splits D 0 lines inner in
     subst (λ s. InSplits IsTree n S D 0 s (lines ++ leaf ∷ [])) (append-nil splits) done
 
@@ -66,16 +66,10 @@ same_either_way a b =
       | inr other ↦ ne_eqb a b other ∙ sym (ne_eqb b a (λ e. other (sym e)))
     ]
 
-and_turned : (a b : Bool) → (a && b) ≡ (b && a)
-and_turned true true = refl
-and_turned true false = refl
-and_turned false true = refl
-and_turned false false = refl
-
 -- a change at a position by a test, and domains that the same test narrows there
 pub narrowed_there : (p q : ℕ) (test held left : Bool) → held ≡ left → ((not (p == q) || test) && held) ≡ (left && (not (q == p) || test))
 narrowed_there p q test held left e =
-    and_turned (not (p == q) || test) held ∙ ap (λ d. d && (not (p == q) || test)) e ∙ ap (λ b. left && (not b || test)) (same_either_way p q)
+    and_comm (not (p == q) || test) held ∙ ap (λ d. d && (not (p == q) || test)) e ∙ ap (λ b. left && (not b || test)) (same_either_way p q)
 
 -- a store that was changed at the split has the domains of its side
 side_agrees : (n : ℕ) (S T : Store) (E : Domains) (o : OpenSplit) (second : Bool) → o.in_second ≡ second → ((q y : ℕ) → has_domain T q y ≡ ((not (q == o.p) || side_takes (side_in second) (y == o.x.number)) && has_domain S q y)) → Agrees n S E → Agrees n T (narrowed E (Split o.p o.x) (side_in o.in_second))
@@ -84,9 +78,9 @@ side_agrees n S T E o second is has agrees =
     subst (λ b. Agrees n T (narrowed E (Split o.p o.x) (side_in b))) (sym is) there
 
 -- a split begins its first side
-pub split_read : (n : ℕ) (S T : Store) (D : Domains) (splits : List OpenSplit) (lines : List Line) (o : OpenSplit) → o.in_second ≡ false → o.mark.len ≡ length S.trail → o.p < n → IsTrue (has_domain S o.p o.x.number) → 2 ≤ length (domain_at S o.p) → store_at S o.mark.len ≡ S → ((q y : ℕ) → has_domain T q y ≡ ((not (q == o.p) || (y == o.x.number)) && has_domain S q y)) → ((len : ℕ) → len ≤ length S.trail → store_at T len ≡ store_at S len) → length S.trail ≤ length T.trail → InSplits IsNone n S D 0 splits lines → InSplits IsNone n T D 0 (splits ++ o ∷ []) (lines ++ Split o.p o.x ∷ [])
+pub split_read : (n : ℕ) (S T : Store) (D : Domains) (splits : List OpenSplit) (lines : List Line) (o : OpenSplit) → o.in_second ≡ false → o.mark.len ≡ length S.trail → o.p < n → IsTrue (has_domain S o.p o.x.number) → 2 ≤ length (domain_at S o.p) → store_at S o.mark.len ≡ S → ((q y : ℕ) → has_domain T q y ≡ ((not (q == o.p) || (y == o.x.number)) && has_domain S q y)) → ((len : ℕ) → len ≤ length S.trail → store_at T len ≡ store_at S len) → length S.trail ≤ length T.trail → InSplits NoLines n S D 0 splits lines → InSplits NoLines n T D 0 (splits ++ o ∷ []) (lines ++ Split o.p o.x ∷ [])
 split_read n S T D splits lines o first at_end position held another here has same room h =
-    let inner : InSplits IsNone n S D 0 (splits ++ []) lines = subst (λ s. InSplits IsNone n S D 0 s lines) (sym (append-nil splits)) h in
+    let inner : InSplits NoLines n S D 0 (splits ++ []) lines = subst (λ s. InSplits NoLines n S D 0 s lines) (sym (append-nil splits)) h in
     let stood : (E : Domains) (from : ℕ) → from ≤ length S.trail → Agrees n S E → IsSplitAt n S E from o = λ E from le agrees. record {
       order = omega (arith, le, at_end);
       within = omega (arith, at_end);
@@ -98,7 +92,7 @@ split_read n S T D splits lines o first at_end position held another here has sa
     let inside : o.mark.len ≤ length S.trail = omega (arith, at_end) in
     let within : o.mark.len ≤ length T.trail = omega (arith, at_end, room) in
     let none : IsFirstSide o.in_second [] = subst (λ b. IsFirstSide b []) (sym first) refl in
-    outer_kept IsNone IsNone n S T (length S.trail) [] (o ∷ []) (Split o.p o.x ∷ []) same room (λ E from rest i. i.0)
+    outer_kept NoLines NoLines n S T (length S.trail) [] (o ∷ []) (Split o.p o.x ∷ []) same room (λ E from rest i. i.0)
     (λ E from rest i. (
       split_kept n S T E from o (stood E from i.0 i.1) (same o.mark.len inside) within,
       [],
@@ -125,14 +119,14 @@ second_ended n S T D splits lines o second at_mark same room h =
     subst (λ s. InSplits IsTree n T D 0 s lines) (append-nil splits) (subst (λ ls. InSplits IsTree n T D 0 (splits ++ []) ls) (append-nil lines) done)
 
 -- a tree that ends a first side is followed by the second side
-pub first_ended : (n : ℕ) (S T : Store) (D : Domains) (splits : List OpenSplit) (lines : List Line) (o : OpenSplit) → o.in_second ≡ false → ((q y : ℕ) → has_domain T q y ≡ ((not (q == o.p) || not (y == o.x.number)) && has_domain (store_at S o.mark.len) q y)) → ((len : ℕ) → len ≤ o.mark.len → store_at T len ≡ store_at S len) → o.mark.len ≤ length T.trail → InSplits IsTree n S D 0 (splits ++ o ∷ []) lines → InSplits IsNone n T D 0 (splits ++ (record o { in_second = true }) ∷ []) lines
+pub first_ended : (n : ℕ) (S T : Store) (D : Domains) (splits : List OpenSplit) (lines : List Line) (o : OpenSplit) → o.in_second ≡ false → ((q y : ℕ) → has_domain T q y ≡ ((not (q == o.p) || not (y == o.x.number)) && has_domain (store_at S o.mark.len) q y)) → ((len : ℕ) → len ≤ o.mark.len → store_at T len ≡ store_at S len) → o.mark.len ≤ length T.trail → InSplits IsTree n S D 0 (splits ++ o ∷ []) lines → InSplits NoLines n T D 0 (splits ++ (record o { in_second = true }) ∷ []) lines
 first_ended n S T D splits lines o first has same room h =
     let b : OpenSplit = record o { in_second = true } in
     let alone : (rest first_side left : List Line) → rest ≡ Split o.p o.x ∷ (first_side ++ left) → IsFirstSide o.in_second first_side → rest ≡ Split o.p o.x ∷ left = λ rest first_side left e side.
     let none : first_side ≡ [] = subst (λ c. IsFirstSide c first_side) first side in
     e ∙ ap (λ ls. Split o.p o.x ∷ (ls ++ left)) none in
-    let done : InSplits IsNone n T D 0 (splits ++ b ∷ []) (lines ++ []) =
-    outer_kept IsTree IsNone n S T o.mark.len (o ∷ []) (b ∷ []) [] same room (λ E from rest i. i.0.order)
+    let done : InSplits NoLines n T D 0 (splits ++ b ∷ []) (lines ++ []) =
+    outer_kept IsTree NoLines n S T o.mark.len (o ∷ []) (b ∷ []) [] same room (λ E from rest i. i.0.order)
     (λ E from rest i.
     let kept : IsSplitAt n T E from o = split_kept n S T E from o i.0 (same o.mark.len (omega arith)) room in (
       record {
@@ -149,7 +143,7 @@ first_ended n S T D splits lines o first has same room h =
       i.5.2,
       (room, side_agrees n (store_at S o.mark.len) T E b true refl has i.0.domains, refl),
     )) splits D 0 lines h in
-    subst (λ ls. InSplits IsNone n T D 0 (splits ++ b ∷ []) ls) (append-nil lines) done
+    subst (λ ls. InSplits NoLines n T D 0 (splits ++ b ∷ []) ls) (append-nil lines) done
 
 -- the innermost split
 pub innermost : (Q : List Line → Type 0) (n : ℕ) (S : Store) (o : OpenSplit) (outer : List OpenSplit) (D : Domains) (from : ℕ) (lines : List Line) → InSplits Q n S D from (outer ++ o ∷ []) lines → (E : Domains) × (since : ℕ) × IsSplitAt n S E since o
@@ -166,7 +160,7 @@ left_by false first rest more k count none inner =
     ap (λ ls. after_trees (suc (suc k)) (ls ++ (rest ++ more))) none ∙ inner (suc k) ∙ ap (λ i. after_trees (suc i) more) e
 
 -- the trees that are still open are those of the first sides, and one
-pub trees_left : (n : ℕ) (S : Store) (splits : List OpenSplit) (D : Domains) (from : ℕ) (lines : List Line) → InSplits IsNone n S D from splits lines → (k : ℕ) (more : List Line) → after_trees (suc k) (lines ++ more) ≡ after_trees (suc (second_sides_to_come splits + k)) more
+pub trees_left : (n : ℕ) (S : Store) (splits : List OpenSplit) (D : Domains) (from : ℕ) (lines : List Line) → InSplits NoLines n S D from splits lines → (k : ℕ) (more : List Line) → after_trees (suc k) (lines ++ more) ≡ after_trees (suc (second_sides_to_come splits + k)) more
 trees_left n S [] D from lines h k more =
     ap (λ ls. after_trees (suc k) (ls ++ more)) h.2 ∙ ap (λ i. after_trees (suc i) more) (sym (zero-add k))
 trees_left n S (o ∷ splits) D from lines h k more =
@@ -175,7 +169,7 @@ trees_left n S (o ∷ splits) D from lines h k more =
     ∙ ap (λ i. after_trees (suc (i + k)) more) (sym (sum_by-cons (λ b. cond (not b.in_second) 1 0) o splits))
 
 -- so inside splits no whole tree was read
-pub not_whole : (n : ℕ) (S : Store) (splits : List OpenSplit) (D : Domains) (from : ℕ) (lines : List Line) → InSplits IsNone n S D from splits lines → after_trees 1 lines ≡ None
+pub not_whole : (n : ℕ) (S : Store) (splits : List OpenSplit) (D : Domains) (from : ℕ) (lines : List Line) → InSplits NoLines n S D from splits lines → after_trees 1 lines ≡ None
 not_whole n S splits D from lines h = ap (after_trees 1) (sym (append-nil lines)) ∙ trees_left n S splits D from lines h 0 []
 
 side_by : (second : Bool) (first rest : List Line) → IsFirstSide second first → after_trees 1 rest ≡ None → side (first ++ rest) ≡ side_in second
@@ -187,7 +181,7 @@ leaves_by true first rest p z t = ap (λ ls. lines_leave (ls ++ rest) p z) (sym 
 leaves_by false first rest p z e = ap (λ ls. lines_leave (ls ++ rest) p z) e
 
 -- the store has what the lines leave of the domains
-pub left_there : (n : ℕ) (S : Store) (splits : List OpenSplit) (D : Domains) (from : ℕ) (lines : List Line) → InSplits IsNone n S D from splits lines → (p z : ℕ) → p < n → has_domain S p z ≡ (D p z && lines_leave lines p z)
+pub left_there : (n : ℕ) (S : Store) (splits : List OpenSplit) (D : Domains) (from : ℕ) (lines : List Line) → InSplits NoLines n S D from splits lines → (p z : ℕ) → p < n → has_domain S p z ≡ (D p z && lines_leave lines p z)
 left_there n S [] D from lines h p z lt = h.1 p z lt ∙ sym (ap (λ ls. D p z && lines_leave ls p z) h.2 ∙ and-true (D p z))
 left_there n S (o ∷ splits) D from lines h p z lt =
     let leaves : Bool = line_leaves (Split o.p o.x) (side_in o.in_second) p z in

@@ -29,8 +29,8 @@ abbrev pub side_in : Bool → Side
 side_in true = Second
 side_in false = First
 
-abbrev pub IsNone : List Line → Type 0
-IsNone lines = lines ≡ []
+abbrev pub NoLines : List Line → Type 0
+NoLines lines = lines ≡ []
 
 -- the lines lead under the domains D into the splits, the outermost first, and there are followed by lines as Q says.
 -- The store has the domains there, and at the mark of each split it had those at the split
@@ -42,7 +42,7 @@ InSplits Q n S D from (o ∷ splits) lines =
 -- the lines are a whole tree, and the store has the domains before it; or they end inside the splits, where the next tree begins
 abbrev pub HasRead : Bool → ℕ → Store → Domains → List OpenSplit → List Line → Type 0
 HasRead true n S D splits lines = (splits ≡ []) × InSplits IsTree n S D 0 [] lines
-HasRead false n S D splits lines = InSplits IsNone n S D 0 splits lines
+HasRead false n S D splits lines = InSplits NoLines n S D 0 splits lines
 
 -- some lines lead into the splits and end there with a whole tree
 abbrev pub IsBehindTree : Store → List OpenSplit → Type 0
