@@ -1,9 +1,8 @@
 -- What is said of domains rests on their positions alone.
-use Rattle.std.proofs.Common.{◌≡◌, ℕ, ◌+◌, ◌-◌, ◌*◌, ◌%◌, ◌<◌, ◌≤◌, List, [], ◌∷◌, ap, sym, ◌∙◌, subst, arith, Bool, true, false, IsTrue, ◌&&◌, ◌||◌, ◌==◌, not, count_by, mul_comm}
+use Rattle.std.proofs.Common.{◌≡◌, ℕ, ◌+◌, ◌-◌, ◌*◌, ◌%◌, ◌<◌, ◌≤◌, List, [], ◌∷◌, ap, sym, ◌∙◌, subst, arith, Bool, true, false, IsTrue, ◌&&◌, ◌||◌, ◌==◌, not, count_by}
 use Rattle.std.specs.Prelude.{pos, ◌<ℤ◌}
 use Rattle.std.specs.List.{range_with_len, list_all}
 use Rattle.std.proofs.Math.Path.{fun_ext}
-use Rattle.std.proofs.lemmas.Nat.{mul-add-lt}
 use Rattle.rwsp_terms.specs.declared.data.Symbol.{Symbol}
 use Rattle.rwsp_terms.specs.declared.data.Weight.{Weight}
 use Rattle.rwsp_terms.specs.Instance.{Instance, cells, shift_count, IsDay, least, greatest}
