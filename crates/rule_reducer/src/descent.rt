@@ -34,8 +34,8 @@ fn drop_rule(
     Ok(true)
 }
 
-// One descent: from the highest number down, each rule that the log names at the start is dropped
-// exactly where the log then passes.
+/// One descent: from the highest number down, each rule that the log names at the start is dropped
+/// exactly where the log then passes.
 pub fn descend(alloc: Global, problem: &Problem, log: &mut Log) -> Result<(), AllocError>
     requires { Passes problem.now log.old }
     ensures descends { OnOk result (DescendsTo problem.now log.old log.new) }
