@@ -1,12 +1,12 @@
 -- Rules by their numbers in lists.
-use Rattle.std.proofs.Common.{◌≡◌, ◌⊎◌, ℕ, ◌+◌, ◌<◌, ◌≤◌, List, [], length, Some, sym, subst, ◌∙◌, arith, inl, inr}
+use Rattle.std.proofs.Common.{◌≡◌, ◌⊎◌, ℕ, ◌+◌, ◌<◌, List, [], length, Some, sym, subst, ◌∙◌, arith, inl, inr}
 use Rattle.std.proofs.lemmas.Bool.{cases_lt}
 use Rattle.std.specs.Prelude.{Contains, ◌↔◌, Option, None, MatchOption}
 use Rattle.std.proofs.lemmas.Option.{same_Some}
 use Rattle.rwsp_terms.specs.Instance.{Instance}
 use Rattle.rwsp_terms.specs.Rules.{rules, rule_of, Names, IsShort, NamesShortOnly}
 use Rattle.rwsp_terms.specs.declared.data.Rule.{Rule}
-use Rattle.rwsp_model.proofs.Numbering.{rule_numbered, number_within, one_number, rule_in_range}
+use Rattle.rwsp_model.proofs.Numbering.{one_number, rule_in_range}
 use Rattle.refutation_terms.specs.Verdict.{IsLeast, IsUnnamed, IsLongIn}
 use Rattle.refutation_log.specs.Cited.{Adds, IsCited}
 use Rattle.refutation_checker.specs.Outside.{IsOutside, HoldsUpTo, IsShortIn}

@@ -14,7 +14,6 @@ use Rattle.rwsp_terms.specs.declared.data.Rule.TheVariants as TheRules
 use Rattle.rwsp_terms.specs.Instance.{Instance, name_of}
 use Rattle.rwsp_terms.specs.Rules.{rule_of, Names}
 use Rattle.rwsp_model.specs.Validity.{KeepsLimits}
-use Rattle.rwsp_model.proofs.Numbering.{one_number}
 use Rattle.refutation_terms.specs.declared.lines.Line.{Line}
 use Rattle.refutation_terms.specs.declared.lines.Turn.{Turn}
 use Rattle.refutation_terms.specs.declared.lines.LogRefusal.{LogRefusal}
@@ -23,8 +22,7 @@ use Rattle.refutation_terms.specs.Word.{Domains}
 use Rattle.refutation_terms.specs.Tree.{IsTree, after_trees, lines_in, opening, lines_leave, domains_at}
 use Rattle.refutation_terms.specs.Log.{Log, Fits, LineFits, TurnFits, TurnCites, AreRules, Passes, Holds}
 use Rattle.refutation_terms.specs.LogText.{raw, line_text, log_text, header_text, turn_text, fields}
-use Rattle.refutation_terms.specs.Verdict.{Reading, BeforeTurn, IsLeast, IsUnnamed, IsSoundSoFar, IsRefusedLine, IsRefused, TurnCause, TreeCause, header_lines}
-use Rattle.refutation_terms.specs.TextLaws.{HasNames}
+use Rattle.refutation_terms.specs.Verdict.{Reading, BeforeTurn, IsSoundSoFar, IsRefusedLine, IsRefused, TurnCause, TreeCause, header_lines}
 use Rattle.refutation_terms.proofs.Spelled.{fitting_lines_are_spelled}
 use Rattle.refutation_terms.proofs.Trees.{part_is_not_whole, tree_is_whole}
 use Rattle.refutation_log.specs.Printing.{lines_text}

@@ -1,6 +1,6 @@
 -- Walking through lines without judging leaves.
 use Rattle.std.proofs.Common.{◌≡◌, ◌≢◌, ℕ, ◌+◌, ◌≤◌, List, [], ◌∷◌, ◌++◌, length, refl, ap, sym, ◌∙◌, append_assoc, length-append, subst, arith, inr, true, false, Option, Bool}
-use Rattle.std.specs.Prelude.{MatchBool, Result, Ok, Err, IfOk}
+use Rattle.std.specs.Prelude.{MatchBool}
 use Rattle.std.proofs.lemmas.List.{append-nil}
 use Rattle.rwsp_terms.specs.Instance.{Instance, cells}
 use Rattle.domain_store.specs.Store.{Store, IsStore}
@@ -10,8 +10,7 @@ use Rattle.refutation_terms.specs.declared.lines.Line.TheVariants.{Split, Window
 use Rattle.refutation_terms.specs.declared.lines.Turn.{Turn}
 use Rattle.refutation_terms.specs.Log.{LineFits}
 use Rattle.refutation_terms.specs.LogText.{raw, line_text}
-use Rattle.refutation_terms.specs.Verdict.{Spells, SplitsIdly}
-use Rattle.refutation_terms.specs.Word.{Domains}
+use Rattle.refutation_terms.specs.Verdict.{Spells}
 use Rattle.refutation_terms.specs.Tree.{domains_at}
 use Rattle.refutation_log.specs.Printing.{lines_text, EachFits}
 use Rattle.refutation_log.proofs.Named.{spelled_fits}

@@ -1,17 +1,14 @@
 -- What can be judged of a line without searching for a word.
-use Rattle.std.specs.Prelude.{◌≡◌, ℕ, List, true, }
+use Rattle.std.specs.Prelude.{◌≡◌, ℕ, List, true}
 use Rattle.rwsp_terms.specs.declared.data.Rule.{Rule}
-use Rattle.rwsp_terms.specs.declared.data.Symbol.{Symbol}
-use Rattle.rwsp_terms.specs.declared.data.Weight.{Weight}
-use Rattle.rwsp_terms.specs.Instance.{Instance, cells}
+use Rattle.rwsp_terms.specs.Instance.{Instance}
 use Rattle.rwsp_terms.specs.Rules.{Names}
 use Rattle.refutation_terms.specs.declared.lines.Line.{Line}
 use Rattle.refutation_terms.specs.declared.lines.Line.TheVariants.{Split, Dead, Bound, Unfinished}
 use Rattle.refutation_terms.specs.declared.lines.LogRefusal.{LogRefusal}
 use Rattle.refutation_terms.specs.declared.lines.LogRefusal.TheVariants as Refusals
-use Rattle.refutation_terms.specs.Word.{Domains, weight, total}
+use Rattle.refutation_terms.specs.Word.{Domains}
 use Rattle.refutation_terms.specs.Leaf.{IsDead, IsTooLight}
-use Rattle.refutation_terms.specs.Escape.{IsLeastHeaviest}
 use Rattle.refutation_terms.specs.Tree.{is_idle}
 use Rattle.refutation_terms.specs.Log.{Cites, Holds, ListsShortOnly}
 use Rattle.refutation_terms.specs.Verdict.{IsLeast, IsUnnamed, ListsLong, IsPlainLeaf, Escapes}

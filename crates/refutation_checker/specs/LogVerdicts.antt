@@ -1,16 +1,11 @@
 -- The lines of a log, judged without their text.
-use Rattle.std.specs.Prelude.{◌≡◌, ℕ, ◌+◌, ◌<◌, List, take, slice_get, Option, Some, None, pos, ◌<ℤ◌}
-use Rattle.rwsp_terms.specs.declared.data.Rule.{Rule}
-use Rattle.rwsp_terms.specs.declared.data.Rule.TheVariants as TheRules
-use Rattle.rwsp_terms.specs.Instance.{Instance, least}
-use Rattle.rwsp_terms.specs.Rules.{Names}
+use Rattle.std.specs.Prelude.{◌≡◌, ℕ, ◌+◌, ◌<◌, take, slice_get, Some}
+use Rattle.rwsp_terms.specs.Instance.{Instance}
 use Rattle.refutation_terms.specs.declared.lines.Line.{Line}
-use Rattle.refutation_terms.specs.declared.lines.Turn.{Turn}
 use Rattle.refutation_terms.specs.declared.lines.LogRefusal.{LogRefusal}
-use Rattle.refutation_terms.specs.declared.lines.LogRefusal.TheVariants as Refusals
 use Rattle.refutation_terms.specs.Tree.{domains_at}
-use Rattle.refutation_terms.specs.Log.{Log, TurnCites, IsAllowed}
-use Rattle.refutation_terms.specs.Verdict.{IsLeast, IsUnnamed, header_lines}
+use Rattle.refutation_terms.specs.Log.{Log}
+use Rattle.refutation_terms.specs.Verdict.{header_lines}
 use Rattle.tree_walk.specs.States.{State, IsStateOf}
 use Rattle.refutation_checker.specs.LineVerdicts.{IsSound, LineCause}
 

@@ -13,11 +13,12 @@ ghost use Rattle.refutation_terms.specs.Verdict.{Cause, Reading, Escapes, header
 ghost use Rattle.domain_store.specs.Store.{BelongsTo, has_domain};
 ghost use Rattle.tree_walk.specs.States.{IsStateOf};
 ghost use Rattle.refutation_checker.specs.LineVerdicts.{HoldsByWords, IsSound, LineCause};
-ghost use Rattle.refutation_checker.specs.LineTexts.{IsLineRead, IsSpellingRefusal, MayStep};
+ghost use Rattle.refutation_checker.specs.LineTexts.{IsLineRead, IsSpellingRefusal};
 
 use crate::bound::bound_escape;
 use crate::kept_tails::tails_of;
 use crate::plain::plain_refusal;
+use crate::step::step;
 use domain_store::Domains;
 use layered_cycle::escape;
 use refutation_log::{LineRefusal, read_line};
@@ -217,22 +218,6 @@ impl<'a> Judge<'a> {
         let found = bound_escape(alloc, self.problem, &tails, doms, p, turns, weights)?;
         self.tails = Some(tails);
         Ok(found)
-    }
-}
-
-// The walk reads a line that is no idle split.
-fn step(walk: &mut Walk, line: &Line) -> Result<(), AllocError>
-    requires part { walk.old.whole ≡ false }
-    requires useful { MayStep walk.old.store line.now }
-    ensures { IfOk result (λ _. (P : Instance) (turn : Option Turn) (lines : List Line) →
-        IsStateOf P turn lines walk.old → IsStateOf P turn (lines ++ line.now ∷ []) walk.new) }
-{
-    match line {
-        Line::Split { p, x } => walk.read_split(*p, *x),
-        _ => {
-            walk.read_leaf();
-            Ok(())
-        }
     }
 }
 

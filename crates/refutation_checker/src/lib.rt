@@ -6,11 +6,13 @@ mod chunk;
 mod header;
 mod judge;
 mod kept_tails;
+mod line_ends;
 mod log_check;
 mod long;
 mod named;
 mod plain;
 mod scan;
+mod step;
 #[cfg(test)]
 mod tests;
 mod turn;

@@ -3,16 +3,15 @@ ghost use Rattle.std.specs.Prelude.{◌≡◌, ◌≢◌, ℕ, ◌+◌, ◌^◌,
 ghost use Rattle.rwsp_terms.specs.Instance.{Instance};
 ghost use Rattle.refutation_terms.specs.declared.lines.Line.{Line as TheLine};
 ghost use Rattle.refutation_terms.specs.declared.lines.Turn.{Turn};
-ghost use Rattle.refutation_terms.specs.Tree.{domains_at};
 ghost use Rattle.tree_walk.specs.States.{IsStateOf};
-ghost use Rattle.refutation_checker.specs.LineVerdicts.{IsIdleSplit};
 ghost use Rattle.refutation_checker.specs.ChunkVerdicts.{StandsBehind};
-ghost use Rattle.refutation_checker.specs.Chunks.{IsWithin, StopsWalk, IsStopped, IsLast, IsLineWalked, AreLinesWalked, IsCutOff, AreChunks, IsJudgeable, EndsLines, IsFew, line_count, feeds};
+ghost use Rattle.refutation_checker.specs.Chunks.{StopsWalk, IsStopped, IsLast, IsLineWalked, AreLinesWalked, IsCutOff, AreChunks, IsJudgeable, IsFew, line_count};
 ghost use Rattle.std.specs.Int.{div_ceil};
 
 use crate::chunk::Chunk;
+use crate::line_ends::{count_lines, lines_end};
+use crate::step::go_on;
 use refutation_log::{LineReader, read_line};
-use refutation_terms::Line;
 use rwsp_model::{Fail, Problem};
 use std::alloc::{AllocError, Global};
 use tree_walk::Walk;
@@ -119,7 +118,7 @@ fn read_front(
     read_through(alloc, problem, walk, &bytes[..end])
 }
 
-/// Reads the lines of these bytes, and counts them. None at a line that isn't read, and then the walk is of no use.
+// Reads the lines of these bytes, and counts them. None at a line that isn't read, and then the walk is of no use.
 fn read_through(
     alloc: Global,
     problem: &Problem,
@@ -163,65 +162,4 @@ fn read_one(
         Err(Fail::Refused(_)) => Ok(false),
         Ok(line) => go_on(walk, &line),
     }
-}
-
-// Reads a line, if it is no idle split.
-fn go_on(walk: &mut Walk, line: &Line) -> Result<bool, AllocError>
-    requires part { walk.old.whole ≡ false }
-    requires position { IsWithin (length walk.old.store.sets) line.now }
-    ensures { IfOk result (λ read. (P : Instance) (turn : Option Turn) (earlier : List TheLine) → IsStateOf P turn earlier walk.old →
-        MatchBool read (IsStateOf P turn (earlier ++ line.now ∷ []) walk.new) (IsIdleSplit P (domains_at P turn earlier (length earlier)) line.now)) }
-{
-    match line {
-        Line::Split { p, x } => {
-            if walk.is_idle(*p, *x) {
-                return Ok(false);
-            }
-            walk.read_split(*p, *x)?;
-        }
-        _ => walk.read_leaf(),
-    }
-    Ok(true)
-}
-
-// Where the first so many lines end.
-#[tactic(auto, using(crate::proofs::Feeds::fed, crate::proofs::Feeds::not_fed, crate::proofs::Feeds::fed_in_all))]
-fn lines_end(bytes: &[u8], size: usize) -> usize
-    requires some { 1 ≤ size }
-    ensures within { result ≤ length bytes.now }
-    ensures some { 0 < length bytes.now → 0 < result }
-    ensures lines { EndsLines bytes.now size result }
-{
-    let mut count = 0;
-    for (i, byte) in bytes.iter().enumerate() {
-        if *byte == b'\n' {
-            count += 1;
-            if count == size {
-                return i + 1;
-            }
-        }
-    }
-    bytes.len()
-}
-
-// The number of lines, of which the last one may have no LF.
-#[tactic(auto, using(crate::proofs::Feeds::fed_at_end))]
-fn count_lines(bytes: &[u8]) -> usize
-    requires { 0 < length bytes.now }
-    ensures value { result ≡ line_count bytes.now }
-    ensures some { 1 ≤ result }
-{
-    let feeds = count_feeds(bytes);
-    if bytes[bytes.len() - 1] == b'\n' {
-        feeds
-    } else {
-        feeds + 1
-    }
-}
-
-fn count_feeds(bytes: &[u8]) -> usize
-    ensures value { result ≡ feeds bytes.now }
-    ensures few { result ≤ length bytes.now }
-{
-    bytes.iter().filter(|byte| **byte == b'\n').count()
 }

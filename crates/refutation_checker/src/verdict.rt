@@ -67,8 +67,9 @@ fn body_of<'a>(
     })
 }
 
-/// The verdict of `check`, with the lines below the header cut into chunks of equal length, one for each worker. Each
-/// worker passes the gate once, before the first line of its chunk; chunks count from 1.
+/// The verdict of `check`, with the lines below the header cut into chunks of equal length, of which the last may be
+/// shorter: at most one for each worker, and fewer where there are fewer lines. The gate is passed once for each chunk,
+/// before its first line; chunks count from 1.
 pub fn check_with<R: Threads + Sync, G: Gate>(
     rt: &R,
     alloc: Global,

@@ -14,8 +14,8 @@ use std::alloc::Global;
 use std::thread;
 use std::thread::Threads;
 
-/// What `judge_chunk` answers to all lines, which are cut into chunks of equal length, one for each worker. Each worker passes
-/// the gate once, before the first line of its chunk.
+/// What `judge_chunk` answers to all lines, which are cut into chunks of equal length: at most one for each worker. The gate
+/// is passed once for each chunk, before its first line.
 pub fn judge_by_workers<R: Threads + Sync, G: Gate>(
     rt: &R,
     alloc: Global,

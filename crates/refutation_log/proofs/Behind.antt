@@ -1,10 +1,10 @@
 -- What is put behind all others.
-use Rattle.std.proofs.Common.{◌≡◌, ℕ, ◌-◌, ◌<◌, ◌≤◌, List, [], ◌∷◌, ◌++◌, length, get_or, refl, ap, sym, ◌∙◌, subst, arith, ◌⊎◌, inl, inr, ⊎_elim, Some, Bool, true, false, ◌&&◌, ◌||◌, ◌==◌}
-use Rattle.std.specs.Prelude.{Contains, ◌↔◌, AllPairs, All, ℤ, nat_lt}
+use Rattle.std.proofs.Common.{◌≡◌, ℕ, ◌-◌, ◌<◌, ◌≤◌, List, [], ◌∷◌, ◌++◌, length, get_or, refl, ap, sym, ◌∙◌, subst, arith, ◌⊎◌, inl, inr, ⊎_elim, Some, None, Bool, true, false, IsTrue, length-append}
+use Rattle.std.specs.Prelude.{slice_get, MatchBool, Contains, ◌↔◌, AllPairs, All, ℤ, nat_lt}
 use Rattle.std.specs.List.Sorted.{IsStrictlyIncreasing}
 use Rattle.std.proofs.lemmas.Bool.{cases_lt}
-use Rattle.std.proofs.lemmas.Bool.Decides.{nat_tests}
-use Rattle.std.proofs.lemmas.Option.{slice_get-get_or}
+use Rattle.std.proofs.lemmas.Option.{slice_get-get_or, get_or_from_slice_get}
+use Rattle.std.proofs.lemmas.List.{get_or_append_left}
 use Rattle.std.proofs.lemmas.List.Kept.{AllPairs-from_increasing}
 use Rattle.std.proofs.lemmas.List.Quantifiers.{all_pairs_push}
 use Rattle.std.proofs.lemmas.List.Elements.{All-push, All-head, All-tail, Contains-append_left, Contains-push, Contains-push_cases}
@@ -15,7 +15,7 @@ use Rattle.rwsp_terms.specs.Places.{is_at, SetsWeight}
 use Rattle.rwsp_terms.proofs.Ascending.{increasing_from_pairs, weight_past, weight_first, test_from_here, here_from_test}
 use Rattle.rwsp_terms.proofs.SameLists.{same_rule_lists, same_weights, before_all}
 use Rattle.refutation_log.specs.Reading.{IsValue}
-use Rattle.refutation_log.specs.Gathering.{precedes, precedes_if, last_precedes, weight_of}
+use Rattle.refutation_log.specs.Gathering.{weight_of, with_last}
 use Rattle.refutation_log.proofs.CitedRules.{not_here}
 
 pub number_behind : (old new : List ℕ) (n : ℕ) → IsStrictlyIncreasing old → All (λ k. k < n) old → IsStrictlyIncreasing new → ((k : ℕ) → Contains new k ↔ (Contains old k ⊎ (k ≡ n))) → new ≡ old ++ n ∷ []
@@ -27,38 +27,40 @@ number_behind old new n up below up' holds =
       λ c. (holds k).1 (⊎_elim (λ (o : Contains old k). inl o) (λ (e : n ≡ k). inr (sym e)) (Contains-push_cases old n k c)),
     ))
 
-comes_by : (a : Weight) (j x : ℕ) (b c d : Bool) → (b ≡ true → a.day < j) → (c ≡ true → a.day ≡ j) → (d ≡ true → a.symbol.number < x) → (b || (c && d)) ≡ true → (a.day < j) ⊎ ((a.day ≡ j) × (a.symbol.number < x))
-comes_by a j x true c d f g h e = inl (f refl)
-comes_by a j x false true true f g h e = inr (g refl, h refl)
-comes_by a j x false true false f g h e = absurd (cc)
-comes_by a j x false false d f g h e = absurd (cc)
-
-pub comes_from_test : (a : Weight) (j : ℕ) (x : Symbol) (v : ℤ) → precedes a j x.number ≡ true → ComesBefore a (weight_of j x v)
-comes_from_test a j x v e =
-    comes_by a j x.number (nat_lt a.day j) (a.day == j) (nat_lt a.symbol.number x.number) (λ t. grind (arith, nat_tests)) (λ t. grind (arith, nat_tests)) (λ t. grind (arith, nat_tests)) e
-
-test_by : (a : Weight) (j x : ℕ) (b c d : Bool) → (b ≡ false → a.day < j → ⊥) → (c ≡ false → a.day ≡ j → ⊥) → (d ≡ false → a.symbol.number < x → ⊥) → (a.day < j) ⊎ ((a.day ≡ j) × (a.symbol.number < x)) → (b || (c && d)) ≡ true
-test_by a j x true c d f g h e = refl
-test_by a j x false true true f g h e = refl
-test_by a j x false c d f g h (inl p) = absurd (f refl p)
-test_by a j x false false d f g h (inr p) = absurd (g refl p.0)
-test_by a j x false true false f g h (inr p) = absurd (h refl p.1)
-
-pub test_from_comes : (a : Weight) (j : ℕ) (x : Symbol) (v : ℤ) → ComesBefore a (weight_of j x v) → precedes a j x.number ≡ true
-test_from_comes a j x v h =
-    test_by a j x.number (nat_lt a.day j) (a.day == j) (nat_lt a.symbol.number x.number) (λ t p. grind (arith, nat_tests)) (λ t p. grind (arith, nat_tests)) (λ t p. grind (arith, nat_tests)) h
-
 -- all come before what the last comes before
-pub all_before : (z : List Weight) (j : ℕ) (x : Symbol) (v : ℤ) → AllPairs ComesBefore z → last_precedes z j x.number ≡ true → (k : ℕ) (d : Weight) → k < length z → ComesBefore (get_or z k d) (weight_of j x v)
-all_before z j x v pairs e k d less =
+pub all_before : (z : List Weight) (e : Weight) → AllPairs ComesBefore z → (a : Weight) → slice_get z (length z - 1) ≡ Some a → ComesBefore a e → (k : ℕ) (d : Weight) → k < length z → ComesBefore (get_or z k d) e
+all_before z e pairs a last comes k d less =
     let m = length z - 1 in
-    let lt : m < length z = omega (arith, less) in
-    let here : precedes_if (Some (get_or z m d)) j x.number ≡ true = ap (λ o. precedes_if o j x.number) (sym (slice_get-get_or z m d lt)) ∙ e in
-    let last : ComesBefore (get_or z m d) (weight_of j x v) = comes_from_test (get_or z m d) j x v here in
+    let here : get_or z m d ≡ a = get_or_from_slice_get z m a d last in
+    let end : ComesBefore (get_or z m d) e = subst (λ (w : Weight). ComesBefore w e) (sym here) comes in
     ⊎_elim
-    (λ (l : k < m). before_all (get_or z k d) (get_or z m d) (weight_of j x v) (pairs k m d l lt) last)
-    (λ (l : m ≤ k). let same : m ≡ k = omega (arith, l, less) in subst (λ i. ComesBefore (get_or z i d) (weight_of j x v)) same last)
+    (λ (l : k < m). before_all (get_or z k d) (get_or z m d) e (pairs k m d l (omega (arith, less))) end)
+    (λ (l : m ≤ k). let same : m ≡ k = omega (arith, l, less) in subst (λ i. ComesBefore (get_or z i d) e) same end)
     (cases_lt k m)
+
+seam : (z : List Weight) (e d : Weight) → get_or (z ++ e ∷ []) (length z) d ≡ e
+seam [] e d = refl
+seam (a ∷ z) e d = seam z e d
+
+-- where weights ascend, each comes before the last
+pub before_last : (z : List Weight) (e : Weight) → AllPairs ComesBefore (z ++ e ∷ []) → (k : ℕ) (d : Weight) → k < length z → ComesBefore (get_or z k d) e
+before_last z e pairs k d less =
+    let there : ComesBefore (get_or (z ++ e ∷ []) k d) (get_or (z ++ e ∷ []) (length z) d) = pairs k (length z) d less (omega (arith, length-append z (e ∷ []))) in
+    subst (ComesBefore (get_or z k d)) (seam z e d)
+    (subst (λ b. ComesBefore b (get_or (z ++ e ∷ []) (length z) d)) (get_or_append_left z (e ∷ []) d k less) there)
+
+pub none_before : (z : List Weight) (e : Weight) → slice_get z (length z - 1) ≡ None → AllPairs ComesBefore (z ++ e ∷ [])
+none_before [] e h = λ i j d lt less. absurd (omega (arith, lt, less))
+none_before (a ∷ z) e h = let some = slice_get-get_or (a ∷ z) (length (a ∷ z) - 1) a (omega arith) in absurd (cc)
+
+pub one_behind : (z : List Weight) (a e : Weight) (b : Bool) → AllPairs ComesBefore z → true ≡ nat_lt 0 (length z) → a ≡ get_or z (length z - 1) a → IsTrue b ↔ ComesBefore a e → MatchBool b (AllPairs ComesBefore (z ++ e ∷ [])) (AllPairs ComesBefore (z ++ e ∷ []) → ⊥)
+one_behind [] a e b pairs some last test = absurd (cc)
+one_behind (c ∷ z) a e true pairs some last test =
+    all_pairs_push ComesBefore (c ∷ z) e pairs (λ k d lt. all_before (c ∷ z) e pairs a (slice_get-get_or (c ∷ z) (length (c ∷ z) - 1) a (omega arith) ∙ ap (λ w. Some w) (sym last)) (test.0 refl) k d lt)
+one_behind (c ∷ z) a e false pairs some last test = λ all.
+    let y : List Weight = c ∷ z in
+    let t : false ≡ true = test.1 (subst (λ (w : Weight). ComesBefore w e) (sym last) (before_last y e all (length y - 1) a (omega arith))) in
+    cc
 
 past_front : (y : List Weight) (e : Weight) (j x : ℕ) → All (λ (a : Weight). is_at a j x ≡ false) y → is_at e j x ≡ true → weight_at (y ++ e ∷ []) j x ≡ e.value
 past_front [] e j x none here = weight_first e [] j x here
@@ -83,12 +85,11 @@ same_here old new j s v k x false t before sets =
     sets.elsewhere k x (λ q. let same : is_at (weight_of j s v) k x ≡ true = test_from_here (weight_of j s v) k x (sym q.0, sym q.1) in cc)
     ∙ sym (off_end old (weight_of j s v) k x t)
 
-pub weight_behind : (old new : List Weight) (j : ℕ) (s : Symbol) (v : ℤ) → AreWeights old → last_precedes old j s.number ≡ true → IsValue v → SetsWeight old new j s.number v → new ≡ old ++ weight_of j s v ∷ []
-weight_behind old new j s v are last value sets =
-    let before : All (λ (a : Weight). ComesBefore a (weight_of j s v)) old = all_before old j s v are.ascends last in
+pub weight_behind : (old new : List Weight) (j : ℕ) (s : Symbol) (v : ℤ) → AreWeights old → AllPairs ComesBefore (with_last old j s v) → IsValue v → SetsWeight old new j s.number v → new ≡ with_last old j s v
+weight_behind old new j s v are ascends value sets =
     same_weights new (old ++ weight_of j s v ∷ []) sets.weights
     (record {
-      ascends = all_pairs_push ComesBefore old (weight_of j s v) are.ascends (λ k d lt. before k d lt);
+      ascends = ascends;
       small = All-push IsWeight old (weight_of j s v) are.small value;
     })
-    (λ k x. same_here old new j s v k x (is_at (weight_of j s v) k x) refl before sets)
+    (λ k x. same_here old new j s v k x (is_at (weight_of j s v) k x) refl (before_last old (weight_of j s v) ascends) sets)

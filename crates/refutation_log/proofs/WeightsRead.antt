@@ -1,10 +1,8 @@
 -- Reading weights one after another.
-use Rattle.std.proofs.Common.{◌≡◌, ◌≢◌, ℕ, ◌-◌, ◌<◌, List, [], ◌∷◌, ◌++◌, length, get_or, refl, ap, sym, ◌∙◌, subst, arith, Option, Some, None, Bool, true, false, append_assoc, length-append}
-use Rattle.std.specs.Prelude.{ℤ, AllPairs, cond}
+use Rattle.std.proofs.Common.{◌≡◌, ◌≢◌, ℕ, ◌<◌, List, [], ◌∷◌, ◌++◌, length, get_or, refl, ap, sym, ◌∙◌, subst, arith, Option, Some, None, Bool, true, false, append_assoc, length-append}
+use Rattle.std.specs.Prelude.{ℤ, AllPairs}
 use Rattle.std.specs.Option.{option_map}
 use Rattle.std.proofs.lemmas.List.{append-nil, get_or_append_left}
-use Rattle.std.proofs.lemmas.List.Quantifiers.{all_pairs_push}
-use Rattle.std.proofs.lemmas.Option.{slice_get-get_or}
 use Rattle.rwsp_terms.specs.declared.data.Symbol.{Symbol}
 use Rattle.rwsp_terms.specs.declared.data.Weight.{Weight}
 use Rattle.rwsp_terms.specs.Instance.{Instance, symbol_of}
@@ -13,9 +11,8 @@ use Rattle.refutation_terms.specs.LogText.{NamedWeight, with_weight, weights_of}
 use Rattle.refutation_log.specs.declared.gather.Gathered.{Gathered}
 use Rattle.refutation_log.specs.declared.gather.Gathered.TheVariants.{Rising, Falling, Unknown}
 use Rattle.refutation_log.specs.Reading.{◌>>=◌, number_in, value_in, is_name, number_at, name_at, value_at, weight_in, weight_from, weight_of_fields, weights_at}
-use Rattle.refutation_log.specs.Gathering.{Gives, GivesAll, added, last_precedes, precedes, precedes_if, weight_of}
+use Rattle.refutation_log.specs.Gathering.{Gives, GivesAll, IsAdded, weight_of}
 use Rattle.refutation_log.proofs.RulesFront.{same_pairs}
-use Rattle.refutation_log.proofs.Behind.{all_before, test_from_comes}
 
 abbrev Left : Type 0
 Left = NamedWeight × List (List ℕ)
@@ -118,38 +115,17 @@ front_pairs z w h = λ i j d lt less.
     (subst (λ b. ComesBefore (get_or (z ++ w ∷ []) i d) b) (get_or_append_left z (w ∷ []) d j less)
     (h i j d lt (omega (arith, less, length-append z (w ∷ [])))))
 
-seam : (z : List Weight) (w : Weight) → get_or (z ++ w ∷ []) (length z) w ≡ w
-seam [] w = refl
-seam (a ∷ z) w = seam z w
+gives_more_by : (P : Instance) (y : List NamedWeight) (e : NamedWeight) (s : Gathered) (o : Option Symbol) (new : Gathered) → Gives P y s → symbol_of P e.name ≡ o → IsAdded s o e.day e.value new → Gives P (y ++ e ∷ []) new
+gives_more_by P y e s None new g t h = subst (Gives P (y ++ e ∷ [])) (sym h) (unknown_last P y e t)
+gives_more_by P y e Unknown (Some x) new g t h = subst (Gives P (y ++ e ∷ [])) (sym h) (unknown_front P y e g)
+gives_more_by P y e Falling (Some x) new g t h =
+    subst (Gives P (y ++ e ∷ [])) (sym h) (g.0 ++ weight_of e.day x e.value ∷ [], known_behind P y e g.0 x g.1 t, λ pairs. g.2 (front_pairs g.0 (weight_of e.day x e.value) pairs))
+gives_more_by P y e (Rising z) (Some x) (Rising w) g t h = (known_behind P y e z x g.0 t ∙ ap (λ u. Some u) (sym h.0), h.1)
+gives_more_by P y e (Rising z) (Some x) Falling g t h = (z ++ weight_of e.day x e.value ∷ [], known_behind P y e z x g.0 t, h)
+gives_more_by P y e (Rising z) (Some x) Unknown g t h = absurd h
 
-last_pair : (z : List Weight) (j : ℕ) (x : Symbol) (v : ℤ) → last_precedes z j x.number ≡ false → AllPairs ComesBefore (z ++ weight_of j x v ∷ []) → ⊥
-last_pair [] j x v e pairs = cc
-last_pair (a ∷ y) j x v e pairs =
-    let z : List Weight = a ∷ y in
-    let w : Weight = weight_of j x v in
-    let m = length z - 1 in
-    let lt : m < length z = omega arith in
-    let there : ComesBefore (get_or (z ++ w ∷ []) m w) (get_or (z ++ w ∷ []) (length z) w) = pairs m (length z) w lt (omega (arith, length-append z (w ∷ []))) in
-    let half : ComesBefore (get_or z m w) (get_or (z ++ w ∷ []) (length z) w) = subst (λ b. ComesBefore b (get_or (z ++ w ∷ []) (length z) w)) (get_or_append_left z (w ∷ []) w m lt) there in
-    let comes : ComesBefore (get_or z m w) w = subst (ComesBefore (get_or z m w)) (seam z w) half in
-    let yes : precedes (get_or z m w) j x.number ≡ true = test_from_comes (get_or z m w) j x v comes in
-    let no : precedes_if (Some (get_or z m w)) j x.number ≡ false = ap (λ o. precedes_if o j x.number) (sym (slice_get-get_or z m w lt)) ∙ e in
-    cc
-
-gives_by : (P : Instance) (y : List NamedWeight) (e : NamedWeight) (z : List Weight) (x : Symbol) (b : Bool) → weights_of P y ≡ Some z → AllPairs ComesBefore z → symbol_of P e.name ≡ Some x → last_precedes z e.day x.number ≡ b → Gives P (y ++ e ∷ []) (cond b (Rising (z ++ weight_of e.day x e.value ∷ [])) Falling)
-gives_by P y e z x true h pairs s t =
-    (known_behind P y e z x h s, all_pairs_push ComesBefore z (weight_of e.day x e.value) pairs (λ k d lt. all_before z e.day x e.value pairs t k d lt))
-gives_by P y e z x false h pairs s t =
-    (z ++ weight_of e.day x e.value ∷ [], known_behind P y e z x h s, last_pair z e.day x e.value t)
-
-gives_more_by : (P : Instance) (y : List NamedWeight) (e : NamedWeight) (s : Gathered) (o : Option Symbol) → Gives P y s → symbol_of P e.name ≡ o → Gives P (y ++ e ∷ []) (added s o e.day e.value)
-gives_more_by P y e s None g t = unknown_last P y e t
-gives_more_by P y e Unknown (Some x) g t = unknown_front P y e g
-gives_more_by P y e Falling (Some x) g t = (g.0 ++ weight_of e.day x e.value ∷ [], known_behind P y e g.0 x g.1 t, λ pairs. g.2 (front_pairs g.0 (weight_of e.day x e.value) pairs))
-gives_more_by P y e (Rising z) (Some x) g t = gives_by P y e z x (last_precedes z e.day x.number) g.0 g.1 t refl
-
-pub gives_more : (P : Instance) (y : List NamedWeight) (e : NamedWeight) (s : Gathered) → Gives P y s → Gives P (y ++ e ∷ []) (added s (symbol_of P e.name) e.day e.value)
-gives_more P y e s g = gives_more_by P y e s (symbol_of P e.name) g refl
+pub gives_more : (P : Instance) (y : List NamedWeight) (e : NamedWeight) (s new : Gathered) → Gives P y s → IsAdded s (symbol_of P e.name) e.day e.value new → Gives P (y ++ e ∷ []) new
+gives_more P y e s new g h = gives_more_by P y e s (symbol_of P e.name) new g refl h
 
 -- what has been read, and what is left
 abbrev pub SoFar : Instance → List (List ℕ) → List (List ℕ) → Gathered → Type 0
@@ -170,10 +146,10 @@ one_more : (P : Instance) (ws : List (List ℕ)) (e : NamedWeight) (rest : List 
 one_more P ws e rest t =
     ap (weights_at P) t.3 ∙ ap (λ o. o >>= (λ a. weights_at P rest >>= (λ y. Some (a ∷ y)))) t.4
 
-pub so_far_more : (P : Instance) (first ws rest : List (List ℕ)) (e : NamedWeight) (s : Gathered) → SoFar P first ws s → weight_in P ws ≡ Some (e, rest) → SoFar P first rest (added s (symbol_of P e.name) e.day e.value)
-so_far_more P first ws rest e s h t = (
+pub so_far_more : (P : Instance) (first ws rest : List (List ℕ)) (e : NamedWeight) (s new : Gathered) → SoFar P first ws s → weight_in P ws ≡ Some (e, rest) → IsAdded s (symbol_of P e.name) e.day e.value new → SoFar P first rest new
+so_far_more P first ws rest e s new h t added = (
   h.0 ++ e ∷ [],
-  gives_more P h.0 e s h.1,
+  gives_more P h.0 e s new h.1 added,
   h.2 ∙ ap (λ o. o >>= (λ y. Some (h.0 ++ y))) (one_more P ws e rest (weight_taken P ws e rest t)) ∙ bind_twice (weights_at P rest) h.0 e,
 )
 

@@ -1,5 +1,5 @@
 -- The weights of a line, gathered one by one.
-use Rattle.std.specs.Prelude.{◌≡◌, ℕ, ◌-◌, List, [], ◌∷◌, ◌++◌, length, slice_get, Option, Some, None, Bool, true, ◌&&◌, ◌||◌, ◌==◌, nat_lt, cond, ℤ, AllPairs, Result, Ok, Err}
+use Rattle.std.specs.Prelude.{◌≡◌, ℕ, List, [], ◌∷◌, ◌++◌, Option, Some, None, ℤ, AllPairs, Result, Ok, Err}
 use Rattle.rwsp_terms.specs.declared.data.Symbol.{Symbol}
 use Rattle.rwsp_terms.specs.declared.data.Weight.{Weight}
 use Rattle.rwsp_terms.specs.Instance.{Instance}
@@ -33,23 +33,19 @@ GivesAll P None (Some s) = ⊥
 GivesAll P (Some y) None = ⊥
 GivesAll P (Some y) (Some s) = Gives P y s
 
--- the last of the weights comes before symbol x on day j
-abbrev pub precedes : Weight → ℕ → ℕ → Bool
-precedes e j x = nat_lt e.day j || ((e.day == j) && nat_lt e.symbol.number x)
-
-abbrev pub precedes_if : Option Weight → ℕ → ℕ → Bool
-precedes_if None j x = true
-precedes_if (Some e) j x = precedes e j x
-
-abbrev pub last_precedes : List Weight → ℕ → ℕ → Bool
-last_precedes z j x = precedes_if (slice_get z (length z - 1)) j x
-
+-- what a symbol weighs on a day
 abbrev pub weight_of : ℕ → Symbol → ℤ → Weight
 weight_of j x v = record { day = j; symbol = x; value = v }
 
--- one weight more
-abbrev pub added : Gathered → Option Symbol → ℕ → ℤ → Gathered
-added s None j v = Unknown
-added Unknown (Some x) j v = Unknown
-added Falling (Some x) j v = Falling
-added (Rising z) (Some x) j v = cond (last_precedes z j x.number) (Rising (z ++ weight_of j x v ∷ [])) Falling
+-- the weights with this one behind them
+abbrev pub with_last : List Weight → ℕ → Symbol → ℤ → List Weight
+with_last z j x v = z ++ weight_of j x v ∷ []
+
+-- what is gathered with one weight more, of a known symbol or not
+abbrev pub IsAdded : Gathered → Option Symbol → ℕ → ℤ → Gathered → Type 0
+IsAdded s None j v new = new ≡ Unknown
+IsAdded Unknown (Some x) j v new = new ≡ Unknown
+IsAdded Falling (Some x) j v new = new ≡ Falling
+IsAdded (Rising z) (Some x) j v (Rising w) = (w ≡ with_last z j x v) × AllPairs ComesBefore w
+IsAdded (Rising z) (Some x) j v Falling = AllPairs ComesBefore (with_last z j x v) → ⊥
+IsAdded (Rising z) (Some x) j v Unknown = ⊥

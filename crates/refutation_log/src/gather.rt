@@ -1,9 +1,10 @@
 // The weights of a line, gathered one by one.
-ghost use Rattle.std.specs.Prelude.{◌≡◌, ◌++◌, ◌∷◌, [], ◌≤ℤ◌, ◌≢◌, pos, negsuc, IfOk, OnOk, Option, List, AllPairs, true};
+ghost use Rattle.std.specs.Prelude.{◌≡◌, ◌↔◌, ℤ, IfOk, OnOk, Option, AllPairs, IsTrue, MatchBool, Some};
 ghost use Rattle.rwsp_terms.specs.Instance.{symbol_of};
-ghost use Rattle.rwsp_terms.specs.Weights.{AreWeights};
+ghost use Rattle.rwsp_terms.specs.Places.{Precedes};
+ghost use Rattle.rwsp_terms.specs.Weights.{AreWeights, ComesBefore};
 ghost use Rattle.refutation_log.specs.Reading.{IsValue};
-ghost use Rattle.refutation_log.specs.Gathering.{precedes, last_precedes, weight_of, added};
+ghost use Rattle.refutation_log.specs.Gathering.{IsAdded, with_last};
 
 use rwsp_model::Problem;
 use rwsp_terms::{Symbol, Weight, Weights};
@@ -26,7 +27,7 @@ pub fn add(
     value: i32,
 ) -> Result<Gathered, AllocError>
     requires { IsValue value }
-    ensures { IfOk result (λ s. s ≡ added state (symbol_of problem.now name.now) day value) }
+    ensures { IfOk result (IsAdded state (symbol_of problem.now name.now) day value) }
 {
     let Some(x) = problem.symbol(name) else {
         return Ok(Gathered::Unknown);
@@ -40,9 +41,9 @@ pub fn add(
 
 fn add_behind(mut weights: Weights, day: u32, x: Symbol, value: i32) -> Result<Gathered, AllocError>
     requires { IsValue value }
-    ensures { IfOk result (λ s. s ≡ added (Gathered.Rising weights) (Some x) day value) }
+    ensures { IfOk result (IsAdded (Gathered.Rising weights) (Some x) day value) }
 {
-    if last_precedes(weights.entries(), day, x) {
+    if goes_behind(weights.entries(), day, x) {
         append(&mut weights, day, x, value)?;
         Ok(Gathered::Rising(weights))
     } else {
@@ -54,21 +55,25 @@ fn add_behind(mut weights: Weights, day: u32, x: Symbol, value: i32) -> Result<G
 #[tactic(auto, using(crate::proofs::Behind::weight_behind))]
 fn append(weights: &mut Weights, day: u32, x: Symbol, value: i32) -> Result<(), AllocError>
     requires weights { AreWeights weights.old }
-    requires last { last_precedes weights.old day x.number ≡ true }
+    requires last { AllPairs ComesBefore (with_last weights.old day x value) }
     requires value { IsValue value }
-    ensures { OnOk result (weights.new ≡ weights.old ++ weight_of day x value ∷ []) }
+    ensures { OnOk result (weights.new ≡ with_last weights.old day x value) }
 {
     weights.put(day, x, value)
 }
 
 fn precedes(entry: &Weight, day: u32, x: Symbol) -> bool
-    ensures { result ≡ precedes entry.now day x.number }
+    ensures { IsTrue result ↔ Precedes entry.now day x.number }
 {
     entry.day < day || entry.day == day && entry.symbol.number < x.number
 }
 
-fn last_precedes(entries: &[Weight], day: u32, x: Symbol) -> bool
-    ensures { result ≡ last_precedes entries.now day x.number }
+// Whether weights ascend with one of the symbol on the day behind them.
+fn goes_behind(entries: &[Weight], day: u32, x: Symbol) -> bool
+    requires { AllPairs ComesBefore entries.now }
+    ensures { (v : ℤ) → MatchBool result
+        (AllPairs ComesBefore (with_last entries.now day x v))
+        (AllPairs ComesBefore (with_last entries.now day x v) → ⊥) }
 {
     match entries.last() {
         None => true,

@@ -1,5 +1,5 @@
 -- The loops of descents.
-use Rattle.std.proofs.Common.{◌≡◌, ◌≢◌, ℕ, suc, ◌+◌, ◌-◌, ◌<◌, List, [], ◌∷◌, ◌++◌, length, get_or, drop, reverse, ap, sym, ◌∙◌, subst, arith, inl, inr, ⊎_elim, Bool, true, false}
+use Rattle.std.proofs.Common.{◌≡◌, ◌≢◌, ℕ, suc, ◌+◌, ◌-◌, ◌<◌, List, [], ◌∷◌, ◌++◌, length, get_or, drop, reverse, ap, sym, ◌∙◌, subst, arith, inl, inr, ⊎_elim}
 use Rattle.std.proofs.Math.Seq.{drop-cons}
 use Rattle.std.proofs.lemmas.List.{drop_all}
 use Rattle.std.proofs.lemmas.Grind.{reverse_onto}
@@ -8,7 +8,6 @@ use Rattle.std.specs.Prelude.{slice_get, Some}
 use Rattle.rwsp_terms.specs.Instance.{Instance}
 use Rattle.refutation_terms.specs.Log.{Log, Passes}
 use Rattle.refutation_terms.specs.Strip.{strip, StripsTo, DescendsTo, IsReduced}
-use Rattle.rule_reducer.specs.Descent.{Drops}
 use Rattle.rule_reducer.proofs.Needs.{descent_drops}
 
 -- the log after so many steps of a descent
@@ -21,13 +20,9 @@ strips_on P [] n g h next s t = subst (λ (x : Log). StripsTo P (n ∷ []) x nex
 strips_on P (m ∷ rest) n g h next (inl q) t = inl (q.0, strips_on P rest n (strip P m g) h next q.1 t)
 strips_on P (m ∷ rest) n g h next (inr q) t = inr (q.0, strips_on P rest n g h next q.1 t)
 
-one_step : (P : Instance) (n : ℕ) (h next : Log) (dropped : Bool) → Drops P n h next dropped → StripsTo P (n ∷ []) h next
-one_step P n h next true d = inl (d.1, sym d.0)
-one_step P n h next false d = inr (d.1, sym d.0)
-
-still_passes : (P : Instance) (n : ℕ) (h next : Log) (dropped : Bool) → Passes P h → Drops P n h next dropped → Passes P next
-still_passes P n h next true passes d = subst (Passes P) (sym d.0) d.1
-still_passes P n h next false passes d = subst (Passes P) (sym d.0) passes
+still_passes : (P : Instance) (n : ℕ) (h next : Log) → Passes P h → StripsTo P (n ∷ []) h next → Passes P next
+still_passes P n h next passes (inl d) = subst (Passes P) d.1 d.0
+still_passes P n h next passes (inr d) = subst (Passes P) d.1 passes
 
 pub descent_begins : (P : Instance) (g h : Log) → h ≡ g → Passes P g → DescentSoFar P g h 0
 descent_begins P g h e passes = record {
@@ -40,17 +35,17 @@ one_more : (R : List ℕ) (k n : ℕ) → k < length R → get_or R k 0 ≡ n �
 one_more R k n less e =
     ap reverse (drop-cons R k 0 less ∙ ap (λ m. m ∷ drop (suc k) R) e) ∙ reverse_onto (drop (suc k) R) n []
 
-pub descent_goes_on : (P : Instance) (g h next : Log) (done n : ℕ) (dropped : Bool) → DescentSoFar P g h done → done < length g.named → slice_get g.named (length g.named - 1 - done) ≡ Some n → Drops P n h next dropped → DescentSoFar P g next (done + 1)
-descent_goes_on P g h next done n dropped so less at d =
+pub descent_goes_on : (P : Instance) (g h next : Log) (done n : ℕ) → DescentSoFar P g h done → done < length g.named → slice_get g.named (length g.named - 1 - done) ≡ Some n → StripsTo P (n ∷ []) h next → DescentSoFar P g next (done + 1)
+descent_goes_on P g h next done n so less at d =
     let k = length g.named - (done + 1) in
     let place : length g.named - 1 - done ≡ k = omega arith in
     let behind : length g.named - done ≡ suc k = omega (arith, less) in
     let here : get_or g.named k 0 ≡ n = get_or_from_slice_get g.named k n 0 (subst (λ i. slice_get g.named i ≡ Some n) place at) in
     let list = one_more g.named k n (omega (arith, less)) here in
     record {
-      passes = still_passes P n h next dropped so.passes d;
+      passes = still_passes P n h next so.passes d;
       strips = subst (λ l. StripsTo P l g next) (sym list)
-          (strips_on P (reverse (drop (suc k) g.named)) n g h next (subst (λ i. StripsTo P (reverse (drop i g.named)) g h) behind so.strips) (one_step P n h next dropped d));
+          (strips_on P (reverse (drop (suc k) g.named)) n g h next (subst (λ i. StripsTo P (reverse (drop i g.named)) g h) behind so.strips) d);
     }
 
 pub descent_ends : (P : Instance) (g h : Log) (done : ℕ) → DescentSoFar P g h done → done ≡ length g.named → DescendsTo P g h

@@ -55,8 +55,8 @@ fn turn_cites(turn: Option<Turn>, rule: Rule) -> bool
     }
 }
 
-// Whether the log can't pass without the rule, since a window or a day leaf or the turn would go on
-// citing it. Going through the lines once tells so without a search for words.
+/// Whether the log can't pass without the rule, since a window or a day leaf or the turn would go on
+/// citing it. Going through the lines once tells so without a search for words.
 #[tactic(auto, using(crate::proofs::Citing::turn_goes_on))]
 pub fn goes_on_citing(log: &Log, number: u32, rule: Rule) -> bool
     ensures { IsTrue result → (P : Instance) → rule_of P number ≡ Some rule → Passes P (strip P number log.now) → ⊥ }

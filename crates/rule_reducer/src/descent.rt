@@ -1,9 +1,8 @@
 // Descents through the rules that a log names.
-ghost use Rattle.std.specs.Prelude.{◌≡◌, ◌<◌, ◌≤◌, length, IfOk, OnOk};
+ghost use Rattle.std.specs.Prelude.{◌<◌, ◌≤◌, ◌∷◌, [], length, OnOk};
 ghost use Rattle.rwsp_terms.specs.Rules.{rules};
 ghost use Rattle.refutation_terms.specs.Log.{Fits, Passes};
-ghost use Rattle.refutation_terms.specs.Strip.{DescendsTo};
-ghost use Rattle.rule_reducer.specs.Descent.{Drops};
+ghost use Rattle.refutation_terms.specs.Strip.{StripsTo, DescendsTo};
 
 use crate::cited::goes_on_citing;
 use crate::passing::passes;
@@ -12,30 +11,25 @@ use refutation_log::Log;
 use rwsp_model::{Problem, rule_at};
 use std::alloc::{AllocError, Global};
 
-// Drops the rule of the number exactly where the log then passes, and tells whether it did.
-fn drop_rule(
-    alloc: Global,
-    problem: &Problem,
-    log: &mut Log,
-    number: u32,
-) -> Result<bool, AllocError>
+// Drops the rule of the number exactly where the log then passes.
+fn drop_rule(alloc: Global, problem: &Problem, log: &mut Log, number: u32) -> Result<(), AllocError>
     requires fits { Fits problem.now log.old }
     requires number { (0 < number) × (number ≤ length (rules problem.now)) }
-    ensures { IfOk result (Drops problem.now number log.old log.new) }
+    ensures { OnOk result (StripsTo problem.now (number ∷ []) log.old log.new) }
 {
     if goes_on_citing(log, number, rule_at(problem, number)) {
-        return Ok(false);
+        return Ok(());
     }
     let stripped = strip_number(alloc, problem, log, number)?;
     if !passes(alloc, problem, &stripped)? {
-        return Ok(false);
+        return Ok(());
     }
     *log = stripped;
-    Ok(true)
+    Ok(())
 }
 
-// One descent: from the highest number down, each rule that the log names at the start is dropped
-// exactly where the log then passes.
+/// One descent: from the highest number down, each rule that the log names at the start is dropped
+/// exactly where the log then passes.
 pub fn descend(alloc: Global, problem: &Problem, log: &mut Log) -> Result<(), AllocError>
     requires { Passes problem.now log.old }
     ensures descends { OnOk result (DescendsTo problem.now log.old log.new) }

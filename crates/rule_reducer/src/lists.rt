@@ -20,7 +20,7 @@ fn put_other(kept: &mut RuleList, listed: u32, left_out: u32) -> Result<(), Allo
     kept.put(listed)
 }
 
-// The list without the number.
+/// The list without the number.
 pub fn without(alloc: Global, list: &RuleList, number: u32) -> Result<RuleList, AllocError>
     ensures { IfOk result (λ kept. kept ≡ without number list.now) }
 {
@@ -55,7 +55,7 @@ fn weights_elsewhere(alloc: Global, weights: &Weights, day: u32) -> Result<Weigh
     Ok(kept)
 }
 
-// The weights but for those on a day whose rule this is.
+/// The weights but for those on a day whose rule this is.
 pub fn weights_without(alloc: Global, weights: &Weights, rule: Rule) -> Result<Weights, AllocError>
     ensures { IfOk result (λ kept. kept ≡ without_day (Some rule) weights.now) }
 {

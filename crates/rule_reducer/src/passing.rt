@@ -7,7 +7,7 @@ use refutation_log::Log;
 use rwsp_model::{Fail, Problem};
 use std::alloc::{AllocError, Global};
 
-// Whether the log passes.
+/// Whether the log passes.
 #[tactic(auto, using(crate::proofs::Verdicts::not_passing))]
 pub fn passes(alloc: Global, problem: &Problem, log: &Log) -> Result<bool, AllocError>
     requires { Fits problem.now log.now }

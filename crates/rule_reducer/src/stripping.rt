@@ -61,7 +61,7 @@ fn strip_lines(
     Ok(kept)
 }
 
-// The log without the rule of the number.
+/// The log without the rule of the number.
 pub fn strip_number(
     alloc: Global,
     problem: &Problem,

@@ -1,6 +1,6 @@
 use Rattle.std.proofs.Common.{sym, subst}
 use Rattle.refutation_terms.specs.Verdict.{IsRefused}
-use Rattle.refutation_log.specs.ReadLog.{BeginsWithHeader, IsHeaderRefused}
+use Rattle.refutation_log.specs.ReadLog.{IsHeaderRefused}
 use Rattle.refutation_log.proofs.LogLines.{fail_along}
 use Rattle.refutation_checker.proofs.Passing.{turn_refused}
 use Rattle.refutation_checker.proofs.header.judge_header.Goals as goal

@@ -1,8 +1,8 @@
-use Rattle.std.proofs.Common.{◌≡◌, subst, sym, ap, ◌∙◌, arith, w32, to_z, of_z}
+use Rattle.std.proofs.Common.{◌≡◌, subst, sym, arith, w32, to_z, of_z}
 use Rattle.std.proofs.lemmas.Int.{to_z-of_z, ints}
 use Rattle.rwsp_terms.specs.Instance.{symbol_of}
 use Rattle.refutation_log.specs.declared.gather.Gathered.TheVariants.{Rising}
-use Rattle.refutation_log.specs.Gathering.{added}
+use Rattle.refutation_log.specs.Gathering.{IsAdded}
 use Rattle.refutation_log.proofs.WeightsRead.{SoFar, so_far_none, so_far_more, so_far_all, so_far_missed, weight_shortens}
 use Rattle.refutation_log.proofs.line.weights.Goals as goal
 
@@ -22,9 +22,8 @@ loop-fields-preserved c =
     let P = c.args.problem.now in
     let v = c.in-Some.value in
     let same : to_z w32 (of_z w32 v) ≡ v = to_z-of_z w32 v (omega (arith, ints, c.in-Some.ensures.range)) in
-    subst (SoFar P c.args.fields.now c.weight.new.fields)
-    (sym (c.in_ok-state.ensures ∙ ap (λ u. added c.loop-fields.state (symbol_of P c.in-Some.name.now) c.in-Some.day u) same))
-    (so_far_more P c.args.fields.now c.loop-fields.fields c.weight.new.fields _ c.loop-fields.state c.loop-fields.invariant c.in-Some.ensures.value)
+    so_far_more P c.args.fields.now c.loop-fields.fields c.weight.new.fields _ c.loop-fields.state c.in_ok-state.state c.loop-fields.invariant c.in-Some.ensures.value
+    (subst (λ u. IsAdded c.loop-fields.state (symbol_of P c.in-Some.name.now) c.in-Some.day u c.in_ok-state.state) same c.in_ok-state.ensures)
 
 pub returns : goal.returns
 returns c = so_far_all c.args.problem.now _ c.loop-fields.fields c.loop-fields.state c.loop-fields.invariant c.loop-fields-test.ensures

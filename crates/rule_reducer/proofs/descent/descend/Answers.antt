@@ -15,4 +15,4 @@ loop-done-preserved c =
     let here : slice_get g.named (length g.named - 1 - c.loop-done.done) ≡ Some c.at-number.result =
     subst (λ l. slice_get l (length g.named - 1 - c.loop-done.done) ≡ Some c.at-number.result) same
     (subst (λ i. slice_get named i ≡ Some c.at-number.result) place c.at-number.ensures) in
-    descent_goes_on P g c.loop-done.log c.drop_rule.new.log c.loop-done.done c.at-number.result c.in_ok-drop_rule.field-0 c.loop-done.invariant less here c.in_ok-drop_rule.ensures
+    descent_goes_on P g c.loop-done.log c.drop_rule.new.log c.loop-done.done c.at-number.result c.loop-done.invariant less here c.in_ok-drop_rule.ensures
