@@ -25,7 +25,7 @@ use Rattle.refutation_terms.specs.declared.lines.LogRefusal.{LogRefusal}
 use Rattle.refutation_terms.specs.Log.{Log as LogValue}
 use Rattle.refutation_terms.specs.LogText.{log_text}
 use Rattle.refutation_terms.specs.Verdict.{IsAccepted, IsRefused}
-use Rattle.rwsp.specs.Commands.{Words, IsForm, HasNoForm, IsCount, greatest_budget, most_workers, problem_name, second_name}
+use Rattle.rwsp.specs.Commands.{Words, IsForm, HasNoForm, ReadsSecond, IsCount, greatest_budget, most_workers, problem_name, second_name}
 use Rattle.rwsp.specs.Inputs.{WhereTold, IsWithinLimit, IsTooLong, IsProblemOf}
 use Rattle.rwsp.specs.Plans.{IsPlanned}
 use Rattle.rwsp.specs.Answers.{IsAnswer, IsAnswerOn, IsAnswerTo, IsOfFile, IsOfRoster, IsOfLog, IsFileAnswer, IsRosterAnswer, IsLogAnswer, IsReduction}
@@ -334,11 +334,11 @@ one_reduction : (P : Instance) (told : Told) (a b : Answer) → KeepsLimits P �
 one_reduction P told a b limits (inl e) h k = absurd (at_missing told (IsReduction a P) e h)
 one_reduction P told a b limits (inr r) h k = one_reduction_end P r.0 a b limits (reduction_end P r.0 a (at_bytes told r.0 (IsReduction a P) r.1 h)) (reduction_end P r.0 b (at_bytes told r.0 (IsReduction b P) r.1 k))
 
-one_on : (command : Command) (P : Instance) (told : Told) (a b : Answer) → KeepsLimits P → IsThere told → IsAnswerOn command told P a → IsAnswerOn command told P b → (a ≡ b) ⊎ (IsOfSearch a × IsOfSearch b)
+one_on : (command : Command) (P : Instance) (told : Told) (a b : Answer) → KeepsLimits P → (ReadsSecond command → IsThere told) → IsAnswerOn command told P a → IsAnswerOn command told P b → (a ≡ b) ⊎ (IsOfSearch a × IsOfSearch b)
 one_on Show P told a b limits there h k = inl (h ∙ sym k)
-one_on Verify P told a b limits there h k = inl (one_roster_answer P told a b there h.1 k.1)
-one_on (Check workers) P told a b limits there h k = inl (one_log_answer P told a b limits there h.1 k.1)
-one_on Reduce P told a b limits there h k = inl (one_reduction P told a b limits there h.1 k.1)
+one_on Verify P told a b limits there h k = inl (one_roster_answer P told a b (there tt) h.1 k.1)
+one_on (Check workers) P told a b limits there h k = inl (one_log_answer P told a b limits (there tt) h.1 k.1)
+one_on Reduce P told a b limits there h k = inl (one_reduction P told a b limits (there tt) h.1 k.1)
 one_on (Plan budget) P told a b limits there h k = inr (found P budget a h, found P budget b k)
 
 -- two answers of the problem's file
@@ -387,7 +387,7 @@ not_by_itself decide file P a short spells (unread why s r e) = unread_by file P
 abbrev AtFile : Command → Told → List ℕ → Answer → Type 0
 AtFile command second file answer = IsWithinLimit Kinds.Problem file × ((P : Instance) × SpellsProblem file P × IsAnswerOn command second P answer)
 
-both_ends : TextsSpellOne → TextsSpellOrFail → (command : Command) (second : Told) (file : List ℕ) (a b : Answer) → IsThere second → FileEnd file a ⊎ AtFile command second file a → FileEnd file b ⊎ AtFile command second file b → (a ≡ b) ⊎ (IsOfSearch a × IsOfSearch b)
+both_ends : TextsSpellOne → TextsSpellOrFail → (command : Command) (second : Told) (file : List ℕ) (a b : Answer) → (ReadsSecond command → IsThere second) → FileEnd file a ⊎ AtFile command second file a → FileEnd file b ⊎ AtFile command second file b → (a ≡ b) ⊎ (IsOfSearch a × IsOfSearch b)
 both_ends one decide command second file a b there (inl x) (inl y) = inl (one_file_end file a b x y)
 both_ends one decide command second file a b there (inl x) (inr k) = absurd (not_by_itself decide file k.1.0 a k.0 k.1.1 x)
 both_ends one decide command second file a b there (inr h) (inl y) = absurd (not_by_itself decide file h.1.0 b h.0 h.1.1 y)
@@ -404,7 +404,7 @@ nothing_at : (command : Command) (held : List ℕ → Told) (words : Words) (a :
 nothing_at command held words a e (inl h) = at_missing (held (problem_name words)) (IsFileAnswer a) e h.1
 nothing_at command held words a e (inr h) = at_missing (held (problem_name words)) (λ f. AtFile command (held (second_name words)) f a) e h
 
-one_to : TextsSpellOne → TextsSpellOrFail → (command : Command) (held : List ℕ → Told) (words : Words) (a b : Answer) → IsThere (held (problem_name words)) → IsThere (held (second_name words)) → IsAnswerTo command held words a → IsAnswerTo command held words b → (a ≡ b) ⊎ (IsOfSearch a × IsOfSearch b)
+one_to : TextsSpellOne → TextsSpellOrFail → (command : Command) (held : List ℕ → Told) (words : Words) (a b : Answer) → IsThere (held (problem_name words)) → (ReadsSecond command → IsThere (held (second_name words))) → IsAnswerTo command held words a → IsAnswerTo command held words b → (a ≡ b) ⊎ (IsOfSearch a × IsOfSearch b)
 one_to one decide command held words a b (inl e) there h k = absurd (nothing_at command held words a e h)
 one_to one decide command held words a b (inr f) there h k = both_ends one decide command (held (second_name words)) f.0 a b there (ends_at command held words f.0 a f.1 h) (ends_at command held words f.0 b f.1 k)
 
@@ -414,7 +414,7 @@ one_answer one decide held words a b told (inl h) (inr k) = absurd (h.0 k.0 k.1)
 one_answer one decide held words a b told (inr h) (inl k) = absurd (k.0 h.0 h.1)
 one_answer one decide held words a b told (inr h) (inr k) =
     let same : k.0 ≡ h.0 = one_form words k.0 h.0 k.1 h.1 in
-    one_to one decide h.0 held words a b (there_by (held (problem_name words)) told.0) (there_by (held (second_name words)) told.1) h.2 (subst (λ (c : Command). IsAnswerTo c held words b) same k.2)
+    one_to one decide h.0 held words a b (there_by (held (problem_name words)) told.0) (λ reads. there_by (held (second_name words)) (told.1 h.0 h.1 reads)) h.2 (subst (λ (c : Command). IsAnswerTo c held words b) same k.2)
 
 -- the answers over a file that spells an instance
 
@@ -448,5 +448,5 @@ one_text one held words a text other told (inl h) (inl k) = h.1 any_instance ∙
 one_text one held words a text other told (inl h) (inr k) = h.1 k.0 ∙ sym k.2
 one_text one held words a text other told (inr h) (inl k) = h.2 ∙ sym (k.1 h.0)
 one_text one held words a text other told (inr h) (inr k) =
-    let same : h.0 ≡ k.0 = same_problem one held words h.0 k.0 (there_by (held (problem_name words)) told.0) h.1 k.1 in
+    let same : h.0 ≡ k.0 = same_problem one held words h.0 k.0 (there_by (held (problem_name words)) told) h.1 k.1 in
     h.2 ∙ ap (λ (P : Instance). text_of P a) same ∙ sym k.2
