@@ -3,4 +3,6 @@ pub mod Replies
 pub mod Logs
 pub mod Plans
 pub mod Reductions
+pub mod Forms
+pub mod Ends
 pub mod OneAnswer

@@ -1,14 +1,12 @@
 -- What is said of logs, and what of them is printed.
-use Rattle.std.proofs.Common.{◌≡◌, ℕ, ◌≤◌, ◌<◌, ◌^◌, ◌+◌, ◌%◌, List, [], ◌∷◌, length, subst, arith, inl, inr, sym, ap, ◌∙◌, refl, IsTrue}
-use Rattle.std.specs.Prelude.{◌⊎◌, All, Result, Ok, Err, IfOk, Option, nat_le, take}
+use Rattle.std.proofs.Common.{◌≡◌, ℕ, ◌≤◌, ◌+◌, ◌%◌, List, [], ◌∷◌, length, subst, inl, inr, sym, IsTrue}
+use Rattle.std.specs.Prelude.{All, Result, Option, nat_le, take}
 use Rattle.std.proofs.lemmas.Bool.{leb-true}
 use Rattle.std.proofs.lemmas.List.Elements.{All-nil, All-cons}
 use Rattle.rwsp_terms.specs.declared.data.Symbol.{Symbol}
 use Rattle.rwsp_terms.specs.Instance.{Instance, cells, shift_count, IsSymbol}
-use Rattle.rwsp_terms.specs.Rules.{rules, Meets as MeetsRules}
+use Rattle.rwsp_terms.specs.Rules.{Meets as MeetsRules}
 use Rattle.rwsp_model.specs.Validity.{KeepsLimits}
-use Rattle.rwsp_model.proofs.Limits.{valid_keeps}
-use Rattle.rwsp_model.proofs.Numbering.{rules_are_many}
 use Rattle.refutation_terms.specs.declared.lines.Line.{Line}
 use Rattle.refutation_terms.specs.declared.lines.Line.TheVariants.{Split, Window, Day, Dead, Bound, Unfinished}
 use Rattle.refutation_terms.specs.declared.lines.Turn.{Turn}
@@ -17,17 +15,16 @@ use Rattle.refutation_terms.specs.declared.lines.LogRefusal.TheVariants as Refus
 use Rattle.refutation_terms.specs.Word.{Domains, Over}
 use Rattle.refutation_terms.specs.Tree.{domains_at, opening, turn_leaves, lines_leave}
 use Rattle.refutation_terms.specs.Log.{Log}
-use Rattle.refutation_terms.specs.LogText.{log_text}
-use Rattle.refutation_terms.specs.TextLaws.{IsWritable, HasNames}
-use Rattle.refutation_terms.specs.Verdict.{Escapes, TreeCause, Cause, Front, Start, Versioned, BeforeTurn, Reading, IsRefused, IsAccepted, IsVerdict}
+use Rattle.refutation_terms.specs.Verdict.{Escapes, Cause, Front, Start, Versioned, BeforeTurn, Reading, IsRefused, IsAccepted, IsVerdict}
 use Rattle.refutation_terms.proofs.Tests.{left_of}
 use Rattle.refutation_terms.proofs.Sound.{passing_leaves_none}
 use Rattle.refutation_terms.proofs.Unique.{verdict_unique}
-use Rattle.refutation_log.proofs.OneText.{symbol_named, name_there, has_names, is_writable}
+use Rattle.refutation_log.proofs.OneText.{has_names, is_writable}
 use Rattle.rwsp.specs.Inputs.{IsWithinLimit}
 use Rattle.rwsp.specs.Plans.{IsPlanned}
-use Rattle.rwsp.specs.Answers.{IsLogAnswer, LeavesNoRoster}
+use Rattle.rwsp.specs.Answers.{IsLogAnswer}
 use Rattle.rwsp.specs.Texts.{IsPrintable, HasSymbols}
+use Rattle.rwsp.specs.Laws.{IsOfSearch}
 use Rattle.rwsp.specs.declared.answer.InputKind.TheVariants as Kinds
 use Rattle.rwsp.specs.declared.answer.Answer.{Answer}
 use Rattle.rwsp.specs.declared.answer.Answer.TheVariants.{Roster, NoRoster, Undecided, Accepted, LogRefused, Reduced, Meets, Shown, Breaks, RosterRefused, Usage, FileRefused, TooLong}
@@ -77,22 +74,24 @@ printable P bytes Refusals.Ends h = tt
 printable P bytes (Refusals.Extra n) h = tt
 printable P bytes (Refusals.Turn n) h = tt
 
-pub planned_printable : (P : Instance) (budget : ℕ) (a : Answer) → IsPlanned P budget a → IsPrintable P a
-planned_printable P budget (Roster s) h = (h.0, h.1.is_roster)
-planned_printable P budget (NoRoster g) h = h.0.grounded.fits
-planned_printable P budget (Undecided g) h = h.0.grounded.fits
-planned_printable P budget (Accepted R) h = absurd h
-planned_printable P budget (LogRefused why) h = absurd h
-planned_printable P budget (Reduced g) h = absurd h
-planned_printable P budget Meets h = absurd h
-planned_printable P budget Shown h = absurd h
-planned_printable P budget (Breaks broken) h = absurd h
-planned_printable P budget (RosterRefused why) h = absurd h
-planned_printable P budget Usage h = absurd h
-planned_printable P budget (FileRefused why) h = absurd h
-planned_printable P budget (TooLong kind) h = absurd h
+-- what `plan` answers a search gives, and what it names is the instance's
+pub planned_is : (P : Instance) (budget : ℕ) (a : Answer) → IsPlanned P budget a → IsOfSearch a × IsPrintable P a
+planned_is P budget (Roster s) h = (tt, (h.0, h.1.is_roster))
+planned_is P budget (NoRoster g) h = (tt, h.0.grounded.fits)
+planned_is P budget (Undecided g) h = (tt, h.0.grounded.fits)
+planned_is P budget (Accepted R) h = absurd h
+planned_is P budget (LogRefused why) h = absurd h
+planned_is P budget (Reduced g) h = absurd h
+planned_is P budget Meets h = absurd h
+planned_is P budget Shown h = absurd h
+planned_is P budget (Breaks broken) h = absurd h
+planned_is P budget (RosterRefused why) h = absurd h
+planned_is P budget Usage h = absurd h
+planned_is P budget (FileRefused why) h = absurd h
+planned_is P budget (TooLong kind) h = absurd h
 
--- what the limits say of texts
+pub planned_printable : (P : Instance) (budget : ℕ) (a : Answer) → IsPlanned P budget a → IsPrintable P a
+planned_printable P budget a h = (planned_is P budget a h).1
 
 -- a text has one verdict
 pub one_verdict : (P : Instance) (text : List ℕ) (a b : Result Log LogRefusal) → KeepsLimits P → IsVerdict P text a → IsVerdict P text b → a ≡ b

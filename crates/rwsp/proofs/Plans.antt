@@ -1,6 +1,6 @@
 -- From what a search finds to what `plan` says.
-use Rattle.std.proofs.Common.{◌≡◌, ℕ, ◌+◌, ◌*◌, ◌^◌, ◌<◌, ap, sym, ◌∙◌, subst, arith, Some, Option, Bool, ◌&&◌}
-use Rattle.std.specs.Prelude.{◌↔◌, slice_get}
+use Rattle.std.proofs.Common.{ℕ, ◌+◌, ◌*◌, ◌^◌, ◌<◌, ap, sym, ◌∙◌, subst, Option, Bool, ◌&&◌}
+use Rattle.std.specs.Prelude.{◌↔◌}
 use Rattle.rwsp_terms.specs.declared.data.Symbol.{Symbol}
 use Rattle.rwsp_terms.specs.Instance.{Instance, cells, shift_count}
 use Rattle.rwsp_model.specs.Validity.{KeepsLimits}

@@ -1,22 +1,19 @@
 -- A log has one reduction, and what is read and passes is not refused.
-use Rattle.std.proofs.Common.{◌≡◌, ◌≤◌, length, ℕ, zero, suc, List, [], ◌∷◌, sym, ◌∙◌, subst, inl, inr}
-use Rattle.std.specs.Prelude.{◌≢◌, ◌⊎◌, reverse, Err}
+use Rattle.std.proofs.Common.{◌≡◌, ℕ, zero, suc, List, [], ◌∷◌, sym, ◌∙◌, subst, inl, inr}
+use Rattle.std.specs.Prelude.{reverse, Err}
 use Rattle.rwsp_terms.specs.Instance.{Instance}
 use Rattle.rwsp_model.specs.Validity.{KeepsLimits}
 use Rattle.rwsp_model.specs.Refusals.{MatchAnswer}
 use Rattle.rwsp_model.specs.declared.fail.Fail.{Fail}
 use Rattle.rwsp_model.specs.declared.fail.Fail.TheVariants.{Refused}
 use Rattle.refutation_terms.specs.declared.lines.LogRefusal.{LogRefusal}
-use Rattle.refutation_terms.specs.Log.{Log, Passes}
+use Rattle.refutation_terms.specs.Log.{Log}
 use Rattle.refutation_terms.specs.Strip.{strip, StripsTo, DescendsTo, ReducesIn, IsReduced}
 use Rattle.refutation_terms.specs.LogText.{log_text}
 use Rattle.refutation_terms.specs.Verdict.{IsAccepted, IsRefused}
 use Rattle.refutation_log.specs.ReadLog.{IsUnread}
 use Rattle.refutation_log.proofs.NotRefused.{not_refused}
-use Rattle.rule_reducer.specs.Needs.{NeedsEach, NeedsTogether}
-use Rattle.rwsp.specs.Answers.{IsReduction}
 use Rattle.rwsp.specs.Texts.{HasSymbols}
-use Rattle.rwsp.specs.declared.answer.Answer.TheVariants.{Reduced, LogRefused}
 use Rattle.rwsp.proofs.Logs.{printable}
 
 -- going through some rules ends with one log
@@ -42,13 +39,6 @@ one_reduced P g h k a b = one_after P a.0 b.0 g h k a.1 b.1
 -- what passes is read
 pub passes_and_is_unread : (P : Instance) (bytes : List ℕ) (g : Log) (why : LogRefusal) → KeepsLimits P → IsAccepted P bytes g → IsUnread P bytes why → ⊥
 passes_and_is_unread P bytes g why limits a u = not_refused P g why limits a.1.grounded.fits a.1.tree (subst (λ (text : List ℕ). IsUnread P text why) a.0 u)
-
--- what is said of the text of a log that was read
-pub reduced : (P : Instance) (bytes : List ℕ) (g h : Log) → length bytes ≤ 536870912 → bytes ≡ log_text P g → Passes P g → IsReduced P g h → Passes P h → NeedsEach P h → NeedsTogether P h → IsReduction (Reduced h) P bytes
-reduced P bytes g h short e passes r p each together = (short, (g, (e, passes), r), record { passes = p; each = each; together = together })
-
-pub refused_text : (P : Instance) (bytes : List ℕ) (g : Log) (why : LogRefusal) → length bytes ≤ 536870912 → bytes ≡ log_text P g → IsRefused P (log_text P g) why → IsReduction (LogRefused why) P bytes
-refused_text P bytes g why short e h = (short, subst (λ (text : List ℕ). IsRefused P text why) (sym e) h)
 
 pub printable_text : (P : Instance) (g : Log) (fail : Fail LogRefusal) (why : LogRefusal) (Q : Log → Type 0) → fail ≡ Refused why → MatchAnswer (Err fail) Q (IsRefused P (log_text P g)) → HasSymbols P why
 printable_text P g fail why Q e h = printable P (log_text P g) why (subst (λ (f : Fail LogRefusal). MatchAnswer (Err f) Q (IsRefused P (log_text P g))) e h)

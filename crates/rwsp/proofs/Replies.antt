@@ -1,13 +1,12 @@
 -- From what the parts of a run found to what its answer says.
-use Rattle.std.proofs.Common.{◌≡◌, ℕ, ◌≤◌, List, subst, arith, inl, inr, sym}
-use Rattle.std.specs.Prelude.{Result, Ok, Err, IfOk}
+use Rattle.std.proofs.Common.{◌≡◌, ℕ, ◌≤◌, List, subst, arith, inr}
 use Rattle.rwsp_io.specs.Told.{Told, Silent, Missing, Bytes, Rose}
 use Rattle.rwsp_terms.specs.Instance.{Instance}
 use Rattle.rwsp_file.specs.Spelling.{SpellsProblem}
 use Rattle.rwsp.specs.Commands.{Words, IsForm, ReadsSecond, problem_name, second_name}
 use Rattle.rwsp.specs.Inputs.{WhereTold, IsWithinLimit, OfProblem, IsProblemOf}
-use Rattle.rwsp.specs.Answers.{IsAnswer, IsAnswerOn, IsOfFile, IsFileAnswer, IsReadFault}
-use Rattle.rwsp.specs.Texts.{IsTextOf, HasFixedText, text_of}
+use Rattle.rwsp.specs.Answers.{IsAnswer, IsAnswerOn, IsReadFault}
+use Rattle.rwsp.specs.Texts.{IsTextOf, text_of}
 use Rattle.rwsp.specs.declared.command.Command.{Command}
 use Rattle.rwsp.specs.declared.answer.InputKind.TheVariants as Kinds
 use Rattle.rwsp.specs.declared.answer.Answer.{Answer}
@@ -27,13 +26,6 @@ problem_of held words P h = told_weaker (held (problem_name words)) (λ file. Is
 of_problem : (held : List ℕ → Told) (words : Words) (P : Instance) (Q : Instance → Type 0) → IsRead held words P → Q P → OfProblem held words Q
 of_problem held words P Q h q = told_weaker (held (problem_name words)) (λ file. IsWithinLimit Kinds.Problem file × SpellsProblem file P) (λ file. IsWithinLimit Kinds.Problem file × ((P : Instance) × SpellsProblem file P × Q P)) (λ file k. (k.0, (P, k.1, q))) h
 
--- an answer of the file by itself
-pub file_answer : (held : List ℕ → Told) (words : Words) (command : Command) (answer : Answer) → IsForm words command → IsOfFile answer → WhereTold (held (problem_name words)) (IsFileAnswer answer) → IsAnswer held words answer
-file_answer held words command answer form kind h = inr (command, form, inl (kind, h))
-
-pub fixed_text_of : (held : List ℕ → Told) (words : Words) (answer : Answer) (text : List ℕ) → HasFixedText answer → ((P : Instance) → text ≡ text_of P answer) → IsTextOf held words answer text
-fixed_text_of held words answer text fixed h = inl (fixed, h)
-
 -- an answer on a problem that was read
 pub job_answer : (held : List ℕ → Told) (words : Words) (command : Command) (P : Instance) (answer : Answer) (told : Told) → IsForm words command → IsRead held words P → told ≡ held (second_name words) → IsAnswerOn command told P answer → IsAnswer held words answer
 job_answer held words command P answer told form read same h =
@@ -49,11 +41,3 @@ rose_since before later now h rose = omega arith
 pub second_fault : (held : List ℕ → Told) (before later now : List ℕ → ℕ) (words : Words) (command : Command) (P : Instance) → IsForm words command → ReadsSecond command → IsRead held words P → before (second_name words) ≤ later (second_name words) → Rose (later (second_name words)) (now (second_name words)) → IsReadFault held before now words
 second_fault held before later now words command P form reads read le rose =
     (command, form, inr (reads, of_problem held words P (λ _. Rose (before (second_name words)) (now (second_name words))) read (rose_since _ _ _ le rose)))
-
-pub file_fault : (held : List ℕ → Told) (before now : List ℕ → ℕ) (words : Words) (command : Command) → IsForm words command → Rose (before (problem_name words)) (now (problem_name words)) → IsReadFault held before now words
-file_fault held before now words command form rose = (command, form, inl rose)
-
--- what follows from two facts of an Ok
-pub both_ok : {T E : Type 0} (r : Result T E) (P Q R : T → Type 0) → ((x : T) → P x → Q x → R x) → IfOk r P → IfOk r Q → IfOk r R
-both_ok (Ok x) P Q R f p q = f x p q
-both_ok (Err e) P Q R f p q = tt

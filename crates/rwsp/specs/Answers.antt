@@ -1,5 +1,5 @@
 -- What each answer says.
-use Rattle.std.specs.Prelude.{◌≡◌, ◌⊎◌, ℕ, ◌<◌, ◌≤◌, List, Some}
+use Rattle.std.specs.Prelude.{◌≡◌, ◌⊎◌, ℕ, List, Some}
 use Rattle.rwsp_io.specs.Told.{Told, Rose}
 use Rattle.rwsp_terms.specs.Instance.{Instance}
 use Rattle.rwsp_terms.specs.Roster.{MeetsAll}
@@ -89,13 +89,25 @@ IsOfReduction (LogRefused why) = Unit {0}
 IsOfReduction (Reduced g) = Unit {0}
 IsOfReduction answer = ⊥
 
+-- an answer that the second file of a command has
+abbrev pub IsOfSecond : Command → Answer → Type 0
+IsOfSecond Verify answer = IsOfRoster answer
+IsOfSecond (Check workers) answer = IsOfLog answer
+IsOfSecond Reduce answer = IsOfReduction answer
+IsOfSecond command answer = ⊥
+
+-- what the answer to a command says of an instance and the bytes of the second file
+abbrev pub IsSecondAnswer : Command → Answer → Instance → List ℕ → Type 0
+IsSecondAnswer Verify answer P bytes = IsRosterAnswer answer P bytes
+IsSecondAnswer (Check workers) answer P bytes = IsLogAnswer answer P bytes
+IsSecondAnswer Reduce answer P bytes = IsReduction answer P bytes
+IsSecondAnswer command answer P bytes = ⊥
+
 -- what the answer to a command says of the instance that the first file spells, and of what the second file tells
 abbrev pub IsAnswerOn : Command → Told → Instance → Answer → Type 0
 IsAnswerOn Show told P answer = answer ≡ Shown
-IsAnswerOn Verify told P answer = IsOfRoster answer × WhereTold told (IsRosterAnswer answer P)
-IsAnswerOn (Check workers) told P answer = IsOfLog answer × WhereTold told (IsLogAnswer answer P)
-IsAnswerOn Reduce told P answer = IsOfReduction answer × WhereTold told (IsReduction answer P)
 IsAnswerOn (Plan budget) told P answer = IsPlanned P budget answer
+IsAnswerOn command told P answer = IsOfSecond command answer × WhereTold told (IsSecondAnswer command answer P)
 
 -- the problem's file ends the job, or it spells an instance and the command has this answer there
 abbrev pub IsAnswerTo : Command → (List ℕ → Told) → Words → Answer → Type 0

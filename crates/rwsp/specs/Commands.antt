@@ -54,14 +54,20 @@ ReadsSecond Reduce = Unit {0}
 ReadsSecond (Check workers) = Unit {0}
 ReadsSecond command = ⊥
 
-abbrev pub bytes_in : Option (String Global) → List ℕ
-bytes_in None = []
-bytes_in (Some word) = string_bytes word
+-- the workers of the command, where it has some, are from one to the most that may be
+abbrev pub HasFewWorkers : Command → Type 0
+HasFewWorkers (Check workers) = (1 ≤ workers) × (workers ≤ most_workers)
+HasFewWorkers command = Unit {0}
+
+-- the bytes of a word, where there is one
+abbrev pub word_bytes : Option (String Global) → List ℕ
+word_bytes None = []
+word_bytes (Some word) = string_bytes word
 
 -- the name of the problem's file
 abbrev pub problem_name : Words → List ℕ
-problem_name words = bytes_in (slice_get words 1)
+problem_name words = word_bytes (slice_get words 1)
 
 -- the name of the second file
 abbrev pub second_name : Words → List ℕ
-second_name words = bytes_in (slice_get words 2)
+second_name words = word_bytes (slice_get words 2)

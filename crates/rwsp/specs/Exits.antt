@@ -5,23 +5,22 @@ use Rattle.rwsp.specs.Inputs.{WhereTold, IsTooLong}
 use Rattle.rwsp.specs.Answers.{IsFileAnswer, IsOfFile}
 use Rattle.rwsp.specs.declared.answer.InputKind.{InputKind}
 use Rattle.rwsp.specs.declared.answer.Answer.TheVariants.{TooLong}
+use Rattle.rwsp.specs.declared.answer.Stop.{Stop}
+use Rattle.rwsp.specs.declared.answer.Stop.TheVariants.{ReadFault, Memory}
 use Rattle.rwsp.specs.declared.input.Exit.{Exit}
-use Rattle.rwsp.specs.declared.input.Exit.TheVariants.{Answer as Answers, ReadFault, Memory}
+use Rattle.rwsp.specs.declared.input.Exit.TheVariants.{Answer as Answers, Stop as Stops}
+
+-- a stop at a file whose count has risen, or for want of memory
+abbrev pub IsStop : Type 0 → Stop → Type 0
+IsStop rose ReadFault = rose
+IsStop rose Memory = Unit {0}
 
 -- while a file was read: the file is too long, or its count has risen
 abbrev pub IsReadExit : Told → Type 0 → InputKind → Exit → Type 0
 IsReadExit told rose kind (Answers answer) = (answer ≡ TooLong kind) × WhereTold told (IsTooLong kind)
-IsReadExit told rose kind ReadFault = rose
-IsReadExit told rose kind Memory = Unit {0}
+IsReadExit told rose kind (Stops stop) = IsStop rose stop
 
 -- while a problem was read
 abbrev pub IsProblemExit : Told → Type 0 → Exit → Type 0
 IsProblemExit told rose (Answers answer) = IsOfFile answer × WhereTold told (IsFileAnswer answer)
-IsProblemExit told rose ReadFault = rose
-IsProblemExit told rose Memory = Unit {0}
-
--- while the second file was read
-abbrev pub IsSecondExit : Type 0 → Exit → Type 0
-IsSecondExit rose (Answers answer) = ⊥
-IsSecondExit rose ReadFault = rose
-IsSecondExit rose Memory = Unit {0}
+IsProblemExit told rose (Stops stop) = IsStop rose stop

@@ -4,6 +4,8 @@ use Rattle.rwsp_io.specs.Told.{Told, Silent, Missing, Bytes}
 use Rattle.rwsp_terms.specs.Instance.{Instance}
 use Rattle.rwsp_file.specs.Spelling.{SpellsProblem}
 use Rattle.rwsp.specs.Commands.{Words, problem_name}
+use Rattle.rwsp.specs.declared.command.Command.{Command}
+use Rattle.rwsp.specs.declared.command.Command.TheVariants.{Verify}
 use Rattle.rwsp.specs.declared.answer.InputKind.{InputKind}
 use Rattle.rwsp.specs.declared.answer.InputKind.TheVariants.{Problem, Roster, Log}
 
@@ -18,6 +20,11 @@ abbrev pub longest : InputKind → ℕ
 longest Problem = 1048576
 longest Roster = 1048576
 longest Log = 536870912
+
+-- the kind of a command's second file
+abbrev pub second_kind : Command → InputKind
+second_kind Verify = Roster
+second_kind command = Log
 
 -- at most as long as its kind may be
 abbrev pub IsWithinLimit : InputKind → List ℕ → Type 0

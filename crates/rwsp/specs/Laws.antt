@@ -1,10 +1,10 @@
 -- What answers fit a command line over files that are told.
-use Rattle.std.specs.Prelude.{◌≡◌, ◌≢◌, ◌⊎◌, ℕ, List, Ok}
+use Rattle.std.specs.Prelude.{◌≡◌, ◌≢◌, ◌⊎◌, ℕ, List}
 use Rattle.rwsp_io.specs.Told.{Told, Silent, Bytes}
 use Rattle.rwsp_terms.specs.Instance.{Instance}
 use Rattle.rwsp_file.specs.Spelling.{SpellsProblem}
 use Rattle.refutation_terms.specs.Log.{Log}
-use Rattle.rwsp.specs.Commands.{Words, IsForm, problem_name, second_name}
+use Rattle.rwsp.specs.Commands.{Words, IsForm, ReadsSecond, problem_name, second_name}
 use Rattle.rwsp.specs.Inputs.{IsWithinLimit}
 use Rattle.rwsp.specs.Plans.{IsPlanned}
 use Rattle.rwsp.specs.Answers.{IsAnswer, IsAnswerOn, IsOfLog, IsLogAnswer}
@@ -14,9 +14,10 @@ use Rattle.rwsp.specs.declared.answer.InputKind.TheVariants as Kinds
 use Rattle.rwsp.specs.declared.answer.Answer.{Answer}
 use Rattle.rwsp.specs.declared.answer.Answer.TheVariants.{Roster, NoRoster, Undecided, Accepted}
 
--- the shelf tells what both files hold, or that they aren't there
+-- the shelf tells what the problem's file holds, or that it isn't there; and so for the second file, where the words are a form of a
+-- command that reads one
 abbrev pub AreTold : (List ℕ → Told) → Words → Type 0
-AreTold held words = (held (problem_name words) ≢ Silent) × (held (second_name words) ≢ Silent)
+AreTold held words = (held (problem_name words) ≢ Silent) × ((command : Command) → IsForm words command → ReadsSecond command → held (second_name words) ≢ Silent)
 
 -- an answer that a search gives, which is free to choose among those that are right
 abbrev pub IsOfSearch : Answer → Type 0
@@ -34,7 +35,7 @@ AnswersAreOne =
 -- an answer has one text
 abbrev pub TextsAreOne : Type 0
 TextsAreOne =
-    (held : List ℕ → Told) (words : Words) (a : Answer) (text other : List ℕ) → AreTold held words → IsTextOf held words a text → IsTextOf held words a other
+    (held : List ℕ → Told) (words : Words) (a : Answer) (text other : List ℕ) → held (problem_name words) ≢ Silent → IsTextOf held words a text → IsTextOf held words a other
     → text ≡ other
 
 -- where the words are a form of a command and the first file spells an instance, an answer is one of the command's there

@@ -6,6 +6,7 @@ use roster_checker::Broken;
 use roster_print::RosterRefusal;
 use rwsp_file::FileRefusal;
 use rwsp_model::{Roster, RuleList};
+use std::alloc::AllocError;
 
 /// Which input is too long.
 #[derive(Clone, Copy, Debug, PartialEq, Eq)]
@@ -44,6 +45,25 @@ pub enum Answer {
     FileRefused(FileRefusal),
     /// A file is longer than its kind may be.
     TooLong(InputKind),
+}
+
+/// Why there is no answer.
+#[derive(Clone, Copy, Debug, PartialEq, Eq)]
+pub enum Stop {
+    /// A file could not be read.
+    ReadFault,
+    /// There was no memory.
+    Memory,
+}
+
+impl From<AllocError> for Stop {
+    ghost use Rattle.rwsp.specs.declared.answer.Stop.{Stop};
+
+    ghost from_gives = { λ _ s. s ≡ Stop.Memory };
+
+    fn from(_: AllocError) -> Stop {
+        Stop::Memory
+    }
 }
 
 /// How a run ended.

@@ -1,7 +1,10 @@
 // Whether a log passes.
-ghost use Rattle.std.specs.Prelude.{◌≤◌, length, IfOk};
+ghost use Rattle.std.specs.Prelude.{◌≤◌, IfOk};
+ghost use Rattle.rwsp.specs.Commands.{most_workers};
+ghost use Rattle.rwsp.specs.Inputs.{IsWithinLimit};
 ghost use Rattle.rwsp.specs.Answers.{IsLogAnswer, IsOfLog};
 ghost use Rattle.rwsp.specs.Texts.{IsPrintable};
+ghost use Rattle.rwsp.specs.declared.answer.InputKind.TheVariants as Kinds;
 
 use crate::answer::Answer;
 use potential_bounds::Gate;
@@ -20,8 +23,8 @@ pub fn log_verdict<R: Threads + Sync, G: Gate>(
     workers: u32,
     gate: &G,
 ) -> Result<Answer, AllocError>
-    requires short { length bytes.now ≤ 536870912 }
-    requires workers { (1 ≤ workers) × (workers ≤ 64) }
+    requires short { IsWithinLimit Kinds.Log bytes.now }
+    requires workers { (1 ≤ workers) × (workers ≤ most_workers) }
     ensures answer { IfOk result (λ a. IsLogAnswer a problem.now bytes.now) }
     ensures kind { IfOk result IsOfLog }
     ensures printable { IfOk result (IsPrintable problem.now) }

@@ -1,6 +1,6 @@
 // The words of the command line.
-ghost use Rattle.std.specs.Prelude.{◌≡◌, ◌≢◌, ℕ, ◌<◌, ◌≤◌, ◌↔◌, List, [], ◌∷◌, length, IsTrue, MatchOption, slice_get};
-ghost use Rattle.rwsp.specs.Commands.{IsFileWord, IsCount, IsForm, HasNoForm, bytes_in, usual_budget, greatest_budget, usual_workers, most_workers};
+ghost use Rattle.std.specs.Prelude.{◌≡◌, ℕ, ◌<◌, ◌↔◌, [], ◌∷◌, length, IsTrue, MatchOption, slice_get};
+ghost use Rattle.rwsp.specs.Commands.{IsFileWord, IsCount, IsForm, HasNoForm, word_bytes};
 
 use rwsp_text::number;
 
@@ -144,7 +144,7 @@ fn check_by_option(
 /// The word at a place, counted from 0.
 pub fn word_at(words: &Vec<String>, place: usize) -> &str
     requires { place < length words.now.items }
-    ensures { result.now ≡ bytes_in (slice_get words.now.items place) }
+    ensures { result.now ≡ word_bytes (slice_get words.now.items place) }
 {
     words[place].as_str()
 }

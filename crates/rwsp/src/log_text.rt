@@ -12,11 +12,11 @@ use rwsp_model::{Problem, RuleList, Symbol};
 use rwsp_text::put_number;
 use std::alloc::{AllocError, Global};
 
-// Appends a number behind a blank.
-fn put_after_blank(out: &mut Vec<u8>, number: u32) -> Result<(), AllocError>
-    ensures { OnOk result (out.new.items ≡ out.old.items ++ 32 ∷ decimal number) }
+/// Appends a label and a number.
+pub fn put_labelled(out: &mut Vec<u8>, label: &[u8], number: u32) -> Result<(), AllocError>
+    ensures { OnOk result (out.new.items ≡ out.old.items ++ label.now ++ decimal number) }
 {
-    out.push(b' ')?;
+    out.extend_from_slice(label)?;
     put_number(out, u64::from(number))
 }
 
@@ -26,7 +26,7 @@ fn put_numbers(out: &mut Vec<u8>, numbers: &[u32]) -> Result<(), AllocError>
     ensures { OnOk result (out.new.items ≡ out.old.items ++ flat_map (λ k. 32 ∷ decimal k) numbers.now) }
 {
     for number in numbers {
-        put_after_blank(out, *number)?;
+        put_labelled(out, b" ".as_slice(), *number)?;
     }
     Ok(())
 }
@@ -47,18 +47,15 @@ fn put_line_number(out: &mut Vec<u8>, label: &[u8], number: u32) -> Result<(), A
     ensures { OnOk result (out.new.items ≡ out.old.items ++ at_line label.now number) }
 {
     out.extend_from_slice(label)?;
-    out.extend_from_slice(b" line ".as_slice())?;
-    put_number(out, u64::from(number))
+    put_labelled(out, b" line ".as_slice(), number)
 }
 
 // Appends a label that names a rule, and the number of the line.
 fn put_rule_line(out: &mut Vec<u8>, label: &[u8], rule: u32, number: u32) -> Result<(), AllocError>
     ensures { OnOk result (out.new.items ≡ out.old.items ++ at_line (label.now ++ decimal rule) number) }
 {
-    out.extend_from_slice(label)?;
-    put_number(out, u64::from(rule))?;
-    out.extend_from_slice(b" line ".as_slice())?;
-    put_number(out, u64::from(number))
+    put_labelled(out, label, rule)?;
+    put_labelled(out, b" line ".as_slice(), number)
 }
 
 // Appends the refusal without its LF.

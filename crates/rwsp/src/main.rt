@@ -10,11 +10,13 @@ mod log_text;
 mod plan;
 mod reduce;
 mod run;
+mod second;
 #[cfg(test)]
 mod tests;
 mod text;
 mod verify;
 
+use answer::Outcome;
 use potential_bounds::NoGate;
 use rwsp_io::{RealShelf, RealSink};
 use std::env;
@@ -24,19 +26,17 @@ use std::process::ExitCode;
 /// The status where a word of the command line is no text.
 const NO_TEXT: u8 = 9;
 
-/// The status where there is no memory for the words.
-const NO_MEMORY: u8 = 8;
-
 fn main(rt: HostRuntime) -> ExitCode {
+    let no_memory = Outcome::Memory.status();
     let all = match env::args(&rt) {
         Ok(all) => all,
-        Err(error) if error.kind() == ErrorKind::OutOfMemory => return ExitCode::from(NO_MEMORY),
+        Err(error) if error.kind() == ErrorKind::OutOfMemory => return ExitCode::from(no_memory),
         Err(_) => return ExitCode::from(NO_TEXT),
     };
     let mut words = Vec::new(rt.alloc());
     for (i, word) in all.enumerate() {
         if i > 0 && words.push(word).is_err() {
-            return ExitCode::from(NO_MEMORY);
+            return ExitCode::from(no_memory);
         }
     }
     let mut shelf = RealShelf::new(&rt);

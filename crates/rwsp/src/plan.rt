@@ -5,6 +5,7 @@ ghost use Rattle.refutation_terms.specs.declared.lines.Line.TheVariants.{Window,
 ghost use Rattle.refutation_terms.specs.Log.{LineFits};
 ghost use Rattle.domain_store.specs.Store.{Store, has_domain};
 ghost use Rattle.propagators.specs.Days.{IsDaySpent};
+ghost use Rattle.rwsp.specs.Commands.{greatest_budget};
 ghost use Rattle.rwsp.specs.Plans.{IsPlanned, answer_of};
 
 use crate::answer::Answer;
@@ -17,7 +18,7 @@ use std::alloc::{AllocError, Global};
 
 /// What the search finds within the budget. Where a shift is demanded, the first one on the first such day stands there in week 1.
 pub fn planned(alloc: Global, problem: &Problem, budget: u32) -> Result<Answer, AllocError>
-    requires { (1 ≤ budget) × (budget ≤ 200000) }
+    requires { (1 ≤ budget) × (budget ≤ greatest_budget) }
     ensures { IfOk result (IsPlanned problem.now budget) }
 {
     problem.keeps_limits();

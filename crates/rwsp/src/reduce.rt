@@ -1,12 +1,13 @@
 // A log without the rules that it can do without.
-ghost use Rattle.std.specs.Prelude.{◌≡◌, ◌≤◌, ℕ, List, length, IfOk};
-ghost use Rattle.refutation_terms.specs.Tree.{IsTree};
+ghost use Rattle.std.specs.Prelude.{◌≡◌, IfOk};
 ghost use Rattle.refutation_terms.specs.Log.{Fits};
 ghost use Rattle.refutation_terms.specs.LogText.{log_text};
 ghost use Rattle.refutation_terms.specs.declared.lines.LogRefusal.{LogRefusal as Why};
 ghost use Rattle.refutation_log.specs.ReadLog.{IsUnread};
+ghost use Rattle.rwsp.specs.Inputs.{IsWithinLimit};
 ghost use Rattle.rwsp.specs.Answers.{IsReduction, IsOfReduction};
 ghost use Rattle.rwsp.specs.Texts.{IsPrintable};
+ghost use Rattle.rwsp.specs.declared.answer.InputKind.TheVariants as Kinds;
 
 use crate::answer::Answer;
 use potential_bounds::Gate;
@@ -28,7 +29,7 @@ pub fn reduction<R: Threads + Sync, G: Gate>(
     bytes: &[u8],
     gate: &G,
 ) -> Result<Answer, AllocError>
-    requires { length bytes.now ≤ 536870912 }
+    requires { IsWithinLimit Kinds.Log bytes.now }
     ensures answer { IfOk result (λ a. IsReduction a problem.now bytes.now) }
     ensures kind { IfOk result IsOfReduction }
     ensures printable { IfOk result (IsPrintable problem.now) }
@@ -42,7 +43,7 @@ pub fn reduction<R: Threads + Sync, G: Gate>(
 
 // The log that the bytes spell, without the rules that it can do without.
 fn reduced(alloc: Global, problem: &Problem, bytes: &[u8], log: &Log) -> Result<Answer, AllocError>
-    requires short { length bytes.now ≤ 536870912 }
+    requires short { IsWithinLimit Kinds.Log bytes.now }
     requires fits { Fits problem.now log.now }
     requires text { bytes.now ≡ log_text problem.now log.now }
     ensures answer { IfOk result (λ a. IsReduction a problem.now bytes.now) }
@@ -65,7 +66,7 @@ fn first_refusal<R: Threads + Sync, G: Gate>(
     bytes: &[u8],
     gate: &G,
 ) -> Result<Answer, AllocError>
-    requires short { length bytes.now ≤ 536870912 }
+    requires short { IsWithinLimit Kinds.Log bytes.now }
     requires unread { (why : Why) × IsUnread problem.now bytes.now why }
     ensures answer { IfOk result (λ a. IsReduction a problem.now bytes.now) }
     ensures kind { IfOk result IsOfReduction }

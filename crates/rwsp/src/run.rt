@@ -1,18 +1,19 @@
 // One call that answers a command line.
-ghost use Rattle.std.specs.Prelude.{◌≡◌, ℕ, ◌≤◌, List, length, take, IfOk, IsErrOf, Err, ◌≢◌};
+ghost use Rattle.std.specs.Prelude.{◌≡◌, ℕ, ◌≤◌, List, length, take, IfOk, IsErrOf};
 ghost use Rattle.std.specs.Io.KnownBytes.{Appends, Keeps};
 ghost use Rattle.rwsp_io.specs.Told.{Rose, NeverFall};
 ghost use Rattle.rwsp_terms.specs.Instance.{Instance};
 ghost use Rattle.rwsp.specs.Answers.{IsAnswer, IsAnswerOn, IsReadFault};
-ghost use Rattle.rwsp.specs.Commands.{IsForm, ReadsSecond, second_name};
+ghost use Rattle.rwsp.specs.Commands.{IsForm, ReadsSecond, greatest_budget, second_name};
 ghost use Rattle.rwsp.specs.Plans.{IsPlanned};
 ghost use Rattle.rwsp.specs.Texts.{IsTextOf, HasFixedText, IsPrintable, text_of};
 ghost use Rattle.rwsp.specs.declared.answer.Answer.{Answer};
 
-use crate::answer::{Answer, Outcome};
+use crate::answer::{Answer, Outcome, Stop};
 use crate::command::{Command, command_of, word_at};
-use crate::input::{Exit, log_answer, problem_in, reduction_answer, roster_answer};
+use crate::input::{Exit, problem_in};
 use crate::plan::planned;
+use crate::second::second_answer;
 use crate::text::{fixed_text, text_on};
 use potential_bounds::Gate;
 use rwsp_io::{Shelf, Sink, write_all};
@@ -25,13 +26,6 @@ use std::thread::Threads;
 pub struct Reply {
     pub answer: Answer,
     pub text: Vec<u8>,
-}
-
-/// Why there is no answer.
-#[derive(Clone, Copy, Debug, PartialEq, Eq)]
-pub enum Stop {
-    ReadFault,
-    Memory,
 }
 
 /// Answers the words of a command line, over the files of the shelf. The words are looked at first, then the problem's
@@ -89,14 +83,10 @@ fn reply_to<R: Threads + Sync, S: Shelf, G: Gate>(
     let problem = match problem_in(alloc, shelf, word_at(words, 1)) {
         Ok(problem) => problem,
         Err(Exit::Answer(answer)) => return fixed(alloc, answer),
-        Err(Exit::ReadFault) => return Err(Stop::ReadFault),
-        Err(Exit::Memory) => return Err(Stop::Memory),
+        Err(Exit::Stop(stop)) => return Err(stop),
     };
-    match answer_on(rt, alloc, words, shelf, &problem, command, gate) {
-        Ok(answer) => printed(alloc, &problem, answer),
-        Err(Stop::ReadFault) => Err(Stop::ReadFault),
-        Err(Stop::Memory) => Err(Stop::Memory),
-    }
+    let answer = answer_on(rt, alloc, words, shelf, &problem, command, gate)?;
+    printed(alloc, &problem, answer)
 }
 
 // The answer to a command, for its problem.
@@ -118,10 +108,8 @@ fn answer_on<R: Threads + Sync, S: Shelf, G: Gate>(
 {
     match command {
         Command::Plan { budget } => plan(alloc, problem, budget),
-        Command::Check { workers } => check(rt, alloc, words, shelf, problem, workers, gate),
-        Command::Verify => verify(alloc, words, shelf, problem),
-        Command::Reduce => reduce(rt, alloc, words, shelf, problem, gate),
         Command::Show => Ok(Answer::Shown),
+        _ => second_answer(rt, alloc, shelf, problem, word_at(words, 2), command, gate),
     }
 }
 
@@ -133,10 +121,8 @@ fn fixed(alloc: Global, answer: Answer) -> Result<Reply, Stop>
     ensures text { IfOk result (λ r. (P : Instance) → r.text.items ≡ text_of P r.answer) }
     ensures fault { IsErrOf result Stop.ReadFault → ⊥ }
 {
-    match fixed_text(alloc, &answer) {
-        Ok(text) => Ok(Reply { answer, text }),
-        Err(_) => Err(Stop::Memory),
-    }
+    let text = fixed_text(alloc, &answer)?;
+    Ok(Reply { answer, text })
 }
 
 // The reply of an answer on a problem.
@@ -146,87 +132,17 @@ fn printed(alloc: Global, problem: &Problem, answer: Answer) -> Result<Reply, St
     ensures text { IfOk result (λ r. r.text.items ≡ text_of problem.now r.answer) }
     ensures fault { IsErrOf result Stop.ReadFault → ⊥ }
 {
-    match text_on(alloc, problem, &answer) {
-        Ok(text) => Ok(Reply { answer, text }),
-        Err(_) => Err(Stop::Memory),
-    }
+    let text = text_on(alloc, problem, &answer)?;
+    Ok(Reply { answer, text })
 }
 
 // The answer to `plan`.
 #[tactic(auto, using(crate::proofs::Logs::planned_printable))]
 fn plan(alloc: Global, problem: &Problem, budget: u32) -> Result<Answer, Stop>
-    requires { (1 ≤ budget) × (budget ≤ 200000) }
+    requires { (1 ≤ budget) × (budget ≤ greatest_budget) }
     ensures answer { IfOk result (IsPlanned problem.now budget) }
     ensures printable { IfOk result (IsPrintable problem.now) }
     ensures fault { IsErrOf result Stop.ReadFault → ⊥ }
 {
-    match planned(alloc, problem, budget) {
-        Ok(answer) => Ok(answer),
-        Err(_) => Err(Stop::Memory),
-    }
-}
-
-// The answer to `check`.
-fn check<R: Threads + Sync, S: Shelf, G: Gate>(
-    rt: &R,
-    alloc: Global,
-    words: &Vec<String>,
-    shelf: &mut S,
-    problem: &Problem,
-    workers: u32,
-    gate: &G,
-) -> Result<Answer, Stop>
-    requires { IsForm words.now.items (Command.Check workers) }
-    ensures answer { IfOk result (IsAnswerOn (Command.Check workers) (S.held shelf.old (second_name words.now.items)) problem.now) }
-    ensures printable { IfOk result (IsPrintable problem.now) }
-    ensures fault { IsErrOf result Stop.ReadFault → Rose (S.faults shelf.old (second_name words.now.items)) (S.faults shelf.new (second_name words.now.items)) }
-    ensures faults { NeverFall (S.faults shelf.old) (S.faults shelf.new) }
-{
-    match log_answer(rt, alloc, shelf, problem, word_at(words, 2), workers, gate) {
-        Ok(answer) => Ok(answer),
-        Err(Exit::ReadFault) => Err(Stop::ReadFault),
-        Err(_) => Err(Stop::Memory),
-    }
-}
-
-// The answer to `verify`.
-fn verify<S: Shelf>(
-    alloc: Global,
-    words: &Vec<String>,
-    shelf: &mut S,
-    problem: &Problem,
-) -> Result<Answer, Stop>
-    requires { IsForm words.now.items Command.Verify }
-    ensures answer { IfOk result (IsAnswerOn Command.Verify (S.held shelf.old (second_name words.now.items)) problem.now) }
-    ensures printable { IfOk result (IsPrintable problem.now) }
-    ensures fault { IsErrOf result Stop.ReadFault → Rose (S.faults shelf.old (second_name words.now.items)) (S.faults shelf.new (second_name words.now.items)) }
-    ensures faults { NeverFall (S.faults shelf.old) (S.faults shelf.new) }
-{
-    match roster_answer(alloc, shelf, problem, word_at(words, 2)) {
-        Ok(answer) => Ok(answer),
-        Err(Exit::ReadFault) => Err(Stop::ReadFault),
-        Err(_) => Err(Stop::Memory),
-    }
-}
-
-// The answer to `reduce`.
-fn reduce<R: Threads + Sync, S: Shelf, G: Gate>(
-    rt: &R,
-    alloc: Global,
-    words: &Vec<String>,
-    shelf: &mut S,
-    problem: &Problem,
-    gate: &G,
-) -> Result<Answer, Stop>
-    requires { IsForm words.now.items Command.Reduce }
-    ensures answer { IfOk result (IsAnswerOn Command.Reduce (S.held shelf.old (second_name words.now.items)) problem.now) }
-    ensures printable { IfOk result (IsPrintable problem.now) }
-    ensures fault { IsErrOf result Stop.ReadFault → Rose (S.faults shelf.old (second_name words.now.items)) (S.faults shelf.new (second_name words.now.items)) }
-    ensures faults { NeverFall (S.faults shelf.old) (S.faults shelf.new) }
-{
-    match reduction_answer(rt, alloc, shelf, problem, word_at(words, 2), gate) {
-        Ok(answer) => Ok(answer),
-        Err(Exit::ReadFault) => Err(Stop::ReadFault),
-        Err(_) => Err(Stop::Memory),
-    }
+    Ok(planned(alloc, problem, budget)?)
 }

@@ -26,15 +26,21 @@ fn words_of(alloc: Global, words: &[&str]) -> Result<Vec<String>, AllocError> {
     Ok(all)
 }
 
-// A shelf with these files, which gives 50 bytes at a time.
-fn shelf_of(alloc: Global, files: &[(&str, &str)]) -> Result<MemoryShelf, AllocError> {
+// A shelf with these files, which gives so many bytes at a time, and whose calls with these numbers fail.
+fn shelf_of(
+    alloc: Global,
+    files: &[(&str, &str)],
+    step: usize,
+    failing: &[u64],
+) -> Result<MemoryShelf, AllocError> {
     let mut all = Vec::new(alloc);
     for (name, text) in files {
         let name = String::from_str(alloc, name)?;
         let text = Vec::from_slice(alloc, text.as_bytes())?;
         all.push((name, text))?;
     }
-    Ok(MemoryShelf::new(all, 50, Vec::new(alloc)))
+    let failing = Vec::from_slice(alloc, failing)?;
+    Ok(MemoryShelf::new(all, step, failing))
 }
 
 // Whether the words end with the status and print the text, over these files.
@@ -47,7 +53,7 @@ fn ends<R: Threads + Sync>(
     text: &str,
 ) -> Result<bool, AllocError> {
     let words = words_of(alloc, words)?;
-    let mut shelf = shelf_of(alloc, files)?;
+    let mut shelf = shelf_of(alloc, files, 50, &[])?;
     let mut sink = MemorySink::new(alloc, 10_000, 7, Vec::new(alloc))?;
     let outcome = run(rt, alloc, &words, &mut shelf, &mut sink, &NoGate);
     Ok(outcome.status() == status && sink.bytes() == text.as_bytes())
@@ -136,10 +142,6 @@ fn refused_problems(rt: HostRuntime) -> Result<(), Fail> {
         ("", "file refused: ends line 1\n"),
         ("2\n1\n1\n1\n", "file refused: ends line 5\n"),
         (
-            "7\n601\n1\n0 0 0 0 0 0 0\nD 360 480 1 7\n1 7\n1 7\n0 0\n",
-            "file refused: range 2 line 2\n",
-        ),
-        (
             "28\n151\n1\n0 0 0 0 0 0 0\nD 360 480 1 7\n1 7\n1 7\n0 0\n",
             "file refused: range 3 line 2\n",
         ),
@@ -190,30 +192,23 @@ const USAGE: &str =
 
 #[test]
 fn words_that_are_no_command(rt: HostRuntime) -> Result<(), Fail> {
-    assert!(rt; ends(&rt, rt.alloc(), &[], &[], 2, USAGE)?);
-    assert!(rt;
-        ends(
-            &rt,
-            rt.alloc(),
-            &["plan", "F", "--budget", "0"],
-            &[],
-            2,
-            USAGE
-        )?
-    );
-    assert!(rt;
-        ends(
-            &rt,
-            rt.alloc(),
-            &["plan", "--budget", "5", "F"],
-            &[],
-            2,
-            USAGE
-        )?
-    );
-    assert!(rt; ends(&rt, rt.alloc(), &["show", "-x"], &[], 2, USAGE)?);
-    assert!(rt; ends(&rt, rt.alloc(), &["verify", "F", ""], &[], 2, USAGE)?);
-    assert!(rt; ends(&rt, rt.alloc(), &["verify", "F", "-"], &[], 2, USAGE)?);
+    let cases: [&[&str]; 12] = [
+        &[],
+        &["show", "-x"],
+        &["verify", "F", ""],
+        &["verify", "F", "-"],
+        &["reduce", "F"],
+        &["plan", "--budget", "5", "F"],
+        &["plan", "F", "--budget", "0"],
+        &["plan", "F", "--budget", "200001"],
+        &["plan", "F", "--budget", "0000000005"],
+        &["check", "F", "--workers", "4"],
+        &["check", "F", "G", "--workers", "0"],
+        &["check", "F", "G", "--workers", "65"],
+    ];
+    for words in cases {
+        assert!(rt; ends(&rt, rt.alloc(), words, &[], 2, USAGE)?);
+    }
     Ok(())
 }
 
@@ -241,15 +236,11 @@ fn files_that_are_missing(rt: HostRuntime) -> Result<(), Fail> {
 fn files_that_are_too_long(rt: HostRuntime) -> Result<(), Fail> {
     let alloc = rt.alloc();
     let words = words_of(alloc, &["verify", "F", "R"])?;
-    let long = vec![in alloc; b' '; 1_048_577]?;
-    let files = vec![in alloc;
-        (
-            String::from_str(alloc, "F")?,
-            Vec::from_slice(alloc, TWO_DAYS.as_bytes())?
-        ),
-        (String::from_str(alloc, "R")?, long),
-    ]?;
-    let mut shelf = MemoryShelf::new(files, 100_000, Vec::new(alloc));
+    let long = String::from_utf8(vec![in alloc; b' '; 1_048_577]?)
+        .ok()
+        .ok_or("a text")?;
+    let files = [("F", TWO_DAYS), ("R", long.as_str())];
+    let mut shelf = shelf_of(alloc, &files, 100_000, &[])?;
     let mut sink = MemorySink::new(alloc, 100, 100, Vec::new(alloc))?;
     let outcome = run(&rt, alloc, &words, &mut shelf, &mut sink, &NoGate);
     assert_eq!(rt; outcome.status(), 3);
@@ -268,7 +259,8 @@ fn writes_that_fail(rt: HostRuntime) -> Result<(), Fail> {
     let alloc = rt.alloc();
     let words = words_of(alloc, &["verify", "F", "R"])?;
     for room in 0..6usize {
-        let mut shelf = shelf_of(alloc, &[("F", NINE_WEEKS), ("R", NINE_WEEKS_ROSTER)])?;
+        let files = [("F", NINE_WEEKS), ("R", NINE_WEEKS_ROSTER)];
+        let mut shelf = shelf_of(alloc, &files, 50, &[])?;
         let mut sink = MemorySink::new(alloc, room, 1, Vec::new(alloc))?;
         let outcome = run(&rt, alloc, &words, &mut shelf, &mut sink, &NoGate);
         assert!(rt; matches!(&outcome, Outcome::WriteFault(Answer::Meets)));
@@ -285,17 +277,8 @@ fn reads_that_fail(rt: HostRuntime) -> Result<(), Fail> {
     let words = words_of(alloc, &["verify", "F", "R"])?;
     let mut refused = 0u64;
     for call in 1..30u64 {
-        let files = vec![in alloc;
-            (
-                String::from_str(alloc, "F")?,
-                Vec::from_slice(alloc, TWO_DAYS.as_bytes())?
-            ),
-            (
-                String::from_str(alloc, "R")?,
-                Vec::from_slice(alloc, b"D -\n")?
-            ),
-        ]?;
-        let mut shelf = MemoryShelf::new(files, 7, vec![in alloc; call]?);
+        let files = [("F", TWO_DAYS), ("R", "D -\n")];
+        let mut shelf = shelf_of(alloc, &files, 7, &[call])?;
         let mut sink = MemorySink::new(alloc, 100, 100, Vec::new(alloc))?;
         let outcome = run(&rt, alloc, &words, &mut shelf, &mut sink, &NoGate);
         if matches!(&outcome, Outcome::ReadFault) {
@@ -412,8 +395,8 @@ fn the_longest_problem(rt: HostRuntime) -> Result<(), Fail> {
         let mut file = Vec::from_slice(alloc, TWO_DAYS.as_bytes())?;
         file.push(b'#')?;
         file.resize(length, b'x')?;
-        let files = vec![in alloc; (String::from_str(alloc, "F")?, file)]?;
-        let mut shelf = MemoryShelf::new(files, 100_000, Vec::new(alloc));
+        let file = String::from_utf8(file).ok().ok_or("a text")?;
+        let mut shelf = shelf_of(alloc, &[("F", file.as_str())], 100_000, &[])?;
         let mut sink = MemorySink::new(alloc, 1000, 1000, Vec::new(alloc))?;
         let outcome = run(&rt, alloc, &words, &mut shelf, &mut sink, &NoGate);
         assert_eq!(rt; outcome.status(), status);
@@ -427,9 +410,7 @@ fn the_longest_problem(rt: HostRuntime) -> Result<(), Fail> {
 fn a_fault_behind_the_last_byte(rt: HostRuntime) -> Result<(), Fail> {
     let alloc = rt.alloc();
     let words = words_of(alloc, &["show", "F"])?;
-    let file = Vec::from_slice(alloc, TWO_DAYS.as_bytes())?;
-    let files = vec![in alloc; (String::from_str(alloc, "F")?, file)]?;
-    let mut shelf = MemoryShelf::new(files, 100, vec![in alloc; 3u64]?);
+    let mut shelf = shelf_of(alloc, &[("F", TWO_DAYS)], 100, &[3])?;
     let mut sink = MemorySink::new(alloc, 1000, 1000, Vec::new(alloc))?;
     let outcome = run(&rt, alloc, &words, &mut shelf, &mut sink, &NoGate);
     assert!(rt; matches!(&outcome, Outcome::ReadFault));

@@ -1,17 +1,16 @@
 // The texts of the answers.
-ghost use Rattle.std.specs.Prelude.{◌≡◌, ◌++◌, IfOk, OnOk, Some};
+ghost use Rattle.std.specs.Prelude.{◌≡◌, ◌++◌, IfOk, OnOk};
 ghost use Rattle.std.specs.String.{string_bytes};
 ghost use Rattle.rwsp_terms.specs.Instance.{Instance};
 ghost use Rattle.rwsp.specs.Texts.{text_of, place_text, line, file_refusal_text, roster_refusal_text, HasFixedText, HasFixedLine, IsPrintable};
 
 use crate::answer::{Answer, InputKind};
-use crate::log_text::{accepted_line, log_refusal_line};
+use crate::log_text::{accepted_line, log_refusal_line, put_labelled};
 use refutation_log::print_log;
 use roster_checker::Broken;
 use roster_print::{RosterRefusal, print_roster, put_rule};
 use rwsp_file::{FileRefusal, print_problem};
 use rwsp_model::{Problem, Rule, rule_at};
-use rwsp_text::put_number;
 use std::alloc::{AllocError, Global};
 
 const USAGE: &str =
@@ -83,12 +82,9 @@ fn put_place(out: &mut Vec<u8>, rule: Rule, broken: &Broken) -> Result<(), Alloc
     if let Rule::Day(_) = rule {
         return Ok(());
     }
-    out.extend_from_slice(b" week ".as_slice())?;
-    put_number(out, u64::from(broken.week))?;
-    out.extend_from_slice(b" day ".as_slice())?;
-    put_number(out, u64::from(broken.day))?;
-    out.extend_from_slice(b" length ".as_slice())?;
-    put_number(out, u64::from(broken.length))
+    put_labelled(out, b" week ".as_slice(), broken.week)?;
+    put_labelled(out, b" day ".as_slice(), broken.day)?;
+    put_labelled(out, b" length ".as_slice(), broken.length)
 }
 
 /// The text of a broken rule.
@@ -97,8 +93,7 @@ fn breaks_text(alloc: Global, problem: &Problem, broken: &Broken) -> Result<Vec<
     ensures { IfOk result (λ v. v.items ≡ text_of problem.now (Answer.Breaks broken.now)) }
 {
     let mut out = Vec::new(alloc);
-    out.extend_from_slice(b"breaks rule ".as_slice())?;
-    put_number(&mut out, u64::from(broken.rule))?;
+    put_labelled(&mut out, b"breaks rule ".as_slice(), broken.rule)?;
     out.extend_from_slice(b" ".as_slice())?;
     let rule = rule_at(problem, broken.rule);
     put_rule(&mut out, problem, rule)?;

@@ -1,9 +1,11 @@
 // Whether a roster meets all rules of a problem.
-ghost use Rattle.std.specs.Prelude.{◌≡◌, ℕ, ◌≤◌, List, length, IfOk};
+ghost use Rattle.std.specs.Prelude.{ℕ, List, IfOk};
 ghost use Rattle.rwsp_terms.specs.Roster.{IsRoster};
 ghost use Rattle.roster_print.specs.RosterText.{SpellsRoster};
+ghost use Rattle.rwsp.specs.Inputs.{IsWithinLimit};
 ghost use Rattle.rwsp.specs.Answers.{IsRosterAnswer, IsOfRoster};
 ghost use Rattle.rwsp.specs.Texts.{IsPrintable};
+ghost use Rattle.rwsp.specs.declared.answer.InputKind.TheVariants as Kinds;
 
 use crate::answer::Answer;
 use roster_checker::first_broken;
@@ -13,7 +15,7 @@ use std::alloc::{AllocError, Global};
 
 /// The answer to the bytes of a roster.
 pub fn roster_verdict(alloc: Global, problem: &Problem, bytes: &[u8]) -> Result<Answer, AllocError>
-    requires { length bytes.now ≤ 1048576 }
+    requires { IsWithinLimit Kinds.Roster bytes.now }
     ensures answer { IfOk result (λ a. IsRosterAnswer a problem.now bytes.now) }
     ensures kind { IfOk result IsOfRoster }
     ensures printable { IfOk result (IsPrintable problem.now) }
@@ -27,7 +29,7 @@ pub fn roster_verdict(alloc: Global, problem: &Problem, bytes: &[u8]) -> Result<
 
 fn checked(problem: &Problem, roster: &Roster) -> Answer
     requires { IsRoster problem.now roster.now.cells }
-    ensures answer { (bytes : List ℕ) → length bytes ≤ 1048576 → SpellsRoster problem.now bytes roster.now.cells → IsRosterAnswer result problem.now bytes }
+    ensures answer { (bytes : List ℕ) → IsWithinLimit Kinds.Roster bytes → SpellsRoster problem.now bytes roster.now.cells → IsRosterAnswer result problem.now bytes }
     ensures kind { IsOfRoster result }
     ensures printable { IsPrintable problem.now result }
 {

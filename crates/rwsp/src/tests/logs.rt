@@ -1,8 +1,8 @@
 // Logs checked and reduced: what is printed, to the byte, and the status.
 use super::{NINE_WEEKS, TWO_DAYS, ends, shelf_of, words_of};
 use crate::run::run;
-use potential_bounds::Gate;
-use rwsp_io::{MemoryShelf, MemorySink};
+use potential_bounds::{Gate, NoGate};
+use rwsp_io::MemorySink;
 use std::alloc::{AllocError, Global};
 use std::sync::atomic::{AtomicBool, Ordering};
 use std::test::Fail;
@@ -19,6 +19,15 @@ const BOTH_DAYS: &str = "2\n1\n1\n1 1\nD 360 480 1 1\n1 1\n1 1\n0 0\n";
 
 // One cell.
 const ONE_CELL: &str = "1\n1\n1\n1\nD 360 480 1 7\n1 1\n1 7\n0 0\n";
+
+// One or two days of four, and days off in twos.
+const RANGES: &str = "1\n4\n1\n1..2\nD 360 480 1 1\n2 2\n1 4\n0 0\n";
+
+// Blocks of up to 31 days.
+const LONG_BLOCKS: &str = "2\n1\n1\n1 0\nD 360 480 1 31\n1 1\n1 1\n0 0\n";
+
+// No day is demanded.
+const NO_DAY: &str = "2\n1\n1\n0 0\nD 360 480 1 1\n1 1\n1 1\n0 0\n";
 
 // Three demanded of two weeks.
 pub const TOO_MANY: &str = "1\n2\n1\n3\nD 360 480 1 2\n1 2\n1 2\n0 0\n";
@@ -87,74 +96,73 @@ fn logs_that_pass(rt: HostRuntime) -> Result<(), Fail> {
     Ok(())
 }
 
+// Problems, a log over each, and the refusal of the log's first bad line.
+const REFUSED_LINES: [(&str, &str, &str); 12] = [
+    (
+        TWO_OF_FOUR,
+        "rwsp-log 1\nrules 1 3 4 7\nbound 1 1 1 rules 1 3 4 weights 1 D 1\n",
+        "log refused: escape line 3: D - - D\n",
+    ),
+    (
+        TWO_OF_FOUR,
+        "rwsp-log 1\nrules 1 3 4\nbound 1 1 2 rules 1 3 4 weights 1 D 1\n",
+        "log refused: unnamed 7 line 3\n",
+    ),
+    (
+        RANGES,
+        "rwsp-log 1\nrules 1 3 4 7\nbound 1 1 2 rules 1 3 4 weights 1 D 1\n",
+        "log refused: escape line 3: - D - - D - - D\n",
+    ),
+    (
+        TWOS,
+        "rwsp-log 1\nrules 1\nsplit 1 1 D\nsplit 1 1 D\n",
+        "log refused: idle line 4\n",
+    ),
+    (
+        LONG_BLOCKS,
+        "rwsp-log 1\nrules 1\ndead 1 1 2 rules 1\n",
+        "log refused: long 1 line 3\n",
+    ),
+    (
+        TWOS,
+        "rwsp-log 1\nrules 1\nsplit 1 1 Q\n",
+        "log refused: name line 3\n",
+    ),
+    (
+        TWOS,
+        "rwsp-log 1\nrules 1\nsplit 7 1 D\n",
+        "log refused: form line 3\n",
+    ),
+    (
+        ONE_CELL,
+        "rwsp-log 1\nrules 3 5\nsplit 1 1 D\nwindow 5 1 1 7\nwindow 3 1 1 2\n",
+        "log refused: fails line 4\n",
+    ),
+    (
+        ONE_CELL,
+        "rwsp-log 1\nrules 3\nsplit 1 1 D\nwindow 5 1 1 8\nwindow 3 1 1 2\n",
+        "log refused: unnamed 5 line 4\n",
+    ),
+    (
+        ONE_CELL,
+        "rwsp-log 1\nrules 3 5\nsplit 1 1 D\nwindow 5 1 1 8\n",
+        "log refused: ends\n",
+    ),
+    (
+        TOO_MANY,
+        "rwsp-log 1\nrules 4\nday 1 - over\n",
+        "log refused: unnamed 7 line 3\n",
+    ),
+    (
+        NO_DAY,
+        "rwsp-log 2\nrules 7\nturn D 1\nopen\n",
+        "log refused: turn line 3\n",
+    ),
+];
+
 #[test]
 fn lines_that_are_refused(rt: HostRuntime) -> Result<(), Fail> {
-    let ranges = "1\n4\n1\n1..2\nD 360 480 1 1\n2 2\n1 4\n0 0\n";
-    let long = "2\n1\n1\n1 0\nD 360 480 1 31\n1 1\n1 1\n0 0\n";
-    let none = "2\n1\n1\n0 0\nD 360 480 1 1\n1 1\n1 1\n0 0\n";
-    let cases = [
-        (
-            TWO_OF_FOUR,
-            "rwsp-log 1\nrules 1 3 4 7\nbound 1 1 1 rules 1 3 4 weights 1 D 1\n",
-            "log refused: escape line 3: D - - D\n",
-        ),
-        (
-            TWO_OF_FOUR,
-            "rwsp-log 1\nrules 1 3 4\nbound 1 1 2 rules 1 3 4 weights 1 D 1\n",
-            "log refused: unnamed 7 line 3\n",
-        ),
-        (
-            ranges,
-            "rwsp-log 1\nrules 1 3 4 7\nbound 1 1 2 rules 1 3 4 weights 1 D 1\n",
-            "log refused: escape line 3: - D - - D - - D\n",
-        ),
-        (
-            TWOS,
-            "rwsp-log 1\nrules 1\nsplit 1 1 D\nsplit 1 1 D\n",
-            "log refused: idle line 4\n",
-        ),
-        (
-            long,
-            "rwsp-log 1\nrules 1\ndead 1 1 2 rules 1\n",
-            "log refused: long 1 line 3\n",
-        ),
-        (
-            TWOS,
-            "rwsp-log 1\nrules 1\nsplit 1 1 Q\n",
-            "log refused: name line 3\n",
-        ),
-        (
-            TWOS,
-            "rwsp-log 1\nrules 1\nsplit 7 1 D\n",
-            "log refused: form line 3\n",
-        ),
-        (
-            ONE_CELL,
-            "rwsp-log 1\nrules 3 5\nsplit 1 1 D\nwindow 5 1 1 7\nwindow 3 1 1 2\n",
-            "log refused: fails line 4\n",
-        ),
-        (
-            ONE_CELL,
-            "rwsp-log 1\nrules 3\nsplit 1 1 D\nwindow 5 1 1 8\nwindow 3 1 1 2\n",
-            "log refused: unnamed 5 line 4\n",
-        ),
-        (
-            ONE_CELL,
-            "rwsp-log 1\nrules 3 5\nsplit 1 1 D\nwindow 5 1 1 8\n",
-            "log refused: ends\n",
-        ),
-        (
-            TOO_MANY,
-            "rwsp-log 1\nrules 4\nday 1 - over\n",
-            "log refused: unnamed 7 line 3\n",
-        ),
-        (
-            none,
-            "rwsp-log 2\nrules 7\nturn D 1\nopen\n",
-            "log refused: turn line 3\n",
-        ),
-    ];
-    for (problem, log, text) in cases {
+    for (problem, log, text) in REFUSED_LINES {
         assert!(rt; checks(&rt, rt.alloc(), problem, log, 5, text)?, "{text}");
     }
     Ok(())
@@ -256,26 +264,9 @@ fn reads_that_fail_at_a_log(rt: HostRuntime) -> Result<(), Fail> {
     let words = words_of(alloc, &["check", "F", "G"])?;
     let mut refused = 0u64;
     for call in 1..60u64 {
-        let files = vec![in alloc;
-            (
-                String::from_str(alloc, "F")?,
-                Vec::from_slice(alloc, TWOS.as_bytes())?
-            ),
-            (
-                String::from_str(alloc, "G")?,
-                Vec::from_slice(alloc, SPLIT.as_bytes())?
-            ),
-        ]?;
-        let mut shelf = MemoryShelf::new(files, 7, vec![in alloc; call]?);
+        let mut shelf = shelf_of(alloc, &[("F", TWOS), ("G", SPLIT)], 7, &[call])?;
         let mut sink = MemorySink::new(alloc, 100, 100, Vec::new(alloc))?;
-        let outcome = run(
-            &rt,
-            alloc,
-            &words,
-            &mut shelf,
-            &mut sink,
-            &potential_bounds::NoGate,
-        );
+        let outcome = run(&rt, alloc, &words, &mut shelf, &mut sink, &NoGate);
         if outcome.status() == 6 {
             assert_eq!(rt; sink.bytes(), b"".as_slice());
             assert_eq!(rt; refused, call - 1);
@@ -376,7 +367,7 @@ fn workers_are_there_at_once(rt: HostRuntime) -> Result<(), Fail> {
         met: [AtomicBool::new(false), AtomicBool::new(false)],
     };
     let words = words_of(alloc, &["check", "F", "G", "--workers", "2"])?;
-    let mut shelf = shelf_of(alloc, &[("F", TWOS), ("G", SPLIT)])?;
+    let mut shelf = shelf_of(alloc, &[("F", TWOS), ("G", SPLIT)], 50, &[])?;
     let mut sink = MemorySink::new(alloc, 100, 100, Vec::new(alloc))?;
     let outcome = run(&rt, alloc, &words, &mut shelf, &mut sink, &gate);
     assert_eq!(rt; outcome.status(), 0);

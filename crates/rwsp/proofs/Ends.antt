@@ -1,0 +1,230 @@
+-- The bytes of a file have one answer.
+use Rattle.std.proofs.Common.{◌≡◌, ℕ, List, Some, None, Option, arith, ap, sym, ◌∙◌, refl, subst}
+use Rattle.std.specs.Prelude.{MatchOption, Ok, Err}
+use Rattle.rwsp_terms.specs.Instance.{Instance}
+use Rattle.rwsp_terms.specs.Roster.{MeetsAll}
+use Rattle.rwsp_terms.specs.declared.data.Symbol.{Symbol}
+use Rattle.rwsp_model.specs.Validity.{KeepsLimits}
+use Rattle.rwsp_file.specs.Spelling.{SpellsProblem}
+use Rattle.rwsp_file.specs.Reading.{file_refusal}
+use Rattle.rwsp_file.specs.Laws.{TextsSpellOrFail}
+use Rattle.rwsp_file.specs.declared.refusal.FileRefusal.{FileRefusal}
+use Rattle.roster_print.specs.RosterText.{SpellsRoster}
+use Rattle.roster_print.specs.Refusal.{refusal_of_roster}
+use Rattle.roster_print.specs.declared.refusal.RosterRefusal.{RosterRefusal}
+use Rattle.roster_print.proofs.Spelling.{one_roster, refusals_decide}
+use Rattle.roster_checker.specs.FirstBroken.{IsFirstBroken}
+use Rattle.roster_checker.specs.declared.broken.Broken.{Broken}
+use Rattle.roster_checker.proofs.FirstBroken.{first_broken-not_met, first_broken-same}
+use Rattle.refutation_terms.specs.declared.lines.LogRefusal.{LogRefusal}
+use Rattle.refutation_terms.specs.Log.{Log as LogValue}
+use Rattle.refutation_terms.specs.Strip.{IsReduced}
+use Rattle.refutation_terms.specs.Verdict.{IsAccepted, IsRefused}
+use Rattle.rwsp.specs.Inputs.{IsWithinLimit, IsTooLong}
+use Rattle.rwsp.specs.Answers.{IsFileAnswer, IsRosterAnswer, IsLogAnswer, IsReduction, IsSecondAnswer}
+use Rattle.rwsp.specs.declared.command.Command.{Command}
+use Rattle.rwsp.specs.declared.command.Command.TheVariants.{Plan, Check, Verify, Reduce, Show}
+use Rattle.rwsp.specs.declared.answer.InputKind.{InputKind}
+use Rattle.rwsp.specs.declared.answer.InputKind.TheVariants as Kinds
+use Rattle.rwsp.specs.declared.answer.Answer.{Answer}
+use Rattle.rwsp.specs.declared.answer.Answer.TheVariants.{Roster, NoRoster, Undecided, Accepted, LogRefused, Reduced, Meets, Shown, Breaks, RosterRefused, Usage, FileRefused, TooLong}
+use Rattle.rwsp.proofs.Logs.{one_verdict}
+use Rattle.rwsp.proofs.Reductions.{one_reduced}
+
+not_both : (kind : InputKind) (bytes : List ℕ) → IsTooLong kind bytes → IsWithinLimit kind bytes → ⊥
+not_both kind bytes long short = omega arith
+
+-- how a roster's bytes end the job for an instance
+data RosterEnd (P : Instance) (bytes : List ℕ) (answer : Answer) : Type 0 where
+  long : IsTooLong Kinds.Roster bytes → answer ≡ TooLong Kinds.Roster → RosterEnd P bytes answer
+  refused : (why : RosterRefusal) → IsWithinLimit Kinds.Roster bytes → refusal_of_roster P bytes ≡ Some why → answer ≡ RosterRefused why → RosterEnd P bytes answer
+  met : (s : List Symbol) → IsWithinLimit Kinds.Roster bytes → SpellsRoster P bytes s → MeetsAll P s → answer ≡ Meets → RosterEnd P bytes answer
+  broken : (s : List Symbol) (b : Broken) → IsWithinLimit Kinds.Roster bytes → SpellsRoster P bytes s → IsFirstBroken P s b → answer ≡ Breaks b → RosterEnd P bytes answer
+
+roster_end : (P : Instance) (bytes : List ℕ) (answer : Answer) → IsRosterAnswer answer P bytes → RosterEnd P bytes answer
+roster_end P bytes (TooLong Kinds.Roster) h = long h refl
+roster_end P bytes (TooLong Kinds.Problem) h = absurd h
+roster_end P bytes (TooLong Kinds.Log) h = absurd h
+roster_end P bytes (RosterRefused why) h = refused why h.0 h.1 refl
+roster_end P bytes Meets h = met h.1.0 h.0 h.1.1 h.1.2 refl
+roster_end P bytes (Breaks b) h = broken h.1.0 b h.0 h.1.1 h.1.2 refl
+roster_end P bytes (Roster s) h = absurd h
+roster_end P bytes (NoRoster g) h = absurd h
+roster_end P bytes (Undecided g) h = absurd h
+roster_end P bytes (Accepted R) h = absurd h
+roster_end P bytes (LogRefused why) h = absurd h
+roster_end P bytes (Reduced g) h = absurd h
+roster_end P bytes Usage h = absurd h
+roster_end P bytes Shown h = absurd h
+roster_end P bytes (FileRefused why) h = absurd h
+
+-- a refused roster isn't spelled
+refused_by : (P : Instance) (bytes : List ℕ) (s : List Symbol) (why : RosterRefusal) (o : Option RosterRefusal) → o ≡ Some why → MatchOption o ((s : List Symbol) × SpellsRoster P bytes s) (λ why. (s : List Symbol) → SpellsRoster P bytes s → ⊥) → SpellsRoster P bytes s → ⊥
+refused_by P bytes s why None e m spells = absurd (cc)
+refused_by P bytes s why (Some other) e m spells = m s spells
+
+refused_roster : (P : Instance) (bytes : List ℕ) (s : List Symbol) (why : RosterRefusal) → refusal_of_roster P bytes ≡ Some why → SpellsRoster P bytes s → ⊥
+refused_roster P bytes s why e spells = refused_by P bytes s why (refusal_of_roster P bytes) e (refusals_decide P bytes) spells
+
+met_or_broken : (P : Instance) (bytes : List ℕ) (s t : List Symbol) (b : Broken) → SpellsRoster P bytes s → MeetsAll P s → SpellsRoster P bytes t → IsFirstBroken P t b → ⊥
+met_or_broken P bytes s t b spells meets others first =
+    let same : t ≡ s = one_roster P bytes t s others spells in
+    first_broken-not_met P s b (subst (λ (u : List Symbol). IsFirstBroken P u b) same first) meets
+
+one_roster_end : (P : Instance) (bytes : List ℕ) (a b : Answer) → RosterEnd P bytes a → RosterEnd P bytes b → a ≡ b
+one_roster_end P bytes a b (long l e) (long m f) = e ∙ sym f
+one_roster_end P bytes a b (long l e) (refused why s r f) = absurd (not_both Kinds.Roster bytes l s)
+one_roster_end P bytes a b (long l e) (met t s r m f) = absurd (not_both Kinds.Roster bytes l s)
+one_roster_end P bytes a b (long l e) (broken t k s r m f) = absurd (not_both Kinds.Roster bytes l s)
+one_roster_end P bytes a b (refused why s r e) (long m f) = absurd (not_both Kinds.Roster bytes m s)
+one_roster_end P bytes a b (refused why s r e) (refused other t q f) =
+    let both : Some why ≡ Some other = sym r ∙ q in
+    let same : why ≡ other = cc in
+    e ∙ ap RosterRefused same ∙ sym f
+one_roster_end P bytes a b (refused why s r e) (met t u q m f) = absurd (refused_roster P bytes t why r q)
+one_roster_end P bytes a b (refused why s r e) (broken t k u q m f) = absurd (refused_roster P bytes t why r q)
+one_roster_end P bytes a b (met t u q m e) (long l f) = absurd (not_both Kinds.Roster bytes l u)
+one_roster_end P bytes a b (met t u q m e) (refused why s r f) = absurd (refused_roster P bytes t why r q)
+one_roster_end P bytes a b (met t u q m e) (met t' u' q' m' f) = e ∙ sym f
+one_roster_end P bytes a b (met t u q m e) (broken t' k u' q' m' f) = absurd (met_or_broken P bytes t t' k q m q' m')
+one_roster_end P bytes a b (broken t k u q m e) (long l f) = absurd (not_both Kinds.Roster bytes l u)
+one_roster_end P bytes a b (broken t k u q m e) (refused why s r f) = absurd (refused_roster P bytes t why r q)
+one_roster_end P bytes a b (broken t k u q m e) (met t' u' q' m' f) = absurd (met_or_broken P bytes t' t k q' m' q m)
+one_roster_end P bytes a b (broken t k u q m e) (broken t' k' u' q' m' f) =
+    let same : t ≡ t' = one_roster P bytes t t' q q' in
+    let first : k ≡ k' = first_broken-same P t' k k' (subst (λ (v : List Symbol). IsFirstBroken P v k) same m) m' in
+    e ∙ ap Breaks first ∙ sym f
+
+-- how a log's bytes end a job for an instance, where a log that passes says this of the answer
+data LogEnd (P : Instance) (Says : LogValue → Answer → Type 0) (bytes : List ℕ) (answer : Answer) : Type 0 where
+  long_log : IsTooLong Kinds.Log bytes → answer ≡ TooLong Kinds.Log → LogEnd P Says bytes answer
+  refused_log : (why : LogRefusal) → IsWithinLimit Kinds.Log bytes → IsRefused P bytes why → answer ≡ LogRefused why → LogEnd P Says bytes answer
+  passing_log : (g : LogValue) → IsWithinLimit Kinds.Log bytes → IsAccepted P bytes g → Says g answer → LogEnd P Says bytes answer
+
+same_refusal : (P : Instance) (bytes : List ℕ) (why other : LogRefusal) → KeepsLimits P → IsRefused P bytes why → IsRefused P bytes other → why ≡ other
+same_refusal P bytes why other limits h k =
+    let both : Err why ≡ Err other = one_verdict P bytes (Err why) (Err other) limits h k in
+    cc
+
+same_log : (P : Instance) (bytes : List ℕ) (g h : LogValue) → KeepsLimits P → IsAccepted P bytes g → IsAccepted P bytes h → g ≡ h
+same_log P bytes g h limits a b =
+    let both : Ok g ≡ Ok h = one_verdict P bytes (Ok g) (Ok h) limits a b in
+    cc
+
+not_both_ways : (P : Instance) (bytes : List ℕ) (g : LogValue) (why : LogRefusal) → KeepsLimits P → IsAccepted P bytes g → IsRefused P bytes why → ⊥
+not_both_ways P bytes g why limits a r =
+    let both : Ok g ≡ Err why = one_verdict P bytes (Ok g) (Err why) limits a r in
+    absurd (cc)
+
+one_log_end : (P : Instance) (Says : LogValue → Answer → Type 0) (bytes : List ℕ) (a b : Answer) → KeepsLimits P → ((g : LogValue) → Says g a → Says g b → a ≡ b) → LogEnd P Says bytes a → LogEnd P Says bytes b → a ≡ b
+one_log_end P Says bytes a b limits one (long_log l e) (long_log m f) = e ∙ sym f
+one_log_end P Says bytes a b limits one (long_log l e) (refused_log why s r f) = absurd (not_both Kinds.Log bytes l s)
+one_log_end P Says bytes a b limits one (long_log l e) (passing_log g s r f) = absurd (not_both Kinds.Log bytes l s)
+one_log_end P Says bytes a b limits one (refused_log why s r e) (long_log l f) = absurd (not_both Kinds.Log bytes l s)
+one_log_end P Says bytes a b limits one (refused_log why s r e) (refused_log other t q f) = e ∙ ap LogRefused (same_refusal P bytes why other limits r q) ∙ sym f
+one_log_end P Says bytes a b limits one (refused_log why s r e) (passing_log g t q f) = absurd (not_both_ways P bytes g why limits q r)
+one_log_end P Says bytes a b limits one (passing_log g s r e) (long_log l f) = absurd (not_both Kinds.Log bytes l s)
+one_log_end P Says bytes a b limits one (passing_log g s r e) (refused_log why t q f) = absurd (not_both_ways P bytes g why limits r q)
+one_log_end P Says bytes a b limits one (passing_log g s r e) (passing_log h t q f) = one g e (subst (λ (k : LogValue). Says k b) (same_log P bytes h g limits q r) f)
+
+-- what `check` says of a log that passes
+
+abbrev IsAcceptance : LogValue → Answer → Type 0
+IsAcceptance g answer = answer ≡ Accepted g.named
+
+acceptance_end : (P : Instance) (bytes : List ℕ) (answer : Answer) → IsLogAnswer answer P bytes → LogEnd P IsAcceptance bytes answer
+acceptance_end P bytes (TooLong Kinds.Log) h = long_log h refl
+acceptance_end P bytes (LogRefused why) h = refused_log why h.0 h.1 refl
+acceptance_end P bytes (Accepted R) h = passing_log h.1.0 h.0 h.1.1 (ap Accepted (sym h.1.2))
+acceptance_end P bytes (TooLong Kinds.Roster) h = absurd h
+acceptance_end P bytes (TooLong Kinds.Problem) h = absurd h
+acceptance_end P bytes (RosterRefused why) h = absurd h
+acceptance_end P bytes Meets h = absurd h
+acceptance_end P bytes (Breaks b) h = absurd h
+acceptance_end P bytes (Roster s) h = absurd h
+acceptance_end P bytes (NoRoster g) h = absurd h
+acceptance_end P bytes (Undecided g) h = absurd h
+acceptance_end P bytes (Reduced g) h = absurd h
+acceptance_end P bytes Usage h = absurd h
+acceptance_end P bytes Shown h = absurd h
+acceptance_end P bytes (FileRefused why) h = absurd h
+
+-- what `reduce` says of a log that passes
+
+abbrev IsReducedTo : Instance → LogValue → Answer → Type 0
+IsReducedTo P g answer = (h : LogValue) × IsReduced P g h × (answer ≡ Reduced h)
+
+same_reduction : (P : Instance) (g : LogValue) (a b : Answer) → IsReducedTo P g a → IsReducedTo P g b → a ≡ b
+same_reduction P g a b h k = h.2 ∙ ap Reduced (one_reduced P g h.0 k.0 h.1 k.1) ∙ sym k.2
+
+reduction_end : (P : Instance) (bytes : List ℕ) (answer : Answer) → IsReduction answer P bytes → LogEnd P (IsReducedTo P) bytes answer
+reduction_end P bytes (TooLong Kinds.Log) h = long_log h refl
+reduction_end P bytes (LogRefused why) h = refused_log why h.0 h.1 refl
+reduction_end P bytes (Reduced k) h = passing_log h.1.0 h.0 h.1.1 (k, h.1.2, refl)
+reduction_end P bytes (TooLong Kinds.Roster) h = absurd h
+reduction_end P bytes (TooLong Kinds.Problem) h = absurd h
+reduction_end P bytes (RosterRefused why) h = absurd h
+reduction_end P bytes Meets h = absurd h
+reduction_end P bytes (Breaks b) h = absurd h
+reduction_end P bytes (Roster s) h = absurd h
+reduction_end P bytes (NoRoster g) h = absurd h
+reduction_end P bytes (Undecided g) h = absurd h
+reduction_end P bytes (Accepted R) h = absurd h
+reduction_end P bytes Usage h = absurd h
+reduction_end P bytes Shown h = absurd h
+reduction_end P bytes (FileRefused why) h = absurd h
+
+-- two answers to a command over the bytes of its second file
+pub one_second : (command : Command) (P : Instance) (bytes : List ℕ) (a b : Answer) → KeepsLimits P → IsSecondAnswer command a P bytes → IsSecondAnswer command b P bytes → a ≡ b
+one_second Verify P bytes a b limits h k = one_roster_end P bytes a b (roster_end P bytes a h) (roster_end P bytes b k)
+one_second (Check workers) P bytes a b limits h k = one_log_end P IsAcceptance bytes a b limits (λ g e f. e ∙ sym f) (acceptance_end P bytes a h) (acceptance_end P bytes b k)
+one_second Reduce P bytes a b limits h k = one_log_end P (IsReducedTo P) bytes a b limits (λ g e f. same_reduction P g a b e f) (reduction_end P bytes a h) (reduction_end P bytes b k)
+one_second (Plan budget) P bytes a b limits h k = absurd h
+one_second Show P bytes a b limits h k = absurd h
+
+-- two answers of the problem's file
+
+data FileEnd (file : List ℕ) (answer : Answer) : Type 0 where
+  too_long : IsTooLong Kinds.Problem file → answer ≡ TooLong Kinds.Problem → FileEnd file answer
+  unread : (why : FileRefusal) → IsWithinLimit Kinds.Problem file → file_refusal file ≡ Some why → answer ≡ FileRefused why → FileEnd file answer
+
+file_end : (file : List ℕ) (answer : Answer) → IsFileAnswer answer file → FileEnd file answer
+file_end file (TooLong Kinds.Problem) h = too_long h refl
+file_end file (FileRefused why) h = unread why h.0 h.1 refl
+file_end file (TooLong Kinds.Roster) h = absurd h
+file_end file (TooLong Kinds.Log) h = absurd h
+file_end file (Roster s) h = absurd h
+file_end file (NoRoster g) h = absurd h
+file_end file (Undecided g) h = absurd h
+file_end file (Accepted R) h = absurd h
+file_end file (LogRefused why) h = absurd h
+file_end file (Reduced g) h = absurd h
+file_end file Meets h = absurd h
+file_end file Shown h = absurd h
+file_end file (Breaks b) h = absurd h
+file_end file (RosterRefused why) h = absurd h
+file_end file Usage h = absurd h
+
+same_file_end : (file : List ℕ) (a b : Answer) → FileEnd file a → FileEnd file b → a ≡ b
+same_file_end file a b (too_long l e) (too_long m f) = e ∙ sym f
+same_file_end file a b (too_long l e) (unread why s r f) = absurd (not_both Kinds.Problem file l s)
+same_file_end file a b (unread why s r e) (too_long l f) = absurd (not_both Kinds.Problem file l s)
+same_file_end file a b (unread why s r e) (unread other t q f) =
+    let both : Some why ≡ Some other = sym r ∙ q in
+    let same : why ≡ other = cc in
+    e ∙ ap FileRefused same ∙ sym f
+
+pub one_file_answer : (file : List ℕ) (a b : Answer) → IsFileAnswer a file → IsFileAnswer b file → a ≡ b
+one_file_answer file a b h k = same_file_end file a b (file_end file a h) (file_end file b k)
+
+unread_by : (file : List ℕ) (P : Instance) (why : FileRefusal) (o : Option FileRefusal) → o ≡ Some why → MatchOption o ((P : Instance) × SpellsProblem file P) (λ why. (P : Instance) → SpellsProblem file P → ⊥) → SpellsProblem file P → ⊥
+unread_by file P why None e m spells = absurd (cc)
+unread_by file P why (Some other) e m spells = m P spells
+
+no_file_end : TextsSpellOrFail → (file : List ℕ) (P : Instance) (a : Answer) → IsWithinLimit Kinds.Problem file → SpellsProblem file P → FileEnd file a → ⊥
+no_file_end decide file P a short spells (too_long l e) = not_both Kinds.Problem file l short
+no_file_end decide file P a short spells (unread why s r e) = unread_by file P why (file_refusal file) r (decide file) spells
+
+-- a file that spells an instance has no answer by itself
+pub not_by_itself : TextsSpellOrFail → (file : List ℕ) (P : Instance) (a : Answer) → IsWithinLimit Kinds.Problem file → SpellsProblem file P → IsFileAnswer a file → ⊥
+not_by_itself decide file P a short spells h = no_file_end decide file P a short spells (file_end file a h)

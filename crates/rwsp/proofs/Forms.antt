@@ -1,0 +1,102 @@
+-- The words of a command line have one form at most.
+use Rattle.std.proofs.Common.{◌≡◌, ℕ, List, Some, ap, sym, ◌∙◌, refl, subst, true, false}
+use Rattle.std.specs.Prelude.{[], ◌∷◌, codes}
+use Rattle.std.specs.String.{string_bytes}
+use Rattle.std.specs.Str.{bytes_eq}
+use Rattle.refutation_log.proofs.ReadParts.{bytes_same}
+use Rattle.rwsp.specs.Commands.{Words, IsForm, IsCount, greatest_budget, most_workers}
+use Rattle.rwsp.specs.declared.command.Command.{Command}
+use Rattle.rwsp.specs.declared.command.Command.TheVariants.{Plan, Check, Verify, Reduce, Show}
+
+same_count : (word : List ℕ) (limit m n : ℕ) → IsCount word limit m → IsCount word limit n → m ≡ n
+same_count word limit m n h k =
+    let both : Some m ≡ Some n = sym h.0 ∙ k.0 in
+    cc
+
+-- two names of commands
+
+unlike : (a b : List ℕ) → bytes_eq a b ≡ false → a ≡ b → ⊥
+unlike a b differ e =
+    let yes : bytes_eq a b ≡ true = subst (λ (c : List ℕ). bytes_eq a c ≡ true) e (bytes_same a) in
+    let both : true ≡ false = sym yes ∙ differ in
+    absurd (cc)
+
+not_show_and_plan : (word : List ℕ) → word ≡ codes "show" → word ≡ codes "plan" → ⊥
+not_show_and_plan word e f = unlike (codes "show") (codes "plan") refl (sym e ∙ f)
+
+not_verify_and_check : (word : List ℕ) → word ≡ codes "verify" → word ≡ codes "check" → ⊥
+not_verify_and_check word e f = unlike (codes "verify") (codes "check") refl (sym e ∙ f)
+
+not_verify_and_reduce : (word : List ℕ) → word ≡ codes "verify" → word ≡ codes "reduce" → ⊥
+not_verify_and_reduce word e f = unlike (codes "verify") (codes "reduce") refl (sym e ∙ f)
+
+not_check_and_reduce : (word : List ℕ) → word ≡ codes "check" → word ≡ codes "reduce" → ⊥
+not_check_and_reduce word e f = unlike (codes "check") (codes "reduce") refl (sym e ∙ f)
+
+pub one_form : (words : Words) (a b : Command) → IsForm words a → IsForm words b → a ≡ b
+one_form [] a b h k = absurd (no_words a h)
+  where
+    no_words : (c : Command) → IsForm [] c → ⊥
+    no_words (Plan budget) h = h
+    no_words (Check workers) h = h
+    no_words Verify h = h
+    no_words Show h = h
+    no_words Reduce h = h
+one_form (v ∷ []) (Plan m) b h k = absurd h
+one_form (v ∷ []) (Check m) b h k = absurd h
+one_form (v ∷ []) Verify b h k = absurd h
+one_form (v ∷ []) Show b h k = absurd h
+one_form (v ∷ []) Reduce b h k = absurd h
+one_form (v ∷ w ∷ []) Show Show h k = refl
+one_form (v ∷ w ∷ []) Show (Plan m) h k = absurd (not_show_and_plan (string_bytes v) h.0 k.0)
+one_form (v ∷ w ∷ []) (Plan m) Show h k = absurd (not_show_and_plan (string_bytes v) k.0 h.0)
+one_form (v ∷ w ∷ []) (Plan m) (Plan n) h k = ap Plan (h.2 ∙ sym k.2)
+one_form (v ∷ w ∷ []) Verify b h k = absurd h
+one_form (v ∷ w ∷ []) Reduce b h k = absurd h
+one_form (v ∷ w ∷ []) Show Reduce h k = absurd k
+one_form (v ∷ w ∷ []) (Plan m) Reduce h k = absurd k
+one_form (v ∷ w ∷ []) (Check m) b h k = absurd h
+one_form (v ∷ w ∷ []) Show Verify h k = absurd k
+one_form (v ∷ w ∷ []) Show (Check m) h k = absurd k
+one_form (v ∷ w ∷ []) (Plan n) Verify h k = absurd k
+one_form (v ∷ w ∷ []) (Plan n) (Check m) h k = absurd k
+one_form (v ∷ w ∷ x ∷ []) Verify Verify h k = refl
+one_form (v ∷ w ∷ x ∷ []) Verify (Check m) h k = absurd (not_verify_and_check (string_bytes v) h.0 k.0)
+one_form (v ∷ w ∷ x ∷ []) (Check m) Verify h k = absurd (not_verify_and_check (string_bytes v) k.0 h.0)
+one_form (v ∷ w ∷ x ∷ []) (Check m) (Check n) h k = ap Check (h.3 ∙ sym k.3)
+one_form (v ∷ w ∷ x ∷ []) Reduce Reduce h k = refl
+one_form (v ∷ w ∷ x ∷ []) Reduce Verify h k = absurd (not_verify_and_reduce (string_bytes v) k.0 h.0)
+one_form (v ∷ w ∷ x ∷ []) Verify Reduce h k = absurd (not_verify_and_reduce (string_bytes v) h.0 k.0)
+one_form (v ∷ w ∷ x ∷ []) Reduce (Check m) h k = absurd (not_check_and_reduce (string_bytes v) k.0 h.0)
+one_form (v ∷ w ∷ x ∷ []) (Check m) Reduce h k = absurd (not_check_and_reduce (string_bytes v) h.0 k.0)
+one_form (v ∷ w ∷ x ∷ []) Reduce Show h k = absurd k
+one_form (v ∷ w ∷ x ∷ []) Reduce (Plan m) h k = absurd k
+one_form (v ∷ w ∷ x ∷ []) Show b h k = absurd h
+one_form (v ∷ w ∷ x ∷ []) (Plan m) b h k = absurd h
+one_form (v ∷ w ∷ x ∷ []) Verify Show h k = absurd k
+one_form (v ∷ w ∷ x ∷ []) Verify (Plan m) h k = absurd k
+one_form (v ∷ w ∷ x ∷ []) (Check n) Show h k = absurd k
+one_form (v ∷ w ∷ x ∷ []) (Check n) (Plan m) h k = absurd k
+one_form (v ∷ w ∷ x ∷ y ∷ []) (Plan m) (Plan n) h k = ap Plan (same_count (string_bytes y) greatest_budget m n h.3 k.3)
+one_form (v ∷ w ∷ x ∷ y ∷ []) (Plan m) Show h k = absurd k
+one_form (v ∷ w ∷ x ∷ y ∷ []) (Plan m) Verify h k = absurd k
+one_form (v ∷ w ∷ x ∷ y ∷ []) (Plan m) (Check n) h k = absurd k
+one_form (v ∷ w ∷ x ∷ y ∷ []) (Plan m) Reduce h k = absurd k
+one_form (v ∷ w ∷ x ∷ y ∷ []) Reduce b h k = absurd h
+one_form (v ∷ w ∷ x ∷ y ∷ []) Show b h k = absurd h
+one_form (v ∷ w ∷ x ∷ y ∷ []) Verify b h k = absurd h
+one_form (v ∷ w ∷ x ∷ y ∷ []) (Check m) b h k = absurd h
+one_form (v ∷ w ∷ x ∷ y ∷ z ∷ []) (Check m) (Check n) h k = ap Check (same_count (string_bytes z) most_workers m n h.4 k.4)
+one_form (v ∷ w ∷ x ∷ y ∷ z ∷ []) (Check m) Show h k = absurd k
+one_form (v ∷ w ∷ x ∷ y ∷ z ∷ []) (Check m) Verify h k = absurd k
+one_form (v ∷ w ∷ x ∷ y ∷ z ∷ []) (Check m) (Plan n) h k = absurd k
+one_form (v ∷ w ∷ x ∷ y ∷ z ∷ []) (Check m) Reduce h k = absurd k
+one_form (v ∷ w ∷ x ∷ y ∷ z ∷ []) Reduce b h k = absurd h
+one_form (v ∷ w ∷ x ∷ y ∷ z ∷ []) Show b h k = absurd h
+one_form (v ∷ w ∷ x ∷ y ∷ z ∷ []) Verify b h k = absurd h
+one_form (v ∷ w ∷ x ∷ y ∷ z ∷ []) (Plan m) b h k = absurd h
+one_form (v ∷ w ∷ x ∷ y ∷ z ∷ u ∷ words) (Plan m) b h k = absurd h
+one_form (v ∷ w ∷ x ∷ y ∷ z ∷ u ∷ words) (Check m) b h k = absurd h
+one_form (v ∷ w ∷ x ∷ y ∷ z ∷ u ∷ words) Verify b h k = absurd h
+one_form (v ∷ w ∷ x ∷ y ∷ z ∷ u ∷ words) Reduce b h k = absurd h
+one_form (v ∷ w ∷ x ∷ y ∷ z ∷ u ∷ words) Show b h k = absurd h
