@@ -1,5 +1,5 @@
 // The lines of a chunk, judged one after the other.
-ghost use Rattle.std.specs.Prelude.{◌≡◌, ℕ, ◌+◌, ◌^◌, ◌<◌, List, length, Option, MatchOption};
+ghost use Rattle.std.specs.Prelude.{◌+◌, ◌^◌, ◌<◌, List, length, Option};
 ghost use Rattle.refutation_terms.specs.declared.lines.Line.{Line};
 ghost use Rattle.refutation_terms.specs.declared.lines.Turn.{Turn};
 ghost use Rattle.refutation_checker.specs.ChunkVerdicts.{StandsBehind, IsJudged};

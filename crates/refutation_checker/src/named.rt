@@ -1,5 +1,5 @@
 // The rules that a line cites and the header doesn't name.
-ghost use Rattle.std.specs.Prelude.{◌≡◌, ℕ, ◌≤◌, ◌<◌, ◌+◌, IfOk, MatchOption};
+ghost use Rattle.std.specs.Prelude.{◌≤◌, ◌<◌, ◌+◌, IfOk, MatchOption};
 ghost use Rattle.refutation_terms.specs.Log.{Cites, LineFits};
 ghost use Rattle.refutation_terms.specs.Verdict.{IsLeast, IsUnnamed};
 ghost use Rattle.refutation_checker.specs.LineVerdicts.{NamesCited};

@@ -1,5 +1,5 @@
 // Whether a line stands by itself: what can be judged without searching for a word.
-ghost use Rattle.std.specs.Prelude.{◌≡◌, ℕ, ◌<◌, ◌≤◌, ◌↔◌, length, IsTrue, false, IfOk, MatchOption};
+ghost use Rattle.std.specs.Prelude.{◌≡◌, ◌<◌, ◌↔◌, length, IsTrue, false, IfOk, MatchOption};
 ghost use Rattle.refutation_terms.specs.Log.{LineFits};
 ghost use Rattle.refutation_terms.specs.Tree.{is_idle};
 ghost use Rattle.domain_store.specs.Store.{BelongsTo, has_domain};

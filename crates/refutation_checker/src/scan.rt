@@ -1,6 +1,5 @@
 // Going through the lines of a log without judging leaves, to find where the chunks of its lines start.
-ghost use Rattle.std.specs.Prelude.{◌≡◌, ◌≢◌, ℕ, ◌+◌, ◌^◌, ◌<◌, ◌≤◌, List, [], length, Option, All, IfOk, IfSome, MatchOption, MatchBool, take, false, ◌∷◌, ◌++◌};
-ghost use Rattle.rwsp_terms.specs.Instance.{Instance};
+ghost use Rattle.std.specs.Prelude.{◌≢◌, ◌+◌, ◌^◌, ◌<◌, ◌≤◌, List, [], length, Option, All, IfOk, IfSome, MatchOption, MatchBool, take, false};
 ghost use Rattle.refutation_terms.specs.declared.lines.Line.{Line as TheLine};
 ghost use Rattle.refutation_terms.specs.declared.lines.Turn.{Turn};
 ghost use Rattle.tree_walk.specs.States.{IsStateOf};

@@ -1,5 +1,5 @@
 // The turn of a header, judged.
-ghost use Rattle.std.specs.Prelude.{◌≡◌, ◌≤◌, Some, MatchOption};
+ghost use Rattle.std.specs.Prelude.{Some, MatchOption};
 ghost use Rattle.refutation_terms.specs.Log.{TurnFits};
 ghost use Rattle.refutation_checker.specs.Turns.{IsSoundTurn, TurnFault, IsTurnFault};
 

@@ -1,5 +1,5 @@
 // The rules that the lines of a log cite.
-ghost use Rattle.std.specs.Prelude.{◌≡◌, ◌⊎◌, ◌↔◌, ℕ, Some, OnOk, OnErr, Contains};
+ghost use Rattle.std.specs.Prelude.{◌≡◌, ◌⊎◌, ◌↔◌, Some, OnOk, OnErr, Contains};
 ghost use Rattle.rwsp_terms.specs.declared.data.Rule.{Rule};
 ghost use Rattle.rwsp_terms.specs.Instance.{IsDay};
 ghost use Rattle.rwsp_terms.specs.Rules.{Names};

@@ -1,7 +1,6 @@
 // The fields of a line, one after another.
-ghost use Rattle.std.specs.Prelude.{◌≡◌, ◌≢◌, ◌<◌, ◌≤◌, ◌^◌, ℕ, List, [], ◌∷◌, ◌++◌, length, take, Option, Some, None, MatchOption, IfSome, MatchBool, codes};
+ghost use Rattle.std.specs.Prelude.{◌≡◌, ◌≢◌, ◌<◌, ◌≤◌, ℕ, List, [], ◌∷◌, length, take, Option, Some, None, MatchOption, IfSome, MatchBool};
 ghost use Rattle.std.specs.List.{list_all};
-ghost use Rattle.rwsp_terms.specs.Instance.{cells};
 ghost use Rattle.refutation_log.specs.FieldList.{fields_of, fields_after, rest_of};
 ghost use Rattle.refutation_log.specs.Reading.{is_plain, number_in, value_in, IsValue, is_visible, is_name, number_at, name_at, value_at, word_at, way_at, place_at, Reads, TakesNumber, ReadsRest};
 

@@ -1,5 +1,5 @@
 // The weights of a line, gathered one by one.
-ghost use Rattle.std.specs.Prelude.{◌≡◌, ◌↔◌, ℤ, IfOk, OnOk, Option, AllPairs, IsTrue, MatchBool, Some};
+ghost use Rattle.std.specs.Prelude.{◌≡◌, ◌↔◌, ℤ, IfOk, OnOk, AllPairs, IsTrue, MatchBool, Some};
 ghost use Rattle.rwsp_terms.specs.Instance.{symbol_of};
 ghost use Rattle.rwsp_terms.specs.Places.{Precedes};
 ghost use Rattle.rwsp_terms.specs.Weights.{AreWeights, ComesBefore};

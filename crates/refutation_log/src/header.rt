@@ -3,7 +3,7 @@ ghost use Rattle.std.specs.Prelude.{◌≡◌, ◌≤◌, ◌++◌, Option, Some
 ghost use Rattle.rwsp_terms.specs.Instance.{Instance, name_of};
 ghost use Rattle.rwsp_model.specs.Refusals.{MatchAnswer};
 ghost use Rattle.refutation_terms.specs.Log.{AreRules, TurnFits};
-ghost use Rattle.refutation_terms.specs.LogText.{header_text, version_text, rules_text, turn_text};
+ghost use Rattle.refutation_terms.specs.LogText.{version_text, rules_text, turn_text};
 ghost use Rattle.refutation_terms.specs.Verdict.{header_lines, TurnsTo};
 ghost use Rattle.refutation_log.specs.FieldList.{fields_of};
 ghost use Rattle.refutation_log.specs.Refusals.{SpellsVersion, SpellsRules, IsTurnRefused};

@@ -16,7 +16,7 @@ pub struct Log {
 }
 
 impl Model for Log {
-    ghost use Rattle.std.specs.Prelude.{◌≡◌, ◌≤◌, length, Some, [], List, ℕ};
+    ghost use Rattle.std.specs.Prelude.{◌≡◌, ◌≤◌, length, Some, []};
     ghost use Rattle.refutation_terms.specs.Log.{Log as LogValue};
     ghost use Rattle.refutation_terms.specs.Tree.{after_trees};
 

@@ -1,5 +1,5 @@
 // The text of a log.
-ghost use Rattle.std.specs.Prelude.{◌≡◌, ℕ, ◌++◌, ◌∷◌, [], ◌<◌, map, OnOk, OnErr, IfOk, Option, Some, List, length, slice_get, codes};
+ghost use Rattle.std.specs.Prelude.{◌≡◌, ℕ, ◌++◌, ◌∷◌, ◌<◌, map, OnOk, OnErr, IfOk, Option, Some, slice_get};
 ghost use Rattle.std.specs.List.{join_with_byte};
 ghost use Rattle.std.specs.Fmt.{signed_decimal, decimal};
 ghost use Rattle.rwsp_terms.specs.Instance.{cells, IsSymbol, name_of};
@@ -7,7 +7,7 @@ ghost use Rattle.rwsp_terms.specs.declared.data.Symbol.{Symbol};
 ghost use Rattle.rwsp_terms.specs.declared.data.Weight.{Weight};
 ghost use Rattle.refutation_terms.specs.declared.lines.Line.{Line};
 ghost use Rattle.refutation_terms.specs.Log.{Fits, LineFits, TurnFits};
-ghost use Rattle.refutation_terms.specs.LogText.{RawSplit, RawWindow, RawDay, RawDead, RawBound, raw, fields, line_text, log_text, header_text, rules_text, version_text, turn_text, place, numbers, weight_fields, named_weight, way};
+ghost use Rattle.refutation_terms.specs.LogText.{RawSplit, RawWindow, RawDay, RawDead, RawBound, raw, fields, line_text, log_text, header_text, rules_text, turn_text, place, numbers, weight_fields, named_weight, way};
 ghost use Rattle.refutation_log.specs.Printing.{spaced, lines_text, words_of, WeightsFit};
 
 use crate::Log;

@@ -1,7 +1,6 @@
-ghost use Rattle.std.specs.Prelude.{◌≡◌, ◌≤◌, ℕ, MatchOption};
 ghost use Rattle.rwsp_terms.specs.declared.data.Symbol.{Symbol};
 ghost use Rattle.rwsp_terms.specs.Instance.{IsDay};
-ghost use Rattle.refutation_terms.specs.Sharp.{IsDemanded, IsFirstTurn};
+ghost use Rattle.refutation_terms.specs.Sharp.{IsFirstTurn};
 ghost use Rattle.refutation_log.specs.Turns.{IsFirstOn};
 
 use refutation_terms::Turn;

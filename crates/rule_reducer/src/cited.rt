@@ -1,10 +1,10 @@
 // Leaves and turns that rest on a rule in another way than by a list of rules, so that no strip
 // takes the rule from them.
-ghost use Rattle.std.specs.Prelude.{◌≡◌, ◌↔◌, ℕ, Some, IsTrue, Option, slice_get};
+ghost use Rattle.std.specs.Prelude.{◌≡◌, ◌↔◌, Some, IsTrue, Option};
 ghost use Rattle.rwsp_terms.specs.Instance.{Instance};
 ghost use Rattle.rwsp_terms.specs.Rules.{rule_of};
 ghost use Rattle.rwsp_terms.specs.declared.data.Rule.TheVariants.{Day};
-ghost use Rattle.refutation_terms.specs.Log.{Cites, TurnCites, Passes};
+ghost use Rattle.refutation_terms.specs.Log.{TurnCites, Passes};
 ghost use Rattle.refutation_terms.specs.Strip.{strip};
 ghost use Rattle.rule_reducer.specs.Citing.{CitesPlainly, OneCitesPlainly};
 

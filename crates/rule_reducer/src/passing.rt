@@ -1,5 +1,5 @@
 // Whether a log passes.
-ghost use Rattle.std.specs.Prelude.{◌≡◌, ◌↔◌, IsTrue, IfOk};
+ghost use Rattle.std.specs.Prelude.{◌↔◌, IsTrue, IfOk};
 ghost use Rattle.refutation_terms.specs.Log.{Fits, Passes};
 
 use refutation_checker::check_log;

@@ -1,5 +1,5 @@
 // Logs without the rules that they can do without.
-ghost use Rattle.std.specs.Prelude.{◌≡◌, IfOk};
+ghost use Rattle.std.specs.Prelude.{IfOk};
 ghost use Rattle.rwsp_model.specs.Refusals.{MatchAnswer};
 ghost use Rattle.refutation_terms.specs.Log.{Fits, Passes};
 ghost use Rattle.refutation_terms.specs.LogText.{log_text};
