@@ -15,8 +15,8 @@ pub fn lies_in(doms: &Domains, class: Class, day: u32) -> bool
     doms.facts();
     let p = day % doms.cells();
     match class {
-        Class::Shift(shift) => is_alone(doms, p, shift),
-        Class::Off => is_alone(doms, p, Symbol::OFF),
+        Class::Shift(shift) => doms.has_only(p, shift),
+        Class::Off => doms.has_only(p, Symbol::OFF),
         Class::Work => !doms.has(p, Symbol::OFF),
     }
 }
@@ -31,18 +31,6 @@ pub fn lies_outside(doms: &Domains, class: Class, day: u32) -> bool
     match class {
         Class::Shift(shift) => !doms.has(p, shift),
         Class::Off => !doms.has(p, Symbol::OFF),
-        Class::Work => is_alone(doms, p, Symbol::OFF),
+        Class::Work => doms.has_only(p, Symbol::OFF),
     }
-}
-
-// Whether the domain of the position has this symbol alone.
-fn is_alone(doms: &Domains, p: u32, x: Symbol) -> bool
-    requires { p < length doms.now.sets }
-    ensures { IsTrue result ↔ ((y : ℕ) → IsTrue (has_domain doms.now p y) → y ≡ x.number) }
-{
-    doms.facts();
-    if doms.size(p) != 1 {
-        return false;
-    }
-    doms.has(p, x)
 }

@@ -10,7 +10,7 @@ use Rattle.refutation_terms.specs.declared.lines.LogRefusal.TheVariants as Refus
 use Rattle.refutation_terms.specs.Word.{Domains}
 use Rattle.refutation_terms.specs.Leaf.{IsDead, IsTooLight}
 use Rattle.refutation_terms.specs.Tree.{is_idle}
-use Rattle.refutation_terms.specs.Log.{Cites, Holds, ListsShortOnly}
+use Rattle.refutation_terms.specs.Log.{Cites, Holds, ListsShortOnly, CitesOnlyNamed}
 use Rattle.refutation_terms.specs.Verdict.{IsLeast, IsUnnamed, ListsLong, IsPlainLeaf, Escapes}
 
 -- a split that isn't idle, or a window or a day leaf that holds. Nothing is said of dead and bound leaves
@@ -19,13 +19,9 @@ StandsPlainly P D (Dead p len R) = Unit {0}
 StandsPlainly P D (Bound p turns R y) = Unit {0}
 StandsPlainly P D line = Holds P D line
 
--- the list names each rule that the line cites
-abbrev pub NamesCited : Instance → List ℕ → Line → Type 0
-NamesCited P named line = (r : Rule) → Cites P line r → Names P named r
-
 -- the line has no cause but a word that escapes it
 pub record IsPlainlySound (P : Instance) (named : List ℕ) (D : Domains) (line : Line) : Type 0 where
-  pub named_all : NamesCited P named line
+  pub named_all : CitesOnlyNamed P named line
   pub short : ListsShortOnly P line
   pub stands : StandsPlainly P D line
 
@@ -38,8 +34,8 @@ IsIdleSplit P D line = ⊥
 abbrev pub PlainCause : Instance → List ℕ → Domains → ℕ → Line → LogRefusal → Type 0
 PlainCause P named D n line (Refusals.Unnamed i k) = (i ≡ n) × IsLeast (IsUnnamed P named (Cites P line)) k
 PlainCause P named D n line (Refusals.Idle i) = (i ≡ n) × IsIdleSplit P D line
-PlainCause P named D n line (Refusals.Long i k) = (i ≡ n) × NamesCited P named line × IsLeast (ListsLong P line) k
-PlainCause P named D n line (Refusals.Fails i) = (i ≡ n) × NamesCited P named line × IsPlainLeaf line × (Holds P D line → ⊥)
+PlainCause P named D n line (Refusals.Long i k) = (i ≡ n) × CitesOnlyNamed P named line × IsLeast (ListsLong P line) k
+PlainCause P named D n line (Refusals.Fails i) = (i ≡ n) × CitesOnlyNamed P named line × IsPlainLeaf line × (Holds P D line → ⊥)
 PlainCause P named D n line (Refusals.Unfinished i) = (i ≡ n) × (line ≡ Unfinished)
 PlainCause P named D n line why = ⊥
 
@@ -57,11 +53,11 @@ HoldsByWords P D line = Unit {0}
 
 -- the line has no cause
 pub record IsSound (P : Instance) (named : List ℕ) (D : Domains) (line : Line) : Type 0 where
-  pub named_all : NamesCited P named line
+  pub named_all : CitesOnlyNamed P named line
   pub short : ListsShortOnly P line
   pub holds : Holds P D line
 
 -- the lowest cause to refuse the line as text line n
 abbrev pub LineCause : Instance → List ℕ → Domains → ℕ → Line → LogRefusal → Type 0
-LineCause P named D n line (Refusals.Escape i w) = (i ≡ n) × NamesCited P named line × ListsShortOnly P line × Escapes P D line w
+LineCause P named D n line (Refusals.Escape i w) = (i ≡ n) × CitesOnlyNamed P named line × ListsShortOnly P line × Escapes P D line w
 LineCause P named D n line why = PlainCause P named D n line why

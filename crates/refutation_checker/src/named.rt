@@ -2,7 +2,7 @@
 ghost use Rattle.std.specs.Prelude.{◌≤◌, ◌<◌, ◌+◌, IfOk, MatchOption};
 ghost use Rattle.refutation_terms.specs.Log.{Cites, LineFits};
 ghost use Rattle.refutation_terms.specs.Verdict.{IsLeast, IsUnnamed};
-ghost use Rattle.refutation_checker.specs.LineVerdicts.{NamesCited};
+ghost use Rattle.refutation_terms.specs.Log.{CitesOnlyNamed};
 ghost use Rattle.refutation_checker.specs.Outside.{IsOutside, HoldsUpTo};
 
 use refutation_log::put_cited;
@@ -33,7 +33,7 @@ pub fn unnamed(
 ) -> Result<Option<u32>, AllocError>
     requires { LineFits problem.now line.now }
     ensures { IfOk result (λ found. MatchOption found
-        (NamesCited problem.now named.now line.now)
+        (CitesOnlyNamed problem.now named.now line.now)
         (λ k. IsLeast (IsUnnamed problem.now named.now (Cites problem.now line.now)) k)) }
 {
     let mut cited = RuleList::new(alloc);

@@ -22,7 +22,3 @@ EachFits P lines = AllByRecursion (LineFits P) lines
 -- the fields of weights
 abbrev pub words_of : Instance → List Weight → List (List ℕ)
 words_of P y = flat_map weight_fields (map (named_weight P) y)
-
--- weights on days and symbols of the problem alone
-abbrev pub WeightsFit : Instance → List Weight → Type 0
-WeightsFit P y = All (λ e. IsDay P e.day × IsSymbol P e.symbol) y

@@ -3,9 +3,8 @@ ghost use Rattle.std.specs.Prelude.{◌≡◌, ◌⊎◌, ◌↔◌, Some, OnOk,
 ghost use Rattle.rwsp_terms.specs.declared.data.Rule.{Rule};
 ghost use Rattle.rwsp_terms.specs.Instance.{IsDay};
 ghost use Rattle.rwsp_terms.specs.Rules.{Names};
-ghost use Rattle.refutation_terms.specs.Log.{LineFits, Cites, TurnCites};
+ghost use Rattle.refutation_terms.specs.Log.{LineFits, Cites, TurnCites, WeightsFit};
 ghost use Rattle.refutation_log.specs.Cited.{Adds, AddsSome, IsCited, IsDayRule, IsWeighedDayRule};
-ghost use Rattle.refutation_log.specs.Printing.{WeightsFit};
 
 use refutation_terms::{Line, Turn};
 use rwsp_model::{Problem, number_of};

@@ -140,16 +140,8 @@ fn is_surely(domains: &Domains, p: u32, class: Class) -> bool
     requires { p < length domains.now.sets }
 {
     match domains.only(p) {
-        Some(x) => is_in(class, x),
+        Some(x) => class.has(x),
         None => false,
-    }
-}
-
-fn is_in(class: Class, x: Symbol) -> bool {
-    match class {
-        Class::Shift(shift) => x.number == shift.number,
-        Class::Off => x.number == 0,
-        Class::Work => x.number > 0,
     }
 }
 

@@ -1,11 +1,11 @@
 // The search.
-ghost use Rattle.std.specs.Prelude.{ℕ, ◌+◌, ◌*◌, ◌^◌, ◌<◌, ◌≤◌, ◌↔◌, Bool, IfOk};
+ghost use Rattle.std.specs.Prelude.{ℕ, ◌+◌, ◌*◌, ◌^◌, ◌<◌, ◌≤◌, ◌↔◌, IfOk};
 ghost use Rattle.rwsp_terms.specs.declared.data.Symbol.{Symbol};
 ghost use Rattle.rwsp_terms.specs.Instance.{Instance, cells, shift_count};
 ghost use Rattle.refutation_terms.specs.declared.lines.Line.{Line};
-ghost use Rattle.refutation_terms.specs.declared.lines.Line.TheVariants.{Window, Day};
-ghost use Rattle.refutation_terms.specs.Log.{LineFits, TurnFits, IsAllowed};
+ghost use Rattle.refutation_terms.specs.Log.{TurnFits, IsAllowed};
 ghost use Rattle.domain_store.specs.Store.{Store};
+ghost use Rattle.propagators.specs.Looks.{HasPlainLeaves};
 ghost use Rattle.roster_search.specs.Founds.{IsFound, HasSpentBudget};
 
 use crate::Found;
@@ -19,8 +19,6 @@ use std::alloc::{AllocError, Global};
 
 /// Looks for a roster by splitting cases, and writes the cases down as the lines of a log, of at most `budget` splits and leaves
 /// that hold. With a turn, its symbol is alone on its day of the first week.
-///
-/// The leaves of the propagator include all window and day leaves.
 pub fn search<A: Propagator>(
     alloc: Global,
     problem: &Problem,
@@ -31,8 +29,7 @@ pub fn search<A: Propagator>(
     requires budget { (1 ≤ budget) × (budget ≤ 200000) }
     requires turn { TurnFits problem.now turn × IsAllowed problem.now turn }
     requires serves { A.serves propagator.old problem.now }
-    requires windows { (S : Store) (number p len : ℕ) → LineFits problem.now (Window number p len) → A.leaves propagator.old S (Window number p len) }
-    requires days { (S : Store) (j : ℕ) (x : Symbol) (over : Bool) → LineFits problem.now (Day j x over) → A.leaves propagator.old S (Day j x over) }
+    requires plain { HasPlainLeaves problem.now (A.leaves propagator.old) }
     ensures found { IfOk result (λ found. IsFound problem.now turn budget (A.leaves propagator.old) (A.spent propagator.old) found) }
     ensures complete { IfOk result (λ found. HasSpentBudget found → budget + 1 < 2 * (shift_count problem.now + 1) ^ cells problem.now) }
     ensures serves { (P : Instance) → A.serves propagator.old P ↔ A.serves propagator.new P }

@@ -1,13 +1,12 @@
 // One turn of a search.
-ghost use Rattle.std.specs.Prelude.{◌≡◌, ℕ, ◌<◌, ◌≤◌, ◌↔◌, Bool, length, Option, false, IfOk, IfSome, None};
+ghost use Rattle.std.specs.Prelude.{◌≡◌, ℕ, ◌<◌, ◌≤◌, ◌↔◌, length, Option, false, IfOk, IfSome, None};
 ghost use Rattle.rwsp_terms.specs.declared.data.Symbol.{Symbol};
 ghost use Rattle.rwsp_terms.specs.Instance.{Instance};
 ghost use Rattle.rwsp_terms.specs.Roster.{MeetsAll};
 ghost use Rattle.refutation_terms.specs.declared.lines.Line.{Line};
-ghost use Rattle.refutation_terms.specs.declared.lines.Line.TheVariants.{Window, Day};
 ghost use Rattle.refutation_terms.specs.declared.lines.Turn.{Turn};
-ghost use Rattle.refutation_terms.specs.Log.{LineFits};
 ghost use Rattle.domain_store.specs.Store.{Store};
+ghost use Rattle.propagators.specs.Looks.{HasPlainLeaves};
 ghost use Rattle.roster_search.specs.Written.{IsUnderWay};
 
 use crate::choice::choose;
@@ -32,8 +31,7 @@ pub fn step<A: Propagator>(
     requires room { length progress.old.lines.items < budget }
     requires serves { A.serves propagator.old problem.now }
     requires tracks { A.tracks propagator.old progress.old.walk.store }
-    requires windows { (S : Store) (number p len : ℕ) → LineFits problem.now (Window number p len) → A.leaves propagator.old S (Window number p len) }
-    requires days { (S : Store) (j : ℕ) (x : Symbol) (over : Bool) → LineFits problem.now (Day j x over) → A.leaves propagator.old S (Day j x over) }
+    requires plain { HasPlainLeaves problem.now (A.leaves propagator.old) }
     ensures under_way { IfOk result (λ found. found ≡ None → IsUnderWay problem.now progress.old.turn budget (A.leaves propagator.old) (A.spent propagator.old) progress.new) }
     ensures longer { IfOk result (λ found. found ≡ None → length progress.old.lines.items < length progress.new.lines.items) }
     ensures tracks { IfOk result (λ found. found ≡ None → A.tracks propagator.new progress.new.walk.store) }

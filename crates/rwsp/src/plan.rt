@@ -1,10 +1,9 @@
 // A roster for a problem, or a refutation.
-ghost use Rattle.std.specs.Prelude.{◌≡◌, ◌↔◌, ◌≤◌, ℕ, Bool, IfOk};
+ghost use Rattle.std.specs.Prelude.{◌≡◌, ◌↔◌, ◌≤◌, ℕ, IfOk};
 ghost use Rattle.rwsp_terms.specs.declared.data.Symbol.{Symbol};
-ghost use Rattle.refutation_terms.specs.declared.lines.Line.TheVariants.{Window, Day};
-ghost use Rattle.refutation_terms.specs.Log.{LineFits};
 ghost use Rattle.domain_store.specs.Store.{Store, has_domain};
 ghost use Rattle.propagators.specs.Days.{IsDaySpent};
+ghost use Rattle.propagators.specs.Looks.{HasPlainLeaves};
 ghost use Rattle.rwsp.specs.Commands.{greatest_budget};
 ghost use Rattle.rwsp.specs.Plans.{IsPlanned, answer_of};
 
@@ -31,8 +30,7 @@ pub fn planned(alloc: Global, problem: &Problem, budget: u32) -> Result<Answer, 
 // The window leaves and the day leaves of the problem.
 fn reasons_of(alloc: Global, problem: &Problem) -> Result<Pair<WindowProp, DayProp>, AllocError>
     ensures serves { IfOk result (λ r. ⟦<Pair<WindowProp, DayProp> as Propagator>⟧.serves r problem.now) }
-    ensures windows { IfOk result (λ r. (S : Store) (number p len : ℕ) → LineFits problem.now (Window number p len) → ⟦<Pair<WindowProp, DayProp> as Propagator>⟧.leaves r S (Window number p len)) }
-    ensures days { IfOk result (λ r. (S : Store) (j : ℕ) (x : Symbol) (over : Bool) → LineFits problem.now (Day j x over) → ⟦<Pair<WindowProp, DayProp> as Propagator>⟧.leaves r S (Day j x over)) }
+    ensures plain { IfOk result (λ r. HasPlainLeaves problem.now (⟦<Pair<WindowProp, DayProp> as Propagator>⟧.leaves r)) }
     ensures spent { IfOk result (λ r. (S : Store) (p : ℕ) (x : Symbol) → ⟦<Pair<WindowProp, DayProp> as Propagator>⟧.spent r S p x ↔ IsDaySpent problem.now (has_domain S) p x) }
 {
     let doms = Domains::new(alloc, problem)?;

@@ -6,12 +6,12 @@ use Rattle.plain_leaves.proofs.domain.lies_in.Goals as goal
 pub returns-in-Shift : goal.returns-in-Shift
 returns-in-Shift c =
     let S = c.args.doms.now in
-    in_shift S c.args.day c.in-Shift.shift c.args.class (IsTrue c.is_alone.result) c.in-Shift.is (only_at S c.args.day c.cells.result c.in-Shift.shift.number (IsTrue c.is_alone.result) c.cells.ensures.positions c.is_alone.ensures)
+    in_shift S c.args.day c.in-Shift.shift c.args.class (IsTrue c.has_only.result) c.in-Shift.is (only_at S c.args.day c.cells.result c.in-Shift.shift.number (IsTrue c.has_only.result) c.cells.ensures.positions c.has_only.ensures.others)
 
 pub returns-in-Off : goal.returns-in-Off
 returns-in-Off c =
     let S = c.args.doms.now in
-    in_off S c.args.day c.args.class (IsTrue c.is_alone-in-Off.result) c.in-Off.is (only_at S c.args.day c.cells.result 0 (IsTrue c.is_alone-in-Off.result) c.cells.ensures.positions c.is_alone-in-Off.ensures)
+    in_off S c.args.day c.args.class (IsTrue c.has_only-in-Off.result) c.in-Off.is (only_at S c.args.day c.cells.result 0 (IsTrue c.has_only-in-Off.result) c.cells.ensures.positions c.has_only-in-Off.ensures.others)
 
 pub returns-in-Work : goal.returns-in-Work
 returns-in-Work c =

@@ -11,4 +11,4 @@ returns-in-Off c =
 pub returns-in-Work : goal.returns-in-Work
 returns-in-Work c =
     let S = c.args.doms.now in
-    outside_work S c.args.day c.args.class (IsTrue c.is_alone.result) c.in-Work.is (only_at S c.args.day c.cells.result 0 (IsTrue c.is_alone.result) c.cells.ensures.positions c.is_alone.ensures)
+    outside_work S c.args.day c.args.class (IsTrue c.has_only.result) c.in-Work.is (only_at S c.args.day c.cells.result 0 (IsTrue c.has_only.result) c.cells.ensures.positions c.has_only.ensures.others)

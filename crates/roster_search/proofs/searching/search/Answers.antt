@@ -22,11 +22,11 @@ step-requires-clause-under_way g c =
     subst (λ (t : Option Turn). IsUnderWay P t c.args.budget leaves' spent' s) (sym c.loop-alloc.invariant.under_way.same_turn)
     (under_way_by P c.args.turn c.args.budget leaves leaves' spent spent' s c.loop-alloc.invariant.leaves c.loop-alloc.invariant.spent c.loop-alloc.invariant.under_way)
 
-pub step-requires-clause-windows : goal.step-requires-clause-windows
-step-requires-clause-windows g c S number p len fits = (c.loop-alloc.invariant.leaves S (Window number p len)).0 (c.requires.windows S number p len fits)
-
-pub step-requires-clause-days : goal.step-requires-clause-days
-step-requires-clause-days g c S j x over fits = (c.loop-alloc.invariant.leaves S (Day j x over)).0 (c.requires.days S j x over fits)
+pub step-requires-clause-plain : goal.step-requires-clause-plain
+step-requires-clause-plain g c = record {
+  windows = λ S number p len fits. (c.loop-alloc.invariant.leaves S (Window number p len)).0 (c.requires.plain.windows S number p len fits);
+  days = λ S j x over fits. (c.loop-alloc.invariant.leaves S (Day j x over)).0 (c.requires.plain.days S j x over fits);
+}
 
 pub loop-alloc-preserved : goal.loop-alloc-preserved
 loop-alloc-preserved g c =

@@ -32,7 +32,7 @@ met_roster-requires-clause-windows g c number p len fits holds =
     let spent = g.A.Propagator.spent c.args.propagator.now in
     let look : IsLook P (leaves S) (spent S) S Quiet =
     seen P leaves spent S c.domains.result.now c.in_ok-line.field-0 Quiet c.domains.ensures.value c.in-Quiet.is (c.in_ok-line.ensures.look P c.requires.serves) in
-    look.0 (Window number p len, c.requires.windows S number p len fits, subst (λ (T : Store). Holds P (has_domain T) (Window number p len)) c.domains-in-None.ensures.value holds)
+    look.0 (Window number p len, c.requires.plain.windows S number p len fits, subst (λ (T : Store). Holds P (has_domain T) (Window number p len)) c.domains-in-None.ensures.value holds)
 
 pub met_roster-requires-clause-days : goal.met_roster-requires-clause-days
 met_roster-requires-clause-days g c j x over fits holds =
@@ -42,7 +42,7 @@ met_roster-requires-clause-days g c j x over fits holds =
     let spent = g.A.Propagator.spent c.args.propagator.now in
     let look : IsLook P (leaves S) (spent S) S Quiet =
     seen P leaves spent S c.domains.result.now c.in_ok-line.field-0 Quiet c.domains.ensures.value c.in-Quiet.is (c.in_ok-line.ensures.look P c.requires.serves) in
-    look.0 (Day j x over, c.requires.days S j x over fits, subst (λ (T : Store). Holds P (has_domain T) (Day j x over)) c.domains-in-None.ensures.value holds)
+    look.0 (Day j x over, c.requires.plain.days S j x over fits, subst (λ (T : Store). Holds P (has_domain T) (Day j x over)) c.domains-in-None.ensures.value holds)
 
 pub returns-in_ok-close-in-Closed-clause-under_way :
     goal.returns-in_ok-close-in-Closed-clause-under_way

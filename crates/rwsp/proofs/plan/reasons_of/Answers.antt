@@ -5,11 +5,11 @@ use Rattle.rwsp.proofs.plan.reasons_of.Goals as goal
 pub returns-clause-serves : goal.returns-clause-serves
 returns-clause-serves c = (c.new-4.ensures.serves c.args.problem.now).1 (c.in_ok-windows.ensures.serves, c.in_ok-days.ensures.serves)
 
-pub returns-clause-windows : goal.returns-clause-windows
-returns-clause-windows c = λ S number p len fits. (c.new-4.ensures.leaves S (Window number p len)).1 (inl (c.in_ok-windows.ensures.leaves S number p len fits))
-
-pub returns-clause-days : goal.returns-clause-days
-returns-clause-days c = λ S j x over fits. (c.new-4.ensures.leaves S (Day j x over)).1 (inr (c.in_ok-days.ensures.leaves S j x over fits))
+pub returns-clause-plain : goal.returns-clause-plain
+returns-clause-plain c = record {
+  windows = λ S number p len fits. (c.new-4.ensures.leaves S (Window number p len)).1 (inl (c.in_ok-windows.ensures.leaves S number p len fits));
+  days = λ S j x over fits. (c.new-4.ensures.leaves S (Day j x over)).1 (inr (c.in_ok-days.ensures.leaves S j x over fits));
+}
 
 pub returns-clause-spent : goal.returns-clause-spent
 returns-clause-spent c = λ S p x. (
