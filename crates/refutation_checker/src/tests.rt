@@ -183,21 +183,24 @@ fn escaped_leaves_are_refused(rt: HostRuntime) -> Result<(), Fail> {
     let alloc = rt.alloc();
     let four = Problem::of(four_cells(alloc)?)?;
     let six = Problem::of(six_cells(alloc)?)?;
+    let heaviest = escape(alloc, 3, &[1, 0, 0, 1])?;
+    let behind_a_split = escape(alloc, 5, &[0, 0, 0, 0, 0, 0, 0])?;
+    let days_off = escape(alloc, 3, &[0, 0, 0, 0, 0, 0, 0])?;
     for (problem, text, wanted) in [
         (
             &four,
             b"rwsp-log 1\nrules 1 3 4 7\nbound 1 1 1 rules 1 3 4 weights 1 D 1\n".as_slice(),
-            escape(alloc, 3, &[1, 0, 0, 1])?,
+            heaviest,
         ),
         (
             &six,
             b"rwsp-log 1\nrules 1 2 3 4\nsplit 1 1 D\ndead 1 1 7 rules 1 2 3 4\ndead 1 1 7 rules 1\n".as_slice(),
-            escape(alloc, 5, &[0, 0, 0, 0, 0, 0, 0])?,
+            behind_a_split,
         ),
         (
             &six,
             b"rwsp-log 1\nrules 1\ndead 1 1 7 rules 1\n".as_slice(),
-            escape(alloc, 3, &[0, 0, 0, 0, 0, 0, 0])?,
+            days_off,
         ),
     ] {
         assert!(rt; is_refused_for(alloc, problem, text, &wanted)?);
