@@ -1,5 +1,5 @@
 // What a search has written so far.
-ghost use Rattle.std.specs.Prelude.{◌≡◌, ◌↔◌, ℕ, ◌<◌, ◌≤◌, [], ◌∷◌, ◌++◌, length, true, false, IsTrue, Some, Contains, IfOk};
+ghost use Rattle.std.specs.Prelude.{◌≡◌, ◌↔◌, ℕ, ◌+◌, ◌<◌, ◌≤◌, [], ◌∷◌, ◌++◌, length, true, false, IsTrue, Some, Contains, IfOk};
 ghost use Rattle.rwsp_terms.specs.Instance.{Instance, cells};
 ghost use Rattle.refutation_terms.specs.declared.lines.Line.TheVariants.{Split};
 ghost use Rattle.refutation_terms.specs.Word.{AreSame};
@@ -121,6 +121,7 @@ impl Progress {
         requires holds { Holds problem.now (narrowed (has_domain self.old.walk.store) (Split p x) First) line }
         ensures off { IfOk result (λ _. IsSplitOff problem.now self.old self.new p x) }
         ensures few { IfOk result (λ _. length self.new.lines.items ≤ budget) }
+        ensures leaf { IfOk result (λ _. length self.old.lines.items + 1 < budget → self.new.lines.items ≡ self.old.lines.items ++ Split p x ∷ line ∷ []) }
         ensures turn { self.new.turn ≡ self.old.turn }
     {
         problem.keeps_limits();

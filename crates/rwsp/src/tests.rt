@@ -2,6 +2,8 @@
 mod logs;
 mod plans;
 
+ghost use Rattle.std.specs.Prelude.{◌<◌};
+
 use crate::answer::{Answer, Outcome};
 use crate::run::run;
 use potential_bounds::NoGate;
@@ -32,7 +34,9 @@ fn shelf_of(
     files: &[(&str, &str)],
     step: usize,
     failing: &[u64],
-) -> Result<MemoryShelf, AllocError> {
+) -> Result<MemoryShelf, AllocError>
+    requires { 0 < step }
+{
     let mut all = Vec::new(alloc);
     for (name, text) in files {
         let name = String::from_str(alloc, name)?;

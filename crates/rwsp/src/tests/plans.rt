@@ -4,7 +4,7 @@ use super::{NINE_WEEKS, TWO_DAYS, ends, shelf_of, verifies, words_of};
 use crate::run::run;
 use potential_bounds::NoGate;
 use rwsp_io::MemorySink;
-use std::alloc::Global;
+use std::alloc::{AllocError, Global};
 use std::test::Fail;
 use std::thread::Threads;
 
@@ -30,15 +30,25 @@ fn printed<R: Threads + Sync>(
     Ok(String::from_utf8(text).ok().ok_or("a text")?)
 }
 
-// Whether `plan` refutes, and `check` accepts what it prints.
-fn is_refuted<R: Threads + Sync>(rt: &R, alloc: Global, problem: &str) -> Result<bool, Fail> {
-    let log = printed(rt, alloc, &["plan", "F"], problem, 1)?;
+// Whether `check` accepts the log.
+fn is_accepted<R: Threads + Sync>(
+    rt: &R,
+    alloc: Global,
+    problem: &str,
+    log: &str,
+) -> Result<bool, AllocError> {
     let words = words_of(alloc, &["check", "F", "G"])?;
-    let files = [("F", problem), ("G", log.as_str())];
+    let files = [("F", problem), ("G", log)];
     let mut shelf = shelf_of(alloc, &files, 1000, &[])?;
     let mut sink = MemorySink::new(alloc, 1000, 1000, Vec::new(alloc))?;
     let outcome = run(rt, alloc, &words, &mut shelf, &mut sink, &NoGate);
     Ok(outcome.status() == 0)
+}
+
+// Whether `plan` refutes, and `check` accepts what it prints.
+fn is_refuted<R: Threads + Sync>(rt: &R, alloc: Global, problem: &str) -> Result<bool, Fail> {
+    let log = printed(rt, alloc, &["plan", "F"], problem, 1)?;
+    Ok(is_accepted(rt, alloc, problem, log.as_str())?)
 }
 
 #[test]
