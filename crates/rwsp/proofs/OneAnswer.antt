@@ -12,13 +12,20 @@ use Rattle.rwsp.specs.Commands.{Words, ReadsSecond, problem_name, second_name, u
 use Rattle.rwsp.specs.Inputs.{WhereTold, IsWithinLimit, IsProblemOf}
 use Rattle.rwsp.specs.Answers.{IsAnswerOn, IsAnswerTo, IsFileAnswer, IsSecondAnswer}
 use Rattle.rwsp.specs.Texts.{text_of}
-use Rattle.rwsp.specs.Laws.{AnswersAreOne, TextsAreOne, ProblemsAreAnswered, RefutationsAreAccepted, IsOfSearch}
+use Rattle.rwsp.specs.Laws.{AnswersAreOne, TextsAreOne, ProblemsAreAnswered, RefutationsAreAccepted, AgreeInSearch, RostersMeet, ReductionsAreAccepted, WorkersMakeNoDifference}
 use Rattle.rwsp.specs.declared.command.Command.{Command}
 use Rattle.rwsp.specs.declared.command.Command.TheVariants.{Plan, Check, Verify, Reduce, Show}
 use Rattle.rwsp.specs.declared.answer.InputKind.TheVariants as Kinds
 use Rattle.rwsp.specs.declared.answer.Answer.{Answer}
-use Rattle.rwsp.specs.declared.answer.Answer.TheVariants.{Accepted}
-use Rattle.rwsp.proofs.Logs.{accepted, planned_is}
+use Rattle.rwsp.specs.declared.answer.Answer.TheVariants.{Roster, NoRoster, Undecided, Accepted, LogRefused, Reduced, Meets, Shown, Breaks, RosterRefused, Usage, FileRefused, TooLong}
+use Rattle.rwsp.proofs.Logs.{accepted}
+use Rattle.rwsp.specs.Plans.{IsPlanned}
+use Rattle.rwsp_terms.specs.Roster.{MeetsAll}
+use Rattle.rwsp_terms.specs.declared.data.Symbol.{Symbol}
+use Rattle.refutation_terms.specs.Log.{Log as LogValue, Passes}
+use Rattle.refutation_terms.proofs.Sound.{passing_leaves_none}
+use Rattle.refutation_terms.proofs.Named.{named-IsRule}
+use Rattle.roster_print.proofs.Printed.{printed_is_short, printed_is_spelled}
 use Rattle.rwsp.proofs.Forms.{one_form}
 use Rattle.rwsp.proofs.Ends.{one_second, one_file_answer, not_by_itself}
 
@@ -38,25 +45,80 @@ at_bytes told bytes Q e h = subst (λ (t : Told). WhereTold t Q) e h
 at_missing : (told : Told) (Q : List ℕ → Type 0) → told ≡ Missing → WhereTold told Q → ⊥
 at_missing told Q e h = subst (λ (t : Told). WhereTold t Q) e h
 
+-- a roster and a refutation exclude each other
+exclusive : (P : Instance) (s : List Symbol) (g : LogValue) → MeetsAll P s → Passes P g → ⊥
+exclusive P s g h k = passing_leaves_none P g s k (record { is_roster = h.is_roster; rules = λ r n. h.rules r (named-IsRule P g.named r n) })
+
+planned_agree : (P : Instance) (budget : ℕ) (a b : Answer) → IsPlanned P budget a → IsPlanned P budget b → AgreeInSearch a b
+planned_agree P budget (Roster s) (Roster t) h k = (tt, tt)
+planned_agree P budget (Roster s) (NoRoster e) h k = exclusive P s.cells e h.1 k.0
+planned_agree P budget (Roster s) (Undecided e) h k = (tt, tt)
+planned_agree P budget (Roster s) (Accepted R) h k = absurd k
+planned_agree P budget (Roster s) (LogRefused why) h k = absurd k
+planned_agree P budget (Roster s) (Reduced q) h k = absurd k
+planned_agree P budget (Roster s) Meets h k = absurd k
+planned_agree P budget (Roster s) Shown h k = absurd k
+planned_agree P budget (Roster s) (Breaks broken) h k = absurd k
+planned_agree P budget (Roster s) (RosterRefused why) h k = absurd k
+planned_agree P budget (Roster s) Usage h k = absurd k
+planned_agree P budget (Roster s) (FileRefused why) h k = absurd k
+planned_agree P budget (Roster s) (TooLong kind) h k = absurd k
+planned_agree P budget (NoRoster g) (Roster t) h k = exclusive P t.cells g k.1 h.0
+planned_agree P budget (NoRoster g) (NoRoster e) h k = (tt, tt)
+planned_agree P budget (NoRoster g) (Undecided e) h k = (tt, tt)
+planned_agree P budget (NoRoster g) (Accepted R) h k = absurd k
+planned_agree P budget (NoRoster g) (LogRefused why) h k = absurd k
+planned_agree P budget (NoRoster g) (Reduced q) h k = absurd k
+planned_agree P budget (NoRoster g) Meets h k = absurd k
+planned_agree P budget (NoRoster g) Shown h k = absurd k
+planned_agree P budget (NoRoster g) (Breaks broken) h k = absurd k
+planned_agree P budget (NoRoster g) (RosterRefused why) h k = absurd k
+planned_agree P budget (NoRoster g) Usage h k = absurd k
+planned_agree P budget (NoRoster g) (FileRefused why) h k = absurd k
+planned_agree P budget (NoRoster g) (TooLong kind) h k = absurd k
+planned_agree P budget (Undecided g) (Roster t) h k = (tt, tt)
+planned_agree P budget (Undecided g) (NoRoster e) h k = (tt, tt)
+planned_agree P budget (Undecided g) (Undecided e) h k = (tt, tt)
+planned_agree P budget (Undecided g) (Accepted R) h k = absurd k
+planned_agree P budget (Undecided g) (LogRefused why) h k = absurd k
+planned_agree P budget (Undecided g) (Reduced q) h k = absurd k
+planned_agree P budget (Undecided g) Meets h k = absurd k
+planned_agree P budget (Undecided g) Shown h k = absurd k
+planned_agree P budget (Undecided g) (Breaks broken) h k = absurd k
+planned_agree P budget (Undecided g) (RosterRefused why) h k = absurd k
+planned_agree P budget (Undecided g) Usage h k = absurd k
+planned_agree P budget (Undecided g) (FileRefused why) h k = absurd k
+planned_agree P budget (Undecided g) (TooLong kind) h k = absurd k
+planned_agree P budget (Accepted R) b h k = absurd h
+planned_agree P budget (LogRefused why) b h k = absurd h
+planned_agree P budget (Reduced q) b h k = absurd h
+planned_agree P budget Meets b h k = absurd h
+planned_agree P budget Shown b h k = absurd h
+planned_agree P budget (Breaks broken) b h k = absurd h
+planned_agree P budget (RosterRefused why) b h k = absurd h
+planned_agree P budget Usage b h k = absurd h
+planned_agree P budget (FileRefused why) b h k = absurd h
+planned_agree P budget (TooLong kind) b h k = absurd h
+
 -- two answers to a command for an instance, over what the second file tells
 
 told_second : (command : Command) (P : Instance) (told : Told) (a b : Answer) → KeepsLimits P → IsThere told → WhereTold told (IsSecondAnswer command a P) → WhereTold told (IsSecondAnswer command b P) → a ≡ b
 told_second command P told a b limits (inl e) h k = absurd (at_missing told (IsSecondAnswer command a P) e h)
 told_second command P told a b limits (inr r) h k = one_second command P r.0 a b limits (at_bytes told r.0 (IsSecondAnswer command a P) r.1 h) (at_bytes told r.0 (IsSecondAnswer command b P) r.1 k)
 
-one_on : (command : Command) (P : Instance) (told : Told) (a b : Answer) → KeepsLimits P → (ReadsSecond command → IsThere told) → IsAnswerOn command told P a → IsAnswerOn command told P b → (a ≡ b) ⊎ (IsOfSearch a × IsOfSearch b)
+one_on : (command : Command) (P : Instance) (told : Told) (a b : Answer) → KeepsLimits P → (ReadsSecond command → IsThere told) → IsAnswerOn command told P a → IsAnswerOn command told P b → (a ≡ b) ⊎ AgreeInSearch a b
 one_on Show P told a b limits there h k = inl (h ∙ sym k)
 one_on Verify P told a b limits there h k = inl (told_second Verify P told a b limits (there tt) h.1 k.1)
 one_on (Check workers) P told a b limits there h k = inl (told_second (Check workers) P told a b limits (there tt) h.1 k.1)
 one_on Reduce P told a b limits there h k = inl (told_second Reduce P told a b limits (there tt) h.1 k.1)
-one_on (Plan budget) P told a b limits there h k = inr ((planned_is P budget a h).0, (planned_is P budget b k).0)
+one_on (Plan budget) P told a b limits there h k = inr (planned_agree P budget a b h k)
 
 -- two answers to a command over a file that is there
 
 abbrev AtFile : Command → Told → List ℕ → Answer → Type 0
 AtFile command second file answer = IsWithinLimit Kinds.Problem file × ((P : Instance) × SpellsProblem file P × IsAnswerOn command second P answer)
 
-both_ends : TextsSpellOne → TextsSpellOrFail → (command : Command) (second : Told) (file : List ℕ) (a b : Answer) → (ReadsSecond command → IsThere second) → IsFileAnswer a file ⊎ AtFile command second file a → IsFileAnswer b file ⊎ AtFile command second file b → (a ≡ b) ⊎ (IsOfSearch a × IsOfSearch b)
+both_ends : TextsSpellOne → TextsSpellOrFail → (command : Command) (second : Told) (file : List ℕ) (a b : Answer) → (ReadsSecond command → IsThere second) → IsFileAnswer a file ⊎ AtFile command second file a → IsFileAnswer b file ⊎ AtFile command second file b → (a ≡ b) ⊎ AgreeInSearch a b
 both_ends one decide command second file a b there (inl x) (inl y) = inl (one_file_answer file a b x y)
 both_ends one decide command second file a b there (inl x) (inr k) = absurd (not_by_itself decide file k.1.0 a k.0 k.1.1 x)
 both_ends one decide command second file a b there (inr h) (inl y) = absurd (not_by_itself decide file h.1.0 b h.0 h.1.1 y)
@@ -73,7 +135,7 @@ nothing_at : (command : Command) (held : List ℕ → Told) (words : Words) (a :
 nothing_at command held words a e (inl h) = at_missing (held (problem_name words)) (IsFileAnswer a) e h.1
 nothing_at command held words a e (inr h) = at_missing (held (problem_name words)) (λ f. AtFile command (held (second_name words)) f a) e h
 
-one_to : TextsSpellOne → TextsSpellOrFail → (command : Command) (held : List ℕ → Told) (words : Words) (a b : Answer) → IsThere (held (problem_name words)) → (ReadsSecond command → IsThere (held (second_name words))) → IsAnswerTo command held words a → IsAnswerTo command held words b → (a ≡ b) ⊎ (IsOfSearch a × IsOfSearch b)
+one_to : TextsSpellOne → TextsSpellOrFail → (command : Command) (held : List ℕ → Told) (words : Words) (a b : Answer) → IsThere (held (problem_name words)) → (ReadsSecond command → IsThere (held (second_name words))) → IsAnswerTo command held words a → IsAnswerTo command held words b → (a ≡ b) ⊎ AgreeInSearch a b
 one_to one decide command held words a b (inl e) there h k = absurd (nothing_at command held words a e h)
 one_to one decide command held words a b (inr f) there h k = both_ends one decide command (held (second_name words)) f.0 a b there (ends_at command held words f.0 a f.1 h) (ends_at command held words f.0 b f.1 k)
 
@@ -102,6 +164,32 @@ pub taken : RefutationsAreAccepted
 taken file P budget g a spells planned short kind h =
     let text = log_text P g in
     one_second (Check usual_workers) P text a (Accepted g.named) (valid_keeps P spells.valid) h (accepted P text g.named short (g, (refl, planned.0), refl))
+
+-- a roster that is planned meets every rule
+pub verified : RostersMeet
+verified file P budget (Roster s) a spells kind planned h =
+    let roster = planned.1.is_roster in
+    one_second Verify P (text_of P (Roster s)) a Meets (valid_keeps P spells.valid) h (printed_is_short P s.cells spells.valid roster, (s.cells, printed_is_spelled P s.cells spells.valid roster, planned.1))
+verified file P budget (NoRoster g) a spells kind planned h = absurd kind
+verified file P budget (Undecided g) a spells kind planned h = absurd kind
+verified file P budget (Accepted R) a spells kind planned h = absurd kind
+verified file P budget (LogRefused why) a spells kind planned h = absurd kind
+verified file P budget (Reduced g) a spells kind planned h = absurd kind
+verified file P budget Meets a spells kind planned h = absurd kind
+verified file P budget Shown a spells kind planned h = absurd kind
+verified file P budget (Breaks broken) a spells kind planned h = absurd kind
+verified file P budget (RosterRefused why) a spells kind planned h = absurd kind
+verified file P budget Usage a spells kind planned h = absurd kind
+verified file P budget (FileRefused why) a spells kind planned h = absurd kind
+verified file P budget (TooLong which) a spells kind planned h = absurd kind
+
+-- what a reduction leaves is accepted
+pub kept : ReductionsAreAccepted
+kept file P bytes h a spells reduced short answer =
+    one_second (Check usual_workers) P (log_text P h) a (Accepted h.named) (valid_keeps P spells.valid) answer (accepted P (log_text P h) h.named short (h, (refl, reduced.2.passes), refl))
+
+pub same_for_workers : WorkersMakeNoDifference
+same_for_workers m n told P a h = h
 
 -- the text of an answer
 

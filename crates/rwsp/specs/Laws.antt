@@ -7,12 +7,13 @@ use Rattle.refutation_terms.specs.Log.{Log}
 use Rattle.rwsp.specs.Commands.{Words, IsForm, ReadsSecond, problem_name, second_name}
 use Rattle.rwsp.specs.Inputs.{IsWithinLimit}
 use Rattle.rwsp.specs.Plans.{IsPlanned}
-use Rattle.rwsp.specs.Answers.{IsAnswer, IsAnswerOn, IsOfLog, IsLogAnswer}
+use Rattle.rwsp.specs.Answers.{IsAnswer, IsAnswerOn, IsOfLog, IsLogAnswer, IsRosterAnswer, IsReduction}
 use Rattle.rwsp.specs.Texts.{IsTextOf, text_of}
 use Rattle.rwsp.specs.declared.command.Command.{Command}
+use Rattle.rwsp.specs.declared.command.Command.TheVariants.{Check}
 use Rattle.rwsp.specs.declared.answer.InputKind.TheVariants as Kinds
 use Rattle.rwsp.specs.declared.answer.Answer.{Answer}
-use Rattle.rwsp.specs.declared.answer.Answer.TheVariants.{Roster, NoRoster, Undecided, Accepted}
+use Rattle.rwsp.specs.declared.answer.Answer.TheVariants.{Roster, NoRoster, Undecided, Accepted, Reduced, Meets}
 
 -- the shelf tells what the problem's file holds, or that it isn't there; and so for the second file, where the words are a form of a
 -- command that reads one
@@ -26,11 +27,17 @@ IsOfSearch (NoRoster g) = Unit {0}
 IsOfSearch (Undecided g) = Unit {0}
 IsOfSearch answer = ⊥
 
--- two answers to the same words over the same files are equal, or both are what a search gives
+-- two answers of a search that may both fit: a roster and a refutation never do
+abbrev pub AgreeInSearch : Answer → Answer → Type 0
+AgreeInSearch (Roster s) (NoRoster g) = ⊥
+AgreeInSearch (NoRoster g) (Roster s) = ⊥
+AgreeInSearch a b = IsOfSearch a × IsOfSearch b
+
+-- two answers to the same words over the same files are equal, or both are what a search gives, and not a roster beside a refutation
 abbrev pub AnswersAreOne : Type 0
 AnswersAreOne =
     (held : List ℕ → Told) (words : Words) (a b : Answer) → AreTold held words → IsAnswer held words a → IsAnswer held words b
-    → (a ≡ b) ⊎ (IsOfSearch a × IsOfSearch b)
+    → (a ≡ b) ⊎ AgreeInSearch a b
 
 -- an answer has one text
 abbrev pub TextsAreOne : Type 0
@@ -51,3 +58,26 @@ RefutationsAreAccepted =
     (file : List ℕ) (P : Instance) (budget : ℕ) (g : Log) (a : Answer)
     → SpellsProblem file P → IsPlanned P budget (NoRoster g) → IsWithinLimit Kinds.Log (text_of P (NoRoster g)) → IsOfLog a → IsLogAnswer a P (text_of P (NoRoster g))
     → a ≡ Accepted g.named
+
+-- a roster that was found
+abbrev pub IsRosterOf : Answer → Type 0
+IsRosterOf (Roster s) = Unit {0}
+IsRosterOf answer = ⊥
+
+-- the text of a roster that `plan` writes for what a file spells meets every rule by `verify`
+abbrev pub RostersMeet : Type 0
+RostersMeet =
+    (file : List ℕ) (P : Instance) (budget : ℕ) (planned a : Answer)
+    → SpellsProblem file P → IsRosterOf planned → IsPlanned P budget planned → IsRosterAnswer a P (text_of P planned)
+    → a ≡ Meets
+
+-- the text of what `reduce` writes is accepted by `check`, with the rules that it names
+abbrev pub ReductionsAreAccepted : Type 0
+ReductionsAreAccepted =
+    (file : List ℕ) (P : Instance) (bytes : List ℕ) (h : Log) (a : Answer)
+    → SpellsProblem file P → IsReduction (Reduced h) P bytes → IsWithinLimit Kinds.Log (text_of P (Reduced h)) → IsLogAnswer a P (text_of P (Reduced h))
+    → a ≡ Accepted h.named
+
+-- the number of workers makes no difference to what is said of an answer
+abbrev pub WorkersMakeNoDifference : Type 0
+WorkersMakeNoDifference = (m n : ℕ) (told : Told) (P : Instance) (a : Answer) → IsAnswerOn (Check m) told P a → IsAnswerOn (Check n) told P a

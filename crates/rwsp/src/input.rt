@@ -1,6 +1,6 @@
 // The files that a command names, read and understood.
-ghost use Rattle.std.specs.Prelude.{◌≡◌, ℕ, ◌≤◌, List, IfOk, IfErr};
-ghost use Rattle.rwsp_io.specs.Told.{NeverFall, Rose};
+ghost use Rattle.std.specs.Prelude.{◌≡◌, ℕ, ◌≤◌, List, IfOk, IfErr, IsErrOf};
+ghost use Rattle.rwsp_io.specs.Told.{NeverFall, Rose, Missing};
 ghost use Rattle.rwsp_file.specs.Spelling.{SpellsProblem};
 ghost use Rattle.rwsp.specs.Inputs.{WhereTold, IsWithinLimit, longest};
 ghost use Rattle.rwsp.specs.Exits.{IsReadExit, IsProblemExit};
@@ -43,6 +43,7 @@ pub fn bytes_in<S: Shelf>(
     ensures bytes { IfOk result (λ v. WhereTold (S.held shelf.old name.now) (λ bytes. v.items ≡ bytes)) }
     ensures short { IfOk result (λ v. IsWithinLimit kind v.items) }
     ensures exit { IfErr result (IsReadExit (S.held shelf.old name.now) (Rose (S.faults shelf.old name.now) (S.faults shelf.new name.now)) kind) }
+    ensures missing { S.held shelf.old name.now ≡ Missing → IsErrOf result (Exit.Stop Stop.ReadFault) }
     ensures held { (other : List ℕ) → S.held shelf.new other ≡ S.held shelf.old other }
     ensures faults { NeverFall (S.faults shelf.old) (S.faults shelf.new) }
 {
@@ -58,6 +59,7 @@ pub fn bytes_in<S: Shelf>(
 pub fn problem_in<S: Shelf>(alloc: Global, shelf: &mut S, name: &str) -> Result<Problem, Exit>
     ensures problem { IfOk result (λ P. WhereTold (S.held shelf.old name.now) (λ file. IsWithinLimit Kinds.Problem file × SpellsProblem file P)) }
     ensures exit { IfErr result (IsProblemExit (S.held shelf.old name.now) (Rose (S.faults shelf.old name.now) (S.faults shelf.new name.now))) }
+    ensures missing { S.held shelf.old name.now ≡ Missing → IsErrOf result (Exit.Stop Stop.ReadFault) }
     ensures held { (other : List ℕ) → S.held shelf.new other ≡ S.held shelf.old other }
     ensures faults { NeverFall (S.faults shelf.old) (S.faults shelf.new) }
 {

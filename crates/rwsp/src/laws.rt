@@ -1,5 +1,5 @@
 // Laws of the definitions. Each function's contract is the law.
-ghost use Rattle.rwsp.specs.Laws.{AnswersAreOne, TextsAreOne, ProblemsAreAnswered, RefutationsAreAccepted};
+ghost use Rattle.rwsp.specs.Laws.{AnswersAreOne, TextsAreOne, ProblemsAreAnswered, RefutationsAreAccepted, RostersMeet, ReductionsAreAccepted, WorkersMakeNoDifference};
 
 /// What is said of each answer fits no other answer, but for those that a search is free to choose. So an answer comes exactly
 /// where what is said of it is so: no other can come but want of memory, and a fault that the counts show.
@@ -21,4 +21,19 @@ pub fn problems_are_answered()
 /// What `plan` writes as a refutation is accepted by `check` over the same file.
 pub fn refutations_are_accepted()
     ensures { RefutationsAreAccepted }
+{}
+
+/// What `plan` writes as a roster meets every rule by `verify` over the same file.
+pub fn rosters_meet()
+    ensures { RostersMeet }
+{}
+
+/// What `reduce` writes is accepted by `check` over the same file.
+pub fn reductions_are_accepted()
+    ensures { ReductionsAreAccepted }
+{}
+
+/// The answer of `check` is the same for every number of workers.
+pub fn workers_make_no_difference()
+    ensures { WorkersMakeNoDifference }
 {}

@@ -1,10 +1,10 @@
 // One call that answers a command line.
 ghost use Rattle.std.specs.Prelude.{◌≡◌, ℕ, ◌≤◌, List, length, take, IfOk, IsErrOf};
 ghost use Rattle.std.specs.Io.KnownBytes.{Appends, Keeps};
-ghost use Rattle.rwsp_io.specs.Told.{Rose, NeverFall};
+ghost use Rattle.rwsp_io.specs.Told.{Rose, NeverFall, Missing};
 ghost use Rattle.rwsp_terms.specs.Instance.{Instance};
 ghost use Rattle.rwsp.specs.Answers.{IsAnswer, IsAnswerOn, IsReadFault};
-ghost use Rattle.rwsp.specs.Commands.{IsForm, ReadsSecond, greatest_budget, second_name};
+ghost use Rattle.rwsp.specs.Commands.{IsForm, ReadsSecond, greatest_budget, problem_name, second_name};
 ghost use Rattle.rwsp.specs.Plans.{IsPlanned};
 ghost use Rattle.rwsp.specs.Texts.{IsTextOf, HasFixedText, IsPrintable, text_of};
 ghost use Rattle.rwsp.specs.declared.answer.Answer.{Answer};
@@ -50,6 +50,7 @@ pub fn run<R: Threads + Sync, S: Shelf, K: Sink, G: Gate>(
 
     // Where a file couldn't be read, or there was no memory, nothing was written.
     ensures read_fault { result ≡ Outcome.ReadFault → IsReadFault (S.held shelf.old) (S.faults shelf.old) (S.faults shelf.new) words.now.items }
+    ensures missing { (command : Command) → IsForm words.now.items command → S.held shelf.old (problem_name words.now.items) ≡ Missing → result ≡ Outcome.ReadFault }
     ensures silent_at_fault { result ≡ Outcome.ReadFault → Keeps (K.got out.old) (K.got out.new) }
     ensures silent_without_memory { result ≡ Outcome.Memory → Keeps (K.got out.old) (K.got out.new) }
 {
@@ -75,6 +76,7 @@ fn reply_to<R: Threads + Sync, S: Shelf, G: Gate>(
 ) -> Result<Reply, Stop>
     ensures answer { IfOk result (λ r. IsAnswer (S.held shelf.old) words.now.items r.answer) }
     ensures text { IfOk result (λ r. IsTextOf (S.held shelf.old) words.now.items r.answer r.text.items) }
+    ensures missing { (command : Command) → IsForm words.now.items command → S.held shelf.old (problem_name words.now.items) ≡ Missing → IsErrOf result Stop.ReadFault }
     ensures fault { IsErrOf result Stop.ReadFault → IsReadFault (S.held shelf.old) (S.faults shelf.old) (S.faults shelf.new) words.now.items }
 {
     let Some(command) = command_of(words) else {
