@@ -6,7 +6,7 @@ use Rattle.refutation_terms.specs.declared.lines.Line.{Line}
 use Rattle.refutation_terms.specs.declared.lines.Line.TheVariants.{Split, Window, Day}
 use Rattle.refutation_terms.specs.Tree.{IsLeaf, First, narrowed, is_idle}
 use Rattle.refutation_terms.specs.Log.{Holds, LineFits, ListsShortOnly}
-use Rattle.domain_store.specs.Store.{Store, HasSameShape, domain_at, has_domain}
+use Rattle.domain_store.specs.Store.{Store, BelongsTo, HasSameShape, domain_at, has_domain}
 use Rattle.propagators.specs.declared.look.Look.{Look}
 use Rattle.propagators.specs.declared.look.Look.TheVariants.{Quiet, Closed, Cut}
 
@@ -44,6 +44,15 @@ IsLook P leaves spent S (Cut p x line) = (Closes P leaves S → ⊥) × IsCut P 
 pub record HasPlainLeaves (P : Instance) (leaves : Store → Line → Type 0) : Type 0 where
   pub windows : (S : Store) (number p len : ℕ) → LineFits P (Window number p len) → leaves S (Window number p len)
   pub days : (S : Store) (j : ℕ) (x : Symbol) (over : Bool) → LineFits P (Day j x over) → leaves S (Day j x over)
+
+-- the position is one of the problem, and its domain has the symbol and another beside it
+pub record IsBesideAnother (P : Instance) (S : Store) (p : ℕ) (x : Symbol) : Type 0 where
+  pub position : p < cells P
+  pub useful : is_idle P (has_domain S) p x.number ≡ false
+
+-- under all domains of a problem that is served, a spent symbol stands beside another
+abbrev pub AreSpentBesideAnother : (Instance → Type 0) → (Store → ℕ → Symbol → Type 0) → Type 0
+AreSpentBesideAnother serves spent = (P : Instance) (S : Store) (p : ℕ) (x : Symbol) → serves P → BelongsTo P S → spent S p x → IsBesideAnother P S p x
 
 -- before and now the same problems are served, with the same leaves and the same spent symbols
 pub record SameReasons (serves_before serves_now : Instance → Type 0) (leaves_before leaves_now : Store → Line → Type 0) (spent_before spent_now : Store → ℕ → Symbol → Type 0) : Type 0 where

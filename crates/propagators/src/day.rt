@@ -66,6 +66,8 @@ impl Propagator for DayProp {
 
     ghost spent = { λ d S p x. IsDaySpent d.problem (has_domain S) p x };
 
+    fn prove_spent(&self) {}
+
     fn look(&mut self, _alloc: Global, doms: &Domains) -> Result<Look, AllocError> {
         Ok(seen(&self.problem, &self.counts, doms))
     }

@@ -37,6 +37,11 @@ impl<A: Propagator, B: Propagator> Propagator for Pair<A, B> {
 
     ghost spent = { λ w S p x. A.spent w.first S p x ⊎ B.spent w.second S p x };
 
+    fn prove_spent(&self) {
+        self.first.prove_spent();
+        self.second.prove_spent();
+    }
+
     fn look(&mut self, alloc: Global, doms: &Domains) -> Result<Look, AllocError> {
         let first = self.first.look(alloc, doms)?;
         if let Look::Closed(line) = first {

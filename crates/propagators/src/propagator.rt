@@ -1,10 +1,10 @@
 // The one view that a search has of its reasons.
-ghost use Rattle.std.specs.Prelude.{ℕ, ◌<◌, length, IfOk};
+ghost use Rattle.std.specs.Prelude.{ℕ, ◌<◌, ◌↔◌, length, IfOk};
 ghost use Rattle.rwsp_terms.specs.declared.data.Symbol.{Symbol};
 ghost use Rattle.rwsp_terms.specs.Instance.{Instance};
 ghost use Rattle.refutation_terms.specs.declared.lines.Line.{Line};
 ghost use Rattle.domain_store.specs.Store.{Store, BelongsTo};
-ghost use Rattle.propagators.specs.Looks.{IsLook, IsNarrowedAt, SameReasons};
+ghost use Rattle.propagators.specs.Looks.{IsLook, IsNarrowedAt, SameReasons, AreSpentBesideAnother};
 
 use crate::Look;
 use domain_store::Domains;
@@ -26,12 +26,16 @@ pub trait Propagator {
     // the symbols that are spent for it under these domains, by position
     ghost spent: { Self → Store → ℕ → Symbol → Type 0 };
 
-    /// Whether a leaf closes the domains, and else a spent symbol where there is one.
+    /// A spent symbol is in the domain of its position, with another beside it. This does nothing when the program runs.
+    fn prove_spent(&self)
+        ensures { AreSpentBesideAnother (serves self.now) (spent self.now) };
+
+    /// Whether a leaf closes the domains, and else a spent symbol where there is one. It tracks what it tracked.
     fn look(&mut self, alloc: Global, doms: &Domains) -> Result<Look, AllocError>
         requires problem { (P : Instance) × serves self.old P × BelongsTo P doms.now }
         requires tracked { tracks self.old doms.now }
         ensures look { IfOk result (λ look. (P : Instance) → serves self.old P → IsLook P (leaves self.old doms.now) (spent self.old doms.now) doms.now look) }
-        ensures tracks { tracks self.new doms.now }
+        ensures tracks { (S : Store) → tracks self.old S ↔ tracks self.new S }
         ensures same { SameReasons (serves self.old) (serves self.new) (leaves self.old) (leaves self.new) (spent self.old) (spent self.new) };
 
     /// Tracks the present domains, which differ from tracked ones at position `p` alone, where symbols were taken away.

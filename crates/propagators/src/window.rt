@@ -142,6 +142,8 @@ impl Propagator for WindowProp {
 
     ghost spent = { λ w S p x. ⊥ };
 
+    fn prove_spent(&self) {}
+
     fn look(&mut self, _alloc: Global, doms: &Domains) -> Result<Look, AllocError> {
         for p in 0..self.cells() {
             if let Some(leaf) = self.look_at(doms, p) {

@@ -8,7 +8,7 @@ use Rattle.refutation_terms.specs.declared.lines.Line.TheVariants.{Split}
 use Rattle.refutation_terms.specs.declared.lines.Turn.{Turn}
 use Rattle.refutation_terms.specs.Word.{Domains, AreSame}
 use Rattle.refutation_terms.specs.Tree.{IsLeaf, domains_at}
-use Rattle.domain_store.specs.Store.{Store, has_domain}
+use Rattle.domain_store.specs.Store.{Store, IsStore, has_domain}
 use Rattle.propagators.specs.declared.look.Look.{Look}
 use Rattle.propagators.specs.Looks.{Closes, IsLook}
 use Rattle.roster_search.specs.declared.progress.Progress.{Progress}
@@ -56,10 +56,11 @@ leaf_under_way P turn budget leaves spent a b line u w leaf same lines few = rec
 }
 
 -- behind a split
-pub split_under_way : (P : Instance) (turn : Option Turn) (budget : ℕ) (leaves : Leaves) (spent : Spent) (a b : Progress) (p : ℕ) (x : Symbol) → IsUnderWay P turn budget leaves spent a → IsSplitOff P a b p x → length b.lines.items ≤ budget → AreSame P (has_domain a.walk.store) (domains_at P a.turn a.lines.items (length a.lines.items)) → (Closes P (leaves a.walk.store) a.walk.store → ⊥) → ((q : ℕ) (z : Symbol) → spent a.walk.store q z → spent a.walk.store p x) → IsUnderWay P turn budget leaves spent b
-split_under_way P turn budget leaves spent a b p x u off few same not_closed forced =
+pub split_under_way : (P : Instance) (turn : Option Turn) (budget : ℕ) (leaves : Leaves) (spent : Spent) (a b : Progress) (p : ℕ) (x : Symbol) → IsUnderWay P turn budget leaves spent a → IsSplitOff P a b p x → length b.lines.items ≤ budget → IsStore a.walk.store → AreSame P (has_domain a.walk.store) (domains_at P a.turn a.lines.items (length a.lines.items)) → (Closes P (leaves a.walk.store) a.walk.store → ⊥) → ((q : ℕ) (z : Symbol) → spent a.walk.store q z → spent a.walk.store p x) → IsUnderWay P turn budget leaves spent b
+split_under_way P turn budget leaves spent a b p x u off few store same not_closed forced =
     let here : IsForced P leaves spent (domains_at P turn a.lines.items (length a.lines.items)) p x = record {
       store = a.walk.store;
+      is_store = store;
       belongs = u.written.state.belongs;
       agrees = subst (λ t. AreSame P (has_domain a.walk.store) (domains_at P t a.lines.items (length a.lines.items))) u.same_turn same;
       not_closed = not_closed;
@@ -85,6 +86,7 @@ under_way_by P turn budget leaves leaves' spent spent' s l t u = record {
       let f = u.forced k p x e in
       record {
         store = f.store;
+        is_store = f.is_store;
         belongs = f.belongs;
         agrees = f.agrees;
         not_closed = λ c. f.not_closed (c.0, (l f.store c.0).1 c.1, c.2);

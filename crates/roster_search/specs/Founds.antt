@@ -9,7 +9,7 @@ use Rattle.refutation_terms.specs.declared.lines.Turn.{Turn}
 use Rattle.refutation_terms.specs.Word.{Domains, AreSame}
 use Rattle.refutation_terms.specs.Tree.{domains_at}
 use Rattle.refutation_terms.specs.Log.{Log, Passes, IsSpent, NamesOnlyCited, size}
-use Rattle.domain_store.specs.Store.{Store, BelongsTo, has_domain}
+use Rattle.domain_store.specs.Store.{Store, BelongsTo, IsStore, has_domain}
 use Rattle.propagators.specs.Looks.{Closes}
 use Rattle.roster_search.specs.declared.found.Found.{Found}
 use Rattle.roster_search.specs.declared.found.Found.TheVariants.{Roster, NoRoster, Undecided}
@@ -17,6 +17,7 @@ use Rattle.roster_search.specs.declared.found.Found.TheVariants.{Roster, NoRoste
 -- the propagator didn't close the domains at a split, and where a symbol was spent for it the split is of a spent symbol at its position
 pub record IsForced (P : Instance) (leaves : Store → Line → Type 0) (spent : Store → ℕ → Symbol → Type 0) (D : Domains) (p : ℕ) (x : Symbol) : Type 0 where
   pub store : Store
+  pub is_store : IsStore store
   pub belongs : BelongsTo P store
   pub agrees : AreSame P (has_domain store) D
   pub not_closed : Closes P (leaves store) store → ⊥

@@ -69,7 +69,7 @@ returns-in_ok-cut-in-Cut-clause-under_way g c none =
     let spent = g.A.Propagator.spent c.args.propagator.now in
     let look : IsLook P (leaves S) (spent S) S (Cut c.in-Cut.p c.in-Cut.x c.in-Cut.line) =
     seen P leaves spent S c.domains.result.now c.in_ok-line.field-0 (Cut c.in-Cut.p c.in-Cut.x c.in-Cut.line) c.domains.ensures.value c.in-Cut.is (c.in_ok-line.ensures.look P c.requires.serves) in
-    split_under_way P a.turn c.args.budget leaves spent a b c.in-Cut.p c.in-Cut.x c.requires.under_way c.in_ok-cut-in-Cut.ensures.off c.in_ok-cut-in-Cut.ensures.few (c.domain_facts.ensures.same P c.requires.under_way.written)
+    split_under_way P a.turn c.args.budget leaves spent a b c.in-Cut.p c.in-Cut.x c.requires.under_way c.in_ok-cut-in-Cut.ensures.off c.in_ok-cut-in-Cut.ensures.few c.domain_facts.ensures.store (c.domain_facts.ensures.same P c.requires.under_way.written)
     look.0 (λ q z s. look.1.is_spent)
 
 pub returns-in_ok-split-in-Some-clause-under_way :
@@ -85,4 +85,4 @@ returns-in_ok-split-in-Some-clause-under_way g c none =
     seen P leaves spent S c.domains.result.now c.in_ok-line.field-0 Quiet c.domains.ensures.value c.in-Quiet.is (c.in_ok-line.ensures.look P c.requires.serves) in
     let long : length b.lines.items ≡ length a.lines.items + 1 = ap length c.in_ok-split-in-Some.ensures.lines ∙ length-append a.lines.items (Split c.in-Some.split.p c.in-Some.split.x ∷ []) in
     split_under_way P a.turn c.args.budget leaves spent a b c.in-Some.split.p c.in-Some.split.x
-    c.requires.under_way (c.in_ok-split-in-Some.ensures.off P c.requires.under_way.written) (omega (arith, long, c.requires.room)) (c.domain_facts.ensures.same P c.requires.under_way.written) look.0 (λ q z s. absurd (look.1 q z s))
+    c.requires.under_way (c.in_ok-split-in-Some.ensures.off P c.requires.under_way.written) (omega (arith, long, c.requires.room)) c.domain_facts.ensures.store (c.domain_facts.ensures.same P c.requires.under_way.written) look.0 (λ q z s. absurd (look.1 q z s))
