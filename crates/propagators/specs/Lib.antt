@@ -1,3 +1,4 @@
 pub mod Looks
 pub mod Days
+pub mod Cycles
 pub mod Windows

@@ -1,6 +1,7 @@
 //! Propagators: they see whether domains are closed by a leaf, and which symbols a leaf takes away.
 #![tactic(auto)]
 
+mod cycle;
 mod day;
 mod day_cut;
 mod look;
@@ -12,6 +13,7 @@ mod tests;
 mod window;
 mod window_over;
 
+pub use cycle::CycleProp;
 pub use day::DayProp;
 pub use look::Look;
 pub use pair::Pair;
