@@ -58,6 +58,8 @@ impl Propagator for CycleProp {
 
     ghost spent = { λ c S p x. IsCycleSpent c.problem (has_domain S) p x };
 
+    fn prove_spent(&self) {}
+
     fn look(&mut self, _alloc: Global, _doms: &Domains) -> Result<Look, AllocError> {
         Err(AllocError)
     }
