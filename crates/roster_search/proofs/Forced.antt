@@ -9,8 +9,9 @@ use Rattle.refutation_terms.specs.declared.lines.Turn.{Turn}
 use Rattle.refutation_terms.specs.Word.{Domains, AreSame}
 use Rattle.refutation_terms.specs.Tree.{IsLeaf, domains_at}
 use Rattle.domain_store.specs.Store.{Store, IsStore, has_domain}
-use Rattle.propagators.specs.declared.look.Look.{Look}
-use Rattle.propagators.specs.Looks.{Closes, IsLook}
+use Rattle.propagators.specs.Looks.{Closes}
+use Rattle.roster_search.specs.declared.sight.Sight.{Sight}
+use Rattle.roster_search.specs.Guides.{IsSight}
 use Rattle.roster_search.specs.declared.progress.Progress.{Progress}
 use Rattle.roster_search.specs.Founds.{IsForced, AreForced}
 use Rattle.roster_search.specs.Written.{IsProgress, IsSplitOff, IsUnderWay}
@@ -23,8 +24,8 @@ abbrev pub Spent : Type 1
 Spent = Store → ℕ → Symbol → Type 0
 
 -- what was seen, of the domains at hand
-pub seen : (P : Instance) (leaves : Leaves) (spent : Spent) (S T : Store) (look other : Look) → T ≡ S → look ≡ other → IsLook P (leaves T) (spent T) T look → IsLook P (leaves S) (spent S) S other
-seen P leaves spent S T look other at is h = subst (λ k. IsLook P (leaves S) (spent S) S k) is (subst (λ U. IsLook P (leaves U) (spent U) U look) at h)
+pub seen : (P : Instance) (leaves : Leaves) (spent : Spent) (S T : Store) (sight other : Sight) → T ≡ S → sight ≡ other → IsSight P (leaves T) (spent T) T sight → IsSight P (leaves S) (spent S) S other
+seen P leaves spent S T sight other at is h = subst (λ k. IsSight P (leaves S) (spent S) S k) is (subst (λ U. IsSight P (leaves U) (spent U) U sight) at h)
 
 abbrev IsForcedLine : Instance → Leaves → Spent → Domains → Line → Type 0
 IsForcedLine P leaves spent D line = (p : ℕ) (x : Symbol) → line ≡ Split p x → IsForced P leaves spent D p x

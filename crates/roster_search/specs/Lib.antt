@@ -1,3 +1,4 @@
 pub mod Founds
 pub mod Written
 pub mod Laws
+pub mod Guides

@@ -3,7 +3,7 @@ ghost use Rattle.std.specs.Prelude.{◌≡◌, ℕ, ◌<◌, ◌≤◌, length, 
 ghost use Rattle.std.specs.Option.{IfSome};
 ghost use Rattle.rwsp_terms.specs.Instance.{Instance, IsSymbol, IsClass};
 ghost use Rattle.domain_store.specs.Store.{BelongsTo, IsDecided, domain_at, has_domain};
-ghost use Rattle.tree_walk.specs.Splits.{is_idle_in};
+ghost use Rattle.roster_search.specs.Guides.{IsSplitIn};
 
 use crate::need::most_needed_shift;
 use domain_store::Domains;
@@ -23,7 +23,7 @@ pub struct NextSplit {
 /// otherwise the shift that is needed most.
 pub fn choose(problem: &Problem, domains: &Domains) -> Option<NextSplit>
     requires { BelongsTo problem.now domains.now }
-    ensures { MatchOption result (IsDecided domains.now) (λ c. (c.p < length domains.now.sets) × (is_idle_in domains.now c.p c.x.number ≡ false)) }
+    ensures { MatchOption result (IsDecided domains.now) (IsSplitIn domains.now) }
 {
     domains.facts();
     let p = first_open(domains)?;

@@ -5,12 +5,16 @@ mod choice;
 mod decided;
 mod ending;
 mod found;
+mod guide;
 mod laws;
 mod need;
 mod progress;
 mod searching;
+mod sight;
 mod step;
 
+pub use choice::NextSplit;
 pub use found::Found;
+pub use guide::{Guide, NoGuide};
 pub use laws::spent_budgets_are_small;
-pub use searching::search;
+pub use searching::{guided_search, search};

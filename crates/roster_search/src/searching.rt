@@ -8,10 +8,11 @@ ghost use Rattle.domain_store.specs.Store.{Store};
 ghost use Rattle.propagators.specs.Looks.{HasPlainLeaves};
 ghost use Rattle.roster_search.specs.Founds.{IsFound, HasSpentBudget};
 
-use crate::Found;
 use crate::ending::end;
 use crate::progress::Progress;
+use crate::sight::Arrival;
 use crate::step::step;
+use crate::{Found, Guide, NoGuide};
 use propagators::Propagator;
 use refutation_terms::Turn;
 use rwsp_model::Problem;
@@ -36,10 +37,44 @@ pub fn search<A: Propagator>(
     ensures leaves { (S : Store) (line : Line) → A.leaves propagator.old S line ↔ A.leaves propagator.new S line }
     ensures spent { (S : Store) (p : ℕ) (x : Symbol) → A.spent propagator.old S p x ↔ A.spent propagator.new S p x }
 {
+    let mut guide = NoGuide;
+    guided_search(alloc, problem, turn, propagator, &mut guide, budget)
+}
+
+/// The same with a guide: it may give a leaf where a case begins, a roster at the start, and a place to split.
+pub fn guided_search<A: Propagator, G: Guide>(
+    alloc: Global,
+    problem: &Problem,
+    turn: Option<Turn>,
+    propagator: &mut A,
+    guide: &mut G,
+    budget: u32,
+) -> Result<Found, AllocError>
+    requires budget { (1 ≤ budget) × (budget ≤ 200000) }
+    requires turn { TurnFits problem.now turn × IsAllowed problem.now turn }
+    requires serves { A.serves propagator.old problem.now }
+    requires plain { HasPlainLeaves problem.now (A.leaves propagator.old) }
+    requires guide { G.serves guide.old problem.now }
+    ensures found { IfOk result (λ found. IsFound problem.now turn budget (A.leaves propagator.old) (A.spent propagator.old) found) }
+    ensures complete { IfOk result (λ found. HasSpentBudget found → budget + 1 < 2 * (shift_count problem.now + 1) ^ cells problem.now) }
+    ensures serves { (P : Instance) → A.serves propagator.old P ↔ A.serves propagator.new P }
+    ensures leaves { (S : Store) (line : Line) → A.leaves propagator.old S line ↔ A.leaves propagator.new S line }
+    ensures spent { (S : Store) (p : ℕ) (x : Symbol) → A.spent propagator.old S p x ↔ A.spent propagator.new S p x }
+    ensures guide { (P : Instance) → G.serves guide.old P ↔ G.serves guide.new P }
+{
     let mut progress = Progress::new(alloc, problem, turn)?;
     propagator.undone(progress.walk.domains());
+    let mut arrival = Arrival::Start;
     while progress.goes_on(budget) {
-        match step(alloc, problem, budget, propagator, &mut progress)? {
+        match step(
+            alloc,
+            problem,
+            budget,
+            propagator,
+            guide,
+            &mut arrival,
+            &mut progress,
+        )? {
             Some(roster) => return Ok(Found::Roster(roster)),
             None => {}
         }

@@ -1,29 +1,35 @@
 // One turn of a search.
-ghost use Rattle.std.specs.Prelude.{◌≡◌, ℕ, ◌<◌, ◌≤◌, ◌↔◌, length, Option, false, IfOk, IfSome, None};
+ghost use Rattle.std.specs.Prelude.{◌≡◌, ℕ, ◌<◌, ◌≤◌, ◌↔◌, length, Option, false, IfOk, IfSome, MatchOption, None};
 ghost use Rattle.rwsp_terms.specs.declared.data.Symbol.{Symbol};
 ghost use Rattle.rwsp_terms.specs.Instance.{Instance};
 ghost use Rattle.rwsp_terms.specs.Roster.{MeetsAll};
 ghost use Rattle.refutation_terms.specs.declared.lines.Line.{Line};
 ghost use Rattle.refutation_terms.specs.declared.lines.Turn.{Turn};
-ghost use Rattle.domain_store.specs.Store.{Store};
+ghost use Rattle.domain_store.specs.Store.{Store, BelongsTo, IsDecided};
 ghost use Rattle.propagators.specs.Looks.{HasPlainLeaves};
+ghost use Rattle.roster_search.specs.Guides.{IsSplitIn};
 ghost use Rattle.roster_search.specs.Written.{IsUnderWay};
 
 use crate::choice::choose;
 use crate::decided::met_roster;
 use crate::progress::Progress;
-use propagators::{Look, Propagator};
+use crate::sight::{Arrival, Sight, see};
+use crate::{Guide, NextSplit};
+use domain_store::Domains;
+use propagators::Propagator;
 use rwsp_model::{Problem, Roster};
 use std::alloc::{AllocError, Global};
 
 /// Looks at the domains behind the lines, and writes the leaf that holds there, or a split: of a spent
-/// symbol with the leaf of its first side, or else of its own choice. Or it gives the roster of decided
-/// domains, where no leaf holds.
-pub fn step<A: Propagator>(
+/// symbol with the leaf of its first side, or else of the guide's or its own choice. Or it gives the
+/// guide's roster, or that of decided domains, where no leaf holds.
+pub fn step<A: Propagator, G: Guide>(
     alloc: Global,
     problem: &Problem,
     budget: u32,
     propagator: &mut A,
+    guide: &mut G,
+    arrival: &mut Arrival,
     progress: &mut Progress,
 ) -> Result<Option<Roster>, AllocError>
     requires under_way { IsUnderWay problem.now progress.old.turn budget (A.leaves propagator.old) (A.spent propagator.old) progress.old }
@@ -32,6 +38,7 @@ pub fn step<A: Propagator>(
     requires serves { A.serves propagator.old problem.now }
     requires tracks { A.tracks propagator.old progress.old.walk.store }
     requires plain { HasPlainLeaves problem.now (A.leaves propagator.old) }
+    requires guide { G.serves guide.old problem.now }
     ensures under_way { IfOk result (λ found. found ≡ None → IsUnderWay problem.now progress.old.turn budget (A.leaves propagator.old) (A.spent propagator.old) progress.new) }
     ensures longer { IfOk result (λ found. found ≡ None → length progress.old.lines.items < length progress.new.lines.items) }
     ensures tracks { IfOk result (λ found. found ≡ None → A.tracks propagator.new progress.new.walk.store) }
@@ -39,27 +46,45 @@ pub fn step<A: Propagator>(
     ensures serves { (P : Instance) → A.serves propagator.old P ↔ A.serves propagator.new P }
     ensures leaves { (S : Store) (line : Line) → A.leaves propagator.old S line ↔ A.leaves propagator.new S line }
     ensures spent { (S : Store) (p : ℕ) (x : Symbol) → A.spent propagator.old S p x ↔ A.spent propagator.new S p x }
+    ensures guide { (P : Instance) → G.serves guide.old P ↔ G.serves guide.new P }
 {
     problem.keeps_limits();
     progress.domain_facts();
-    match propagator.look(alloc, progress.walk.domains())? {
-        Look::Closed(line) => {
+    match see(alloc, propagator, guide, *arrival, progress.walk.domains())? {
+        Sight::Roster(roster) => Ok(Some(roster)),
+        Sight::Leaf(line) => {
             progress.close(problem, line)?;
             propagator.undone(progress.walk.domains());
+            *arrival = Arrival::NewCase;
             Ok(None)
         }
-        Look::Cut { p, x, line } => {
+        Sight::Cut { p, x, line } => {
             progress.cut(problem, budget, p, x, line)?;
             propagator.narrowed(progress.walk.domains(), p);
+            *arrival = Arrival::Cut;
             Ok(None)
         }
-        Look::Quiet => match choose(problem, progress.walk.domains()) {
+        Sight::Quiet => match next_split(problem, guide, progress.walk.domains()) {
             Some(split) => {
                 progress.split(split.p, split.x)?;
                 propagator.narrowed(progress.walk.domains(), split.p);
+                *arrival = Arrival::NewCase;
                 Ok(None)
             }
             None => Ok(Some(met_roster(problem, progress.walk.domains())?)),
         },
+    }
+}
+
+// The guide's split, or else the search's own; None where each position has one symbol.
+fn next_split<G: Guide>(problem: &Problem, guide: &mut G, doms: &Domains) -> Option<NextSplit>
+    requires belongs { BelongsTo problem.now doms.now }
+    requires serves { G.serves guide.old problem.now }
+    ensures split { MatchOption result (IsDecided doms.now) (IsSplitIn doms.now) }
+    ensures serves { (P : Instance) → G.serves guide.old P ↔ G.serves guide.new P }
+{
+    match guide.split(doms) {
+        Some(split) => Some(split),
+        None => choose(problem, doms),
     }
 }

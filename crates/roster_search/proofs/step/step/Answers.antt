@@ -1,12 +1,12 @@
--- One turn, by what the propagator sees.
+-- One turn, by what the propagator and the guide see.
 use Rattle.std.proofs.Common.{◌≡◌, ◌+◌, [], ◌∷◌, length, ap, ◌∙◌, subst, arith, length-append}
 use Rattle.refutation_terms.specs.declared.lines.Line.TheVariants.{Split, Window, Day}
 use Rattle.refutation_terms.specs.Log.{Holds}
 use Rattle.refutation_terms.specs.Tree.{domains_at}
 use Rattle.refutation_terms.proofs.SameDomains.{same_holds}
 use Rattle.domain_store.specs.Store.{Store, has_domain}
-use Rattle.propagators.specs.declared.look.Look.TheVariants.{Closed, Cut, Quiet}
-use Rattle.propagators.specs.Looks.{IsLook}
+use Rattle.roster_search.specs.declared.sight.Sight.TheVariants.{Leaf, Cut, Quiet}
+use Rattle.roster_search.specs.Guides.{IsSight}
 use Rattle.roster_search.proofs.Forced.{seen, leaf_under_way, split_under_way}
 use Rattle.roster_search.proofs.step.step.Goals as goal
 use Rattle.rwsp_model.proofs.Limits.{some_cells}
@@ -18,11 +18,11 @@ close-requires-clause-holds g c =
     let S = a.walk.store in
     let leaves = g.A.Propagator.leaves c.args.propagator.now in
     let spent = g.A.Propagator.spent c.args.propagator.now in
-    let look : IsLook P (leaves S) (spent S) S (Closed c.in-Closed.line) =
-    seen P leaves spent S c.domains.result.now c.in_ok-line.field-0 (Closed c.in-Closed.line) c.domains.ensures.value c.in-Closed.is (c.in_ok-line.ensures.look P c.requires.serves) in
-    same_holds P (has_domain S) (domains_at P a.turn a.lines.items (length a.lines.items)) c.in-Closed.line (some_cells P c.keeps_limits.ensures) look.is_leaf.fits
+    let sight : IsSight P (leaves S) (spent S) S (Leaf c.in-Leaf.line) =
+    seen P leaves spent S c.domains.result.now c.in_ok-roster.field-0 (Leaf c.in-Leaf.line) c.domains.ensures.value c.in-Leaf.is (c.in_ok-roster.ensures.sight P c.requires.serves c.requires.guide) in
+    same_holds P (has_domain S) (domains_at P a.turn a.lines.items (length a.lines.items)) c.in-Leaf.line (some_cells P c.keeps_limits.ensures) sight.is_leaf.fits
     (c.domain_facts.ensures.same P c.requires.under_way.written)
-    look.holds
+    sight.holds
 
 pub met_roster-requires-clause-windows : goal.met_roster-requires-clause-windows
 met_roster-requires-clause-windows g c number p len fits holds =
@@ -30,9 +30,9 @@ met_roster-requires-clause-windows g c number p len fits holds =
     let S = c.args.progress.now.walk.store in
     let leaves = g.A.Propagator.leaves c.args.propagator.now in
     let spent = g.A.Propagator.spent c.args.propagator.now in
-    let look : IsLook P (leaves S) (spent S) S Quiet =
-    seen P leaves spent S c.domains.result.now c.in_ok-line.field-0 Quiet c.domains.ensures.value c.in-Quiet.is (c.in_ok-line.ensures.look P c.requires.serves) in
-    look.0 (Window number p len, c.requires.plain.windows S number p len fits, subst (λ (T : Store). Holds P (has_domain T) (Window number p len)) c.domains-in-None.ensures.value holds)
+    let sight : IsSight P (leaves S) (spent S) S Quiet =
+    seen P leaves spent S c.domains.result.now c.in_ok-roster.field-0 Quiet c.domains.ensures.value c.in-Quiet.is (c.in_ok-roster.ensures.sight P c.requires.serves c.requires.guide) in
+    sight.0 (Window number p len, c.requires.plain.windows S number p len fits, subst (λ (T : Store). Holds P (has_domain T) (Window number p len)) c.domains-in-None.ensures.value holds)
 
 pub met_roster-requires-clause-days : goal.met_roster-requires-clause-days
 met_roster-requires-clause-days g c j x over fits holds =
@@ -40,24 +40,24 @@ met_roster-requires-clause-days g c j x over fits holds =
     let S = c.args.progress.now.walk.store in
     let leaves = g.A.Propagator.leaves c.args.propagator.now in
     let spent = g.A.Propagator.spent c.args.propagator.now in
-    let look : IsLook P (leaves S) (spent S) S Quiet =
-    seen P leaves spent S c.domains.result.now c.in_ok-line.field-0 Quiet c.domains.ensures.value c.in-Quiet.is (c.in_ok-line.ensures.look P c.requires.serves) in
-    look.0 (Day j x over, c.requires.plain.days S j x over fits, subst (λ (T : Store). Holds P (has_domain T) (Day j x over)) c.domains-in-None.ensures.value holds)
+    let sight : IsSight P (leaves S) (spent S) S Quiet =
+    seen P leaves spent S c.domains.result.now c.in_ok-roster.field-0 Quiet c.domains.ensures.value c.in-Quiet.is (c.in_ok-roster.ensures.sight P c.requires.serves c.requires.guide) in
+    sight.0 (Day j x over, c.requires.plain.days S j x over fits, subst (λ (T : Store). Holds P (has_domain T) (Day j x over)) c.domains-in-None.ensures.value holds)
 
-pub returns-in_ok-close-in-Closed-clause-under_way :
-    goal.returns-in_ok-close-in-Closed-clause-under_way
-returns-in_ok-close-in-Closed-clause-under_way g c none =
+pub returns-in_ok-close-in-Leaf-clause-under_way :
+    goal.returns-in_ok-close-in-Leaf-clause-under_way
+returns-in_ok-close-in-Leaf-clause-under_way g c none =
     let P = c.args.problem.now in
     let a = c.args.progress.now in
     let b = c.close.new.self in
     let S = a.walk.store in
     let leaves = g.A.Propagator.leaves c.args.propagator.now in
     let spent = g.A.Propagator.spent c.args.propagator.now in
-    let look : IsLook P (leaves S) (spent S) S (Closed c.in-Closed.line) =
-    seen P leaves spent S c.domains.result.now c.in_ok-line.field-0 (Closed c.in-Closed.line) c.domains.ensures.value c.in-Closed.is (c.in_ok-line.ensures.look P c.requires.serves) in
-    let long : length b.lines.items ≡ length a.lines.items + 1 = ap length c.in_ok-close-in-Closed.ensures.lines ∙ length-append a.lines.items (c.in-Closed.line ∷ []) in
-    leaf_under_way P a.turn c.args.budget leaves spent a b c.in-Closed.line c.requires.under_way c.in_ok-close-in-Closed.ensures.written look.is_leaf.leaf c.close.ensures.turn
-    c.in_ok-close-in-Closed.ensures.lines (omega (arith, long, c.requires.room))
+    let sight : IsSight P (leaves S) (spent S) S (Leaf c.in-Leaf.line) =
+    seen P leaves spent S c.domains.result.now c.in_ok-roster.field-0 (Leaf c.in-Leaf.line) c.domains.ensures.value c.in-Leaf.is (c.in_ok-roster.ensures.sight P c.requires.serves c.requires.guide) in
+    let long : length b.lines.items ≡ length a.lines.items + 1 = ap length c.in_ok-close-in-Leaf.ensures.lines ∙ length-append a.lines.items (c.in-Leaf.line ∷ []) in
+    leaf_under_way P a.turn c.args.budget leaves spent a b c.in-Leaf.line c.requires.under_way c.in_ok-close-in-Leaf.ensures.written sight.is_leaf.leaf c.close.ensures.turn
+    c.in_ok-close-in-Leaf.ensures.lines (omega (arith, long, c.requires.room))
 
 pub returns-in_ok-cut-in-Cut-clause-under_way : goal.returns-in_ok-cut-in-Cut-clause-under_way
 returns-in_ok-cut-in-Cut-clause-under_way g c none =
@@ -67,10 +67,10 @@ returns-in_ok-cut-in-Cut-clause-under_way g c none =
     let S = a.walk.store in
     let leaves = g.A.Propagator.leaves c.args.propagator.now in
     let spent = g.A.Propagator.spent c.args.propagator.now in
-    let look : IsLook P (leaves S) (spent S) S (Cut c.in-Cut.p c.in-Cut.x c.in-Cut.line) =
-    seen P leaves spent S c.domains.result.now c.in_ok-line.field-0 (Cut c.in-Cut.p c.in-Cut.x c.in-Cut.line) c.domains.ensures.value c.in-Cut.is (c.in_ok-line.ensures.look P c.requires.serves) in
+    let sight : IsSight P (leaves S) (spent S) S (Cut c.in-Cut.p c.in-Cut.x c.in-Cut.line) =
+    seen P leaves spent S c.domains.result.now c.in_ok-roster.field-0 (Cut c.in-Cut.p c.in-Cut.x c.in-Cut.line) c.domains.ensures.value c.in-Cut.is (c.in_ok-roster.ensures.sight P c.requires.serves c.requires.guide) in
     split_under_way P a.turn c.args.budget leaves spent a b c.in-Cut.p c.in-Cut.x c.requires.under_way c.in_ok-cut-in-Cut.ensures.off c.in_ok-cut-in-Cut.ensures.few c.domain_facts.ensures.store (c.domain_facts.ensures.same P c.requires.under_way.written)
-    look.0 (λ q z s. look.1.is_spent)
+    sight.0 (λ q z s. sight.1.is_spent)
 
 pub returns-in_ok-split-in-Some-clause-under_way :
     goal.returns-in_ok-split-in-Some-clause-under_way
@@ -81,8 +81,8 @@ returns-in_ok-split-in-Some-clause-under_way g c none =
     let S = a.walk.store in
     let leaves = g.A.Propagator.leaves c.args.propagator.now in
     let spent = g.A.Propagator.spent c.args.propagator.now in
-    let look : IsLook P (leaves S) (spent S) S Quiet =
-    seen P leaves spent S c.domains.result.now c.in_ok-line.field-0 Quiet c.domains.ensures.value c.in-Quiet.is (c.in_ok-line.ensures.look P c.requires.serves) in
+    let sight : IsSight P (leaves S) (spent S) S Quiet =
+    seen P leaves spent S c.domains.result.now c.in_ok-roster.field-0 Quiet c.domains.ensures.value c.in-Quiet.is (c.in_ok-roster.ensures.sight P c.requires.serves c.requires.guide) in
     let long : length b.lines.items ≡ length a.lines.items + 1 = ap length c.in_ok-split-in-Some.ensures.lines ∙ length-append a.lines.items (Split c.in-Some.split.p c.in-Some.split.x ∷ []) in
     split_under_way P a.turn c.args.budget leaves spent a b c.in-Some.split.p c.in-Some.split.x
-    c.requires.under_way (c.in_ok-split-in-Some.ensures.off P c.requires.under_way.written) (omega (arith, long, c.requires.room)) c.domain_facts.ensures.store (c.domain_facts.ensures.same P c.requires.under_way.written) look.0 (λ q z s. absurd (look.1 q z s))
+    c.requires.under_way (c.in_ok-split-in-Some.ensures.off P c.requires.under_way.written) (omega (arith, long, c.requires.room)) c.domain_facts.ensures.store (c.domain_facts.ensures.same P c.requires.under_way.written) sight.0 (λ q z s. absurd (sight.1 q z s))

@@ -9,7 +9,7 @@ use Rattle.roster_search.specs.Founds.{IsFound, HasSpentBudget}
 use Rattle.roster_search.specs.Written.{IsUnderWay, IsEnded}
 use Rattle.roster_search.proofs.Finding.{found_by, undecided_small}
 use Rattle.roster_search.proofs.Forced.{under_way_by, under_way_back}
-use Rattle.roster_search.proofs.searching.search.Goals as goal
+use Rattle.roster_search.proofs.searching.guided_search.Goals as goal
 
 pub step-requires-clause-under_way : goal.step-requires-clause-under_way
 step-requires-clause-under_way g c =
@@ -47,6 +47,7 @@ loop-alloc-preserved g c =
       serves = λ Q. (λ h. (e.serves Q).0 ((i.serves Q).0 h), λ h. (i.serves Q).1 ((e.serves Q).1 h));
       leaves = λ S line. (λ h. (e.leaves S line).0 ((i.leaves S line).0 h), λ h. (i.leaves S line).1 ((e.leaves S line).1 h));
       spent = λ S p x. (λ h. (e.spent S p x).0 ((i.spent S p x).0 h), λ h. (i.spent S p x).1 ((e.spent S p x).1 h));
+      guide = λ Q. (λ h. (e.guide Q).0 ((i.guide Q).0 h), λ h. (i.guide Q).1 ((e.guide Q).1 h));
     }
 
 pub returns-clause-found : goal.returns-clause-found

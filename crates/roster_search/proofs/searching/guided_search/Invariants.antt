@@ -4,7 +4,7 @@ use Rattle.rwsp_terms.specs.Instance.{Instance}
 use Rattle.refutation_terms.specs.declared.lines.Line.{Line}
 use Rattle.domain_store.specs.Store.{Store}
 use Rattle.roster_search.specs.Written.{IsUnderWay}
-use Rattle.roster_search.proofs.searching.search.Given as goal
+use Rattle.roster_search.proofs.searching.guided_search.Given as goal
 
 abbrev pub invariant-loop-alloc : goal.invariant-loop-alloc
 invariant-loop-alloc g l = record {
@@ -13,6 +13,7 @@ invariant-loop-alloc g l = record {
   serves : (P : Instance) → g.A.Propagator.serves l.fn.propagator P ↔ g.A.Propagator.serves l.propagator P;
   leaves : (S : Store) (line : Line) → g.A.Propagator.leaves l.fn.propagator S line ↔ g.A.Propagator.leaves l.propagator S line;
   spent : (S : Store) (p : ℕ) (x : Symbol) → g.A.Propagator.spent l.fn.propagator S p x ↔ g.A.Propagator.spent l.propagator S p x;
+  guide : (P : Instance) → g.G.Guide.serves l.fn.guide P ↔ g.G.Guide.serves l.guide P;
 }
 
 abbrev pub decreases-loop-alloc : goal.decreases-loop-alloc
