@@ -1,13 +1,12 @@
 -- The bounds of one turn from position 0 on, with all short rules.
 use Rattle.std.specs.Prelude.{◌≡◌, ◌⊎◌, ℕ, ◌<◌, List, slice_get, Option, Some, None}
-use Rattle.std.specs.List.Sorted.{IsStrictlyIncreasing}
 use Rattle.rwsp_terms.specs.declared.data.Weight.{Weight}
 use Rattle.rwsp_terms.specs.Instance.{Instance}
 use Rattle.rwsp_terms.specs.Rules.{NamesShortRules}
 use Rattle.refutation_terms.specs.declared.lines.Line.{Line}
 use Rattle.refutation_terms.specs.declared.lines.Line.TheVariants.{Bound}
 use Rattle.refutation_terms.specs.Word.{Domains, AreSame}
-use Rattle.refutation_terms.specs.Log.{LineFits, AreWeightsOf, Holds}
+use Rattle.refutation_terms.specs.Log.{LineFits, AreRules, AreWeightsOf, Holds}
 use Rattle.refutation_terms.specs.Sharp.{plain_bounds, IsSearched, HoldsAtTop, NoBoundHolds}
 use Rattle.domain_store.specs.Store.{Store, BelongsTo, has_domain}
 
@@ -40,7 +39,7 @@ pub record TopWatch : Type 0 where
 
 pub record IsTopWatch (w : TopWatch) : Type 0 where
   pub belongs : BelongsTo w.problem w.start
-  pub ascends : IsStrictlyIncreasing w.rules
+  pub are_rules : AreRules w.problem w.rules
   pub all_short : NamesShortRules w.problem w.rules
   pub answer : IsTopAnswer w.problem (has_domain w.start) w.rules w.weights
 

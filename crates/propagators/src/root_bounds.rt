@@ -4,9 +4,9 @@ ghost use Rattle.rwsp_terms.specs.declared.data.Symbol.{Symbol};
 ghost use Rattle.rwsp_terms.specs.Instance.{cells};
 ghost use Rattle.refutation_terms.specs.declared.lines.Line.{Line};
 ghost use Rattle.rwsp_terms.specs.Rules.{NamesShortRules};
+ghost use Rattle.rwsp_terms.specs.Weights.{AreWeights};
 ghost use Rattle.refutation_terms.specs.Word.{AreSame};
-ghost use Rattle.refutation_terms.specs.Log.{AreWeightsOf};
-ghost use Rattle.refutation_terms.specs.Sharp.{plain_bounds, NoBoundHolds};
+ghost use Rattle.refutation_terms.specs.Sharp.{plain_bounds};
 ghost use Rattle.domain_store.specs.Store.{Store, BelongsTo, has_domain};
 ghost use Rattle.propagators.specs.TopBounds.{IsStartBound, IsTopAnswer, IsTopWatch, IsBoundLook};
 
@@ -89,6 +89,7 @@ impl RootBounds {
         ensures { IfOk result (IsBoundLook self.now.problem self.now.start doms.now) }
     {
         self.facts();
+        self.problem.keeps_limits();
         let Some(weights) = &self.weights else {
             return Ok(None);
         };
@@ -154,10 +155,13 @@ fn holding_weights<R: Threads + Sync, G: Gate>(
 // The plain bound at the index.
 fn plain_bound(alloc: Global, problem: &Problem, index: usize) -> Result<Weights, AllocError>
     requires { index < length (plain_bounds problem.now) }
-    ensures { IfOk result (λ y. slice_get (plain_bounds problem.now) index ≡ Some y) }
+    ensures bound { IfOk result (λ y. slice_get (plain_bounds problem.now) index ≡ Some y) }
+    ensures weights { IfOk result AreWeights }
 {
     let bounds = plain_bounds(alloc, problem)?;
-    bounds[index].copy()
+    let weights = bounds[index].copy()?;
+    weights.entries();
+    Ok(weights)
 }
 
 // Whether the two leave the same symbols at each position. Takes a step for each position up to the first at which they differ.
