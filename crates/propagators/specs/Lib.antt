@@ -2,3 +2,4 @@ pub mod Looks
 pub mod Days
 pub mod Cycles
 pub mod Windows
+pub mod TopBounds

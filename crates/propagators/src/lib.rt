@@ -7,6 +7,7 @@ mod day_cut;
 mod look;
 mod pair;
 mod propagator;
+mod root_bounds;
 mod run;
 #[cfg(test)]
 mod tests;
@@ -18,4 +19,5 @@ pub use day::DayProp;
 pub use look::Look;
 pub use pair::Pair;
 pub use propagator::Propagator;
+pub use root_bounds::RootBounds;
 pub use window::WindowProp;
