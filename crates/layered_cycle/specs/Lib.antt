@@ -3,3 +3,4 @@ pub mod Grown
 pub mod WordGraph
 pub mod Choices
 pub mod Best
+pub mod Cycles

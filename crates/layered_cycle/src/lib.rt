@@ -4,6 +4,7 @@
 mod best;
 mod choice;
 mod cut;
+mod cycle;
 mod graph;
 mod growth;
 mod layers;
@@ -14,5 +15,6 @@ mod tests;
 
 pub use best::{Gain, HeavyWord, best_word};
 pub use cut::{Cut, escape};
+pub use cycle::Cycle;
 pub use layers::Layers;
 pub use step::{Layer, Step};

@@ -4,4 +4,5 @@ mod Cuts
 mod Runs
 mod Over
 mod Watching
+mod Starts
 pub mod Narrowing

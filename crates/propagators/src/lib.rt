@@ -1,19 +1,23 @@
 //! Propagators: they see whether domains are closed by a leaf, and which symbols a leaf takes away.
 #![tactic(auto)]
 
+mod cycle;
 mod day;
 mod day_cut;
 mod look;
 mod pair;
 mod propagator;
+mod root_bounds;
 mod run;
 #[cfg(test)]
 mod tests;
 mod window;
 mod window_over;
 
+pub use cycle::CycleProp;
 pub use day::DayProp;
 pub use look::Look;
 pub use pair::Pair;
 pub use propagator::Propagator;
+pub use root_bounds::RootBounds;
 pub use window::WindowProp;

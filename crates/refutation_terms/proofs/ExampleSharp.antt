@@ -1,14 +1,10 @@
 -- Sharp and spent logs, and searched weights, of the examples.
-use Rattle.std.proofs.Common.{◌≡◌, ◌⊎◌, ℕ, zero, suc, ◌<◌, ◌≤◌, [], ◌∷◌, get_or, refl, ap, subst, arith, inl, inr, Some, pos, negsuc, lit<, lit≤}
+use Rattle.std.proofs.Common.{◌≡◌, ◌⊎◌, ℕ, zero, suc, ◌<◌, ◌≤◌, [], ◌∷◌, get_or, refl, subst, arith, inl, inr, Some, pos, negsuc, lit<, lit≤}
 use Rattle.std.specs.Prelude.{slice_get}
 use Rattle.std.specs.Int.Signed.{le_z_yes}
 use Rattle.rwsp_terms.specs.declared.data.Symbol.{Symbol}
 use Rattle.rwsp_terms.specs.declared.data.Weight.{Weight}
-use Rattle.rwsp_terms.specs.declared.data.Rule.{Rule}
-use Rattle.rwsp_terms.specs.declared.data.Rule.TheVariants as TheRules
 use Rattle.rwsp_terms.specs.Instance.{cells, shift_count, IsDay, IsSymbol, symbol_numbered}
-use Rattle.rwsp_terms.specs.Roster.{IsRule}
-use Rattle.rwsp_terms.specs.Rules.{Names, IsShort, NamesShortRules}
 use Rattle.rwsp_terms.specs.Weights.{ComesBefore, IsWeight, weight_at}
 use Rattle.rwsp_terms.proofs.Elements.{all_from}
 use Rattle.refutation_terms.specs.declared.lines.Line.{Line}
@@ -17,33 +13,12 @@ use Rattle.refutation_terms.specs.Word.{full}
 use Rattle.refutation_terms.specs.Log.{IsSpent, HoldsAt, AreWeightsOf, LineFits, Cites, ListsShortOnly}
 use Rattle.refutation_terms.specs.Escape.{IsLeastHeaviest}
 use Rattle.refutation_terms.specs.Sharp.{IsDemanded, IsFirstTurn, IsUndecided, IsSharp, IsSearched, step}
-use Rattle.refutation_terms.specs.Examples.{three_of_six, turn_log, open_log, two_in_a_row, shift_D, blocks_dead, short_rules, searched_weights, weight_of}
-use Rattle.refutation_terms.proofs.Named.{named-IsRule}
-use Rattle.refutation_terms.proofs.Lists.{each_at, are_rules, pairs_of_two, short_only}
+use Rattle.refutation_terms.specs.Examples.{three_of_six, turn_log, open_log, two_in_a_row, shift_D, blocks_dead, short_rules, searched_weights, weight_of, from_to}
+use Rattle.refutation_terms.proofs.Lists.{each_at, are_rules, pairs_of_two}
+use Rattle.refutation_terms.proofs.ExampleShort.{block_rules_are_short}
 use Rattle.refutation_terms.proofs.Words.{AreSmall, is_clean, least_heaviest}
 use Rattle.std.proofs.lemmas.Bool.{leb-true}
 use Rattle.refutation_terms.specs.Tree.{Leaf, Node}
-
--- the six rules on blocks are all short
-one_shift_is : (x : Symbol) → (0 < x.number) × (x.number ≤ 1) → symbol_numbered 1 ≡ x
-one_shift_is x h = let a : 0 < x.number = h.0 in let b : x.number ≤ 1 = h.1 in let e : 1 ≡ x.number = omega arith in ap symbol_numbered e
-
-six_are_short : (r : Rule) → IsRule three_of_six r → IsShort three_of_six r → Names three_of_six short_rules r
-six_are_short (TheRules.MaxShift x) is short = (1, (0, lit< tt, refl), ap (λ y. Some (TheRules.MaxShift y)) (one_shift_is x is))
-six_are_short (TheRules.MinShift x) is short = (2, (1, lit< tt, refl), ap (λ y. Some (TheRules.MinShift y)) (one_shift_is x is))
-six_are_short TheRules.MaxOff is short = (3, (2, lit< tt, refl), refl)
-six_are_short TheRules.MinOff is short = (4, (3, lit< tt, refl), refl)
-six_are_short TheRules.MaxWork is short = (5, (4, lit< tt, refl), refl)
-six_are_short TheRules.MinWork is short = (6, (5, lit< tt, refl), refl)
-six_are_short (TheRules.Pair k) is short = absurd (omega (arith, is))
-six_are_short (TheRules.Triple k) is short = absurd (omega (arith, is))
-six_are_short (TheRules.Day j) is short = absurd short
-
-pub all_six_short : NamesShortRules three_of_six short_rules
-all_six_short r = (
-  λ n. (named-IsRule three_of_six short_rules r n, short_only three_of_six short_rules (lit≤ tt, (lit≤ tt, (lit≤ tt, (lit≤ tt, (lit≤ tt, (lit≤ tt, tt)))))) r n),
-  λ h. six_are_short r h.0 h.1,
-)
 
 -- a turn to D on day 1 and one leaf is sharp
 no_split : (k p : ℕ) (x : Symbol) → slice_get (blocks_dead ∷ []) k ≡ Some (Split p x) → ⊥
@@ -64,7 +39,7 @@ first_turn = (((lit< tt, lit≤ tt), (lit< tt, lit≤ tt), le_z_yes tt), first)
 pub turn_log_is_sharp : IsSharp three_of_six turn_log
 turn_log_is_sharp = record {
   short = short_rules;
-  all_short = all_six_short;
+  all_short = block_rules_are_short 1 6 (from_to 3 3 ∷ []) (from_to 2 2) (from_to 2 2) (from_to 2 2) (lit≤ tt, lit≤ tt) (lit≤ tt, lit≤ tt) (lit≤ tt, lit≤ tt);
   splits = λ k p x e. absurd (no_split k p x e);
   top = λ line e h. absurd (decided line e h);
   turn = first_turn;

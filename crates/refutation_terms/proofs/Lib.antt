@@ -22,7 +22,10 @@ pub mod Lists
 pub mod ExampleLogs
 pub mod ExampleTexts
 pub mod ExampleVerdicts
+pub mod ExampleShort
 pub mod ExampleSharp
+pub mod ExampleSplit
+pub mod ExampleBlunt
 pub mod ExampleStrip
 pub mod ExamplePairs
 pub mod Spelled

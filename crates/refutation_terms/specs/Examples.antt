@@ -1,5 +1,5 @@
 -- Small problems with one shift D, and logs for them: some that pass and some that don't.
-use Rattle.std.specs.Prelude.{ℕ, List, [], ◌∷◌, ◌++◌, true, false, Some, None, pos, negsuc, ℤ, codes}
+use Rattle.std.specs.Prelude.{ℕ, List, [], ◌∷◌, ◌++◌, true, false, Option, Some, None, pos, negsuc, ℤ, codes}
 use Rattle.std.specs.List.{flat_map}
 use Rattle.rwsp_terms.specs.declared.data.Symbol.{Symbol}
 use Rattle.rwsp_terms.specs.declared.data.Bounds.{Bounds}
@@ -7,6 +7,7 @@ use Rattle.rwsp_terms.specs.declared.data.Weight.{Weight}
 use Rattle.rwsp_terms.specs.Instance.{Instance}
 use Rattle.refutation_terms.specs.declared.lines.Line.{Line}
 use Rattle.refutation_terms.specs.declared.lines.Line.TheVariants.{Split, Window, Day, Dead, Bound, Unfinished}
+use Rattle.refutation_terms.specs.declared.lines.Turn.{Turn}
 use Rattle.refutation_terms.specs.Log.{Log}
 
 abbrev pub from_to : ℕ → ℕ → Bounds
@@ -183,3 +184,38 @@ triple_log = record {
   turn = Some (record { day = 1; x = shift_D });
   lines = Dead 0 3 (7 ∷ 9 ∷ []) ∷ [];
 }
+
+-- three cells in blocks of one, with any number of D. No roster has both a day off and D behind each other all round, since three is odd
+abbrev pub odd_cycle : Instance
+odd_cycle = one_shift 1 3 (from_to 0 3 ∷ []) (from_to 1 1) (from_to 1 1) (from_to 1 1)
+
+-- a split of the first cell, with both sides dead
+abbrev pub odd_log : Log
+odd_log = record { named = 1 ∷ 3 ∷ []; turn = None; lines = Split 0 shift_D ∷ Dead 0 4 (1 ∷ 3 ∷ []) ∷ Dead 0 4 (1 ∷ 3 ∷ []) ∷ [] }
+
+abbrev pub odd_text : List ℕ
+odd_text = text (codes "rwsp-log 1" ∷ codes "rules 1 3" ∷ codes "split 1 1 D" ∷ codes "dead 1 1 4 rules 1 3" ∷ codes "dead 1 1 4 rules 1 3" ∷ [])
+
+-- a turn to D on day 1
+abbrev pub turn_to_D : Option Turn
+turn_to_D = Some (record { day = 1; x = shift_D })
+
+-- a split where two turns are dead already
+abbrev pub late_dead_log : Log
+late_dead_log = record { named = 1 ∷ 2 ∷ 3 ∷ 4 ∷ 7 ∷ []; turn = turn_to_D; lines = Split 1 shift_D ∷ blocks_dead ∷ blocks_dead ∷ [] }
+
+-- a split where day 1 has too few D already
+abbrev pub late_day_log : Log
+late_day_log = record { named = 7 ∷ []; turn = turn_to_D; lines = Split 1 shift_D ∷ Day 1 shift_D false ∷ Day 1 shift_D false ∷ [] }
+
+-- a split at the top where D weighing 1 on both days is too light already
+abbrev pub late_bound_log : Log
+late_bound_log = record { named = 1 ∷ 7 ∷ 8 ∷ []; turn = turn_to_D; lines = Split 1 shift_D ∷ Window 1 0 2 ∷ Day 2 shift_D false ∷ [] }
+
+-- two cells in which no D may stand, with blocks of any length
+abbrev pub none_wanted : Instance
+none_wanted = one_shift 1 2 (from_to 0 0 ∷ []) (from_to 1 9) (from_to 1 9) (from_to 1 9)
+
+-- a split on the day off, which the first cell may hold, where it can't hold D
+abbrev pub free_split_log : Log
+free_split_log = record { named = []; turn = None; lines = Split 0 (record { number = 0 }) ∷ Unfinished ∷ Unfinished ∷ [] }

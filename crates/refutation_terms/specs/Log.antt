@@ -97,7 +97,10 @@ IsAllowed P (Some t) = pos 1 ≤ℤ least P t.x.number t.day
 abbrev pub ListsShortOnly : Instance → Line → Type 0
 ListsShortOnly P (Dead p len R) = NamesShortOnly P R
 ListsShortOnly P (Bound p turns R y) = NamesShortOnly P R
-ListsShortOnly P line = Unit {0}
+ListsShortOnly P (Split p x) = Unit {0}
+ListsShortOnly P (Window number p len) = Unit {0}
+ListsShortOnly P (Day j x over) = Unit {0}
+ListsShortOnly P Unfinished = Unit {0}
 
 -- the line at k holds under the domains there
 abbrev pub HoldsAt : Instance → Log → ℕ → Line → Type 0
@@ -124,7 +127,11 @@ NamesOnlyCited P g = (r : Rule) → Names P g.named r → TurnCites g.turn r ⊎
 -- every line but an unfinished one
 abbrev pub is_worked : Line → Bool
 is_worked Unfinished = false
-is_worked line = true
+is_worked (Split p x) = true
+is_worked (Window number p len) = true
+is_worked (Day j x over) = true
+is_worked (Dead p len R) = true
+is_worked (Bound p turns R y) = true
 
 -- the number of splits and of leaves that aren't unfinished
 abbrev pub size : Log → ℕ

@@ -137,7 +137,11 @@ line_of P RawUnfinished = Some Unfinished
 -- weights ascend by day and then by symbol
 abbrev pub Ascends : Line → Type 0
 Ascends (Bound p turns R y) = AllPairs ComesBefore y
-Ascends line = Unit {0}
+Ascends (Split p x) = Unit {0}
+Ascends (Window rule p len) = Unit {0}
+Ascends (Day j x over) = Unit {0}
+Ascends (Dead p len R) = Unit {0}
+Ascends Unfinished = Unit {0}
 
 -- the bytes are a written line with its numbers in their ranges; where all its names are known, its weights ascend
 pub record IsWritten (P : Instance) (bytes : List ℕ) (line : RawLine) : Type 0 where

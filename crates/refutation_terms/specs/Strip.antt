@@ -6,7 +6,7 @@ use Rattle.rwsp_terms.specs.declared.data.Rule.TheVariants as TheRules
 use Rattle.rwsp_terms.specs.Instance.{Instance}
 use Rattle.rwsp_terms.specs.Rules.{rule_of}
 use Rattle.refutation_terms.specs.declared.lines.Line.{Line}
-use Rattle.refutation_terms.specs.declared.lines.Line.TheVariants.{Dead, Bound}
+use Rattle.refutation_terms.specs.declared.lines.Line.TheVariants.{Split, Window, Day, Dead, Bound, Unfinished}
 use Rattle.refutation_terms.specs.Log.{Log, Passes}
 
 -- the list without the number
@@ -22,7 +22,10 @@ without_day rule y = y
 abbrev pub strip_line : Instance → ℕ → Line → Line
 strip_line P number (Dead p len R) = Dead p len (without number R)
 strip_line P number (Bound p turns R y) = Bound p turns (without number R) (without_day (rule_of P number) y)
-strip_line P number line = line
+strip_line P number (Split p x) = Split p x
+strip_line P number (Window rule p len) = Window rule p len
+strip_line P number (Day j x over) = Day j x over
+strip_line P number Unfinished = Unfinished
 
 -- the log without the rule of this number. Its turn stays
 abbrev pub strip : Instance → ℕ → Log → Log

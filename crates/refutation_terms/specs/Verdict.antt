@@ -32,19 +32,28 @@ IsLongIn P R k = (r : Rule) × (rule_of P k ≡ Some r) × Contains R k × (IsSh
 abbrev pub ListsLong : Instance → Line → ℕ → Type 0
 ListsLong P (Dead p len R) k = IsLongIn P R k
 ListsLong P (Bound p turns R y) k = IsLongIn P R k
-ListsLong P line k = ⊥
+ListsLong P (Split p x) k = ⊥
+ListsLong P (Window rule p len) k = ⊥
+ListsLong P (Day j x over) k = ⊥
+ListsLong P Unfinished k = ⊥
 
 -- a window or a day leaf
 abbrev pub IsPlainLeaf : Line → Type 0
 IsPlainLeaf (Window rule p len) = Unit {0}
 IsPlainLeaf (Day j x over) = Unit {0}
-IsPlainLeaf line = ⊥
+IsPlainLeaf (Split p x) = ⊥
+IsPlainLeaf (Dead p len R) = ⊥
+IsPlainLeaf (Bound p turns R y) = ⊥
+IsPlainLeaf Unfinished = ⊥
 
 -- the word that shows that a dead or a bound leaf doesn't hold
 abbrev pub Escapes : Instance → Domains → Line → List Symbol → Type 0
 Escapes P D (Dead p len R) w = IsLeastClean P D p len R w
 Escapes P D (Bound p turns R y) w = IsLeastHeaviest P D p (turns * cells P) R y w × ((pos turns *ℤ total P y) ≤ℤ weight P y p w)
-Escapes P D line w = ⊥
+Escapes P D (Split p x) w = ⊥
+Escapes P D (Window rule p len) w = ⊥
+Escapes P D (Day j x over) w = ⊥
+Escapes P D Unfinished w = ⊥
 
 -- the bytes of a text line spell no line
 abbrev pub SpellsNothing : Instance → List ℕ → Type 0

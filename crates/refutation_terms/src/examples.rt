@@ -7,7 +7,7 @@ ghost use Rattle.refutation_terms.specs.Sharp.{IsSharp, IsSearched, plain_bounds
 ghost use Rattle.refutation_terms.specs.Strip.{IsReduced};
 ghost use Rattle.refutation_terms.specs.LogText.{log_text};
 ghost use Rattle.refutation_terms.specs.Verdict.{IsVerdict};
-ghost use Rattle.refutation_terms.specs.Examples.{two_in_a_row, two_in_a_row_log, two_in_a_row_text, two_of_four, two_of_four_log, two_of_four_text, three_of_six, split_log, split_text, turn_log, turn_text, open_log, one_cell, one_cell_log, one_cell_text, one_turn_text, open_text, cut_text, extra_text, idle_text, unnamed_turn_text, none_demanded, none_demanded_text, heavy_word, short_rules, searched_weights, four_bounds, two_on_day_one, wide_log, narrow_log, unmixed, pairs_log, pairs_text, triple_log};
+ghost use Rattle.refutation_terms.specs.Examples.{two_in_a_row, two_in_a_row_log, two_in_a_row_text, two_of_four, two_of_four_log, two_of_four_text, three_of_six, split_log, split_text, turn_log, turn_text, open_log, one_cell, one_cell_log, one_cell_text, one_turn_text, open_text, cut_text, extra_text, idle_text, unnamed_turn_text, none_demanded, none_demanded_text, heavy_word, short_rules, searched_weights, four_bounds, two_on_day_one, wide_log, narrow_log, unmixed, pairs_log, pairs_text, triple_log, odd_cycle, odd_log, odd_text, late_dead_log, late_day_log, late_bound_log, none_wanted, free_split_log};
 
 use crate::LogRefusal;
 
@@ -79,6 +79,23 @@ pub fn a_log_is_spent()
 /// A dead leaf behind a turn to the first shift that is demanded is sharp.
 pub fn a_turn_is_sharp()
     ensures { IsSharp three_of_six turn_log }
+{}
+
+/// A log that passes and splits a cell is sharp: neither symbol is spent there, and no leaf holds before.
+pub fn a_split_is_sharp()
+    ensures passes { Passes odd_cycle odd_log }
+    ensures text { log_text odd_cycle odd_log ≡ odd_text }
+    ensures sharp { IsSharp odd_cycle odd_log }
+{}
+
+/// A log isn't sharp that splits where two turns are dead, where a day leaf holds, at the top where a plain bound holds, or
+/// on a symbol that isn't spent beside one that is; nor is one without a turn where a shift is demanded.
+pub fn blunt_logs_are_not_sharp()
+    ensures dead { IsSharp three_of_six late_dead_log → ⊥ }
+    ensures day { IsSharp two_on_day_one late_day_log → ⊥ }
+    ensures bound { IsSharp two_in_a_row late_bound_log → ⊥ }
+    ensures spent { IsSharp none_wanted free_split_log → ⊥ }
+    ensures turn { IsSharp two_in_a_row two_in_a_row_log → ⊥ }
 {}
 
 /// The plain bounds, and the weights that two rounds of the search give.

@@ -1,0 +1,5 @@
+pub mod DateWords
+pub mod Calendars
+pub mod Appended
+pub mod Standing
+pub mod Rounds

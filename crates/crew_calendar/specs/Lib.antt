@@ -1,0 +1,4 @@
+pub mod Crew
+pub mod Calendar
+pub mod Texts
+pub mod Facts

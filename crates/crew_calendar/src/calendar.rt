@@ -1,0 +1,57 @@
+// The dates of days in a row, and the words that name a date.
+ghost use Rattle.std.specs.Prelude.{◌≡◌, ◌+◌, ◌≤◌, ◌↔◌, pos, ◌+ℤ◌, IsOk, IfOk, IsTrue, MatchOption};
+ghost use Rattle.jiff.specs.Types.{Date as PlainDate};
+ghost use Rattle.jiff.specs.Words.{epoch_day};
+ghost use Rattle.crew_calendar.specs.Calendar.{IsWithinDates, Fits, IsDateWord};
+
+use crate::places::MOST_DAYS;
+use jiff::civil::Date;
+use jiff::{Error, ToSpan};
+use jiff_fmt::temporal::DateTimePrinter;
+
+/// The most days from a date to that on which a duty of that date ends: a shift starts up to 10,000 minutes after
+/// midnight, and has up to 10,000 minutes.
+pub const MOST_DAYS_LATER: u32 = 13;
+
+// The date so many days later, where there is one.
+fn days_later(date: Date, days: u32) -> Result<Date, Error>
+    requires { days ≤ MOST_DAYS + MOST_DAYS_LATER }
+    ensures succeeds { IsOk result ↔ IsWithinDates date days }
+    ensures value { IfOk result (λ later. epoch_day later ≡ epoch_day date +ℤ pos days) }
+{
+    date.checked_add(i64::from(days).days())
+}
+
+/// Whether the calendar of so many days, and the ends of their duties, are there: no date is after 9999-12-31.
+pub fn fits(date: Date, days: u32) -> bool
+    requires { days ≤ MOST_DAYS }
+    ensures { IsTrue result ↔ Fits date days }
+{
+    days_later(date, days + MOST_DAYS_LATER).is_ok()
+}
+
+/// The date so many days later.
+pub fn date_after(date: Date, days: u32) -> Date
+    requires few { days ≤ MOST_DAYS + MOST_DAYS_LATER }
+    requires within { IsWithinDates date days }
+    ensures { epoch_day result ≡ epoch_day date +ℤ pos days }
+{
+    match days_later(date, days) {
+        Ok(later) => later,
+        Err(_) => unreachable!(),
+    }
+}
+
+/// The date that a word of the form YYYY-MM-DD names; None exactly where it names none. Takes no memory.
+pub fn date_of(word: &str) -> Option<Date>
+    ensures { MatchOption result ((date : PlainDate) → IsDateWord word.now date → ⊥) (IsDateWord word.now) }
+{
+    let Ok(date) = word.parse::<Date>() else {
+        return None;
+    };
+    if date.year() < 0 {
+        return None;
+    }
+    let text = DateTimePrinter::new().date_text(date.to_plain());
+    if text.as_str() == word { Some(date) } else { None }
+}

@@ -1,0 +1,23 @@
+// Laws of the definitions. Each function's contract is the law.
+ghost use Rattle.crew_calendar.specs.Facts.{DemandIsMetDaily, EmployeesFollowTheCycle, EmployeesKeepTheRules, EmployeesGoRound};
+
+/// Where a roster meets all rules, on each day at least as many employees as the least demand and at most as many as
+/// the greatest have each symbol, the day off too.
+pub fn demand_is_met_daily()
+    ensures { DemandIsMetDaily }
+{}
+
+/// An employee's days in a row are the cycle of the roster, from the week of his number on.
+pub fn employees_follow_the_cycle()
+    ensures { EmployeesFollowTheCycle }
+{}
+
+/// Where a roster meets all rules, no days in a row of an employee break one.
+pub fn employees_keep_the_rules()
+    ensures { EmployeesKeepTheRules }
+{}
+
+/// In as many days in a row as the cycle has, from any day on, an employee stands once at each position.
+pub fn employees_go_round()
+    ensures { EmployeesGoRound }
+{}

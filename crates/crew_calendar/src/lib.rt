@@ -1,0 +1,17 @@
+//! The crew's calendar of a roster: each employee starts a week behind the one before, and the cycle of the roster's
+//! weeks goes on round. A table of all employees by dates, and the duties of one.
+#![tactic(auto)]
+
+mod calendar;
+mod duty_lines;
+mod laws;
+mod lines;
+mod places;
+
+pub use calendar::{date_of, fits};
+pub use duty_lines::duties;
+pub use laws::{
+    demand_is_met_daily, employees_follow_the_cycle, employees_go_round, employees_keep_the_rules,
+};
+pub use lines::crew_table;
+pub use places::place;

@@ -1,0 +1,27 @@
+-- The domains for which a cycle stands.
+use Rattle.std.specs.Prelude.{◌≡◌, ◌≢◌, ℕ, List, [], slice_index_or}
+use Rattle.rwsp_terms.specs.Instance.{Instance}
+use Rattle.refutation_terms.specs.Word.{Domains}
+use Rattle.domain_store.specs.Sets.{has_symbol}
+use Rattle.domain_store.specs.Store.{Store, BelongsTo, domain_at}
+
+pub record KnownCycle : Type 0 where
+  pub problem : Instance
+  -- the numbers of the rules
+  pub rules : List ℕ
+  -- for each position the ascending numbers of the symbols of its domain
+  pub sets : List (List ℕ)
+
+-- whether the known domain of the position has the symbol
+abbrev pub has_known : KnownCycle → Domains
+has_known C p x = has_symbol (slice_index_or C.sets p []) x
+
+-- the known domains are the store's
+pub record StandsFor (C : KnownCycle) (S : Store) : Type 0 where
+  pub belongs : BelongsTo C.problem S
+  pub sets : C.sets ≡ S.sets
+
+-- the store's domains are the known ones, but for that of one position at most
+pub record DiffersAtMostAt (C : KnownCycle) (S : Store) (p : ℕ) : Type 0 where
+  pub belongs : BelongsTo C.problem S
+  pub others : (q : ℕ) → q ≢ p → slice_index_or C.sets q [] ≡ domain_at S q

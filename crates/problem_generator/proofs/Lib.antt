@@ -1,0 +1,4 @@
+pub mod Stepping
+pub mod Following
+pub mod Lengths
+pub mod Valid

@@ -1,0 +1,27 @@
+use Rattle.std.proofs.Common.{length, ap, sym, subst, ◌∙◌}
+use Rattle.rwsp_model.specs.Validity.{IsValid}
+use Rattle.problem_generator.specs.Blocks.{roster_of}
+use Rattle.problem_generator.specs.Generated.{problem_with, demand_of}
+use Rattle.problem_generator.proofs.Lengths.{roster_long}
+use Rattle.problem_generator.proofs.Valid.{valid}
+use Rattle.problem_generator.proofs.generator.gen_problem.Goals as goal
+
+pub demand_of-requires-clause-cells : goal.demand_of-requires-clause-cells
+demand_of-requires-clause-cells c =
+    let long = roster_long c.in_ok-stints.stints.items c.in_ok-stints.ensures.usual in
+    let cells = c.deref-2.ensures.value ∙ c.in_ok-cells.ensures ∙ ap roster_of c.deref.ensures.value in
+    ap length cells ∙ long ∙ c.in_ok-stints.ensures.stints.whole
+
+pub problem_of-requires : goal.problem_of-requires
+problem_of-requires c =
+    let weeks = c.args.weeks in
+    let cells = c.deref-2.ensures.value ∙ c.in_ok-cells.ensures ∙ ap roster_of c.deref.ensures.value in
+    let made = c.in_ok-parts.ensures ∙ ap (problem_with weeks) (c.in_ok-demand.ensures ∙ ap (demand_of weeks) cells) in
+    subst IsValid (sym made) (valid weeks (roster_of c.in_ok-stints.stints.items) c.requires.0 c.requires.1)
+
+pub returns : goal.returns
+returns c =
+    let weeks = c.args.weeks in
+    let cells = c.deref-2.ensures.value ∙ c.in_ok-cells.ensures ∙ ap roster_of c.deref.ensures.value in
+    let made = c.in_ok-parts.ensures ∙ ap (problem_with weeks) (c.in_ok-demand.ensures ∙ ap (demand_of weeks) cells) in
+    (c.in_ok-stints.stints.items, c.in_ok-stints.ensures.stints, c.problem_of.ensures ∙ made)

@@ -1,0 +1,4 @@
+pub mod Draws
+pub mod Stints
+pub mod Blocks
+pub mod Generated

@@ -1,0 +1,49 @@
+-- The bounds of one turn from position 0 on, with all short rules.
+use Rattle.std.specs.Prelude.{◌≡◌, ◌⊎◌, ℕ, ◌<◌, List, slice_get, Option, Some, None}
+use Rattle.rwsp_terms.specs.declared.data.Weight.{Weight}
+use Rattle.rwsp_terms.specs.Instance.{Instance}
+use Rattle.rwsp_terms.specs.Rules.{NamesShortRules}
+use Rattle.refutation_terms.specs.declared.lines.Line.{Line}
+use Rattle.refutation_terms.specs.declared.lines.Line.TheVariants.{Bound}
+use Rattle.refutation_terms.specs.Word.{Domains, AreSame}
+use Rattle.refutation_terms.specs.Log.{LineFits, AreRules, AreWeightsOf, Holds}
+use Rattle.refutation_terms.specs.Sharp.{plain_bounds, IsSearched, HoldsAtTop, NoBoundHolds}
+use Rattle.domain_store.specs.Store.{Store, BelongsTo, has_domain}
+
+-- the weights of a plain bound, or of one of the first 32 rounds of the search
+abbrev pub AreTopWeights : Instance → Domains → List ℕ → List Weight → Type 0
+AreTopWeights P D R y = ((k : ℕ) × (slice_get (plain_bounds P) k ≡ Some y)) ⊎ ((k : ℕ) × (k < 32) × IsSearched P D R k y)
+
+-- a bound of one turn from position 0 on, by all short rules and such weights
+abbrev pub IsTopBound : Instance → Domains → Line → Type 0
+IsTopBound P D (Bound p turns R y) = LineFits P (Bound p turns R y) × (p ≡ 0) × (turns ≡ 1) × NamesShortRules P R × AreTopWeights P D R y
+IsTopBound P D line = ⊥
+
+-- the domains are those of the start, and the line is such a bound under them
+pub record IsStartBound (P : Instance) (start S : Store) (line : Line) : Type 0 where
+  pub same : AreSame P (has_domain S) (has_domain start)
+  pub bound : IsTopBound P (has_domain start) line
+
+-- such weights whose bound holds, or none where no such bound holds
+abbrev pub IsTopAnswer : Instance → Domains → List ℕ → Option (List Weight) → Type 0
+IsTopAnswer P D R None = NoBoundHolds P D R
+IsTopAnswer P D R (Some y) = AreWeightsOf P y × AreTopWeights P D R y × HoldsAtTop P D R y
+
+-- what a propagator of bounds is made of: its problem, the domains that it was made with, the list of all short rules, and
+-- weights whose bound holds there, if some do
+pub record TopWatch : Type 0 where
+  pub problem : Instance
+  pub start : Store
+  pub rules : List ℕ
+  pub weights : Option (List Weight)
+
+pub record IsTopWatch (w : TopWatch) : Type 0 where
+  pub belongs : BelongsTo w.problem w.start
+  pub are_rules : AreRules w.problem w.rules
+  pub all_short : NamesShortRules w.problem w.rules
+  pub answer : IsTopAnswer w.problem (has_domain w.start) w.rules w.weights
+
+-- a bound that holds under the domains, or none where no bound of the start holds
+abbrev pub IsBoundLook : Instance → Store → Store → Option Line → Type 0
+IsBoundLook P start S None = (line : Line) → IsStartBound P start S line → Holds P (has_domain S) line → ⊥
+IsBoundLook P start S (Some line) = IsStartBound P start S line × Holds P (has_domain S) line
