@@ -1,5 +1,5 @@
 -- What a guide may give a search, and what the search sees with it.
-use Rattle.std.specs.Prelude.{◌≡◌, ℕ, ◌<◌, Option, length, false}
+use Rattle.std.specs.Prelude.{◌≡◌, ℕ, ◌<◌, ◌≤◌, Option, length, false}
 use Rattle.std.specs.Option.{IfSome}
 use Rattle.rwsp_terms.specs.declared.data.Symbol.{Symbol}
 use Rattle.rwsp_terms.specs.Instance.{Instance}
@@ -25,6 +25,10 @@ IsLeafGiven P S line = IfSome line (IsLeafUnder P S)
 -- a position, and a symbol of its domain that has another beside it
 abbrev pub IsSplitIn : Store → NextSplit → Type 0
 IsSplitIn S next = (next.p < length S.sets) × (is_idle_in S next.p next.x.number ≡ false)
+
+-- the domain has no symbol from this one on
+abbrev pub HasNoneFrom : Store → ℕ → ℕ → Type 0
+HasNoneFrom S p lowest = (x : ℕ) → lowest ≤ x → x ≤ S.shifts → has_domain S p x ≡ false
 
 -- a leaf or a roster that a guide gave
 abbrev pub IsGiven : Instance → Store → Sight → Type 0

@@ -5,7 +5,7 @@ ghost use Rattle.rwsp_terms.specs.Instance.{Instance, IsSymbol, IsClass};
 ghost use Rattle.domain_store.specs.Store.{BelongsTo, IsDecided, domain_at, has_domain};
 ghost use Rattle.roster_search.specs.Guides.{IsSplitIn};
 
-use crate::need::most_needed_shift;
+use crate::need::most_needed;
 use domain_store::Domains;
 use rwsp_model::{Class, Problem, Symbol};
 
@@ -44,7 +44,7 @@ fn wanted_at(problem: &Problem, domains: &Domains, p: u32) -> Option<Symbol>
     if may_rest && !works_on(problem, domains, p) && is_off_due(problem, domains, p) {
         return Some(Symbol::OFF);
     }
-    if let Some(x) = most_needed_shift(problem, domains, p) {
+    if let Some(x) = most_needed(problem, domains, p, Symbol { number: 1 }) {
         return Some(x);
     }
     if may_rest { Some(Symbol::OFF) } else { None }
