@@ -22,9 +22,8 @@ use Rattle.refutation_terms.proofs.Unique.{verdict_unique}
 use Rattle.refutation_log.proofs.OneText.{has_names, is_writable}
 use Rattle.rwsp.specs.Inputs.{IsWithinLimit}
 use Rattle.rwsp.specs.Plans.{IsPlanned}
-use Rattle.rwsp.specs.Answers.{IsLogAnswer}
+use Rattle.rwsp.specs.Answers.{IsLogAnswer, IsOfSearch}
 use Rattle.rwsp.specs.Texts.{IsPrintable, HasSymbols}
-use Rattle.rwsp.specs.Laws.{IsOfSearch}
 use Rattle.rwsp.specs.declared.answer.InputKind.TheVariants as Kinds
 use Rattle.rwsp.specs.declared.answer.Answer.{Answer}
 use Rattle.rwsp.specs.declared.answer.Answer.TheVariants.{Roster, NoRoster, Undecided, Accepted, LogRefused, Reduced, Meets, Shown, Breaks, RosterRefused, Usage, FileRefused, TooLong}

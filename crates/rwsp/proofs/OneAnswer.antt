@@ -129,11 +129,11 @@ both_ends one decide command second file a b there (inr h) (inr k) =
 
 ends_at : (command : Command) (held : List ℕ → Told) (words : Words) (file : List ℕ) (a : Answer) → held (problem_name words) ≡ Bytes file → IsAnswerTo command held words a → IsFileAnswer a file ⊎ AtFile command (held (second_name words)) file a
 ends_at command held words file a e (inl h) = inl (at_bytes (held (problem_name words)) file (IsFileAnswer a) e h.1)
-ends_at command held words file a e (inr h) = inr (at_bytes (held (problem_name words)) file (λ f. AtFile command (held (second_name words)) f a) e h)
+ends_at command held words file a e (inr h) = inr (at_bytes (held (problem_name words)) file (λ f. AtFile command (held (second_name words)) f a) e h.1)
 
 nothing_at : (command : Command) (held : List ℕ → Told) (words : Words) (a : Answer) → held (problem_name words) ≡ Missing → IsAnswerTo command held words a → ⊥
 nothing_at command held words a e (inl h) = at_missing (held (problem_name words)) (IsFileAnswer a) e h.1
-nothing_at command held words a e (inr h) = at_missing (held (problem_name words)) (λ f. AtFile command (held (second_name words)) f a) e h
+nothing_at command held words a e (inr h) = at_missing (held (problem_name words)) (λ f. AtFile command (held (second_name words)) f a) e h.1
 
 one_to : TextsSpellOne → TextsSpellOrFail → (command : Command) (held : List ℕ → Told) (words : Words) (a b : Answer) → IsThere (held (problem_name words)) → (ReadsSecond command → IsThere (held (second_name words))) → IsAnswerTo command held words a → IsAnswerTo command held words b → (a ≡ b) ⊎ AgreeInSearch a b
 one_to one decide command held words a b (inl e) there h k = absurd (nothing_at command held words a e h)

@@ -5,11 +5,13 @@ use Rattle.rwsp_terms.specs.Instance.{Instance}
 use Rattle.rwsp_file.specs.Spelling.{SpellsProblem}
 use Rattle.rwsp.specs.Commands.{Words, IsForm, ReadsSecond, problem_name, second_name}
 use Rattle.rwsp.specs.Inputs.{WhereTold, IsWithinLimit, OfProblem, IsProblemOf}
-use Rattle.rwsp.specs.Answers.{IsAnswer, IsAnswerOn, IsReadFault}
+use Rattle.rwsp.specs.Answers.{IsAnswer, IsAnswerOn, IsReadFault, IsOfCommand}
 use Rattle.rwsp.specs.Texts.{IsTextOf, text_of}
 use Rattle.rwsp.specs.declared.command.Command.{Command}
+use Rattle.rwsp.specs.declared.command.Command.TheVariants.{Plan, Check, Verify, Reduce, Show}
 use Rattle.rwsp.specs.declared.answer.InputKind.TheVariants as Kinds
 use Rattle.rwsp.specs.declared.answer.Answer.{Answer}
+use Rattle.rwsp.proofs.Logs.{planned_is}
 
 told_weaker : (told : Told) (Q R : List ℕ → Type 0) → ((bytes : List ℕ) → Q bytes → R bytes) → WhereTold told Q → WhereTold told R
 told_weaker Silent Q R f h = tt
@@ -26,10 +28,18 @@ problem_of held words P h = told_weaker (held (problem_name words)) (λ file. Is
 of_problem : (held : List ℕ → Told) (words : Words) (P : Instance) (Q : Instance → Type 0) → IsRead held words P → Q P → OfProblem held words Q
 of_problem held words P Q h q = told_weaker (held (problem_name words)) (λ file. IsWithinLimit Kinds.Problem file × SpellsProblem file P) (λ file. IsWithinLimit Kinds.Problem file × ((P : Instance) × SpellsProblem file P × Q P)) (λ file k. (k.0, (P, k.1, q))) h
 
+-- an answer that is right on a problem is one of the command's
+answer_kind : (command : Command) (told : Told) (P : Instance) (answer : Answer) → IsAnswerOn command told P answer → IsOfCommand command answer
+answer_kind Show told P answer h = h
+answer_kind (Plan budget) told P answer h = (planned_is P budget answer h).0
+answer_kind Verify told P answer h = h.0
+answer_kind (Check workers) told P answer h = h.0
+answer_kind Reduce told P answer h = h.0
+
 -- an answer on a problem that was read
 pub job_answer : (held : List ℕ → Told) (words : Words) (command : Command) (P : Instance) (answer : Answer) (told : Told) → IsForm words command → IsRead held words P → told ≡ held (second_name words) → IsAnswerOn command told P answer → IsAnswer held words answer
 job_answer held words command P answer told form read same h =
-    inr (command, form, inr (of_problem held words P (λ Q. IsAnswerOn command (held (second_name words)) Q answer) read (subst (λ (t : Told). IsAnswerOn command t P answer) same h)))
+    inr (command, form, inr (answer_kind command told P answer h, of_problem held words P (λ Q. IsAnswerOn command (held (second_name words)) Q answer) read (subst (λ (t : Told). IsAnswerOn command t P answer) same h)))
 
 pub job_text : (held : List ℕ → Told) (words : Words) (P : Instance) (answer : Answer) (text : List ℕ) → IsRead held words P → text ≡ text_of P answer → IsTextOf held words answer text
 job_text held words P answer text read h = inr (P, problem_of held words P read, h)
@@ -40,4 +50,4 @@ rose_since before later now h rose = omega arith
 
 pub second_fault : (held : List ℕ → Told) (before later now : List ℕ → ℕ) (words : Words) (command : Command) (P : Instance) → IsForm words command → ReadsSecond command → IsRead held words P → before (second_name words) ≤ later (second_name words) → Rose (later (second_name words)) (now (second_name words)) → IsReadFault held before now words
 second_fault held before later now words command P form reads read le rose =
-    (command, form, inr (reads, of_problem held words P (λ _. Rose (before (second_name words)) (now (second_name words))) read (rose_since _ _ _ le rose)))
+    (command, form, inr (reads, rose_since _ _ _ le rose, of_problem held words P (λ _. Unit {0}) read tt))

@@ -14,13 +14,13 @@ use Rattle.refutation_terms.specs.Strip.{IsReduced}
 use Rattle.refutation_terms.specs.Verdict.{IsAccepted, IsRefused}
 use Rattle.rule_reducer.specs.Needs.{NeedsEach, NeedsTogether}
 use Rattle.rwsp.specs.Commands.{Words, IsForm, HasNoForm, ReadsSecond, problem_name, second_name}
-use Rattle.rwsp.specs.Inputs.{WhereTold, IsWithinLimit, IsTooLong, OfProblem}
+use Rattle.rwsp.specs.Inputs.{WhereTold, IsWithinLimit, IsTooLong, OfProblem, HasProblem}
 use Rattle.rwsp.specs.Plans.{IsPlanned}
 use Rattle.rwsp.specs.declared.command.Command.{Command}
 use Rattle.rwsp.specs.declared.command.Command.TheVariants.{Plan, Check, Verify, Reduce, Show}
 use Rattle.rwsp.specs.declared.answer.InputKind.TheVariants.{Problem, Roster, Log}
 use Rattle.rwsp.specs.declared.answer.Answer.{Answer}
-use Rattle.rwsp.specs.declared.answer.Answer.TheVariants.{Meets, Breaks, RosterRefused, Accepted, LogRefused, Reduced, Shown, Usage, FileRefused, TooLong}
+use Rattle.rwsp.specs.declared.answer.Answer.TheVariants.{Roster as Found, NoRoster, Undecided, Meets, Breaks, RosterRefused, Accepted, LogRefused, Reduced, Shown, Usage, FileRefused, TooLong}
 
 -- what an answer says of the bytes of a problem file
 abbrev pub IsFileAnswer : Answer → List ℕ → Type 0
@@ -89,12 +89,25 @@ IsOfReduction (LogRefused why) = Unit {0}
 IsOfReduction (Reduced g) = Unit {0}
 IsOfReduction answer = ⊥
 
+-- an answer that a search gives, which is free to choose among those that are right
+abbrev pub IsOfSearch : Answer → Type 0
+IsOfSearch (Found s) = Unit {0}
+IsOfSearch (NoRoster g) = Unit {0}
+IsOfSearch (Undecided g) = Unit {0}
+IsOfSearch answer = ⊥
+
 -- an answer that the second file of a command has
 abbrev pub IsOfSecond : Command → Answer → Type 0
 IsOfSecond Verify answer = IsOfRoster answer
 IsOfSecond (Check workers) answer = IsOfLog answer
 IsOfSecond Reduce answer = IsOfReduction answer
 IsOfSecond command answer = ⊥
+
+-- an answer that a command has on a problem, whatever the files hold
+abbrev pub IsOfCommand : Command → Answer → Type 0
+IsOfCommand Show answer = answer ≡ Shown
+IsOfCommand (Plan budget) answer = IsOfSearch answer
+IsOfCommand command answer = IsOfSecond command answer
 
 -- what the answer to a command says of an instance and the bytes of the second file
 abbrev pub IsSecondAnswer : Command → Answer → Instance → List ℕ → Type 0
@@ -109,11 +122,11 @@ IsAnswerOn Show told P answer = answer ≡ Shown
 IsAnswerOn (Plan budget) told P answer = IsPlanned P budget answer
 IsAnswerOn command told P answer = IsOfSecond command answer × WhereTold told (IsSecondAnswer command answer P)
 
--- the problem's file ends the job, or it spells an instance and the command has this answer there
+-- the problem's file ends the job, or the answer is one of the command's, and the file spells an instance where the command has it
 abbrev pub IsAnswerTo : Command → (List ℕ → Told) → Words → Answer → Type 0
 IsAnswerTo command held words answer =
     (IsOfFile answer × WhereTold (held (problem_name words)) (IsFileAnswer answer))
-    ⊎ OfProblem held words (λ P. IsAnswerOn command (held (second_name words)) P answer)
+    ⊎ (IsOfCommand command answer × OfProblem held words (λ P. IsAnswerOn command (held (second_name words)) P answer))
 
 -- what is so where an answer comes
 abbrev pub IsAnswer : (List ℕ → Told) → Words → Answer → Type 0
@@ -121,9 +134,9 @@ IsAnswer held words answer =
     (HasNoForm words × (answer ≡ Usage))
     ⊎ ((command : Command) × IsForm words command × IsAnswerTo command held words answer)
 
--- a file could not be read: the count of the problem's file has risen, or that file spells a problem and the count of the second file has risen
+-- a file could not be read: the count of the problem's file has risen, or that of the second file, and then the first spells an instance
 abbrev pub IsReadFault : (List ℕ → Told) → (before now : List ℕ → ℕ) → Words → Type 0
 IsReadFault held before now words =
     (command : Command) × IsForm words command
     × (Rose (before (problem_name words)) (now (problem_name words))
-    ⊎ (ReadsSecond command × OfProblem held words (λ P. Rose (before (second_name words)) (now (second_name words)))))
+    ⊎ (ReadsSecond command × Rose (before (second_name words)) (now (second_name words)) × HasProblem held words))

@@ -38,6 +38,10 @@ IsTooLong kind bytes = longest kind < length bytes
 abbrev pub OfProblem : (List ℕ → Told) → Words → (Instance → Type 0) → Type 0
 OfProblem held words Q = WhereTold (held (problem_name words)) (λ file. IsWithinLimit Problem file × ((P : Instance) × SpellsProblem file P × Q P))
 
+-- the first file spells an instance
+abbrev pub HasProblem : (List ℕ → Told) → Words → Type 0
+HasProblem held words = OfProblem held words (λ P. Unit {0})
+
 -- the instance is the one that the first file spells
 abbrev pub IsProblemOf : (List ℕ → Told) → Words → Instance → Type 0
 IsProblemOf held words P = WhereTold (held (problem_name words)) (λ file. SpellsProblem file P)

@@ -7,25 +7,18 @@ use Rattle.refutation_terms.specs.Log.{Log}
 use Rattle.rwsp.specs.Commands.{Words, IsForm, ReadsSecond, problem_name, second_name}
 use Rattle.rwsp.specs.Inputs.{IsWithinLimit}
 use Rattle.rwsp.specs.Plans.{IsPlanned}
-use Rattle.rwsp.specs.Answers.{IsAnswer, IsAnswerOn, IsOfLog, IsLogAnswer, IsRosterAnswer, IsReduction}
+use Rattle.rwsp.specs.Answers.{IsAnswer, IsAnswerOn, IsOfSearch, IsOfLog, IsLogAnswer, IsRosterAnswer, IsReduction}
 use Rattle.rwsp.specs.Texts.{IsTextOf, text_of}
 use Rattle.rwsp.specs.declared.command.Command.{Command}
 use Rattle.rwsp.specs.declared.command.Command.TheVariants.{Check}
 use Rattle.rwsp.specs.declared.answer.InputKind.TheVariants as Kinds
 use Rattle.rwsp.specs.declared.answer.Answer.{Answer}
-use Rattle.rwsp.specs.declared.answer.Answer.TheVariants.{Roster, NoRoster, Undecided, Accepted, Reduced, Meets}
+use Rattle.rwsp.specs.declared.answer.Answer.TheVariants.{Roster, NoRoster, Accepted, Reduced, Meets}
 
 -- the shelf tells what the problem's file holds, or that it isn't there; and so for the second file, where the words are a form of a
 -- command that reads one
 abbrev pub AreTold : (List ℕ → Told) → Words → Type 0
 AreTold held words = (held (problem_name words) ≢ Silent) × ((command : Command) → IsForm words command → ReadsSecond command → held (second_name words) ≢ Silent)
-
--- an answer that a search gives, which is free to choose among those that are right
-abbrev pub IsOfSearch : Answer → Type 0
-IsOfSearch (Roster s) = Unit {0}
-IsOfSearch (NoRoster g) = Unit {0}
-IsOfSearch (Undecided g) = Unit {0}
-IsOfSearch answer = ⊥
 
 -- two answers of a search that may both fit: a roster and a refutation never do
 abbrev pub AgreeInSearch : Answer → Answer → Type 0
