@@ -24,7 +24,7 @@ total_follows x left (t ∷ ts) h =
     omega arith
 
 -- three draws more
-later_state : (x i : ℕ) → state_after (state_after x 3) (3 * i) ≡ state_after x (3 * suc i)
+pub later_state : (x i : ℕ) → state_after (state_after x 3) (3 * i) ≡ state_after x (3 * suc i)
 later_state x zero = refl
 later_state x (suc i) =
     let e : 3 * suc i ≡ suc (suc (suc (3 * i))) = omega arith in

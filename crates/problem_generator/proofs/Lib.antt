@@ -2,3 +2,9 @@ pub mod Stepping
 pub mod Following
 pub mod Lengths
 pub mod Valid
+pub mod Walking
+pub mod Usual
+pub mod Endless
+pub mod Days
+pub mod Meeting
+pub mod OneProblem

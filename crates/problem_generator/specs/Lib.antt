@@ -2,3 +2,4 @@ pub mod Draws
 pub mod Stints
 pub mod Blocks
 pub mod Generated
+pub mod Laws
