@@ -3,3 +3,4 @@ pub mod Calendars
 pub mod Appended
 pub mod Standing
 pub mod Rounds
+pub mod OneText

@@ -7,7 +7,7 @@ use Rattle.rwsp_terms.specs.declared.data.Symbol.{Symbol}
 use Rattle.rwsp_terms.specs.declared.data.Rule.TheVariants.{Day}
 use Rattle.rwsp_terms.specs.Instance.{Instance, cells, least, greatest, IsDay, off_symbol}
 use Rattle.rwsp_terms.specs.Window.{cell}
-use Rattle.rwsp_terms.specs.Roster.{IsRoster, MeetsAll, weeks_with}
+use Rattle.rwsp_terms.specs.Roster.{MeetsAll, weeks_with}
 use Rattle.rwsp_terms.proofs.Counting.{count_same, count_next}
 use Rattle.refutation_terms.specs.Word.{turned}
 use Rattle.refutation_terms.proofs.Turning.{length-turned, cell-turned, cell-within, weeks_with-turned}

@@ -1,18 +1,15 @@
 -- Where an employee stands round the cycle.
-use Rattle.std.proofs.Common.{◌≡◌, ℕ, zero, suc, ◌+◌, ◌-◌, ◌*◌, ◌/◌, ◌%◌, ◌<◌, ◌≤◌, ◌⊎◌, inl, inr, List, [], ◌∷◌, length, get_or, refl, ap, sym, subst, ◌∙◌, arith, mul-le-mul_right}
-use Rattle.std.specs.Prelude.{map}
-use Rattle.std.specs.List.{range_with_len}
+use Rattle.std.proofs.Common.{◌≡◌, ℕ, zero, suc, ◌+◌, ◌-◌, ◌*◌, ◌/◌, ◌%◌, ◌<◌, ◌≤◌, inl, inr, List, length, get_or, refl, ap, sym, subst, ◌∙◌, arith, mul-le-mul_right}
 use Rattle.std.proofs.lemmas.Nat.{mod_below}
 use Rattle.std.proofs.lemmas.Bool.{cases_order}
 use Rattle.std.proofs.Math.Nat.{add-mod-mod, add-mul-mod_self_right, mod-eq_of_lt}
 use Rattle.rwsp_terms.specs.declared.data.Symbol.{Symbol}
-use Rattle.rwsp_terms.specs.declared.data.Rule.{Rule}
 use Rattle.rwsp_terms.specs.Instance.{Instance, cells, off_symbol}
 use Rattle.rwsp_terms.specs.Window.{Bad, cell, window}
-use Rattle.rwsp_terms.specs.Roster.{IsRoster, IsRule, MeetsAll}
+use Rattle.rwsp_terms.specs.Roster.{IsRoster, MeetsAll}
 use Rattle.refutation_terms.proofs.Windows.{no_bad_met}
 use Rattle.crew_calendar.specs.Crew.{place, symbol_on}
-use Rattle.crew_calendar.specs.Facts.{stretch, FollowsCycle, IsClean, StandsOnce, GoesRound}
+use Rattle.crew_calendar.specs.Facts.{stretch, FollowsCycle, IsClean, GoesRound}
 
 -- an employee has the symbols of the endless cycle, from his week on
 pub symbol-cell : (P : Instance) (s : List Symbol) (e t : ℕ) → length s ≡ cells P → symbol_on P s e t ≡ cell s ((e - 1) * P.days + t)
@@ -49,8 +46,7 @@ reached : (n a p : ℕ) → 0 < n → p < n → (k : ℕ) × (k < n) × ((a + k)
 reached n a p some less =
     let rest = p + (n - a % n) in
     let small : a % n < n = mod_below a n some in
-    let whole : a + rest ≡ p + (a / n + 1) * n = omega (arith, small) in
-    (
+    let whole : a + rest ≡ p + (a / n + 1) * n = omega (arith, small) in (
       rest % n,
       mod_below rest n some,
       add-mod-mod a rest n ∙ ap (λ q. q % n) whole ∙ add-mul-mod_self_right p (a / n + 1) n ∙ mod-eq_of_lt less,
@@ -61,9 +57,11 @@ goes_round P some e t p less =
     let n = cells P in
     let a = (e - 1) * P.days + t in
     let found = reached n a p some less in
-    let at : (k : ℕ) → place P e (t + k) ≡ (a + k) % n = λ k. let e : (e - 1) * P.days + (t + k) ≡ a + k = omega arith in ap (λ q. q % n) e in
-    (found.0, record {
-      within = found.1;
-      here = at found.0 ∙ found.2;
-      only = λ other within there. same_day n a found.0 other p some found.1 within found.2 (sym (at other) ∙ there);
-    })
+    let at : (k : ℕ) → place P e (t + k) ≡ (a + k) % n = λ k. let e : (e - 1) * P.days + (t + k) ≡ a + k = omega arith in ap (λ q. q % n) e in (
+      found.0,
+      record {
+        within = found.1;
+        here = at found.0 ∙ found.2;
+        only = λ other within there. same_day n a found.0 other p some found.1 within found.2 (sym (at other) ∙ there);
+      },
+    )

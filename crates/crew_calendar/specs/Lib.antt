@@ -2,3 +2,4 @@ pub mod Crew
 pub mod Calendar
 pub mod Texts
 pub mod Facts
+pub mod Laws

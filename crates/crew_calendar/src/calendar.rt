@@ -13,6 +13,9 @@ use jiff_fmt::temporal::DateTimePrinter;
 /// midnight, and has up to 10,000 minutes.
 pub const MOST_DAYS_LATER: u32 = 13;
 
+// The first year that a word may name.
+const FIRST_YEAR: i16 = 0;
+
 // The date so many days later, where there is one.
 fn days_later(date: Date, days: u32) -> Result<Date, Error>
     requires { days ≤ MOST_DAYS + MOST_DAYS_LATER }
@@ -49,9 +52,13 @@ pub fn date_of(word: &str) -> Option<Date>
     let Ok(date) = word.parse::<Date>() else {
         return None;
     };
-    if date.year() < 0 {
+    if date.year() < FIRST_YEAR {
         return None;
     }
     let text = DateTimePrinter::new().date_text(date.to_plain());
-    if text.as_str() == word { Some(date) } else { None }
+    if text.as_str() == word {
+        Some(date)
+    } else {
+        None
+    }
 }

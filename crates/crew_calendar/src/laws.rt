@@ -1,5 +1,6 @@
 // Laws of the definitions. Each function's contract is the law.
 ghost use Rattle.crew_calendar.specs.Facts.{DemandIsMetDaily, EmployeesFollowTheCycle, EmployeesKeepTheRules, EmployeesGoRound};
+ghost use Rattle.crew_calendar.specs.Laws.{TablesAreOne, DutiesAreOne, WordsNameOneDate};
 
 /// Where a roster meets all rules, on each day at least as many employees as the least demand and at most as many as
 /// the greatest have each symbol, the day off too.
@@ -20,4 +21,19 @@ pub fn employees_keep_the_rules()
 /// In as many days in a row as the cycle has, from any day on, an employee stands once at each position.
 pub fn employees_go_round()
     ensures { EmployeesGoRound }
+{}
+
+/// A table has one text.
+pub fn tables_are_one()
+    ensures { TablesAreOne }
+{}
+
+/// The duties of an employee have one text.
+pub fn duties_are_one()
+    ensures { DutiesAreOne }
+{}
+
+/// A word names one date at most.
+pub fn words_name_one_date()
+    ensures { WordsNameOneDate }
 {}

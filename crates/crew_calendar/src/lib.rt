@@ -11,7 +11,11 @@ mod places;
 pub use calendar::{date_of, fits};
 pub use duty_lines::duties;
 pub use laws::{
-    demand_is_met_daily, employees_follow_the_cycle, employees_go_round, employees_keep_the_rules,
+    demand_is_met_daily, duties_are_one, employees_follow_the_cycle, employees_go_round,
+    employees_keep_the_rules, tables_are_one, words_name_one_date,
 };
 pub use lines::crew_table;
 pub use places::place;
+
+#[cfg(test)]
+mod tests;

@@ -1,4 +1,4 @@
-use Rattle.std.proofs.Common.{◌≡◌, ℤ, pos, List, ℕ, true, arith, ap, sym, ◌∙◌}
+use Rattle.std.proofs.Common.{◌≡◌, pos, true, arith, ap, ◌∙◌}
 use Rattle.std.specs.Prelude.{◌<ℤ◌}
 use Rattle.std.specs.Str.{bytes_eq}
 use Rattle.std.proofs.lemmas.Int.{ints}
@@ -9,9 +9,9 @@ use Rattle.crew_calendar.proofs.calendar.date_of.Goals as goal
 pub returns-in_default : goal.returns-in_default
 returns-in_default c date names = word_is_read c.args.word.now c.in_default.field-0 date c.in_default.ensures.value names
 
-pub returns-then-year-lt0 : goal.returns-then-year-lt0
-returns-then-year-lt0 c date names =
-    let below : c.in-Ok.date.year <ℤ pos 0 = omega (arith, ints, c.year.ensures, c.if-year-lt0.true) in
+pub returns-then-year-lt-FIRST_YEAR : goal.returns-then-year-lt-FIRST_YEAR
+returns-then-year-lt-FIRST_YEAR c date names =
+    let below : c.in-Ok.date.year <ℤ pos 0 = omega (arith, ints, c.year.ensures, c.if-year-lt-FIRST_YEAR.true) in
     not_negative c.args.word.now c.in-Ok.date date c.in-Ok.ensures.value names below
 
 pub returns-else-eq : goal.returns-else-eq

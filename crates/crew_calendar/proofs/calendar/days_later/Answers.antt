@@ -1,4 +1,4 @@
-use Rattle.std.proofs.Common.{◌≡◌, ℤ, pos, ◌+ℤ◌, arith, ap, ◌∙◌, FitsSigned, w64}
+use Rattle.std.proofs.Common.{◌≡◌, pos, ◌+ℤ◌, arith, ap, ◌∙◌, FitsSigned, w64}
 use Rattle.std.proofs.lemmas.Int.{to_z-of_z}
 use Rattle.std.proofs.lemmas.Result.{IfOk-weaker}
 use Rattle.jiff.specs.Words.{epoch_day}
@@ -12,8 +12,7 @@ returns-clause-succeeds c =
     let only = simp to_z-of_z at c.days.ensures in
     let can = can_add-days c.args.date c.from.result c.days.result only in
     let s = c.checked_add.ensures.succeeds in
-    let from = epoch_day_range c.args.date in
-    (
+    let from = epoch_day_range c.args.date in (
       λ ok. let day = can.0 (s.0 ok) in omega (arith, signed_arith, c.from.ensures, days_from_civil-max, day.1),
       λ within. s.1 (can.1 (omega (arith, signed_arith, c.from.ensures, days_from_civil-max, from.0), omega (arith, signed_arith, c.from.ensures, days_from_civil-max, within))),
     )

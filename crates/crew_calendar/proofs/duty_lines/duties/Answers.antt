@@ -1,4 +1,4 @@
-use Rattle.std.proofs.Common.{◌≡◌, ◌<◌, ◌+◌, ◌++◌, ap, ◌∙◌, arith}
+use Rattle.std.proofs.Common.{◌≡◌, ◌+◌, ◌++◌, ap, ◌∙◌, arith}
 use Rattle.crew_calendar.specs.Texts.{duty_line, duties_text}
 use Rattle.crew_calendar.proofs.Appended.{day_more}
 use Rattle.crew_calendar.proofs.Calendars.{calendar_from, is_calendar}

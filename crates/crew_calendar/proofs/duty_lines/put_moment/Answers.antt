@@ -1,4 +1,4 @@
-use Rattle.std.proofs.Common.{◌≡◌, ◌<◌, ◌+◌, ◌/◌, ◌%◌, ◌∷◌, ◌++◌, ap, sym, ◌∙◌, arith}
+use Rattle.std.proofs.Common.{◌≡◌, ◌/◌, ◌%◌, ◌++◌, ap, sym, ◌∙◌, arith}
 use Rattle.jiff.specs.Words.{date_text}
 use Rattle.crew_calendar.specs.Texts.{day_minutes, clock_text}
 use Rattle.crew_calendar.proofs.Appended.{moment_joined}

@@ -1,8 +1,7 @@
-use Rattle.std.proofs.Common.{◌≡◌, ◌≤◌, ◌<◌, ◌+◌, ◌*◌, ◌/◌, ◌%◌, ◌∷◌, ◌++◌, ap, sym, ◌∙◌, arith, ℕ}
+use Rattle.std.proofs.Common.{◌≡◌, ◌≤◌, ◌+◌, ◌*◌, ◌/◌, ◌++◌, ap, ◌∙◌, arith}
 use Rattle.std.specs.Prelude.{codes}
 use Rattle.rwsp_terms.specs.Instance.{name_of}
 use Rattle.crew_calendar.specs.Texts.{day_minutes, moment_text, start_of, length_of}
-use Rattle.crew_calendar.specs.Calendar.{IsCalendar}
 use Rattle.crew_calendar.proofs.Appended.{shift_joined}
 use Rattle.crew_calendar.proofs.duty_lines.put_shift.Goals as goal
 

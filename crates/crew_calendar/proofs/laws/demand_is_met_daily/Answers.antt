@@ -1,4 +1,3 @@
-use Rattle.std.proofs.Common.{◌<◌, ℕ, ◌*◌, arith, zero, suc}
 use Rattle.crew_calendar.proofs.Rounds.{is_staffed, some_days}
 use Rattle.crew_calendar.proofs.laws.demand_is_met_daily.Goals as goal
 

@@ -1,4 +1,3 @@
-use Rattle.std.proofs.Common.{◌<◌, ◌*◌}
 use Rattle.crew_calendar.proofs.Rounds.{is_staffed, some_cells}
 use Rattle.crew_calendar.proofs.Standing.{follows_cycle, is_clean, goes_round}
 use Rattle.crew_calendar.proofs.lines.crew_table.Goals as goal

@@ -1,4 +1,4 @@
-use Rattle.std.proofs.Common.{◌≡◌, ◌-◌, ◌*◌, ◌≤◌, arith, mul-le-mul_right}
+use Rattle.std.proofs.Common.{◌-◌, ◌≤◌, arith, mul-le-mul_right}
 use Rattle.crew_calendar.proofs.places.place.Goals as goal
 
 pub overflow_mul-result : goal.overflow_mul-result

@@ -1,0 +1,5 @@
+use Rattle.crew_calendar.proofs.OneText.{one_date}
+use Rattle.crew_calendar.proofs.laws.words_name_one_date.Goals as goal
+
+pub returns : goal.returns
+returns c = one_date
