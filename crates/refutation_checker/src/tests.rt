@@ -2,12 +2,14 @@
 // worked out by hand.
 use super::*;
 use crate::judge::Judge;
+use potential_bounds::Gate;
 use refutation_log::read_log;
 use refutation_terms::LogRefusal;
 use rwsp_model::{
     Bounds, DemandRow, Fail as Failure, Name, Parts, Problem, RuleList, ShiftRow, Symbol, Word,
 };
 use std::alloc::{AllocError, Global};
+use std::sync::atomic::{AtomicBool, Ordering};
 use std::test::Fail;
 use tree_walk::Walk;
 
@@ -316,5 +318,53 @@ fn lines_are_read(rt: HostRuntime) -> Result<(), Fail> {
         };
         assert!(rt; is_cause(&why, &wanted));
     }
+    Ok(())
+}
+
+// Each of two workers waits at the gate until it has seen the other, or for long.
+#[derive(Drop)]
+struct Meeting {
+    flags: [AtomicBool; 2],
+    met: [AtomicBool; 2],
+}
+
+impl Gate for Meeting {
+    fn enter(&self, chunk: u32) {
+        let [first, second] = &self.flags;
+        let [first_met, second_met] = &self.met;
+        match chunk {
+            1 => meet(first, second, first_met),
+            2 => meet(second, first, second_met),
+            _ => {}
+        }
+    }
+}
+
+fn meet(own: &AtomicBool, other: &AtomicBool, met: &AtomicBool) {
+    own.store(true, Ordering::SeqCst);
+    for _ in 0..200_000_000 {
+        if other.load(Ordering::SeqCst) {
+            met.store(true, Ordering::SeqCst);
+            return;
+        }
+    }
+}
+
+// Two workers judge a log that passes, both at once.
+#[test]
+fn two_workers_judge_at_once(rt: HostRuntime) -> Result<(), Fail> {
+    let alloc = rt.alloc();
+    let six = Problem::of(six_cells(alloc)?)?;
+    let text =
+        b"rwsp-log 1\nrules 1 2 3 4\nsplit 1 1 D\ndead 1 1 7 rules 1 2 3 4\ndead 1 1 7 rules 1 2 3 4\n";
+    let gate = Meeting {
+        flags: [AtomicBool::new(false), AtomicBool::new(false)],
+        met: [AtomicBool::new(false), AtomicBool::new(false)],
+    };
+    let named = check_with(&rt, alloc, &six, text.as_slice(), 2, &gate)?;
+    assert_eq!(rt; named.numbers(), [1, 2, 3, 4].as_slice());
+    let [first, second] = &gate.met;
+    assert!(rt; first.load(Ordering::SeqCst));
+    assert!(rt; second.load(Ordering::SeqCst));
     Ok(())
 }

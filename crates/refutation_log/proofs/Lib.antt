@@ -17,3 +17,4 @@ pub mod Named
 pub mod HeaderLines
 pub mod OneText
 pub mod NotRefused
+pub mod OneCause

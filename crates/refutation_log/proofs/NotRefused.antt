@@ -136,31 +136,31 @@ not_unspelled P g n bytes m (Refusals.Unfinished i) D limits f e r c = r
 not_unspelled P g n bytes m Refusals.Ends D limits f e r c = c
 not_unspelled P g n bytes m (Refusals.Turn i) D limits f e r c = r
 
-version_cause : (bytes : List ℕ) (v : Bool) (why : LogRefusal) → bytes ≡ version_text v → VersionCause bytes why → ⊥
-version_cause bytes v (Refusals.Form i) e c = c.1 v e
-version_cause bytes v (Refusals.Name i) e c = c
-version_cause bytes v (Refusals.Unnamed i k) e c = c
-version_cause bytes v (Refusals.Idle i) e c = c
-version_cause bytes v (Refusals.Long i k) e c = c
-version_cause bytes v (Refusals.Fails i) e c = c
-version_cause bytes v (Refusals.Escape i w) e c = c
-version_cause bytes v (Refusals.Unfinished i) e c = c
-version_cause bytes v Refusals.Ends e c = c
-version_cause bytes v (Refusals.Extra i) e c = c
-version_cause bytes v (Refusals.Turn i) e c = c
+pub version_refutes : (bytes : List ℕ) (v : Bool) (why : LogRefusal) → bytes ≡ version_text v → VersionCause bytes why → ⊥
+version_refutes bytes v (Refusals.Form i) e c = c.1 v e
+version_refutes bytes v (Refusals.Name i) e c = c
+version_refutes bytes v (Refusals.Unnamed i k) e c = c
+version_refutes bytes v (Refusals.Idle i) e c = c
+version_refutes bytes v (Refusals.Long i k) e c = c
+version_refutes bytes v (Refusals.Fails i) e c = c
+version_refutes bytes v (Refusals.Escape i w) e c = c
+version_refutes bytes v (Refusals.Unfinished i) e c = c
+version_refutes bytes v Refusals.Ends e c = c
+version_refutes bytes v (Refusals.Extra i) e c = c
+version_refutes bytes v (Refusals.Turn i) e c = c
 
-rules_cause : (P : Instance) (bytes R : List ℕ) (why : LogRefusal) → AreRules P R → bytes ≡ rules_text R → RulesCause P bytes why → ⊥
-rules_cause P bytes R (Refusals.Form i) f e c = c.1 R f e
-rules_cause P bytes R (Refusals.Name i) f e c = c
-rules_cause P bytes R (Refusals.Unnamed i k) f e c = c
-rules_cause P bytes R (Refusals.Idle i) f e c = c
-rules_cause P bytes R (Refusals.Long i k) f e c = c
-rules_cause P bytes R (Refusals.Fails i) f e c = c
-rules_cause P bytes R (Refusals.Escape i w) f e c = c
-rules_cause P bytes R (Refusals.Unfinished i) f e c = c
-rules_cause P bytes R Refusals.Ends f e c = c
-rules_cause P bytes R (Refusals.Extra i) f e c = c
-rules_cause P bytes R (Refusals.Turn i) f e c = c
+pub rules_refutes : (P : Instance) (bytes R : List ℕ) (why : LogRefusal) → AreRules P R → bytes ≡ rules_text R → RulesCause P bytes why → ⊥
+rules_refutes P bytes R (Refusals.Form i) f e c = c.1 R f e
+rules_refutes P bytes R (Refusals.Name i) f e c = c
+rules_refutes P bytes R (Refusals.Unnamed i k) f e c = c
+rules_refutes P bytes R (Refusals.Idle i) f e c = c
+rules_refutes P bytes R (Refusals.Long i k) f e c = c
+rules_refutes P bytes R (Refusals.Fails i) f e c = c
+rules_refutes P bytes R (Refusals.Escape i w) f e c = c
+rules_refutes P bytes R (Refusals.Unfinished i) f e c = c
+rules_refutes P bytes R Refusals.Ends f e c = c
+rules_refutes P bytes R (Refusals.Extra i) f e c = c
+rules_refutes P bytes R (Refusals.Turn i) f e c = c
 
 turn_known : (P : Instance) (bytes : List ℕ) (t : Turn) (name : List ℕ) (day : ℕ) → KeepsLimits P → IsDay P t.day × IsSymbol P t.x → bytes ≡ turn_text (name_of P t.x) t.day → SpellsTurn P bytes name day → symbol_of P name ≡ None → ⊥
 turn_known P bytes t name day limits f e spells unknown =
@@ -172,18 +172,18 @@ turn_known P bytes t name day limits f e spells unknown =
     let known : symbol_of P name ≡ Some t.x = ap (symbol_of P) (sym same.0) ∙ symbol_named P t.x limits f.1 in
     cc
 
-turn_cause : (P : Instance) (S bytes : List ℕ) (t : Turn) (why : LogRefusal) → KeepsLimits P → IsDay P t.day × IsSymbol P t.x → bytes ≡ turn_text (name_of P t.x) t.day → IsReadCause why → TurnCause P S bytes why → ⊥
-turn_cause P S bytes t (Refusals.Form i) limits f e r c = c.1 (name_of P t.x) t.day (name_there P t.x.number limits f.1, f.0, e)
-turn_cause P S bytes t (Refusals.Name i) limits f e r c = turn_known P bytes t c.1.0 c.1.1 limits f e c.1.2 c.1.3
-turn_cause P S bytes t (Refusals.Unnamed i k) limits f e r c = r
-turn_cause P S bytes t (Refusals.Idle i) limits f e r c = r
-turn_cause P S bytes t (Refusals.Long i k) limits f e r c = r
-turn_cause P S bytes t (Refusals.Fails i) limits f e r c = r
-turn_cause P S bytes t (Refusals.Escape i w) limits f e r c = r
-turn_cause P S bytes t (Refusals.Unfinished i) limits f e r c = r
-turn_cause P S bytes t Refusals.Ends limits f e r c = c
-turn_cause P S bytes t (Refusals.Extra i) limits f e r c = c
-turn_cause P S bytes t (Refusals.Turn i) limits f e r c = r
+pub turn_refutes : (P : Instance) (S bytes : List ℕ) (t : Turn) (why : LogRefusal) → KeepsLimits P → IsDay P t.day × IsSymbol P t.x → bytes ≡ turn_text (name_of P t.x) t.day → IsReadCause why → TurnCause P S bytes why → ⊥
+turn_refutes P S bytes t (Refusals.Form i) limits f e r c = c.1 (name_of P t.x) t.day (name_there P t.x.number limits f.1, f.0, e)
+turn_refutes P S bytes t (Refusals.Name i) limits f e r c = turn_known P bytes t c.1.0 c.1.1 limits f e c.1.2 c.1.3
+turn_refutes P S bytes t (Refusals.Unnamed i k) limits f e r c = r
+turn_refutes P S bytes t (Refusals.Idle i) limits f e r c = r
+turn_refutes P S bytes t (Refusals.Long i k) limits f e r c = r
+turn_refutes P S bytes t (Refusals.Fails i) limits f e r c = r
+turn_refutes P S bytes t (Refusals.Escape i w) limits f e r c = r
+turn_refutes P S bytes t (Refusals.Unfinished i) limits f e r c = r
+turn_refutes P S bytes t Refusals.Ends limits f e r c = c
+turn_refutes P S bytes t (Refusals.Extra i) limits f e r c = c
+turn_refutes P S bytes t (Refusals.Turn i) limits f e r c = r
 
 version_line : (v : Bool) (t line rest : List ℕ) → version_text v ++ t ≡ line ++ rest → IsNextLine line rest → line ≡ version_text v
 version_line false t line rest e next = (first_line (join_with_byte 32 (codes "rwsp-log" ∷ codes "1" ∷ [])) t line rest (feedless_words (codes "rwsp-log" ∷ codes "1" ∷ []) (word_blankless (codes "rwsp-log") refl, (word_blankless (codes "1") refl, tt))) e next).0
@@ -210,11 +210,11 @@ tree_line P h S u ms why line rest (m ∷ more) limits tree next e t f r (inr c)
 
 by_front : (P : Instance) (S : List ℕ) (u : Option Turn) (ms : List Line) (why : LogRefusal) (front : Front) (line rest : List ℕ) → KeepsLimits P → Fits P (log_with S u ms) → IsTree ms → IsRead P front → log_text P (log_with S u ms) ≡ front_text P front ++ line ++ rest → IsNextLine line rest → Cause P front line why → IsReadCause why → ⊥
 by_front P S u ms why Start line rest limits f tree read e next c r =
-    version_cause line (has_turn u) why (version_line (has_turn u) (rules_text S ++ behind_rules P u ms) line rest (sym (split_text P S u ms) ∙ e) next) c
+    version_refutes line (has_turn u) why (version_line (has_turn u) (rules_text S ++ behind_rules P u ms) line rest (sym (split_text P S u ms) ∙ e) next) c
 by_front P S u ms why (Versioned w) line rest limits f tree read e next c r =
     let v = one_version (has_turn u) w (rules_text S ++ behind_rules P u ms) (line ++ rest) (sym (split_text P S u ms) ∙ e ∙ append_assoc (version_text w) line rest) in
     let l = first_line (join_with_byte 32 (codes "rules" ∷ numbers S)) (behind_rules P u ms) line rest (feedless_words (codes "rules" ∷ numbers S) (rules_visible P S (small_from P limits) f.named)) v.1 next in
-    rules_cause P line S why f.named l.0 c
+    rules_refutes P line S why f.named l.0 c
 by_front P S None ms why (BeforeTurn R) line rest limits f tree read e next c r =
     let v = one_version false true (rules_text S ++ lines_text P ms) (rules_text R ++ (line ++ rest)) (sym (split_text P S None ms) ∙ e ∙ before R line rest) in
     let no' = v.0 in
@@ -228,7 +228,7 @@ by_front P S (Some t) ms why (BeforeTurn R) line rest limits f tree read e next 
     let q = one_rules P S R (a ++ lines_text P ms) (line ++ rest) limits f.named read v.1 in
     let words : List (List ℕ) = codes "turn" ∷ name_of P t.x ∷ decimal t.day ∷ [] in
     let l = first_line (join_with_byte 32 words) (lines_text P ms) line rest (feedless_words words (turn_visible P (name_of P t.x) t.day (small_from P limits) (name_there P t.x.number limits f.turn.1) f.turn.0)) q.1 next in
-    turn_cause P R line t why limits f.turn l.0 r c
+    turn_refutes P R line t why limits f.turn l.0 r c
 by_front P S u ms why (Reading h) line rest limits f tree read e next c r =
     let b = lines_begin P h.named S h.turn u h.lines ms (line ++ rest) limits read.fits f (sym (append_assoc (log_text P h) line rest) ∙ sym e) in
     tree_line P h S u ms why line rest b.0 limits tree next b.1 b.2 b.3 r c

@@ -1,6 +1,7 @@
 pub mod Cited
 pub mod FieldList
 pub mod Gathering
+pub mod Laws
 pub mod Printing
 pub mod Reading
 pub mod ReadLog

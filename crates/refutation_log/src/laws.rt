@@ -1,19 +1,23 @@
 // Laws of the text of logs. Each function's contract is the law.
-ghost use Rattle.std.specs.Prelude.{◌≡◌};
-ghost use Rattle.rwsp_terms.specs.Instance.{Instance};
-ghost use Rattle.rwsp_model.specs.Validity.{KeepsLimits};
-ghost use Rattle.refutation_terms.specs.declared.lines.LogRefusal.{LogRefusal};
-ghost use Rattle.refutation_terms.specs.Tree.{IsTree};
-ghost use Rattle.refutation_terms.specs.Log.{Log, Fits};
-ghost use Rattle.refutation_terms.specs.LogText.{log_text};
-ghost use Rattle.refutation_log.specs.ReadLog.{IsUnread};
+ghost use Rattle.refutation_log.specs.Laws.{LogsHaveOneText, TextsOfLogsAreRead, TextsHaveOneVerdict, UnreadTextsHaveOneCause};
 
 /// No two logs that fit a problem have one text.
 pub fn logs_have_one_text()
-    ensures { (P : Instance) (g h : Log) → KeepsLimits P → Fits P g → Fits P h → log_text P g ≡ log_text P h → g ≡ h }
+    ensures { LogsHaveOneText }
 {}
 
 /// The text of a whole log that fits is not refused by reading. So it is read, and as this log, unless there is no memory.
 pub fn texts_of_logs_are_read()
-    ensures { (P : Instance) (g : Log) (why : LogRefusal) → KeepsLimits P → Fits P g → IsTree g.lines → IsUnread P (log_text P g) why → ⊥ }
+    ensures { TextsOfLogsAreRead }
+{}
+
+/// A text has one verdict at most, for each valid problem: a log that passes, or one cause on one line.
+pub fn texts_have_one_verdict()
+    ensures { TextsHaveOneVerdict }
+{}
+
+/// A text that `read_log` refuses has one cause: no other refusal fits it.
+#[tactic(auto, using(crate::proofs::OneCause::one_cause))]
+pub fn unread_texts_have_one_cause()
+    ensures { UnreadTextsHaveOneCause }
 {}

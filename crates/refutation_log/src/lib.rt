@@ -18,7 +18,9 @@ mod turn;
 
 pub use cited::{put_cited, put_turn_cited};
 pub use header::{Header, lines_of_header, read_header};
-pub use laws::{logs_have_one_text, texts_of_logs_are_read};
+pub use laws::{
+    logs_have_one_text, texts_have_one_verdict, texts_of_logs_are_read, unread_texts_have_one_cause,
+};
 pub use line::read_line;
 pub use log::{Log, copy_line};
 pub use print::print_log;

@@ -13,4 +13,5 @@ pub mod Valid
 pub mod TextLaws
 pub mod PrintSteps
 pub mod Printing
+pub mod Lengths
 pub mod TextSteps

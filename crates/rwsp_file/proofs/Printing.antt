@@ -96,7 +96,7 @@ pub record IsPrintedRow (row : ShiftRow) : Type 0 where
   pub times : (row.start ≤ 10000) × (row.length ≤ 10000)
   pub blocks : AreSmall row.bounds
 
-rows_printed : (P : Instance) → KeepsLimits P → AllByRecursion IsPrintedRow P.shifts
+pub rows_printed : (P : Instance) → KeepsLimits P → AllByRecursion IsPrintedRow P.shifts
 rows_printed P k = all_to IsPrintedRow P.shifts (λ i d less. record { name = k.names i d less; times = k.times i d less; blocks = k.blocks i d less })
 
 demand_printed : (P : Instance) → KeepsLimits P → AllByRecursion (AllByRecursion IsSmallRange) P.demand

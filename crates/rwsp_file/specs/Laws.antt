@@ -1,5 +1,5 @@
 -- Laws of texts, instances and refusals.
-use Rattle.std.specs.Prelude.{◌≡◌, ℕ, List, MatchOption}
+use Rattle.std.specs.Prelude.{◌≡◌, ℕ, ◌≤◌, List, length, MatchOption}
 use Rattle.rwsp_terms.specs.Instance.{Instance}
 use Rattle.rwsp_model.specs.Validity.{IsValid}
 use Rattle.rwsp_file.specs.Spelling.{SpellsProblem}
@@ -17,3 +17,7 @@ TextsSpellOrFail = (bytes : List ℕ) → MatchOption (file_refusal bytes) ((P :
 -- the canonical text of a valid instance spells it and no other
 abbrev pub CanonicalTextsSpell : Type 0
 CanonicalTextsSpell = (P : Instance) → IsValid P → SpellsProblem (problem_text P) P × ((Q : Instance) → SpellsProblem (problem_text P) Q → Q ≡ P)
+
+-- and is short enough to be read again
+abbrev pub CanonicalTextsAreShort : Type 0
+CanonicalTextsAreShort = (P : Instance) → IsValid P → length (problem_text P) ≤ 1048576

@@ -1,5 +1,5 @@
 // Laws of texts, instances and refusals. Each function's contract is the law.
-ghost use Rattle.rwsp_file.specs.Laws.{CanonicalTextsSpell, TextsSpellOne, TextsSpellOrFail};
+ghost use Rattle.rwsp_file.specs.Laws.{CanonicalTextsAreShort, CanonicalTextsSpell, TextsSpellOne, TextsSpellOrFail};
 
 /// A text spells at most one instance.
 #[tactic(auto, using(crate::proofs::TextLaws::texts_spell_one))]
@@ -17,4 +17,10 @@ pub fn texts_spell_or_fail()
 #[tactic(auto, using(crate::proofs::Printing::canonical_texts_spell))]
 pub fn canonical_texts_spell()
     ensures { CanonicalTextsSpell }
+{}
+
+/// The canonical text of a valid instance has at most 1,048,576 bytes, the most that are read of a problem's file.
+#[tactic(auto, using(crate::proofs::Lengths::canonical_texts_are_short))]
+pub fn canonical_texts_are_short()
+    ensures { CanonicalTextsAreShort }
 {}

@@ -13,7 +13,8 @@ use std::alloc::{AllocError, Global};
 /// Named files in memory. Where two have one name, the first of them is held under it.
 ///
 /// A take gives at most `step` bytes. The calls of `choose` and `take` whose numbers are listed fail, counted together
-/// from 1, and so does a `choose` of a name that is not held; no other call does. All names are counted together.
+/// from 1, but for a `take` of an empty piece, and so does a `choose` of a name that is not held; no other call does.
+/// All names are counted together.
 #[derive(Drop)]
 pub struct MemoryShelf {
     files: Vec<(String, Vec<u8>)>,
@@ -134,19 +135,20 @@ impl Shelf for MemoryShelf {
         requires { shelf_chosen self.old ≡ true }
         ensures bound { ReadsAtMost result piece.new }
         ensures bytes { ReadConsumes (shelf_left self.old) (shelf_left self.new) result piece.new }
+        ensures empty { length piece.new ≡ 0 → result ≡ Ok 0 }
         ensures chosen { shelf_chosen self.new ≡ true }
         ensures held { (other : List ℕ) → shelf_held self.new other ≡ shelf_held self.old other }
         ensures faults { NeverFall (shelf_faults self.old) (shelf_faults self.new) }
         ensures cause { OnErr result (AllRose (shelf_faults self.old) (shelf_faults self.new)) }
 
         // Which calls fail, and how many bytes the others give.
-        ensures exact { is_err result ≡ next_fails (shelf_calls self.old) }
+        ensures exact { is_err result ≡ (next_fails (shelf_calls self.old) && nat_lt 0 (length piece.new)) }
         ensures count { IfOk result (λ k. IfSome (shelf_left self.old)
             (λ rest. k ≡ min (min (length rest) (length piece.new)) (shelf_step self.old))) }
         ensures counted { shelf_calls self.new ≡ after_call (shelf_calls self.old) }
         ensures step { shelf_step self.new ≡ shelf_step self.old }
     {
-        if self.calls.next_fails() {
+        if self.calls.next_fails() && !piece.is_empty() {
             return Err(self.fault());
         }
         let Some((place, from)) = self.at else {

@@ -62,11 +62,13 @@ pub trait Shelf {
         ensures cause { OnErr result (Rose (faults self.old name.now) (faults self.new name.now)) };
 
     /// Fills the front of the piece with the next bytes of the chosen name and gives their number. It is 0 only where
-    /// nothing is left or the piece is empty. The name stays chosen, and after a fault no byte was taken.
+    /// nothing is left or the piece is empty, and an empty piece is never a fault. The name stays chosen, and after a
+    /// fault no byte was taken.
     fn take(&mut self, piece: &mut [u8]) -> Result<usize, ShelfFault>
         requires { chosen self.old ≡ true }
         ensures bound { ReadsAtMost result piece.new }
         ensures bytes { ReadConsumes (left self.old) (left self.new) result piece.new }
+        ensures empty { length piece.new ≡ 0 → result ≡ Ok 0 }
         ensures chosen { chosen self.new ≡ true }
         ensures held { (other : List ℕ) → held self.new other ≡ held self.old other }
         ensures faults { NeverFall (faults self.old) (faults self.new) }
