@@ -18,4 +18,4 @@ pub record AreReasons (P : Instance) (turn : Option Turn) (leaves : Store → Li
   pub plain : HasPlainLeaves P leaves
   pub cycle : (S : Store) (line : Line) → IsCycleLeaf P line → leaves S line
   pub top : (S : Store) (line : Line) → AreSame P (has_domain S) (opening P turn) → IsTopBound P (opening P turn) line → leaves S line
-  pub spent : (S : Store) (p : ℕ) (x : Symbol) → spent S p x ↔ (IsDaySpent P (has_domain S) p x ⊎ IsCycleSpent P (has_domain S) p x)
+  pub taken : (S : Store) (p : ℕ) (x : Symbol) → spent S p x ↔ (IsDaySpent P (has_domain S) p x ⊎ IsCycleSpent P (has_domain S) p x)
