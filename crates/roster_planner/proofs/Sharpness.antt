@@ -1,6 +1,7 @@
 -- A log whose splits are as the reasons of a plan say is sharp.
 use Rattle.std.proofs.Common.{◌≡◌, ℕ, zero, suc, ◌+◌, ◌*◌, ◌^◌, ◌<◌, ◌≤◌, List, refl, ap, sym, ◌∙◌, subst, arith, inl, inr, Option, Some, None, Bool, true, false, ◌&&◌}
-use Rattle.std.specs.Prelude.{◌↔◌, ◌⊎◌, slice_get}
+use Rattle.std.specs.Prelude.{◌↔◌, ◌⊎◌, slice_get, Result, Ok, Err, IfOk}
+use Rattle.std.specs.declared.alloc.AllocError.{AllocError}
 use Rattle.rwsp_terms.specs.declared.data.Symbol.{Symbol}
 use Rattle.rwsp_terms.specs.declared.data.Weight.{Weight}
 use Rattle.rwsp_terms.specs.declared.data.Rule.{Rule}
@@ -148,3 +149,8 @@ planned_as_found P turn budget leaves spent R (NoRoster g) limits some first sho
     (h.0, h.1, planned_log P turn leaves spent R g limits first short reasons (λ at. h.0.holds 0 Unfinished at) h.2)
 planned_as_found P turn budget leaves spent R (Undecided g) limits some first short reasons h few =
     (h.0, planned_log P turn leaves spent R g limits first short reasons (λ at. h.0.holds 0 Unfinished (omega (arith, some)) at) h.1, few tt)
+
+-- the same of what a search gives
+pub plan_found : (P : Instance) (turn : Option Turn) (budget : ℕ) (leaves : Leaves) (spent : Spent) (R : List ℕ) (r : Result Found AllocError) → KeepsLimits P → 1 ≤ budget → IsFirstTurn P turn → AreShortRules P R → AreReasons P turn leaves spent → IfOk r (IsFound P turn budget leaves spent) → IfOk r (λ found. HasSpentBudget found → budget + 1 < 2 * (shift_count P + 1) ^ cells P) → IfOk r (IsPlanned P budget)
+plan_found P turn budget leaves spent R (Ok found) limits some first short reasons h few = planned_as_found P turn budget leaves spent R found limits some first short reasons h few
+plan_found P turn budget leaves spent R (Err e) limits some first short reasons h few = tt

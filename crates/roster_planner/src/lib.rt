@@ -1,6 +1,7 @@
 //! Plans of problems: a roster, or a log of why there is none, whose splits are forced where anything forces them.
 #![tactic(auto)]
 
+mod guide;
 mod planning;
 mod reasons;
 

@@ -2,10 +2,11 @@
 ghost use Rattle.std.specs.Prelude.{ℕ, ◌≤◌, IfOk};
 ghost use Rattle.roster_planner.specs.Planned.{IsPlanned};
 
+use crate::guide::PlanGuide;
 use crate::reasons::reasons_of;
 use potential_bounds::Gate;
 use refutation_log::first_turn;
-use roster_search::{Found, search};
+use roster_search::{Found, guided_search};
 use rwsp_model::{Problem, short_rules};
 use std::alloc::{AllocError, Global};
 use std::thread::Threads;
@@ -28,5 +29,6 @@ pub fn plan_roster<R: Threads + Sync, G: Gate>(
     let short = short_rules(alloc, problem)?;
     let turn = first_turn(problem);
     let mut reasons = reasons_of(rt, alloc, problem, turn, gate)?;
-    search(alloc, problem, turn, &mut reasons, budget)
+    let mut guide = PlanGuide::new(problem, turn)?;
+    guided_search(alloc, problem, turn, &mut reasons, &mut guide, budget)
 }
