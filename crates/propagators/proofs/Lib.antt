@@ -4,5 +4,6 @@ mod Cuts
 mod Runs
 mod Over
 mod Watching
-mod Starts
+pub mod SameWords
+pub mod Starts
 pub mod Narrowing

@@ -1,15 +1,13 @@
 -- Domains are told apart by their symbols, all short rules have one list, and what plain bounds weigh.
-use Rattle.std.proofs.Common.{◌≡◌, ℕ, zero, suc, ◌+◌, ◌*◌, ◌<◌, ◌≤◌, List, [], ◌∷◌, ◌++◌, length, get_or, refl, ap, sym, ◌∙◌, subst, arith, inl, inr, ⊎_elim, Option, Some, None, Bool, true, false, eqb}
-use Rattle.std.specs.Prelude.{All, Contains, ◌↔◌, IsTrue, slice_get, map, pos, negsuc, ℤ}
-use Rattle.std.specs.List.{range_with_len, flat_map, list_any}
+use Rattle.std.proofs.Common.{◌≡◌, ℕ, zero, suc, ◌+◌, ◌<◌, ◌≤◌, List, [], ◌∷◌, length, get_or, refl, sym, ◌∙◌, subst, arith, inl, inr, Option, Some, None, true, eqb}
+use Rattle.std.specs.Prelude.{All, Contains, ◌↔◌, slice_get, map, pos, negsuc, ℤ}
+use Rattle.std.specs.List.{range_with_len, flat_map}
 use Rattle.std.specs.List.Sorted.{IsStrictlyIncreasing}
 use Rattle.std.proofs.lemmas.Bool.{eqb-true, eq-eqb}
-use Rattle.std.proofs.lemmas.Cmp.{nat_eq_equiv}
 use Rattle.std.proofs.lemmas.List.Folds.{Any-from_list_any, list_any_at}
 use Rattle.std.proofs.lemmas.List.Elements.{All-nil, All-cons, All-append, All-map, All-weaker, All-get_or, All-contains, All-from_get_or, Contains-get_or}
 use Rattle.std.proofs.lemmas.List.FromFn.{length-range_with_len, get_or-range_with_len}
-use Rattle.std.proofs.lemmas.Option.{slice_get_within, slice_get-get_or, get_or_from_slice_get}
-use Rattle.rwsp_terms.specs.declared.data.Symbol.{Symbol}
+use Rattle.std.proofs.lemmas.Option.{slice_get_within, get_or_from_slice_get}
 use Rattle.rwsp_terms.specs.declared.data.Weight.{Weight}
 use Rattle.rwsp_terms.specs.declared.data.Rule.{Rule}
 use Rattle.rwsp_terms.specs.Instance.{Instance, cells, shift_count, IsDay, IsSymbol}
@@ -24,14 +22,16 @@ use Rattle.refutation_terms.specs.declared.lines.Line.{Line}
 use Rattle.refutation_terms.specs.declared.lines.Line.TheVariants.{Bound}
 use Rattle.refutation_terms.specs.Word.{Domains, AreSame}
 use Rattle.refutation_terms.specs.Leaf.{IsTooLight}
-use Rattle.refutation_terms.specs.Log.{LineFits, AreRules, AreWeightsOf, WeightsFit, Holds, ListsShortOnly}
+use Rattle.refutation_terms.specs.Log.{LineFits, AreRules, AreWeightsOf, WeightsFit, Holds}
 use Rattle.refutation_terms.specs.Sharp.{plain_bounds, weights_on, both_signs, IsSearched, HoldsAtTop, NoBoundHolds}
-use Rattle.refutation_terms.proofs.SameDomains.{turned_round, same_holds}
+use Rattle.refutation_terms.proofs.SameDomains.{turned_round}
 use Rattle.domain_store.specs.Sets.{has_symbol, IsDomain}
-use Rattle.domain_store.specs.Store.{Store, IsStore, BelongsTo, domain_at, has_domain}
+use Rattle.domain_store.specs.Store.{Store, IsStore, domain_at, has_domain}
 use Rattle.potential_bounds.specs.First.{IsFirst}
 use Rattle.potential_bounds.specs.Searched.{IsFirstSearched}
-use Rattle.propagators.specs.TopBounds.{AreTopWeights, IsTopBound, IsStartBound, IsTopAnswer, IsTopWatch, TopWatch, IsBoundLook}
+use Rattle.propagators.specs.Cycles.{AreShortRules}
+use Rattle.propagators.proofs.SameWords.{same_searched, same_at_top}
+use Rattle.propagators.specs.TopBounds.{IsTopBound, IsTopAnswer, IsTopWatch, TopWatch, IsBoundLook}
 
 -- sets of symbols
 
@@ -152,42 +152,55 @@ searched_answer P D R None none searched = record {
 }
 searched_answer P D R (Some y) none found = (searched_fit P D R found.0 y found.2, inr (found.0, found.1, found.2), found.3)
 
--- the bound of such weights is a leaf that holds
-pub top_bound : (P : Instance) (D : Domains) (R : List ℕ) (y : List Weight) → KeepsLimits P → AreRules P R → NamesShortRules P R → IsTopAnswer P D R (Some y) → IsTopBound P D (Bound 0 1 R y) × Holds P D (Bound 0 1 R y)
-top_bound P D R y limits are short h =
+-- the bound of such weights fits
+top_bound : (P : Instance) (D : Domains) (R : List ℕ) (y : List Weight) → KeepsLimits P → AreShortRules P R → IsTopAnswer P D R (Some y) → LineFits P (Bound 0 1 R y)
+top_bound P D R y limits short h =
     let some : 0 < cells P = some_cells P limits in
     let few : cells P ≤ 4200 = limits.few_cells in
-    let fits : LineFits P (Bound 0 1 R y) = (some, (omega (arith, some), omega (arith, few)), are, h.0) in
-    ((fits, refl, refl, short, h.1), h.2)
+    (some, (omega (arith, some), omega (arith, few)), short.are_rules, h.0)
 
--- and where there are none, no such bound holds
-pub no_top_bound : (P : Instance) (D : Domains) (R : List ℕ) (line : Line) → AreRules P R → NamesShortRules P R → NoBoundHolds P D R → IsTopBound P D line → Holds P D line → ⊥
-no_top_bound P D R (Bound p turns S y) are short none bound holds =
-    let lists : S ≡ R = one_short_list P S R bound.0.2 are bound.3 short in
-    let at_top : HoldsAtTop P D S y = subst (λ n. IsTooLight P D 0 n S y) bound.2 (subst (λ n. IsTooLight P D n turns S y) bound.1 holds) in
+-- where there are no such weights, no such bound holds
+no_top_bound : (P : Instance) (D : Domains) (R : List ℕ) (line : Line) → AreShortRules P R → NoBoundHolds P D R → IsTopBound P D line → Holds P D line → ⊥
+no_top_bound P D R (Bound p turns S y) short none bound holds =
+    let lists : S ≡ R = one_short_list P S R bound.2.are_rules short.are_rules bound.2.all_short short.all_short in
+    let at_top : HoldsAtTop P D S y = subst (λ n. IsTooLight P D 0 n S y) bound.1 (subst (λ n. IsTooLight P D n turns S y) bound.0 holds) in
     let here : HoldsAtTop P D R y = subst (λ (L : List ℕ). HoldsAtTop P D L y) lists at_top in
-    elim bound.4 [
+    elim bound.3 [
       | inl plain ↦ none.plain plain.0 y plain.1 here
       | inr found ↦ none.searched found.0 y found.1 (subst (λ (L : List ℕ). IsSearched P D L found.0 y) lists found.2) here
     ]
-no_top_bound P D R line are short none bound holds = absurd bound
+no_top_bound P D R line short none bound holds = absurd bound
 
-top_fits : (P : Instance) (D : Domains) (line : Line) → IsTopBound P D line → LineFits P line
-top_fits P D (Bound p turns R y) h = h.0
-top_fits P D line h = absurd h
+-- such a bound holds under the same domains too
+same_top_bound : (P : Instance) (C D E : Domains) (line : Line) → 0 < cells P → AreSame P D E → IsTopBound P C line → Holds P D line → Holds P E line
+same_top_bound P C D E (Bound p turns R y) some same bound holds =
+    let at_top : HoldsAtTop P D R y = subst (λ n. IsTooLight P D 0 n R y) bound.1 (subst (λ n. IsTooLight P D n turns R y) bound.0 holds) in
+    subst (λ n. IsTooLight P E n turns R y) (sym bound.0) (subst (λ n. IsTooLight P E 0 n R y) (sym bound.1) (same_at_top P D E R y some same at_top))
+same_top_bound P C D E line some same bound holds = absurd bound
 
 -- what a look at domains finds, where they are the same as those of the start
 pub look_at_start : (w : TopWatch) (S : Store) (y : List Weight) → KeepsLimits w.problem → IsTopWatch w → w.weights ≡ Some y → AreSame w.problem (has_domain S) (has_domain w.start) → IsBoundLook w.problem w.start S (Some (Bound 0 1 w.rules y))
 look_at_start w S y limits is found same =
     let P = w.problem in
     let A : Option (List Weight) → Type 0 = IsTopAnswer P (has_domain w.start) w.rules in
-    let h = top_bound P (has_domain w.start) w.rules y limits is.are_rules is.all_short (subst A found is.answer) in
-    (record { same = same; bound = h.0 }, same_holds P (has_domain w.start) (has_domain S) (Bound 0 1 w.rules y) (some_cells P limits) h.0.0 (turned_round P (has_domain S) (has_domain w.start) same) h.1)
+    let h : A (Some y) = subst A found is.answer in (
+      top_bound P (has_domain w.start) w.rules y limits is.short h,
+      record { same = same; bound = (refl, refl, is.short, h.1) },
+      same_at_top P (has_domain w.start) (has_domain S) w.rules y (some_cells P limits) (turned_round P (has_domain S) (has_domain w.start) same) h.2,
+    )
 
 -- and where no bound holds there
 pub no_look : (w : TopWatch) (S : Store) → KeepsLimits w.problem → IsTopWatch w → w.weights ≡ None → IsBoundLook w.problem w.start S None
 no_look w S limits is none = λ line bound holds.
     let P = w.problem in
     let A : Option (List Weight) → Type 0 = IsTopAnswer P (has_domain w.start) w.rules in
-    no_top_bound P (has_domain w.start) w.rules line is.are_rules is.all_short (subst A none is.answer) bound.bound
-    (same_holds P (has_domain S) (has_domain w.start) line (some_cells P limits) (top_fits P (has_domain w.start) line bound.bound) bound.same holds)
+    no_top_bound P (has_domain w.start) w.rules line is.short (subst A none is.answer) bound.bound
+    (same_top_bound P (has_domain w.start) (has_domain S) (has_domain w.start) line (some_cells P limits) bound.same bound.bound holds)
+
+-- a bound under the same domains
+pub same_top : (P : Instance) (D E : Domains) (line : Line) → 0 < cells P → AreSame P D E → IsTopBound P D line → IsTopBound P E line
+same_top P D E (Bound p turns R y) some same h = (h.0, h.1, h.2, elim h.3 [
+  | inl plain ↦ inl plain
+  | inr found ↦ inr (found.0, found.1, same_searched P D E R found.0 y some same found.2)
+])
+same_top P D E line some same h = absurd h

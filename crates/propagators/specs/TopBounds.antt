@@ -2,13 +2,13 @@
 use Rattle.std.specs.Prelude.{◌≡◌, ◌⊎◌, ℕ, ◌<◌, List, slice_get, Option, Some, None}
 use Rattle.rwsp_terms.specs.declared.data.Weight.{Weight}
 use Rattle.rwsp_terms.specs.Instance.{Instance}
-use Rattle.rwsp_terms.specs.Rules.{NamesShortRules}
 use Rattle.refutation_terms.specs.declared.lines.Line.{Line}
 use Rattle.refutation_terms.specs.declared.lines.Line.TheVariants.{Bound}
 use Rattle.refutation_terms.specs.Word.{Domains, AreSame}
-use Rattle.refutation_terms.specs.Log.{LineFits, AreRules, AreWeightsOf, Holds}
+use Rattle.refutation_terms.specs.Log.{LineFits, AreWeightsOf, Holds}
 use Rattle.refutation_terms.specs.Sharp.{plain_bounds, IsSearched, HoldsAtTop, NoBoundHolds}
 use Rattle.domain_store.specs.Store.{Store, BelongsTo, has_domain}
+use Rattle.propagators.specs.Cycles.{AreShortRules}
 
 -- the weights of a plain bound, or of one of the first 32 rounds of the search
 abbrev pub AreTopWeights : Instance → Domains → List ℕ → List Weight → Type 0
@@ -16,7 +16,7 @@ AreTopWeights P D R y = ((k : ℕ) × (slice_get (plain_bounds P) k ≡ Some y))
 
 -- a bound of one turn from position 0 on, by all short rules and such weights
 abbrev pub IsTopBound : Instance → Domains → Line → Type 0
-IsTopBound P D (Bound p turns R y) = LineFits P (Bound p turns R y) × (p ≡ 0) × (turns ≡ 1) × NamesShortRules P R × AreTopWeights P D R y
+IsTopBound P D (Bound p turns R y) = (p ≡ 0) × (turns ≡ 1) × AreShortRules P R × AreTopWeights P D R y
 IsTopBound P D line = ⊥
 
 -- the domains are those of the start, and the line is such a bound under them
@@ -39,11 +39,10 @@ pub record TopWatch : Type 0 where
 
 pub record IsTopWatch (w : TopWatch) : Type 0 where
   pub belongs : BelongsTo w.problem w.start
-  pub are_rules : AreRules w.problem w.rules
-  pub all_short : NamesShortRules w.problem w.rules
+  pub short : AreShortRules w.problem w.rules
   pub answer : IsTopAnswer w.problem (has_domain w.start) w.rules w.weights
 
 -- a bound that holds under the domains, or none where no bound of the start holds
 abbrev pub IsBoundLook : Instance → Store → Store → Option Line → Type 0
 IsBoundLook P start S None = (line : Line) → IsStartBound P start S line → Holds P (has_domain S) line → ⊥
-IsBoundLook P start S (Some line) = IsStartBound P start S line × Holds P (has_domain S) line
+IsBoundLook P start S (Some line) = LineFits P line × IsStartBound P start S line × Holds P (has_domain S) line

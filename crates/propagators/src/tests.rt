@@ -1,4 +1,6 @@
 // Small problems worked by hand.
+mod top_bounds;
+
 ghost use Rattle.std.specs.Prelude.{◌<◌, ◌≤◌, length, IsTrue};
 ghost use Rattle.domain_store.specs.Store.{BelongsTo, has_domain, domain_at};
 ghost use Rattle.propagators.specs.Looks.{IsNarrowedAt};

@@ -109,7 +109,7 @@ fn answer_on<R: Threads + Sync, S: Shelf, G: Gate>(
     ensures faults { NeverFall (S.faults shelf.old) (S.faults shelf.new) }
 {
     match command {
-        Command::Plan { budget } => plan(alloc, problem, budget),
+        Command::Plan { budget } => plan(rt, alloc, problem, budget, gate),
         Command::Show => Ok(Answer::Shown),
         _ => second_answer(rt, alloc, shelf, problem, word_at(words, 2), command, gate),
     }
@@ -140,11 +140,17 @@ fn printed(alloc: Global, problem: &Problem, answer: Answer) -> Result<Reply, St
 
 // The answer to `plan`.
 #[tactic(auto, using(crate::proofs::Logs::planned_printable))]
-fn plan(alloc: Global, problem: &Problem, budget: u32) -> Result<Answer, Stop>
+fn plan<R: Threads + Sync, G: Gate>(
+    rt: &R,
+    alloc: Global,
+    problem: &Problem,
+    budget: u32,
+    gate: &G,
+) -> Result<Answer, Stop>
     requires { (1 ≤ budget) × (budget ≤ greatest_budget) }
     ensures answer { IfOk result (IsPlanned problem.now budget) }
     ensures printable { IfOk result (IsPrintable problem.now) }
     ensures fault { IsErrOf result Stop.ReadFault → ⊥ }
 {
-    Ok(planned(alloc, problem, budget)?)
+    Ok(planned(rt, alloc, problem, budget, gate)?)
 }

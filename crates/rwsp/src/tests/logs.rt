@@ -15,7 +15,7 @@ pub const TWOS: &str = "1\n6\n1\n3\nD 360 480 2 2\n2 2\n2 2\n0 0\n";
 const TWO_OF_FOUR: &str = "1\n4\n1\n2\nD 360 480 1 1\n2 2\n1 4\n0 0\n";
 
 // Single days, and both days are demanded.
-const BOTH_DAYS: &str = "2\n1\n1\n1 1\nD 360 480 1 1\n1 1\n1 1\n0 0\n";
+pub const BOTH_DAYS: &str = "2\n1\n1\n1 1\nD 360 480 1 1\n1 1\n1 1\n0 0\n";
 
 // One cell.
 const ONE_CELL: &str = "1\n1\n1\n1\nD 360 480 1 7\n1 1\n1 7\n0 0\n";
@@ -331,9 +331,24 @@ fn logs_that_are_not_reduced(rt: HostRuntime) -> Result<(), Fail> {
 
 // Each of two workers waits at the gate until it has seen the other, or for long.
 #[derive(Drop)]
-struct Meeting {
+pub struct Meeting {
     flags: [AtomicBool; 2],
     met: [AtomicBool; 2],
+}
+
+impl Meeting {
+    pub fn new() -> Meeting {
+        Meeting {
+            flags: [AtomicBool::new(false), AtomicBool::new(false)],
+            met: [AtomicBool::new(false), AtomicBool::new(false)],
+        }
+    }
+
+    // Whether each has seen the other.
+    pub fn is_over(&self) -> bool {
+        let [first, second] = &self.met;
+        first.load(Ordering::SeqCst) && second.load(Ordering::SeqCst)
+    }
 }
 
 impl Gate for Meeting {
@@ -362,17 +377,12 @@ fn meet(own: &AtomicBool, other: &AtomicBool, met: &AtomicBool) {
 #[test]
 fn workers_are_there_at_once(rt: HostRuntime) -> Result<(), Fail> {
     let alloc = rt.alloc();
-    let gate = Meeting {
-        flags: [AtomicBool::new(false), AtomicBool::new(false)],
-        met: [AtomicBool::new(false), AtomicBool::new(false)],
-    };
+    let gate = Meeting::new();
     let words = words_of(alloc, &["check", "F", "G", "--workers", "2"])?;
     let mut shelf = shelf_of(alloc, &[("F", TWOS), ("G", SPLIT)], 50, &[])?;
     let mut sink = MemorySink::new(alloc, 100, 100, Vec::new(alloc))?;
     let outcome = run(&rt, alloc, &words, &mut shelf, &mut sink, &gate);
     assert_eq!(rt; outcome.status(), 0);
-    let [first, second] = &gate.met;
-    assert!(rt; first.load(Ordering::SeqCst));
-    assert!(rt; second.load(Ordering::SeqCst));
+    assert!(rt; gate.is_over());
     Ok(())
 }

@@ -1,5 +1,5 @@
 // Rosters and refutations: what `plan` prints is right by `verify` and `check`.
-use super::logs::{TOO_MANY, TWOS, checks};
+use super::logs::{BOTH_DAYS, Meeting, TOO_MANY, TWOS, checks};
 use super::{NINE_WEEKS, TWO_DAYS, ends, shelf_of, verifies, words_of};
 use crate::run::run;
 use potential_bounds::NoGate;
@@ -51,6 +51,49 @@ fn is_refuted<R: Threads + Sync>(rt: &R, alloc: Global, problem: &str) -> Result
     Ok(is_accepted(rt, alloc, problem, log.as_str())?)
 }
 
+// The nine weeks with at most four days of work in seven.
+const FOUR_OF_SEVEN: &str =
+    "7\n9\n3\n2 2 2 2 2 2 2\n2 2 2 2 2 2 2\n2 2 2 2 2 2 2\nD 360 480 2 7\nA 840 480 2 6\nN 1320 480 2 5\n3 4\n4 4\n3 0\nN D\nN A\nA D\n";
+
+// Whether the log has a turn and one line behind it.
+fn is_one_leaf(log: &str) -> bool {
+    log.lines().nth(2).is_some_and(|line| line.starts_with("turn ")) && log.lines().count() == 4
+}
+
+// A day leaf, a dead leaf, or a bound at the top is enough.
+#[test]
+fn one_leaf_is_enough(rt: HostRuntime) -> Result<(), Fail> {
+    let alloc = rt.alloc();
+    let whole: &[&str] = &["plan", "F"];
+    let least: &[&str] = &["plan", "F", "--budget", "1"];
+    for (problem, words) in [
+        (BOTH_DAYS, whole),
+        (TOO_MANY, whole),
+        (FOUR_OF_SEVEN, whole),
+        (TWOS, whole),
+        (TWOS, least),
+    ] {
+        let log = printed(&rt, alloc, words, problem, 1)?;
+        assert!(rt; is_one_leaf(log.as_str()), "{problem}{log}");
+        assert!(rt; is_accepted(&rt, alloc, problem, log.as_str())?, "{problem}");
+    }
+    Ok(())
+}
+
+// Two chunks of the bounds are tried at once.
+#[test]
+fn bounds_are_shared_out(rt: HostRuntime) -> Result<(), Fail> {
+    let alloc = rt.alloc();
+    let gate = Meeting::new();
+    let words = words_of(alloc, &["plan", "F"])?;
+    let mut shelf = shelf_of(alloc, &[("F", TWOS)], 50, &[])?;
+    let mut sink = MemorySink::new(alloc, 1000, 1000, Vec::new(alloc))?;
+    let outcome = run(&rt, alloc, &words, &mut shelf, &mut sink, &gate);
+    assert_eq!(rt; outcome.status(), 1);
+    assert!(rt; gate.is_over());
+    Ok(())
+}
+
 #[test]
 fn the_only_roster_is_found(rt: HostRuntime) -> Result<(), Fail> {
     let files = [("F", TWO_DAYS)];
@@ -82,22 +125,13 @@ fn refutations_are_accepted(rt: HostRuntime) -> Result<(), Fail> {
 #[test]
 fn a_budget_of_one_line(rt: HostRuntime) -> Result<(), Fail> {
     let alloc = rt.alloc();
-    for problem in [THREE_OF_FIVE, TWOS] {
-        let log = printed(&rt, alloc, &["plan", "F", "--budget", "1"], problem, 4)?;
-        let front = "rwsp-log 2\nrules 7\nturn D 1\nsplit ";
-        assert!(rt; log.as_str().starts_with(front));
-        assert!(rt; log.as_str().ends_with("\nopen\nopen\n"));
-        assert!(rt;
-            checks(
-                &rt,
-                alloc,
-                problem,
-                log.as_str(),
-                5,
-                "log refused: open line 5\n"
-            )?
-        );
-    }
+    let words = ["plan", "F", "--budget", "1"];
+    let log = printed(&rt, alloc, &words, THREE_OF_FIVE, 4)?;
+    assert!(rt; log.as_str().starts_with("rwsp-log 2\nrules 7\nturn D 1\nsplit "));
+    assert!(rt; log.as_str().ends_with("\nopen\nopen\n"));
+    assert_eq!(rt; log.as_str().lines().count(), 6);
+    let refused = "log refused: open line 5\n";
+    assert!(rt; checks(&rt, alloc, THREE_OF_FIVE, log.as_str(), 5, refused)?);
     Ok(())
 }
 

@@ -1,11 +1,10 @@
 -- The first plain bound that holds; else what the search finds.
-use Rattle.std.proofs.Common.{◌≡◌, ℕ, List, subst, sym, Option, Some, None}
+use Rattle.std.proofs.Common.{◌≡◌, ℕ, List, subst, Option, Some, None}
 use Rattle.std.proofs.lemmas.Result.{IfOk-weaker}
 use Rattle.refutation_terms.specs.Sharp.{HoldsAtTop, plain_bounds}
 use Rattle.domain_store.specs.Store.{has_domain}
 use Rattle.potential_bounds.specs.First.{IsFirst}
 use Rattle.potential_bounds.specs.Searched.{IsFirstSearched}
-use Rattle.propagators.specs.TopBounds.{IsTopAnswer}
 use Rattle.propagators.proofs.Starts.{plain_holds, searched_answer}
 use Rattle.propagators.proofs.root_bounds.holding_weights.Goals as goal
 

@@ -1,7 +1,6 @@
 -- Sets are the same where they have the same symbols.
-use Rattle.std.proofs.Common.{◌≡◌, ℕ, List, ap, sym, ◌∙◌}
+use Rattle.std.proofs.Common.{ℕ, List, ap, sym, ◌∙◌}
 use Rattle.domain_store.specs.Sets.{has_symbol}
-use Rattle.domain_store.specs.Store.{domain_at}
 use Rattle.propagators.proofs.Starts.{same_domain}
 use Rattle.propagators.proofs.root_bounds.is_same_at.Goals as goal
 

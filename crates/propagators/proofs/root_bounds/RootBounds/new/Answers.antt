@@ -1,6 +1,5 @@
 -- The parts are copies of what was given.
-use Rattle.std.proofs.Common.{◌≡◌, List, ℕ, subst, sym, Option}
-use Rattle.rwsp_terms.specs.declared.data.Weight.{Weight}
+use Rattle.std.proofs.Common.{subst, sym}
 use Rattle.rwsp_terms.specs.Instance.{Instance}
 use Rattle.domain_store.specs.Store.{Store}
 use Rattle.propagators.specs.TopBounds.{IsTopWatch}
@@ -12,8 +11,7 @@ invariant_of-result g c =
     let Watches : Instance → Store → Type 0 = λ P S. IsTopWatch (record { problem = P; start = S; rules = c.in_ok-rules.rules; weights = c.in_ok-weights.weights }) in
     let here : Watches c.args.problem.now c.args.doms.now = record {
       belongs = c.requires.belongs;
-      are_rules = short_are_rules c.args.problem.now c.in_ok-rules.rules c.in_ok-rules.ensures.ascends c.in_ok-rules.ensures.numbers;
-      all_short = c.in_ok-rules.ensures.rules;
+      short = record { are_rules = short_are_rules c.args.problem.now c.in_ok-rules.rules c.in_ok-rules.ensures.ascends c.in_ok-rules.ensures.numbers; all_short = c.in_ok-rules.ensures.rules };
       answer = c.in_ok-weights.ensures;
     } in
     subst (Watches c.in_ok-copy.field-0) (sym c.in_ok-copy-2.ensures) (subst (λ P. Watches P c.args.doms.now) (sym c.in_ok-copy.ensures) here)

@@ -1,0 +1,156 @@
+-- A log whose splits are as the reasons of a plan say is sharp.
+use Rattle.std.proofs.Common.{◌≡◌, ℕ, zero, suc, ◌+◌, ◌*◌, ◌^◌, ◌<◌, ◌≤◌, List, refl, ap, sym, ◌∙◌, subst, arith, inl, inr, Option, Some, None, Bool, true, false, ◌&&◌}
+use Rattle.std.specs.Prelude.{◌↔◌, ◌⊎◌, slice_get, Result, Ok, Err, IfOk}
+use Rattle.std.specs.declared.alloc.AllocError.{AllocError}
+use Rattle.rwsp_terms.specs.declared.data.Symbol.{Symbol}
+use Rattle.rwsp_terms.specs.declared.data.Weight.{Weight}
+use Rattle.rwsp_terms.specs.declared.data.Rule.{Rule}
+use Rattle.rwsp_terms.specs.Instance.{Instance, cells, shift_count}
+use Rattle.rwsp_terms.specs.Rules.{NamesShortRules}
+use Rattle.rwsp_model.specs.Validity.{KeepsLimits}
+use Rattle.rwsp_model.proofs.Limits.{some_cells}
+use Rattle.refutation_terms.specs.declared.lines.Line.{Line}
+use Rattle.refutation_terms.specs.declared.lines.Line.TheVariants.{Split, Window, Day, Dead, Bound, Unfinished}
+use Rattle.refutation_terms.specs.declared.lines.Turn.{Turn}
+use Rattle.refutation_terms.specs.Word.{Domains, AreSame, Clean}
+use Rattle.refutation_terms.specs.Leaf.{IsDead}
+use Rattle.refutation_terms.specs.Tree.{First, narrowed, line_leaves, opening, domains_at}
+use Rattle.refutation_terms.specs.Log.{Log, LineFits, Holds, Passes, IsSpent}
+use Rattle.refutation_terms.specs.Sharp.{SomeWindowHolds, SomeDayHolds, NoWordHas, IsSpentAt, IsSharpSplit, IsSharp, IsFirstTurn, NoBoundHolds, IsUndecided, IsSearched, HoldsAtTop, plain_bounds}
+use Rattle.refutation_terms.proofs.SameDomains.{turned_round, same_idle, same_holds}
+use Rattle.domain_store.specs.Store.{Store, has_domain}
+use Rattle.propagators.specs.Looks.{Closes}
+use Rattle.propagators.specs.Days.{IsDaySpent}
+use Rattle.propagators.specs.Cycles.{AreShortRules, IsCycleSpent}
+use Rattle.propagators.specs.TopBounds.{AreTopWeights}
+use Rattle.propagators.proofs.SameWords.{same_nowhere, same_at_top}
+use Rattle.roster_search.specs.Founds.{IsForced, IsSearchLog, IsFound, HasSpentBudget}
+use Rattle.roster_search.specs.declared.found.Found.{Found}
+use Rattle.roster_search.specs.declared.found.Found.TheVariants.{Roster, NoRoster, Undecided}
+use Rattle.roster_planner.specs.Planned.{IsPlannedLog, IsPlanned}
+use Rattle.roster_planner.specs.Reasons.{AreReasons}
+
+abbrev Leaves : Type 1
+Leaves = Store → Line → Type 0
+
+abbrev Spent : Type 1
+Spent = Store → ℕ → Symbol → Type 0
+
+no_window : (P : Instance) (turn : Option Turn) (leaves : Leaves) (spent : Spent) (S : Store) (D : Domains) → 0 < cells P → AreReasons P turn leaves spent → AreSame P D (has_domain S) → (Closes P (leaves S) S → ⊥) → SomeWindowHolds P D → ⊥
+no_window P turn leaves spent S D some reasons same undecided h =
+    let line = Window h.0 h.1 h.2 in
+    undecided (line, reasons.plain.windows S h.0 h.1 h.2 h.3, same_holds P D (has_domain S) line some h.3 same h.4)
+
+no_day : (P : Instance) (turn : Option Turn) (leaves : Leaves) (spent : Spent) (S : Store) (D : Domains) → 0 < cells P → AreReasons P turn leaves spent → AreSame P D (has_domain S) → (Closes P (leaves S) S → ⊥) → SomeDayHolds P D → ⊥
+no_day P turn leaves spent S D some reasons same undecided h =
+    let line = Day h.0 h.1 h.2 in
+    undecided (line, reasons.plain.days S h.0 h.1 h.2 h.3, same_holds P D (has_domain S) line some h.3 same h.4)
+
+not_dead : (P : Instance) (turn : Option Turn) (leaves : Leaves) (spent : Spent) (S : Store) (D : Domains) (R : List ℕ) → KeepsLimits P → AreShortRules P R → AreReasons P turn leaves spent → AreSame P D (has_domain S) → (Closes P (leaves S) S → ⊥) → IsDead P D 0 (2 * cells P) R → ⊥
+not_dead P turn leaves spent S D R limits short reasons same undecided dead =
+    let some : 0 < cells P = some_cells P limits in
+    let few : cells P ≤ 4200 = limits.few_cells in
+    let line = Dead 0 (2 * cells P) R in
+    let fits : LineFits P line = (some, (omega (arith, some), omega (arith, few)), short.are_rules) in
+    undecided (line, reasons.cycle S line (refl, refl, short), same_holds P D (has_domain S) line some fits same dead)
+
+-- what a day leaf takes away rests on the domains of the positions alone
+same_day_spent : (P : Instance) (D E : Domains) (p : ℕ) (x : Symbol) → 0 < cells P → AreSame P D E → SomeDayHolds P (narrowed D (Split p x) First) → SomeDayHolds P (narrowed E (Split p x) First)
+same_day_spent P D E p x some same day =
+    let cut : AreSame P (narrowed D (Split p x) First) (narrowed E (Split p x) First) = λ q z inside. ap (λ b. b && line_leaves (Split p x) First q z) (same q z inside) in
+    (day.0, day.1, day.2, day.3, same_holds P (narrowed D (Split p x) First) (narrowed E (Split p x) First) (Day day.0 day.1 day.2) some day.3 cut day.4)
+
+-- which list of all short rules is taken makes no difference
+other_list : (P : Instance) (D : Domains) (R S : List ℕ) (p : ℕ) (x : Symbol) → NamesShortRules P R → NamesShortRules P S → NoWordHas P D R p x → NoWordHas P D S p x
+other_list P D R S p x r s h = λ u long over clean at. h u long over (λ before part after is rule named. clean before part after is rule ((s rule).1 ((r rule).0 named))) at
+
+spent_for_store : (P : Instance) (S : Store) (D : Domains) (R : List ℕ) (p : ℕ) (x : Symbol) → 0 < cells P → AreShortRules P R → AreSame P D (has_domain S) → IsSpentAt P D R p x → IsDaySpent P (has_domain S) p x ⊎ IsCycleSpent P (has_domain S) p x
+spent_for_store P S D R p x some short same h =
+    let E = has_domain S in
+    let useful = sym (same_idle P D E p x.number h.position same) ∙ h.left in
+    elim h.spent [
+      | inl day ↦ inl (record { position = h.position; useful = useful; closes = same_day_spent P D E p x some same day })
+      | inr nowhere ↦ inr (record { position = h.position; useful = useful; short = R; all_short = short.all_short; nowhere = same_nowhere P D E R p x some same nowhere })
+    ]
+
+spent_by_store : (P : Instance) (S : Store) (D : Domains) (R : List ℕ) (p : ℕ) (x : Symbol) → 0 < cells P → AreShortRules P R → AreSame P (has_domain S) D → IsDaySpent P (has_domain S) p x ⊎ IsCycleSpent P (has_domain S) p x → IsSpentAt P D R p x
+spent_by_store P S D R p x some short same (inl h) = record {
+  position = h.position;
+  left = sym (same_idle P (has_domain S) D p x.number h.position same) ∙ h.useful;
+  spent = inl (same_day_spent P (has_domain S) D p x some same h.closes);
+}
+spent_by_store P S D R p x some short same (inr h) = record {
+  position = h.position;
+  left = sym (same_idle P (has_domain S) D p x.number h.position same) ∙ h.useful;
+  spent = inr (other_list P D h.short R p x h.all_short short.all_short (same_nowhere P (has_domain S) D h.short p x some same h.nowhere));
+}
+
+sharp_split : (P : Instance) (turn : Option Turn) (leaves : Leaves) (spent : Spent) (D : Domains) (R : List ℕ) (p : ℕ) (x : Symbol) → KeepsLimits P → AreShortRules P R → AreReasons P turn leaves spent → IsForced P leaves spent D p x → IsSharpSplit P D R p x
+sharp_split P turn leaves spent D R p x limits short reasons h =
+    let some : 0 < cells P = some_cells P limits in
+    let S = h.store in
+    let same : AreSame P (has_domain S) D = h.agrees in
+    let back : AreSame P D (has_domain S) = turned_round P (has_domain S) D same in
+    record {
+      no_window = no_window P turn leaves spent S D some reasons back h.not_closed;
+      no_day = no_day P turn leaves spent S D some reasons back h.not_closed;
+      not_dead = not_dead P turn leaves spent S D R limits short reasons back h.not_closed;
+      forced = λ q z k. spent_by_store P S D R p x some short same ((reasons.taken S p x).0 (h.forced q z ((reasons.taken S q z).1 (spent_for_store P S D R q z some short back k))));
+    }
+
+-- at the top
+
+at_top : (P : Instance) (turn : Option Turn) (leaves : Leaves) (spent : Spent) (S : Store) (R : List ℕ) (y : List Weight) → 0 < cells P → AreShortRules P R → AreReasons P turn leaves spent → AreSame P (has_domain S) (opening P turn) → (Closes P (leaves S) S → ⊥) → AreTopWeights P (opening P turn) R y → HoldsAtTop P (opening P turn) R y → ⊥
+at_top P turn leaves spent S R y some short reasons same undecided weights holds =
+    let line = Bound 0 1 R y in
+    undecided (line, reasons.top S line same (refl, refl, short, weights), same_at_top P (opening P turn) (has_domain S) R y some (turned_round P (has_domain S) (opening P turn) same) holds)
+
+no_bound : (P : Instance) (turn : Option Turn) (leaves : Leaves) (spent : Spent) (S : Store) (R : List ℕ) → 0 < cells P → AreShortRules P R → AreReasons P turn leaves spent → AreSame P (has_domain S) (opening P turn) → (Closes P (leaves S) S → ⊥) → NoBoundHolds P (opening P turn) R
+no_bound P turn leaves spent S R some short reasons same undecided = record {
+  plain = λ k y is. at_top P turn leaves spent S R y some short reasons same undecided (inl (k, is));
+  searched = λ k y less found. at_top P turn leaves spent S R y some short reasons same undecided (inr (k, less, found));
+}
+
+and_true : (b : Bool) → (b && true) ≡ b
+and_true true = refl
+and_true false = refl
+
+-- the domains at the first line
+pub at_first : (P : Instance) (turn : Option Turn) (lines : List Line) (D : Domains) → AreSame P D (domains_at P turn lines 0) → AreSame P D (opening P turn)
+at_first P turn lines D same = λ p x inside. same p x inside ∙ and_true (opening P turn p x)
+
+-- the first line may be undecided only where no bound holds
+top_line : (P : Instance) (turn : Option Turn) (leaves : Leaves) (spent : Spent) (R : List ℕ) (lines : List Line) (line : Line) → KeepsLimits P → AreShortRules P R → AreReasons P turn leaves spent → ((p : ℕ) (x : Symbol) → slice_get lines 0 ≡ Some (Split p x) → IsForced P leaves spent (domains_at P turn lines 0) p x) → (slice_get lines 0 ≡ Some Unfinished → ⊥) → slice_get lines 0 ≡ Some line → IsUndecided line → NoBoundHolds P (opening P turn) R
+top_line P turn leaves spent R lines (Split p x) limits short reasons forced never at undecided =
+    let h = forced p x at in
+    no_bound P turn leaves spent h.store R (some_cells P limits) short reasons (at_first P turn lines (has_domain h.store) h.agrees) h.not_closed
+top_line P turn leaves spent R lines Unfinished limits short reasons forced never at undecided = absurd (never at)
+top_line P turn leaves spent R lines line limits short reasons forced never at undecided = absurd undecided
+
+planned_log : (P : Instance) (turn : Option Turn) (leaves : Leaves) (spent : Spent) (R : List ℕ) (g : Log) → KeepsLimits P → IsFirstTurn P turn → AreShortRules P R → AreReasons P turn leaves spent → (slice_get g.lines 0 ≡ Some Unfinished → ⊥) → IsSearchLog P turn leaves spent g → IsPlannedLog P g
+planned_log P turn leaves spent R g limits first short reasons never h =
+    let same = h.of_turn.same_turn in
+    record {
+      cited = h.of_turn.cited;
+      sharp = record {
+        short = R;
+        all_short = short.all_short;
+        splits = λ k p x at. sharp_split P turn leaves spent (domains_at P g.turn g.lines k) R p x limits short reasons
+            (subst (λ (t : Option Turn). IsForced P leaves spent (domains_at P t g.lines k) p x) (sym same) (h.splits k p x at));
+        top = λ line at undecided. subst (λ (t : Option Turn). NoBoundHolds P (opening P t) R) (sym same)
+            (top_line P turn leaves spent R g.lines line limits short reasons (λ p x. h.splits 0 p x) never at undecided);
+        turn = subst (IsFirstTurn P) (sym same) first;
+      };
+    }
+
+pub planned_as_found : (P : Instance) (turn : Option Turn) (budget : ℕ) (leaves : Leaves) (spent : Spent) (R : List ℕ) (found : Found) → KeepsLimits P → 1 ≤ budget → IsFirstTurn P turn → AreShortRules P R → AreReasons P turn leaves spent → IsFound P turn budget leaves spent found → (HasSpentBudget found → budget + 1 < 2 * (shift_count P + 1) ^ cells P) → IsPlanned P budget found
+planned_as_found P turn budget leaves spent R (Roster s) limits some first short reasons h few = h
+planned_as_found P turn budget leaves spent R (NoRoster g) limits some first short reasons h few =
+    (h.0, h.1, planned_log P turn leaves spent R g limits first short reasons (λ at. h.0.holds 0 Unfinished at) h.2)
+planned_as_found P turn budget leaves spent R (Undecided g) limits some first short reasons h few =
+    (h.0, planned_log P turn leaves spent R g limits first short reasons (λ at. h.0.holds 0 Unfinished (omega (arith, some)) at) h.1, few tt)
+
+-- the same of what a search gives
+pub plan_found : (P : Instance) (turn : Option Turn) (budget : ℕ) (leaves : Leaves) (spent : Spent) (R : List ℕ) (r : Result Found AllocError) → KeepsLimits P → 1 ≤ budget → IsFirstTurn P turn → AreShortRules P R → AreReasons P turn leaves spent → IfOk r (IsFound P turn budget leaves spent) → IfOk r (λ found. HasSpentBudget found → budget + 1 < 2 * (shift_count P + 1) ^ cells P) → IfOk r (IsPlanned P budget)
+plan_found P turn budget leaves spent R (Ok found) limits some first short reasons h few = planned_as_found P turn budget leaves spent R found limits some first short reasons h few
+plan_found P turn budget leaves spent R (Err e) limits some first short reasons h few = tt

@@ -1,0 +1,34 @@
+// A roster for a problem, or a refutation.
+ghost use Rattle.std.specs.Prelude.{ℕ, ◌≤◌, IfOk};
+ghost use Rattle.roster_planner.specs.Planned.{IsPlanned};
+
+use crate::guide::PlanGuide;
+use crate::reasons::reasons_of;
+use potential_bounds::Gate;
+use refutation_log::first_turn;
+use roster_search::{Found, guided_search};
+use rwsp_model::{Problem, short_rules};
+use std::alloc::{AllocError, Global};
+use std::thread::Threads;
+
+/// What a search finds within the budget. Where a shift is demanded, the first one on the first such day stands there in week 1.
+///
+/// Reasons are asked at each case: windows, days, and the words of two turns; bounds by weights are tried at the top, shared
+/// out among workers, who pass the gate.
+pub fn plan_roster<R: Threads + Sync, G: Gate>(
+    rt: &R,
+    alloc: Global,
+    problem: &Problem,
+    budget: u32,
+    gate: &G,
+) -> Result<Found, AllocError>
+    requires { (1 ≤ budget) × (budget ≤ 200000) }
+    ensures { IfOk result (IsPlanned problem.now budget) }
+{
+    problem.keeps_limits();
+    let short = short_rules(alloc, problem)?;
+    let turn = first_turn(problem);
+    let mut reasons = reasons_of(rt, alloc, problem, turn, gate)?;
+    let mut guide = PlanGuide::new(problem, turn)?;
+    guided_search(alloc, problem, turn, &mut reasons, &mut guide, budget)
+}
