@@ -1,0 +1,9 @@
+//! The nearest point of the hull of given vectors to a box, in whole numbers.
+#![tactic(auto)]
+
+mod corner;
+mod hull;
+#[cfg(test)]
+mod tests;
+
+pub use hull::{Hull, SCALE};
