@@ -21,9 +21,12 @@ use std::mem;
 const FEWEST_CELLS: u32 = 14;
 
 /// At most so many windows are rewritten, and fewer in a layer of many steps: this many divided by the steps.
-const MOST_MOVES: usize = 240_000;
+const MOST_MOVES: usize = 320_000;
 
 const MOST_STEP_MOVES: usize = 36_000_000;
+
+/// The same where the shares don't hang together.
+const MOST_LOOSE_MOVES: usize = 32_000;
 
 /// After so many moves new shares are made. But for the first ones, they are blurred by random numbers below the noise.
 const SHARES_FOR: usize = 16_000;
@@ -225,8 +228,13 @@ impl Finder {
 
     // At most so many moves are made.
     fn most_moves(&self) -> usize {
+        let most = if self.shares.hang_together {
+            MOST_MOVES
+        } else {
+            MOST_LOOSE_MOVES
+        };
         let affordable = MOST_STEP_MOVES.checked_div(self.setting.layer.steps.len());
-        affordable.unwrap_or(0).min(MOST_MOVES)
+        affordable.unwrap_or(0).min(most)
     }
 
     // Rewrites windows until the word is a roster that meets every rule.

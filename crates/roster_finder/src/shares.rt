@@ -22,13 +22,16 @@ const BLOCK_SLACK: i64 = ONE_USE / 10;
 /// A fractional roster: for each weekday and step how often it is taken.
 #[derive(Debug, Drop)]
 pub(crate) struct Shares {
+    /// Whether they are led over all cuts. Where none are, there is hardly a roster.
+    pub hang_together: bool,
     uses: Grid<i64>,
     /// For each symbol the whole numbers next to the number of its blocks.
     pub blocks: Vec<Range>,
 }
 
 impl Shares {
-    /// Those of a mixture of words that meets the demand and hangs together; None where no mixture does.
+    /// Those of a mixture of words that meets the demand; None where no mixture does. It hangs together where one does that
+    /// is led over all cuts.
     pub fn of(
         alloc: Global,
         setting: &Setting,
@@ -36,22 +39,38 @@ impl Shares {
         noise: usize,
     ) -> Result<Option<Shares>, AllocError> {
         let mut mixture = Mixture::new(alloc, setting)?;
+        if !mixture.approach(alloc, setting, random, noise)? {
+            return Ok(None);
+        }
+        let mut uses = mixture.uses(alloc, setting, ONE_USE)?;
         for _ in 0..CUTTING_TURNS {
-            if !mixture.approach(alloc, setting, random, noise)? {
-                return Ok(None);
-            }
-            let uses = mixture.uses(alloc, setting, ONE_USE)?;
             if !add_cuts(alloc, setting, &uses, ONE_USE, &mut mixture.cuts)? {
                 break;
             }
             mixture.renew(alloc, setting)?;
+            if !mixture.approach(alloc, setting, random, noise)? {
+                return Ok(Some(Shares::from_uses(alloc, setting, uses, false)?));
+            }
+            uses = mixture.uses(alloc, setting, ONE_USE)?;
         }
-        let uses = mixture.uses(alloc, setting, ONE_USE)?;
+        Ok(Some(Shares::from_uses(alloc, setting, uses, true)?))
+    }
+
+    fn from_uses(
+        alloc: Global,
+        setting: &Setting,
+        uses: Grid<i64>,
+        hang_together: bool,
+    ) -> Result<Shares, AllocError> {
         let mut blocks = Vec::new(alloc);
         for symbol in 0..setting.layer.symbols {
             blocks.push(block_range(setting, &uses, symbol))?;
         }
-        Ok(Some(Shares { uses, blocks }))
+        Ok(Shares {
+            hang_together,
+            uses,
+            blocks,
+        })
     }
 
     /// How often a step is taken on a weekday, in parts of a use.
