@@ -1,0 +1,205 @@
+// Cuts round parts of the steady layer that a fractional roster hardly leaves.
+use crate::grid::{Grid, rest, whole};
+use crate::setting::Setting;
+use crate::steady_layer::SteadyLayer;
+use std::alloc::{AllocError, Global};
+
+/// So many new cuts are made at most at a time.
+const MOST_CUTS: usize = 20;
+
+/// A part of the layer counts that holds so many days at least and leaves as many outside, or a week where that is longer.
+const FEWEST_DAYS: usize = 7;
+
+/// The steps that leave a part of the layer, each with its weekday. A roster that has days in the part and days outside of
+/// it takes one of them at least.
+#[derive(Debug, Drop, PartialEq, Eq)]
+pub(crate) struct Cut {
+    steps: Vec<(usize, usize)>,
+}
+
+impl Cut {
+    /// Adds to the weights of the steps.
+    pub fn add_weight(&self, weights: &mut Grid<i64>, weight: i64) {
+        for (weekday, number) in &self.steps {
+            let before = weights.at(*weekday, *number);
+            weights.set(*weekday, *number, before.wrapping_add(weight));
+        }
+    }
+
+    /// How often the steps are taken.
+    pub fn uses(&self, uses: &Grid<i64>) -> i64 {
+        let mut sum: i64 = 0;
+        for (weekday, number) in &self.steps {
+            sum = sum.wrapping_add(uses.at(*weekday, *number));
+        }
+        sum
+    }
+}
+
+// A step that has a share on a weekday.
+#[derive(Clone, Copy, Debug)]
+struct Used {
+    weekday: usize,
+    number: usize,
+    share: i64,
+}
+
+// How much of a fractional roster a part of the layer holds, and how much leaves it.
+#[derive(Clone, Copy, Debug)]
+struct Flow {
+    held: i64,
+    leaving: i64,
+}
+
+// The parts that the layer's nodes are joined to on each weekday.
+#[derive(Debug, Drop)]
+struct Parts {
+    weekdays: usize,
+    nodes: usize,
+    // By weekday and node: the number of the part.
+    numbers: Grid<usize>,
+}
+
+impl Parts {
+    // A part for each node on each weekday.
+    fn new(alloc: Global, layer: &SteadyLayer, weekdays: usize) -> Result<Parts, AllocError> {
+        let nodes = layer.nodes();
+        let mut numbers = Grid::new(alloc, weekdays, nodes, 0)?;
+        for weekday in 0..weekdays {
+            for node in 0..nodes {
+                let number = weekday.wrapping_mul(nodes).wrapping_add(node);
+                numbers.set(weekday, node, number);
+            }
+        }
+        Ok(Parts {
+            weekdays,
+            nodes,
+            numbers,
+        })
+    }
+
+    // The parts that a step leads from and to.
+    fn ends(&self, layer: &SteadyLayer, weekday: usize, number: usize) -> (usize, usize) {
+        let next = rest(weekday.wrapping_add(1), self.weekdays);
+        match layer.step(number) {
+            Some(step) => (
+                self.numbers.at(weekday, step.from),
+                self.numbers.at(next, step.to),
+            ),
+            None => (0, 0),
+        }
+    }
+
+    // Joins one part to another. Costs a look at each node on each weekday.
+    fn join(&mut self, part: usize, to: usize) {
+        for weekday in 0..self.weekdays {
+            for node in 0..self.nodes {
+                if self.numbers.at(weekday, node) == part {
+                    self.numbers.set(weekday, node, to);
+                }
+            }
+        }
+    }
+
+    // How much a part holds and how much leaves it.
+    fn flow(&self, layer: &SteadyLayer, used: &[Used], part: usize) -> Flow {
+        let mut flow = Flow {
+            held: 0,
+            leaving: 0,
+        };
+        for step in used {
+            let (from, to) = self.ends(layer, step.weekday, step.number);
+            if from == part {
+                flow.held = flow.held.wrapping_add(step.share);
+            }
+            if from == part && to != part {
+                flow.leaving = flow.leaving.wrapping_add(step.share);
+            }
+        }
+        flow
+    }
+
+    // The steps that leave a part.
+    fn cut(&self, alloc: Global, layer: &SteadyLayer, part: usize) -> Result<Cut, AllocError> {
+        let mut steps = Vec::new(alloc);
+        for weekday in 0..self.weekdays {
+            for number in 0..layer.steps.len() {
+                let (from, to) = self.ends(layer, weekday, number);
+                if from == part && to != part {
+                    steps.push((weekday, number))?;
+                }
+            }
+        }
+        Ok(Cut { steps })
+    }
+}
+
+// The steps that have a share, those of the greatest shares first.
+fn used_steps(alloc: Global, setting: &Setting, uses: &Grid<i64>) -> Result<Vec<Used>, AllocError> {
+    let mut used = Vec::new(alloc);
+    for weekday in 0..setting.demand.days {
+        for number in 0..setting.layer.steps.len() {
+            let share = uses.at(weekday, number);
+            if share > 0 {
+                used.push(Used {
+                    weekday,
+                    number,
+                    share,
+                })?;
+            }
+        }
+    }
+    used.sort_unstable_by_key(|step| step.share.wrapping_neg());
+    Ok(used)
+}
+
+// How much of the roster all steps have.
+fn whole_flow(used: &[Used]) -> i64 {
+    let mut sum: i64 = 0;
+    for step in used {
+        sum = sum.wrapping_add(step.share);
+    }
+    sum
+}
+
+/// Adds cuts round the parts that hold and leave days enough and are left by less than three quarters of a use. Nodes are
+/// joined to parts by the steps of the greatest shares first. Whether there are new cuts.
+/// Costs for each step with a share a look at all of them and at each node on each weekday.
+pub(crate) fn add_cuts(
+    alloc: Global,
+    setting: &Setting,
+    uses: &Grid<i64>,
+    one_use: i64,
+    cuts: &mut Vec<Cut>,
+) -> Result<bool, AllocError> {
+    let used = used_steps(alloc, setting, uses)?;
+    let all = whole_flow(&used);
+    let days = one_use.wrapping_mul(whole(setting.demand.days.max(FEWEST_DAYS)));
+    let mut parts = Parts::new(alloc, &setting.layer, setting.demand.days)?;
+    let before = cuts.len();
+    for step in &used {
+        let (from, to) = parts.ends(&setting.layer, step.weekday, step.number);
+        if from == to {
+            continue;
+        }
+        parts.join(from, to);
+        let flow = parts.flow(&setting.layer, &used, to);
+        let is_large = flow.held >= days && all.wrapping_sub(flow.held) >= days;
+        if is_large && flow.leaving < one_use.wrapping_mul(3) / 4 {
+            add_cut(cuts, parts.cut(alloc, &setting.layer, to)?)?;
+        }
+        if cuts.len().saturating_sub(before) >= MOST_CUTS {
+            break;
+        }
+    }
+    Ok(cuts.len() > before)
+}
+
+// Adds a cut that isn't there yet.
+fn add_cut(cuts: &mut Vec<Cut>, cut: Cut) -> Result<(), AllocError> {
+    if cuts.contains(&cut) {
+        return Ok(());
+    }
+    cuts.push(cut)?;
+    Ok(())
+}

@@ -1,0 +1,330 @@
+// The search for a roster.
+ghost use Rattle.std.specs.Prelude.{◌≡◌, IfOk, IfSome};
+ghost use Rattle.rwsp_terms.specs.Roster.{MeetsAll, IsRoster};
+
+use crate::counters::Reweighing;
+use crate::draft::{Draft, Window};
+use crate::grid::rest;
+use crate::prices::LONGEST_WINDOW;
+use crate::random::Random;
+use crate::setting::Setting;
+use crate::shares::Shares;
+use crate::start::{Due, Manner, Starter};
+use crate::window::Mover;
+use roster_checker::first_broken;
+use rwsp_model::{Problem, Roster};
+use rwsp_terms::Symbol;
+use std::alloc::{AllocError, Global};
+use std::mem;
+
+/// Rosters of fewer days are left to searches that distinguish cases.
+const FEWEST_CELLS: u32 = 14;
+
+/// At most so many windows are rewritten, and fewer in a layer of many steps: this many divided by the steps.
+const MOST_MOVES: usize = 320_000;
+
+const MOST_STEP_MOVES: usize = 36_000_000;
+
+/// The same where the shares don't hang together.
+const MOST_LOOSE_MOVES: usize = 32_000;
+
+/// After so many moves new shares are made. But for the first ones, they are blurred by random numbers below the noise.
+const SHARES_FOR: usize = 16_000;
+
+const SHARES_NOISE: usize = 3_000;
+
+/// After so many moves a new word is begun: the best of so many start words.
+const WORD_FOR: usize = 4_000;
+
+const STARTS: usize = 16;
+
+/// The first start word is led by random numbers below this, and each further one by numbers below so much more.
+const FIRST_NOISE: usize = 300;
+
+const MORE_NOISE: usize = 200;
+
+/// What a block too many or too few counts in the choice of start words, where a cell counts 1.
+const BLOCK_OFF: i64 = 30;
+
+/// After so many moves without a new best the counters that are off weigh more.
+const PATIENCE: usize = 200;
+
+/// So many cells of words that meet the demand and yet break a rule of long blocks end the search.
+const MOST_REFUSED: usize = 10_000_000;
+
+/// A search, as far as it is.
+#[derive(Debug, Drop)]
+struct Finder {
+    setting: Setting,
+    shares: Shares,
+    random: Random,
+    draft: Draft,
+    // Another word: the best start word so far.
+    other: Draft,
+    starter: Starter,
+    mover: Mover,
+    // The least deviation of the word, and the moves since it was found.
+    least: i64,
+    since: usize,
+}
+
+impl Finder {
+    // A search without a word yet. None where there are no shares.
+    fn new(alloc: Global, problem: &Problem) -> Result<Option<Finder>, AllocError> {
+        let setting = Setting::of(alloc, problem)?;
+        if setting.layer.nodes() == 0 {
+            return Ok(None);
+        }
+        let mut random = Random::new();
+        let Some(shares) = Shares::of(alloc, &setting, &mut random, 0)? else {
+            return Ok(None);
+        };
+        let draft = Draft::new(alloc, &setting)?;
+        let other = Draft::new(alloc, &setting)?;
+        let starter = Starter::new(alloc, &setting)?;
+        let mover = Mover::new(alloc, &setting)?;
+        Ok(Some(Finder {
+            setting,
+            shares,
+            random,
+            draft,
+            other,
+            starter,
+            mover,
+            least: i64::MAX,
+            since: 0,
+        }))
+    }
+
+    // Makes new shares where their turn has come. Where there are none this time, the old ones stay.
+    fn renew_shares(&mut self, alloc: Global, turn: usize) -> Result<(), AllocError> {
+        if turn % SHARES_FOR != 0 {
+            return Ok(());
+        }
+        if turn > 0 {
+            let blurred = Shares::of(alloc, &self.setting, &mut self.random, SHARES_NOISE)?;
+            if let Some(shares) = blurred {
+                self.shares = shares;
+            }
+        }
+        set_block_ranges(&mut self.draft, &self.shares);
+        set_block_ranges(&mut self.other, &self.shares);
+        Ok(())
+    }
+
+    // Begins a new word where its turn has come. False where there is none.
+    fn renew_word(&mut self, turn: usize) -> bool {
+        if turn % WORD_FOR != 0 {
+            return true;
+        }
+        let mut least = i64::MAX;
+        for number in 0..STARTS {
+            if self.start(number) && self.start_deviation() < least {
+                least = self.start_deviation();
+                mem::swap(&mut self.draft, &mut self.other);
+            }
+        }
+        mem::swap(&mut self.draft, &mut self.other);
+        self.draft.counters.reweigh(Reweighing::Alike);
+        self.least = i64::MAX;
+        self.since = 0;
+        least < i64::MAX
+    }
+
+    // Writes the start word of a number.
+    fn start(&mut self, number: usize) -> bool {
+        let manner = Manner {
+            due: if number % 2 == 0 {
+                Due::InAll
+            } else {
+                Due::SoFar
+            },
+            noise: FIRST_NOISE.saturating_add(number.saturating_mul(MORE_NOISE)),
+        };
+        self.starter.start(
+            &self.setting,
+            &self.shares,
+            &mut self.draft,
+            &mut self.random,
+            manner,
+        )
+    }
+
+    // How far a start word is off.
+    fn start_deviation(&self) -> i64 {
+        let counters = &self.draft.counters;
+        let blocks = counters.block_deviation().saturating_mul(BLOCK_OFF);
+        counters.deviation().saturating_add(blocks)
+    }
+
+    // Rewrites a window, and lets counters weigh more where that hasn't helped for long.
+    fn rewrite(&mut self) {
+        let window = self.drawn_window();
+        self.mover.rewrite(
+            &self.setting,
+            &self.shares,
+            &mut self.draft,
+            &mut self.random,
+            window,
+        );
+        let deviation = self.draft.counters.deviation();
+        if deviation < self.least {
+            self.least = deviation;
+            self.since = 0;
+            return;
+        }
+        self.since = self.since.saturating_add(1);
+        if self.since % PATIENCE == 0 {
+            self.draft.counters.reweigh(Reweighing::MoreWhereOff);
+        }
+    }
+
+    // A window of at most a week or of more, each in half of the cases; anywhere, or on a day that is off.
+    fn drawn_window(&mut self) -> Window {
+        let week = self.setting.demand.days;
+        let drawn = if week >= LONGEST_WINDOW {
+            self.random.below(LONGEST_WINDOW)
+        } else if self.random.is_heads() {
+            self.random.below(week)
+        } else {
+            self.random
+                .below(LONGEST_WINDOW - week)
+                .saturating_add(week)
+        };
+        let cells = self.draft.walk.cells();
+        let len = drawn.saturating_add(1).min(cells / 2);
+        let start = if self.random.is_heads() {
+            self.random.below(cells)
+        } else {
+            let within = self.random.below(len);
+            let day = self.drawn_day_off();
+            self.draft.walk.later(day, cells.saturating_sub(within))
+        };
+        Window { start, len }
+    }
+
+    // A position on a weekday whose counters are off, if there is one.
+    fn drawn_day_off(&mut self) -> usize {
+        let weekday = self.drawn_weekday_off();
+        let week = self.random.below(self.setting.demand.weeks);
+        let first = week.wrapping_mul(self.setting.demand.days);
+        rest(first.wrapping_add(weekday), self.draft.walk.cells())
+    }
+
+    // A weekday whose counters are off, if there is one.
+    fn drawn_weekday_off(&mut self) -> usize {
+        let mut drawn = 0;
+        let mut seen: usize = 0;
+        for weekday in 0..self.setting.demand.days {
+            if self.draft.counters.deviation_on(weekday) > 0 {
+                seen = seen.saturating_add(1);
+                if self.random.below(seen) == 0 {
+                    drawn = weekday;
+                }
+            }
+        }
+        drawn
+    }
+
+    // At most so many moves are made.
+    fn most_moves(&self) -> usize {
+        let most = if self.shares.hang_together {
+            MOST_MOVES
+        } else {
+            MOST_LOOSE_MOVES
+        };
+        let affordable = MOST_STEP_MOVES.checked_div(self.setting.layer.steps.len());
+        affordable.unwrap_or(0).min(most)
+    }
+
+    // Rewrites windows until the word is a roster that meets every rule.
+    fn search(&mut self, alloc: Global, problem: &Problem) -> Result<Option<Roster>, AllocError>
+        ensures { IfOk result (λ found.
+            IfSome found (λ s. (s.days ≡ problem.now.days) × MeetsAll problem.now s.cells)) }
+    {
+        let mut refused: usize = 0;
+        for turn in 0..self.most_moves() {
+            self.renew_shares(alloc, turn)?;
+            if !self.renew_word(turn) || refused > MOST_REFUSED {
+                return Ok(None);
+            }
+            if self.draft.counters.deviation() == 0 {
+                let found = met_roster(alloc, problem, self.draft.walk.symbols())?;
+                if found.is_some() {
+                    return Ok(found);
+                }
+                refused = refused.saturating_add(self.draft.walk.cells());
+            }
+            self.rewrite();
+        }
+        Ok(None)
+    }
+}
+
+fn set_block_ranges(draft: &mut Draft, shares: &Shares) {
+    for (symbol, range) in shares.blocks.iter().enumerate() {
+        draft.counters.set_block_range(symbol, *range);
+    }
+}
+
+// The roster of these symbols, where it meets every rule.
+fn met_roster(
+    alloc: Global,
+    problem: &Problem,
+    symbols: &[usize],
+) -> Result<Option<Roster>, AllocError>
+    ensures { IfOk result (λ found.
+        IfSome found (λ s. (s.days ≡ problem.now.days) × MeetsAll problem.now s.cells)) }
+{
+    let Some(roster) = roster_of(problem, cells_of(alloc, symbols)?) else {
+        return Ok(None);
+    };
+    match first_broken(problem, &roster) {
+        Some(_) => Ok(None),
+        None => Ok(Some(roster)),
+    }
+}
+
+// The cells that hold these symbols.
+fn cells_of(alloc: Global, symbols: &[usize]) -> Result<Vec<Symbol>, AllocError> {
+    let mut cells = Vec::new(alloc);
+    for symbol in symbols {
+        let number = u8::try_from(*symbol).unwrap_or(u8::MAX);
+        cells.push(Symbol { number })?;
+    }
+    Ok(cells)
+}
+
+// The roster of these cells, where there are as many as the problem has and each holds one of its symbols.
+fn roster_of(problem: &Problem, cells: Vec<Symbol>) -> Option<Roster>
+    ensures days { IfSome result (λ s. s.days ≡ problem.now.days) }
+    ensures roster { IfSome result (λ s. IsRoster problem.now s.cells) }
+{
+    let last = problem.shifts();
+    if cells.len() != problem.cells() as usize {
+        return None;
+    }
+    if !cells.iter().all(|x| x.number <= last) {
+        return None;
+    }
+    Some(Roster::of(problem, cells))
+}
+
+/// A roster that meets every rule, or None. None says nothing: another search may find one.
+///
+/// A fractional roster is found first, that is, how often each step of clean words is taken on each weekday in the mean
+/// (G. Dantzig and P. Wolfe's generation of columns, 1960). Words that follow it meet the demand nearly; windows of them
+/// are then rewritten, each by the clean word that fits best, until the demand is met. The same problem gives the same
+/// answer each time. Costs at most some seconds.
+pub fn find_roster(alloc: Global, problem: &Problem) -> Result<Option<Roster>, AllocError>
+    ensures { IfOk result (λ found.
+        IfSome found (λ s. (s.days ≡ problem.now.days) × MeetsAll problem.now s.cells)) }
+{
+    if problem.cells() < FEWEST_CELLS {
+        return Ok(None);
+    }
+    match Finder::new(alloc, problem)? {
+        Some(mut finder) => finder.search(alloc, problem),
+        None => Ok(None),
+    }
+}

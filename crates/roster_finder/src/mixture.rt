@@ -1,0 +1,303 @@
+// Mixtures of clean words that come near to the demand.
+use crate::cuts::Cut;
+use crate::demand::Demand;
+use crate::grid::{Grid, entry_or, quotient, whole};
+use crate::heavy_word::{HeavyWord, Weigher};
+use crate::random::Random;
+use crate::setting::Setting;
+use nearest_point::{Hull, SCALE};
+use std::alloc::{AllocError, Global};
+
+/// The words have about so many days, so that their free ends matter little.
+const WORD_DAYS: usize = 3_000;
+
+/// The words go through all weeks so often at least.
+const FEWEST_TURNS: usize = 2;
+
+/// So many words are weighed at most for a first mixture, and for one with new cuts.
+const FIRST_ROUNDS: usize = 200;
+
+const CUT_ROUNDS: usize = 40;
+
+/// For a mixture at most so many steps are looked at, about.
+const MOST_LOOKS: usize = 400_000_000;
+
+/// So often a mixture is bettered at most for each word.
+const BETTERINGS: u32 = 100;
+
+/// Of more words than this, those without a part are dropped.
+const MANY_WORDS: usize = 100;
+
+/// The greatest weight of a symbol on a weekday.
+const GREATEST_WEIGHT: i64 = 100_000;
+
+/// No number may be off by so many parts of the mixture.
+const NEAR: i64 = SCALE as i64 / 64;
+
+/// Words, and a mixture of them.
+#[derive(Debug, Drop)]
+pub(crate) struct Mixture {
+    /// The cuts that the mixture has to be led over.
+    pub cuts: Vec<Cut>,
+    // How often each word goes through all weeks.
+    turns: usize,
+    words: Vec<HeavyWord>,
+    hull: Hull,
+    weigher: Weigher,
+    // By weekday and step.
+    weights: Grid<i64>,
+}
+
+impl Mixture {
+    /// No words yet, and no cuts.
+    pub fn new(alloc: Global, setting: &Setting) -> Result<Mixture, AllocError> {
+        let Setting { layer, demand } = setting;
+        let turns = WORD_DAYS
+            .checked_div(demand.cells())
+            .unwrap_or(0)
+            .max(FEWEST_TURNS);
+        let len = demand.cells().saturating_mul(turns);
+        Ok(Mixture {
+            cuts: Vec::new(alloc),
+            turns,
+            words: Vec::new(alloc),
+            hull: hull_of(alloc, demand, turns, 0)?,
+            weigher: Weigher::new(alloc, setting, len)?,
+            weights: Grid::new(alloc, demand.days, layer.steps.len(), 0)?,
+        })
+    }
+
+    /// Brings the mixture near to the demand and over the cuts. False where none comes there, since no word is heavy
+    /// enough by some weights (E. Gilbert, 1966). Weights are blurred by random numbers below `noise`.
+    pub fn approach(
+        &mut self,
+        alloc: Global,
+        setting: &Setting,
+        random: &mut Random,
+        noise: usize,
+    ) -> Result<bool, AllocError> {
+        self.hull.descend(BETTERINGS);
+        for _ in 0..self.rounds(setting) {
+            let far = furthest(self.hull.off());
+            if far < NEAR && !self.words.is_empty() {
+                return Ok(true);
+            }
+            self.set_weights(setting, random, noise, far);
+            let word = self.weigher.heaviest(alloc, &setting.layer, &self.weights)?;
+            if word.weight < self.wanted_weight(&setting.demand, far) {
+                return Ok(false);
+            }
+            if !self.add_word(alloc, setting, word)? {
+                return Ok(true);
+            }
+        }
+        Ok(true)
+    }
+
+    fn rounds(&self, setting: &Setting) -> usize {
+        let days = setting.demand.cells().saturating_mul(self.turns);
+        let looks = days.saturating_mul(setting.layer.steps.len());
+        let affordable = MOST_LOOKS.checked_div(looks).unwrap_or(0);
+        if self.cuts.is_empty() {
+            affordable.min(FIRST_ROUNDS)
+        } else {
+            affordable.min(CUT_ROUNDS)
+        }
+    }
+
+    // Adds a word and betters the mixture. False where the word is there already.
+    fn add_word(
+        &mut self,
+        alloc: Global,
+        setting: &Setting,
+        word: HeavyWord,
+    ) -> Result<bool, AllocError> {
+        let row = row_of(alloc, setting, &self.cuts, &word.uses)?;
+        if self.hull.contains(&row) {
+            return Ok(false);
+        }
+        self.hull.push(row)?;
+        self.words.push(word)?;
+        self.hull.descend(BETTERINGS);
+        if self.words.len() > MANY_WORDS {
+            self.drop_unused();
+        }
+        Ok(true)
+    }
+
+    fn drop_unused(&mut self) {
+        if let Some(place) = self.hull.drop_unused() {
+            if place < self.words.len() {
+                self.words.remove(place);
+            }
+        }
+    }
+
+    // The weight of a coordinate, by how far it is off and how far off the furthest is.
+    fn weight(&self, coordinate: usize, far: i64) -> i64 {
+        let off = entry_or(self.hull.off(), coordinate, 0);
+        quotient(off.wrapping_mul(GREATEST_WEIGHT), far)
+    }
+
+    fn set_weights(&mut self, setting: &Setting, random: &mut Random, noise: usize, far: i64) {
+        for weekday in 0..setting.demand.days {
+            self.set_day_weights(setting, random, noise, far, weekday);
+        }
+        for (place, cut) in self.cuts.iter().enumerate() {
+            let coordinate = cut_coordinate(&setting.demand, place);
+            let off = entry_or(self.hull.off(), coordinate, 0);
+            let weight = quotient(off.wrapping_mul(GREATEST_WEIGHT), far);
+            cut.add_weight(&mut self.weights, weight);
+        }
+    }
+
+    fn set_day_weights(
+        &mut self,
+        setting: &Setting,
+        random: &mut Random,
+        noise: usize,
+        far: i64,
+        weekday: usize,
+    ) {
+        for (number, step) in setting.layer.steps.iter().enumerate() {
+            let coordinate = cell_coordinate(&setting.demand, step.symbol, weekday);
+            let weight = self
+                .weight(coordinate, far)
+                .wrapping_add(random.noise(noise));
+            self.weights.set(weekday, number, weight);
+        }
+    }
+
+    // What each word weighs at least that meets the demand and is led over the cuts, if it goes through all weeks so often.
+    fn wanted_weight(&self, demand: &Demand, far: i64) -> i64 {
+        let mut sum: i64 = 0;
+        for weekday in 0..demand.days {
+            sum = sum.wrapping_add(self.wanted_on(demand, far, weekday));
+        }
+        for place in 0..self.cuts.len() {
+            sum = sum.wrapping_add(self.weight(cut_coordinate(demand, place), far));
+        }
+        sum.wrapping_mul(whole(self.turns))
+    }
+
+    fn wanted_on(&self, demand: &Demand, far: i64, weekday: usize) -> i64 {
+        let mut sum: i64 = 0;
+        for symbol in 0..demand.symbols {
+            let weight = self.weight(cell_coordinate(demand, symbol, weekday), far);
+            let range = demand.range(symbol, weekday);
+            let weeks = if weight > 0 {
+                range.least
+            } else {
+                range.greatest
+            };
+            sum = sum.wrapping_add(weight.wrapping_mul(weeks));
+        }
+        sum
+    }
+
+    /// How often the mixture takes each step on each weekday as it goes through all weeks once, by weekday and step, in
+    /// parts of which so many are one use.
+    pub fn uses(
+        &self,
+        alloc: Global,
+        setting: &Setting,
+        one_use: i64,
+    ) -> Result<Grid<i64>, AllocError> {
+        let steps = setting.layer.steps.len();
+        let mut uses = Grid::new(alloc, setting.demand.days, steps, 0)?;
+        for weekday in 0..setting.demand.days {
+            for number in 0..steps {
+                uses.set(weekday, number, self.mixed_uses(weekday, number, one_use));
+            }
+        }
+        Ok(uses)
+    }
+
+    fn mixed_uses(&self, weekday: usize, number: usize, one_use: i64) -> i64 {
+        let mut sum: i64 = 0;
+        for (word, part) in self.words.iter().zip(self.hull.parts().iter()) {
+            let times = word.uses.at(weekday, number);
+            sum = sum.wrapping_add(times.wrapping_mul(i64::from(*part)));
+        }
+        let turns = i64::from(SCALE).wrapping_mul(whole(self.turns));
+        quotient(sum.wrapping_mul(one_use), turns)
+    }
+
+    /// Takes new cuts into account. Each word keeps its part.
+    pub fn renew(&mut self, alloc: Global, setting: &Setting) -> Result<(), AllocError> {
+        let mut hull = hull_of(alloc, &setting.demand, self.turns, self.cuts.len())?;
+        for (word, part) in self.words.iter().zip(self.hull.parts().iter()) {
+            let row = row_of(alloc, setting, &self.cuts, &word.uses)?;
+            hull.push_part(row, *part)?;
+        }
+        self.hull = hull;
+        Ok(())
+    }
+}
+
+// The coordinate of a symbol on a weekday.
+fn cell_coordinate(demand: &Demand, symbol: usize, weekday: usize) -> usize {
+    symbol.wrapping_mul(demand.days).wrapping_add(weekday)
+}
+
+// The coordinate of a cut.
+fn cut_coordinate(demand: &Demand, place: usize) -> usize {
+    cell_coordinate(demand, demand.symbols, place)
+}
+
+// The greatest of the numbers without their signs.
+fn furthest(numbers: &[i64]) -> i64 {
+    let mut most: i64 = 0;
+    for number in numbers {
+        most = most.max(number.saturating_abs());
+    }
+    most
+}
+
+// No words yet, and the box that they should come to: the demand, and each cut once at least for each turn.
+fn hull_of(alloc: Global, demand: &Demand, turns: usize, cuts: usize) -> Result<Hull, AllocError> {
+    let times = whole(turns);
+    let mut low = Vec::new(alloc);
+    let mut high = Vec::new(alloc);
+    for symbol in 0..demand.symbols {
+        for weekday in 0..demand.days {
+            let range = demand.range(symbol, weekday);
+            low.push(range.least.wrapping_mul(times))?;
+            high.push(range.greatest.wrapping_mul(times))?;
+        }
+    }
+    for _ in 0..cuts {
+        low.push(times)?;
+        high.push(whole(demand.cells()).wrapping_mul(times))?;
+    }
+    Hull::new(alloc, low, high)
+}
+
+// The coordinates of a word: how often each symbol stands on each weekday, and how often the word is led over each cut.
+fn row_of(
+    alloc: Global,
+    setting: &Setting,
+    cuts: &[Cut],
+    uses: &Grid<i64>,
+) -> Result<Vec<i64>, AllocError> {
+    let mut row = Vec::new(alloc);
+    for symbol in 0..setting.demand.symbols {
+        for weekday in 0..setting.demand.days {
+            row.push(count_of(setting, uses, symbol, weekday))?;
+        }
+    }
+    for cut in cuts {
+        row.push(cut.uses(uses))?;
+    }
+    Ok(row)
+}
+
+fn count_of(setting: &Setting, uses: &Grid<i64>, symbol: usize, weekday: usize) -> i64 {
+    let mut sum: i64 = 0;
+    for (number, step) in setting.layer.steps.iter().enumerate() {
+        if step.symbol == symbol {
+            sum = sum.wrapping_add(uses.at(weekday, number));
+        }
+    }
+    sum
+}

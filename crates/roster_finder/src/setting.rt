@@ -1,0 +1,24 @@
+// What a search is about.
+use crate::demand::Demand;
+use crate::steady_layer::SteadyLayer;
+use rwsp_model::{Problem, short_rules};
+use std::alloc::{AllocError, Global};
+use word_tail::TailRules;
+
+/// The steps that clean words take, and the demand that they should meet.
+#[derive(Debug, Drop)]
+pub(crate) struct Setting {
+    pub layer: SteadyLayer,
+    pub demand: Demand,
+}
+
+impl Setting {
+    pub fn of(alloc: Global, problem: &Problem) -> Result<Setting, AllocError> {
+        let short = short_rules(alloc, problem)?;
+        let rules = TailRules::of(alloc, problem, &short)?;
+        Ok(Setting {
+            layer: SteadyLayer::of(alloc, &rules, problem.shifts())?,
+            demand: Demand::of(alloc, problem)?,
+        })
+    }
+}

@@ -1,0 +1,97 @@
+// The one layer that long clean words pass through day by day.
+use crate::grid::{Grid, entry_or};
+use crate::tail_classes::{TailClasses, last_of};
+use crate::tail_graph::TailGraph;
+use std::alloc::{AllocError, Global};
+use word_tail::TailRules;
+
+/// One step through the layer.
+#[derive(Clone, Copy, Debug)]
+pub(crate) struct Step {
+    pub from: usize,
+    pub to: usize,
+    pub symbol: usize,
+    /// Whether a block of the symbol begins.
+    pub begins: bool,
+}
+
+/// The nodes that clean words without end pass through, and the steps between them. A node stands for all tails that
+/// end in one symbol and have one future, so a closed walk through nodes is a clean cyclic word.
+#[derive(Debug, Drop)]
+pub(crate) struct SteadyLayer {
+    /// The number of symbols, the day off among them.
+    pub symbols: usize,
+    /// The steps, by their numbers.
+    pub steps: Vec<Step>,
+    // The last symbol of each node.
+    last: Vec<usize>,
+    // The number of the step out of each node by each symbol.
+    out: Grid<Option<usize>>,
+}
+
+impl SteadyLayer {
+    pub fn of(alloc: Global, rules: &TailRules, shifts: u8) -> Result<SteadyLayer, AllocError> {
+        let graph = TailGraph::of(alloc, rules, shifts)?;
+        let classes = TailClasses::of(alloc, &graph)?;
+        let mut layer = SteadyLayer {
+            symbols: graph.symbols,
+            steps: Vec::new(alloc),
+            last: Vec::new(alloc),
+            out: Grid::new(alloc, classes.tails.len(), graph.symbols, None)?,
+        };
+        for place in &classes.tails {
+            layer.add_node(&graph, &classes, *place)?;
+        }
+        Ok(layer)
+    }
+
+    // The node of the next class, with its steps.
+    fn add_node(
+        &mut self,
+        graph: &TailGraph,
+        classes: &TailClasses,
+        place: usize,
+    ) -> Result<(), AllocError> {
+        let node = self.last.len();
+        let last = graph.tail(place).map_or(0, last_of);
+        self.last.push(last)?;
+        for symbol in 0..graph.symbols {
+            if let Some(to) = classes.class_after(graph, place, symbol) {
+                self.out.set(node, symbol, Some(self.steps.len()));
+                self.steps.push(Step {
+                    from: node,
+                    to,
+                    symbol,
+                    begins: symbol != last,
+                })?;
+            }
+        }
+        Ok(())
+    }
+
+    /// The number of nodes.
+    pub fn nodes(&self) -> usize {
+        self.last.len()
+    }
+
+    /// The last symbol of a node.
+    pub fn last(&self, node: usize) -> usize {
+        entry_or(&self.last, node, 0)
+    }
+
+    /// The number of the step out of a node by a symbol.
+    pub fn step_number(&self, node: usize, symbol: usize) -> Option<usize> {
+        self.out.at(node, symbol)
+    }
+
+    /// The step of a number.
+    pub fn step(&self, number: usize) -> Option<Step> {
+        self.steps.get(number).copied()
+    }
+
+    /// The node that follows on a node by a symbol.
+    pub fn next(&self, node: usize, symbol: usize) -> Option<usize> {
+        let step = self.step(self.step_number(node, symbol)?)?;
+        Some(step.to)
+    }
+}

@@ -1,0 +1,170 @@
+// Classes of tails that have one future.
+use crate::grid::{entry_or, put};
+use crate::tail_graph::TailGraph;
+use std::alloc::{AllocError, Global};
+use word_tail::Tail;
+
+/// A tail counts the days of a block up to this. It doesn't tell whether a longer block breaks a rule, so words with such
+/// blocks are left out.
+const MOST_COUNTED: u8 = 31;
+
+/// A class for each tail that words without end pass through again and again, and for each class one of its tails.
+#[derive(Debug, Drop)]
+pub(crate) struct TailClasses {
+    of_tail: Vec<Option<usize>>,
+    /// A tail of each class.
+    pub tails: Vec<usize>,
+}
+
+impl TailClasses {
+    /// The tails of one class end in one symbol and can be followed by the same words (E. Moore, 1956).
+    pub fn of(alloc: Global, graph: &TailGraph) -> Result<TailClasses, AllocError> {
+        let alive = steady_tails(alloc, graph)?;
+        let mut classes = classes_by_last(alloc, graph, &alive)?;
+        for _ in 0..alive.len() {
+            let finer = classes.refined(alloc, graph)?;
+            let is_stable = finer.tails.len() == classes.tails.len();
+            classes = finer;
+            if is_stable {
+                break;
+            }
+        }
+        Ok(classes)
+    }
+
+    fn class(&self, place: usize) -> Option<usize> {
+        entry_or(&self.of_tail, place, None)
+    }
+
+    /// The class of the tail that follows on a tail by a symbol.
+    pub fn class_after(&self, graph: &TailGraph, place: usize, symbol: usize) -> Option<usize> {
+        self.class(graph.step(place, symbol)?)
+    }
+
+    // Whether two tails are in one class, and so are their followers by each symbol.
+    fn are_alike(&self, graph: &TailGraph, a: usize, b: usize) -> bool {
+        if self.class(a) != self.class(b) {
+            return false;
+        }
+        for symbol in 0..graph.symbols {
+            if self.class_after(graph, a, symbol) != self.class_after(graph, b, symbol) {
+                return false;
+            }
+        }
+        true
+    }
+
+    // The classes of tails that are alike by these. Costs for each tail a look at one tail of each class.
+    fn refined(&self, alloc: Global, graph: &TailGraph) -> Result<TailClasses, AllocError> {
+        let mut finer = TailClasses {
+            of_tail: Vec::new(alloc),
+            tails: Vec::new(alloc),
+        };
+        for place in 0..self.of_tail.len() {
+            let class = match self.class(place) {
+                Some(_) => Some(finer.class_like(self, graph, place)?),
+                None => None,
+            };
+            finer.of_tail.push(class)?;
+        }
+        Ok(finer)
+    }
+
+    // The class whose tail is alike by coarser classes; a new one where there is none.
+    fn class_like(
+        &mut self,
+        coarser: &TailClasses,
+        graph: &TailGraph,
+        place: usize,
+    ) -> Result<usize, AllocError> {
+        for (class, tail) in self.tails.iter().enumerate() {
+            if coarser.are_alike(graph, *tail, place) {
+                return Ok(class);
+            }
+        }
+        let class = self.tails.len();
+        self.tails.push(place)?;
+        Ok(class)
+    }
+}
+
+/// The last symbol of a tail's words.
+pub(crate) fn last_of(tail: Tail) -> usize {
+    match tail.last {
+        Some(symbol) => usize::from(symbol.number),
+        None => 0,
+    }
+}
+
+// The classes by the last symbol alone.
+fn classes_by_last(
+    alloc: Global,
+    graph: &TailGraph,
+    alive: &[bool],
+) -> Result<TailClasses, AllocError> {
+    let mut of_tail = Vec::new(alloc);
+    for (place, tail) in graph.tails.iter().enumerate() {
+        let is_alive = entry_or(alive, place, false);
+        of_tail.push(if is_alive { Some(last_of(*tail)) } else { None })?;
+    }
+    Ok(TailClasses {
+        of_tail,
+        tails: Vec::new(alloc),
+    })
+}
+
+// Whether words with this tail have forgotten how they began, and how long their last block is is told.
+fn is_steady(tail: Tail) -> bool {
+    !tail.all_one && !tail.all_work && tail.run.max(tail.work) < MOST_COUNTED
+}
+
+// Which tails words without end pass through again and again: the steady ones but for dead ends.
+fn steady_tails(alloc: Global, graph: &TailGraph) -> Result<Vec<bool>, AllocError> {
+    let mut alive = Vec::new(alloc);
+    for tail in &graph.tails {
+        alive.push(is_steady(*tail))?;
+    }
+    for _ in 0..graph.tails.len() {
+        let kept = kept_tails(alloc, graph, &alive)?;
+        if kept == alive {
+            break;
+        }
+        alive = kept;
+    }
+    Ok(alive)
+}
+
+// The tails that a step leaves and a step enters. Costs a look at each step.
+fn kept_tails(alloc: Global, graph: &TailGraph, alive: &[bool]) -> Result<Vec<bool>, AllocError> {
+    let mut left = vec![in alloc; false; alive.len()]?;
+    let mut entered = vec![in alloc; false; alive.len()]?;
+    for place in 0..alive.len() {
+        mark_steps(graph, alive, place, &mut left, &mut entered);
+    }
+    let mut kept = Vec::new(alloc);
+    for place in 0..alive.len() {
+        kept.push(entry_or(&left, place, false) && entry_or(&entered, place, false))?;
+    }
+    Ok(kept)
+}
+
+// Marks a tail as left and its followers as entered, as far as they are alive.
+fn mark_steps(
+    graph: &TailGraph,
+    alive: &[bool],
+    place: usize,
+    left: &mut [bool],
+    entered: &mut [bool],
+) {
+    if !entry_or(alive, place, false) {
+        return;
+    }
+    for symbol in 0..graph.symbols {
+        if let Some(to) = graph.step(place, symbol) {
+            if entry_or(alive, to, false) {
+                put(left, place, true);
+                put(entered, to, true);
+            }
+        }
+    }
+}

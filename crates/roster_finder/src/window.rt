@@ -1,0 +1,144 @@
+// Moves that rewrite a window of a word by the clean word that costs least.
+use crate::draft::{Draft, Window};
+use crate::grid::{Grid, entry_or, put, set_all};
+use crate::prices::{LONGEST_WINDOW, Prices};
+use crate::random::Random;
+use crate::setting::Setting;
+use crate::shares::Shares;
+use crate::walk::Walk;
+use std::alloc::{AllocError, Global};
+use std::mem;
+
+/// More than any walk costs.
+const FAR: i64 = 1 << 60;
+
+/// Room for moves.
+#[derive(Debug, Drop)]
+pub(crate) struct Mover {
+    prices: Prices,
+    // The least cost of the walks to each node, on one day and on the next.
+    costs: Vec<i64>,
+    next_costs: Vec<i64>,
+    // By day of the window and node: the node before it on a walk of least cost.
+    parents: Grid<usize>,
+    // The symbols that a move has overwritten.
+    old: Vec<usize>,
+}
+
+impl Mover {
+    pub fn new(alloc: Global, setting: &Setting) -> Result<Mover, AllocError> {
+        let nodes = setting.layer.nodes();
+        Ok(Mover {
+            prices: Prices::new(alloc, setting)?,
+            costs: vec![in alloc; FAR; nodes]?,
+            next_costs: vec![in alloc; FAR; nodes]?,
+            parents: Grid::new(alloc, LONGEST_WINDOW, nodes, 0)?,
+            old: vec![in alloc; 0; LONGEST_WINDOW]?,
+        })
+    }
+
+    /// Rewrites a window. One of more than a week is put back where the counters would be further off.
+    /// Costs a look at each step of the layer on each day of the window.
+    pub fn rewrite(
+        &mut self,
+        setting: &Setting,
+        shares: &Shares,
+        draft: &mut Draft,
+        random: &mut Random,
+        window: Window,
+    ) {
+        let before = draft.counters.weighted_deviation();
+        self.prices.price_blocks(&draft.counters);
+        draft.count(window, -1);
+        self.prices.price_days(draft, random, window);
+        self.sweep(setting, shares, &draft.walk, window);
+        let best = self.best_end(setting, &draft.walk, window);
+        if let Some(end) = best {
+            self.write(setting, &mut draft.walk, window, end);
+        }
+        draft.count(window, 1);
+        let may_worsen = window.len > draft.walk.days();
+        if best.is_some() && may_worsen && draft.counters.weighted_deviation() > before {
+            draft.count(window, -1);
+            self.undo(setting, &mut draft.walk, window);
+            draft.count(window, 1);
+        }
+    }
+
+    // Finds the least costs of the walks from the node before the window to each node behind it (R. Bellman, 1957).
+    fn sweep(&mut self, setting: &Setting, shares: &Shares, walk: &Walk, window: Window) {
+        set_all(&mut self.costs, FAR);
+        put(&mut self.costs, walk.node(window.start), 0);
+        let mut at = window.start;
+        for day in 0..window.len {
+            set_all(&mut self.next_costs, FAR);
+            self.sweep_day(setting, shares, walk.weekday(at), day);
+            mem::swap(&mut self.costs, &mut self.next_costs);
+            at = walk.next(at);
+        }
+    }
+
+    fn sweep_day(&mut self, setting: &Setting, shares: &Shares, weekday: usize, day: usize) {
+        for (number, step) in setting.layer.steps.iter().enumerate() {
+            let mut cost = entry_or(&self.costs, step.from, FAR);
+            if cost == FAR {
+                continue;
+            }
+            cost = cost.wrapping_add(self.prices.of_day(day, step.symbol));
+            cost = cost.wrapping_add(shares.price(weekday, number));
+            if step.begins {
+                cost = cost.wrapping_add(self.prices.of_block(step.symbol));
+            }
+            if cost < entry_or(&self.next_costs, step.to, 0) {
+                put(&mut self.next_costs, step.to, cost);
+                self.parents.set(day, step.to, step.from);
+            }
+        }
+    }
+
+    // The node behind the window that costs least among those from which the word can go on as it is.
+    fn best_end(&self, setting: &Setting, walk: &Walk, window: Window) -> Option<usize> {
+        let behind = walk.later(window.start, window.len);
+        let kept = walk.cells().saturating_sub(window.len);
+        let mut least = FAR;
+        let mut best = None;
+        for (node, cost) in self.costs.iter().enumerate() {
+            let sum = cost.wrapping_add(self.price_behind(setting, walk.symbol(behind), node));
+            if *cost < FAR && sum < least && walk.joins(&setting.layer, node, behind, kept) {
+                least = sum;
+                best = Some(node);
+            }
+        }
+        best
+    }
+
+    // What the beginning of a block right behind the window costs.
+    fn price_behind(&self, setting: &Setting, symbol: usize, node: usize) -> i64 {
+        if setting.layer.last(node) == symbol {
+            0
+        } else {
+            self.prices.of_block(symbol)
+        }
+    }
+
+    // Writes the walk of least cost to an end into the window and keeps the old symbols.
+    fn write(&mut self, setting: &Setting, walk: &mut Walk, window: Window, end: usize) {
+        let mut node = end;
+        for day in (0..window.len).rev() {
+            let at = walk.later(window.start, day);
+            put(&mut self.old, day, walk.symbol(at));
+            walk.set_symbol(at, setting.layer.last(node));
+            node = self.parents.at(day, node);
+        }
+        walk.retrace(&setting.layer, window.start, window.len);
+    }
+
+    // Writes the old symbols back.
+    fn undo(&self, setting: &Setting, walk: &mut Walk, window: Window) {
+        for day in 0..window.len {
+            let at = walk.later(window.start, day);
+            walk.set_symbol(at, entry_or(&self.old, day, 0));
+        }
+        walk.retrace(&setting.layer, window.start, window.len);
+    }
+}
