@@ -10,3 +10,5 @@ pub mod Walking
 pub mod Cutting
 pub mod Joining
 pub mod Feeds
+pub mod Deciding
+pub mod SomeVerdict

@@ -6,3 +6,4 @@ pub mod LogVerdicts
 pub mod ChunkVerdicts
 pub mod Headers
 pub mod Chunks
+pub mod Laws

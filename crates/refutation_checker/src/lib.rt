@@ -6,6 +6,7 @@ mod chunk;
 mod header;
 mod judge;
 mod kept_tails;
+mod laws;
 mod line_ends;
 mod log_check;
 mod long;
@@ -19,6 +20,7 @@ mod turn;
 mod verdict;
 mod workers;
 
+pub use laws::texts_have_a_verdict;
 pub use log_check::check_log;
 pub use potential_bounds::{Gate, NoGate};
 pub use verdict::{check, check_with};

@@ -1,5 +1,5 @@
 -- A text that is refused by reading has one cause.
-use Rattle.std.proofs.Common.{◌≡◌, ◌≢◌, ◌⊎◌, ℕ, ◌+◌, ◌<◌, List, [], ◌∷◌, ◌++◌, length, take, refl, ap, sym, ◌∙◌, subst, append_assoc, arith, inl, inr, Bool, true, false, Option, Some, None, length-append}
+use Rattle.std.proofs.Common.{◌≡◌, ◌≢◌, ◌⊎◌, ℕ, ◌+◌, ◌<◌, List, [], ◌∷◌, ◌++◌, length, refl, ap, sym, ◌∙◌, subst, append_assoc, arith, inl, inr, Bool, true, false, Option, Some, None, length-append}
 use Rattle.std.specs.Prelude.{slice_get}
 use Rattle.std.specs.List.{AllByRecursion, join_with_byte}
 use Rattle.std.proofs.lemmas.List.{append-nil}
@@ -12,13 +12,13 @@ use Rattle.refutation_terms.specs.declared.lines.Turn.{Turn}
 use Rattle.refutation_terms.specs.declared.lines.LogRefusal.{LogRefusal}
 use Rattle.refutation_terms.specs.declared.lines.LogRefusal.TheVariants as Refusals
 use Rattle.refutation_terms.specs.Tree.{IsTree, domains_at}
-use Rattle.refutation_terms.specs.Log.{Log, TurnFits, Fits}
-use Rattle.refutation_terms.specs.LogText.{raw, fields, text_of, line_text, version_text, rules_text, turn_text}
-use Rattle.refutation_terms.specs.Verdict.{Front, Start, Versioned, BeforeTurn, Reading, front_text, IsWhole, header_lines, Cause, HasNoFeed, IsNextLine}
+use Rattle.refutation_terms.specs.Log.{Log, TurnFits}
+use Rattle.refutation_terms.specs.LogText.{raw, fields, text_of, line_text, version_text, rules_text}
+use Rattle.refutation_terms.specs.Verdict.{Front, Start, Versioned, BeforeTurn, Reading, front_text, header_lines, Cause, HasNoFeed, IsNextLine}
 use Rattle.refutation_terms.specs.TextLaws.{IsWritable, HasNames}
 use Rattle.refutation_terms.proofs.TextParts.{IsInField, AreFields}
 use Rattle.refutation_terms.proofs.Texts.{text_lines, AreFieldLines, Longer, one_is_longer, version_fields, rules_fields, turn_fields, header_fields, lines_fields, log_fields, log_written, version_line, rules_line, log_lines, version_written}
-use Rattle.refutation_terms.proofs.Fronts.{fields_after, same_text_lines, versions_differ, version_same, rules_same, log_goes_on, log_same}
+use Rattle.refutation_terms.proofs.Fronts.{fields_after, versions_differ, version_same, rules_same, log_goes_on, log_same}
 use Rattle.refutation_terms.proofs.Causes.{tree_cause_same, version_cause, rules_cause, extra_cause, turn_cause_same}
 use Rattle.refutation_log.specs.ReadLog.{IsReadCause, IsReadSoFar, IsRead, IsUnreadLine, EndsUnread, IsUnread}
 use Rattle.refutation_log.specs.Laws.{UnreadTextsHaveOneCause}

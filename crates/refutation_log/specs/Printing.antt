@@ -1,8 +1,8 @@
 -- Parts of the text of a log.
-use Rattle.std.specs.Prelude.{ℕ, List, ◌∷◌, map, All}
+use Rattle.std.specs.Prelude.{ℕ, List, ◌∷◌, map}
 use Rattle.std.specs.List.{AllByRecursion, concat, flat_map}
 use Rattle.rwsp_terms.specs.declared.data.Weight.{Weight}
-use Rattle.rwsp_terms.specs.Instance.{Instance, IsDay, IsSymbol}
+use Rattle.rwsp_terms.specs.Instance.{Instance}
 use Rattle.refutation_terms.specs.declared.lines.Line.{Line}
 use Rattle.refutation_terms.specs.Log.{LineFits}
 use Rattle.refutation_terms.specs.LogText.{raw, line_text, weight_fields, named_weight}

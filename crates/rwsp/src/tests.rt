@@ -7,7 +7,7 @@ ghost use Rattle.std.specs.Prelude.{◌<◌};
 use crate::answer::{Answer, Outcome};
 use crate::run::run;
 use potential_bounds::NoGate;
-use rwsp_io::{MemoryShelf, MemorySink};
+use rwsp_io::{MemoryShelf, MemorySink, Shelf};
 use std::alloc::{AllocError, Global};
 use std::test::Fail;
 use std::thread::Threads;
@@ -294,8 +294,54 @@ fn reads_that_fail(rt: HostRuntime) -> Result<(), Fail> {
             assert_eq!(rt; sink.bytes(), b"meets\n".as_slice());
         }
     }
-    assert!(rt; 5 < refused);
-    assert!(rt; refused < 29);
+    // By sevens: one call that chooses F and seven for its 36 bytes and their end, then one and two for the 4 bytes of R.
+    assert_eq!(rt; refused, 11);
+    Ok(())
+}
+
+// Whether the words end with the status, by sevens, and the next call of the shelf has this number. That call fails.
+fn ends_before_call<R: Threads + Sync>(
+    rt: &R,
+    alloc: Global,
+    words: &[&str],
+    files: &[(&str, &str)],
+    status: u8,
+    next: u64,
+) -> Result<bool, AllocError> {
+    let words = words_of(alloc, words)?;
+    let mut shelf = shelf_of(alloc, files, 7, &[next])?;
+    let mut sink = MemorySink::new(alloc, 10_000, 1000, Vec::new(alloc))?;
+    let outcome = run(rt, alloc, &words, &mut shelf, &mut sink, &NoGate);
+    Ok(outcome.status() == status && shelf.choose("F").is_err())
+}
+
+// Each file is read once and whole, FILE first; what isn't needed isn't opened. A file of n bytes takes one call that
+// chooses it, one for each seven bytes or fewer, and one at its end.
+#[test]
+fn files_are_read_once(rt: HostRuntime) -> Result<(), Fail> {
+    let alloc = rt.alloc();
+    let small = [("F", TWO_DAYS), ("R", "D -\n")];
+    let logs = [("F", logs::TWOS), ("R", logs::SPLIT)];
+    let refused = [("F", "2\n"), ("R", "D -\n")];
+    let alone = [("F", TWO_DAYS)];
+    let cases: [(&[&str], &[(&str, &str)], u8, u64); 10] = [
+        (&["show"], &small, 2, 1),
+        (&["show", "F"], &small, 0, 9),
+        (&["plan", "F"], &small, 0, 9),
+        (&["verify", "F", "R"], &small, 0, 12),
+        (&["check", "F", "R"], &logs, 0, 23),
+        (&["reduce", "F", "R"], &logs, 0, 23),
+        (&["verify", "F", "R"], &refused, 3, 4),
+        (&["check", "F", "R"], &refused, 3, 4),
+        (&["reduce", "F", "R"], &refused, 3, 4),
+        (&["verify", "F", "R"], &alone, 6, 10),
+    ];
+    for (words, files, status, next) in cases {
+        assert!(rt;
+            ends_before_call(&rt, alloc, words, files, status, next)?,
+            "{next}"
+        );
+    }
     Ok(())
 }
 

@@ -1,18 +1,18 @@
 -- How long the canonical text of a valid instance is.
-use Rattle.std.proofs.Common.{◌≡◌, ℕ, zero, suc, ◌+◌, ◌*◌, ◌^◌, ◌<◌, ◌≤◌, List, [], ◌∷◌, ◌++◌, length, get_or, Bool, true, false, ◌==◌, sym, subst, map, arith, length-append}
+use Rattle.std.proofs.Common.{◌≡◌, ℕ, zero, suc, ◌+◌, ◌*◌, ◌<◌, ◌≤◌, List, [], ◌∷◌, ◌++◌, length, get_or, Bool, true, false, ◌==◌, sym, subst, map, arith, length-append}
 use Rattle.std.specs.Prelude.{if◌then◌else◌}
 use Rattle.std.specs.List.{flat_map, join_with_byte, AllByRecursion}
 use Rattle.std.specs.Fmt.{decimal}
 use Rattle.std.proofs.lemmas.Fmt.{length-decimal-le}
 use Rattle.std.proofs.lemmas.List.{length-map}
-use Rattle.rwsp_terms.specs.Instance.{Instance, shift_count, name_of, name_numbered}
+use Rattle.rwsp_terms.specs.Instance.{Instance, shift_count, name_numbered}
 use Rattle.rwsp_terms.specs.declared.data.Bounds.{Bounds}
 use Rattle.rwsp_terms.specs.declared.data.ShiftRow.{ShiftRow}
 use Rattle.rwsp_terms.specs.declared.data.Symbol.{Symbol}
 use Rattle.rwsp_terms.proofs.Elements.{all_to, all_joined}
-use Rattle.rwsp_model.specs.Validity.{IsValid, KeepsLimits, IsSmallRange, AreSmall}
+use Rattle.rwsp_model.specs.Validity.{KeepsLimits, IsSmallRange, AreSmall}
 use Rattle.rwsp_model.proofs.Limits.{valid_keeps}
-use Rattle.rwsp_file.specs.Text.{demand_text, bounds_words, shift_words, size_lines, frame_lines, lines_of_words, pair_words, triple_words, file_line, problem_text}
+use Rattle.rwsp_file.specs.Text.{demand_text, bounds_words, shift_words, frame_lines, lines_of_words, pair_words, triple_words, file_line}
 use Rattle.rwsp_file.specs.Laws.{CanonicalTextsAreShort}
 use Rattle.rwsp_file.proofs.SymbolReader.{in_place, no_row}
 use Rattle.rwsp_file.proofs.WordForms.{all_images, all_weaker}

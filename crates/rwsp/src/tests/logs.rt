@@ -32,7 +32,7 @@ const NO_DAY: &str = "2\n1\n1\n0 0\nD 360 480 1 1\n1 1\n1 1\n0 0\n";
 // Three demanded of two weeks.
 pub const TOO_MANY: &str = "1\n2\n1\n3\nD 360 480 1 2\n1 2\n1 2\n0 0\n";
 
-const SPLIT: &str =
+pub const SPLIT: &str =
     "rwsp-log 1\nrules 1 2 3 4\nsplit 1 1 D\ndead 1 1 7 rules 1 2 3 4\ndead 1 1 7 rules 1 2 3 4\n";
 
 const SPLIT_TOO_SHORT: &str =
@@ -275,8 +275,8 @@ fn reads_that_fail_at_a_log(rt: HostRuntime) -> Result<(), Fail> {
             assert_eq!(rt; outcome.status(), 0);
         }
     }
-    assert!(rt; 20 < refused);
-    assert!(rt; refused < 59);
+    // By sevens: one call that chooses F and six for its 34 bytes and their end, then one and fourteen for the 87 of G.
+    assert_eq!(rt; refused, 22);
     Ok(())
 }
 

@@ -1,0 +1,234 @@
+-- A line that fits the problem stands, or has a cause: it can't be without both.
+use Rattle.std.proofs.Common.{◌≡◌, ◌≢◌, ◌⊎◌, ◌==◌, ◌&&◌, ℕ, zero, suc, ◌+◌, ◌*◌, ◌%◌, ◌<◌, ◌≤◌, List, [], ◌∷◌, length, refl, ap, sym, ◌∙◌, subst, arith, inl, inr, Bool, true, false, Some, pos, negsuc, ℤ}
+use Rattle.std.specs.Prelude.{Contains, ◌≤ℤ◌, ◌<ℤ◌, ◌+ℤ◌, ◌*ℤ◌}
+use Rattle.std.specs.List.{AllByRecursion}
+use Rattle.std.proofs.lemmas.Bool.{cases_lt, cases_Bool, eqb-true, eqb-false}
+use Rattle.std.proofs.lemmas.Int.{ints}
+use Rattle.rwsp_terms.specs.declared.data.Symbol.{Symbol}
+use Rattle.rwsp_terms.specs.declared.data.Weight.{Weight}
+use Rattle.rwsp_terms.specs.declared.data.Rule.{Rule}
+use Rattle.rwsp_terms.specs.declared.data.Rule.TheVariants as TheRules
+use Rattle.rwsp_terms.specs.declared.data.Class.TheVariants.{Shift}
+use Rattle.rwsp_terms.specs.Instance.{Instance, cells, bounds, IsDay, IsSymbol, symbol_numbered}
+use Rattle.rwsp_terms.specs.Roster.{IsRule}
+use Rattle.rwsp_terms.specs.Rules.{rule_of, Names, IsShort, NamesShortOnly}
+use Rattle.rwsp_terms.specs.Weights.{IsWeight, weight_at}
+use Rattle.rwsp_terms.proofs.Ascending.{Contains-cons, Contains-first, Contains-later, here_from_test, weight_past, weight_first}
+use Rattle.rwsp_terms.proofs.Elements.{all_to}
+use Rattle.rwsp_model.specs.RuleNumbers.{place_of}
+use Rattle.rwsp_model.proofs.Numbering.{number_at_place, one_number}
+use Rattle.refutation_terms.specs.declared.lines.Line.{Line}
+use Rattle.refutation_terms.specs.declared.lines.Line.TheVariants.{Split, Window, Day, Dead, Bound, Unfinished}
+use Rattle.refutation_terms.specs.declared.lines.LogRefusal.{LogRefusal}
+use Rattle.refutation_terms.specs.declared.lines.LogRefusal.TheVariants as Refusals
+use Rattle.refutation_terms.specs.Word.{Domains, weight, total}
+use Rattle.refutation_terms.specs.Leaf.{IsTooLight}
+use Rattle.refutation_terms.specs.Tree.{is_idle}
+use Rattle.refutation_terms.specs.Log.{LineFits, Cites, CitesOnlyNamed, Holds, HasWeight, ListsShortOnly}
+use Rattle.refutation_terms.specs.Escape.{ComesFirst, IsCleanOver, IsHeaviest, IsLeastHeaviest}
+use Rattle.refutation_terms.specs.Verdict.{IsLeast, IsUnnamed, IsLongIn, ListsLong}
+use Rattle.refutation_terms.proofs.Named.{named-IsRule}
+use Rattle.refutation_checker.specs.LineVerdicts.{IsSound, LineCause}
+
+-- where no number is the least with a property, none has it
+pub least_number : (A : ℕ → Type 0) → ((k : ℕ) → IsLeast A k → ⊥) → (k : ℕ) → A k → ⊥
+least_number A none k a = below A none (k + 1) k (omega arith) a
+  where
+    below : (A : ℕ → Type 0) → ((k : ℕ) → IsLeast A k → ⊥) → (n k : ℕ) → k < n → A k → ⊥
+    below A none zero k lt a = omega (arith, lt)
+    below A none (suc n) k lt a =
+        none k (a, λ i b. elim (cases_lt i k) [ inl less ↦ absurd (below A none n i (omega (arith, lt, less)) b) | inr more ↦ more ])
+
+-- rules that are cited and named
+
+named_or_not : (named : List ℕ) (k : ℕ) → Contains named k ⊎ (Contains named k → ⊥)
+named_or_not [] k = inr (λ h. let lt = h.1 in omega (arith, lt))
+named_or_not (i ∷ named) k =
+    elim (cases_Bool (k == i)) [
+      | inl same ↦ inl (Contains-first i named k (eqb-true k i same))
+      | inr other ↦ elim (named_or_not named k) [
+        | inl later ↦ inl (Contains-later i named k later)
+        | inr none ↦ inr (λ h. elim (Contains-cons i named k h) [ inl later ↦ none later | inr same ↦ eqb-false k i other same ])
+      ]
+    ]
+
+weighed_is_day : (P : Instance) (y : List Weight) (j x : ℕ) → AllByRecursion (λ e. IsDay P e.day × IsSymbol P e.symbol) y → weight_at y j x ≢ pos 0 → IsDay P j
+weighed_is_day P [] j x h ne = absurd (ne refl)
+weighed_is_day P (e ∷ y) j x h ne =
+    elim (cases_Bool ((e.day == j) && (e.symbol.number == x))) [
+      | inl here ↦ subst (IsDay P) (here_from_test e j x here).0 h.0.0
+      | inr past ↦ weighed_is_day P y j x h.1 (λ z. ne (weight_past e y j x past ∙ z))
+    ]
+
+cited_is_rule : (P : Instance) (line : Line) (r : Rule) → LineFits P line → Cites P line r → IsRule P r
+cited_is_rule P (Split p x) r fits c = absurd c
+cited_is_rule P (Window number p len) r fits c = named-IsRule P (number ∷ []) r c
+cited_is_rule P (Day j x over) r fits c = subst (IsRule P) (sym c) fits.0
+cited_is_rule P (Dead p len R) r fits c = named-IsRule P R r c
+cited_is_rule P (Bound p turns R y) r fits (inl c) = named-IsRule P R r c
+cited_is_rule P (Bound p turns R y) r fits (inr c) =
+    subst (IsRule P) (sym c.2) (weighed_is_day P y c.0 c.1.0 (all_to (λ e. IsDay P e.day × IsSymbol P e.symbol) y fits.3.1) c.1.1)
+cited_is_rule P Unfinished r fits c = absurd c
+
+pub cited_is_named : (P : Instance) (named : List ℕ) (Cited : Rule → Type 0) (r : Rule) → IsRule P r → ((k : ℕ) → IsUnnamed P named Cited k → ⊥) → Cited r → Names P named r
+cited_is_named P named Cited r is none cites =
+    let k = place_of P r + 1 in
+    let at : rule_of P (place_of P r + 1) ≡ Some r = number_at_place P r k is refl in
+    elim (named_or_not named k) [
+      | inl in_it ↦ (k, in_it, at)
+      | inr not_in ↦ absurd (none k (r, at, cites, λ n. not_in (subst (Contains named) (one_number P n.0 k r n.2 at) n.1)))
+    ]
+
+-- short rules
+
+le_or_not : (a b : ℕ) → (a ≤ b) ⊎ (a ≤ b → ⊥)
+le_or_not a b = elim (cases_lt b a) [ inl less ↦ inr (λ h. omega (arith, less, h)) | inr le ↦ inl le ]
+
+short_or_not : (P : Instance) (r : Rule) → IsShort P r ⊎ (IsShort P r → ⊥)
+short_or_not P (TheRules.MaxShift x) = le_or_not (bounds P (Shift x)).greatest 30
+short_or_not P (TheRules.MinShift x) = le_or_not (bounds P (Shift x)).least 30
+short_or_not P TheRules.MaxOff = le_or_not P.off.greatest 30
+short_or_not P TheRules.MinOff = le_or_not P.off.least 30
+short_or_not P TheRules.MaxWork = le_or_not P.work.greatest 30
+short_or_not P TheRules.MinWork = le_or_not P.work.least 30
+short_or_not P (TheRules.Pair k) = inl tt
+short_or_not P (TheRules.Triple k) = inl tt
+short_or_not P (TheRules.Day j) = inr (λ h. h)
+
+names_short : (P : Instance) (R : List ℕ) → ((k : ℕ) → IsLongIn P R k → ⊥) → NamesShortOnly P R
+names_short P R none r n = elim (short_or_not P r) [ inl short ↦ short | inr long ↦ absurd (none n.0 (r, n.2, n.1, long)) ]
+
+-- where no word is the least with a property, none has it
+
+empty_first : (u v : List Symbol) → length u ≡ 0 → ComesFirst u v
+empty_first [] v e = tt
+empty_first (x ∷ u) v e = absurd (omega (arith, e))
+
+first_by_head : (Q : List Symbol → Type 0) (n len : ℕ) (w v : List Symbol) → ((u : List Symbol) → Q u → length u ≡ suc len)
+    → IsLeast (λ k. (u : List Symbol) × Q (symbol_numbered k ∷ u)) n → ((u : List Symbol) → Q (symbol_numbered n ∷ u) → ComesFirst w u) → Q v → ComesFirst (symbol_numbered n ∷ w) v
+first_by_head Q n len w [] long least first h = let e = long [] h in absurd (omega (arith, e))
+first_by_head Q n len w (z ∷ v) long least first h =
+    let le : n ≤ z.number = least.1 z.number (v, h) in
+    elim (cases_lt n z.number) [
+      | inl less ↦ inl less
+      | inr more ↦ (let same : n ≡ z.number = omega arith in inr (ap symbol_numbered same, first v (subst (λ k. Q (symbol_numbered k ∷ v)) (sym same) h)))
+    ]
+
+least_word : (len : ℕ) (Q : List Symbol → Type 0) → ((u : List Symbol) → Q u → length u ≡ len)
+    → ((u : List Symbol) → Q u → ((v : List Symbol) → Q v → ComesFirst u v) → ⊥) → (u : List Symbol) → Q u → ⊥
+least_word zero Q long none u h = none u h (λ v k. empty_first u v (long u h))
+least_word (suc len) Q long none [] h = let e = long [] h in omega (arith, e)
+least_word (suc len) Q long none (x ∷ u) h =
+    least_number (λ k. (w : List Symbol) × Q (symbol_numbered k ∷ w))
+    (λ n least.
+    least_word len (λ w. Q (symbol_numbered n ∷ w)) (λ w k. (let e = long (symbol_numbered n ∷ w) k in omega (arith, e)))
+    (λ w k first. none (symbol_numbered n ∷ w) k (λ v g. first_by_head Q n len w v long least first g))
+    least.0.0 least.0.1)
+    x.number (u, h)
+
+-- what words weigh at most
+
+abbrev most : ℕ → ℕ
+most zero = 0
+most (suc n) = 1000 + most n
+
+value_few : (y : List Weight) (j x : ℕ) → AllByRecursion IsWeight y → weight_at y j x ≤ℤ pos 1000
+value_few [] j x h = omega (arith, ints)
+value_few (e ∷ y) j x h =
+    elim (cases_Bool ((e.day == j) && (e.symbol.number == x))) [
+      | inl here ↦ subst (λ z. z ≤ℤ pos 1000) (sym (weight_first e y j x here)) h.0.1
+      | inr past ↦ subst (λ z. z ≤ℤ pos 1000) (sym (weight_past e y j x past)) (value_few y j x h.1)
+    ]
+
+sum_few : (a b : ℤ) (n : ℕ) → a ≤ℤ pos 1000 → b ≤ℤ pos n → (a +ℤ b) ≤ℤ pos (1000 + n)
+sum_few a b n h k = omega (arith, ints)
+
+weight_few : (P : Instance) (y : List Weight) (p : ℕ) (u : List Symbol) → AllByRecursion IsWeight y → weight P y p u ≤ℤ pos (most (length u))
+weight_few P y p [] h = omega (arith, ints)
+weight_few P y p (x ∷ u) h = sum_few (weight_at y (p % P.days + 1) x.number) (weight P y (p + 1) u) (most (length u)) (value_few y (p % P.days + 1) x.number h) (weight_few P y (p + 1) u h)
+
+le_or_lt : (a b : ℤ) → (a ≤ℤ b) ⊎ (b <ℤ a)
+le_or_lt (pos a) (pos b) = elim (cases_lt b a) [ inl less ↦ inr (omega (arith, ints)) | inr le ↦ inl (omega (arith, ints)) ]
+le_or_lt (pos a) (negsuc b) = inr (omega (arith, ints))
+le_or_lt (negsuc a) (pos b) = inl (omega (arith, ints))
+le_or_lt (negsuc a) (negsuc b) = elim (cases_lt a b) [ inl less ↦ inr (omega (arith, ints)) | inr le ↦ inl (omega (arith, ints)) ]
+
+enough : (w : ℤ) (b : ℕ) → (n : ℕ) × (pos b ≤ℤ (w +ℤ pos n))
+enough (pos a) b = (b, omega (arith, ints))
+enough (negsuc a) b = (a + b + 1, omega (arith, ints))
+
+at_most : (v u m : ℤ) → v ≤ℤ m → m ≤ℤ (u +ℤ pos 0) → v ≤ℤ u
+at_most v u m a b = omega (arith, ints)
+
+nearer : (v u m : ℤ) (n : ℕ) → m ≤ℤ (u +ℤ pos (suc n)) → u <ℤ v → m ≤ℤ (v +ℤ pos n)
+nearer v u m n a b = omega (arith, ints)
+
+through : (t u v : ℤ) → t ≤ℤ u → u ≤ℤ v → t ≤ℤ v
+through t u v a b = omega (arith, ints)
+
+before : (t u v : ℤ) → t ≤ℤ u → u <ℤ v → t ≤ℤ v
+before t u v a b = omega (arith, ints)
+
+-- no word weighs so much where no least of the heaviest does
+abbrev NoneWeighs : Instance → Domains → ℕ → ℕ → List ℕ → List Weight → ℤ → Type 0
+NoneWeighs P D p len R y t = (w : List Symbol) → IsLeastHeaviest P D p len R y w → t ≤ℤ weight P y p w → ⊥
+
+no_heaviest : (P : Instance) (D : Domains) (p len : ℕ) (R : List ℕ) (y : List Weight) (t : ℤ) → NoneWeighs P D p len R y t → (u : List Symbol) → IsHeaviest P D p len R y u → t ≤ℤ weight P y p u → ⊥
+no_heaviest P D p len R y t none u h le =
+    least_word len (IsHeaviest P D p len R y) (λ w k. k.clean.long)
+    (λ w k first. none w (record { heavy = k; least = first }) (through t (weight P y p u) (weight P y p w) le (k.heaviest u h.clean))) u h
+
+none_weighs : (P : Instance) (D : Domains) (p len : ℕ) (R : List ℕ) (y : List Weight) (t : ℤ) → AllByRecursion IsWeight y → NoneWeighs P D p len R y t → (n : ℕ) (u : List Symbol) → IsCleanOver P D p len R u → t ≤ℤ weight P y p u → pos (most len) ≤ℤ (weight P y p u +ℤ pos n) → ⊥
+none_weighs P D p len R y t small none zero u clean le near =
+    no_heaviest P D p len R y t none u
+    (record { clean = clean; heaviest = λ v k. at_most (weight P y p v) (weight P y p u) (pos (most len)) (subst (λ n. weight P y p v ≤ℤ pos (most n)) k.long (weight_few P y p v small)) near }) le
+none_weighs P D p len R y t small none (suc n) u clean le near =
+    no_heaviest P D p len R y t none u
+    (record {
+      clean = clean;
+      heaviest = λ v k.
+          elim (le_or_lt (weight P y p v) (weight P y p u)) [
+            | inl few ↦ few
+            | inr more ↦ absurd (none_weighs P D p len R y t small none n v k (before t (weight P y p u) (weight P y p v) le more) (nearer (weight P y p v) (weight P y p u) (pos (most len)) n near more))
+          ];
+    }) le
+
+too_light : (P : Instance) (D : Domains) (p turns : ℕ) (R : List ℕ) (y : List Weight) → AllByRecursion IsWeight y → NoneWeighs P D p (turns * cells P) R y (pos turns *ℤ total P y) → IsTooLight P D p turns R y
+too_light P D p turns R y small none u long over clean =
+    elim (le_or_lt (pos turns *ℤ total P y) (weight P y p u)) [
+      | inr light ↦ light
+      | inl heavy ↦ (let far = enough (weight P y p u) (most (turns * cells P)) in
+          absurd (none_weighs P D p (turns * cells P) R y (pos turns *ℤ total P y) small none far.0 u (record { long = long; over = over; clean = clean }) heavy far.1))
+    ]
+
+-- a line without a cause stands
+
+abbrev HasNoCause : Instance → List ℕ → Domains → ℕ → Line → Type 0
+HasNoCause P named D n line = (why : LogRefusal) → LineCause P named D n line why → ⊥
+
+lists_short : (P : Instance) (named : List ℕ) (D : Domains) (n : ℕ) (line : Line) → HasNoCause P named D n line → CitesOnlyNamed P named line → ListsShortOnly P line
+lists_short P named D n (Split p x) none all = tt
+lists_short P named D n (Window number p len) none all = tt
+lists_short P named D n (Day j x over) none all = tt
+lists_short P named D n (Dead p len R) none all = names_short P R (least_number (ListsLong P (Dead p len R)) (λ k least. none (Refusals.Long n k) (refl, all, least)))
+lists_short P named D n (Bound p turns R y) none all = names_short P R (least_number (ListsLong P (Bound p turns R y)) (λ k least. none (Refusals.Long n k) (refl, all, least)))
+lists_short P named D n Unfinished none all = tt
+
+line_holds : (P : Instance) (named : List ℕ) (D : Domains) (n : ℕ) (line : Line) → LineFits P line → HasNoCause P named D n line → CitesOnlyNamed P named line → ListsShortOnly P line → (Holds P D line → ⊥) → ⊥
+line_holds P named D n (Split p x) fits none all short goes = elim (cases_Bool (is_idle P D p x.number)) [ inl idle ↦ none (Refusals.Idle n) (refl, idle) | inr useful ↦ goes useful ]
+line_holds P named D n (Window number p len) fits none all short goes = none (Refusals.Fails n) (refl, all, tt, goes)
+line_holds P named D n (Day j x over) fits none all short goes = none (Refusals.Fails n) (refl, all, tt, goes)
+line_holds P named D n (Dead p len R) fits none all short goes =
+    goes (λ u long over clean.
+    least_word len (IsCleanOver P D p len R) (λ w h. h.long) (λ w h first. none (Refusals.Escape n w) (refl, all, short, record { clean = h; least = first }))
+    u (record { long = long; over = over; clean = clean }))
+line_holds P named D n (Bound p turns R y) fits none all short goes =
+    goes (too_light P D p turns R y (all_to IsWeight y fits.3.0.small) (λ w heavy le. none (Refusals.Escape n w) (refl, all, short, (heavy, le))))
+line_holds P named D n Unfinished fits none all short goes = none (Refusals.Unfinished n) (refl, refl)
+
+pub line_stands : (P : Instance) (named : List ℕ) (D : Domains) (n : ℕ) (line : Line) → LineFits P line → HasNoCause P named D n line → (IsSound P named D line → ⊥) → ⊥
+line_stands P named D n line fits none goes =
+    let all : CitesOnlyNamed P named line = λ r c.
+    cited_is_named P named (Cites P line) r (cited_is_rule P line r fits c) (least_number (IsUnnamed P named (Cites P line)) (λ k least. none (Refusals.Unnamed n k) (refl, least))) c in
+    let short : ListsShortOnly P line = lists_short P named D n line none all in
+    line_holds P named D n line fits none all short (λ h. goes (record { named_all = all; short = short; holds = h }))
