@@ -1,5 +1,5 @@
 -- The reasons by which a plan closes cases.
-use Rattle.std.specs.Prelude.{◌⊎◌, ◌↔◌, ℕ, Option}
+use Rattle.std.specs.Prelude.{◌⊎◌, ◌↔◌, ℕ, List, Option}
 use Rattle.rwsp_terms.specs.declared.data.Symbol.{Symbol}
 use Rattle.rwsp_terms.specs.Instance.{Instance}
 use Rattle.refutation_terms.specs.declared.lines.Line.{Line}
@@ -9,12 +9,15 @@ use Rattle.refutation_terms.specs.Tree.{opening}
 use Rattle.domain_store.specs.Store.{Store, has_domain}
 use Rattle.propagators.specs.Looks.{HasPlainLeaves}
 use Rattle.propagators.specs.Days.{IsDaySpent}
-use Rattle.propagators.specs.Cycles.{IsCycleLeaf, IsCycleSpent}
+use Rattle.propagators.specs.Cycles.{AreShortRules, IsCycleLeaf, IsCycleSpent}
 use Rattle.propagators.specs.TopBounds.{IsTopBound}
 
--- all window and day leaves of the problem, the dead leaf of two turns, and under the opening domains the bounds of one turn;
--- the symbols are spent that a day leaf or the words of two turns take away
+-- all window and day leaves of the problem, the dead leaf of two turns, and under the opening domains the bounds of one
+-- turn; the symbols are spent that a day leaf or the words of two turns take away
 pub record AreReasons (P : Instance) (turn : Option Turn) (leaves : Store → Line → Type 0) (spent : Store → ℕ → Symbol → Type 0) : Type 0 where
+  -- the list of all short rules
+  pub rules : List ℕ
+  pub short : AreShortRules P rules
   pub plain : HasPlainLeaves P leaves
   pub cycle : (S : Store) (line : Line) → IsCycleLeaf P line → leaves S line
   pub top : (S : Store) (line : Line) → AreSame P (has_domain S) (opening P turn) → IsTopBound P (opening P turn) line → leaves S line

@@ -1,10 +1,9 @@
 // What a plan gives its search from outside.
 ghost use Rattle.std.specs.Prelude.{◌≡◌, IfOk};
-ghost use Rattle.rwsp_terms.specs.Instance.{Instance};
 
 use domain_store::Domains;
 use refutation_terms::{Line, Turn};
-use roster_search::{Guide, NextSplit};
+use roster_search::{Guide, NextSplit, chronological};
 use rwsp_model::{Problem, Roster};
 use std::alloc::{AllocError, Global};
 use std::marker::Model;
@@ -49,7 +48,7 @@ impl Guide for PlanGuide {
     }
 
     fn split(&mut self, doms: &Domains) -> Option<NextSplit> {
-        None
+        chronological(&self.problem, doms, self.first)
     }
 }
 

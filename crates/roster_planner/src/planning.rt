@@ -7,14 +7,15 @@ use crate::reasons::reasons_of;
 use potential_bounds::Gate;
 use refutation_log::first_turn;
 use roster_search::{Found, guided_search};
-use rwsp_model::{Problem, short_rules};
+use rwsp_model::Problem;
 use std::alloc::{AllocError, Global};
 use std::thread::Threads;
 
-/// What a search finds within the budget. Where a shift is demanded, the first one on the first such day stands there in week 1.
+/// What a search finds within the budget. Where a shift is demanded, the first one on the first such day stands there in
+/// week 1.
 ///
-/// Reasons are asked at each case: windows, days, and the words of two turns; bounds by weights are tried at the top, shared
-/// out among workers, who pass the gate.
+/// Each case is looked at for reasons: windows, days, and the words of two turns. Bounds by weights are tried at the top,
+/// shared out among workers, who pass the gate.
 pub fn plan_roster<R: Threads + Sync, G: Gate>(
     rt: &R,
     alloc: Global,
@@ -26,7 +27,6 @@ pub fn plan_roster<R: Threads + Sync, G: Gate>(
     ensures { IfOk result (IsPlanned problem.now budget) }
 {
     problem.keeps_limits();
-    let short = short_rules(alloc, problem)?;
     let turn = first_turn(problem);
     let mut reasons = reasons_of(rt, alloc, problem, turn, gate)?;
     let mut guide = PlanGuide::new(problem, turn)?;

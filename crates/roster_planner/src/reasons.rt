@@ -26,8 +26,8 @@ pub fn reasons_of<R: Threads + Sync, G: Gate>(
     gate: &G,
 ) -> Result<Reasons, AllocError>
     requires { TurnFits problem.now turn }
-    ensures serves { IfOk result (λ r. ⟦<Pair<Pair<WindowProp, DayProp>, Pair<CycleProp, RootBounds>> as Propagator>⟧.serves r problem.now) }
-    ensures reasons { IfOk result (λ r. AreReasons problem.now turn (⟦<Pair<Pair<WindowProp, DayProp>, Pair<CycleProp, RootBounds>> as Propagator>⟧.leaves r) (⟦<Pair<Pair<WindowProp, DayProp>, Pair<CycleProp, RootBounds>> as Propagator>⟧.spent r)) }
+    ensures serves { IfOk result (λ r. ⟦<Reasons as Propagator>⟧.serves r problem.now) }
+    ensures reasons { IfOk result (λ r. AreReasons problem.now turn (⟦<Reasons as Propagator>⟧.leaves r) (⟦<Reasons as Propagator>⟧.spent r)) }
 {
     problem.keeps_limits();
     let walk = Walk::new(alloc, problem, turn)?;

@@ -1,5 +1,7 @@
 -- The four as one, made with the opening domains.
-use Rattle.std.proofs.Common.{◌∙◌, sym, [], inl, inr}
+use Rattle.std.proofs.Common.{◌≡◌, ◌∙◌, sym, subst, [], inl, inr}
+use Rattle.layered_cycle.specs.Cycles.{KnownCycle}
+use Rattle.propagators.specs.Cycles.{AreShortRules}
 use Rattle.rwsp_model.proofs.Limits.{some_cells}
 use Rattle.refutation_terms.specs.declared.lines.Line.TheVariants.{Window, Day}
 use Rattle.refutation_terms.specs.Word.{AreSame}
@@ -16,7 +18,13 @@ returns-clause-reasons g c =
     let turn = c.args.turn in
     let start = c.domains-doms.result.now in
     let opened : AreSame P (has_domain start) (opening P turn) = at_first P turn [] (has_domain start) (c.domains-doms.ensures.has P turn [] c.in_ok-walk.ensures.starts) in
+    -- the rules of the cycle
+    let kept : c.cycle.inside.cycle ≡ c.in_ok-cycle.cycle = c.cycle.view_is in
+    let Kept : KnownCycle → Type 0 = λ k. AreShortRules k.problem k.rules in
+    let short : Kept c.in_ok-cycle.cycle = subst Kept kept c.cycle.invariant in
     record {
+      rules = c.in_ok-cycle.cycle.rules;
+      short = subst (λ Q. AreShortRules Q c.in_ok-cycle.cycle.rules) c.in_ok-cycle.ensures.serves short;
       plain = record {
         windows = λ S number p len fits. (c.new-8.ensures.leaves S (Window number p len)).1 (inl ((c.new-6.ensures.leaves S (Window number p len)).1 (inl (c.in_ok-windows.ensures.leaves S number p len fits))));
         days = λ S j x over fits. (c.new-8.ensures.leaves S (Day j x over)).1 (inl ((c.new-6.ensures.leaves S (Day j x over)).1 (inr (c.in_ok-days.ensures.leaves S j x over fits))));
