@@ -3,12 +3,14 @@ ghost use Rattle.std.specs.Prelude.{◌≡◌, IfOk};
 
 use domain_store::Domains;
 use refutation_terms::{Line, Turn};
+use roster_finder::find_roster;
 use roster_search::{Guide, NextSplit, chronological};
 use rwsp_model::{Problem, Roster};
 use std::alloc::{AllocError, Global};
 use std::marker::Model;
 
-/// The guide of a plan. It splits in the order of the days, from the turn on round the cycle.
+/// The guide of a plan. It looks for a roster by other means before the first split, and splits in the order of the days, from
+/// the turn on round the cycle.
 #[derive(Debug, Drop)]
 pub struct PlanGuide {
     problem: Problem,
@@ -43,8 +45,8 @@ impl Guide for PlanGuide {
         Ok(None)
     }
 
-    fn roster(&mut self, _alloc: Global, _doms: &Domains) -> Result<Option<Roster>, AllocError> {
-        Ok(None)
+    fn roster(&mut self, alloc: Global, _doms: &Domains) -> Result<Option<Roster>, AllocError> {
+        find_roster(alloc, &self.problem)
     }
 
     fn split(&mut self, doms: &Domains) -> Option<NextSplit> {
