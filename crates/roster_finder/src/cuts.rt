@@ -7,11 +7,12 @@ use std::alloc::{AllocError, Global};
 /// So many new cuts are made at most at a time.
 const MOST_CUTS: usize = 20;
 
-/// A part of the layer counts that holds so many days at least and leaves as many outside, or a week where that is longer.
+/// A part of the layer counts that holds so many days at least, or a week where that is longer, and leaves as many
+/// outside.
 const FEWEST_DAYS: usize = 7;
 
-/// The steps that leave a part of the layer, each with its weekday. A roster that has days in the part and days outside of
-/// it takes one of them at least.
+/// The steps that leave a part of the layer, each with its weekday. A roster that has days in the part and days outside
+/// of it takes one of them at least.
 #[derive(Debug, Drop, PartialEq, Eq)]
 pub(crate) struct Cut {
     steps: Vec<(usize, usize)>,

@@ -20,27 +20,31 @@ use std::mem;
 /// Rosters of fewer days are left to searches that distinguish cases.
 const FEWEST_CELLS: u32 = 14;
 
-/// At most so many windows are rewritten, and fewer in a layer of many steps: this many divided by the steps.
+/// At most so many windows are rewritten.
 const MOST_MOVES: usize = 320_000;
 
+/// Where a layer has many steps, so many divided by their number, since each move looks at each step.
 const MOST_STEP_MOVES: usize = 36_000_000;
 
-/// The same where the shares don't hang together.
+/// Where the shares don't hang together, at most so many.
 const MOST_LOOSE_MOVES: usize = 32_000;
 
-/// After so many moves new shares are made. But for the first ones, they are blurred by random numbers below the noise.
+/// After so many moves new shares are made.
 const SHARES_FOR: usize = 16_000;
 
+/// All shares but the first ones are blurred by random numbers below this.
 const SHARES_NOISE: usize = 3_000;
 
-/// After so many moves a new word is begun: the best of so many start words.
+/// After so many moves a new word is begun.
 const WORD_FOR: usize = 4_000;
 
+/// It is the best of so many start words.
 const STARTS: usize = 16;
 
-/// The first start word is led by random numbers below this, and each further one by numbers below so much more.
+/// The first start word is led also by random numbers below this.
 const FIRST_NOISE: usize = 300;
 
+/// Each further one is led by numbers below so much more.
 const MORE_NOISE: usize = 200;
 
 /// What a block too many or too few counts in the choice of start words, where a cell counts 1.

@@ -168,7 +168,7 @@ impl Mixture {
         }
     }
 
-    // What each word weighs at least that meets the demand and is led over the cuts, if it goes through all weeks so often.
+    // What each word weighs at least that meets the demand and is led over the cuts, as it goes through all weeks.
     fn wanted_weight(&self, demand: &Demand, far: i64) -> i64 {
         let mut sum: i64 = 0;
         for weekday in 0..demand.days {

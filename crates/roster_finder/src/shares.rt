@@ -30,8 +30,8 @@ pub(crate) struct Shares {
 }
 
 impl Shares {
-    /// Those of a mixture of words that meets the demand; None where no mixture does. It hangs together where one does that
-    /// is led over all cuts.
+    /// Those of a mixture of words that meets the demand; None where no mixture does. They hang together where one does
+    /// that is led over all cuts.
     pub fn of(
         alloc: Global,
         setting: &Setting,
