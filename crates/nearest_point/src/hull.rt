@@ -15,8 +15,8 @@ pub const SCALE: u32 = 1 << 20;
 /// the parts sum to `SCALE`. The box has a least and a greatest number for each coordinate.
 ///
 /// Each step moves a part from one vector to the one that lies furthest toward the box (E. Gilbert, 1966; B. Mitchell,
-/// V. Dem'yanov, V. Malozemov, 1974). With the furthest of all vectors pushed in turn, whose hull need not be written out,
-/// this finds the nearest point of that hull, or a plane between it and the box.
+/// V. Dem'yanov, V. Malozemov, 1974). With the furthest of all vectors pushed in turn, whose hull need not be written
+/// out, this finds the nearest point of that hull, or a plane between it and the box.
 #[derive(Debug, Drop)]
 pub struct Hull {
     low: Vec<i64>,

@@ -1,0 +1,5 @@
+use Rattle.refutation_terms.specs.Log.{AreWeightsOf}
+use Rattle.nearest_weights.proofs.leaf.put_day.Given as goal
+
+abbrev pub invariant-loop-number : goal.invariant-loop-number
+invariant-loop-number l = AreWeightsOf l.problem l.weights

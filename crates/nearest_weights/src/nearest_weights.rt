@@ -1,0 +1,207 @@
+// Bound leaves by nearest points.
+ghost use Rattle.std.specs.Prelude.{◌≡◌, ◌*◌, ◌≤◌, ◌<◌, length, IfOk, IfSome};
+ghost use Rattle.rwsp_terms.specs.Instance.{cells};
+ghost use Rattle.rwsp_terms.specs.Rules.{NamesShortOnly};
+ghost use Rattle.refutation_terms.specs.Log.{AreRules};
+ghost use Rattle.domain_store.specs.Store.{BelongsTo, has_domain};
+ghost use Rattle.nearest_weights.specs.Found.{HasRules};
+
+use crate::closing::found_leaf;
+use crate::demand::{Demand, Shape};
+use crate::search::{Effort, Field, Turns};
+use crate::sweep::{MOST_CHOICES, Place};
+use crate::words::{MOST_DAYS, Words};
+use domain_store::Domains;
+use refutation_terms::Line;
+use rwsp_model::{Problem, RuleList, short_rules};
+use std::alloc::{AllocError, Global};
+use std::marker::Model;
+use word_tail::TailRules;
+
+const AT_TOP: Effort = Effort {
+    rounds: 200,
+    steps: 300,
+};
+
+const WITHIN: Effort = Effort {
+    rounds: 40,
+    steps: 60,
+};
+
+// Words at the top have about so many days, since the free ends of a word weigh in once.
+const DAYS_AT_TOP: u32 = 1500;
+
+// Within a tree no leaf is looked for where a roster has more cells.
+const MOST_CELLS_WITHIN: u32 = 700;
+
+// Within a tree words begin in the middle of the decided positions, of which so many count at most.
+const MOST_DECIDED: u32 = 28;
+
+/// A search for bound leaves of a problem, with all its short rules.
+///
+/// A bound leaf of some weights says that no clean word has the demanded numbers of weeks, not even on average. Such
+/// weights are a plane between the demand and the hull of what clean words have. The search for it goes to the nearest
+/// point of that hull, which it learns word by word: the heaviest word by the present weights is one more corner, and
+/// the next weights lead from the nearest mix of the corners to the demand.
+#[derive(Debug, Drop)]
+pub struct NearestWeights {
+    problem: Problem,
+    tails: TailRules,
+    words: Option<Words>,
+    demand: Demand,
+    // The weights with which the last search at the top ended.
+    top: Vec<i64>,
+}
+
+impl Model for NearestWeights {
+    ghost use Rattle.std.specs.Prelude.{◌≡◌};
+    ghost use Rattle.nearest_weights.specs.Found.{Searcher, HasRules};
+
+    ghost Value = { Searcher };
+
+    ghost view = { λ n. record { problem = n.problem } };
+
+    ghost invariant = { λ n. HasRules n.problem n.tails };
+}
+
+impl NearestWeights {
+    ghost use Rattle.nearest_weights.specs.Found.{IsHoldingLeaf};
+
+    /// A search for the problem, of which it keeps a copy.
+    pub fn new(alloc: Global, problem: &Problem) -> Result<NearestWeights, AllocError>
+        ensures { IfOk result (λ n. n.problem ≡ problem.now) }
+    {
+        let tails = tails_of(alloc, problem)?;
+        let words = Words::of(alloc, &tails)?;
+        let demand = Demand::of(alloc, problem)?;
+        let top = vec![in alloc; 0i64; Shape::of(problem).size()]?;
+        let problem = problem.copy()?;
+        Ok(NearestWeights {
+            problem,
+            tails,
+            words,
+            demand,
+            top,
+        })
+    }
+
+    /// A bound leaf at the top of a tree, where one is found: words of many turns from position 0 on.
+    /// None says nothing. The weights are whole numbers as small as they can easily be made.
+    pub fn leaf_at_top(&mut self, alloc: Global, doms: &Domains) -> Result<Option<Line>, AllocError>
+        requires { BelongsTo self.old.problem doms.now }
+        ensures same { self.new ≡ self.old }
+        ensures leaf { IfOk result (λ found. IfSome found (IsHoldingLeaf self.old.problem (has_domain doms.now))) }
+    {
+        let Some(words) = &self.words else {
+            return Ok(None);
+        };
+        self.problem.keeps_limits();
+        let shape = Shape::of(&self.problem);
+        let most = turns_within(words, &self.problem);
+        if most == 0 {
+            return Ok(None);
+        }
+        let first = (DAYS_AT_TOP / self.problem.cells()).max(1).min(most);
+        let place = Place::of(alloc, shape, doms, 0)?;
+        let field = Field {
+            words,
+            place: &place,
+            demand: &self.demand,
+        };
+        let weights = vec![in alloc; 0i64; shape.size()]?;
+        let (line, last) = found_leaf(
+            alloc,
+            &self.problem,
+            &self.tails,
+            doms,
+            field,
+            weights,
+            Turns { first, most },
+            AT_TOP,
+        )?;
+        self.top = last;
+        Ok(line)
+    }
+
+    /// A bound leaf within a tree, where one is found: words of one turn that begin and end among the first positions,
+    /// where these are decided. The search begins with the weights with which the last one at the top ended.
+    /// None says nothing.
+    pub fn leaf_within(&mut self, alloc: Global, doms: &Domains) -> Result<Option<Line>, AllocError>
+        requires { BelongsTo self.old.problem doms.now }
+        ensures same { self.new ≡ self.old }
+        ensures leaf { IfOk result (λ found. IfSome found (IsHoldingLeaf self.old.problem (has_domain doms.now))) }
+    {
+        let Some(words) = &self.words else {
+            return Ok(None);
+        };
+        let cells = self.problem.cells();
+        if cells > MOST_CELLS_WITHIN || turns_within(words, &self.problem) == 0 {
+            return Ok(None);
+        }
+        let shape = Shape::of(&self.problem);
+        let place = Place::of(alloc, shape, doms, start_within(&self.problem, doms))?;
+        let field = Field {
+            words,
+            place: &place,
+            demand: &self.demand,
+        };
+        let weights = self.top.clone()?;
+        let (line, _) = found_leaf(
+            alloc,
+            &self.problem,
+            &self.tails,
+            doms,
+            field,
+            weights,
+            Turns { first: 1, most: 1 },
+            WITHIN,
+        )?;
+        Ok(line)
+    }
+}
+
+// Tail rules with all short rules of the problem.
+fn tails_of(alloc: Global, problem: &Problem) -> Result<TailRules, AllocError>
+    ensures { IfOk result (HasRules problem.now) }
+{
+    let rules = rules_of(alloc, problem)?;
+    TailRules::of(alloc, problem, &rules)
+}
+
+fn rules_of(alloc: Global, problem: &Problem) -> Result<RuleList, AllocError>
+    ensures rules { IfOk result (AreRules problem.now) }
+    ensures short { IfOk result (NamesShortOnly problem.now) }
+{
+    short_rules(alloc, problem)
+}
+
+// How many turns there are layers and room for.
+fn turns_within(words: &Words, problem: &Problem) -> u32
+    ensures { result * cells problem.now ≤ 16800 }
+{
+    problem.keeps_limits();
+    let room = MOST_CHOICES / words.nodes().max(1);
+    room.min(words.days()).min(MOST_DAYS) / problem.cells()
+}
+
+// In the middle of the first positions that have one symbol each, so that words from there begin and end among them.
+fn start_within(problem: &Problem, doms: &Domains) -> u32
+    requires { BelongsTo problem.now doms.now }
+    ensures { result < cells problem.now }
+{
+    problem.keeps_limits();
+    decided(doms) / 2
+}
+
+// How many positions have one symbol, counted from the first to one that has more, or up to `MOST_DECIDED`.
+fn decided(doms: &Domains) -> u32
+    ensures { result ≤ doms.now.weeks * doms.now.days }
+{
+    let most = doms.cells().min(MOST_DECIDED);
+    for p in 0..most {
+        if doms.size(p) > 1 {
+            return p;
+        }
+    }
+    most
+}

@@ -1,0 +1,153 @@
+// The search for weights by the nearest point of the counts of words to the demand.
+ghost use Rattle.std.specs.Prelude.{◌≤◌, IfOk, IfSome};
+
+use crate::demand::{Demand, times};
+use crate::sweep::{Place, Sweep};
+use crate::words::Words;
+use nearest_point::{Hull, SCALE};
+use std::alloc::{AllocError, Global};
+
+// Weights go up to this.
+pub const GREATEST: i64 = 1000;
+
+// How many words are tried, and how many steps are taken toward the demand after each.
+#[derive(Clone, Copy, Debug, Drop)]
+pub struct Effort {
+    pub rounds: u32,
+    pub steps: u32,
+}
+
+// How many turns words have at first, and at most.
+#[derive(Clone, Copy, Debug, Drop)]
+pub struct Turns {
+    pub first: u32,
+    pub most: u32,
+}
+
+// More turns are tried with the present weights once in so many rounds.
+const ROUNDS_PER_TRY: u32 = 16;
+
+// In one search no more steps of layers are looked at than this.
+const MOST_LOOKS: u64 = 100_000_000;
+
+// What a search goes over: the words, where they lie, and the demand.
+#[derive(Clone, Copy)]
+pub struct Field<'a> {
+    pub words: &'a Words,
+    pub place: &'a Place,
+    pub demand: &'a Demand,
+}
+
+impl<'a> Field<'a> {
+    // What the heaviest word of so many turns weighs. None where there is no word.
+    fn heaviest(&self, sweep: &mut Sweep, weights: &[i64], turns: u32) -> Option<i64> {
+        let days = turns.wrapping_mul(self.place.shape.cells);
+        sweep.heaviest(self.words, self.place, days, weights)
+    }
+
+    // Whether a word of so many turns weighs less than the demand asks for.
+    fn is_light(&self, word: i64, weights: &[i64], turns: u32) -> bool {
+        word < self.demand.total(weights).wrapping_mul(i64::from(turns))
+    }
+
+    // Whether there are words of so many turns, and each weighs less than the demand asks for.
+    pub fn closes(&self, sweep: &mut Sweep, weights: &[i64], turns: u32) -> bool {
+        match self.heaviest(sweep, weights, turns) {
+            Some(word) => self.is_light(word, weights, turns),
+            None => false,
+        }
+    }
+}
+
+// Looks for weights whose bound holds for so many turns or more, beginning with these weights: the turns for which it
+// does, as it seems, with the weights that are left there. Each round finds the heaviest word by the weights, and the
+// next weights lead from the nearest mix of the words so far to the demand (C. Holloway, 1974).
+pub fn search(
+    alloc: Global,
+    field: Field<'_>,
+    sweep: &mut Sweep,
+    weights: &mut Vec<i64>,
+    turns: Turns,
+    effort: Effort,
+) -> Result<Option<u32>, AllocError>
+    requires { (1 ≤ turns.first) × (turns.first ≤ turns.most) }
+    ensures { IfOk result (λ found. IfSome found (λ t. (1 ≤ t) × (t ≤ turns.most))) }
+{
+    let days = turns.first.wrapping_mul(field.place.shape.cells);
+    let low = times(alloc, &field.demand.low, turns.first)?;
+    let high = times(alloc, &field.demand.high, turns.first)?;
+    let mut hull = Hull::new(alloc, low, high)?;
+    for round in 0..rounds_within(field, days, effort) {
+        let Some(word) = field.heaviest(sweep, weights, turns.first) else {
+            return Ok(None);
+        };
+        if field.is_light(word, weights, turns.first) {
+            return Ok(Some(turns.first));
+        }
+        let counts = sweep.counts(alloc, field.words, field.place, days)?;
+        if hull.contains(&counts) {
+            return Ok(None);
+        }
+        hull.push(counts)?;
+        hull.descend(effort.steps);
+        let Some(next) = direction(alloc, hull.off())? else {
+            return Ok(None);
+        };
+        *weights = next;
+        if round % ROUNDS_PER_TRY == ROUNDS_PER_TRY - 1 {
+            let more = more_turns(field, sweep, weights, turns);
+            if more.is_some() {
+                return Ok(more);
+            }
+        }
+    }
+    Ok(None)
+}
+
+// So many rounds as look at no more steps than `MOST_LOOKS`.
+fn rounds_within(field: Field<'_>, days: u32, effort: Effort) -> u32 {
+    let looks = field.words.steps_within(days).max(1);
+    u64::from(effort.rounds).min(MOST_LOOKS / looks) as u32
+}
+
+// Four times as many turns, and so on up to the most, whose bound holds with these weights.
+fn more_turns(field: Field<'_>, sweep: &mut Sweep, weights: &[i64], turns: Turns) -> Option<u32>
+    requires { (1 ≤ turns.first) × (turns.first ≤ turns.most) }
+    ensures { IfSome result (λ t. (1 ≤ t) × (t ≤ turns.most)) }
+{
+    let mut more = turns.first;
+    for _ in 0..8 {
+        if more >= turns.most {
+            return None;
+        }
+        more = more.saturating_mul(4).min(turns.most);
+        if field.closes(sweep, weights, more) {
+            return Some(more);
+        }
+    }
+    None
+}
+
+// Weights in the direction that leads to the demand, the greatest of them `GREATEST`.
+// None where the mix is nearly there.
+fn direction(alloc: Global, off: &[i64]) -> Result<Option<Vec<i64>>, AllocError> {
+    let most = greatest(off);
+    if most < i64::from(SCALE / 256) {
+        return Ok(None);
+    }
+    let mut weights = Vec::new(alloc);
+    for x in off {
+        let weight = x.saturating_mul(GREATEST).checked_div(most).unwrap_or(0);
+        weights.push(weight)?;
+    }
+    Ok(Some(weights))
+}
+
+// The greatest without its sign.
+pub fn greatest(numbers: &[i64]) -> i64 {
+    let mut most = 0i64;
+    for x in numbers {
+        most = most.max(x.saturating_abs());
+    }
+    most
+}
