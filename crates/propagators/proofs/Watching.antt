@@ -13,7 +13,7 @@ use Rattle.domain_store.specs.Sets.{has_symbol}
 use Rattle.domain_store.specs.Store.{Store, BelongsTo, domain_at, IsStore, HasDomains}
 use Rattle.plain_leaves.proofs.Domains.{positions}
 use Rattle.propagators.specs.Looks.{Closes}
-use Rattle.propagators.specs.Windows.{IsWindowLeaf, WindowWatch, has_known, LiesOver, IsWatch, NoWindowOver}
+use Rattle.propagators.specs.Windows.{IsWindowLeaf, WindowWatch, has_known, LiesOver, IsWatch, IsSpan, NoWindowOver}
 
 -- words over domains that have all symbols of others where the words lie
 
@@ -194,3 +194,67 @@ same_once_taken sets S p long lt others =
 -- all were taken over
 pub same_all_taken : (a b : List (List ℕ)) → length a ≡ length b → ((q : ℕ) → q < length b → get_or a q [] ≡ get_or b q []) → a ≡ b
 same_all_taken a b long done = ext_get_or [] a b long (λ q less. done q (omega (arith, less, long)))
+
+-- where the positions lie that have still to be looked at
+
+false_unless : (b : Bool) → (b ≡ true → b ≡ false) → b ≡ false
+false_unless true f = f refl
+false_unless false f = refl
+
+either_true : (a b c : Bool) → c ≡ (a || b) → c ≡ true → (a ≡ true) ⊎ (b ≡ true)
+either_true true b c e h = inl refl
+either_true false b c e h = inr (sym e ∙ h)
+
+pub span_of_all : (pending : List Bool) (n : ℕ) → length pending ≡ n → IsSpan pending 0 n
+span_of_all pending n long = record {
+  inside = omega (arith, long);
+  has_all = λ q has. (omega arith, omega (arith, was_within pending q has, long));
+}
+
+pub empty_span : (pending : List Bool) (first end : ℕ) → IsSpan pending first end → ((q : ℕ) → get_or pending q false ≡ false) → IsSpan pending end end
+empty_span pending first end span none = record {
+  inside = span.inside;
+  has_all = λ q has. absurd (unlike (get_or pending q false) has (none q));
+}
+
+pub span_looked_at : (pending : List Bool) (p first end : ℕ) → IsSpan pending first end → IsSpan (set pending p false) first end
+span_looked_at pending p first end span = record {
+  inside = omega (arith, span.inside, length-set pending p false);
+  has_all = λ q has. elim (cases_eq q p) [
+    | inr other ↦ span.has_all q (sym (get_or-set_other pending p q false false other) ∙ has)
+    | inl here ↦
+        let there : get_or (set pending p false) p false ≡ true = subst (λ k. get_or (set pending p false) k false ≡ true) here has in
+        let inside : p < length pending = omega (arith, was_within (set pending p false) p there, length-set pending p false) in
+        absurd (unlike (get_or (set pending p false) p false) there (get_or-set_same pending p false false inside))
+  ];
+}
+
+pub span_widened : (pending : List Bool) (p first end from to : ℕ) (flag lost : Bool) → IsSpan pending first end → flag ≡ (get_or pending p false || lost) → p < length pending
+    → (lost ≡ true → (from ≤ p) × (p < to)) → ((q : ℕ) → first ≤ q → q < end → (from ≤ q) × (q < to)) → to ≤ length pending → IsSpan (set pending p flag) from to
+span_widened pending p first end from to flag lost span is lt here others inside = record {
+  inside = omega (arith, inside, length-set pending p flag);
+  has_all = λ q has. elim (cases_eq q p) [
+    | inr other ↦
+        let was = span.has_all q (sym (get_or-set_other pending p q flag false other) ∙ has) in
+        others q was.0 was.1
+    | inl same ↦
+        let there : get_or (set pending p flag) p false ≡ true = subst (λ k. get_or (set pending p flag) k false ≡ true) same has in
+        let flagged : flag ≡ true = sym (get_or-set_same pending p flag false lt) ∙ there in
+        subst (λ k. (from ≤ k) × (k < to)) (sym same) (elim (either_true (get_or pending p false) lost flag is flagged) [
+          | inl before ↦ let was = span.has_all p before in others p was.0 was.1
+          | inr now ↦ here now
+        ])
+  ];
+}
+
+-- no more of the positions before p have to be looked at
+pub seen_more : (old new : List Bool) (first p : ℕ) → ((q : ℕ) → get_or new q false ≡ true → get_or old q false ≡ true) → get_or new p false ≡ false
+    → ((q : ℕ) → first ≤ q → q < p → get_or old q false ≡ false) → (q : ℕ) → first ≤ q → q < p + 1 → get_or new q false ≡ false
+seen_more old new first p fewer here seen q from less = elim (cases_eq q p) [
+  | inl same ↦ subst (λ k. get_or new k false ≡ false) (sym same) here
+  | inr other ↦ false_unless (get_or new q false) (λ h. absurd (unlike (get_or old q false) (fewer q h) (seen q from (omega (arith, other, less)))))
+]
+
+pub none_within : (pending : List Bool) (first end p : ℕ) → end ≤ p → ((q : ℕ) → first ≤ q → q < p → get_or pending q false ≡ false)
+    → ((q : ℕ) → get_or pending q false ≡ true → (first ≤ q) × (q < end)) → (q : ℕ) → get_or pending q false ≡ false
+none_within pending first end p le seen kept q = false_unless (get_or pending q false) (λ h. seen q (kept q h).0 (omega (arith, (kept q h).1, le)))

@@ -42,6 +42,11 @@ pub record IsWatch (w : WindowWatch) : Type 0 where
   pub awaited : (number p len : ℕ) → LineFits w.problem (Window number p len) → IsBlocked w.problem (has_known w.sets) number p len
       → (q : ℕ) × (slice_index_or w.pending q false ≡ true) × LiesOver w.problem p len q
 
+-- the positions that have still to be looked at come from the first on and before the end
+pub record IsSpan (pending : List Bool) (first end : ℕ) : Type 0 where
+  pub inside : end ≤ length pending
+  pub has_all : (q : ℕ) → slice_index_or pending q false ≡ true → (first ≤ q) × (q < end)
+
 -- a window leaf that holds
 pub record IsWindow (P : Instance) (S : Store) (number p len : ℕ) : Type 0 where
   pub fits : LineFits P (Window number p len)

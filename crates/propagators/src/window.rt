@@ -7,7 +7,7 @@ ghost use Rattle.refutation_terms.specs.declared.lines.Line.TheVariants.{Window}
 ghost use Rattle.refutation_terms.specs.Log.{LineFits};
 ghost use Rattle.domain_store.specs.Sets.{has_symbol};
 ghost use Rattle.domain_store.specs.Store.{Store, BelongsTo, domain_at};
-ghost use Rattle.propagators.specs.Windows.{IsWindowLeaf, IsWatch, IsWindow};
+ghost use Rattle.propagators.specs.Windows.{IsWindowLeaf, IsWatch, IsSpan, IsWindow};
 
 use crate::window_over::{WindowLeaf, window_over};
 use crate::{Look, Propagator};
@@ -21,12 +21,16 @@ use std::marker::Model;
 ///
 /// It keeps the domains that it tracks, and which positions it has still to look at: those that lost a symbol since a look
 /// found nothing there. A look goes over the windows of these positions alone, at a cost of a few steps for each rule and
-/// each day of its bound; what an undoing gives back costs nothing at the next look.
+/// each day of its bound, and of one for each position between two of them; what an undoing gives back costs nothing at the
+/// next look.
 #[derive(Debug, Drop)]
 pub struct WindowProp {
     problem: Problem,
     sets: Vec<SymbolSet>,
     pending: Vec<bool>,
+    // all pending positions come from the first on and before the end
+    first: u32,
+    end: u32,
 }
 
 impl Model for WindowProp {
@@ -34,11 +38,11 @@ impl Model for WindowProp {
 
     ghost Value = { WindowWatch };
 
-    ghost use Rattle.propagators.specs.Windows.{IsWatch};
+    ghost use Rattle.propagators.specs.Windows.{IsWatch, IsSpan};
 
     ghost view = { λ w. record { problem = w.problem; sets = w.sets.items; pending = w.pending.items } };
 
-    ghost invariant = { λ w. IsWatch (record { problem = w.problem; sets = w.sets.items; pending = w.pending.items }) };
+    ghost invariant = { λ w. IsWatch (record { problem = w.problem; sets = w.sets.items; pending = w.pending.items }) × IsSpan w.pending.items w.first w.end };
 }
 
 impl WindowProp {
@@ -52,13 +56,15 @@ impl WindowProp {
         ensures none_spent { IfOk result (λ w. (S : Store) (p : ℕ) (x : Symbol) → ⟦<WindowProp as Propagator>⟧.spent w S p x → ⊥) }
     {
         doms.facts();
-        let cells = problem.cells() as usize;
+        let cells = problem.cells();
         let sets = copied_sets(alloc, doms)?;
-        let pending = vec![in alloc; true; cells]?;
+        let pending = vec![in alloc; true; cells as usize]?;
         Ok(WindowProp {
             problem: problem.copy()?,
             sets,
             pending,
+            first: 0,
+            end: cells,
         })
     }
 
@@ -69,11 +75,37 @@ impl WindowProp {
         let _ = &self.sets;
     }
 
-    fn cells(&self) -> u32
-        ensures value { result ≡ cells self.now.problem }
-        ensures few { result ≤ 4200 }
+    // Where the positions are that have still to be looked at: from the first number on, and before the second.
+    fn span(&self) -> (u32, u32)
+        ensures { IsSpan self.now.pending result.0 result.1 }
     {
-        self.problem.cells()
+        (self.first, self.end)
+    }
+
+    // Takes in that no position has to be looked at.
+    fn empty_span(&mut self)
+        requires { (q : ℕ) → slice_index_or self.old.pending q false ≡ false }
+        ensures { self.new ≡ self.old }
+    {
+        self.first = self.end;
+    }
+
+    // A window leaf that holds, if one of these positions has still to be looked at; otherwise none has any longer.
+    fn look_within(&mut self, doms: &Domains, first: u32, end: u32) -> Option<WindowLeaf>
+        requires domains { BelongsTo self.old.problem doms.now }
+        requires tracked { self.old.sets ≡ doms.now.sets }
+        requires span { IsSpan self.old.pending first end }
+        ensures problem { self.new.problem ≡ self.old.problem }
+        ensures sets { self.new.sets ≡ self.old.sets }
+        ensures seen { MatchOption result ((q : ℕ) → slice_index_or self.new.pending q false ≡ false) (λ leaf. IsWindow self.old.problem doms.now leaf.rule leaf.p leaf.len) }
+    {
+        self.facts();
+        for p in first..end {
+            if let Some(leaf) = self.look_at(doms, p) {
+                return Some(leaf);
+            }
+        }
+        None
     }
 
     // A window leaf that holds, if the position has still to be looked at; otherwise it has no longer.
@@ -122,14 +154,18 @@ impl WindowProp {
     // Gives the position another domain. Where that lacks a symbol, the position has to be looked at.
     fn put(&mut self, p: u32, set: SymbolSet)
         requires position { p < length self.old.sets }
+        requires few { p < 4200 }
         requires small { (x : ℕ) → has_symbol set x ≡ true → x ≤ 8 }
         ensures problem { self.new.problem ≡ self.old.problem }
         ensures sets { self.new.sets ≡ slice_set self.old.sets p set }
     {
         let is_lost = !is_part(&self.sets[p as usize], &set);
         let was_pending = self.pending[p as usize];
+        let (first, end) = widened(self.first, self.end, p, is_lost);
         self.pending[p as usize] = was_pending | is_lost;
         self.sets[p as usize] = set;
+        self.first = first;
+        self.end = end;
     }
 }
 
@@ -145,11 +181,11 @@ impl Propagator for WindowProp {
     fn prove_spent(&self) {}
 
     fn look(&mut self, _alloc: Global, doms: &Domains) -> Result<Look, AllocError> {
-        for p in 0..self.cells() {
-            if let Some(leaf) = self.look_at(doms, p) {
-                return Ok(Look::Closed(leaf.line()));
-            }
+        let (first, end) = self.span();
+        if let Some(leaf) = self.look_within(doms, first, end) {
+            return Ok(Look::Closed(leaf.line()));
         }
+        self.empty_span();
         self.facts();
         Ok(Look::Quiet)
     }
@@ -167,6 +203,22 @@ impl Propagator for WindowProp {
             self.take_over(doms, p);
         }
     }
+}
+
+// The span from `first` to `end`, so far as it has to go to take in the position.
+fn widened(first: u32, end: u32, p: u32, takes_in: bool) -> (u32, u32)
+    requires { p < 4200 }
+    ensures position { takes_in ≡ true → (result.0 ≤ p) × (p < result.1) }
+    ensures others { (q : ℕ) → first ≤ q → q < end → (result.0 ≤ q) × (q < result.1) }
+    ensures within { (n : ℕ) → end ≤ n → p < n → result.1 ≤ n }
+{
+    if !takes_in {
+        return (first, end);
+    }
+    if first >= end {
+        return (p, p + 1);
+    }
+    (first.min(p), end.max(p + 1))
 }
 
 // Whether the second set has all symbols of the first.

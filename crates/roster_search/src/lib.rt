@@ -13,6 +13,8 @@ mod progress;
 mod searching;
 mod sight;
 mod step;
+#[cfg(test)]
+mod tests;
 
 pub use choice::NextSplit;
 pub use found::Found;

@@ -1,8 +1,8 @@
 -- No position has still to be looked at.
-use Rattle.std.proofs.Common.{◌≡◌, ◌<◌, subst, arith}
-use Rattle.rwsp_terms.specs.Instance.{Instance, cells}
+use Rattle.std.proofs.Common.{◌≡◌, ◌∙◌, ap, subst, get_or, false}
+use Rattle.rwsp_terms.specs.Instance.{Instance}
 use Rattle.propagators.specs.Looks.{Closes}
-use Rattle.propagators.specs.Windows.{IsWindowLeaf}
+use Rattle.propagators.specs.Windows.{IsWindowLeaf, WindowWatch}
 use Rattle.propagators.proofs.Watching.{none_awaited}
 use Rattle.propagators.proofs.window.WindowPropPropagator.look.Goals as goal
 
@@ -10,11 +10,11 @@ pub returns-clause-look : goal.returns-clause-look
 returns-clause-look c P serves =
     let S = c.args.doms.now in
     let kept = c.args.self.now.problem in
-    let w = c.loop-p.self in
-    let same : c.loop-p.self.problem ≡ c.args.self.now.problem = c.loop-p.invariant.problem in
-    let none = none_awaited c.loop-p.self S c.facts.ensures c.loop-p.invariant.sets (λ q less.
-    let within : q < cells c.args.self.now.problem = subst (λ p. q < cells p) same less in
-    c.loop-p.invariant.seen q (omega (arith, within, c.cells-p-end.ensures.value, c.loop-p-test.false))) in
+    let w = c.empty_span.new.self in
+    let same : w ≡ c.look_within.new.self = c.empty_span.ensures in
+    let problem : w.problem ≡ kept = ap (λ (v : WindowWatch). v.problem) same ∙ c.look_within.ensures.problem in
+    let sets : w.sets ≡ S.sets = ap (λ (v : WindowWatch). v.sets) same ∙ c.look_within.ensures.sets ∙ c.requires.tracked in
+    let none = none_awaited w S c.facts.ensures sets (λ q less. ap (λ (v : WindowWatch). get_or v.pending q false) same ∙ c.in_default.ensures.seen q) in
     let IsQuiet : Instance → Type 0 = λ p. Closes p (IsWindowLeaf p) S → ⊥ in
     let IsQuietFor : Instance → Type 0 = λ p. Closes p (IsWindowLeaf kept) S → ⊥ in
-    (subst IsQuietFor serves (subst IsQuiet same none), λ q x spent. spent)
+    (subst IsQuietFor serves (subst IsQuiet problem none), λ q x spent. spent)
