@@ -199,8 +199,13 @@ no_look w S limits is none = λ line bound holds.
 
 -- a bound under the same domains
 pub same_top : (P : Instance) (D E : Domains) (line : Line) → 0 < cells P → AreSame P D E → IsTopBound P D line → IsTopBound P E line
-same_top P D E (Bound p turns R y) some same h = (h.0, h.1, h.2, elim h.3 [
-  | inl plain ↦ inl plain
-  | inr found ↦ inr (found.0, found.1, same_searched P D E R found.0 y some same found.2)
-])
+same_top P D E (Bound p turns R y) some same h = (
+  h.0,
+  h.1,
+  h.2,
+  elim h.3 [
+    | inl plain ↦ inl plain
+    | inr found ↦ inr (found.0, found.1, same_searched P D E R found.0 y some same found.2)
+  ],
+)
 same_top P D E line some same h = absurd h
