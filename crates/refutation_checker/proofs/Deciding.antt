@@ -1,5 +1,5 @@
 -- A line that fits the problem stands, or has a cause: it can't be without both.
-use Rattle.std.proofs.Common.{◌≡◌, ◌≢◌, ◌⊎◌, ◌==◌, ◌&&◌, ℕ, zero, suc, ◌+◌, ◌*◌, ◌%◌, ◌<◌, ◌≤◌, List, [], ◌∷◌, length, refl, ap, sym, ◌∙◌, subst, arith, inl, inr, Bool, true, false, Some, pos, negsuc, ℤ}
+use Rattle.std.proofs.Common.{◌≡◌, ◌≢◌, ◌⊎◌, ◌==◌, ◌&&◌, ℕ, zero, suc, ◌+◌, ◌*◌, ◌%◌, ◌<◌, ◌≤◌, List, [], ◌∷◌, length, refl, ap, sym, ◌∙◌, subst, arith, inl, inr, Some, pos, negsuc, ℤ}
 use Rattle.std.specs.Prelude.{Contains, ◌≤ℤ◌, ◌<ℤ◌, ◌+ℤ◌, ◌*ℤ◌}
 use Rattle.std.specs.List.{AllByRecursion}
 use Rattle.std.proofs.lemmas.Bool.{cases_lt, cases_Bool, eqb-true, eqb-false}
@@ -24,7 +24,7 @@ use Rattle.refutation_terms.specs.declared.lines.LogRefusal.TheVariants as Refus
 use Rattle.refutation_terms.specs.Word.{Domains, weight, total}
 use Rattle.refutation_terms.specs.Leaf.{IsTooLight}
 use Rattle.refutation_terms.specs.Tree.{is_idle}
-use Rattle.refutation_terms.specs.Log.{LineFits, Cites, CitesOnlyNamed, Holds, HasWeight, ListsShortOnly}
+use Rattle.refutation_terms.specs.Log.{LineFits, Cites, CitesOnlyNamed, Holds, ListsShortOnly}
 use Rattle.refutation_terms.specs.Escape.{ComesFirst, IsCleanOver, IsHeaviest, IsLeastHeaviest}
 use Rattle.refutation_terms.specs.Verdict.{IsLeast, IsUnnamed, IsLongIn, ListsLong}
 use Rattle.refutation_terms.proofs.Named.{named-IsRule}

@@ -1,14 +1,13 @@
 -- No text is without a verdict.
-use Rattle.std.proofs.Common.{◌≡◌, ◌≢◌, ◌⊎◌, ℕ, zero, suc, ◌+◌, ◌<◌, ◌≤◌, List, [], ◌∷◌, ◌++◌, length, refl, ap, sym, ◌∙◌, subst, append_assoc, arith, inl, inr, Bool, true, false, Option, Some, None, pos, negsuc, ℤ, ◌==◌}
+use Rattle.std.proofs.Common.{◌≡◌, ◌≢◌, ◌⊎◌, ℕ, zero, suc, ◌+◌, ◌<◌, List, [], ◌∷◌, ◌++◌, length, refl, ap, sym, ◌∙◌, subst, append_assoc, arith, inl, inr, Bool, true, false, Option, Some, None, pos, negsuc, ℤ, ◌==◌}
 use Rattle.std.specs.Prelude.{Ok, Err, Result, ◌≤ℤ◌, ◌<ℤ◌}
 use Rattle.std.proofs.lemmas.Bool.{cases_Bool, eqb-true, eqb-false}
 use Rattle.std.proofs.lemmas.Int.{ints}
 use Rattle.std.proofs.lemmas.List.{append-nil}
 use Rattle.std.proofs.lemmas.List.Elements.{All-cons, All-nil}
 use Rattle.rwsp_terms.specs.declared.data.Symbol.{Symbol}
-use Rattle.rwsp_terms.specs.declared.data.Rule.{Rule}
 use Rattle.rwsp_terms.specs.declared.data.Rule.TheVariants as TheRules
-use Rattle.rwsp_terms.specs.Instance.{Instance, least, IsDay, symbol_of, name_of}
+use Rattle.rwsp_terms.specs.Instance.{Instance, least, symbol_of, name_of}
 use Rattle.rwsp_terms.specs.Rules.{Names}
 use Rattle.refutation_terms.specs.declared.lines.Line.{Line}
 use Rattle.refutation_terms.specs.declared.lines.Turn.{Turn}
@@ -16,8 +15,8 @@ use Rattle.refutation_terms.specs.declared.lines.LogRefusal.{LogRefusal}
 use Rattle.refutation_terms.specs.declared.lines.LogRefusal.TheVariants as Refusals
 use Rattle.refutation_terms.specs.Tree.{IsTree, domains_at}
 use Rattle.refutation_terms.specs.Log.{Log, AreRules}
-use Rattle.refutation_terms.specs.LogText.{RawLine, IsWritten, line_of, raw, line_text, version_text, rules_text, turn_text, header_text}
-use Rattle.refutation_terms.specs.Verdict.{Start, Versioned, BeforeTurn, Reading, header_lines, Cause, TreeCause, Spells, SpellsTurn, IsUnnamed, HasNoFeed, IsNextLine, IsVerdict}
+use Rattle.refutation_terms.specs.LogText.{RawLine, IsWritten, line_of, raw, line_text, version_text, rules_text, turn_text}
+use Rattle.refutation_terms.specs.Verdict.{Start, Versioned, BeforeTurn, Reading, header_lines, Cause, Spells, SpellsTurn, IsUnnamed, IsNextLine, IsVerdict}
 use Rattle.refutation_terms.proofs.Spelled.{spelled_lines_fit, symbol_of-name}
 use Rattle.refutation_log.specs.Printing.{lines_text}
 use Rattle.refutation_log.specs.ReadLog.{log_with}

@@ -1,8 +1,6 @@
 -- What can be judged of a line without searching for a word.
 use Rattle.std.specs.Prelude.{◌≡◌, ℕ, List, true}
-use Rattle.rwsp_terms.specs.declared.data.Rule.{Rule}
 use Rattle.rwsp_terms.specs.Instance.{Instance}
-use Rattle.rwsp_terms.specs.Rules.{Names}
 use Rattle.refutation_terms.specs.declared.lines.Line.{Line}
 use Rattle.refutation_terms.specs.declared.lines.Line.TheVariants.{Split, Dead, Bound, Unfinished}
 use Rattle.refutation_terms.specs.declared.lines.LogRefusal.{LogRefusal}
