@@ -3,4 +3,3 @@ pub mod Grown
 pub mod WordGraph
 pub mod Choices
 pub mod Best
-pub mod Cycles

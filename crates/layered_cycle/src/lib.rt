@@ -4,7 +4,6 @@
 mod best;
 mod choice;
 mod cut;
-mod cycle;
 mod graph;
 mod growth;
 mod layers;
@@ -15,6 +14,5 @@ mod tests;
 
 pub use best::{Gain, HeavyWord, best_word};
 pub use cut::{Cut, escape};
-pub use cycle::Cycle;
 pub use layers::Layers;
 pub use step::{Layer, Step};

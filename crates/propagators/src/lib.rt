@@ -1,7 +1,6 @@
 //! Propagators: they see whether domains are closed by a leaf, and which symbols a leaf takes away.
 #![tactic(auto)]
 
-mod cycle;
 mod day;
 mod day_cut;
 mod look;
@@ -14,7 +13,6 @@ mod tests;
 mod window;
 mod window_over;
 
-pub use cycle::CycleProp;
 pub use day::DayProp;
 pub use look::Look;
 pub use pair::Pair;

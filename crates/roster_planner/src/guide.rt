@@ -1,7 +1,10 @@
 // What a plan gives its search from outside.
 ghost use Rattle.std.specs.Prelude.{◌≡◌, IfOk};
+ghost use Rattle.domain_store.specs.Store.{BelongsTo};
+ghost use Rattle.roster_search.specs.Guides.{IsLeafGiven};
 
 use domain_store::Domains;
+use nearest_weights::NearestWeights;
 use refutation_terms::{Line, Turn};
 use roster_finder::find_roster;
 use roster_search::{Guide, NextSplit, chronological};
@@ -9,11 +12,14 @@ use rwsp_model::{Problem, Roster};
 use std::alloc::{AllocError, Global};
 use std::marker::Model;
 
-/// The guide of a plan. It looks for a roster by other means before the first split, and splits in the order of the days, from
-/// the turn on round the cycle.
+/// The guide of a plan. It closes cases by weights, looks for a roster by other means before the first split, and splits in the
+/// order of the days, from the turn on round the cycle.
 #[derive(Debug, Drop)]
 pub struct PlanGuide {
     problem: Problem,
+    weights: NearestWeights,
+    // Whether a leaf was asked for at the top, where words of many turns may be weighed.
+    has_begun: bool,
     // the position of the turn
     first: u32,
 }
@@ -23,16 +29,27 @@ impl Model for PlanGuide {
 
     ghost Value = { Instance };
 
+    ghost use Rattle.std.specs.Prelude.{◌≡◌};
+
     ghost view = { λ g. g.problem };
+
+    ghost invariant = { λ g. g.weights.problem ≡ g.problem };
 }
 
 impl PlanGuide {
     /// A guide for the problem, where the search begins with the turn.
-    pub fn new(problem: &Problem, turn: Option<Turn>) -> Result<PlanGuide, AllocError>
+    pub fn new(
+        alloc: Global,
+        problem: &Problem,
+        turn: Option<Turn>,
+    ) -> Result<PlanGuide, AllocError>
         ensures { IfOk result (λ g. ⟦<PlanGuide as Guide>⟧.serves g problem.now) }
     {
+        let weights = NearestWeights::new(alloc, problem)?;
         Ok(PlanGuide {
             problem: problem.copy()?,
+            weights,
+            has_begun: false,
             first: position_of(turn),
         })
     }
@@ -41,8 +58,10 @@ impl PlanGuide {
 impl Guide for PlanGuide {
     ghost serves = { λ g P. g ≡ P };
 
-    fn leaf(&mut self, _alloc: Global, _doms: &Domains) -> Result<Option<Line>, AllocError> {
-        Ok(None)
+    fn leaf(&mut self, alloc: Global, doms: &Domains) -> Result<Option<Line>, AllocError> {
+        let is_within = self.has_begun;
+        self.has_begun = true;
+        leaf_by_weights(alloc, &mut self.weights, doms, is_within)
     }
 
     fn roster(&mut self, alloc: Global, _doms: &Domains) -> Result<Option<Roster>, AllocError> {
@@ -51,6 +70,25 @@ impl Guide for PlanGuide {
 
     fn split(&mut self, doms: &Domains) -> Option<NextSplit> {
         chronological(&self.problem, doms, self.first)
+    }
+}
+
+// A leaf of weights, within the tree or at its top.
+#[tactic(auto, using(crate::proofs::Given::given_of_holding))]
+fn leaf_by_weights(
+    alloc: Global,
+    weights: &mut NearestWeights,
+    doms: &Domains,
+    is_within: bool,
+) -> Result<Option<Line>, AllocError>
+    requires { BelongsTo weights.old.problem doms.now }
+    ensures same { weights.new ≡ weights.old }
+    ensures leaf { IfOk result (IsLeafGiven weights.old.problem doms.now) }
+{
+    if is_within {
+        weights.leaf_within(alloc, doms)
+    } else {
+        weights.leaf_at_top(alloc, doms)
     }
 }
 

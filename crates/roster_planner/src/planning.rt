@@ -29,6 +29,6 @@ pub fn plan_roster<R: Threads + Sync, G: Gate>(
     problem.keeps_limits();
     let turn = first_turn(problem);
     let mut reasons = reasons_of(rt, alloc, problem, turn, gate)?;
-    let mut guide = PlanGuide::new(problem, turn)?;
+    let mut guide = PlanGuide::new(alloc, problem, turn)?;
     guided_search(alloc, problem, turn, &mut reasons, &mut guide, budget)
 }

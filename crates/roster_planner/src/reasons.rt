@@ -3,8 +3,9 @@ ghost use Rattle.std.specs.Prelude.{IfOk};
 ghost use Rattle.refutation_terms.specs.Log.{TurnFits};
 ghost use Rattle.roster_planner.specs.Reasons.{AreReasons};
 
+use kept_cycle::CycleProp;
 use potential_bounds::Gate;
-use propagators::{CycleProp, DayProp, Pair, Propagator, RootBounds, WindowProp};
+use propagators::{DayProp, Pair, Propagator, RootBounds, WindowProp};
 use refutation_terms::Turn;
 use rwsp_model::Problem;
 use std::alloc::{AllocError, Global};

@@ -1,6 +1,6 @@
 -- The four as one, made with the opening domains.
 use Rattle.std.proofs.Common.{◌≡◌, ◌∙◌, sym, subst, [], inl, inr}
-use Rattle.layered_cycle.specs.Cycles.{KnownCycle}
+use Rattle.kept_cycle.specs.Known.{KnownCycle}
 use Rattle.propagators.specs.Cycles.{AreShortRules}
 use Rattle.rwsp_model.proofs.Limits.{some_cells}
 use Rattle.refutation_terms.specs.declared.lines.Line.TheVariants.{Window, Day}

@@ -3,12 +3,12 @@ ghost use Rattle.std.specs.Prelude.{◌≡◌, ℕ, ◌↔◌, IfOk};
 ghost use Rattle.rwsp_terms.specs.declared.data.Symbol.{Symbol};
 ghost use Rattle.refutation_terms.specs.declared.lines.Line.{Line};
 ghost use Rattle.domain_store.specs.Store.{Store, BelongsTo, has_domain};
-ghost use Rattle.layered_cycle.specs.Cycles.{StandsFor};
+ghost use Rattle.kept_cycle.specs.Known.{StandsFor};
 ghost use Rattle.propagators.specs.Cycles.{IsCycleLeaf, IsCycleSpent};
 
-use crate::{Look, Propagator};
+use crate::Cycle;
 use domain_store::Domains;
-use layered_cycle::Cycle;
+use propagators::{Look, Propagator};
 use rwsp_model::{Problem, short_rules};
 use std::alloc::{AllocError, Global};
 use std::marker::Model;
@@ -22,7 +22,7 @@ pub struct CycleProp {
 }
 
 impl Model for CycleProp {
-    ghost use Rattle.layered_cycle.specs.Cycles.{KnownCycle};
+    ghost use Rattle.kept_cycle.specs.Known.{KnownCycle};
 
     ghost Value = { KnownCycle };
 

@@ -1,0 +1,4 @@
+mod Marking
+mod Mending
+mod TwoTurns
+mod Turning

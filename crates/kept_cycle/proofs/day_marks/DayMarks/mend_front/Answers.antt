@@ -1,0 +1,30 @@
+-- One day more is mended, and where its marks stay, all are.
+use Rattle.std.proofs.Common.{◌<◌, ◌+◌, ◌≡◌, length, arith, ap, rules}
+use Rattle.kept_cycle.proofs.Mending.{front_step_read, front_more, front_stays, fits_here}
+use Rattle.kept_cycle.proofs.day_marks.DayMarks.mend_front.Goals as goal
+
+pub go_on-requires-clause-wide : goal.go_on-requires-clause-wide
+go_on-requires-clause-wide c =
+    let within : c.loop-i.i < length c.args.layers.now = search rules in
+    fits_here c.args.layers.now c.args.self.now c.loop-i.self c.loop-i.i c.index-layers-i.result within c.index-layers-i.is c.requires.wide c.loop-i.invariant.wide
+
+pub returns-then-not-go_on-clause-wide : goal.returns-then-not-go_on-clause-wide
+returns-then-not-go_on-clause-wide c = λ width w. c.go_on.ensures.wide width (c.loop-i.invariant.wide width w)
+
+pub returns-then-not-go_on-clause-steps : goal.returns-then-not-go_on-clause-steps
+returns-then-not-go_on-clause-steps c =
+    let layers = c.args.layers.now in
+    let sets = c.args.sets.now in
+    let within : c.loop-i.i < length c.args.layers.now = search rules in
+    front_stays layers sets c.args.day c.args.self.now c.loop-i.self c.go_on.new.self c.loop-i.i c.loop-i.invariant
+    (front_step_read layers sets c.go_on.new.self c.loop-i.i c.index-layers-i.result c.index-sets-i.result within c.index-layers-i.is c.requires.some c.index-sets-i.is c.go_on.ensures.step)
+    (c.go_on.ensures.unchanged c.if-not-go_on.true)
+
+pub loop-i-preserved : goal.loop-i-preserved
+loop-i-preserved c =
+    let layers = c.args.layers.now in
+    let sets = c.args.sets.now in
+    let within : c.loop-i.i < length c.args.layers.now = search rules in
+    front_more layers sets c.args.day c.args.self.now c.loop-i.self c.go_on.new.self c.loop-i.i c.loop-i.invariant
+    (front_step_read layers sets c.go_on.new.self c.loop-i.i c.index-layers-i.result c.index-sets-i.result within c.index-layers-i.is c.requires.some c.index-sets-i.is c.go_on.ensures.step)
+    c.go_on.ensures.others c.go_on.ensures.long c.go_on.ensures.wide

@@ -1,0 +1,221 @@
+// Layers that are made once and kept while domains change.
+ghost use Rattle.std.specs.Prelude.{◌≡◌, ◌↔◌, ℕ, ◌*◌, ◌<◌, ◌≤◌, [], false, length, replicate, slice_index, slice_index_or, slice_set, IfOk, IsTrue};
+ghost use Rattle.rwsp_terms.specs.Instance.{cells, shift_count};
+ghost use Rattle.refutation_terms.specs.Leaf.{IsDead};
+ghost use Rattle.refutation_terms.specs.Sharp.{NoWordHas};
+ghost use Rattle.domain_store.specs.Sets.{has_symbol};
+ghost use Rattle.domain_store.specs.Store.{BelongsTo, domain_at};
+ghost use Rattle.kept_cycle.specs.KeptCycle.{HasLayers, HasJoiningStep};
+
+use crate::day_marks::DayMarks;
+use crate::marks::Marks;
+use domain_store::{Domains, SymbolSet};
+use layered_cycle::{Layers, Step};
+use rwsp_terms::Symbol;
+use std::alloc::{AllocError, Global};
+use std::marker::Model;
+use word_tail::TailRules;
+
+/// The clean words of two turns round the cycle, from position 0 on, over domains that change.
+///
+/// The layers of all clean words are made once. What is kept beside them for each day, and changes with the domains, is
+/// which nodes are reached over them from the front, and from which nodes they lead to the end.
+#[derive(Debug, Drop)]
+pub struct Cycle {
+    tails: TailRules,
+    layers: Layers,
+    width: u32,
+    sets: Vec<SymbolSet>,
+    front: DayMarks,
+    back: DayMarks,
+}
+
+impl Model for Cycle {
+    ghost use Rattle.kept_cycle.specs.Known.{KnownCycle};
+
+    ghost Value = { KnownCycle };
+
+    ghost use Rattle.kept_cycle.specs.KeptCycle.{IsCycle};
+
+    ghost view = { λ c. record { problem = c.tails.problem; rules = c.tails.rules; sets = c.sets.items } };
+
+    ghost invariant = { λ c. IsCycle c.tails c.layers.layers c.sets.items c.front c.back c.width };
+}
+
+impl Cycle {
+    ghost use Rattle.kept_cycle.specs.Known.{StandsFor, DiffersAtMostAt, has_known};
+
+    /// A cycle that stands for the domains. Takes all memory that it will ever need; there is too little where the layers
+    /// would pass the limit of their room.
+    pub fn new(alloc: Global, tails: TailRules, doms: &Domains) -> Result<Cycle, AllocError>
+        requires { BelongsTo tails.problem doms.now }
+        ensures problem { IfOk result (λ C. C.problem ≡ tails.problem) }
+        ensures rules { IfOk result (λ C. C.rules ≡ tails.rules) }
+        ensures stands { IfOk result (λ C. StandsFor C doms.now) }
+    {
+        let full = Domains::new(alloc, tails.problem())?;
+        let days = 2 * tails.problem().cells();
+        let layers = Layers::of(alloc, &tails, &full, 0, days)?;
+        let width = greatest(layers.node_counts());
+        let mut cycle = Cycle::of_empty_sets(alloc, tails, layers, width)?;
+        cycle.undo_to(doms);
+        Ok(cycle)
+    }
+
+    /// Whether no word of two turns over the domains is clean.
+    pub fn is_dead(&self) -> bool
+        ensures { IsTrue result ↔ IsDead self.now.problem (has_known self.now) 0 (2 * cells self.now.problem) self.now.rules }
+    {
+        !self.back.row(0).has(0)
+    }
+
+    /// Whether some clean word of two turns over the domains has the symbol at the position, in its first turn.
+    pub fn supported(&self, p: u32, x: Symbol) -> bool
+        requires { p < cells self.now.problem }
+        ensures { (result ≡ false) ↔ NoWordHas self.now.problem (has_known self.now) self.now.rules p x }
+    {
+        let steps = self.layers.layers()[p as usize].steps();
+        let before = self.front.row(p as usize);
+        let behind = self.back.row(p as usize + 1);
+        self.sets[p as usize].has(x.number) && has_joining_step(steps, x, before, behind)
+    }
+
+    /// Stands for the present domains, which differ at one position at most. Takes no memory.
+    pub fn narrowed(&mut self, doms: &Domains, p: u32)
+        requires position { p < length doms.now.sets }
+        requires differs { DiffersAtMostAt self.old doms.now p }
+        ensures problem { self.new.problem ≡ self.old.problem }
+        ensures rules { self.new.rules ≡ self.old.rules }
+        ensures stands { StandsFor self.new doms.now }
+    {
+        self.facts();
+        doms.facts();
+        self.take_over(doms, p);
+    }
+
+    /// Stands for the present domains, whichever domains of the same problem it stood for before. Takes no memory.
+    pub fn undo_to(&mut self, doms: &Domains)
+        requires { BelongsTo self.old.problem doms.now }
+        ensures problem { self.new.problem ≡ self.old.problem }
+        ensures rules { self.new.rules ≡ self.old.rules }
+        ensures stands { StandsFor self.new doms.now }
+    {
+        self.facts();
+        doms.facts();
+        for p in 0..doms.cells() {
+            self.take_over(doms, p);
+        }
+    }
+
+    // What is so of all cycles.
+    fn facts(&self)
+        ensures long { length self.now.sets ≡ cells self.now.problem }
+        ensures few { cells self.now.problem ≤ 4200 }
+    {
+        let _ = &self.sets;
+    }
+
+    // Gives the position the domain that it has among these. Where it has it already, no mark changes.
+    fn take_over(&mut self, doms: &Domains, p: u32)
+        requires belongs { BelongsTo self.old.problem doms.now }
+        requires kept { p < length self.old.sets }
+        requires position { p < length doms.now.sets }
+        ensures problem { self.new.problem ≡ self.old.problem }
+        ensures rules { self.new.rules ≡ self.old.rules }
+        ensures sets { self.new.sets ≡ slice_set self.old.sets p (domain_at doms.now p) }
+    {
+        doms.facts();
+        let set = doms.set(p);
+        if !self.has_set(p, set) {
+            self.put(p, set.copy());
+        }
+    }
+
+    // Whether the position has the domain.
+    fn has_set(&self, p: u32, set: &SymbolSet) -> bool
+        requires { p < length self.now.sets }
+        ensures { IsTrue result ↔ (slice_index_or self.now.sets p [] ≡ set.now) }
+    {
+        let kept = &self.sets[p as usize];
+        kept.is_same(set)
+    }
+
+    // Gives the position another domain. Its two days are mended, as far as marks change.
+    fn put(&mut self, p: u32, set: SymbolSet)
+        requires position { p < length self.old.sets }
+        requires small { (x : ℕ) → IsTrue (has_symbol set x) → x ≤ shift_count self.old.problem }
+        ensures problem { self.new.problem ≡ self.old.problem }
+        ensures rules { self.new.rules ≡ self.old.rules }
+        ensures sets { self.new.sets ≡ slice_set self.old.sets p set }
+    {
+        let first = p as usize;
+        let second = first + self.sets.len();
+        self.sets[first] = set;
+        self.front.mend_front(self.layers.layers(), &self.sets, first);
+        self.front.mend_front(self.layers.layers(), &self.sets, second);
+        self.back.mend_back(self.layers.layers(), &self.sets, second);
+        self.back.mend_back(self.layers.layers(), &self.sets, first);
+    }
+
+    // A cycle in which no position has a symbol.
+    fn of_empty_sets(
+        alloc: Global,
+        tails: TailRules,
+        layers: Layers,
+        width: u32,
+    ) -> Result<Cycle, AllocError>
+        requires { HasLayers tails layers.layers width }
+        ensures problem { IfOk result (λ C. C.problem ≡ tails.problem) }
+        ensures rules { IfOk result (λ C. C.rules ≡ tails.rules) }
+    {
+        let days = layers.layers().len();
+        let sets = empty_sets(alloc, tails.problem().cells())?;
+        let mut start = Marks::of(alloc, width as usize, false)?;
+        start.put(0, true);
+        let mut front = DayMarks::none(alloc, days + 1, width as usize)?;
+        front.put_row(0, start);
+        let mut back = DayMarks::none(alloc, days + 1, width as usize)?;
+        back.put_row(days, Marks::of(alloc, width as usize, true)?);
+        Ok(Cycle {
+            tails,
+            layers,
+            width,
+            sets,
+            front,
+            back,
+        })
+    }
+}
+
+// Whether a step by the symbol leads from a marked node to a marked one.
+fn has_joining_step(steps: &[Step], x: Symbol, before: &Marks, behind: &Marks) -> bool
+    ensures { IsTrue result ↔ HasJoiningStep steps.now x before.now behind.now }
+{
+    for step in steps {
+        if step.symbol == x && before.has(step.from) && behind.has(step.to) {
+            return true;
+        }
+    }
+    false
+}
+
+fn greatest(counts: &[u32]) -> u32
+    ensures { (i : ℕ) → slice_index counts.now i ≤ result }
+{
+    let mut greatest = 0;
+    for count in counts {
+        greatest = greatest.max(*count);
+    }
+    greatest
+}
+
+#[tactic(auto, using(std::proofs::lemmas::List::replicate_more))]
+fn empty_sets(alloc: Global, cells: u32) -> Result<Vec<SymbolSet>, AllocError>
+    ensures { IfOk result (λ v. v.items ≡ replicate cells []) }
+{
+    let mut sets = Vec::with_capacity(alloc, cells as usize)?;
+    for _ in 0..cells {
+        sets.push(SymbolSet::empty())?;
+    }
+    Ok(sets)
+}

@@ -1,0 +1,139 @@
+// Marks for all days of a word.
+ghost use Rattle.std.specs.Prelude.{◌≡◌, ◌≢◌, ◌↔◌, ℕ, ◌+◌, ◌<◌, ◌≤◌, false, true, length, replicate, slice_set, IfOk, IsTrue};
+ghost use Rattle.domain_store.specs.Sets.{has_symbol};
+ghost use Rattle.kept_cycle.specs.Marks.{row_at, from_of, to_of, IsWide, IsPass, IsFrontStep, IsBackStep, FitsInto, AllFitInto};
+
+use crate::marks::Marks;
+use domain_store::SymbolSet;
+use layered_cycle::Layer;
+use std::alloc::{AllocError, Global};
+use std::marker::Model;
+use std::mem;
+
+// For each day of a word, and for its end, which nodes are marked; with room for one row more.
+#[derive(Debug, Drop)]
+pub struct DayMarks {
+    rows: Vec<Marks>,
+    spare: Marks,
+}
+
+impl Model for DayMarks {
+    ghost use Rattle.std.specs.Prelude.{List, Bool, length};
+    ghost use Rattle.kept_cycle.specs.Marks.{IsWide};
+
+    ghost Value = { List (List Bool) };
+
+    ghost view = { λ d. d.rows.items };
+
+    ghost invariant = { λ d. IsWide d.rows.items (length d.spare) };
+}
+
+impl DayMarks {
+    // No node is marked on so many days.
+    #[tactic(auto, using(std::proofs::lemmas::List::replicate_more))]
+    pub fn none(alloc: Global, days: usize, nodes: usize) -> Result<DayMarks, AllocError>
+        ensures { IfOk result (λ rows. rows ≡ replicate days (replicate nodes false)) }
+    {
+        let spare = Marks::of(alloc, nodes, false)?;
+        let mut rows = Vec::with_capacity(alloc, days)?;
+        for _ in 0..days {
+            rows.push(Marks::of(alloc, nodes, false)?)?;
+        }
+        Ok(DayMarks { rows, spare })
+    }
+
+    // The marks of a day.
+    pub fn row(&self, day: usize) -> &Marks
+        requires { day < length self.now }
+        ensures { result.now ≡ row_at self.now day }
+    {
+        &self.rows[day]
+    }
+
+    // Gives a day these marks.
+    pub fn put_row(&mut self, day: usize, row: Marks)
+        requires day { day < length self.old }
+        requires wide { length row ≡ length (row_at self.old day) }
+        ensures { self.new ≡ slice_set self.old day row }
+    {
+        self.rows[day] = row;
+    }
+
+    // Marks what is behind a day by its symbols. Whether that has changed the marks there.
+    fn go_on(&mut self, layer: &Layer, set: &SymbolSet, day: usize) -> bool
+        requires day { day + 1 < length self.old }
+        requires wide { (width : ℕ) × IsWide self.old width × FitsInto width layer.now }
+        ensures step { IsPass from_of to_of layer.now (has_symbol set.now) (row_at self.new day) (row_at self.new (day + 1)) }
+        ensures others { (i : ℕ) → i ≢ day + 1 → row_at self.new i ≡ row_at self.old i }
+        ensures unchanged { result ≡ false → self.new ≡ self.old }
+        ensures long { length self.new ≡ length self.old }
+        ensures wide { (width : ℕ) → IsWide self.old width → IsWide self.new width }
+    {
+        self.spare
+            .put_behind(layer.steps(), set, &self.rows[day]);
+        if self.spare.is_same(&self.rows[day + 1]) {
+            return false;
+        }
+        mem::swap(&mut self.spare, &mut self.rows[day + 1]);
+        true
+    }
+
+    // Marks what leads on from a day by its symbols. Whether that has changed the marks there.
+    fn go_back(&mut self, layer: &Layer, set: &SymbolSet, day: usize) -> bool
+        requires day { day + 1 < length self.old }
+        requires wide { (width : ℕ) × IsWide self.old width × FitsInto width layer.now }
+        ensures step { IsPass to_of from_of layer.now (has_symbol set.now) (row_at self.new (day + 1)) (row_at self.new day) }
+        ensures others { (i : ℕ) → i ≢ day → row_at self.new i ≡ row_at self.old i }
+        ensures unchanged { result ≡ false → self.new ≡ self.old }
+        ensures long { length self.new ≡ length self.old }
+        ensures wide { (width : ℕ) → IsWide self.old width → IsWide self.new width }
+    {
+        self.spare
+            .put_before(layer.steps(), set, &self.rows[day + 1]);
+        if self.spare.is_same(&self.rows[day]) {
+            return false;
+        }
+        mem::swap(&mut self.spare, &mut self.rows[day]);
+        true
+    }
+
+    // Mends the steps behind a day whose domain has changed, until a day keeps its marks: all further ones depend on these
+    // alone.
+    pub fn mend_front(&mut self, layers: &[Layer], sets: &[SymbolSet], day: usize)
+        requires some { 0 < length sets.now }
+        requires day { day + 1 < length self.old }
+        requires wide { (width : ℕ) × IsWide self.old width × AllFitInto width layers.now }
+        requires long { length self.old ≡ length layers.now + 1 }
+        ensures steps { (i : ℕ) → i + 1 < length self.new → (i ≢ day → IsFrontStep layers.now sets.now self.old i) → IsFrontStep layers.now sets.now self.new i }
+        ensures first { row_at self.new 0 ≡ row_at self.old 0 }
+        ensures long { length self.new ≡ length self.old }
+        ensures wide { (width : ℕ) → IsWide self.old width → IsWide self.new width }
+    {
+        for i in day..self.rows.len() - 1 {
+            if !self.go_on(&layers[i], &sets[i % sets.len()], i) {
+                return;
+            }
+        }
+    }
+
+    // Mends the steps before a day whose domain has changed, back until a day keeps its marks.
+    pub fn mend_back(&mut self, layers: &[Layer], sets: &[SymbolSet], day: usize)
+        requires some { 0 < length sets.now }
+        requires day { day + 1 < length self.old }
+        requires few { length self.old ≤ 8401 }
+        requires wide { (width : ℕ) × IsWide self.old width × AllFitInto width layers.now }
+        requires long { length self.old ≡ length layers.now + 1 }
+        ensures steps { (i : ℕ) → i + 1 < length self.new → (i ≢ day → IsBackStep layers.now sets.now self.old i) → IsBackStep layers.now sets.now self.new i }
+        ensures last { (i : ℕ) → day < i → row_at self.new i ≡ row_at self.old i }
+        ensures long { length self.new ≡ length self.old }
+        ensures wide { (width : ℕ) → IsWide self.old width → IsWide self.new width }
+    {
+        let mut i = day + 1;
+        while 0 < i {
+            i -= 1;
+            if !self.go_back(&layers[i], &sets[i % sets.len()], i) {
+                return;
+            }
+        }
+    }
+}

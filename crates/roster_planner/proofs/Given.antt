@@ -1,0 +1,12 @@
+-- A leaf that is found by weights may be given to a search.
+use Rattle.std.specs.Prelude.{Option, Some, None}
+use Rattle.std.specs.Option.{IfSome}
+use Rattle.rwsp_terms.specs.Instance.{Instance}
+use Rattle.refutation_terms.specs.declared.lines.Line.{Line}
+use Rattle.domain_store.specs.Store.{Store, has_domain}
+use Rattle.nearest_weights.specs.Found.{IsHoldingLeaf}
+use Rattle.roster_search.specs.Guides.{IsLeafGiven}
+
+pub given_of_holding : (P : Instance) (S : Store) (found : Option Line) → IfSome found (IsHoldingLeaf P (has_domain S)) → IsLeafGiven P S found
+given_of_holding P S None h = h
+given_of_holding P S (Some line) h = record { is_leaf = record { leaf = h.leaf; fits = h.fits; short = h.short }; holds = h.holds }
