@@ -1,13 +1,14 @@
 -- The words of a command line have one form at most.
 use Rattle.std.proofs.Common.{◌≡◌, ℕ, List, Option, Some, ap, sym, ◌∙◌, refl, subst, true, false}
-use Rattle.std.specs.Prelude.{[], ◌∷◌, codes}
+use Rattle.std.specs.Prelude.{[], ◌∷◌, codes, String}
 use Rattle.std.specs.String.{string_bytes}
+use Rattle.std.specs.declared.alloc.Global.{Global}
 use Rattle.std.specs.Str.{bytes_eq}
 use Rattle.refutation_log.proofs.ReadParts.{bytes_same}
 use Rattle.jiff.specs.Types.{Date}
 use Rattle.crew_calendar.specs.Calendar.{IsDateWord}
 use Rattle.crew_calendar.proofs.OneText.{one_date}
-use Rattle.rwsp.specs.Commands.{Words, IsForm, IsCount, greatest_budget, most_workers, most_days, most_employees}
+use Rattle.rwsp.specs.Commands.{Words, IsForm, IsCount, greatest_budget, most_workers, most_days, most_employees, IsCrewForm, HasNoForm}
 use Rattle.rwsp.specs.declared.command.Command.{Command}
 use Rattle.rwsp.specs.declared.command.Command.TheVariants.{Plan, Check, Verify, Reduce, Show, Crew}
 
@@ -144,3 +145,30 @@ one_form (v ∷ w ∷ x ∷ y ∷ z ∷ u ∷ t ∷ words) Verify b h k = absurd
 one_form (v ∷ w ∷ x ∷ y ∷ z ∷ u ∷ t ∷ words) Reduce b h k = absurd h
 one_form (v ∷ w ∷ x ∷ y ∷ z ∷ u ∷ t ∷ words) Show b h k = absurd h
 one_form (v ∷ w ∷ x ∷ y ∷ z ∷ u ∷ t ∷ words) (Crew d n e) b h k = absurd h
+
+-- five words that begin with `crew` and aren't its form have no form
+pub no_crew : (v w x y z : String Global) → string_bytes v ≡ codes "crew" → ((first : Date) (n : ℕ) → IsCrewForm (string_bytes v) (string_bytes w) (string_bytes x) (string_bytes y) (string_bytes z) first n → ⊥) → HasNoForm (v ∷ w ∷ x ∷ y ∷ z ∷ [])
+no_crew v w x y z is none (Crew d n e) h = none d n h.0
+no_crew v w x y z is none (Check m) h = not_check_and_crew (string_bytes v) h.0 is
+no_crew v w x y z is none (Plan m) h = h
+no_crew v w x y z is none Verify h = h
+no_crew v w x y z is none Reduce h = h
+no_crew v w x y z is none Show h = h
+
+-- six words that aren't a calendar's have no form
+pub no_crew_of_one : (v w x y z u : String Global) → ((first : Date) (n : ℕ) → IsCrewForm (string_bytes v) (string_bytes w) (string_bytes x) (string_bytes y) (string_bytes z) first n → ⊥) → HasNoForm (v ∷ w ∷ x ∷ y ∷ z ∷ u ∷ [])
+no_crew_of_one v w x y z u none (Crew d n e) h = none d n h.0
+no_crew_of_one v w x y z u none (Check m) h = h
+no_crew_of_one v w x y z u none (Plan m) h = h
+no_crew_of_one v w x y z u none Verify h = h
+no_crew_of_one v w x y z u none Reduce h = h
+no_crew_of_one v w x y z u none Show h = h
+
+-- nor have six words whose last is no employee's number
+pub no_number : (v w x y z u : String Global) → ((e : ℕ) → IsCount (string_bytes u) most_employees e → ⊥) → HasNoForm (v ∷ w ∷ x ∷ y ∷ z ∷ u ∷ [])
+no_number v w x y z u none (Crew d n e) h = none h.1.0 h.1.1
+no_number v w x y z u none (Check m) h = h
+no_number v w x y z u none (Plan m) h = h
+no_number v w x y z u none Verify h = h
+no_number v w x y z u none Reduce h = h
+no_number v w x y z u none Show h = h
