@@ -1,4 +1,4 @@
-use Rattle.std.proofs.Common.{◌≡◌, List, ℕ, subst, refl}
+use Rattle.std.proofs.Common.{◌≡◌, List, ℕ, subst, refl, true, false}
 use Rattle.std.proofs.lemmas.Result.{IfOk-weaker}
 use Rattle.rwsp_file.specs.Spelling.{SpellsProblem}
 use Rattle.rwsp.specs.Commands.{IsWithinHorizon, second_name}
@@ -11,7 +11,8 @@ use Rattle.rwsp.proofs.run.reply_to.Goals as goal
 pub returns-then-not-is_within_horizon-clause-missing : goal.returns-then-not-is_within_horizon-clause-missing
 returns-then-not-is_within_horizon-clause-missing g c command form within missing =
     let same = one_form c.args.words.now.items command c.in-Some.command form c.in-Some.ensures in
-    absurd (c.if-not-is_within_horizon.ensures.1 (subst IsWithinHorizon same within))
+    let no : false ≡ true = c.if-not-is_within_horizon.ensures.1 (subst IsWithinHorizon same within) in
+    absurd (cc)
 
 pub returns-clause-answer : goal.returns-clause-answer
 returns-clause-answer g c =
