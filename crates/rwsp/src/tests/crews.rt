@@ -30,7 +30,10 @@ fn calendars_of_a_roster(rt: HostRuntime) -> Result<(), Fail> {
         ),
     ];
     for (words, status, text) in cases {
-        assert!(rt; ends(&rt, rt.alloc(), words, &right, status, text)?, "{text}");
+        assert!(rt;
+            ends(&rt, rt.alloc(), words, &right, status, text)?,
+            "{text}"
+        );
     }
     let broken = [("F", NINE_WEEKS), ("R", BREAKS)];
     let text = "breaks rule 2 min shift D week 1 day 1 length 3\n";

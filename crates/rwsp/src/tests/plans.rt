@@ -57,7 +57,10 @@ const FOUR_OF_SEVEN: &str =
 
 // Whether the log has a turn and one line behind it.
 fn is_one_leaf(log: &str) -> bool {
-    log.lines().nth(2).is_some_and(|line| line.starts_with("turn ")) && log.lines().count() == 4
+    log.lines()
+        .nth(2)
+        .is_some_and(|line| line.starts_with("turn "))
+        && log.lines().count() == 4
 }
 
 // A day leaf, a dead leaf, or a bound at the top is enough.
@@ -75,7 +78,10 @@ fn one_leaf_is_enough(rt: HostRuntime) -> Result<(), Fail> {
     ] {
         let log = printed(&rt, alloc, words, problem, 1)?;
         assert!(rt; is_one_leaf(log.as_str()), "{problem}{log}");
-        assert!(rt; is_accepted(&rt, alloc, problem, log.as_str())?, "{problem}");
+        assert!(rt;
+            is_accepted(&rt, alloc, problem, log.as_str())?,
+            "{problem}"
+        );
     }
     Ok(())
 }
@@ -127,7 +133,10 @@ fn a_budget_of_one_line(rt: HostRuntime) -> Result<(), Fail> {
     let alloc = rt.alloc();
     let words = ["plan", "F", "--budget", "1"];
     let log = printed(&rt, alloc, &words, THREE_OF_FIVE, 4)?;
-    assert!(rt; log.as_str().starts_with("rwsp-log 2\nrules 7\nturn D 1\nsplit "));
+    assert!(rt;
+        log.as_str()
+            .starts_with("rwsp-log 2\nrules 7\nturn D 1\nsplit ")
+    );
     assert!(rt; log.as_str().ends_with("\nopen\nopen\n"));
     assert_eq!(rt; log.as_str().lines().count(), 6);
     let refused = "log refused: open line 5\n";
