@@ -1,5 +1,5 @@
 -- The bytes of a file have one answer.
-use Rattle.std.proofs.Common.{◌≡◌, ℕ, List, Some, None, Option, arith, ap, sym, ◌∙◌, refl, subst}
+use Rattle.std.proofs.Common.{◌≡◌, ℕ, ◌<◌, ◌≤◌, List, Some, None, Option, arith, ap, sym, ◌∙◌, refl, subst}
 use Rattle.std.specs.Prelude.{MatchOption, Ok, Err}
 use Rattle.rwsp_terms.specs.Instance.{Instance}
 use Rattle.rwsp_terms.specs.Roster.{MeetsAll}
@@ -21,13 +21,13 @@ use Rattle.refutation_terms.specs.Log.{Log as LogValue}
 use Rattle.refutation_terms.specs.Strip.{IsReduced}
 use Rattle.refutation_terms.specs.Verdict.{IsAccepted, IsRefused}
 use Rattle.rwsp.specs.Inputs.{IsWithinLimit, IsTooLong}
-use Rattle.rwsp.specs.Answers.{IsFileAnswer, IsRosterAnswer, IsLogAnswer, IsReduction, IsSecondAnswer}
+use Rattle.rwsp.specs.Answers.{IsFileAnswer, IsRosterAnswer, IsLogAnswer, IsReduction, IsSecondAnswer, IsCrewAnswer, HasEmployee}
 use Rattle.rwsp.specs.declared.command.Command.{Command}
-use Rattle.rwsp.specs.declared.command.Command.TheVariants.{Plan, Check, Verify, Reduce, Show}
+use Rattle.rwsp.specs.declared.command.Command.TheVariants.{Plan, Check, Verify, Reduce, Show, Crew as CrewCommand}
 use Rattle.rwsp.specs.declared.answer.InputKind.{InputKind}
 use Rattle.rwsp.specs.declared.answer.InputKind.TheVariants as Kinds
 use Rattle.rwsp.specs.declared.answer.Answer.{Answer}
-use Rattle.rwsp.specs.declared.answer.Answer.TheVariants.{Roster, NoRoster, Undecided, Accepted, LogRefused, Reduced, Meets, Shown, Breaks, RosterRefused, Usage, FileRefused, TooLong}
+use Rattle.rwsp.specs.declared.answer.Answer.TheVariants.{Roster, NoRoster, Undecided, Accepted, LogRefused, Reduced, Meets, Shown, Breaks, RosterRefused, Usage, FileRefused, TooLong, Crew, Horizon, NoEmployee}
 use Rattle.rwsp.proofs.Logs.{one_verdict}
 use Rattle.rwsp.proofs.Reductions.{one_reduced}
 
@@ -57,6 +57,9 @@ roster_end P bytes (Reduced g) h = absurd h
 roster_end P bytes Usage h = absurd h
 roster_end P bytes Shown h = absurd h
 roster_end P bytes (FileRefused why) h = absurd h
+roster_end P bytes Crew h = absurd h
+roster_end P bytes Horizon h = absurd h
+roster_end P bytes (NoEmployee e) h = absurd h
 
 -- a refused roster isn't spelled
 refused_by : (P : Instance) (bytes : List ℕ) (s : List Symbol) (why : RosterRefusal) (o : Option RosterRefusal) → o ≡ Some why → MatchOption o ((s : List Symbol) × SpellsRoster P bytes s) (λ why. (s : List Symbol) → SpellsRoster P bytes s → ⊥) → SpellsRoster P bytes s → ⊥
@@ -148,6 +151,9 @@ acceptance_end P bytes (Reduced g) h = absurd h
 acceptance_end P bytes Usage h = absurd h
 acceptance_end P bytes Shown h = absurd h
 acceptance_end P bytes (FileRefused why) h = absurd h
+acceptance_end P bytes Crew h = absurd h
+acceptance_end P bytes Horizon h = absurd h
+acceptance_end P bytes (NoEmployee e) h = absurd h
 
 -- what `reduce` says of a log that passes
 
@@ -173,6 +179,52 @@ reduction_end P bytes (Accepted R) h = absurd h
 reduction_end P bytes Usage h = absurd h
 reduction_end P bytes Shown h = absurd h
 reduction_end P bytes (FileRefused why) h = absurd h
+reduction_end P bytes Crew h = absurd h
+reduction_end P bytes Horizon h = absurd h
+reduction_end P bytes (NoEmployee e) h = absurd h
+
+-- how a calendar's roster ends the job: it isn't right, or it is right and the employee is there, or isn't
+data CrewEnd (P : Instance) (bytes : List ℕ) (employee : Option ℕ) (answer : Answer) : Type 0 where
+  unfit : (answer ≡ Meets → ⊥) → RosterEnd P bytes answer → CrewEnd P bytes employee answer
+  shown : RosterEnd P bytes Meets → HasEmployee P employee → answer ≡ Crew → CrewEnd P bytes employee answer
+  nobody : (e : ℕ) → RosterEnd P bytes Meets → employee ≡ Some e → P.weeks < e → answer ≡ NoEmployee e → CrewEnd P bytes employee answer
+
+crew_end : (P : Instance) (bytes : List ℕ) (employee : Option ℕ) (answer : Answer) → IsCrewAnswer employee answer P bytes → CrewEnd P bytes employee answer
+crew_end P bytes employee Crew h = shown (roster_end P bytes Meets h.0) h.1 refl
+crew_end P bytes employee (NoEmployee e) h = nobody e (roster_end P bytes Meets h.0) h.1 h.2 refl
+crew_end P bytes employee Meets h = absurd h
+crew_end P bytes employee (TooLong kind) h = unfit (λ e. absurd (cc)) (roster_end P bytes (TooLong kind) h)
+crew_end P bytes employee (RosterRefused why) h = unfit (λ e. absurd (cc)) (roster_end P bytes (RosterRefused why) h)
+crew_end P bytes employee (Breaks b) h = unfit (λ e. absurd (cc)) (roster_end P bytes (Breaks b) h)
+crew_end P bytes employee (Roster s) h = absurd h
+crew_end P bytes employee (NoRoster g) h = absurd h
+crew_end P bytes employee (Undecided g) h = absurd h
+crew_end P bytes employee (Accepted R) h = absurd h
+crew_end P bytes employee (LogRefused why) h = absurd h
+crew_end P bytes employee (Reduced g) h = absurd h
+crew_end P bytes employee Usage h = absurd h
+crew_end P bytes employee Shown h = absurd h
+crew_end P bytes employee (FileRefused why) h = absurd h
+crew_end P bytes employee Horizon h = absurd h
+
+employee_there : (P : Instance) (employee : Option ℕ) (e : ℕ) → HasEmployee P employee → employee ≡ Some e → P.weeks < e → ⊥
+employee_there P employee e here is past =
+    let there : e ≤ P.weeks = subst (HasEmployee P) is here in
+    omega (arith, there, past)
+
+one_crew_end : (P : Instance) (bytes : List ℕ) (employee : Option ℕ) (a b : Answer) → CrewEnd P bytes employee a → CrewEnd P bytes employee b → a ≡ b
+one_crew_end P bytes employee a b (unfit n r) (unfit m q) = one_roster_end P bytes a b r q
+one_crew_end P bytes employee a b (unfit n r) (shown q t f) = absurd (n (one_roster_end P bytes a Meets r q))
+one_crew_end P bytes employee a b (unfit n r) (nobody e q is past f) = absurd (n (one_roster_end P bytes a Meets r q))
+one_crew_end P bytes employee a b (shown r t e) (unfit m q) = absurd (m (one_roster_end P bytes b Meets q r))
+one_crew_end P bytes employee a b (shown r t e) (shown q u f) = e ∙ sym f
+one_crew_end P bytes employee a b (shown r t e) (nobody k q is past f) = absurd (employee_there P employee k t is past)
+one_crew_end P bytes employee a b (nobody k r is past e) (unfit m q) = absurd (m (one_roster_end P bytes b Meets q r))
+one_crew_end P bytes employee a b (nobody k r is past e) (shown q t f) = absurd (employee_there P employee k t is past)
+one_crew_end P bytes employee a b (nobody k r is past e) (nobody j q also beyond f) =
+    let both : Some k ≡ Some j = sym is ∙ also in
+    let same : k ≡ j = cc in
+    e ∙ ap NoEmployee same ∙ sym f
 
 -- two answers to a command over the bytes of its second file
 pub one_second : (command : Command) (P : Instance) (bytes : List ℕ) (a b : Answer) → KeepsLimits P → IsSecondAnswer command a P bytes → IsSecondAnswer command b P bytes → a ≡ b
@@ -181,6 +233,7 @@ one_second (Check workers) P bytes a b limits h k = one_log_end P IsAcceptance b
 one_second Reduce P bytes a b limits h k = one_log_end P (IsReducedTo P) bytes a b limits (λ g e f. same_reduction P g a b e f) (reduction_end P bytes a h) (reduction_end P bytes b k)
 one_second (Plan budget) P bytes a b limits h k = absurd h
 one_second Show P bytes a b limits h k = absurd h
+one_second (CrewCommand date days employee) P bytes a b limits h k = one_crew_end P bytes employee a b (crew_end P bytes employee a h) (crew_end P bytes employee b k)
 
 -- two answers of the problem's file
 
@@ -204,6 +257,9 @@ file_end file Shown h = absurd h
 file_end file (Breaks b) h = absurd h
 file_end file (RosterRefused why) h = absurd h
 file_end file Usage h = absurd h
+file_end file Crew h = absurd h
+file_end file Horizon h = absurd h
+file_end file (NoEmployee e) h = absurd h
 
 same_file_end : (file : List ℕ) (a b : Answer) → FileEnd file a → FileEnd file b → a ≡ b
 same_file_end file a b (too_long l e) (too_long m f) = e ∙ sym f

@@ -1,12 +1,16 @@
 -- The words of a command line have one form at most.
-use Rattle.std.proofs.Common.{◌≡◌, ℕ, List, Some, ap, sym, ◌∙◌, refl, subst, true, false}
-use Rattle.std.specs.Prelude.{[], ◌∷◌, codes}
+use Rattle.std.proofs.Common.{◌≡◌, ℕ, List, Option, Some, ap, sym, ◌∙◌, refl, subst, true, false}
+use Rattle.std.specs.Prelude.{[], ◌∷◌, codes, String}
 use Rattle.std.specs.String.{string_bytes}
+use Rattle.std.specs.declared.alloc.Global.{Global}
 use Rattle.std.specs.Str.{bytes_eq}
 use Rattle.refutation_log.proofs.ReadParts.{bytes_same}
-use Rattle.rwsp.specs.Commands.{Words, IsForm, IsCount, greatest_budget, most_workers}
+use Rattle.jiff.specs.Types.{Date}
+use Rattle.crew_calendar.specs.Calendar.{IsDateWord}
+use Rattle.crew_calendar.proofs.OneText.{one_date}
+use Rattle.rwsp.specs.Commands.{Words, IsForm, IsCount, greatest_budget, most_workers, most_days, most_employees, IsCrewForm, HasNoForm}
 use Rattle.rwsp.specs.declared.command.Command.{Command}
-use Rattle.rwsp.specs.declared.command.Command.TheVariants.{Plan, Check, Verify, Reduce, Show}
+use Rattle.rwsp.specs.declared.command.Command.TheVariants.{Plan, Check, Verify, Reduce, Show, Crew}
 
 same_count : (word : List ℕ) (limit m n : ℕ) → IsCount word limit m → IsCount word limit n → m ≡ n
 same_count word limit m n h k =
@@ -33,6 +37,15 @@ not_verify_and_reduce word e f = unlike (codes "verify") (codes "reduce") refl (
 not_check_and_reduce : (word : List ℕ) → word ≡ codes "check" → word ≡ codes "reduce" → ⊥
 not_check_and_reduce word e f = unlike (codes "check") (codes "reduce") refl (sym e ∙ f)
 
+not_check_and_crew : (word : List ℕ) → word ≡ codes "check" → word ≡ codes "crew" → ⊥
+not_check_and_crew word e f = unlike (codes "check") (codes "crew") refl (sym e ∙ f)
+
+same_first : (word : List ℕ) (date other : Date) → IsDateWord word date → IsDateWord word other → date ≡ other
+same_first word date other h k = one_date word date other h k
+
+same_crew : (d f : Date) (n m : ℕ) (e g : Option ℕ) → d ≡ f → n ≡ m → e ≡ g → Crew d n e ≡ Crew f m g
+same_crew d f n m e g first days employee = ap (λ c. Crew c n e) first ∙ ap (λ c. Crew f c e) days ∙ ap (λ c. Crew f m c) employee
+
 pub one_form : (words : Words) (a b : Command) → IsForm words a → IsForm words b → a ≡ b
 one_form [] a b h k = absurd (no_words a h)
   where
@@ -42,17 +55,22 @@ one_form [] a b h k = absurd (no_words a h)
     no_words Verify h = h
     no_words Show h = h
     no_words Reduce h = h
+    no_words (Crew date days employee) h = h
 one_form (v ∷ []) (Plan m) b h k = absurd h
 one_form (v ∷ []) (Check m) b h k = absurd h
 one_form (v ∷ []) Verify b h k = absurd h
 one_form (v ∷ []) Show b h k = absurd h
 one_form (v ∷ []) Reduce b h k = absurd h
+one_form (v ∷ []) (Crew d n e) b h k = absurd h
 one_form (v ∷ w ∷ []) Show Show h k = refl
 one_form (v ∷ w ∷ []) Show (Plan m) h k = absurd (not_show_and_plan (string_bytes v) h.0 k.0)
 one_form (v ∷ w ∷ []) (Plan m) Show h k = absurd (not_show_and_plan (string_bytes v) k.0 h.0)
 one_form (v ∷ w ∷ []) (Plan m) (Plan n) h k = ap Plan (h.2 ∙ sym k.2)
 one_form (v ∷ w ∷ []) Verify b h k = absurd h
 one_form (v ∷ w ∷ []) Reduce b h k = absurd h
+one_form (v ∷ w ∷ []) (Crew d n e) b h k = absurd h
+one_form (v ∷ w ∷ []) Show (Crew d n e) h k = absurd k
+one_form (v ∷ w ∷ []) (Plan m) (Crew d n e) h k = absurd k
 one_form (v ∷ w ∷ []) Show Reduce h k = absurd k
 one_form (v ∷ w ∷ []) (Plan m) Reduce h k = absurd k
 one_form (v ∷ w ∷ []) (Check m) b h k = absurd h
@@ -72,6 +90,10 @@ one_form (v ∷ w ∷ x ∷ []) (Check m) Reduce h k = absurd (not_check_and_red
 one_form (v ∷ w ∷ x ∷ []) Reduce Show h k = absurd k
 one_form (v ∷ w ∷ x ∷ []) Reduce (Plan m) h k = absurd k
 one_form (v ∷ w ∷ x ∷ []) Show b h k = absurd h
+one_form (v ∷ w ∷ x ∷ []) (Crew d n e) b h k = absurd h
+one_form (v ∷ w ∷ x ∷ []) Verify (Crew d n e) h k = absurd k
+one_form (v ∷ w ∷ x ∷ []) (Check m) (Crew d n e) h k = absurd k
+one_form (v ∷ w ∷ x ∷ []) Reduce (Crew d n e) h k = absurd k
 one_form (v ∷ w ∷ x ∷ []) (Plan m) b h k = absurd h
 one_form (v ∷ w ∷ x ∷ []) Verify Show h k = absurd k
 one_form (v ∷ w ∷ x ∷ []) Verify (Plan m) h k = absurd k
@@ -83,6 +105,8 @@ one_form (v ∷ w ∷ x ∷ y ∷ []) (Plan m) Verify h k = absurd k
 one_form (v ∷ w ∷ x ∷ y ∷ []) (Plan m) (Check n) h k = absurd k
 one_form (v ∷ w ∷ x ∷ y ∷ []) (Plan m) Reduce h k = absurd k
 one_form (v ∷ w ∷ x ∷ y ∷ []) Reduce b h k = absurd h
+one_form (v ∷ w ∷ x ∷ y ∷ []) (Crew d n e) b h k = absurd h
+one_form (v ∷ w ∷ x ∷ y ∷ []) (Plan m) (Crew d n e) h k = absurd k
 one_form (v ∷ w ∷ x ∷ y ∷ []) Show b h k = absurd h
 one_form (v ∷ w ∷ x ∷ y ∷ []) Verify b h k = absurd h
 one_form (v ∷ w ∷ x ∷ y ∷ []) (Check m) b h k = absurd h
@@ -92,11 +116,59 @@ one_form (v ∷ w ∷ x ∷ y ∷ z ∷ []) (Check m) Verify h k = absurd k
 one_form (v ∷ w ∷ x ∷ y ∷ z ∷ []) (Check m) (Plan n) h k = absurd k
 one_form (v ∷ w ∷ x ∷ y ∷ z ∷ []) (Check m) Reduce h k = absurd k
 one_form (v ∷ w ∷ x ∷ y ∷ z ∷ []) Reduce b h k = absurd h
+one_form (v ∷ w ∷ x ∷ y ∷ z ∷ []) (Check m) (Crew d n e) h k = absurd (not_check_and_crew (string_bytes v) h.0 k.0.0)
+one_form (v ∷ w ∷ x ∷ y ∷ z ∷ []) (Crew d n e) (Check m) h k = absurd (not_check_and_crew (string_bytes v) k.0 h.0.0)
+one_form (v ∷ w ∷ x ∷ y ∷ z ∷ []) (Crew d n e) (Crew f m g) h k = same_crew d f n m e g (same_first (string_bytes y) d f h.0.3 k.0.3) (same_count (string_bytes z) most_days n m h.0.4 k.0.4) (h.1 ∙ sym k.1)
+one_form (v ∷ w ∷ x ∷ y ∷ z ∷ []) (Crew d n e) Show h k = absurd k
+one_form (v ∷ w ∷ x ∷ y ∷ z ∷ []) (Crew d n e) Verify h k = absurd k
+one_form (v ∷ w ∷ x ∷ y ∷ z ∷ []) (Crew d n e) Reduce h k = absurd k
+one_form (v ∷ w ∷ x ∷ y ∷ z ∷ []) (Crew d n e) (Plan m) h k = absurd k
 one_form (v ∷ w ∷ x ∷ y ∷ z ∷ []) Show b h k = absurd h
 one_form (v ∷ w ∷ x ∷ y ∷ z ∷ []) Verify b h k = absurd h
 one_form (v ∷ w ∷ x ∷ y ∷ z ∷ []) (Plan m) b h k = absurd h
-one_form (v ∷ w ∷ x ∷ y ∷ z ∷ u ∷ words) (Plan m) b h k = absurd h
-one_form (v ∷ w ∷ x ∷ y ∷ z ∷ u ∷ words) (Check m) b h k = absurd h
-one_form (v ∷ w ∷ x ∷ y ∷ z ∷ u ∷ words) Verify b h k = absurd h
-one_form (v ∷ w ∷ x ∷ y ∷ z ∷ u ∷ words) Reduce b h k = absurd h
-one_form (v ∷ w ∷ x ∷ y ∷ z ∷ u ∷ words) Show b h k = absurd h
+one_form (v ∷ w ∷ x ∷ y ∷ z ∷ u ∷ []) (Crew d n e) (Crew f m g) h k =
+    same_crew d f n m e g (same_first (string_bytes y) d f h.0.3 k.0.3) (same_count (string_bytes z) most_days n m h.0.4 k.0.4)
+    (h.1.2 ∙ ap Some (same_count (string_bytes u) most_employees h.1.0 k.1.0 h.1.1 k.1.1) ∙ sym k.1.2)
+one_form (v ∷ w ∷ x ∷ y ∷ z ∷ u ∷ []) (Crew d n e) (Plan m) h k = absurd k
+one_form (v ∷ w ∷ x ∷ y ∷ z ∷ u ∷ []) (Crew d n e) (Check m) h k = absurd k
+one_form (v ∷ w ∷ x ∷ y ∷ z ∷ u ∷ []) (Crew d n e) Verify h k = absurd k
+one_form (v ∷ w ∷ x ∷ y ∷ z ∷ u ∷ []) (Crew d n e) Reduce h k = absurd k
+one_form (v ∷ w ∷ x ∷ y ∷ z ∷ u ∷ []) (Crew d n e) Show h k = absurd k
+one_form (v ∷ w ∷ x ∷ y ∷ z ∷ u ∷ []) (Plan m) b h k = absurd h
+one_form (v ∷ w ∷ x ∷ y ∷ z ∷ u ∷ []) (Check m) b h k = absurd h
+one_form (v ∷ w ∷ x ∷ y ∷ z ∷ u ∷ []) Verify b h k = absurd h
+one_form (v ∷ w ∷ x ∷ y ∷ z ∷ u ∷ []) Reduce b h k = absurd h
+one_form (v ∷ w ∷ x ∷ y ∷ z ∷ u ∷ []) Show b h k = absurd h
+one_form (v ∷ w ∷ x ∷ y ∷ z ∷ u ∷ t ∷ words) (Plan m) b h k = absurd h
+one_form (v ∷ w ∷ x ∷ y ∷ z ∷ u ∷ t ∷ words) (Check m) b h k = absurd h
+one_form (v ∷ w ∷ x ∷ y ∷ z ∷ u ∷ t ∷ words) Verify b h k = absurd h
+one_form (v ∷ w ∷ x ∷ y ∷ z ∷ u ∷ t ∷ words) Reduce b h k = absurd h
+one_form (v ∷ w ∷ x ∷ y ∷ z ∷ u ∷ t ∷ words) Show b h k = absurd h
+one_form (v ∷ w ∷ x ∷ y ∷ z ∷ u ∷ t ∷ words) (Crew d n e) b h k = absurd h
+
+-- five words that begin with `crew` and aren't its form have no form
+pub no_crew : (v w x y z : String Global) → string_bytes v ≡ codes "crew" → ((first : Date) (n : ℕ) → IsCrewForm (string_bytes v) (string_bytes w) (string_bytes x) (string_bytes y) (string_bytes z) first n → ⊥) → HasNoForm (v ∷ w ∷ x ∷ y ∷ z ∷ [])
+no_crew v w x y z is none (Crew d n e) h = none d n h.0
+no_crew v w x y z is none (Check m) h = not_check_and_crew (string_bytes v) h.0 is
+no_crew v w x y z is none (Plan m) h = h
+no_crew v w x y z is none Verify h = h
+no_crew v w x y z is none Reduce h = h
+no_crew v w x y z is none Show h = h
+
+-- six words that aren't a calendar's have no form
+pub no_crew_of_one : (v w x y z u : String Global) → ((first : Date) (n : ℕ) → IsCrewForm (string_bytes v) (string_bytes w) (string_bytes x) (string_bytes y) (string_bytes z) first n → ⊥) → HasNoForm (v ∷ w ∷ x ∷ y ∷ z ∷ u ∷ [])
+no_crew_of_one v w x y z u none (Crew d n e) h = none d n h.0
+no_crew_of_one v w x y z u none (Check m) h = h
+no_crew_of_one v w x y z u none (Plan m) h = h
+no_crew_of_one v w x y z u none Verify h = h
+no_crew_of_one v w x y z u none Reduce h = h
+no_crew_of_one v w x y z u none Show h = h
+
+-- nor have six words whose last is no employee's number
+pub no_number : (v w x y z u : String Global) → ((e : ℕ) → IsCount (string_bytes u) most_employees e → ⊥) → HasNoForm (v ∷ w ∷ x ∷ y ∷ z ∷ u ∷ [])
+no_number v w x y z u none (Crew d n e) h = none h.1.0 h.1.1
+no_number v w x y z u none (Check m) h = h
+no_number v w x y z u none (Plan m) h = h
+no_number v w x y z u none Verify h = h
+no_number v w x y z u none Reduce h = h
+no_number v w x y z u none Show h = h

@@ -26,7 +26,7 @@ use Rattle.rwsp.specs.Answers.{IsLogAnswer, IsOfSearch}
 use Rattle.rwsp.specs.Texts.{IsPrintable, HasSymbols}
 use Rattle.rwsp.specs.declared.answer.InputKind.TheVariants as Kinds
 use Rattle.rwsp.specs.declared.answer.Answer.{Answer}
-use Rattle.rwsp.specs.declared.answer.Answer.TheVariants.{Roster, NoRoster, Undecided, Accepted, LogRefused, Reduced, Meets, Shown, Breaks, RosterRefused, Usage, FileRefused, TooLong}
+use Rattle.rwsp.specs.declared.answer.Answer.TheVariants.{Roster, NoRoster, Undecided, Accepted, LogRefused, Reduced, Meets, Shown, Breaks, RosterRefused, Usage, FileRefused, TooLong, Crew, Horizon, NoEmployee}
 
 -- the rules of a log that passes leave no roster
 pub accepted : (P : Instance) (bytes R : List ℕ) → IsWithinLimit Kinds.Log bytes → (g : Log) × IsAccepted P bytes g × (g.named ≡ R) → IsLogAnswer (Accepted R) P bytes
@@ -88,6 +88,9 @@ planned_is P budget (RosterRefused why) h = absurd h
 planned_is P budget Usage h = absurd h
 planned_is P budget (FileRefused why) h = absurd h
 planned_is P budget (TooLong kind) h = absurd h
+planned_is P budget Crew h = absurd h
+planned_is P budget Horizon h = absurd h
+planned_is P budget (NoEmployee e) h = absurd h
 
 pub planned_printable : (P : Instance) (budget : ℕ) (a : Answer) → IsPlanned P budget a → IsPrintable P a
 planned_printable P budget a h = (planned_is P budget a h).1

@@ -1,6 +1,6 @@
 -- Two answers over the same files, compared part by part.
 use Rattle.std.proofs.Common.{◌≡◌, ℕ, List, ap, sym, ◌∙◌, refl, subst, inl, inr}
-use Rattle.std.specs.Prelude.{◌≢◌, ◌⊎◌, []}
+use Rattle.std.specs.Prelude.{◌≢◌, ◌⊎◌, [], Some, None}
 use Rattle.rwsp_io.specs.Told.{Told, Silent, Missing, Bytes}
 use Rattle.rwsp_terms.specs.Instance.{Instance}
 use Rattle.rwsp_model.specs.Validity.{KeepsLimits}
@@ -8,16 +8,16 @@ use Rattle.rwsp_model.proofs.Limits.{valid_keeps}
 use Rattle.rwsp_file.specs.Spelling.{SpellsProblem}
 use Rattle.rwsp_file.specs.Laws.{TextsSpellOne, TextsSpellOrFail}
 use Rattle.refutation_terms.specs.LogText.{log_text}
-use Rattle.rwsp.specs.Commands.{Words, ReadsSecond, problem_name, second_name, usual_workers}
+use Rattle.rwsp.specs.Commands.{Words, ReadsSecond, IsWithinHorizon, problem_name, second_name, usual_workers}
 use Rattle.rwsp.specs.Inputs.{WhereTold, IsWithinLimit, IsProblemOf}
 use Rattle.rwsp.specs.Answers.{IsAnswerOn, IsAnswerTo, IsFileAnswer, IsSecondAnswer}
-use Rattle.rwsp.specs.Texts.{text_of}
+use Rattle.rwsp.specs.Texts.{text_of, HasOwnText, HasFixedText, IsCalendarOf, IsCalendarText, IsReplyText}
 use Rattle.rwsp.specs.Laws.{AnswersAreOne, TextsAreOne, ProblemsAreAnswered, RefutationsAreAccepted, AgreeInSearch, RostersMeet, ReductionsAreAccepted, WorkersMakeNoDifference}
 use Rattle.rwsp.specs.declared.command.Command.{Command}
-use Rattle.rwsp.specs.declared.command.Command.TheVariants.{Plan, Check, Verify, Reduce, Show}
+use Rattle.rwsp.specs.declared.command.Command.TheVariants.{Plan, Check, Verify, Reduce, Show, Crew as CrewCommand}
 use Rattle.rwsp.specs.declared.answer.InputKind.TheVariants as Kinds
 use Rattle.rwsp.specs.declared.answer.Answer.{Answer}
-use Rattle.rwsp.specs.declared.answer.Answer.TheVariants.{Roster, NoRoster, Undecided, Accepted, LogRefused, Reduced, Meets, Shown, Breaks, RosterRefused, Usage, FileRefused, TooLong}
+use Rattle.rwsp.specs.declared.answer.Answer.TheVariants.{Roster, NoRoster, Undecided, Accepted, LogRefused, Reduced, Meets, Shown, Breaks, RosterRefused, Usage, FileRefused, TooLong, Crew, Horizon, NoEmployee}
 use Rattle.rwsp.proofs.Logs.{accepted}
 use Rattle.rwsp.specs.Plans.{IsPlanned}
 use Rattle.rwsp_terms.specs.Roster.{MeetsAll}
@@ -26,6 +26,9 @@ use Rattle.refutation_terms.specs.Log.{Log as LogValue, Passes}
 use Rattle.refutation_terms.proofs.Sound.{passing_leaves_none}
 use Rattle.refutation_terms.proofs.Named.{named-IsRule}
 use Rattle.roster_print.proofs.Printed.{printed_is_short, printed_is_spelled}
+use Rattle.roster_print.specs.RosterText.{SpellsRoster}
+use Rattle.roster_print.proofs.Spelling.{one_roster}
+use Rattle.crew_calendar.proofs.OneText.{one_table, one_duties}
 use Rattle.rwsp.proofs.Forms.{one_form}
 use Rattle.rwsp.proofs.Ends.{one_second, one_file_answer, not_by_itself}
 
@@ -63,6 +66,9 @@ planned_agree P budget (Roster s) (RosterRefused why) h k = absurd k
 planned_agree P budget (Roster s) Usage h k = absurd k
 planned_agree P budget (Roster s) (FileRefused why) h k = absurd k
 planned_agree P budget (Roster s) (TooLong kind) h k = absurd k
+planned_agree P budget (Roster s) Crew h k = absurd k
+planned_agree P budget (Roster s) Horizon h k = absurd k
+planned_agree P budget (Roster s) (NoEmployee e) h k = absurd k
 planned_agree P budget (NoRoster g) (Roster t) h k = exclusive P t.cells g k.1 h.0
 planned_agree P budget (NoRoster g) (NoRoster e) h k = (tt, tt)
 planned_agree P budget (NoRoster g) (Undecided e) h k = (tt, tt)
@@ -76,6 +82,9 @@ planned_agree P budget (NoRoster g) (RosterRefused why) h k = absurd k
 planned_agree P budget (NoRoster g) Usage h k = absurd k
 planned_agree P budget (NoRoster g) (FileRefused why) h k = absurd k
 planned_agree P budget (NoRoster g) (TooLong kind) h k = absurd k
+planned_agree P budget (NoRoster g) Crew h k = absurd k
+planned_agree P budget (NoRoster g) Horizon h k = absurd k
+planned_agree P budget (NoRoster g) (NoEmployee e) h k = absurd k
 planned_agree P budget (Undecided g) (Roster t) h k = (tt, tt)
 planned_agree P budget (Undecided g) (NoRoster e) h k = (tt, tt)
 planned_agree P budget (Undecided g) (Undecided e) h k = (tt, tt)
@@ -89,6 +98,9 @@ planned_agree P budget (Undecided g) (RosterRefused why) h k = absurd k
 planned_agree P budget (Undecided g) Usage h k = absurd k
 planned_agree P budget (Undecided g) (FileRefused why) h k = absurd k
 planned_agree P budget (Undecided g) (TooLong kind) h k = absurd k
+planned_agree P budget (Undecided g) Crew h k = absurd k
+planned_agree P budget (Undecided g) Horizon h k = absurd k
+planned_agree P budget (Undecided g) (NoEmployee e) h k = absurd k
 planned_agree P budget (Accepted R) b h k = absurd h
 planned_agree P budget (LogRefused why) b h k = absurd h
 planned_agree P budget (Reduced q) b h k = absurd h
@@ -99,6 +111,9 @@ planned_agree P budget (RosterRefused why) b h k = absurd h
 planned_agree P budget Usage b h k = absurd h
 planned_agree P budget (FileRefused why) b h k = absurd h
 planned_agree P budget (TooLong kind) b h k = absurd h
+planned_agree P budget Crew b h k = absurd h
+planned_agree P budget Horizon b h k = absurd h
+planned_agree P budget (NoEmployee e) b h k = absurd h
 
 -- two answers to a command for an instance, over what the second file tells
 
@@ -111,6 +126,7 @@ one_on Show P told a b limits there h k = inl (h ∙ sym k)
 one_on Verify P told a b limits there h k = inl (told_second Verify P told a b limits (there tt) h.1 k.1)
 one_on (Check workers) P told a b limits there h k = inl (told_second (Check workers) P told a b limits (there tt) h.1 k.1)
 one_on Reduce P told a b limits there h k = inl (told_second Reduce P told a b limits (there tt) h.1 k.1)
+one_on (CrewCommand date days employee) P told a b limits there h k = inl (told_second (CrewCommand date days employee) P told a b limits (there tt) h.1 k.1)
 one_on (Plan budget) P told a b limits there h k = inr (planned_agree P budget a b h k)
 
 -- two answers to a command over a file that is there
@@ -141,11 +157,16 @@ one_to one decide command held words a b (inr f) there h k = both_ends one decid
 
 pub one_answer : TextsSpellOne → TextsSpellOrFail → AnswersAreOne
 one_answer one decide held words a b told (inl h) (inl k) = inl (h.1 ∙ sym k.1)
-one_answer one decide held words a b told (inl h) (inr k) = absurd (h.0 k.0 k.1)
-one_answer one decide held words a b told (inr h) (inl k) = absurd (k.0 h.0 h.1)
-one_answer one decide held words a b told (inr h) (inr k) =
+one_answer one decide held words a b told (inl h) (inr (inl k)) = absurd (h.0 k.0 k.1)
+one_answer one decide held words a b told (inl h) (inr (inr k)) = absurd (h.0 k.0 k.1)
+one_answer one decide held words a b told (inr (inl h)) (inl k) = absurd (k.0 h.0 h.1)
+one_answer one decide held words a b told (inr (inr h)) (inl k) = absurd (k.0 h.0 h.1)
+one_answer one decide held words a b told (inr (inl h)) (inr (inl k)) = inl (h.3 ∙ sym k.3)
+one_answer one decide held words a b told (inr (inl h)) (inr (inr k)) = absurd (h.2 (subst IsWithinHorizon (one_form words k.0 h.0 k.1 h.1) k.2))
+one_answer one decide held words a b told (inr (inr h)) (inr (inl k)) = absurd (k.2 (subst IsWithinHorizon (one_form words h.0 k.0 h.1 k.1) h.2))
+one_answer one decide held words a b told (inr (inr h)) (inr (inr k)) =
     let same : k.0 ≡ h.0 = one_form words k.0 h.0 k.1 h.1 in
-    one_to one decide h.0 held words a b (there_by (held (problem_name words)) told.0) (λ reads. there_by (held (second_name words)) (told.1 h.0 h.1 reads)) h.2 (subst (λ (c : Command). IsAnswerTo c held words b) same k.2)
+    one_to one decide h.0 held words a b (there_by (held (problem_name words)) told.0) (λ reads. there_by (held (second_name words)) (told.1 h.0 h.1 reads)) h.3 (subst (λ (c : Command). IsAnswerTo c held words b) same k.3)
 
 -- the answers over a file that spells an instance
 
@@ -154,10 +175,11 @@ of_command one decide command second file P a short spells (inl x) = absurd (not
 of_command one decide command second file P a short spells (inr h) = subst (λ (Q : Instance). IsAnswerOn command second Q a) (one file h.1.0 P h.1.1 spells) h.1.2
 
 pub answered : TextsSpellOne → TextsSpellOrFail → ProblemsAreAnswered
-answered one decide held words command file P a form e short spells (inl h) = absurd (h.0 command form)
-answered one decide held words command file P a form e short spells (inr h) =
+answered one decide held words command file P a form within e short spells (inl h) = absurd (h.0 command form)
+answered one decide held words command file P a form within e short spells (inr (inl h)) = absurd (h.2 (subst IsWithinHorizon (one_form words command h.0 form h.1) within))
+answered one decide held words command file P a form within e short spells (inr (inr h)) =
     let same : h.0 ≡ command = one_form words h.0 command h.1 form in
-    of_command one decide command (held (second_name words)) file P a short spells (ends_at command held words file a e (subst (λ (c : Command). IsAnswerTo c held words a) same h.2))
+    of_command one decide command (held (second_name words)) file P a short spells (ends_at command held words file a e (subst (λ (c : Command). IsAnswerTo c held words a) same h.3))
 
 -- a refutation is accepted
 pub taken : RefutationsAreAccepted
@@ -182,6 +204,9 @@ verified file P budget (RosterRefused why) a spells kind planned h = absurd kind
 verified file P budget Usage a spells kind planned h = absurd kind
 verified file P budget (FileRefused why) a spells kind planned h = absurd kind
 verified file P budget (TooLong which) a spells kind planned h = absurd kind
+verified file P budget Crew a spells kind planned h = absurd kind
+verified file P budget Horizon a spells kind planned h = absurd kind
+verified file P budget (NoEmployee e) a spells kind planned h = absurd kind
 
 -- what a reduction leaves is accepted
 pub kept : ReductionsAreAccepted
@@ -201,10 +226,55 @@ same_problem one held words P Q (inr f) h k = one f.0 P Q (at_bytes (held (probl
 any_instance : Instance
 any_instance = record { days = 0; weeks = 0; demand = []; shifts = []; off = record { least = 0; greatest = 0 }; work = record { least = 0; greatest = 0 }; pairs = []; triples = [] }
 
+-- the calendar of a roster has one text
+
+right_text : (command : Command) (P : Instance) (s : List Symbol) (text other : List ℕ) → KeepsLimits P → IsCalendarOf command P s text → IsCalendarOf command P s other → text ≡ other
+right_text (CrewCommand date days None) P s text other limits h k = one_table P s date days text other h k
+right_text (CrewCommand date days (Some e)) P s text other limits h k = one_duties P s date days e text other limits h k
+right_text Verify P s text other limits h k = absurd h
+right_text (Check workers) P s text other limits h k = absurd h
+right_text Reduce P s text other limits h k = absurd h
+right_text (Plan budget) P s text other limits h k = absurd h
+right_text Show P s text other limits h k = absurd h
+
+told_text : (command : Command) (P : Instance) (told : Told) (text other : List ℕ) → KeepsLimits P → IsThere told → IsCalendarText command told P text → IsCalendarText command told P other → text ≡ other
+told_text command P told text other limits (inl e) h k = absurd (at_missing told (λ bytes. (s : List Symbol) × SpellsRoster P bytes s × IsCalendarOf command P s text) e h)
+told_text command P told text other limits (inr r) h k =
+    let a = at_bytes told r.0 (λ bytes. (s : List Symbol) × SpellsRoster P bytes s × IsCalendarOf command P s text) r.1 h in
+    let b = at_bytes told r.0 (λ bytes. (s : List Symbol) × SpellsRoster P bytes s × IsCalendarOf command P s other) r.1 k in
+    let same : b.0 ≡ a.0 = one_roster P r.0 b.0 a.0 b.1 a.1 in
+    right_text command P a.0 text other limits a.2 (subst (λ (s : List Symbol). IsCalendarOf command P s other) same b.2)
+
+no_own : (a : Answer) → HasOwnText a → a ≡ Crew → ⊥
+no_own a h e = subst HasOwnText e h
+
+same_reply : (command : Command) (P : Instance) (told : Told) (a : Answer) (text other : List ℕ) → KeepsLimits P → (a ≡ Crew → IsThere told) → IsReplyText command told P a text → IsReplyText command told P a other → text ≡ other
+same_reply command P told a text other limits there (inl h) (inl k) = h.1 ∙ sym k.1
+same_reply command P told a text other limits there (inl h) (inr k) = absurd (no_own a h.0 k.0)
+same_reply command P told a text other limits there (inr h) (inl k) = absurd (no_own a k.0 h.0)
+same_reply command P told a text other limits there (inr h) (inr k) = told_text command P told text other limits (there h.0) h.1 k.1
+
+no_fixed : (a : Answer) → HasFixedText a → a ≡ Crew → ⊥
+no_fixed a h e = subst HasFixedText e h
+
+fixed_reply : (command : Command) (P : Instance) (told : Told) (a : Answer) (text other : List ℕ) → HasFixedText a → ((Q : Instance) → text ≡ text_of Q a) → IsReplyText command told P a other → text ≡ other
+fixed_reply command P told a text other fixed h (inl k) = h P ∙ sym k.1
+fixed_reply command P told a text other fixed h (inr k) = absurd (no_fixed a fixed k.0)
+
+keeps_of : (held : List ℕ → Told) (words : Words) (P : Instance) → IsThere (held (problem_name words)) → IsProblemOf held words P → KeepsLimits P
+keeps_of held words P (inl e) h = absurd (at_missing (held (problem_name words)) (λ file. SpellsProblem file P) e h)
+keeps_of held words P (inr f) h =
+    let spells = at_bytes (held (problem_name words)) f.0 (λ file. SpellsProblem file P) f.1 h in
+    valid_keeps P spells.valid
+
 pub one_text : TextsSpellOne → TextsAreOne
-one_text one held words a text other told (inl h) (inl k) = h.1 any_instance ∙ sym (k.1 any_instance)
-one_text one held words a text other told (inl h) (inr k) = h.1 k.0 ∙ sym k.2
-one_text one held words a text other told (inr h) (inl k) = h.2 ∙ sym (k.1 h.0)
-one_text one held words a text other told (inr h) (inr k) =
-    let same : h.0 ≡ k.0 = same_problem one held words h.0 k.0 (there_by (held (problem_name words)) told) h.1 k.1 in
-    h.2 ∙ ap (λ (P : Instance). text_of P a) same ∙ sym k.2
+one_text one held words a text other told second (inl h) (inl k) = h.1 any_instance ∙ sym (k.1 any_instance)
+one_text one held words a text other told second (inl h) (inr k) = fixed_reply k.0 k.2.0 (held (second_name words)) a text other h.0 h.1 k.2.2
+one_text one held words a text other told second (inr h) (inl k) = sym (fixed_reply h.0 h.2.0 (held (second_name words)) a other text k.0 k.1 h.2.2)
+one_text one held words a text other told second (inr h) (inr k) =
+    let P = h.2.0 in
+    let there = there_by (held (problem_name words)) told in
+    let command : k.0 ≡ h.0 = one_form words k.0 h.0 k.1 h.1 in
+    let problem : k.2.0 ≡ P = same_problem one held words k.2.0 P there k.2.1 h.2.1 in
+    let other_text = subst (λ (Q : Instance). IsReplyText h.0 (held (second_name words)) Q a other) problem (subst (λ (c : Command). IsReplyText c (held (second_name words)) k.2.0 a other) command k.2.2) in
+    same_reply h.0 P (held (second_name words)) a text other (keeps_of held words P there h.2.1) (λ e. there_by (held (second_name words)) (second e)) h.2.2 other_text

@@ -1,5 +1,5 @@
 -- What each answer says.
-use Rattle.std.specs.Prelude.{◌≡◌, ◌⊎◌, ℕ, List, Some}
+use Rattle.std.specs.Prelude.{◌≡◌, ◌⊎◌, ℕ, ◌<◌, ◌≤◌, List, Option, Some, None}
 use Rattle.rwsp_io.specs.Told.{Told, Rose}
 use Rattle.rwsp_terms.specs.Instance.{Instance}
 use Rattle.rwsp_terms.specs.Roster.{MeetsAll}
@@ -13,14 +13,14 @@ use Rattle.refutation_terms.specs.Log.{Log as LogValue, Passes}
 use Rattle.refutation_terms.specs.Strip.{IsReduced}
 use Rattle.refutation_terms.specs.Verdict.{IsAccepted, IsRefused}
 use Rattle.rule_reducer.specs.Needs.{NeedsEach, NeedsTogether}
-use Rattle.rwsp.specs.Commands.{Words, IsForm, HasNoForm, ReadsSecond, problem_name, second_name}
+use Rattle.rwsp.specs.Commands.{Words, IsForm, HasNoForm, ReadsSecond, IsWithinHorizon, problem_name, second_name}
 use Rattle.rwsp.specs.Inputs.{WhereTold, IsWithinLimit, IsTooLong, OfProblem, HasProblem}
 use Rattle.rwsp.specs.Plans.{IsPlanned}
 use Rattle.rwsp.specs.declared.command.Command.{Command}
-use Rattle.rwsp.specs.declared.command.Command.TheVariants.{Plan, Check, Verify, Reduce, Show}
+use Rattle.rwsp.specs.declared.command.Command.TheVariants.{Plan, Check, Verify, Reduce, Show, Crew as CrewCommand}
 use Rattle.rwsp.specs.declared.answer.InputKind.TheVariants.{Problem, Roster, Log}
 use Rattle.rwsp.specs.declared.answer.Answer.{Answer}
-use Rattle.rwsp.specs.declared.answer.Answer.TheVariants.{Roster as Found, NoRoster, Undecided, Meets, Breaks, RosterRefused, Accepted, LogRefused, Reduced, Shown, Usage, FileRefused, TooLong}
+use Rattle.rwsp.specs.declared.answer.Answer.TheVariants.{Roster as Found, NoRoster, Undecided, Meets, Breaks, RosterRefused, Accepted, LogRefused, Reduced, Shown, Usage, FileRefused, TooLong, Crew, Horizon, NoEmployee}
 
 -- what an answer says of the bytes of a problem file
 abbrev pub IsFileAnswer : Answer → List ℕ → Type 0
@@ -61,6 +61,22 @@ IsReduction (LogRefused why) P bytes = IsWithinLimit Log bytes × IsRefused P by
 IsReduction (Reduced h) P bytes = IsWithinLimit Log bytes × ((g : LogValue) × IsAccepted P bytes g × IsReduced P g h) × IsSparing P h
 IsReduction answer P bytes = ⊥
 
+-- the instance has the employee, where one is asked for
+abbrev pub HasEmployee : Instance → Option ℕ → Type 0
+HasEmployee P None = Unit {0}
+HasEmployee P (Some e) = e ≤ P.weeks
+
+-- the bytes spell a roster that meets every rule
+abbrev pub SpellsRight : Instance → List ℕ → Type 0
+SpellsRight P bytes = IsWithinLimit Roster bytes × ((s : List Symbol) × SpellsRoster P bytes s × MeetsAll P s)
+
+-- what an answer to a calendar says of an instance and the bytes of a roster
+abbrev pub IsCrewAnswer : Option ℕ → Answer → Instance → List ℕ → Type 0
+IsCrewAnswer employee Crew P bytes = SpellsRight P bytes × HasEmployee P employee
+IsCrewAnswer employee (NoEmployee e) P bytes = SpellsRight P bytes × (employee ≡ Some e) × (P.weeks < e)
+IsCrewAnswer employee Meets P bytes = ⊥
+IsCrewAnswer employee answer P bytes = IsRosterAnswer answer P bytes
+
 -- an answer that the problem's file has by itself
 abbrev pub IsOfFile : Answer → Type 0
 IsOfFile (TooLong Problem) = Unit {0}
@@ -74,6 +90,13 @@ IsOfRoster (RosterRefused why) = Unit {0}
 IsOfRoster Meets = Unit {0}
 IsOfRoster (Breaks broken) = Unit {0}
 IsOfRoster answer = ⊥
+
+-- an answer that a calendar has
+abbrev pub IsOfCrew : Answer → Type 0
+IsOfCrew Crew = Unit {0}
+IsOfCrew (NoEmployee e) = Unit {0}
+IsOfCrew Meets = ⊥
+IsOfCrew answer = IsOfRoster answer
 
 -- an answer that a log has
 abbrev pub IsOfLog : Answer → Type 0
@@ -101,6 +124,7 @@ abbrev pub IsOfSecond : Command → Answer → Type 0
 IsOfSecond Verify answer = IsOfRoster answer
 IsOfSecond (Check workers) answer = IsOfLog answer
 IsOfSecond Reduce answer = IsOfReduction answer
+IsOfSecond (CrewCommand date days employee) answer = IsOfCrew answer
 IsOfSecond command answer = ⊥
 
 -- an answer that a command has on a problem, whatever the files hold
@@ -114,6 +138,7 @@ abbrev pub IsSecondAnswer : Command → Answer → Instance → List ℕ → Typ
 IsSecondAnswer Verify answer P bytes = IsRosterAnswer answer P bytes
 IsSecondAnswer (Check workers) answer P bytes = IsLogAnswer answer P bytes
 IsSecondAnswer Reduce answer P bytes = IsReduction answer P bytes
+IsSecondAnswer (CrewCommand date days employee) answer P bytes = IsCrewAnswer employee answer P bytes
 IsSecondAnswer command answer P bytes = ⊥
 
 -- what the answer to a command says of the instance that the first file spells, and of what the second file tells
@@ -132,7 +157,8 @@ IsAnswerTo command held words answer =
 abbrev pub IsAnswer : (List ℕ → Told) → Words → Answer → Type 0
 IsAnswer held words answer =
     (HasNoForm words × (answer ≡ Usage))
-    ⊎ ((command : Command) × IsForm words command × IsAnswerTo command held words answer)
+    ⊎ (((command : Command) × IsForm words command × (IsWithinHorizon command → ⊥) × (answer ≡ Horizon))
+    ⊎ ((command : Command) × IsForm words command × IsWithinHorizon command × IsAnswerTo command held words answer))
 
 -- a file could not be read: the count of the problem's file has risen, or that of the second file, and then the first spells an instance
 abbrev pub IsReadFault : (List ℕ → Told) → (before now : List ℕ → ℕ) → Words → Type 0

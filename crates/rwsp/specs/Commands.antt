@@ -3,8 +3,10 @@ use Rattle.std.specs.Prelude.{◌≡◌, ◌≢◌, ℕ, ◌<◌, ◌≤◌, Lis
 use Rattle.std.specs.String.{string_bytes}
 use Rattle.std.specs.declared.alloc.Global.{Global}
 use Rattle.rwsp_text.specs.Numbers.{number_of}
+use Rattle.crew_calendar.specs.Calendar.{IsDateWord, Fits}
+use Rattle.jiff.specs.Types.{Date}
 use Rattle.rwsp.specs.declared.command.Command.{Command}
-use Rattle.rwsp.specs.declared.command.Command.TheVariants.{Plan, Check, Verify, Reduce, Show}
+use Rattle.rwsp.specs.declared.command.Command.TheVariants.{Plan, Check, Verify, Reduce, Show, Crew}
 
 -- the words behind the program's name
 abbrev pub Words : Type 0
@@ -32,6 +34,17 @@ usual_workers = 4
 abbrev pub most_workers : ℕ
 most_workers = 64
 
+-- the most days of a calendar, and the greatest number of an employee
+abbrev pub most_days : ℕ
+most_days = 400
+
+abbrev pub most_employees : ℕ
+most_employees = 600
+
+-- a roster's calendar from a date on, for so many days
+abbrev pub IsCrewForm : (word file second date days : List ℕ) → (first : Date) → ℕ → Type 0
+IsCrewForm word file second date days first n = (word ≡ codes "crew") × IsFileWord file × IsFileWord second × IsDateWord date first × IsCount days most_days n
+
 -- the words are a form of the command
 abbrev pub IsForm : Words → Command → Type 0
 IsForm (word ∷ file ∷ []) Show = (string_bytes word ≡ codes "show") × IsFileWord (string_bytes file)
@@ -41,6 +54,8 @@ IsForm (word ∷ file ∷ second ∷ []) Reduce = (string_bytes word ≡ codes "
 IsForm (word ∷ file ∷ second ∷ []) (Check workers) = (string_bytes word ≡ codes "check") × IsFileWord (string_bytes file) × IsFileWord (string_bytes second) × (workers ≡ usual_workers)
 IsForm (word ∷ file ∷ option ∷ number ∷ []) (Plan budget) = (string_bytes word ≡ codes "plan") × IsFileWord (string_bytes file) × (string_bytes option ≡ codes "--budget") × IsCount (string_bytes number) greatest_budget budget
 IsForm (word ∷ file ∷ second ∷ option ∷ number ∷ []) (Check workers) = (string_bytes word ≡ codes "check") × IsFileWord (string_bytes file) × IsFileWord (string_bytes second) × (string_bytes option ≡ codes "--workers") × IsCount (string_bytes number) most_workers workers
+IsForm (word ∷ file ∷ second ∷ date ∷ days ∷ []) (Crew first n employee) = IsCrewForm (string_bytes word) (string_bytes file) (string_bytes second) (string_bytes date) (string_bytes days) first n × (employee ≡ None)
+IsForm (word ∷ file ∷ second ∷ date ∷ days ∷ number ∷ []) (Crew first n employee) = IsCrewForm (string_bytes word) (string_bytes file) (string_bytes second) (string_bytes date) (string_bytes days) first n × ((e : ℕ) × IsCount (string_bytes number) most_employees e × (employee ≡ Some e))
 IsForm words command = ⊥
 
 -- the words are a form of no command
@@ -52,12 +67,32 @@ abbrev pub ReadsSecond : Command → Type 0
 ReadsSecond Verify = Unit {0}
 ReadsSecond Reduce = Unit {0}
 ReadsSecond (Check workers) = Unit {0}
+ReadsSecond (Crew date days employee) = Unit {0}
 ReadsSecond command = ⊥
 
 -- the workers of the command, where it has some, are from one to the most that may be
 abbrev pub HasFewWorkers : Command → Type 0
 HasFewWorkers (Check workers) = (1 ≤ workers) × (workers ≤ most_workers)
 HasFewWorkers command = Unit {0}
+
+-- a calendar that the command asks for ends by 9999-12-31, with all duties
+abbrev pub IsWithinHorizon : Command → Type 0
+IsWithinHorizon (Crew date days employee) = Fits date days
+IsWithinHorizon command = Unit {0}
+
+-- the days of a calendar, and the number of an employee
+abbrev pub IsEmployeeNumber : Option ℕ → Type 0
+IsEmployeeNumber None = Unit {0}
+IsEmployeeNumber (Some e) = 1 ≤ e
+
+abbrev pub HasFewDays : Command → Type 0
+HasFewDays (Crew date days employee) = (days ≤ most_days) × IsEmployeeNumber employee
+HasFewDays command = Unit {0}
+
+-- the command asks for no calendar
+abbrev pub AsksNoCalendar : Command → Type 0
+AsksNoCalendar (Crew date days employee) = ⊥
+AsksNoCalendar command = Unit {0}
 
 -- the bytes of a word, where there is one
 abbrev pub word_bytes : Option (String Global) → List ℕ

@@ -5,7 +5,7 @@ use Rattle.rwsp_terms.specs.Instance.{Instance}
 use Rattle.rwsp_file.specs.Spelling.{SpellsProblem}
 use Rattle.rwsp.specs.Commands.{Words, problem_name}
 use Rattle.rwsp.specs.declared.command.Command.{Command}
-use Rattle.rwsp.specs.declared.command.Command.TheVariants.{Verify}
+use Rattle.rwsp.specs.declared.command.Command.TheVariants.{Verify, Crew}
 use Rattle.rwsp.specs.declared.answer.InputKind.{InputKind}
 use Rattle.rwsp.specs.declared.answer.InputKind.TheVariants.{Problem, Roster, Log}
 
@@ -24,6 +24,7 @@ longest Log = 536870912
 -- the kind of a command's second file
 abbrev pub second_kind : Command → InputKind
 second_kind Verify = Roster
+second_kind (Crew date days employee) = Roster
 second_kind command = Log
 
 -- at most as long as its kind may be

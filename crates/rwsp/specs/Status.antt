@@ -1,7 +1,7 @@
 -- The status of each outcome.
 use Rattle.std.specs.Prelude.{ℕ}
 use Rattle.rwsp.specs.declared.answer.Answer.{Answer}
-use Rattle.rwsp.specs.declared.answer.Answer.TheVariants.{Roster, NoRoster, Undecided, Accepted, LogRefused, Reduced, Meets, Shown, Breaks, RosterRefused, Usage, FileRefused, TooLong}
+use Rattle.rwsp.specs.declared.answer.Answer.TheVariants.{Roster, NoRoster, Undecided, Accepted, LogRefused, Reduced, Meets, Shown, Breaks, RosterRefused, Usage, FileRefused, TooLong, Crew, Horizon, NoEmployee}
 use Rattle.rwsp.specs.declared.answer.Outcome.{Outcome}
 use Rattle.rwsp.specs.declared.answer.Outcome.TheVariants.{Done, ReadFault, WriteFault, Memory}
 
@@ -11,11 +11,14 @@ status_of_answer (Accepted R) = 0
 status_of_answer (Reduced g) = 0
 status_of_answer Meets = 0
 status_of_answer Shown = 0
+status_of_answer Crew = 0
 status_of_answer (NoRoster g) = 1
 status_of_answer Usage = 2
 status_of_answer (FileRefused why) = 3
 status_of_answer (RosterRefused why) = 3
 status_of_answer (TooLong kind) = 3
+status_of_answer Horizon = 3
+status_of_answer (NoEmployee employee) = 3
 status_of_answer (Undecided g) = 4
 status_of_answer (LogRefused why) = 5
 status_of_answer (Breaks broken) = 5

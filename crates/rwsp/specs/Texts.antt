@@ -12,7 +12,6 @@ use Rattle.rwsp_terms.specs.declared.data.Rule.TheVariants.{Day}
 use Rattle.rwsp_file.specs.Text.{problem_text}
 use Rattle.rwsp_file.specs.declared.refusal.FileRefusal.{FileRefusal}
 use Rattle.rwsp_file.specs.declared.refusal.FileRefusal.TheVariants.{Ends, Number, Range, Row, Name, Unknown, Extra}
-use Rattle.roster_print.specs.RosterText.{roster_text}
 use Rattle.roster_print.specs.RuleText.{rule_text}
 use Rattle.roster_print.specs.declared.refusal.RosterRefusal.{RosterRefusal}
 use Rattle.roster_print.specs.declared.refusal.RosterRefusal.TheVariants.{Unknown as UnknownName, Width, Weeks}
@@ -21,12 +20,16 @@ use Rattle.refutation_terms.specs.declared.lines.LogRefusal.{LogRefusal}
 use Rattle.refutation_terms.specs.declared.lines.LogRefusal.TheVariants as Refusals
 use Rattle.refutation_terms.specs.Log.{Fits}
 use Rattle.refutation_terms.specs.LogText.{log_text}
-use Rattle.rwsp.specs.Commands.{Words}
-use Rattle.rwsp.specs.Inputs.{IsProblemOf}
+use Rattle.roster_print.specs.RosterText.{roster_text, SpellsRoster}
+use Rattle.crew_calendar.specs.Texts.{IsTable, AreDuties}
+use Rattle.rwsp.specs.Commands.{Words, IsForm, second_name}
+use Rattle.rwsp.specs.Inputs.{WhereTold, IsProblemOf}
+use Rattle.rwsp.specs.declared.command.Command.{Command}
+use Rattle.rwsp.specs.declared.command.Command.TheVariants.{Crew as CrewCommand}
 use Rattle.rwsp.specs.declared.answer.InputKind.{InputKind}
 use Rattle.rwsp.specs.declared.answer.InputKind.TheVariants as Kinds
 use Rattle.rwsp.specs.declared.answer.Answer.{Answer}
-use Rattle.rwsp.specs.declared.answer.Answer.TheVariants.{Roster, NoRoster, Undecided, Accepted, LogRefused, Reduced, Meets, Shown, Breaks, RosterRefused, Usage, FileRefused, TooLong}
+use Rattle.rwsp.specs.declared.answer.Answer.TheVariants.{Roster, NoRoster, Undecided, Accepted, LogRefused, Reduced, Meets, Shown, Breaks, RosterRefused, Usage, FileRefused, TooLong, Crew, Horizon, NoEmployee}
 
 -- the text and a line feed
 abbrev pub line : List ℕ → List ℕ
@@ -84,7 +87,7 @@ abbrev pub breaks_text : Instance → Broken → List ℕ
 breaks_text P broken = codes "breaks rule " ++ decimal broken.rule ++ codes " " ++ broken_text P (rule_of P broken.rule) broken
 
 abbrev pub usage_text : List ℕ
-usage_text = codes "usage: rwsp plan FILE [--budget B] | check FILE LOG [--workers N] | verify FILE ROSTER | reduce FILE LOG | show FILE | trial NUMBER WEEKS"
+usage_text = codes "usage: rwsp plan FILE [--budget B] | check FILE LOG [--workers N] | verify FILE ROSTER | reduce FILE LOG | show FILE | trial NUMBER WEEKS | crew FILE ROSTER DATE DAYS [EMPLOYEE]"
 
 abbrev pub kind_text : InputKind → List ℕ
 kind_text Kinds.Problem = codes "too long: problem"
@@ -100,6 +103,7 @@ HasFixedText (LogRefused why) = ⊥
 HasFixedText (Reduced g) = ⊥
 HasFixedText (Breaks broken) = ⊥
 HasFixedText Shown = ⊥
+HasFixedText Crew = ⊥
 HasFixedText answer = Unit {0}
 
 -- the same, and it lists nothing
@@ -107,7 +111,7 @@ abbrev pub HasFixedLine : Answer → Type 0
 HasFixedLine (Accepted R) = ⊥
 HasFixedLine answer = HasFixedText answer
 
--- the text of an answer, for the instance that the problem's file spells
+-- the text of an answer, for the instance that the problem's file spells. A calendar's text is of more than the instance
 abbrev pub text_of : Instance → Answer → List ℕ
 text_of P (Roster s) = roster_text P s.cells
 text_of P (NoRoster g) = log_text P g
@@ -122,6 +126,9 @@ text_of P Shown = problem_text P
 text_of P Usage = line usage_text
 text_of P (FileRefused why) = line (file_refusal_text why)
 text_of P (TooLong kind) = line (kind_text kind)
+text_of P Horizon = line (codes "horizon refused")
+text_of P (NoEmployee e) = line (codes "no employee " ++ decimal e)
+text_of P Crew = []
 
 -- a word that escapes has symbols of the instance
 abbrev pub HasSymbols : Instance → LogRefusal → Type 0
@@ -135,11 +142,32 @@ IsPrintable P (NoRoster g) = Fits P g
 IsPrintable P (Undecided g) = Fits P g
 IsPrintable P (LogRefused why) = HasSymbols P why
 IsPrintable P (Reduced g) = Fits P g
+IsPrintable P Crew = ⊥
 IsPrintable P (Breaks broken) = (r : Rule) × (rule_of P broken.rule ≡ Some r)
 IsPrintable P answer = Unit {0}
+
+-- an answer whose text depends on no more than the instance
+abbrev pub HasOwnText : Answer → Type 0
+HasOwnText Crew = ⊥
+HasOwnText answer = Unit {0}
+
+-- the text is the calendar that the command asks for, of a roster
+abbrev pub IsCalendarOf : Command → Instance → List Symbol → List ℕ → Type 0
+IsCalendarOf (CrewCommand date days None) P s text = IsTable P s date days text
+IsCalendarOf (CrewCommand date days (Some e)) P s text = AreDuties P s date days e text
+IsCalendarOf command P s text = ⊥
+
+-- the same, of the roster that the second file spells
+abbrev pub IsCalendarText : Command → Told → Instance → List ℕ → Type 0
+IsCalendarText command told P text = WhereTold told (λ bytes. (s : List Symbol) × SpellsRoster P bytes s × IsCalendarOf command P s text)
+
+-- the text of the answer to a command, for an instance and what the second file tells
+abbrev pub IsReplyText : Command → Told → Instance → Answer → List ℕ → Type 0
+IsReplyText command told P answer text =
+    (HasOwnText answer × (text ≡ text_of P answer)) ⊎ ((answer ≡ Crew) × IsCalendarText command told P text)
 
 -- the text is the answer's, which is the same for every instance or is for the one that the problem's file spells
 abbrev pub IsTextOf : (List ℕ → Told) → Words → Answer → List ℕ → Type 0
 IsTextOf held words answer text =
     (HasFixedText answer × ((P : Instance) → text ≡ text_of P answer))
-    ⊎ ((P : Instance) × IsProblemOf held words P × (text ≡ text_of P answer))
+    ⊎ ((command : Command) × IsForm words command × ((P : Instance) × IsProblemOf held words P × IsReplyText command (held (second_name words)) P answer text))

@@ -45,6 +45,12 @@ pub enum Answer {
     FileRefused(FileRefusal),
     /// A file is longer than its kind may be.
     TooLong(InputKind),
+    /// The calendar of a roster that meets every rule: a table of all employees, or the duties of one.
+    Crew,
+    /// The calendar would go past 9999-12-31.
+    Horizon,
+    /// The problem has no employee with this number.
+    NoEmployee(u32),
 }
 
 /// Why there is no answer.
@@ -104,10 +110,11 @@ impl Answer {
     {
         match self {
             Answer::Roster(_) | Answer::Accepted(_) | Answer::Reduced(_) => 0,
-            Answer::Meets | Answer::Shown => 0,
+            Answer::Meets | Answer::Shown | Answer::Crew => 0,
             Answer::NoRoster(_) => 1,
             Answer::Usage => 2,
             Answer::FileRefused(_) | Answer::RosterRefused(_) | Answer::TooLong(_) => 3,
+            Answer::Horizon | Answer::NoEmployee(_) => 3,
             Answer::Undecided(_) => 4,
             Answer::LogRefused(_) | Answer::Breaks(_) => 5,
         }

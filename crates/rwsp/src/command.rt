@@ -1,22 +1,36 @@
 // The words of the command line.
-ghost use Rattle.std.specs.Prelude.{◌≡◌, ℕ, ◌<◌, ◌↔◌, [], ◌∷◌, length, IsTrue, MatchOption, slice_get};
-ghost use Rattle.rwsp.specs.Commands.{IsFileWord, IsCount, IsForm, HasNoForm, word_bytes};
+ghost use Rattle.std.specs.Prelude.{◌≡◌, ◌≢◌, codes, ℕ, ◌<◌, ◌↔◌, [], ◌∷◌, length, IsTrue, MatchOption, slice_get};
+ghost use Rattle.std.specs.String.{string_bytes};
+ghost use Rattle.jiff.specs.Types.{Date as PlainDate};
+ghost use Rattle.rwsp.specs.Commands.{IsFileWord, IsCount, IsForm, IsCrewForm, HasNoForm, HasFewDays, IsWithinHorizon, word_bytes};
 
+use crew_calendar::{date_of, fits};
+use jiff::civil::Date;
 use rwsp_text::number;
 
 /// What is to be done. The names of files are words of their own.
 #[derive(Clone, Copy, Debug, PartialEq, Eq)]
 pub enum Command {
     /// A roster for a problem, or the log of a refutation of at most so many lines.
-    Plan { budget: u32 },
+    Plan {
+        budget: u32,
+    },
     /// Whether a log passes, by so many workers.
-    Check { workers: u32 },
+    Check {
+        workers: u32,
+    },
     /// Whether a roster meets all rules of a problem.
     Verify,
     /// A log without the rules that it can do without.
     Reduce,
     /// The canonical text of a problem.
     Show,
+    /// The calendar of a roster from a date on, for so many days: of all employees, or the duties of one.
+    Crew {
+        date: Date,
+        days: u32,
+        employee: Option<u32>,
+    },
 }
 
 /// The budget of `plan` where none is given, and the greatest.
@@ -28,6 +42,11 @@ const GREATEST_BUDGET: u32 = 200_000;
 const USUAL_WORKERS: u32 = 4;
 
 const MOST_WORKERS: u32 = 64;
+
+/// The most days of a calendar, and the greatest number of an employee.
+const MOST_DAYS: u32 = 400;
+
+const MOST_EMPLOYEES: u32 = 600;
 
 fn is_file_word(word: &str) -> bool
     ensures { IsTrue result ↔ IsFileWord word.now }
@@ -52,7 +71,10 @@ pub fn command_of(words: &Vec<String>) -> Option<Command>
         [word, file] => on_one_file(word, file),
         [word, file, second] => on_two_files(word, file, second),
         [word, file, option, number] => plan_by_option(word, file, option, number),
-        [word, file, second, option, number] => check_by_option(word, file, second, option, number),
+        [word, file, second, option, number] => on_five_words(word, file, second, option, number),
+        [word, file, second, date, days, number] => {
+            crew_of_one(word, file, second, date, days, number)
+        }
         _ => None,
     }
 }
@@ -115,6 +137,96 @@ fn plan_by_option(word: &String, file: &String, option: &String, number: &String
     Some(Command::Plan { budget })
 }
 
+// `check` with a number of workers, or `crew` for all employees.
+fn on_five_words(
+    word: &String,
+    file: &String,
+    second: &String,
+    option: &String,
+    number: &String,
+) -> Option<Command>
+    ensures { MatchOption result (HasNoForm (word.now ∷ file.now ∷ second.now ∷ option.now ∷ number.now ∷ [])) (IsForm (word.now ∷ file.now ∷ second.now ∷ option.now ∷ number.now ∷ [])) }
+{
+    if word.as_str() == "crew" {
+        return crew_of_all(word, file, second, option, number);
+    }
+    check_by_option(word, file, second, option, number)
+}
+
+// The date and the number of days of a calendar.
+fn dates_of(
+    word: &String,
+    file: &String,
+    second: &String,
+    date: &String,
+    days: &String,
+) -> Option<(Date, u32)>
+    ensures { MatchOption result ((first : PlainDate) (n : ℕ) → IsCrewForm (string_bytes word.now) (string_bytes file.now) (string_bytes second.now) (string_bytes date.now) (string_bytes days.now) first n → ⊥) (λ both. IsCrewForm (string_bytes word.now) (string_bytes file.now) (string_bytes second.now) (string_bytes date.now) (string_bytes days.now) both.0 both.1) }
+{
+    if word.as_str() != "crew" {
+        return None;
+    }
+    if !is_file_word(file.as_str()) {
+        return None;
+    }
+    if !is_file_word(second.as_str()) {
+        return None;
+    }
+    let date = date_of(date.as_str())?;
+    let days = count_in(days.as_str(), MOST_DAYS)?;
+    Some((date, days))
+}
+
+// `crew` for all employees.
+fn crew_of_all(
+    word: &String,
+    file: &String,
+    second: &String,
+    date: &String,
+    days: &String,
+) -> Option<Command>
+    requires { string_bytes word.now ≡ codes "crew" }
+    ensures { MatchOption result (HasNoForm (word.now ∷ file.now ∷ second.now ∷ date.now ∷ days.now ∷ [])) (IsForm (word.now ∷ file.now ∷ second.now ∷ date.now ∷ days.now ∷ [])) }
+{
+    let (date, days) = dates_of(word, file, second, date, days)?;
+    Some(Command::Crew {
+        date,
+        days,
+        employee: None,
+    })
+}
+
+// `crew` for one employee.
+fn crew_of_one(
+    word: &String,
+    file: &String,
+    second: &String,
+    date: &String,
+    days: &String,
+    number: &String,
+) -> Option<Command>
+    ensures { MatchOption result (HasNoForm (word.now ∷ file.now ∷ second.now ∷ date.now ∷ days.now ∷ number.now ∷ [])) (IsForm (word.now ∷ file.now ∷ second.now ∷ date.now ∷ days.now ∷ number.now ∷ [])) }
+{
+    let (date, days) = dates_of(word, file, second, date, days)?;
+    let employee = count_in(number.as_str(), MOST_EMPLOYEES)?;
+    Some(Command::Crew {
+        date,
+        days,
+        employee: Some(employee),
+    })
+}
+
+/// Whether a calendar that the command asks for ends by 9999-12-31, with all duties.
+pub fn is_within_horizon(command: &Command) -> bool
+    requires { HasFewDays command.now }
+    ensures { IsTrue result ↔ IsWithinHorizon command.now }
+{
+    match command {
+        Command::Crew { date, days, .. } => fits(*date, *days),
+        _ => true,
+    }
+}
+
 // `check` with a number of workers.
 fn check_by_option(
     word: &String,
@@ -123,6 +235,7 @@ fn check_by_option(
     option: &String,
     number: &String,
 ) -> Option<Command>
+    requires { string_bytes word.now ≢ codes "crew" }
     ensures { MatchOption result (HasNoForm (word.now ∷ file.now ∷ second.now ∷ option.now ∷ number.now ∷ [])) (IsForm (word.now ∷ file.now ∷ second.now ∷ option.now ∷ number.now ∷ [])) }
 {
     if word.as_str() != "check" {

@@ -4,6 +4,7 @@
 mod answer;
 mod check;
 mod command;
+mod crew;
 mod input;
 mod laws;
 mod log_text;

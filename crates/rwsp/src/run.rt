@@ -4,13 +4,14 @@ ghost use Rattle.std.specs.Io.KnownBytes.{Appends, Keeps};
 ghost use Rattle.rwsp_io.specs.Told.{Rose, NeverFall, Missing};
 ghost use Rattle.rwsp_terms.specs.Instance.{Instance};
 ghost use Rattle.rwsp.specs.Answers.{IsAnswer, IsAnswerOn, IsReadFault};
-ghost use Rattle.rwsp.specs.Commands.{IsForm, ReadsSecond, greatest_budget, problem_name, second_name};
+ghost use Rattle.rwsp.specs.Commands.{IsForm, ReadsSecond, IsWithinHorizon, AsksNoCalendar, greatest_budget, problem_name, second_name};
 ghost use Rattle.rwsp.specs.Plans.{IsPlanned};
-ghost use Rattle.rwsp.specs.Texts.{IsTextOf, HasFixedText, IsPrintable, text_of};
+ghost use Rattle.rwsp.specs.Texts.{IsTextOf, IsReplyText, HasOwnText, HasFixedText, IsPrintable, text_of};
 ghost use Rattle.rwsp.specs.declared.answer.Answer.{Answer};
 
 use crate::answer::{Answer, Outcome, Stop};
-use crate::command::{Command, command_of, word_at};
+use crate::command::{Command, command_of, is_within_horizon, word_at};
+use crate::crew::crew_reply;
 use crate::input::{Exit, problem_in};
 use crate::plan::planned;
 use crate::second::second_answer;
@@ -50,7 +51,7 @@ pub fn run<R: Threads + Sync, S: Shelf, K: Sink, G: Gate>(
 
     // Where a file couldn't be read, or there was no memory, nothing was written.
     ensures read_fault { result ≡ Outcome.ReadFault → IsReadFault (S.held shelf.old) (S.faults shelf.old) (S.faults shelf.new) words.now.items }
-    ensures missing { (command : Command) → IsForm words.now.items command → S.held shelf.old (problem_name words.now.items) ≡ Missing → result ≡ Outcome.ReadFault }
+    ensures missing { (command : Command) → IsForm words.now.items command → IsWithinHorizon command → S.held shelf.old (problem_name words.now.items) ≡ Missing → result ≡ Outcome.ReadFault }
     ensures silent_at_fault { result ≡ Outcome.ReadFault → Keeps (K.got out.old) (K.got out.new) }
     ensures silent_without_memory { result ≡ Outcome.Memory → Keeps (K.got out.old) (K.got out.new) }
 {
@@ -76,19 +77,59 @@ fn reply_to<R: Threads + Sync, S: Shelf, G: Gate>(
 ) -> Result<Reply, Stop>
     ensures answer { IfOk result (λ r. IsAnswer (S.held shelf.old) words.now.items r.answer) }
     ensures text { IfOk result (λ r. IsTextOf (S.held shelf.old) words.now.items r.answer r.text.items) }
-    ensures missing { (command : Command) → IsForm words.now.items command → S.held shelf.old (problem_name words.now.items) ≡ Missing → IsErrOf result Stop.ReadFault }
+    ensures missing { (command : Command) → IsForm words.now.items command → IsWithinHorizon command → S.held shelf.old (problem_name words.now.items) ≡ Missing → IsErrOf result Stop.ReadFault }
     ensures fault { IsErrOf result Stop.ReadFault → IsReadFault (S.held shelf.old) (S.faults shelf.old) (S.faults shelf.new) words.now.items }
 {
     let Some(command) = command_of(words) else {
         return fixed(alloc, Answer::Usage);
     };
+    if !is_within_horizon(&command) {
+        return fixed(alloc, Answer::Horizon);
+    }
     let problem = match problem_in(alloc, shelf, word_at(words, 1)) {
         Ok(problem) => problem,
         Err(Exit::Answer(answer)) => return fixed(alloc, answer),
         Err(Exit::Stop(stop)) => return Err(stop),
     };
-    let answer = answer_on(rt, alloc, words, shelf, &problem, command, gate)?;
-    printed(alloc, &problem, answer)
+    on_problem(rt, alloc, words, shelf, &problem, command, gate)
+}
+
+// The reply to a command, for its problem.
+fn on_problem<R: Threads + Sync, S: Shelf, G: Gate>(
+    rt: &R,
+    alloc: Global,
+    words: &Vec<String>,
+    shelf: &mut S,
+    problem: &Problem,
+    command: Command,
+    gate: &G,
+) -> Result<Reply, Stop>
+    requires form { IsForm words.now.items command }
+    requires horizon { IsWithinHorizon command }
+    ensures answer { IfOk result (λ r. IsAnswerOn command (S.held shelf.old (second_name words.now.items)) problem.now r.answer) }
+    ensures text { IfOk result (λ r. IsReplyText command (S.held shelf.old (second_name words.now.items)) problem.now r.answer r.text.items) }
+    ensures second { IsErrOf result Stop.ReadFault → ReadsSecond command }
+    ensures fault { IsErrOf result Stop.ReadFault → Rose (S.faults shelf.old (second_name words.now.items)) (S.faults shelf.new (second_name words.now.items)) }
+    ensures faults { NeverFall (S.faults shelf.old) (S.faults shelf.new) }
+{
+    if let Command::Crew {
+        date,
+        days,
+        employee,
+    } = command
+    {
+        return crew_reply(
+            alloc,
+            shelf,
+            problem,
+            word_at(words, 2),
+            date,
+            days,
+            employee,
+        );
+    }
+    let answer = answer_on(rt, alloc, words, shelf, problem, command, gate)?;
+    printed(alloc, problem, answer)
 }
 
 // The answer to a command, for its problem.
@@ -101,7 +142,8 @@ fn answer_on<R: Threads + Sync, S: Shelf, G: Gate>(
     command: Command,
     gate: &G,
 ) -> Result<Answer, Stop>
-    requires { IsForm words.now.items command }
+    requires form { IsForm words.now.items command }
+    requires other { AsksNoCalendar command }
     ensures answer { IfOk result (IsAnswerOn command (S.held shelf.old (second_name words.now.items)) problem.now) }
     ensures printable { IfOk result (IsPrintable problem.now) }
     ensures second { IsErrOf result Stop.ReadFault → ReadsSecond command }
@@ -127,10 +169,12 @@ fn fixed(alloc: Global, answer: Answer) -> Result<Reply, Stop>
     Ok(Reply { answer, text })
 }
 
-// The reply of an answer on a problem.
-fn printed(alloc: Global, problem: &Problem, answer: Answer) -> Result<Reply, Stop>
+/// The reply of an answer on a problem.
+#[tactic(auto, using(crate::proofs::Replies::own_text))]
+pub fn printed(alloc: Global, problem: &Problem, answer: Answer) -> Result<Reply, Stop>
     requires { IsPrintable problem.now answer }
     ensures answer { IfOk result (λ r. r.answer ≡ answer) }
+    ensures own { IfOk result (λ r. HasOwnText r.answer) }
     ensures text { IfOk result (λ r. r.text.items ≡ text_of problem.now r.answer) }
     ensures fault { IsErrOf result Stop.ReadFault → ⊥ }
 {

@@ -1,7 +1,7 @@
 // The answers to a second file.
 ghost use Rattle.std.specs.Prelude.{◌≡◌, IfOk, IfErr};
 ghost use Rattle.rwsp_io.specs.Told.{NeverFall, Rose};
-ghost use Rattle.rwsp.specs.Commands.{ReadsSecond, HasFewWorkers};
+ghost use Rattle.rwsp.specs.Commands.{ReadsSecond, HasFewWorkers, AsksNoCalendar};
 ghost use Rattle.rwsp.specs.Inputs.{WhereTold, IsWithinLimit, second_kind};
 ghost use Rattle.rwsp.specs.Answers.{IsOfSecond, IsSecondAnswer};
 ghost use Rattle.rwsp.specs.Exits.{IsStop};
@@ -30,6 +30,7 @@ pub fn second_answer<R: Threads + Sync, S: Shelf, G: Gate>(
     gate: &G,
 ) -> Result<Answer, Stop>
     requires reads { ReadsSecond command }
+    requires other { AsksNoCalendar command }
     requires workers { HasFewWorkers command }
     ensures answer { IfOk result (λ a. WhereTold (S.held shelf.old name.now) (IsSecondAnswer command a problem.now)) }
     ensures kind { IfOk result (IsOfSecond command) }
@@ -50,7 +51,7 @@ fn second_kind(command: Command) -> InputKind
     ensures { result ≡ second_kind command }
 {
     match command {
-        Command::Verify => InputKind::Roster,
+        Command::Verify | Command::Crew { .. } => InputKind::Roster,
         _ => InputKind::Log,
     }
 }
@@ -65,6 +66,7 @@ fn verdict<R: Threads + Sync, G: Gate>(
     gate: &G,
 ) -> Result<Answer, AllocError>
     requires reads { ReadsSecond command }
+    requires other { AsksNoCalendar command }
     requires workers { HasFewWorkers command }
     requires short { IsWithinLimit (second_kind command) bytes.now }
     ensures answer { IfOk result (λ a. IsSecondAnswer command a problem.now bytes.now) }

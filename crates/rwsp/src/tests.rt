@@ -1,4 +1,5 @@
 // Command lines over files in memory: what is printed, to the byte, and the status.
+mod crews;
 mod logs;
 mod plans;
 
@@ -192,11 +193,11 @@ fn refused_problems(rt: HostRuntime) -> Result<(), Fail> {
 }
 
 const USAGE: &str =
-    "usage: rwsp plan FILE [--budget B] | check FILE LOG [--workers N] | verify FILE ROSTER | reduce FILE LOG | show FILE | trial NUMBER WEEKS\n";
+    "usage: rwsp plan FILE [--budget B] | check FILE LOG [--workers N] | verify FILE ROSTER | reduce FILE LOG | show FILE | trial NUMBER WEEKS | crew FILE ROSTER DATE DAYS [EMPLOYEE]\n";
 
 #[test]
 fn words_that_are_no_command(rt: HostRuntime) -> Result<(), Fail> {
-    let cases: [&[&str]; 12] = [
+    let cases: [&[&str]; 20] = [
         &[],
         &["show", "-x"],
         &["verify", "F", ""],
@@ -209,6 +210,14 @@ fn words_that_are_no_command(rt: HostRuntime) -> Result<(), Fail> {
         &["check", "F", "--workers", "4"],
         &["check", "F", "G", "--workers", "0"],
         &["check", "F", "G", "--workers", "65"],
+        &["crew", "F", "R", "2025-02-29", "1"],
+        &["crew", "F", "R", "2025-2-28", "1"],
+        &["crew", "F", "R", "20250228", "1"],
+        &["crew", "F", "R", "2025-02-28", "0"],
+        &["crew", "F", "R", "2025-02-28", "401"],
+        &["crew", "F", "R", "2025-02-28", "1", "0"],
+        &["crew", "F", "R", "2025-02-28", "1", "601"],
+        &["crew", "F", "-R", "2025-02-28", "1"],
     ];
     for words in cases {
         assert!(rt; ends(&rt, rt.alloc(), words, &[], 2, USAGE)?);

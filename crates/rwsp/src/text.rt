@@ -14,7 +14,7 @@ use rwsp_model::{Problem, Rule, rule_at};
 use std::alloc::{AllocError, Global};
 
 const USAGE: &str =
-    "usage: rwsp plan FILE [--budget B] | check FILE LOG [--workers N] | verify FILE ROSTER | reduce FILE LOG | show FILE | trial NUMBER WEEKS\n";
+    "usage: rwsp plan FILE [--budget B] | check FILE LOG [--workers N] | verify FILE ROSTER | reduce FILE LOG | show FILE | trial NUMBER WEEKS | crew FILE ROSTER DATE DAYS [EMPLOYEE]\n";
 
 #[tactic(auto, using(crate::proofs::Appends::regroup))]
 fn range_line(alloc: Global, number: u32, limit: u32) -> Result<String, AllocError>
@@ -69,6 +69,8 @@ fn fixed_line(alloc: Global, answer: &Answer) -> Result<String, AllocError>
         Answer::TooLong(InputKind::Problem) => String::from_str(alloc, "too long: problem\n"),
         Answer::TooLong(InputKind::Roster) => String::from_str(alloc, "too long: roster\n"),
         Answer::TooLong(InputKind::Log) => String::from_str(alloc, "too long: log\n"),
+        Answer::Horizon => String::from_str(alloc, "horizon refused\n"),
+        Answer::NoEmployee(employee) => format!(in alloc; "no employee {employee}\n"),
         Answer::FileRefused(refusal) => file_refusal_line(alloc, *refusal),
         Answer::RosterRefused(refusal) => roster_refusal_line(alloc, *refusal),
         _ => unreachable!(),
