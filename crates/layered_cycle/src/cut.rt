@@ -8,6 +8,7 @@ ghost use Rattle.domain_store.specs.Store.{has_domain, BelongsTo};
 
 use crate::graph::{LayeredGraph, graph_of};
 use crate::growth::{Growth, layer_of_day};
+use crate::tail_index::TailIndex;
 use crate::{Gain, HeavyWord, best_word};
 use domain_store::Domains;
 use rwsp_terms::{Symbol, Word};
@@ -34,13 +35,14 @@ impl Cut {
             (IsDead tails.now.problem (has_domain doms.now) p len tails.now.rules)) }
     {
         empty_word_is_clean();
+        let mut index = TailIndex::new(alloc)?;
         let mut nodes = Vec::new(alloc);
         nodes.push(Tail::empty())?;
         for i in 0..len {
             let Growth {
                 steps: _,
                 nodes: next,
-            } = layer_of_day(alloc, tails, doms, p, i, &nodes)?;
+            } = layer_of_day(alloc, &mut index, tails, doms, p, i, &nodes)?;
             nodes = next;
         }
         Ok(!nodes.is_empty())

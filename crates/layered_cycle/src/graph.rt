@@ -8,6 +8,7 @@ ghost use Rattle.layered_cycle.specs.Graph.{Leads, AreLayers};
 
 use crate::Layer;
 use crate::growth::{Growth, layer_of_day};
+use crate::tail_index::TailIndex;
 use domain_store::Domains;
 use std::alloc::{AllocError, Global};
 use word_tail::{Tail, TailRules, empty_word_is_clean};
@@ -35,13 +36,16 @@ pub fn graph_of(
     ensures layers { IfOk result (λ g. AreLayers g.node_counts.items g.layers.items) }
 {
     empty_word_is_clean();
+    let mut index = TailIndex::new(alloc)?;
     let mut layers = Vec::new(alloc);
     let mut node_counts = Vec::new(alloc);
     node_counts.push(1)?;
     let mut nodes = Vec::new(alloc);
     nodes.push(Tail::empty())?;
     for i in 0..len {
-        let Growth { steps, nodes: next } = layer_of_day(alloc, tails, doms, p, i, &nodes)?;
+        let Growth { steps, nodes: next } = layer_of_day(
+            alloc, &mut index, tails, doms, p, i, &nodes,
+        )?;
         layers.push(Layer::of(steps))?;
         node_counts.push(next.len() as u32)?;
         nodes = next;

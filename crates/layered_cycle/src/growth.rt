@@ -1,11 +1,11 @@
 // One layer more.
 ghost use Rattle.std.specs.Prelude.{◌≡◌, ℕ, ◌+◌, ◌%◌, ◌<◌, ◌≤◌, ◌^◌, List, length, IfOk, OnOk, vec_len};
-ghost use Rattle.std.specs.Option.{IfSome};
 ghost use Rattle.rwsp_terms.specs.Instance.{Instance, cells};
 ghost use Rattle.domain_store.specs.Store.{has_domain, BelongsTo};
 ghost use Rattle.layered_cycle.specs.Grown.{StandsAt, Extends, Grown};
 
 use crate::Step;
+use crate::tail_index::TailIndex;
 use domain_store::Domains;
 use rwsp_terms::Symbol;
 use std::alloc::{AllocError, Global};
@@ -18,28 +18,16 @@ pub struct Growth {
     pub nodes: Vec<Tail>,
 }
 
-// The place of the tail among the nodes.
-fn place_of(nodes: &[Tail], tail: Tail) -> Option<usize>
-    ensures { IfSome result (λ k. StandsAt nodes.now k tail) }
-{
-    for (place, node) in nodes.iter().enumerate() {
-        if *node == tail {
-            return Some(place);
-        }
-    }
-    None
-}
-
 // The node of the tail, which is put behind the others where it isn't among them.
-fn node_of(nodes: &mut Vec<Tail>, tail: Tail) -> Result<u32, AllocError>
+fn node_of(nodes: &mut Vec<Tail>, index: &mut TailIndex, tail: Tail) -> Result<u32, AllocError>
     requires { length nodes.old.items < 2 ^ 32 }
     ensures few { length nodes.new.items < 2 ^ 32 }
     ensures grows { Extends nodes.old.items nodes.new.items }
     ensures node { IfOk result (λ node. StandsAt nodes.new.items node tail) }
     ensures others { IfOk result (λ node. (k : ℕ) → length nodes.old.items ≤ k → k < length nodes.new.items → k ≡ node) }
 {
-    if let Some(place) = place_of(nodes, tail) {
-        return Ok(place as u32);
+    if let Some(node) = index.find(nodes, tail) {
+        return Ok(node);
     }
     let place = nodes.len();
     // Never so: the nodes differ, and words of nine symbols have fewer than a million tails.
@@ -47,6 +35,7 @@ fn node_of(nodes: &mut Vec<Tail>, tail: Tail) -> Result<u32, AllocError>
         return Err(AllocError);
     }
     nodes.push(tail)?;
+    index.note(tail, place as u32);
     Ok(place as u32)
 }
 
@@ -54,6 +43,7 @@ impl Growth {
     // Puts the step from the node by the symbol, where there is one.
     fn put_step(
         &mut self,
+        index: &mut TailIndex,
         tails: &TailRules,
         doms: &Domains,
         q: u32,
@@ -72,7 +62,7 @@ impl Growth {
         let Some(tail) = tails.follow(nodes[from as usize], x) else {
             return Ok(());
         };
-        let to = node_of(&mut self.nodes, tail)?;
+        let to = node_of(&mut self.nodes, index, tail)?;
         self.steps.push(Step {
             from,
             symbol: x,
@@ -84,6 +74,7 @@ impl Growth {
     // Puts all steps from the node.
     fn put_steps(
         &mut self,
+        index: &mut TailIndex,
         tails: &TailRules,
         doms: &Domains,
         q: u32,
@@ -97,15 +88,16 @@ impl Growth {
     {
         doms.facts();
         for number in 0..doms.shifts() + 1 {
-            self.put_step(tails, doms, q, nodes, from, Symbol { number })?;
+            self.put_step(index, tails, doms, q, nodes, from, Symbol { number })?;
         }
         Ok(())
     }
 }
 
-// The steps from all nodes by the symbols of the position's domain.
+// The steps from all nodes by the symbols of the position's domain. Its time grows with the nodes times the symbols.
 fn next_layer(
     alloc: Global,
+    index: &mut TailIndex,
     tails: &TailRules,
     doms: &Domains,
     q: u32,
@@ -120,7 +112,7 @@ fn next_layer(
         nodes: Vec::new(alloc),
     };
     for from in 0..nodes.len() as u32 {
-        growth.put_steps(tails, doms, q, nodes, from)?;
+        growth.put_steps(index, tails, doms, q, nodes, from)?;
     }
     Ok(growth)
 }
@@ -128,6 +120,7 @@ fn next_layer(
 // The layer of the day that comes so many days behind the position, round the cycle.
 pub fn layer_of_day(
     alloc: Global,
+    index: &mut TailIndex,
     tails: &TailRules,
     doms: &Domains,
     p: u32,
@@ -142,5 +135,5 @@ pub fn layer_of_day(
 {
     doms.facts();
     let q = (p + i) % doms.cells();
-    next_layer(alloc, tails, doms, q, nodes)
+    next_layer(alloc, index, tails, doms, q, nodes)
 }

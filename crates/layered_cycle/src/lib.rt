@@ -9,6 +9,7 @@ mod growth;
 mod layers;
 mod sharing;
 mod step;
+mod tail_index;
 #[cfg(test)]
 mod tests;
 
