@@ -7,58 +7,70 @@ use word_tail::TailRules;
 /// Words in bound leaves have at most so many days.
 pub const MOST_DAYS: u32 = 16_800;
 
-// Layers are made of so many days first, and of twice as many as long as they don't settle.
-const FIRST_DAYS: u32 = 32;
+// Layers are made of so many days first, and of twice as many as long as they don't come again.
+const FIRST_DAYS: u32 = 64;
 
 // No more steps are kept, so that a problem with very many tails takes neither time nor memory.
 const MOST_STEPS: usize = 1_000_000;
 
 // The clean words over all symbols as ways through layers of steps, which are the same from each position on.
-// Where the layers of some days on end are alike, it is taken that they stay so.
+// The order of a layer's nodes is that of the least words to them, which come again after some days; where layers have
+// come again for long, it is taken that they go on so.
 #[derive(Debug, Drop)]
 pub struct Words {
     layers: Layers,
-    settled: bool,
+    period: Option<usize>,
 }
 
 impl Words {
-    // The words; none where there are too many tails to keep their layers.
-    // Cost: twice that of the layers of the first days until they settle.
+    // The words, of as many days as there is room for; none where there is hardly any.
+    // Cost: twice that of the layers of the first days until they come again.
     pub fn of(alloc: Global, tails: &TailRules) -> Result<Option<Words>, AllocError> {
         let problem = tails.problem();
         problem.keeps_limits();
         let doms = Domains::new(alloc, problem)?;
+        let mut words = None;
         let mut days = FIRST_DAYS;
         for _ in 0..10 {
             let layers = Layers::of(alloc, tails, &doms, 0, days)?;
             if step_count(layers.layers()) > MOST_STEPS {
-                return Ok(None);
+                return Ok(words);
             }
-            let settled = are_settled(layers.layers());
-            if settled || days == MOST_DAYS {
-                return Ok(Some(Words { layers, settled }));
+            let period = period_of(layers.layers());
+            words = Some(Words { layers, period });
+            if period.is_some() || days == MOST_DAYS {
+                return Ok(words);
             }
             days = (2 * days).min(MOST_DAYS);
         }
-        Ok(None)
+        Ok(words)
     }
 
     // Layers are there for so many days.
     pub fn days(&self) -> u32 {
-        if self.settled {
-            MOST_DAYS
-        } else {
-            self.layers.len()
+        match self.period {
+            Some(_) => MOST_DAYS,
+            None => self.layers.len(),
         }
     }
 
     // The steps of a day.
     pub fn steps(&self, day: u32) -> &[Step] {
-        let layers = self.layers.layers();
-        let place = (day as usize).min(layers.len().saturating_sub(1));
-        match layers.get(place) {
+        match self.layers.layers().get(self.place(day as usize)) {
             Some(layer) => layer.steps(),
             None => &[],
+        }
+    }
+
+    // The layer of a day.
+    fn place(&self, day: usize) -> usize {
+        let len = self.layers.layers().len();
+        match self.period {
+            Some(period) if len <= day => {
+                let on = (day - len).checked_rem(period).unwrap_or(0);
+                len.saturating_sub(period).saturating_add(on)
+            }
+            _ => day,
         }
     }
 
@@ -85,13 +97,25 @@ fn step_count(layers: &[Layer]) -> usize {
     sum
 }
 
-// Whether the layers of the second half are alike.
-fn are_settled(layers: &[Layer]) -> bool {
-    let Some(last) = layers.last() else {
-        return false;
-    };
-    layers
-        .iter()
-        .skip(layers.len() / 2)
-        .all(|layer| layer.steps() == last.steps())
+// The least number of days after which the layers of the second half come again, where it is at most a quarter of all.
+fn period_of(layers: &[Layer]) -> Option<usize> {
+    for period in 1..layers.len() / 4 + 1 {
+        if comes_again(layers, period) {
+            return Some(period);
+        }
+    }
+    None
+}
+
+// Whether each layer of the second half is the same as the one so many days before.
+fn comes_again(layers: &[Layer], period: usize) -> bool {
+    let half = layers.len() / 2;
+    let later = layers.iter().skip(half);
+    let earlier = layers.iter().skip(half.saturating_sub(period));
+    for (a, b) in later.zip(earlier) {
+        if a.steps() != b.steps() {
+            return false;
+        }
+    }
+    true
 }
