@@ -3,6 +3,8 @@ use Rattle.std.proofs.Common.{◌≡◌, ◌≢◌, ℕ, zero, suc, ◌+◌, ◌
 use Rattle.std.specs.Prelude.{◌↔◌, ◌&&◌, ◌||◌, ◌==◌, slice_get}
 use Rattle.std.proofs.lemmas.Bool.{eqb-true, eq-eqb, cases_eq}
 use Rattle.std.proofs.lemmas.Nat.{mod-mul-add}
+use Rattle.std.proofs.Math.Nat.{mul-pos}
+use Rattle.rwsp_model.specs.Validity.{KeepsLimits}
 use Rattle.rwsp_terms.specs.declared.data.Symbol.{Symbol}
 use Rattle.rwsp_terms.specs.Instance.{Instance, cells, shift_count, symbol_numbered}
 use Rattle.refutation_terms.specs.declared.lines.Line.{Line}
@@ -25,6 +27,9 @@ use Rattle.kept_cycle.specs.CycleCuts.{IsUnsupported, IsShortCycle}
 
 pub cells_of_store : (P : Instance) (S : Store) → BelongsTo P S → S.weeks * S.days ≡ cells P
 cells_of_store P S b = ap (λ w. w * S.days) b.weeks ∙ ap (λ d. P.weeks * d) b.days
+
+pub some_cells : (P : Instance) → KeepsLimits P → 0 < cells P
+some_cells P limits = mul-pos (omega (arith, limits.some_weeks)) (omega (arith, limits.some_days))
 
 nowhere_in_store : (C : KnownCycle) (S : Store) (p : ℕ) (x : Symbol) → C.sets ≡ S.sets → NoWordHas C.problem (has_known C) C.rules p x → NoWordHas C.problem (has_domain S) C.rules p x
 nowhere_in_store C S p x e h =

@@ -32,6 +32,7 @@ fn unsupported_at(cycle: &Cycle, doms: &Domains, p: u32) -> Option<Symbol>
         ((x : Symbol) → IsUnsupported cycle.now doms.now p x → ⊥)
         (λ x. IsUnsupported cycle.now doms.now p x) }
 {
+    doms.facts();
     for number in 0..doms.shifts() + 1 {
         let x = Symbol { number };
         if is_unsupported(cycle, doms, p, x) {
