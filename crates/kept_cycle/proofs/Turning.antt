@@ -12,11 +12,11 @@ use Rattle.refutation_terms.specs.Leaf.{IsDead}
 use Rattle.refutation_terms.specs.Sharp.{NoWordHas}
 use Rattle.refutation_terms.specs.Escape.{IsCleanOver}
 use Rattle.domain_store.specs.Sets.{has_symbol}
-use Rattle.domain_store.specs.Store.{Store, BelongsTo, has_domain}
+use Rattle.domain_store.specs.Store.{Store, BelongsTo, IsStore, has_domain, domain_at}
 use Rattle.word_tail.specs.Listed.{Listed}
 use Rattle.layered_cycle.specs.declared.step.Step.{Step}
 use Rattle.layered_cycle.specs.Graph.{Leads, AreLayers}
-use Rattle.kept_cycle.specs.Known.{KnownCycle, has_known, StandsFor}
+use Rattle.kept_cycle.specs.Known.{KnownCycle, has_known, StandsFor, DiffersAtMostAt}
 use Rattle.kept_cycle.specs.Marks.{is_marked, row_at, layer_at, has_on, from_of, to_of, IsJoined, IsPass, IsFrontStep, IsBackStep, IsWide, FitsInto, AllFitInto}
 use Rattle.kept_cycle.specs.KeptCycle.{HasSymbolsOf, HasLayers, IsCycle, HasJoiningStep}
 use Rattle.kept_cycle.proofs.Marking.{marked_within, unlike}
@@ -304,4 +304,43 @@ started T layers sets front back start end width n days h empty all turns is_sta
 
 -- all positions taken over
 pub all_known : (C : KnownCycle) (S : Store) → BelongsTo C.problem S → length C.sets ≡ length S.sets → ((q : ℕ) → q < length S.sets → get_or C.sets q [] ≡ get_or S.sets q []) → StandsFor C S
-all_known C S belongs long done = record { belongs = belongs; sets = ext_get_or C.sets S.sets [] long (λ q less. done q (omega (arith, less, long))) }
+all_known C S belongs long done = record { belongs = belongs; sets = ext_get_or [] C.sets S.sets long (λ q less. done q (omega (arith, less, long))) }
+
+-- one position taken over, where no other differs
+pub one_known : (C D : KnownCycle) (S : Store) (p : ℕ) → D.problem ≡ C.problem → D.sets ≡ set C.sets p (domain_at S p) → DiffersAtMostAt C S p → p < length S.sets → length C.sets ≡ length S.sets → StandsFor D S
+one_known C D S p same now differs within long =
+    let P : Instance → Type 0 = λ z. BelongsTo z S in
+    all_known D S (subst P (sym same) differs.belongs) (ap length now ∙ length-set C.sets p (domain_at S p) ∙ long) (λ q less. ap (λ z. get_or z q []) now ∙ read q)
+  where
+    read : (q : ℕ) → get_or (set C.sets p (domain_at S p)) q [] ≡ get_or S.sets q []
+    read q = elim (cases_eq q p) [
+      | inl here ↦
+          ap (λ k. get_or (set C.sets p (domain_at S p)) k []) here
+          ∙ get_or-set_same C.sets p (domain_at S p) [] (omega (arith, within, long))
+          ∙ ap (λ k. get_or S.sets k []) (sym here)
+      | inr other ↦ get_or-set_other C.sets p q (domain_at S p) [] other ∙ differs.others q other
+    ]
+
+-- a cycle and the store of its problem have the same positions
+pub same_positions : (C : KnownCycle) (S : Store) → BelongsTo C.problem S → IsStore S → length C.sets ≡ cells C.problem → length C.sets ≡ length S.sets
+same_positions C S belongs is long = long ∙ ap (λ w. w * C.problem.days) (sym belongs.weeks) ∙ ap (λ d. S.weeks * d) (sym belongs.days) ∙ sym is.long
+
+-- what mending needs of the rows and of the layers as they are read
+pub fit_read : (layers now : List (List Step)) (rows : List (List Bool)) (width : ℕ) → now ≡ layers → IsWide rows width → AllFitInto width layers → (w : ℕ) × IsWide rows w × AllFitInto w now
+fit_read layers now rows width is wide fit =
+    let P : List (List Step) → Type 0 = λ l. AllFitInto width l in
+    (width, wide, subst P (sym is) fit)
+
+pub mends_front_read : (layers now : List (List Step)) (sets read : List (List ℕ)) (day there : ℕ) (old new : List (List Bool)) → now ≡ layers → read ≡ sets → day ≡ there → MendsFront now read day old new → MendsFront layers sets there old new
+mends_front_read layers now sets read day there old new is are same m =
+    let P : List (List Step) → Type 0 = λ l. MendsFront l sets there old new in
+    let Q : List (List ℕ) → Type 0 = λ s. MendsFront now s there old new in
+    let R : ℕ → Type 0 = λ d. MendsFront now read d old new in
+    subst P is (subst Q are (subst R same m))
+
+pub mends_back_read : (layers now : List (List Step)) (sets read : List (List ℕ)) (day there : ℕ) (old new : List (List Bool)) → now ≡ layers → read ≡ sets → day ≡ there → MendsBack now read day old new → MendsBack layers sets there old new
+mends_back_read layers now sets read day there old new is are same m =
+    let P : List (List Step) → Type 0 = λ l. MendsBack l sets there old new in
+    let Q : List (List ℕ) → Type 0 = λ s. MendsBack now s there old new in
+    let R : ℕ → Type 0 = λ d. MendsBack now read d old new in
+    subst P is (subst Q are (subst R same m))

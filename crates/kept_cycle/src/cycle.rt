@@ -19,6 +19,12 @@ use std::alloc::{AllocError, Global};
 use std::marker::Model;
 use word_tail::TailRules;
 
+// A cycle keeps two marks, of a byte each, for each node and day: at most these many nodes times days.
+const MOST_MARKS: u64 = 400_000_000;
+
+// The number of nodes has grown by then as far as it does for most rules.
+const FIRST_DAYS: u32 = 64;
+
 /// The clean words of two turns round the cycle, from position 0 on, over domains that change.
 ///
 /// The layers of all clean words are made once. What is kept beside them for each day, and changes with the domains, is
@@ -56,8 +62,10 @@ impl Cycle {
         ensures rules { IfOk result (λ C. C.rules ≡ tails.rules) }
         ensures stands { IfOk result (λ C. StandsFor C doms.now) }
     {
+        tails.problem().keeps_limits();
         let full = Domains::new(alloc, tails.problem())?;
         let days = 2 * tails.problem().cells();
+        keep_room(alloc, &tails, &full, days)?;
         let layers = Layers::of(alloc, &tails, &full, 0, days)?;
         let width = greatest(layers.node_counts());
         let mut cycle = Cycle::of_empty_sets(alloc, tails, layers, width)?;
@@ -209,6 +217,26 @@ impl Cycle {
     }
 }
 
+// Tells want of memory where two turns would take more marks than are kept, judged by their first days: layers of so many
+// tails take hours to make.
+fn keep_room(
+    alloc: Global,
+    tails: &TailRules,
+    full: &Domains,
+    days: u32,
+) -> Result<(), AllocError>
+    requires belongs { BelongsTo tails.now.problem full.now }
+    requires position { 0 < cells tails.now.problem }
+    requires long { (1 ≤ days) × (days ≤ 16800) }
+{
+    let first = Layers::of(alloc, tails, full, 0, days.min(FIRST_DAYS))?;
+    let nodes = greatest(first.node_counts());
+    if nodes as u64 * days as u64 > MOST_MARKS {
+        return Err(AllocError);
+    }
+    Ok(())
+}
+
 // Whether a step by the symbol leads from a marked node to a marked one.
 fn has_joining_step(steps: &[Step], x: Symbol, before: &Marks, behind: &Marks) -> bool
     ensures { IsTrue result ↔ HasJoiningStep steps.now x before.now behind.now }
@@ -221,6 +249,7 @@ fn has_joining_step(steps: &[Step], x: Symbol, before: &Marks, behind: &Marks) -
     false
 }
 
+// The greatest of the counts, or 0.
 fn greatest(counts: &[u32]) -> u32
     ensures { (i : ℕ) → slice_index counts.now i ≤ result }
 {
