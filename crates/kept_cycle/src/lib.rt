@@ -3,6 +3,7 @@
 #![tactic(auto)]
 
 mod cycle;
+mod cycle_cut;
 mod cycle_prop;
 mod day_marks;
 mod marks;
