@@ -51,12 +51,14 @@ fn decided(rt: &impl Abort, alloc: Global, problem: &Problem) -> Result<Domains,
     ensures { IfOk result (BelongsTo problem.now) }
 {
     let mut doms = Domains::new(alloc, problem)?;
-    for (p, x) in [(0, DAY), (1, Symbol::OFF)] {
-        assert!(rt; p < doms.cells());
-        assert!(rt; doms.has(p, x));
-        assert!(rt; 2 <= doms.size(p));
-        doms.set_only(p, x);
-    }
+    assert!(rt; 1 < doms.cells());
+    assert!(rt; doms.has(0, DAY));
+    assert!(rt; 2 <= doms.size(0));
+    doms.set_only(0, DAY);
+    assert!(rt; 1 < doms.cells());
+    assert!(rt; doms.has(1, Symbol::OFF));
+    assert!(rt; 2 <= doms.size(1));
+    doms.set_only(1, Symbol::OFF);
     Ok(doms)
 }
 
