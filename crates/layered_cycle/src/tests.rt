@@ -1,7 +1,6 @@
 ghost use Rattle.std.specs.Prelude.{IfOk};
 ghost use Rattle.domain_store.specs.Store.{BelongsTo};
 
-use crate::tail_index::TailIndex;
 use crate::{Cut, escape};
 use domain_store::Domains;
 use rwsp_model::{Parts, Problem, short_rules};
@@ -9,7 +8,7 @@ use rwsp_terms::{Bounds, DemandRow, Name, ShiftRow, Symbol};
 use std::alloc::{AllocError, Global};
 use std::process::Abort;
 use std::test::Fail;
-use word_tail::{Tail, TailRules};
+use word_tail::TailRules;
 
 const DAY: Symbol = Symbol { number: 1 };
 
@@ -98,56 +97,5 @@ fn least_words(rt: HostRuntime) -> Result<(), Fail> {
     );
     let longer = escape(rt.alloc(), &tails, &domains, 0, 7)?;
     assert!(rt; longer.is_none());
-    Ok(())
-}
-
-// The tail of a word that has both a day off and a shift.
-fn mixed(last: u8, before: u8, run: u8, work: u8) -> Tail {
-    Tail {
-        last: Some(Symbol { number: last }),
-        before: Some(Symbol { number: before }),
-        run,
-        work,
-        all_one: false,
-        all_work: false,
-    }
-}
-
-// Tails that differ in few facts, the longest runs among them.
-fn close_tails(alloc: Global) -> Result<Vec<Tail>, AllocError> {
-    Ok(vec![in alloc;
-        Tail::empty(),
-        mixed(1, 0, 1, 1),
-        mixed(1, 2, 1, 2),
-        mixed(1, 2, 1, 31),
-        mixed(1, 1, 2, 2),
-        mixed(1, 1, 2, 3),
-        mixed(1, 1, 31, 31),
-        mixed(0, 0, 31, 0),
-        mixed(8, 8, 31, 31),
-        Tail {
-            all_work: true,
-            ..mixed(8, 8, 31, 31)
-        },
-        Tail {
-            all_one: true,
-            all_work: true,
-            ..mixed(8, 8, 31, 31)
-        },
-    ]?)
-}
-
-#[test]
-fn tails_by_their_index(rt: HostRuntime) -> Result<(), Fail> {
-    let tails = close_tails(rt.alloc())?;
-    let mut index = TailIndex::new(rt.alloc())?;
-    for (place, tail) in tails.iter().enumerate() {
-        assert_eq!(rt; index.find(&tails[..place], *tail), None);
-        index.note(*tail, place as u32);
-    }
-    for (place, tail) in tails.iter().enumerate() {
-        assert_eq!(rt; index.find(&tails, *tail), Some(place as u32));
-        assert_eq!(rt; index.find(&[], *tail), None);
-    }
     Ok(())
 }
