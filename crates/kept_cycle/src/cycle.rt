@@ -159,9 +159,12 @@ impl Cycle {
         let first = p as usize;
         let second = first + self.sets.len();
         self.sets[first] = set;
-        self.front.mend_front(self.layers.layers(), &self.sets, first);
-        self.front.mend_front(self.layers.layers(), &self.sets, second);
-        self.back.mend_back(self.layers.layers(), &self.sets, second);
+        self.front
+            .mend_front(self.layers.layers(), &self.sets, first);
+        self.front
+            .mend_front(self.layers.layers(), &self.sets, second);
+        self.back
+            .mend_back(self.layers.layers(), &self.sets, second);
         self.back.mend_back(self.layers.layers(), &self.sets, first);
     }
 
@@ -197,12 +200,7 @@ impl Cycle {
 
 // Tells want of memory where two turns would take more marks than are kept, judged by their first days: layers of so many
 // tails take hours to make.
-fn keep_room(
-    alloc: Global,
-    tails: &TailRules,
-    full: &Domains,
-    days: u32,
-) -> Result<(), AllocError>
+fn keep_room(alloc: Global, tails: &TailRules, full: &Domains, days: u32) -> Result<(), AllocError>
     requires belongs { BelongsTo tails.now.problem full.now }
     requires position { 0 < cells tails.now.problem }
     requires long { (1 ≤ days) × (days ≤ 16800) }
