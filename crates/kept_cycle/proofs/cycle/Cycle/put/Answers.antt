@@ -1,5 +1,8 @@
 -- The days of the position are mended, and no other has another domain.
-use Rattle.std.proofs.Common.{◌≡◌, ◌+◌, ◌<◌, ℕ, length, set, arith, refl, ap}
+use Rattle.std.proofs.Common.{◌≡◌, ◌+◌, ◌<◌, ℕ, length, set, arith, ◌≤◌, refl, ap, sym, subst, ◌∙◌, rules, vec_len, IsTrue}
+use Rattle.rwsp_terms.specs.Instance.{shift_count}
+use Rattle.domain_store.specs.Sets.{has_symbol}
+use Rattle.kept_cycle.specs.Known.{KnownCycle}
 use Rattle.kept_cycle.proofs.Turning.{fit_read, mends_front_read, mends_back_read, mended}
 use Rattle.kept_cycle.proofs.cycle.Cycle.put.Goals as goal
 
@@ -20,11 +23,15 @@ invariant_of-self c =
     let layers = c.self.inside.layers.layers in
     let sets = set c.self.inside.sets.items c.args.p c.args.set in
     let p = c.args.p in
+    let within : c.args.p < length c.self.inside.sets.items = search rules in
+    let S : KnownCycle → Type 0 = λ C. (x : ℕ) → IsTrue (has_symbol c.args.set x) → x ≤ shift_count C.problem in
+    let small = subst S (sym c.self.view_is) c.requires.small in
     let day = c.args.p + c.len.result in
     let there = c.args.p + length c.self.inside.sets.items in
-    let same : c.args.p + c.len.result ≡ c.args.p + length c.self.inside.sets.items = ap (λ n. c.args.p + n) c.len.ensures in
+    let long : vec_len c.self.inside.sets ≡ length c.self.inside.sets.items = search rules in
+    let same : c.args.p + c.len.result ≡ c.args.p + length c.self.inside.sets.items = ap (λ n. c.args.p + n) (c.len.ensures ∙ long) in
     mended c.self.inside.tails layers c.self.inside.sets.items p c.args.set c.self.inside.front c.mend_front.new.self c.mend_front-2.new.self c.self.inside.back c.mend_back.new.self c.mend_back-2.new.self c.self.inside.width
-    c.self.invariant ? c.requires.small
+    c.self.invariant within small
     (mends_front_read layers c.layers.result.now sets c.deref.result.now p p c.self.inside.front c.mend_front.new.self c.layers.ensures c.deref.ensures.value refl c.mend_front.ensures.steps)
     (mends_front_read layers c.layers-2.result.now sets c.deref-2.result.now day there c.mend_front.new.self c.mend_front-2.new.self c.layers-2.ensures c.deref-2.ensures.value same c.mend_front-2.ensures.steps)
     c.mend_front.ensures.first c.mend_front-2.ensures.first c.mend_front.ensures.long c.mend_front-2.ensures.long c.mend_front.ensures.wide c.mend_front-2.ensures.wide
