@@ -2,3 +2,4 @@ mod Marking
 mod Mending
 mod TwoTurns
 mod Turning
+mod CutSymbols

@@ -1,3 +1,4 @@
 pub mod Known
 pub mod Marks
 pub mod KeptCycle
+pub mod CycleCuts

@@ -1,6 +1,7 @@
 // Layers that are made once and kept while domains change.
 ghost use Rattle.std.specs.Prelude.{◌≡◌, ◌↔◌, ℕ, ◌*◌, ◌<◌, ◌≤◌, [], false, length, replicate, slice_index, slice_index_or, slice_set, IfOk, IsTrue};
 ghost use Rattle.rwsp_terms.specs.Instance.{cells, shift_count};
+ghost use Rattle.refutation_terms.specs.declared.lines.Line.TheVariants.{Dead};
 ghost use Rattle.refutation_terms.specs.Leaf.{IsDead};
 ghost use Rattle.refutation_terms.specs.Sharp.{NoWordHas};
 ghost use Rattle.domain_store.specs.Sets.{has_symbol};
@@ -11,6 +12,8 @@ use crate::day_marks::DayMarks;
 use crate::marks::Marks;
 use domain_store::{Domains, SymbolSet};
 use layered_cycle::{Layers, Step};
+use refutation_terms::Line;
+use rwsp_model::Problem;
 use rwsp_terms::Symbol;
 use std::alloc::{AllocError, Global};
 use std::marker::Model;
@@ -68,6 +71,25 @@ impl Cycle {
         let mut cycle = Cycle::of_empty_sets(alloc, tails, layers, width)?;
         cycle.undo_to(doms);
         Ok(cycle)
+    }
+
+    /// The problem.
+    pub fn problem(&self) -> &Problem
+        ensures { result.now ≡ self.now.problem }
+    {
+        self.tails.problem()
+    }
+
+    /// The dead leaf of two turns from position 0 on, by a copy of the list of rules.
+    pub fn dead_leaf(&self) -> Result<Line, AllocError>
+        ensures { IfOk result (λ line. line ≡ Dead 0 (2 * cells self.now.problem) self.now.rules) }
+    {
+        let rules = self.tails.rules().copy()?;
+        Ok(Line::Dead {
+            p: 0,
+            len: 2 * self.tails.problem().cells(),
+            rules,
+        })
     }
 
     /// Whether no word of two turns over the domains is clean.

@@ -5,8 +5,11 @@ ghost use Rattle.refutation_terms.specs.declared.lines.Line.{Line};
 ghost use Rattle.domain_store.specs.Store.{Store, BelongsTo, has_domain};
 ghost use Rattle.kept_cycle.specs.Known.{StandsFor};
 ghost use Rattle.propagators.specs.Cycles.{IsCycleLeaf, IsCycleSpent};
+ghost use Rattle.propagators.specs.Looks.{IsLook};
+ghost use Rattle.kept_cycle.specs.CycleCuts.{IsShortCycle};
 
 use crate::Cycle;
+use crate::cycle_cut::first_unsupported;
 use domain_store::Domains;
 use propagators::{Look, Propagator};
 use rwsp_model::{Problem, short_rules};
@@ -60,8 +63,8 @@ impl Propagator for CycleProp {
 
     fn prove_spent(&self) {}
 
-    fn look(&mut self, _alloc: Global, _doms: &Domains) -> Result<Look, AllocError> {
-        Err(AllocError)
+    fn look(&mut self, _alloc: Global, doms: &Domains) -> Result<Look, AllocError> {
+        seen(&self.cycle, doms)
     }
 
     fn narrowed(&mut self, doms: &Domains, p: u32) {
@@ -70,5 +73,25 @@ impl Propagator for CycleProp {
 
     fn undone(&mut self, doms: &Domains) {
         self.cycle.undo_to(doms);
+    }
+}
+
+// What the words of two turns say.
+fn seen(cycle: &Cycle, doms: &Domains) -> Result<Look, AllocError>
+    requires { IsShortCycle cycle.now doms.now }
+    ensures { let P = cycle.now.problem in
+        IfOk result (λ look. IsLook P (IsCycleLeaf P) (IsCycleSpent P (has_domain doms.now)) doms.now look) }
+{
+    cycle.problem().keeps_limits();
+    if cycle.is_dead() {
+        return Ok(Look::Closed(cycle.dead_leaf()?));
+    }
+    match first_unsupported(cycle, doms) {
+        Some((p, x)) => Ok(Look::Cut {
+            p,
+            x,
+            line: cycle.dead_leaf()?,
+        }),
+        None => Ok(Look::Quiet),
     }
 }
