@@ -124,6 +124,7 @@ impl Cycle {
     }
 
     /// Stands for the present domains, whichever domains of the same problem it stood for before. Takes no memory.
+    /// Compares the domains of all positions, and mends the days of those that differ.
     pub fn undo_to(&mut self, doms: &Domains)
         requires { BelongsTo self.old.problem doms.now }
         ensures problem { self.new.problem ≡ self.old.problem }
@@ -170,7 +171,8 @@ impl Cycle {
         kept.is_same(set)
     }
 
-    // Gives the position another domain. Its two days are mended, as far as marks change.
+    // Gives the position another domain. Its two days are mended, as far as marks change: at most twice over the steps of
+    // all days for the front, and twice for the back.
     fn put(&mut self, p: u32, set: SymbolSet)
         requires position { p < length self.old.sets }
         requires small { (x : ℕ) → IsTrue (has_symbol set x) → x ≤ shift_count self.old.problem }
@@ -247,7 +249,7 @@ fn has_joining_step(steps: &[Step], x: Symbol, before: &Marks, behind: &Marks) -
     false
 }
 
-// The greatest of the counts, or 0.
+// The greatest of the counts, or 0. Goes once over them.
 fn greatest(counts: &[u32]) -> u32
     ensures { (i : ℕ) → slice_index counts.now i ≤ result }
 {
