@@ -58,16 +58,16 @@ passes_unheld here there steps has row next n s stands none p t = (
 marked_put : (row : List Bool) (k t : ℕ) → k < length row → IsTrue (is_marked (set row k true) t) ↔ (IsTrue (is_marked row t) ⊎ (k ≡ t))
 marked_put row k t lt = elim (cases_eq t k) [
   | inl same ↦ (
-      λ _. inr (sym same),
-      λ _. ap (λ i. get_or (set row k true) i false) same ∙ get_or-set_same row k true false lt,
-    )
+    λ _. inr (sym same),
+    λ _. ap (λ i. get_or (set row k true) i false) same ∙ get_or-set_same row k true false lt,
+  )
   | inr other ↦ (
-      λ h. inl (sym (get_or-set_other row k t true false other) ∙ h),
-      λ h. elim h [
-        | inl was ↦ get_or-set_other row k t true false other ∙ was
-        | inr same ↦ absurd (other (sym same))
-      ],
-    )
+    λ h. inl (sym (get_or-set_other row k t true false other) ∙ h),
+    λ h. elim h [
+      | inl was ↦ get_or-set_other row k t true false other ∙ was
+      | inr same ↦ absurd (other (sym same))
+    ],
+  )
 ]
 
 pub passes_put : (here there : Step → ℕ) (steps : List Step) (has : ℕ → Bool) (row next : List Bool) (n : ℕ) (s : Step) → StandsAt steps n s → IsTrue (is_marked row (here s)) → IsTrue (has s.symbol.number) → there s < length next → PassesBelow here there steps has row next n

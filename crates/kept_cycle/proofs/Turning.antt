@@ -17,7 +17,7 @@ use Rattle.word_tail.specs.Listed.{Listed}
 use Rattle.layered_cycle.specs.declared.step.Step.{Step}
 use Rattle.layered_cycle.specs.Graph.{Leads, AreLayers}
 use Rattle.kept_cycle.specs.Known.{KnownCycle, has_known, StandsFor, DiffersAtMostAt}
-use Rattle.kept_cycle.specs.Marks.{is_marked, row_at, layer_at, has_on, from_of, to_of, IsJoined, IsPass, IsFrontStep, IsBackStep, IsWide, FitsInto, AllFitInto}
+use Rattle.kept_cycle.specs.Marks.{is_marked, row_at, layer_at, has_on, from_of, to_of, IsJoined, IsPass, IsFrontStep, IsBackStep, MendsFront, MendsBack, IsWide, AllFitInto}
 use Rattle.kept_cycle.specs.KeptCycle.{HasSymbolsOf, HasLayers, IsCycle, HasJoiningStep}
 use Rattle.kept_cycle.proofs.Marking.{marked_within, unlike}
 use Rattle.kept_cycle.proofs.TwoTurns.{Held, ArePasses, came, goes_on, GoesOn, WordHas, Supports, word_has, has_support}
@@ -154,13 +154,6 @@ back_kept : (layers : List (List Step)) (sets : List (List ℕ)) (rows : List (L
 back_kept layers sets rows p s i within less here there step =
     let P : List ℕ → Type 0 = λ d. IsPass to_of from_of (layer_at layers i) (has_symbol d) (row_at rows (i + 1)) (row_at rows i) in
     subst P (sym (other_day sets p s i within less here there)) step
-
--- what mending a day leaves
-abbrev pub MendsFront : List (List Step) → List (List ℕ) → ℕ → List (List Bool) → List (List Bool) → Type 0
-MendsFront layers sets day old new = (i : ℕ) → i + 1 < length new → (i ≢ day → IsFrontStep layers sets old i) → IsFrontStep layers sets new i
-
-abbrev pub MendsBack : List (List Step) → List (List ℕ) → ℕ → List (List Bool) → List (List Bool) → Type 0
-MendsBack layers sets day old new = (i : ℕ) → i + 1 < length new → (i ≢ day → IsBackStep layers sets old i) → IsBackStep layers sets new i
 
 pub mended : (T : Listed) (layers : List (List Step)) (sets : List (List ℕ)) (p : ℕ) (s : List ℕ) (front front1 front2 back back1 back2 : List (List Bool)) (width : ℕ)
     → IsCycle T layers sets front back width → p < length sets → ((x : ℕ) → IsTrue (has_symbol s x) → x ≤ shift_count T.problem)

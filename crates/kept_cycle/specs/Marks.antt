@@ -1,5 +1,5 @@
 -- Marks of the nodes of layers, for the days of a word.
-use Rattle.std.specs.Prelude.{◌≡◌, ℕ, ◌+◌, ◌%◌, ◌<◌, ◌↔◌, List, [], length, Bool, false, IsTrue, All, slice_index_or}
+use Rattle.std.specs.Prelude.{◌≡◌, ◌≢◌, ℕ, ◌+◌, ◌%◌, ◌<◌, ◌↔◌, List, [], length, Bool, false, IsTrue, All, slice_index_or}
 use Rattle.domain_store.specs.Sets.{has_symbol}
 use Rattle.layered_cycle.specs.declared.step.Step.{Step}
 use Rattle.layered_cycle.specs.Grown.{StandsAt}
@@ -57,3 +57,12 @@ pub record FitsInto (width : ℕ) (layer : List Step) : Type 0 where
 
 abbrev pub AllFitInto : ℕ → List (List Step) → Type 0
 AllFitInto width layers = (i : ℕ) → i < length layers → FitsInto width (layer_at layers i)
+
+-- all days have right steps now that had them, and so has the day that was mended
+abbrev pub MendsFront : List (List Step) → List (List ℕ) → ℕ → List (List Bool) → List (List Bool) → Type 0
+MendsFront layers sets day old new =
+    (i : ℕ) → i + 1 < length new → (i ≢ day → IsFrontStep layers sets old i) → IsFrontStep layers sets new i
+
+abbrev pub MendsBack : List (List Step) → List (List ℕ) → ℕ → List (List Bool) → List (List Bool) → Type 0
+MendsBack layers sets day old new =
+    (i : ℕ) → i + 1 < length new → (i ≢ day → IsBackStep layers sets old i) → IsBackStep layers sets new i

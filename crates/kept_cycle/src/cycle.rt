@@ -124,6 +124,7 @@ impl Cycle {
     }
 
     /// Stands for the present domains, whichever domains of the same problem it stood for before. Takes no memory.
+    /// Compares the domains of all positions, and mends the days of those that differ.
     pub fn undo_to(&mut self, doms: &Domains)
         requires { BelongsTo self.old.problem doms.now }
         ensures problem { self.new.problem ≡ self.old.problem }
@@ -170,7 +171,8 @@ impl Cycle {
         kept.is_same(set)
     }
 
-    // Gives the position another domain. Its two days are mended, as far as marks change.
+    // Gives the position another domain. Its two days are mended, as far as marks change: at most twice over the steps of
+    // all days for the front, and twice for the back.
     fn put(&mut self, p: u32, set: SymbolSet)
         requires position { p < length self.old.sets }
         requires small { (x : ℕ) → IsTrue (has_symbol set x) → x ≤ shift_count self.old.problem }
@@ -181,9 +183,12 @@ impl Cycle {
         let first = p as usize;
         let second = first + self.sets.len();
         self.sets[first] = set;
-        self.front.mend_front(self.layers.layers(), &self.sets, first);
-        self.front.mend_front(self.layers.layers(), &self.sets, second);
-        self.back.mend_back(self.layers.layers(), &self.sets, second);
+        self.front
+            .mend_front(self.layers.layers(), &self.sets, first);
+        self.front
+            .mend_front(self.layers.layers(), &self.sets, second);
+        self.back
+            .mend_back(self.layers.layers(), &self.sets, second);
         self.back.mend_back(self.layers.layers(), &self.sets, first);
     }
 
@@ -219,12 +224,7 @@ impl Cycle {
 
 // Tells want of memory where two turns would take more marks than are kept, judged by their first days: layers of so many
 // tails take hours to make.
-fn keep_room(
-    alloc: Global,
-    tails: &TailRules,
-    full: &Domains,
-    days: u32,
-) -> Result<(), AllocError>
+fn keep_room(alloc: Global, tails: &TailRules, full: &Domains, days: u32) -> Result<(), AllocError>
     requires belongs { BelongsTo tails.now.problem full.now }
     requires position { 0 < cells tails.now.problem }
     requires long { (1 ≤ days) × (days ≤ 16800) }
@@ -249,7 +249,7 @@ fn has_joining_step(steps: &[Step], x: Symbol, before: &Marks, behind: &Marks) -
     false
 }
 
-// The greatest of the counts, or 0.
+// The greatest of the counts, or 0. Goes once over them.
 fn greatest(counts: &[u32]) -> u32
     ensures { (i : ℕ) → slice_index counts.now i ≤ result }
 {

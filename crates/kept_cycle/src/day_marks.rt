@@ -1,7 +1,7 @@
 // Marks for all days of a word.
 ghost use Rattle.std.specs.Prelude.{◌≡◌, ◌≢◌, ◌↔◌, ℕ, ◌+◌, ◌<◌, ◌≤◌, false, true, length, replicate, slice_set, IfOk, IsTrue};
 ghost use Rattle.domain_store.specs.Sets.{has_symbol};
-ghost use Rattle.kept_cycle.specs.Marks.{row_at, from_of, to_of, IsWide, IsPass, IsFrontStep, IsBackStep, FitsInto, AllFitInto};
+ghost use Rattle.kept_cycle.specs.Marks.{row_at, from_of, to_of, IsWide, IsPass, MendsFront, MendsBack, FitsInto, AllFitInto};
 
 use crate::marks::Marks;
 use domain_store::SymbolSet;
@@ -69,8 +69,7 @@ impl DayMarks {
         ensures long { length self.new ≡ length self.old }
         ensures wide { (width : ℕ) → IsWide self.old width → IsWide self.new width }
     {
-        self.spare
-            .put_behind(layer.steps(), set, &self.rows[day]);
+        self.spare.put_behind(layer.steps(), set, &self.rows[day]);
         if self.spare.is_same(&self.rows[day + 1]) {
             return false;
         }
@@ -104,7 +103,7 @@ impl DayMarks {
         requires day { day + 1 < length self.old }
         requires wide { (width : ℕ) × IsWide self.old width × AllFitInto width layers.now }
         requires long { length self.old ≡ length layers.now + 1 }
-        ensures steps { (i : ℕ) → i + 1 < length self.new → (i ≢ day → IsFrontStep layers.now sets.now self.old i) → IsFrontStep layers.now sets.now self.new i }
+        ensures steps { MendsFront layers.now sets.now day self.old self.new }
         ensures first { row_at self.new 0 ≡ row_at self.old 0 }
         ensures long { length self.new ≡ length self.old }
         ensures wide { (width : ℕ) → IsWide self.old width → IsWide self.new width }
@@ -123,7 +122,7 @@ impl DayMarks {
         requires few { length self.old ≤ 8401 }
         requires wide { (width : ℕ) × IsWide self.old width × AllFitInto width layers.now }
         requires long { length self.old ≡ length layers.now + 1 }
-        ensures steps { (i : ℕ) → i + 1 < length self.new → (i ≢ day → IsBackStep layers.now sets.now self.old i) → IsBackStep layers.now sets.now self.new i }
+        ensures steps { MendsBack layers.now sets.now day self.old self.new }
         ensures last { (i : ℕ) → day < i → row_at self.new i ≡ row_at self.old i }
         ensures long { length self.new ≡ length self.old }
         ensures wide { (width : ℕ) → IsWide self.old width → IsWide self.new width }
