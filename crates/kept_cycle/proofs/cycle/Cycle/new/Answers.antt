@@ -1,5 +1,5 @@
 -- The layers are those of all clean words, and no layer has more nodes than the marks are for.
-use Rattle.std.proofs.Common.{◌≡◌, ℕ, ◌+◌, ◌*◌, ◌<◌, ◌≤◌, ◌∙◌, List, get_or, ap, sym, subst, arith, rules}
+use Rattle.std.proofs.Common.{◌≡◌, ℕ, ◌*◌, ◌<◌, ◌≤◌, ◌∙◌, List, ap, subst, arith, rules}
 use Rattle.std.specs.Prelude.{slice_index, nat_le}
 use Rattle.rwsp_terms.specs.Instance.{Instance, cells, shift_count}
 use Rattle.domain_store.specs.Store.{has_domain}

@@ -1,5 +1,5 @@
 -- The first state, in which no position has a symbol.
-use Rattle.std.proofs.Common.{◌≡◌, ◌+◌, ◌∙◌, List, Bool, length, set, ap, true}
+use Rattle.std.proofs.Common.{◌∙◌, length, set, ap, true}
 use Rattle.rwsp_terms.specs.Instance.{cells}
 use Rattle.kept_cycle.proofs.Turning.{started}
 use Rattle.kept_cycle.proofs.cycle.Cycle.of_empty_sets.Goals as goal

@@ -1,5 +1,5 @@
 -- All positions have the store's domains.
-use Rattle.std.proofs.Common.{◌≡◌, ◌<◌, length, arith, sym, subst}
+use Rattle.std.proofs.Common.{arith, sym, subst}
 use Rattle.rwsp_terms.specs.Instance.{Instance}
 use Rattle.domain_store.specs.Store.{BelongsTo}
 use Rattle.kept_cycle.proofs.Turning.{all_known}

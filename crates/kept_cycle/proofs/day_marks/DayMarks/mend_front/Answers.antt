@@ -1,5 +1,5 @@
 -- One day more is mended, and where its marks stay, all are.
-use Rattle.std.proofs.Common.{◌<◌, ◌+◌, ◌≡◌, length, arith, ap, rules}
+use Rattle.std.proofs.Common.{◌<◌, length, rules}
 use Rattle.kept_cycle.proofs.Mending.{front_step_read, front_more, front_stays, fits_here}
 use Rattle.kept_cycle.proofs.day_marks.DayMarks.mend_front.Goals as goal
 

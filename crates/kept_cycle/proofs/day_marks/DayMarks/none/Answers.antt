@@ -1,5 +1,4 @@
 -- All rows are for the same states.
-use Rattle.std.proofs.Common.{◌≡◌, ◌∙◌, sym}
 use Rattle.kept_cycle.proofs.Mending.{wide_replicate}
 use Rattle.kept_cycle.proofs.day_marks.DayMarks.none.Goals as goal
 

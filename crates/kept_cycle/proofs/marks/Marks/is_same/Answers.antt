@@ -1,5 +1,5 @@
 -- Flags are compared one by one.
-use Rattle.std.proofs.Common.{◌≡◌, ◌∙◌, List, Bool, true, false, refl, ap, sym}
+use Rattle.std.proofs.Common.{◌≡◌, ◌∙◌, Bool, true, false, refl, sym}
 use Rattle.std.specs.Bool.{Decides}
 use Rattle.std.proofs.lemmas.Slice.Eq.{slice_eq-Decides}
 use mathlib.Core.Bool.{beq}
