@@ -1,18 +1,17 @@
 -- Symbols that no word of two turns has, and the dead leaf that holds once one of them is alone.
-use Rattle.std.proofs.Common.{◌≡◌, ◌≢◌, ℕ, zero, suc, ◌+◌, ◌*◌, ◌%◌, ◌<◌, ◌≤◌, List, [], ◌∷◌, length, get_or, refl, ap, sym, ◌∙◌, subst, arith, Bool, true, false, not, IsTrue, Some, inl, inr}
+use Rattle.std.proofs.Common.{◌≡◌, ℕ, zero, suc, ◌+◌, ◌*◌, ◌%◌, ◌<◌, ◌≤◌, List, [], ◌∷◌, length, get_or, refl, ap, sym, ◌∙◌, subst, arith, Bool, true, false, not, IsTrue, Some, inl, inr}
 use Rattle.std.specs.Prelude.{◌↔◌, ◌&&◌, ◌||◌, ◌==◌, slice_get}
 use Rattle.std.proofs.lemmas.Bool.{eqb-true, eq-eqb, cases_eq}
 use Rattle.std.proofs.lemmas.Nat.{mod-mul-add}
 use Rattle.std.proofs.Math.Nat.{mul-pos}
 use Rattle.rwsp_model.specs.Validity.{KeepsLimits}
 use Rattle.rwsp_terms.specs.declared.data.Symbol.{Symbol}
-use Rattle.rwsp_terms.specs.Instance.{Instance, cells, shift_count, symbol_numbered}
+use Rattle.rwsp_terms.specs.Instance.{Instance, cells, symbol_numbered}
 use Rattle.refutation_terms.specs.declared.lines.Line.{Line}
 use Rattle.refutation_terms.specs.declared.lines.Line.TheVariants.{Split, Window, Day, Dead, Bound, Unfinished}
-use Rattle.refutation_terms.specs.Word.{Domains, Over, Clean}
+use Rattle.refutation_terms.specs.Word.{Domains, Over}
 use Rattle.refutation_terms.specs.Leaf.{IsDead}
 use Rattle.refutation_terms.specs.Tree.{First, narrowed, is_idle}
-use Rattle.refutation_terms.specs.Log.{Holds, LineFits}
 use Rattle.refutation_terms.specs.Sharp.{NoWordHas}
 use Rattle.refutation_terms.proofs.InWords.{idle_as_said}
 use Rattle.refutation_terms.proofs.ExampleShort.{clean_for_some, dead_for_all, all_are_short}

@@ -1,15 +1,13 @@
 -- Marks, and the words that lead through the layers by held symbols.
-use Rattle.std.proofs.Common.{◌≡◌, ◌≢◌, ◌⊎◌, inl, inr, ℕ, zero, suc, ◌+◌, ◌-◌, ◌*◌, ◌%◌, ◌<◌, ◌≤◌, List, [], ◌∷◌, ◌++◌, length, get_or, take, drop, refl, ap, sym, ◌∙◌, subst, arith, Bool, true, false, IsTrue, Option, Some, None, length-append, append_assoc}
+use Rattle.std.proofs.Common.{◌≡◌, ℕ, zero, suc, ◌+◌, ◌-◌, ◌<◌, ◌≤◌, List, [], ◌∷◌, ◌++◌, length, take, drop, refl, ap, sym, ◌∙◌, subst, arith, Bool, IsTrue, Some}
 use Rattle.std.specs.Prelude.{◌↔◌, Contains, slice_get}
-use Rattle.std.proofs.Math.Seq.{drop-cons, take-suc, drop-length}
-use Rattle.std.proofs.lemmas.List.{get_or_default}
+use Rattle.std.proofs.Math.Seq.{drop-cons, drop-length}
 use Rattle.rwsp_terms.specs.declared.data.Symbol.{Symbol}
 use Rattle.layered_cycle.specs.declared.step.Step.{Step}
 use Rattle.layered_cycle.specs.Graph.{Leads}
 use Rattle.layered_cycle.specs.Grown.{StandsAt}
-use Rattle.kept_cycle.specs.Marks.{is_marked, row_at, layer_at, from_of, to_of, IsJoined, IsPass, IsWide}
-use Rattle.kept_cycle.proofs.Marking.{marked_within}
-use Rattle.layered_cycle.proofs.Ways.{step_by, LeadsTo, Last, leads_on, last_step}
+use Rattle.kept_cycle.specs.Marks.{is_marked, row_at, layer_at, from_of, to_of, IsJoined, IsPass}
+use Rattle.layered_cycle.proofs.Ways.{step_by, LeadsTo, leads_on, last_step}
 
 -- the word's symbols are held on its days, the first of which is this one
 abbrev pub Held : (ℕ → ℕ → Bool) → ℕ → List Symbol → Type 0

@@ -58,7 +58,7 @@ fn problem(alloc: Global, weeks: u32) -> Result<Problem, Fail> {
     Ok(problem)
 }
 
-fn seen(look: &Look) -> Seen {
+fn kind_of(look: &Look) -> Seen {
     match look {
         Look::Quiet => Seen::Quiet,
         Look::Closed(Line::Dead { len, .. }) => Seen::Dead(*len),
@@ -81,7 +81,7 @@ fn look(
 {
     problem.keeps_limits();
     let look = prop.look(alloc, doms)?;
-    Ok(seen(&look))
+    Ok(kind_of(&look))
 }
 
 fn set_first(doms: &mut Domains)

@@ -1,6 +1,5 @@
 -- One position more has no symbol that is cut.
-use Rattle.std.proofs.Common.{◌<◌, ◌≤◌, arith}
-use Rattle.kept_cycle.proofs.CutSymbols.{one_position_more, cells_of_store}
+use Rattle.kept_cycle.proofs.CutSymbols.{one_position_more}
 use Rattle.kept_cycle.proofs.cycle_cut.first_unsupported.Goals as goal
 
 pub loop-p-preserved : goal.loop-p-preserved

@@ -1,8 +1,7 @@
 -- A symbol that is alone, or isn't there, is not cut; else no word has it.
-use Rattle.std.proofs.Common.{◌≡◌, ◌<◌, ◌∙◌, true, length, sym, arith}
+use Rattle.std.proofs.Common.{◌<◌, ◌∙◌, sym, arith}
 use Rattle.rwsp_terms.specs.Instance.{cells}
-use Rattle.domain_store.specs.Store.{has_domain}
-use Rattle.kept_cycle.proofs.CutSymbols.{cells_of_store, none_beside, not_there, unsupported_if}
+use Rattle.kept_cycle.proofs.CutSymbols.{cells_of_store, none_beside, unsupported_if}
 use Rattle.kept_cycle.proofs.cycle_cut.is_unsupported.Goals as goal
 
 pub returns-then-size-lt2 : goal.returns-then-size-lt2

@@ -1,4 +1,4 @@
-use Rattle.std.proofs.Common.{ℕ, ◌<◌}
+use Rattle.std.proofs.Common.{◌<◌}
 use Rattle.rwsp_terms.specs.declared.data.Symbol.{Symbol}
 use Rattle.kept_cycle.specs.CycleCuts.{IsUnsupported}
 use Rattle.kept_cycle.proofs.cycle_cut.unsupported_at.Given as goal

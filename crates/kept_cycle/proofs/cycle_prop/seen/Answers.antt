@@ -1,6 +1,5 @@
 -- Two dead turns close; else a symbol that no word has is cut; else there is neither.
-use Rattle.std.proofs.Common.{◌≡◌, ◌<◌, ◌≤◌, ◌*◌, ℕ, false, IsTrue, subst, arith}
-use Rattle.rwsp_terms.specs.Instance.{Instance, cells}
+use Rattle.std.proofs.Common.{subst}
 use Rattle.rwsp_model.specs.Validity.{KeepsLimits}
 use Rattle.kept_cycle.proofs.CutSymbols.{some_cells, closed_cycle, none_closes, cut_cycle, none_spent}
 use Rattle.kept_cycle.proofs.Marking.{unlike}

@@ -1,5 +1,5 @@
 -- The first node of the first day leads nowhere.
-use Rattle.std.proofs.Common.{◌≡◌, ◌∙◌, ◌*◌, ap, subst, IsTrue, not}
+use Rattle.std.proofs.Common.{◌∙◌, ◌*◌, ap, subst, IsTrue, not}
 use Rattle.std.specs.Prelude.{◌↔◌}
 use Rattle.rwsp_terms.specs.Instance.{cells}
 use Rattle.refutation_terms.specs.Leaf.{IsDead}
