@@ -23,11 +23,11 @@ use Rattle.refutation_terms.specs.Verdict.{IsAccepted, IsRefused}
 use Rattle.rwsp.specs.Inputs.{IsWithinLimit, IsTooLong}
 use Rattle.rwsp.specs.Answers.{IsFileAnswer, IsRosterAnswer, IsLogAnswer, IsReduction, IsSecondAnswer}
 use Rattle.rwsp.specs.declared.command.Command.{Command}
-use Rattle.rwsp.specs.declared.command.Command.TheVariants.{Plan, Check, Verify, Reduce, Show}
+use Rattle.rwsp.specs.declared.command.Command.TheVariants.{Plan, Check, Verify, Reduce, Show, Trial}
 use Rattle.rwsp.specs.declared.answer.InputKind.{InputKind}
 use Rattle.rwsp.specs.declared.answer.InputKind.TheVariants as Kinds
 use Rattle.rwsp.specs.declared.answer.Answer.{Answer}
-use Rattle.rwsp.specs.declared.answer.Answer.TheVariants.{Roster, NoRoster, Undecided, Accepted, LogRefused, Reduced, Meets, Shown, Breaks, RosterRefused, Usage, FileRefused, TooLong}
+use Rattle.rwsp.specs.declared.answer.Answer.TheVariants.{Roster, NoRoster, Undecided, Accepted, LogRefused, Reduced, Meets, Shown, Breaks, RosterRefused, Trial as TrialOf, Usage, FileRefused, TooLong}
 use Rattle.rwsp.proofs.Logs.{one_verdict}
 use Rattle.rwsp.proofs.Reductions.{one_reduced}
 
@@ -55,6 +55,7 @@ roster_end P bytes (Accepted R) h = absurd h
 roster_end P bytes (LogRefused why) h = absurd h
 roster_end P bytes (Reduced g) h = absurd h
 roster_end P bytes Usage h = absurd h
+roster_end P bytes (TrialOf trial) h = absurd h
 roster_end P bytes Shown h = absurd h
 roster_end P bytes (FileRefused why) h = absurd h
 
@@ -146,6 +147,7 @@ acceptance_end P bytes (NoRoster g) h = absurd h
 acceptance_end P bytes (Undecided g) h = absurd h
 acceptance_end P bytes (Reduced g) h = absurd h
 acceptance_end P bytes Usage h = absurd h
+acceptance_end P bytes (TrialOf trial) h = absurd h
 acceptance_end P bytes Shown h = absurd h
 acceptance_end P bytes (FileRefused why) h = absurd h
 
@@ -171,6 +173,7 @@ reduction_end P bytes (NoRoster g) h = absurd h
 reduction_end P bytes (Undecided g) h = absurd h
 reduction_end P bytes (Accepted R) h = absurd h
 reduction_end P bytes Usage h = absurd h
+reduction_end P bytes (TrialOf trial) h = absurd h
 reduction_end P bytes Shown h = absurd h
 reduction_end P bytes (FileRefused why) h = absurd h
 
@@ -181,6 +184,7 @@ one_second (Check workers) P bytes a b limits h k = one_log_end P IsAcceptance b
 one_second Reduce P bytes a b limits h k = one_log_end P (IsReducedTo P) bytes a b limits (λ g e f. same_reduction P g a b e f) (reduction_end P bytes a h) (reduction_end P bytes b k)
 one_second (Plan budget) P bytes a b limits h k = absurd h
 one_second Show P bytes a b limits h k = absurd h
+one_second (Trial number weeks) P bytes a b limits h k = absurd h
 
 -- two answers of the problem's file
 
@@ -204,6 +208,7 @@ file_end file Shown h = absurd h
 file_end file (Breaks b) h = absurd h
 file_end file (RosterRefused why) h = absurd h
 file_end file Usage h = absurd h
+file_end file (TrialOf trial) h = absurd h
 
 same_file_end : (file : List ℕ) (a b : Answer) → FileEnd file a → FileEnd file b → a ≡ b
 same_file_end file a b (too_long l e) (too_long m f) = e ∙ sym f

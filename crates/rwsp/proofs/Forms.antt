@@ -3,10 +3,11 @@ use Rattle.std.proofs.Common.{◌≡◌, ℕ, List, Some, ap, sym, ◌∙◌, re
 use Rattle.std.specs.Prelude.{[], ◌∷◌, codes}
 use Rattle.std.specs.String.{string_bytes}
 use Rattle.std.specs.Str.{bytes_eq}
+use Rattle.rwsp_text.specs.Numbers.{number_of}
 use Rattle.refutation_log.proofs.ReadParts.{bytes_same}
-use Rattle.rwsp.specs.Commands.{Words, IsForm, IsCount, greatest_budget, most_workers}
+use Rattle.rwsp.specs.Commands.{Words, IsForm, IsCount, greatest_budget, most_workers, most_weeks}
 use Rattle.rwsp.specs.declared.command.Command.{Command}
-use Rattle.rwsp.specs.declared.command.Command.TheVariants.{Plan, Check, Verify, Reduce, Show}
+use Rattle.rwsp.specs.declared.command.Command.TheVariants.{Plan, Check, Verify, Reduce, Show, Trial}
 
 same_count : (word : List ℕ) (limit m n : ℕ) → IsCount word limit m → IsCount word limit n → m ≡ n
 same_count word limit m n h k =
@@ -33,6 +34,17 @@ not_verify_and_reduce word e f = unlike (codes "verify") (codes "reduce") refl (
 not_check_and_reduce : (word : List ℕ) → word ≡ codes "check" → word ≡ codes "reduce" → ⊥
 not_check_and_reduce word e f = unlike (codes "check") (codes "reduce") refl (sym e ∙ f)
 
+not_trial : (word other : List ℕ) → word ≡ codes "trial" → word ≡ other → bytes_eq (codes "trial") other ≡ false → ⊥
+not_trial word other e f differ = unlike (codes "trial") other differ (sym e ∙ f)
+
+same_number : (word : List ℕ) (m n : ℕ) → number_of word ≡ Some m → number_of word ≡ Some n → m ≡ n
+same_number word m n h k =
+    let both : Some m ≡ Some n = sym h ∙ k in
+    cc
+
+same_trial : (m n c d : ℕ) → m ≡ n → c ≡ d → Trial m c ≡ Trial n d
+same_trial m n c d e f = ap (λ k. Trial k c) e ∙ ap (Trial n) f
+
 pub one_form : (words : Words) (a b : Command) → IsForm words a → IsForm words b → a ≡ b
 one_form [] a b h k = absurd (no_words a h)
   where
@@ -42,11 +54,13 @@ one_form [] a b h k = absurd (no_words a h)
     no_words Verify h = h
     no_words Show h = h
     no_words Reduce h = h
+    no_words (Trial number weeks) h = h
 one_form (v ∷ []) (Plan m) b h k = absurd h
 one_form (v ∷ []) (Check m) b h k = absurd h
 one_form (v ∷ []) Verify b h k = absurd h
 one_form (v ∷ []) Show b h k = absurd h
 one_form (v ∷ []) Reduce b h k = absurd h
+one_form (v ∷ []) (Trial n c) b h k = absurd h
 one_form (v ∷ w ∷ []) Show Show h k = refl
 one_form (v ∷ w ∷ []) Show (Plan m) h k = absurd (not_show_and_plan (string_bytes v) h.0 k.0)
 one_form (v ∷ w ∷ []) (Plan m) Show h k = absurd (not_show_and_plan (string_bytes v) k.0 h.0)
@@ -56,6 +70,9 @@ one_form (v ∷ w ∷ []) Reduce b h k = absurd h
 one_form (v ∷ w ∷ []) Show Reduce h k = absurd k
 one_form (v ∷ w ∷ []) (Plan m) Reduce h k = absurd k
 one_form (v ∷ w ∷ []) (Check m) b h k = absurd h
+one_form (v ∷ w ∷ []) (Trial n c) b h k = absurd h
+one_form (v ∷ w ∷ []) Show (Trial n c) h k = absurd k
+one_form (v ∷ w ∷ []) (Plan m) (Trial n c) h k = absurd k
 one_form (v ∷ w ∷ []) Show Verify h k = absurd k
 one_form (v ∷ w ∷ []) Show (Check m) h k = absurd k
 one_form (v ∷ w ∷ []) (Plan n) Verify h k = absurd k
@@ -69,6 +86,15 @@ one_form (v ∷ w ∷ x ∷ []) Reduce Verify h k = absurd (not_verify_and_reduc
 one_form (v ∷ w ∷ x ∷ []) Verify Reduce h k = absurd (not_verify_and_reduce (string_bytes v) h.0 k.0)
 one_form (v ∷ w ∷ x ∷ []) Reduce (Check m) h k = absurd (not_check_and_reduce (string_bytes v) k.0 h.0)
 one_form (v ∷ w ∷ x ∷ []) (Check m) Reduce h k = absurd (not_check_and_reduce (string_bytes v) h.0 k.0)
+one_form (v ∷ w ∷ x ∷ []) (Trial m c) (Trial n d) h k = same_trial m n c d (same_number (string_bytes w) m n h.1 k.1) (same_count (string_bytes x) most_weeks c d h.2 k.2)
+one_form (v ∷ w ∷ x ∷ []) (Trial n c) Verify h k = absurd (not_trial (string_bytes v) (codes "verify") h.0 k.0 refl)
+one_form (v ∷ w ∷ x ∷ []) (Trial n c) Reduce h k = absurd (not_trial (string_bytes v) (codes "reduce") h.0 k.0 refl)
+one_form (v ∷ w ∷ x ∷ []) (Trial n c) (Check m) h k = absurd (not_trial (string_bytes v) (codes "check") h.0 k.0 refl)
+one_form (v ∷ w ∷ x ∷ []) (Trial n c) Show h k = absurd k
+one_form (v ∷ w ∷ x ∷ []) (Trial n c) (Plan m) h k = absurd k
+one_form (v ∷ w ∷ x ∷ []) Verify (Trial n c) h k = absurd (not_trial (string_bytes v) (codes "verify") k.0 h.0 refl)
+one_form (v ∷ w ∷ x ∷ []) Reduce (Trial n c) h k = absurd (not_trial (string_bytes v) (codes "reduce") k.0 h.0 refl)
+one_form (v ∷ w ∷ x ∷ []) (Check m) (Trial n c) h k = absurd (not_trial (string_bytes v) (codes "check") k.0 h.0 refl)
 one_form (v ∷ w ∷ x ∷ []) Reduce Show h k = absurd k
 one_form (v ∷ w ∷ x ∷ []) Reduce (Plan m) h k = absurd k
 one_form (v ∷ w ∷ x ∷ []) Show b h k = absurd h
@@ -82,6 +108,8 @@ one_form (v ∷ w ∷ x ∷ y ∷ []) (Plan m) Show h k = absurd k
 one_form (v ∷ w ∷ x ∷ y ∷ []) (Plan m) Verify h k = absurd k
 one_form (v ∷ w ∷ x ∷ y ∷ []) (Plan m) (Check n) h k = absurd k
 one_form (v ∷ w ∷ x ∷ y ∷ []) (Plan m) Reduce h k = absurd k
+one_form (v ∷ w ∷ x ∷ y ∷ []) (Plan m) (Trial n c) h k = absurd k
+one_form (v ∷ w ∷ x ∷ y ∷ []) (Trial n c) b h k = absurd h
 one_form (v ∷ w ∷ x ∷ y ∷ []) Reduce b h k = absurd h
 one_form (v ∷ w ∷ x ∷ y ∷ []) Show b h k = absurd h
 one_form (v ∷ w ∷ x ∷ y ∷ []) Verify b h k = absurd h
@@ -91,6 +119,8 @@ one_form (v ∷ w ∷ x ∷ y ∷ z ∷ []) (Check m) Show h k = absurd k
 one_form (v ∷ w ∷ x ∷ y ∷ z ∷ []) (Check m) Verify h k = absurd k
 one_form (v ∷ w ∷ x ∷ y ∷ z ∷ []) (Check m) (Plan n) h k = absurd k
 one_form (v ∷ w ∷ x ∷ y ∷ z ∷ []) (Check m) Reduce h k = absurd k
+one_form (v ∷ w ∷ x ∷ y ∷ z ∷ []) (Check m) (Trial n c) h k = absurd k
+one_form (v ∷ w ∷ x ∷ y ∷ z ∷ []) (Trial n c) b h k = absurd h
 one_form (v ∷ w ∷ x ∷ y ∷ z ∷ []) Reduce b h k = absurd h
 one_form (v ∷ w ∷ x ∷ y ∷ z ∷ []) Show b h k = absurd h
 one_form (v ∷ w ∷ x ∷ y ∷ z ∷ []) Verify b h k = absurd h
@@ -100,3 +130,4 @@ one_form (v ∷ w ∷ x ∷ y ∷ z ∷ u ∷ words) (Check m) b h k = absurd h
 one_form (v ∷ w ∷ x ∷ y ∷ z ∷ u ∷ words) Verify b h k = absurd h
 one_form (v ∷ w ∷ x ∷ y ∷ z ∷ u ∷ words) Reduce b h k = absurd h
 one_form (v ∷ w ∷ x ∷ y ∷ z ∷ u ∷ words) Show b h k = absurd h
+one_form (v ∷ w ∷ x ∷ y ∷ z ∷ u ∷ words) (Trial n c) b h k = absurd h

@@ -1,14 +1,14 @@
 -- From what the parts of a run found to what its answer says.
-use Rattle.std.proofs.Common.{◌≡◌, ℕ, ◌≤◌, List, subst, arith, inr}
+use Rattle.std.proofs.Common.{◌≡◌, ℕ, ◌≤◌, List, subst, arith, inl, inr}
 use Rattle.rwsp_io.specs.Told.{Told, Silent, Missing, Bytes, Rose}
 use Rattle.rwsp_terms.specs.Instance.{Instance}
 use Rattle.rwsp_file.specs.Spelling.{SpellsProblem}
-use Rattle.rwsp.specs.Commands.{Words, IsForm, ReadsSecond, problem_name, second_name}
+use Rattle.rwsp.specs.Commands.{Words, IsForm, ReadsProblem, ReadsSecond, problem_name, second_name}
 use Rattle.rwsp.specs.Inputs.{WhereTold, IsWithinLimit, OfProblem, IsProblemOf}
 use Rattle.rwsp.specs.Answers.{IsAnswer, IsAnswerOn, IsReadFault, IsOfCommand}
-use Rattle.rwsp.specs.Texts.{IsTextOf, text_of}
+use Rattle.rwsp.specs.Texts.{IsTextOf, IsPrintable, text_of}
 use Rattle.rwsp.specs.declared.command.Command.{Command}
-use Rattle.rwsp.specs.declared.command.Command.TheVariants.{Plan, Check, Verify, Reduce, Show}
+use Rattle.rwsp.specs.declared.command.Command.TheVariants.{Plan, Check, Verify, Reduce, Show, Trial}
 use Rattle.rwsp.specs.declared.answer.InputKind.TheVariants as Kinds
 use Rattle.rwsp.specs.declared.answer.Answer.{Answer}
 use Rattle.rwsp.proofs.Logs.{planned_is}
@@ -35,19 +35,20 @@ answer_kind (Plan budget) told P answer h = (planned_is P budget answer h).0
 answer_kind Verify told P answer h = h.0
 answer_kind (Check workers) told P answer h = h.0
 answer_kind Reduce told P answer h = h.0
+answer_kind (Trial number weeks) told P answer h = h.0
 
 -- an answer on a problem that was read
-pub job_answer : (held : List ℕ → Told) (words : Words) (command : Command) (P : Instance) (answer : Answer) (told : Told) → IsForm words command → IsRead held words P → told ≡ held (second_name words) → IsAnswerOn command told P answer → IsAnswer held words answer
-job_answer held words command P answer told form read same h =
-    inr (command, form, inr (answer_kind command told P answer h, of_problem held words P (λ Q. IsAnswerOn command (held (second_name words)) Q answer) read (subst (λ (t : Told). IsAnswerOn command t P answer) same h)))
+pub job_answer : (held : List ℕ → Told) (words : Words) (command : Command) (P : Instance) (answer : Answer) (told : Told) → IsForm words command → ReadsProblem command → IsRead held words P → told ≡ held (second_name words) → IsAnswerOn command told P answer → IsAnswer held words answer
+job_answer held words command P answer told form reads read same h =
+    inr (inr (command, form, reads, inr (answer_kind command told P answer h, of_problem held words P (λ Q. IsAnswerOn command (held (second_name words)) Q answer) read (subst (λ (t : Told). IsAnswerOn command t P answer) same h))))
 
-pub job_text : (held : List ℕ → Told) (words : Words) (P : Instance) (answer : Answer) (text : List ℕ) → IsRead held words P → text ≡ text_of P answer → IsTextOf held words answer text
-job_text held words P answer text read h = inr (P, problem_of held words P read, h)
+pub job_text : (held : List ℕ → Told) (words : Words) (P : Instance) (answer : Answer) (text : List ℕ) → IsRead held words P → IsPrintable P answer → text ≡ text_of P answer → IsTextOf held words answer text
+job_text held words P answer text read printable h = inr (inl (P, problem_of held words P read, printable, h))
 
 -- a count that has risen since later has risen
 rose_since : (before later now : ℕ) → before ≤ later → Rose later now → Rose before now
 rose_since before later now h rose = omega arith
 
-pub second_fault : (held : List ℕ → Told) (before later now : List ℕ → ℕ) (words : Words) (command : Command) (P : Instance) → IsForm words command → ReadsSecond command → IsRead held words P → before (second_name words) ≤ later (second_name words) → Rose (later (second_name words)) (now (second_name words)) → IsReadFault held before now words
-second_fault held before later now words command P form reads read le rose =
-    (command, form, inr (reads, rose_since _ _ _ le rose, of_problem held words P (λ _. Unit {0}) read tt))
+pub second_fault : (held : List ℕ → Told) (before later now : List ℕ → ℕ) (words : Words) (command : Command) (P : Instance) → IsForm words command → ReadsProblem command → ReadsSecond command → IsRead held words P → before (second_name words) ≤ later (second_name words) → Rose (later (second_name words)) (now (second_name words)) → IsReadFault held before now words
+second_fault held before later now words command P form file reads read le rose =
+    (command, form, file, inr (reads, rose_since _ _ _ le rose, of_problem held words P (λ _. Unit {0}) read tt))

@@ -4,7 +4,7 @@ use Rattle.std.specs.String.{string_bytes}
 use Rattle.std.specs.declared.alloc.Global.{Global}
 use Rattle.rwsp_text.specs.Numbers.{number_of}
 use Rattle.rwsp.specs.declared.command.Command.{Command}
-use Rattle.rwsp.specs.declared.command.Command.TheVariants.{Plan, Check, Verify, Reduce, Show}
+use Rattle.rwsp.specs.declared.command.Command.TheVariants.{Plan, Check, Verify, Reduce, Show, Trial}
 
 -- the words behind the program's name
 abbrev pub Words : Type 0
@@ -32,6 +32,10 @@ usual_workers = 4
 abbrev pub most_workers : ℕ
 most_workers = 64
 
+-- the most weeks of a trial
+abbrev pub most_weeks : ℕ
+most_weeks = 600
+
 -- the words are a form of the command
 abbrev pub IsForm : Words → Command → Type 0
 IsForm (word ∷ file ∷ []) Show = (string_bytes word ≡ codes "show") × IsFileWord (string_bytes file)
@@ -39,6 +43,7 @@ IsForm (word ∷ file ∷ []) (Plan budget) = (string_bytes word ≡ codes "plan
 IsForm (word ∷ file ∷ second ∷ []) Verify = (string_bytes word ≡ codes "verify") × IsFileWord (string_bytes file) × IsFileWord (string_bytes second)
 IsForm (word ∷ file ∷ second ∷ []) Reduce = (string_bytes word ≡ codes "reduce") × IsFileWord (string_bytes file) × IsFileWord (string_bytes second)
 IsForm (word ∷ file ∷ second ∷ []) (Check workers) = (string_bytes word ≡ codes "check") × IsFileWord (string_bytes file) × IsFileWord (string_bytes second) × (workers ≡ usual_workers)
+IsForm (word ∷ number_word ∷ weeks_word ∷ []) (Trial number weeks) = (string_bytes word ≡ codes "trial") × (number_of (string_bytes number_word) ≡ Some number) × IsCount (string_bytes weeks_word) most_weeks weeks
 IsForm (word ∷ file ∷ option ∷ number ∷ []) (Plan budget) = (string_bytes word ≡ codes "plan") × IsFileWord (string_bytes file) × (string_bytes option ≡ codes "--budget") × IsCount (string_bytes number) greatest_budget budget
 IsForm (word ∷ file ∷ second ∷ option ∷ number ∷ []) (Check workers) = (string_bytes word ≡ codes "check") × IsFileWord (string_bytes file) × IsFileWord (string_bytes second) × (string_bytes option ≡ codes "--workers") × IsCount (string_bytes number) most_workers workers
 IsForm words command = ⊥
@@ -46,6 +51,11 @@ IsForm words command = ⊥
 -- the words are a form of no command
 abbrev pub HasNoForm : Words → Type 0
 HasNoForm words = (command : Command) → IsForm words command → ⊥
+
+-- the command reads a problem's file
+abbrev pub ReadsProblem : Command → Type 0
+ReadsProblem (Trial number weeks) = ⊥
+ReadsProblem command = Unit {0}
 
 -- the command reads a second file
 abbrev pub ReadsSecond : Command → Type 0

@@ -14,6 +14,7 @@ mod second;
 #[cfg(test)]
 mod tests;
 mod text;
+mod trial;
 mod verify;
 
 use answer::Outcome;

@@ -4,8 +4,9 @@ ghost use Rattle.std.specs.Io.KnownBytes.{Appends, Keeps};
 ghost use Rattle.rwsp_io.specs.Told.{Rose, NeverFall, Missing};
 ghost use Rattle.rwsp_terms.specs.Instance.{Instance};
 ghost use Rattle.rwsp.specs.Answers.{IsAnswer, IsAnswerOn, IsReadFault};
-ghost use Rattle.rwsp.specs.Commands.{IsForm, ReadsSecond, greatest_budget, problem_name, second_name};
+ghost use Rattle.rwsp.specs.Commands.{IsForm, ReadsProblem, ReadsSecond, greatest_budget, most_weeks, problem_name, second_name};
 ghost use Rattle.rwsp.specs.Plans.{IsPlanned};
+ghost use Rattle.rwsp.specs.Trials.{IsTrialAnswer, IsProblemOfTrial};
 ghost use Rattle.rwsp.specs.Texts.{IsTextOf, HasFixedText, IsPrintable, text_of};
 ghost use Rattle.rwsp.specs.declared.answer.Answer.{Answer};
 
@@ -15,6 +16,7 @@ use crate::input::{Exit, problem_in};
 use crate::plan::planned;
 use crate::second::second_answer;
 use crate::text::{fixed_text, text_on};
+use crate::trial::run_trial;
 use potential_bounds::Gate;
 use rwsp_io::{Shelf, Sink, write_all};
 use rwsp_model::Problem;
@@ -50,7 +52,7 @@ pub fn run<R: Threads + Sync, S: Shelf, K: Sink, G: Gate>(
 
     // Where a file couldn't be read, or there was no memory, nothing was written.
     ensures read_fault { result ≡ Outcome.ReadFault → IsReadFault (S.held shelf.old) (S.faults shelf.old) (S.faults shelf.new) words.now.items }
-    ensures missing { (command : Command) → IsForm words.now.items command → S.held shelf.old (problem_name words.now.items) ≡ Missing → result ≡ Outcome.ReadFault }
+    ensures missing { (command : Command) → IsForm words.now.items command → ReadsProblem command → S.held shelf.old (problem_name words.now.items) ≡ Missing → result ≡ Outcome.ReadFault }
     ensures silent_at_fault { result ≡ Outcome.ReadFault → Keeps (K.got out.old) (K.got out.new) }
     ensures silent_without_memory { result ≡ Outcome.Memory → Keeps (K.got out.old) (K.got out.new) }
 {
@@ -76,12 +78,34 @@ fn reply_to<R: Threads + Sync, S: Shelf, G: Gate>(
 ) -> Result<Reply, Stop>
     ensures answer { IfOk result (λ r. IsAnswer (S.held shelf.old) words.now.items r.answer) }
     ensures text { IfOk result (λ r. IsTextOf (S.held shelf.old) words.now.items r.answer r.text.items) }
-    ensures missing { (command : Command) → IsForm words.now.items command → S.held shelf.old (problem_name words.now.items) ≡ Missing → IsErrOf result Stop.ReadFault }
+    ensures missing { (command : Command) → IsForm words.now.items command → ReadsProblem command → S.held shelf.old (problem_name words.now.items) ≡ Missing → IsErrOf result Stop.ReadFault }
     ensures fault { IsErrOf result Stop.ReadFault → IsReadFault (S.held shelf.old) (S.faults shelf.old) (S.faults shelf.new) words.now.items }
 {
     let Some(command) = command_of(words) else {
         return fixed(alloc, Answer::Usage);
     };
+    match command {
+        Command::Trial { number, weeks } => tried(rt, alloc, number, weeks, gate),
+        _ => reply_on_file(rt, alloc, words, shelf, command, gate),
+    }
+}
+
+// The reply of a command that reads a problem's file.
+fn reply_on_file<R: Threads + Sync, S: Shelf, G: Gate>(
+    rt: &R,
+    alloc: Global,
+    words: &Vec<String>,
+    shelf: &mut S,
+    command: Command,
+    gate: &G,
+) -> Result<Reply, Stop>
+    requires form { IsForm words.now.items command }
+    requires reads { ReadsProblem command }
+    ensures answer { IfOk result (λ r. IsAnswer (S.held shelf.old) words.now.items r.answer) }
+    ensures text { IfOk result (λ r. IsTextOf (S.held shelf.old) words.now.items r.answer r.text.items) }
+    ensures missing { S.held shelf.old (problem_name words.now.items) ≡ Missing → IsErrOf result Stop.ReadFault }
+    ensures fault { IsErrOf result Stop.ReadFault → IsReadFault (S.held shelf.old) (S.faults shelf.old) (S.faults shelf.new) words.now.items }
+{
     let problem = match problem_in(alloc, shelf, word_at(words, 1)) {
         Ok(problem) => problem,
         Err(Exit::Answer(answer)) => return fixed(alloc, answer),
@@ -101,7 +125,8 @@ fn answer_on<R: Threads + Sync, S: Shelf, G: Gate>(
     command: Command,
     gate: &G,
 ) -> Result<Answer, Stop>
-    requires { IsForm words.now.items command }
+    requires form { IsForm words.now.items command }
+    requires reads { ReadsProblem command }
     ensures answer { IfOk result (IsAnswerOn command (S.held shelf.old (second_name words.now.items)) problem.now) }
     ensures printable { IfOk result (IsPrintable problem.now) }
     ensures second { IsErrOf result Stop.ReadFault → ReadsSecond command }
@@ -113,6 +138,26 @@ fn answer_on<R: Threads + Sync, S: Shelf, G: Gate>(
         Command::Show => Ok(Answer::Shown),
         _ => second_answer(rt, alloc, shelf, problem, word_at(words, 2), command, gate),
     }
+}
+
+// The reply of a trial.
+fn tried<R: Threads + Sync, G: Gate>(
+    rt: &R,
+    alloc: Global,
+    number: u32,
+    weeks: u32,
+    gate: &G,
+) -> Result<Reply, Stop>
+    requires { (1 ≤ weeks) × (weeks ≤ most_weeks) }
+    ensures answer { IfOk result (λ r. IsTrialAnswer number weeks r.answer) }
+    ensures text { IfOk result (λ r. (P : Instance) × IsProblemOfTrial r.answer P × (r.text.items ≡ text_of P r.answer)) }
+    ensures fault { IsErrOf result Stop.ReadFault → ⊥ }
+{
+    let trial = run_trial(rt, alloc, number, weeks, gate)?;
+    Ok(Reply {
+        answer: Answer::Trial(trial.result),
+        text: trial.text,
+    })
 }
 
 // The reply whose text is the same for every problem.
@@ -131,7 +176,7 @@ fn fixed(alloc: Global, answer: Answer) -> Result<Reply, Stop>
 fn printed(alloc: Global, problem: &Problem, answer: Answer) -> Result<Reply, Stop>
     requires { IsPrintable problem.now answer }
     ensures answer { IfOk result (λ r. r.answer ≡ answer) }
-    ensures text { IfOk result (λ r. r.text.items ≡ text_of problem.now r.answer) }
+    ensures text { IfOk result (λ r. IsPrintable problem.now r.answer × (r.text.items ≡ text_of problem.now r.answer)) }
     ensures fault { IsErrOf result Stop.ReadFault → ⊥ }
 {
     let text = text_on(alloc, problem, &answer)?;

@@ -1,6 +1,7 @@
 // Command lines over files in memory: what is printed, to the byte, and the status.
 mod logs;
 mod plans;
+mod trials;
 
 ghost use Rattle.std.specs.Prelude.{◌<◌};
 
@@ -196,7 +197,7 @@ const USAGE: &str =
 
 #[test]
 fn words_that_are_no_command(rt: HostRuntime) -> Result<(), Fail> {
-    let cases: [&[&str]; 12] = [
+    let cases: [&[&str]; 19] = [
         &[],
         &["show", "-x"],
         &["verify", "F", ""],
@@ -209,6 +210,13 @@ fn words_that_are_no_command(rt: HostRuntime) -> Result<(), Fail> {
         &["check", "F", "--workers", "4"],
         &["check", "F", "G", "--workers", "0"],
         &["check", "F", "G", "--workers", "65"],
+        &["trial"],
+        &["trial", "0"],
+        &["trial", "0", "0"],
+        &["trial", "0", "601"],
+        &["trial", "1000000000", "1"],
+        &["trial", "one", "1"],
+        &["trial", "0", "1", "2"],
     ];
     for words in cases {
         assert!(rt; ends(&rt, rt.alloc(), words, &[], 2, USAGE)?);
