@@ -1,12 +1,15 @@
 -- From what the parts of a run found to what its answer says.
-use Rattle.std.proofs.Common.{◌≡◌, ℕ, ◌≤◌, List, subst, arith, inl, inr}
+use Rattle.std.proofs.Common.{◌≡◌, ℕ, ◌≤◌, List, subst, arith, refl, inl, inr}
 use Rattle.rwsp_io.specs.Told.{Told, Silent, Missing, Bytes, Rose}
 use Rattle.rwsp_terms.specs.Instance.{Instance}
 use Rattle.rwsp_file.specs.Spelling.{SpellsProblem}
 use Rattle.rwsp.specs.Commands.{Words, IsForm, ReadsProblem, ReadsSecond, problem_name, second_name}
 use Rattle.rwsp.specs.Inputs.{WhereTold, IsWithinLimit, OfProblem, IsProblemOf}
 use Rattle.rwsp.specs.Answers.{IsAnswer, IsAnswerOn, IsReadFault, IsOfCommand}
-use Rattle.rwsp.specs.Texts.{IsTextOf, IsPrintable, text_of}
+use Rattle.rwsp.specs.Texts.{IsTextOf, IsTextOfTrial, IsPrintable, text_of}
+use Rattle.rwsp.specs.Trials.{IsTrial, IsTrialAnswer}
+use Rattle.rwsp.specs.declared.answer.TrialResult.{TrialResult}
+use Rattle.rwsp.specs.declared.answer.Answer.TheVariants.{Trial as TrialOf}
 use Rattle.rwsp.specs.declared.command.Command.{Command}
 use Rattle.rwsp.specs.declared.command.Command.TheVariants.{Plan, Check, Verify, Reduce, Show, Trial}
 use Rattle.rwsp.specs.declared.answer.InputKind.TheVariants as Kinds
@@ -52,3 +55,14 @@ rose_since before later now h rose = omega arith
 pub second_fault : (held : List ℕ → Told) (before later now : List ℕ → ℕ) (words : Words) (command : Command) (P : Instance) → IsForm words command → ReadsProblem command → ReadsSecond command → IsRead held words P → before (second_name words) ≤ later (second_name words) → Rose (later (second_name words)) (now (second_name words)) → IsReadFault held before now words
 second_fault held before later now words command P form file reads read le rose =
     (command, form, file, inr (reads, rose_since _ _ _ le rose, of_problem held words P (λ _. Unit {0}) read tt))
+
+-- the reply of a trial
+
+pub trial_answer : (held : List ℕ → Told) (words : Words) (number weeks : ℕ) (answer : Answer) → IsForm words (Trial number weeks) → IsTrialAnswer number weeks answer → IsAnswer held words answer
+trial_answer held words number weeks answer form h = inr (inl (number, weeks, form, h))
+
+pub trial_text : (held : List ℕ → Told) (words : Words) (answer : Answer) (text : List ℕ) → IsTextOfTrial answer text → IsTextOf held words answer text
+trial_text held words answer text h = inr (inr h)
+
+pub is_trial : (number weeks : ℕ) (trial : TrialResult) → IsTrial number weeks trial → IsTrialAnswer number weeks (TrialOf trial)
+is_trial number weeks trial h = (trial, refl, h)

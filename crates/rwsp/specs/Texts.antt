@@ -175,9 +175,13 @@ IsPrintable P (Breaks broken) = (r : Rule) × (rule_of P broken.rule ≡ Some r)
 IsPrintable P (Trial trial) = ⊥
 IsPrintable P answer = Unit {0}
 
+-- the text is that of the answer to a trial, for the trial's problem
+abbrev pub IsTextOfTrial : Answer → List ℕ → Type 0
+IsTextOfTrial answer text = (P : Instance) × IsProblemOfTrial answer P × (text ≡ text_of P answer)
+
 -- the text is the answer's, which is the same for every instance, or is for the one that the problem's file spells, or for that of a trial
 abbrev pub IsTextOf : (List ℕ → Told) → Words → Answer → List ℕ → Type 0
 IsTextOf held words answer text =
     (HasFixedText answer × ((P : Instance) → text ≡ text_of P answer))
     ⊎ (((P : Instance) × IsProblemOf held words P × IsPrintable P answer × (text ≡ text_of P answer))
-    ⊎ ((P : Instance) × IsProblemOfTrial answer P × (text ≡ text_of P answer)))
+    ⊎ IsTextOfTrial answer text)

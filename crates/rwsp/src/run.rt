@@ -6,8 +6,8 @@ ghost use Rattle.rwsp_terms.specs.Instance.{Instance};
 ghost use Rattle.rwsp.specs.Answers.{IsAnswer, IsAnswerOn, IsReadFault};
 ghost use Rattle.rwsp.specs.Commands.{IsForm, ReadsProblem, ReadsSecond, greatest_budget, most_weeks, problem_name, second_name};
 ghost use Rattle.rwsp.specs.Plans.{IsPlanned};
-ghost use Rattle.rwsp.specs.Trials.{IsTrialAnswer, IsProblemOfTrial};
-ghost use Rattle.rwsp.specs.Texts.{IsTextOf, HasFixedText, IsPrintable, text_of};
+ghost use Rattle.rwsp.specs.Trials.{IsTrialAnswer};
+ghost use Rattle.rwsp.specs.Texts.{IsTextOf, IsTextOfTrial, HasFixedText, IsPrintable, text_of};
 ghost use Rattle.rwsp.specs.declared.answer.Answer.{Answer};
 
 use crate::answer::{Answer, Outcome, Stop};
@@ -69,6 +69,7 @@ pub fn run<R: Threads + Sync, S: Shelf, K: Sink, G: Gate>(
 }
 
 // The answer to the words, with its text.
+#[tactic(auto, using(crate::proofs::Replies::trial_answer, crate::proofs::Replies::trial_text))]
 fn reply_to<R: Threads + Sync, S: Shelf, G: Gate>(
     rt: &R,
     alloc: Global,
@@ -141,6 +142,7 @@ fn answer_on<R: Threads + Sync, S: Shelf, G: Gate>(
 }
 
 // The reply of a trial.
+#[tactic(auto, using(crate::proofs::Replies::is_trial))]
 fn tried<R: Threads + Sync, G: Gate>(
     rt: &R,
     alloc: Global,
@@ -150,7 +152,7 @@ fn tried<R: Threads + Sync, G: Gate>(
 ) -> Result<Reply, Stop>
     requires { (1 ≤ weeks) × (weeks ≤ most_weeks) }
     ensures answer { IfOk result (λ r. IsTrialAnswer number weeks r.answer) }
-    ensures text { IfOk result (λ r. (P : Instance) × IsProblemOfTrial r.answer P × (r.text.items ≡ text_of P r.answer)) }
+    ensures text { IfOk result (λ r. IsTextOfTrial r.answer r.text.items) }
     ensures fault { IsErrOf result Stop.ReadFault → ⊥ }
 {
     let trial = run_trial(rt, alloc, number, weeks, gate)?;

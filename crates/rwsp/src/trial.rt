@@ -91,14 +91,16 @@ fn whole_demand(problem: &Problem) -> u32
     demand
 }
 
-fn put_trial_line(out: &mut Vec<u8>, problem: &Problem, trial: &TrialResult) -> Result<(), AllocError>
-    ensures { OnOk result (out.new.items ≡ out.old.items ++ trial_line problem.now trial.now) }
+fn trial_line(alloc: Global, problem: &Problem, trial: &TrialResult) -> Result<Vec<u8>, AllocError>
+    ensures { IfOk result (λ v. v.items ≡ trial_line problem.now trial.now) }
 {
-    put_labelled(out, b"number ".as_slice(), trial.number)?;
-    put_labelled(out, b" weeks ".as_slice(), trial.weeks)?;
-    put_labelled(out, b" days ".as_slice(), problem.days())?;
-    put_labelled(out, b" shifts ".as_slice(), u32::from(problem.shifts()))?;
-    put_labelled(out, b" demand ".as_slice(), whole_demand(problem))
+    let mut out = Vec::new(alloc);
+    put_labelled(&mut out, b"number ".as_slice(), trial.number)?;
+    put_labelled(&mut out, b" weeks ".as_slice(), trial.weeks)?;
+    put_labelled(&mut out, b" days ".as_slice(), problem.days())?;
+    put_labelled(&mut out, b" shifts ".as_slice(), u32::from(problem.shifts()))?;
+    put_labelled(&mut out, b" demand ".as_slice(), whole_demand(problem))?;
+    Ok(out)
 }
 
 // Appends a label and the number of bytes of a text.
@@ -130,8 +132,7 @@ fn trial_text(alloc: Global, problem: &Problem, trial: &TrialResult) -> Result<V
     requires { IsTried problem.now trial.now.found }
     ensures { IfOk result (λ v. v.items ≡ trial_text problem.now trial.now) }
 {
-    let mut out = Vec::new(alloc);
-    put_trial_line(&mut out, problem, trial)?;
+    let mut out = trial_line(alloc, problem, trial)?;
     out.push(b'\n')?;
     put_found_line(&mut out, alloc, problem, &trial.found)?;
     out.push(b'\n')?;
