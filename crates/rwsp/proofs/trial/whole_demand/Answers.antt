@@ -5,8 +5,8 @@ use Rattle.rwsp.proofs.trial.whole_demand.Goals as goal
 
 pub loop-day-preserved : goal.loop-day-preserved
 loop-day-preserved c =
-    let few = c.demand_on.ensures.few in
+    let few = c.demand_on-demand.ensures.few in
     record {
-      sum = sum_more (demand_on c.args.problem.now) c.loop-day.day c.loop-day.demand c.demand_on.result c.loop-day.invariant.sum c.demand_on.ensures.value;
+      sum = sum_more (demand_on c.args.problem.now) c.loop-day.day c.loop-day.demand c.demand_on-demand.result c.loop-day.invariant.sum c.demand_on-demand.ensures.value;
       few = omega arith;
     }
