@@ -213,7 +213,7 @@ answered one decide held words command file P a form within reads e short spells
 answered one decide held words command file P a form within reads e short spells (inr (inr (inl h))) = absurd (not_trial command h.0 h.1 (one_form words command (Trial h.0 h.1) form h.2) reads)
 answered one decide held words command file P a form within reads e short spells (inr (inr (inr h))) =
     let same : h.0 ≡ command = one_form words h.0 command h.1 form in
-    of_command one decide command (held (second_name words)) file P a short spells (ends_at command held words file a e (subst (λ (c : Command). IsAnswerTo c held words a) same h.3))
+    of_command one decide command (held (second_name words)) file P a short spells (ends_at command held words file a e (subst (λ (c : Command). IsAnswerTo c held words a) same h.4))
 
 -- a refutation is accepted
 pub taken : RefutationsAreAccepted
