@@ -271,6 +271,7 @@ right_text (Check workers) P s text other limits h k = absurd h
 right_text Reduce P s text other limits h k = absurd h
 right_text (Plan budget) P s text other limits h k = absurd h
 right_text Show P s text other limits h k = absurd h
+right_text (Trial number weeks) P s text other limits h k = absurd h
 
 told_text : (command : Command) (P : Instance) (told : Told) (text other : List ℕ) → KeepsLimits P → IsThere told → IsCalendarText command told P text → IsCalendarText command told P other → text ≡ other
 told_text command P told text other limits (inl e) h k = absurd (at_missing told (λ bytes. (s : List Symbol) × SpellsRoster P bytes s × IsCalendarOf command P s text) e h)
