@@ -40,3 +40,10 @@ one_problem number weeks some =
       (made.0, stints_follow number days made.0 made.1, refl),
       λ Q is. is.2 ∙ ap (λ ts. problem_of weeks (roster_of ts)) (same_stints number days is.0 made.0 (follow_from number days is.0 is.1.whole is.1.each) made.1),
     )
+
+pub same_generated : (number weeks : ℕ) (P Q : Instance) → IsGenerated number weeks P → IsGenerated number weeks Q → P ≡ Q
+same_generated number weeks P Q h k =
+    let days = weeks * 7 in
+    let follow = follow_from number days h.0 h.1.whole h.1.each in
+    let other = follow_from number days k.0 k.1.whole k.1.each in
+    h.2 ∙ ap (λ ts. problem_of weeks (roster_of ts)) (same_stints number days h.0 k.0 follow other) ∙ sym k.2

@@ -23,11 +23,11 @@ use Rattle.refutation_terms.specs.Verdict.{IsAccepted, IsRefused}
 use Rattle.rwsp.specs.Inputs.{IsWithinLimit, IsTooLong}
 use Rattle.rwsp.specs.Answers.{IsFileAnswer, IsRosterAnswer, IsLogAnswer, IsReduction, IsSecondAnswer, IsCrewAnswer, HasEmployee}
 use Rattle.rwsp.specs.declared.command.Command.{Command}
-use Rattle.rwsp.specs.declared.command.Command.TheVariants.{Plan, Check, Verify, Reduce, Show, Crew as CrewCommand}
+use Rattle.rwsp.specs.declared.command.Command.TheVariants.{Plan, Check, Verify, Reduce, Show, Trial, Crew as CrewCommand}
 use Rattle.rwsp.specs.declared.answer.InputKind.{InputKind}
 use Rattle.rwsp.specs.declared.answer.InputKind.TheVariants as Kinds
 use Rattle.rwsp.specs.declared.answer.Answer.{Answer}
-use Rattle.rwsp.specs.declared.answer.Answer.TheVariants.{Roster, NoRoster, Undecided, Accepted, LogRefused, Reduced, Meets, Shown, Breaks, RosterRefused, Usage, FileRefused, TooLong, Crew, Horizon, NoEmployee}
+use Rattle.rwsp.specs.declared.answer.Answer.TheVariants.{Roster, NoRoster, Undecided, Accepted, LogRefused, Reduced, Meets, Shown, Breaks, RosterRefused, Trial as TrialOf, Usage, FileRefused, TooLong, Crew, Horizon, NoEmployee}
 use Rattle.rwsp.proofs.Logs.{one_verdict}
 use Rattle.rwsp.proofs.Reductions.{one_reduced}
 
@@ -55,6 +55,7 @@ roster_end P bytes (Accepted R) h = absurd h
 roster_end P bytes (LogRefused why) h = absurd h
 roster_end P bytes (Reduced g) h = absurd h
 roster_end P bytes Usage h = absurd h
+roster_end P bytes (TrialOf trial) h = absurd h
 roster_end P bytes Shown h = absurd h
 roster_end P bytes (FileRefused why) h = absurd h
 roster_end P bytes Crew h = absurd h
@@ -149,6 +150,7 @@ acceptance_end P bytes (NoRoster g) h = absurd h
 acceptance_end P bytes (Undecided g) h = absurd h
 acceptance_end P bytes (Reduced g) h = absurd h
 acceptance_end P bytes Usage h = absurd h
+acceptance_end P bytes (TrialOf trial) h = absurd h
 acceptance_end P bytes Shown h = absurd h
 acceptance_end P bytes (FileRefused why) h = absurd h
 acceptance_end P bytes Crew h = absurd h
@@ -177,6 +179,7 @@ reduction_end P bytes (NoRoster g) h = absurd h
 reduction_end P bytes (Undecided g) h = absurd h
 reduction_end P bytes (Accepted R) h = absurd h
 reduction_end P bytes Usage h = absurd h
+reduction_end P bytes (TrialOf trial) h = absurd h
 reduction_end P bytes Shown h = absurd h
 reduction_end P bytes (FileRefused why) h = absurd h
 reduction_end P bytes Crew h = absurd h
@@ -202,6 +205,7 @@ crew_end P bytes employee (Undecided g) h = absurd h
 crew_end P bytes employee (Accepted R) h = absurd h
 crew_end P bytes employee (LogRefused why) h = absurd h
 crew_end P bytes employee (Reduced g) h = absurd h
+crew_end P bytes employee (TrialOf trial) h = absurd h
 crew_end P bytes employee Usage h = absurd h
 crew_end P bytes employee Shown h = absurd h
 crew_end P bytes employee (FileRefused why) h = absurd h
@@ -233,6 +237,7 @@ one_second (Check workers) P bytes a b limits h k = one_log_end P IsAcceptance b
 one_second Reduce P bytes a b limits h k = one_log_end P (IsReducedTo P) bytes a b limits (λ g e f. same_reduction P g a b e f) (reduction_end P bytes a h) (reduction_end P bytes b k)
 one_second (Plan budget) P bytes a b limits h k = absurd h
 one_second Show P bytes a b limits h k = absurd h
+one_second (Trial number weeks) P bytes a b limits h k = absurd h
 one_second (CrewCommand date days employee) P bytes a b limits h k = one_crew_end P bytes employee a b (crew_end P bytes employee a h) (crew_end P bytes employee b k)
 
 -- two answers of the problem's file
@@ -257,6 +262,7 @@ file_end file Shown h = absurd h
 file_end file (Breaks b) h = absurd h
 file_end file (RosterRefused why) h = absurd h
 file_end file Usage h = absurd h
+file_end file (TrialOf trial) h = absurd h
 file_end file Crew h = absurd h
 file_end file Horizon h = absurd h
 file_end file (NoEmployee e) h = absurd h

@@ -2,6 +2,7 @@ pub mod Appends
 pub mod Replies
 pub mod Logs
 pub mod Plans
+pub mod Trials
 pub mod Reductions
 pub mod Forms
 pub mod Ends

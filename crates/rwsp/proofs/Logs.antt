@@ -26,7 +26,7 @@ use Rattle.rwsp.specs.Answers.{IsLogAnswer, IsOfSearch}
 use Rattle.rwsp.specs.Texts.{IsPrintable, HasSymbols}
 use Rattle.rwsp.specs.declared.answer.InputKind.TheVariants as Kinds
 use Rattle.rwsp.specs.declared.answer.Answer.{Answer}
-use Rattle.rwsp.specs.declared.answer.Answer.TheVariants.{Roster, NoRoster, Undecided, Accepted, LogRefused, Reduced, Meets, Shown, Breaks, RosterRefused, Usage, FileRefused, TooLong, Crew, Horizon, NoEmployee}
+use Rattle.rwsp.specs.declared.answer.Answer.TheVariants.{Roster, NoRoster, Undecided, Accepted, LogRefused, Reduced, Meets, Shown, Breaks, RosterRefused, Trial, Usage, FileRefused, TooLong, Crew, Horizon, NoEmployee}
 
 -- the rules of a log that passes leave no roster
 pub accepted : (P : Instance) (bytes R : List ℕ) → IsWithinLimit Kinds.Log bytes → (g : Log) × IsAccepted P bytes g × (g.named ≡ R) → IsLogAnswer (Accepted R) P bytes
@@ -86,6 +86,7 @@ planned_is P budget Shown h = absurd h
 planned_is P budget (Breaks broken) h = absurd h
 planned_is P budget (RosterRefused why) h = absurd h
 planned_is P budget Usage h = absurd h
+planned_is P budget (Trial trial) h = absurd h
 planned_is P budget (FileRefused why) h = absurd h
 planned_is P budget (TooLong kind) h = absurd h
 planned_is P budget Crew h = absurd h

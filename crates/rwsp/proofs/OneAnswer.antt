@@ -8,16 +8,18 @@ use Rattle.rwsp_model.proofs.Limits.{valid_keeps}
 use Rattle.rwsp_file.specs.Spelling.{SpellsProblem}
 use Rattle.rwsp_file.specs.Laws.{TextsSpellOne, TextsSpellOrFail}
 use Rattle.refutation_terms.specs.LogText.{log_text}
-use Rattle.rwsp.specs.Commands.{Words, ReadsSecond, IsWithinHorizon, problem_name, second_name, usual_workers}
+use Rattle.rwsp.specs.Commands.{Words, IsForm, ReadsProblem, ReadsSecond, IsWithinHorizon, problem_name, second_name, usual_workers}
 use Rattle.rwsp.specs.Inputs.{WhereTold, IsWithinLimit, IsProblemOf}
 use Rattle.rwsp.specs.Answers.{IsAnswerOn, IsAnswerTo, IsFileAnswer, IsSecondAnswer}
-use Rattle.rwsp.specs.Texts.{text_of, HasOwnText, HasFixedText, IsCalendarOf, IsCalendarText, IsReplyText}
+use Rattle.rwsp.specs.Texts.{text_of, HasFixedText, IsPrintable, IsCalendarOf, IsCalendarText, IsReplyText}
+use Rattle.rwsp.specs.Trials.{IsTrialAnswer, IsProblemOfTrial}
+use Rattle.problem_generator.proofs.OneProblem.{same_generated}
 use Rattle.rwsp.specs.Laws.{AnswersAreOne, TextsAreOne, ProblemsAreAnswered, RefutationsAreAccepted, AgreeInSearch, RostersMeet, ReductionsAreAccepted, WorkersMakeNoDifference}
 use Rattle.rwsp.specs.declared.command.Command.{Command}
-use Rattle.rwsp.specs.declared.command.Command.TheVariants.{Plan, Check, Verify, Reduce, Show, Crew as CrewCommand}
+use Rattle.rwsp.specs.declared.command.Command.TheVariants.{Plan, Check, Verify, Reduce, Show, Trial, Crew as CrewCommand}
 use Rattle.rwsp.specs.declared.answer.InputKind.TheVariants as Kinds
 use Rattle.rwsp.specs.declared.answer.Answer.{Answer}
-use Rattle.rwsp.specs.declared.answer.Answer.TheVariants.{Roster, NoRoster, Undecided, Accepted, LogRefused, Reduced, Meets, Shown, Breaks, RosterRefused, Usage, FileRefused, TooLong, Crew, Horizon, NoEmployee}
+use Rattle.rwsp.specs.declared.answer.Answer.TheVariants.{Roster, NoRoster, Undecided, Accepted, LogRefused, Reduced, Meets, Shown, Breaks, RosterRefused, Trial as TrialOf, Usage, FileRefused, TooLong, Crew, Horizon, NoEmployee}
 use Rattle.rwsp.proofs.Logs.{accepted}
 use Rattle.rwsp.specs.Plans.{IsPlanned}
 use Rattle.rwsp_terms.specs.Roster.{MeetsAll}
@@ -49,7 +51,7 @@ at_missing : (told : Told) (Q : List ℕ → Type 0) → told ≡ Missing → Wh
 at_missing told Q e h = subst (λ (t : Told). WhereTold t Q) e h
 
 -- a roster and a refutation exclude each other
-exclusive : (P : Instance) (s : List Symbol) (g : LogValue) → MeetsAll P s → Passes P g → ⊥
+pub exclusive : (P : Instance) (s : List Symbol) (g : LogValue) → MeetsAll P s → Passes P g → ⊥
 exclusive P s g h k = passing_leaves_none P g s k (record { is_roster = h.is_roster; rules = λ r n. h.rules r (named-IsRule P g.named r n) })
 
 planned_agree : (P : Instance) (budget : ℕ) (a b : Answer) → IsPlanned P budget a → IsPlanned P budget b → AgreeInSearch a b
@@ -64,6 +66,7 @@ planned_agree P budget (Roster s) Shown h k = absurd k
 planned_agree P budget (Roster s) (Breaks broken) h k = absurd k
 planned_agree P budget (Roster s) (RosterRefused why) h k = absurd k
 planned_agree P budget (Roster s) Usage h k = absurd k
+planned_agree P budget (Roster s) (TrialOf trial) h k = absurd k
 planned_agree P budget (Roster s) (FileRefused why) h k = absurd k
 planned_agree P budget (Roster s) (TooLong kind) h k = absurd k
 planned_agree P budget (Roster s) Crew h k = absurd k
@@ -80,6 +83,7 @@ planned_agree P budget (NoRoster g) Shown h k = absurd k
 planned_agree P budget (NoRoster g) (Breaks broken) h k = absurd k
 planned_agree P budget (NoRoster g) (RosterRefused why) h k = absurd k
 planned_agree P budget (NoRoster g) Usage h k = absurd k
+planned_agree P budget (NoRoster g) (TrialOf trial) h k = absurd k
 planned_agree P budget (NoRoster g) (FileRefused why) h k = absurd k
 planned_agree P budget (NoRoster g) (TooLong kind) h k = absurd k
 planned_agree P budget (NoRoster g) Crew h k = absurd k
@@ -96,6 +100,7 @@ planned_agree P budget (Undecided g) Shown h k = absurd k
 planned_agree P budget (Undecided g) (Breaks broken) h k = absurd k
 planned_agree P budget (Undecided g) (RosterRefused why) h k = absurd k
 planned_agree P budget (Undecided g) Usage h k = absurd k
+planned_agree P budget (Undecided g) (TrialOf trial) h k = absurd k
 planned_agree P budget (Undecided g) (FileRefused why) h k = absurd k
 planned_agree P budget (Undecided g) (TooLong kind) h k = absurd k
 planned_agree P budget (Undecided g) Crew h k = absurd k
@@ -109,6 +114,7 @@ planned_agree P budget Shown b h k = absurd h
 planned_agree P budget (Breaks broken) b h k = absurd h
 planned_agree P budget (RosterRefused why) b h k = absurd h
 planned_agree P budget Usage b h k = absurd h
+planned_agree P budget (TrialOf trial) b h k = absurd h
 planned_agree P budget (FileRefused why) b h k = absurd h
 planned_agree P budget (TooLong kind) b h k = absurd h
 planned_agree P budget Crew b h k = absurd h
@@ -128,6 +134,7 @@ one_on (Check workers) P told a b limits there h k = inl (told_second (Check wor
 one_on Reduce P told a b limits there h k = inl (told_second Reduce P told a b limits (there tt) h.1 k.1)
 one_on (CrewCommand date days employee) P told a b limits there h k = inl (told_second (CrewCommand date days employee) P told a b limits (there tt) h.1 k.1)
 one_on (Plan budget) P told a b limits there h k = inr (planned_agree P budget a b h k)
+one_on (Trial number weeks) P told a b limits there h k = absurd h.0
 
 -- two answers to a command over a file that is there
 
@@ -155,18 +162,44 @@ one_to : TextsSpellOne → TextsSpellOrFail → (command : Command) (held : List
 one_to one decide command held words a b (inl e) there h k = absurd (nothing_at command held words a e h)
 one_to one decide command held words a b (inr f) there h k = both_ends one decide command (held (second_name words)) f.0 a b there (ends_at command held words f.0 a f.1 h) (ends_at command held words f.0 b f.1 k)
 
+-- two trials of one number and one count of weeks
+trials_agree : (number weeks : ℕ) (a b : Answer) → IsTrialAnswer number weeks a → IsTrialAnswer number weeks b → AgreeInSearch a b
+trials_agree number weeks a b h k =
+    let same = h.2.0 ∙ sym k.2.0 in
+    let also = h.2.1 ∙ sym k.2.1 in
+    subst (λ (x : Answer). AgreeInSearch x b) (sym h.1) (subst (λ (x : Answer). AgreeInSearch (TrialOf h.0) x) (sym k.1) (same, also))
+
+-- a command that reads a problem's file is no trial
+not_trial : (command : Command) (number weeks : ℕ) → command ≡ Trial number weeks → ReadsProblem command → ⊥
+not_trial command number weeks e reads = subst ReadsProblem e reads
+
+-- nor is one that asks for a calendar past the horizon
+not_late : (command : Command) (number weeks : ℕ) → command ≡ Trial number weeks → (IsWithinHorizon command → ⊥) → ⊥
+not_late command number weeks e late = subst (λ (c : Command). IsWithinHorizon c → ⊥) e late tt
+
 pub one_answer : TextsSpellOne → TextsSpellOrFail → AnswersAreOne
 one_answer one decide held words a b told (inl h) (inl k) = inl (h.1 ∙ sym k.1)
 one_answer one decide held words a b told (inl h) (inr (inl k)) = absurd (h.0 k.0 k.1)
-one_answer one decide held words a b told (inl h) (inr (inr k)) = absurd (h.0 k.0 k.1)
+one_answer one decide held words a b told (inl h) (inr (inr (inl k))) = absurd (h.0 (Trial k.0 k.1) k.2)
+one_answer one decide held words a b told (inl h) (inr (inr (inr k))) = absurd (h.0 k.0 k.1)
 one_answer one decide held words a b told (inr (inl h)) (inl k) = absurd (k.0 h.0 h.1)
-one_answer one decide held words a b told (inr (inr h)) (inl k) = absurd (k.0 h.0 h.1)
+one_answer one decide held words a b told (inr (inr (inl h))) (inl k) = absurd (k.0 (Trial h.0 h.1) h.2)
+one_answer one decide held words a b told (inr (inr (inr h))) (inl k) = absurd (k.0 h.0 h.1)
 one_answer one decide held words a b told (inr (inl h)) (inr (inl k)) = inl (h.3 ∙ sym k.3)
-one_answer one decide held words a b told (inr (inl h)) (inr (inr k)) = absurd (h.2 (subst IsWithinHorizon (one_form words k.0 h.0 k.1 h.1) k.2))
-one_answer one decide held words a b told (inr (inr h)) (inr (inl k)) = absurd (k.2 (subst IsWithinHorizon (one_form words h.0 k.0 h.1 k.1) h.2))
-one_answer one decide held words a b told (inr (inr h)) (inr (inr k)) =
+one_answer one decide held words a b told (inr (inl h)) (inr (inr (inl k))) = absurd (not_late h.0 k.0 k.1 (one_form words h.0 (Trial k.0 k.1) h.1 k.2) h.2)
+one_answer one decide held words a b told (inr (inl h)) (inr (inr (inr k))) = absurd (h.2 (subst IsWithinHorizon (one_form words k.0 h.0 k.1 h.1) k.2))
+one_answer one decide held words a b told (inr (inr (inl h))) (inr (inl k)) = absurd (not_late k.0 h.0 h.1 (one_form words k.0 (Trial h.0 h.1) k.1 h.2) k.2)
+one_answer one decide held words a b told (inr (inr (inr h))) (inr (inl k)) = absurd (k.2 (subst IsWithinHorizon (one_form words h.0 k.0 h.1 k.1) h.2))
+one_answer one decide held words a b told (inr (inr (inl h))) (inr (inr (inl k))) =
+    let same : Trial k.0 k.1 ≡ Trial h.0 h.1 = one_form words (Trial k.0 k.1) (Trial h.0 h.1) k.2 h.2 in
+    let number : k.0 ≡ h.0 = cc in
+    let weeks : k.1 ≡ h.1 = cc in
+    inr (trials_agree h.0 h.1 a b h.3 (subst (λ (w : ℕ). IsTrialAnswer h.0 w b) weeks (subst (λ (n : ℕ). IsTrialAnswer n k.1 b) number k.3)))
+one_answer one decide held words a b told (inr (inr (inl h))) (inr (inr (inr k))) = absurd (not_trial k.0 h.0 h.1 (one_form words k.0 (Trial h.0 h.1) k.1 h.2) k.3)
+one_answer one decide held words a b told (inr (inr (inr h))) (inr (inr (inl k))) = absurd (not_trial h.0 k.0 k.1 (one_form words h.0 (Trial k.0 k.1) h.1 k.2) h.3)
+one_answer one decide held words a b told (inr (inr (inr h))) (inr (inr (inr k))) =
     let same : k.0 ≡ h.0 = one_form words k.0 h.0 k.1 h.1 in
-    one_to one decide h.0 held words a b (there_by (held (problem_name words)) told.0) (λ reads. there_by (held (second_name words)) (told.1 h.0 h.1 reads)) h.3 (subst (λ (c : Command). IsAnswerTo c held words b) same k.3)
+    one_to one decide h.0 held words a b (there_by (held (problem_name words)) (told.0 h.0 h.1 h.3)) (λ reads. there_by (held (second_name words)) (told.1 h.0 h.1 reads)) h.4 (subst (λ (c : Command). IsAnswerTo c held words b) same k.4)
 
 -- the answers over a file that spells an instance
 
@@ -175,11 +208,12 @@ of_command one decide command second file P a short spells (inl x) = absurd (not
 of_command one decide command second file P a short spells (inr h) = subst (λ (Q : Instance). IsAnswerOn command second Q a) (one file h.1.0 P h.1.1 spells) h.1.2
 
 pub answered : TextsSpellOne → TextsSpellOrFail → ProblemsAreAnswered
-answered one decide held words command file P a form within e short spells (inl h) = absurd (h.0 command form)
-answered one decide held words command file P a form within e short spells (inr (inl h)) = absurd (h.2 (subst IsWithinHorizon (one_form words command h.0 form h.1) within))
-answered one decide held words command file P a form within e short spells (inr (inr h)) =
+answered one decide held words command file P a form within reads e short spells (inl h) = absurd (h.0 command form)
+answered one decide held words command file P a form within reads e short spells (inr (inl h)) = absurd (h.2 (subst IsWithinHorizon (one_form words command h.0 form h.1) within))
+answered one decide held words command file P a form within reads e short spells (inr (inr (inl h))) = absurd (not_trial command h.0 h.1 (one_form words command (Trial h.0 h.1) form h.2) reads)
+answered one decide held words command file P a form within reads e short spells (inr (inr (inr h))) =
     let same : h.0 ≡ command = one_form words h.0 command h.1 form in
-    of_command one decide command (held (second_name words)) file P a short spells (ends_at command held words file a e (subst (λ (c : Command). IsAnswerTo c held words a) same h.3))
+    of_command one decide command (held (second_name words)) file P a short spells (ends_at command held words file a e (subst (λ (c : Command). IsAnswerTo c held words a) same h.4))
 
 -- a refutation is accepted
 pub taken : RefutationsAreAccepted
@@ -202,6 +236,7 @@ verified file P budget Shown a spells kind planned h = absurd kind
 verified file P budget (Breaks broken) a spells kind planned h = absurd kind
 verified file P budget (RosterRefused why) a spells kind planned h = absurd kind
 verified file P budget Usage a spells kind planned h = absurd kind
+verified file P budget (TrialOf trial) a spells kind planned h = absurd kind
 verified file P budget (FileRefused why) a spells kind planned h = absurd kind
 verified file P budget (TooLong which) a spells kind planned h = absurd kind
 verified file P budget Crew a spells kind planned h = absurd kind
@@ -236,6 +271,7 @@ right_text (Check workers) P s text other limits h k = absurd h
 right_text Reduce P s text other limits h k = absurd h
 right_text (Plan budget) P s text other limits h k = absurd h
 right_text Show P s text other limits h k = absurd h
+right_text (Trial number weeks) P s text other limits h k = absurd h
 
 told_text : (command : Command) (P : Instance) (told : Told) (text other : List ℕ) → KeepsLimits P → IsThere told → IsCalendarText command told P text → IsCalendarText command told P other → text ≡ other
 told_text command P told text other limits (inl e) h k = absurd (at_missing told (λ bytes. (s : List Symbol) × SpellsRoster P bytes s × IsCalendarOf command P s text) e h)
@@ -245,13 +281,13 @@ told_text command P told text other limits (inr r) h k =
     let same : b.0 ≡ a.0 = one_roster P r.0 b.0 a.0 b.1 a.1 in
     right_text command P a.0 text other limits a.2 (subst (λ (s : List Symbol). IsCalendarOf command P s other) same b.2)
 
-no_own : (a : Answer) → HasOwnText a → a ≡ Crew → ⊥
-no_own a h e = subst HasOwnText e h
+not_printable : (P : Instance) (a : Answer) → IsPrintable P a → a ≡ Crew → ⊥
+not_printable P a h e = subst (IsPrintable P) e h
 
 same_reply : (command : Command) (P : Instance) (told : Told) (a : Answer) (text other : List ℕ) → KeepsLimits P → (a ≡ Crew → IsThere told) → IsReplyText command told P a text → IsReplyText command told P a other → text ≡ other
 same_reply command P told a text other limits there (inl h) (inl k) = h.1 ∙ sym k.1
-same_reply command P told a text other limits there (inl h) (inr k) = absurd (no_own a h.0 k.0)
-same_reply command P told a text other limits there (inr h) (inl k) = absurd (no_own a k.0 h.0)
+same_reply command P told a text other limits there (inl h) (inr k) = absurd (not_printable P a h.0 k.0)
+same_reply command P told a text other limits there (inr h) (inl k) = absurd (not_printable P a k.0 h.0)
 same_reply command P told a text other limits there (inr h) (inr k) = told_text command P told text other limits (there h.0) h.1 k.1
 
 no_fixed : (a : Answer) → HasFixedText a → a ≡ Crew → ⊥
@@ -267,14 +303,86 @@ keeps_of held words P (inr f) h =
     let spells = at_bytes (held (problem_name words)) f.0 (λ file. SpellsProblem file P) f.1 h in
     valid_keeps P spells.valid
 
+-- a trial's text is not the same for all instances, nor for an instance of a file
+
+trial_not_fixed : (a : Answer) (P : Instance) → HasFixedText a → IsProblemOfTrial a P → ⊥
+trial_not_fixed (TrialOf trial) P h k = h
+trial_not_fixed (Roster s) P h k = k
+trial_not_fixed (NoRoster g) P h k = k
+trial_not_fixed (Undecided g) P h k = k
+trial_not_fixed (Accepted R) P h k = k
+trial_not_fixed (LogRefused why) P h k = k
+trial_not_fixed (Reduced g) P h k = k
+trial_not_fixed Meets P h k = k
+trial_not_fixed Shown P h k = k
+trial_not_fixed (Breaks broken) P h k = k
+trial_not_fixed (RosterRefused why) P h k = k
+trial_not_fixed Usage P h k = k
+trial_not_fixed (FileRefused why) P h k = k
+trial_not_fixed (TooLong kind) P h k = k
+trial_not_fixed Crew P h k = k
+trial_not_fixed Horizon P h k = k
+trial_not_fixed (NoEmployee e) P h k = k
+
+trial_not_printable : (a : Answer) (P Q : Instance) → IsPrintable P a → IsProblemOfTrial a Q → ⊥
+trial_not_printable (TrialOf trial) P Q h k = h
+trial_not_printable (Roster s) P Q h k = k
+trial_not_printable (NoRoster g) P Q h k = k
+trial_not_printable (Undecided g) P Q h k = k
+trial_not_printable (Accepted R) P Q h k = k
+trial_not_printable (LogRefused why) P Q h k = k
+trial_not_printable (Reduced g) P Q h k = k
+trial_not_printable Meets P Q h k = k
+trial_not_printable Shown P Q h k = k
+trial_not_printable (Breaks broken) P Q h k = k
+trial_not_printable (RosterRefused why) P Q h k = k
+trial_not_printable Usage P Q h k = k
+trial_not_printable (FileRefused why) P Q h k = k
+trial_not_printable (TooLong kind) P Q h k = k
+trial_not_printable Crew P Q h k = k
+trial_not_printable Horizon P Q h k = k
+trial_not_printable (NoEmployee e) P Q h k = k
+
+-- a trial has one problem
+one_of_trial : (a : Answer) (P Q : Instance) → IsProblemOfTrial a P → IsProblemOfTrial a Q → P ≡ Q
+one_of_trial (TrialOf trial) P Q h k = same_generated trial.number trial.weeks P Q h k
+one_of_trial (Roster s) P Q h k = absurd k
+one_of_trial (NoRoster g) P Q h k = absurd k
+one_of_trial (Undecided g) P Q h k = absurd k
+one_of_trial (Accepted R) P Q h k = absurd k
+one_of_trial (LogRefused why) P Q h k = absurd k
+one_of_trial (Reduced g) P Q h k = absurd k
+one_of_trial Meets P Q h k = absurd k
+one_of_trial Shown P Q h k = absurd k
+one_of_trial (Breaks broken) P Q h k = absurd k
+one_of_trial (RosterRefused why) P Q h k = absurd k
+one_of_trial Usage P Q h k = absurd k
+one_of_trial (FileRefused why) P Q h k = absurd k
+one_of_trial (TooLong kind) P Q h k = absurd k
+one_of_trial Crew P Q h k = absurd k
+one_of_trial Horizon P Q h k = absurd k
+one_of_trial (NoEmployee e) P Q h k = absurd k
+
+-- a trial's text is no reply to a command that reads a problem's file
+trial_not_reply : (command : Command) (P Q : Instance) (told : Told) (a : Answer) (text : List ℕ) → IsReplyText command told P a text → IsProblemOfTrial a Q → ⊥
+trial_not_reply command P Q told a text (inl h) k = trial_not_printable a P Q h.0 k
+trial_not_reply command P Q told a text (inr h) k = subst (λ (x : Answer). IsProblemOfTrial x Q) h.0 k
+
 pub one_text : TextsSpellOne → TextsAreOne
 one_text one held words a text other told second (inl h) (inl k) = h.1 any_instance ∙ sym (k.1 any_instance)
-one_text one held words a text other told second (inl h) (inr k) = fixed_reply k.0 k.2.0 (held (second_name words)) a text other h.0 h.1 k.2.2
-one_text one held words a text other told second (inr h) (inl k) = sym (fixed_reply h.0 h.2.0 (held (second_name words)) a other text k.0 k.1 h.2.2)
-one_text one held words a text other told second (inr h) (inr k) =
+one_text one held words a text other told second (inl h) (inr (inl k)) = fixed_reply k.0 k.2.0 (held (second_name words)) a text other h.0 h.1 k.2.2
+one_text one held words a text other told second (inl h) (inr (inr k)) = absurd (trial_not_fixed a k.0 h.0 k.1)
+one_text one held words a text other told second (inr (inl h)) (inl k) = sym (fixed_reply h.0 h.2.0 (held (second_name words)) a other text k.0 k.1 h.2.2)
+one_text one held words a text other told second (inr (inr h)) (inl k) = absurd (trial_not_fixed a h.0 k.0 h.1)
+one_text one held words a text other told second (inr (inl h)) (inr (inl k)) =
     let P = h.2.0 in
     let there = there_by (held (problem_name words)) told in
     let command : k.0 ≡ h.0 = one_form words k.0 h.0 k.1 h.1 in
     let problem : k.2.0 ≡ P = same_problem one held words k.2.0 P there k.2.1 h.2.1 in
     let other_text = subst (λ (Q : Instance). IsReplyText h.0 (held (second_name words)) Q a other) problem (subst (λ (c : Command). IsReplyText c (held (second_name words)) k.2.0 a other) command k.2.2) in
     same_reply h.0 P (held (second_name words)) a text other (keeps_of held words P there h.2.1) (λ e. there_by (held (second_name words)) (second e)) h.2.2 other_text
+one_text one held words a text other told second (inr (inl h)) (inr (inr k)) = absurd (trial_not_reply h.0 h.2.0 k.0 (held (second_name words)) a text h.2.2 k.1)
+one_text one held words a text other told second (inr (inr h)) (inr (inl k)) = absurd (trial_not_reply k.0 k.2.0 h.0 (held (second_name words)) a other k.2.2 h.1)
+one_text one held words a text other told second (inr (inr h)) (inr (inr k)) =
+    let same : h.0 ≡ k.0 = one_of_trial a h.0 k.0 h.1 k.1 in
+    h.2 ∙ ap (λ (P : Instance). text_of P a) same ∙ sym k.2

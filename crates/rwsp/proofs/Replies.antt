@@ -1,17 +1,19 @@
 -- From what the parts of a run found to what its answer says.
-use Rattle.std.proofs.Common.{◌≡◌, ℕ, ◌≤◌, List, subst, arith, inr}
+use Rattle.std.proofs.Common.{◌≡◌, ℕ, ◌≤◌, List, subst, arith, refl, inl, inr}
 use Rattle.rwsp_io.specs.Told.{Told, Silent, Missing, Bytes, Rose}
 use Rattle.rwsp_terms.specs.Instance.{Instance}
 use Rattle.rwsp_file.specs.Spelling.{SpellsProblem}
-use Rattle.rwsp.specs.Commands.{Words, IsForm, ReadsSecond, IsWithinHorizon, problem_name, second_name}
+use Rattle.rwsp.specs.Commands.{Words, IsForm, ReadsProblem, ReadsSecond, IsWithinHorizon, problem_name, second_name}
 use Rattle.rwsp.specs.Inputs.{WhereTold, IsWithinLimit, OfProblem, IsProblemOf}
 use Rattle.rwsp.specs.Answers.{IsAnswer, IsAnswerOn, IsReadFault, IsOfCommand}
-use Rattle.rwsp.specs.Texts.{IsTextOf, IsReplyText, IsPrintable, HasOwnText}
+use Rattle.rwsp.specs.Texts.{IsTextOf, IsTextOfTrial, IsReplyText}
+use Rattle.rwsp.specs.Trials.{IsTrial, IsTrialAnswer}
+use Rattle.rwsp.specs.declared.answer.TrialResult.{TrialResult}
 use Rattle.rwsp.specs.declared.command.Command.{Command}
-use Rattle.rwsp.specs.declared.command.Command.TheVariants.{Plan, Check, Verify, Reduce, Show, Crew as CrewCommand}
+use Rattle.rwsp.specs.declared.command.Command.TheVariants.{Plan, Check, Verify, Reduce, Show, Trial, Crew as CrewCommand}
 use Rattle.rwsp.specs.declared.answer.InputKind.TheVariants as Kinds
 use Rattle.rwsp.specs.declared.answer.Answer.{Answer}
-use Rattle.rwsp.specs.declared.answer.Answer.TheVariants.{Roster, NoRoster, Undecided, Accepted, LogRefused, Reduced, Meets, Shown, Breaks, RosterRefused, Usage, FileRefused, TooLong, Crew, Horizon, NoEmployee}
+use Rattle.rwsp.specs.declared.answer.Answer.TheVariants.{Trial as TrialOf}
 use Rattle.rwsp.proofs.Logs.{planned_is}
 
 told_weaker : (told : Told) (Q R : List ℕ → Type 0) → ((bytes : List ℕ) → Q bytes → R bytes) → WhereTold told Q → WhereTold told R
@@ -36,40 +38,33 @@ answer_kind (Plan budget) told P answer h = (planned_is P budget answer h).0
 answer_kind Verify told P answer h = h.0
 answer_kind (Check workers) told P answer h = h.0
 answer_kind Reduce told P answer h = h.0
+answer_kind (Trial number weeks) told P answer h = h.0
 answer_kind (CrewCommand date days employee) told P answer h = h.0
 
 -- an answer on a problem that was read
-pub job_answer : (held : List ℕ → Told) (words : Words) (command : Command) (P : Instance) (answer : Answer) (told : Told) → IsForm words command → IsWithinHorizon command → IsRead held words P → told ≡ held (second_name words) → IsAnswerOn command told P answer → IsAnswer held words answer
-job_answer held words command P answer told form within read same h =
-    inr (inr (command, form, within, inr (answer_kind command told P answer h, of_problem held words P (λ Q. IsAnswerOn command (held (second_name words)) Q answer) read (subst (λ (t : Told). IsAnswerOn command t P answer) same h))))
+pub job_answer : (held : List ℕ → Told) (words : Words) (command : Command) (P : Instance) (answer : Answer) (told : Told) → IsForm words command → IsWithinHorizon command → ReadsProblem command → IsRead held words P → told ≡ held (second_name words) → IsAnswerOn command told P answer → IsAnswer held words answer
+job_answer held words command P answer told form within reads read same h =
+    inr (inr (inr (command, form, within, reads, inr (answer_kind command told P answer h, of_problem held words P (λ Q. IsAnswerOn command (held (second_name words)) Q answer) read (subst (λ (t : Told). IsAnswerOn command t P answer) same h)))))
 
 pub job_text : (held : List ℕ → Told) (words : Words) (command : Command) (P : Instance) (answer : Answer) (text : List ℕ) (told : Told) → IsForm words command → IsRead held words P → told ≡ held (second_name words) → IsReplyText command told P answer text → IsTextOf held words answer text
 job_text held words command P answer text told form read same h =
-    inr (command, form, (P, problem_of held words P read, subst (λ (t : Told). IsReplyText command t P answer text) same h))
-
--- an answer that is printed for an instance has a text of its own there
-pub own_text : (P : Instance) (answer : Answer) → IsPrintable P answer → HasOwnText answer
-own_text P Crew h = absurd h
-own_text P (Roster s) h = tt
-own_text P (NoRoster g) h = tt
-own_text P (Undecided g) h = tt
-own_text P (Accepted R) h = tt
-own_text P (LogRefused why) h = tt
-own_text P (Reduced g) h = tt
-own_text P Meets h = tt
-own_text P Shown h = tt
-own_text P (Breaks broken) h = tt
-own_text P (RosterRefused why) h = tt
-own_text P Usage h = tt
-own_text P (FileRefused why) h = tt
-own_text P (TooLong kind) h = tt
-own_text P Horizon h = tt
-own_text P (NoEmployee e) h = tt
+    inr (inl (command, form, (P, problem_of held words P read, subst (λ (t : Told). IsReplyText command t P answer text) same h)))
 
 -- a count that has risen since later has risen
 rose_since : (before later now : ℕ) → before ≤ later → Rose later now → Rose before now
 rose_since before later now h rose = omega arith
 
-pub second_fault : (held : List ℕ → Told) (before later now : List ℕ → ℕ) (words : Words) (command : Command) (P : Instance) → IsForm words command → ReadsSecond command → IsRead held words P → before (second_name words) ≤ later (second_name words) → Rose (later (second_name words)) (now (second_name words)) → IsReadFault held before now words
-second_fault held before later now words command P form reads read le rose =
-    (command, form, inr (reads, rose_since _ _ _ le rose, of_problem held words P (λ _. Unit {0}) read tt))
+pub second_fault : (held : List ℕ → Told) (before later now : List ℕ → ℕ) (words : Words) (command : Command) (P : Instance) → IsForm words command → ReadsProblem command → ReadsSecond command → IsRead held words P → before (second_name words) ≤ later (second_name words) → Rose (later (second_name words)) (now (second_name words)) → IsReadFault held before now words
+second_fault held before later now words command P form file reads read le rose =
+    (command, form, file, inr (reads, rose_since _ _ _ le rose, of_problem held words P (λ _. Unit {0}) read tt))
+
+-- the reply of a trial
+
+pub trial_answer : (held : List ℕ → Told) (words : Words) (number weeks : ℕ) (answer : Answer) → IsForm words (Trial number weeks) → IsTrialAnswer number weeks answer → IsAnswer held words answer
+trial_answer held words number weeks answer form h = inr (inr (inl (number, weeks, form, h)))
+
+pub trial_text : (held : List ℕ → Told) (words : Words) (answer : Answer) (text : List ℕ) → IsTextOfTrial answer text → IsTextOf held words answer text
+trial_text held words answer text h = inr (inr h)
+
+pub is_trial : (number weeks : ℕ) (trial : TrialResult) → IsTrial number weeks trial → IsTrialAnswer number weeks (TrialOf trial)
+is_trial number weeks trial h = (trial, refl, h)

@@ -13,11 +13,12 @@ use Rattle.refutation_terms.specs.Log.{Log as LogValue, Passes}
 use Rattle.refutation_terms.specs.Strip.{IsReduced}
 use Rattle.refutation_terms.specs.Verdict.{IsAccepted, IsRefused}
 use Rattle.rule_reducer.specs.Needs.{NeedsEach, NeedsTogether}
-use Rattle.rwsp.specs.Commands.{Words, IsForm, HasNoForm, ReadsSecond, IsWithinHorizon, problem_name, second_name}
+use Rattle.rwsp.specs.Commands.{Words, IsForm, HasNoForm, ReadsProblem, ReadsSecond, IsWithinHorizon, problem_name, second_name}
 use Rattle.rwsp.specs.Inputs.{WhereTold, IsWithinLimit, IsTooLong, OfProblem, HasProblem}
 use Rattle.rwsp.specs.Plans.{IsPlanned}
+use Rattle.rwsp.specs.Trials.{IsTrialAnswer}
 use Rattle.rwsp.specs.declared.command.Command.{Command}
-use Rattle.rwsp.specs.declared.command.Command.TheVariants.{Plan, Check, Verify, Reduce, Show, Crew as CrewCommand}
+use Rattle.rwsp.specs.declared.command.Command.TheVariants.{Plan, Check, Verify, Reduce, Show, Trial, Crew as CrewCommand}
 use Rattle.rwsp.specs.declared.answer.InputKind.TheVariants.{Problem, Roster, Log}
 use Rattle.rwsp.specs.declared.answer.Answer.{Answer}
 use Rattle.rwsp.specs.declared.answer.Answer.TheVariants.{Roster as Found, NoRoster, Undecided, Meets, Breaks, RosterRefused, Accepted, LogRefused, Reduced, Shown, Usage, FileRefused, TooLong, Crew, Horizon, NoEmployee}
@@ -158,11 +159,12 @@ abbrev pub IsAnswer : (List ℕ → Told) → Words → Answer → Type 0
 IsAnswer held words answer =
     (HasNoForm words × (answer ≡ Usage))
     ⊎ (((command : Command) × IsForm words command × (IsWithinHorizon command → ⊥) × (answer ≡ Horizon))
-    ⊎ ((command : Command) × IsForm words command × IsWithinHorizon command × IsAnswerTo command held words answer))
+    ⊎ (((number weeks : ℕ) × IsForm words (Trial number weeks) × IsTrialAnswer number weeks answer)
+    ⊎ ((command : Command) × IsForm words command × IsWithinHorizon command × ReadsProblem command × IsAnswerTo command held words answer)))
 
 -- a file could not be read: the count of the problem's file has risen, or that of the second file, and then the first spells an instance
 abbrev pub IsReadFault : (List ℕ → Told) → (before now : List ℕ → ℕ) → Words → Type 0
 IsReadFault held before now words =
-    (command : Command) × IsForm words command
+    (command : Command) × IsForm words command × ReadsProblem command
     × (Rose (before (problem_name words)) (now (problem_name words))
     ⊎ (ReadsSecond command × Rose (before (second_name words)) (now (second_name words)) × HasProblem held words))

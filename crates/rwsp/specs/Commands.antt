@@ -6,7 +6,7 @@ use Rattle.rwsp_text.specs.Numbers.{number_of}
 use Rattle.crew_calendar.specs.Calendar.{IsDateWord, Fits}
 use Rattle.jiff.specs.Types.{Date}
 use Rattle.rwsp.specs.declared.command.Command.{Command}
-use Rattle.rwsp.specs.declared.command.Command.TheVariants.{Plan, Check, Verify, Reduce, Show, Crew}
+use Rattle.rwsp.specs.declared.command.Command.TheVariants.{Plan, Check, Verify, Reduce, Show, Trial, Crew}
 
 -- the words behind the program's name
 abbrev pub Words : Type 0
@@ -34,6 +34,10 @@ usual_workers = 4
 abbrev pub most_workers : ℕ
 most_workers = 64
 
+-- the most weeks of a trial
+abbrev pub most_weeks : ℕ
+most_weeks = 600
+
 -- the most days of a calendar, and the greatest number of an employee
 abbrev pub most_days : ℕ
 most_days = 400
@@ -52,6 +56,7 @@ IsForm (word ∷ file ∷ []) (Plan budget) = (string_bytes word ≡ codes "plan
 IsForm (word ∷ file ∷ second ∷ []) Verify = (string_bytes word ≡ codes "verify") × IsFileWord (string_bytes file) × IsFileWord (string_bytes second)
 IsForm (word ∷ file ∷ second ∷ []) Reduce = (string_bytes word ≡ codes "reduce") × IsFileWord (string_bytes file) × IsFileWord (string_bytes second)
 IsForm (word ∷ file ∷ second ∷ []) (Check workers) = (string_bytes word ≡ codes "check") × IsFileWord (string_bytes file) × IsFileWord (string_bytes second) × (workers ≡ usual_workers)
+IsForm (word ∷ number_word ∷ weeks_word ∷ []) (Trial number weeks) = (string_bytes word ≡ codes "trial") × (number_of (string_bytes number_word) ≡ Some number) × IsCount (string_bytes weeks_word) most_weeks weeks
 IsForm (word ∷ file ∷ option ∷ number ∷ []) (Plan budget) = (string_bytes word ≡ codes "plan") × IsFileWord (string_bytes file) × (string_bytes option ≡ codes "--budget") × IsCount (string_bytes number) greatest_budget budget
 IsForm (word ∷ file ∷ second ∷ option ∷ number ∷ []) (Check workers) = (string_bytes word ≡ codes "check") × IsFileWord (string_bytes file) × IsFileWord (string_bytes second) × (string_bytes option ≡ codes "--workers") × IsCount (string_bytes number) most_workers workers
 IsForm (word ∷ file ∷ second ∷ date ∷ days ∷ []) (Crew first n employee) = IsCrewForm (string_bytes word) (string_bytes file) (string_bytes second) (string_bytes date) (string_bytes days) first n × (employee ≡ None)
@@ -61,6 +66,11 @@ IsForm words command = ⊥
 -- the words are a form of no command
 abbrev pub HasNoForm : Words → Type 0
 HasNoForm words = (command : Command) → IsForm words command → ⊥
+
+-- the command reads a problem's file
+abbrev pub ReadsProblem : Command → Type 0
+ReadsProblem (Trial number weeks) = ⊥
+ReadsProblem command = Unit {0}
 
 -- the command reads a second file
 abbrev pub ReadsSecond : Command → Type 0

@@ -4,7 +4,7 @@ use Rattle.rwsp_io.specs.Told.{Told, Silent, Bytes}
 use Rattle.rwsp_terms.specs.Instance.{Instance}
 use Rattle.rwsp_file.specs.Spelling.{SpellsProblem}
 use Rattle.refutation_terms.specs.Log.{Log}
-use Rattle.rwsp.specs.Commands.{Words, IsForm, ReadsSecond, IsWithinHorizon, problem_name, second_name}
+use Rattle.rwsp.specs.Commands.{Words, IsForm, ReadsProblem, ReadsSecond, IsWithinHorizon, problem_name, second_name}
 use Rattle.rwsp.specs.Inputs.{IsWithinLimit}
 use Rattle.rwsp.specs.Plans.{IsPlanned}
 use Rattle.rwsp.specs.Answers.{IsAnswer, IsAnswerOn, IsOfSearch, IsOfLog, IsLogAnswer, IsRosterAnswer, IsReduction}
@@ -13,17 +13,20 @@ use Rattle.rwsp.specs.declared.command.Command.{Command}
 use Rattle.rwsp.specs.declared.command.Command.TheVariants.{Check}
 use Rattle.rwsp.specs.declared.answer.InputKind.TheVariants as Kinds
 use Rattle.rwsp.specs.declared.answer.Answer.{Answer}
-use Rattle.rwsp.specs.declared.answer.Answer.TheVariants.{Roster, NoRoster, Accepted, Reduced, Meets, Crew}
+use Rattle.rwsp.specs.declared.answer.Answer.TheVariants.{Roster, NoRoster, Accepted, Reduced, Meets, Trial, Crew}
 
--- the shelf tells what the problem's file holds, or that it isn't there; and so for the second file, where the words are a form of a
--- command that reads one
+-- the shelf tells what the problem's file holds, or that it isn't there, where the words are a form of a command that reads one; and so
+-- for the second file
 abbrev pub AreTold : (List ℕ → Told) → Words → Type 0
-AreTold held words = (held (problem_name words) ≢ Silent) × ((command : Command) → IsForm words command → ReadsSecond command → held (second_name words) ≢ Silent)
+AreTold held words =
+    ((command : Command) → IsForm words command → ReadsProblem command → held (problem_name words) ≢ Silent)
+    × ((command : Command) → IsForm words command → ReadsSecond command → held (second_name words) ≢ Silent)
 
--- two answers of a search that may both fit: a roster and a refutation never do
+-- two answers of a search that may both fit: a roster and a refutation never do, and trials are of one problem
 abbrev pub AgreeInSearch : Answer → Answer → Type 0
 AgreeInSearch (Roster s) (NoRoster g) = ⊥
 AgreeInSearch (NoRoster g) (Roster s) = ⊥
+AgreeInSearch (Trial a) (Trial b) = (a.number ≡ b.number) × (a.weeks ≡ b.weeks)
 AgreeInSearch a b = IsOfSearch a × IsOfSearch b
 
 -- two answers to the same words over the same files are equal, or both are what a search gives, and not a roster beside a refutation
@@ -39,11 +42,12 @@ TextsAreOne =
     → held (problem_name words) ≢ Silent → (a ≡ Crew → held (second_name words) ≢ Silent) → IsTextOf held words a text → IsTextOf held words a other
     → text ≡ other
 
--- where the words are a form of a command and the first file spells an instance, an answer is one of the command's there
+-- where the words are a form of a command that reads a problem's file, and that file spells an instance, an answer is one of the command's there
 abbrev pub ProblemsAreAnswered : Type 0
 ProblemsAreAnswered =
     (held : List ℕ → Told) (words : Words) (command : Command) (file : List ℕ) (P : Instance) (a : Answer)
-    → IsForm words command → IsWithinHorizon command → held (problem_name words) ≡ Bytes file → IsWithinLimit Kinds.Problem file → SpellsProblem file P → IsAnswer held words a
+    → IsForm words command → IsWithinHorizon command → ReadsProblem command → held (problem_name words) ≡ Bytes file → IsWithinLimit Kinds.Problem file → SpellsProblem file P
+    → IsAnswer held words a
     → IsAnswerOn command (held (second_name words)) P a
 
 -- the text of a refutation that `plan` writes for what a file spells is accepted by `check` over that file, with the rules that it names

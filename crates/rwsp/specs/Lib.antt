@@ -1,6 +1,7 @@
 pub mod Commands
 pub mod Inputs
 pub mod Plans
+pub mod Trials
 pub mod Answers
 pub mod Exits
 pub mod Texts

@@ -1,7 +1,7 @@
 -- The status of each outcome.
 use Rattle.std.specs.Prelude.{ℕ}
 use Rattle.rwsp.specs.declared.answer.Answer.{Answer}
-use Rattle.rwsp.specs.declared.answer.Answer.TheVariants.{Roster, NoRoster, Undecided, Accepted, LogRefused, Reduced, Meets, Shown, Breaks, RosterRefused, Usage, FileRefused, TooLong, Crew, Horizon, NoEmployee}
+use Rattle.rwsp.specs.declared.answer.Answer.TheVariants.{Roster, NoRoster, Undecided, Accepted, LogRefused, Reduced, Meets, Shown, Breaks, RosterRefused, Trial, Usage, FileRefused, TooLong, Crew, Horizon, NoEmployee}
 use Rattle.rwsp.specs.declared.answer.Outcome.{Outcome}
 use Rattle.rwsp.specs.declared.answer.Outcome.TheVariants.{Done, ReadFault, WriteFault, Memory}
 
@@ -11,6 +11,7 @@ status_of_answer (Accepted R) = 0
 status_of_answer (Reduced g) = 0
 status_of_answer Meets = 0
 status_of_answer Shown = 0
+status_of_answer (Trial trial) = 0
 status_of_answer Crew = 0
 status_of_answer (NoRoster g) = 1
 status_of_answer Usage = 2

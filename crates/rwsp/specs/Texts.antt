@@ -1,9 +1,9 @@
 -- The texts of the answers.
-use Rattle.std.specs.Prelude.{◌≡◌, ◌⊎◌, ℕ, List, [], ◌∷◌, ◌++◌, codes, Option, Some, None, All}
-use Rattle.std.specs.List.{flat_map}
+use Rattle.std.specs.Prelude.{◌≡◌, ◌⊎◌, ℕ, List, [], ◌∷◌, ◌++◌, codes, Option, Some, None, All, length}
+use Rattle.std.specs.List.{flat_map, sum_by, range_with_len}
 use Rattle.std.specs.Fmt.{decimal}
 use Rattle.rwsp_io.specs.Told.{Told}
-use Rattle.rwsp_terms.specs.Instance.{Instance, IsSymbol, name_of}
+use Rattle.rwsp_terms.specs.Instance.{Instance, IsSymbol, shift_count, shift_demand, name_of}
 use Rattle.rwsp_terms.specs.Roster.{IsRoster}
 use Rattle.rwsp_terms.specs.Rules.{rule_of}
 use Rattle.rwsp_terms.specs.declared.data.Symbol.{Symbol}
@@ -21,15 +21,20 @@ use Rattle.refutation_terms.specs.declared.lines.LogRefusal.TheVariants as Refus
 use Rattle.refutation_terms.specs.Log.{Fits}
 use Rattle.refutation_terms.specs.LogText.{log_text}
 use Rattle.roster_print.specs.RosterText.{roster_text, SpellsRoster}
+use Rattle.problem_generator.specs.Generated.{IsGenerated}
+use Rattle.roster_search.specs.declared.found.Found.{Found}
+use Rattle.roster_search.specs.declared.found.Found.TheVariants as Founds
 use Rattle.crew_calendar.specs.Texts.{IsTable, AreDuties}
 use Rattle.rwsp.specs.Commands.{Words, IsForm, second_name}
 use Rattle.rwsp.specs.Inputs.{WhereTold, IsProblemOf}
+use Rattle.rwsp.specs.Trials.{IsProblemOfTrial}
 use Rattle.rwsp.specs.declared.command.Command.{Command}
 use Rattle.rwsp.specs.declared.command.Command.TheVariants.{Crew as CrewCommand}
 use Rattle.rwsp.specs.declared.answer.InputKind.{InputKind}
 use Rattle.rwsp.specs.declared.answer.InputKind.TheVariants as Kinds
+use Rattle.rwsp.specs.declared.answer.TrialResult.{TrialResult}
 use Rattle.rwsp.specs.declared.answer.Answer.{Answer}
-use Rattle.rwsp.specs.declared.answer.Answer.TheVariants.{Roster, NoRoster, Undecided, Accepted, LogRefused, Reduced, Meets, Shown, Breaks, RosterRefused, Usage, FileRefused, TooLong, Crew, Horizon, NoEmployee}
+use Rattle.rwsp.specs.declared.answer.Answer.TheVariants.{Roster, NoRoster, Undecided, Accepted, LogRefused, Reduced, Meets, Shown, Breaks, RosterRefused, Trial, Usage, FileRefused, TooLong, Crew, Horizon, NoEmployee}
 
 -- the text and a line feed
 abbrev pub line : List ℕ → List ℕ
@@ -94,6 +99,35 @@ kind_text Kinds.Problem = codes "too long: problem"
 kind_text Kinds.Roster = codes "too long: roster"
 kind_text Kinds.Log = codes "too long: log"
 
+-- what is demanded of the shifts on a day, and on all days
+abbrev pub demand_on : Instance → ℕ → ℕ
+demand_on P j = sum_by (λ x. (shift_demand P x j).least) (range_with_len 1 (shift_count P))
+
+abbrev pub whole_demand : Instance → ℕ
+whole_demand P = sum_by (demand_on P) (range_with_len 1 P.days)
+
+-- the numbers of a trial's problem
+abbrev pub trial_line : Instance → TrialResult → List ℕ
+trial_line P trial =
+    codes "number " ++ decimal trial.number
+    ++ codes " weeks " ++ decimal trial.weeks
+    ++ codes " days " ++ decimal P.days
+    ++ codes " shifts " ++ decimal (shift_count P)
+    ++ codes " demand " ++ decimal (whole_demand P)
+
+-- what was found, and how long its text is; a trial finds no refutation
+abbrev pub found_line : Instance → Found → List ℕ
+found_line P (Founds.Roster s) = codes "answer roster bytes " ++ decimal (length (roster_text P s.cells))
+found_line P (Founds.Undecided g) = codes "answer undecided bytes " ++ decimal (length (log_text P g))
+found_line P (Founds.NoRoster g) = []
+
+abbrev pub trial_text : Instance → TrialResult → List ℕ
+trial_text P trial = line (trial_line P trial) ++ line (found_line P trial.found)
+
+-- the text of the trial, for the problem of its number and weeks
+abbrev pub IsTrialText : TrialResult → List ℕ → Type 0
+IsTrialText trial text = (P : Instance) × IsGenerated trial.number trial.weeks P × (text ≡ trial_text P trial)
+
 -- an answer whose text is the same for every instance
 abbrev pub HasFixedText : Answer → Type 0
 HasFixedText (Roster s) = ⊥
@@ -103,6 +137,7 @@ HasFixedText (LogRefused why) = ⊥
 HasFixedText (Reduced g) = ⊥
 HasFixedText (Breaks broken) = ⊥
 HasFixedText Shown = ⊥
+HasFixedText (Trial trial) = ⊥
 HasFixedText Crew = ⊥
 HasFixedText answer = Unit {0}
 
@@ -111,7 +146,7 @@ abbrev pub HasFixedLine : Answer → Type 0
 HasFixedLine (Accepted R) = ⊥
 HasFixedLine answer = HasFixedText answer
 
--- the text of an answer, for the instance that the problem's file spells. A calendar's text is of more than the instance
+-- the text of an answer, for the instance that the problem's file spells, or that of a trial. A calendar's text is of more than the instance
 abbrev pub text_of : Instance → Answer → List ℕ
 text_of P (Roster s) = roster_text P s.cells
 text_of P (NoRoster g) = log_text P g
@@ -123,6 +158,7 @@ text_of P Meets = line (codes "meets")
 text_of P (Breaks broken) = line (breaks_text P broken)
 text_of P (RosterRefused why) = line (roster_refusal_text why)
 text_of P Shown = problem_text P
+text_of P (Trial trial) = trial_text P trial
 text_of P Usage = line usage_text
 text_of P (FileRefused why) = line (file_refusal_text why)
 text_of P (TooLong kind) = line (kind_text kind)
@@ -135,21 +171,17 @@ abbrev pub HasSymbols : Instance → LogRefusal → Type 0
 HasSymbols P (Refusals.Escape number w) = All (IsSymbol P) w
 HasSymbols P why = Unit {0}
 
--- what an answer names is the instance's
+-- what an answer names is the instance's. A calendar is of more than the instance, and a trial of no file's instance
 abbrev pub IsPrintable : Instance → Answer → Type 0
 IsPrintable P (Roster s) = (s.days ≡ P.days) × IsRoster P s.cells
 IsPrintable P (NoRoster g) = Fits P g
 IsPrintable P (Undecided g) = Fits P g
 IsPrintable P (LogRefused why) = HasSymbols P why
 IsPrintable P (Reduced g) = Fits P g
-IsPrintable P Crew = ⊥
 IsPrintable P (Breaks broken) = (r : Rule) × (rule_of P broken.rule ≡ Some r)
+IsPrintable P (Trial trial) = ⊥
+IsPrintable P Crew = ⊥
 IsPrintable P answer = Unit {0}
-
--- an answer whose text depends on no more than the instance
-abbrev pub HasOwnText : Answer → Type 0
-HasOwnText Crew = ⊥
-HasOwnText answer = Unit {0}
 
 -- the text is the calendar that the command asks for, of a roster
 abbrev pub IsCalendarOf : Command → Instance → List Symbol → List ℕ → Type 0
@@ -164,10 +196,15 @@ IsCalendarText command told P text = WhereTold told (λ bytes. (s : List Symbol)
 -- the text of the answer to a command, for an instance and what the second file tells
 abbrev pub IsReplyText : Command → Told → Instance → Answer → List ℕ → Type 0
 IsReplyText command told P answer text =
-    (HasOwnText answer × (text ≡ text_of P answer)) ⊎ ((answer ≡ Crew) × IsCalendarText command told P text)
+    (IsPrintable P answer × (text ≡ text_of P answer)) ⊎ ((answer ≡ Crew) × IsCalendarText command told P text)
 
--- the text is the answer's, which is the same for every instance or is for the one that the problem's file spells
+-- the text is that of the answer to a trial, for the trial's problem
+abbrev pub IsTextOfTrial : Answer → List ℕ → Type 0
+IsTextOfTrial answer text = (P : Instance) × IsProblemOfTrial answer P × (text ≡ text_of P answer)
+
+-- the text is the answer's, which is the same for every instance, or is for the one that the problem's file spells, or for that of a trial
 abbrev pub IsTextOf : (List ℕ → Told) → Words → Answer → List ℕ → Type 0
 IsTextOf held words answer text =
     (HasFixedText answer × ((P : Instance) → text ≡ text_of P answer))
-    ⊎ ((command : Command) × IsForm words command × ((P : Instance) × IsProblemOf held words P × IsReplyText command (held (second_name words)) P answer text))
+    ⊎ (((command : Command) × IsForm words command × ((P : Instance) × IsProblemOf held words P × IsReplyText command (held (second_name words)) P answer text))
+    ⊎ IsTextOfTrial answer text)

@@ -4,6 +4,7 @@ ghost use Rattle.std.specs.Prelude.{◌≡◌};
 use refutation_log::{Log, LogRefusal};
 use roster_checker::Broken;
 use roster_print::RosterRefusal;
+use roster_search::Found;
 use rwsp_file::FileRefusal;
 use rwsp_model::{Roster, RuleList};
 use std::alloc::AllocError;
@@ -14,6 +15,14 @@ pub enum InputKind {
     Problem,
     Roster,
     Log,
+}
+
+/// What was found for the problem of a number and a count of weeks.
+#[derive(Debug, Drop)]
+pub struct TrialResult {
+    pub number: u32,
+    pub weeks: u32,
+    pub found: Found,
 }
 
 /// The answer to a command line.
@@ -39,6 +48,8 @@ pub enum Answer {
     RosterRefused(RosterRefusal),
     /// The problem was printed in its canonical form.
     Shown,
+    /// A trial: a roster of its problem, or the whole budget was spent.
+    Trial(TrialResult),
     /// The words are no command.
     Usage,
     /// The first file is no problem.
@@ -110,7 +121,7 @@ impl Answer {
     {
         match self {
             Answer::Roster(_) | Answer::Accepted(_) | Answer::Reduced(_) => 0,
-            Answer::Meets | Answer::Shown | Answer::Crew => 0,
+            Answer::Meets | Answer::Shown | Answer::Trial(_) | Answer::Crew => 0,
             Answer::NoRoster(_) => 1,
             Answer::Usage => 2,
             Answer::FileRefused(_) | Answer::RosterRefused(_) | Answer::TooLong(_) => 3,

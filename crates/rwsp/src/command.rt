@@ -25,6 +25,8 @@ pub enum Command {
     Reduce,
     /// The canonical text of a problem.
     Show,
+    /// What a search finds for the problem of a number and so many weeks.
+    Trial { number: u32, weeks: u32 },
     /// The calendar of a roster from a date on, for so many days: of all employees, or the duties of one.
     Crew {
         date: Date,
@@ -42,6 +44,9 @@ const GREATEST_BUDGET: u32 = 200_000;
 const USUAL_WORKERS: u32 = 4;
 
 const MOST_WORKERS: u32 = 64;
+
+/// The most weeks of a trial.
+const MOST_WEEKS: u32 = 600;
 
 /// The most days of a calendar, and the greatest number of an employee.
 const MOST_DAYS: u32 = 400;
@@ -69,7 +74,7 @@ pub fn command_of(words: &Vec<String>) -> Option<Command>
 {
     match words.as_slice() {
         [word, file] => on_one_file(word, file),
-        [word, file, second] => on_two_files(word, file, second),
+        [word, first, second] => on_three_words(word, first, second),
         [word, file, option, number] => plan_by_option(word, file, option, number),
         [word, file, second, option, number] => on_five_words(word, file, second, option, number),
         [word, file, second, date, days, number] => {
@@ -97,8 +102,30 @@ fn on_one_file(word: &String, file: &String) -> Option<Command>
     }
 }
 
+// A trial, or a command with a second file.
+fn on_three_words(word: &String, first: &String, second: &String) -> Option<Command>
+    ensures { MatchOption result (HasNoForm (word.now ∷ first.now ∷ second.now ∷ [])) (IsForm (word.now ∷ first.now ∷ second.now ∷ [])) }
+{
+    if word.as_str() == "trial" {
+        trial_of(word, first, second)
+    } else {
+        on_two_files(word, first, second)
+    }
+}
+
+// The trial of a number and a count of weeks.
+fn trial_of(word: &String, number_word: &String, weeks_word: &String) -> Option<Command>
+    requires { string_bytes word.now ≡ codes "trial" }
+    ensures { MatchOption result (HasNoForm (word.now ∷ number_word.now ∷ weeks_word.now ∷ [])) (IsForm (word.now ∷ number_word.now ∷ weeks_word.now ∷ [])) }
+{
+    let number = number(number_word.as_bytes())?;
+    let weeks = count_in(weeks_word.as_str(), MOST_WEEKS)?;
+    Some(Command::Trial { number, weeks })
+}
+
 // A command with a second file.
 fn on_two_files(word: &String, file: &String, second: &String) -> Option<Command>
+    requires { string_bytes word.now ≢ codes "trial" }
     ensures { MatchOption result (HasNoForm (word.now ∷ file.now ∷ second.now ∷ [])) (IsForm (word.now ∷ file.now ∷ second.now ∷ [])) }
 {
     if !is_file_word(file.as_str()) {

@@ -15,6 +15,7 @@ mod second;
 #[cfg(test)]
 mod tests;
 mod text;
+mod trial;
 mod verify;
 
 use answer::Outcome;

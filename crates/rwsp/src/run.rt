@@ -4,9 +4,10 @@ ghost use Rattle.std.specs.Io.KnownBytes.{Appends, Keeps};
 ghost use Rattle.rwsp_io.specs.Told.{Rose, NeverFall, Missing};
 ghost use Rattle.rwsp_terms.specs.Instance.{Instance};
 ghost use Rattle.rwsp.specs.Answers.{IsAnswer, IsAnswerOn, IsReadFault};
-ghost use Rattle.rwsp.specs.Commands.{IsForm, ReadsSecond, IsWithinHorizon, AsksNoCalendar, greatest_budget, problem_name, second_name};
+ghost use Rattle.rwsp.specs.Commands.{IsForm, ReadsProblem, ReadsSecond, IsWithinHorizon, AsksNoCalendar, greatest_budget, most_weeks, problem_name, second_name};
 ghost use Rattle.rwsp.specs.Plans.{IsPlanned};
-ghost use Rattle.rwsp.specs.Texts.{IsTextOf, IsReplyText, HasOwnText, HasFixedText, IsPrintable, text_of};
+ghost use Rattle.rwsp.specs.Trials.{IsTrialAnswer};
+ghost use Rattle.rwsp.specs.Texts.{IsTextOf, IsReplyText, IsTextOfTrial, HasFixedText, IsPrintable, text_of};
 ghost use Rattle.rwsp.specs.declared.answer.Answer.{Answer};
 
 use crate::answer::{Answer, Outcome, Stop};
@@ -16,6 +17,7 @@ use crate::input::{Exit, problem_in};
 use crate::plan::planned;
 use crate::second::second_answer;
 use crate::text::{fixed_text, text_on};
+use crate::trial::run_trial;
 use potential_bounds::Gate;
 use rwsp_io::{Shelf, Sink, write_all};
 use rwsp_model::Problem;
@@ -51,7 +53,7 @@ pub fn run<R: Threads + Sync, S: Shelf, K: Sink, G: Gate>(
 
     // Where a file couldn't be read, or there was no memory, nothing was written.
     ensures read_fault { result ≡ Outcome.ReadFault → IsReadFault (S.held shelf.old) (S.faults shelf.old) (S.faults shelf.new) words.now.items }
-    ensures missing { (command : Command) → IsForm words.now.items command → IsWithinHorizon command → S.held shelf.old (problem_name words.now.items) ≡ Missing → result ≡ Outcome.ReadFault }
+    ensures missing { (command : Command) → IsForm words.now.items command → IsWithinHorizon command → ReadsProblem command → S.held shelf.old (problem_name words.now.items) ≡ Missing → result ≡ Outcome.ReadFault }
     ensures silent_at_fault { result ≡ Outcome.ReadFault → Keeps (K.got out.old) (K.got out.new) }
     ensures silent_without_memory { result ≡ Outcome.Memory → Keeps (K.got out.old) (K.got out.new) }
 {
@@ -68,6 +70,7 @@ pub fn run<R: Threads + Sync, S: Shelf, K: Sink, G: Gate>(
 }
 
 // The answer to the words, with its text.
+#[tactic(auto, using(crate::proofs::Replies::trial_answer, crate::proofs::Replies::trial_text))]
 fn reply_to<R: Threads + Sync, S: Shelf, G: Gate>(
     rt: &R,
     alloc: Global,
@@ -77,7 +80,7 @@ fn reply_to<R: Threads + Sync, S: Shelf, G: Gate>(
 ) -> Result<Reply, Stop>
     ensures answer { IfOk result (λ r. IsAnswer (S.held shelf.old) words.now.items r.answer) }
     ensures text { IfOk result (λ r. IsTextOf (S.held shelf.old) words.now.items r.answer r.text.items) }
-    ensures missing { (command : Command) → IsForm words.now.items command → IsWithinHorizon command → S.held shelf.old (problem_name words.now.items) ≡ Missing → IsErrOf result Stop.ReadFault }
+    ensures missing { (command : Command) → IsForm words.now.items command → IsWithinHorizon command → ReadsProblem command → S.held shelf.old (problem_name words.now.items) ≡ Missing → IsErrOf result Stop.ReadFault }
     ensures fault { IsErrOf result Stop.ReadFault → IsReadFault (S.held shelf.old) (S.faults shelf.old) (S.faults shelf.new) words.now.items }
 {
     let Some(command) = command_of(words) else {
@@ -86,6 +89,29 @@ fn reply_to<R: Threads + Sync, S: Shelf, G: Gate>(
     if !is_within_horizon(&command) {
         return fixed(alloc, Answer::Horizon);
     }
+    match command {
+        Command::Trial { number, weeks } => tried(rt, alloc, number, weeks, gate),
+        _ => reply_on_file(rt, alloc, words, shelf, command, gate),
+    }
+}
+
+// The reply of a command that reads a problem's file.
+fn reply_on_file<R: Threads + Sync, S: Shelf, G: Gate>(
+    rt: &R,
+    alloc: Global,
+    words: &Vec<String>,
+    shelf: &mut S,
+    command: Command,
+    gate: &G,
+) -> Result<Reply, Stop>
+    requires form { IsForm words.now.items command }
+    requires horizon { IsWithinHorizon command }
+    requires reads { ReadsProblem command }
+    ensures answer { IfOk result (λ r. IsAnswer (S.held shelf.old) words.now.items r.answer) }
+    ensures text { IfOk result (λ r. IsTextOf (S.held shelf.old) words.now.items r.answer r.text.items) }
+    ensures missing { S.held shelf.old (problem_name words.now.items) ≡ Missing → IsErrOf result Stop.ReadFault }
+    ensures fault { IsErrOf result Stop.ReadFault → IsReadFault (S.held shelf.old) (S.faults shelf.old) (S.faults shelf.new) words.now.items }
+{
     let problem = match problem_in(alloc, shelf, word_at(words, 1)) {
         Ok(problem) => problem,
         Err(Exit::Answer(answer)) => return fixed(alloc, answer),
@@ -106,6 +132,7 @@ fn on_problem<R: Threads + Sync, S: Shelf, G: Gate>(
 ) -> Result<Reply, Stop>
     requires form { IsForm words.now.items command }
     requires horizon { IsWithinHorizon command }
+    requires reads { ReadsProblem command }
     ensures answer { IfOk result (λ r. IsAnswerOn command (S.held shelf.old (second_name words.now.items)) problem.now r.answer) }
     ensures text { IfOk result (λ r. IsReplyText command (S.held shelf.old (second_name words.now.items)) problem.now r.answer r.text.items) }
     ensures second { IsErrOf result Stop.ReadFault → ReadsSecond command }
@@ -143,6 +170,7 @@ fn answer_on<R: Threads + Sync, S: Shelf, G: Gate>(
     gate: &G,
 ) -> Result<Answer, Stop>
     requires form { IsForm words.now.items command }
+    requires reads { ReadsProblem command }
     requires other { AsksNoCalendar command }
     ensures answer { IfOk result (IsAnswerOn command (S.held shelf.old (second_name words.now.items)) problem.now) }
     ensures printable { IfOk result (IsPrintable problem.now) }
@@ -155,6 +183,27 @@ fn answer_on<R: Threads + Sync, S: Shelf, G: Gate>(
         Command::Show => Ok(Answer::Shown),
         _ => second_answer(rt, alloc, shelf, problem, word_at(words, 2), command, gate),
     }
+}
+
+// The reply of a trial.
+#[tactic(auto, using(crate::proofs::Replies::is_trial))]
+fn tried<R: Threads + Sync, G: Gate>(
+    rt: &R,
+    alloc: Global,
+    number: u32,
+    weeks: u32,
+    gate: &G,
+) -> Result<Reply, Stop>
+    requires { (1 ≤ weeks) × (weeks ≤ most_weeks) }
+    ensures answer { IfOk result (λ r. IsTrialAnswer number weeks r.answer) }
+    ensures text { IfOk result (λ r. IsTextOfTrial r.answer r.text.items) }
+    ensures fault { IsErrOf result Stop.ReadFault → ⊥ }
+{
+    let trial = run_trial(rt, alloc, number, weeks, gate)?;
+    Ok(Reply {
+        answer: Answer::Trial(trial.result),
+        text: trial.text,
+    })
 }
 
 // The reply whose text is the same for every problem.
@@ -170,12 +219,10 @@ fn fixed(alloc: Global, answer: Answer) -> Result<Reply, Stop>
 }
 
 /// The reply of an answer on a problem.
-#[tactic(auto, using(crate::proofs::Replies::own_text))]
 pub fn printed(alloc: Global, problem: &Problem, answer: Answer) -> Result<Reply, Stop>
     requires { IsPrintable problem.now answer }
     ensures answer { IfOk result (λ r. r.answer ≡ answer) }
-    ensures own { IfOk result (λ r. HasOwnText r.answer) }
-    ensures text { IfOk result (λ r. r.text.items ≡ text_of problem.now r.answer) }
+    ensures text { IfOk result (λ r. IsPrintable problem.now r.answer × (r.text.items ≡ text_of problem.now r.answer)) }
     ensures fault { IsErrOf result Stop.ReadFault → ⊥ }
 {
     let text = text_on(alloc, problem, &answer)?;

@@ -2,6 +2,7 @@
 mod crews;
 mod logs;
 mod plans;
+mod trials;
 
 ghost use Rattle.std.specs.Prelude.{◌<◌};
 
@@ -197,7 +198,7 @@ const USAGE: &str =
 
 #[test]
 fn words_that_are_no_command(rt: HostRuntime) -> Result<(), Fail> {
-    let cases: [&[&str]; 20] = [
+    let cases: [&[&str]; 27] = [
         &[],
         &["show", "-x"],
         &["verify", "F", ""],
@@ -210,6 +211,13 @@ fn words_that_are_no_command(rt: HostRuntime) -> Result<(), Fail> {
         &["check", "F", "--workers", "4"],
         &["check", "F", "G", "--workers", "0"],
         &["check", "F", "G", "--workers", "65"],
+        &["trial"],
+        &["trial", "0"],
+        &["trial", "0", "0"],
+        &["trial", "0", "601"],
+        &["trial", "1000000000", "1"],
+        &["trial", "one", "1"],
+        &["trial", "0", "1", "2"],
         &["crew", "F", "R", "2025-02-29", "1"],
         &["crew", "F", "R", "2025-2-28", "1"],
         &["crew", "F", "R", "20250228", "1"],

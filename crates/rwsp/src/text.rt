@@ -116,6 +116,7 @@ pub fn text_on(alloc: Global, problem: &Problem, answer: &Answer) -> Result<Vec<
         Answer::LogRefused(why) => log_refusal_line(alloc, problem, why),
         Answer::Reduced(log) => print_log(alloc, problem, log),
         Answer::Breaks(broken) => breaks_text(alloc, problem, broken),
+        Answer::Trial(_) => unreachable!(),
         Answer::Shown => print_problem(alloc, problem),
         _ => fixed_text(alloc, answer),
     }

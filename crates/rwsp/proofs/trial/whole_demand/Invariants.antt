@@ -1,0 +1,10 @@
+use Rattle.std.proofs.Common.{◌≡◌, ◌*◌, ◌≤◌}
+use Rattle.std.specs.List.{range_with_len, sum_by}
+use Rattle.rwsp.specs.Texts.{demand_on}
+use Rattle.rwsp.proofs.trial.whole_demand.Given as goal
+
+abbrev pub invariant-loop-day : goal.invariant-loop-day
+invariant-loop-day l = record {
+  sum : l.demand ≡ sum_by (demand_on l.problem) (range_with_len 1 l.day);
+  few : l.demand ≤ 4800 * l.day;
+}
