@@ -26,7 +26,10 @@ pub enum Command {
     /// The canonical text of a problem.
     Show,
     /// What a search finds for the problem of a number and so many weeks.
-    Trial { number: u32, weeks: u32 },
+    Trial {
+        number: u32,
+        weeks: u32,
+    },
     /// The calendar of a roster from a date on, for so many days: of all employees, or the duties of one.
     Crew {
         date: Date,

@@ -98,7 +98,11 @@ fn trial_line(alloc: Global, problem: &Problem, trial: &TrialResult) -> Result<V
     put_labelled(&mut out, b"number ".as_slice(), trial.number)?;
     put_labelled(&mut out, b" weeks ".as_slice(), trial.weeks)?;
     put_labelled(&mut out, b" days ".as_slice(), problem.days())?;
-    put_labelled(&mut out, b" shifts ".as_slice(), u32::from(problem.shifts()))?;
+    put_labelled(
+        &mut out,
+        b" shifts ".as_slice(),
+        u32::from(problem.shifts()),
+    )?;
     put_labelled(&mut out, b" demand ".as_slice(), whole_demand(problem))?;
     Ok(out)
 }
@@ -111,7 +115,12 @@ fn put_bytes(out: &mut Vec<u8>, label: &[u8], text: &[u8]) -> Result<(), AllocEr
     put_number(out, text.len() as u64)
 }
 
-fn put_found_line(out: &mut Vec<u8>, alloc: Global, problem: &Problem, found: &Found) -> Result<(), AllocError>
+fn put_found_line(
+    out: &mut Vec<u8>,
+    alloc: Global,
+    problem: &Problem,
+    found: &Found,
+) -> Result<(), AllocError>
     requires { IsTried problem.now found.now }
     ensures { OnOk result (out.new.items ≡ out.old.items ++ found_line problem.now found.now) }
 {

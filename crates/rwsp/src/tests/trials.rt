@@ -37,11 +37,23 @@ const ONE_WEEK: &str =
 fn the_first_problem_of_one_week(rt: HostRuntime) -> Result<(), Fail> {
     let alloc = rt.alloc();
     let problem = gen_problem(alloc, 0, 1)?;
-    assert_eq!(rt; print_problem(alloc, &problem)?.as_slice(), ONE_WEEK.as_bytes());
+    assert_eq!(rt;
+        print_problem(alloc, &problem)?.as_slice(),
+        ONE_WEEK.as_bytes()
+    );
     let text = "number 0 weeks 1 days 7 shifts 3 demand 5\nanswer roster bytes 14\n";
     assert!(rt; ends(&rt, alloc, &["trial", "0", "1"], &[], 0, text)?);
     assert!(rt; ends(&rt, alloc, &["trial", "000", "01"], &[], 0, text)?);
-    assert!(rt; ends(&rt, alloc, &["plan", "F"], &[("F", ONE_WEEK)], 0, "D D A A A - -\n")?);
+    assert!(rt;
+        ends(
+            &rt,
+            alloc,
+            &["plan", "F"],
+            &[("F", ONE_WEEK)],
+            0,
+            "D D A A A - -\n"
+        )?
+    );
     Ok(())
 }
 
@@ -51,7 +63,11 @@ fn a_trial_is_repeated(rt: HostRuntime) -> Result<(), Fail> {
     let alloc = rt.alloc();
     let first = printed(&rt, alloc, "7", "12")?;
     let again = printed(&rt, alloc, "7", "12")?;
-    assert!(rt; first.as_str().starts_with("number 7 weeks 12 days 7 shifts 3 demand 55\nanswer "));
+    assert!(rt;
+        first
+            .as_str()
+            .starts_with("number 7 weeks 12 days 7 shifts 3 demand 55\nanswer ")
+    );
     assert_eq!(rt; again.as_str(), first.as_str());
     Ok(())
 }
