@@ -12,6 +12,13 @@ use Rattle.propagators.proofs.Starts.{same_top}
 use Rattle.roster_planner.proofs.Sharpness.{at_first}
 use Rattle.roster_planner.proofs.reasons.reasons_of.Goals as goal
 
+pub returns-clause-serves : goal.returns-clause-serves
+returns-clause-serves g c =
+    let P = c.args.problem.now in
+    let plain = (c.new-6.ensures.serves P).1 (c.in_ok-windows.ensures.serves, c.in_ok-days.ensures.serves) in
+    let others = (c.new-7.ensures.serves P).1 (c.in_ok-cycle.ensures.serves, c.in_ok-bounds.ensures.serves) in
+    (c.new-8.ensures.serves P).1 (plain, others)
+
 pub returns-clause-reasons : goal.returns-clause-reasons
 returns-clause-reasons g c =
     let P = c.args.problem.now in
