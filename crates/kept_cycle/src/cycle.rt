@@ -19,8 +19,9 @@ use std::alloc::{AllocError, Global};
 use std::marker::Model;
 use word_tail::TailRules;
 
-// A cycle keeps two marks, of a byte each, for each node and day: at most these many nodes times days.
-const MOST_MARKS: u64 = 400_000_000;
+// A cycle keeps two marks for each node and day, and its steps, up to nine from each node: at most so many nodes times days,
+// which is some seconds of work and about 2 GB.
+const MOST_MARKS: u64 = 20_000_000;
 
 // The number of nodes has grown by then as far as it does for most rules.
 const FIRST_DAYS: u32 = 64;

@@ -11,6 +11,25 @@ use std::thread::Threads;
 // Three of five days, in twos: there is no roster, and no leaf holds at the first line.
 const THREE_OF_FIVE: &str = "1\n5\n1\n3\nD 360 480 2 2\n1 2\n2 2\n0 0\n";
 
+// The status of the words, over a problem, and what is written goes into the sink.
+fn status_of<R: Threads + Sync>(
+    rt: &R,
+    alloc: Global,
+    words: &[&str],
+    problem: &str,
+    sink: &mut MemorySink,
+) -> Result<u8, AllocError> {
+    let words = words_of(alloc, words)?;
+    let mut shelf = shelf_of(alloc, &[("F", problem)], 50, &[])?;
+    let outcome = run(rt, alloc, &words, &mut shelf, sink, &NoGate);
+    Ok(outcome.status())
+}
+
+fn text_in(alloc: Global, sink: &MemorySink) -> Result<String, Fail> {
+    let text = Vec::from_slice(alloc, sink.bytes())?;
+    Ok(String::from_utf8(text).ok().ok_or("a text")?)
+}
+
 // What is printed with this status, or nothing with another.
 fn printed<R: Threads + Sync>(
     rt: &R,
@@ -19,15 +38,12 @@ fn printed<R: Threads + Sync>(
     problem: &str,
     status: u8,
 ) -> Result<String, Fail> {
-    let words = words_of(alloc, words)?;
-    let mut shelf = shelf_of(alloc, &[("F", problem)], 50, &[])?;
     let mut sink = MemorySink::new(alloc, 1_000_000, 100_000, Vec::new(alloc))?;
-    let outcome = run(rt, alloc, &words, &mut shelf, &mut sink, &NoGate);
-    if outcome.status() != status {
-        return Ok(String::new(alloc));
+    if status_of(rt, alloc, words, problem, &mut sink)? == status {
+        text_in(alloc, &sink)
+    } else {
+        Ok(String::new(alloc))
     }
-    let text = Vec::from_slice(alloc, sink.bytes())?;
-    Ok(String::from_utf8(text).ok().ok_or("a text")?)
 }
 
 // Whether `check` accepts the log.
