@@ -31,7 +31,7 @@ fn text_in(alloc: Global, sink: &MemorySink) -> Result<String, Fail> {
 }
 
 // What is printed with this status, or nothing with another.
-fn printed<R: Threads + Sync>(
+pub fn printed<R: Threads + Sync>(
     rt: &R,
     alloc: Global,
     words: &[&str],

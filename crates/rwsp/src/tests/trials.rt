@@ -1,4 +1,5 @@
 // Trials: what is printed for a number and a count of weeks.
+use super::plans::printed;
 use super::{ends, shelf_of, words_of};
 use crate::answer::{Answer, Outcome};
 use crate::run::run;
@@ -7,27 +8,7 @@ use problem_generator::gen_problem;
 use roster_search::Found;
 use rwsp_file::print_problem;
 use rwsp_io::MemorySink;
-use std::alloc::Global;
 use std::test::Fail;
-use std::thread::Threads;
-
-// What a trial prints.
-fn printed<R: Threads + Sync>(
-    rt: &R,
-    alloc: Global,
-    number: &str,
-    weeks: &str,
-) -> Result<String, Fail> {
-    let words = words_of(alloc, &["trial", number, weeks])?;
-    let mut shelf = shelf_of(alloc, &[], 50, &[])?;
-    let mut sink = MemorySink::new(alloc, 1000, 100, Vec::new(alloc))?;
-    let outcome = run(rt, alloc, &words, &mut shelf, &mut sink, &NoGate);
-    if outcome.status() != 0 {
-        return Ok(String::new(alloc));
-    }
-    let text = Vec::from_slice(alloc, sink.bytes())?;
-    Ok(String::from_utf8(text).ok().ok_or("a text")?)
-}
 
 const ONE_WEEK: &str =
     "7\n1\n3\n1 1 0 0 0 0 0\n0 0 1 1 1 0 0\n0 0 0 0 0 0 0\nD 360 480 2 7\nA 840 480 2 6\nN 1320 480 2 5\n2 4\n4 7\n3 0\nN D\nN A\nA D\n";
@@ -61,8 +42,9 @@ fn the_first_problem_of_one_week(rt: HostRuntime) -> Result<(), Fail> {
 #[test]
 fn a_trial_is_repeated(rt: HostRuntime) -> Result<(), Fail> {
     let alloc = rt.alloc();
-    let first = printed(&rt, alloc, "7", "12")?;
-    let again = printed(&rt, alloc, "7", "12")?;
+    let words = ["trial", "7", "12"];
+    let first = printed(&rt, alloc, &words, "", 0)?;
+    let again = printed(&rt, alloc, &words, "", 0)?;
     assert!(rt;
         first
             .as_str()
