@@ -256,21 +256,14 @@ fn files_that_are_missing(rt: HostRuntime) -> Result<(), Fail> {
 #[test]
 fn files_that_are_too_long(rt: HostRuntime) -> Result<(), Fail> {
     let alloc = rt.alloc();
-    let words = words_of(alloc, &["verify", "F", "R"])?;
     let long = String::from_utf8(vec![in alloc; b' '; 1_048_577]?)
         .ok()
         .ok_or("a text")?;
     let files = [("F", TWO_DAYS), ("R", long.as_str())];
-    let mut shelf = shelf_of(alloc, &files, 100_000, &[])?;
-    let mut sink = MemorySink::new(alloc, 100, 100, Vec::new(alloc))?;
-    let outcome = run(&rt, alloc, &words, &mut shelf, &mut sink, &NoGate);
-    assert_eq!(rt; outcome.status(), 3);
-    assert_eq!(rt; sink.bytes(), b"too long: roster\n".as_slice());
-    let words = words_of(alloc, &["verify", "R", "F"])?;
-    let mut sink = MemorySink::new(alloc, 100, 100, Vec::new(alloc))?;
-    let outcome = run(&rt, alloc, &words, &mut shelf, &mut sink, &NoGate);
-    assert_eq!(rt; outcome.status(), 3);
-    assert_eq!(rt; sink.bytes(), b"too long: problem\n".as_slice());
+    let roster = "too long: roster\n";
+    assert!(rt; ends(&rt, alloc, &["verify", "F", "R"], &files, 3, roster)?);
+    let problem = "too long: problem\n";
+    assert!(rt; ends(&rt, alloc, &["verify", "R", "F"], &files, 3, problem)?);
     Ok(())
 }
 
