@@ -3,6 +3,7 @@
 
 mod data;
 mod laws;
+pub mod limits;
 mod rule_list;
 mod sharing;
 #[cfg(test)]

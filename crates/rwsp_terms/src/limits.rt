@@ -1,0 +1,57 @@
+//! The limits of problems, rosters, logs and commands. Clauses and definitions cite them by these names; what is a
+//! product of limits is written as the product where it is used.
+
+/// The most days of a week of the schedule.
+pub const MOST_DAYS: u32 = 28;
+
+/// The most weeks of a schedule, which is the most employees, and the most that a shift may demand on a day.
+pub const MOST_WEEKS: u32 = 600;
+
+/// The most cells of a roster: weeks times days.
+pub const MOST_CELLS: u32 = 4_200;
+
+/// The most shifts of a problem.
+pub const MOST_SHIFTS: u32 = 8;
+
+/// The most symbols of a problem: the shifts and the day off.
+pub const MOST_SYMBOLS: u32 = MOST_SHIFTS + 1;
+
+/// The greatest bound of a block, in days, and the greatest start and length of a shift, in minutes.
+pub const GREATEST_BOUND: u32 = 10_000;
+
+/// The most forbidden pairs of a problem, and the most forbidden triples.
+pub const MOST_SEQUENCES: u32 = 64;
+
+/// The most rules of a problem: two for the blocks of each shift, of days off and of work, the forbidden sequences, and
+/// one for each day.
+pub const MOST_RULES: u32 = 2 * (MOST_SHIFTS + 2) + 2 * MOST_SEQUENCES + MOST_DAYS;
+
+/// The most bytes of a shift's name.
+pub const LONGEST_NAME: u32 = 32;
+
+/// The greatest bound, in days, of a block rule that a `dead` or a `bound` line may cite.
+pub const GREATEST_SHORT_BOUND: u32 = 30;
+
+/// The most days of a window or a word that a refutation speaks of.
+pub const LONGEST_WORD: u32 = 16_800;
+
+/// The greatest weight of a symbol on a day, and, negated, the least.
+pub const GREATEST_WEIGHT: u32 = 1_000;
+
+/// The most bytes of a problem's file, and of a roster's.
+pub const LONGEST_FILE: u32 = 1_048_576;
+
+/// The most bytes of a log's file.
+pub const LONGEST_LOG: u32 = 536_870_912;
+
+/// The lines of a plan's log where no budget is given.
+pub const USUAL_BUDGET: u32 = 20_000;
+
+/// The greatest budget of a plan, in lines of its log.
+pub const GREATEST_BUDGET: u32 = 200_000;
+
+/// The workers of a check where none are given.
+pub const USUAL_WORKERS: u32 = 4;
+
+/// The most workers of a check.
+pub const MOST_WORKERS: u32 = 64;
