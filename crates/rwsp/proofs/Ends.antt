@@ -1,6 +1,6 @@
 -- The bytes of a file have one answer.
 use Rattle.std.proofs.Common.{◌≡◌, ℕ, ◌<◌, ◌≤◌, List, Some, None, Option, arith, ap, sym, ◌∙◌, refl, subst}
-use Rattle.std.specs.Prelude.{MatchOption, Ok, Err}
+use Rattle.std.specs.Prelude.{MatchOption, Ok, Err, Result}
 use Rattle.rwsp_terms.specs.Instance.{Instance}
 use Rattle.rwsp_terms.specs.Roster.{MeetsAll}
 use Rattle.rwsp_terms.specs.declared.data.Symbol.{Symbol}
@@ -23,11 +23,16 @@ use Rattle.refutation_terms.specs.Verdict.{IsAccepted, IsRefused}
 use Rattle.rwsp.specs.Inputs.{IsWithinLimit, IsTooLong}
 use Rattle.rwsp.specs.Answers.{IsFileAnswer, IsRosterAnswer, IsLogAnswer, IsReduction, IsSecondAnswer, IsCrewAnswer, HasEmployee}
 use Rattle.rwsp.specs.declared.command.Command.{Command}
-use Rattle.rwsp.specs.declared.command.Command.TheVariants.{Plan, Check, Verify, Reduce, Show, Trial, Crew as CrewCommand}
+use Rattle.rwsp.specs.declared.command.Command.TheVariants.{Plan, Check, Verify, Reduce, Show, Trial, Crew as CrewCommand, Staff as StaffCommand, CheckStaff}
 use Rattle.rwsp.specs.declared.answer.InputKind.{InputKind}
 use Rattle.rwsp.specs.declared.answer.InputKind.TheVariants as Kinds
 use Rattle.rwsp.specs.declared.answer.Answer.{Answer}
-use Rattle.rwsp.specs.declared.answer.Answer.TheVariants.{Roster, NoRoster, Undecided, Accepted, LogRefused, Reduced, Meets, Shown, Breaks, RosterRefused, Trial as TrialOf, Usage, FileRefused, TooLong, Crew, Horizon, NoEmployee}
+use Rattle.rwsp.specs.declared.answer.Answer.TheVariants.{Roster, NoRoster, Undecided, Accepted, LogRefused, Reduced, Meets, Shown, Breaks, RosterRefused, Trial as TrialOf, Usage, FileRefused, TooLong, Crew, Horizon, NoEmployee, StaffAccepted, StaffRefused}
+use Rattle.crew_size.specs.declared.verdict.Staffed.{Staffed}
+use Rattle.crew_size.specs.declared.verdict.StaffRefusal.{StaffRefusal}
+use Rattle.crew_size.specs.Verdict.{IsStaffVerdict}
+use Rattle.crew_size.proofs.OneVerdict.{one_staff_verdict}
+use Rattle.rwsp.specs.Staffs.{IsStaffVerdictOf}
 use Rattle.rwsp.proofs.Logs.{one_verdict}
 use Rattle.rwsp.proofs.Reductions.{one_reduced}
 
@@ -43,24 +48,10 @@ data RosterEnd (P : Instance) (bytes : List ℕ) (answer : Answer) : Type 0 wher
 
 roster_end : (P : Instance) (bytes : List ℕ) (answer : Answer) → IsRosterAnswer answer P bytes → RosterEnd P bytes answer
 roster_end P bytes (TooLong Kinds.Roster) h = long h refl
-roster_end P bytes (TooLong Kinds.Problem) h = absurd h
-roster_end P bytes (TooLong Kinds.Log) h = absurd h
 roster_end P bytes (RosterRefused why) h = refused why h.0 h.1 refl
 roster_end P bytes Meets h = met h.1.0 h.0 h.1.1 h.1.2 refl
 roster_end P bytes (Breaks b) h = broken h.1.0 b h.0 h.1.1 h.1.2 refl
-roster_end P bytes (Roster s) h = absurd h
-roster_end P bytes (NoRoster g) h = absurd h
-roster_end P bytes (Undecided g) h = absurd h
-roster_end P bytes (Accepted R) h = absurd h
-roster_end P bytes (LogRefused why) h = absurd h
-roster_end P bytes (Reduced g) h = absurd h
-roster_end P bytes Usage h = absurd h
-roster_end P bytes (TrialOf trial) h = absurd h
-roster_end P bytes Shown h = absurd h
-roster_end P bytes (FileRefused why) h = absurd h
-roster_end P bytes Crew h = absurd h
-roster_end P bytes Horizon h = absurd h
-roster_end P bytes (NoEmployee e) h = absurd h
+roster_end P bytes answer h = absurd h
 
 -- a refused roster isn't spelled
 refused_by : (P : Instance) (bytes : List ℕ) (s : List Symbol) (why : RosterRefusal) (o : Option RosterRefusal) → o ≡ Some why → MatchOption o ((s : List Symbol) × SpellsRoster P bytes s) (λ why. (s : List Symbol) → SpellsRoster P bytes s → ⊥) → SpellsRoster P bytes s → ⊥
@@ -140,22 +131,7 @@ acceptance_end : (P : Instance) (bytes : List ℕ) (answer : Answer) → IsLogAn
 acceptance_end P bytes (TooLong Kinds.Log) h = long_log h refl
 acceptance_end P bytes (LogRefused why) h = refused_log why h.0 h.1 refl
 acceptance_end P bytes (Accepted R) h = passing_log h.1.0 h.0 h.1.1 (ap Accepted (sym h.1.2))
-acceptance_end P bytes (TooLong Kinds.Roster) h = absurd h
-acceptance_end P bytes (TooLong Kinds.Problem) h = absurd h
-acceptance_end P bytes (RosterRefused why) h = absurd h
-acceptance_end P bytes Meets h = absurd h
-acceptance_end P bytes (Breaks b) h = absurd h
-acceptance_end P bytes (Roster s) h = absurd h
-acceptance_end P bytes (NoRoster g) h = absurd h
-acceptance_end P bytes (Undecided g) h = absurd h
-acceptance_end P bytes (Reduced g) h = absurd h
-acceptance_end P bytes Usage h = absurd h
-acceptance_end P bytes (TrialOf trial) h = absurd h
-acceptance_end P bytes Shown h = absurd h
-acceptance_end P bytes (FileRefused why) h = absurd h
-acceptance_end P bytes Crew h = absurd h
-acceptance_end P bytes Horizon h = absurd h
-acceptance_end P bytes (NoEmployee e) h = absurd h
+acceptance_end P bytes answer h = absurd h
 
 -- what `reduce` says of a log that passes
 
@@ -169,22 +145,7 @@ reduction_end : (P : Instance) (bytes : List ℕ) (answer : Answer) → IsReduct
 reduction_end P bytes (TooLong Kinds.Log) h = long_log h refl
 reduction_end P bytes (LogRefused why) h = refused_log why h.0 h.1 refl
 reduction_end P bytes (Reduced k) h = passing_log h.1.0 h.0 h.1.1 (k, h.1.2, refl)
-reduction_end P bytes (TooLong Kinds.Roster) h = absurd h
-reduction_end P bytes (TooLong Kinds.Problem) h = absurd h
-reduction_end P bytes (RosterRefused why) h = absurd h
-reduction_end P bytes Meets h = absurd h
-reduction_end P bytes (Breaks b) h = absurd h
-reduction_end P bytes (Roster s) h = absurd h
-reduction_end P bytes (NoRoster g) h = absurd h
-reduction_end P bytes (Undecided g) h = absurd h
-reduction_end P bytes (Accepted R) h = absurd h
-reduction_end P bytes Usage h = absurd h
-reduction_end P bytes (TrialOf trial) h = absurd h
-reduction_end P bytes Shown h = absurd h
-reduction_end P bytes (FileRefused why) h = absurd h
-reduction_end P bytes Crew h = absurd h
-reduction_end P bytes Horizon h = absurd h
-reduction_end P bytes (NoEmployee e) h = absurd h
+reduction_end P bytes answer h = absurd h
 
 -- how a calendar's roster ends the job: it isn't right, or it is right and the employee is there, or isn't
 data CrewEnd (P : Instance) (bytes : List ℕ) (employee : Option ℕ) (answer : Answer) : Type 0 where
@@ -195,21 +156,10 @@ data CrewEnd (P : Instance) (bytes : List ℕ) (employee : Option ℕ) (answer :
 crew_end : (P : Instance) (bytes : List ℕ) (employee : Option ℕ) (answer : Answer) → IsCrewAnswer employee answer P bytes → CrewEnd P bytes employee answer
 crew_end P bytes employee Crew h = shown (roster_end P bytes Meets h.0) h.1 refl
 crew_end P bytes employee (NoEmployee e) h = nobody e (roster_end P bytes Meets h.0) h.1 h.2 refl
-crew_end P bytes employee Meets h = absurd h
 crew_end P bytes employee (TooLong kind) h = unfit (λ e. absurd (cc)) (roster_end P bytes (TooLong kind) h)
 crew_end P bytes employee (RosterRefused why) h = unfit (λ e. absurd (cc)) (roster_end P bytes (RosterRefused why) h)
 crew_end P bytes employee (Breaks b) h = unfit (λ e. absurd (cc)) (roster_end P bytes (Breaks b) h)
-crew_end P bytes employee (Roster s) h = absurd h
-crew_end P bytes employee (NoRoster g) h = absurd h
-crew_end P bytes employee (Undecided g) h = absurd h
-crew_end P bytes employee (Accepted R) h = absurd h
-crew_end P bytes employee (LogRefused why) h = absurd h
-crew_end P bytes employee (Reduced g) h = absurd h
-crew_end P bytes employee (TrialOf trial) h = absurd h
-crew_end P bytes employee Usage h = absurd h
-crew_end P bytes employee Shown h = absurd h
-crew_end P bytes employee (FileRefused why) h = absurd h
-crew_end P bytes employee Horizon h = absurd h
+crew_end P bytes employee answer h = absurd h
 
 employee_there : (P : Instance) (employee : Option ℕ) (e : ℕ) → HasEmployee P employee → employee ≡ Some e → P.weeks < e → ⊥
 employee_there P employee e here is past =
@@ -230,6 +180,28 @@ one_crew_end P bytes employee a b (nobody k r is past e) (nobody j q also beyond
     let same : k ≡ j = cc in
     e ∙ ap NoEmployee same ∙ sym f
 
+-- the answer with a verdict on a staff text
+staff_answer : Result Staffed StaffRefusal → Answer
+staff_answer (Ok staffed) = StaffAccepted staffed
+staff_answer (Err why) = StaffRefused why
+
+-- how the bytes of a staff text end the job for an instance
+data StaffTextEnd (P : Instance) (bytes : List ℕ) (answer : Answer) : Type 0 where
+  long_text : IsTooLong Kinds.Log bytes → answer ≡ TooLong Kinds.Log → StaffTextEnd P bytes answer
+  judged_text : (verdict : Result Staffed StaffRefusal) → IsWithinLimit Kinds.Log bytes → IsStaffVerdict P bytes verdict → answer ≡ staff_answer verdict → StaffTextEnd P bytes answer
+
+staff_text_end : (P : Instance) (bytes : List ℕ) (answer : Answer) → IsStaffVerdictOf answer P bytes → StaffTextEnd P bytes answer
+staff_text_end P bytes (TooLong Kinds.Log) h = long_text h refl
+staff_text_end P bytes (StaffAccepted staffed) h = judged_text (Ok staffed) h.0 h.1 refl
+staff_text_end P bytes (StaffRefused why) h = judged_text (Err why) h.0 h.1 refl
+staff_text_end P bytes answer h = absurd h
+
+one_staff_text_end : (P : Instance) (bytes : List ℕ) (a b : Answer) → KeepsLimits P → StaffTextEnd P bytes a → StaffTextEnd P bytes b → a ≡ b
+one_staff_text_end P bytes a b limits (long_text l e) (long_text m f) = e ∙ sym f
+one_staff_text_end P bytes a b limits (long_text l e) (judged_text v s j f) = absurd (not_both Kinds.Log bytes l s)
+one_staff_text_end P bytes a b limits (judged_text v s j e) (long_text l f) = absurd (not_both Kinds.Log bytes l s)
+one_staff_text_end P bytes a b limits (judged_text v s j e) (judged_text w t k f) = e ∙ ap staff_answer (one_staff_verdict P bytes v w limits j k) ∙ sym f
+
 -- two answers to a command over the bytes of its second file
 pub one_second : (command : Command) (P : Instance) (bytes : List ℕ) (a b : Answer) → KeepsLimits P → IsSecondAnswer command a P bytes → IsSecondAnswer command b P bytes → a ≡ b
 one_second Verify P bytes a b limits h k = one_roster_end P bytes a b (roster_end P bytes a h) (roster_end P bytes b k)
@@ -238,6 +210,8 @@ one_second Reduce P bytes a b limits h k = one_log_end P (IsReducedTo P) bytes a
 one_second (Plan budget) P bytes a b limits h k = absurd h
 one_second Show P bytes a b limits h k = absurd h
 one_second (Trial number weeks) P bytes a b limits h k = absurd h
+one_second (StaffCommand low high budget) P bytes a b limits h k = absurd h
+one_second CheckStaff P bytes a b limits h k = one_staff_text_end P bytes a b limits (staff_text_end P bytes a h) (staff_text_end P bytes b k)
 one_second (CrewCommand date days employee) P bytes a b limits h k = one_crew_end P bytes employee a b (crew_end P bytes employee a h) (crew_end P bytes employee b k)
 
 -- two answers of the problem's file
@@ -249,23 +223,7 @@ data FileEnd (file : List ℕ) (answer : Answer) : Type 0 where
 file_end : (file : List ℕ) (answer : Answer) → IsFileAnswer answer file → FileEnd file answer
 file_end file (TooLong Kinds.Problem) h = too_long h refl
 file_end file (FileRefused why) h = unread why h.0 h.1 refl
-file_end file (TooLong Kinds.Roster) h = absurd h
-file_end file (TooLong Kinds.Log) h = absurd h
-file_end file (Roster s) h = absurd h
-file_end file (NoRoster g) h = absurd h
-file_end file (Undecided g) h = absurd h
-file_end file (Accepted R) h = absurd h
-file_end file (LogRefused why) h = absurd h
-file_end file (Reduced g) h = absurd h
-file_end file Meets h = absurd h
-file_end file Shown h = absurd h
-file_end file (Breaks b) h = absurd h
-file_end file (RosterRefused why) h = absurd h
-file_end file Usage h = absurd h
-file_end file (TrialOf trial) h = absurd h
-file_end file Crew h = absurd h
-file_end file Horizon h = absurd h
-file_end file (NoEmployee e) h = absurd h
+file_end file answer h = absurd h
 
 same_file_end : (file : List ℕ) (a b : Answer) → FileEnd file a → FileEnd file b → a ≡ b
 same_file_end file a b (too_long l e) (too_long m f) = e ∙ sym f

@@ -1,24 +1,199 @@
 -- The words of a command line have one form at most.
-use Rattle.std.proofs.Common.{◌≡◌, ℕ, List, Option, Some, ap, sym, ◌∙◌, refl, subst, true, false}
-use Rattle.std.specs.Prelude.{[], ◌∷◌, codes, String}
+use Rattle.std.proofs.Common.{◌≡◌, ℕ, List, Option, Some, None, ap, sym, ◌∙◌, refl, subst, true, false, Bool, inl, inr, ◌<◌, ◌+◌, ◌≤◌}
+use Rattle.std.specs.Prelude.{[], ◌∷◌, codes, String, if◌then◌else◌, ◌⊎◌}
+use Rattle.std.specs.Option.{option_map}
 use Rattle.std.specs.String.{string_bytes}
 use Rattle.std.specs.declared.alloc.Global.{Global}
 use Rattle.std.specs.Str.{bytes_eq}
 use Rattle.rwsp_text.specs.Numbers.{number_of}
+use Rattle.rwsp_terms.specs.declared.limits.TheConstants.{USUAL_STAFF_BUDGET}
 use Rattle.refutation_log.proofs.ReadParts.{bytes_same}
 use Rattle.jiff.specs.Types.{Date}
 use Rattle.crew_calendar.specs.Calendar.{IsDateWord}
 use Rattle.crew_calendar.proofs.OneText.{one_date}
-use Rattle.rwsp.specs.Commands.{Words, IsForm, IsCount, greatest_budget, most_workers, most_weeks, most_days, most_employees, IsCrewForm, HasNoForm}
+use Rattle.rwsp.specs.Commands.{Words, IsForm, IsCount, most_employees, usual_budget, usual_workers, IsCrewForm, IsStaffForm, HasNoForm, word_bytes}
 use Rattle.rwsp.specs.declared.command.Command.{Command}
-use Rattle.rwsp.specs.declared.command.Command.TheVariants.{Plan, Check, Verify, Reduce, Show, Trial, Crew}
+use Rattle.rwsp.specs.declared.command.Command.TheVariants.{Plan, Check, Verify, Reduce, Show, Trial, Crew, Staff, CheckStaff}
 
-same_count : (word : List ℕ) (limit m n : ℕ) → IsCount word limit m → IsCount word limit n → m ≡ n
-same_count word limit m n h k =
-    let both : Some m ≡ Some n = sym h.0 ∙ k.0 in
+-- a command without its date
+data Undated : Type 0 where
+  show : Undated
+  plan : ℕ → Undated
+  check : ℕ → Undated
+  verify : Undated
+  reduce : Undated
+  trial : ℕ → ℕ → Undated
+  crew : ℕ → Undated
+  crew_of : ℕ → ℕ → Undated
+  staff : ℕ → ℕ → ℕ → Undated
+  check_staff : Undated
+
+abbrev undated : Command → Undated
+undated Show = show
+undated (Plan budget) = plan budget
+undated (Check workers) = check workers
+undated Verify = verify
+undated Reduce = reduce
+undated (Trial number weeks) = trial number weeks
+undated (Crew first n None) = crew n
+undated (Crew first n (Some e)) = crew_of n e
+undated (Staff low high budget) = staff low high budget
+undated CheckStaff = check_staff
+
+-- the date of a command that has one
+abbrev dated : Command → Option Date
+dated (Crew first n e) = Some first
+dated Show = None
+dated (Plan budget) = None
+dated (Check workers) = None
+dated Verify = None
+dated Reduce = None
+dated (Trial number weeks) = None
+dated (Staff low high budget) = None
+dated CheckStaff = None
+
+-- the command again
+abbrev back : Option Date → Undated → Option Command
+back d show = Some Show
+back d (plan budget) = Some (Plan budget)
+back d (check workers) = Some (Check workers)
+back d verify = Some Verify
+back d reduce = Some Reduce
+back d (trial number weeks) = Some (Trial number weeks)
+back d (crew n) = option_map (λ first. Crew first n None) d
+back d (crew_of n e) = option_map (λ first. Crew first n (Some e)) d
+back d (staff low high budget) = Some (Staff low high budget)
+back d check_staff = Some CheckStaff
+
+back_is : (c : Command) → back (dated c) (undated c) ≡ Some c
+back_is Show = refl
+back_is (Plan budget) = refl
+back_is (Check workers) = refl
+back_is Verify = refl
+back_is Reduce = refl
+back_is (Trial number weeks) = refl
+back_is (Crew first n None) = refl
+back_is (Crew first n (Some e)) = refl
+back_is (Staff low high budget) = refl
+back_is CheckStaff = refl
+
+-- what the words behind the command's name tell
+
+abbrev two : Option ℕ → Option ℕ → (ℕ → ℕ → Undated) → Option Undated
+two (Some a) (Some b) f = Some (f a b)
+two (Some a) None f = None
+two None b f = None
+
+abbrev plan_told : Words → Option Undated
+plan_told (file ∷ []) = Some (plan usual_budget)
+plan_told (file ∷ option ∷ number ∷ []) = option_map plan (number_of (string_bytes number))
+plan_told args = None
+
+abbrev check_told : Words → Option Undated
+check_told (file ∷ second ∷ []) = Some (check usual_workers)
+check_told (file ∷ second ∷ option ∷ number ∷ []) = option_map check (number_of (string_bytes number))
+check_told args = None
+
+abbrev trial_told : Words → Option Undated
+trial_told (number ∷ weeks ∷ []) = two (number_of (string_bytes number)) (number_of (string_bytes weeks)) trial
+trial_told args = None
+
+abbrev crew_told : Words → Option Undated
+crew_told (file ∷ second ∷ date ∷ days ∷ []) = option_map crew (number_of (string_bytes days))
+crew_told (file ∷ second ∷ date ∷ days ∷ number ∷ []) = two (number_of (string_bytes days)) (number_of (string_bytes number)) crew_of
+crew_told args = None
+
+abbrev budgeted : Option ℕ → Option ℕ → Option ℕ → Option Undated
+budgeted None low high = None
+budgeted (Some budget) low high = two low high (λ l h. staff l h budget)
+
+abbrev staff_told : Words → Option Undated
+staff_told (file ∷ low ∷ high ∷ []) = two (number_of (string_bytes low)) (number_of (string_bytes high)) (λ l h. staff l h USUAL_STAFF_BUDGET)
+staff_told (file ∷ low ∷ high ∷ option ∷ number ∷ []) =
+    budgeted (number_of (string_bytes number)) (number_of (string_bytes low)) (number_of (string_bytes high))
+staff_told args = None
+
+abbrev told : List ℕ → Words → Option Undated
+told name args =
+    if bytes_eq name (codes "show") then Some show
+    else if bytes_eq name (codes "plan") then plan_told args
+    else if bytes_eq name (codes "check") then check_told args
+    else if bytes_eq name (codes "verify") then Some verify
+    else if bytes_eq name (codes "reduce") then Some reduce
+    else if bytes_eq name (codes "trial") then trial_told args
+    else if bytes_eq name (codes "crew") then crew_told args
+    else if bytes_eq name (codes "staff") then staff_told args
+    else Some check_staff
+
+begins : (name : List ℕ) (args : Words) (other : List ℕ) → name ≡ other → told name args ≡ told other args
+begins name args other e = ap (λ n. told n args) e
+
+both_told : {a b : Option ℕ} {m n : ℕ} (f : ℕ → ℕ → Undated) → a ≡ Some m → b ≡ Some n → two a b f ≡ Some (f m n)
+both_told {a} {b} {m} {n} f e g = ap (λ c. two c b f) e ∙ ap (λ c. two (Some m) c f) g
+
+abbrev told_in : Words → Option Undated
+told_in [] = None
+told_in (v ∷ args) = told (string_bytes v) args
+
+-- words that are a form of a command tell it
+tells : (words : Words) (c : Command) → IsForm words c → told_in words ≡ Some (undated c)
+tells (v ∷ w ∷ []) Show h = begins (string_bytes v) (w ∷ []) (codes "show") h.0
+tells (v ∷ w ∷ []) (Plan m) h = begins (string_bytes v) (w ∷ []) (codes "plan") h.0 ∙ ap (λ k. Some (plan k)) (sym h.2)
+tells (v ∷ w ∷ x ∷ []) (Check m) h = begins (string_bytes v) (w ∷ x ∷ []) (codes "check") h.0 ∙ ap (λ k. Some (check k)) (sym h.3)
+tells (v ∷ w ∷ x ∷ []) Verify h = begins (string_bytes v) (w ∷ x ∷ []) (codes "verify") h.0
+tells (v ∷ w ∷ x ∷ []) Reduce h = begins (string_bytes v) (w ∷ x ∷ []) (codes "reduce") h.0
+tells (v ∷ w ∷ x ∷ []) (Trial m n) h = begins (string_bytes v) (w ∷ x ∷ []) (codes "trial") h.0 ∙ both_told trial h.1 h.2.0
+tells (v ∷ w ∷ x ∷ []) CheckStaff h = begins (string_bytes v) (w ∷ x ∷ []) (codes "check-staff") h.0
+tells (v ∷ w ∷ x ∷ y ∷ []) (Plan m) h = begins (string_bytes v) (w ∷ x ∷ y ∷ []) (codes "plan") h.0 ∙ ap (option_map plan) h.3.0
+tells (v ∷ w ∷ x ∷ y ∷ []) (Staff l m n) h = begins (string_bytes v) (w ∷ x ∷ y ∷ []) (codes "staff") h.0.0 ∙ both_told (λ a b. staff a b USUAL_STAFF_BUDGET) h.0.2.0 h.0.3.0 ∙ ap (λ k. Some (staff l m k)) (sym h.1)
+tells (v ∷ w ∷ x ∷ y ∷ z ∷ []) (Check m) h = begins (string_bytes v) (w ∷ x ∷ y ∷ z ∷ []) (codes "check") h.0 ∙ ap (option_map check) h.4.0
+tells (v ∷ w ∷ x ∷ y ∷ z ∷ []) (Crew d m None) h = begins (string_bytes v) (w ∷ x ∷ y ∷ z ∷ []) (codes "crew") h.0.0 ∙ ap (option_map crew) h.0.4.0
+tells (v ∷ w ∷ x ∷ y ∷ z ∷ []) (Crew d m (Some e)) h = let no : Some e ≡ None = h.1 in absurd (cc)
+tells (v ∷ w ∷ x ∷ y ∷ z ∷ u ∷ []) (Crew d m None) h = let no : None ≡ Some h.1.0 = h.1.2 in absurd (cc)
+tells (v ∷ w ∷ x ∷ y ∷ z ∷ u ∷ []) (Crew d m (Some e)) h =
+    let same : Some e ≡ Some h.1.0 = h.1.2 in
+    let number : number_of (string_bytes u) ≡ Some e = h.1.1.0 ∙ sym same in
+    begins (string_bytes v) (w ∷ x ∷ y ∷ z ∷ u ∷ []) (codes "crew") h.0.0 ∙ both_told crew_of h.0.4.0 number
+tells (v ∷ w ∷ x ∷ y ∷ z ∷ u ∷ []) (Staff l m n) h =
+    begins (string_bytes v) (w ∷ x ∷ y ∷ z ∷ u ∷ []) (codes "staff") h.0.0
+    ∙ ap (λ k. budgeted k (number_of (string_bytes x)) (number_of (string_bytes y))) h.2.0
+    ∙ both_told (λ a b. staff a b n) h.0.2.0 h.0.3.0
+tells words c h = absurd h
+
+-- the date of the words is that of the command, where it has one
+
+abbrev fourth : Words → List ℕ
+fourth (v ∷ w ∷ x ∷ y ∷ words) = string_bytes y
+fourth words = []
+
+abbrev HasDate : Words → Command → Type 0
+HasDate words (Crew first n e) = IsDateWord (fourth words) first
+HasDate words command = Unit {0}
+
+has_date : (words : Words) (c : Command) → IsForm words c → HasDate words c
+has_date (v ∷ w ∷ x ∷ y ∷ z ∷ []) (Crew first n e) h = h.0.3
+has_date (v ∷ w ∷ x ∷ y ∷ z ∷ u ∷ []) (Crew first n e) h = h.0.3
+has_date words (Crew first n e) h = absurd h
+has_date words c h = tt
+
+one_dated : (words : Words) (a b : Command) → HasDate words a → HasDate words b → undated a ≡ undated b → dated a ≡ dated b
+one_dated words (Crew d n e) (Crew f m g) h k same = ap Some (one_date (fourth words) d f h k)
+one_dated words (Crew d n None) b h k same = absurd (cc)
+one_dated words (Crew d n (Some e)) b h k same = absurd (cc)
+one_dated words a (Crew d n None) h k same = absurd (cc)
+one_dated words a (Crew d n (Some e)) h k same = absurd (cc)
+one_dated words a b h k same = refl
+
+pub one_form : (words : Words) (a b : Command) → IsForm words a → IsForm words b → a ≡ b
+one_form words a b h k =
+    let told : Some (undated a) ≡ Some (undated b) = sym (tells words a h) ∙ tells words b k in
+    let same : undated a ≡ undated b = cc in
+    let date : dated a ≡ dated b = one_dated words a b (has_date words a h) (has_date words b k) same in
+    let both : Some a ≡ Some b =
+      sym (back_is a) ∙ ap (λ d. back d (undated a)) date ∙ ap (back (dated b)) same ∙ back_is b in
     cc
 
--- two names of commands
+-- words that begin with `crew` and aren't its form have no form
 
 unlike : (a b : List ℕ) → bytes_eq a b ≡ false → a ≡ b → ⊥
 unlike a b differ e =
@@ -26,187 +201,19 @@ unlike a b differ e =
     let both : true ≡ false = sym yes ∙ differ in
     absurd (cc)
 
-not_show_and_plan : (word : List ℕ) → word ≡ codes "show" → word ≡ codes "plan" → ⊥
-not_show_and_plan word e f = unlike (codes "show") (codes "plan") refl (sym e ∙ f)
-
-not_verify_and_check : (word : List ℕ) → word ≡ codes "verify" → word ≡ codes "check" → ⊥
-not_verify_and_check word e f = unlike (codes "verify") (codes "check") refl (sym e ∙ f)
-
-not_verify_and_reduce : (word : List ℕ) → word ≡ codes "verify" → word ≡ codes "reduce" → ⊥
-not_verify_and_reduce word e f = unlike (codes "verify") (codes "reduce") refl (sym e ∙ f)
-
-not_check_and_reduce : (word : List ℕ) → word ≡ codes "check" → word ≡ codes "reduce" → ⊥
-not_check_and_reduce word e f = unlike (codes "check") (codes "reduce") refl (sym e ∙ f)
-
-not_trial : (word other : List ℕ) → word ≡ codes "trial" → word ≡ other → bytes_eq (codes "trial") other ≡ false → ⊥
-not_trial word other e f differ = unlike (codes "trial") other differ (sym e ∙ f)
-
-same_number : (word : List ℕ) (m n : ℕ) → number_of word ≡ Some m → number_of word ≡ Some n → m ≡ n
-same_number word m n h k =
-    let both : Some m ≡ Some n = sym h ∙ k in
-    cc
-
-same_trial : (m n c d : ℕ) → m ≡ n → c ≡ d → Trial m c ≡ Trial n d
-same_trial m n c d e f = ap (λ k. Trial k c) e ∙ ap (Trial n) f
-
-not_check_and_crew : (word : List ℕ) → word ≡ codes "check" → word ≡ codes "crew" → ⊥
-not_check_and_crew word e f = unlike (codes "check") (codes "crew") refl (sym e ∙ f)
-
-same_first : (word : List ℕ) (date other : Date) → IsDateWord word date → IsDateWord word other → date ≡ other
-same_first word date other h k = one_date word date other h k
-
-same_crew : (d f : Date) (n m : ℕ) (e g : Option ℕ) → d ≡ f → n ≡ m → e ≡ g → Crew d n e ≡ Crew f m g
-same_crew d f n m e g first days employee = ap (λ c. Crew c n e) first ∙ ap (λ c. Crew f c e) days ∙ ap (λ c. Crew f m c) employee
-
-pub one_form : (words : Words) (a b : Command) → IsForm words a → IsForm words b → a ≡ b
-one_form [] a b h k = absurd (no_words a h)
-  where
-    no_words : (c : Command) → IsForm [] c → ⊥
-    no_words (Plan budget) h = h
-    no_words (Check workers) h = h
-    no_words Verify h = h
-    no_words Show h = h
-    no_words Reduce h = h
-    no_words (Trial number weeks) h = h
-    no_words (Crew date days employee) h = h
-one_form (v ∷ []) (Plan m) b h k = absurd h
-one_form (v ∷ []) (Check m) b h k = absurd h
-one_form (v ∷ []) Verify b h k = absurd h
-one_form (v ∷ []) Show b h k = absurd h
-one_form (v ∷ []) Reduce b h k = absurd h
-one_form (v ∷ []) (Trial n c) b h k = absurd h
-one_form (v ∷ []) (Crew d n e) b h k = absurd h
-one_form (v ∷ w ∷ []) Show Show h k = refl
-one_form (v ∷ w ∷ []) Show (Plan m) h k = absurd (not_show_and_plan (string_bytes v) h.0 k.0)
-one_form (v ∷ w ∷ []) (Plan m) Show h k = absurd (not_show_and_plan (string_bytes v) k.0 h.0)
-one_form (v ∷ w ∷ []) (Plan m) (Plan n) h k = ap Plan (h.2 ∙ sym k.2)
-one_form (v ∷ w ∷ []) Verify b h k = absurd h
-one_form (v ∷ w ∷ []) Reduce b h k = absurd h
-one_form (v ∷ w ∷ []) (Crew d n e) b h k = absurd h
-one_form (v ∷ w ∷ []) Show (Crew d n e) h k = absurd k
-one_form (v ∷ w ∷ []) (Plan m) (Crew d n e) h k = absurd k
-one_form (v ∷ w ∷ []) Show Reduce h k = absurd k
-one_form (v ∷ w ∷ []) (Plan m) Reduce h k = absurd k
-one_form (v ∷ w ∷ []) (Check m) b h k = absurd h
-one_form (v ∷ w ∷ []) (Trial n c) b h k = absurd h
-one_form (v ∷ w ∷ []) Show (Trial n c) h k = absurd k
-one_form (v ∷ w ∷ []) (Plan m) (Trial n c) h k = absurd k
-one_form (v ∷ w ∷ []) Show Verify h k = absurd k
-one_form (v ∷ w ∷ []) Show (Check m) h k = absurd k
-one_form (v ∷ w ∷ []) (Plan n) Verify h k = absurd k
-one_form (v ∷ w ∷ []) (Plan n) (Check m) h k = absurd k
-one_form (v ∷ w ∷ x ∷ []) Verify Verify h k = refl
-one_form (v ∷ w ∷ x ∷ []) Verify (Check m) h k = absurd (not_verify_and_check (string_bytes v) h.0 k.0)
-one_form (v ∷ w ∷ x ∷ []) (Check m) Verify h k = absurd (not_verify_and_check (string_bytes v) k.0 h.0)
-one_form (v ∷ w ∷ x ∷ []) (Check m) (Check n) h k = ap Check (h.3 ∙ sym k.3)
-one_form (v ∷ w ∷ x ∷ []) Reduce Reduce h k = refl
-one_form (v ∷ w ∷ x ∷ []) Reduce Verify h k = absurd (not_verify_and_reduce (string_bytes v) k.0 h.0)
-one_form (v ∷ w ∷ x ∷ []) Verify Reduce h k = absurd (not_verify_and_reduce (string_bytes v) h.0 k.0)
-one_form (v ∷ w ∷ x ∷ []) Reduce (Check m) h k = absurd (not_check_and_reduce (string_bytes v) k.0 h.0)
-one_form (v ∷ w ∷ x ∷ []) (Check m) Reduce h k = absurd (not_check_and_reduce (string_bytes v) h.0 k.0)
-one_form (v ∷ w ∷ x ∷ []) (Trial m c) (Trial n d) h k = same_trial m n c d (same_number (string_bytes w) m n h.1 k.1) (same_count (string_bytes x) most_weeks c d h.2 k.2)
-one_form (v ∷ w ∷ x ∷ []) (Trial n c) Verify h k = absurd (not_trial (string_bytes v) (codes "verify") h.0 k.0 refl)
-one_form (v ∷ w ∷ x ∷ []) (Trial n c) Reduce h k = absurd (not_trial (string_bytes v) (codes "reduce") h.0 k.0 refl)
-one_form (v ∷ w ∷ x ∷ []) (Trial n c) (Check m) h k = absurd (not_trial (string_bytes v) (codes "check") h.0 k.0 refl)
-one_form (v ∷ w ∷ x ∷ []) (Trial n c) Show h k = absurd k
-one_form (v ∷ w ∷ x ∷ []) (Trial n c) (Plan m) h k = absurd k
-one_form (v ∷ w ∷ x ∷ []) (Trial n c) (Crew d m e) h k = absurd k
-one_form (v ∷ w ∷ x ∷ []) Verify (Trial n c) h k = absurd (not_trial (string_bytes v) (codes "verify") k.0 h.0 refl)
-one_form (v ∷ w ∷ x ∷ []) Reduce (Trial n c) h k = absurd (not_trial (string_bytes v) (codes "reduce") k.0 h.0 refl)
-one_form (v ∷ w ∷ x ∷ []) (Check m) (Trial n c) h k = absurd (not_trial (string_bytes v) (codes "check") k.0 h.0 refl)
-one_form (v ∷ w ∷ x ∷ []) Reduce Show h k = absurd k
-one_form (v ∷ w ∷ x ∷ []) Reduce (Plan m) h k = absurd k
-one_form (v ∷ w ∷ x ∷ []) Show b h k = absurd h
-one_form (v ∷ w ∷ x ∷ []) (Crew d n e) b h k = absurd h
-one_form (v ∷ w ∷ x ∷ []) Verify (Crew d n e) h k = absurd k
-one_form (v ∷ w ∷ x ∷ []) (Check m) (Crew d n e) h k = absurd k
-one_form (v ∷ w ∷ x ∷ []) Reduce (Crew d n e) h k = absurd k
-one_form (v ∷ w ∷ x ∷ []) (Plan m) b h k = absurd h
-one_form (v ∷ w ∷ x ∷ []) Verify Show h k = absurd k
-one_form (v ∷ w ∷ x ∷ []) Verify (Plan m) h k = absurd k
-one_form (v ∷ w ∷ x ∷ []) (Check n) Show h k = absurd k
-one_form (v ∷ w ∷ x ∷ []) (Check n) (Plan m) h k = absurd k
-one_form (v ∷ w ∷ x ∷ y ∷ []) (Plan m) (Plan n) h k = ap Plan (same_count (string_bytes y) greatest_budget m n h.3 k.3)
-one_form (v ∷ w ∷ x ∷ y ∷ []) (Plan m) Show h k = absurd k
-one_form (v ∷ w ∷ x ∷ y ∷ []) (Plan m) Verify h k = absurd k
-one_form (v ∷ w ∷ x ∷ y ∷ []) (Plan m) (Check n) h k = absurd k
-one_form (v ∷ w ∷ x ∷ y ∷ []) (Plan m) Reduce h k = absurd k
-one_form (v ∷ w ∷ x ∷ y ∷ []) (Plan m) (Trial n c) h k = absurd k
-one_form (v ∷ w ∷ x ∷ y ∷ []) (Trial n c) b h k = absurd h
-one_form (v ∷ w ∷ x ∷ y ∷ []) Reduce b h k = absurd h
-one_form (v ∷ w ∷ x ∷ y ∷ []) (Crew d n e) b h k = absurd h
-one_form (v ∷ w ∷ x ∷ y ∷ []) (Plan m) (Crew d n e) h k = absurd k
-one_form (v ∷ w ∷ x ∷ y ∷ []) Show b h k = absurd h
-one_form (v ∷ w ∷ x ∷ y ∷ []) Verify b h k = absurd h
-one_form (v ∷ w ∷ x ∷ y ∷ []) (Check m) b h k = absurd h
-one_form (v ∷ w ∷ x ∷ y ∷ z ∷ []) (Check m) (Check n) h k = ap Check (same_count (string_bytes z) most_workers m n h.4 k.4)
-one_form (v ∷ w ∷ x ∷ y ∷ z ∷ []) (Check m) Show h k = absurd k
-one_form (v ∷ w ∷ x ∷ y ∷ z ∷ []) (Check m) Verify h k = absurd k
-one_form (v ∷ w ∷ x ∷ y ∷ z ∷ []) (Check m) (Plan n) h k = absurd k
-one_form (v ∷ w ∷ x ∷ y ∷ z ∷ []) (Check m) Reduce h k = absurd k
-one_form (v ∷ w ∷ x ∷ y ∷ z ∷ []) (Check m) (Trial n c) h k = absurd k
-one_form (v ∷ w ∷ x ∷ y ∷ z ∷ []) (Trial n c) b h k = absurd h
-one_form (v ∷ w ∷ x ∷ y ∷ z ∷ []) Reduce b h k = absurd h
-one_form (v ∷ w ∷ x ∷ y ∷ z ∷ []) (Check m) (Crew d n e) h k = absurd (not_check_and_crew (string_bytes v) h.0 k.0.0)
-one_form (v ∷ w ∷ x ∷ y ∷ z ∷ []) (Crew d n e) (Check m) h k = absurd (not_check_and_crew (string_bytes v) k.0 h.0.0)
-one_form (v ∷ w ∷ x ∷ y ∷ z ∷ []) (Crew d n e) (Crew f m g) h k = same_crew d f n m e g (same_first (string_bytes y) d f h.0.3 k.0.3) (same_count (string_bytes z) most_days n m h.0.4 k.0.4) (h.1 ∙ sym k.1)
-one_form (v ∷ w ∷ x ∷ y ∷ z ∷ []) (Crew d n e) Show h k = absurd k
-one_form (v ∷ w ∷ x ∷ y ∷ z ∷ []) (Crew d n e) (Trial m c) h k = absurd k
-one_form (v ∷ w ∷ x ∷ y ∷ z ∷ []) (Crew d n e) Verify h k = absurd k
-one_form (v ∷ w ∷ x ∷ y ∷ z ∷ []) (Crew d n e) Reduce h k = absurd k
-one_form (v ∷ w ∷ x ∷ y ∷ z ∷ []) (Crew d n e) (Plan m) h k = absurd k
-one_form (v ∷ w ∷ x ∷ y ∷ z ∷ []) Show b h k = absurd h
-one_form (v ∷ w ∷ x ∷ y ∷ z ∷ []) Verify b h k = absurd h
-one_form (v ∷ w ∷ x ∷ y ∷ z ∷ []) (Plan m) b h k = absurd h
-one_form (v ∷ w ∷ x ∷ y ∷ z ∷ u ∷ []) (Crew d n e) (Crew f m g) h k =
-    same_crew d f n m e g (same_first (string_bytes y) d f h.0.3 k.0.3) (same_count (string_bytes z) most_days n m h.0.4 k.0.4)
-    (h.1.2 ∙ ap Some (same_count (string_bytes u) most_employees h.1.0 k.1.0 h.1.1 k.1.1) ∙ sym k.1.2)
-one_form (v ∷ w ∷ x ∷ y ∷ z ∷ u ∷ []) (Crew d n e) (Plan m) h k = absurd k
-one_form (v ∷ w ∷ x ∷ y ∷ z ∷ u ∷ []) (Crew d n e) (Check m) h k = absurd k
-one_form (v ∷ w ∷ x ∷ y ∷ z ∷ u ∷ []) (Crew d n e) Verify h k = absurd k
-one_form (v ∷ w ∷ x ∷ y ∷ z ∷ u ∷ []) (Crew d n e) Reduce h k = absurd k
-one_form (v ∷ w ∷ x ∷ y ∷ z ∷ u ∷ []) (Crew d n e) Show h k = absurd k
-one_form (v ∷ w ∷ x ∷ y ∷ z ∷ u ∷ []) (Crew d n e) (Trial m c) h k = absurd k
-one_form (v ∷ w ∷ x ∷ y ∷ z ∷ u ∷ []) (Trial n c) b h k = absurd h
-one_form (v ∷ w ∷ x ∷ y ∷ z ∷ u ∷ []) (Plan m) b h k = absurd h
-one_form (v ∷ w ∷ x ∷ y ∷ z ∷ u ∷ []) (Check m) b h k = absurd h
-one_form (v ∷ w ∷ x ∷ y ∷ z ∷ u ∷ []) Verify b h k = absurd h
-one_form (v ∷ w ∷ x ∷ y ∷ z ∷ u ∷ []) Reduce b h k = absurd h
-one_form (v ∷ w ∷ x ∷ y ∷ z ∷ u ∷ []) Show b h k = absurd h
-one_form (v ∷ w ∷ x ∷ y ∷ z ∷ u ∷ t ∷ words) (Plan m) b h k = absurd h
-one_form (v ∷ w ∷ x ∷ y ∷ z ∷ u ∷ t ∷ words) (Check m) b h k = absurd h
-one_form (v ∷ w ∷ x ∷ y ∷ z ∷ u ∷ t ∷ words) Verify b h k = absurd h
-one_form (v ∷ w ∷ x ∷ y ∷ z ∷ u ∷ t ∷ words) Reduce b h k = absurd h
-one_form (v ∷ w ∷ x ∷ y ∷ z ∷ u ∷ t ∷ words) Show b h k = absurd h
-one_form (v ∷ w ∷ x ∷ y ∷ z ∷ u ∷ t ∷ words) (Trial n c) b h k = absurd h
-one_form (v ∷ w ∷ x ∷ y ∷ z ∷ u ∷ t ∷ words) (Crew d n e) b h k = absurd h
-
--- five words that begin with `crew` and aren't its form have no form
 pub no_crew : (v w x y z : String Global) → string_bytes v ≡ codes "crew" → ((first : Date) (n : ℕ) → IsCrewForm (string_bytes v) (string_bytes w) (string_bytes x) (string_bytes y) (string_bytes z) first n → ⊥) → HasNoForm (v ∷ w ∷ x ∷ y ∷ z ∷ [])
 no_crew v w x y z is none (Crew d n e) h = none d n h.0
-no_crew v w x y z is none (Check m) h = not_check_and_crew (string_bytes v) h.0 is
-no_crew v w x y z is none (Plan m) h = h
-no_crew v w x y z is none Verify h = h
-no_crew v w x y z is none Reduce h = h
-no_crew v w x y z is none Show h = h
-no_crew v w x y z is none (Trial n c) h = h
+no_crew v w x y z is none (Check m) h = unlike (codes "check") (codes "crew") refl (sym h.0 ∙ is)
+no_crew v w x y z is none c h = absurd h
 
--- six words that aren't a calendar's have no form
-pub no_crew_of_one : (v w x y z u : String Global) → ((first : Date) (n : ℕ) → IsCrewForm (string_bytes v) (string_bytes w) (string_bytes x) (string_bytes y) (string_bytes z) first n → ⊥) → HasNoForm (v ∷ w ∷ x ∷ y ∷ z ∷ u ∷ [])
-no_crew_of_one v w x y z u none (Crew d n e) h = none d n h.0
-no_crew_of_one v w x y z u none (Check m) h = h
-no_crew_of_one v w x y z u none (Plan m) h = h
-no_crew_of_one v w x y z u none Verify h = h
-no_crew_of_one v w x y z u none Reduce h = h
-no_crew_of_one v w x y z u none Show h = h
-no_crew_of_one v w x y z u none (Trial n c) h = h
+-- six words that aren't a calendar's and don't begin with `staff` have no form
+pub no_crew_of_one : (v w x y z u : String Global) → (string_bytes v ≡ codes "staff" → ⊥) → ((first : Date) (n : ℕ) → IsCrewForm (string_bytes v) (string_bytes w) (string_bytes x) (string_bytes y) (string_bytes z) first n → ⊥) → HasNoForm (v ∷ w ∷ x ∷ y ∷ z ∷ u ∷ [])
+no_crew_of_one v w x y z u other none (Crew d n e) h = none d n h.0
+no_crew_of_one v w x y z u other none (Staff l g b) h = other h.0.0
+no_crew_of_one v w x y z u other none c h = absurd h
 
 -- nor have six words whose last is no employee's number
-pub no_number : (v w x y z u : String Global) → ((e : ℕ) → IsCount (string_bytes u) most_employees e → ⊥) → HasNoForm (v ∷ w ∷ x ∷ y ∷ z ∷ u ∷ [])
-no_number v w x y z u none (Crew d n e) h = none h.1.0 h.1.1
-no_number v w x y z u none (Check m) h = h
-no_number v w x y z u none (Plan m) h = h
-no_number v w x y z u none Verify h = h
-no_number v w x y z u none Reduce h = h
-no_number v w x y z u none Show h = h
-no_number v w x y z u none (Trial n c) h = h
+pub no_number : (v w x y z u : String Global) → (string_bytes v ≡ codes "staff" → ⊥) → ((e : ℕ) → IsCount (string_bytes u) most_employees e → ⊥) → HasNoForm (v ∷ w ∷ x ∷ y ∷ z ∷ u ∷ [])
+no_number v w x y z u other none (Crew d n e) h = none h.1.0 h.1.1
+no_number v w x y z u other none (Staff l g b) h = other h.0.0
+no_number v w x y z u other none c h = absurd h

@@ -45,10 +45,7 @@ known_at P turn lines k p z h = leb-true z (shift_count P) (left_of (nat_le z (s
 escaping : (P : Instance) (D : Domains) (line : Line) (w : List Symbol) → ((p z : ℕ) → IsTrue (D p z) → z ≤ shift_count P) → Escapes P D line w → All (IsSymbol P) w
 escaping P D (Dead p len R) w known h = symbols_over P D known p w h.clean.over
 escaping P D (Bound p turns R y) w known h = symbols_over P D known p w h.0.heavy.clean.over
-escaping P D (Split p x) w known h = absurd h
-escaping P D (Window r p len) w known h = absurd h
-escaping P D (Day j x over) w known h = absurd h
-escaping P D Unfinished w known h = absurd h
+escaping P D line w known h = absurd h
 
 caused : (P : Instance) (front : Front) (bytes : List ℕ) (n : ℕ) (w : List Symbol) → Cause P front bytes (Refusals.Escape n w) → All (IsSymbol P) w
 caused P Start bytes n w h = absurd h
@@ -62,36 +59,14 @@ caused P (Reading g) bytes n w (inr h) =
 -- a refusal names symbols of the instance
 pub printable : (P : Instance) (bytes : List ℕ) (why : LogRefusal) → IsRefused P bytes why → HasSymbols P why
 printable P bytes (Refusals.Escape n w) h = caused P h.front h.line n w h.cause
-printable P bytes (Refusals.Form n) h = tt
-printable P bytes (Refusals.Name n) h = tt
-printable P bytes (Refusals.Unnamed n k) h = tt
-printable P bytes (Refusals.Idle n) h = tt
-printable P bytes (Refusals.Long n k) h = tt
-printable P bytes (Refusals.Fails n) h = tt
-printable P bytes (Refusals.Unfinished n) h = tt
-printable P bytes Refusals.Ends h = tt
-printable P bytes (Refusals.Extra n) h = tt
-printable P bytes (Refusals.Turn n) h = tt
+printable P bytes why h = tt
 
 -- what `plan` answers a search gives, and what it names is the instance's
 pub planned_is : (P : Instance) (budget : ℕ) (a : Answer) → IsPlanned P budget a → IsOfSearch a × IsPrintable P a
 planned_is P budget (Roster s) h = (tt, (h.0, h.1.is_roster))
 planned_is P budget (NoRoster g) h = (tt, h.0.grounded.fits)
 planned_is P budget (Undecided g) h = (tt, h.0.grounded.fits)
-planned_is P budget (Accepted R) h = absurd h
-planned_is P budget (LogRefused why) h = absurd h
-planned_is P budget (Reduced g) h = absurd h
-planned_is P budget Meets h = absurd h
-planned_is P budget Shown h = absurd h
-planned_is P budget (Breaks broken) h = absurd h
-planned_is P budget (RosterRefused why) h = absurd h
-planned_is P budget Usage h = absurd h
-planned_is P budget (Trial trial) h = absurd h
-planned_is P budget (FileRefused why) h = absurd h
-planned_is P budget (TooLong kind) h = absurd h
-planned_is P budget Crew h = absurd h
-planned_is P budget Horizon h = absurd h
-planned_is P budget (NoEmployee e) h = absurd h
+planned_is P budget a h = absurd h
 
 pub planned_printable : (P : Instance) (budget : ℕ) (a : Answer) → IsPlanned P budget a → IsPrintable P a
 planned_printable P budget a h = (planned_is P budget a h).1

@@ -1,5 +1,5 @@
 -- Two answers over the same files, compared part by part.
-use Rattle.std.proofs.Common.{◌≡◌, ℕ, List, ap, sym, ◌∙◌, refl, subst, inl, inr}
+use Rattle.std.proofs.Common.{◌≡◌, ℕ, List, ap, sym, ◌∙◌, refl, subst, inl, inr, arith}
 use Rattle.std.specs.Prelude.{◌≢◌, ◌⊎◌, [], Some, None}
 use Rattle.rwsp_io.specs.Told.{Told, Silent, Missing, Bytes}
 use Rattle.rwsp_terms.specs.Instance.{Instance}
@@ -14,12 +14,15 @@ use Rattle.rwsp.specs.Answers.{IsAnswerOn, IsAnswerTo, IsFileAnswer, IsSecondAns
 use Rattle.rwsp.specs.Texts.{text_of, HasFixedText, IsPrintable, IsCalendarOf, IsCalendarText, IsReplyText}
 use Rattle.rwsp.specs.Trials.{IsTrialAnswer, IsProblemOfTrial}
 use Rattle.problem_generator.proofs.OneProblem.{same_generated}
-use Rattle.rwsp.specs.Laws.{AnswersAreOne, TextsAreOne, ProblemsAreAnswered, RefutationsAreAccepted, AgreeInSearch, RostersMeet, ReductionsAreAccepted, WorkersMakeNoDifference}
+use Rattle.rwsp.specs.Laws.{AnswersAreOne, TextsAreOne, ProblemsAreAnswered, RefutationsAreAccepted, AgreeInSearch, RostersMeet, ReductionsAreAccepted, WorkersMakeNoDifference, StaffTextsAreAccepted}
 use Rattle.rwsp.specs.declared.command.Command.{Command}
-use Rattle.rwsp.specs.declared.command.Command.TheVariants.{Plan, Check, Verify, Reduce, Show, Trial, Crew as CrewCommand}
+use Rattle.rwsp.specs.declared.command.Command.TheVariants.{Plan, Check, Verify, Reduce, Show, Trial, Crew as CrewCommand, Staff as StaffCommand, CheckStaff}
 use Rattle.rwsp.specs.declared.answer.InputKind.TheVariants as Kinds
 use Rattle.rwsp.specs.declared.answer.Answer.{Answer}
-use Rattle.rwsp.specs.declared.answer.Answer.TheVariants.{Roster, NoRoster, Undecided, Accepted, LogRefused, Reduced, Meets, Shown, Breaks, RosterRefused, Trial as TrialOf, Usage, FileRefused, TooLong, Crew, Horizon, NoEmployee}
+use Rattle.rwsp.specs.declared.answer.Answer.TheVariants.{Roster, NoRoster, Undecided, Accepted, LogRefused, Reduced, Meets, Shown, Breaks, RosterRefused, Trial as TrialOf, Usage, FileRefused, TooLong, Crew, Horizon, NoEmployee, Staff, StaffRange, StaffAccepted, StaffRefused}
+use Rattle.rwsp.specs.Staffs.{IsStaffAnswer}
+use Rattle.crew_size.proofs.Decisions.{searches_agree, printed_runs_are_accepted, accepted_texts_decide}
+use Rattle.crew_size.specs.Sizes.{IsSize}
 use Rattle.rwsp.proofs.Logs.{accepted}
 use Rattle.rwsp.specs.Plans.{IsPlanned}
 use Rattle.rwsp_terms.specs.Roster.{MeetsAll}
@@ -58,68 +61,26 @@ planned_agree : (P : Instance) (budget : ℕ) (a b : Answer) → IsPlanned P bud
 planned_agree P budget (Roster s) (Roster t) h k = (tt, tt)
 planned_agree P budget (Roster s) (NoRoster e) h k = exclusive P s.cells e h.1 k.0
 planned_agree P budget (Roster s) (Undecided e) h k = (tt, tt)
-planned_agree P budget (Roster s) (Accepted R) h k = absurd k
-planned_agree P budget (Roster s) (LogRefused why) h k = absurd k
-planned_agree P budget (Roster s) (Reduced q) h k = absurd k
-planned_agree P budget (Roster s) Meets h k = absurd k
-planned_agree P budget (Roster s) Shown h k = absurd k
-planned_agree P budget (Roster s) (Breaks broken) h k = absurd k
-planned_agree P budget (Roster s) (RosterRefused why) h k = absurd k
-planned_agree P budget (Roster s) Usage h k = absurd k
-planned_agree P budget (Roster s) (TrialOf trial) h k = absurd k
-planned_agree P budget (Roster s) (FileRefused why) h k = absurd k
-planned_agree P budget (Roster s) (TooLong kind) h k = absurd k
-planned_agree P budget (Roster s) Crew h k = absurd k
-planned_agree P budget (Roster s) Horizon h k = absurd k
-planned_agree P budget (Roster s) (NoEmployee e) h k = absurd k
 planned_agree P budget (NoRoster g) (Roster t) h k = exclusive P t.cells g k.1 h.0
 planned_agree P budget (NoRoster g) (NoRoster e) h k = (tt, tt)
 planned_agree P budget (NoRoster g) (Undecided e) h k = (tt, tt)
-planned_agree P budget (NoRoster g) (Accepted R) h k = absurd k
-planned_agree P budget (NoRoster g) (LogRefused why) h k = absurd k
-planned_agree P budget (NoRoster g) (Reduced q) h k = absurd k
-planned_agree P budget (NoRoster g) Meets h k = absurd k
-planned_agree P budget (NoRoster g) Shown h k = absurd k
-planned_agree P budget (NoRoster g) (Breaks broken) h k = absurd k
-planned_agree P budget (NoRoster g) (RosterRefused why) h k = absurd k
-planned_agree P budget (NoRoster g) Usage h k = absurd k
-planned_agree P budget (NoRoster g) (TrialOf trial) h k = absurd k
-planned_agree P budget (NoRoster g) (FileRefused why) h k = absurd k
-planned_agree P budget (NoRoster g) (TooLong kind) h k = absurd k
-planned_agree P budget (NoRoster g) Crew h k = absurd k
-planned_agree P budget (NoRoster g) Horizon h k = absurd k
-planned_agree P budget (NoRoster g) (NoEmployee e) h k = absurd k
 planned_agree P budget (Undecided g) (Roster t) h k = (tt, tt)
 planned_agree P budget (Undecided g) (NoRoster e) h k = (tt, tt)
 planned_agree P budget (Undecided g) (Undecided e) h k = (tt, tt)
-planned_agree P budget (Undecided g) (Accepted R) h k = absurd k
-planned_agree P budget (Undecided g) (LogRefused why) h k = absurd k
-planned_agree P budget (Undecided g) (Reduced q) h k = absurd k
-planned_agree P budget (Undecided g) Meets h k = absurd k
-planned_agree P budget (Undecided g) Shown h k = absurd k
-planned_agree P budget (Undecided g) (Breaks broken) h k = absurd k
-planned_agree P budget (Undecided g) (RosterRefused why) h k = absurd k
-planned_agree P budget (Undecided g) Usage h k = absurd k
-planned_agree P budget (Undecided g) (TrialOf trial) h k = absurd k
-planned_agree P budget (Undecided g) (FileRefused why) h k = absurd k
-planned_agree P budget (Undecided g) (TooLong kind) h k = absurd k
-planned_agree P budget (Undecided g) Crew h k = absurd k
-planned_agree P budget (Undecided g) Horizon h k = absurd k
-planned_agree P budget (Undecided g) (NoEmployee e) h k = absurd k
-planned_agree P budget (Accepted R) b h k = absurd h
-planned_agree P budget (LogRefused why) b h k = absurd h
-planned_agree P budget (Reduced q) b h k = absurd h
-planned_agree P budget Meets b h k = absurd h
-planned_agree P budget Shown b h k = absurd h
-planned_agree P budget (Breaks broken) b h k = absurd h
-planned_agree P budget (RosterRefused why) b h k = absurd h
-planned_agree P budget Usage b h k = absurd h
-planned_agree P budget (TrialOf trial) b h k = absurd h
-planned_agree P budget (FileRefused why) b h k = absurd h
-planned_agree P budget (TooLong kind) b h k = absurd h
-planned_agree P budget Crew b h k = absurd h
-planned_agree P budget Horizon b h k = absurd h
-planned_agree P budget (NoEmployee e) b h k = absurd h
+planned_agree P budget (Roster s) b h k = absurd k
+planned_agree P budget (NoRoster g) b h k = absurd k
+planned_agree P budget (Undecided g) b h k = absurd k
+planned_agree P budget a b h k = absurd h
+
+-- two searches for the least crew
+staffs_agree : (P : Instance) (low high budget : ℕ) (a b : Answer) → IsStaffAnswer P low high budget a → IsStaffAnswer P low high budget b → (a ≡ b) ⊎ AgreeInSearch a b
+staffs_agree P low high budget (StaffRange m) (StaffRange n) h k = inl (ap StaffRange (h.0 ∙ sym k.0))
+staffs_agree P low high budget (StaffRange m) (Staff run) h k = let no : ⊥ = omega (arith, h.1, k.0) in absurd no
+staffs_agree P low high budget (Staff run) (StaffRange n) h k = let no : ⊥ = omega (arith, h.0, k.1) in absurd no
+staffs_agree P low high budget (Staff run) (Staff other) h k = inr (λ x y e f. searches_agree P low high budget budget run other x y h.1 k.1 e f)
+staffs_agree P low high budget (StaffRange m) b h k = absurd k
+staffs_agree P low high budget (Staff run) b h k = absurd k
+staffs_agree P low high budget a b h k = absurd h
 
 -- two answers to a command for an instance, over what the second file tells
 
@@ -135,6 +96,8 @@ one_on Reduce P told a b limits there h k = inl (told_second Reduce P told a b l
 one_on (CrewCommand date days employee) P told a b limits there h k = inl (told_second (CrewCommand date days employee) P told a b limits (there tt) h.1 k.1)
 one_on (Plan budget) P told a b limits there h k = inr (planned_agree P budget a b h k)
 one_on (Trial number weeks) P told a b limits there h k = absurd h.0
+one_on (StaffCommand low high budget) P told a b limits there h k = staffs_agree P low high budget a b h k
+one_on CheckStaff P told a b limits there h k = inl (told_second CheckStaff P told a b limits (there tt) h.1 k.1)
 
 -- two answers to a command over a file that is there
 
@@ -226,22 +189,15 @@ pub verified : RostersMeet
 verified file P budget (Roster s) a spells kind planned h =
     let roster = planned.1.is_roster in
     one_second Verify P (text_of P (Roster s)) a Meets (valid_keeps P spells.valid) h (printed_is_short P s.cells spells.valid roster, (s.cells, printed_is_spelled P s.cells spells.valid roster, planned.1))
-verified file P budget (NoRoster g) a spells kind planned h = absurd kind
-verified file P budget (Undecided g) a spells kind planned h = absurd kind
-verified file P budget (Accepted R) a spells kind planned h = absurd kind
-verified file P budget (LogRefused why) a spells kind planned h = absurd kind
-verified file P budget (Reduced g) a spells kind planned h = absurd kind
-verified file P budget Meets a spells kind planned h = absurd kind
-verified file P budget Shown a spells kind planned h = absurd kind
-verified file P budget (Breaks broken) a spells kind planned h = absurd kind
-verified file P budget (RosterRefused why) a spells kind planned h = absurd kind
-verified file P budget Usage a spells kind planned h = absurd kind
-verified file P budget (TrialOf trial) a spells kind planned h = absurd kind
-verified file P budget (FileRefused why) a spells kind planned h = absurd kind
-verified file P budget (TooLong which) a spells kind planned h = absurd kind
-verified file P budget Crew a spells kind planned h = absurd kind
-verified file P budget Horizon a spells kind planned h = absurd kind
-verified file P budget (NoEmployee e) a spells kind planned h = absurd kind
+verified file P budget answer a spells kind planned h = absurd kind
+
+-- what a search for the least crew writes is accepted where it decides
+pub staff_taken : StaffTextsAreAccepted
+staff_taken file P low high budget run staffed a spells sizes answer decides short h =
+    let limits = valid_keeps P spells.valid in
+    let fits : IsSize P high = record { some = omega (arith, sizes); few = sizes.2; few_cells = answer.0 } in
+    let accepted = printed_runs_are_accepted P low high budget run staffed limits sizes.0 sizes.1 fits answer.1 decides in
+    one_second CheckStaff P (text_of P (Staff run)) a (StaffAccepted staffed) limits h (short, accepted, accepted_texts_decide P (text_of P (Staff run)) staffed accepted)
 
 -- what a reduction leaves is accepted
 pub kept : ReductionsAreAccepted
@@ -266,12 +222,7 @@ any_instance = record { days = 0; weeks = 0; demand = []; shifts = []; off = rec
 right_text : (command : Command) (P : Instance) (s : List Symbol) (text other : List ℕ) → KeepsLimits P → IsCalendarOf command P s text → IsCalendarOf command P s other → text ≡ other
 right_text (CrewCommand date days None) P s text other limits h k = one_table P s date days text other h k
 right_text (CrewCommand date days (Some e)) P s text other limits h k = one_duties P s date days e text other limits h k
-right_text Verify P s text other limits h k = absurd h
-right_text (Check workers) P s text other limits h k = absurd h
-right_text Reduce P s text other limits h k = absurd h
-right_text (Plan budget) P s text other limits h k = absurd h
-right_text Show P s text other limits h k = absurd h
-right_text (Trial number weeks) P s text other limits h k = absurd h
+right_text a P s text other limits h k = absurd h
 
 told_text : (command : Command) (P : Instance) (told : Told) (text other : List ℕ) → KeepsLimits P → IsThere told → IsCalendarText command told P text → IsCalendarText command told P other → text ≡ other
 told_text command P told text other limits (inl e) h k = absurd (at_missing told (λ bytes. (s : List Symbol) × SpellsRoster P bytes s × IsCalendarOf command P s text) e h)
@@ -307,61 +258,16 @@ keeps_of held words P (inr f) h =
 
 trial_not_fixed : (a : Answer) (P : Instance) → HasFixedText a → IsProblemOfTrial a P → ⊥
 trial_not_fixed (TrialOf trial) P h k = h
-trial_not_fixed (Roster s) P h k = k
-trial_not_fixed (NoRoster g) P h k = k
-trial_not_fixed (Undecided g) P h k = k
-trial_not_fixed (Accepted R) P h k = k
-trial_not_fixed (LogRefused why) P h k = k
-trial_not_fixed (Reduced g) P h k = k
-trial_not_fixed Meets P h k = k
-trial_not_fixed Shown P h k = k
-trial_not_fixed (Breaks broken) P h k = k
-trial_not_fixed (RosterRefused why) P h k = k
-trial_not_fixed Usage P h k = k
-trial_not_fixed (FileRefused why) P h k = k
-trial_not_fixed (TooLong kind) P h k = k
-trial_not_fixed Crew P h k = k
-trial_not_fixed Horizon P h k = k
-trial_not_fixed (NoEmployee e) P h k = k
+trial_not_fixed a P h k = k
 
 trial_not_printable : (a : Answer) (P Q : Instance) → IsPrintable P a → IsProblemOfTrial a Q → ⊥
 trial_not_printable (TrialOf trial) P Q h k = h
-trial_not_printable (Roster s) P Q h k = k
-trial_not_printable (NoRoster g) P Q h k = k
-trial_not_printable (Undecided g) P Q h k = k
-trial_not_printable (Accepted R) P Q h k = k
-trial_not_printable (LogRefused why) P Q h k = k
-trial_not_printable (Reduced g) P Q h k = k
-trial_not_printable Meets P Q h k = k
-trial_not_printable Shown P Q h k = k
-trial_not_printable (Breaks broken) P Q h k = k
-trial_not_printable (RosterRefused why) P Q h k = k
-trial_not_printable Usage P Q h k = k
-trial_not_printable (FileRefused why) P Q h k = k
-trial_not_printable (TooLong kind) P Q h k = k
-trial_not_printable Crew P Q h k = k
-trial_not_printable Horizon P Q h k = k
-trial_not_printable (NoEmployee e) P Q h k = k
+trial_not_printable a P Q h k = k
 
 -- a trial has one problem
 one_of_trial : (a : Answer) (P Q : Instance) → IsProblemOfTrial a P → IsProblemOfTrial a Q → P ≡ Q
 one_of_trial (TrialOf trial) P Q h k = same_generated trial.number trial.weeks P Q h k
-one_of_trial (Roster s) P Q h k = absurd k
-one_of_trial (NoRoster g) P Q h k = absurd k
-one_of_trial (Undecided g) P Q h k = absurd k
-one_of_trial (Accepted R) P Q h k = absurd k
-one_of_trial (LogRefused why) P Q h k = absurd k
-one_of_trial (Reduced g) P Q h k = absurd k
-one_of_trial Meets P Q h k = absurd k
-one_of_trial Shown P Q h k = absurd k
-one_of_trial (Breaks broken) P Q h k = absurd k
-one_of_trial (RosterRefused why) P Q h k = absurd k
-one_of_trial Usage P Q h k = absurd k
-one_of_trial (FileRefused why) P Q h k = absurd k
-one_of_trial (TooLong kind) P Q h k = absurd k
-one_of_trial Crew P Q h k = absurd k
-one_of_trial Horizon P Q h k = absurd k
-one_of_trial (NoEmployee e) P Q h k = absurd k
+one_of_trial a P Q h k = absurd k
 
 -- a trial's text is no reply to a command that reads a problem's file
 trial_not_reply : (command : Command) (P Q : Instance) (told : Told) (a : Answer) (text : List ℕ) → IsReplyText command told P a text → IsProblemOfTrial a Q → ⊥

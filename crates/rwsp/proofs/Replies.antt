@@ -5,15 +5,16 @@ use Rattle.rwsp_terms.specs.Instance.{Instance}
 use Rattle.rwsp_file.specs.Spelling.{SpellsProblem}
 use Rattle.rwsp.specs.Commands.{Words, IsForm, ReadsProblem, ReadsSecond, IsWithinHorizon, problem_name, second_name}
 use Rattle.rwsp.specs.Inputs.{WhereTold, IsWithinLimit, OfProblem, IsProblemOf}
-use Rattle.rwsp.specs.Answers.{IsAnswer, IsAnswerOn, IsReadFault, IsOfCommand}
+use Rattle.rwsp.specs.Answers.{IsAnswer, IsAnswerOn, IsReadFault, IsOfCommand, IsOfStaff}
+use Rattle.rwsp.specs.Staffs.{IsStaffAnswer}
 use Rattle.rwsp.specs.Texts.{IsTextOf, IsTextOfTrial, IsReplyText}
 use Rattle.rwsp.specs.Trials.{IsTrial, IsTrialAnswer}
 use Rattle.rwsp.specs.declared.answer.TrialResult.{TrialResult}
 use Rattle.rwsp.specs.declared.command.Command.{Command}
-use Rattle.rwsp.specs.declared.command.Command.TheVariants.{Plan, Check, Verify, Reduce, Show, Trial, Crew as CrewCommand}
+use Rattle.rwsp.specs.declared.command.Command.TheVariants.{Plan, Check, Verify, Reduce, Show, Trial, Crew as CrewCommand, Staff as StaffCommand, CheckStaff}
 use Rattle.rwsp.specs.declared.answer.InputKind.TheVariants as Kinds
 use Rattle.rwsp.specs.declared.answer.Answer.{Answer}
-use Rattle.rwsp.specs.declared.answer.Answer.TheVariants.{Trial as TrialOf}
+use Rattle.rwsp.specs.declared.answer.Answer.TheVariants.{Trial as TrialOf, Staff, StaffRange}
 use Rattle.rwsp.proofs.Logs.{planned_is}
 
 told_weaker : (told : Told) (Q R : List ℕ → Type 0) → ((bytes : List ℕ) → Q bytes → R bytes) → WhereTold told Q → WhereTold told R
@@ -31,6 +32,11 @@ problem_of held words P h = told_weaker (held (problem_name words)) (λ file. Is
 of_problem : (held : List ℕ → Told) (words : Words) (P : Instance) (Q : Instance → Type 0) → IsRead held words P → Q P → OfProblem held words Q
 of_problem held words P Q h q = told_weaker (held (problem_name words)) (λ file. IsWithinLimit Kinds.Problem file × SpellsProblem file P) (λ file. IsWithinLimit Kinds.Problem file × ((P : Instance) × SpellsProblem file P × Q P)) (λ file k. (k.0, (P, k.1, q))) h
 
+staff_kind : (P : Instance) (low high budget : ℕ) (answer : Answer) → IsStaffAnswer P low high budget answer → IsOfStaff answer
+staff_kind P low high budget (Staff run) h = tt
+staff_kind P low high budget (StaffRange weeks) h = tt
+staff_kind P low high budget answer h = absurd h
+
 -- an answer that is right on a problem is one of the command's
 answer_kind : (command : Command) (told : Told) (P : Instance) (answer : Answer) → IsAnswerOn command told P answer → IsOfCommand command answer
 answer_kind Show told P answer h = h
@@ -40,6 +46,8 @@ answer_kind (Check workers) told P answer h = h.0
 answer_kind Reduce told P answer h = h.0
 answer_kind (Trial number weeks) told P answer h = h.0
 answer_kind (CrewCommand date days employee) told P answer h = h.0
+answer_kind (StaffCommand low high budget) told P answer h = staff_kind P low high budget answer h
+answer_kind CheckStaff told P answer h = h.0
 
 -- an answer on a problem that was read
 pub job_answer : (held : List ℕ → Told) (words : Words) (command : Command) (P : Instance) (answer : Answer) (told : Told) → IsForm words command → IsWithinHorizon command → ReadsProblem command → IsRead held words P → told ≡ held (second_name words) → IsAnswerOn command told P answer → IsAnswer held words answer

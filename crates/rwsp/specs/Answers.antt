@@ -17,11 +17,12 @@ use Rattle.rwsp.specs.Commands.{Words, IsForm, HasNoForm, ReadsProblem, ReadsSec
 use Rattle.rwsp.specs.Inputs.{WhereTold, IsWithinLimit, IsTooLong, OfProblem, HasProblem}
 use Rattle.rwsp.specs.Plans.{IsPlanned}
 use Rattle.rwsp.specs.Trials.{IsTrialAnswer}
+use Rattle.rwsp.specs.Staffs.{IsStaffAnswer, IsStaffVerdictOf}
 use Rattle.rwsp.specs.declared.command.Command.{Command}
-use Rattle.rwsp.specs.declared.command.Command.TheVariants.{Plan, Check, Verify, Reduce, Show, Trial, Crew as CrewCommand}
+use Rattle.rwsp.specs.declared.command.Command.TheVariants.{Plan, Check, Verify, Reduce, Show, Trial, Crew as CrewCommand, Staff as StaffCommand, CheckStaff}
 use Rattle.rwsp.specs.declared.answer.InputKind.TheVariants.{Problem, Roster, Log}
 use Rattle.rwsp.specs.declared.answer.Answer.{Answer}
-use Rattle.rwsp.specs.declared.answer.Answer.TheVariants.{Roster as Found, NoRoster, Undecided, Meets, Breaks, RosterRefused, Accepted, LogRefused, Reduced, Shown, Usage, FileRefused, TooLong, Crew, Horizon, NoEmployee}
+use Rattle.rwsp.specs.declared.answer.Answer.TheVariants.{Roster as Found, NoRoster, Undecided, Meets, Breaks, RosterRefused, Accepted, LogRefused, Reduced, Shown, Usage, FileRefused, TooLong, Crew, Horizon, NoEmployee, Staff, StaffRange, StaffAccepted, StaffRefused}
 
 -- what an answer says of the bytes of a problem file
 abbrev pub IsFileAnswer : Answer → List ℕ → Type 0
@@ -120,18 +121,33 @@ IsOfSearch (NoRoster g) = Unit {0}
 IsOfSearch (Undecided g) = Unit {0}
 IsOfSearch answer = ⊥
 
+-- an answer that a search for the least crew has
+abbrev pub IsOfStaff : Answer → Type 0
+IsOfStaff (Staff run) = Unit {0}
+IsOfStaff (StaffRange weeks) = Unit {0}
+IsOfStaff answer = ⊥
+
+-- an answer that a staff text has
+abbrev pub IsOfStaffText : Answer → Type 0
+IsOfStaffText (TooLong Log) = Unit {0}
+IsOfStaffText (StaffAccepted staffed) = Unit {0}
+IsOfStaffText (StaffRefused why) = Unit {0}
+IsOfStaffText answer = ⊥
+
 -- an answer that the second file of a command has
 abbrev pub IsOfSecond : Command → Answer → Type 0
 IsOfSecond Verify answer = IsOfRoster answer
 IsOfSecond (Check workers) answer = IsOfLog answer
 IsOfSecond Reduce answer = IsOfReduction answer
 IsOfSecond (CrewCommand date days employee) answer = IsOfCrew answer
+IsOfSecond CheckStaff answer = IsOfStaffText answer
 IsOfSecond command answer = ⊥
 
 -- an answer that a command has on a problem, whatever the files hold
 abbrev pub IsOfCommand : Command → Answer → Type 0
 IsOfCommand Show answer = answer ≡ Shown
 IsOfCommand (Plan budget) answer = IsOfSearch answer
+IsOfCommand (StaffCommand low high budget) answer = IsOfStaff answer
 IsOfCommand command answer = IsOfSecond command answer
 
 -- what the answer to a command says of an instance and the bytes of the second file
@@ -140,12 +156,14 @@ IsSecondAnswer Verify answer P bytes = IsRosterAnswer answer P bytes
 IsSecondAnswer (Check workers) answer P bytes = IsLogAnswer answer P bytes
 IsSecondAnswer Reduce answer P bytes = IsReduction answer P bytes
 IsSecondAnswer (CrewCommand date days employee) answer P bytes = IsCrewAnswer employee answer P bytes
+IsSecondAnswer CheckStaff answer P bytes = IsStaffVerdictOf answer P bytes
 IsSecondAnswer command answer P bytes = ⊥
 
 -- what the answer to a command says of the instance that the first file spells, and of what the second file tells
 abbrev pub IsAnswerOn : Command → Told → Instance → Answer → Type 0
 IsAnswerOn Show told P answer = answer ≡ Shown
 IsAnswerOn (Plan budget) told P answer = IsPlanned P budget answer
+IsAnswerOn (StaffCommand low high budget) told P answer = IsStaffAnswer P low high budget answer
 IsAnswerOn command told P answer = IsOfSecond command answer × WhereTold told (IsSecondAnswer command answer P)
 
 -- the problem's file ends the job, or the answer is one of the command's, and the file spells an instance where the command has it

@@ -1,12 +1,13 @@
 -- The command lines that are accepted.
-use Rattle.std.specs.Prelude.{◌≡◌, ◌≢◌, ℕ, ◌<◌, ◌≤◌, List, [], ◌∷◌, length, slice_index, slice_get, Option, Some, None, String, codes}
+use Rattle.std.specs.Prelude.{◌≡◌, ◌≢◌, ℕ, ◌+◌, ◌<◌, ◌≤◌, List, [], ◌∷◌, length, slice_index, slice_get, Option, Some, None, String, codes}
 use Rattle.std.specs.String.{string_bytes}
 use Rattle.std.specs.declared.alloc.Global.{Global}
+use Rattle.rwsp_terms.specs.declared.limits.TheConstants.{MOST_SIZES, USUAL_STAFF_BUDGET, GREATEST_STAFF_BUDGET}
 use Rattle.rwsp_text.specs.Numbers.{number_of}
 use Rattle.crew_calendar.specs.Calendar.{IsDateWord, Fits}
 use Rattle.jiff.specs.Types.{Date}
 use Rattle.rwsp.specs.declared.command.Command.{Command}
-use Rattle.rwsp.specs.declared.command.Command.TheVariants.{Plan, Check, Verify, Reduce, Show, Trial, Crew}
+use Rattle.rwsp.specs.declared.command.Command.TheVariants.{Plan, Check, Verify, Reduce, Show, Trial, Crew, Staff, CheckStaff}
 
 -- the words behind the program's name
 abbrev pub Words : Type 0
@@ -49,6 +50,12 @@ most_employees = 600
 abbrev pub IsCrewForm : (word file second date days : List ℕ) → (first : Date) → ℕ → Type 0
 IsCrewForm word file second date days first n = (word ≡ codes "crew") × IsFileWord file × IsFileWord second × IsDateWord date first × IsCount days most_days n
 
+-- crews of the first to the last number of weeks, of which there are not too many
+abbrev pub IsStaffForm : (word file low high : List ℕ) → (first last : ℕ) → Type 0
+IsStaffForm word file low high first last =
+    (word ≡ codes "staff") × IsFileWord file × IsCount low most_weeks first × IsCount high most_weeks last
+    × (first ≤ last) × (last < first + MOST_SIZES)
+
 -- the words are a form of the command
 abbrev pub IsForm : Words → Command → Type 0
 IsForm (word ∷ file ∷ []) Show = (string_bytes word ≡ codes "show") × IsFileWord (string_bytes file)
@@ -61,6 +68,12 @@ IsForm (word ∷ file ∷ option ∷ number ∷ []) (Plan budget) = (string_byte
 IsForm (word ∷ file ∷ second ∷ option ∷ number ∷ []) (Check workers) = (string_bytes word ≡ codes "check") × IsFileWord (string_bytes file) × IsFileWord (string_bytes second) × (string_bytes option ≡ codes "--workers") × IsCount (string_bytes number) most_workers workers
 IsForm (word ∷ file ∷ second ∷ date ∷ days ∷ []) (Crew first n employee) = IsCrewForm (string_bytes word) (string_bytes file) (string_bytes second) (string_bytes date) (string_bytes days) first n × (employee ≡ None)
 IsForm (word ∷ file ∷ second ∷ date ∷ days ∷ number ∷ []) (Crew first n employee) = IsCrewForm (string_bytes word) (string_bytes file) (string_bytes second) (string_bytes date) (string_bytes days) first n × ((e : ℕ) × IsCount (string_bytes number) most_employees e × (employee ≡ Some e))
+IsForm (word ∷ file ∷ low ∷ high ∷ []) (Staff first last budget) =
+    IsStaffForm (string_bytes word) (string_bytes file) (string_bytes low) (string_bytes high) first last × (budget ≡ USUAL_STAFF_BUDGET)
+IsForm (word ∷ file ∷ low ∷ high ∷ option ∷ number ∷ []) (Staff first last budget) =
+    IsStaffForm (string_bytes word) (string_bytes file) (string_bytes low) (string_bytes high) first last
+    × (string_bytes option ≡ codes "--budget") × IsCount (string_bytes number) GREATEST_STAFF_BUDGET budget
+IsForm (word ∷ file ∷ second ∷ []) CheckStaff = (string_bytes word ≡ codes "check-staff") × IsFileWord (string_bytes file) × IsFileWord (string_bytes second)
 IsForm words command = ⊥
 
 -- the words are a form of no command
@@ -78,6 +91,7 @@ ReadsSecond Verify = Unit {0}
 ReadsSecond Reduce = Unit {0}
 ReadsSecond (Check workers) = Unit {0}
 ReadsSecond (Crew date days employee) = Unit {0}
+ReadsSecond CheckStaff = Unit {0}
 ReadsSecond command = ⊥
 
 -- the workers of the command, where it has some, are from one to the most that may be

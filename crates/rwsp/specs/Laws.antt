@@ -1,5 +1,5 @@
 -- What answers fit a command line over files that are told.
-use Rattle.std.specs.Prelude.{◌≡◌, ◌≢◌, ◌⊎◌, ℕ, List}
+use Rattle.std.specs.Prelude.{◌≡◌, ◌≢◌, ◌⊎◌, ℕ, ◌≤◌, List, Some}
 use Rattle.rwsp_io.specs.Told.{Told, Silent, Bytes}
 use Rattle.rwsp_terms.specs.Instance.{Instance}
 use Rattle.rwsp_file.specs.Spelling.{SpellsProblem}
@@ -13,7 +13,12 @@ use Rattle.rwsp.specs.declared.command.Command.{Command}
 use Rattle.rwsp.specs.declared.command.Command.TheVariants.{Check}
 use Rattle.rwsp.specs.declared.answer.InputKind.TheVariants as Kinds
 use Rattle.rwsp.specs.declared.answer.Answer.{Answer}
-use Rattle.rwsp.specs.declared.answer.Answer.TheVariants.{Roster, NoRoster, Accepted, Reduced, Meets, Trial, Crew}
+use Rattle.rwsp.specs.declared.answer.Answer.TheVariants.{Roster, NoRoster, Accepted, Reduced, Meets, Trial, Crew, Staff, StaffAccepted}
+use Rattle.crew_size.specs.Texts.{Staff as StaffRun}
+use Rattle.rwsp.specs.Staffs.{IsStaffAnswer, IsStaffVerdictOf}
+use Rattle.rwsp_terms.specs.declared.limits.TheConstants.{MOST_WEEKS}
+use Rattle.crew_size.specs.Laws.{decision_of}
+use Rattle.crew_size.specs.declared.verdict.Staffed.{Staffed}
 
 -- the shelf tells what the problem's file holds, or that it isn't there, where the words are a form of a command that reads one; and so
 -- for the second file
@@ -22,11 +27,12 @@ AreTold held words =
     ((command : Command) → IsForm words command → ReadsProblem command → held (problem_name words) ≢ Silent)
     × ((command : Command) → IsForm words command → ReadsSecond command → held (second_name words) ≢ Silent)
 
--- two answers of a search that may both fit: a roster and a refutation never do, and trials are of one problem
+-- two answers of a search that may both fit: a roster and a refutation never do, trials are of one problem, and two searches of sizes that decide say the same
 abbrev pub AgreeInSearch : Answer → Answer → Type 0
 AgreeInSearch (Roster s) (NoRoster g) = ⊥
 AgreeInSearch (NoRoster g) (Roster s) = ⊥
 AgreeInSearch (Trial a) (Trial b) = (a.number ≡ b.number) × (a.weeks ≡ b.weeks)
+AgreeInSearch (Staff a) (Staff b) = (x y : Staffed) → decision_of a ≡ Some x → decision_of b ≡ Some y → x ≡ y
 AgreeInSearch a b = IsOfSearch a × IsOfSearch b
 
 -- two answers to the same words over the same files are equal, or both are what a search gives, and not a roster beside a refutation
@@ -75,6 +81,14 @@ ReductionsAreAccepted =
     (file : List ℕ) (P : Instance) (bytes : List ℕ) (h : Log) (a : Answer)
     → SpellsProblem file P → IsReduction (Reduced h) P bytes → IsWithinLimit Kinds.Log (text_of P (Reduced h)) → IsLogAnswer a P (text_of P (Reduced h))
     → a ≡ Accepted h.named
+
+-- the text of what `staff` writes with a least crew, or with none up to the last size, is accepted by `check-staff`, with what it decides
+abbrev pub StaffTextsAreAccepted : Type 0
+StaffTextsAreAccepted =
+    (file : List ℕ) (P : Instance) (low high budget : ℕ) (run : StaffRun) (staffed : Staffed) (a : Answer)
+    → SpellsProblem file P → (1 ≤ low) × (low ≤ high) × (high ≤ MOST_WEEKS) → IsStaffAnswer P low high budget (Staff run) → decision_of run ≡ Some staffed
+    → IsWithinLimit Kinds.Log (text_of P (Staff run)) → IsStaffVerdictOf a P (text_of P (Staff run))
+    → a ≡ StaffAccepted staffed
 
 -- the number of workers makes no difference to what is said of an answer
 abbrev pub WorkersMakeNoDifference : Type 0

@@ -2,6 +2,7 @@ pub mod Commands
 pub mod Inputs
 pub mod Plans
 pub mod Trials
+pub mod Staffs
 pub mod Answers
 pub mod Exits
 pub mod Texts

@@ -1,9 +1,17 @@
 -- The status of each outcome.
 use Rattle.std.specs.Prelude.{ℕ}
 use Rattle.rwsp.specs.declared.answer.Answer.{Answer}
-use Rattle.rwsp.specs.declared.answer.Answer.TheVariants.{Roster, NoRoster, Undecided, Accepted, LogRefused, Reduced, Meets, Shown, Breaks, RosterRefused, Trial, Usage, FileRefused, TooLong, Crew, Horizon, NoEmployee}
+use Rattle.rwsp.specs.declared.answer.Answer.TheVariants.{Roster, NoRoster, Undecided, Accepted, LogRefused, Reduced, Meets, Shown, Breaks, RosterRefused, Trial, Usage, FileRefused, TooLong, Crew, Horizon, NoEmployee, Staff, StaffRange, StaffAccepted, StaffRefused}
+use Rattle.crew_size.specs.declared.run.StaffEnd.{StaffEnd}
+use Rattle.crew_size.specs.declared.run.StaffEnd.TheVariants as Ends
 use Rattle.rwsp.specs.declared.answer.Outcome.{Outcome}
 use Rattle.rwsp.specs.declared.answer.Outcome.TheVariants.{Done, ReadFault, WriteFault, Memory}
+
+-- where the sizes of a crew ended with a roster, with none for any of them, or undecided
+abbrev pub end_status : StaffEnd → ℕ
+end_status (Ends.Least s) = 0
+end_status Ends.NoneTo = 1
+end_status (Ends.Undecided g) = 4
 
 abbrev pub status_of_answer : Answer → ℕ
 status_of_answer (Roster s) = 0
@@ -23,6 +31,10 @@ status_of_answer (NoEmployee employee) = 3
 status_of_answer (Undecided g) = 4
 status_of_answer (LogRefused why) = 5
 status_of_answer (Breaks broken) = 5
+status_of_answer (Staff run) = end_status run.end
+status_of_answer (StaffRange weeks) = 3
+status_of_answer (StaffAccepted staffed) = 0
+status_of_answer (StaffRefused why) = 5
 
 -- what the program ends with
 abbrev pub status_of : Outcome → ℕ

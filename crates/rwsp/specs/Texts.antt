@@ -25,6 +25,12 @@ use Rattle.problem_generator.specs.Generated.{IsGenerated}
 use Rattle.roster_search.specs.declared.found.Found.{Found}
 use Rattle.roster_search.specs.declared.found.Found.TheVariants as Founds
 use Rattle.crew_calendar.specs.Texts.{IsTable, AreDuties}
+use Rattle.crew_size.specs.Texts.{staff_text}
+use Rattle.crew_size.specs.Runs.{FitsSizes}
+use Rattle.crew_size.specs.declared.verdict.Staffed.{Staffed}
+use Rattle.crew_size.specs.declared.verdict.Staffed.TheVariants as Decided
+use Rattle.crew_size.specs.declared.verdict.StaffRefusal.{StaffRefusal}
+use Rattle.crew_size.specs.declared.verdict.StaffRefusal.TheVariants as Failures
 use Rattle.rwsp.specs.Commands.{Words, IsForm, second_name}
 use Rattle.rwsp.specs.Inputs.{WhereTold, IsProblemOf}
 use Rattle.rwsp.specs.Trials.{IsProblemOfTrial}
@@ -34,7 +40,7 @@ use Rattle.rwsp.specs.declared.answer.InputKind.{InputKind}
 use Rattle.rwsp.specs.declared.answer.InputKind.TheVariants as Kinds
 use Rattle.rwsp.specs.declared.answer.TrialResult.{TrialResult}
 use Rattle.rwsp.specs.declared.answer.Answer.{Answer}
-use Rattle.rwsp.specs.declared.answer.Answer.TheVariants.{Roster, NoRoster, Undecided, Accepted, LogRefused, Reduced, Meets, Shown, Breaks, RosterRefused, Trial, Usage, FileRefused, TooLong, Crew, Horizon, NoEmployee}
+use Rattle.rwsp.specs.declared.answer.Answer.TheVariants.{Roster, NoRoster, Undecided, Accepted, LogRefused, Reduced, Meets, Shown, Breaks, RosterRefused, Trial, Usage, FileRefused, TooLong, Crew, Horizon, NoEmployee, Staff, StaffRange, StaffAccepted, StaffRefused}
 
 -- the text and a line feed
 abbrev pub line : List ℕ → List ℕ
@@ -91,8 +97,25 @@ broken_text P (Some rule) broken = rule_text P rule ++ place_text rule broken
 abbrev pub breaks_text : Instance → Broken → List ℕ
 breaks_text P broken = codes "breaks rule " ++ decimal broken.rule ++ codes " " ++ broken_text P (rule_of P broken.rule) broken
 
+-- what an accepted staff text decides
+abbrev pub staffed_text : Staffed → List ℕ
+staffed_text (Decided.Least low m) = codes "accepted: least " ++ decimal m ++ codes " from " ++ decimal low
+staffed_text (Decided.NoneTo low last) = codes "accepted: none " ++ decimal low ++ codes " to " ++ decimal last
+
+-- a failure at a number of weeks
+abbrev pub at_weeks : ℕ → List ℕ → List ℕ
+at_weeks m text = codes "staff refused: weeks " ++ decimal m ++ codes " " ++ text
+
+-- the first failure of a staff text. Rules and symbols have the same numbers and names whatever the number of weeks
+abbrev pub staff_refusal_text : Instance → StaffRefusal → List ℕ
+staff_refusal_text P (Failures.Form number) = at_line (codes "staff refused: form") number
+staff_refusal_text P (Failures.Log m why) = at_weeks m (log_refusal_text P why)
+staff_refusal_text P (Failures.Roster m why) = at_weeks m (roster_refusal_text why)
+staff_refusal_text P (Failures.Breaks m broken) = at_weeks m (breaks_text P broken)
+staff_refusal_text P Failures.Ends = codes "staff refused: ends"
+
 abbrev pub usage_text : List ℕ
-usage_text = codes "usage: rwsp plan FILE [--budget B] | check FILE LOG [--workers N] | verify FILE ROSTER | reduce FILE LOG | show FILE | trial NUMBER WEEKS | crew FILE ROSTER DATE DAYS [EMPLOYEE]"
+usage_text = codes "usage: rwsp plan FILE [--budget B] | check FILE LOG [--workers N] | verify FILE ROSTER | reduce FILE LOG | show FILE | trial NUMBER WEEKS | crew FILE ROSTER DATE DAYS [EMPLOYEE] | staff FILE LOW HIGH [--budget B] | check-staff FILE TEXT"
 
 abbrev pub kind_text : InputKind → List ℕ
 kind_text Kinds.Problem = codes "too long: problem"
@@ -139,11 +162,14 @@ HasFixedText (Breaks broken) = ⊥
 HasFixedText Shown = ⊥
 HasFixedText (Trial trial) = ⊥
 HasFixedText Crew = ⊥
+HasFixedText (Staff run) = ⊥
+HasFixedText (StaffRefused why) = ⊥
 HasFixedText answer = Unit {0}
 
 -- the same, and it lists nothing
 abbrev pub HasFixedLine : Answer → Type 0
 HasFixedLine (Accepted R) = ⊥
+HasFixedLine (RosterRefused why) = ⊥
 HasFixedLine answer = HasFixedText answer
 
 -- the text of an answer, for the instance that the problem's file spells, or that of a trial. A calendar's text is of more than the instance
@@ -164,12 +190,26 @@ text_of P (FileRefused why) = line (file_refusal_text why)
 text_of P (TooLong kind) = line (kind_text kind)
 text_of P Horizon = line (codes "horizon refused")
 text_of P (NoEmployee e) = line (codes "no employee " ++ decimal e)
+text_of P (Staff run) = staff_text P run
+text_of P (StaffRange weeks) = line (codes "staff range: weeks " ++ decimal weeks)
+text_of P (StaffAccepted staffed) = line (staffed_text staffed)
+text_of P (StaffRefused why) = line (staff_refusal_text P why)
 text_of P Crew = []
 
 -- a word that escapes has symbols of the instance
 abbrev pub HasSymbols : Instance → LogRefusal → Type 0
 HasSymbols P (Refusals.Escape number w) = All (IsSymbol P) w
 HasSymbols P why = Unit {0}
+
+-- a rule that is broken is one of the instance's
+abbrev pub HasBroken : Instance → Broken → Type 0
+HasBroken P broken = (r : Rule) × (rule_of P broken.rule ≡ Some r)
+
+-- what a failure of a staff text names is the instance's
+abbrev pub NamesItsOwn : Instance → StaffRefusal → Type 0
+NamesItsOwn P (Failures.Log m why) = HasSymbols P why
+NamesItsOwn P (Failures.Breaks m broken) = HasBroken P broken
+NamesItsOwn P why = Unit {0}
 
 -- what an answer names is the instance's. A calendar is of more than the instance, and a trial of no file's instance
 abbrev pub IsPrintable : Instance → Answer → Type 0
@@ -178,7 +218,9 @@ IsPrintable P (NoRoster g) = Fits P g
 IsPrintable P (Undecided g) = Fits P g
 IsPrintable P (LogRefused why) = HasSymbols P why
 IsPrintable P (Reduced g) = Fits P g
-IsPrintable P (Breaks broken) = (r : Rule) × (rule_of P broken.rule ≡ Some r)
+IsPrintable P (Breaks broken) = HasBroken P broken
+IsPrintable P (Staff run) = FitsSizes P run
+IsPrintable P (StaffRefused why) = NamesItsOwn P why
 IsPrintable P (Trial trial) = ⊥
 IsPrintable P Crew = ⊥
 IsPrintable P answer = Unit {0}

@@ -1,6 +1,8 @@
 // What a run ends with.
 ghost use Rattle.std.specs.Prelude.{◌≡◌};
+ghost use Rattle.rwsp.specs.Status.{end_status};
 
+use crew_size::{StaffEnd, StaffRefusal, StaffRun, Staffed};
 use refutation_log::{Log, LogRefusal};
 use roster_checker::Broken;
 use roster_print::RosterRefusal;
@@ -62,6 +64,14 @@ pub enum Answer {
     Horizon,
     /// The problem has no employee with this number.
     NoEmployee(u32),
+    /// The least crew, or that there is none up to the last size, or how far the search came.
+    Staff(StaffRun),
+    /// The problem would have too many cells with this number of weeks.
+    StaffRange(u32),
+    /// The text of such a search is right: what it decides.
+    StaffAccepted(Staffed),
+    /// The second file is no such text: its first failure.
+    StaffRefused(StaffRefusal),
 }
 
 /// Why there is no answer.
@@ -125,9 +135,22 @@ impl Answer {
             Answer::NoRoster(_) => 1,
             Answer::Usage => 2,
             Answer::FileRefused(_) | Answer::RosterRefused(_) | Answer::TooLong(_) => 3,
-            Answer::Horizon | Answer::NoEmployee(_) => 3,
+            Answer::Horizon | Answer::NoEmployee(_) | Answer::StaffRange(_) => 3,
             Answer::Undecided(_) => 4,
-            Answer::LogRefused(_) | Answer::Breaks(_) => 5,
+            Answer::LogRefused(_) | Answer::Breaks(_) | Answer::StaffRefused(_) => 5,
+            Answer::StaffAccepted(_) => 0,
+            Answer::Staff(run) => end_status(run.end()),
         }
+    }
+}
+
+// The status where the sizes of a crew ended so.
+fn end_status(end: &StaffEnd) -> u8
+    ensures { result ≡ end_status end.now }
+{
+    match end {
+        StaffEnd::Least(_) => 0,
+        StaffEnd::NoneTo => 1,
+        StaffEnd::Undecided(_) => 4,
     }
 }

@@ -2,10 +2,11 @@
 ghost use Rattle.std.specs.Prelude.{◌≡◌, ◌≢◌, codes, ℕ, ◌<◌, ◌↔◌, [], ◌∷◌, length, IsTrue, MatchOption, slice_get};
 ghost use Rattle.std.specs.String.{string_bytes};
 ghost use Rattle.jiff.specs.Types.{Date as PlainDate};
-ghost use Rattle.rwsp.specs.Commands.{IsFileWord, IsCount, IsForm, IsCrewForm, HasNoForm, HasFewDays, IsWithinHorizon, word_bytes};
+ghost use Rattle.rwsp.specs.Commands.{IsFileWord, IsCount, IsForm, IsCrewForm, IsStaffForm, HasNoForm, HasFewDays, IsWithinHorizon, word_bytes};
 
 use crew_calendar::{date_of, fits};
 use jiff::civil::Date;
+use rwsp_terms::limits::{GREATEST_STAFF_BUDGET, MOST_SIZES, USUAL_STAFF_BUDGET};
 use rwsp_text::number;
 
 /// What is to be done. The names of files are words of their own.
@@ -36,6 +37,15 @@ pub enum Command {
         days: u32,
         employee: Option<u32>,
     },
+    /// The least number of weeks, from the first to the last, for which the problem has a roster; for each lesser
+    /// one a log of at most so many lines.
+    Staff {
+        low: u32,
+        high: u32,
+        budget: u32,
+    },
+    /// Whether what `staff` wrote is right.
+    CheckStaff,
 }
 
 /// The budget of `plan` where none is given, and the greatest.
@@ -78,10 +88,10 @@ pub fn command_of(words: &Vec<String>) -> Option<Command>
     match words.as_slice() {
         [word, file] => on_one_file(word, file),
         [word, first, second] => on_three_words(word, first, second),
-        [word, file, option, number] => plan_by_option(word, file, option, number),
+        [word, file, third, fourth] => on_four_words(word, file, third, fourth),
         [word, file, second, option, number] => on_five_words(word, file, second, option, number),
-        [word, file, second, date, days, number] => {
-            crew_of_one(word, file, second, date, days, number)
+        [word, file, third, fourth, fifth, number] => {
+            on_six_words(word, file, third, fourth, fifth, number)
         }
         _ => None,
     }
@@ -145,13 +155,57 @@ fn on_two_files(word: &String, file: &String, second: &String) -> Option<Command
         Some(Command::Check {
             workers: USUAL_WORKERS,
         })
+    } else if word.as_str() == "check-staff" {
+        Some(Command::CheckStaff)
     } else {
         None
     }
 }
 
+// `plan` with a budget, or `staff` without one.
+fn on_four_words(word: &String, file: &String, third: &String, fourth: &String) -> Option<Command>
+    ensures { MatchOption result (HasNoForm (word.now ∷ file.now ∷ third.now ∷ fourth.now ∷ [])) (IsForm (word.now ∷ file.now ∷ third.now ∷ fourth.now ∷ [])) }
+{
+    if word.as_str() == "staff" {
+        return staff_of(word, file, third, fourth);
+    }
+    plan_by_option(word, file, third, fourth)
+}
+
+// The first and the last number of weeks of a `staff`.
+fn sizes_of(word: &String, file: &String, low: &String, high: &String) -> Option<(u32, u32)>
+    ensures { MatchOption result ((l h : ℕ) → IsStaffForm (string_bytes word.now) (string_bytes file.now) (string_bytes low.now) (string_bytes high.now) l h → ⊥) (λ both. IsStaffForm (string_bytes word.now) (string_bytes file.now) (string_bytes low.now) (string_bytes high.now) both.0 both.1) }
+{
+    if word.as_str() != "staff" {
+        return None;
+    }
+    if !is_file_word(file.as_str()) {
+        return None;
+    }
+    let low = count_in(low.as_str(), MOST_WEEKS)?;
+    let high = count_in(high.as_str(), MOST_WEEKS)?;
+    if high < low || high >= low + MOST_SIZES {
+        return None;
+    }
+    Some((low, high))
+}
+
+// `staff` with the usual budget.
+fn staff_of(word: &String, file: &String, low: &String, high: &String) -> Option<Command>
+    requires { string_bytes word.now ≡ codes "staff" }
+    ensures { MatchOption result (HasNoForm (word.now ∷ file.now ∷ low.now ∷ high.now ∷ [])) (IsForm (word.now ∷ file.now ∷ low.now ∷ high.now ∷ [])) }
+{
+    let (low, high) = sizes_of(word, file, low, high)?;
+    Some(Command::Staff {
+        low,
+        high,
+        budget: USUAL_STAFF_BUDGET,
+    })
+}
+
 // `plan` with a budget.
 fn plan_by_option(word: &String, file: &String, option: &String, number: &String) -> Option<Command>
+    requires { string_bytes word.now ≢ codes "staff" }
     ensures { MatchOption result (HasNoForm (word.now ∷ file.now ∷ option.now ∷ number.now ∷ [])) (IsForm (word.now ∷ file.now ∷ option.now ∷ number.now ∷ [])) }
 {
     if word.as_str() != "plan" {
@@ -235,6 +289,7 @@ fn crew_of_one(
     days: &String,
     number: &String,
 ) -> Option<Command>
+    requires { string_bytes word.now ≢ codes "staff" }
     ensures { MatchOption result (HasNoForm (word.now ∷ file.now ∷ second.now ∷ date.now ∷ days.now ∷ number.now ∷ [])) (IsForm (word.now ∷ file.now ∷ second.now ∷ date.now ∷ days.now ∷ number.now ∷ [])) }
 {
     let (date, days) = dates_of(word, file, second, date, days)?;
@@ -244,6 +299,43 @@ fn crew_of_one(
         days,
         employee: Some(employee),
     })
+}
+
+// `crew` for one employee, or `staff` with a budget.
+fn on_six_words(
+    word: &String,
+    file: &String,
+    third: &String,
+    fourth: &String,
+    fifth: &String,
+    number: &String,
+) -> Option<Command>
+    ensures { MatchOption result (HasNoForm (word.now ∷ file.now ∷ third.now ∷ fourth.now ∷ fifth.now ∷ number.now ∷ [])) (IsForm (word.now ∷ file.now ∷ third.now ∷ fourth.now ∷ fifth.now ∷ number.now ∷ [])) }
+{
+    if word.as_str() == "staff" {
+        return staff_by_option(word, file, third, fourth, fifth, number);
+    }
+    crew_of_one(word, file, third, fourth, fifth, number)
+}
+
+// `staff` with a budget.
+fn staff_by_option(
+    word: &String,
+    file: &String,
+    low: &String,
+    high: &String,
+    option: &String,
+    number: &String,
+) -> Option<Command>
+    requires { string_bytes word.now ≡ codes "staff" }
+    ensures { MatchOption result (HasNoForm (word.now ∷ file.now ∷ low.now ∷ high.now ∷ option.now ∷ number.now ∷ [])) (IsForm (word.now ∷ file.now ∷ low.now ∷ high.now ∷ option.now ∷ number.now ∷ [])) }
+{
+    let (low, high) = sizes_of(word, file, low, high)?;
+    if option.as_str() != "--budget" {
+        return None;
+    }
+    let budget = count_in(number.as_str(), GREATEST_STAFF_BUDGET)?;
+    Some(Command::Staff { low, high, budget })
 }
 
 /// Whether a calendar that the command asks for ends by 9999-12-31, with all duties.

@@ -1,5 +1,5 @@
 // Laws of the definitions. Each function's contract is the law.
-ghost use Rattle.rwsp.specs.Laws.{AnswersAreOne, TextsAreOne, ProblemsAreAnswered, RefutationsAreAccepted, RostersMeet, ReductionsAreAccepted, WorkersMakeNoDifference};
+ghost use Rattle.rwsp.specs.Laws.{AnswersAreOne, TextsAreOne, ProblemsAreAnswered, RefutationsAreAccepted, RostersMeet, ReductionsAreAccepted, StaffTextsAreAccepted, WorkersMakeNoDifference};
 
 /// What is said of each answer fits no other answer, but for those that a search is free to choose. So an answer comes exactly
 /// where what is said of it is so: no other can come but want of memory, and a fault that the counts show.
@@ -31,6 +31,11 @@ pub fn rosters_meet()
 /// What `reduce` writes is accepted by `check` over the same file.
 pub fn reductions_are_accepted()
     ensures { ReductionsAreAccepted }
+{}
+
+/// What `staff` writes with a least crew, or with none up to the last size, is accepted by `check-staff` over the same file.
+pub fn staff_texts_are_accepted()
+    ensures { StaffTextsAreAccepted }
 {}
 
 /// The answer of `check` is the same for every number of workers.

@@ -42,8 +42,8 @@ pub fn accepted_line(alloc: Global, rules: &RuleList) -> Result<Vec<u8>, AllocEr
     Ok(out)
 }
 
-// Appends the number of the line to a label.
-fn put_line_number(out: &mut Vec<u8>, label: &[u8], number: u32) -> Result<(), AllocError>
+/// Appends the number of the line to a label.
+pub fn put_line_number(out: &mut Vec<u8>, label: &[u8], number: u32) -> Result<(), AllocError>
     ensures { OnOk result (out.new.items ≡ out.old.items ++ at_line label.now number) }
 {
     out.extend_from_slice(label)?;
@@ -58,8 +58,8 @@ fn put_rule_line(out: &mut Vec<u8>, label: &[u8], rule: u32, number: u32) -> Res
     put_labelled(out, b" line ".as_slice(), number)
 }
 
-// Appends the refusal without its LF.
-fn put_refusal(out: &mut Vec<u8>, problem: &Problem, why: &LogRefusal) -> Result<(), AllocError>
+/// Appends the refusal without its LF.
+pub fn put_refusal(out: &mut Vec<u8>, problem: &Problem, why: &LogRefusal) -> Result<(), AllocError>
     requires { HasSymbols problem.now why.now }
     ensures { OnOk result (out.new.items ≡ out.old.items ++ log_refusal_text problem.now why.now) }
 {

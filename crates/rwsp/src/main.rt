@@ -12,6 +12,8 @@ mod plan;
 mod reduce;
 mod run;
 mod second;
+mod staff;
+mod staff_text;
 #[cfg(test)]
 mod tests;
 mod text;

@@ -16,6 +16,7 @@ use crate::crew::crew_reply;
 use crate::input::{Exit, problem_in};
 use crate::plan::planned;
 use crate::second::second_answer;
+use crate::staff::staffed;
 use crate::text::{fixed_text, text_on};
 use crate::trial::run_trial;
 use potential_bounds::Gate;
@@ -181,6 +182,9 @@ fn answer_on<R: Threads + Sync, S: Shelf, G: Gate>(
     match command {
         Command::Plan { budget } => plan(rt, alloc, problem, budget, gate),
         Command::Show => Ok(Answer::Shown),
+        Command::Staff { low, high, budget } => {
+            Ok(staffed(rt, alloc, problem, low, high, budget, gate)?)
+        }
         _ => second_answer(rt, alloc, shelf, problem, word_at(words, 2), command, gate),
     }
 }

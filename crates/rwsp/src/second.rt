@@ -12,6 +12,7 @@ use crate::check::log_verdict;
 use crate::command::Command;
 use crate::input::{Exit, bytes_in};
 use crate::reduce::reduction;
+use crate::staff::staff_verdict;
 use crate::verify::roster_verdict;
 use potential_bounds::Gate;
 use rwsp_io::Shelf;
@@ -77,6 +78,7 @@ fn verdict<R: Threads + Sync, G: Gate>(
         Command::Verify => roster_verdict(alloc, problem, bytes),
         Command::Check { workers } => log_verdict(rt, alloc, problem, bytes, workers, gate),
         Command::Reduce => reduction(rt, alloc, problem, bytes, gate),
+        Command::CheckStaff => staff_verdict(rt, alloc, problem, bytes, gate),
         _ => unreachable!(),
     }
 }

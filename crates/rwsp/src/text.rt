@@ -2,10 +2,12 @@
 ghost use Rattle.std.specs.Prelude.{◌≡◌, ◌++◌, IfOk, OnOk};
 ghost use Rattle.std.specs.String.{string_bytes};
 ghost use Rattle.rwsp_terms.specs.Instance.{Instance};
-ghost use Rattle.rwsp.specs.Texts.{text_of, place_text, line, file_refusal_text, roster_refusal_text, HasFixedText, HasFixedLine, IsPrintable};
+ghost use Rattle.rwsp.specs.Texts.{text_of, place_text, line, file_refusal_text, roster_refusal_text, breaks_text, HasBroken, HasFixedText, HasFixedLine, IsPrintable};
 
 use crate::answer::{Answer, InputKind};
-use crate::log_text::{accepted_line, log_refusal_line, put_labelled};
+use crate::log_text::{accepted_line, log_refusal_line, put_labelled, put_line_number};
+use crate::staff_text::{staff_refusal_line, staffed_line};
+use crew_size::print_staff;
 use refutation_log::print_log;
 use roster_checker::Broken;
 use roster_print::{RosterRefusal, print_roster, put_rule};
@@ -14,7 +16,7 @@ use rwsp_model::{Problem, Rule, rule_at};
 use std::alloc::{AllocError, Global};
 
 const USAGE: &str =
-    "usage: rwsp plan FILE [--budget B] | check FILE LOG [--workers N] | verify FILE ROSTER | reduce FILE LOG | show FILE | trial NUMBER WEEKS | crew FILE ROSTER DATE DAYS [EMPLOYEE]\n";
+    "usage: rwsp plan FILE [--budget B] | check FILE LOG [--workers N] | verify FILE ROSTER | reduce FILE LOG | show FILE | trial NUMBER WEEKS | crew FILE ROSTER DATE DAYS [EMPLOYEE] | staff FILE LOW HIGH [--budget B] | check-staff FILE TEXT\n";
 
 #[tactic(auto, using(crate::proofs::Appends::regroup))]
 fn range_line(alloc: Global, number: u32, limit: u32) -> Result<String, AllocError>
@@ -37,14 +39,24 @@ fn file_refusal_line(alloc: Global, refusal: FileRefusal) -> Result<String, Allo
     }
 }
 
-fn roster_refusal_line(alloc: Global, refusal: RosterRefusal) -> Result<String, AllocError>
-    ensures { IfOk result (λ t. string_bytes t ≡ line (roster_refusal_text refusal)) }
+/// Appends the refusal without its LF.
+pub fn put_roster_refusal(out: &mut Vec<u8>, refusal: RosterRefusal) -> Result<(), AllocError>
+    ensures { OnOk result (out.new.items ≡ out.old.items ++ roster_refusal_text refusal) }
 {
     match refusal {
-        RosterRefusal::Unknown(line) => format!(in alloc; "roster refused: unknown line {line}\n"),
-        RosterRefusal::Width(line) => format!(in alloc; "roster refused: width line {line}\n"),
-        RosterRefusal::Weeks(count) => format!(in alloc; "roster refused: weeks {count}\n"),
+        RosterRefusal::Unknown(n) => put_line_number(out, b"roster refused: unknown".as_slice(), n),
+        RosterRefusal::Width(n) => put_line_number(out, b"roster refused: width".as_slice(), n),
+        RosterRefusal::Weeks(count) => put_labelled(out, b"roster refused: weeks ".as_slice(), count),
     }
+}
+
+fn roster_refusal_line(alloc: Global, refusal: RosterRefusal) -> Result<Vec<u8>, AllocError>
+    ensures { IfOk result (λ v. v.items ≡ line (roster_refusal_text refusal)) }
+{
+    let mut out = Vec::new(alloc);
+    put_roster_refusal(&mut out, refusal)?;
+    out.push(b'\n')?;
+    Ok(out)
 }
 
 /// The text of an answer that is the same for every problem.
@@ -54,6 +66,9 @@ pub fn fixed_text(alloc: Global, answer: &Answer) -> Result<Vec<u8>, AllocError>
 {
     if let Answer::Accepted(rules) = answer {
         return accepted_line(alloc, rules);
+    }
+    if let Answer::RosterRefused(refusal) = answer {
+        return roster_refusal_line(alloc, *refusal);
     }
     let text = fixed_line(alloc, answer)?;
     Vec::from_slice(alloc, text.as_bytes())
@@ -71,8 +86,9 @@ fn fixed_line(alloc: Global, answer: &Answer) -> Result<String, AllocError>
         Answer::TooLong(InputKind::Log) => String::from_str(alloc, "too long: log\n"),
         Answer::Horizon => String::from_str(alloc, "horizon refused\n"),
         Answer::NoEmployee(employee) => format!(in alloc; "no employee {employee}\n"),
+        Answer::StaffRange(weeks) => format!(in alloc; "staff range: weeks {weeks}\n"),
+        Answer::StaffAccepted(staffed) => staffed_line(alloc, *staffed),
         Answer::FileRefused(refusal) => file_refusal_line(alloc, *refusal),
-        Answer::RosterRefused(refusal) => roster_refusal_line(alloc, *refusal),
         _ => unreachable!(),
     }
 }
@@ -89,17 +105,25 @@ fn put_place(out: &mut Vec<u8>, rule: Rule, broken: &Broken) -> Result<(), Alloc
     put_labelled(out, b" length ".as_slice(), broken.length)
 }
 
-/// The text of a broken rule.
-fn breaks_text(alloc: Global, problem: &Problem, broken: &Broken) -> Result<Vec<u8>, AllocError>
-    requires { IsPrintable problem.now (Answer.Breaks broken.now) }
-    ensures { IfOk result (λ v. v.items ≡ text_of problem.now (Answer.Breaks broken.now)) }
+/// Appends the broken rule and its place, without an LF.
+pub fn put_breaks(out: &mut Vec<u8>, problem: &Problem, broken: &Broken) -> Result<(), AllocError>
+    requires { HasBroken problem.now broken.now }
+    ensures { OnOk result (out.new.items ≡ out.old.items ++ breaks_text problem.now broken.now) }
 {
-    let mut out = Vec::new(alloc);
-    put_labelled(&mut out, b"breaks rule ".as_slice(), broken.rule)?;
+    put_labelled(out, b"breaks rule ".as_slice(), broken.rule)?;
     out.extend_from_slice(b" ".as_slice())?;
     let rule = rule_at(problem, broken.rule);
-    put_rule(&mut out, problem, rule)?;
-    put_place(&mut out, rule, broken)?;
+    put_rule(out, problem, rule)?;
+    put_place(out, rule, broken)
+}
+
+// The line of a broken rule.
+fn breaks_line(alloc: Global, problem: &Problem, broken: &Broken) -> Result<Vec<u8>, AllocError>
+    requires { HasBroken problem.now broken.now }
+    ensures { IfOk result (λ v. v.items ≡ line (breaks_text problem.now broken.now)) }
+{
+    let mut out = Vec::new(alloc);
+    put_breaks(&mut out, problem, broken)?;
     out.push(b'\n')?;
     Ok(out)
 }
@@ -115,9 +139,11 @@ pub fn text_on(alloc: Global, problem: &Problem, answer: &Answer) -> Result<Vec<
         Answer::Undecided(log) => print_log(alloc, problem, log),
         Answer::LogRefused(why) => log_refusal_line(alloc, problem, why),
         Answer::Reduced(log) => print_log(alloc, problem, log),
-        Answer::Breaks(broken) => breaks_text(alloc, problem, broken),
+        Answer::Breaks(broken) => breaks_line(alloc, problem, broken),
         Answer::Trial(_) => unreachable!(),
         Answer::Shown => print_problem(alloc, problem),
+        Answer::Staff(run) => print_staff(alloc, problem, run),
+        Answer::StaffRefused(why) => staff_refusal_line(alloc, problem, why),
         _ => fixed_text(alloc, answer),
     }
 }

@@ -55,3 +55,12 @@ pub const USUAL_WORKERS: u32 = 4;
 
 /// The most workers of a check.
 pub const MOST_WORKERS: u32 = 64;
+
+/// The most sizes of a crew that one run of `staff` goes through.
+pub const MOST_SIZES: u32 = 64;
+
+/// The lines of each size's log where `staff` is given no budget.
+pub const USUAL_STAFF_BUDGET: u32 = 2_000;
+
+/// The greatest budget of `staff`, in lines of each size's log.
+pub const GREATEST_STAFF_BUDGET: u32 = 10_000;
