@@ -1,6 +1,0 @@
-pub mod Sizes
-pub mod Texts
-pub mod Runs
-pub mod Sections
-pub mod Verdict
-pub mod Laws
