@@ -1,8 +1,9 @@
-ghost use Rattle.std.specs.Prelude.{◌≡◌, ◌↔◌, ℕ, ◌<◌, ◌≤◌, ◌≤ℤ◌, pos, negsuc, [], length, slice_index_or, AllPairs, IsTrue, MatchResult, IfOk, OnOk, OnErr};
+ghost use Rattle.std.specs.Prelude.{◌≡◌, ◌↔◌, ℕ, ◌<◌, ◌≤◌, ◌≤ℤ◌, pos, neg_ℤ, [], length, slice_index_or, AllPairs, IsTrue, MatchResult, IfOk, OnOk, OnErr};
 ghost use Rattle.rwsp_terms.specs.Weights.{AreWeights, ComesBefore, weight_at};
 ghost use Rattle.rwsp_terms.specs.Places.{EntryStands, EntryBelongs, Precedes, is_at, SetsWeight};
 ghost use Rattle.rwsp_terms.specs.declared.data.Weight.{Weight};
 
+use crate::limits::GREATEST_WEIGHT;
 use crate::{Symbol, Weight};
 use std::alloc::{AllocError, Global};
 use std::marker::Model;
@@ -68,8 +69,8 @@ impl Weights {
 
     /// Sets what the symbol weighs on the day; 0 takes its entry out.
     pub fn put(&mut self, day: u32, x: Symbol, value: i32) -> Result<(), AllocError>
-        requires low { negsuc 999 ≤ℤ value }
-        requires high { value ≤ℤ pos 1000 }
+        requires low { neg_ℤ (pos GREATEST_WEIGHT) ≤ℤ value }
+        requires high { value ≤ℤ pos GREATEST_WEIGHT }
         ensures weights { AreWeights self.new }
         ensures sets { OnOk result (SetsWeight self.old self.new day x.number value) }
         ensures kept { OnErr result (self.new ≡ self.old) }
@@ -146,7 +147,7 @@ fn place_of_entry(entries: &[Weight], day: u32, x: Symbol) -> Result<usize, usiz
 fn change_entry(entries: &mut Vec<Weight>, place: usize, entry: Weight)
     requires weights { AreWeights entries.old.items }
     requires place { EntryStands entries.old.items entry.day entry.symbol.number place }
-    requires value { (negsuc 999 ≤ℤ entry.value) × (entry.value ≤ℤ pos 1000) }
+    requires value { (neg_ℤ (pos GREATEST_WEIGHT) ≤ℤ entry.value) × (entry.value ≤ℤ pos GREATEST_WEIGHT) }
     ensures { SetsWeight entries.old.items entries.new.items entry.day entry.symbol.number entry.value }
 {
     if entry.value == 0 {
@@ -159,7 +160,7 @@ fn change_entry(entries: &mut Vec<Weight>, place: usize, entry: Weight)
 fn add_entry(entries: &mut Vec<Weight>, place: usize, entry: Weight) -> Result<(), AllocError>
     requires weights { AreWeights entries.old.items }
     requires place { EntryBelongs entries.old.items entry.day entry.symbol.number place }
-    requires value { (negsuc 999 ≤ℤ entry.value) × (entry.value ≤ℤ pos 1000) }
+    requires value { (neg_ℤ (pos GREATEST_WEIGHT) ≤ℤ entry.value) × (entry.value ≤ℤ pos GREATEST_WEIGHT) }
     ensures sets { OnOk result (SetsWeight entries.old.items entries.new.items entry.day entry.symbol.number entry.value) }
     ensures kept { OnErr result (entries.new.items ≡ entries.old.items) }
 {
