@@ -4,6 +4,7 @@ use Rattle.rwsp_terms.specs.declared.data.Weight.{Weight}
 use Rattle.rwsp_terms.specs.declared.data.Rule.{Rule}
 use Rattle.rwsp_terms.specs.declared.data.Rule.TheVariants as TheRules
 use Rattle.std.specs.List.Sorted.{IsStrictlyIncreasing}
+use Rattle.rwsp_terms.specs.declared.limits.TheConstants.{LONGEST_WORD}
 use Rattle.rwsp_terms.specs.Instance.{Instance, cells, least, IsSymbol, IsDay}
 use Rattle.rwsp_terms.specs.Rules.{rules, Names, NamesShortOnly}
 use Rattle.rwsp_terms.specs.Weights.{weight_at, AreWeights}
@@ -22,7 +23,7 @@ pub record Log : Type 0 where
 
 -- the lengths of words that a leaf may speak of
 abbrev pub IsLength : ℕ → Type 0
-IsLength len = (0 < len) × (len ≤ 16800)
+IsLength len = (0 < len) × (len ≤ LONGEST_WORD)
 
 -- ascending numbers of rules of the problem
 abbrev pub AreRules : Instance → List ℕ → Type 0

@@ -1,8 +1,9 @@
 -- The text of a log, and which line a text spells.
-use Rattle.std.specs.Prelude.{◌≡◌, ◌≢◌, ℕ, ◌+◌, ◌*◌, ◌/◌, ◌%◌, ◌<◌, ◌≤◌, List, [], ◌∷◌, ◌++◌, length, map, All, AllPairs, Bool, true, false, Option, Some, None, IfSome, ℤ, pos, negsuc, ◌≤ℤ◌, codes}
+use Rattle.std.specs.Prelude.{◌≡◌, ◌≢◌, ℕ, ◌+◌, ◌*◌, ◌/◌, ◌%◌, ◌<◌, ◌≤◌, List, [], ◌∷◌, ◌++◌, length, map, All, AllPairs, Bool, true, false, Option, Some, None, IfSome, ℤ, pos, neg_ℤ, ◌≤ℤ◌, codes}
 use Rattle.std.specs.List.{join_with_byte, concat, flat_map}
 use Rattle.std.specs.Fmt.{decimal, signed_decimal}
 use Rattle.std.specs.Option.{option_map}
+use Rattle.rwsp_terms.specs.declared.limits.TheConstants.{GREATEST_WEIGHT}
 use Rattle.rwsp_terms.specs.declared.data.Symbol.{Symbol}
 use Rattle.rwsp_terms.specs.declared.data.Weight.{Weight}
 use Rattle.rwsp_terms.specs.Instance.{Instance, cells, IsDay, symbol_of, name_of}
@@ -102,9 +103,9 @@ pub record IsName (name : List ℕ) : Type 0 where
   pub some : 0 < length name
   pub visible : All (λ b. (b ≢ 32) × (b ≢ 9) × (b ≢ 13) × (b ≢ 10)) name
 
--- a value from -1000 to 1000 that isn't 0, on a day of the problem
+-- a value that isn't 0, from the least weight to the greatest, on a day of the problem
 abbrev pub WeightIsInRange : Instance → NamedWeight → Type 0
-WeightIsInRange P e = IsDay P e.day × IsName e.name × (negsuc 999 ≤ℤ e.value) × (e.value ≤ℤ pos 1000) × (e.value ≢ pos 0)
+WeightIsInRange P e = IsDay P e.day × IsName e.name × (neg_ℤ (pos GREATEST_WEIGHT) ≤ℤ e.value) × (e.value ≤ℤ pos GREATEST_WEIGHT) × (e.value ≢ pos 0)
 
 -- the numbers of a written line are in their ranges, its lists of rules ascend, and its names are names
 abbrev pub IsInRange : Instance → RawLine → Type 0
