@@ -10,6 +10,7 @@ use crate::Mark;
 use crate::change::Change;
 use crate::symbol_set::SymbolSet;
 use rwsp_model::{Problem, Roster, Symbol};
+use rwsp_terms::limits::{MOST_CELLS, MOST_SHIFTS, MOST_SYMBOLS};
 use std::alloc::{AllocError, Global};
 use std::marker::Model;
 use std::mem;
@@ -114,7 +115,7 @@ impl Domains {
     /// The number of shifts, which is the number of the last symbol.
     pub fn shifts(&self) -> u8
         ensures value { result ≡ self.now.shifts }
-        ensures few { result ≤ 8 }
+        ensures few { result ≤ MOST_SHIFTS }
     {
         self.facts();
         self.shifts
@@ -124,7 +125,7 @@ impl Domains {
     pub fn cells(&self) -> u32
         ensures value { result ≡ self.now.weeks * self.now.days }
         ensures positions { result ≡ length self.now.sets }
-        ensures few { result ≤ 4200 }
+        ensures few { result ≤ MOST_CELLS }
     {
         self.facts();
         self.weeks * self.days
@@ -152,7 +153,7 @@ impl Domains {
         requires { p < length self.now.sets }
         ensures value { result ≡ length (domain_at self.now p) }
         ensures some { 1 ≤ result }
-        ensures few { result ≤ 9 }
+        ensures few { result ≤ MOST_SYMBOLS }
     {
         self.facts();
         let set = &self.sets[p as usize];
@@ -314,7 +315,7 @@ fn note(trail: &mut Vec<Change>, change: Change)
 // All symbols up to the last shift, for each cell.
 #[tactic(auto, using(std::proofs::lemmas::List::replicate_more))]
 fn full_sets(alloc: Global, cells: u32, shifts: u8) -> Result<Vec<SymbolSet>, AllocError>
-    requires { shifts ≤ 8 }
+    requires { shifts ≤ MOST_SHIFTS }
     ensures { IfOk result (λ v. v.items ≡ replicate cells (range_with_len 0 (shifts + 1))) }
 {
     let mut sets = Vec::with_capacity(alloc, cells as usize)?;
