@@ -7,7 +7,8 @@ use Rattle.rwsp_terms.specs.Instance.{Instance, name_of}
 use Rattle.rwsp_terms.specs.declared.data.Symbol.{Symbol}
 use Rattle.rwsp_terms.specs.declared.data.ShiftRow.{ShiftRow}
 use Rattle.crew_calendar.specs.Crew.{employees, symbol_on}
-use Rattle.crew_calendar.specs.Calendar.{IsCalendar, most_days_later}
+use Rattle.crew_calendar.specs.declared.calendar.TheConstants.{MOST_DAYS_LATER}
+use Rattle.crew_calendar.specs.Calendar.{IsCalendar}
 
 -- the names of the symbols of all employees on a day, each after a blank
 abbrev pub crew_text : Instance → List Symbol → ℕ → List ℕ
@@ -73,11 +74,11 @@ duties_text P s on e days = flat_map (duty_line P s on e) (range_with_len 0 days
 -- the text is the table of so many days from the date on
 pub record IsTable (P : Instance) (s : List Symbol) (date : Date) (days : ℕ) (text : List ℕ) : Type 0 where
   pub on : ℕ → Date
-  pub calendar : IsCalendar date (days + most_days_later) on
+  pub calendar : IsCalendar date (days + MOST_DAYS_LATER) on
   pub is : text ≡ table_text P s on days
 
 -- the text is the employee's duties on so many days from the date on
 pub record AreDuties (P : Instance) (s : List Symbol) (date : Date) (days employee : ℕ) (text : List ℕ) : Type 0 where
   pub on : ℕ → Date
-  pub calendar : IsCalendar date (days + most_days_later) on
+  pub calendar : IsCalendar date (days + MOST_DAYS_LATER) on
   pub is : text ≡ duties_text P s on employee days

@@ -8,9 +8,10 @@ ghost use Rattle.crew_calendar.specs.Texts.{crew_text, IsTable};
 ghost use Rattle.crew_calendar.specs.Facts.{IsStaffed, FollowsCycle, IsClean, GoesRound};
 
 use crate::calendar::date_after;
-use crate::places::{MOST_DAYS, symbol_on};
+use crate::places::symbol_on;
 use jiff::civil::Date;
 use rwsp_model::{Problem, Roster, Symbol};
+use rwsp_terms::limits::LONGEST_CALENDAR;
 use std::alloc::{AllocError, Global};
 
 /// Appends a date.
@@ -38,7 +39,7 @@ fn put_crew(
     t: u32,
 ) -> Result<(), AllocError>
     requires roster { IsRoster problem.now cells.now }
-    requires day { t < MOST_DAYS }
+    requires day { t < LONGEST_CALENDAR }
     ensures { OnOk result (out.new.items ≡ out.old.items ++ crew_text problem.now cells.now t) }
 {
     for employee in 1..problem.weeks() + 1 {
@@ -56,7 +57,7 @@ fn put_day(
     t: u32,
 ) -> Result<(), AllocError>
     requires roster { IsRoster problem.now cells.now }
-    requires day { t < MOST_DAYS }
+    requires day { t < LONGEST_CALENDAR }
     ensures { OnOk result (out.new.items
         ≡ out.old.items ++ (date_text date ++ crew_text problem.now cells.now t ++ 10 ∷ [])) }
 {
@@ -75,7 +76,7 @@ fn day_lines(
     days: u32,
 ) -> Result<Vec<u8>, AllocError>
     requires roster { IsRoster problem.now cells.now }
-    requires days { days ≤ MOST_DAYS }
+    requires days { days ≤ LONGEST_CALENDAR }
     requires fits { Fits date days }
     ensures { IfOk result (λ text. IsTable problem.now cells.now date days text.items) }
 {
@@ -96,7 +97,7 @@ pub fn crew_table(
     days: u32,
 ) -> Result<Vec<u8>, AllocError>
     requires roster { IsRoster problem.now roster.now.cells }
-    requires days { days ≤ MOST_DAYS }
+    requires days { days ≤ LONGEST_CALENDAR }
     requires fits { Fits date days }
     ensures table { IfOk result (λ text. IsTable problem.now roster.now.cells date days text.items) }
 

@@ -7,6 +7,7 @@ ghost use Rattle.domain_store.specs.Store.{Store, domain_at, has_domain, Belongs
 use crate::recount::{alone, held, recount};
 use domain_store::{Domains, SymbolSet};
 use rwsp_model::{Problem, Symbol};
+use rwsp_terms::limits::{MOST_SHIFTS, MOST_SYMBOLS, MOST_WEEKS};
 use std::alloc::{AllocError, Global};
 use std::marker::Model;
 use std::mem;
@@ -21,7 +22,7 @@ pub struct Counts {
     weeks: u32,
     shifts: u8,
     sets: Vec<SymbolSet>,
-    // nine counters for each day, one for each symbol that may be
+    // `MOST_SYMBOLS` counters for each day, one for each symbol that may be
     fixed: Vec<u32>,
     possible: Vec<u32>,
 }
@@ -82,9 +83,9 @@ impl Counts {
         ensures kept { result ≡ column_count (is_alone self.now.shifts x.number) self.now.days self.now.weeks self.now.sets (day - 1) }
         ensures value { (P : Instance) (S : Store) → BelongsTo P S → StandsFor self.now S → result ≡ fixed P (has_domain S) day x.number }
         ensures few { result ≤ self.now.weeks }
-        ensures small { result ≤ 600 }
+        ensures small { result ≤ MOST_WEEKS }
     {
-        self.fixed[(day as usize - 1) * 9 + x.number as usize]
+        self.fixed[(day as usize - 1) * MOST_SYMBOLS as usize + x.number as usize]
     }
 
     /// How many weeks can hold the symbol on the day: it is in the domain there.
@@ -94,17 +95,17 @@ impl Counts {
         ensures kept { result ≡ column_count (is_held x.number) self.now.days self.now.weeks self.now.sets (day - 1) }
         ensures value { (P : Instance) (S : Store) → BelongsTo P S → StandsFor self.now S → result ≡ possible P (has_domain S) day x.number }
         ensures few { result ≤ self.now.weeks }
-        ensures small { result ≤ 600 }
+        ensures small { result ≤ MOST_WEEKS }
     {
-        self.possible[(day as usize - 1) * 9 + x.number as usize]
+        self.possible[(day as usize - 1) * MOST_SYMBOLS as usize + x.number as usize]
     }
 
     // What is so of all counts.
     fn facts(&self)
         ensures long { length self.now.sets ≡ self.now.weeks * self.now.days }
         ensures some_days { 1 ≤ self.now.days }
-        ensures few_weeks { self.now.weeks ≤ 600 }
-        ensures few_shifts { self.now.shifts ≤ 8 }
+        ensures few_weeks { self.now.weeks ≤ MOST_WEEKS }
+        ensures few_shifts { self.now.shifts ≤ MOST_SHIFTS }
     {
         let _ = &self.sets;
     }
@@ -118,7 +119,7 @@ impl Counts {
         let days = problem.days();
         let weeks = problem.weeks();
         let shifts = problem.shifts();
-        let counters = days as usize * 9;
+        let counters = days as usize * MOST_SYMBOLS as usize;
         let sets = empty_sets(alloc, problem.cells())?;
         let fixed = vec![in alloc; 0; counters]?;
         let possible = vec![in alloc; 0; counters]?;
@@ -158,7 +159,7 @@ impl Counts {
         requires { p < length self.old.sets }
         ensures { self.new ≡ with_set self.old p set }
     {
-        let row = (p % self.days) as usize * 9;
+        let row = (p % self.days) as usize * MOST_SYMBOLS as usize;
         let is_held = held(&set);
         let is_alone = alone(&set, self.shifts);
         let before = mem::replace(&mut self.sets[p as usize], set);

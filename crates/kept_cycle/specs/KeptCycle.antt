@@ -1,5 +1,6 @@
 -- What a cycle keeps of its fields.
 use Rattle.std.specs.Prelude.{◌≡◌, ℕ, ◌+◌, ◌*◌, ◌<◌, ◌≤◌, ◌↔◌, List, [], ◌∷◌, length, Bool, IsTrue, Contains, slice_index_or}
+use Rattle.rwsp_terms.specs.declared.limits.TheConstants.{MOST_CELLS}
 use Rattle.rwsp_terms.specs.declared.data.Symbol.{Symbol}
 use Rattle.rwsp_terms.specs.Instance.{Instance, cells, shift_count}
 use Rattle.refutation_terms.specs.Word.{Clean}
@@ -17,7 +18,7 @@ HasSymbolsOf P (x ∷ u) = (x.number ≤ shift_count P) × HasSymbolsOf P u
 -- through the layers lead just the clean words of two turns, over all symbols
 pub record HasLayers (T : Listed) (layers : List (List Step)) (width : ℕ) : Type 0 where
   pub some : 0 < cells T.problem
-  pub few : cells T.problem ≤ 4200
+  pub few : cells T.problem ≤ MOST_CELLS
   pub days : length layers ≡ 2 * cells T.problem
   pub fits : AllFitInto width layers
   pub nodes : 0 < width

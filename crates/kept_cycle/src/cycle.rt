@@ -15,6 +15,7 @@ use layered_cycle::{Layers, Step};
 use refutation_terms::Line;
 use rwsp_model::Problem;
 use rwsp_terms::Symbol;
+use rwsp_terms::limits::{LONGEST_WORD, MOST_CELLS};
 use std::alloc::{AllocError, Global};
 use std::marker::Model;
 use word_tail::TailRules;
@@ -142,7 +143,7 @@ impl Cycle {
     // What is so of all cycles.
     fn facts(&self)
         ensures long { length self.now.sets ≡ cells self.now.problem }
-        ensures few { cells self.now.problem ≤ 4200 }
+        ensures few { cells self.now.problem ≤ MOST_CELLS }
     {
         let _ = &self.sets;
     }
@@ -228,7 +229,7 @@ impl Cycle {
 fn keep_room(alloc: Global, tails: &TailRules, full: &Domains, days: u32) -> Result<(), AllocError>
     requires belongs { BelongsTo tails.now.problem full.now }
     requires position { 0 < cells tails.now.problem }
-    requires long { (1 ≤ days) × (days ≤ 16800) }
+    requires long { (1 ≤ days) × (days ≤ LONGEST_WORD) }
 {
     let first = Layers::of(alloc, tails, full, 0, days.min(FIRST_DAYS))?;
     let nodes = greatest(first.node_counts());

@@ -6,6 +6,7 @@ ghost use Rattle.kept_cycle.specs.Marks.{row_at, from_of, to_of, IsWide, IsPass,
 use crate::marks::Marks;
 use domain_store::SymbolSet;
 use layered_cycle::Layer;
+use rwsp_terms::limits::MOST_CELLS;
 use std::alloc::{AllocError, Global};
 use std::marker::Model;
 use std::mem;
@@ -119,7 +120,7 @@ impl DayMarks {
     pub fn mend_back(&mut self, layers: &[Layer], sets: &[SymbolSet], day: usize)
         requires some { 0 < length sets.now }
         requires day { day + 1 < length self.old }
-        requires few { length self.old ≤ 8401 }
+        requires few { length self.old ≤ 2 * MOST_CELLS + 1 }
         requires wide { (width : ℕ) × IsWide self.old width × AllFitInto width layers.now }
         requires long { length self.old ≡ length layers.now + 1 }
         ensures steps { MendsBack layers.now sets.now day self.old self.new }

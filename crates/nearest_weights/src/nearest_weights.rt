@@ -10,10 +10,11 @@ use crate::closing::found_leaf;
 use crate::demand::{Demand, Shape};
 use crate::search::{Effort, Field, Turns};
 use crate::sweep::{MOST_CHOICES, Place};
-use crate::words::{MOST_DAYS, Words};
+use crate::words::Words;
 use domain_store::Domains;
 use refutation_terms::Line;
 use rwsp_model::{Problem, RuleList, short_rules};
+use rwsp_terms::limits::LONGEST_WORD;
 use std::alloc::{AllocError, Global};
 use std::marker::Model;
 use word_tail::TailRules;
@@ -177,11 +178,11 @@ fn rules_of(alloc: Global, problem: &Problem) -> Result<RuleList, AllocError>
 
 // How many turns there are layers and room for.
 fn turns_within(words: &Words, problem: &Problem) -> u32
-    ensures { result * cells problem.now ≤ 16800 }
+    ensures { result * cells problem.now ≤ LONGEST_WORD }
 {
     problem.keeps_limits();
     let room = MOST_CHOICES / words.nodes().max(1);
-    room.min(words.days()).min(MOST_DAYS) / problem.cells()
+    room.min(words.days()).min(LONGEST_WORD) / problem.cells()
 }
 
 // In the middle of the first positions that have one symbol each, so that words from there begin and end among them.

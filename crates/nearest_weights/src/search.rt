@@ -5,10 +5,8 @@ use crate::demand::{Demand, times};
 use crate::sweep::{Place, Sweep};
 use crate::words::Words;
 use nearest_point::{Hull, SCALE};
+use rwsp_terms::limits::GREATEST_WEIGHT;
 use std::alloc::{AllocError, Global};
-
-// Weights go up to this.
-pub const GREATEST: i64 = 1000;
 
 // How many words are tried, and how many steps are taken toward the demand after each.
 #[derive(Clone, Copy, Debug, Drop)]
@@ -128,7 +126,7 @@ fn more_turns(field: Field<'_>, sweep: &mut Sweep, weights: &[i64], turns: Turns
     None
 }
 
-// Weights in the direction that leads to the demand, the greatest of them `GREATEST`.
+// Weights in the direction that leads to the demand, the greatest of them `GREATEST_WEIGHT`.
 // None where the mix is nearly there.
 fn direction(alloc: Global, off: &[i64]) -> Result<Option<Vec<i64>>, AllocError> {
     let most = greatest(off);
@@ -137,7 +135,7 @@ fn direction(alloc: Global, off: &[i64]) -> Result<Option<Vec<i64>>, AllocError>
     }
     let mut weights = Vec::new(alloc);
     for x in off {
-        let weight = x.saturating_mul(GREATEST).checked_div(most).unwrap_or(0);
+        let weight = x.saturating_mul(i64::from(GREATEST_WEIGHT)).checked_div(most).unwrap_or(0);
         weights.push(weight)?;
     }
     Ok(Some(weights))

@@ -1,11 +1,9 @@
 // The clean words over all symbols.
 use domain_store::Domains;
 use layered_cycle::{Layer, Layers, Step};
+use rwsp_terms::limits::LONGEST_WORD;
 use std::alloc::{AllocError, Global};
 use word_tail::TailRules;
-
-/// Words in bound leaves have at most so many days.
-pub const MOST_DAYS: u32 = 16_800;
 
 // Layers are made of so many days first, and of twice as many as long as they don't come again.
 const FIRST_DAYS: u32 = 64;
@@ -38,10 +36,10 @@ impl Words {
             }
             let period = period_of(layers.layers());
             words = Some(Words { layers, period });
-            if period.is_some() || days == MOST_DAYS {
+            if period.is_some() || days == LONGEST_WORD {
                 return Ok(words);
             }
-            days = (2 * days).min(MOST_DAYS);
+            days = (2 * days).min(LONGEST_WORD);
         }
         Ok(words)
     }
@@ -49,7 +47,7 @@ impl Words {
     // Layers are there for so many days.
     pub fn days(&self) -> u32 {
         match self.period {
-            Some(_) => MOST_DAYS,
+            Some(_) => LONGEST_WORD,
             None => self.layers.len(),
         }
     }

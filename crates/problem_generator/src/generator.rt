@@ -7,6 +7,7 @@ ghost use Rattle.problem_generator.specs.Generated.{shift, shifts, pairs, proble
 use crate::counts::demand_of;
 use crate::hidden::{AFTERNOON, DAY, NIGHT, roster_of, stints_of};
 use rwsp_model::{Parts, Problem};
+use rwsp_terms::limits::MOST_WEEKS;
 use rwsp_terms::{Bounds, DemandRow, Name, ShiftRow, Symbol};
 use std::alloc::{AllocError, Global};
 
@@ -83,9 +84,9 @@ fn problem_of(parts: Parts) -> Problem
 }
 
 /// The problem of a number: three shifts over weeks of seven days, where the demand is what a hidden roster holds. The roster is
-/// made of stints of 6 to 11 days, by the draws that the number begins. The cost grows with the cells, at most 4,200.
+/// made of stints of 6 to 11 days, by the draws that the number begins. The cost grows with the cells.
 pub fn gen_problem(alloc: Global, number: u32, weeks: u32) -> Result<Problem, AllocError>
-    requires { (1 ≤ weeks) × (weeks ≤ 600) }
+    requires { (1 ≤ weeks) × (weeks ≤ MOST_WEEKS) }
     ensures { IfOk result (IsGenerated number weeks) }
 {
     let stints = stints_of(alloc, number, weeks * DAYS)?;

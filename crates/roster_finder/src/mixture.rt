@@ -29,7 +29,7 @@ const BETTERINGS: u32 = 100;
 const MANY_WORDS: usize = 100;
 
 /// The greatest weight of a symbol on a weekday.
-const GREATEST_WEIGHT: i64 = 100_000;
+const GREATEST_STEP_WEIGHT: i64 = 100_000;
 
 /// No number may be off by so many parts of the mixture.
 const NEAR: i64 = SCALE as i64 / 64;
@@ -136,7 +136,7 @@ impl Mixture {
     // The weight of a coordinate, by how far it is off and how far off the furthest is.
     fn weight(&self, coordinate: usize, far: i64) -> i64 {
         let off = entry_or(self.hull.off(), coordinate, 0);
-        quotient(off.wrapping_mul(GREATEST_WEIGHT), far)
+        quotient(off.wrapping_mul(GREATEST_STEP_WEIGHT), far)
     }
 
     fn set_weights(&mut self, setting: &Setting, random: &mut Random, noise: usize, far: i64) {
@@ -146,7 +146,7 @@ impl Mixture {
         for (place, cut) in self.cuts.iter().enumerate() {
             let coordinate = cut_coordinate(&setting.demand, place);
             let off = entry_or(self.hull.off(), coordinate, 0);
-            let weight = quotient(off.wrapping_mul(GREATEST_WEIGHT), far);
+            let weight = quotient(off.wrapping_mul(GREATEST_STEP_WEIGHT), far);
             cut.add_weight(&mut self.weights, weight);
         }
     }

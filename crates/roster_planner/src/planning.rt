@@ -8,6 +8,7 @@ use potential_bounds::Gate;
 use refutation_log::first_turn;
 use roster_search::{Found, guided_search};
 use rwsp_model::Problem;
+use rwsp_terms::limits::GREATEST_BUDGET;
 use std::alloc::{AllocError, Global};
 use std::thread::Threads;
 
@@ -23,7 +24,7 @@ pub fn plan_roster<R: Threads + Sync, G: Gate>(
     budget: u32,
     gate: &G,
 ) -> Result<Found, AllocError>
-    requires { (1 ≤ budget) × (budget ≤ 200000) }
+    requires { (1 ≤ budget) × (budget ≤ GREATEST_BUDGET) }
     ensures { IfOk result (IsPlanned problem.now budget) }
 {
     problem.keeps_limits();

@@ -1,5 +1,5 @@
 // Where a search splits when no leaf says so.
-ghost use Rattle.std.specs.Prelude.{◌≡◌, ℕ, ◌<◌, ◌≤◌, length, false, IsTrue, MatchOption, pos, neg_ℤ, ◌≤ℤ◌};
+ghost use Rattle.std.specs.Prelude.{◌≡◌, ℕ, ◌*◌, ◌<◌, ◌≤◌, length, false, IsTrue, MatchOption, pos, neg_ℤ, ◌≤ℤ◌};
 ghost use Rattle.std.specs.Option.{IfSome};
 ghost use Rattle.rwsp_terms.specs.Instance.{Instance, IsSymbol, IsClass};
 ghost use Rattle.domain_store.specs.Store.{BelongsTo, IsDecided, domain_at, has_domain};
@@ -8,6 +8,7 @@ ghost use Rattle.roster_search.specs.Guides.{IsSplitIn};
 use crate::need::most_needed;
 use domain_store::Domains;
 use rwsp_model::{Class, Problem, Symbol};
+use rwsp_terms::limits::{MOST_DAYS, MOST_SHIFTS, MOST_WEEKS};
 
 /// A position, counted from 0, and a symbol of its domain.
 #[derive(Clone, Copy)]
@@ -61,8 +62,8 @@ fn is_off_due(problem: &Problem, domains: &Domains, p: u32) -> bool
 
 // How many days off are needed in all.
 fn off_needed(problem: &Problem) -> i64
-    ensures above { neg_ℤ (pos 134400) ≤ℤ result }
-    ensures below { result ≤ℤ pos 16800 }
+    ensures above { neg_ℤ (pos (MOST_DAYS * MOST_WEEKS * MOST_SHIFTS)) ≤ℤ result }
+    ensures below { result ≤ℤ pos (MOST_DAYS * MOST_WEEKS) }
 {
     let mut total = 0;
     for day in 0..problem.days() {

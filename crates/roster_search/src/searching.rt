@@ -16,6 +16,7 @@ use crate::{Found, Guide, NoGuide};
 use propagators::Propagator;
 use refutation_terms::Turn;
 use rwsp_model::Problem;
+use rwsp_terms::limits::GREATEST_BUDGET;
 use std::alloc::{AllocError, Global};
 
 /// Looks for a roster by splitting cases, and writes the cases down as the lines of a log, of at most `budget` splits and leaves
@@ -27,7 +28,7 @@ pub fn search<A: Propagator>(
     propagator: &mut A,
     budget: u32,
 ) -> Result<Found, AllocError>
-    requires budget { (1 ≤ budget) × (budget ≤ 200000) }
+    requires budget { (1 ≤ budget) × (budget ≤ GREATEST_BUDGET) }
     requires turn { TurnFits problem.now turn × IsAllowed problem.now turn }
     requires serves { A.serves propagator.old problem.now }
     requires plain { HasPlainLeaves problem.now (A.leaves propagator.old) }
@@ -50,7 +51,7 @@ pub fn guided_search<A: Propagator, G: Guide>(
     guide: &mut G,
     budget: u32,
 ) -> Result<Found, AllocError>
-    requires budget { (1 ≤ budget) × (budget ≤ 200000) }
+    requires budget { (1 ≤ budget) × (budget ≤ GREATEST_BUDGET) }
     requires turn { TurnFits problem.now turn × IsAllowed problem.now turn }
     requires serves { A.serves propagator.old problem.now }
     requires plain { HasPlainLeaves problem.now (A.leaves propagator.old) }

@@ -4,12 +4,13 @@ use Rattle.std.specs.Prelude.{[], ◌∷◌, codes, String}
 use Rattle.std.specs.String.{string_bytes}
 use Rattle.std.specs.declared.alloc.Global.{Global}
 use Rattle.std.specs.Str.{bytes_eq}
+use Rattle.rwsp_terms.specs.declared.limits.TheConstants.{MOST_WEEKS, GREATEST_BUDGET, LONGEST_CALENDAR, MOST_WORKERS}
 use Rattle.rwsp_text.specs.Numbers.{number_of}
 use Rattle.refutation_log.proofs.ReadParts.{bytes_same}
 use Rattle.jiff.specs.Types.{Date}
 use Rattle.crew_calendar.specs.Calendar.{IsDateWord}
 use Rattle.crew_calendar.proofs.OneText.{one_date}
-use Rattle.rwsp.specs.Commands.{Words, IsForm, IsCount, greatest_budget, most_workers, most_weeks, most_days, most_employees, IsCrewForm, HasNoForm}
+use Rattle.rwsp.specs.Commands.{Words, IsForm, IsCount, IsCrewForm, HasNoForm}
 use Rattle.rwsp.specs.declared.command.Command.{Command}
 use Rattle.rwsp.specs.declared.command.Command.TheVariants.{Plan, Check, Verify, Reduce, Show, Trial, Crew}
 
@@ -104,7 +105,7 @@ one_form (v ∷ w ∷ x ∷ []) Reduce Verify h k = absurd (not_verify_and_reduc
 one_form (v ∷ w ∷ x ∷ []) Verify Reduce h k = absurd (not_verify_and_reduce (string_bytes v) h.0 k.0)
 one_form (v ∷ w ∷ x ∷ []) Reduce (Check m) h k = absurd (not_check_and_reduce (string_bytes v) k.0 h.0)
 one_form (v ∷ w ∷ x ∷ []) (Check m) Reduce h k = absurd (not_check_and_reduce (string_bytes v) h.0 k.0)
-one_form (v ∷ w ∷ x ∷ []) (Trial m c) (Trial n d) h k = same_trial m n c d (same_number (string_bytes w) m n h.1 k.1) (same_count (string_bytes x) most_weeks c d h.2 k.2)
+one_form (v ∷ w ∷ x ∷ []) (Trial m c) (Trial n d) h k = same_trial m n c d (same_number (string_bytes w) m n h.1 k.1) (same_count (string_bytes x) MOST_WEEKS c d h.2 k.2)
 one_form (v ∷ w ∷ x ∷ []) (Trial n c) Verify h k = absurd (not_trial (string_bytes v) (codes "verify") h.0 k.0 refl)
 one_form (v ∷ w ∷ x ∷ []) (Trial n c) Reduce h k = absurd (not_trial (string_bytes v) (codes "reduce") h.0 k.0 refl)
 one_form (v ∷ w ∷ x ∷ []) (Trial n c) (Check m) h k = absurd (not_trial (string_bytes v) (codes "check") h.0 k.0 refl)
@@ -126,7 +127,7 @@ one_form (v ∷ w ∷ x ∷ []) Verify Show h k = absurd k
 one_form (v ∷ w ∷ x ∷ []) Verify (Plan m) h k = absurd k
 one_form (v ∷ w ∷ x ∷ []) (Check n) Show h k = absurd k
 one_form (v ∷ w ∷ x ∷ []) (Check n) (Plan m) h k = absurd k
-one_form (v ∷ w ∷ x ∷ y ∷ []) (Plan m) (Plan n) h k = ap Plan (same_count (string_bytes y) greatest_budget m n h.3 k.3)
+one_form (v ∷ w ∷ x ∷ y ∷ []) (Plan m) (Plan n) h k = ap Plan (same_count (string_bytes y) GREATEST_BUDGET m n h.3 k.3)
 one_form (v ∷ w ∷ x ∷ y ∷ []) (Plan m) Show h k = absurd k
 one_form (v ∷ w ∷ x ∷ y ∷ []) (Plan m) Verify h k = absurd k
 one_form (v ∷ w ∷ x ∷ y ∷ []) (Plan m) (Check n) h k = absurd k
@@ -139,7 +140,7 @@ one_form (v ∷ w ∷ x ∷ y ∷ []) (Plan m) (Crew d n e) h k = absurd k
 one_form (v ∷ w ∷ x ∷ y ∷ []) Show b h k = absurd h
 one_form (v ∷ w ∷ x ∷ y ∷ []) Verify b h k = absurd h
 one_form (v ∷ w ∷ x ∷ y ∷ []) (Check m) b h k = absurd h
-one_form (v ∷ w ∷ x ∷ y ∷ z ∷ []) (Check m) (Check n) h k = ap Check (same_count (string_bytes z) most_workers m n h.4 k.4)
+one_form (v ∷ w ∷ x ∷ y ∷ z ∷ []) (Check m) (Check n) h k = ap Check (same_count (string_bytes z) MOST_WORKERS m n h.4 k.4)
 one_form (v ∷ w ∷ x ∷ y ∷ z ∷ []) (Check m) Show h k = absurd k
 one_form (v ∷ w ∷ x ∷ y ∷ z ∷ []) (Check m) Verify h k = absurd k
 one_form (v ∷ w ∷ x ∷ y ∷ z ∷ []) (Check m) (Plan n) h k = absurd k
@@ -149,7 +150,7 @@ one_form (v ∷ w ∷ x ∷ y ∷ z ∷ []) (Trial n c) b h k = absurd h
 one_form (v ∷ w ∷ x ∷ y ∷ z ∷ []) Reduce b h k = absurd h
 one_form (v ∷ w ∷ x ∷ y ∷ z ∷ []) (Check m) (Crew d n e) h k = absurd (not_check_and_crew (string_bytes v) h.0 k.0.0)
 one_form (v ∷ w ∷ x ∷ y ∷ z ∷ []) (Crew d n e) (Check m) h k = absurd (not_check_and_crew (string_bytes v) k.0 h.0.0)
-one_form (v ∷ w ∷ x ∷ y ∷ z ∷ []) (Crew d n e) (Crew f m g) h k = same_crew d f n m e g (same_first (string_bytes y) d f h.0.3 k.0.3) (same_count (string_bytes z) most_days n m h.0.4 k.0.4) (h.1 ∙ sym k.1)
+one_form (v ∷ w ∷ x ∷ y ∷ z ∷ []) (Crew d n e) (Crew f m g) h k = same_crew d f n m e g (same_first (string_bytes y) d f h.0.3 k.0.3) (same_count (string_bytes z) LONGEST_CALENDAR n m h.0.4 k.0.4) (h.1 ∙ sym k.1)
 one_form (v ∷ w ∷ x ∷ y ∷ z ∷ []) (Crew d n e) Show h k = absurd k
 one_form (v ∷ w ∷ x ∷ y ∷ z ∷ []) (Crew d n e) (Trial m c) h k = absurd k
 one_form (v ∷ w ∷ x ∷ y ∷ z ∷ []) (Crew d n e) Verify h k = absurd k
@@ -159,8 +160,8 @@ one_form (v ∷ w ∷ x ∷ y ∷ z ∷ []) Show b h k = absurd h
 one_form (v ∷ w ∷ x ∷ y ∷ z ∷ []) Verify b h k = absurd h
 one_form (v ∷ w ∷ x ∷ y ∷ z ∷ []) (Plan m) b h k = absurd h
 one_form (v ∷ w ∷ x ∷ y ∷ z ∷ u ∷ []) (Crew d n e) (Crew f m g) h k =
-    same_crew d f n m e g (same_first (string_bytes y) d f h.0.3 k.0.3) (same_count (string_bytes z) most_days n m h.0.4 k.0.4)
-    (h.1.2 ∙ ap Some (same_count (string_bytes u) most_employees h.1.0 k.1.0 h.1.1 k.1.1) ∙ sym k.1.2)
+    same_crew d f n m e g (same_first (string_bytes y) d f h.0.3 k.0.3) (same_count (string_bytes z) LONGEST_CALENDAR n m h.0.4 k.0.4)
+    (h.1.2 ∙ ap Some (same_count (string_bytes u) MOST_WEEKS h.1.0 k.1.0 h.1.1 k.1.1) ∙ sym k.1.2)
 one_form (v ∷ w ∷ x ∷ y ∷ z ∷ u ∷ []) (Crew d n e) (Plan m) h k = absurd k
 one_form (v ∷ w ∷ x ∷ y ∷ z ∷ u ∷ []) (Crew d n e) (Check m) h k = absurd k
 one_form (v ∷ w ∷ x ∷ y ∷ z ∷ u ∷ []) (Crew d n e) Verify h k = absurd k
@@ -202,7 +203,7 @@ no_crew_of_one v w x y z u none Show h = h
 no_crew_of_one v w x y z u none (Trial n c) h = h
 
 -- nor have six words whose last is no employee's number
-pub no_number : (v w x y z u : String Global) → ((e : ℕ) → IsCount (string_bytes u) most_employees e → ⊥) → HasNoForm (v ∷ w ∷ x ∷ y ∷ z ∷ u ∷ [])
+pub no_number : (v w x y z u : String Global) → ((e : ℕ) → IsCount (string_bytes u) MOST_WEEKS e → ⊥) → HasNoForm (v ∷ w ∷ x ∷ y ∷ z ∷ u ∷ [])
 no_number v w x y z u none (Crew d n e) h = none h.1.0 h.1.1
 no_number v w x y z u none (Check m) h = h
 no_number v w x y z u none (Plan m) h = h

@@ -1,6 +1,7 @@
 -- Two answers over the same files, compared part by part.
 use Rattle.std.proofs.Common.{◌≡◌, ℕ, List, ap, sym, ◌∙◌, refl, subst, inl, inr}
 use Rattle.std.specs.Prelude.{◌≢◌, ◌⊎◌, [], Some, None}
+use Rattle.rwsp_terms.specs.declared.limits.TheConstants.{USUAL_WORKERS}
 use Rattle.rwsp_io.specs.Told.{Told, Silent, Missing, Bytes}
 use Rattle.rwsp_terms.specs.Instance.{Instance}
 use Rattle.rwsp_model.specs.Validity.{KeepsLimits}
@@ -8,7 +9,7 @@ use Rattle.rwsp_model.proofs.Limits.{valid_keeps}
 use Rattle.rwsp_file.specs.Spelling.{SpellsProblem}
 use Rattle.rwsp_file.specs.Laws.{TextsSpellOne, TextsSpellOrFail}
 use Rattle.refutation_terms.specs.LogText.{log_text}
-use Rattle.rwsp.specs.Commands.{Words, IsForm, ReadsProblem, ReadsSecond, IsWithinHorizon, problem_name, second_name, usual_workers}
+use Rattle.rwsp.specs.Commands.{Words, IsForm, ReadsProblem, ReadsSecond, IsWithinHorizon, problem_name, second_name}
 use Rattle.rwsp.specs.Inputs.{WhereTold, IsWithinLimit, IsProblemOf}
 use Rattle.rwsp.specs.Answers.{IsAnswerOn, IsAnswerTo, IsFileAnswer, IsSecondAnswer}
 use Rattle.rwsp.specs.Texts.{text_of, HasFixedText, IsPrintable, IsCalendarOf, IsCalendarText, IsReplyText}
@@ -219,7 +220,7 @@ answered one decide held words command file P a form within reads e short spells
 pub taken : RefutationsAreAccepted
 taken file P budget g a spells planned short kind h =
     let text = log_text P g in
-    one_second (Check usual_workers) P text a (Accepted g.named) (valid_keeps P spells.valid) h (accepted P text g.named short (g, (refl, planned.0), refl))
+    one_second (Check USUAL_WORKERS) P text a (Accepted g.named) (valid_keeps P spells.valid) h (accepted P text g.named short (g, (refl, planned.0), refl))
 
 -- a roster that is planned meets every rule
 pub verified : RostersMeet
@@ -246,7 +247,7 @@ verified file P budget (NoEmployee e) a spells kind planned h = absurd kind
 -- what a reduction leaves is accepted
 pub kept : ReductionsAreAccepted
 kept file P bytes h a spells reduced short answer =
-    one_second (Check usual_workers) P (log_text P h) a (Accepted h.named) (valid_keeps P spells.valid) answer (accepted P (log_text P h) h.named short (h, (refl, reduced.2.passes), refl))
+    one_second (Check USUAL_WORKERS) P (log_text P h) a (Accepted h.named) (valid_keeps P spells.valid) answer (accepted P (log_text P h) h.named short (h, (refl, reduced.2.passes), refl))
 
 pub same_for_workers : WorkersMakeNoDifference
 same_for_workers m n told P a h = h

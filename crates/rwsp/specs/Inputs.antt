@@ -1,5 +1,6 @@
 -- What the files hold that a command names.
 use Rattle.std.specs.Prelude.{ℕ, ◌<◌, ◌≤◌, List, length}
+use Rattle.rwsp_terms.specs.declared.limits.TheConstants.{LONGEST_FILE, LONGEST_LOG}
 use Rattle.rwsp_io.specs.Told.{Told, Silent, Missing, Bytes}
 use Rattle.rwsp_terms.specs.Instance.{Instance}
 use Rattle.rwsp_file.specs.Spelling.{SpellsProblem}
@@ -17,9 +18,9 @@ WhereTold (Bytes bytes) Q = Q bytes
 
 -- the most bytes that a file of a kind may have
 abbrev pub longest : InputKind → ℕ
-longest Problem = 1048576
-longest Roster = 1048576
-longest Log = 536870912
+longest Problem = LONGEST_FILE
+longest Roster = LONGEST_FILE
+longest Log = LONGEST_LOG
 
 -- the kind of a command's second file
 abbrev pub second_kind : Command → InputKind

@@ -6,6 +6,7 @@ ghost use Rattle.rwsp.specs.Commands.{IsFileWord, IsCount, IsForm, IsCrewForm, H
 
 use crew_calendar::{date_of, fits};
 use jiff::civil::Date;
+use rwsp_terms::limits::{GREATEST_BUDGET, LONGEST_CALENDAR, MOST_WEEKS, MOST_WORKERS, USUAL_BUDGET, USUAL_WORKERS};
 use rwsp_text::number;
 
 /// What is to be done. The names of files are words of their own.
@@ -37,24 +38,6 @@ pub enum Command {
         employee: Option<u32>,
     },
 }
-
-/// The budget of `plan` where none is given, and the greatest.
-const USUAL_BUDGET: u32 = 20_000;
-
-const GREATEST_BUDGET: u32 = 200_000;
-
-/// The workers of `check` where none are given, and the most.
-const USUAL_WORKERS: u32 = 4;
-
-const MOST_WORKERS: u32 = 64;
-
-/// The most weeks of a trial.
-const MOST_WEEKS: u32 = 600;
-
-/// The most days of a calendar, and the greatest number of an employee.
-const MOST_DAYS: u32 = 400;
-
-const MOST_EMPLOYEES: u32 = 600;
 
 fn is_file_word(word: &str) -> bool
     ensures { IsTrue result ↔ IsFileWord word.now }
@@ -203,7 +186,7 @@ fn dates_of(
         return None;
     }
     let date = date_of(date.as_str())?;
-    let days = count_in(days.as_str(), MOST_DAYS)?;
+    let days = count_in(days.as_str(), LONGEST_CALENDAR)?;
     Some((date, days))
 }
 
@@ -238,7 +221,7 @@ fn crew_of_one(
     ensures { MatchOption result (HasNoForm (word.now ∷ file.now ∷ second.now ∷ date.now ∷ days.now ∷ number.now ∷ [])) (IsForm (word.now ∷ file.now ∷ second.now ∷ date.now ∷ days.now ∷ number.now ∷ [])) }
 {
     let (date, days) = dates_of(word, file, second, date, days)?;
-    let employee = count_in(number.as_str(), MOST_EMPLOYEES)?;
+    let employee = count_in(number.as_str(), MOST_WEEKS)?;
     Some(Command::Crew {
         date,
         days,

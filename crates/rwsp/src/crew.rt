@@ -4,7 +4,7 @@ ghost use Rattle.rwsp_io.specs.Told.{NeverFall, Rose, Bytes};
 ghost use Rattle.rwsp_terms.specs.Roster.{IsRoster};
 ghost use Rattle.roster_print.specs.RosterText.{SpellsRoster};
 ghost use Rattle.crew_calendar.specs.Calendar.{Fits};
-ghost use Rattle.rwsp.specs.Commands.{most_days, IsEmployeeNumber};
+ghost use Rattle.rwsp.specs.Commands.{IsEmployeeNumber};
 ghost use Rattle.rwsp.specs.Inputs.{WhereTold, IsWithinLimit};
 ghost use Rattle.rwsp.specs.Answers.{IsCrewAnswer, IsOfCrew, SpellsRight};
 ghost use Rattle.rwsp.specs.Texts.{IsReplyText, IsCalendarOf};
@@ -21,6 +21,7 @@ use roster_checker::first_broken;
 use roster_print::read_roster;
 use rwsp_io::Shelf;
 use rwsp_model::{Fail, Problem, Roster};
+use rwsp_terms::limits::LONGEST_CALENDAR;
 use std::alloc::Global;
 
 /// The reply with the calendar of the roster that a file spells, from the date on, of all employees or of one.
@@ -33,7 +34,7 @@ pub fn crew_reply<S: Shelf>(
     days: u32,
     employee: Option<u32>,
 ) -> Result<Reply, Stop>
-    requires days { days ≤ most_days }
+    requires days { days ≤ LONGEST_CALENDAR }
     requires employee { IsEmployeeNumber employee }
     requires fits { Fits date days }
     ensures answer { IfOk result (λ r. WhereTold (S.held shelf.old name.now) (IsCrewAnswer employee r.answer problem.now)) }
@@ -59,7 +60,7 @@ fn calendar(
     employee: Option<u32>,
 ) -> Result<Reply, Stop>
     requires short { IsWithinLimit Kinds.Roster bytes.now }
-    requires days { days ≤ most_days }
+    requires days { days ≤ LONGEST_CALENDAR }
     requires employee { IsEmployeeNumber employee }
     requires fits { Fits date days }
     ensures answer { IfOk result (λ r. IsCrewAnswer employee r.answer problem.now bytes.now) }
@@ -87,7 +88,7 @@ fn on_roster(
     requires short { IsWithinLimit Kinds.Roster bytes.now }
     requires spelled { SpellsRoster problem.now bytes.now roster.now.cells }
     requires roster { IsRoster problem.now roster.now.cells }
-    requires days { days ≤ most_days }
+    requires days { days ≤ LONGEST_CALENDAR }
     requires employee { IsEmployeeNumber employee }
     requires fits { Fits date days }
     ensures answer { IfOk result (λ r. IsCrewAnswer employee r.answer problem.now bytes.now) }
@@ -120,7 +121,7 @@ fn duties_of(
     requires right { SpellsRight problem.now bytes.now }
     requires spelled { SpellsRoster problem.now bytes.now roster.now.cells }
     requires roster { IsRoster problem.now roster.now.cells }
-    requires days { days ≤ most_days }
+    requires days { days ≤ LONGEST_CALENDAR }
     requires employee { 1 ≤ number }
     requires fits { Fits date days }
     ensures answer { IfOk result (λ r. IsCrewAnswer (Some number) r.answer problem.now bytes.now) }

@@ -10,6 +10,7 @@ use crate::answer::{Answer, InputKind, Stop};
 use rwsp_file::read_problem;
 use rwsp_io::{ReadFail, Shelf, read_all};
 use rwsp_model::{Fail, Problem};
+use rwsp_terms::limits::{LONGEST_FILE, LONGEST_LOG};
 use std::alloc::Global;
 
 /// Why a run ends before its job is done.
@@ -27,9 +28,9 @@ fn longest(kind: InputKind) -> usize
     ensures few { result ≤ longest Kinds.Log }
 {
     match kind {
-        InputKind::Problem => 1_048_576,
-        InputKind::Roster => 1_048_576,
-        InputKind::Log => 536_870_912,
+        InputKind::Problem => LONGEST_FILE as usize,
+        InputKind::Roster => LONGEST_FILE as usize,
+        InputKind::Log => LONGEST_LOG as usize,
     }
 }
 

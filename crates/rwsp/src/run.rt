@@ -4,7 +4,7 @@ ghost use Rattle.std.specs.Io.KnownBytes.{Appends, Keeps};
 ghost use Rattle.rwsp_io.specs.Told.{Rose, NeverFall, Missing};
 ghost use Rattle.rwsp_terms.specs.Instance.{Instance};
 ghost use Rattle.rwsp.specs.Answers.{IsAnswer, IsAnswerOn, IsReadFault};
-ghost use Rattle.rwsp.specs.Commands.{IsForm, ReadsProblem, ReadsSecond, IsWithinHorizon, AsksNoCalendar, greatest_budget, most_weeks, problem_name, second_name};
+ghost use Rattle.rwsp.specs.Commands.{IsForm, ReadsProblem, ReadsSecond, IsWithinHorizon, AsksNoCalendar, problem_name, second_name};
 ghost use Rattle.rwsp.specs.Plans.{IsPlanned};
 ghost use Rattle.rwsp.specs.Trials.{IsTrialAnswer};
 ghost use Rattle.rwsp.specs.Texts.{IsTextOf, IsReplyText, IsTextOfTrial, HasFixedText, IsPrintable, text_of};
@@ -21,6 +21,7 @@ use crate::trial::run_trial;
 use potential_bounds::Gate;
 use rwsp_io::{Shelf, Sink, write_all};
 use rwsp_model::Problem;
+use rwsp_terms::limits::{GREATEST_BUDGET, MOST_WEEKS};
 use std::alloc::Global;
 use std::thread::Threads;
 
@@ -194,7 +195,7 @@ fn tried<R: Threads + Sync, G: Gate>(
     weeks: u32,
     gate: &G,
 ) -> Result<Reply, Stop>
-    requires { (1 ≤ weeks) × (weeks ≤ most_weeks) }
+    requires { (1 ≤ weeks) × (weeks ≤ MOST_WEEKS) }
     ensures answer { IfOk result (λ r. IsTrialAnswer number weeks r.answer) }
     ensures text { IfOk result (λ r. IsTextOfTrial r.answer r.text.items) }
     ensures fault { IsErrOf result Stop.ReadFault → ⊥ }
@@ -238,7 +239,7 @@ fn plan<R: Threads + Sync, G: Gate>(
     budget: u32,
     gate: &G,
 ) -> Result<Answer, Stop>
-    requires { (1 ≤ budget) × (budget ≤ greatest_budget) }
+    requires { (1 ≤ budget) × (budget ≤ GREATEST_BUDGET) }
     ensures answer { IfOk result (IsPlanned problem.now budget) }
     ensures printable { IfOk result (IsPrintable problem.now) }
     ensures fault { IsErrOf result Stop.ReadFault → ⊥ }

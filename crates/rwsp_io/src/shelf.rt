@@ -75,6 +75,9 @@ pub trait Shelf {
         ensures cause { OnErr result (AllRose (faults self.old) (faults self.new)) };
 }
 
+/// The greatest limit on the bytes of a file: half a gibibyte.
+pub const GREATEST_LIMIT: usize = 512 * 1024 * 1024;
+
 // The first piece that is read of a file, in bytes.
 const FIRST_PIECE: usize = 64 * 1024;
 
@@ -91,7 +94,7 @@ pub fn read_all<S: Shelf>(
     name: &str,
     limit: usize,
 ) -> Result<Vec<u8>, ReadFail>
-    requires { limit ≤ 536870912 }
+    requires { limit ≤ GREATEST_LIMIT }
 
     // An answer's bytes are those of the file, and they keep the limit.
     ensures all { (bytes : List ℕ) → S.held shelf.old name.now ≡ Bytes bytes

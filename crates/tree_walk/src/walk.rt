@@ -15,6 +15,7 @@ use crate::open_split::OpenSplit;
 use domain_store::Domains;
 use refutation_terms::Turn;
 use rwsp_model::{Problem, Symbol};
+use rwsp_terms::limits::MOST_CELLS;
 use std::alloc::{AllocError, Global};
 use std::marker::Model;
 
@@ -76,7 +77,7 @@ impl Walk {
     pub fn cells(&self) -> u32
         ensures positions { result ≡ length self.now.store.sets }
         ensures value { (P : Instance) (turn : Option TheTurn) (lines : List Line) → IsStateOf P turn lines self.now → result ≡ cells P }
-        ensures few { result ≤ 4200 }
+        ensures few { result ≤ MOST_CELLS }
     {
         self.domains.facts();
         self.domains.cells()
