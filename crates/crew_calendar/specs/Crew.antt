@@ -11,7 +11,8 @@ IsEmployee P e = (1 ≤ e) × (e ≤ P.weeks)
 abbrev pub employees : Instance → List ℕ
 employees P = range_with_len 1 P.weeks
 
--- the position of an employee on a day, where days count from 0: each starts in the week of his number, and all go on round the cycle
+-- the position of an employee on a day, where days count from 0: each starts in the week of his number, and all go on
+-- round the cycle
 abbrev pub place : Instance → ℕ → ℕ → ℕ
 place P e t = ((e - 1) * P.days + t) % cells P
 

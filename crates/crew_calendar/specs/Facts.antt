@@ -16,7 +16,8 @@ crew_with P s t x = count_by (λ e. (symbol_on P s e t).number == x) (employees 
 abbrev pub weekday : Instance → ℕ → ℕ
 weekday P t = t % P.days + 1
 
--- on each day each symbol, the day off too, has at least as many employees as the least demand and at most as many as the greatest
+-- on each day each symbol, the day off too, has at least as many employees as the least demand and at most as many as
+-- the greatest
 abbrev pub IsStaffed : Instance → List Symbol → Type 0
 IsStaffed P s =
     (t x : ℕ) → x ≤ shift_count P

@@ -15,16 +15,20 @@ is_held x set = has_symbol set x
 
 -- the set has the symbol, and no other up to the last
 abbrev pub is_alone : ℕ → ℕ → List ℕ → Bool
-is_alone last x set = has_symbol set x && list_all (λ z. (z == x) || not (has_symbol set z)) (range_with_len 0 (last + 1))
+is_alone last x set =
+    has_symbol set x && list_all (λ z. (z == x) || not (has_symbol set z)) (range_with_len 0 (last + 1))
 
 -- how many sets of a day, counted from 0, pass the test
 abbrev pub column_count : (List ℕ → Bool) → ℕ → ℕ → List (List ℕ) → ℕ → ℕ
-column_count test days weeks sets k = count_by (λ i. test (slice_index_or sets (i * days + k) [])) (range_with_len 0 weeks)
+column_count test days weeks sets k =
+    count_by (λ i. test (slice_index_or sets (i * days + k) [])) (range_with_len 0 weeks)
 
--- the counters hold, for each day and each symbol that a problem may have, how many sets of the day pass the symbol's test
+-- the counters hold, for each day and each symbol that a problem may have, how many sets of the day pass the symbol's
+-- test
 pub record Tallies (test : ℕ → List ℕ → Bool) (days weeks : ℕ) (sets : List (List ℕ)) (counters : List ℕ) : Type 0 where
   pub long : length counters ≡ days * MOST_SYMBOLS
-  pub each : (k x : ℕ) → k < days → x < MOST_SYMBOLS → slice_index counters (k * MOST_SYMBOLS + x) ≡ column_count (test x) days weeks sets k
+  pub each : (k x : ℕ) → k < days → x < MOST_SYMBOLS
+      → slice_index counters (k * MOST_SYMBOLS + x) ≡ column_count (test x) days weeks sets k
 
 -- the flags tell which symbols that a problem may have pass their tests at the set
 abbrev pub TestsOf : (ℕ → List ℕ → Bool) → List ℕ → List Bool → Type 0
@@ -32,7 +36,9 @@ TestsOf test set flags = (x : ℕ) → x < MOST_SYMBOLS → slice_index_or flags
 
 -- the counters of a day count the new flags in place of the old ones, and the others stay
 pub record IsRecounted (row : ℕ) (were are : List Bool) (old new : List ℕ) : Type 0 where
-  pub within : (x : ℕ) → x < MOST_SYMBOLS → slice_index new (row + x) + one_if (slice_index_or were x false) ≡ slice_index old (row + x) + one_if (slice_index_or are x false)
+  pub within : (x : ℕ) → x < MOST_SYMBOLS
+      → slice_index new (row + x) + one_if (slice_index_or were x false)
+      ≡ slice_index old (row + x) + one_if (slice_index_or are x false)
   pub below : (k : ℕ) → k < row → slice_index new k ≡ slice_index old k
   pub above : (k : ℕ) → row + MOST_SYMBOLS ≤ k → slice_index new k ≡ slice_index old k
   pub long : length new ≡ length old

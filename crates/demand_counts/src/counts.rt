@@ -12,8 +12,9 @@ use std::alloc::{AllocError, Global};
 use std::marker::Model;
 use std::mem;
 
-/// For each day and symbol the number of weeks that hold the symbol on the day for sure, since it is alone in the domain there,
-/// and the number of those that can hold it, since it is in the domain there. They are kept with the domains that they count.
+/// For each day and symbol the number of weeks that hold the symbol on the day for sure, since it is alone in the
+/// domain there, and the number of those that can hold it, since it is in the domain there. They are kept with the
+/// domains that they count.
 ///
 /// Days count from 1, and positions from 0, week after week.
 #[derive(Debug, Drop)]
@@ -36,7 +37,10 @@ impl Model for Counts {
 
     ghost view = { λ c. record { days = c.days; weeks = c.weeks; shifts = c.shifts; sets = c.sets.items } };
 
-    ghost invariant = { λ c. IsTallied (record { days = c.days; weeks = c.weeks; shifts = c.shifts; sets = c.sets.items }) c.fixed.items c.possible.items };
+    ghost invariant = { λ c.
+        IsTallied
+        (record { days = c.days; weeks = c.weeks; shifts = c.shifts; sets = c.sets.items })
+        c.fixed.items c.possible.items };
 }
 
 impl Counts {
@@ -53,7 +57,8 @@ impl Counts {
         Ok(counts)
     }
 
-    /// Stands for the present domains, which differ at one position at most. Takes a time that doesn't grow with the problem.
+    /// Stands for the present domains, which differ at one position at most. Takes a time that doesn't grow with the
+    /// problem.
     pub fn narrowed(&mut self, doms: &Domains, p: u32)
         requires position { p < length doms.now.sets }
         requires differs { DiffersAtMostAt self.old doms.now p }
@@ -80,8 +85,10 @@ impl Counts {
     pub fn fixed(&self, x: Symbol, day: u32) -> u32
         requires day { (0 < day) × (day ≤ self.now.days) }
         requires symbol { x.number ≤ self.now.shifts }
-        ensures kept { result ≡ column_count (is_alone self.now.shifts x.number) self.now.days self.now.weeks self.now.sets (day - 1) }
-        ensures value { (P : Instance) (S : Store) → BelongsTo P S → StandsFor self.now S → result ≡ fixed P (has_domain S) day x.number }
+        ensures kept { result
+            ≡ column_count (is_alone self.now.shifts x.number) self.now.days self.now.weeks self.now.sets (day - 1) }
+        ensures value { (P : Instance) (S : Store) → BelongsTo P S → StandsFor self.now S
+            → result ≡ fixed P (has_domain S) day x.number }
         ensures few { result ≤ self.now.weeks }
         ensures small { result ≤ MOST_WEEKS }
     {
@@ -93,7 +100,8 @@ impl Counts {
         requires day { (0 < day) × (day ≤ self.now.days) }
         requires symbol { x.number ≤ self.now.shifts }
         ensures kept { result ≡ column_count (is_held x.number) self.now.days self.now.weeks self.now.sets (day - 1) }
-        ensures value { (P : Instance) (S : Store) → BelongsTo P S → StandsFor self.now S → result ≡ possible P (has_domain S) day x.number }
+        ensures value { (P : Instance) (S : Store) → BelongsTo P S → StandsFor self.now S
+            → result ≡ possible P (has_domain S) day x.number }
         ensures few { result ≤ self.now.weeks }
         ensures small { result ≤ MOST_WEEKS }
     {
@@ -179,4 +187,11 @@ fn empty_sets(alloc: Global, cells: u32) -> Result<Vec<SymbolSet>, AllocError>
         sets.push(SymbolSet::empty())?;
     }
     Ok(sets)
+}
+
+// Counts may be sent to other threads and shared with them.
+fn shared<T: Send + Sync>(_: &T) {}
+
+fn counts_are_shared(counts: &Counts) {
+    shared(counts);
 }

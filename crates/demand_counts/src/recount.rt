@@ -49,7 +49,8 @@ pub fn recount(
 )
     requires within { row + MOST_SYMBOLS ≤ length counters.old }
     requires small { (x : ℕ) → x < MOST_SYMBOLS → slice_index counters.old (row + x) ≤ MOST_WEEKS }
-    requires counted { (x : ℕ) → x < MOST_SYMBOLS → one_if (slice_index_or were.now x false) ≤ slice_index counters.old (row + x) }
+    requires counted { (x : ℕ) → x < MOST_SYMBOLS
+        → one_if (slice_index_or were.now x false) ≤ slice_index counters.old (row + x) }
     ensures { IsRecounted row were.now are.now counters.old counters.new }
 {
     for x in 0..MOST_SYMBOLS as usize {

@@ -227,8 +227,8 @@ pub symbol_within : (S : Store) (p x : ℕ) → IsStore S → p < length S.sets 
 symbol_within S p x now within has =
     has_symbol_within S.shifts x (domain_at S p) (All-get_or (IsDomain S.shifts) S.sets p [] within now.domains).symbols has
 
-pub symbol_below_nine : (S : Store) (p x : ℕ) → IsStore S → p < length S.sets → has_domain S p x ≡ true → x < MOST_SYMBOLS
-symbol_below_nine S p x now within has = omega (arith, symbol_within S p x now within has, now.few_shifts)
+pub symbol_is_known : (S : Store) (p x : ℕ) → IsStore S → p < length S.sets → has_domain S p x ≡ true → x < MOST_SYMBOLS
+symbol_is_known S p x now within has = omega (arith, symbol_within S p x now within has, now.few_shifts)
 
 pub single_domain : (S : Store) (p x : ℕ) → IsStore S → p < length S.sets → has_domain S p x ≡ true → IsDomain S.shifts (x ∷ [])
 single_domain S p x now within has = IsDomain_single S.shifts x (symbol_within S p x now within has)

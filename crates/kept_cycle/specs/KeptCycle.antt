@@ -22,11 +22,13 @@ pub record HasLayers (T : Listed) (layers : List (List Step)) (width : ℕ) : Ty
   pub days : length layers ≡ 2 * cells T.problem
   pub fits : AllFitInto width layers
   pub nodes : 0 < width
-  pub leads : (u : List Symbol) → length u ≡ 2 * cells T.problem → HasSymbolsOf T.problem u → Clean T.problem T.rules u → Leads layers 0 u
+  pub leads : (u : List Symbol) → length u ≡ 2 * cells T.problem → HasSymbolsOf T.problem u
+      → Clean T.problem T.rules u → Leads layers 0 u
   pub clean : (u : List Symbol) → Leads layers 0 u → (length u ≡ 2 * cells T.problem) × Clean T.problem T.rules u
 
 -- the marks of all days are those of the domains
-pub record IsCycle (T : Listed) (layers : List (List Step)) (sets : List (List ℕ)) (front back : List (List Bool)) (width : ℕ) : Type 0 where
+pub record IsCycle (T : Listed) (layers : List (List Step)) (sets : List (List ℕ)) (front back : List (List Bool))
+    (width : ℕ) : Type 0 where
   pub layered : HasLayers T layers width
   pub long : length sets ≡ cells T.problem
   pub small : (p x : ℕ) → IsTrue (has_symbol (slice_index_or sets p []) x) → x ≤ shift_count T.problem
@@ -41,4 +43,5 @@ pub record IsCycle (T : Listed) (layers : List (List Step)) (sets : List (List �
 
 -- a step by the symbol from a marked node to a marked one
 abbrev pub HasJoiningStep : List Step → Symbol → List Bool → List Bool → Type 0
-HasJoiningStep steps x before behind = (s : Step) × Contains steps s × (s.symbol ≡ x) × IsTrue (is_marked before s.from) × IsTrue (is_marked behind s.to)
+HasJoiningStep steps x before behind =
+    (s : Step) × Contains steps s × (s.symbol ≡ x) × IsTrue (is_marked before s.from) × IsTrue (is_marked behind s.to)

@@ -64,7 +64,8 @@ impl DayMarks {
     fn go_on(&mut self, layer: &Layer, set: &SymbolSet, day: usize) -> bool
         requires day { day + 1 < length self.old }
         requires wide { (width : ℕ) × IsWide self.old width × FitsInto width layer.now }
-        ensures step { IsPass from_of to_of layer.now (has_symbol set.now) (row_at self.new day) (row_at self.new (day + 1)) }
+        ensures step { IsPass from_of to_of layer.now (has_symbol set.now) (row_at self.new day)
+            (row_at self.new (day + 1)) }
         ensures others { (i : ℕ) → i ≢ day + 1 → row_at self.new i ≡ row_at self.old i }
         ensures unchanged { result ≡ false → self.new ≡ self.old }
         ensures long { length self.new ≡ length self.old }
@@ -82,7 +83,8 @@ impl DayMarks {
     fn go_back(&mut self, layer: &Layer, set: &SymbolSet, day: usize) -> bool
         requires day { day + 1 < length self.old }
         requires wide { (width : ℕ) × IsWide self.old width × FitsInto width layer.now }
-        ensures step { IsPass to_of from_of layer.now (has_symbol set.now) (row_at self.new (day + 1)) (row_at self.new day) }
+        ensures step { IsPass to_of from_of layer.now (has_symbol set.now) (row_at self.new (day + 1))
+            (row_at self.new day) }
         ensures others { (i : ℕ) → i ≢ day → row_at self.new i ≡ row_at self.old i }
         ensures unchanged { result ≡ false → self.new ≡ self.old }
         ensures long { length self.new ≡ length self.old }
@@ -97,8 +99,8 @@ impl DayMarks {
         true
     }
 
-    // Mends the steps behind a day whose domain has changed, until a day keeps its marks: all further ones depend on these
-    // alone.
+    // Mends the steps behind a day whose domain has changed, until a day keeps its marks: all further ones depend on
+    // these alone.
     pub fn mend_front(&mut self, layers: &[Layer], sets: &[SymbolSet], day: usize)
         requires some { 0 < length sets.now }
         requires day { day + 1 < length self.old }

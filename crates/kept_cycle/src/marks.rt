@@ -63,8 +63,8 @@ impl Marks {
         self.flags.as_slice() == other.flags.as_slice()
     }
 
-    // Marks the nodes to which the steps lead by symbols of the set from the nodes that are marked before. Goes once over
-    // the steps.
+    // Marks the nodes to which the steps lead by symbols of the set from the nodes that are marked before. Goes once
+    // over the steps.
     pub fn put_behind(&mut self, steps: &[Step], set: &SymbolSet, before: &Marks)
         requires { All (λ s. s.to < length self.old) steps.now }
         ensures long { length self.new ≡ length self.old }
@@ -79,8 +79,8 @@ impl Marks {
         }
     }
 
-    // Marks the nodes from which the steps lead by symbols of the set to the nodes that are marked behind. Goes once over
-    // the steps.
+    // Marks the nodes from which the steps lead by symbols of the set to the nodes that are marked behind. Goes once
+    // over the steps.
     pub fn put_before(&mut self, steps: &[Step], set: &SymbolSet, behind: &Marks)
         requires { All (λ s. s.from < length self.old) steps.now }
         ensures long { length self.new ≡ length self.old }

@@ -85,8 +85,8 @@ impl Hull {
         &self.parts
     }
 
-    /// What leads from the mix to the nearest point of the box, a number for each coordinate: 0 everywhere where the mix
-    /// lies in the box, and where there is no vector.
+    /// What leads from the mix to the nearest point of the box, a number for each coordinate: 0 everywhere where the
+    /// mix lies in the box, and where there is no vector.
     pub fn off(&self) -> &[i64] {
         &self.off
     }

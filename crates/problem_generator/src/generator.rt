@@ -83,8 +83,8 @@ fn problem_of(parts: Parts) -> Problem
     }
 }
 
-/// The problem of a number: three shifts over weeks of seven days, where the demand is what a hidden roster holds. The roster is
-/// made of stints of 6 to 11 days, by the draws that the number begins. The cost grows with the cells.
+/// The problem of a number: three shifts over weeks of seven days, where the demand is what a hidden roster holds.
+/// The roster is made of stints of 6 to 11 days, by the draws that the number begins. The cost grows with the cells.
 pub fn gen_problem(alloc: Global, number: u32, weeks: u32) -> Result<Problem, AllocError>
     requires { (1 ≤ weeks) × (weeks ≤ MOST_WEEKS) }
     ensures { IfOk result (IsGenerated number weeks) }

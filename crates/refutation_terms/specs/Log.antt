@@ -123,7 +123,9 @@ pub record Passes (P : Instance) (g : Log) : Type 0 where
 
 -- the header names no rule that neither a line nor the turn cites
 abbrev pub NamesOnlyCited : Instance → Log → Type 0
-NamesOnlyCited P g = (r : Rule) → Names P g.named r → TurnCites g.turn r ⊎ ((k : ℕ) × (line : Line) × (slice_get g.lines k ≡ Some line) × Cites P line r)
+NamesOnlyCited P g =
+    (r : Rule) → Names P g.named r
+    → TurnCites g.turn r ⊎ ((k : ℕ) × (line : Line) × (slice_get g.lines k ≡ Some line) × Cites P line r)
 
 -- every line but an unfinished one
 abbrev pub is_worked : Line → Bool
@@ -138,7 +140,8 @@ is_worked (Bound p turns R y) = true
 abbrev pub size : Log → ℕ
 size g = count_by is_worked g.lines
 
--- one whole tree, of which the first lines use up the budget and hold, and all further lines, one at least, are unfinished
+-- one whole tree, of which the first lines use up the budget and hold, and all further lines, one at least, are
+-- unfinished
 pub record IsSpent (P : Instance) (g : Log) (budget : ℕ) : Type 0 where
   pub grounded : IsGrounded P g
   pub tree : IsTree g.lines

@@ -65,7 +65,9 @@ fields P (RawSplit p name) = codes "split" ∷ place P p ++ (name ∷ [])
 fields P (RawWindow rule p len) = codes "window" ∷ decimal rule ∷ place P p ++ (decimal len ∷ [])
 fields P (RawDay day name over) = codes "day" ∷ decimal day ∷ name ∷ way over ∷ []
 fields P (RawDead p len R) = codes "dead" ∷ place P p ++ (decimal len ∷ codes "rules" ∷ numbers R)
-fields P (RawBound p turns R y) = codes "bound" ∷ place P p ++ (decimal turns ∷ codes "rules" ∷ numbers R) ++ (codes "weights" ∷ flat_map weight_fields y)
+fields P (RawBound p turns R y) =
+    codes "bound" ∷ place P p ++ (decimal turns ∷ codes "rules" ∷ numbers R)
+    ++ (codes "weights" ∷ flat_map weight_fields y)
 fields P RawUnfinished = codes "open" ∷ []
 
 -- fields with one blank between each two, and LF at the end
@@ -105,7 +107,9 @@ pub record IsName (name : List ℕ) : Type 0 where
 
 -- a value that isn't 0, from the least weight to the greatest, on a day of the problem
 abbrev pub WeightIsInRange : Instance → NamedWeight → Type 0
-WeightIsInRange P e = IsDay P e.day × IsName e.name × (neg_ℤ (pos GREATEST_WEIGHT) ≤ℤ e.value) × (e.value ≤ℤ pos GREATEST_WEIGHT) × (e.value ≢ pos 0)
+WeightIsInRange P e =
+    IsDay P e.day × IsName e.name × (neg_ℤ (pos GREATEST_WEIGHT) ≤ℤ e.value) × (e.value ≤ℤ pos GREATEST_WEIGHT)
+    × (e.value ≢ pos 0)
 
 -- the numbers of a written line are in their ranges, its lists of rules ascend, and its names are names
 abbrev pub IsInRange : Instance → RawLine → Type 0
@@ -113,7 +117,8 @@ IsInRange P (RawSplit p name) = (p < cells P) × IsName name
 IsInRange P (RawWindow rule p len) = (0 < rule) × (rule ≤ length (rules P)) × (p < cells P) × IsLength len
 IsInRange P (RawDay day name over) = IsDay P day × IsName name
 IsInRange P (RawDead p len R) = (p < cells P) × IsLength len × AreRules P R
-IsInRange P (RawBound p turns R y) = (p < cells P) × IsLength (turns * cells P) × AreRules P R × All (WeightIsInRange P) y
+IsInRange P (RawBound p turns R y) =
+    (p < cells P) × IsLength (turns * cells P) × AreRules P R × All (WeightIsInRange P) y
 IsInRange P RawUnfinished = Unit {0}
 
 -- a weight with a symbol for its name, before further weights

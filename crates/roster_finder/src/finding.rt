@@ -316,10 +316,10 @@ fn roster_of(problem: &Problem, cells: Vec<Symbol>) -> Option<Roster>
 
 /// A roster that meets every rule, or None. None says nothing: another search may find one.
 ///
-/// A fractional roster is found first, that is, how often each step of clean words is taken on each weekday in the mean
-/// (G. Dantzig and P. Wolfe's generation of columns, 1960). Words that follow it meet the demand nearly; windows of them
-/// are then rewritten, each by the clean word that fits best, until the demand is met. The same problem gives the same
-/// answer each time. Costs at most some seconds.
+/// A fractional roster is found first, that is, how often each step of clean words is taken on each weekday in the
+/// mean (G. Dantzig and P. Wolfe's generation of columns, 1960). Words that follow it meet the demand nearly; windows
+/// of them are then rewritten, each by the clean word that fits best, until the demand is met. The same problem gives
+/// the same answer each time. Costs at most some seconds.
 pub fn find_roster(alloc: Global, problem: &Problem) -> Result<Option<Roster>, AllocError>
     ensures { IfOk result (λ found.
         IfSome found (λ s. (s.days ≡ problem.now.days) × MeetsAll problem.now s.cells)) }

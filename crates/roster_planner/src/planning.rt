@@ -12,11 +12,11 @@ use rwsp_terms::limits::GREATEST_BUDGET;
 use std::alloc::{AllocError, Global};
 use std::thread::Threads;
 
-/// What a search finds within the budget. Where a shift is demanded, the first one on the first such day stands there in
-/// week 1.
+/// What a search finds within the budget. Where a shift is demanded, the first one on the first such day stands there
+/// in week 1.
 ///
-/// Each case is looked at for reasons: windows, days, and the words of two turns. Bounds by weights are tried at the top,
-/// shared out among workers, who pass the gate.
+/// Each case is looked at for reasons: windows, days, and the words of two turns. Bounds by weights are tried at the
+/// top, shared out among workers, who pass the gate.
 pub fn plan_roster<R: Threads + Sync, G: Gate>(
     rt: &R,
     alloc: Global,

@@ -19,9 +19,9 @@ pub struct NextSplit {
 
 /// A position with two symbols or more, and one of them; None where each position has one symbol.
 ///
-/// It is the first such position. A block of one shift, of days off or of work that the days before it have begun goes on until
-/// it has its least length. Else a day off is taken where fewer of them have been given than is their share up to there, and
-/// otherwise the shift that is needed most.
+/// It is the first such position. A block of one shift, of days off or of work that the days before it have begun
+/// goes on until it has its least length. Else a day off is taken where fewer of them have been given than is their
+/// share up to there, and otherwise the shift that is needed most.
 pub fn choose(problem: &Problem, domains: &Domains) -> Option<NextSplit>
     requires { BelongsTo problem.now domains.now }
     ensures { MatchOption result (IsDecided domains.now) (IsSplitIn domains.now) }
@@ -36,7 +36,8 @@ pub fn choose(problem: &Problem, domains: &Domains) -> Option<NextSplit>
 fn wanted_at(problem: &Problem, domains: &Domains, p: u32) -> Option<Symbol>
     requires belongs { BelongsTo problem.now domains.now }
     requires position { p < length domains.now.sets }
-    ensures { MatchOption result ((x : ℕ) → x ≤ domains.now.shifts → has_domain domains.now p x ≡ false) (λ x. IsTrue (has_domain domains.now p x.number)) }
+    ensures { MatchOption result ((x : ℕ) → x ≤ domains.now.shifts → has_domain domains.now p x ≡ false)
+        (λ x. IsTrue (has_domain domains.now p x.number)) }
 {
     if let Some(x) = unfinished(problem, domains, p) {
         return Some(x);
@@ -148,7 +149,8 @@ fn is_surely(domains: &Domains, p: u32, class: Class) -> bool
 
 // The first position with two symbols or more.
 fn first_open(domains: &Domains) -> Option<u32>
-    ensures { MatchOption result (IsDecided domains.now) (λ p. (p < length domains.now.sets) × (2 ≤ length (domain_at domains.now p))) }
+    ensures { MatchOption result (IsDecided domains.now)
+        (λ p. (p < length domains.now.sets) × (2 ≤ length (domain_at domains.now p))) }
 {
     for p in 0..domains.cells() {
         if domains.size(p) > 1 {

@@ -8,11 +8,13 @@ use domain_store::Domains;
 use rwsp_model::{Problem, Symbol};
 use rwsp_terms::limits::{MOST_CELLS, MOST_DAYS};
 
-/// The symbol of the domain, of those from the lowest on, that is needed most on the day of the position, of several the first.
+/// The symbol of the domain, of those from the lowest on, that is needed most on the day of the position, of several
+/// the first.
 pub fn most_needed(problem: &Problem, domains: &Domains, p: u32, lowest: Symbol) -> Option<Symbol>
     requires belongs { BelongsTo problem.now domains.now }
     requires position { p < length domains.now.sets }
-    ensures { MatchOption result (HasNoneFrom domains.now p lowest.number) (λ x. (lowest.number ≤ x.number) × IsTrue (has_domain domains.now p x.number)) }
+    ensures { MatchOption result (HasNoneFrom domains.now p lowest.number)
+        (λ x. (lowest.number ≤ x.number) × IsTrue (has_domain domains.now p x.number)) }
 {
     domains.facts();
     let mut best: Option<Wanted> = None;

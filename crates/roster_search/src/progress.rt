@@ -64,7 +64,9 @@ impl Progress {
     pub fn domain_facts(&self)
         ensures store { IsStore self.now.walk.store }
         ensures tests { HasDomains self.now.walk.store }
-        ensures same { (P : Instance) → IsProgress P self.now → AreSame P (has_domain self.now.walk.store) (domains_at P self.now.turn self.now.lines.items (length self.now.lines.items)) }
+        ensures same { (P : Instance) → IsProgress P self.now
+            → AreSame P (has_domain self.now.walk.store)
+            (domains_at P self.now.turn self.now.lines.items (length self.now.lines.items)) }
     {
         self.walk.domains().facts();
     }
@@ -74,7 +76,8 @@ impl Progress {
         requires part { self.old.walk.whole ≡ false }
         requires written { IsProgress problem.now self.old }
         requires leaf { IsLeafOf problem.now line }
-        requires holds { Holds problem.now (domains_at problem.now self.old.turn self.old.lines.items (length self.old.lines.items)) line }
+        requires holds { Holds problem.now
+            (domains_at problem.now self.old.turn self.old.lines.items (length self.old.lines.items)) line }
         ensures written { IfOk result (λ _. IsProgress problem.now self.new) }
         ensures turn { self.new.turn ≡ self.old.turn }
         ensures lines { IfOk result (λ _. self.new.lines.items ≡ self.old.lines.items ++ line ∷ []) }
@@ -121,7 +124,9 @@ impl Progress {
         requires holds { Holds problem.now (narrowed (has_domain self.old.walk.store) (Split p x) First) line }
         ensures off { IfOk result (λ _. IsSplitOff problem.now self.old self.new p x) }
         ensures few { IfOk result (λ _. length self.new.lines.items ≤ budget) }
-        ensures leaf { IfOk result (λ _. length self.old.lines.items + 1 < budget → self.new.lines.items ≡ self.old.lines.items ++ Split p x ∷ line ∷ []) }
+        ensures leaf { IfOk result (λ _.
+            length self.old.lines.items + 1 < budget
+            → self.new.lines.items ≡ self.old.lines.items ++ Split p x ∷ line ∷ []) }
         ensures turn { self.new.turn ≡ self.old.turn }
     {
         problem.keeps_limits();

@@ -1,5 +1,5 @@
 -- The command lines that are accepted.
-use Rattle.std.specs.Prelude.{◌≡◌, ◌≢◌, ℕ, ◌<◌, ◌≤◌, List, [], ◌∷◌, length, slice_index, slice_get, Option, Some, None, String, codes}
+use Rattle.std.specs.Prelude.{◌≡◌, ◌≢◌, ℕ, ◌<◌, ◌≤◌, List, [], ◌∷◌, length, slice_index, slice_get, Option, Some, None, MatchOption, String, codes}
 use Rattle.std.specs.String.{string_bytes}
 use Rattle.std.specs.declared.alloc.Global.{Global}
 use Rattle.rwsp_terms.specs.declared.limits.TheConstants.{MOST_WEEKS, USUAL_BUDGET, GREATEST_BUDGET, LONGEST_CALENDAR, USUAL_WORKERS, MOST_WORKERS}
@@ -23,25 +23,58 @@ IsCount word limit n = (number_of word ≡ Some n) × (1 ≤ n) × (n ≤ limit)
 
 -- a roster's calendar from a date on, for so many days
 abbrev pub IsCrewForm : (word file second date days : List ℕ) → (first : Date) → ℕ → Type 0
-IsCrewForm word file second date days first n = (word ≡ codes "crew") × IsFileWord file × IsFileWord second × IsDateWord date first × IsCount days LONGEST_CALENDAR n
+IsCrewForm word file second date days first n =
+    (word ≡ codes "crew") × IsFileWord file × IsFileWord second × IsDateWord date first
+    × IsCount days LONGEST_CALENDAR n
+
+-- the same of words as they are given
+abbrev pub IsCalendarForm : (word file second date days : String Global) → (first : Date) → ℕ → Type 0
+IsCalendarForm word file second date days first n =
+    IsCrewForm (string_bytes word) (string_bytes file) (string_bytes second) (string_bytes date) (string_bytes days)
+    first n
 
 -- the words are a form of the command
 abbrev pub IsForm : Words → Command → Type 0
 IsForm (word ∷ file ∷ []) Show = (string_bytes word ≡ codes "show") × IsFileWord (string_bytes file)
-IsForm (word ∷ file ∷ []) (Plan budget) = (string_bytes word ≡ codes "plan") × IsFileWord (string_bytes file) × (budget ≡ USUAL_BUDGET)
-IsForm (word ∷ file ∷ second ∷ []) Verify = (string_bytes word ≡ codes "verify") × IsFileWord (string_bytes file) × IsFileWord (string_bytes second)
-IsForm (word ∷ file ∷ second ∷ []) Reduce = (string_bytes word ≡ codes "reduce") × IsFileWord (string_bytes file) × IsFileWord (string_bytes second)
-IsForm (word ∷ file ∷ second ∷ []) (Check workers) = (string_bytes word ≡ codes "check") × IsFileWord (string_bytes file) × IsFileWord (string_bytes second) × (workers ≡ USUAL_WORKERS)
-IsForm (word ∷ number_word ∷ weeks_word ∷ []) (Trial number weeks) = (string_bytes word ≡ codes "trial") × (number_of (string_bytes number_word) ≡ Some number) × IsCount (string_bytes weeks_word) MOST_WEEKS weeks
-IsForm (word ∷ file ∷ option ∷ number ∷ []) (Plan budget) = (string_bytes word ≡ codes "plan") × IsFileWord (string_bytes file) × (string_bytes option ≡ codes "--budget") × IsCount (string_bytes number) GREATEST_BUDGET budget
-IsForm (word ∷ file ∷ second ∷ option ∷ number ∷ []) (Check workers) = (string_bytes word ≡ codes "check") × IsFileWord (string_bytes file) × IsFileWord (string_bytes second) × (string_bytes option ≡ codes "--workers") × IsCount (string_bytes number) MOST_WORKERS workers
-IsForm (word ∷ file ∷ second ∷ date ∷ days ∷ []) (Crew first n employee) = IsCrewForm (string_bytes word) (string_bytes file) (string_bytes second) (string_bytes date) (string_bytes days) first n × (employee ≡ None)
-IsForm (word ∷ file ∷ second ∷ date ∷ days ∷ number ∷ []) (Crew first n employee) = IsCrewForm (string_bytes word) (string_bytes file) (string_bytes second) (string_bytes date) (string_bytes days) first n × ((e : ℕ) × IsCount (string_bytes number) MOST_WEEKS e × (employee ≡ Some e))
+IsForm (word ∷ file ∷ []) (Plan budget) =
+    (string_bytes word ≡ codes "plan") × IsFileWord (string_bytes file) × (budget ≡ USUAL_BUDGET)
+IsForm (word ∷ file ∷ second ∷ []) Verify =
+    (string_bytes word ≡ codes "verify") × IsFileWord (string_bytes file) × IsFileWord (string_bytes second)
+IsForm (word ∷ file ∷ second ∷ []) Reduce =
+    (string_bytes word ≡ codes "reduce") × IsFileWord (string_bytes file) × IsFileWord (string_bytes second)
+IsForm (word ∷ file ∷ second ∷ []) (Check workers) =
+    (string_bytes word ≡ codes "check") × IsFileWord (string_bytes file) × IsFileWord (string_bytes second)
+    × (workers ≡ USUAL_WORKERS)
+IsForm (word ∷ number_word ∷ weeks_word ∷ []) (Trial number weeks) =
+    (string_bytes word ≡ codes "trial") × (number_of (string_bytes number_word) ≡ Some number)
+    × IsCount (string_bytes weeks_word) MOST_WEEKS weeks
+IsForm (word ∷ file ∷ option ∷ number ∷ []) (Plan budget) =
+    (string_bytes word ≡ codes "plan") × IsFileWord (string_bytes file) × (string_bytes option ≡ codes "--budget")
+    × IsCount (string_bytes number) GREATEST_BUDGET budget
+IsForm (word ∷ file ∷ second ∷ option ∷ number ∷ []) (Check workers) =
+    (string_bytes word ≡ codes "check") × IsFileWord (string_bytes file) × IsFileWord (string_bytes second)
+    × (string_bytes option ≡ codes "--workers") × IsCount (string_bytes number) MOST_WORKERS workers
+IsForm (word ∷ file ∷ second ∷ date ∷ days ∷ []) (Crew first n employee) =
+    IsCalendarForm word file second date days first n × (employee ≡ None)
+IsForm (word ∷ file ∷ second ∷ date ∷ days ∷ number ∷ []) (Crew first n employee) =
+    IsCalendarForm word file second date days first n
+    × ((e : ℕ) × IsCount (string_bytes number) MOST_WEEKS e × (employee ≡ Some e))
 IsForm words command = ⊥
 
 -- the words are a form of no command
 abbrev pub HasNoForm : Words → Type 0
 HasNoForm words = (command : Command) → IsForm words command → ⊥
+
+-- the command that the words are a form of, or none where they are a form of none
+abbrev pub IsCommandOf : Words → Option Command → Type 0
+IsCommandOf words answer = MatchOption answer (HasNoForm words) (IsForm words)
+
+-- the first date and the number of days that the words of a calendar give, or none where they aren't such words
+abbrev pub AreDatesOf : (word file second date days : String Global) → Option (Date × ℕ) → Type 0
+AreDatesOf word file second date days answer =
+    MatchOption answer
+    ((first : Date) (n : ℕ) → IsCalendarForm word file second date days first n → ⊥)
+    (λ both. IsCalendarForm word file second date days both.0 both.1)
 
 -- the command reads a problem's file
 abbrev pub ReadsProblem : Command → Type 0

@@ -38,7 +38,9 @@ IsTooLong kind bytes = longest kind < length bytes
 
 -- a fact about the instance that the first file spells
 abbrev pub OfProblem : (List ℕ → Told) → Words → (Instance → Type 0) → Type 0
-OfProblem held words Q = WhereTold (held (problem_name words)) (λ file. IsWithinLimit Problem file × ((P : Instance) × SpellsProblem file P × Q P))
+OfProblem held words Q =
+    WhereTold (held (problem_name words))
+    (λ file. IsWithinLimit Problem file × ((P : Instance) × SpellsProblem file P × Q P))
 
 -- the first file spells an instance
 abbrev pub HasProblem : (List ℕ → Told) → Words → Type 0

@@ -15,8 +15,8 @@ use Rattle.rwsp.specs.declared.answer.InputKind.TheVariants as Kinds
 use Rattle.rwsp.specs.declared.answer.Answer.{Answer}
 use Rattle.rwsp.specs.declared.answer.Answer.TheVariants.{Roster, NoRoster, Accepted, Reduced, Meets, Trial, Crew}
 
--- the shelf tells what the problem's file holds, or that it isn't there, where the words are a form of a command that reads one; and so
--- for the second file
+-- the shelf tells what the problem's file holds, or that it isn't there, where the words are a form of a command that
+-- reads one; and so for the second file
 abbrev pub AreTold : (List ℕ → Told) → Words → Type 0
 AreTold held words =
     ((command : Command) → IsForm words command → ReadsProblem command → held (problem_name words) ≢ Silent)
@@ -29,32 +29,39 @@ AgreeInSearch (NoRoster g) (Roster s) = ⊥
 AgreeInSearch (Trial a) (Trial b) = (a.number ≡ b.number) × (a.weeks ≡ b.weeks)
 AgreeInSearch a b = IsOfSearch a × IsOfSearch b
 
--- two answers to the same words over the same files are equal, or both are what a search gives, and not a roster beside a refutation
+-- two answers to the same words over the same files are equal, or both are what a search gives, and not a roster
+-- beside a refutation
 abbrev pub AnswersAreOne : Type 0
 AnswersAreOne =
-    (held : List ℕ → Told) (words : Words) (a b : Answer) → AreTold held words → IsAnswer held words a → IsAnswer held words b
+    (held : List ℕ → Told) (words : Words) (a b : Answer) → AreTold held words → IsAnswer held words a
+        → IsAnswer held words b
     → (a ≡ b) ⊎ AgreeInSearch a b
 
 -- an answer has one text
 abbrev pub TextsAreOne : Type 0
 TextsAreOne =
     (held : List ℕ → Told) (words : Words) (a : Answer) (text other : List ℕ)
-    → held (problem_name words) ≢ Silent → (a ≡ Crew → held (second_name words) ≢ Silent) → IsTextOf held words a text → IsTextOf held words a other
+    → held (problem_name words) ≢ Silent → (a ≡ Crew → held (second_name words) ≢ Silent) → IsTextOf held words a text
+        → IsTextOf held words a other
     → text ≡ other
 
--- where the words are a form of a command that reads a problem's file, and that file spells an instance, an answer is one of the command's there
+-- where the words are a form of a command that reads a problem's file, and that file spells an instance, an answer is
+-- one of the command's there
 abbrev pub ProblemsAreAnswered : Type 0
 ProblemsAreAnswered =
     (held : List ℕ → Told) (words : Words) (command : Command) (file : List ℕ) (P : Instance) (a : Answer)
-    → IsForm words command → IsWithinHorizon command → ReadsProblem command → held (problem_name words) ≡ Bytes file → IsWithinLimit Kinds.Problem file → SpellsProblem file P
+    → IsForm words command → IsWithinHorizon command → ReadsProblem command → held (problem_name words) ≡ Bytes file
+        → IsWithinLimit Kinds.Problem file → SpellsProblem file P
     → IsAnswer held words a
     → IsAnswerOn command (held (second_name words)) P a
 
--- the text of a refutation that `plan` writes for what a file spells is accepted by `check` over that file, with the rules that it names
+-- the text of a refutation that `plan` writes for what a file spells is accepted by `check` over that file, with the
+-- rules that it names
 abbrev pub RefutationsAreAccepted : Type 0
 RefutationsAreAccepted =
     (file : List ℕ) (P : Instance) (budget : ℕ) (g : Log) (a : Answer)
-    → SpellsProblem file P → IsPlanned P budget (NoRoster g) → IsWithinLimit Kinds.Log (text_of P (NoRoster g)) → IsOfLog a → IsLogAnswer a P (text_of P (NoRoster g))
+    → SpellsProblem file P → IsPlanned P budget (NoRoster g) → IsWithinLimit Kinds.Log (text_of P (NoRoster g))
+        → IsOfLog a → IsLogAnswer a P (text_of P (NoRoster g))
     → a ≡ Accepted g.named
 
 -- a roster that was found
@@ -73,9 +80,11 @@ RostersMeet =
 abbrev pub ReductionsAreAccepted : Type 0
 ReductionsAreAccepted =
     (file : List ℕ) (P : Instance) (bytes : List ℕ) (h : Log) (a : Answer)
-    → SpellsProblem file P → IsReduction (Reduced h) P bytes → IsWithinLimit Kinds.Log (text_of P (Reduced h)) → IsLogAnswer a P (text_of P (Reduced h))
+    → SpellsProblem file P → IsReduction (Reduced h) P bytes → IsWithinLimit Kinds.Log (text_of P (Reduced h))
+        → IsLogAnswer a P (text_of P (Reduced h))
     → a ≡ Accepted h.named
 
 -- the number of workers makes no difference to what is said of an answer
 abbrev pub WorkersMakeNoDifference : Type 0
-WorkersMakeNoDifference = (m n : ℕ) (told : Told) (P : Instance) (a : Answer) → IsAnswerOn (Check m) told P a → IsAnswerOn (Check n) told P a
+WorkersMakeNoDifference =
+    (m n : ℕ) (told : Told) (P : Instance) (a : Answer) → IsAnswerOn (Check m) told P a → IsAnswerOn (Check n) told P a

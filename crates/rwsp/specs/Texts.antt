@@ -69,7 +69,8 @@ log_refusal_text P (Refusals.Unnamed number rule) = at_line (codes "log refused:
 log_refusal_text P (Refusals.Idle number) = at_line (codes "log refused: idle") number
 log_refusal_text P (Refusals.Long number rule) = at_line (codes "log refused: long " ++ decimal rule) number
 log_refusal_text P (Refusals.Fails number) = at_line (codes "log refused: fails") number
-log_refusal_text P (Refusals.Escape number w) = at_line (codes "log refused: escape") number ++ codes ":" ++ word_text P w
+log_refusal_text P (Refusals.Escape number w) =
+    at_line (codes "log refused: escape") number ++ codes ":" ++ word_text P w
 log_refusal_text P (Refusals.Unfinished number) = at_line (codes "log refused: open") number
 log_refusal_text P Refusals.Ends = codes "log refused: ends"
 log_refusal_text P (Refusals.Extra number) = at_line (codes "log refused: extra") number
@@ -82,17 +83,22 @@ accepted_text R = codes "accepted: rules" ++ flat_map (λ k. 32 ∷ decimal k) R
 -- where a window begins and how long it is; the rule of a day has no such place
 abbrev pub place_text : Rule → Broken → List ℕ
 place_text (Day day) broken = []
-place_text rule broken = codes " week " ++ decimal broken.week ++ codes " day " ++ decimal broken.day ++ codes " length " ++ decimal broken.length
+place_text rule broken =
+    codes " week " ++ decimal broken.week ++ codes " day " ++ decimal broken.day ++ codes " length "
+    ++ decimal broken.length
 
 abbrev pub broken_text : Instance → Option Rule → Broken → List ℕ
 broken_text P None broken = []
 broken_text P (Some rule) broken = rule_text P rule ++ place_text rule broken
 
 abbrev pub breaks_text : Instance → Broken → List ℕ
-breaks_text P broken = codes "breaks rule " ++ decimal broken.rule ++ codes " " ++ broken_text P (rule_of P broken.rule) broken
+breaks_text P broken =
+    codes "breaks rule " ++ decimal broken.rule ++ codes " " ++ broken_text P (rule_of P broken.rule) broken
 
 abbrev pub usage_text : List ℕ
-usage_text = codes "usage: rwsp plan FILE [--budget B] | check FILE LOG [--workers N] | verify FILE ROSTER | reduce FILE LOG | show FILE | trial NUMBER WEEKS | crew FILE ROSTER DATE DAYS [EMPLOYEE]"
+usage_text =
+    codes "usage: rwsp plan FILE [--budget B] | check FILE LOG [--workers N] | verify FILE ROSTER | reduce FILE LOG |
+    show FILE | trial NUMBER WEEKS | crew FILE ROSTER DATE DAYS [EMPLOYEE]"
 
 abbrev pub kind_text : InputKind → List ℕ
 kind_text Kinds.Problem = codes "too long: problem"
@@ -146,7 +152,8 @@ abbrev pub HasFixedLine : Answer → Type 0
 HasFixedLine (Accepted R) = ⊥
 HasFixedLine answer = HasFixedText answer
 
--- the text of an answer, for the instance that the problem's file spells, or that of a trial. A calendar's text is of more than the instance
+-- the text of an answer, for the instance that the problem's file spells, or that of a trial. A calendar's text is of
+-- more than the instance
 abbrev pub text_of : Instance → Answer → List ℕ
 text_of P (Roster s) = roster_text P s.cells
 text_of P (NoRoster g) = log_text P g
@@ -191,7 +198,8 @@ IsCalendarOf command P s text = ⊥
 
 -- the same, of the roster that the second file spells
 abbrev pub IsCalendarText : Command → Told → Instance → List ℕ → Type 0
-IsCalendarText command told P text = WhereTold told (λ bytes. (s : List Symbol) × SpellsRoster P bytes s × IsCalendarOf command P s text)
+IsCalendarText command told P text =
+    WhereTold told (λ bytes. (s : List Symbol) × SpellsRoster P bytes s × IsCalendarOf command P s text)
 
 -- the text of the answer to a command, for an instance and what the second file tells
 abbrev pub IsReplyText : Command → Told → Instance → Answer → List ℕ → Type 0
@@ -202,9 +210,11 @@ IsReplyText command told P answer text =
 abbrev pub IsTextOfTrial : Answer → List ℕ → Type 0
 IsTextOfTrial answer text = (P : Instance) × IsProblemOfTrial answer P × (text ≡ text_of P answer)
 
--- the text is the answer's, which is the same for every instance, or is for the one that the problem's file spells, or for that of a trial
+-- the text is the answer's, which is the same for every instance, or is for the one that the problem's file spells,
+-- or for that of a trial
 abbrev pub IsTextOf : (List ℕ → Told) → Words → Answer → List ℕ → Type 0
 IsTextOf held words answer text =
     (HasFixedText answer × ((P : Instance) → text ≡ text_of P answer))
-    ⊎ (((command : Command) × IsForm words command × ((P : Instance) × IsProblemOf held words P × IsReplyText command (held (second_name words)) P answer text))
+    ⊎ (((command : Command) × IsForm words command
+        × ((P : Instance) × IsProblemOf held words P × IsReplyText command (held (second_name words)) P answer text))
     ⊎ IsTextOfTrial answer text)

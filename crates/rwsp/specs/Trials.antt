@@ -12,7 +12,8 @@ use Rattle.rwsp.specs.declared.answer.TrialResult.{TrialResult}
 use Rattle.rwsp.specs.declared.answer.Answer.{Answer}
 use Rattle.rwsp.specs.declared.answer.Answer.TheVariants.{Trial}
 
--- a roster that meets every rule, or a sharp log that has spent the budget. There is no refutation, since a roster exists
+-- a roster that meets every rule, or a sharp log that has spent the budget. There is no refutation, since a roster
+-- exists
 abbrev pub IsTried : Instance → Found → Type 0
 IsTried P (Founds.Roster s) = (s.days ≡ P.days) × MeetsAll P s.cells
 IsTried P (Founds.Undecided g) = IsSpent P g TRIAL_BUDGET × IsPlannedLog P g
@@ -20,7 +21,9 @@ IsTried P (Founds.NoRoster g) = ⊥
 
 -- what was found for the problem of the number and the weeks
 abbrev pub IsTrial : ℕ → ℕ → TrialResult → Type 0
-IsTrial number weeks trial = (trial.number ≡ number) × (trial.weeks ≡ weeks) × ((P : Instance) × IsGenerated number weeks P × IsTried P trial.found)
+IsTrial number weeks trial =
+    (trial.number ≡ number) × (trial.weeks ≡ weeks)
+    × ((P : Instance) × IsGenerated number weeks P × IsTried P trial.found)
 
 -- the answer is that of a trial
 abbrev pub IsTrialAnswer : ℕ → ℕ → Answer → Type 0

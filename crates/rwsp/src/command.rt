@@ -2,7 +2,7 @@
 ghost use Rattle.std.specs.Prelude.{◌≡◌, ◌≢◌, codes, ℕ, ◌<◌, ◌↔◌, [], ◌∷◌, length, IsTrue, MatchOption, slice_get};
 ghost use Rattle.std.specs.String.{string_bytes};
 ghost use Rattle.jiff.specs.Types.{Date as PlainDate};
-ghost use Rattle.rwsp.specs.Commands.{IsFileWord, IsCount, IsForm, IsCrewForm, HasNoForm, HasFewDays, IsWithinHorizon, word_bytes};
+ghost use Rattle.rwsp.specs.Commands.{IsFileWord, IsCount, IsCommandOf, AreDatesOf, HasFewDays, IsWithinHorizon, word_bytes};
 
 use crew_calendar::{date_of, fits};
 use jiff::civil::Date;
@@ -56,7 +56,7 @@ fn count_in(word: &str, limit: u32) -> Option<u32>
 
 /// The command that the words are a form of; None exactly where they are a form of none. Takes no memory.
 pub fn command_of(words: &Vec<String>) -> Option<Command>
-    ensures { MatchOption result (HasNoForm words.now.items) (IsForm words.now.items) }
+    ensures { IsCommandOf words.now.items result }
 {
     match words.as_slice() {
         [word, file] => on_one_file(word, file),
@@ -72,7 +72,7 @@ pub fn command_of(words: &Vec<String>) -> Option<Command>
 
 // A command with the problem's file alone.
 fn on_one_file(word: &String, file: &String) -> Option<Command>
-    ensures { MatchOption result (HasNoForm (word.now ∷ file.now ∷ [])) (IsForm (word.now ∷ file.now ∷ [])) }
+    ensures { IsCommandOf (word.now ∷ file.now ∷ []) result }
 {
     if !is_file_word(file.as_str()) {
         return None;
@@ -90,7 +90,7 @@ fn on_one_file(word: &String, file: &String) -> Option<Command>
 
 // A trial, or a command with a second file.
 fn on_three_words(word: &String, first: &String, second: &String) -> Option<Command>
-    ensures { MatchOption result (HasNoForm (word.now ∷ first.now ∷ second.now ∷ [])) (IsForm (word.now ∷ first.now ∷ second.now ∷ [])) }
+    ensures { IsCommandOf (word.now ∷ first.now ∷ second.now ∷ []) result }
 {
     if word.as_str() == "trial" {
         trial_of(word, first, second)
@@ -102,7 +102,7 @@ fn on_three_words(word: &String, first: &String, second: &String) -> Option<Comm
 // The trial of a number and a count of weeks.
 fn trial_of(word: &String, number_word: &String, weeks_word: &String) -> Option<Command>
     requires { string_bytes word.now ≡ codes "trial" }
-    ensures { MatchOption result (HasNoForm (word.now ∷ number_word.now ∷ weeks_word.now ∷ [])) (IsForm (word.now ∷ number_word.now ∷ weeks_word.now ∷ [])) }
+    ensures { IsCommandOf (word.now ∷ number_word.now ∷ weeks_word.now ∷ []) result }
 {
     let number = number(number_word.as_bytes())?;
     let weeks = count_in(weeks_word.as_str(), MOST_WEEKS)?;
@@ -112,7 +112,7 @@ fn trial_of(word: &String, number_word: &String, weeks_word: &String) -> Option<
 // A command with a second file.
 fn on_two_files(word: &String, file: &String, second: &String) -> Option<Command>
     requires { string_bytes word.now ≢ codes "trial" }
-    ensures { MatchOption result (HasNoForm (word.now ∷ file.now ∷ second.now ∷ [])) (IsForm (word.now ∷ file.now ∷ second.now ∷ [])) }
+    ensures { IsCommandOf (word.now ∷ file.now ∷ second.now ∷ []) result }
 {
     if !is_file_word(file.as_str()) {
         return None;
@@ -135,7 +135,7 @@ fn on_two_files(word: &String, file: &String, second: &String) -> Option<Command
 
 // `plan` with a budget.
 fn plan_by_option(word: &String, file: &String, option: &String, number: &String) -> Option<Command>
-    ensures { MatchOption result (HasNoForm (word.now ∷ file.now ∷ option.now ∷ number.now ∷ [])) (IsForm (word.now ∷ file.now ∷ option.now ∷ number.now ∷ [])) }
+    ensures { IsCommandOf (word.now ∷ file.now ∷ option.now ∷ number.now ∷ []) result }
 {
     if word.as_str() != "plan" {
         return None;
@@ -158,7 +158,7 @@ fn on_five_words(
     option: &String,
     number: &String,
 ) -> Option<Command>
-    ensures { MatchOption result (HasNoForm (word.now ∷ file.now ∷ second.now ∷ option.now ∷ number.now ∷ [])) (IsForm (word.now ∷ file.now ∷ second.now ∷ option.now ∷ number.now ∷ [])) }
+    ensures { IsCommandOf (word.now ∷ file.now ∷ second.now ∷ option.now ∷ number.now ∷ []) result }
 {
     if word.as_str() == "crew" {
         return crew_of_all(word, file, second, option, number);
@@ -174,7 +174,7 @@ fn dates_of(
     date: &String,
     days: &String,
 ) -> Option<(Date, u32)>
-    ensures { MatchOption result ((first : PlainDate) (n : ℕ) → IsCrewForm (string_bytes word.now) (string_bytes file.now) (string_bytes second.now) (string_bytes date.now) (string_bytes days.now) first n → ⊥) (λ both. IsCrewForm (string_bytes word.now) (string_bytes file.now) (string_bytes second.now) (string_bytes date.now) (string_bytes days.now) both.0 both.1) }
+    ensures { AreDatesOf word.now file.now second.now date.now days.now result }
 {
     if word.as_str() != "crew" {
         return None;
@@ -199,7 +199,7 @@ fn crew_of_all(
     days: &String,
 ) -> Option<Command>
     requires { string_bytes word.now ≡ codes "crew" }
-    ensures { MatchOption result (HasNoForm (word.now ∷ file.now ∷ second.now ∷ date.now ∷ days.now ∷ [])) (IsForm (word.now ∷ file.now ∷ second.now ∷ date.now ∷ days.now ∷ [])) }
+    ensures { IsCommandOf (word.now ∷ file.now ∷ second.now ∷ date.now ∷ days.now ∷ []) result }
 {
     let (date, days) = dates_of(word, file, second, date, days)?;
     Some(Command::Crew {
@@ -218,7 +218,7 @@ fn crew_of_one(
     days: &String,
     number: &String,
 ) -> Option<Command>
-    ensures { MatchOption result (HasNoForm (word.now ∷ file.now ∷ second.now ∷ date.now ∷ days.now ∷ number.now ∷ [])) (IsForm (word.now ∷ file.now ∷ second.now ∷ date.now ∷ days.now ∷ number.now ∷ [])) }
+    ensures { IsCommandOf (word.now ∷ file.now ∷ second.now ∷ date.now ∷ days.now ∷ number.now ∷ []) result }
 {
     let (date, days) = dates_of(word, file, second, date, days)?;
     let employee = count_in(number.as_str(), MOST_WEEKS)?;
@@ -249,7 +249,7 @@ fn check_by_option(
     number: &String,
 ) -> Option<Command>
     requires { string_bytes word.now ≢ codes "crew" }
-    ensures { MatchOption result (HasNoForm (word.now ∷ file.now ∷ second.now ∷ option.now ∷ number.now ∷ [])) (IsForm (word.now ∷ file.now ∷ second.now ∷ option.now ∷ number.now ∷ [])) }
+    ensures { IsCommandOf (word.now ∷ file.now ∷ second.now ∷ option.now ∷ number.now ∷ []) result }
 {
     if word.as_str() != "check" {
         return None;

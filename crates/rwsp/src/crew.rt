@@ -37,9 +37,11 @@ pub fn crew_reply<S: Shelf>(
     requires days { days ≤ LONGEST_CALENDAR }
     requires employee { IsEmployeeNumber employee }
     requires fits { Fits date days }
-    ensures answer { IfOk result (λ r. WhereTold (S.held shelf.old name.now) (IsCrewAnswer employee r.answer problem.now)) }
+    ensures answer { IfOk result (λ r.
+        WhereTold (S.held shelf.old name.now) (IsCrewAnswer employee r.answer problem.now)) }
     ensures kind { IfOk result (λ r. IsOfCrew r.answer) }
-    ensures text { IfOk result (λ r. IsReplyText (Asked date days employee) (S.held shelf.old name.now) problem.now r.answer r.text.items) }
+    ensures text { IfOk result (λ r.
+        IsReplyText (Asked date days employee) (S.held shelf.old name.now) problem.now r.answer r.text.items) }
     ensures stop { IfErr result (IsStop (Rose (S.faults shelf.old name.now) (S.faults shelf.new name.now))) }
     ensures faults { NeverFall (S.faults shelf.old) (S.faults shelf.new) }
 {
@@ -65,7 +67,8 @@ fn calendar(
     requires fits { Fits date days }
     ensures answer { IfOk result (λ r. IsCrewAnswer employee r.answer problem.now bytes.now) }
     ensures kind { IfOk result (λ r. IsOfCrew r.answer) }
-    ensures text { IfOk result (λ r. IsReplyText (Asked date days employee) (Bytes bytes.now) problem.now r.answer r.text.items) }
+    ensures text { IfOk result (λ r.
+        IsReplyText (Asked date days employee) (Bytes bytes.now) problem.now r.answer r.text.items) }
     ensures fault { IsErrOf result Stop.ReadFault → ⊥ }
 {
     match read_roster(alloc, problem, bytes) {
@@ -93,7 +96,8 @@ fn on_roster(
     requires fits { Fits date days }
     ensures answer { IfOk result (λ r. IsCrewAnswer employee r.answer problem.now bytes.now) }
     ensures kind { IfOk result (λ r. IsOfCrew r.answer) }
-    ensures text { IfOk result (λ r. IsReplyText (Asked date days employee) (Bytes bytes.now) problem.now r.answer r.text.items) }
+    ensures text { IfOk result (λ r.
+        IsReplyText (Asked date days employee) (Bytes bytes.now) problem.now r.answer r.text.items) }
     ensures fault { IsErrOf result Stop.ReadFault → ⊥ }
 {
     if let Some(broken) = first_broken(problem, roster) {
@@ -126,7 +130,8 @@ fn duties_of(
     requires fits { Fits date days }
     ensures answer { IfOk result (λ r. IsCrewAnswer (Some number) r.answer problem.now bytes.now) }
     ensures kind { IfOk result (λ r. IsOfCrew r.answer) }
-    ensures text { IfOk result (λ r. IsReplyText (Asked date days (Some number)) (Bytes bytes.now) problem.now r.answer r.text.items) }
+    ensures text { IfOk result (λ r.
+        IsReplyText (Asked date days (Some number)) (Bytes bytes.now) problem.now r.answer r.text.items) }
     ensures fault { IsErrOf result Stop.ReadFault → ⊥ }
 {
     if number > problem.weeks() {

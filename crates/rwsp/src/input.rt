@@ -43,7 +43,8 @@ pub fn bytes_in<S: Shelf>(
 ) -> Result<Vec<u8>, Exit>
     ensures bytes { IfOk result (λ v. WhereTold (S.held shelf.old name.now) (λ bytes. v.items ≡ bytes)) }
     ensures short { IfOk result (λ v. IsWithinLimit kind v.items) }
-    ensures exit { IfErr result (IsReadExit (S.held shelf.old name.now) (Rose (S.faults shelf.old name.now) (S.faults shelf.new name.now)) kind) }
+    ensures exit { IfErr result (IsReadExit (S.held shelf.old name.now)
+        (Rose (S.faults shelf.old name.now) (S.faults shelf.new name.now)) kind) }
     ensures missing { S.held shelf.old name.now ≡ Missing → IsErrOf result (Exit.Stop Stop.ReadFault) }
     ensures held { (other : List ℕ) → S.held shelf.new other ≡ S.held shelf.old other }
     ensures faults { NeverFall (S.faults shelf.old) (S.faults shelf.new) }
@@ -58,8 +59,10 @@ pub fn bytes_in<S: Shelf>(
 
 /// The problem that a file spells.
 pub fn problem_in<S: Shelf>(alloc: Global, shelf: &mut S, name: &str) -> Result<Problem, Exit>
-    ensures problem { IfOk result (λ P. WhereTold (S.held shelf.old name.now) (λ file. IsWithinLimit Kinds.Problem file × SpellsProblem file P)) }
-    ensures exit { IfErr result (IsProblemExit (S.held shelf.old name.now) (Rose (S.faults shelf.old name.now) (S.faults shelf.new name.now))) }
+    ensures problem { IfOk result (λ P.
+        WhereTold (S.held shelf.old name.now) (λ file. IsWithinLimit Kinds.Problem file × SpellsProblem file P)) }
+    ensures exit { IfErr result (IsProblemExit (S.held shelf.old name.now)
+        (Rose (S.faults shelf.old name.now) (S.faults shelf.new name.now))) }
     ensures missing { S.held shelf.old name.now ≡ Missing → IsErrOf result (Exit.Stop Stop.ReadFault) }
     ensures held { (other : List ℕ) → S.held shelf.new other ≡ S.held shelf.old other }
     ensures faults { NeverFall (S.faults shelf.old) (S.faults shelf.new) }

@@ -80,7 +80,8 @@ fn put_refusal(out: &mut Vec<u8>, problem: &Problem, why: &LogRefusal) -> Result
 
 // Appends the refusal by a rule that isn't named.
 fn put_unnamed(out: &mut Vec<u8>, rule: u32, number: u32) -> Result<(), AllocError>
-    ensures { OnOk result (out.new.items ≡ out.old.items ++ at_line (codes "log refused: unnamed " ++ decimal rule) number) }
+    ensures { OnOk result (out.new.items
+        ≡ out.old.items ++ at_line (codes "log refused: unnamed " ++ decimal rule) number) }
 {
     put_rule_line(out, b"log refused: unnamed ".as_slice(), rule, number)
 }
@@ -101,7 +102,9 @@ fn put_escape(
     word: &[Symbol],
 ) -> Result<(), AllocError>
     requires { All (IsSymbol problem.now) word.now }
-    ensures { OnOk result (out.new.items ≡ out.old.items ++ at_line (codes "log refused: escape") number ++ codes ":" ++ word_text problem.now word.now) }
+    ensures { OnOk result (out.new.items
+        ≡ out.old.items ++ at_line (codes "log refused: escape") number ++ codes ":"
+        ++ word_text problem.now word.now) }
 {
     put_line_number(out, b"log refused: escape".as_slice(), number)?;
     out.push(b':')?;

@@ -45,16 +45,24 @@ pub fn run<R: Threads + Sync, S: Shelf, K: Sink, G: Gate>(
 ) -> Outcome
     // What an answer says is so.
     ensures answer { (a : Answer) → result ≡ Outcome.Done a → IsAnswer (S.held shelf.old) words.now.items a }
-    ensures answer_at_fault { (a : Answer) → result ≡ Outcome.WriteFault a → IsAnswer (S.held shelf.old) words.now.items a }
+    ensures answer_at_fault { (a : Answer) → result ≡ Outcome.WriteFault a
+        → IsAnswer (S.held shelf.old) words.now.items a }
 
     // All of its text was written, or a prefix of it.
-    ensures written { (a : Answer) → result ≡ Outcome.Done a → (text : List ℕ) × IsTextOf (S.held shelf.old) words.now.items a text × Appends (K.got out.old) (K.got out.new) text }
-    ensures prefix { (a : Answer) → result ≡ Outcome.WriteFault a → (text : List ℕ) × IsTextOf (S.held shelf.old) words.now.items a text × ((n : ℕ) × (n ≤ length text) × Appends (K.got out.old) (K.got out.new) (take n text)) }
+    ensures written { (a : Answer) → result ≡ Outcome.Done a
+        → (text : List ℕ) × IsTextOf (S.held shelf.old) words.now.items a text
+        × Appends (K.got out.old) (K.got out.new) text }
+    ensures prefix { (a : Answer) → result ≡ Outcome.WriteFault a
+        → (text : List ℕ) × IsTextOf (S.held shelf.old) words.now.items a text
+        × ((n : ℕ) × (n ≤ length text) × Appends (K.got out.old) (K.got out.new) (take n text)) }
     ensures write_fault { (a : Answer) → result ≡ Outcome.WriteFault a → Rose (K.faults out.old) (K.faults out.new) }
 
     // Where a file couldn't be read, or there was no memory, nothing was written.
-    ensures read_fault { result ≡ Outcome.ReadFault → IsReadFault (S.held shelf.old) (S.faults shelf.old) (S.faults shelf.new) words.now.items }
-    ensures missing { (command : Command) → IsForm words.now.items command → IsWithinHorizon command → ReadsProblem command → S.held shelf.old (problem_name words.now.items) ≡ Missing → result ≡ Outcome.ReadFault }
+    ensures read_fault { result ≡ Outcome.ReadFault
+        → IsReadFault (S.held shelf.old) (S.faults shelf.old) (S.faults shelf.new) words.now.items }
+    ensures missing { (command : Command) → IsForm words.now.items command → IsWithinHorizon command
+        → ReadsProblem command → S.held shelf.old (problem_name words.now.items) ≡ Missing
+        → result ≡ Outcome.ReadFault }
     ensures silent_at_fault { result ≡ Outcome.ReadFault → Keeps (K.got out.old) (K.got out.new) }
     ensures silent_without_memory { result ≡ Outcome.Memory → Keeps (K.got out.old) (K.got out.new) }
 {
@@ -81,8 +89,11 @@ fn reply_to<R: Threads + Sync, S: Shelf, G: Gate>(
 ) -> Result<Reply, Stop>
     ensures answer { IfOk result (λ r. IsAnswer (S.held shelf.old) words.now.items r.answer) }
     ensures text { IfOk result (λ r. IsTextOf (S.held shelf.old) words.now.items r.answer r.text.items) }
-    ensures missing { (command : Command) → IsForm words.now.items command → IsWithinHorizon command → ReadsProblem command → S.held shelf.old (problem_name words.now.items) ≡ Missing → IsErrOf result Stop.ReadFault }
-    ensures fault { IsErrOf result Stop.ReadFault → IsReadFault (S.held shelf.old) (S.faults shelf.old) (S.faults shelf.new) words.now.items }
+    ensures missing { (command : Command) → IsForm words.now.items command → IsWithinHorizon command
+        → ReadsProblem command → S.held shelf.old (problem_name words.now.items) ≡ Missing
+        → IsErrOf result Stop.ReadFault }
+    ensures fault { IsErrOf result Stop.ReadFault
+        → IsReadFault (S.held shelf.old) (S.faults shelf.old) (S.faults shelf.new) words.now.items }
 {
     let Some(command) = command_of(words) else {
         return fixed(alloc, Answer::Usage);
@@ -111,7 +122,8 @@ fn reply_on_file<R: Threads + Sync, S: Shelf, G: Gate>(
     ensures answer { IfOk result (λ r. IsAnswer (S.held shelf.old) words.now.items r.answer) }
     ensures text { IfOk result (λ r. IsTextOf (S.held shelf.old) words.now.items r.answer r.text.items) }
     ensures missing { S.held shelf.old (problem_name words.now.items) ≡ Missing → IsErrOf result Stop.ReadFault }
-    ensures fault { IsErrOf result Stop.ReadFault → IsReadFault (S.held shelf.old) (S.faults shelf.old) (S.faults shelf.new) words.now.items }
+    ensures fault { IsErrOf result Stop.ReadFault
+        → IsReadFault (S.held shelf.old) (S.faults shelf.old) (S.faults shelf.new) words.now.items }
 {
     let problem = match problem_in(alloc, shelf, word_at(words, 1)) {
         Ok(problem) => problem,
@@ -134,10 +146,13 @@ fn on_problem<R: Threads + Sync, S: Shelf, G: Gate>(
     requires form { IsForm words.now.items command }
     requires horizon { IsWithinHorizon command }
     requires reads { ReadsProblem command }
-    ensures answer { IfOk result (λ r. IsAnswerOn command (S.held shelf.old (second_name words.now.items)) problem.now r.answer) }
-    ensures text { IfOk result (λ r. IsReplyText command (S.held shelf.old (second_name words.now.items)) problem.now r.answer r.text.items) }
+    ensures answer { IfOk result (λ r.
+        IsAnswerOn command (S.held shelf.old (second_name words.now.items)) problem.now r.answer) }
+    ensures text { IfOk result (λ r.
+        IsReplyText command (S.held shelf.old (second_name words.now.items)) problem.now r.answer r.text.items) }
     ensures second { IsErrOf result Stop.ReadFault → ReadsSecond command }
-    ensures fault { IsErrOf result Stop.ReadFault → Rose (S.faults shelf.old (second_name words.now.items)) (S.faults shelf.new (second_name words.now.items)) }
+    ensures fault { IsErrOf result Stop.ReadFault
+        → Rose (S.faults shelf.old (second_name words.now.items)) (S.faults shelf.new (second_name words.now.items)) }
     ensures faults { NeverFall (S.faults shelf.old) (S.faults shelf.new) }
 {
     if let Command::Crew {
@@ -176,7 +191,8 @@ fn answer_on<R: Threads + Sync, S: Shelf, G: Gate>(
     ensures answer { IfOk result (IsAnswerOn command (S.held shelf.old (second_name words.now.items)) problem.now) }
     ensures printable { IfOk result (IsPrintable problem.now) }
     ensures second { IsErrOf result Stop.ReadFault → ReadsSecond command }
-    ensures fault { IsErrOf result Stop.ReadFault → Rose (S.faults shelf.old (second_name words.now.items)) (S.faults shelf.new (second_name words.now.items)) }
+    ensures fault { IsErrOf result Stop.ReadFault
+        → Rose (S.faults shelf.old (second_name words.now.items)) (S.faults shelf.new (second_name words.now.items)) }
     ensures faults { NeverFall (S.faults shelf.old) (S.faults shelf.new) }
 {
     match command {

@@ -162,8 +162,8 @@ impl Shelf for MemoryShelf {
 
 /// The bytes that were put, up to a room.
 ///
-/// A put takes at most `step` bytes. The calls of `put` whose numbers are listed fail, counted from 1, and so does a put
-/// of a piece that is not empty where no room is left; no other call does.
+/// A put takes at most `step` bytes. The calls of `put` whose numbers are listed fail, counted from 1, and so does a
+/// put of a piece that is not empty where no room is left; no other call does.
 #[derive(Drop)]
 pub struct MemorySink {
     bytes: Vec<u8>,

@@ -18,7 +18,9 @@ has_shape P =
     (length P.demand == length P.shifts)
     && list_all (λ row. length row == P.days) P.demand
     && list_all (λ x. nat_le x.0.number (length P.shifts) && nat_le x.1.number (length P.shifts)) P.pairs
-    && list_all (λ x. nat_le x.0.number (length P.shifts) && nat_le x.1.number (length P.shifts) && nat_le x.2.number (length P.shifts)) P.triples
+    && list_all (λ x.
+        nat_le x.0.number (length P.shifts) && nat_le x.1.number (length P.shifts)
+        && nat_le x.2.number (length P.shifts)) P.triples
 
 -- both numbers of a demand are at most that of the weeks of a schedule
 abbrev pub is_small_range : Bounds → Bool
@@ -61,7 +63,8 @@ is_named_well earlier row = is_shift_name row.name && not (list_any (λ other. b
 -- the first shift that isn't named well, where the rows count from k on and others come earlier
 abbrev pub bad_name_from : List ShiftRow → ℕ → List ShiftRow → Option ℕ
 bad_name_from earlier k [] = None
-bad_name_from earlier k (row ∷ rows) = if is_named_well earlier row then bad_name_from (earlier ++ row ∷ []) (k + 1) rows else Some k
+bad_name_from earlier k (row ∷ rows) =
+    if is_named_well earlier row then bad_name_from (earlier ++ row ∷ []) (k + 1) rows else Some k
 
 abbrev pub name_refusal : Option ℕ → Option PartsRefusal
 name_refusal None = None
@@ -99,7 +102,8 @@ pub record KeepsLimits (P : Instance) : Type 0 where
   pub rows : length P.demand ≡ length P.shifts
   pub long_rows : All (λ row. length row ≡ P.days) P.demand
   pub known_pairs : All (λ x. (x.0.number ≤ shift_count P) × (x.1.number ≤ shift_count P)) P.pairs
-  pub known_triples : All (λ x. (x.0.number ≤ shift_count P) × (x.1.number ≤ shift_count P) × (x.2.number ≤ shift_count P)) P.triples
+  pub known_triples : All (λ x.
+      (x.0.number ≤ shift_count P) × (x.1.number ≤ shift_count P) × (x.2.number ≤ shift_count P)) P.triples
   pub some_days : 1 ≤ P.days
   pub few_days : P.days ≤ MOST_DAYS
   pub some_weeks : 1 ≤ P.weeks

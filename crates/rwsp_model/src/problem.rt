@@ -240,3 +240,10 @@ fn place_of_name(rows: &[ShiftRow], name: &[u8]) -> Option<usize>
 {
     rows.iter().position(|row| validity::has_name(row, name))
 }
+
+// A problem may be sent to other threads and shared with them.
+fn shared<T: Send + Sync>(_: &T) {}
+
+fn problems_are_shared(problem: &Problem) {
+    shared(problem);
+}

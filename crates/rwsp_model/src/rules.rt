@@ -152,7 +152,8 @@ fn put_if_short(list: &mut RuleList, problem: &Problem, number: u32) -> Result<(
     requires ascends { IsStrictlyIncreasing list.old }
     requires number { (0 < number) × (number ≤ length (rules problem.now)) }
     ensures ascends { IsStrictlyIncreasing list.new }
-    ensures holds { OnOk result ((k : ℕ) → Contains list.new k ↔ (Contains list.old k ⊎ ((k ≡ number) × IsShortNumber problem.now k))) }
+    ensures holds { OnOk result ((k : ℕ)
+        → Contains list.new k ↔ (Contains list.old k ⊎ ((k ≡ number) × IsShortNumber problem.now k))) }
 {
     if is_short(problem, rule_at(problem, number)) {
         list.put(number)?;

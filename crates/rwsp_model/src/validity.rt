@@ -30,7 +30,8 @@ fn pairs_are_within(pairs: &[(Symbol, Symbol)], last: usize) -> bool
 }
 
 fn triples_are_within(triples: &[(Symbol, Symbol, Symbol)], last: usize) -> bool
-    ensures { result ≡ list_all (λ x. nat_le x.0.number last && nat_le x.1.number last && nat_le x.2.number last) triples.now }
+    ensures { result ≡ list_all (λ x.
+        nat_le x.0.number last && nat_le x.1.number last && nat_le x.2.number last) triples.now }
 {
     triples.iter().all(|(x, y, z)| {
         x.number as usize <= last && y.number as usize <= last && z.number as usize <= last

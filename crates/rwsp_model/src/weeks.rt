@@ -23,7 +23,8 @@ fn count_weeks(cells: &[Symbol], days: u32, weeks: u32, x: Symbol, day: u32) -> 
     requires few { (days ≤ MOST_DAYS) × (weeks ≤ MOST_WEEKS) }
     requires cells { length cells.now ≡ weeks * days }
     requires day { (0 < day) × (day ≤ days) }
-    ensures value { result ≡ count_by (λ i. (slice_index_or cells.now (i * days + (day - 1)) off_symbol).number == x.number) (range_with_len 0 weeks) }
+    ensures value { result ≡ count_by (λ i.
+        (slice_index_or cells.now (i * days + (day - 1)) off_symbol).number == x.number) (range_with_len 0 weeks) }
     ensures few { result ≤ weeks }
 {
     let mut count = 0;

@@ -118,7 +118,8 @@ fn value_at(entries: &[Weight], day: u32, x: Symbol) -> i32
 fn entries_before(entries: &[Weight], day: u32, x: Symbol) -> usize
     ensures within { result ≤ length entries.now }
     ensures before { (k : ℕ) (d : Weight) → k < result → Precedes (slice_index_or entries.now k d) day x.number }
-    ensures next { (d : Weight) → result < length entries.now → ¬ Precedes (slice_index_or entries.now result d) day x.number }
+    ensures next { (d : Weight) → result < length entries.now
+        → ¬ Precedes (slice_index_or entries.now result d) day x.number }
 {
     for (i, entry) in entries.iter().enumerate() {
         if !precedes(entry, day, x) {
@@ -131,7 +132,8 @@ fn entries_before(entries: &[Weight], day: u32, x: Symbol) -> usize
 // The place of the entry of the symbol on the day, or else the place where it belongs.
 fn place_of_entry(entries: &[Weight], day: u32, x: Symbol) -> Result<usize, usize>
     requires { AllPairs ComesBefore entries.now }
-    ensures { MatchResult result (λ i. EntryStands entries.now day x.number i) (λ i. EntryBelongs entries.now day x.number i) }
+    ensures { MatchResult result (λ i. EntryStands entries.now day x.number i)
+        (λ i. EntryBelongs entries.now day x.number i) }
 {
     let place = entries_before(entries, day, x);
     if place == entries.len() {
@@ -161,11 +163,19 @@ fn add_entry(entries: &mut Vec<Weight>, place: usize, entry: Weight) -> Result<(
     requires weights { AreWeights entries.old.items }
     requires place { EntryBelongs entries.old.items entry.day entry.symbol.number place }
     requires value { (neg_ℤ (pos GREATEST_WEIGHT) ≤ℤ entry.value) × (entry.value ≤ℤ pos GREATEST_WEIGHT) }
-    ensures sets { OnOk result (SetsWeight entries.old.items entries.new.items entry.day entry.symbol.number entry.value) }
+    ensures sets { OnOk result (SetsWeight entries.old.items entries.new.items entry.day entry.symbol.number
+        entry.value) }
     ensures kept { OnErr result (entries.new.items ≡ entries.old.items) }
 {
     if entry.value != 0 {
         entries.insert(place, entry)?;
     }
     Ok(())
+}
+
+// Weights may be sent to other threads and shared with them.
+fn shared<T: Send + Sync>(_: &T) {}
+
+fn weights_are_shared(weights: &Weights) {
+    shared(weights);
 }

@@ -98,3 +98,10 @@ fn one_more(count: u8) -> u8
         count
     }
 }
+
+// A tail may be sent to other threads and shared with them.
+fn shared<T: Send + Sync>(_: &T) {}
+
+fn tails_are_shared(tail: &Tail) {
+    shared(tail);
+}

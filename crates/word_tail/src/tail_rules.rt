@@ -78,3 +78,10 @@ impl TailRules {
         }
     }
 }
+
+// Tail rules may be sent to other threads and shared with them.
+fn shared<T: Send + Sync>(_: &T) {}
+
+fn tail_rules_are_shared(rules: &TailRules) {
+    shared(rules);
+}
