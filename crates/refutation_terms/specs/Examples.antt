@@ -211,7 +211,8 @@ odd_cycle = one_shift 1 3 (from_to 0 3 ∷ []) (from_to 1 1) (from_to 1 1) (from
 abbrev pub odd_log : Log
 odd_log =
     record {
-      named = 1 ∷ 3 ∷ []; turn = None;
+      named = 1 ∷ 3 ∷ [];
+      turn = None;
       lines = Split 0 shift_D ∷ Dead 0 4 (1 ∷ 3 ∷ []) ∷ Dead 0 4 (1 ∷ 3 ∷ []) ∷ [];
     }
 
@@ -228,7 +229,8 @@ turn_to_D = Some (record { day = 1; x = shift_D })
 abbrev pub late_dead_log : Log
 late_dead_log =
     record {
-      named = 1 ∷ 2 ∷ 3 ∷ 4 ∷ 7 ∷ []; turn = turn_to_D;
+      named = 1 ∷ 2 ∷ 3 ∷ 4 ∷ 7 ∷ [];
+      turn = turn_to_D;
       lines = Split 1 shift_D ∷ blocks_dead ∷ blocks_dead ∷ [];
     }
 
@@ -236,7 +238,8 @@ late_dead_log =
 abbrev pub late_day_log : Log
 late_day_log =
     record {
-      named = 7 ∷ []; turn = turn_to_D;
+      named = 7 ∷ [];
+      turn = turn_to_D;
       lines = Split 1 shift_D ∷ Day 1 shift_D false ∷ Day 1 shift_D false ∷ [];
     }
 
@@ -244,7 +247,8 @@ late_day_log =
 abbrev pub late_bound_log : Log
 late_bound_log =
     record {
-      named = 1 ∷ 7 ∷ 8 ∷ []; turn = turn_to_D;
+      named = 1 ∷ 7 ∷ 8 ∷ [];
+      turn = turn_to_D;
       lines = Split 1 shift_D ∷ Window 1 0 2 ∷ Day 2 shift_D false ∷ [];
     }
 

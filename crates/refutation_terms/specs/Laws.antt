@@ -129,7 +129,7 @@ WindowsWeighEnough =
 abbrev pub WindowsWeighExactly : Type 0
 WindowsWeighExactly =
     (P : Instance) (y : List Weight) (s : List Symbol) (p turns : ℕ) → IsRoster P s → MeetsWeighedDays P y s
-        → HasSingleNumbers P y
+    → HasSingleNumbers P y
     → weight P y p (window s p (turns * cells P)) ≡ pos turns *ℤ total P y
 
 -- turning a roster by whole weeks keeps every rule met, and every rule not met

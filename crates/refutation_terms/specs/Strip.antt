@@ -40,7 +40,7 @@ abbrev pub StripsTo : Instance → List ℕ → Log → Log → Type 0
 StripsTo P [] g h = g ≡ h
 StripsTo P (number ∷ rest) g h =
     (Passes P (strip P number g) × StripsTo P rest (strip P number g) h)
-        ⊎ ((Passes P (strip P number g) → ⊥) × StripsTo P rest g h)
+    ⊎ ((Passes P (strip P number g) → ⊥) × StripsTo P rest g h)
 
 -- a descent goes through the rules that are named at its start, from the highest number down
 abbrev pub DescendsTo : Instance → Log → Log → Type 0

@@ -202,7 +202,7 @@ Cause P (BeforeTurn named) bytes why = TurnCause P named bytes why
 Cause P (Reading g) bytes why =
     let n = header_lines g.turn + length g.lines + 1 in
     (IsTree g.lines × ExtraCause n why)
-        ⊎ ((IsTree g.lines → ⊥) × TreeCause P g.named (domains_at P g.turn g.lines (length g.lines)) n bytes why)
+    ⊎ ((IsTree g.lines → ⊥) × TreeCause P g.named (domains_at P g.turn g.lines (length g.lines)) n bytes why)
 
 -- no byte is LF
 abbrev pub HasNoFeed : List ℕ → Type 0

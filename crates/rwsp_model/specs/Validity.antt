@@ -19,8 +19,8 @@ has_shape P =
     && list_all (λ row. length row == P.days) P.demand
     && list_all (λ x. nat_le x.0.number (length P.shifts) && nat_le x.1.number (length P.shifts)) P.pairs
     && list_all (λ x.
-        nat_le x.0.number (length P.shifts) && nat_le x.1.number (length P.shifts)
-        && nat_le x.2.number (length P.shifts)) P.triples
+    nat_le x.0.number (length P.shifts) && nat_le x.1.number (length P.shifts)
+    && nat_le x.2.number (length P.shifts)) P.triples
 
 -- both numbers of a demand are at most that of the weeks of a schedule
 abbrev pub is_small_range : Bounds → Bool

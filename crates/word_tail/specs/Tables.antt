@@ -66,7 +66,7 @@ abbrev pub HoldsTriples : Instance → List ℕ → List Bool → ℕ → Type 0
 HoldsTriples P R table n =
     (a b c : Symbol)
     → IsTrue (triple_in table a b c)
-        ↔ ((k : ℕ) × (k < n) × Names P R (Triple k) × (slice_get P.triples k ≡ Some (a, b, c)))
+    ↔ ((k : ℕ) × (k < n) × Names P R (Triple k) × (slice_get P.triples k ≡ Some (a, b, c)))
 
 -- the tables hold the rules of the list
 pub record AreTables (P : Instance) (R : List ℕ) (l : RuleTables) : Type 0 where
