@@ -43,7 +43,7 @@ pub fn run<R: Threads + Sync, S: Shelf, K: Sink, G: Gate>(
     out: &mut K,
     gate: &G,
 ) -> Outcome
-    // What an answer says is so.
+    // What an answer says is true.
     ensures answer { (a : Answer) → result ≡ Outcome.Done a → IsAnswer (S.held shelf.old) words.now.items a }
     ensures answer_at_fault { (a : Answer) → result ≡ Outcome.WriteFault a
         → IsAnswer (S.held shelf.old) words.now.items a }
