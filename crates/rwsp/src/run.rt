@@ -15,7 +15,7 @@ use crate::command::{Command, command_of, is_within_horizon, word_at};
 use crate::crew::crew_reply;
 use crate::input::{Exit, problem_in};
 use crate::plan::planned;
-use crate::second::second_answer;
+use crate::second_file::second_answer;
 use crate::text::{fixed_text, text_on};
 use crate::trial::run_trial;
 use potential_bounds::Gate;

@@ -6,7 +6,7 @@ ghost use Rattle.rwsp_io.specs.Told.{Missing, told_bytes, is_missing, Rose, Neve
 ghost use Rattle.rwsp_io.specs.Files.{file_of, bytes_from, IsFileAt};
 ghost use Rattle.rwsp_io.specs.CallPlan.{next_fails, after_call};
 
-use crate::calls::Calls;
+use crate::failing_calls::Calls;
 use crate::{Shelf, ShelfFault, Sink, SinkFault};
 use std::alloc::{AllocError, Global};
 
