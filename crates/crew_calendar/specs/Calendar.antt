@@ -29,6 +29,6 @@ IsCivil date = IsBetween (pos 0) (pos 9999) date.year
 abbrev pub IsDateWord : List ℕ → Date → Type 0
 IsDateWord word date = IsCivil date × (word ≡ date_text date)
 
--- what is so of each calendar of so many days that begins with the date
+-- what holds of each calendar of this number of days that begins with the date
 abbrev pub OnCalendar : Date → ℕ → ((ℕ → Date) → Type 0) → Type 0
 OnCalendar date days Q = (on : ℕ → Date) → IsCalendar date days on → Q on

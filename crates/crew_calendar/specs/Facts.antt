@@ -23,7 +23,7 @@ IsStaffed P s =
     (t x : ℕ) → x ≤ shift_count P
     → (least P x (weekday P t) ≤ℤ pos (crew_with P s t x)) × (pos (crew_with P s t x) ≤ℤ greatest P x (weekday P t))
 
--- the symbols of an employee on so many days in a row, from day t on
+-- the symbols of an employee on n days in a row, from day t on
 abbrev pub stretch : Instance → List Symbol → ℕ → ℕ → ℕ → List Symbol
 stretch P s e t days = map (symbol_on P s e) (range_with_len t days)
 

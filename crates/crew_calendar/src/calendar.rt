@@ -19,7 +19,7 @@ pub const MOST_DAYS_LATER: u32 = 2 * GREATEST_BOUND / DAY_MINUTES;
 // The first year that a word may name.
 const FIRST_YEAR: i16 = 0;
 
-// The date so many days later, where there is one.
+// The date that many days later, where there is one.
 fn days_later(date: Date, days: u32) -> Result<Date, Error>
     requires { days ≤ LONGEST_CALENDAR + MOST_DAYS_LATER }
     ensures succeeds { IsOk result ↔ IsWithinDates date days }
@@ -28,7 +28,7 @@ fn days_later(date: Date, days: u32) -> Result<Date, Error>
     date.checked_add(i64::from(days).days())
 }
 
-/// Whether the calendar of so many days, and the ends of their duties, are there: no date is after 9999-12-31.
+/// Whether a calendar of `days` dates ends by 9999-12-31, with all its duties.
 pub fn fits(date: Date, days: u32) -> bool
     requires { days ≤ LONGEST_CALENDAR }
     ensures { IsTrue result ↔ Fits date days }
@@ -36,7 +36,7 @@ pub fn fits(date: Date, days: u32) -> bool
     days_later(date, days + MOST_DAYS_LATER).is_ok()
 }
 
-/// The date so many days later.
+/// The date that many days later.
 pub fn date_after(date: Date, days: u32) -> Date
     requires few { days ≤ LONGEST_CALENDAR + MOST_DAYS_LATER }
     requires within { IsWithinDates date days }

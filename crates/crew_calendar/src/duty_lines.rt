@@ -24,7 +24,7 @@ fn put_two_digits(out: &mut Vec<u8>, n: u32) -> Result<(), AllocError>
     Ok(())
 }
 
-// Appends a time of day, which is so many minutes after midnight.
+// Appends a time of day, given in minutes after midnight.
 fn put_clock(out: &mut Vec<u8>, minutes: u32) -> Result<(), AllocError>
     requires { minutes < day_minutes }
     ensures { OnOk result (out.new.items ≡ out.old.items ++ clock_text minutes) }
@@ -35,7 +35,7 @@ fn put_clock(out: &mut Vec<u8>, minutes: u32) -> Result<(), AllocError>
     Ok(())
 }
 
-// Appends the moment so many minutes after the midnight of a date.
+// Appends the moment that is `minutes` after the midnight of a date.
 fn put_moment(out: &mut Vec<u8>, date: Date, minutes: u32) -> Result<(), AllocError>
     requires few { minutes / day_minutes ≤ LONGEST_CALENDAR + MOST_DAYS_LATER }
     requires within { IsWithinDates date (minutes / day_minutes) }
@@ -114,7 +114,7 @@ fn put_duty(
     put_shift(out, problem, date, t, symbol)
 }
 
-/// The duties of an employee on so many days from the date on: a line for each day on a shift, with the moments at
+/// The duties of an employee on `days` dates from the first on: a line for each day on a shift, with the moments at
 /// which the shift starts and ends, and its name. A shift may end on a later date.
 pub fn duties(
     alloc: Global,

@@ -67,7 +67,7 @@ fn put_day(
     Ok(())
 }
 
-// The lines of so many days from the date on.
+// The lines of `days` dates from the first on.
 fn day_lines(
     alloc: Global,
     problem: &Problem,
@@ -87,7 +87,7 @@ fn day_lines(
     Ok(out)
 }
 
-/// The table of so many days from the date on: a line for each date, with the name of each employee's symbol. It
+/// The table of `days` dates from the first on: a line for each date, with the name of each employee's symbol. It
 /// takes time by days times employees.
 pub fn crew_table(
     alloc: Global,

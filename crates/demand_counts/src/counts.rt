@@ -108,7 +108,7 @@ impl Counts {
         self.possible[(day as usize - 1) * MOST_SYMBOLS as usize + x.number as usize]
     }
 
-    // What is so of all counts.
+    // Brings into a proof what holds of all counts. Does nothing when run.
     fn facts(&self)
         ensures long { length self.now.sets ≡ self.now.weeks * self.now.days }
         ensures some_days { 1 ≤ self.now.days }

@@ -71,7 +71,7 @@ pub record HasSameShape (old new : Store) : Type 0 where
 abbrev pub spare : List (List ℕ) → ℕ
 spare sets = sum_by (λ set. length set - 1) sets
 
--- what is so of each store
+-- what holds of each store
 pub record IsStore (S : Store) : Type 0 where
   pub few_cells : S.weeks * S.days ≤ MOST_CELLS
   pub few_shifts : S.shifts ≤ MOST_SHIFTS
@@ -81,7 +81,7 @@ pub record IsStore (S : Store) : Type 0 where
   -- each change took a symbol at least, and leaves one
   pub room : length S.trail + spare S.sets ≤ S.weeks * S.days * S.shifts
 
--- what is so of each store's domains, by the test of a symbol
+-- what holds of each store's domains, by the test of a symbol
 pub record HasDomains (S : Store) : Type 0 where
   -- no other position has symbols, and none has one above the last
   pub known : (p x : ℕ) → IsTrue (has_domain S p x) → (p < length S.sets) × (x ≤ S.shifts)

@@ -95,7 +95,7 @@ impl Domains {
         })
     }
 
-    /// What is so of all domains, now and as they stood at each mark.
+    /// Brings into a proof what holds of all domains, now and as they were at each mark. Does nothing when run.
     pub fn facts(&self)
         ensures now { IsStore self.now }
         ensures tests { HasDomains self.now }

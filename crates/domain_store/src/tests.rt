@@ -61,7 +61,7 @@ enum Step {
     Keep(u32, u8),
     // takes the symbol from the position
     Take(u32, u8),
-    // undoes all changes but so many
+    // undoes all changes but the first ones
     UndoTo(usize),
 }
 

@@ -50,11 +50,11 @@ abbrev pub IsBackStep : List (List Step) → List (List ℕ) → List (List Bool
 IsBackStep layers sets rows i =
     IsPass to_of from_of (layer_at layers i) (has_on sets i) (row_at rows (i + 1)) (row_at rows i)
 
--- each row is for so many nodes
+-- each row is for `width` nodes
 abbrev pub IsWide : List (List Bool) → ℕ → Type 0
 IsWide rows width = (i : ℕ) → i < length rows → length (row_at rows i) ≡ width
 
--- the steps are between so many nodes
+-- the steps are between `width` nodes
 pub record FitsInto (width : ℕ) (layer : List Step) : Type 0 where
   pub from : All (λ s. s.from < width) layer
   pub to : All (λ s. s.to < width) layer

@@ -20,8 +20,8 @@ use std::alloc::{AllocError, Global};
 use std::marker::Model;
 use word_tail::TailRules;
 
-// A cycle keeps two marks for each node and day, and its steps, up to nine from each node: at most so many nodes
-// times days, which is some seconds of work and about 2 GB.
+// A cycle keeps two marks for each node and day, and its steps, one for each symbol at most from each node: at most
+// this many nodes times days, which is some seconds of work and about 2 GB.
 const MOST_MARKS: u64 = 20_000_000;
 
 // The number of nodes has grown by then as far as it does for most rules.
@@ -141,7 +141,7 @@ impl Cycle {
         }
     }
 
-    // What is so of all cycles.
+    // Brings into a proof what holds of all cycles. Does nothing when run.
     fn facts(&self)
         ensures long { length self.now.sets ≡ cells self.now.problem }
         ensures few { cells self.now.problem ≤ MOST_CELLS }

@@ -30,7 +30,7 @@ impl Model for DayMarks {
 }
 
 impl DayMarks {
-    // No node is marked on so many days.
+    // No node is marked on any of `days` days.
     #[tactic(auto, using(std::proofs::lemmas::List::replicate_more))]
     pub fn none(alloc: Global, days: usize, nodes: usize) -> Result<DayMarks, AllocError>
         ensures { IfOk result (λ rows. rows ≡ replicate days (replicate nodes false)) }

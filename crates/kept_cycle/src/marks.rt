@@ -23,7 +23,7 @@ impl Model for Marks {
 }
 
 impl Marks {
-    // The same mark for so many nodes.
+    // The same mark for each of `nodes` nodes.
     pub fn of(alloc: Global, nodes: usize, mark: bool) -> Result<Marks, AllocError>
         ensures { IfOk result (λ m. m ≡ replicate nodes mark) }
     {

@@ -50,7 +50,7 @@ pub fn leaf_of(
     }))
 }
 
-// Whether each clean word of so many turns from position `p` on weighs less than so many times the total.
+// Whether each clean word of `turns` turns, from position `p` on, weighs less than `turns` times the total.
 fn is_too_light(
     alloc: Global,
     problem: &Problem,
@@ -79,7 +79,7 @@ fn is_too_light(
     }
 }
 
-// Whether the weight is less than so many times the total.
+// Whether the weight is less than `turns` times the total.
 fn is_less(weight: i64, turns: u32, total: i64) -> bool
     requires few { turns ≤ LONGEST_WORD }
     requires above { neg_ℤ (pos (GREATEST_WEIGHT * MOST_WEEKS * MOST_SHIFTS * MOST_SYMBOLS * MOST_DAYS)) ≤ℤ total }

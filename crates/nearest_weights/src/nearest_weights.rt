@@ -29,13 +29,13 @@ const WITHIN: Effort = Effort {
     steps: 60,
 };
 
-// Words at the top have about so many days, since the free ends of a word weigh in once.
+// Words at the top have about this many days: the longer a word, the less its free ends weigh in.
 const DAYS_AT_TOP: u32 = 1500;
 
 // Within a tree no leaf is looked for where a roster has more cells.
 const MOST_CELLS_WITHIN: u32 = 700;
 
-// Within a tree words begin in the middle of the decided positions, of which so many count at most.
+// Within a tree words begin in the middle of the first decided positions; at most this many of them count.
 const MOST_DECIDED: u32 = 28;
 
 /// A search for bound leaves of a problem, with all its short rules.

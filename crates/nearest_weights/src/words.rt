@@ -5,7 +5,7 @@ use rwsp_terms::limits::LONGEST_WORD;
 use std::alloc::{AllocError, Global};
 use word_tail::TailRules;
 
-// Layers are made of so many days first, and of twice as many as long as they don't come again.
+// Layers are made of this many days first, and then of twice as many, until they repeat.
 const FIRST_DAYS: u32 = 64;
 
 // No more steps are kept, so that a problem with very many tails takes neither time nor memory.
@@ -44,7 +44,7 @@ impl Words {
         Ok(words)
     }
 
-    // Layers are there for so many days.
+    // The number of days for which there are layers.
     pub fn days(&self) -> u32 {
         match self.period {
             Some(_) => LONGEST_WORD,
@@ -77,7 +77,7 @@ impl Words {
         self.layers.node_counts().iter().copied().max().unwrap_or(0)
     }
 
-    // How many steps there are in a pass over so many days.
+    // The number of steps in a pass over `days` days.
     pub fn steps_within(&self, days: u32) -> u64 {
         let mut sum: u64 = 0;
         for day in 0..days {
@@ -105,7 +105,7 @@ fn period_of(layers: &[Layer]) -> Option<usize> {
     None
 }
 
-// Whether each layer of the second half is the same as the one so many days before.
+// Whether each layer of the second half is the same as the one `period` days before.
 fn comes_again(layers: &[Layer], period: usize) -> bool {
     let half = layers.len() / 2;
     let later = layers.iter().skip(half);

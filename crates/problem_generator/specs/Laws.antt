@@ -1,4 +1,4 @@
--- What is so of each number's stints and problem.
+-- What holds of each number's stints and problem.
 use Rattle.std.specs.Prelude.{◌≡◌, ℕ, ◌*◌, ◌≤◌, List, All}
 use Rattle.rwsp_terms.specs.Instance.{Instance}
 use Rattle.rwsp_terms.specs.Roster.{MeetsAll}

@@ -43,7 +43,7 @@ drawn_stint x left =
 abbrev pub IsUsual : Stint → Type 0
 IsUsual t = (4 ≤ t.work) × (t.work ≤ 7) × (2 ≤ t.off) × (t.off ≤ 4)
 
--- the stints that a number gives for some days. Each takes three draws, but for the last, and is drawn where its own
+-- the stints that a number gives for some days. Each but the last takes three draws, and it is drawn where its own
 -- days and those of the stints behind it are left
 pub record AreStints (number days : ℕ) (ts : List Stint) : Type 0 where
   pub whole : total_days ts ≡ days

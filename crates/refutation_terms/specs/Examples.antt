@@ -55,7 +55,7 @@ two_in_a_row_text =
 abbrev pub two_of_four : Instance
 two_of_four = one_shift 1 4 (from_to 2 2 ∷ []) (from_to 1 1) (from_to 2 2) (from_to 1 4)
 
--- a bound over so many turns, under a header
+-- a bound over some turns, under a header
 abbrev pub two_of_four_log : List ℕ → ℕ → Log
 two_of_four_log named turns =
     record { named = named; turn = None; lines = Bound 0 turns (1 ∷ 3 ∷ 4 ∷ []) (weighs 1 ∷ []) ∷ [] }

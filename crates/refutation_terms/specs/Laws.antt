@@ -119,7 +119,7 @@ MeetsWeighedDays P y s = (j : ℕ) → IsDay P j → HasWeight y j → MeetsDay 
 abbrev pub HasSingleNumbers : Instance → List Weight → Type 0
 HasSingleNumbers P y = (j x : ℕ) → IsDay P j → HasWeight y j → x ≤ shift_count P → least P x j ≡ greatest P x j
 
--- a window of so many turns of a roster that meets these days weighs at least so many times the total
+-- a window of some turns of a roster that meets these days weighs at least the total times the turns
 abbrev pub WindowsWeighEnough : Type 0
 WindowsWeighEnough =
     (P : Instance) (y : List Weight) (s : List Symbol) (p turns : ℕ) → IsRoster P s → MeetsWeighedDays P y s

@@ -38,7 +38,7 @@ IsBlocked P D number p len =
 abbrev pub IsDead : Instance → Domains → ℕ → ℕ → List ℕ → Type 0
 IsDead P D p len R = (u : List Symbol) → length u ≡ len → Over P D p u → Clean P R u → ⊥
 
--- every clean word of so many turns from p on weighs less than so many times the total
+-- every clean word of this number of turns, from p on, weighs less than the total times the turns
 abbrev pub IsTooLight : Instance → Domains → ℕ → ℕ → List ℕ → List Weight → Type 0
 IsTooLight P D p turns R y =
     (u : List Symbol) → length u ≡ turns * cells P → Over P D p u → Clean P R u

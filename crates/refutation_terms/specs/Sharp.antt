@@ -104,7 +104,7 @@ IsFirstTurn P (Some t) =
     IsDemanded P t.day t.x
     × ((j : ℕ) (x : Symbol) → IsDemanded P j x → (t.day < j) ⊎ ((t.day ≡ j) × (t.x.number ≤ x.number)))
 
--- what is so at each split of a sharp log: no window or day leaf holds, two turns aren't dead, and it splits on a
+-- what holds at each split of a sharp log: no window or day leaf holds, two turns aren't dead, and it splits on a
 -- spent symbol where there is one
 pub record IsSharpSplit (P : Instance) (D : Domains) (R : List ℕ) (p : ℕ) (x : Symbol) : Type 0 where
   pub no_window : SomeWindowHolds P D → ⊥

@@ -46,7 +46,7 @@ StripsTo P (number ∷ rest) g h =
 abbrev pub DescendsTo : Instance → Log → Log → Type 0
 DescendsTo P g h = StripsTo P (reverse g.named) g h
 
--- so many descents that drop a rule, and then one that drops none
+-- this number of descents that drop a rule, and then one that drops none
 abbrev pub ReducesIn : Instance → ℕ → Log → Log → Type 0
 ReducesIn P zero g h = DescendsTo P g g × (g ≡ h)
 ReducesIn P (suc n) g h = (next : Log) × DescendsTo P g next × (next ≢ g) × ReducesIn P n next h

@@ -213,7 +213,7 @@ abbrev pub IsNextLine : List ℕ → List ℕ → Type 0
 IsNextLine line rest =
     ((body : List ℕ) × HasNoFeed body × (line ≡ body ++ 10 ∷ [])) ⊎ ((line ≢ []) × HasNoFeed line × (rest ≡ []))
 
--- the text goes on behind a front without a cause with a line that has this one
+-- a front of the text has no cause, and the line behind it has this one
 pub record IsRefusedLine (P : Instance) (text : List ℕ) (why : LogRefusal) : Type 0 where
   pub front : Front
   pub line : List ℕ

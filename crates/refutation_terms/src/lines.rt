@@ -28,7 +28,8 @@ pub enum Line {
         len: u32,
         rules: RuleList,
     },
-    /// Every clean word of so many turns from position `p` weighs less than the demand asks for.
+    /// Every clean word of `turns` rounds through all weeks, from position `p` on, weighs less than the demand asks
+    /// for.
     Bound {
         p: u32,
         turns: u32,

@@ -7,7 +7,7 @@ use std::alloc::{AllocError, Global};
 /// So many new cuts are made at most at a time.
 const MOST_CUTS: usize = 20;
 
-/// A part of the layer counts that holds so many days at least, or a week where that is longer, and leaves as many
+/// A part of the layer counts that holds this many days at least, or a week where that is longer, and leaves as many
 /// outside.
 const FEWEST_DAYS: usize = 7;
 

@@ -8,21 +8,21 @@ use crate::setting::Setting;
 use nearest_point::{Hull, SCALE};
 use std::alloc::{AllocError, Global};
 
-/// The words have about so many days, so that their free ends matter little.
+/// About how many days a word has: so many that its free ends matter little.
 const WORD_DAYS: usize = 3_000;
 
-/// The words go through all weeks so often at least.
+/// How often a word goes through all weeks at least.
 const FEWEST_TURNS: usize = 2;
 
-/// So many words are weighed at most for a first mixture, and for one with new cuts.
+/// The most words that are weighed for a first mixture, and for one with new cuts.
 const FIRST_ROUNDS: usize = 200;
 
 const CUT_ROUNDS: usize = 40;
 
-/// For a mixture at most so many steps are looked at, about.
+/// About the most steps that are looked at for a mixture.
 const MOST_LOOKS: usize = 400_000_000;
 
-/// So often a mixture is bettered at most for each word.
+/// How often a mixture is bettered at most for each word.
 const BETTERINGS: u32 = 100;
 
 /// Of more words than this, those without a part are dropped.
@@ -31,7 +31,7 @@ const MANY_WORDS: usize = 100;
 /// The greatest weight of a symbol on a weekday.
 const GREATEST_STEP_WEIGHT: i64 = 100_000;
 
-/// No number may be off by so many parts of the mixture.
+/// A mixture is near the demand where each of its numbers is off by less than this.
 const NEAR: i64 = SCALE as i64 / 64;
 
 /// Words, and a mixture of them.

@@ -110,12 +110,12 @@ fn classes_by_last(
     })
 }
 
-// Whether words with this tail have forgotten how they began, and how long their last block is is told.
+// Whether the tail says nothing of how its words began, and says how long their last block is.
 fn is_steady(tail: Tail) -> bool {
     !tail.all_one && !tail.all_work && u32::from(tail.run.max(tail.work)) < LONGEST_RUN
 }
 
-// Which tails words without end pass through again and again: the steady ones but for dead ends.
+// Which tails words without end pass through again and again: the steady ones without dead ends.
 fn steady_tails(alloc: Global, graph: &TailGraph) -> Result<Vec<bool>, AllocError> {
     let mut alive = Vec::new(alloc);
     for tail in &graph.tails {

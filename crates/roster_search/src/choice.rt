@@ -19,8 +19,8 @@ pub struct NextSplit {
 
 /// A position with two symbols or more, and one of them; None where each position has one symbol.
 ///
-/// It is the first such position. A block of one shift, of days off or of work that the days before it have begun
-/// goes on until it has its least length. Else a day off is taken where fewer of them have been given than is their
+/// It is the first such position. A block of one shift, of days off or of work that the days before it have begun is
+/// continued until it has its least length. Else a day off is taken where fewer of them have been given than is their
 /// share up to there, and otherwise the shift that is needed most.
 pub fn choose(problem: &Problem, domains: &Domains) -> Option<NextSplit>
     requires { BelongsTo problem.now domains.now }

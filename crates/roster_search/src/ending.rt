@@ -37,7 +37,7 @@ pub fn end(problem: &Problem, budget: u32, progress: Progress) -> Result<Found, 
     Ok(Found::Undecided(Log::of(named, turn, lines)))
 }
 
-// Writes so many unfinished lines.
+// Writes `count` unfinished lines.
 #[tactic(auto, using(std::proofs::lemmas::List::replicate_more))]
 fn leave_open(lines: &mut Vec<Line>, count: usize) -> Result<(), AllocError>
     ensures { IfOk result (λ _. lines.new.items ≡ lines.old.items ++ replicate count Unfinished) }

@@ -33,8 +33,8 @@ pub fn most_needed(problem: &Problem, domains: &Domains, p: u32, lowest: Symbol)
     }
 }
 
-// A symbol of a domain, and how much it is needed on a day: so many weeks still need it, of so many
-// that may have it or not.
+// A symbol of a domain, and how much it is needed on a day: the weeks that still need it, and the places, which are
+// the weeks that may have it or not.
 #[derive(Clone, Copy)]
 struct Wanted {
     x: Symbol,

@@ -60,7 +60,7 @@ impl Progress {
         !self.walk.is_whole() && self.has_room(budget)
     }
 
-    /// What is so of the domains at the next line.
+    /// Brings into a proof what holds of the domains at the next line. Does nothing when run.
     pub fn domain_facts(&self)
         ensures store { IsStore self.now.walk.store }
         ensures tests { HasDomains self.now.walk.store }
@@ -71,7 +71,7 @@ impl Progress {
         self.walk.domains().facts();
     }
 
-    /// Writes a leaf. After want of memory the lines are of no use.
+    /// Writes a leaf. After want of memory the lines can't be used.
     pub fn close(&mut self, problem: &Problem, line: Line) -> Result<(), AllocError>
         requires part { self.old.walk.whole ≡ false }
         requires written { IsProgress problem.now self.old }
@@ -88,7 +88,7 @@ impl Progress {
         Ok(())
     }
 
-    /// Writes a split. After want of memory the lines are of no use.
+    /// Writes a split. After want of memory the lines can't be used.
     pub fn split(&mut self, p: u32, x: Symbol) -> Result<(), AllocError>
         requires part { self.old.walk.whole ≡ false }
         requires position { p < length self.old.walk.store.sets }
@@ -106,7 +106,7 @@ impl Progress {
     }
 
     /// Writes a split and the leaf of its first side, where there is room for the leaf. After want of
-    /// memory the lines are of no use.
+    /// memory the lines can't be used.
     pub fn cut(
         &mut self,
         problem: &Problem,

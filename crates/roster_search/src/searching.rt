@@ -11,7 +11,7 @@ ghost use Rattle.roster_search.specs.Founds.{IsFound, HasSpentBudget};
 use crate::ending::end;
 use crate::progress::Progress;
 use crate::sight::Arrival;
-use crate::step::step;
+use crate::search_step::step;
 use crate::{Found, Guide, NoGuide};
 use propagators::Propagator;
 use refutation_terms::Turn;

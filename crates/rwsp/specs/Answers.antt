@@ -158,7 +158,7 @@ IsAnswerTo command held words answer =
     (IsOfFile answer × WhereTold (held (problem_name words)) (IsFileAnswer answer))
     ⊎ (IsOfCommand command answer × OfProblem held words (λ P. IsAnswerOn command (held (second_name words)) P answer))
 
--- what is so where an answer comes
+-- what holds where an answer comes
 abbrev pub IsAnswer : (List ℕ → Told) → Words → Answer → Type 0
 IsAnswer held words answer =
     (HasNoForm words × (answer ≡ Usage))

@@ -21,7 +21,7 @@ IsFileWord word = (0 < length word) × (slice_index word 0 ≢ 45)
 abbrev pub IsCount : List ℕ → ℕ → ℕ → Type 0
 IsCount word limit n = (number_of word ≡ Some n) × (1 ≤ n) × (n ≤ limit)
 
--- a roster's calendar from a date on, for so many days
+-- a roster's calendar from a date on, for n days
 abbrev pub IsCrewForm : (word file second date days : List ℕ) → (first : Date) → ℕ → Type 0
 IsCrewForm word file second date days first n =
     (word ≡ codes "crew") × IsFileWord file × IsFileWord second × IsDateWord date first

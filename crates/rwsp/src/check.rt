@@ -13,7 +13,7 @@ use rwsp_terms::limits::MOST_WORKERS;
 use std::alloc::{AllocError, Global};
 use std::thread::Threads;
 
-/// The answer to the bytes of a log, by so many workers.
+/// The answer to the bytes of a log, worked out by `workers` threads at most.
 #[tactic(auto, using(crate::proofs::Logs::printable))]
 pub fn log_verdict<R: Threads + Sync, G: Gate>(
     rt: &R,

@@ -12,11 +12,11 @@ use rwsp_text::number;
 /// What is to be done. The names of files are words of their own.
 #[derive(Clone, Copy, Debug, PartialEq, Eq)]
 pub enum Command {
-    /// A roster for a problem, or the log of a refutation of at most so many lines.
+    /// A roster for a problem, or the log of a refutation of at most `budget` lines.
     Plan {
         budget: u32,
     },
-    /// Whether a log passes, by so many workers.
+    /// Whether a log passes, checked by some workers.
     Check {
         workers: u32,
     },
@@ -26,12 +26,12 @@ pub enum Command {
     Reduce,
     /// The canonical text of a problem.
     Show,
-    /// What a search finds for the problem of a number and so many weeks.
+    /// What a search finds for the problem of a number and of some weeks.
     Trial {
         number: u32,
         weeks: u32,
     },
-    /// The calendar of a roster from a date on, for so many days: of all employees, or the duties of one.
+    /// The calendar of a roster from a date on, for some days: of all employees, or the duties of one.
     Crew {
         date: Date,
         days: u32,

@@ -1,7 +1,7 @@
 // Laws of the definitions. Each function's contract is the law.
 ghost use Rattle.rwsp.specs.Laws.{AnswersAreOne, TextsAreOne, ProblemsAreAnswered, RefutationsAreAccepted, RostersMeet, ReductionsAreAccepted, WorkersMakeNoDifference};
 
-/// What is said of each answer fits no other answer, but for those that a search is free to choose. So an answer
+/// What is said of each answer fits no other answer, except those that a search is free to choose. So an answer
 /// comes exactly where what is said of it is so: no other can come but want of memory, and a fault that the counts
 /// show.
 pub fn answers_are_one()

@@ -15,7 +15,7 @@ use crate::command::{Command, command_of, is_within_horizon, word_at};
 use crate::crew::crew_reply;
 use crate::input::{Exit, problem_in};
 use crate::plan::planned;
-use crate::second::second_answer;
+use crate::second_file::second_answer;
 use crate::text::{fixed_text, text_on};
 use crate::trial::run_trial;
 use potential_bounds::Gate;
@@ -43,7 +43,7 @@ pub fn run<R: Threads + Sync, S: Shelf, K: Sink, G: Gate>(
     out: &mut K,
     gate: &G,
 ) -> Outcome
-    // What an answer says is so.
+    // What an answer says is true.
     ensures answer { (a : Answer) → result ≡ Outcome.Done a → IsAnswer (S.held shelf.old) words.now.items a }
     ensures answer_at_fault { (a : Answer) → result ≡ Outcome.WriteFault a
         → IsAnswer (S.held shelf.old) words.now.items a }

@@ -101,14 +101,14 @@ pub fn read_all<S: Shelf>(
         → IfOk result (λ v. v.items ≡ bytes) }
     ensures within { IfOk result (λ v. vec_len v ≤ limit) }
 
-    // Why there is none: only where it is so.
+    // The reason for a failure is true.
     ensures fault { IsErrOf result ReadFail.Fault
         → Rose (S.faults shelf.old name.now) (S.faults shelf.new name.now) }
     ensures too_long { IsErrOf result ReadFail.TooLong
         → (bytes : List ℕ) → S.held shelf.old name.now ≡ Bytes bytes
         → (limit < length bytes) × (S.left shelf.new ≡ Some (drop (limit + 1) bytes)) }
 
-    // And wherever it is so, want of memory aside.
+    // And it is given wherever it is true, want of memory aside.
     ensures missing { S.held shelf.old name.now ≡ Missing → IsErrOf result ReadFail.Fault }
     ensures beyond { (bytes : List ℕ) → S.held shelf.old name.now ≡ Bytes bytes
         → limit < length bytes → IsErr result }

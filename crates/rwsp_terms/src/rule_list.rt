@@ -32,7 +32,7 @@ impl RuleList {
         }
     }
 
-    /// The same list once more.
+    /// A copy of the list.
     pub fn copy(&self) -> Result<RuleList, AllocError>
         ensures { IfOk result (λ r. r ≡ self.now) }
     {
@@ -40,7 +40,7 @@ impl RuleList {
         Ok(RuleList { numbers })
     }
 
-    /// How many rules it lists.
+    /// The number of rules that it lists.
     pub fn len(&self) -> usize
         ensures { result ≡ length self.now }
     {

@@ -37,7 +37,7 @@ impl Weights {
         }
     }
 
-    /// The same weights once more.
+    /// A copy of the weights.
     pub fn copy(&self) -> Result<Weights, AllocError>
         ensures { IfOk result (λ w. w ≡ self.now) }
     {
@@ -45,7 +45,7 @@ impl Weights {
         Ok(Weights { entries })
     }
 
-    /// How many weights aren't 0.
+    /// The number of weights that aren't 0.
     pub fn len(&self) -> usize
         ensures { result ≡ length self.now }
     {

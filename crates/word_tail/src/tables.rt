@@ -59,7 +59,7 @@ pub(crate) fn place_of_triple(a: Symbol, b: Symbol, c: Symbol) -> usize
     PAIRS * a.number as usize + place_of_pair(b, c)
 }
 
-// Whether one more day makes a block of so many days too long.
+// Whether one more day makes a block of `days` days too long.
 fn exceeds(days: u8, greatest: Option<u32>) -> bool
     ensures { MatchOption greatest (¬ IsTrue result) (λ m. IsTrue result ↔ (m ≤ days)) }
 {
@@ -69,7 +69,7 @@ fn exceeds(days: u8, greatest: Option<u32>) -> bool
     }
 }
 
-// Whether a block of so many days is there and too short.
+// Whether there is a block, of `days` days, and it is too short.
 fn falls_short(days: u8, least: Option<u32>) -> bool
     ensures { MatchOption least (¬ IsTrue result) (λ m. IsTrue result ↔ ((0 < days) × (days < m))) }
 {
