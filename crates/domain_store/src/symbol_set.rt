@@ -98,7 +98,7 @@ impl SymbolSet {
     }
 
     /// The lowest symbol.
-    #[tactic(auto, using(crate::proofs::SetLemmas::numbers_set, crate::proofs::SetLemmas::numbers_clear, crate::proofs::SetLemmas::numbers_past,))]
+    #[tactic(auto, using(crate::proofs::SetLemmas::numbers_set, crate::proofs::SetLemmas::numbers_clear, crate::proofs::SetLemmas::numbers_past))]
     pub fn first(&self) -> Option<u8>
         ensures { result ≡ slice_get self.now 0 }
     {
