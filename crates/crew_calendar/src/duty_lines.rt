@@ -10,7 +10,8 @@ use crate::calendar::{DAY_MINUTES, MOST_DAYS_LATER, date_after};
 use crate::lines::{put_date, put_name};
 use crate::places::symbol_on;
 use jiff::civil::Date;
-use rwsp_model::{Problem, Roster, Symbol};
+use rwsp_model::{Problem, Roster};
+use rwsp_terms::Symbol;
 use rwsp_terms::limits::{GREATEST_BOUND, LONGEST_CALENDAR};
 use std::alloc::{AllocError, Global};
 

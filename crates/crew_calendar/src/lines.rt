@@ -10,7 +10,8 @@ ghost use Rattle.crew_calendar.specs.Facts.{IsStaffed, FollowsCycle, IsClean, Go
 use crate::calendar::date_after;
 use crate::places::symbol_on;
 use jiff::civil::Date;
-use rwsp_model::{Problem, Roster, Symbol};
+use rwsp_model::{Problem, Roster};
+use rwsp_terms::Symbol;
 use rwsp_terms::limits::LONGEST_CALENDAR;
 use std::alloc::{AllocError, Global};
 

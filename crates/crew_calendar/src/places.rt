@@ -4,7 +4,8 @@ ghost use Rattle.rwsp_terms.specs.Instance.{cells};
 ghost use Rattle.rwsp_terms.specs.Roster.{IsRoster};
 ghost use Rattle.crew_calendar.specs.Crew.{place, symbol_on, IsEmployee};
 
-use rwsp_model::{Problem, Symbol};
+use rwsp_model::Problem;
+use rwsp_terms::Symbol;
 use rwsp_terms::limits::LONGEST_CALENDAR;
 
 /// The position of an employee, from 1 on, on a day, from 0 on. Takes no memory.

@@ -6,7 +6,8 @@ ghost use Rattle.domain_store.specs.Store.{Store, domain_at, has_domain, Belongs
 
 use crate::recount::{alone, held, recount};
 use domain_store::{Domains, SymbolSet};
-use rwsp_model::{Problem, Symbol};
+use rwsp_model::Problem;
+use rwsp_terms::Symbol;
 use rwsp_terms::limits::{MOST_SHIFTS, MOST_SYMBOLS, MOST_WEEKS};
 use std::alloc::{AllocError, Global};
 use std::marker::Model;

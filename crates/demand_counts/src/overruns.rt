@@ -7,7 +7,8 @@ ghost use Rattle.demand_counts.specs.Counted.{StandsFor, CountsFor, has_counted}
 ghost use Rattle.demand_counts.specs.Overruns.{IsSymbolAnswer, IsDayAnswer, IsOverrunAnswer};
 
 use crate::Counts;
-use rwsp_model::{Problem, Symbol};
+use rwsp_model::Problem;
+use rwsp_terms::Symbol;
 
 impl Counts {
     /// The first overrun by day, then symbol, then over (true) before short (false). Over: more weeks hold the symbol

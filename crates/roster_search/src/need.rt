@@ -5,7 +5,8 @@ ghost use Rattle.domain_store.specs.Store.{BelongsTo, has_domain};
 ghost use Rattle.roster_search.specs.Guides.{HasNoneFrom};
 
 use domain_store::Domains;
-use rwsp_model::{Problem, Symbol};
+use rwsp_model::Problem;
+use rwsp_terms::Symbol;
 use rwsp_terms::limits::{MOST_CELLS, MOST_DAYS};
 
 /// The symbol of the domain, of those from the lowest on, that is needed most on the day of the position, of several

@@ -6,7 +6,8 @@ ghost use Rattle.roster_search.specs.Guides.{IsSplitIn};
 use crate::NextSplit;
 use crate::need::most_needed;
 use domain_store::Domains;
-use rwsp_model::{Problem, Symbol};
+use rwsp_model::Problem;
+use rwsp_terms::Symbol;
 
 /// A position with two symbols or more, and one of them; None where each position has one symbol.
 ///

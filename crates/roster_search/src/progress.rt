@@ -14,8 +14,8 @@ ghost use Rattle.roster_search.specs.Written.{IsProgress, IsSplitOff};
 
 use refutation_log::{put_cited, put_turn_cited};
 use refutation_terms::{Line, Turn};
-use rwsp_model::{Problem, Symbol};
-use rwsp_terms::RuleList;
+use rwsp_model::Problem;
+use rwsp_terms::{RuleList, Symbol};
 use std::alloc::{AllocError, Global};
 use tree_walk::Walk;
 

@@ -11,7 +11,8 @@ use crate::Guide;
 use domain_store::Domains;
 use propagators::{Look, Propagator};
 use refutation_terms::Line;
-use rwsp_model::{Roster, Symbol};
+use rwsp_model::Roster;
+use rwsp_terms::Symbol;
 use std::alloc::{AllocError, Global};
 
 /// How a search came to the domains at hand. It says what the guide is asked there, and no promise speaks of it.

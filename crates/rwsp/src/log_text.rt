@@ -8,7 +8,8 @@ ghost use Rattle.rwsp.specs.Texts.{line, at_line, accepted_text, log_refusal_tex
 
 use refutation_log::LogRefusal;
 use roster_print::put_after_blanks;
-use rwsp_model::{Problem, RuleList, Symbol};
+use rwsp_model::Problem;
+use rwsp_terms::{RuleList, Symbol};
 use rwsp_text::put_number;
 use std::alloc::{AllocError, Global};
 

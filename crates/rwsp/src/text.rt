@@ -10,7 +10,8 @@ use refutation_log::print_log;
 use roster_checker::Broken;
 use roster_print::{RosterRefusal, print_roster, put_rule};
 use rwsp_file::{FileRefusal, print_problem};
-use rwsp_model::{Problem, Rule, rule_at};
+use rwsp_model::{Problem, rule_at};
+use rwsp_terms::Rule;
 use std::alloc::{AllocError, Global};
 
 const USAGE: &str =

@@ -3,7 +3,7 @@ ghost use Rattle.std.specs.Option.{option_map};
 ghost use Rattle.std.specs.Str.{bytes_eq};
 ghost use Rattle.rwsp_terms.specs.Instance.{bounds, shift_count, cells, symbol_of, name_of, name_among, least, greatest, IsClass, IsSymbol, IsShift, IsDay};
 ghost use Rattle.rwsp_model.specs.Parts.{instance_of};
-ghost use Rattle.rwsp_model.specs.Validity.{refusal_of, KeepsLimits};
+ghost use Rattle.rwsp_model.specs.Validity.{refusal_of, IsValid, KeepsLimits};
 
 use crate::{PartsRefusal, demand, validity};
 use rwsp_terms::limits::{
@@ -56,6 +56,14 @@ impl Problem {
             None => Ok(Problem { parts }),
             Some(refusal) => Err(refusal),
         }
+    }
+
+    /// The problem of parts that are known to make one, so that they aren't judged again.
+    pub fn of_valid(parts: Parts) -> Problem
+        requires { IsValid (instance_of parts) }
+        ensures { result ≡ instance_of parts }
+    {
+        Problem { parts }
     }
 
     /// An equal problem.

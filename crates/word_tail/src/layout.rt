@@ -8,9 +8,9 @@ ghost use Rattle.word_tail.specs.Ends.{max_rule, min_rule, class_numbered};
 ghost use Rattle.word_tail.specs.Tables.{IsGreatest, IsLeast, AreLengths, AreTables, no_lengths, pair_in, triple_in, HoldsPairs, HoldsTriples, NamesPair, NamesTriple};
 
 use crate::tables::{Lengths, PAIRS, RuleTables, TRIPLES, place_of_pair, place_of_triple};
-use rwsp_model::{Problem, Rule, RuleList, every_rule_is_listed, number_of, rules_have_one_number};
+use rwsp_model::{Problem, every_rule_is_listed, number_of, rules_have_one_number};
 use rwsp_terms::limits::MOST_SYMBOLS;
-use rwsp_terms::{Class, Symbol};
+use rwsp_terms::{Class, Rule, RuleList, Symbol};
 use std::alloc::{AllocError, Global};
 
 // Whether the list names the rule.
