@@ -2,10 +2,10 @@
 ghost use Rattle.std.specs.Prelude.{IfSome};
 ghost use Rattle.rwsp_terms.specs.Roster.{IsRoster};
 
-use rwsp_terms::{Bounds, DemandRow, Name, ShiftRow, Symbol};
 use super::*;
 use jiff::civil::Date;
 use rwsp_model::{Parts, Problem, Roster};
+use rwsp_terms::{Bounds, DemandRow, Name, ShiftRow, Symbol};
 use std::alloc::{AllocError, Global};
 use std::test::Fail;
 
