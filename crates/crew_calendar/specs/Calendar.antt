@@ -14,8 +14,8 @@ abbrev pub IsWithinDates : Date → ℕ → Type 0
 IsWithinDates date days = (epoch_day date +ℤ pos days) ≤ℤ last_day
 
 -- the days that the calendar needs are there
-abbrev pub Fits : Date → ℕ → Type 0
-Fits date days = IsWithinDates date (days + MOST_DAYS_LATER)
+abbrev pub FitsDates : Date → ℕ → Type 0
+FitsDates date days = IsWithinDates date (days + MOST_DAYS_LATER)
 
 -- day t, from 0 on, has the date that is t days after the first
 abbrev pub IsCalendar : Date → ℕ → (ℕ → Date) → Type 0

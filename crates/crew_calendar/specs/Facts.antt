@@ -6,7 +6,7 @@ use Rattle.rwsp_terms.specs.Window.{Bad, window}
 use Rattle.rwsp_terms.specs.Roster.{IsRoster, IsRule, MeetsAll}
 use Rattle.rwsp_terms.specs.declared.data.Symbol.{Symbol}
 use Rattle.rwsp_terms.specs.declared.data.Rule.{Rule}
-use Rattle.crew_calendar.specs.Crew.{employees, place, symbol_on}
+use Rattle.crew_calendar.specs.Crew.{employees, position_of, symbol_on}
 
 -- how many employees have a symbol on a day
 abbrev pub crew_with : Instance → List Symbol → ℕ → ℕ → ℕ
@@ -38,8 +38,8 @@ IsClean P s = (e t days : ℕ) (r : Rule) → IsRule P r → Bad P r (stretch P 
 -- the employee stands at the position on this one of the days of a round that begins on day t, and on no other
 pub record StandsOnce (P : Instance) (e t p day : ℕ) : Type 0 where
   pub within : day < cells P
-  pub here : place P e (t + day) ≡ p
-  pub only : (other : ℕ) → other < cells P → place P e (t + other) ≡ p → other ≡ day
+  pub here : position_of P e (t + day) ≡ p
+  pub only : (other : ℕ) → other < cells P → position_of P e (t + other) ≡ p → other ≡ day
 
 -- in as many days as the cycle has, an employee stands once at each position
 abbrev pub GoesRound : Instance → Type 0

@@ -2,7 +2,7 @@
 ghost use Rattle.std.specs.Prelude.{◌≡◌, ◌+◌, ◌≤◌, ◌↔◌, pos, ◌+ℤ◌, IsOk, IfOk, IsTrue, MatchOption};
 ghost use Rattle.jiff.specs.Types.{Date as PlainDate};
 ghost use Rattle.jiff.specs.Words.{epoch_day};
-ghost use Rattle.crew_calendar.specs.Calendar.{IsWithinDates, Fits, IsDateWord};
+ghost use Rattle.crew_calendar.specs.Calendar.{IsWithinDates, FitsDates, IsDateWord};
 
 use jiff::civil::Date;
 use jiff::{Error, ToSpan};
@@ -31,7 +31,7 @@ fn days_later(date: Date, days: u32) -> Result<Date, Error>
 /// Whether a calendar of `days` dates ends by 9999-12-31, with all its duties.
 pub fn fits(date: Date, days: u32) -> bool
     requires { days ≤ LONGEST_CALENDAR }
-    ensures { IsTrue result ↔ Fits date days }
+    ensures { IsTrue result ↔ FitsDates date days }
 {
     days_later(date, days + MOST_DAYS_LATER).is_ok()
 }

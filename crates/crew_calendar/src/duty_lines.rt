@@ -3,7 +3,7 @@ ghost use Rattle.std.specs.Prelude.{◌≡◌, ◌++◌, ◌∷◌, [], ◌+◌,
 ghost use Rattle.rwsp_terms.specs.Instance.{IsShift};
 ghost use Rattle.rwsp_terms.specs.Roster.{IsRoster};
 ghost use Rattle.crew_calendar.specs.Crew.{IsEmployee};
-ghost use Rattle.crew_calendar.specs.Calendar.{Fits, IsWithinDates, OnCalendar};
+ghost use Rattle.crew_calendar.specs.Calendar.{FitsDates, IsWithinDates, OnCalendar};
 ghost use Rattle.crew_calendar.specs.Texts.{day_minutes, two_digits, clock_text, moment_text, start_of, length_of, shift_line, duty_line, AreDuties};
 
 use crate::calendar::{DAY_MINUTES, MOST_DAYS_LATER, date_after};
@@ -128,7 +128,7 @@ pub fn duties(
     requires roster { IsRoster problem.now roster.now.cells }
     requires employee { IsEmployee problem.now employee }
     requires days { days ≤ LONGEST_CALENDAR }
-    requires fits { Fits date days }
+    requires fits { FitsDates date days }
     ensures { IfOk result (λ text. AreDuties problem.now roster.now.cells date days employee text.items) }
 {
     let mut out = Vec::new(alloc);

@@ -3,7 +3,7 @@ ghost use Rattle.std.specs.Prelude.{◌≡◌, ◌++◌, ◌∷◌, [], ◌<◌,
 ghost use Rattle.rwsp_terms.specs.Instance.{IsSymbol, name_of};
 ghost use Rattle.rwsp_terms.specs.Roster.{IsRoster, MeetsAll};
 ghost use Rattle.jiff.specs.Words.{date_text};
-ghost use Rattle.crew_calendar.specs.Calendar.{Fits};
+ghost use Rattle.crew_calendar.specs.Calendar.{FitsDates};
 ghost use Rattle.crew_calendar.specs.Texts.{crew_text, IsTable};
 ghost use Rattle.crew_calendar.specs.Facts.{IsStaffed, FollowsCycle, IsClean, GoesRound};
 
@@ -78,7 +78,7 @@ fn day_lines(
 ) -> Result<Vec<u8>, AllocError>
     requires roster { IsRoster problem.now cells.now }
     requires days { days ≤ LONGEST_CALENDAR }
-    requires fits { Fits date days }
+    requires fits { FitsDates date days }
     ensures { IfOk result (λ text. IsTable problem.now cells.now date days text.items) }
 {
     let mut out = Vec::new(alloc);
@@ -99,7 +99,7 @@ pub fn crew_table(
 ) -> Result<Vec<u8>, AllocError>
     requires roster { IsRoster problem.now roster.now.cells }
     requires days { days ≤ LONGEST_CALENDAR }
-    requires fits { Fits date days }
+    requires fits { FitsDates date days }
     ensures table { IfOk result (λ text. IsTable problem.now roster.now.cells date days text.items) }
 
     // What a planner may rely on.

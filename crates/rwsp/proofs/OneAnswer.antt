@@ -12,7 +12,7 @@ use Rattle.refutation_terms.specs.LogText.{log_text}
 use Rattle.rwsp.specs.Commands.{Words, IsForm, ReadsProblem, ReadsSecond, IsWithinHorizon, problem_name, second_name}
 use Rattle.rwsp.specs.Inputs.{WhereTold, IsWithinLimit, IsProblemOf}
 use Rattle.rwsp.specs.Answers.{IsAnswerOn, IsAnswerTo, IsFileAnswer, IsSecondAnswer}
-use Rattle.rwsp.specs.Texts.{text_of, HasFixedText, IsPrintable, IsCalendarOf, IsCalendarText, IsReplyText}
+use Rattle.rwsp.specs.Texts.{answer_text, HasFixedText, IsPrintable, IsCalendarOf, IsCalendarText, IsReplyText}
 use Rattle.rwsp.specs.Trials.{IsTrialAnswer, IsProblemOfTrial}
 use Rattle.problem_generator.proofs.OneProblem.{same_generated}
 use Rattle.rwsp.specs.Laws.{AnswersAreOne, TextsAreOne, ProblemsAreAnswered, RefutationsAreAccepted, AgreeInSearch, RostersMeet, ReductionsAreAccepted, WorkersMakeNoDifference}
@@ -22,7 +22,7 @@ use Rattle.rwsp.specs.declared.answer.InputKind.TheVariants as Kinds
 use Rattle.rwsp.specs.declared.answer.Answer.{Answer}
 use Rattle.rwsp.specs.declared.answer.Answer.TheVariants.{Roster, NoRoster, Undecided, Accepted, LogRefused, Reduced, Meets, Shown, Breaks, RosterRefused, Trial as TrialOf, Usage, FileRefused, TooLong, Crew, Horizon, NoEmployee}
 use Rattle.rwsp.proofs.Logs.{accepted}
-use Rattle.rwsp.specs.Plans.{IsPlanned}
+use Rattle.rwsp.specs.Plans.{IsPlanAnswer}
 use Rattle.rwsp_terms.specs.Roster.{MeetsAll}
 use Rattle.rwsp_terms.specs.declared.data.Symbol.{Symbol}
 use Rattle.refutation_terms.specs.Log.{Log as LogValue, Passes}
@@ -55,7 +55,7 @@ at_missing told Q e h = subst (λ (t : Told). WhereTold t Q) e h
 pub exclusive : (P : Instance) (s : List Symbol) (g : LogValue) → MeetsAll P s → Passes P g → ⊥
 exclusive P s g h k = passing_leaves_none P g s k (record { is_roster = h.is_roster; rules = λ r n. h.rules r (named-IsRule P g.named r n) })
 
-planned_agree : (P : Instance) (budget : ℕ) (a b : Answer) → IsPlanned P budget a → IsPlanned P budget b → AgreeInSearch a b
+planned_agree : (P : Instance) (budget : ℕ) (a b : Answer) → IsPlanAnswer P budget a → IsPlanAnswer P budget b → AgreeInSearch a b
 planned_agree P budget (Roster s) (Roster t) h k = (tt, tt)
 planned_agree P budget (Roster s) (NoRoster e) h k = exclusive P s.cells e h.1 k.0
 planned_agree P budget (Roster s) (Undecided e) h k = (tt, tt)
@@ -226,7 +226,7 @@ taken file P budget g a spells planned short kind h =
 pub verified : RostersMeet
 verified file P budget (Roster s) a spells kind planned h =
     let roster = planned.1.is_roster in
-    one_second Verify P (text_of P (Roster s)) a Meets (valid_keeps P spells.valid) h (printed_is_short P s.cells spells.valid roster, (s.cells, printed_is_spelled P s.cells spells.valid roster, planned.1))
+    one_second Verify P (answer_text P (Roster s)) a Meets (valid_keeps P spells.valid) h (printed_is_short P s.cells spells.valid roster, (s.cells, printed_is_spelled P s.cells spells.valid roster, planned.1))
 verified file P budget (NoRoster g) a spells kind planned h = absurd kind
 verified file P budget (Undecided g) a spells kind planned h = absurd kind
 verified file P budget (Accepted R) a spells kind planned h = absurd kind
@@ -294,7 +294,7 @@ same_reply command P told a text other limits there (inr h) (inr k) = told_text 
 no_fixed : (a : Answer) → HasFixedText a → a ≡ Crew → ⊥
 no_fixed a h e = subst HasFixedText e h
 
-fixed_reply : (command : Command) (P : Instance) (told : Told) (a : Answer) (text other : List ℕ) → HasFixedText a → ((Q : Instance) → text ≡ text_of Q a) → IsReplyText command told P a other → text ≡ other
+fixed_reply : (command : Command) (P : Instance) (told : Told) (a : Answer) (text other : List ℕ) → HasFixedText a → ((Q : Instance) → text ≡ answer_text Q a) → IsReplyText command told P a other → text ≡ other
 fixed_reply command P told a text other fixed h (inl k) = h P ∙ sym k.1
 fixed_reply command P told a text other fixed h (inr k) = absurd (no_fixed a fixed k.0)
 
@@ -386,4 +386,4 @@ one_text one held words a text other told second (inr (inl h)) (inr (inr k)) = a
 one_text one held words a text other told second (inr (inr h)) (inr (inl k)) = absurd (trial_not_reply k.0 k.2.0 h.0 (held (second_name words)) a other k.2.2 h.1)
 one_text one held words a text other told second (inr (inr h)) (inr (inr k)) =
     let same : h.0 ≡ k.0 = one_of_trial a h.0 k.0 h.1 k.1 in
-    h.2 ∙ ap (λ (P : Instance). text_of P a) same ∙ sym k.2
+    h.2 ∙ ap (λ (P : Instance). answer_text P a) same ∙ sym k.2

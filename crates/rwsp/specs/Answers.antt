@@ -15,7 +15,7 @@ use Rattle.refutation_terms.specs.Verdict.{IsAccepted, IsRefused}
 use Rattle.rule_reducer.specs.Needs.{NeedsEach, NeedsTogether}
 use Rattle.rwsp.specs.Commands.{Words, IsForm, HasNoForm, ReadsProblem, ReadsSecond, IsWithinHorizon, problem_name, second_name}
 use Rattle.rwsp.specs.Inputs.{WhereTold, IsWithinLimit, IsTooLong, OfProblem, HasProblem}
-use Rattle.rwsp.specs.Plans.{IsPlanned}
+use Rattle.rwsp.specs.Plans.{IsPlanAnswer}
 use Rattle.rwsp.specs.Trials.{IsTrialAnswer}
 use Rattle.rwsp.specs.declared.command.Command.{Command}
 use Rattle.rwsp.specs.declared.command.Command.TheVariants.{Plan, Check, Verify, Reduce, Show, Trial, Crew as CrewCommand}
@@ -148,7 +148,7 @@ IsSecondAnswer command answer P bytes = ⊥
 -- what the answer to a command says of the instance that the first file spells, and of what the second file tells
 abbrev pub IsAnswerOn : Command → Told → Instance → Answer → Type 0
 IsAnswerOn Show told P answer = answer ≡ Shown
-IsAnswerOn (Plan budget) told P answer = IsPlanned P budget answer
+IsAnswerOn (Plan budget) told P answer = IsPlanAnswer P budget answer
 IsAnswerOn command told P answer = IsOfSecond command answer × WhereTold told (IsSecondAnswer command answer P)
 
 -- the problem's file ends the job, or the answer is one of the command's, and the file spells an instance where the

@@ -4,7 +4,7 @@ use Rattle.std.specs.String.{string_bytes}
 use Rattle.std.specs.declared.alloc.Global.{Global}
 use Rattle.rwsp_terms.specs.declared.limits.TheConstants.{MOST_WEEKS, USUAL_BUDGET, GREATEST_BUDGET, LONGEST_CALENDAR, USUAL_WORKERS, MOST_WORKERS}
 use Rattle.rwsp_text.specs.Numbers.{number_of}
-use Rattle.crew_calendar.specs.Calendar.{IsDateWord, Fits}
+use Rattle.crew_calendar.specs.Calendar.{IsDateWord, FitsDates}
 use Rattle.jiff.specs.Types.{Date}
 use Rattle.rwsp.specs.declared.command.Command.{Command}
 use Rattle.rwsp.specs.declared.command.Command.TheVariants.{Plan, Check, Verify, Reduce, Show, Trial, Crew}
@@ -96,7 +96,7 @@ HasFewWorkers command = Unit {0}
 
 -- a calendar that the command asks for ends by 9999-12-31, with all duties
 abbrev pub IsWithinHorizon : Command → Type 0
-IsWithinHorizon (Crew date days employee) = Fits date days
+IsWithinHorizon (Crew date days employee) = FitsDates date days
 IsWithinHorizon command = Unit {0}
 
 -- the days of a calendar, and the number of an employee

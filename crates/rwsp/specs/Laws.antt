@@ -6,9 +6,9 @@ use Rattle.rwsp_file.specs.Spelling.{SpellsProblem}
 use Rattle.refutation_terms.specs.Log.{Log}
 use Rattle.rwsp.specs.Commands.{Words, IsForm, ReadsProblem, ReadsSecond, IsWithinHorizon, problem_name, second_name}
 use Rattle.rwsp.specs.Inputs.{IsWithinLimit}
-use Rattle.rwsp.specs.Plans.{IsPlanned}
+use Rattle.rwsp.specs.Plans.{IsPlanAnswer}
 use Rattle.rwsp.specs.Answers.{IsAnswer, IsAnswerOn, IsOfSearch, IsOfLog, IsLogAnswer, IsRosterAnswer, IsReduction}
-use Rattle.rwsp.specs.Texts.{IsTextOf, text_of}
+use Rattle.rwsp.specs.Texts.{IsTextOf, answer_text}
 use Rattle.rwsp.specs.declared.command.Command.{Command}
 use Rattle.rwsp.specs.declared.command.Command.TheVariants.{Check}
 use Rattle.rwsp.specs.declared.answer.InputKind.TheVariants as Kinds
@@ -60,8 +60,8 @@ ProblemsAreAnswered =
 abbrev pub RefutationsAreAccepted : Type 0
 RefutationsAreAccepted =
     (file : List ℕ) (P : Instance) (budget : ℕ) (g : Log) (a : Answer)
-    → SpellsProblem file P → IsPlanned P budget (NoRoster g) → IsWithinLimit Kinds.Log (text_of P (NoRoster g))
-        → IsOfLog a → IsLogAnswer a P (text_of P (NoRoster g))
+    → SpellsProblem file P → IsPlanAnswer P budget (NoRoster g) → IsWithinLimit Kinds.Log (answer_text P (NoRoster g))
+        → IsOfLog a → IsLogAnswer a P (answer_text P (NoRoster g))
     → a ≡ Accepted g.named
 
 -- a roster that was found
@@ -73,15 +73,15 @@ IsRosterOf answer = ⊥
 abbrev pub RostersMeet : Type 0
 RostersMeet =
     (file : List ℕ) (P : Instance) (budget : ℕ) (planned a : Answer)
-    → SpellsProblem file P → IsRosterOf planned → IsPlanned P budget planned → IsRosterAnswer a P (text_of P planned)
+    → SpellsProblem file P → IsRosterOf planned → IsPlanAnswer P budget planned → IsRosterAnswer a P (answer_text P planned)
     → a ≡ Meets
 
 -- the text of what `reduce` writes is accepted by `check`, with the rules that it names
 abbrev pub ReductionsAreAccepted : Type 0
 ReductionsAreAccepted =
     (file : List ℕ) (P : Instance) (bytes : List ℕ) (h : Log) (a : Answer)
-    → SpellsProblem file P → IsReduction (Reduced h) P bytes → IsWithinLimit Kinds.Log (text_of P (Reduced h))
-        → IsLogAnswer a P (text_of P (Reduced h))
+    → SpellsProblem file P → IsReduction (Reduced h) P bytes → IsWithinLimit Kinds.Log (answer_text P (Reduced h))
+        → IsLogAnswer a P (answer_text P (Reduced h))
     → a ≡ Accepted h.named
 
 -- the number of workers makes no difference to what is said of an answer

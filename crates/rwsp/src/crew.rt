@@ -3,7 +3,7 @@ ghost use Rattle.std.specs.Prelude.{◌≡◌, ◌≤◌, ℕ, Some, IfOk, IfErr
 ghost use Rattle.rwsp_io.specs.Told.{NeverFall, Rose, Bytes};
 ghost use Rattle.rwsp_terms.specs.Roster.{IsRoster};
 ghost use Rattle.roster_print.specs.RosterText.{SpellsRoster};
-ghost use Rattle.crew_calendar.specs.Calendar.{Fits};
+ghost use Rattle.crew_calendar.specs.Calendar.{FitsDates};
 ghost use Rattle.rwsp.specs.Commands.{IsEmployeeNumber};
 ghost use Rattle.rwsp.specs.Inputs.{WhereTold, IsWithinLimit};
 ghost use Rattle.rwsp.specs.Answers.{IsCrewAnswer, IsOfCrew, SpellsRight};
@@ -36,7 +36,7 @@ pub fn crew_reply<S: Shelf>(
 ) -> Result<Reply, Stop>
     requires days { days ≤ LONGEST_CALENDAR }
     requires employee { IsEmployeeNumber employee }
-    requires fits { Fits date days }
+    requires fits { FitsDates date days }
     ensures answer { IfOk result (λ r.
         WhereTold (S.held shelf.old name.now) (IsCrewAnswer employee r.answer problem.now)) }
     ensures kind { IfOk result (λ r. IsOfCrew r.answer) }
@@ -64,7 +64,7 @@ fn calendar(
     requires short { IsWithinLimit Kinds.Roster bytes.now }
     requires days { days ≤ LONGEST_CALENDAR }
     requires employee { IsEmployeeNumber employee }
-    requires fits { Fits date days }
+    requires fits { FitsDates date days }
     ensures answer { IfOk result (λ r. IsCrewAnswer employee r.answer problem.now bytes.now) }
     ensures kind { IfOk result (λ r. IsOfCrew r.answer) }
     ensures text { IfOk result (λ r.
@@ -93,7 +93,7 @@ fn on_roster(
     requires roster { IsRoster problem.now roster.now.cells }
     requires days { days ≤ LONGEST_CALENDAR }
     requires employee { IsEmployeeNumber employee }
-    requires fits { Fits date days }
+    requires fits { FitsDates date days }
     ensures answer { IfOk result (λ r. IsCrewAnswer employee r.answer problem.now bytes.now) }
     ensures kind { IfOk result (λ r. IsOfCrew r.answer) }
     ensures text { IfOk result (λ r.
@@ -127,7 +127,7 @@ fn duties_of(
     requires roster { IsRoster problem.now roster.now.cells }
     requires days { days ≤ LONGEST_CALENDAR }
     requires employee { 1 ≤ number }
-    requires fits { Fits date days }
+    requires fits { FitsDates date days }
     ensures answer { IfOk result (λ r. IsCrewAnswer (Some number) r.answer problem.now bytes.now) }
     ensures kind { IfOk result (λ r. IsOfCrew r.answer) }
     ensures text { IfOk result (λ r.

@@ -1,6 +1,6 @@
 // A roster for a problem, or a refutation.
 ghost use Rattle.std.specs.Prelude.{◌≡◌, ◌≤◌, IfOk};
-ghost use Rattle.rwsp.specs.Plans.{IsPlanned, answer_of};
+ghost use Rattle.rwsp.specs.Plans.{IsPlanAnswer, answer_of};
 
 use crate::answer::Answer;
 use potential_bounds::Gate;
@@ -20,7 +20,7 @@ pub fn planned<R: Threads + Sync, G: Gate>(
     gate: &G,
 ) -> Result<Answer, AllocError>
     requires { (1 ≤ budget) × (budget ≤ GREATEST_BUDGET) }
-    ensures { IfOk result (IsPlanned problem.now budget) }
+    ensures { IfOk result (IsPlanAnswer problem.now budget) }
 {
     let found = plan_roster(rt, alloc, problem, budget, gate)?;
     Ok(answer_of(found))

@@ -5,9 +5,9 @@ ghost use Rattle.rwsp_io.specs.Told.{Rose, NeverFall, Missing};
 ghost use Rattle.rwsp_terms.specs.Instance.{Instance};
 ghost use Rattle.rwsp.specs.Answers.{IsAnswer, IsAnswerOn, IsReadFault};
 ghost use Rattle.rwsp.specs.Commands.{IsForm, ReadsProblem, ReadsSecond, IsWithinHorizon, AsksNoCalendar, problem_name, second_name};
-ghost use Rattle.rwsp.specs.Plans.{IsPlanned};
+ghost use Rattle.rwsp.specs.Plans.{IsPlanAnswer};
 ghost use Rattle.rwsp.specs.Trials.{IsTrialAnswer};
-ghost use Rattle.rwsp.specs.Texts.{IsTextOf, IsReplyText, IsTextOfTrial, HasFixedText, IsPrintable, text_of};
+ghost use Rattle.rwsp.specs.Texts.{IsTextOf, IsReplyText, IsTextOfTrial, HasFixedText, IsPrintable, answer_text};
 ghost use Rattle.rwsp.specs.declared.answer.Answer.{Answer};
 
 use crate::answer::{Answer, Outcome, Stop};
@@ -228,7 +228,7 @@ fn fixed(alloc: Global, answer: Answer) -> Result<Reply, Stop>
     requires { HasFixedText answer }
     ensures answer { IfOk result (λ r. r.answer ≡ answer) }
     ensures fixed { IfOk result (λ r. HasFixedText r.answer) }
-    ensures text { IfOk result (λ r. (P : Instance) → r.text.items ≡ text_of P r.answer) }
+    ensures text { IfOk result (λ r. (P : Instance) → r.text.items ≡ answer_text P r.answer) }
     ensures fault { IsErrOf result Stop.ReadFault → ⊥ }
 {
     let text = fixed_text(alloc, &answer)?;
@@ -239,7 +239,7 @@ fn fixed(alloc: Global, answer: Answer) -> Result<Reply, Stop>
 pub fn printed(alloc: Global, problem: &Problem, answer: Answer) -> Result<Reply, Stop>
     requires { IsPrintable problem.now answer }
     ensures answer { IfOk result (λ r. r.answer ≡ answer) }
-    ensures text { IfOk result (λ r. IsPrintable problem.now r.answer × (r.text.items ≡ text_of problem.now r.answer)) }
+    ensures text { IfOk result (λ r. IsPrintable problem.now r.answer × (r.text.items ≡ answer_text problem.now r.answer)) }
     ensures fault { IsErrOf result Stop.ReadFault → ⊥ }
 {
     let text = text_on(alloc, problem, &answer)?;
@@ -256,7 +256,7 @@ fn plan<R: Threads + Sync, G: Gate>(
     gate: &G,
 ) -> Result<Answer, Stop>
     requires { (1 ≤ budget) × (budget ≤ GREATEST_BUDGET) }
-    ensures answer { IfOk result (IsPlanned problem.now budget) }
+    ensures answer { IfOk result (IsPlanAnswer problem.now budget) }
     ensures printable { IfOk result (IsPrintable problem.now) }
     ensures fault { IsErrOf result Stop.ReadFault → ⊥ }
 {
