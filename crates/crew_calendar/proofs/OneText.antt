@@ -3,6 +3,7 @@ use Rattle.std.proofs.Common.{◌≡◌, ℕ, zero, suc, ◌+◌, ◌-◌, ◌*�
 use Rattle.std.specs.Prelude.{slice_get, Some, None, All, codes}
 use Rattle.std.specs.List.{flat_map, range_with_len}
 use Rattle.std.proofs.lemmas.Option.{slice_get_cases}
+use Rattle.rwsp_terms.specs.declared.limits.TheConstants.{GREATEST_BOUND}
 use Rattle.rwsp_terms.specs.declared.data.ShiftRow.{ShiftRow}
 use Rattle.rwsp_terms.specs.declared.data.Symbol.{Symbol}
 use Rattle.rwsp_terms.specs.Instance.{Instance, name_of}
@@ -10,6 +11,7 @@ use Rattle.rwsp_model.specs.Validity.{KeepsLimits}
 use Rattle.jiff.specs.Types.{Date}
 use Rattle.jiff.specs.Words.{date_text, parse_date, date_parts}
 use Rattle.jiff.proofs.Family.{parse_date-date_text, epoch_day_same, same_date}
+use Rattle.crew_calendar.specs.declared.calendar.TheConstants.{MOST_DAYS_LATER}
 use Rattle.crew_calendar.specs.Crew.{symbol_on}
 use Rattle.crew_calendar.specs.Calendar.{IsCalendar, IsDateWord}
 use Rattle.crew_calendar.specs.Texts.{crew_text, day_line, day_minutes, clock_text, moment_text, start_in, length_in, start_of, length_of, shift_line, duty_line_of, duty_line, IsTable, AreDuties}
@@ -30,18 +32,18 @@ pub one_table : (P : Instance) (s : List Symbol) (date : Date) (days : ℕ) (tex
 one_table P s date days text other a b =
     a.is
     ∙ lines_same (day_line P s a.on) (day_line P s b.on) 0 days
-    (λ t less. ap (λ d. d ++ crew_text P s t ++ 10 ∷ []) (agree date (days + 13) a.on b.on a.calendar b.calendar t (omega (arith, less))))
+    (λ t less. ap (λ d. d ++ crew_text P s t ++ 10 ∷ []) (agree date (days + MOST_DAYS_LATER) a.on b.on a.calendar b.calendar t (omega (arith, less))))
     ∙ sym b.is
 
 -- what a row has that may be there
-row_small : (rows : List ShiftRow) (k : ℕ) → All (λ (row : ShiftRow). (row.start ≤ 10000) × (row.length ≤ 10000)) rows → (start_in (slice_get rows k) ≤ 10000) × (length_in (slice_get rows k) ≤ 10000)
+row_small : (rows : List ShiftRow) (k : ℕ) → All (λ (row : ShiftRow). (row.start ≤ GREATEST_BOUND) × (row.length ≤ GREATEST_BOUND)) rows → (start_in (slice_get rows k) ≤ GREATEST_BOUND) × (length_in (slice_get rows k) ≤ GREATEST_BOUND)
 row_small rows k times =
     elim (slice_get_cases rows k).1 [
       | inl found ↦
           let small = times k found.0 found.1 in
           let row : get_or rows k found.0 ≡ found.0 = found.3 in
           let is : slice_get rows k ≡ Some found.0 = found.2 in
-          rw is (subst (λ (r : ShiftRow). (r.start ≤ 10000) × (r.length ≤ 10000)) row small)
+          rw is (subst (λ (r : ShiftRow). (r.start ≤ GREATEST_BOUND) × (r.length ≤ GREATEST_BOUND)) row small)
       | inr past ↦ let none : slice_get rows k ≡ None = past.1 in rw none (omega arith, omega arith)
     ]
 
@@ -49,16 +51,16 @@ moment_same : (date : Date) (days : ℕ) (on other : ℕ → Date) → IsCalenda
 moment_same date days on other here there minutes less =
     ap (λ d. d ++ 32 ∷ clock_text (minutes % day_minutes)) (agree date days on other here there (minutes / day_minutes) less)
 
-shift_same : (P : Instance) (date : Date) (days : ℕ) (on other : ℕ → Date) → KeepsLimits P → IsCalendar date (days + 13) on → IsCalendar date (days + 13) other → (t : ℕ) (x : Symbol) → t < days → shift_line P on t x ≡ shift_line P other t x
+shift_same : (P : Instance) (date : Date) (days : ℕ) (on other : ℕ → Date) → KeepsLimits P → IsCalendar date (days + MOST_DAYS_LATER) on → IsCalendar date (days + MOST_DAYS_LATER) other → (t : ℕ) (x : Symbol) → t < days → shift_line P on t x ≡ shift_line P other t x
 shift_same P date days on other limits here there t x less =
     let small = row_small P.shifts (x.number - 1) limits.times in
     let start = t * day_minutes + start_of P x in
-    let few_start : start / day_minutes < days + 13 = omega (arith, less, small.0) in
-    let few_end : (start + length_of P x) / day_minutes < days + 13 = omega (arith, less, small.0, small.1) in
-    ap (λ from. from ++ codes " to " ++ moment_text on (start + length_of P x) ++ 32 ∷ name_of P x ++ 10 ∷ []) (moment_same date (days + 13) on other here there start few_start)
-    ∙ ap (λ to. moment_text other start ++ codes " to " ++ to ++ 32 ∷ name_of P x ++ 10 ∷ []) (moment_same date (days + 13) on other here there (start + length_of P x) few_end)
+    let few_start : start / day_minutes < days + MOST_DAYS_LATER = omega (arith, less, small.0) in
+    let few_end : (start + length_of P x) / day_minutes < days + MOST_DAYS_LATER = omega (arith, less, small.0, small.1) in
+    ap (λ from. from ++ codes " to " ++ moment_text on (start + length_of P x) ++ 32 ∷ name_of P x ++ 10 ∷ []) (moment_same date (days + MOST_DAYS_LATER) on other here there start few_start)
+    ∙ ap (λ to. moment_text other start ++ codes " to " ++ to ++ 32 ∷ name_of P x ++ 10 ∷ []) (moment_same date (days + MOST_DAYS_LATER) on other here there (start + length_of P x) few_end)
 
-duty_same : (P : Instance) (date : Date) (days : ℕ) (on other : ℕ → Date) → KeepsLimits P → IsCalendar date (days + 13) on → IsCalendar date (days + 13) other → (t number : ℕ) → t < days → duty_line_of P on t number ≡ duty_line_of P other t number
+duty_same : (P : Instance) (date : Date) (days : ℕ) (on other : ℕ → Date) → KeepsLimits P → IsCalendar date (days + MOST_DAYS_LATER) on → IsCalendar date (days + MOST_DAYS_LATER) other → (t number : ℕ) → t < days → duty_line_of P on t number ≡ duty_line_of P other t number
 duty_same P date days on other limits here there t zero less = refl
 duty_same P date days on other limits here there t (suc x) less = shift_same P date days on other limits here there t (record { number = suc x }) less
 

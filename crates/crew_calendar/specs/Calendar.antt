@@ -3,6 +3,7 @@ use Rattle.std.specs.Prelude.{◌≡◌, ℕ, ◌+◌, ◌<◌, ℤ, pos, ◌+�
 use Rattle.jiff.specs.Types.{Date}
 use Rattle.jiff.specs.Words.{epoch_day, date_text, IsBetween}
 use Rattle.jiff_core.specs.Calendar.{days_from_civil}
+use Rattle.crew_calendar.specs.declared.calendar.TheConstants.{MOST_DAYS_LATER}
 
 -- the day number of the last date, 9999-12-31
 abbrev pub last_day : ℤ
@@ -12,13 +13,9 @@ last_day = days_from_civil (pos 9999) 12 31
 abbrev pub IsWithinDates : Date → ℕ → Type 0
 IsWithinDates date days = (epoch_day date +ℤ pos days) ≤ℤ last_day
 
--- the most days from a date to that on which a duty of that date ends
-abbrev pub most_days_later : ℕ
-most_days_later = 13
-
 -- the days that the calendar needs are there
-abbrev pub Fits : Date → ℕ → Type 0
-Fits date days = IsWithinDates date (days + most_days_later)
+abbrev pub FitsDates : Date → ℕ → Type 0
+FitsDates date days = IsWithinDates date (days + MOST_DAYS_LATER)
 
 -- day t, from 0 on, has the date that is t days after the first
 abbrev pub IsCalendar : Date → ℕ → (ℕ → Date) → Type 0
@@ -32,6 +29,6 @@ IsCivil date = IsBetween (pos 0) (pos 9999) date.year
 abbrev pub IsDateWord : List ℕ → Date → Type 0
 IsDateWord word date = IsCivil date × (word ≡ date_text date)
 
--- what is so of each calendar of so many days that begins with the date
+-- what holds of each calendar of this number of days that begins with the date
 abbrev pub OnCalendar : Date → ℕ → ((ℕ → Date) → Type 0) → Type 0
 OnCalendar date days Q = (on : ℕ → Date) → IsCalendar date days on → Q on

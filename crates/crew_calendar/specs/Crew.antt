@@ -11,10 +11,11 @@ IsEmployee P e = (1 ≤ e) × (e ≤ P.weeks)
 abbrev pub employees : Instance → List ℕ
 employees P = range_with_len 1 P.weeks
 
--- the position of an employee on a day, where days count from 0: each starts in the week of his number, and all go on round the cycle
-abbrev pub place : Instance → ℕ → ℕ → ℕ
-place P e t = ((e - 1) * P.days + t) % cells P
+-- the position of an employee on a day, where days count from 0: each starts in the week of his number, and all go on
+-- round the cycle
+abbrev pub position_of : Instance → ℕ → ℕ → ℕ
+position_of P e t = ((e - 1) * P.days + t) % cells P
 
 -- the symbol of an employee on a day
 abbrev pub symbol_on : Instance → List Symbol → ℕ → ℕ → Symbol
-symbol_on P s e t = slice_index_or s (place P e t) off_symbol
+symbol_on P s e t = slice_index_or s (position_of P e t) off_symbol

@@ -6,7 +6,7 @@ use Rattle.rwsp_terms.specs.Window.{Bad, window}
 use Rattle.rwsp_terms.specs.Roster.{IsRoster, IsRule, MeetsAll}
 use Rattle.rwsp_terms.specs.declared.data.Symbol.{Symbol}
 use Rattle.rwsp_terms.specs.declared.data.Rule.{Rule}
-use Rattle.crew_calendar.specs.Crew.{employees, place, symbol_on}
+use Rattle.crew_calendar.specs.Crew.{employees, position_of, symbol_on}
 
 -- how many employees have a symbol on a day
 abbrev pub crew_with : Instance → List Symbol → ℕ → ℕ → ℕ
@@ -16,13 +16,14 @@ crew_with P s t x = count_by (λ e. (symbol_on P s e t).number == x) (employees 
 abbrev pub weekday : Instance → ℕ → ℕ
 weekday P t = t % P.days + 1
 
--- on each day each symbol, the day off too, has at least as many employees as the least demand and at most as many as the greatest
+-- on each day each symbol, the day off too, has at least as many employees as the least demand and at most as many as
+-- the greatest
 abbrev pub IsStaffed : Instance → List Symbol → Type 0
 IsStaffed P s =
     (t x : ℕ) → x ≤ shift_count P
     → (least P x (weekday P t) ≤ℤ pos (crew_with P s t x)) × (pos (crew_with P s t x) ≤ℤ greatest P x (weekday P t))
 
--- the symbols of an employee on so many days in a row, from day t on
+-- the symbols of an employee on n days in a row, from day t on
 abbrev pub stretch : Instance → List Symbol → ℕ → ℕ → ℕ → List Symbol
 stretch P s e t days = map (symbol_on P s e) (range_with_len t days)
 
@@ -37,8 +38,8 @@ IsClean P s = (e t days : ℕ) (r : Rule) → IsRule P r → Bad P r (stretch P 
 -- the employee stands at the position on this one of the days of a round that begins on day t, and on no other
 pub record StandsOnce (P : Instance) (e t p day : ℕ) : Type 0 where
   pub within : day < cells P
-  pub here : place P e (t + day) ≡ p
-  pub only : (other : ℕ) → other < cells P → place P e (t + other) ≡ p → other ≡ day
+  pub here : position_of P e (t + day) ≡ p
+  pub only : (other : ℕ) → other < cells P → position_of P e (t + other) ≡ p → other ≡ day
 
 -- in as many days as the cycle has, an employee stands once at each position
 abbrev pub GoesRound : Instance → Type 0

@@ -1,4 +1,4 @@
--- What is so of all tables, duties and words.
+-- What holds of all tables, duties and words.
 use Rattle.std.specs.Prelude.{◌≡◌, ℕ, List}
 use Rattle.jiff.specs.Types.{Date}
 use Rattle.rwsp_terms.specs.Instance.{Instance}

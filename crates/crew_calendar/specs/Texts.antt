@@ -7,7 +7,8 @@ use Rattle.rwsp_terms.specs.Instance.{Instance, name_of}
 use Rattle.rwsp_terms.specs.declared.data.Symbol.{Symbol}
 use Rattle.rwsp_terms.specs.declared.data.ShiftRow.{ShiftRow}
 use Rattle.crew_calendar.specs.Crew.{employees, symbol_on}
-use Rattle.crew_calendar.specs.Calendar.{IsCalendar, most_days_later}
+use Rattle.crew_calendar.specs.declared.calendar.TheConstants.{MOST_DAYS_LATER}
+use Rattle.crew_calendar.specs.Calendar.{IsCalendar}
 
 -- the names of the symbols of all employees on a day, each after a blank
 abbrev pub crew_text : Instance → List Symbol → ℕ → List ℕ
@@ -33,7 +34,7 @@ two_digits n = (48 + n / 10) ∷ (48 + n % 10) ∷ []
 abbrev pub clock_text : ℕ → List ℕ
 clock_text minutes = two_digits (minutes / 60) ++ 58 ∷ two_digits (minutes % 60)
 
--- the date and the time so many minutes after the first date's midnight
+-- the date and the time, given in minutes after the first date's midnight
 abbrev pub moment_text : (ℕ → Date) → ℕ → List ℕ
 moment_text on minutes = date_text (on (minutes / day_minutes)) ++ 32 ∷ clock_text (minutes % day_minutes)
 
@@ -70,14 +71,14 @@ duty_line P s on e t = duty_line_of P on t (symbol_on P s e t).number
 abbrev pub duties_text : Instance → List Symbol → (ℕ → Date) → ℕ → ℕ → List ℕ
 duties_text P s on e days = flat_map (duty_line P s on e) (range_with_len 0 days)
 
--- the text is the table of so many days from the date on
+-- the text is the table of this number of days from the date on
 pub record IsTable (P : Instance) (s : List Symbol) (date : Date) (days : ℕ) (text : List ℕ) : Type 0 where
   pub on : ℕ → Date
-  pub calendar : IsCalendar date (days + most_days_later) on
+  pub calendar : IsCalendar date (days + MOST_DAYS_LATER) on
   pub is : text ≡ table_text P s on days
 
--- the text is the employee's duties on so many days from the date on
+-- the text is the employee's duties on this number of days from the date on
 pub record AreDuties (P : Instance) (s : List Symbol) (date : Date) (days employee : ℕ) (text : List ℕ) : Type 0 where
   pub on : ℕ → Date
-  pub calendar : IsCalendar date (days + most_days_later) on
+  pub calendar : IsCalendar date (days + MOST_DAYS_LATER) on
   pub is : text ≡ duties_text P s on employee days

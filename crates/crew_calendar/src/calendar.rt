@@ -2,40 +2,43 @@
 ghost use Rattle.std.specs.Prelude.{◌≡◌, ◌+◌, ◌≤◌, ◌↔◌, pos, ◌+ℤ◌, IsOk, IfOk, IsTrue, MatchOption};
 ghost use Rattle.jiff.specs.Types.{Date as PlainDate};
 ghost use Rattle.jiff.specs.Words.{epoch_day};
-ghost use Rattle.crew_calendar.specs.Calendar.{IsWithinDates, Fits, IsDateWord};
+ghost use Rattle.crew_calendar.specs.Calendar.{IsWithinDates, FitsDates, IsDateWord};
 
-use crate::places::MOST_DAYS;
 use jiff::civil::Date;
 use jiff::{Error, ToSpan};
 use jiff_fmt::temporal::DateTimePrinter;
+use rwsp_terms::limits::{GREATEST_BOUND, LONGEST_CALENDAR};
 
-/// The most days from a date to that on which a duty of that date ends: a shift starts up to 10,000 minutes after
-/// midnight, and has up to 10,000 minutes.
-pub const MOST_DAYS_LATER: u32 = 13;
+/// The minutes of a day.
+pub const DAY_MINUTES: u32 = 24 * 60;
+
+/// The most days from a date to that on which a duty of that date ends: both the start of a shift, in minutes after
+/// midnight, and its length are at most the greatest bound.
+pub const MOST_DAYS_LATER: u32 = 2 * GREATEST_BOUND / DAY_MINUTES;
 
 // The first year that a word may name.
 const FIRST_YEAR: i16 = 0;
 
-// The date so many days later, where there is one.
+// The date that many days later, where there is one.
 fn days_later(date: Date, days: u32) -> Result<Date, Error>
-    requires { days ≤ MOST_DAYS + MOST_DAYS_LATER }
+    requires { days ≤ LONGEST_CALENDAR + MOST_DAYS_LATER }
     ensures succeeds { IsOk result ↔ IsWithinDates date days }
     ensures value { IfOk result (λ later. epoch_day later ≡ epoch_day date +ℤ pos days) }
 {
     date.checked_add(i64::from(days).days())
 }
 
-/// Whether the calendar of so many days, and the ends of their duties, are there: no date is after 9999-12-31.
+/// Whether a calendar of `days` dates ends by 9999-12-31, with all its duties.
 pub fn fits(date: Date, days: u32) -> bool
-    requires { days ≤ MOST_DAYS }
-    ensures { IsTrue result ↔ Fits date days }
+    requires { days ≤ LONGEST_CALENDAR }
+    ensures { IsTrue result ↔ FitsDates date days }
 {
     days_later(date, days + MOST_DAYS_LATER).is_ok()
 }
 
-/// The date so many days later.
+/// The date that many days later.
 pub fn date_after(date: Date, days: u32) -> Date
-    requires few { days ≤ MOST_DAYS + MOST_DAYS_LATER }
+    requires few { days ≤ LONGEST_CALENDAR + MOST_DAYS_LATER }
     requires within { IsWithinDates date days }
     ensures { epoch_day result ≡ epoch_day date +ℤ pos days }
 {

@@ -3,17 +3,17 @@ ghost use Rattle.std.specs.Prelude.{◌≡◌, ◌++◌, ◌∷◌, [], ◌+◌,
 ghost use Rattle.rwsp_terms.specs.Instance.{IsShift};
 ghost use Rattle.rwsp_terms.specs.Roster.{IsRoster};
 ghost use Rattle.crew_calendar.specs.Crew.{IsEmployee};
-ghost use Rattle.crew_calendar.specs.Calendar.{Fits, IsWithinDates, OnCalendar};
+ghost use Rattle.crew_calendar.specs.Calendar.{FitsDates, IsWithinDates, OnCalendar};
 ghost use Rattle.crew_calendar.specs.Texts.{day_minutes, two_digits, clock_text, moment_text, start_of, length_of, shift_line, duty_line, AreDuties};
 
-use crate::calendar::{MOST_DAYS_LATER, date_after};
+use crate::calendar::{DAY_MINUTES, MOST_DAYS_LATER, date_after};
 use crate::lines::{put_date, put_name};
-use crate::places::{MOST_DAYS, symbol_on};
+use crate::places::symbol_on;
 use jiff::civil::Date;
-use rwsp_model::{Problem, Roster, Symbol};
+use rwsp_model::{Problem, Roster};
+use rwsp_terms::Symbol;
+use rwsp_terms::limits::{GREATEST_BOUND, LONGEST_CALENDAR};
 use std::alloc::{AllocError, Global};
-
-const DAY_MINUTES: u32 = 24 * 60;
 
 // Appends a number in two digits.
 fn put_two_digits(out: &mut Vec<u8>, n: u32) -> Result<(), AllocError>
@@ -25,7 +25,7 @@ fn put_two_digits(out: &mut Vec<u8>, n: u32) -> Result<(), AllocError>
     Ok(())
 }
 
-// Appends a time of day, which is so many minutes after midnight.
+// Appends a time of day, given in minutes after midnight.
 fn put_clock(out: &mut Vec<u8>, minutes: u32) -> Result<(), AllocError>
     requires { minutes < day_minutes }
     ensures { OnOk result (out.new.items ≡ out.old.items ++ clock_text minutes) }
@@ -36,9 +36,9 @@ fn put_clock(out: &mut Vec<u8>, minutes: u32) -> Result<(), AllocError>
     Ok(())
 }
 
-// Appends the moment so many minutes after the midnight of a date.
+// Appends the moment that is `minutes` after the midnight of a date.
 fn put_moment(out: &mut Vec<u8>, date: Date, minutes: u32) -> Result<(), AllocError>
-    requires few { minutes / day_minutes ≤ MOST_DAYS + MOST_DAYS_LATER }
+    requires few { minutes / day_minutes ≤ LONGEST_CALENDAR + MOST_DAYS_LATER }
     requires within { IsWithinDates date (minutes / day_minutes) }
     ensures { OnOk result (OnCalendar date (minutes / day_minutes + 1) (λ on.
         out.new.items ≡ out.old.items ++ moment_text on minutes)) }
@@ -53,7 +53,7 @@ fn put_moment(out: &mut Vec<u8>, date: Date, minutes: u32) -> Result<(), AllocEr
 fn start_of(problem: &Problem, shift: Symbol) -> u32
     requires { IsShift problem.now shift }
     ensures value { result ≡ start_of problem.now shift }
-    ensures few { result ≤ 10000 }
+    ensures few { result ≤ GREATEST_BOUND }
 {
     problem.keeps_limits();
     problem.start(shift)
@@ -63,7 +63,7 @@ fn start_of(problem: &Problem, shift: Symbol) -> u32
 fn length_of(problem: &Problem, shift: Symbol) -> u32
     requires { IsShift problem.now shift }
     ensures value { result ≡ length_of problem.now shift }
-    ensures few { result ≤ 10000 }
+    ensures few { result ≤ GREATEST_BOUND }
 {
     problem.keeps_limits();
     problem.length(shift)
@@ -78,9 +78,9 @@ fn put_shift(
     shift: Symbol,
 ) -> Result<(), AllocError>
     requires shift { IsShift problem.now shift }
-    requires day { t < MOST_DAYS }
+    requires day { t < LONGEST_CALENDAR }
     requires within { IsWithinDates date (t + MOST_DAYS_LATER) }
-    ensures { OnOk result (OnCalendar date (t + 14) (λ on.
+    ensures { OnOk result (OnCalendar date (t + 1 + MOST_DAYS_LATER) (λ on.
         out.new.items ≡ out.old.items ++ shift_line problem.now on t shift)) }
 {
     let start = t * DAY_MINUTES + start_of(problem, shift);
@@ -103,9 +103,9 @@ fn put_duty(
 ) -> Result<(), AllocError>
     requires roster { IsRoster problem.now cells.now }
     requires employee { IsEmployee problem.now employee }
-    requires day { t < MOST_DAYS }
+    requires day { t < LONGEST_CALENDAR }
     requires within { IsWithinDates date (t + MOST_DAYS_LATER) }
-    ensures { OnOk result (OnCalendar date (t + 14) (λ on.
+    ensures { OnOk result (OnCalendar date (t + 1 + MOST_DAYS_LATER) (λ on.
         out.new.items ≡ out.old.items ++ duty_line problem.now cells.now on employee t)) }
 {
     let symbol = symbol_on(problem, cells, employee, t);
@@ -115,7 +115,7 @@ fn put_duty(
     put_shift(out, problem, date, t, symbol)
 }
 
-/// The duties of an employee on so many days from the date on: a line for each day on a shift, with the moments at
+/// The duties of an employee on `days` dates from the first on: a line for each day on a shift, with the moments at
 /// which the shift starts and ends, and its name. A shift may end on a later date.
 pub fn duties(
     alloc: Global,
@@ -127,8 +127,8 @@ pub fn duties(
 ) -> Result<Vec<u8>, AllocError>
     requires roster { IsRoster problem.now roster.now.cells }
     requires employee { IsEmployee problem.now employee }
-    requires days { days ≤ MOST_DAYS }
-    requires fits { Fits date days }
+    requires days { days ≤ LONGEST_CALENDAR }
+    requires fits { FitsDates date days }
     ensures { IfOk result (λ text. AreDuties problem.now roster.now.cells date days employee text.items) }
 {
     let mut out = Vec::new(alloc);

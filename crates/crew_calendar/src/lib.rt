@@ -1,5 +1,5 @@
-//! The crew's calendar of a roster: each employee starts a week behind the one before, and the cycle of the roster's
-//! weeks goes on round. A table of all employees by dates, and the duties of one.
+//! The crew's calendar of a roster: each employee starts a week behind the one before, and behind the last
+//! week comes the first. A table of all employees by dates, and the duties of one.
 #![tactic(auto)]
 
 mod calendar;

@@ -3,14 +3,16 @@ ghost use Rattle.std.specs.Prelude.{◌≡◌, ◌++◌, ◌∷◌, [], ◌<◌,
 ghost use Rattle.rwsp_terms.specs.Instance.{IsSymbol, name_of};
 ghost use Rattle.rwsp_terms.specs.Roster.{IsRoster, MeetsAll};
 ghost use Rattle.jiff.specs.Words.{date_text};
-ghost use Rattle.crew_calendar.specs.Calendar.{Fits};
+ghost use Rattle.crew_calendar.specs.Calendar.{FitsDates};
 ghost use Rattle.crew_calendar.specs.Texts.{crew_text, IsTable};
 ghost use Rattle.crew_calendar.specs.Facts.{IsStaffed, FollowsCycle, IsClean, GoesRound};
 
 use crate::calendar::date_after;
-use crate::places::{MOST_DAYS, symbol_on};
+use crate::places::symbol_on;
 use jiff::civil::Date;
-use rwsp_model::{Problem, Roster, Symbol};
+use rwsp_model::{Problem, Roster};
+use rwsp_terms::Symbol;
+use rwsp_terms::limits::LONGEST_CALENDAR;
 use std::alloc::{AllocError, Global};
 
 /// Appends a date.
@@ -38,7 +40,7 @@ fn put_crew(
     t: u32,
 ) -> Result<(), AllocError>
     requires roster { IsRoster problem.now cells.now }
-    requires day { t < MOST_DAYS }
+    requires day { t < LONGEST_CALENDAR }
     ensures { OnOk result (out.new.items ≡ out.old.items ++ crew_text problem.now cells.now t) }
 {
     for employee in 1..problem.weeks() + 1 {
@@ -56,7 +58,7 @@ fn put_day(
     t: u32,
 ) -> Result<(), AllocError>
     requires roster { IsRoster problem.now cells.now }
-    requires day { t < MOST_DAYS }
+    requires day { t < LONGEST_CALENDAR }
     ensures { OnOk result (out.new.items
         ≡ out.old.items ++ (date_text date ++ crew_text problem.now cells.now t ++ 10 ∷ [])) }
 {
@@ -66,7 +68,7 @@ fn put_day(
     Ok(())
 }
 
-// The lines of so many days from the date on.
+// The lines of `days` dates from the first on.
 fn day_lines(
     alloc: Global,
     problem: &Problem,
@@ -75,8 +77,8 @@ fn day_lines(
     days: u32,
 ) -> Result<Vec<u8>, AllocError>
     requires roster { IsRoster problem.now cells.now }
-    requires days { days ≤ MOST_DAYS }
-    requires fits { Fits date days }
+    requires days { days ≤ LONGEST_CALENDAR }
+    requires fits { FitsDates date days }
     ensures { IfOk result (λ text. IsTable problem.now cells.now date days text.items) }
 {
     let mut out = Vec::new(alloc);
@@ -86,7 +88,7 @@ fn day_lines(
     Ok(out)
 }
 
-/// The table of so many days from the date on: a line for each date, with the name of each employee's symbol. It
+/// The table of `days` dates from the first on: a line for each date, with the name of each employee's symbol. It
 /// takes time by days times employees.
 pub fn crew_table(
     alloc: Global,
@@ -96,8 +98,8 @@ pub fn crew_table(
     days: u32,
 ) -> Result<Vec<u8>, AllocError>
     requires roster { IsRoster problem.now roster.now.cells }
-    requires days { days ≤ MOST_DAYS }
-    requires fits { Fits date days }
+    requires days { days ≤ LONGEST_CALENDAR }
+    requires fits { FitsDates date days }
     ensures table { IfOk result (λ text. IsTable problem.now roster.now.cells date days text.items) }
 
     // What a planner may rely on.

@@ -2,18 +2,17 @@
 ghost use Rattle.std.specs.Prelude.{◌≡◌, ◌+◌, ◌*◌, ◌<◌, ◌≤◌, length};
 ghost use Rattle.rwsp_terms.specs.Instance.{cells};
 ghost use Rattle.rwsp_terms.specs.Roster.{IsRoster};
-ghost use Rattle.crew_calendar.specs.Crew.{place, symbol_on, IsEmployee};
+ghost use Rattle.crew_calendar.specs.Crew.{position_of, symbol_on, IsEmployee};
 
-use rwsp_model::{Problem, Symbol};
-
-/// The most days that a calendar may have.
-pub const MOST_DAYS: u32 = 400;
+use rwsp_model::Problem;
+use rwsp_terms::Symbol;
+use rwsp_terms::limits::LONGEST_CALENDAR;
 
 /// The position of an employee, from 1 on, on a day, from 0 on. Takes no memory.
 pub fn place(problem: &Problem, employee: u32, t: u32) -> u32
     requires employee { IsEmployee problem.now employee }
-    requires day { t < MOST_DAYS }
-    ensures value { result ≡ place problem.now employee t }
+    requires day { t < LONGEST_CALENDAR }
+    ensures value { result ≡ position_of problem.now employee t }
     ensures within { result < cells problem.now }
 {
     problem.keeps_limits();
@@ -24,7 +23,7 @@ pub fn place(problem: &Problem, employee: u32, t: u32) -> u32
 pub fn symbol_on(problem: &Problem, cells: &[Symbol], employee: u32, t: u32) -> Symbol
     requires roster { IsRoster problem.now cells.now }
     requires employee { IsEmployee problem.now employee }
-    requires day { t < MOST_DAYS }
+    requires day { t < LONGEST_CALENDAR }
     ensures { result ≡ symbol_on problem.now cells.now employee t }
 {
     cells[place(problem, employee, t) as usize]

@@ -4,7 +4,8 @@ ghost use Rattle.rwsp_terms.specs.Roster.{IsRoster};
 
 use super::*;
 use jiff::civil::Date;
-use rwsp_model::{Bounds, DemandRow, Name, Parts, Problem, Roster, ShiftRow, Symbol};
+use rwsp_model::{Parts, Problem, Roster};
+use rwsp_terms::{Bounds, DemandRow, Name, ShiftRow, Symbol};
 use std::alloc::{AllocError, Global};
 use std::test::Fail;
 

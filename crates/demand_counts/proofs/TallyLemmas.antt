@@ -6,6 +6,7 @@ use Rattle.std.proofs.lemmas.List.{length-set, length-replicate, ext_get_or, get
 use Rattle.std.proofs.lemmas.List.Sums.{count_by-le-length}
 use Rattle.std.proofs.lemmas.List.FromFn.{length-range_with_len}
 use Rattle.std.proofs.lemmas.Nat.{div_below, mod_below, div-mul-add, mod-mul-add, div-add-mod'}
+use Rattle.rwsp_terms.specs.declared.limits.TheConstants.{MOST_WEEKS, MOST_CELLS, MOST_SHIFTS, MOST_SYMBOLS}
 use Rattle.rwsp_terms.proofs.Counting.{count_next, count_same, not_all}
 use Rattle.domain_store.specs.Sets.{has_symbol}
 use Rattle.domain_store.specs.Store.{Store, domain_at}
@@ -93,29 +94,29 @@ column_own test days weeks sets p after some lt within =
 
 -- a counter counts the set of its position
 pub tally_has : (test : ℕ → List ℕ → Bool) (days weeks : ℕ) (sets : List (List ℕ)) (p : ℕ) (before : List ℕ) (were : List Bool) (row : ℕ) (old : List ℕ)
-    → Tallies test days weeks sets old → 0 < days → p < weeks * days → before ≡ get_or sets p [] → row ≡ p % days * 9 → TestsOf test before were
-    → (x : ℕ) → x < 9 → one_if (get_or were x false) ≤ get_or old (row + x) 0
+    → Tallies test days weeks sets old → 0 < days → p < weeks * days → before ≡ get_or sets p [] → row ≡ p % days * MOST_SYMBOLS → TestsOf test before were
+    → (x : ℕ) → x < MOST_SYMBOLS → one_if (get_or were x false) ≤ get_or old (row + x) 0
 tally_has test days weeks sets p before were row old tallies some lt same at flags x small =
     let week : p / days < 0 + weeks = omega (arith, div_below p days weeks some lt) in
     let place : p / days * days + p % days ≡ p = div-add-mod' p days in
     let has = count_has (λ i. test x (get_or sets (i * days + p % days) [])) 0 weeks (p / days) (omega arith) week in
     let here : one_if (test x (get_or sets (p / days * days + p % days) [])) ≡ one_if (get_or were x false) = ap (λ q. one_if (test x (get_or sets q []))) place ∙ ap (λ s. one_if (test x s)) (sym same) ∙ ap (λ b. one_if b) (sym (flags x small)) in
     let counted = tallies.each (p % days) x (mod_below p days some) small in
-    let index : get_or old (row + x) 0 ≡ get_or old (p % days * 9 + x) 0 = ap (λ r. get_or old (r + x) 0) at in
+    let index : get_or old (row + x) 0 ≡ get_or old (p % days * MOST_SYMBOLS + x) 0 = ap (λ r. get_or old (r + x) 0) at in
     omega (arith, has, here, counted, index)
 
 -- counters are small
 pub tally_small : (test : ℕ → List ℕ → Bool) (days weeks : ℕ) (sets : List (List ℕ)) (p row : ℕ) (old : List ℕ)
-    → Tallies test days weeks sets old → 0 < days → row ≡ p % days * 9
-    → (x : ℕ) → x < 9 → get_or old (row + x) 0 ≤ weeks
+    → Tallies test days weeks sets old → 0 < days → row ≡ p % days * MOST_SYMBOLS
+    → (x : ℕ) → x < MOST_SYMBOLS → get_or old (row + x) 0 ≤ weeks
 tally_small test days weeks sets p row old tallies some at x small =
     let counted = tallies.each (p % days) x (mod_below p days some) small in
-    let index : get_or old (row + x) 0 ≡ get_or old (p % days * 9 + x) 0 = ap (λ r. get_or old (r + x) 0) at in
+    let index : get_or old (row + x) 0 ≡ get_or old (p % days * MOST_SYMBOLS + x) 0 = ap (λ r. get_or old (r + x) 0) at in
     omega (arith, counted, index, column_small (test x) days weeks sets (p % days))
 
 -- counters that were recounted count the changed sets
 pub tallies_moved : (test : ℕ → List ℕ → Bool) (days weeks : ℕ) (sets : List (List ℕ)) (p : ℕ) (before after : List ℕ) (were are : List Bool) (row : ℕ) (old new : List ℕ)
-    → Tallies test days weeks sets old → 0 < days → p < weeks * days → p < length sets → before ≡ get_or sets p [] → row ≡ p % days * 9
+    → Tallies test days weeks sets old → 0 < days → p < weeks * days → p < length sets → before ≡ get_or sets p [] → row ≡ p % days * MOST_SYMBOLS
     → TestsOf test before were → TestsOf test after are → IsRecounted row were are old new
     → Tallies test days weeks (set sets p after) new
 tallies_moved test days weeks sets p before after were are row old new tallies some lt within same at flags new_flags moved = record {
@@ -124,19 +125,19 @@ tallies_moved test days weeks sets p before after were are row old new tallies s
       let counted = tallies.each k x less small in
       elim (cases_order k (p % days)) [
         | inl here ↦
-            let index : k * 9 + x ≡ row + x = omega arith in
+            let index : k * MOST_SYMBOLS + x ≡ row + x = omega arith in
             let was : one_if (test x (get_or sets p [])) ≡ one_if (get_or were x false) = ap (λ s. one_if (test x s)) (sym same) ∙ ap (λ b. one_if b) (sym (flags x small)) in
             let is : one_if (test x after) ≡ one_if (get_or are x false) = ap (λ b. one_if b) (sym (new_flags x small)) in
             let own = column_own (test x) days weeks sets p after some lt within in
             let change = moved.within x small in
             let column : column_count (test x) days weeks sets k ≡ column_count (test x) days weeks sets (p % days) = ap (column_count (test x) days weeks sets) here in
             let new_column : column_count (test x) days weeks (set sets p after) k ≡ column_count (test x) days weeks (set sets p after) (p % days) = ap (column_count (test x) days weeks (set sets p after)) here in
-            let old_at : get_or old (k * 9 + x) 0 ≡ get_or old (row + x) 0 = ap (λ i. get_or old i 0) index in
-            let new_at : get_or new (k * 9 + x) 0 ≡ get_or new (row + x) 0 = ap (λ i. get_or new i 0) index in
+            let old_at : get_or old (k * MOST_SYMBOLS + x) 0 ≡ get_or old (row + x) 0 = ap (λ i. get_or old i 0) index in
+            let new_at : get_or new (k * MOST_SYMBOLS + x) 0 ≡ get_or new (row + x) 0 = ap (λ i. get_or new i 0) index in
             omega (arith, was, is, own, change, counted, column, new_column, old_at, new_at)
         | inr apart ↦ elim apart [
-          | inl under ↦ moved.below (k * 9 + x) (omega arith) ∙ counted ∙ sym (column_other (test x) days weeks sets p k after less (omega arith))
-          | inr over ↦ moved.above (k * 9 + x) (omega arith) ∙ counted ∙ sym (column_other (test x) days weeks sets p k after less (omega arith))
+          | inl under ↦ moved.below (k * MOST_SYMBOLS + x) (omega arith) ∙ counted ∙ sym (column_other (test x) days weeks sets p k after less (omega arith))
+          | inr over ↦ moved.above (k * MOST_SYMBOLS + x) (omega arith) ∙ counted ∙ sym (column_other (test x) days weeks sets p k after less (omega arith))
         ]
       ];
 }
@@ -152,10 +153,10 @@ zero_at (suc n) zero = refl
 zero_at (suc n) (suc i) = zero_at n i
 
 -- no set passes where all are empty
-pub tallies_empty : (test : ℕ → List ℕ → Bool) (days weeks n : ℕ) → ((x : ℕ) → test x [] ≡ false) → Tallies test days weeks (replicate {A = List ℕ} n []) (replicate {A = ℕ} (days * 9) 0)
+pub tallies_empty : (test : ℕ → List ℕ → Bool) (days weeks n : ℕ) → ((x : ℕ) → test x [] ≡ false) → Tallies test days weeks (replicate {A = List ℕ} n []) (replicate {A = ℕ} (days * MOST_SYMBOLS) 0)
 tallies_empty test days weeks n none = record {
-  long = length-replicate {A = ℕ} (days * 9) 0;
-  each = λ k x less small. zero_at (days * 9) (k * 9 + x) ∙ sym (count_none (λ i. test x (get_or (replicate {A = List ℕ} n []) (i * days + k) [])) 0 weeks (λ i. ap (test x) (empty_at n (i * days + k)) ∙ none x));
+  long = length-replicate {A = ℕ} (days * MOST_SYMBOLS) 0;
+  each = λ k x less small. zero_at (days * MOST_SYMBOLS) (k * MOST_SYMBOLS + x) ∙ sym (count_none (λ i. test x (get_or (replicate {A = List ℕ} n []) (i * days + k) [])) 0 weeks (λ i. ap (test x) (empty_at n (i * days + k)) ∙ none x));
 }
 
 -- one flag more
@@ -206,12 +207,12 @@ all_taken C S shape long done = record {
 }
 
 -- what a counter holds is no more than the weeks
-pub tally_few : (test : ℕ → List ℕ → Bool) (days weeks : ℕ) (sets : List (List ℕ)) (items : List ℕ) (day x r : ℕ) → Tallies test days weeks sets items → 0 < day → day ≤ days → x < 9 → r ≡ get_or items ((day - 1) * 9 + x) r → r ≤ weeks
+pub tally_few : (test : ℕ → List ℕ → Bool) (days weeks : ℕ) (sets : List (List ℕ)) (items : List ℕ) (day x r : ℕ) → Tallies test days weeks sets items → 0 < day → day ≤ days → x < MOST_SYMBOLS → r ≡ get_or items ((day - 1) * MOST_SYMBOLS + x) r → r ≤ weeks
 tally_few test days weeks sets items day x r tallies some le small read =
     let k = day - 1 in
     let less : day - 1 < days = omega (arith, some, le) in
-    let within : (day - 1) * 9 + x < length items = omega (arith, less, small, tallies.long) in
-    let at : r ≡ get_or items ((day - 1) * 9 + x) 0 = get_or_read items ((day - 1) * 9 + x) r within read 0 in
+    let within : (day - 1) * MOST_SYMBOLS + x < length items = omega (arith, less, small, tallies.long) in
+    let at : r ≡ get_or items ((day - 1) * MOST_SYMBOLS + x) 0 = get_or_read items ((day - 1) * MOST_SYMBOLS + x) r within read 0 in
     omega (arith, at, tallies.each (day - 1) x less small, column_small (test x) days weeks sets (day - 1))
 
 -- a set that has another symbol hasn't one alone
@@ -221,8 +222,8 @@ not_alone last x z s lt other there =
     and_right (has_symbol s x) (list_all test (range_with_len 0 (last + 1))) (not_all test (last + 1) z lt (other_fails z x (has_symbol s z) other there))
 
 -- nothing is counted where all sets are empty
-pub tallied_empty : (days weeks shifts cells : ℕ) (sets : List (List ℕ)) (fixed possible : List ℕ) → 1 ≤ days → weeks ≤ 600 → cells ≤ 4200 → shifts ≤ 8 → cells ≡ weeks * days
-    → sets ≡ replicate {A = List ℕ} cells [] → fixed ≡ replicate {A = ℕ} (days * 9) 0 → possible ≡ replicate {A = ℕ} (days * 9) 0
+pub tallied_empty : (days weeks shifts cells : ℕ) (sets : List (List ℕ)) (fixed possible : List ℕ) → 1 ≤ days → weeks ≤ MOST_WEEKS → cells ≤ MOST_CELLS → shifts ≤ MOST_SHIFTS → cells ≡ weeks * days
+    → sets ≡ replicate {A = List ℕ} cells [] → fixed ≡ replicate {A = ℕ} (days * MOST_SYMBOLS) 0 → possible ≡ replicate {A = ℕ} (days * MOST_SYMBOLS) 0
     → IsTallied (record { days = days; weeks = weeks; shifts = shifts; sets = sets }) fixed possible
 tallied_empty days weeks shifts cells sets fixed possible some few_weeks few_cells few_shifts all empty f p = record {
   some_days = some;

@@ -25,7 +25,7 @@ pub record HasShapeOf (C : Counted) (S : Store) : Type 0 where
   pub weeks : C.weeks ≡ S.weeks
   pub shifts : C.shifts ≡ S.shifts
 
--- the store's domains are those of the counts, but for that of one position at most
+-- the store's domains are those of the counts, except at one position at most
 pub record DiffersAtMostAt (C : Counted) (S : Store) (p : ℕ) : Type 0 where
   pub shape : HasShapeOf C S
   pub others : (q : ℕ) → q ≢ p → slice_index_or C.sets q [] ≡ domain_at S q

@@ -10,7 +10,8 @@ pub record IsWithinDemand (P : Instance) (D : Domains) (j x : ℕ) : Type 0 wher
   pub not_over : HasTooMany P D j x → ⊥
   pub not_short : HasTooFew P D j x → ⊥
 
--- how the symbol misses its demand. Over (true): too many hold it for sure. Short (false): too few can hold it, and it isn't over
+-- how the symbol misses its demand. Over (true): too many hold it for sure. Short (false): too few can hold it, and
+-- it isn't over
 abbrev pub Misses : Instance → Domains → ℕ → ℕ → Bool → Type 0
 Misses P D j x true = HasTooMany P D j x
 Misses P D j x false = HasTooFew P D j x × (HasTooMany P D j x → ⊥)

@@ -6,13 +6,16 @@ ghost use Rattle.domain_store.specs.Store.{Store, domain_at, has_domain, Belongs
 
 use crate::recount::{alone, held, recount};
 use domain_store::{Domains, SymbolSet};
-use rwsp_model::{Problem, Symbol};
+use rwsp_model::Problem;
+use rwsp_terms::Symbol;
+use rwsp_terms::limits::{MOST_SHIFTS, MOST_SYMBOLS, MOST_WEEKS};
 use std::alloc::{AllocError, Global};
 use std::marker::Model;
 use std::mem;
 
-/// For each day and symbol the number of weeks that hold the symbol on the day for sure, since it is alone in the domain there,
-/// and the number of those that can hold it, since it is in the domain there. They are kept with the domains that they count.
+/// For each day and symbol the number of weeks that hold the symbol on the day for sure, since it is alone in the
+/// domain there, and the number of those that can hold it, since it is in the domain there. They are kept with the
+/// domains that they count.
 ///
 /// Days count from 1, and positions from 0, week after week.
 #[derive(Debug, Drop)]
@@ -21,7 +24,7 @@ pub struct Counts {
     weeks: u32,
     shifts: u8,
     sets: Vec<SymbolSet>,
-    // nine counters for each day, one for each symbol that may be
+    // `MOST_SYMBOLS` counters for each day, one for each symbol that may be
     fixed: Vec<u32>,
     possible: Vec<u32>,
 }
@@ -35,7 +38,10 @@ impl Model for Counts {
 
     ghost view = { λ c. record { days = c.days; weeks = c.weeks; shifts = c.shifts; sets = c.sets.items } };
 
-    ghost invariant = { λ c. IsTallied (record { days = c.days; weeks = c.weeks; shifts = c.shifts; sets = c.sets.items }) c.fixed.items c.possible.items };
+    ghost invariant = { λ c.
+        IsTallied
+        (record { days = c.days; weeks = c.weeks; shifts = c.shifts; sets = c.sets.items })
+        c.fixed.items c.possible.items };
 }
 
 impl Counts {
@@ -52,7 +58,8 @@ impl Counts {
         Ok(counts)
     }
 
-    /// Stands for the present domains, which differ at one position at most. Takes a time that doesn't grow with the problem.
+    /// Stands for the present domains, which differ at one position at most. Takes a time that doesn't grow with the
+    /// problem.
     pub fn narrowed(&mut self, doms: &Domains, p: u32)
         requires position { p < length doms.now.sets }
         requires differs { DiffersAtMostAt self.old doms.now p }
@@ -79,12 +86,14 @@ impl Counts {
     pub fn fixed(&self, x: Symbol, day: u32) -> u32
         requires day { (0 < day) × (day ≤ self.now.days) }
         requires symbol { x.number ≤ self.now.shifts }
-        ensures kept { result ≡ column_count (is_alone self.now.shifts x.number) self.now.days self.now.weeks self.now.sets (day - 1) }
-        ensures value { (P : Instance) (S : Store) → BelongsTo P S → StandsFor self.now S → result ≡ fixed P (has_domain S) day x.number }
+        ensures kept { result
+            ≡ column_count (is_alone self.now.shifts x.number) self.now.days self.now.weeks self.now.sets (day - 1) }
+        ensures value { (P : Instance) (S : Store) → BelongsTo P S → StandsFor self.now S
+            → result ≡ fixed P (has_domain S) day x.number }
         ensures few { result ≤ self.now.weeks }
-        ensures small { result ≤ 600 }
+        ensures small { result ≤ MOST_WEEKS }
     {
-        self.fixed[(day as usize - 1) * 9 + x.number as usize]
+        self.fixed[(day as usize - 1) * MOST_SYMBOLS as usize + x.number as usize]
     }
 
     /// How many weeks can hold the symbol on the day: it is in the domain there.
@@ -92,19 +101,20 @@ impl Counts {
         requires day { (0 < day) × (day ≤ self.now.days) }
         requires symbol { x.number ≤ self.now.shifts }
         ensures kept { result ≡ column_count (is_held x.number) self.now.days self.now.weeks self.now.sets (day - 1) }
-        ensures value { (P : Instance) (S : Store) → BelongsTo P S → StandsFor self.now S → result ≡ possible P (has_domain S) day x.number }
+        ensures value { (P : Instance) (S : Store) → BelongsTo P S → StandsFor self.now S
+            → result ≡ possible P (has_domain S) day x.number }
         ensures few { result ≤ self.now.weeks }
-        ensures small { result ≤ 600 }
+        ensures small { result ≤ MOST_WEEKS }
     {
-        self.possible[(day as usize - 1) * 9 + x.number as usize]
+        self.possible[(day as usize - 1) * MOST_SYMBOLS as usize + x.number as usize]
     }
 
-    // What is so of all counts.
+    // Brings into a proof what holds of all counts. Does nothing when run.
     fn facts(&self)
         ensures long { length self.now.sets ≡ self.now.weeks * self.now.days }
         ensures some_days { 1 ≤ self.now.days }
-        ensures few_weeks { self.now.weeks ≤ 600 }
-        ensures few_shifts { self.now.shifts ≤ 8 }
+        ensures few_weeks { self.now.weeks ≤ MOST_WEEKS }
+        ensures few_shifts { self.now.shifts ≤ MOST_SHIFTS }
     {
         let _ = &self.sets;
     }
@@ -118,7 +128,7 @@ impl Counts {
         let days = problem.days();
         let weeks = problem.weeks();
         let shifts = problem.shifts();
-        let counters = days as usize * 9;
+        let counters = days as usize * MOST_SYMBOLS as usize;
         let sets = empty_sets(alloc, problem.cells())?;
         let fixed = vec![in alloc; 0; counters]?;
         let possible = vec![in alloc; 0; counters]?;
@@ -158,7 +168,7 @@ impl Counts {
         requires { p < length self.old.sets }
         ensures { self.new ≡ with_set self.old p set }
     {
-        let row = (p % self.days) as usize * 9;
+        let row = (p % self.days) as usize * MOST_SYMBOLS as usize;
         let is_held = held(&set);
         let is_alone = alone(&set, self.shifts);
         let before = mem::replace(&mut self.sets[p as usize], set);
@@ -178,4 +188,11 @@ fn empty_sets(alloc: Global, cells: u32) -> Result<Vec<SymbolSet>, AllocError>
         sets.push(SymbolSet::empty())?;
     }
     Ok(sets)
+}
+
+// Counts may be sent to other threads and shared with them.
+fn shared<T: Send + Sync>(_: &T) {}
+
+fn counts_are_shared(counts: &Counts) {
+    shared(counts);
 }

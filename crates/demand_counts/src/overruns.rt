@@ -7,11 +7,12 @@ ghost use Rattle.demand_counts.specs.Counted.{StandsFor, CountsFor, has_counted}
 ghost use Rattle.demand_counts.specs.Overruns.{IsSymbolAnswer, IsDayAnswer, IsOverrunAnswer};
 
 use crate::Counts;
-use rwsp_model::{Problem, Symbol};
+use rwsp_model::Problem;
+use rwsp_terms::Symbol;
 
 impl Counts {
-    /// The first overrun by day, then symbol, then over (true) before short (false). Over: more weeks hold the symbol on the day
-    /// for sure than may hold it. Short: fewer can hold it than must.
+    /// The first overrun by day, then symbol, then over (true) before short (false). Over: more weeks hold the symbol
+    /// on the day for sure than may hold it. Short: fewer can hold it than must.
     pub fn overrun(&self, problem: &Problem) -> Option<(u32, Symbol, bool)>
         requires { CountsFor problem.now self.now }
         ensures { (S : Store) → StandsFor self.now S → IsOverrunAnswer problem.now (has_domain S) result }

@@ -3,32 +3,33 @@ ghost use Rattle.std.specs.Prelude.{◌≡◌, ℕ, ◌+◌, ◌<◌, ◌≤◌,
 ghost use Rattle.demand_counts.specs.Tallies.{is_held, is_alone, TestsOf, IsRecounted, one_if};
 
 use domain_store::SymbolSet;
+use rwsp_terms::limits::{MOST_SYMBOLS, MOST_WEEKS};
 
-// For each symbol below nine, whether the set has it.
-pub fn held(set: &SymbolSet) -> [bool; 9]
+// For each symbol below `MOST_SYMBOLS`, whether the set has it.
+pub fn held(set: &SymbolSet) -> [bool; MOST_SYMBOLS as usize]
     ensures { TestsOf is_held set.now result }
 {
-    let mut flags = [false; 9];
-    for x in 0..9u8 {
+    let mut flags = [false; MOST_SYMBOLS as usize];
+    for x in 0..MOST_SYMBOLS as u8 {
         flags[x as usize] = set.has(x);
     }
     flags
 }
 
-// For each symbol below nine, whether the set has it and no other.
-pub fn alone(set: &SymbolSet, last: u8) -> [bool; 9]
-    requires { last < 9 }
+// For each symbol below `MOST_SYMBOLS`, whether the set has it and no other.
+pub fn alone(set: &SymbolSet, last: u8) -> [bool; MOST_SYMBOLS as usize]
+    requires { last < MOST_SYMBOLS }
     ensures { TestsOf (is_alone last) set.now result }
 {
-    let mut flags = [false; 9];
-    for x in 0..9u8 {
+    let mut flags = [false; MOST_SYMBOLS as usize];
+    for x in 0..MOST_SYMBOLS as u8 {
         flags[x as usize] = is_alone(set, x, last);
     }
     flags
 }
 
 fn is_alone(set: &SymbolSet, x: u8, last: u8) -> bool
-    requires { last < 9 }
+    requires { last < MOST_SYMBOLS }
     ensures { result ≡ is_alone last x set.now }
 {
     for z in 0..last + 1 {
@@ -39,20 +40,26 @@ fn is_alone(set: &SymbolSet, x: u8, last: u8) -> bool
     set.has(x)
 }
 
-// The nine counters from a place on count what is, in place of what was.
-pub fn recount(counters: &mut [u32], row: usize, were: &[bool; 9], are: &[bool; 9])
-    requires within { row + 9 ≤ length counters.old }
-    requires small { (x : ℕ) → x < 9 → slice_index counters.old (row + x) ≤ 600 }
-    requires counted { (x : ℕ) → x < 9 → one_if (slice_index_or were.now x false) ≤ slice_index counters.old (row + x) }
+// The counters of a day, from a place on, count what is, in place of what was.
+pub fn recount(
+    counters: &mut [u32],
+    row: usize,
+    were: &[bool; MOST_SYMBOLS as usize],
+    are: &[bool; MOST_SYMBOLS as usize],
+)
+    requires within { row + MOST_SYMBOLS ≤ length counters.old }
+    requires small { (x : ℕ) → x < MOST_SYMBOLS → slice_index counters.old (row + x) ≤ MOST_WEEKS }
+    requires counted { (x : ℕ) → x < MOST_SYMBOLS
+        → one_if (slice_index_or were.now x false) ≤ slice_index counters.old (row + x) }
     ensures { IsRecounted row were.now are.now counters.old counters.new }
 {
-    for x in 0..9 {
+    for x in 0..MOST_SYMBOLS as usize {
         counters[row + x] = recounted(counters[row + x], were[x], are[x]);
     }
 }
 
 fn recounted(count: u32, was: bool, is: bool) -> u32
-    requires small { count ≤ 600 }
+    requires small { count ≤ MOST_WEEKS }
     requires counted { one_if was ≤ count }
     ensures { result + one_if was ≡ count + one_if is }
 {

@@ -4,7 +4,8 @@ ghost use Rattle.demand_counts.specs.Counted.{StandsFor};
 
 use crate::Counts;
 use domain_store::{Domains, Mark};
-use rwsp_model::{Bounds, DemandRow, Name, Parts, Problem, ShiftRow, Symbol};
+use rwsp_model::{Parts, Problem};
+use rwsp_terms::{Bounds, DemandRow, Name, ShiftRow, Symbol};
 use std::alloc::{AllocError, Global};
 use std::process::Abort;
 use std::test::Fail;

@@ -16,6 +16,7 @@ use Rattle.std.specs.Cmp.Lexicographic.{pointwise}
 use Rattle.std.proofs.Math.Bool.{beq}
 use Rattle.std.specs.Cmp.{booleans_Decides}
 use Rattle.std.proofs.lemmas.Slice.Eq.{slice_eq-Decides}
+use Rattle.rwsp_terms.specs.declared.limits.TheConstants.{MOST_SYMBOLS}
 use Rattle.domain_store.specs.Sets.{has_symbol, without, numbers_from, IsDomain}
 
 differs : (k x : ℕ) → x < k → eqb k x ≡ false
@@ -271,7 +272,7 @@ pub same_flags : (a b : List Bool) → length a ≡ length b → numbers_from 0 
 same_flags a b long same = ext_get_or false a b long (λ x less. sym (has_numbers a x) ∙ ap (λ s. has_symbol s x) same ∙ has_numbers b x)
 
 -- the test of the flags is that of the numbers
-pub same_where_flags : (a b : List Bool) (r : Bool) → length a ≡ 9 → length b ≡ 9 → r ≡ pointwise beq a b → (IsTrue r → numbers_from 0 a ≡ numbers_from 0 b) × (numbers_from 0 a ≡ numbers_from 0 b → IsTrue r)
+pub same_where_flags : (a b : List Bool) (r : Bool) → length a ≡ MOST_SYMBOLS → length b ≡ MOST_SYMBOLS → r ≡ pointwise beq a b → (IsTrue r → numbers_from 0 a ≡ numbers_from 0 b) × (numbers_from 0 a ≡ numbers_from 0 b → IsTrue r)
 same_where_flags a b r la lb test =
     let both = slice_eq-Decides booleans_Decides a b r test in
     (λ h. ap (numbers_from 0) (both.0 h), λ same. both.1 (same_flags a b (la ∙ sym lb) same))

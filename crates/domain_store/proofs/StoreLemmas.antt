@@ -10,6 +10,7 @@ use Rattle.std.proofs.lemmas.List.Elements.{All-set, All-push, All-get_or, All-r
 use Rattle.std.proofs.lemmas.List.Sums.{sum_by-set, get_or-le-sum_by, sum_by-le}
 use Rattle.std.proofs.lemmas.List.Folds.{sum_by-replicate}
 use Rattle.std.proofs.lemmas.List.FromFn.{length-range_with_len}
+use Rattle.rwsp_terms.specs.declared.limits.TheConstants.{MOST_CELLS, MOST_SHIFTS, MOST_SYMBOLS}
 use Rattle.rwsp_terms.specs.Instance.{Instance, cells, shift_count}
 use Rattle.rwsp_terms.specs.Roster.{IsRoster}
 use Rattle.rwsp_terms.specs.declared.data.Symbol.{Symbol}
@@ -139,7 +140,7 @@ pub record IsLastChange (S : Store) (c : Change) : Type 0 where
   pub place : c.position < length S.sets
   pub before : 0 < length c.before
   pub after : 0 < length (domain_at S c.position)
-  pub few : spare S.sets ≤ 33600
+  pub few : spare S.sets ≤ MOST_CELLS * MOST_SHIFTS
   pub some : length (domain_at S c.position) - 1 ≤ spare S.sets
 
 last_place : (S : Store) (front : List Change) (c : Change) → IsStore S → S.trail ≡ front ++ c ∷ [] → c.position < length S.sets
@@ -163,7 +164,7 @@ last_change S count capacity front c kept e =
     let is = All-get_or (IsDomain S.shifts) S.sets c.position [] place now.domains in
     let some : length (domain_at S c.position) - 1 ≤ spare S.sets = get_or-le-sum_by (λ v. length v - 1) S.sets c.position [] place in
     let room : length S.trail + spare S.sets ≤ S.weeks * S.days * S.shifts = now.room in
-    let most : S.weeks * S.days * S.shifts ≤ 4200 * 8 = mul-le-mul now.few_cells now.few_shifts in
+    let most : S.weeks * S.days * S.shifts ≤ MOST_CELLS * MOST_SHIFTS = mul-le-mul now.few_cells now.few_shifts in
     record {
       place = place;
       before = before.some;
@@ -226,8 +227,8 @@ pub symbol_within : (S : Store) (p x : ℕ) → IsStore S → p < length S.sets 
 symbol_within S p x now within has =
     has_symbol_within S.shifts x (domain_at S p) (All-get_or (IsDomain S.shifts) S.sets p [] within now.domains).symbols has
 
-pub symbol_below_nine : (S : Store) (p x : ℕ) → IsStore S → p < length S.sets → has_domain S p x ≡ true → x < 9
-symbol_below_nine S p x now within has = omega (arith, symbol_within S p x now within has, now.few_shifts)
+pub symbol_is_known : (S : Store) (p x : ℕ) → IsStore S → p < length S.sets → has_domain S p x ≡ true → x < MOST_SYMBOLS
+symbol_is_known S p x now within has = omega (arith, symbol_within S p x now within has, now.few_shifts)
 
 pub single_domain : (S : Store) (p x : ℕ) → IsStore S → p < length S.sets → has_domain S p x ≡ true → IsDomain S.shifts (x ∷ [])
 single_domain S p x now within has = IsDomain_single S.shifts x (symbol_within S p x now within has)

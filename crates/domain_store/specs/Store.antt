@@ -1,6 +1,7 @@
 -- Domains, and the trail of their changes.
 use Rattle.std.specs.Prelude.{◌≡◌, ◌≢◌, ℕ, ◌+◌, ◌-◌, ◌*◌, ◌<◌, ◌≤◌, List, [], ◌∷◌, ◌++◌, length, Bool, IsTrue, slice_set, slice_index_or, take, drop, replicate, All}
 use Rattle.std.specs.List.{sum_by, range_with_len}
+use Rattle.rwsp_terms.specs.declared.limits.TheConstants.{MOST_CELLS, MOST_SHIFTS}
 use Rattle.rwsp_terms.specs.Instance.{Instance, cells, shift_count}
 use Rattle.domain_store.specs.declared.change.Change.{Change}
 use Rattle.domain_store.specs.Sets.{has_symbol, IsDomain}
@@ -70,17 +71,17 @@ pub record HasSameShape (old new : Store) : Type 0 where
 abbrev pub spare : List (List ℕ) → ℕ
 spare sets = sum_by (λ set. length set - 1) sets
 
--- what is so of each store
+-- what holds of each store
 pub record IsStore (S : Store) : Type 0 where
-  pub few_cells : S.weeks * S.days ≤ 4200
-  pub few_shifts : S.shifts ≤ 8
+  pub few_cells : S.weeks * S.days ≤ MOST_CELLS
+  pub few_shifts : S.shifts ≤ MOST_SHIFTS
   pub long : length S.sets ≡ S.weeks * S.days
   pub domains : All (IsDomain S.shifts) S.sets
   pub places : All (λ c. c.position < S.weeks * S.days) S.trail
   -- each change took a symbol at least, and leaves one
   pub room : length S.trail + spare S.sets ≤ S.weeks * S.days * S.shifts
 
--- what is so of each store's domains, by the test of a symbol
+-- what holds of each store's domains, by the test of a symbol
 pub record HasDomains (S : Store) : Type 0 where
   -- no other position has symbols, and none has one above the last
   pub known : (p x : ℕ) → IsTrue (has_domain S p x) → (p < length S.sets) × (x ≤ S.shifts)

@@ -9,14 +9,17 @@ ghost use Rattle.domain_store.specs.Sets.{without, IsDomain};
 use crate::Mark;
 use crate::change::Change;
 use crate::symbol_set::SymbolSet;
-use rwsp_model::{Problem, Roster, Symbol};
+use rwsp_model::{Problem, Roster};
+use rwsp_terms::Symbol;
+use rwsp_terms::limits::{MOST_CELLS, MOST_SHIFTS, MOST_SYMBOLS};
 use std::alloc::{AllocError, Global};
 use std::marker::Model;
 use std::mem;
 
 /// The symbols that each position may still have, with a trail of the changes.
 ///
-/// Positions count from 0, week after week. Each change takes a symbol or more from one domain, and leaves one at least.
+/// Positions count from 0, week after week. Each change takes a symbol or more from one domain, and leaves one at
+/// least.
 #[derive(Debug, Drop)]
 pub struct Domains {
     days: u32,
@@ -36,9 +39,13 @@ impl Model for Domains {
     ghost use Rattle.std.specs.Prelude.{vec_capacity};
     ghost use Rattle.domain_store.specs.Kept.{IsKept};
 
-    ghost view = { λ d. record { days = d.days; weeks = d.weeks; shifts = d.shifts; sets = d.sets.items; trail = d.trail.items } };
+    ghost view = { λ d.
+        record { days = d.days; weeks = d.weeks; shifts = d.shifts; sets = d.sets.items; trail = d.trail.items } };
 
-    ghost invariant = { λ d. IsKept (record { days = d.days; weeks = d.weeks; shifts = d.shifts; sets = d.sets.items; trail = d.trail.items }) d.spare (vec_capacity d.trail) };
+    ghost invariant = { λ d.
+        IsKept
+        (record { days = d.days; weeks = d.weeks; shifts = d.shifts; sets = d.sets.items; trail = d.trail.items })
+        d.spare (vec_capacity d.trail) };
 }
 
 impl Domains {
@@ -49,7 +56,8 @@ impl Domains {
     pub fn new(alloc: Global, problem: &Problem) -> Result<Domains, AllocError>
         ensures full { IfOk result (λ D. D ≡ full_store problem.now) }
         ensures belongs { IfOk result (λ D. BelongsTo problem.now D) }
-        ensures has { IfOk result (λ D. (p x : ℕ) → p < cells problem.now → has_domain D p x ≡ nat_le x (shift_count problem.now)) }
+        ensures has { IfOk result (λ D.
+            (p x : ℕ) → p < cells problem.now → has_domain D p x ≡ nat_le x (shift_count problem.now)) }
     {
         problem.keeps_limits();
         let days = problem.days();
@@ -69,8 +77,8 @@ impl Domains {
         })
     }
 
-    /// The same domains with the same trail, and room for all changes that can still be made: a mark of the one is a mark
-    /// of the other.
+    /// The same domains with the same trail, and room for all changes that can still be made: a mark of the one is a
+    /// mark of the other.
     pub fn copy(&self) -> Result<Domains, AllocError>
         ensures { IfOk result (λ D. D ≡ self.now) }
     {
@@ -88,7 +96,7 @@ impl Domains {
         })
     }
 
-    /// What is so of all domains, now and as they stood at each mark.
+    /// Brings into a proof what holds of all domains, now and as they were at each mark. Does nothing when run.
     pub fn facts(&self)
         ensures now { IsStore self.now }
         ensures tests { HasDomains self.now }
@@ -114,7 +122,7 @@ impl Domains {
     /// The number of shifts, which is the number of the last symbol.
     pub fn shifts(&self) -> u8
         ensures value { result ≡ self.now.shifts }
-        ensures few { result ≤ 8 }
+        ensures few { result ≤ MOST_SHIFTS }
     {
         self.facts();
         self.shifts
@@ -124,7 +132,7 @@ impl Domains {
     pub fn cells(&self) -> u32
         ensures value { result ≡ self.now.weeks * self.now.days }
         ensures positions { result ≡ length self.now.sets }
-        ensures few { result ≤ 4200 }
+        ensures few { result ≤ MOST_CELLS }
     {
         self.facts();
         self.weeks * self.days
@@ -152,7 +160,7 @@ impl Domains {
         requires { p < length self.now.sets }
         ensures value { result ≡ length (domain_at self.now p) }
         ensures some { 1 ≤ result }
-        ensures few { result ≤ 9 }
+        ensures few { result ≤ MOST_SYMBOLS }
     {
         self.facts();
         let set = &self.sets[p as usize];
@@ -200,14 +208,15 @@ impl Domains {
     }
 
     /// Leaves the position this symbol alone. The change is noted on the trail.
-    #[tactic(auto, using(crate::proofs::StoreLemmas::symbol_below_nine, crate::proofs::StoreLemmas::single_domain, crate::proofs::StoreLemmas::store_at_changed, crate::proofs::StoreLemmas::has_set_only, crate::proofs::StoreLemmas::same_shape_changed))]
+    #[tactic(auto, using(crate::proofs::StoreLemmas::symbol_is_known, crate::proofs::StoreLemmas::single_domain, crate::proofs::StoreLemmas::store_at_changed, crate::proofs::StoreLemmas::has_set_only, crate::proofs::StoreLemmas::same_shape_changed))]
     pub fn set_only(&mut self, p: u32, x: Symbol)
         requires position { p < length self.old.sets }
         requires held { IsTrue (has_domain self.old p x.number) }
         requires another { 2 ≤ length (domain_at self.old p) }
         ensures changed { self.new ≡ changed self.old p (x.number ∷ []) }
         ensures same { HasSameShape self.old self.new }
-        ensures has { (q y : ℕ) → has_domain self.new q y ≡ ((not (q == p) || (y == x.number)) && has_domain self.old q y) }
+        ensures has { (q y : ℕ)
+            → has_domain self.new q y ≡ ((not (q == p) || (y == x.number)) && has_domain self.old q y) }
         ensures marks { (len : ℕ) → len ≤ length self.old.trail → store_at self.new len ≡ store_at self.old len }
     {
         self.facts();
@@ -215,14 +224,15 @@ impl Domains {
     }
 
     /// Takes the symbol from the domain of the position. The change is noted on the trail.
-    #[tactic(auto, using(crate::proofs::StoreLemmas::symbol_below_nine, crate::proofs::StoreLemmas::smaller_domain, crate::proofs::StoreLemmas::length_smaller, crate::proofs::StoreLemmas::store_at_changed, crate::proofs::StoreLemmas::has_removed, crate::proofs::StoreLemmas::same_shape_changed))]
+    #[tactic(auto, using(crate::proofs::StoreLemmas::symbol_is_known, crate::proofs::StoreLemmas::smaller_domain, crate::proofs::StoreLemmas::length_smaller, crate::proofs::StoreLemmas::store_at_changed, crate::proofs::StoreLemmas::has_removed, crate::proofs::StoreLemmas::same_shape_changed))]
     pub fn remove(&mut self, p: u32, x: Symbol)
         requires position { p < length self.old.sets }
         requires held { IsTrue (has_domain self.old p x.number) }
         requires another { 2 ≤ length (domain_at self.old p) }
         ensures changed { self.new ≡ changed self.old p (without x.number (domain_at self.old p)) }
         ensures same { HasSameShape self.old self.new }
-        ensures has { (q y : ℕ) → has_domain self.new q y ≡ ((not (q == p) || not (y == x.number)) && has_domain self.old q y) }
+        ensures has { (q y : ℕ)
+            → has_domain self.new q y ≡ ((not (q == p) || not (y == x.number)) && has_domain self.old q y) }
         ensures marks { (len : ℕ) → len ≤ length self.old.trail → store_at self.new len ≡ store_at self.old len }
     {
         self.facts();
@@ -261,7 +271,9 @@ impl Domains {
         ensures days { IfOk result (λ R. R.days ≡ problem.now.days) }
         ensures cells { IfOk result (λ R. map (λ x. x.number ∷ []) R.cells ≡ self.now.sets) }
         ensures roster { IfOk result (λ R. IsRoster problem.now R.cells) }
-        ensures has { IfOk result (λ R. (p : ℕ) (d : Symbol) → p < length R.cells → IsTrue (has_domain self.now p (slice_index_or R.cells p d).number)) }
+        ensures has { IfOk result (λ R.
+            (p : ℕ) (d : Symbol) → p < length R.cells
+            → IsTrue (has_domain self.now p (slice_index_or R.cells p d).number)) }
     {
         self.facts();
         let alloc = *self.sets.allocator();
@@ -314,7 +326,7 @@ fn note(trail: &mut Vec<Change>, change: Change)
 // All symbols up to the last shift, for each cell.
 #[tactic(auto, using(std::proofs::lemmas::List::replicate_more))]
 fn full_sets(alloc: Global, cells: u32, shifts: u8) -> Result<Vec<SymbolSet>, AllocError>
-    requires { shifts ≤ 8 }
+    requires { shifts ≤ MOST_SHIFTS }
     ensures { IfOk result (λ v. v.items ≡ replicate cells (range_with_len 0 (shifts + 1))) }
 {
     let mut sets = Vec::with_capacity(alloc, cells as usize)?;
@@ -359,4 +371,11 @@ fn only_symbols(alloc: Global, sets: &[SymbolSet]) -> Result<Vec<Symbol>, AllocE
         }
     }
     Ok(symbols)
+}
+
+// Domains may be sent to other threads and shared with them.
+fn shared<T: Send + Sync>(_: &T) {}
+
+fn domains_are_shared(domains: &Domains) {
+    shared(domains);
 }

@@ -4,7 +4,6 @@
 mod change;
 mod domains;
 mod mark;
-mod sharing;
 mod symbol_set;
 #[cfg(test)]
 mod tests;

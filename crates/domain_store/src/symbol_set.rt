@@ -1,14 +1,15 @@
-// Sets of at most nine symbols.
+// Sets of symbols.
 ghost use Rattle.std.specs.Prelude.{◌≡◌, ◌≢◌, ℕ, ◌+◌, ◌<◌, ◌≤◌, List, [], ◌∷◌, length, MatchOption, slice_get, count_by, IsTrue, ◌↔◌};
 ghost use Rattle.std.specs.List.{range_with_len};
 ghost use Rattle.domain_store.specs.Sets.{has_symbol, without};
 
+use rwsp_terms::limits::MOST_SYMBOLS;
 use std::marker::Model;
 
-/// A set of symbols whose numbers are below nine, seen as the ascending list of the numbers.
+/// A set of symbols whose numbers are below `MOST_SYMBOLS`, seen as the ascending list of the numbers.
 #[derive(Debug, Drop)]
 pub struct SymbolSet {
-    flags: [bool; 9],
+    flags: [bool; MOST_SYMBOLS as usize],
 }
 
 impl Model for SymbolSet {
@@ -25,16 +26,18 @@ impl SymbolSet {
     pub fn empty() -> SymbolSet
         ensures { result ≡ [] }
     {
-        SymbolSet { flags: [false; 9] }
+        SymbolSet {
+            flags: [false; MOST_SYMBOLS as usize],
+        }
     }
 
     /// All symbols up to the last.
     #[tactic(auto, using(crate::proofs::SetLemmas::front_grows, crate::proofs::SetLemmas::numbers_in_front))]
     pub fn up_to(last: u8) -> SymbolSet
-        requires { last < 9 }
+        requires { last < MOST_SYMBOLS }
         ensures { result ≡ range_with_len 0 (last + 1) }
     {
-        let mut flags = [false; 9];
+        let mut flags = [false; MOST_SYMBOLS as usize];
         for x in 0..last as usize + 1 {
             flags[x] = true;
         }
@@ -43,10 +46,10 @@ impl SymbolSet {
 
     /// The one symbol.
     pub fn single(x: u8) -> SymbolSet
-        requires { x < 9 }
+        requires { x < MOST_SYMBOLS }
         ensures { result ≡ x ∷ [] }
     {
-        let mut flags = [false; 9];
+        let mut flags = [false; MOST_SYMBOLS as usize];
         flags[x as usize] = true;
         SymbolSet { flags }
     }
@@ -69,7 +72,7 @@ impl SymbolSet {
     /// The set less the symbol.
     #[tactic(auto, using(crate::proofs::SetLemmas::numbers_cleared))]
     pub fn without(&self, x: u8) -> SymbolSet
-        requires { x < 9 }
+        requires { x < MOST_SYMBOLS }
         ensures { result ≡ without x self.now }
     {
         let mut flags = self.flags;
@@ -82,14 +85,14 @@ impl SymbolSet {
     pub fn has(&self, x: u8) -> bool
         ensures { result ≡ has_symbol self.now x }
     {
-        x < 9 && self.flags[x as usize]
+        u32::from(x) < MOST_SYMBOLS && self.flags[x as usize]
     }
 
     /// The number of symbols.
     #[tactic(auto, using(crate::proofs::SetLemmas::numbers_counted, crate::proofs::SetLemmas::flags_counted))]
     pub fn size(&self) -> u32
         ensures value { result ≡ length self.now }
-        ensures few { result ≤ 9 }
+        ensures few { result ≤ MOST_SYMBOLS }
     {
         count_set(&self.flags) as u32
     }
@@ -99,7 +102,7 @@ impl SymbolSet {
     pub fn first(&self) -> Option<u8>
         ensures { result ≡ slice_get self.now 0 }
     {
-        for x in 0..9 {
+        for x in 0..MOST_SYMBOLS as u8 {
             if self.flags[x as usize] {
                 return Some(x);
             }

@@ -3,7 +3,8 @@ ghost use Rattle.std.specs.Prelude.{◌≡◌, ◌<◌, ◌≤◌, length, IsTru
 ghost use Rattle.domain_store.specs.Store.{domain_at, has_domain, HasSameShape};
 
 use crate::{Domains, Mark};
-use rwsp_model::{Bounds, DemandRow, Name, Parts, Problem, ShiftRow, Symbol};
+use rwsp_model::{Parts, Problem};
+use rwsp_terms::{Bounds, DemandRow, Name, ShiftRow, Symbol};
 use std::alloc::{AllocError, Global};
 use std::process::Abort;
 use std::test::Fail;
@@ -61,7 +62,7 @@ enum Step {
     Keep(u32, u8),
     // takes the symbol from the position
     Take(u32, u8),
-    // undoes all changes but so many
+    // undoes all changes but the first ones
     UndoTo(usize),
 }
 

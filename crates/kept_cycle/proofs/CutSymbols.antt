@@ -4,6 +4,7 @@ use Rattle.std.specs.Prelude.{◌↔◌, ◌&&◌, ◌||◌, ◌==◌, slice_get
 use Rattle.std.proofs.lemmas.Bool.{eqb-true, eq-eqb, cases_eq}
 use Rattle.std.proofs.lemmas.Nat.{mod-mul-add}
 use Rattle.std.proofs.Math.Nat.{mul-pos}
+use Rattle.rwsp_terms.specs.declared.limits.TheConstants.{MOST_CELLS}
 use Rattle.rwsp_model.specs.Validity.{KeepsLimits}
 use Rattle.rwsp_terms.specs.declared.data.Symbol.{Symbol}
 use Rattle.rwsp_terms.specs.Instance.{Instance, cells, symbol_numbered}
@@ -156,14 +157,14 @@ dead_once_alone P D R p x within none u long over clean =
 
 -- what the looks say
 
-pub cycle_leaf : (C : KnownCycle) → 0 < cells C.problem → cells C.problem ≤ 4200 → AreShortRules C.problem C.rules → IsLeafOf C.problem (Dead 0 (2 * cells C.problem) C.rules)
+pub cycle_leaf : (C : KnownCycle) → 0 < cells C.problem → cells C.problem ≤ MOST_CELLS → AreShortRules C.problem C.rules → IsLeafOf C.problem (Dead 0 (2 * cells C.problem) C.rules)
 cycle_leaf C some few short = record {
   leaf = tt;
   fits = (some, (omega (arith, some), omega (arith, few)), short.are_rules);
   short = all_are_short C.problem C.rules short.all_short;
 }
 
-pub closed_cycle : (C : KnownCycle) (S : Store) (line : Line) → line ≡ Dead 0 (2 * cells C.problem) C.rules → IsShortCycle C S → 0 < cells C.problem → cells C.problem ≤ 4200 → IsDead C.problem (has_known C) 0 (2 * cells C.problem) C.rules
+pub closed_cycle : (C : KnownCycle) (S : Store) (line : Line) → line ≡ Dead 0 (2 * cells C.problem) C.rules → IsShortCycle C S → 0 < cells C.problem → cells C.problem ≤ MOST_CELLS → IsDead C.problem (has_known C) 0 (2 * cells C.problem) C.rules
     → IsClosing C.problem (IsCycleLeaf C.problem) S line
 closed_cycle C S line is h some few dead = subst (λ (l : Line). IsClosing C.problem (IsCycleLeaf C.problem) S l) (sym is) (record {
   is_leaf = cycle_leaf C some few h.short;
@@ -186,7 +187,7 @@ none_closes C S h alive (Dead p len R, among, holds) = alive (same_dead C S p le
 none_closes C S h alive (Bound p turns R y, among, holds) = among
 none_closes C S h alive (Unfinished, among, holds) = among
 
-pub cut_cycle : (C : KnownCycle) (S : Store) (p : ℕ) (x : Symbol) (line : Line) → line ≡ Dead 0 (2 * cells C.problem) C.rules → IsShortCycle C S → 0 < cells C.problem → cells C.problem ≤ 4200 → IsUnsupported C S p x
+pub cut_cycle : (C : KnownCycle) (S : Store) (p : ℕ) (x : Symbol) (line : Line) → line ≡ Dead 0 (2 * cells C.problem) C.rules → IsShortCycle C S → 0 < cells C.problem → cells C.problem ≤ MOST_CELLS → IsUnsupported C S p x
     → IsCut C.problem (IsCycleSpent C.problem (has_domain S)) S p x line
 cut_cycle C S p x line is h some few u = subst (λ (l : Line). IsCut C.problem (IsCycleSpent C.problem (has_domain S)) S p x l) (sym is) (record {
   is_spent = record { position = u.position; useful = u.useful; short = C.rules; all_short = h.short.all_short; nowhere = u.nowhere };

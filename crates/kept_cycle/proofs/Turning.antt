@@ -5,6 +5,7 @@ use Rattle.std.proofs.lemmas.Bool.{cases_eq, cases_lt, le-leb}
 use Rattle.std.proofs.lemmas.List.{length-set, length-replicate, get_or-replicate, ext_get_or}
 use Rattle.std.proofs.lemmas.List.Elements.{Contains-get_or}
 use Rattle.std.proofs.lemmas.Nat.{mod_below, mod-mul-add}
+use Rattle.rwsp_terms.specs.declared.limits.TheConstants.{MOST_CELLS}
 use Rattle.rwsp_terms.specs.declared.data.Symbol.{Symbol}
 use Rattle.rwsp_terms.specs.Instance.{Instance, cells, shift_count}
 use Rattle.refutation_terms.specs.Word.{Domains, Over, Clean}
@@ -199,7 +200,7 @@ over_full P S p (x ∷ u) some has symbols =
     let le : nat_le x.number (shift_count P) ≡ true = le-leb x.number (shift_count P) symbols.0 in
     (has (p % cells P) x.number (mod_below p (cells P) some) ∙ le, over_full P S (p + 1) u some has symbols.1)
 
-pub has_layers : (T : Listed) (S : Store) (layers : List (List Step)) (counts : List ℕ) (width days : ℕ) → 0 < cells T.problem → cells T.problem ≤ 4200 → days ≡ 2 * cells T.problem → length layers ≡ days
+pub has_layers : (T : Listed) (S : Store) (layers : List (List Step)) (counts : List ℕ) (width days : ℕ) → 0 < cells T.problem → cells T.problem ≤ MOST_CELLS → days ≡ 2 * cells T.problem → length layers ≡ days
     → AreLayers counts layers → ((i : ℕ) → slice_index counts i ≤ width) → ((q x : ℕ) → q < cells T.problem → has_domain S q x ≡ nat_le x (shift_count T.problem))
     → ((u : List Symbol) → IsCleanOver T.problem (has_domain S) 0 days T.rules u ↔ Leads layers 0 u) → HasLayers T layers width
 has_layers T S layers counts width days some few turns long are most has ways = record {

@@ -1,5 +1,6 @@
 -- What a cycle keeps of its fields.
 use Rattle.std.specs.Prelude.{◌≡◌, ℕ, ◌+◌, ◌*◌, ◌<◌, ◌≤◌, ◌↔◌, List, [], ◌∷◌, length, Bool, IsTrue, Contains, slice_index_or}
+use Rattle.rwsp_terms.specs.declared.limits.TheConstants.{MOST_CELLS}
 use Rattle.rwsp_terms.specs.declared.data.Symbol.{Symbol}
 use Rattle.rwsp_terms.specs.Instance.{Instance, cells, shift_count}
 use Rattle.refutation_terms.specs.Word.{Clean}
@@ -17,15 +18,17 @@ HasSymbolsOf P (x ∷ u) = (x.number ≤ shift_count P) × HasSymbolsOf P u
 -- through the layers lead just the clean words of two turns, over all symbols
 pub record HasLayers (T : Listed) (layers : List (List Step)) (width : ℕ) : Type 0 where
   pub some : 0 < cells T.problem
-  pub few : cells T.problem ≤ 4200
+  pub few : cells T.problem ≤ MOST_CELLS
   pub days : length layers ≡ 2 * cells T.problem
   pub fits : AllFitInto width layers
   pub nodes : 0 < width
-  pub leads : (u : List Symbol) → length u ≡ 2 * cells T.problem → HasSymbolsOf T.problem u → Clean T.problem T.rules u → Leads layers 0 u
+  pub leads : (u : List Symbol) → length u ≡ 2 * cells T.problem → HasSymbolsOf T.problem u
+      → Clean T.problem T.rules u → Leads layers 0 u
   pub clean : (u : List Symbol) → Leads layers 0 u → (length u ≡ 2 * cells T.problem) × Clean T.problem T.rules u
 
 -- the marks of all days are those of the domains
-pub record IsCycle (T : Listed) (layers : List (List Step)) (sets : List (List ℕ)) (front back : List (List Bool)) (width : ℕ) : Type 0 where
+pub record IsCycle (T : Listed) (layers : List (List Step)) (sets : List (List ℕ)) (front back : List (List Bool))
+    (width : ℕ) : Type 0 where
   pub layered : HasLayers T layers width
   pub long : length sets ≡ cells T.problem
   pub small : (p x : ℕ) → IsTrue (has_symbol (slice_index_or sets p []) x) → x ≤ shift_count T.problem
@@ -40,4 +43,5 @@ pub record IsCycle (T : Listed) (layers : List (List Step)) (sets : List (List �
 
 -- a step by the symbol from a marked node to a marked one
 abbrev pub HasJoiningStep : List Step → Symbol → List Bool → List Bool → Type 0
-HasJoiningStep steps x before behind = (s : Step) × Contains steps s × (s.symbol ≡ x) × IsTrue (is_marked before s.from) × IsTrue (is_marked behind s.to)
+HasJoiningStep steps x before behind =
+    (s : Step) × Contains steps s × (s.symbol ≡ x) × IsTrue (is_marked before s.from) × IsTrue (is_marked behind s.to)

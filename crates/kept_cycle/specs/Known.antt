@@ -21,7 +21,7 @@ pub record StandsFor (C : KnownCycle) (S : Store) : Type 0 where
   pub belongs : BelongsTo C.problem S
   pub sets : C.sets ≡ S.sets
 
--- the store's domains are the known ones, but for that of one position at most
+-- the store's domains are the known ones, except at one position at most
 pub record DiffersAtMostAt (C : KnownCycle) (S : Store) (p : ℕ) : Type 0 where
   pub belongs : BelongsTo C.problem S
   pub others : (q : ℕ) → q ≢ p → slice_index_or C.sets q [] ≡ domain_at S q

@@ -25,7 +25,8 @@ abbrev pub to_of : Step → ℕ
 to_of s = s.to
 
 -- one of the first steps, by a symbol of the domain, joins a marked node and this one
-pub record IsJoined (here there : Step → ℕ) (steps : List Step) (has : ℕ → Bool) (row : List Bool) (t number : ℕ) : Type 0 where
+pub record IsJoined (here there : Step → ℕ) (steps : List Step) (has : ℕ → Bool) (row : List Bool)
+    (t number : ℕ) : Type 0 where
   pub step : Step
   pub place : ℕ
   pub below : place < number
@@ -36,21 +37,24 @@ pub record IsJoined (here there : Step → ℕ) (steps : List Step) (has : ℕ �
 
 -- the second row marks just the nodes that steps join with those that the first row marks
 abbrev pub IsPass : (Step → ℕ) → (Step → ℕ) → List Step → (ℕ → Bool) → List Bool → List Bool → Type 0
-IsPass here there steps has row next = (t : ℕ) → IsTrue (is_marked next t) ↔ IsJoined here there steps has row t (length steps)
+IsPass here there steps has row next =
+    (t : ℕ) → IsTrue (is_marked next t) ↔ IsJoined here there steps has row t (length steps)
 
 -- behind a day the nodes are marked to which steps lead from the day's marked nodes
 abbrev pub IsFrontStep : List (List Step) → List (List ℕ) → List (List Bool) → ℕ → Type 0
-IsFrontStep layers sets rows i = IsPass from_of to_of (layer_at layers i) (has_on sets i) (row_at rows i) (row_at rows (i + 1))
+IsFrontStep layers sets rows i =
+    IsPass from_of to_of (layer_at layers i) (has_on sets i) (row_at rows i) (row_at rows (i + 1))
 
 -- on a day the nodes are marked from which steps lead to marked nodes behind it
 abbrev pub IsBackStep : List (List Step) → List (List ℕ) → List (List Bool) → ℕ → Type 0
-IsBackStep layers sets rows i = IsPass to_of from_of (layer_at layers i) (has_on sets i) (row_at rows (i + 1)) (row_at rows i)
+IsBackStep layers sets rows i =
+    IsPass to_of from_of (layer_at layers i) (has_on sets i) (row_at rows (i + 1)) (row_at rows i)
 
--- each row is for so many nodes
+-- each row is for `width` nodes
 abbrev pub IsWide : List (List Bool) → ℕ → Type 0
 IsWide rows width = (i : ℕ) → i < length rows → length (row_at rows i) ≡ width
 
--- the steps are between so many nodes
+-- the steps are between `width` nodes
 pub record FitsInto (width : ℕ) (layer : List Step) : Type 0 where
   pub from : All (λ s. s.from < width) layer
   pub to : All (λ s. s.to < width) layer

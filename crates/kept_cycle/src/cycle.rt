@@ -15,12 +15,13 @@ use layered_cycle::{Layers, Step};
 use refutation_terms::Line;
 use rwsp_model::Problem;
 use rwsp_terms::Symbol;
+use rwsp_terms::limits::{LONGEST_WORD, MOST_CELLS};
 use std::alloc::{AllocError, Global};
 use std::marker::Model;
 use word_tail::TailRules;
 
-// A cycle keeps two marks for each node and day, and its steps, up to nine from each node: at most so many nodes times days,
-// which is some seconds of work and about 2 GB.
+// A cycle keeps two marks for each node and day, and its steps, one for each symbol at most from each node: at most
+// this many nodes times days, which is some seconds of work and about 2 GB.
 const MOST_MARKS: u64 = 20_000_000;
 
 // The number of nodes has grown by then as far as it does for most rules.
@@ -55,8 +56,8 @@ impl Model for Cycle {
 impl Cycle {
     ghost use Rattle.kept_cycle.specs.Known.{StandsFor, DiffersAtMostAt, has_known};
 
-    /// A cycle that stands for the domains. Takes all memory that it will ever need; there is too little where the layers
-    /// would pass the limit of their room.
+    /// A cycle that stands for the domains. Takes all memory that it will ever need; there is too little where the
+    /// layers would pass the limit of their room.
     pub fn new(alloc: Global, tails: TailRules, doms: &Domains) -> Result<Cycle, AllocError>
         requires { BelongsTo tails.problem doms.now }
         ensures problem { IfOk result (λ C. C.problem ≡ tails.problem) }
@@ -95,7 +96,8 @@ impl Cycle {
 
     /// Whether no word of two turns over the domains is clean.
     pub fn is_dead(&self) -> bool
-        ensures { IsTrue result ↔ IsDead self.now.problem (has_known self.now) 0 (2 * cells self.now.problem) self.now.rules }
+        ensures { IsTrue result
+            ↔ IsDead self.now.problem (has_known self.now) 0 (2 * cells self.now.problem) self.now.rules }
     {
         !self.back.row(0).has(0)
     }
@@ -139,10 +141,10 @@ impl Cycle {
         }
     }
 
-    // What is so of all cycles.
+    // Brings into a proof what holds of all cycles. Does nothing when run.
     fn facts(&self)
         ensures long { length self.now.sets ≡ cells self.now.problem }
-        ensures few { cells self.now.problem ≤ 4200 }
+        ensures few { cells self.now.problem ≤ MOST_CELLS }
     {
         let _ = &self.sets;
     }
@@ -172,8 +174,8 @@ impl Cycle {
         kept.is_same(set)
     }
 
-    // Gives the position another domain. Its two days are mended, as far as marks change: at most twice over the steps of
-    // all days for the front, and twice for the back.
+    // Gives the position another domain. Its two days are mended, as far as marks change: at most twice over the
+    // steps of all days for the front, and twice for the back.
     fn put(&mut self, p: u32, set: SymbolSet)
         requires position { p < length self.old.sets }
         requires small { (x : ℕ) → IsTrue (has_symbol set x) → x ≤ shift_count self.old.problem }
@@ -223,12 +225,12 @@ impl Cycle {
     }
 }
 
-// Tells want of memory where two turns would take more marks than are kept, judged by their first days: layers of so many
-// tails take hours to make.
+// Tells want of memory where two turns would take more marks than are kept, judged by their first days: layers of so
+// many tails take hours to make.
 fn keep_room(alloc: Global, tails: &TailRules, full: &Domains, days: u32) -> Result<(), AllocError>
     requires belongs { BelongsTo tails.now.problem full.now }
     requires position { 0 < cells tails.now.problem }
-    requires long { (1 ≤ days) × (days ≤ 16800) }
+    requires long { (1 ≤ days) × (days ≤ LONGEST_WORD) }
 {
     let first = Layers::of(alloc, tails, full, 0, days.min(FIRST_DAYS))?;
     let nodes = greatest(first.node_counts());

@@ -8,8 +8,8 @@ use crate::Cycle;
 use domain_store::Domains;
 use rwsp_terms::Symbol;
 
-/// The first symbol, by position and then by number, that stands beside another in its domain while no clean word of two
-/// turns has it there. Asks once for each symbol of each domain.
+/// The first symbol, by position and then by number, that stands beside another in its domain while no clean word of
+/// two turns has it there. Asks once for each symbol of each domain.
 pub fn first_unsupported(cycle: &Cycle, doms: &Domains) -> Option<(u32, Symbol)>
     requires { StandsFor cycle.now doms.now }
     ensures { MatchOption result

@@ -17,8 +17,8 @@ use std::alloc::{AllocError, Global};
 use std::marker::Model;
 use word_tail::TailRules;
 
-/// Closes where no word of two turns round the cycle is clean for the short rules, and takes away the symbols that no such
-/// word has at their position. It keeps the layers of these words.
+/// Closes where no word of two turns round the cycle is clean for the short rules, and takes away the symbols that no
+/// such word has at their position. It keeps the layers of these words.
 #[derive(Debug, Drop)]
 pub struct CycleProp {
     cycle: Cycle,
@@ -42,8 +42,11 @@ impl CycleProp {
         requires { BelongsTo problem.now doms.now }
         ensures serves { IfOk result (λ c. ⟦<CycleProp as Propagator>⟧.serves c problem.now) }
         ensures tracks { IfOk result (λ c. ⟦<CycleProp as Propagator>⟧.tracks c doms.now) }
-        ensures leaves { IfOk result (λ c. (S : Store) (line : Line) → ⟦<CycleProp as Propagator>⟧.leaves c S line ↔ IsCycleLeaf problem.now line) }
-        ensures spent { IfOk result (λ c. (S : Store) (p : ℕ) (x : Symbol) → ⟦<CycleProp as Propagator>⟧.spent c S p x ↔ IsCycleSpent problem.now (has_domain S) p x) }
+        ensures leaves { IfOk result (λ c.
+            (S : Store) (line : Line) → ⟦<CycleProp as Propagator>⟧.leaves c S line ↔ IsCycleLeaf problem.now line) }
+        ensures spent { IfOk result (λ c.
+            (S : Store) (p : ℕ) (x : Symbol)
+            → ⟦<CycleProp as Propagator>⟧.spent c S p x ↔ IsCycleSpent problem.now (has_domain S) p x) }
     {
         let short = short_rules(alloc, problem)?;
         let tails = TailRules::of(alloc, problem, &short)?;

@@ -6,6 +6,7 @@ ghost use Rattle.kept_cycle.specs.Marks.{row_at, from_of, to_of, IsWide, IsPass,
 use crate::marks::Marks;
 use domain_store::SymbolSet;
 use layered_cycle::Layer;
+use rwsp_terms::limits::MOST_CELLS;
 use std::alloc::{AllocError, Global};
 use std::marker::Model;
 use std::mem;
@@ -29,7 +30,7 @@ impl Model for DayMarks {
 }
 
 impl DayMarks {
-    // No node is marked on so many days.
+    // No node is marked on any of `days` days.
     #[tactic(auto, using(std::proofs::lemmas::List::replicate_more))]
     pub fn none(alloc: Global, days: usize, nodes: usize) -> Result<DayMarks, AllocError>
         ensures { IfOk result (λ rows. rows ≡ replicate days (replicate nodes false)) }
@@ -63,7 +64,8 @@ impl DayMarks {
     fn go_on(&mut self, layer: &Layer, set: &SymbolSet, day: usize) -> bool
         requires day { day + 1 < length self.old }
         requires wide { (width : ℕ) × IsWide self.old width × FitsInto width layer.now }
-        ensures step { IsPass from_of to_of layer.now (has_symbol set.now) (row_at self.new day) (row_at self.new (day + 1)) }
+        ensures step { IsPass from_of to_of layer.now (has_symbol set.now) (row_at self.new day)
+            (row_at self.new (day + 1)) }
         ensures others { (i : ℕ) → i ≢ day + 1 → row_at self.new i ≡ row_at self.old i }
         ensures unchanged { result ≡ false → self.new ≡ self.old }
         ensures long { length self.new ≡ length self.old }
@@ -81,7 +83,8 @@ impl DayMarks {
     fn go_back(&mut self, layer: &Layer, set: &SymbolSet, day: usize) -> bool
         requires day { day + 1 < length self.old }
         requires wide { (width : ℕ) × IsWide self.old width × FitsInto width layer.now }
-        ensures step { IsPass to_of from_of layer.now (has_symbol set.now) (row_at self.new (day + 1)) (row_at self.new day) }
+        ensures step { IsPass to_of from_of layer.now (has_symbol set.now) (row_at self.new (day + 1))
+            (row_at self.new day) }
         ensures others { (i : ℕ) → i ≢ day → row_at self.new i ≡ row_at self.old i }
         ensures unchanged { result ≡ false → self.new ≡ self.old }
         ensures long { length self.new ≡ length self.old }
@@ -96,8 +99,8 @@ impl DayMarks {
         true
     }
 
-    // Mends the steps behind a day whose domain has changed, until a day keeps its marks: all further ones depend on these
-    // alone.
+    // Mends the steps behind a day whose domain has changed, until a day keeps its marks: all further ones depend on
+    // these alone.
     pub fn mend_front(&mut self, layers: &[Layer], sets: &[SymbolSet], day: usize)
         requires some { 0 < length sets.now }
         requires day { day + 1 < length self.old }
@@ -119,7 +122,7 @@ impl DayMarks {
     pub fn mend_back(&mut self, layers: &[Layer], sets: &[SymbolSet], day: usize)
         requires some { 0 < length sets.now }
         requires day { day + 1 < length self.old }
-        requires few { length self.old ≤ 8401 }
+        requires few { length self.old ≤ 2 * MOST_CELLS + 1 }
         requires wide { (width : ℕ) × IsWide self.old width × AllFitInto width layers.now }
         requires long { length self.old ≡ length layers.now + 1 }
         ensures steps { MendsBack layers.now sets.now day self.old self.new }

@@ -1,5 +1,5 @@
-//! The clean words of two turns round the cycle, kept while domains change: layers that are made once, and marks of what the
-//! domains leave of them.
+//! The clean words of two turns round the cycle, kept while domains change: layers that are made once, and marks of
+//! what the domains leave of them.
 #![tactic(auto)]
 
 mod cycle;

@@ -23,7 +23,7 @@ impl Model for Marks {
 }
 
 impl Marks {
-    // The same mark for so many nodes.
+    // The same mark for each of `nodes` nodes.
     pub fn of(alloc: Global, nodes: usize, mark: bool) -> Result<Marks, AllocError>
         ensures { IfOk result (λ m. m ≡ replicate nodes mark) }
     {
@@ -63,8 +63,8 @@ impl Marks {
         self.flags.as_slice() == other.flags.as_slice()
     }
 
-    // Marks the nodes to which the steps lead by symbols of the set from the nodes that are marked before. Goes once over
-    // the steps.
+    // Marks the nodes to which the steps lead by symbols of the set from the nodes that are marked before. Goes once
+    // over the steps.
     pub fn put_behind(&mut self, steps: &[Step], set: &SymbolSet, before: &Marks)
         requires { All (λ s. s.to < length self.old) steps.now }
         ensures long { length self.new ≡ length self.old }
@@ -79,8 +79,8 @@ impl Marks {
         }
     }
 
-    // Marks the nodes from which the steps lead by symbols of the set to the nodes that are marked behind. Goes once over
-    // the steps.
+    // Marks the nodes from which the steps lead by symbols of the set to the nodes that are marked behind. Goes once
+    // over the steps.
     pub fn put_before(&mut self, steps: &[Step], set: &SymbolSet, behind: &Marks)
         requires { All (λ s. s.from < length self.old) steps.now }
         ensures long { length self.new ≡ length self.old }

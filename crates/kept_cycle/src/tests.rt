@@ -121,7 +121,7 @@ fn undo(rt: &impl Abort, prop: &mut CycleProp, problem: &Problem, doms: &mut Dom
     prop.undone(doms);
 }
 
-// What is seen of full domains, of a first position that has the day's shift alone, and of full domains once more.
+// What is seen of full domains, of a first position that has the day's shift alone, and of full domains again.
 fn looks(rt: &impl Abort, alloc: Global, weeks: u32) -> Result<[Seen; 3], Fail> {
     let problem = problem(alloc, weeks)?;
     let mut doms = Domains::new(alloc, &problem)?;

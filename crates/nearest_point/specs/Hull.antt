@@ -1,5 +1,6 @@
 -- What callers see of a hull.
 use Rattle.std.specs.Prelude.{ℕ, List, [], ◌∷◌, ℤ}
+use Rattle.nearest_point.specs.declared.hull.TheConstants.{SCALE}
 
 -- the vectors of whole numbers in the order in which they came, and beside each its part of the mix
 pub record Mix : Type 0 where
@@ -8,5 +9,5 @@ pub record Mix : Type 0 where
 
 -- the part with which a vector comes: the first is the whole mix
 abbrev pub first_part : List ℕ → ℕ
-first_part [] = 1048576
+first_part [] = SCALE
 first_part (part ∷ parts) = 0

@@ -85,8 +85,8 @@ impl Hull {
         &self.parts
     }
 
-    /// What leads from the mix to the nearest point of the box, a number for each coordinate: 0 everywhere where the mix
-    /// lies in the box, and where there is no vector.
+    /// What leads from the mix to the nearest point of the box, a number for each coordinate: 0 everywhere where the
+    /// mix lies in the box, and where there is no vector.
     pub fn off(&self) -> &[i64] {
         &self.off
     }
@@ -125,7 +125,7 @@ impl Hull {
         Ok(())
     }
 
-    /// Brings the mix nearer to the box by at most so many steps; fewer where no step brings it nearer.
+    /// Brings the mix nearer to the box by at most `steps` steps; fewer where no step brings it nearer.
     /// Cost of a step: a pass over all vectors.
     pub fn descend(&mut self, steps: u32)
         ensures vectors { self.new.vectors ≡ self.old.vectors }
@@ -209,14 +209,14 @@ fn measure(pulls: &mut [i64], vectors: &[Vector], off: &[i64]) {
     }
 }
 
-// Adds so many parts of a vector to the mix.
+// Adds some parts of a vector to the mix.
 fn add(mix: &mut [i64], vector: &[i64], part: u32) {
     for (sum, x) in mix.iter_mut().zip(vector.iter()) {
         *sum = sum.wrapping_add(x.wrapping_mul(i64::from(part)));
     }
 }
 
-// Takes so many parts of a vector out of the mix.
+// Takes some parts of a vector out of the mix.
 fn take_out(mix: &mut [i64], vector: &[i64], part: u32) {
     for (sum, x) in mix.iter_mut().zip(vector.iter()) {
         *sum = sum.wrapping_sub(x.wrapping_mul(i64::from(part)));

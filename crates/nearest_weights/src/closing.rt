@@ -11,6 +11,7 @@ use crate::sweep::Sweep;
 use domain_store::Domains;
 use refutation_terms::Line;
 use rwsp_model::Problem;
+use rwsp_terms::limits::LONGEST_WORD;
 use std::alloc::{AllocError, Global};
 use word_tail::TailRules;
 
@@ -29,7 +30,7 @@ pub fn found_leaf(
     requires belongs { BelongsTo problem.now doms.now }
     requires position { field.place.now.position < cells problem.now }
     requires some { (1 ≤ turns.first) × (turns.first ≤ turns.most) }
-    requires few { turns.most * cells problem.now ≤ 16800 }
+    requires few { turns.most * cells problem.now ≤ LONGEST_WORD }
     ensures { IfOk result (λ r. IfSome r.0 (IsHoldingLeaf problem.now (has_domain doms.now))) }
 {
     let days = turns.most.wrapping_mul(problem.cells());
@@ -59,7 +60,7 @@ fn small_leaf(
     requires belongs { BelongsTo problem.now doms.now }
     requires position { field.place.now.position < cells problem.now }
     requires some { 1 ≤ turns }
-    requires few { turns * cells problem.now ≤ 16800 }
+    requires few { turns * cells problem.now ≤ LONGEST_WORD }
     ensures { IfOk result (λ found. IfSome found (IsHoldingLeaf problem.now (has_domain doms.now))) }
 {
     let p = field.place.position;

@@ -65,7 +65,7 @@ impl Demand {
     }
 }
 
-// Each number so many times.
+// Each number times `turns`.
 pub fn times(alloc: Global, numbers: &[i64], turns: u32) -> Result<Vec<i64>, AllocError> {
     let mut products = Vec::new(alloc);
     for number in numbers {

@@ -11,8 +11,9 @@ use crate::demand::Shape;
 use domain_store::Domains;
 use potential_bounds::{heaviest, total};
 use refutation_terms::Line;
-use rwsp_model::{Problem, Weights};
-use rwsp_terms::Symbol;
+use rwsp_model::Problem;
+use rwsp_terms::{Symbol, Weights};
+use rwsp_terms::limits::{GREATEST_WEIGHT, LONGEST_WORD, MOST_DAYS, MOST_SHIFTS, MOST_SYMBOLS, MOST_WEEKS};
 use std::alloc::{AllocError, Global};
 use word_tail::TailRules;
 
@@ -32,7 +33,7 @@ pub fn leaf_of(
     requires belongs { BelongsTo problem.now doms.now }
     requires position { p < cells problem.now }
     requires some { 1 ≤ turns }
-    requires few { turns * cells problem.now ≤ 16800 }
+    requires few { turns * cells problem.now ≤ LONGEST_WORD }
     ensures { IfOk result (λ found. IfSome found (IsHoldingLeaf problem.now (has_domain doms.now))) }
 {
     problem.keeps_limits();
@@ -49,7 +50,7 @@ pub fn leaf_of(
     }))
 }
 
-// Whether each clean word of so many turns from position `p` on weighs less than so many times the total.
+// Whether each clean word of `turns` turns, from position `p` on, weighs less than `turns` times the total.
 fn is_too_light(
     alloc: Global,
     problem: &Problem,
@@ -63,7 +64,7 @@ fn is_too_light(
     requires belongs { BelongsTo problem.now doms.now }
     requires position { p < cells problem.now }
     requires some { 1 ≤ turns }
-    requires few { turns * cells problem.now ≤ 16800 }
+    requires few { turns * cells problem.now ≤ LONGEST_WORD }
     ensures { IfOk result (λ light.
         IsTrue light → IsTooLight problem.now (has_domain doms.now) p turns tails.now.rules weights.now) }
 {
@@ -78,11 +79,11 @@ fn is_too_light(
     }
 }
 
-// Whether the weight is less than so many times the total.
+// Whether the weight is less than `turns` times the total.
 fn is_less(weight: i64, turns: u32, total: i64) -> bool
-    requires few { turns ≤ 16800 }
-    requires above { neg_ℤ (pos 1209600000) ≤ℤ total }
-    requires below { total ≤ℤ pos 1209600000 }
+    requires few { turns ≤ LONGEST_WORD }
+    requires above { neg_ℤ (pos (GREATEST_WEIGHT * MOST_WEEKS * MOST_SHIFTS * MOST_SYMBOLS * MOST_DAYS)) ≤ℤ total }
+    requires below { total ≤ℤ pos (GREATEST_WEIGHT * MOST_WEEKS * MOST_SHIFTS * MOST_SYMBOLS * MOST_DAYS) }
     ensures { IsTrue result → weight <ℤ (pos turns *ℤ total) }
 {
     weight < i64::from(turns) * total
@@ -122,8 +123,9 @@ fn put_day(
 
 // The number in the range of weights.
 fn as_weight(value: i64) -> i32
-    ensures low { neg_ℤ (pos 1000) ≤ℤ result }
-    ensures high { result ≤ℤ pos 1000 }
+    ensures low { neg_ℤ (pos GREATEST_WEIGHT) ≤ℤ result }
+    ensures high { result ≤ℤ pos GREATEST_WEIGHT }
 {
-    value.max(-1000).min(1000) as i32
+    let greatest = i64::from(GREATEST_WEIGHT);
+    value.max(-greatest).min(greatest) as i32
 }

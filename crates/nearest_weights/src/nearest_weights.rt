@@ -10,10 +10,12 @@ use crate::closing::found_leaf;
 use crate::demand::{Demand, Shape};
 use crate::search::{Effort, Field, Turns};
 use crate::sweep::{MOST_CHOICES, Place};
-use crate::words::{MOST_DAYS, Words};
+use crate::words::Words;
 use domain_store::Domains;
 use refutation_terms::Line;
-use rwsp_model::{Problem, RuleList, short_rules};
+use rwsp_model::{Problem, short_rules};
+use rwsp_terms::RuleList;
+use rwsp_terms::limits::LONGEST_WORD;
 use std::alloc::{AllocError, Global};
 use std::marker::Model;
 use word_tail::TailRules;
@@ -28,13 +30,13 @@ const WITHIN: Effort = Effort {
     steps: 60,
 };
 
-// Words at the top have about so many days, since the free ends of a word weigh in once.
+// Words at the top have about this many days: the longer a word, the less its free ends weigh in.
 const DAYS_AT_TOP: u32 = 1500;
 
 // Within a tree no leaf is looked for where a roster has more cells.
 const MOST_CELLS_WITHIN: u32 = 700;
 
-// Within a tree words begin in the middle of the decided positions, of which so many count at most.
+// Within a tree words begin in the middle of the first decided positions; at most this many of them count.
 const MOST_DECIDED: u32 = 28;
 
 /// A search for bound leaves of a problem, with all its short rules.
@@ -177,11 +179,11 @@ fn rules_of(alloc: Global, problem: &Problem) -> Result<RuleList, AllocError>
 
 // How many turns there are layers and room for.
 fn turns_within(words: &Words, problem: &Problem) -> u32
-    ensures { result * cells problem.now ≤ 16800 }
+    ensures { result * cells problem.now ≤ LONGEST_WORD }
 {
     problem.keeps_limits();
     let room = MOST_CHOICES / words.nodes().max(1);
-    room.min(words.days()).min(MOST_DAYS) / problem.cells()
+    room.min(words.days()).min(LONGEST_WORD) / problem.cells()
 }
 
 // In the middle of the first positions that have one symbol each, so that words from there begin and end among them.

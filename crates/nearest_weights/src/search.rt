@@ -5,10 +5,8 @@ use crate::demand::{Demand, times};
 use crate::sweep::{Place, Sweep};
 use crate::words::Words;
 use nearest_point::{Hull, SCALE};
+use rwsp_terms::limits::GREATEST_WEIGHT;
 use std::alloc::{AllocError, Global};
-
-// Weights go up to this.
-pub const GREATEST: i64 = 1000;
 
 // How many words are tried, and how many steps are taken toward the demand after each.
 #[derive(Clone, Copy, Debug, Drop)]
@@ -24,7 +22,7 @@ pub struct Turns {
     pub most: u32,
 }
 
-// More turns are tried with the present weights once in so many rounds.
+// After this many rounds, more turns are tried with the present weights.
 const ROUNDS_PER_TRY: u32 = 16;
 
 // In one search no more steps of layers are looked at than this.
@@ -39,18 +37,18 @@ pub struct Field<'a> {
 }
 
 impl<'a> Field<'a> {
-    // What the heaviest word of so many turns weighs. None where there is no word.
+    // What the heaviest word of `turns` turns weighs. None where there is no word.
     fn heaviest(&self, sweep: &mut Sweep, weights: &[i64], turns: u32) -> Option<i64> {
         let days = turns.wrapping_mul(self.place.shape.cells);
         sweep.heaviest(self.words, self.place, days, weights)
     }
 
-    // Whether a word of so many turns weighs less than the demand asks for.
+    // Whether a word of `turns` turns weighs less than the demand asks for.
     fn is_light(&self, word: i64, weights: &[i64], turns: u32) -> bool {
         word < self.demand.total(weights).wrapping_mul(i64::from(turns))
     }
 
-    // Whether there are words of so many turns, and each weighs less than the demand asks for.
+    // Whether there are words of `turns` turns, and each weighs less than the demand asks for.
     pub fn closes(&self, sweep: &mut Sweep, weights: &[i64], turns: u32) -> bool {
         match self.heaviest(sweep, weights, turns) {
             Some(word) => self.is_light(word, weights, turns),
@@ -59,9 +57,9 @@ impl<'a> Field<'a> {
     }
 }
 
-// Looks for weights whose bound holds for so many turns or more, beginning with these weights: the turns for which it
-// does, as it seems, with the weights that are left there. Each round finds the heaviest word by the weights, and the
-// next weights lead from the nearest mix of the words so far to the demand (C. Holloway, 1974).
+// Looks for weights whose bound holds for `turns.first` turns or more, beginning with these weights: the turns for
+// which it does, as it seems, with the weights that are left there. Each round finds the heaviest word by the
+// weights, and the next weights lead from the nearest mix of the words so far to the demand (C. Holloway, 1974).
 pub fn search(
     alloc: Global,
     field: Field<'_>,
@@ -128,7 +126,7 @@ fn more_turns(field: Field<'_>, sweep: &mut Sweep, weights: &[i64], turns: Turns
     None
 }
 
-// Weights in the direction that leads to the demand, the greatest of them `GREATEST`.
+// Weights in the direction that leads to the demand, the greatest of them `GREATEST_WEIGHT`.
 // None where the mix is nearly there.
 fn direction(alloc: Global, off: &[i64]) -> Result<Option<Vec<i64>>, AllocError> {
     let most = greatest(off);
@@ -137,7 +135,7 @@ fn direction(alloc: Global, off: &[i64]) -> Result<Option<Vec<i64>>, AllocError>
     }
     let mut weights = Vec::new(alloc);
     for x in off {
-        let weight = x.saturating_mul(GREATEST).checked_div(most).unwrap_or(0);
+        let weight = x.saturating_mul(i64::from(GREATEST_WEIGHT)).checked_div(most).unwrap_or(0);
         weights.push(weight)?;
     }
     Ok(Some(weights))

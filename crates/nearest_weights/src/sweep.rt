@@ -84,7 +84,7 @@ pub struct Sweep {
 }
 
 impl Sweep {
-    // Room for words of so many days.
+    // Room for words of at most `days` days.
     pub fn of(alloc: Global, words: &Words, days: u32) -> Result<Sweep, AllocError> {
         let width = words.nodes();
         Ok(Sweep {
@@ -95,7 +95,7 @@ impl Sweep {
         })
     }
 
-    // What the heaviest word of so many days weighs. None where there is no word.
+    // What the heaviest word of `days` days weighs. None where there is no word.
     // Cost: a step each for each step of each day.
     pub fn heaviest(
         &mut self,

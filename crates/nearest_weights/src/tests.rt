@@ -18,7 +18,7 @@ const ONE: Bounds = Bounds {
     greatest: 1,
 };
 
-// Four weeks of one day, of which so many hold D.
+// Four weeks of one day, of which `weeks_with_day` hold D.
 fn parts_of(alloc: Global, weeks_with_day: u32) -> Result<Parts, AllocError> {
     let demand = Bounds {
         least: weeks_with_day,

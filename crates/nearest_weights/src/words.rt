@@ -1,13 +1,11 @@
 // The clean words over all symbols.
 use domain_store::Domains;
 use layered_cycle::{Layer, Layers, Step};
+use rwsp_terms::limits::LONGEST_WORD;
 use std::alloc::{AllocError, Global};
 use word_tail::TailRules;
 
-/// Words in bound leaves have at most so many days.
-pub const MOST_DAYS: u32 = 16_800;
-
-// Layers are made of so many days first, and of twice as many as long as they don't come again.
+// Layers are made of this many days first, and then of twice as many, until they repeat.
 const FIRST_DAYS: u32 = 64;
 
 // No more steps are kept, so that a problem with very many tails takes neither time nor memory.
@@ -38,18 +36,18 @@ impl Words {
             }
             let period = period_of(layers.layers());
             words = Some(Words { layers, period });
-            if period.is_some() || days == MOST_DAYS {
+            if period.is_some() || days == LONGEST_WORD {
                 return Ok(words);
             }
-            days = (2 * days).min(MOST_DAYS);
+            days = (2 * days).min(LONGEST_WORD);
         }
         Ok(words)
     }
 
-    // Layers are there for so many days.
+    // The number of days for which there are layers.
     pub fn days(&self) -> u32 {
         match self.period {
-            Some(_) => MOST_DAYS,
+            Some(_) => LONGEST_WORD,
             None => self.layers.len(),
         }
     }
@@ -79,7 +77,7 @@ impl Words {
         self.layers.node_counts().iter().copied().max().unwrap_or(0)
     }
 
-    // How many steps there are in a pass over so many days.
+    // The number of steps in a pass over `days` days.
     pub fn steps_within(&self, days: u32) -> u64 {
         let mut sum: u64 = 0;
         for day in 0..days {
@@ -107,7 +105,7 @@ fn period_of(layers: &[Layer]) -> Option<usize> {
     None
 }
 
-// Whether each layer of the second half is the same as the one so many days before.
+// Whether each layer of the second half is the same as the one `period` days before.
 fn comes_again(layers: &[Layer], period: usize) -> bool {
     let half = layers.len() / 2;
     let later = layers.iter().skip(half);

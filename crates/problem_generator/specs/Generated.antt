@@ -23,7 +23,9 @@ shifts = shift (codes "D") 360 7 ∷ shift (codes "A") 840 6 ∷ shift (codes "N
 
 -- no earlier shift follows a later one
 abbrev pub pairs : List (Symbol × Symbol)
-pairs = (symbol_numbered 3, symbol_numbered 1) ∷ (symbol_numbered 3, symbol_numbered 2) ∷ (symbol_numbered 2, symbol_numbered 1) ∷ []
+pairs =
+    (symbol_numbered 3, symbol_numbered 1) ∷ (symbol_numbered 3, symbol_numbered 2) ∷
+    (symbol_numbered 2, symbol_numbered 1) ∷ []
 
 -- weeks of seven days with this demand, 2 to 4 days off and 4 to 7 days of work in a row
 abbrev pub problem_with : ℕ → List (List Bounds) → Instance

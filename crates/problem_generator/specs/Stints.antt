@@ -32,8 +32,8 @@ stint_of_days x days = record {
   pattern = pattern_of (drawn_between (next_state x) 0 2);
 }
 
--- a stint where this many days are left: it takes them all if they are at most 11, else one draw gives its length, so that 6 days or more
--- stay
+-- a stint where this many days are left: it takes them all if they are at most 11, else one draw gives its length, so
+-- that 6 days or more stay
 abbrev pub drawn_stint : ℕ → ℕ → Stint
 drawn_stint x left =
     if nat_le left 11 then stint_of_days x left
@@ -43,8 +43,9 @@ drawn_stint x left =
 abbrev pub IsUsual : Stint → Type 0
 IsUsual t = (4 ≤ t.work) × (t.work ≤ 7) × (2 ≤ t.off) × (t.off ≤ 4)
 
--- the stints that a number gives for some days. Each takes three draws, but for the last, and is drawn where its own days and those of the
--- stints behind it are left
+-- the stints that a number gives for some days. Each but the last takes three draws, and it is drawn where its own
+-- days and those of the stints behind it are left
 pub record AreStints (number days : ℕ) (ts : List Stint) : Type 0 where
   pub whole : total_days ts ≡ days
-  pub each : (i : ℕ) (d : Stint) → i < length ts → slice_index_or ts i d ≡ drawn_stint (state_after number (3 * i)) (total_days (drop i ts))
+  pub each : (i : ℕ) (d : Stint) → i < length ts
+      → slice_index_or ts i d ≡ drawn_stint (state_after number (3 * i)) (total_days (drop i ts))

@@ -1,12 +1,12 @@
 // Problems by their numbers.
 ghost use Rattle.std.specs.Prelude.{◌≡◌, ◌≤◌, IfOk};
 ghost use Rattle.rwsp_model.specs.Parts.{instance_of};
-ghost use Rattle.rwsp_model.specs.Validity.{IsValid};
 ghost use Rattle.problem_generator.specs.Generated.{shift, shifts, pairs, problem_with, IsGenerated};
 
 use crate::counts::demand_of;
 use crate::hidden::{AFTERNOON, DAY, NIGHT, roster_of, stints_of};
 use rwsp_model::{Parts, Problem};
+use rwsp_terms::limits::MOST_WEEKS;
 use rwsp_terms::{Bounds, DemandRow, Name, ShiftRow, Symbol};
 use std::alloc::{AllocError, Global};
 
@@ -72,25 +72,15 @@ fn parts_with(alloc: Global, weeks: u32, demand: Vec<DemandRow>) -> Result<Parts
     })
 }
 
-fn problem_of(parts: Parts) -> Problem
-    requires { IsValid (instance_of parts) }
-    ensures { result ≡ instance_of parts }
-{
-    match Problem::of(parts) {
-        Ok(problem) => problem,
-        Err(_) => unreachable!(),
-    }
-}
-
-/// The problem of a number: three shifts over weeks of seven days, where the demand is what a hidden roster holds. The roster is
-/// made of stints of 6 to 11 days, by the draws that the number begins. The cost grows with the cells, at most 4,200.
+/// The problem of a number: three shifts over weeks of seven days, where the demand is what a hidden roster holds.
+/// The roster is made of stints of 6 to 11 days, by the draws that the number begins. The cost grows with the cells.
 pub fn gen_problem(alloc: Global, number: u32, weeks: u32) -> Result<Problem, AllocError>
-    requires { (1 ≤ weeks) × (weeks ≤ 600) }
+    requires { (1 ≤ weeks) × (weeks ≤ MOST_WEEKS) }
     ensures { IfOk result (IsGenerated number weeks) }
 {
     let stints = stints_of(alloc, number, weeks * DAYS)?;
     let cells = roster_of(alloc, &stints)?;
     let demand = demand_of(alloc, &cells, weeks)?;
     let parts = parts_with(alloc, weeks, demand)?;
-    Ok(problem_of(parts))
+    Ok(Problem::of_valid(parts))
 }

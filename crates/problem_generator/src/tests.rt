@@ -18,7 +18,8 @@
 ghost use Rattle.std.specs.Prelude.{◌≤◌};
 
 use crate::gen_problem;
-use rwsp_model::{Problem, Symbol};
+use rwsp_model::Problem;
+use rwsp_terms::Symbol;
 use std::alloc::{AllocError, Global};
 use std::test::Fail;
 

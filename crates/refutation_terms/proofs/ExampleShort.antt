@@ -1,5 +1,6 @@
 -- All rules on blocks of the examples are short, and what is clean for all short rules.
 use Rattle.std.proofs.Common.{◌≡◌, ℕ, ◌<◌, ◌≤◌, List, refl, ap, arith, Some, lit<}
+use Rattle.rwsp_terms.specs.declared.limits.TheConstants.{GREATEST_SHORT_BOUND}
 use Rattle.rwsp_terms.specs.declared.data.Bounds.{Bounds}
 use Rattle.rwsp_terms.specs.declared.data.Symbol.{Symbol}
 use Rattle.rwsp_terms.specs.declared.data.Rule.{Rule}
@@ -18,7 +19,7 @@ one_shift_is x h = let a : 0 < x.number = h.0 in let b : x.number ≤ 1 = h.1 in
 
 -- bounds whose rules are short
 abbrev pub AreNear : Bounds → Type 0
-AreNear b = (b.greatest ≤ 30) × (b.least ≤ 30)
+AreNear b = (b.greatest ≤ GREATEST_SHORT_BOUND) × (b.least ≤ GREATEST_SHORT_BOUND)
 
 -- the six rules on blocks
 six_are_short : (days weeks : ℕ) (demand : List Bounds) (block off work : Bounds) (r : Rule) → IsRule (one_shift days weeks demand block off work) r → IsShort (one_shift days weeks demand block off work) r → Names (one_shift days weeks demand block off work) short_rules r

@@ -1,5 +1,5 @@
 -- The line that a line of text was written from.
-use Rattle.std.proofs.Common.{◌≡◌, ℕ, zero, suc, ◌+◌, ◌*◌, ◌/◌, ◌%◌, ◌^◌, ◌<◌, ◌≤◌, List, [], ◌∷◌, ◌++◌, length, get_or, refl, ap, sym, ◌∙◌, subst, arith, Bool, true, false, pos, negsuc, ℤ}
+use Rattle.std.proofs.Common.{◌≡◌, ℕ, zero, suc, ◌+◌, ◌*◌, ◌/◌, ◌%◌, ◌^◌, ◌<◌, ◌≤◌, List, [], ◌∷◌, ◌++◌, length, get_or, refl, ap, sym, ◌∙◌, subst, arith, Bool, true, false, pos, negsuc, neg_ℤ, ℤ}
 use Rattle.std.specs.Prelude.{codes, ◌≤ℤ◌}
 use Rattle.std.specs.List.{AllByRecursion, flat_map}
 use Rattle.std.specs.Int.Signed.{mag}
@@ -8,6 +8,7 @@ use Rattle.std.proofs.lemmas.Fmt.{decimal_injective, signed_decimal_injective}
 use Rattle.std.proofs.lemmas.Int.{ints}
 use Rattle.std.proofs.lemmas.Nat.{mod_below, div-add-mod'}
 use Rattle.std.proofs.Math.Nat.{div-lt_iff_lt-mul}
+use Rattle.rwsp_terms.specs.declared.limits.TheConstants.{LONGEST_WORD, GREATEST_WEIGHT}
 use Rattle.rwsp_terms.specs.Instance.{Instance, cells, IsDay}
 use Rattle.rwsp_terms.specs.Rules.{rules}
 use Rattle.rwsp_terms.proofs.Elements.{all_to}
@@ -20,7 +21,7 @@ use Rattle.refutation_terms.proofs.TextParts.{IsField, AreFields, AreDigits, dec
 abbrev pub Fits64 : ℕ → Type 0
 Fits64 n = n < 2 ^ 64
 
-small_number : (n : ℕ) → n ≤ 16800 → Fits64 n
+small_number : (n : ℕ) → n ≤ LONGEST_WORD → Fits64 n
 small_number n h = omega (arith, h)
 
 wide_number : (n : ℕ) → n < 2 ^ 32 → Fits64 (n + 1)
@@ -105,13 +106,13 @@ lists_same (k ∷ R) (m ∷ Q) xs ys hr hq e =
     record { lists = (let whole : k ∷ R ≡ m ∷ Q = cc in whole); rests = more.rests }
 
 -- weights
-mag_small : (z : ℤ) → negsuc 999 ≤ℤ z → z ≤ℤ pos 1000 → mag z < 2 ^ 63
-mag_small (pos n) a b = let le : n ≤ 1000 = omega (arith, ints) in omega (arith, le)
-mag_small (negsuc n) a b = let le : n ≤ 999 = omega (arith, ints) in omega (arith, le)
+mag_small : (z : ℤ) → neg_ℤ (pos GREATEST_WEIGHT) ≤ℤ z → z ≤ℤ pos GREATEST_WEIGHT → mag z < 2 ^ 63
+mag_small (pos n) a b = let le : n ≤ GREATEST_WEIGHT = omega (arith, ints) in omega (arith, le)
+mag_small (negsuc n) a b = let le : n < GREATEST_WEIGHT = omega (arith, ints) in omega (arith, le)
 
-signed_is_field : (z : ℤ) → negsuc 999 ≤ℤ z → z ≤ℤ pos 1000 → IsField (signed_decimal z)
-signed_is_field (pos n) a b = let le : n ≤ 1000 = omega (arith, ints) in decimal_is_field n (omega (arith, le))
-signed_is_field (negsuc n) a b = let le : n ≤ 999 = omega (arith, ints) in ((λ e. omega (arith, e), λ e. omega (arith, e)), decimal_is_field (suc n) (omega (arith, le)))
+signed_is_field : (z : ℤ) → neg_ℤ (pos GREATEST_WEIGHT) ≤ℤ z → z ≤ℤ pos GREATEST_WEIGHT → IsField (signed_decimal z)
+signed_is_field (pos n) a b = let le : n ≤ GREATEST_WEIGHT = omega (arith, ints) in decimal_is_field n (omega (arith, le))
+signed_is_field (negsuc n) a b = let le : n < GREATEST_WEIGHT = omega (arith, ints) in ((λ e. omega (arith, e), λ e. omega (arith, e)), decimal_is_field (suc n) (omega (arith, le)))
 
 pub day_small : (P : Instance) (j : ℕ) → IsWritable P → IsDay P j → Fits64 j
 day_small P j w h = let le : j ≤ P.days = h.1 in let lt : P.days < 2 ^ 32 = w.0 in omega (arith, le, lt)
@@ -140,7 +141,7 @@ le_times : (t c : ℕ) → 0 < c → t ≤ t * c
 le_times t zero h = absurd (omega (arith, h))
 le_times t (suc c) h = let e : t * suc c ≡ t + t * c = omega arith in omega (arith, e)
 
-turns_small : (P : Instance) (p turns : ℕ) → p < cells P → turns * cells P ≤ 16800 → Fits64 turns
+turns_small : (P : Instance) (p turns : ℕ) → p < cells P → turns * cells P ≤ LONGEST_WORD → Fits64 turns
 turns_small P p turns lt le =
     let some : 0 < cells P = omega (arith, lt) in
     let less : turns ≤ turns * cells P = le_times turns (cells P) some in

@@ -23,11 +23,13 @@ pub record IsLeastClean (P : Instance) (D : Domains) (p len : ℕ) (R : List ℕ
   pub least : (v : List Symbol) → IsCleanOver P D p len R v → ComesFirst u v
 
 -- one of the heaviest of these words
-pub record IsHeaviest (P : Instance) (D : Domains) (p len : ℕ) (R : List ℕ) (y : List Weight) (u : List Symbol) : Type 0 where
+pub record IsHeaviest (P : Instance) (D : Domains) (p len : ℕ) (R : List ℕ) (y : List Weight)
+    (u : List Symbol) : Type 0 where
   pub clean : IsCleanOver P D p len R u
   pub heaviest : (v : List Symbol) → IsCleanOver P D p len R v → weight P y p v ≤ℤ weight P y p u
 
 -- the least of the heaviest
-pub record IsLeastHeaviest (P : Instance) (D : Domains) (p len : ℕ) (R : List ℕ) (y : List Weight) (u : List Symbol) : Type 0 where
+pub record IsLeastHeaviest (P : Instance) (D : Domains) (p len : ℕ) (R : List ℕ) (y : List Weight)
+    (u : List Symbol) : Type 0 where
   pub heavy : IsHeaviest P D p len R y u
   pub least : (v : List Symbol) → IsHeaviest P D p len R y v → ComesFirst u v

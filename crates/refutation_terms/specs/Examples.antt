@@ -44,21 +44,25 @@ abbrev pub two_in_a_row : Instance
 two_in_a_row = one_shift 2 1 (from_to 1 1 ∷ from_to 1 1 ∷ []) (from_to 1 1) (from_to 1 1) (from_to 1 1)
 
 abbrev pub two_in_a_row_log : Log
-two_in_a_row_log = record { named = 1 ∷ 7 ∷ 8 ∷ []; turn = None; lines = Bound 0 1 (1 ∷ []) (weighs 1 ∷ weighs 2 ∷ []) ∷ [] }
+two_in_a_row_log =
+    record { named = 1 ∷ 7 ∷ 8 ∷ []; turn = None; lines = Bound 0 1 (1 ∷ []) (weighs 1 ∷ weighs 2 ∷ []) ∷ [] }
 
 abbrev pub two_in_a_row_text : List ℕ
-two_in_a_row_text = text (codes "rwsp-log 1" ∷ codes "rules 1 7 8" ∷ codes "bound 1 1 1 rules 1 weights 1 D 1 2 D 1" ∷ [])
+two_in_a_row_text =
+    text (codes "rwsp-log 1" ∷ codes "rules 1 7 8" ∷ codes "bound 1 1 1 rules 1 weights 1 D 1 2 D 1" ∷ [])
 
 -- two D in four cells, each alone between two days off
 abbrev pub two_of_four : Instance
 two_of_four = one_shift 1 4 (from_to 2 2 ∷ []) (from_to 1 1) (from_to 2 2) (from_to 1 4)
 
--- a bound over so many turns, under a header
+-- a bound over some turns, under a header
 abbrev pub two_of_four_log : List ℕ → ℕ → Log
-two_of_four_log named turns = record { named = named; turn = None; lines = Bound 0 turns (1 ∷ 3 ∷ 4 ∷ []) (weighs 1 ∷ []) ∷ [] }
+two_of_four_log named turns =
+    record { named = named; turn = None; lines = Bound 0 turns (1 ∷ 3 ∷ 4 ∷ []) (weighs 1 ∷ []) ∷ [] }
 
 abbrev pub two_of_four_text : List ℕ
-two_of_four_text = text (codes "rwsp-log 1" ∷ codes "rules 1 3 4 7" ∷ codes "bound 1 1 2 rules 1 3 4 weights 1 D 1" ∷ [])
+two_of_four_text =
+    text (codes "rwsp-log 1" ∷ codes "rules 1 3 4 7" ∷ codes "bound 1 1 2 rules 1 3 4 weights 1 D 1" ∷ [])
 
 -- three D in six cells, in blocks of two
 abbrev pub three_of_six : Instance
@@ -71,14 +75,18 @@ abbrev pub split_log : Log
 split_log = record { named = 1 ∷ 2 ∷ 3 ∷ 4 ∷ []; turn = None; lines = Split 0 shift_D ∷ blocks_dead ∷ blocks_dead ∷ [] }
 
 abbrev pub split_text : List ℕ
-split_text = text (codes "rwsp-log 1" ∷ codes "rules 1 2 3 4" ∷ codes "split 1 1 D" ∷ codes "dead 1 1 7 rules 1 2 3 4" ∷ codes "dead 1 1 7 rules 1 2 3 4" ∷ [])
+split_text =
+    text (codes "rwsp-log 1" ∷ codes "rules 1 2 3 4" ∷ codes "split 1 1 D" ∷ codes "dead 1 1 7 rules 1 2 3 4" ∷
+    codes "dead 1 1 7 rules 1 2 3 4" ∷ [])
 
 -- the same with a turn in place of the split
 abbrev pub turn_log : Log
-turn_log = record { named = 1 ∷ 2 ∷ 3 ∷ 4 ∷ 7 ∷ []; turn = Some (record { day = 1; x = shift_D }); lines = blocks_dead ∷ [] }
+turn_log =
+    record { named = 1 ∷ 2 ∷ 3 ∷ 4 ∷ 7 ∷ []; turn = Some (record { day = 1; x = shift_D }); lines = blocks_dead ∷ [] }
 
 abbrev pub turn_text : List ℕ
-turn_text = text (codes "rwsp-log 2" ∷ codes "rules 1 2 3 4 7" ∷ codes "turn D 1" ∷ codes "dead 1 1 7 rules 1 2 3 4" ∷ [])
+turn_text =
+    text (codes "rwsp-log 2" ∷ codes "rules 1 2 3 4 7" ∷ codes "turn D 1" ∷ codes "dead 1 1 7 rules 1 2 3 4" ∷ [])
 
 -- the same, not worked out
 abbrev pub open_log : Log
@@ -92,9 +100,12 @@ abbrev pub one_cell_log : Log
 one_cell_log = record { named = 3 ∷ 5 ∷ []; turn = None; lines = Split 0 shift_D ∷ Window 5 0 8 ∷ Window 3 0 2 ∷ [] }
 
 abbrev pub one_cell_text : List ℕ
-one_cell_text = text (codes "rwsp-log 1" ∷ codes "rules 3 5" ∷ codes "split 1 1 D" ∷ codes "window 5 1 1 8" ∷ codes "window 3 1 1 2" ∷ [])
+one_cell_text =
+    text (codes "rwsp-log 1" ∷ codes "rules 3 5" ∷ codes "split 1 1 D" ∷ codes "window 5 1 1 8" ∷
+    codes "window 3 1 1 2" ∷ [])
 
--- texts that are refused: a bound over one turn, sides that weren't worked out, a tree that is cut, a line behind a tree, a split that is idle, a turn whose day isn't named
+-- texts that are refused: a bound over one turn, sides that weren't worked out, a tree that is cut, a line behind a
+-- tree, a split that is idle, a turn whose day isn't named
 abbrev pub one_turn_text : List ℕ
 one_turn_text = text (codes "rwsp-log 1" ∷ codes "rules 1 3 4 7" ∷ codes "bound 1 1 1 rules 1 3 4 weights 1 D 1" ∷ [])
 
@@ -102,7 +113,8 @@ abbrev pub open_text : List ℕ
 open_text = text (codes "rwsp-log 1" ∷ codes "rules" ∷ codes "split 1 1 D" ∷ codes "open" ∷ codes "open" ∷ [])
 
 abbrev pub cut_text : List ℕ
-cut_text = text (codes "rwsp-log 1" ∷ codes "rules 1 2 3 4" ∷ codes "split 1 1 D" ∷ codes "dead 1 1 7 rules 1 2 3 4" ∷ [])
+cut_text =
+    text (codes "rwsp-log 1" ∷ codes "rules 1 2 3 4" ∷ codes "split 1 1 D" ∷ codes "dead 1 1 7 rules 1 2 3 4" ∷ [])
 
 abbrev pub extra_text : List ℕ
 extra_text = split_text ++ text (codes "open" ∷ [])
@@ -111,7 +123,8 @@ abbrev pub idle_text : List ℕ
 idle_text = text (codes "rwsp-log 1" ∷ codes "rules 1" ∷ codes "split 1 1 D" ∷ codes "split 1 1 D" ∷ [])
 
 abbrev pub unnamed_turn_text : List ℕ
-unnamed_turn_text = text (codes "rwsp-log 2" ∷ codes "rules 1 2 3 4" ∷ codes "turn D 1" ∷ codes "dead 1 1 7 rules 1 2 3 4" ∷ [])
+unnamed_turn_text =
+    text (codes "rwsp-log 2" ∷ codes "rules 1 2 3 4" ∷ codes "turn D 1" ∷ codes "dead 1 1 7 rules 1 2 3 4" ∷ [])
 
 -- no D is demanded, so a turn to D isn't allowed
 abbrev pub none_demanded : Instance
@@ -130,7 +143,8 @@ weight_of day symbol value = record { day = day; symbol = record { number = symb
 
 -- the weights that the search finds in round 2 for D on both days: D for more, days off for less
 abbrev pub searched_weights : List Weight
-searched_weights = weight_of 1 0 (negsuc 0) ∷ weight_of 1 1 (pos 1) ∷ weight_of 2 0 (negsuc 0) ∷ weight_of 2 1 (pos 1) ∷ []
+searched_weights =
+    weight_of 1 0 (negsuc 0) ∷ weight_of 1 1 (pos 1) ∷ weight_of 2 0 (negsuc 0) ∷ weight_of 2 1 (pos 1) ∷ []
 
 -- D weighs so much on each of two days
 abbrev pub on_both_days : ℤ → List Weight
@@ -171,11 +185,14 @@ abbrev pub pairs_log : Log
 pairs_log = record {
   named = 7 ∷ 8 ∷ 10 ∷ [];
   turn = None;
-  lines = Split 0 shift_D ∷ Split 1 shift_D ∷ Day 1 shift_D true ∷ Window 7 0 2 ∷ Split 1 shift_D ∷ Window 8 0 2 ∷ Day 1 shift_D false ∷ [];
+  lines = Split 0 shift_D ∷ Split 1 shift_D ∷ Day 1 shift_D true ∷ Window 7 0 2 ∷ Split 1 shift_D ∷ Window 8 0 2 ∷
+      Day 1 shift_D false ∷ [];
 }
 
 abbrev pub pairs_text : List ℕ
-pairs_text = text (codes "rwsp-log 1" ∷ codes "rules 7 8 10" ∷ codes "split 1 1 D" ∷ codes "split 2 1 D" ∷ codes "day 1 D over" ∷ codes "window 7 1 1 2" ∷ codes "split 2 1 D" ∷ codes "window 8 1 1 2" ∷ codes "day 1 D short" ∷ [])
+pairs_text =
+    text (codes "rwsp-log 1" ∷ codes "rules 7 8 10" ∷ codes "split 1 1 D" ∷ codes "split 2 1 D" ∷ codes "day 1 D over" ∷
+    codes "window 7 1 1 2" ∷ codes "split 2 1 D" ∷ codes "window 8 1 1 2" ∷ codes "day 1 D short" ∷ [])
 
 -- behind a turn to D a pair and a triple leave no word of three days
 abbrev pub triple_log : Log
@@ -185,16 +202,24 @@ triple_log = record {
   lines = Dead 0 3 (7 ∷ 9 ∷ []) ∷ [];
 }
 
--- three cells in blocks of one, with any number of D. No roster has both a day off and D behind each other all round, since three is odd
+-- three cells in blocks of one, with any number of D. No roster has both a day off and D behind each other all round,
+-- since three is odd
 abbrev pub odd_cycle : Instance
 odd_cycle = one_shift 1 3 (from_to 0 3 ∷ []) (from_to 1 1) (from_to 1 1) (from_to 1 1)
 
 -- a split of the first cell, with both sides dead
 abbrev pub odd_log : Log
-odd_log = record { named = 1 ∷ 3 ∷ []; turn = None; lines = Split 0 shift_D ∷ Dead 0 4 (1 ∷ 3 ∷ []) ∷ Dead 0 4 (1 ∷ 3 ∷ []) ∷ [] }
+odd_log =
+    record {
+      named = 1 ∷ 3 ∷ [];
+      turn = None;
+      lines = Split 0 shift_D ∷ Dead 0 4 (1 ∷ 3 ∷ []) ∷ Dead 0 4 (1 ∷ 3 ∷ []) ∷ [];
+    }
 
 abbrev pub odd_text : List ℕ
-odd_text = text (codes "rwsp-log 1" ∷ codes "rules 1 3" ∷ codes "split 1 1 D" ∷ codes "dead 1 1 4 rules 1 3" ∷ codes "dead 1 1 4 rules 1 3" ∷ [])
+odd_text =
+    text (codes "rwsp-log 1" ∷ codes "rules 1 3" ∷ codes "split 1 1 D" ∷ codes "dead 1 1 4 rules 1 3" ∷
+    codes "dead 1 1 4 rules 1 3" ∷ [])
 
 -- a turn to D on day 1
 abbrev pub turn_to_D : Option Turn
@@ -202,15 +227,30 @@ turn_to_D = Some (record { day = 1; x = shift_D })
 
 -- a split where two turns are dead already
 abbrev pub late_dead_log : Log
-late_dead_log = record { named = 1 ∷ 2 ∷ 3 ∷ 4 ∷ 7 ∷ []; turn = turn_to_D; lines = Split 1 shift_D ∷ blocks_dead ∷ blocks_dead ∷ [] }
+late_dead_log =
+    record {
+      named = 1 ∷ 2 ∷ 3 ∷ 4 ∷ 7 ∷ [];
+      turn = turn_to_D;
+      lines = Split 1 shift_D ∷ blocks_dead ∷ blocks_dead ∷ [];
+    }
 
 -- a split where day 1 has too few D already
 abbrev pub late_day_log : Log
-late_day_log = record { named = 7 ∷ []; turn = turn_to_D; lines = Split 1 shift_D ∷ Day 1 shift_D false ∷ Day 1 shift_D false ∷ [] }
+late_day_log =
+    record {
+      named = 7 ∷ [];
+      turn = turn_to_D;
+      lines = Split 1 shift_D ∷ Day 1 shift_D false ∷ Day 1 shift_D false ∷ [];
+    }
 
 -- a split at the top where D weighing 1 on both days is too light already
 abbrev pub late_bound_log : Log
-late_bound_log = record { named = 1 ∷ 7 ∷ 8 ∷ []; turn = turn_to_D; lines = Split 1 shift_D ∷ Window 1 0 2 ∷ Day 2 shift_D false ∷ [] }
+late_bound_log =
+    record {
+      named = 1 ∷ 7 ∷ 8 ∷ [];
+      turn = turn_to_D;
+      lines = Split 1 shift_D ∷ Window 1 0 2 ∷ Day 2 shift_D false ∷ [];
+    }
 
 -- two cells in which no D may stand, with blocks of any length
 abbrev pub none_wanted : Instance
@@ -218,4 +258,5 @@ none_wanted = one_shift 1 2 (from_to 0 0 ∷ []) (from_to 1 9) (from_to 1 9) (fr
 
 -- a split on the day off, which the first cell may hold, where it can't hold D
 abbrev pub free_split_log : Log
-free_split_log = record { named = []; turn = None; lines = Split 0 (record { number = 0 }) ∷ Unfinished ∷ Unfinished ∷ [] }
+free_split_log =
+    record { named = []; turn = None; lines = Split 0 (record { number = 0 }) ∷ Unfinished ∷ Unfinished ∷ [] }

@@ -34,9 +34,11 @@ WalksReadTrees = (lines : List Line) → (after_trees 1 lines ≡ Some []) ↔ I
 
 -- the walk finds the side that a line is in
 abbrev pub SidesAreAsSaid : Type 0
-SidesAreAsSaid = (between : List Line) → ((side between ≡ First) ↔ InFirst between) × ((side between ≡ Second) ↔ InSecond between)
+SidesAreAsSaid =
+    (between : List Line) → ((side between ≡ First) ↔ InFirst between) × ((side between ≡ Second) ↔ InSecond between)
 
--- the splits among the earlier lines leave z at p: it equals x for each `split p x` in whose first side the line behind them is, and differs from x for each in whose second side it is
+-- the splits among the earlier lines leave z at p: it equals x for each `split p x` in whose first side the line
+-- behind them is, and differs from x for each in whose second side it is
 abbrev pub SplitsLeave : List Line → ℕ → ℕ → Type 0
 SplitsLeave earlier p z =
     (before between : List Line) (x : Symbol) → earlier ≡ before ++ Split p x ∷ between
@@ -117,7 +119,7 @@ MeetsWeighedDays P y s = (j : ℕ) → IsDay P j → HasWeight y j → MeetsDay 
 abbrev pub HasSingleNumbers : Instance → List Weight → Type 0
 HasSingleNumbers P y = (j x : ℕ) → IsDay P j → HasWeight y j → x ≤ shift_count P → least P x j ≡ greatest P x j
 
--- a window of so many turns of a roster that meets these days weighs at least so many times the total
+-- a window of some turns of a roster that meets these days weighs at least the total times the turns
 abbrev pub WindowsWeighEnough : Type 0
 WindowsWeighEnough =
     (P : Instance) (y : List Weight) (s : List Symbol) (p turns : ℕ) → IsRoster P s → MeetsWeighedDays P y s
@@ -126,7 +128,8 @@ WindowsWeighEnough =
 -- and exactly so where their demand is in single numbers
 abbrev pub WindowsWeighExactly : Type 0
 WindowsWeighExactly =
-    (P : Instance) (y : List Weight) (s : List Symbol) (p turns : ℕ) → IsRoster P s → MeetsWeighedDays P y s → HasSingleNumbers P y
+    (P : Instance) (y : List Weight) (s : List Symbol) (p turns : ℕ) → IsRoster P s → MeetsWeighedDays P y s
+    → HasSingleNumbers P y
     → weight P y p (window s p (turns * cells P)) ≡ pos turns *ℤ total P y
 
 -- turning a roster by whole weeks keeps every rule met, and every rule not met

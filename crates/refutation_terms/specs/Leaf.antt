@@ -31,12 +31,15 @@ HasTooFew P D j x = pos (possible P D j x) <ℤ least P x j
 
 -- the number is that of a rule for which every word of this length from p on is bad. No day's rule has bad words
 abbrev pub IsBlocked : Instance → Domains → ℕ → ℕ → ℕ → Type 0
-IsBlocked P D number p len = (r : Rule) × (rule_of P number ≡ Some r) × ((u : List Symbol) → length u ≡ len → Over P D p u → Bad P r u)
+IsBlocked P D number p len =
+    (r : Rule) × (rule_of P number ≡ Some r) × ((u : List Symbol) → length u ≡ len → Over P D p u → Bad P r u)
 
 -- no word of this length from p on is clean for the rules
 abbrev pub IsDead : Instance → Domains → ℕ → ℕ → List ℕ → Type 0
 IsDead P D p len R = (u : List Symbol) → length u ≡ len → Over P D p u → Clean P R u → ⊥
 
--- every clean word of so many turns from p on weighs less than so many times the total
+-- every clean word of this number of turns, from p on, weighs less than the total times the turns
 abbrev pub IsTooLight : Instance → Domains → ℕ → ℕ → List ℕ → List Weight → Type 0
-IsTooLight P D p turns R y = (u : List Symbol) → length u ≡ turns * cells P → Over P D p u → Clean P R u → weight P y p u <ℤ (pos turns *ℤ total P y)
+IsTooLight P D p turns R y =
+    (u : List Symbol) → length u ≡ turns * cells P → Over P D p u → Clean P R u
+    → weight P y p u <ℤ (pos turns *ℤ total P y)

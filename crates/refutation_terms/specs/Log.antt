@@ -4,6 +4,7 @@ use Rattle.rwsp_terms.specs.declared.data.Weight.{Weight}
 use Rattle.rwsp_terms.specs.declared.data.Rule.{Rule}
 use Rattle.rwsp_terms.specs.declared.data.Rule.TheVariants as TheRules
 use Rattle.std.specs.List.Sorted.{IsStrictlyIncreasing}
+use Rattle.rwsp_terms.specs.declared.limits.TheConstants.{LONGEST_WORD}
 use Rattle.rwsp_terms.specs.Instance.{Instance, cells, least, IsSymbol, IsDay}
 use Rattle.rwsp_terms.specs.Rules.{rules, Names, NamesShortOnly}
 use Rattle.rwsp_terms.specs.Weights.{weight_at, AreWeights}
@@ -22,7 +23,7 @@ pub record Log : Type 0 where
 
 -- the lengths of words that a leaf may speak of
 abbrev pub IsLength : ℕ → Type 0
-IsLength len = (0 < len) × (len ≤ 16800)
+IsLength len = (0 < len) × (len ≤ LONGEST_WORD)
 
 -- ascending numbers of rules of the problem
 abbrev pub AreRules : Instance → List ℕ → Type 0
@@ -122,7 +123,9 @@ pub record Passes (P : Instance) (g : Log) : Type 0 where
 
 -- the header names no rule that neither a line nor the turn cites
 abbrev pub NamesOnlyCited : Instance → Log → Type 0
-NamesOnlyCited P g = (r : Rule) → Names P g.named r → TurnCites g.turn r ⊎ ((k : ℕ) × (line : Line) × (slice_get g.lines k ≡ Some line) × Cites P line r)
+NamesOnlyCited P g =
+    (r : Rule) → Names P g.named r
+    → TurnCites g.turn r ⊎ ((k : ℕ) × (line : Line) × (slice_get g.lines k ≡ Some line) × Cites P line r)
 
 -- every line but an unfinished one
 abbrev pub is_worked : Line → Bool
@@ -137,7 +140,8 @@ is_worked (Bound p turns R y) = true
 abbrev pub size : Log → ℕ
 size g = count_by is_worked g.lines
 
--- one whole tree, of which the first lines use up the budget and hold, and all further lines, one at least, are unfinished
+-- one whole tree, of which the first lines use up the budget and hold, and all further lines, one at least, are
+-- unfinished
 pub record IsSpent (P : Instance) (g : Log) (budget : ℕ) : Type 0 where
   pub grounded : IsGrounded P g
   pub tree : IsTree g.lines

@@ -1,8 +1,9 @@
 -- The text of a log, and which line a text spells.
-use Rattle.std.specs.Prelude.{◌≡◌, ◌≢◌, ℕ, ◌+◌, ◌*◌, ◌/◌, ◌%◌, ◌<◌, ◌≤◌, List, [], ◌∷◌, ◌++◌, length, map, All, AllPairs, Bool, true, false, Option, Some, None, IfSome, ℤ, pos, negsuc, ◌≤ℤ◌, codes}
+use Rattle.std.specs.Prelude.{◌≡◌, ◌≢◌, ℕ, ◌+◌, ◌*◌, ◌/◌, ◌%◌, ◌<◌, ◌≤◌, List, [], ◌∷◌, ◌++◌, length, map, All, AllPairs, Bool, true, false, Option, Some, None, IfSome, ℤ, pos, neg_ℤ, ◌≤ℤ◌, codes}
 use Rattle.std.specs.List.{join_with_byte, concat, flat_map}
 use Rattle.std.specs.Fmt.{decimal, signed_decimal}
 use Rattle.std.specs.Option.{option_map}
+use Rattle.rwsp_terms.specs.declared.limits.TheConstants.{GREATEST_WEIGHT}
 use Rattle.rwsp_terms.specs.declared.data.Symbol.{Symbol}
 use Rattle.rwsp_terms.specs.declared.data.Weight.{Weight}
 use Rattle.rwsp_terms.specs.Instance.{Instance, cells, IsDay, symbol_of, name_of}
@@ -64,7 +65,9 @@ fields P (RawSplit p name) = codes "split" ∷ place P p ++ (name ∷ [])
 fields P (RawWindow rule p len) = codes "window" ∷ decimal rule ∷ place P p ++ (decimal len ∷ [])
 fields P (RawDay day name over) = codes "day" ∷ decimal day ∷ name ∷ way over ∷ []
 fields P (RawDead p len R) = codes "dead" ∷ place P p ++ (decimal len ∷ codes "rules" ∷ numbers R)
-fields P (RawBound p turns R y) = codes "bound" ∷ place P p ++ (decimal turns ∷ codes "rules" ∷ numbers R) ++ (codes "weights" ∷ flat_map weight_fields y)
+fields P (RawBound p turns R y) =
+    codes "bound" ∷ place P p ++ (decimal turns ∷ codes "rules" ∷ numbers R)
+    ++ (codes "weights" ∷ flat_map weight_fields y)
 fields P RawUnfinished = codes "open" ∷ []
 
 -- fields with one blank between each two, and LF at the end
@@ -102,9 +105,11 @@ pub record IsName (name : List ℕ) : Type 0 where
   pub some : 0 < length name
   pub visible : All (λ b. (b ≢ 32) × (b ≢ 9) × (b ≢ 13) × (b ≢ 10)) name
 
--- a value from -1000 to 1000 that isn't 0, on a day of the problem
+-- a value that isn't 0, from the least weight to the greatest, on a day of the problem
 abbrev pub WeightIsInRange : Instance → NamedWeight → Type 0
-WeightIsInRange P e = IsDay P e.day × IsName e.name × (negsuc 999 ≤ℤ e.value) × (e.value ≤ℤ pos 1000) × (e.value ≢ pos 0)
+WeightIsInRange P e =
+    IsDay P e.day × IsName e.name × (neg_ℤ (pos GREATEST_WEIGHT) ≤ℤ e.value) × (e.value ≤ℤ pos GREATEST_WEIGHT)
+    × (e.value ≢ pos 0)
 
 -- the numbers of a written line are in their ranges, its lists of rules ascend, and its names are names
 abbrev pub IsInRange : Instance → RawLine → Type 0
@@ -112,7 +117,8 @@ IsInRange P (RawSplit p name) = (p < cells P) × IsName name
 IsInRange P (RawWindow rule p len) = (0 < rule) × (rule ≤ length (rules P)) × (p < cells P) × IsLength len
 IsInRange P (RawDay day name over) = IsDay P day × IsName name
 IsInRange P (RawDead p len R) = (p < cells P) × IsLength len × AreRules P R
-IsInRange P (RawBound p turns R y) = (p < cells P) × IsLength (turns * cells P) × AreRules P R × All (WeightIsInRange P) y
+IsInRange P (RawBound p turns R y) =
+    (p < cells P) × IsLength (turns * cells P) × AreRules P R × All (WeightIsInRange P) y
 IsInRange P RawUnfinished = Unit {0}
 
 -- a weight with a symbol for its name, before further weights

@@ -18,7 +18,8 @@ use Rattle.refutation_terms.specs.Escape.{IsLeastHeaviest}
 
 -- some window leaf of the problem holds
 abbrev pub SomeWindowHolds : Instance → Domains → Type 0
-SomeWindowHolds P D = (number : ℕ) × (p : ℕ) × (len : ℕ) × LineFits P (Window number p len) × Holds P D (Window number p len)
+SomeWindowHolds P D =
+    (number : ℕ) × (p : ℕ) × (len : ℕ) × LineFits P (Window number p len) × Holds P D (Window number p len)
 
 -- some day leaf of the problem holds
 abbrev pub SomeDayHolds : Instance → Domains → Type 0
@@ -26,9 +27,11 @@ SomeDayHolds P D = (j : ℕ) × (x : Symbol) × (over : Bool) × LineFits P (Day
 
 -- no word of two turns that is clean for the list has the symbol at the position
 abbrev pub NoWordHas : Instance → Domains → List ℕ → ℕ → Symbol → Type 0
-NoWordHas P D R p x = (u : List Symbol) → length u ≡ 2 * cells P → Over P D 0 u → Clean P R u → slice_get u p ≡ Some x → ⊥
+NoWordHas P D R p x =
+    (u : List Symbol) → length u ≡ 2 * cells P → Over P D 0 u → Clean P R u → slice_get u p ≡ Some x → ⊥
 
--- a symbol is spent at a position where another is left there too, and a day leaf holds once it is alone there, or no word has it there
+-- a symbol is spent at a position where another is left there too, and a day leaf holds once it is alone there, or no
+-- word has it there
 pub record IsSpentAt (P : Instance) (D : Domains) (R : List ℕ) (p : ℕ) (x : Symbol) : Type 0 where
   pub position : p < cells P
   pub left : is_idle P D p x.number ≡ false
@@ -36,7 +39,8 @@ pub record IsSpentAt (P : Instance) (D : Domains) (R : List ℕ) (p : ℕ) (x : 
 
 -- the weights that are v for each of some shifts on every day
 abbrev pub weights_on : Instance → List ℕ → ℤ → List Weight
-weights_on P xs v = flat_map (λ j. map (λ x. record { day = j; symbol = symbol_numbered x; value = v }) xs) (range_with_len 1 P.days)
+weights_on P xs v =
+    flat_map (λ j. map (λ x. record { day = j; symbol = symbol_numbered x; value = v }) xs) (range_with_len 1 P.days)
 
 -- first +1, then -1
 abbrev pub both_signs : Instance → List ℕ → List (List Weight)
@@ -44,9 +48,12 @@ both_signs P xs = weights_on P xs (pos 1) ∷ weights_on P xs (negsuc 0) ∷ []
 
 -- the plain bounds: +1 and -1 on all shifts, then on each shift alone
 abbrev pub plain_bounds : Instance → List (List Weight)
-plain_bounds P = both_signs P (range_with_len 1 (shift_count P)) ++ flat_map (λ x. both_signs P (x ∷ [])) (range_with_len 1 (shift_count P))
+plain_bounds P =
+    both_signs P (range_with_len 1 (shift_count P))
+    ++ flat_map (λ x. both_signs P (x ∷ [])) (range_with_len 1 (shift_count P))
 
--- a weight goes down by one where a word has the symbol on the day above its greatest demand, and up by one where below its least
+-- a weight goes down by one where a word has the symbol on the day above its greatest demand, and up by one where
+-- below its least
 abbrev pub step : Instance → List Weight → List Symbol → ℕ → ℕ → ℤ
 step P y h j x =
     if int_lt (greatest P x j) (pos (weeks_with P h x j)) then weight_at y j x -ℤ pos 1
@@ -97,7 +104,8 @@ IsFirstTurn P (Some t) =
     IsDemanded P t.day t.x
     × ((j : ℕ) (x : Symbol) → IsDemanded P j x → (t.day < j) ⊎ ((t.day ≡ j) × (t.x.number ≤ x.number)))
 
--- what is so at each split of a sharp log: no window or day leaf holds, two turns aren't dead, and it splits on a spent symbol where there is one
+-- what holds at each split of a sharp log: no window or day leaf holds, two turns aren't dead, and it splits on a
+-- spent symbol where there is one
 pub record IsSharpSplit (P : Instance) (D : Domains) (R : List ℕ) (p : ℕ) (x : Symbol) : Type 0 where
   pub no_window : SomeWindowHolds P D → ⊥
   pub no_day : SomeDayHolds P D → ⊥
@@ -108,6 +116,7 @@ pub record IsSharpSplit (P : Instance) (D : Domains) (R : List ℕ) (p : ℕ) (x
 pub record IsSharp (P : Instance) (g : Log) : Type 0 where
   pub short : List ℕ
   pub all_short : NamesShortRules P short
-  pub splits : (k p : ℕ) (x : Symbol) → slice_get g.lines k ≡ Some (Split p x) → IsSharpSplit P (domains_at P g.turn g.lines k) short p x
+  pub splits : (k p : ℕ) (x : Symbol) → slice_get g.lines k ≡ Some (Split p x)
+      → IsSharpSplit P (domains_at P g.turn g.lines k) short p x
   pub top : (line : Line) → slice_get g.lines 0 ≡ Some line → IsUndecided line → NoBoundHolds P (opening P g.turn) short
   pub turn : IsFirstTurn P g.turn

@@ -39,13 +39,14 @@ strip P number g = record {
 abbrev pub StripsTo : Instance → List ℕ → Log → Log → Type 0
 StripsTo P [] g h = g ≡ h
 StripsTo P (number ∷ rest) g h =
-    (Passes P (strip P number g) × StripsTo P rest (strip P number g) h) ⊎ ((Passes P (strip P number g) → ⊥) × StripsTo P rest g h)
+    (Passes P (strip P number g) × StripsTo P rest (strip P number g) h)
+    ⊎ ((Passes P (strip P number g) → ⊥) × StripsTo P rest g h)
 
 -- a descent goes through the rules that are named at its start, from the highest number down
 abbrev pub DescendsTo : Instance → Log → Log → Type 0
 DescendsTo P g h = StripsTo P (reverse g.named) g h
 
--- so many descents that drop a rule, and then one that drops none
+-- this number of descents that drop a rule, and then one that drops none
 abbrev pub ReducesIn : Instance → ℕ → Log → Log → Type 0
 ReducesIn P zero g h = DescendsTo P g g × (g ≡ h)
 ReducesIn P (suc n) g h = (next : Log) × DescendsTo P g next × (next ≢ g) × ReducesIn P n next h

@@ -1,4 +1,5 @@
--- Laws of the texts of lines: what is spelled is a line of the problem and has one spelling, and each line of the problem is spelled.
+-- Laws of the texts of lines: what is spelled is a line of the problem and has one spelling, and each line of the
+-- problem is spelled.
 use Rattle.std.specs.Prelude.{◌≡◌, ℕ, ◌<◌, ◌^◌, List, length, Some, Result}
 use Rattle.rwsp_terms.specs.declared.data.Symbol.{Symbol}
 use Rattle.rwsp_terms.specs.Instance.{Instance, IsSymbol, symbol_of, name_of}

@@ -73,7 +73,8 @@ side_takes First same = same
 side_takes Second same = not same
 side_takes Neither same = true
 
--- what a line leaves of the domains at a later line in this side of it: a split bears on its own position, a leaf on none
+-- what a line leaves of the domains at a later line in this side of it: a split bears on its own position, a leaf on
+-- none
 abbrev pub line_leaves : Line → Side → Domains
 line_leaves (Split q x) s p z = not (q == p) || side_takes s (z == x.number)
 line_leaves (Window number q len) s p z = true

@@ -49,7 +49,8 @@ IsPlainLeaf Unfinished = ⊥
 -- the word that shows that a dead or a bound leaf doesn't hold
 abbrev pub Escapes : Instance → Domains → Line → List Symbol → Type 0
 Escapes P D (Dead p len R) w = IsLeastClean P D p len R w
-Escapes P D (Bound p turns R y) w = IsLeastHeaviest P D p (turns * cells P) R y w × ((pos turns *ℤ total P y) ≤ℤ weight P y p w)
+Escapes P D (Bound p turns R y) w =
+    IsLeastHeaviest P D p (turns * cells P) R y w × ((pos turns *ℤ total P y) ≤ℤ weight P y p w)
 Escapes P D (Split p x) w = ⊥
 Escapes P D (Window rule p len) w = ⊥
 Escapes P D (Day j x over) w = ⊥
@@ -89,9 +90,11 @@ LeafFails P named D bytes = (line : Line) × SpellsNamed P named bytes line × I
 
 -- it is a dead or a bound leaf that this word escapes
 abbrev pub LeafEscaped : Instance → List ℕ → Domains → List ℕ → List Symbol → Type 0
-LeafEscaped P named D bytes w = (line : Line) × SpellsNamed P named bytes line × ListsShortOnly P line × Escapes P D line w
+LeafEscaped P named D bytes w =
+    (line : Line) × SpellsNamed P named bytes line × ListsShortOnly P line × Escapes P D line w
 
--- why a line of the tree is refused as text line n, under these rules and domains. Where a cause applies no lower one does
+-- why a line of the tree is refused as text line n, under these rules and domains. Where a cause applies no lower one
+-- does
 abbrev pub TreeCause : Instance → List ℕ → Domains → ℕ → List ℕ → LogRefusal → Type 0
 TreeCause P named D n bytes (Refusals.Form i) = (i ≡ n) × SpellsNothing P bytes
 TreeCause P named D n bytes (Refusals.Name i) = (i ≡ n) × SpellsUnknown P bytes
@@ -121,11 +124,14 @@ TurnsTo P bytes day x = (name : List ℕ) × SpellsTurn P bytes name day × (sym
 
 -- the day of the turn isn't named, and this is the number of its rule
 abbrev pub TurnsUnnamed : Instance → List ℕ → List ℕ → ℕ → Type 0
-TurnsUnnamed P named bytes k = (day : ℕ) × (x : Symbol) × TurnsTo P bytes day x × IsLeast (IsUnnamed P named (λ r. r ≡ TheRules.Day day)) k
+TurnsUnnamed P named bytes k =
+    (day : ℕ) × (x : Symbol) × TurnsTo P bytes day x × IsLeast (IsUnnamed P named (λ r. r ≡ TheRules.Day day)) k
 
 -- the day is named, but no week must hold the symbol
 abbrev pub TurnsToUndemanded : Instance → List ℕ → List ℕ → Type 0
-TurnsToUndemanded P named bytes = (day : ℕ) × (x : Symbol) × TurnsTo P bytes day x × Names P named (TheRules.Day day) × (least P x.number day <ℤ pos 1)
+TurnsToUndemanded P named bytes =
+    (day : ℕ) × (x : Symbol) × TurnsTo P bytes day x × Names P named (TheRules.Day day)
+    × (least P x.number day <ℤ pos 1)
 
 -- why the line of a turn is refused, which is line 3
 abbrev pub TurnCause : Instance → List ℕ → List ℕ → LogRefusal → Type 0
@@ -145,7 +151,8 @@ abbrev pub VersionCause : List ℕ → LogRefusal → Type 0
 VersionCause bytes (Refusals.Form i) = (i ≡ 1) × ((has_turn : Bool) → bytes ≢ version_text has_turn)
 VersionCause bytes why = ⊥
 
--- the front of a text that has been read: nothing, the version, the rules of version 2 whose turn is to come, or a whole header with some lines
+-- the front of a text that has been read: nothing, the version, the rules of version 2 whose turn is to come, or a
+-- whole header with some lines
 pub data Front : Type 0 where
   Start : Front
   Versioned : (has_turn : Bool) → Front
@@ -194,7 +201,8 @@ Cause P (Versioned has_turn) bytes why = RulesCause P bytes why
 Cause P (BeforeTurn named) bytes why = TurnCause P named bytes why
 Cause P (Reading g) bytes why =
     let n = header_lines g.turn + length g.lines + 1 in
-    (IsTree g.lines × ExtraCause n why) ⊎ ((IsTree g.lines → ⊥) × TreeCause P g.named (domains_at P g.turn g.lines (length g.lines)) n bytes why)
+    (IsTree g.lines × ExtraCause n why)
+    ⊎ ((IsTree g.lines → ⊥) × TreeCause P g.named (domains_at P g.turn g.lines (length g.lines)) n bytes why)
 
 -- no byte is LF
 abbrev pub HasNoFeed : List ℕ → Type 0
@@ -202,9 +210,10 @@ HasNoFeed bytes = All (λ b. b ≢ 10) bytes
 
 -- the bytes are a line of a text with its LF, or the end of a text without one
 abbrev pub IsNextLine : List ℕ → List ℕ → Type 0
-IsNextLine line rest = ((body : List ℕ) × HasNoFeed body × (line ≡ body ++ 10 ∷ [])) ⊎ ((line ≢ []) × HasNoFeed line × (rest ≡ []))
+IsNextLine line rest =
+    ((body : List ℕ) × HasNoFeed body × (line ≡ body ++ 10 ∷ [])) ⊎ ((line ≢ []) × HasNoFeed line × (rest ≡ []))
 
--- the text goes on behind a front without a cause with a line that has this one
+-- a front of the text has no cause, and the line behind it has this one
 pub record IsRefusedLine (P : Instance) (text : List ℕ) (why : LogRefusal) : Type 0 where
   pub front : Front
   pub line : List ℕ

@@ -37,14 +37,16 @@ pub record Within (P : Instance) (D : Domains) (s : List Symbol) : Type 0 where
 abbrev pub turned : Instance → ℕ → List Symbol → List Symbol
 turned P k s = window s (k * P.days) (cells P)
 
--- a word whose symbols are in the domains of the positions from p on, round the cycle. Where it passes a position twice it may take two symbols there
+-- a word whose symbols are in the domains of the positions from p on, round the cycle. Where it passes a position
+-- twice it may take two symbols there
 abbrev pub Over : Instance → Domains → ℕ → List Symbol → Type 0
 Over P D p [] = Unit {0}
 Over P D p (x ∷ u) = IsTrue (D (p % cells P) x.number) × Over P D (p + 1) u
 
 -- no part of the word is bad for a rule that the list names
 abbrev pub Clean : Instance → List ℕ → List Symbol → Type 0
-Clean P R u = (before part after : List Symbol) → u ≡ before ++ part ++ after → (r : Rule) → Names P R r → Bad P r part → ⊥
+Clean P R u =
+    (before part after : List Symbol) → u ≡ before ++ part ++ after → (r : Rule) → Names P R r → Bad P r part → ⊥
 
 -- the sum of what each day of a word from position p on weighs
 abbrev pub weight : Instance → List Weight → ℕ → List Symbol → ℤ
@@ -62,4 +64,7 @@ least_weight P y j x = int_min (weight_at y j x *ℤ least P x j) (weight_at y j
 
 -- the least that a roster can weigh which meets the demand, summed over all days and symbols
 abbrev pub total : Instance → List Weight → ℤ
-total P y = int_sum_by (λ j. int_sum_by (λ x. least_weight P y j x) (range_with_len 0 (shift_count P + 1))) (range_with_len 1 P.days)
+total P y =
+    int_sum_by
+    (λ j. int_sum_by (λ x. least_weight P y j x) (range_with_len 0 (shift_count P + 1)))
+    (range_with_len 1 P.days)

@@ -1,5 +1,5 @@
-// The definitions tried on small problems. Each function's contract says that a log passes or doesn't, is sharp, spent or
-// reduced, what its text is, the verdict on a text, or what the search for weights finds.
+// The definitions tried on small problems. Each function's contract says that a log passes or doesn't, is sharp,
+// spent or reduced, what its text is, the verdict on a text, or what the search for weights finds.
 ghost use Rattle.std.specs.Prelude.{◌≡◌, ℕ, List, [], ◌∷◌, Ok, Err};
 ghost use Rattle.refutation_terms.specs.Word.{full};
 ghost use Rattle.refutation_terms.specs.Log.{Passes, IsSpent, size};
@@ -88,8 +88,8 @@ pub fn a_split_is_sharp()
     ensures sharp { IsSharp odd_cycle odd_log }
 {}
 
-/// A log isn't sharp that splits where two turns are dead, where a day leaf holds, at the top where a plain bound holds, or
-/// on a symbol that isn't spent beside one that is; nor is one without a turn where a shift is demanded.
+/// A log isn't sharp that splits where two turns are dead, where a day leaf holds, at the top where a plain bound
+/// holds, or on a symbol that isn't spent beside one that is; nor is one without a turn where a shift is demanded.
 pub fn blunt_logs_are_not_sharp()
     ensures dead { IsSharp three_of_six late_dead_log → ⊥ }
     ensures day { IsSharp two_on_day_one late_day_log → ⊥ }

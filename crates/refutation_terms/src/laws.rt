@@ -23,8 +23,8 @@ pub fn windows_are_clean()
     ensures { WindowsAreClean }
 {}
 
-/// A window of whole turns of a roster that meets the days weighs at least so many times the total; with single
-/// numbers exactly so.
+/// A window of whole turns of a roster that meets the days weighs at least the total for each turn, and exactly that
+/// where each demand is a single number.
 pub fn windows_weigh_enough()
     ensures enough { WindowsWeighEnough }
     ensures exactly { WindowsWeighExactly }

@@ -4,6 +4,5 @@
 pub mod examples;
 pub mod laws;
 mod lines;
-mod sharing;
 
 pub use lines::{Line, LogRefusal, Turn};

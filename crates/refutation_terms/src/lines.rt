@@ -1,4 +1,5 @@
-// The lines of a log, its turn, and the causes for which a log is refused. Positions count from 0, days and rules from 1.
+// The lines of a log, its turn, and the causes for which a log is refused. Positions count from 0, days and rules
+// from 1.
 use rwsp_terms::{RuleList, Symbol, Weights, Word};
 
 /// A line of a log: a split of the cases in two, or a leaf that closes a case.
@@ -27,7 +28,8 @@ pub enum Line {
         len: u32,
         rules: RuleList,
     },
-    /// Every clean word of so many turns from position `p` weighs less than the demand asks for.
+    /// Every clean word of `turns` rounds through all weeks, from position `p` on, weighs less than the demand asks
+    /// for.
     Bound {
         p: u32,
         turns: u32,
@@ -70,4 +72,13 @@ pub enum LogRefusal {
     Extra(u32),
     /// The symbol of the turn need not be there in any week.
     Turn(u32),
+}
+
+// Lines of a log and causes of a refusal may be sent to other threads and shared with them.
+fn shared<T: Send + Sync>(_: &T) {}
+
+fn lines_are_shared(line: &Line, turn: &Turn, why: &LogRefusal) {
+    shared(line);
+    shared(turn);
+    shared(why);
 }

@@ -7,7 +7,7 @@ use std::alloc::{AllocError, Global};
 /// So many new cuts are made at most at a time.
 const MOST_CUTS: usize = 20;
 
-/// A part of the layer counts that holds so many days at least, or a week where that is longer, and leaves as many
+/// A part of the layer counts that holds this many days at least, or a week where that is longer, and leaves as many
 /// outside.
 const FEWEST_DAYS: usize = 7;
 
@@ -163,9 +163,9 @@ fn whole_flow(used: &[Used]) -> i64 {
     sum
 }
 
-/// Adds cuts round the parts that hold and leave days enough and are left by less than three quarters of a use. Nodes are
-/// joined to parts by the steps of the greatest shares first. Whether there are new cuts.
-/// Costs for each step with a share a look at all of them and at each node on each weekday.
+/// Adds cuts round the parts that hold and leave days enough and are left by less than three quarters of a use. Nodes
+/// are joined to parts by the steps of the greatest shares first. Whether there are new cuts. Costs for each step
+/// with a share a look at all of them and at each node on each weekday.
 pub(crate) fn add_cuts(
     alloc: Global,
     setting: &Setting,

@@ -4,7 +4,7 @@ use crate::setting::Setting;
 use crate::walk::Walk;
 use std::alloc::{AllocError, Global};
 
-/// A window of a cyclic word: so many days from a position on.
+/// A window of a cyclic word: some days from a position on.
 #[derive(Clone, Copy, Debug)]
 pub(crate) struct Window {
     pub start: usize,
@@ -27,7 +27,7 @@ impl Draft {
         })
     }
 
-    /// Counts the days of a window and the blocks that begin in it or right behind it, each so many times.
+    /// Counts the days of a window and the blocks that begin in it or right behind it, each `times` times.
     pub fn count(&mut self, window: Window, times: i64) {
         let mut at = window.start;
         for _ in 0..window.len {

@@ -20,25 +20,25 @@ use std::mem;
 /// Rosters of fewer days are left to searches that distinguish cases.
 const FEWEST_CELLS: u32 = 14;
 
-/// At most so many windows are rewritten.
+/// The most windows that are rewritten.
 const MOST_MOVES: usize = 320_000;
 
-/// Where a layer has many steps, so many divided by their number, since each move looks at each step.
+/// Where a layer has many steps, this divided by their number, since each move looks at each step.
 const MOST_STEP_MOVES: usize = 36_000_000;
 
-/// Where the shares don't hang together, at most so many.
+/// The most windows that are rewritten where the shares don't hang together.
 const MOST_LOOSE_MOVES: usize = 32_000;
 
-/// After so many moves new shares are made.
+/// After this many moves new shares are made.
 const SHARES_FOR: usize = 16_000;
 
 /// All shares but the first ones are blurred by random numbers below this.
 const SHARES_NOISE: usize = 3_000;
 
-/// After so many moves a new word is begun.
+/// After this many moves a new word is begun.
 const WORD_FOR: usize = 4_000;
 
-/// It is the best of so many start words.
+/// A word is begun with the best of this many start words.
 const STARTS: usize = 16;
 
 /// The first start word is led also by random numbers below this.
@@ -50,7 +50,7 @@ const MORE_NOISE: usize = 200;
 /// What a block too many or too few counts in the choice of start words, where a cell counts 1.
 const BLOCK_OFF: i64 = 30;
 
-/// After so many moves without a new best the counters that are off weigh more.
+/// After this many moves without a new best the counters that are off weigh more.
 const PATIENCE: usize = 200;
 
 /// So many cells of words that meet the demand and yet break a rule of long blocks end the search.
@@ -230,7 +230,7 @@ impl Finder {
         drawn
     }
 
-    // At most so many moves are made.
+    // At most this many moves are made.
     fn most_moves(&self) -> usize {
         let most = if self.shares.hang_together {
             MOST_MOVES
@@ -316,10 +316,10 @@ fn roster_of(problem: &Problem, cells: Vec<Symbol>) -> Option<Roster>
 
 /// A roster that meets every rule, or None. None says nothing: another search may find one.
 ///
-/// A fractional roster is found first, that is, how often each step of clean words is taken on each weekday in the mean
-/// (G. Dantzig and P. Wolfe's generation of columns, 1960). Words that follow it meet the demand nearly; windows of them
-/// are then rewritten, each by the clean word that fits best, until the demand is met. The same problem gives the same
-/// answer each time. Costs at most some seconds.
+/// A fractional roster is found first, that is, how often each step of clean words is taken on each weekday in the
+/// mean (G. Dantzig and P. Wolfe's generation of columns, 1960). Words that follow it meet the demand nearly; windows
+/// of them are then rewritten, each by the clean word that fits best, until the demand is met. The same problem gives
+/// the same answer each time. Costs at most some seconds.
 pub fn find_roster(alloc: Global, problem: &Problem) -> Result<Option<Roster>, AllocError>
     ensures { IfOk result (λ found.
         IfSome found (λ s. (s.days ≡ problem.now.days) × MeetsAll problem.now s.cells)) }

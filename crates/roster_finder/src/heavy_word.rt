@@ -16,7 +16,7 @@ pub(crate) struct HeavyWord {
     pub uses: Grid<i64>,
 }
 
-/// Room to weigh words of so many days.
+/// Room to weigh words of a number of days.
 #[derive(Debug, Drop)]
 pub(crate) struct Weigher {
     weekdays: usize,

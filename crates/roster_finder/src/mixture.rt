@@ -8,30 +8,30 @@ use crate::setting::Setting;
 use nearest_point::{Hull, SCALE};
 use std::alloc::{AllocError, Global};
 
-/// The words have about so many days, so that their free ends matter little.
+/// About how many days a word has: so many that its free ends matter little.
 const WORD_DAYS: usize = 3_000;
 
-/// The words go through all weeks so often at least.
+/// How often a word goes through all weeks at least.
 const FEWEST_TURNS: usize = 2;
 
-/// So many words are weighed at most for a first mixture, and for one with new cuts.
+/// The most words that are weighed for a first mixture, and for one with new cuts.
 const FIRST_ROUNDS: usize = 200;
 
 const CUT_ROUNDS: usize = 40;
 
-/// For a mixture at most so many steps are looked at, about.
+/// About the most steps that are looked at for a mixture.
 const MOST_LOOKS: usize = 400_000_000;
 
-/// So often a mixture is bettered at most for each word.
+/// How often a mixture is bettered at most for each word.
 const BETTERINGS: u32 = 100;
 
 /// Of more words than this, those without a part are dropped.
 const MANY_WORDS: usize = 100;
 
 /// The greatest weight of a symbol on a weekday.
-const GREATEST_WEIGHT: i64 = 100_000;
+const GREATEST_STEP_WEIGHT: i64 = 100_000;
 
-/// No number may be off by so many parts of the mixture.
+/// A mixture is near the demand where each of its numbers is off by less than this.
 const NEAR: i64 = SCALE as i64 / 64;
 
 /// Words, and a mixture of them.
@@ -136,7 +136,7 @@ impl Mixture {
     // The weight of a coordinate, by how far it is off and how far off the furthest is.
     fn weight(&self, coordinate: usize, far: i64) -> i64 {
         let off = entry_or(self.hull.off(), coordinate, 0);
-        quotient(off.wrapping_mul(GREATEST_WEIGHT), far)
+        quotient(off.wrapping_mul(GREATEST_STEP_WEIGHT), far)
     }
 
     fn set_weights(&mut self, setting: &Setting, random: &mut Random, noise: usize, far: i64) {
@@ -146,7 +146,7 @@ impl Mixture {
         for (place, cut) in self.cuts.iter().enumerate() {
             let coordinate = cut_coordinate(&setting.demand, place);
             let off = entry_or(self.hull.off(), coordinate, 0);
-            let weight = quotient(off.wrapping_mul(GREATEST_WEIGHT), far);
+            let weight = quotient(off.wrapping_mul(GREATEST_STEP_WEIGHT), far);
             cut.add_weight(&mut self.weights, weight);
         }
     }

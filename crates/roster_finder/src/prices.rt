@@ -12,7 +12,7 @@ pub(crate) const LONGEST_WINDOW: usize = 21;
 /// The price of a day that the demand doesn't want, by weight 1. A day that it lacks has this with a minus.
 const UNIT: i64 = 256;
 
-/// Each price is raised by a random number below this. So a walk through equally good words goes on.
+/// Each price is raised by a random number below this. So a walk through equally good words doesn't stop.
 const NOISE: usize = 256;
 
 /// How many of the days of a weekday a symbol still lacks, and how many it may have.

@@ -7,7 +7,7 @@ use crate::random::Random;
 use crate::setting::Setting;
 use std::alloc::{AllocError, Global};
 
-/// Shares are given in parts of a use, of which there are so many.
+/// Shares are given in parts of a use; this many parts are one use.
 pub(crate) const ONE_USE: i64 = 4_096;
 
 /// The price of a step that no share takes, where a symbol on a day that isn't wanted costs 256.

@@ -9,7 +9,7 @@ use crate::steady_layer::{SteadyLayer, Step};
 use crate::walk::Walk;
 use std::alloc::{AllocError, Global};
 
-/// What it counts that a step is due once more.
+/// What a step counts that is still due.
 const STEP_DUE: i64 = 1_000;
 
 /// What it counts that a symbol lacks one more week on a weekday, both to the least and to the greatest number.

@@ -1,12 +1,9 @@
 // Classes of tails that have one future.
 use crate::grid::{entry_or, put};
 use crate::tail_graph::TailGraph;
+use rwsp_terms::limits::LONGEST_RUN;
 use std::alloc::{AllocError, Global};
 use word_tail::Tail;
-
-/// A tail counts the days of a block up to this. It doesn't tell whether a longer block breaks a rule, so words with such
-/// blocks are left out.
-const MOST_COUNTED: u8 = 31;
 
 /// A class for each tail that words without end pass through again and again, and for each class one of its tails.
 #[derive(Debug, Drop)]
@@ -113,12 +110,12 @@ fn classes_by_last(
     })
 }
 
-// Whether words with this tail have forgotten how they began, and how long their last block is is told.
+// Whether the tail says nothing of how its words began, and says how long their last block is.
 fn is_steady(tail: Tail) -> bool {
-    !tail.all_one && !tail.all_work && tail.run.max(tail.work) < MOST_COUNTED
+    !tail.all_one && !tail.all_work && u32::from(tail.run.max(tail.work)) < LONGEST_RUN
 }
 
-// Which tails words without end pass through again and again: the steady ones but for dead ends.
+// Which tails words without end pass through again and again: the steady ones without dead ends.
 fn steady_tails(alloc: Global, graph: &TailGraph) -> Result<Vec<bool>, AllocError> {
     let mut alive = Vec::new(alloc);
     for tail in &graph.tails {

@@ -14,7 +14,7 @@ pub(crate) struct Walk {
 }
 
 impl Walk {
-    /// A walk of so many cells in weeks of so many days, all of them of symbol 0 at node 0.
+    /// A walk of `cells` cells in weeks of `days` days, all of them of symbol 0 at node 0.
     pub fn new(alloc: Global, days: usize, cells: usize) -> Result<Walk, AllocError> {
         Ok(Walk {
             days,
@@ -57,7 +57,7 @@ impl Walk {
         rest(position, self.days)
     }
 
-    /// The position so many days later, round the cycle.
+    /// The position that many days later, round the cycle.
     pub fn later(&self, position: usize, days: usize) -> usize {
         rest(position.wrapping_add(days), self.symbols.len())
     }
@@ -79,7 +79,7 @@ impl Walk {
     }
 
     /// Whether the word from a position on can be followed from a node until it passes the nodes that it passes now,
-    /// within so many days. A node forgets within a block of shifts and one of days off.
+    /// within this many days. A node forgets within a block of shifts and one of days off.
     pub fn joins(&self, layer: &SteadyLayer, from: usize, position: usize, days: usize) -> bool {
         let mut node = from;
         let mut at = position;
@@ -96,7 +96,7 @@ impl Walk {
         self.node(at) == node
     }
 
-    /// Follows the word from a position on and writes the nodes that it passes, until these agree behind so many days.
+    /// Follows the word from a position on and writes the nodes that it passes, until these agree behind `days` days.
     pub fn retrace(&mut self, layer: &SteadyLayer, position: usize, days: usize) {
         let mut node = self.node(position);
         let mut at = position;

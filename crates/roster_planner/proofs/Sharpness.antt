@@ -2,6 +2,7 @@
 use Rattle.std.proofs.Common.{◌≡◌, ℕ, zero, suc, ◌+◌, ◌*◌, ◌^◌, ◌<◌, ◌≤◌, List, refl, ap, sym, ◌∙◌, subst, arith, inl, inr, Option, Some, None, Bool, true, false, ◌&&◌}
 use Rattle.std.specs.Prelude.{◌↔◌, ◌⊎◌, slice_get, Result, Ok, Err, IfOk}
 use Rattle.std.specs.declared.alloc.AllocError.{AllocError}
+use Rattle.rwsp_terms.specs.declared.limits.TheConstants.{MOST_CELLS}
 use Rattle.rwsp_terms.specs.declared.data.Symbol.{Symbol}
 use Rattle.rwsp_terms.specs.declared.data.Weight.{Weight}
 use Rattle.rwsp_terms.specs.declared.data.Rule.{Rule}
@@ -49,7 +50,7 @@ no_day P turn leaves spent S D some reasons same undecided h =
 not_dead : (P : Instance) (turn : Option Turn) (leaves : Leaves) (spent : Spent) (S : Store) (D : Domains) (R : List ℕ) → KeepsLimits P → AreShortRules P R → AreReasons P turn leaves spent → AreSame P D (has_domain S) → (Closes P (leaves S) S → ⊥) → IsDead P D 0 (2 * cells P) R → ⊥
 not_dead P turn leaves spent S D R limits short reasons same undecided dead =
     let some : 0 < cells P = some_cells P limits in
-    let few : cells P ≤ 4200 = limits.few_cells in
+    let few : cells P ≤ MOST_CELLS = limits.few_cells in
     let line = Dead 0 (2 * cells P) R in
     let fits : LineFits P line = (some, (omega (arith, some), omega (arith, few)), short.are_rules) in
     undecided (line, reasons.cycle S line (refl, refl, short), same_holds P D (has_domain S) line some fits same dead)

@@ -12,9 +12,10 @@ pub record IsPlannedLog (P : Instance) (g : Log) : Type 0 where
   pub cited : NamesOnlyCited P g
   pub sharp : IsSharp P g
 
--- a roster that meets every rule; or a log that passes, within the budget; or a log that has spent the budget, which a budget for
--- all assignments can't be
+-- a roster that meets every rule; or a log that passes, within the budget; or a log that has spent the budget, which
+-- a budget for all assignments can't be
 abbrev pub IsPlanned : Instance → ℕ → Found → Type 0
 IsPlanned P budget (Roster s) = (s.days ≡ P.days) × MeetsAll P s.cells
 IsPlanned P budget (NoRoster g) = Passes P g × (size g ≤ budget) × IsPlannedLog P g
-IsPlanned P budget (Undecided g) = IsSpent P g budget × IsPlannedLog P g × (budget + 1 < 2 * (shift_count P + 1) ^ cells P)
+IsPlanned P budget (Undecided g) =
+    IsSpent P g budget × IsPlannedLog P g × (budget + 1 < 2 * (shift_count P + 1) ^ cells P)

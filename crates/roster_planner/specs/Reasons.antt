@@ -14,11 +14,14 @@ use Rattle.propagators.specs.TopBounds.{IsTopBound}
 
 -- all window and day leaves of the problem, the dead leaf of two turns, and under the opening domains the bounds of one
 -- turn; the symbols are spent that a day leaf or the words of two turns take away
-pub record AreReasons (P : Instance) (turn : Option Turn) (leaves : Store → Line → Type 0) (spent : Store → ℕ → Symbol → Type 0) : Type 0 where
+pub record AreReasons (P : Instance) (turn : Option Turn) (leaves : Store → Line → Type 0)
+    (spent : Store → ℕ → Symbol → Type 0) : Type 0 where
   -- the list of all short rules
   pub rules : List ℕ
   pub short : AreShortRules P rules
   pub plain : HasPlainLeaves P leaves
   pub cycle : (S : Store) (line : Line) → IsCycleLeaf P line → leaves S line
-  pub top : (S : Store) (line : Line) → AreSame P (has_domain S) (opening P turn) → IsTopBound P (opening P turn) line → leaves S line
-  pub taken : (S : Store) (p : ℕ) (x : Symbol) → spent S p x ↔ (IsDaySpent P (has_domain S) p x ⊎ IsCycleSpent P (has_domain S) p x)
+  pub top : (S : Store) (line : Line) → AreSame P (has_domain S) (opening P turn) → IsTopBound P (opening P turn) line
+      → leaves S line
+  pub taken : (S : Store) (p : ℕ) (x : Symbol)
+      → spent S p x ↔ (IsDaySpent P (has_domain S) p x ⊎ IsCycleSpent P (has_domain S) p x)

@@ -12,8 +12,8 @@ use rwsp_model::{Problem, Roster};
 use std::alloc::{AllocError, Global};
 use std::marker::Model;
 
-/// The guide of a plan. It closes cases by weights, looks for a roster by other means before the first split, and splits in the
-/// order of the days, from the turn on round the cycle.
+/// The guide of a plan. It closes cases by weights, looks for a roster by other means before the first split, and
+/// splits in the order of the days, from the turn on round the cycle.
 #[derive(Debug, Drop)]
 pub struct PlanGuide {
     problem: Problem,

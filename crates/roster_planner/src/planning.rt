@@ -8,14 +8,15 @@ use potential_bounds::Gate;
 use refutation_log::first_turn;
 use roster_search::{Found, guided_search};
 use rwsp_model::Problem;
+use rwsp_terms::limits::GREATEST_BUDGET;
 use std::alloc::{AllocError, Global};
 use std::thread::Threads;
 
-/// What a search finds within the budget. Where a shift is demanded, the first one on the first such day stands there in
-/// week 1.
+/// What a search finds within the budget. Where a shift is demanded, the first one on the first such day stands there
+/// in week 1.
 ///
-/// Each case is looked at for reasons: windows, days, and the words of two turns. Bounds by weights are tried at the top,
-/// shared out among workers, who pass the gate.
+/// Each case is looked at for reasons: windows, days, and the words of two turns. Bounds by weights are tried at the
+/// top, shared out among workers, who pass the gate.
 pub fn plan_roster<R: Threads + Sync, G: Gate>(
     rt: &R,
     alloc: Global,
@@ -23,7 +24,7 @@ pub fn plan_roster<R: Threads + Sync, G: Gate>(
     budget: u32,
     gate: &G,
 ) -> Result<Found, AllocError>
-    requires { (1 ≤ budget) × (budget ≤ 200000) }
+    requires { (1 ≤ budget) × (budget ≤ GREATEST_BUDGET) }
     ensures { IfOk result (IsPlanned problem.now budget) }
 {
     problem.keeps_limits();

@@ -28,7 +28,8 @@ pub fn reasons_of<R: Threads + Sync, G: Gate>(
 ) -> Result<Reasons, AllocError>
     requires { TurnFits problem.now turn }
     ensures serves { IfOk result (λ r. ⟦<Reasons as Propagator>⟧.serves r problem.now) }
-    ensures reasons { IfOk result (λ r. AreReasons problem.now turn (⟦<Reasons as Propagator>⟧.leaves r) (⟦<Reasons as Propagator>⟧.spent r)) }
+    ensures reasons { IfOk result (λ r.
+        AreReasons problem.now turn (⟦<Reasons as Propagator>⟧.leaves r) (⟦<Reasons as Propagator>⟧.spent r)) }
 {
     problem.keeps_limits();
     let walk = Walk::new(alloc, problem, turn)?;

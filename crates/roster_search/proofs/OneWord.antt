@@ -6,6 +6,7 @@ use Rattle.std.proofs.lemmas.Int.{ints, by_lt_z}
 use Rattle.std.proofs.lemmas.Bool.{eqb-true, eq-eqb}
 use Rattle.std.proofs.lemmas.List.Sums.{list_all-from_AllPass}
 use Rattle.std.proofs.lemmas.Option.{slice_get_cases}
+use Rattle.rwsp_terms.specs.declared.limits.TheConstants.{GREATEST_BOUND, LONGEST_WORD}
 use Rattle.rwsp_terms.specs.declared.data.Class.{Class}
 use Rattle.rwsp_terms.specs.declared.data.ShiftRow.{ShiftRow}
 use Rattle.rwsp_terms.specs.declared.data.Symbol.{Symbol}
@@ -63,12 +64,12 @@ small_row rows k h = elim ((slice_get_cases rows k).1) [
 ]
 
 abbrev IsShortLength : ℕ → Type 0
-IsShortLength n = (0 < n) × (n ≤ 16800)
+IsShortLength n = (0 < n) × (n ≤ LONGEST_WORD)
 
-long_length : (c : Class) (most : ℕ) (u : List Symbol) → most ≤ 10000 → TooLong c most u → IsShortLength (length u)
+long_length : (c : Class) (most : ℕ) (u : List Symbol) → most ≤ GREATEST_BOUND → TooLong c most u → IsShortLength (length u)
 long_length c most u le h = let e = h.long in (omega arith, omega arith)
 
-short_length : (c : Class) (fewest : ℕ) (u : List Symbol) → fewest ≤ 10000 → TooShort c fewest u → IsShortLength (length u)
+short_length : (c : Class) (fewest : ℕ) (u : List Symbol) → fewest ≤ GREATEST_BOUND → TooShort c fewest u → IsShortLength (length u)
 short_length c fewest u le h =
     let few = h.few in
     let whole : length u ≡ length (h.before ∷ h.block) + length (h.after ∷ []) = ap length h.whole ∙ length-append (h.before ∷ h.block) (h.after ∷ []) in

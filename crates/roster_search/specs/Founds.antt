@@ -14,8 +14,10 @@ use Rattle.propagators.specs.Looks.{Closes}
 use Rattle.roster_search.specs.declared.found.Found.{Found}
 use Rattle.roster_search.specs.declared.found.Found.TheVariants.{Roster, NoRoster, Undecided}
 
--- the propagator didn't close the domains at a split, and where a symbol was spent for it the split is of a spent symbol at its position
-pub record IsForced (P : Instance) (leaves : Store → Line → Type 0) (spent : Store → ℕ → Symbol → Type 0) (D : Domains) (p : ℕ) (x : Symbol) : Type 0 where
+-- the propagator didn't close the domains at a split, and where a symbol was spent for it the split is of a spent
+-- symbol at its position
+pub record IsForced (P : Instance) (leaves : Store → Line → Type 0) (spent : Store → ℕ → Symbol → Type 0)
+    (D : Domains) (p : ℕ) (x : Symbol) : Type 0 where
   pub store : Store
   pub is_store : IsStore store
   pub belongs : BelongsTo P store
@@ -24,8 +26,11 @@ pub record IsForced (P : Instance) (leaves : Store → Line → Type 0) (spent :
   pub forced : (q : ℕ) (z : Symbol) → spent store q z → spent store p x
 
 -- each split is as the propagator says
-abbrev pub AreForced : Instance → (Store → Line → Type 0) → (Store → ℕ → Symbol → Type 0) → Option Turn → List Line → Type 0
-AreForced P leaves spent turn lines = (k p : ℕ) (x : Symbol) → slice_get lines k ≡ Some (Split p x) → IsForced P leaves spent (domains_at P turn lines k) p x
+abbrev pub AreForced : Instance → (Store → Line → Type 0) → (Store → ℕ → Symbol → Type 0) → Option Turn → List Line
+    → Type 0
+AreForced P leaves spent turn lines =
+    (k p : ℕ) (x : Symbol) → slice_get lines k ≡ Some (Split p x)
+    → IsForced P leaves spent (domains_at P turn lines k) p x
 
 -- a log with this turn that names what it cites and no more
 pub record IsLogOfTurn (P : Instance) (turn : Option Turn) (g : Log) : Type 0 where
@@ -33,12 +38,14 @@ pub record IsLogOfTurn (P : Instance) (turn : Option Turn) (g : Log) : Type 0 wh
   pub cited : NamesOnlyCited P g
 
 -- such a log, whose splits are as the propagator says
-pub record IsSearchLog (P : Instance) (turn : Option Turn) (leaves : Store → Line → Type 0) (spent : Store → ℕ → Symbol → Type 0) (g : Log) : Type 0 where
+pub record IsSearchLog (P : Instance) (turn : Option Turn) (leaves : Store → Line → Type 0)
+    (spent : Store → ℕ → Symbol → Type 0) (g : Log) : Type 0 where
   pub of_turn : IsLogOfTurn P turn g
   pub splits : AreForced P leaves spent turn g.lines
 
 -- a roster that meets every rule; or a log that passes, of at most the budget's size; or one that has spent the budget
-abbrev pub IsFound : Instance → Option Turn → ℕ → (Store → Line → Type 0) → (Store → ℕ → Symbol → Type 0) → Found → Type 0
+abbrev pub IsFound : Instance → Option Turn → ℕ → (Store → Line → Type 0) → (Store → ℕ → Symbol → Type 0) → Found
+    → Type 0
 IsFound P turn budget leaves spent (Roster s) = (s.days ≡ P.days) × MeetsAll P s.cells
 IsFound P turn budget leaves spent (NoRoster g) = Passes P g × (size g ≤ budget) × IsSearchLog P turn leaves spent g
 IsFound P turn budget leaves spent (Undecided g) = IsSpent P g budget × IsSearchLog P turn leaves spent g

@@ -3,6 +3,8 @@ use Rattle.std.specs.Prelude.{ℕ, ◌+◌, ◌*◌, ◌^◌, ◌<◌}
 use Rattle.rwsp_terms.specs.Instance.{Instance, cells, shift_count}
 use Rattle.refutation_terms.specs.Log.{Log, IsSpent}
 
--- a tree whose splits aren't idle has at most (K+1)^L leaves, and one split less; so a spent log has a budget below that
+-- a tree whose splits aren't idle has at most (K+1)^L leaves, and one split less; so a spent log has a budget below
+-- that
 abbrev pub SpentBudgetsAreSmall : Type 0
-SpentBudgetsAreSmall = (P : Instance) (g : Log) (budget : ℕ) → IsSpent P g budget → budget + 1 < 2 * (shift_count P + 1) ^ cells P
+SpentBudgetsAreSmall =
+    (P : Instance) (g : Log) (budget : ℕ) → IsSpent P g budget → budget + 1 < 2 * (shift_count P + 1) ^ cells P

@@ -26,13 +26,15 @@ pub record Stands (P : Instance) (D : Domains) (line : Line) : Type 0 where
 
 -- the rule is that of the turn, or one of the lines cites it
 abbrev pub IsCitedIn : Instance → Option Turn → List Line → Rule → Type 0
-IsCitedIn P turn lines r = TurnCites turn r ⊎ ((k : ℕ) × (line : Line) × (slice_get lines k ≡ Some line) × Cites P line r)
+IsCitedIn P turn lines r =
+    TurnCites turn r ⊎ ((k : ℕ) × (line : Line) × (slice_get lines k ≡ Some line) × Cites P line r)
 
 -- the lines stand under the domains at them, the walk is behind them, and what they and the turn cite is named
 pub record IsProgress (P : Instance) (s : Progress) : Type 0 where
   pub state : IsStateOf P s.turn s.lines.items s.walk
   pub turn_fits : TurnFits P s.turn
-  pub stand : (k : ℕ) (line : Line) → slice_get s.lines.items k ≡ Some line → Stands P (domains_at P s.turn s.lines.items k) line
+  pub stand : (k : ℕ) (line : Line) → slice_get s.lines.items k ≡ Some line
+      → Stands P (domains_at P s.turn s.lines.items k) line
   pub cited : (r : Rule) → Names P s.named r ↔ IsCitedIn P s.turn s.lines.items r
   pub numbers : (k : ℕ) → Contains s.named k → (r : Rule) × (rule_of P k ≡ Some r)
   pub few_open : open_trees s.walk ≤ length s.lines.items + 1
@@ -51,7 +53,8 @@ pub record IsSplitOff (P : Instance) (before after : Progress) (p : ℕ) (x : Sy
   pub narrowed : IsNarrowedAt before.walk.store after.walk.store p
 
 -- the lines of a search with this budget, whose splits are as the propagator says
-pub record IsUnderWay (P : Instance) (turn : Option Turn) (budget : ℕ) (leaves : Store → Line → Type 0) (spent : Store → ℕ → Symbol → Type 0) (s : Progress) : Type 0 where
+pub record IsUnderWay (P : Instance) (turn : Option Turn) (budget : ℕ) (leaves : Store → Line → Type 0)
+    (spent : Store → ℕ → Symbol → Type 0) (s : Progress) : Type 0 where
   pub written : IsProgress P s
   pub same_turn : s.turn ≡ turn
   pub forced : AreForced P leaves spent turn s.lines.items
@@ -61,4 +64,5 @@ pub record IsUnderWay (P : Instance) (turn : Option Turn) (budget : ℕ) (leaves
 abbrev pub IsEnded : Instance → Option Turn → ℕ → List Line → Found → Type 0
 IsEnded P turn budget lines (Roster s) = ⊥
 IsEnded P turn budget lines (NoRoster g) = Passes P g × (size g ≤ budget) × IsLogOfTurn P turn g × (g.lines ≡ lines)
-IsEnded P turn budget lines (Undecided g) = IsSpent P g budget × IsLogOfTurn P turn g × ((n : ℕ) × (g.lines ≡ lines ++ replicate n Unfinished))
+IsEnded P turn budget lines (Undecided g) =
+    IsSpent P g budget × IsLogOfTurn P turn g × ((n : ℕ) × (g.lines ≡ lines ++ replicate n Unfinished))

@@ -1,5 +1,5 @@
 // Where a search splits when no leaf says so.
-ghost use Rattle.std.specs.Prelude.{◌≡◌, ℕ, ◌<◌, ◌≤◌, length, false, IsTrue, MatchOption, pos, neg_ℤ, ◌≤ℤ◌};
+ghost use Rattle.std.specs.Prelude.{◌≡◌, ℕ, ◌*◌, ◌<◌, ◌≤◌, length, false, IsTrue, MatchOption, pos, neg_ℤ, ◌≤ℤ◌};
 ghost use Rattle.std.specs.Option.{IfSome};
 ghost use Rattle.rwsp_terms.specs.Instance.{Instance, IsSymbol, IsClass};
 ghost use Rattle.domain_store.specs.Store.{BelongsTo, IsDecided, domain_at, has_domain};
@@ -7,7 +7,9 @@ ghost use Rattle.roster_search.specs.Guides.{IsSplitIn};
 
 use crate::need::most_needed;
 use domain_store::Domains;
-use rwsp_model::{Class, Problem, Symbol};
+use rwsp_model::Problem;
+use rwsp_terms::{Class, Symbol};
+use rwsp_terms::limits::{MOST_DAYS, MOST_SHIFTS, MOST_WEEKS};
 
 /// A position, counted from 0, and a symbol of its domain.
 #[derive(Clone, Copy)]
@@ -18,9 +20,9 @@ pub struct NextSplit {
 
 /// A position with two symbols or more, and one of them; None where each position has one symbol.
 ///
-/// It is the first such position. A block of one shift, of days off or of work that the days before it have begun goes on until
-/// it has its least length. Else a day off is taken where fewer of them have been given than is their share up to there, and
-/// otherwise the shift that is needed most.
+/// It is the first such position. A block of one shift, of days off or of work that the days before it have begun is
+/// continued until it has its least length. Else a day off is taken where fewer of them have been given than is their
+/// share up to there, and otherwise the shift that is needed most.
 pub fn choose(problem: &Problem, domains: &Domains) -> Option<NextSplit>
     requires { BelongsTo problem.now domains.now }
     ensures { MatchOption result (IsDecided domains.now) (IsSplitIn domains.now) }
@@ -35,7 +37,8 @@ pub fn choose(problem: &Problem, domains: &Domains) -> Option<NextSplit>
 fn wanted_at(problem: &Problem, domains: &Domains, p: u32) -> Option<Symbol>
     requires belongs { BelongsTo problem.now domains.now }
     requires position { p < length domains.now.sets }
-    ensures { MatchOption result ((x : ℕ) → x ≤ domains.now.shifts → has_domain domains.now p x ≡ false) (λ x. IsTrue (has_domain domains.now p x.number)) }
+    ensures { MatchOption result ((x : ℕ) → x ≤ domains.now.shifts → has_domain domains.now p x ≡ false)
+        (λ x. IsTrue (has_domain domains.now p x.number)) }
 {
     if let Some(x) = unfinished(problem, domains, p) {
         return Some(x);
@@ -61,8 +64,8 @@ fn is_off_due(problem: &Problem, domains: &Domains, p: u32) -> bool
 
 // How many days off are needed in all.
 fn off_needed(problem: &Problem) -> i64
-    ensures above { neg_ℤ (pos 134400) ≤ℤ result }
-    ensures below { result ≤ℤ pos 16800 }
+    ensures above { neg_ℤ (pos (MOST_DAYS * MOST_WEEKS * MOST_SHIFTS)) ≤ℤ result }
+    ensures below { result ≤ℤ pos (MOST_DAYS * MOST_WEEKS) }
 {
     let mut total = 0;
     for day in 0..problem.days() {
@@ -147,7 +150,8 @@ fn is_surely(domains: &Domains, p: u32, class: Class) -> bool
 
 // The first position with two symbols or more.
 fn first_open(domains: &Domains) -> Option<u32>
-    ensures { MatchOption result (IsDecided domains.now) (λ p. (p < length domains.now.sets) × (2 ≤ length (domain_at domains.now p))) }
+    ensures { MatchOption result (IsDecided domains.now)
+        (λ p. (p < length domains.now.sets) × (2 ≤ length (domain_at domains.now p))) }
 {
     for p in 0..domains.cells() {
         if domains.size(p) > 1 {

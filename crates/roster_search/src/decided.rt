@@ -15,8 +15,10 @@ use std::alloc::AllocError;
 pub fn met_roster(problem: &Problem, domains: &Domains) -> Result<Roster, AllocError>
     requires decided { IsDecided domains.now }
     requires belongs { BelongsTo problem.now domains.now }
-    requires windows { (number p len : ℕ) → LineFits problem.now (Window number p len) → Holds problem.now (has_domain domains.now) (Window number p len) → ⊥ }
-    requires days { (j : ℕ) (x : Symbol) (over : Bool) → LineFits problem.now (Day j x over) → Holds problem.now (has_domain domains.now) (Day j x over) → ⊥ }
+    requires windows { (number p len : ℕ) → LineFits problem.now (Window number p len)
+        → Holds problem.now (has_domain domains.now) (Window number p len) → ⊥ }
+    requires days { (j : ℕ) (x : Symbol) (over : Bool) → LineFits problem.now (Day j x over)
+        → Holds problem.now (has_domain domains.now) (Day j x over) → ⊥ }
     ensures days { IfOk result (λ s. s.days ≡ problem.now.days) }
     ensures meets { IfOk result (λ s. MeetsAll problem.now s.cells) }
 {

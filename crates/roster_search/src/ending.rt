@@ -9,6 +9,7 @@ use crate::progress::Progress;
 use refutation_log::Log;
 use refutation_terms::Line;
 use rwsp_model::Problem;
+use rwsp_terms::limits::GREATEST_BUDGET;
 use std::alloc::AllocError;
 
 /// The log of the lines, once they are a whole tree or the budget is spent. What is open then is left
@@ -17,7 +18,7 @@ pub fn end(problem: &Problem, budget: u32, progress: Progress) -> Result<Found, 
     requires written { IsProgress problem.now progress }
     requires allowed { IsAllowed problem.now progress.turn }
     requires few { length progress.lines.items ≤ budget }
-    requires budget { budget ≤ 200000 }
+    requires budget { budget ≤ GREATEST_BUDGET }
     requires spent { progress.walk.whole ≡ false → budget ≤ length progress.lines.items }
     ensures { IfOk result (λ found. IsEnded problem.now progress.turn budget progress.lines.items found) }
 {
@@ -36,7 +37,7 @@ pub fn end(problem: &Problem, budget: u32, progress: Progress) -> Result<Found, 
     Ok(Found::Undecided(Log::of(named, turn, lines)))
 }
 
-// Writes so many unfinished lines.
+// Writes `count` unfinished lines.
 #[tactic(auto, using(std::proofs::lemmas::List::replicate_more))]
 fn leave_open(lines: &mut Vec<Line>, count: usize) -> Result<(), AllocError>
     ensures { IfOk result (λ _. lines.new.items ≡ lines.old.items ++ replicate count Unfinished) }

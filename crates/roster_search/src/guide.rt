@@ -12,25 +12,26 @@ use refutation_terms::Line;
 use rwsp_model::Roster;
 use std::alloc::{AllocError, Global};
 
-/// What only makes a search good. A search keeps its promises whatever its guide gives and whatever it leaves out: what it
-/// gives is true, and costs a line of the log at most.
+/// What only makes a search good. A search keeps its promises whatever its guide gives and whatever it leaves out:
+/// what it gives is true, and costs a line of the log at most.
 pub trait Guide {
     // it was made for this problem
     ghost serves: { Self → Instance → Type 0 };
 
-    /// A leaf that holds under the domains, if it has one. It is asked where a case begins, and again where spent symbols were
-    /// taken away since and no more are seen.
+    /// A leaf that holds under the domains, if it has one. It is asked where a case begins, and again where spent
+    /// symbols were taken away since and no more are seen.
     fn leaf(&mut self, alloc: Global, doms: &Domains) -> Result<Option<Line>, AllocError>
         requires problem { (P : Instance) × serves self.old P × BelongsTo P doms.now }
         ensures leaf { IfOk result (λ line. (P : Instance) → serves self.old P → IsLeafGiven P doms.now line) }
         ensures serves { (P : Instance) → serves self.old P ↔ serves self.new P };
 
-    /// A roster that meets every rule, if it has one. It is asked once, where the search begins with these domains and no leaf
-    /// closes them.
+    /// A roster that meets every rule, if it has one. It is asked once, where the search begins with these domains
+    /// and no leaf closes them.
     fn roster(&mut self, alloc: Global, doms: &Domains) -> Result<Option<Roster>, AllocError>
         requires problem { (P : Instance) × serves self.old P × BelongsTo P doms.now }
         ensures days { IfOk result (λ found. (P : Instance) → serves self.old P → IfSome found (λ s. s.days ≡ P.days)) }
-        ensures meets { IfOk result (λ found. (P : Instance) → serves self.old P → IfSome found (λ s. MeetsAll P s.cells)) }
+        ensures meets { IfOk result (λ found.
+            (P : Instance) → serves self.old P → IfSome found (λ s. MeetsAll P s.cells)) }
         ensures serves { (P : Instance) → serves self.old P ↔ serves self.new P };
 
     /// Where to split, if it has a choice. It is asked where there is no leaf and no spent symbol.

@@ -10,9 +10,10 @@ mod laws;
 mod need;
 mod order;
 mod progress;
+mod search_step;
 mod searching;
 mod sight;
-mod step;
+
 #[cfg(test)]
 mod tests;
 

@@ -1,17 +1,21 @@
 // How much each symbol of a domain is needed on its day.
-ghost use Rattle.std.specs.Prelude.{◌≡◌, ℕ, ◌<◌, ◌≤◌, length, false, IsTrue, None, MatchOption};
+ghost use Rattle.std.specs.Prelude.{◌≡◌, ℕ, ◌+◌, ◌<◌, ◌≤◌, length, false, IsTrue, None, MatchOption};
 ghost use Rattle.rwsp_terms.specs.Instance.{IsSymbol};
 ghost use Rattle.domain_store.specs.Store.{BelongsTo, has_domain};
 ghost use Rattle.roster_search.specs.Guides.{HasNoneFrom};
 
 use domain_store::Domains;
-use rwsp_model::{Problem, Symbol};
+use rwsp_model::Problem;
+use rwsp_terms::Symbol;
+use rwsp_terms::limits::{MOST_CELLS, MOST_DAYS};
 
-/// The symbol of the domain, of those from the lowest on, that is needed most on the day of the position, of several the first.
+/// The symbol of the domain, of those from the lowest on, that is needed most on the day of the position, of several
+/// the first.
 pub fn most_needed(problem: &Problem, domains: &Domains, p: u32, lowest: Symbol) -> Option<Symbol>
     requires belongs { BelongsTo problem.now domains.now }
     requires position { p < length domains.now.sets }
-    ensures { MatchOption result (HasNoneFrom domains.now p lowest.number) (λ x. (lowest.number ≤ x.number) × IsTrue (has_domain domains.now p x.number)) }
+    ensures { MatchOption result (HasNoneFrom domains.now p lowest.number)
+        (λ x. (lowest.number ≤ x.number) × IsTrue (has_domain domains.now p x.number)) }
 {
     domains.facts();
     let mut best: Option<Wanted> = None;
@@ -30,8 +34,8 @@ pub fn most_needed(problem: &Problem, domains: &Domains, p: u32, lowest: Symbol)
     }
 }
 
-// A symbol of a domain, and how much it is needed on a day: so many weeks still need it, of so many
-// that may have it or not.
+// A symbol of a domain, and how much it is needed on a day: the weeks that still need it, and the places, which are
+// the weeks that may have it or not.
 #[derive(Clone, Copy)]
 struct Wanted {
     x: Symbol,
@@ -76,8 +80,8 @@ struct Column {
 // The counts of the positions that are whole weeks behind the first.
 fn count_column(domains: &Domains, first: u32, days: u32, x: Symbol) -> Column
     requires some { 1 ≤ days }
-    requires few { (first ≤ 28) × (days ≤ 28) }
-    ensures { (result.fixed ≤ result.possible) × (result.possible ≤ 5000) }
+    requires few { (first ≤ MOST_DAYS) × (days ≤ MOST_DAYS) }
+    ensures { (result.fixed ≤ result.possible) × (result.possible ≤ MOST_CELLS + MOST_DAYS) }
 {
     let mut fixed = 0;
     let mut possible = 0;

@@ -6,14 +6,15 @@ ghost use Rattle.roster_search.specs.Guides.{IsSplitIn};
 use crate::NextSplit;
 use crate::need::most_needed;
 use domain_store::Domains;
-use rwsp_model::{Problem, Symbol};
+use rwsp_model::Problem;
+use rwsp_terms::Symbol;
 
 /// A position with two symbols or more, and one of them; None where each position has one symbol.
 ///
-/// It is the first such position, counted from `first` round the cycle, so that the decided positions grow to one word. There it is
-/// the symbol of the greatest need: the weeks that its day still demands, over those that may give it or not; of several the
-/// lowest. A day off is a symbol as the others. Takes a step for each position up to the one that is found, and for each of its
-/// symbols one for each week.
+/// It is the first such position, counted from `first` round the cycle, so that the decided positions grow to one
+/// word. There it is the symbol of the greatest need: the weeks that its day still demands, over those that may give
+/// it or not; of several the lowest. A day off is a symbol as the others. Takes a step for each position up to the
+/// one that is found, and for each of its symbols one for each week.
 pub fn chronological(problem: &Problem, domains: &Domains, first: u32) -> Option<NextSplit>
     requires { BelongsTo problem.now domains.now }
     ensures { MatchOption result (IsDecided domains.now) (IsSplitIn domains.now) }
@@ -26,7 +27,8 @@ pub fn chronological(problem: &Problem, domains: &Domains, first: u32) -> Option
 
 // The first position with two symbols or more, counted from `first` round the cycle.
 fn first_open_from(domains: &Domains, first: u32) -> Option<u32>
-    ensures { MatchOption result (IsDecided domains.now) (λ p. (p < length domains.now.sets) × (2 ≤ length (domain_at domains.now p))) }
+    ensures { MatchOption result (IsDecided domains.now)
+        (λ p. (p < length domains.now.sets) × (2 ≤ length (domain_at domains.now p))) }
 {
     let cells = domains.cells();
     let start = if first < cells { first } else { 0 };
@@ -39,7 +41,8 @@ fn first_open_from(domains: &Domains, first: u32) -> Option<u32>
 // The first position with two symbols or more, of those from `start` on that come before `end`.
 fn first_open_in(domains: &Domains, start: u32, end: u32) -> Option<u32>
     requires { end ≤ length domains.now.sets }
-    ensures { MatchOption result ((q : ℕ) → start ≤ q → q < end → length (domain_at domains.now q) ≡ 1) (λ p. (p < length domains.now.sets) × (2 ≤ length (domain_at domains.now p))) }
+    ensures { MatchOption result ((q : ℕ) → start ≤ q → q < end → length (domain_at domains.now q) ≡ 1)
+        (λ p. (p < length domains.now.sets) × (2 ≤ length (domain_at domains.now p))) }
 {
     for p in start..end {
         if domains.size(p) > 1 {

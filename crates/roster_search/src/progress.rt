@@ -14,8 +14,8 @@ ghost use Rattle.roster_search.specs.Written.{IsProgress, IsSplitOff};
 
 use refutation_log::{put_cited, put_turn_cited};
 use refutation_terms::{Line, Turn};
-use rwsp_model::{Problem, Symbol};
-use rwsp_terms::RuleList;
+use rwsp_model::Problem;
+use rwsp_terms::{RuleList, Symbol};
 use std::alloc::{AllocError, Global};
 use tree_walk::Walk;
 
@@ -60,21 +60,24 @@ impl Progress {
         !self.walk.is_whole() && self.has_room(budget)
     }
 
-    /// What is so of the domains at the next line.
+    /// Brings into a proof what holds of the domains at the next line. Does nothing when run.
     pub fn domain_facts(&self)
         ensures store { IsStore self.now.walk.store }
         ensures tests { HasDomains self.now.walk.store }
-        ensures same { (P : Instance) → IsProgress P self.now → AreSame P (has_domain self.now.walk.store) (domains_at P self.now.turn self.now.lines.items (length self.now.lines.items)) }
+        ensures same { (P : Instance) → IsProgress P self.now
+            → AreSame P (has_domain self.now.walk.store)
+            (domains_at P self.now.turn self.now.lines.items (length self.now.lines.items)) }
     {
         self.walk.domains().facts();
     }
 
-    /// Writes a leaf. After want of memory the lines are of no use.
+    /// Writes a leaf. After want of memory the lines can't be used.
     pub fn close(&mut self, problem: &Problem, line: Line) -> Result<(), AllocError>
         requires part { self.old.walk.whole ≡ false }
         requires written { IsProgress problem.now self.old }
         requires leaf { IsLeafOf problem.now line }
-        requires holds { Holds problem.now (domains_at problem.now self.old.turn self.old.lines.items (length self.old.lines.items)) line }
+        requires holds { Holds problem.now
+            (domains_at problem.now self.old.turn self.old.lines.items (length self.old.lines.items)) line }
         ensures written { IfOk result (λ _. IsProgress problem.now self.new) }
         ensures turn { self.new.turn ≡ self.old.turn }
         ensures lines { IfOk result (λ _. self.new.lines.items ≡ self.old.lines.items ++ line ∷ []) }
@@ -85,7 +88,7 @@ impl Progress {
         Ok(())
     }
 
-    /// Writes a split. After want of memory the lines are of no use.
+    /// Writes a split. After want of memory the lines can't be used.
     pub fn split(&mut self, p: u32, x: Symbol) -> Result<(), AllocError>
         requires part { self.old.walk.whole ≡ false }
         requires position { p < length self.old.walk.store.sets }
@@ -103,7 +106,7 @@ impl Progress {
     }
 
     /// Writes a split and the leaf of its first side, where there is room for the leaf. After want of
-    /// memory the lines are of no use.
+    /// memory the lines can't be used.
     pub fn cut(
         &mut self,
         problem: &Problem,
@@ -121,7 +124,9 @@ impl Progress {
         requires holds { Holds problem.now (narrowed (has_domain self.old.walk.store) (Split p x) First) line }
         ensures off { IfOk result (λ _. IsSplitOff problem.now self.old self.new p x) }
         ensures few { IfOk result (λ _. length self.new.lines.items ≤ budget) }
-        ensures leaf { IfOk result (λ _. length self.old.lines.items + 1 < budget → self.new.lines.items ≡ self.old.lines.items ++ Split p x ∷ line ∷ []) }
+        ensures leaf { IfOk result (λ _.
+            length self.old.lines.items + 1 < budget
+            → self.new.lines.items ≡ self.old.lines.items ++ Split p x ∷ line ∷ []) }
         ensures turn { self.new.turn ≡ self.old.turn }
     {
         problem.keeps_limits();

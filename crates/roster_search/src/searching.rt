@@ -11,15 +11,16 @@ ghost use Rattle.roster_search.specs.Founds.{IsFound, HasSpentBudget};
 use crate::ending::end;
 use crate::progress::Progress;
 use crate::sight::Arrival;
-use crate::step::step;
+use crate::search_step::step;
 use crate::{Found, Guide, NoGuide};
 use propagators::Propagator;
 use refutation_terms::Turn;
 use rwsp_model::Problem;
+use rwsp_terms::limits::GREATEST_BUDGET;
 use std::alloc::{AllocError, Global};
 
-/// Looks for a roster by splitting cases, and writes the cases down as the lines of a log, of at most `budget` splits and leaves
-/// that hold. With a turn, its symbol is alone on its day of the first week.
+/// Looks for a roster by splitting cases, and writes the cases down as the lines of a log, of at most `budget` splits
+/// and leaves that hold. With a turn, its symbol is alone on its day of the first week.
 pub fn search<A: Propagator>(
     alloc: Global,
     problem: &Problem,
@@ -27,12 +28,14 @@ pub fn search<A: Propagator>(
     propagator: &mut A,
     budget: u32,
 ) -> Result<Found, AllocError>
-    requires budget { (1 ≤ budget) × (budget ≤ 200000) }
+    requires budget { (1 ≤ budget) × (budget ≤ GREATEST_BUDGET) }
     requires turn { TurnFits problem.now turn × IsAllowed problem.now turn }
     requires serves { A.serves propagator.old problem.now }
     requires plain { HasPlainLeaves problem.now (A.leaves propagator.old) }
-    ensures found { IfOk result (λ found. IsFound problem.now turn budget (A.leaves propagator.old) (A.spent propagator.old) found) }
-    ensures complete { IfOk result (λ found. HasSpentBudget found → budget + 1 < 2 * (shift_count problem.now + 1) ^ cells problem.now) }
+    ensures found { IfOk result (λ found.
+        IsFound problem.now turn budget (A.leaves propagator.old) (A.spent propagator.old) found) }
+    ensures complete { IfOk result (λ found.
+        HasSpentBudget found → budget + 1 < 2 * (shift_count problem.now + 1) ^ cells problem.now) }
     ensures serves { (P : Instance) → A.serves propagator.old P ↔ A.serves propagator.new P }
     ensures leaves { (S : Store) (line : Line) → A.leaves propagator.old S line ↔ A.leaves propagator.new S line }
     ensures spent { (S : Store) (p : ℕ) (x : Symbol) → A.spent propagator.old S p x ↔ A.spent propagator.new S p x }
@@ -50,13 +53,15 @@ pub fn guided_search<A: Propagator, G: Guide>(
     guide: &mut G,
     budget: u32,
 ) -> Result<Found, AllocError>
-    requires budget { (1 ≤ budget) × (budget ≤ 200000) }
+    requires budget { (1 ≤ budget) × (budget ≤ GREATEST_BUDGET) }
     requires turn { TurnFits problem.now turn × IsAllowed problem.now turn }
     requires serves { A.serves propagator.old problem.now }
     requires plain { HasPlainLeaves problem.now (A.leaves propagator.old) }
     requires guide { G.serves guide.old problem.now }
-    ensures found { IfOk result (λ found. IsFound problem.now turn budget (A.leaves propagator.old) (A.spent propagator.old) found) }
-    ensures complete { IfOk result (λ found. HasSpentBudget found → budget + 1 < 2 * (shift_count problem.now + 1) ^ cells problem.now) }
+    ensures found { IfOk result (λ found.
+        IsFound problem.now turn budget (A.leaves propagator.old) (A.spent propagator.old) found) }
+    ensures complete { IfOk result (λ found.
+        HasSpentBudget found → budget + 1 < 2 * (shift_count problem.now + 1) ^ cells problem.now) }
     ensures serves { (P : Instance) → A.serves propagator.old P ↔ A.serves propagator.new P }
     ensures leaves { (S : Store) (line : Line) → A.leaves propagator.old S line ↔ A.leaves propagator.new S line }
     ensures spent { (S : Store) (p : ℕ) (x : Symbol) → A.spent propagator.old S p x ↔ A.spent propagator.new S p x }

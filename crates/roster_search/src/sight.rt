@@ -11,7 +11,8 @@ use crate::Guide;
 use domain_store::Domains;
 use propagators::{Look, Propagator};
 use refutation_terms::Line;
-use rwsp_model::{Roster, Symbol};
+use rwsp_model::Roster;
+use rwsp_terms::Symbol;
 use std::alloc::{AllocError, Global};
 
 /// How a search came to the domains at hand. It says what the guide is asked there, and no promise speaks of it.
@@ -54,8 +55,8 @@ pub enum Sight {
     Quiet,
 }
 
-/// What the propagator and the guide see under the domains. The propagator's leaf comes first; then what the guide gives, where it
-/// is due; then a spent symbol.
+/// What the propagator and the guide see under the domains. The propagator's leaf comes first; then what the guide
+/// gives, where it is due; then a spent symbol.
 pub fn see<A: Propagator, G: Guide>(
     alloc: Global,
     propagator: &mut A,
@@ -65,7 +66,9 @@ pub fn see<A: Propagator, G: Guide>(
 ) -> Result<Sight, AllocError>
     requires problem { (P : Instance) × A.serves propagator.old P × G.serves guide.old P × BelongsTo P doms.now }
     requires tracked { A.tracks propagator.old doms.now }
-    ensures sight { IfOk result (λ sight. (P : Instance) → A.serves propagator.old P → G.serves guide.old P → IsSight P (A.leaves propagator.old doms.now) (A.spent propagator.old doms.now) doms.now sight) }
+    ensures sight { IfOk result (λ sight.
+        (P : Instance) → A.serves propagator.old P → G.serves guide.old P
+        → IsSight P (A.leaves propagator.old doms.now) (A.spent propagator.old doms.now) doms.now sight) }
     ensures tracks { A.tracks propagator.new doms.now }
     ensures serves { (P : Instance) → A.serves propagator.old P ↔ A.serves propagator.new P }
     ensures leaves { (S : Store) (line : Line) → A.leaves propagator.old S line ↔ A.leaves propagator.new S line }

@@ -6,12 +6,12 @@ use Rattle.std.specs.String.{string_bytes}
 use Rattle.std.specs.declared.alloc.Global.{Global}
 use Rattle.std.specs.Str.{bytes_eq}
 use Rattle.rwsp_text.specs.Numbers.{number_of}
-use Rattle.rwsp_terms.specs.declared.limits.TheConstants.{USUAL_STAFF_BUDGET}
+use Rattle.rwsp_terms.specs.declared.limits.TheConstants.{MOST_WEEKS, USUAL_BUDGET, USUAL_STAFF_BUDGET, USUAL_WORKERS}
 use Rattle.refutation_log.proofs.ReadParts.{bytes_same}
 use Rattle.jiff.specs.Types.{Date}
 use Rattle.crew_calendar.specs.Calendar.{IsDateWord}
 use Rattle.crew_calendar.proofs.OneText.{one_date}
-use Rattle.rwsp.specs.Commands.{Words, IsForm, IsCount, most_employees, usual_budget, usual_workers, IsCrewForm, IsStaffForm, HasNoForm, word_bytes}
+use Rattle.rwsp.specs.Commands.{Words, IsForm, IsCount, IsCrewForm, IsStaffForm, HasNoForm, word_bytes}
 use Rattle.rwsp.specs.declared.command.Command.{Command}
 use Rattle.rwsp.specs.declared.command.Command.TheVariants.{Plan, Check, Verify, Reduce, Show, Trial, Crew, Staff, CheckStaff}
 
@@ -85,12 +85,12 @@ two (Some a) None f = None
 two None b f = None
 
 abbrev plan_told : Words → Option Undated
-plan_told (file ∷ []) = Some (plan usual_budget)
+plan_told (file ∷ []) = Some (plan USUAL_BUDGET)
 plan_told (file ∷ option ∷ number ∷ []) = option_map plan (number_of (string_bytes number))
 plan_told args = None
 
 abbrev check_told : Words → Option Undated
-check_told (file ∷ second ∷ []) = Some (check usual_workers)
+check_told (file ∷ second ∷ []) = Some (check USUAL_WORKERS)
 check_told (file ∷ second ∷ option ∷ number ∷ []) = option_map check (number_of (string_bytes number))
 check_told args = None
 
@@ -213,7 +213,7 @@ no_crew_of_one v w x y z u other none (Staff l g b) h = other h.0.0
 no_crew_of_one v w x y z u other none c h = absurd h
 
 -- nor have six words whose last is no employee's number
-pub no_number : (v w x y z u : String Global) → (string_bytes v ≡ codes "staff" → ⊥) → ((e : ℕ) → IsCount (string_bytes u) most_employees e → ⊥) → HasNoForm (v ∷ w ∷ x ∷ y ∷ z ∷ u ∷ [])
+pub no_number : (v w x y z u : String Global) → (string_bytes v ≡ codes "staff" → ⊥) → ((e : ℕ) → IsCount (string_bytes u) MOST_WEEKS e → ⊥) → HasNoForm (v ∷ w ∷ x ∷ y ∷ z ∷ u ∷ [])
 no_number v w x y z u other none (Crew d n e) h = none h.1.0 h.1.1
 no_number v w x y z u other none (Staff l g b) h = other h.0.0
 no_number v w x y z u other none c h = absurd h

@@ -21,7 +21,7 @@ use Rattle.refutation_terms.proofs.Sound.{passing_leaves_none}
 use Rattle.refutation_terms.proofs.Unique.{verdict_unique}
 use Rattle.refutation_log.proofs.OneText.{has_names, is_writable}
 use Rattle.rwsp.specs.Inputs.{IsWithinLimit}
-use Rattle.rwsp.specs.Plans.{IsPlanned}
+use Rattle.rwsp.specs.Plans.{IsPlanAnswer}
 use Rattle.rwsp.specs.Answers.{IsLogAnswer, IsOfSearch}
 use Rattle.rwsp.specs.Texts.{IsPrintable, HasSymbols}
 use Rattle.rwsp.specs.declared.answer.InputKind.TheVariants as Kinds
@@ -62,13 +62,13 @@ printable P bytes (Refusals.Escape n w) h = caused P h.front h.line n w h.cause
 printable P bytes why h = tt
 
 -- what `plan` answers a search gives, and what it names is the instance's
-pub planned_is : (P : Instance) (budget : ℕ) (a : Answer) → IsPlanned P budget a → IsOfSearch a × IsPrintable P a
+pub planned_is : (P : Instance) (budget : ℕ) (a : Answer) → IsPlanAnswer P budget a → IsOfSearch a × IsPrintable P a
 planned_is P budget (Roster s) h = (tt, (h.0, h.1.is_roster))
 planned_is P budget (NoRoster g) h = (tt, h.0.grounded.fits)
 planned_is P budget (Undecided g) h = (tt, h.0.grounded.fits)
 planned_is P budget a h = absurd h
 
-pub planned_printable : (P : Instance) (budget : ℕ) (a : Answer) → IsPlanned P budget a → IsPrintable P a
+pub planned_printable : (P : Instance) (budget : ℕ) (a : Answer) → IsPlanAnswer P budget a → IsPrintable P a
 planned_printable P budget a h = (planned_is P budget a h).1
 
 -- a text has one verdict

@@ -1,6 +1,7 @@
 -- Two answers over the same files, compared part by part.
 use Rattle.std.proofs.Common.{◌≡◌, ℕ, List, ap, sym, ◌∙◌, refl, subst, inl, inr, arith}
 use Rattle.std.specs.Prelude.{◌≢◌, ◌⊎◌, [], Some, None}
+use Rattle.rwsp_terms.specs.declared.limits.TheConstants.{USUAL_WORKERS}
 use Rattle.rwsp_io.specs.Told.{Told, Silent, Missing, Bytes}
 use Rattle.rwsp_terms.specs.Instance.{Instance}
 use Rattle.rwsp_model.specs.Validity.{KeepsLimits}
@@ -8,10 +9,10 @@ use Rattle.rwsp_model.proofs.Limits.{valid_keeps}
 use Rattle.rwsp_file.specs.Spelling.{SpellsProblem}
 use Rattle.rwsp_file.specs.Laws.{TextsSpellOne, TextsSpellOrFail}
 use Rattle.refutation_terms.specs.LogText.{log_text}
-use Rattle.rwsp.specs.Commands.{Words, IsForm, ReadsProblem, ReadsSecond, IsWithinHorizon, problem_name, second_name, usual_workers}
+use Rattle.rwsp.specs.Commands.{Words, IsForm, ReadsProblem, ReadsSecond, IsWithinHorizon, problem_name, second_name}
 use Rattle.rwsp.specs.Inputs.{WhereTold, IsWithinLimit, IsProblemOf}
 use Rattle.rwsp.specs.Answers.{IsAnswerOn, IsAnswerTo, IsFileAnswer, IsSecondAnswer}
-use Rattle.rwsp.specs.Texts.{text_of, HasFixedText, IsPrintable, IsCalendarOf, IsCalendarText, IsReplyText}
+use Rattle.rwsp.specs.Texts.{answer_text, HasFixedText, IsPrintable, IsCalendarOf, IsCalendarText, IsReplyText}
 use Rattle.rwsp.specs.Trials.{IsTrialAnswer, IsProblemOfTrial}
 use Rattle.problem_generator.proofs.OneProblem.{same_generated}
 use Rattle.rwsp.specs.Laws.{AnswersAreOne, TextsAreOne, ProblemsAreAnswered, RefutationsAreAccepted, AgreeInSearch, RostersMeet, ReductionsAreAccepted, WorkersMakeNoDifference, StaffTextsAreAccepted}
@@ -24,7 +25,7 @@ use Rattle.rwsp.specs.Staffs.{IsStaffAnswer}
 use Rattle.crew_size.proofs.Decisions.{searches_agree, printed_runs_are_accepted, accepted_texts_decide}
 use Rattle.crew_size.specs.Sizes.{IsSize}
 use Rattle.rwsp.proofs.Logs.{accepted}
-use Rattle.rwsp.specs.Plans.{IsPlanned}
+use Rattle.rwsp.specs.Plans.{IsPlanAnswer}
 use Rattle.rwsp_terms.specs.Roster.{MeetsAll}
 use Rattle.rwsp_terms.specs.declared.data.Symbol.{Symbol}
 use Rattle.refutation_terms.specs.Log.{Log as LogValue, Passes}
@@ -57,7 +58,7 @@ at_missing told Q e h = subst (λ (t : Told). WhereTold t Q) e h
 pub exclusive : (P : Instance) (s : List Symbol) (g : LogValue) → MeetsAll P s → Passes P g → ⊥
 exclusive P s g h k = passing_leaves_none P g s k (record { is_roster = h.is_roster; rules = λ r n. h.rules r (named-IsRule P g.named r n) })
 
-planned_agree : (P : Instance) (budget : ℕ) (a b : Answer) → IsPlanned P budget a → IsPlanned P budget b → AgreeInSearch a b
+planned_agree : (P : Instance) (budget : ℕ) (a b : Answer) → IsPlanAnswer P budget a → IsPlanAnswer P budget b → AgreeInSearch a b
 planned_agree P budget (Roster s) (Roster t) h k = (tt, tt)
 planned_agree P budget (Roster s) (NoRoster e) h k = exclusive P s.cells e h.1 k.0
 planned_agree P budget (Roster s) (Undecided e) h k = (tt, tt)
@@ -182,13 +183,13 @@ answered one decide held words command file P a form within reads e short spells
 pub taken : RefutationsAreAccepted
 taken file P budget g a spells planned short kind h =
     let text = log_text P g in
-    one_second (Check usual_workers) P text a (Accepted g.named) (valid_keeps P spells.valid) h (accepted P text g.named short (g, (refl, planned.0), refl))
+    one_second (Check USUAL_WORKERS) P text a (Accepted g.named) (valid_keeps P spells.valid) h (accepted P text g.named short (g, (refl, planned.0), refl))
 
 -- a roster that is planned meets every rule
 pub verified : RostersMeet
 verified file P budget (Roster s) a spells kind planned h =
     let roster = planned.1.is_roster in
-    one_second Verify P (text_of P (Roster s)) a Meets (valid_keeps P spells.valid) h (printed_is_short P s.cells spells.valid roster, (s.cells, printed_is_spelled P s.cells spells.valid roster, planned.1))
+    one_second Verify P (answer_text P (Roster s)) a Meets (valid_keeps P spells.valid) h (printed_is_short P s.cells spells.valid roster, (s.cells, printed_is_spelled P s.cells spells.valid roster, planned.1))
 verified file P budget answer a spells kind planned h = absurd kind
 
 -- what a search for the least crew writes is accepted where it decides
@@ -197,12 +198,12 @@ staff_taken file P low high budget run staffed a spells sizes answer decides sho
     let limits = valid_keeps P spells.valid in
     let fits : IsSize P high = record { some = omega (arith, sizes); few = sizes.2; few_cells = answer.0 } in
     let accepted = printed_runs_are_accepted P low high budget run staffed limits sizes.0 sizes.1 fits answer.1 decides in
-    one_second CheckStaff P (text_of P (Staff run)) a (StaffAccepted staffed) limits h (short, accepted, accepted_texts_decide P (text_of P (Staff run)) staffed accepted)
+    one_second CheckStaff P (answer_text P (Staff run)) a (StaffAccepted staffed) limits h (short, accepted, accepted_texts_decide P (answer_text P (Staff run)) staffed accepted)
 
 -- what a reduction leaves is accepted
 pub kept : ReductionsAreAccepted
 kept file P bytes h a spells reduced short answer =
-    one_second (Check usual_workers) P (log_text P h) a (Accepted h.named) (valid_keeps P spells.valid) answer (accepted P (log_text P h) h.named short (h, (refl, reduced.2.passes), refl))
+    one_second (Check USUAL_WORKERS) P (log_text P h) a (Accepted h.named) (valid_keeps P spells.valid) answer (accepted P (log_text P h) h.named short (h, (refl, reduced.2.passes), refl))
 
 pub same_for_workers : WorkersMakeNoDifference
 same_for_workers m n told P a h = h
@@ -244,7 +245,7 @@ same_reply command P told a text other limits there (inr h) (inr k) = told_text 
 no_fixed : (a : Answer) → HasFixedText a → a ≡ Crew → ⊥
 no_fixed a h e = subst HasFixedText e h
 
-fixed_reply : (command : Command) (P : Instance) (told : Told) (a : Answer) (text other : List ℕ) → HasFixedText a → ((Q : Instance) → text ≡ text_of Q a) → IsReplyText command told P a other → text ≡ other
+fixed_reply : (command : Command) (P : Instance) (told : Told) (a : Answer) (text other : List ℕ) → HasFixedText a → ((Q : Instance) → text ≡ answer_text Q a) → IsReplyText command told P a other → text ≡ other
 fixed_reply command P told a text other fixed h (inl k) = h P ∙ sym k.1
 fixed_reply command P told a text other fixed h (inr k) = absurd (no_fixed a fixed k.0)
 
@@ -291,4 +292,4 @@ one_text one held words a text other told second (inr (inl h)) (inr (inr k)) = a
 one_text one held words a text other told second (inr (inr h)) (inr (inl k)) = absurd (trial_not_reply k.0 k.2.0 h.0 (held (second_name words)) a other k.2.2 h.1)
 one_text one held words a text other told second (inr (inr h)) (inr (inr k)) =
     let same : h.0 ≡ k.0 = one_of_trial a h.0 k.0 h.1 k.1 in
-    h.2 ∙ ap (λ (P : Instance). text_of P a) same ∙ sym k.2
+    h.2 ∙ ap (λ (P : Instance). answer_text P a) same ∙ sym k.2

@@ -4,6 +4,7 @@ use Rattle.std.proofs.Common.{ℤ, ◌≤ℤ◌, nat_abs, to_z, of_z, w32}
 use Rattle.std.proofs.lemmas.Int.{ints, to_z-of_z}
 use Rattle.std.specs.List.{range_with_len, sum_by}
 use Rattle.std.proofs.lemmas.List.Sums.{sum_by-append}
+use Rattle.rwsp_terms.specs.declared.limits.TheConstants.{MOST_WEEKS, TRIAL_BUDGET}
 use Rattle.rwsp_terms.proofs.Counting.{range_more}
 use Rattle.rwsp_terms.specs.Instance.{Instance, least, shift_demand}
 use Rattle.rwsp_terms.specs.Roster.{MeetsAll}
@@ -13,11 +14,11 @@ use Rattle.problem_generator.specs.Laws.{HiddenRostersMeet}
 use Rattle.roster_search.specs.declared.found.Found.{Found}
 use Rattle.roster_search.specs.declared.found.Found.TheVariants as Founds
 use Rattle.roster_planner.specs.Planned.{IsPlanned}
-use Rattle.rwsp.specs.Trials.{IsTried, trial_budget}
+use Rattle.rwsp.specs.Trials.{IsTried}
 use Rattle.rwsp.proofs.OneAnswer.{exclusive}
 
 -- a generated problem has a roster, so nothing refutes it
-pub tried_as_planned : (number weeks : ℕ) (P : Instance) (found : Found) → HiddenRostersMeet → 1 ≤ weeks → IsGenerated number weeks P → IsPlanned P trial_budget found → IsTried P found
+pub tried_as_planned : (number weeks : ℕ) (P : Instance) (found : Found) → HiddenRostersMeet → 1 ≤ weeks → IsGenerated number weeks P → IsPlanned P TRIAL_BUDGET found → IsTried P found
 tried_as_planned number weeks P (Founds.Roster s) law some is h = h
 tried_as_planned number weeks P (Founds.Undecided g) law some is h = (h.0, h.1)
 tried_as_planned number weeks P (Founds.NoRoster g) law some is h =
@@ -37,7 +38,7 @@ sum_more f n total more e here =
     omega arith
 
 -- a small number as a signed one and back
-pub small_cast : (z : ℤ) (m : ℕ) → z ≡ pos m → z ≤ℤ pos 600 → (m ≤ 600) × (nat_abs (to_z w32 (of_z w32 z)) ≡ m)
+pub small_cast : (z : ℤ) (m : ℕ) → z ≡ pos m → z ≤ℤ pos MOST_WEEKS → (m ≤ MOST_WEEKS) × (nat_abs (to_z w32 (of_z w32 z)) ≡ m)
 small_cast z m e below =
-    let few : m ≤ 600 = omega (arith, ints) in
+    let few : m ≤ MOST_WEEKS = omega (arith, ints) in
     (few, grind (arith, ints, to_z-of_z))

@@ -15,7 +15,7 @@ use Rattle.refutation_terms.specs.Verdict.{IsAccepted, IsRefused}
 use Rattle.rule_reducer.specs.Needs.{NeedsEach, NeedsTogether}
 use Rattle.rwsp.specs.Commands.{Words, IsForm, HasNoForm, ReadsProblem, ReadsSecond, IsWithinHorizon, problem_name, second_name}
 use Rattle.rwsp.specs.Inputs.{WhereTold, IsWithinLimit, IsTooLong, OfProblem, HasProblem}
-use Rattle.rwsp.specs.Plans.{IsPlanned}
+use Rattle.rwsp.specs.Plans.{IsPlanAnswer}
 use Rattle.rwsp.specs.Trials.{IsTrialAnswer}
 use Rattle.rwsp.specs.Staffs.{IsStaffAnswer, IsStaffVerdictOf}
 use Rattle.rwsp.specs.declared.command.Command.{Command}
@@ -39,15 +39,17 @@ abbrev pub IsRosterAnswer : Answer → Instance → List ℕ → Type 0
 IsRosterAnswer (TooLong Roster) P bytes = IsTooLong Roster bytes
 IsRosterAnswer (RosterRefused why) P bytes = IsWithinLimit Roster bytes × (refusal_of_roster P bytes ≡ Some why)
 IsRosterAnswer Meets P bytes = IsWithinLimit Roster bytes × ((s : List Symbol) × SpellsRoster P bytes s × MeetsAll P s)
-IsRosterAnswer (Breaks broken) P bytes = IsWithinLimit Roster bytes × ((s : List Symbol) × SpellsRoster P bytes s × IsFirstBroken P s broken)
+IsRosterAnswer (Breaks broken) P bytes =
+    IsWithinLimit Roster bytes × ((s : List Symbol) × SpellsRoster P bytes s × IsFirstBroken P s broken)
 IsRosterAnswer answer P bytes = ⊥
 
--- what an answer says of an instance and the bytes of a log: accepted are the rules that the header of a log names which passes, and
--- no roster meets them
+-- what an answer says of an instance and the bytes of a log: accepted are the rules that the header of a log names
+-- which passes, and no roster meets them
 abbrev pub IsLogAnswer : Answer → Instance → List ℕ → Type 0
 IsLogAnswer (TooLong Log) P bytes = IsTooLong Log bytes
 IsLogAnswer (LogRefused why) P bytes = IsWithinLimit Log bytes × IsRefused P bytes why
-IsLogAnswer (Accepted R) P bytes = IsWithinLimit Log bytes × ((g : LogValue) × IsAccepted P bytes g × (g.named ≡ R)) × LeavesNoRoster P R
+IsLogAnswer (Accepted R) P bytes =
+    IsWithinLimit Log bytes × ((g : LogValue) × IsAccepted P bytes g × (g.named ≡ R)) × LeavesNoRoster P R
 IsLogAnswer answer P bytes = ⊥
 
 -- a log that passes, and can't do without any rule that it names, nor without several window rules
@@ -60,7 +62,8 @@ pub record IsSparing (P : Instance) (g : LogValue) : Type 0 where
 abbrev pub IsReduction : Answer → Instance → List ℕ → Type 0
 IsReduction (TooLong Log) P bytes = IsTooLong Log bytes
 IsReduction (LogRefused why) P bytes = IsWithinLimit Log bytes × IsRefused P bytes why
-IsReduction (Reduced h) P bytes = IsWithinLimit Log bytes × ((g : LogValue) × IsAccepted P bytes g × IsReduced P g h) × IsSparing P h
+IsReduction (Reduced h) P bytes =
+    IsWithinLimit Log bytes × ((g : LogValue) × IsAccepted P bytes g × IsReduced P g h) × IsSparing P h
 IsReduction answer P bytes = ⊥
 
 -- the instance has the employee, where one is asked for
@@ -162,25 +165,28 @@ IsSecondAnswer command answer P bytes = ⊥
 -- what the answer to a command says of the instance that the first file spells, and of what the second file tells
 abbrev pub IsAnswerOn : Command → Told → Instance → Answer → Type 0
 IsAnswerOn Show told P answer = answer ≡ Shown
-IsAnswerOn (Plan budget) told P answer = IsPlanned P budget answer
+IsAnswerOn (Plan budget) told P answer = IsPlanAnswer P budget answer
 IsAnswerOn (StaffCommand low high budget) told P answer = IsStaffAnswer P low high budget answer
 IsAnswerOn command told P answer = IsOfSecond command answer × WhereTold told (IsSecondAnswer command answer P)
 
--- the problem's file ends the job, or the answer is one of the command's, and the file spells an instance where the command has it
+-- the problem's file ends the job, or the answer is one of the command's, and the file spells an instance where the
+-- command has it
 abbrev pub IsAnswerTo : Command → (List ℕ → Told) → Words → Answer → Type 0
 IsAnswerTo command held words answer =
     (IsOfFile answer × WhereTold (held (problem_name words)) (IsFileAnswer answer))
     ⊎ (IsOfCommand command answer × OfProblem held words (λ P. IsAnswerOn command (held (second_name words)) P answer))
 
--- what is so where an answer comes
+-- what holds where an answer comes
 abbrev pub IsAnswer : (List ℕ → Told) → Words → Answer → Type 0
 IsAnswer held words answer =
     (HasNoForm words × (answer ≡ Usage))
     ⊎ (((command : Command) × IsForm words command × (IsWithinHorizon command → ⊥) × (answer ≡ Horizon))
     ⊎ (((number weeks : ℕ) × IsForm words (Trial number weeks) × IsTrialAnswer number weeks answer)
-    ⊎ ((command : Command) × IsForm words command × IsWithinHorizon command × ReadsProblem command × IsAnswerTo command held words answer)))
+    ⊎ ((command : Command) × IsForm words command × IsWithinHorizon command × ReadsProblem command
+        × IsAnswerTo command held words answer)))
 
--- a file could not be read: the count of the problem's file has risen, or that of the second file, and then the first spells an instance
+-- a file could not be read: the count of the problem's file has risen, or that of the second file, and then the first
+-- spells an instance
 abbrev pub IsReadFault : (List ℕ → Told) → (before now : List ℕ → ℕ) → Words → Type 0
 IsReadFault held before now words =
     (command : Command) × IsForm words command × ReadsProblem command

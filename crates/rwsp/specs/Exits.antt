@@ -1,4 +1,4 @@
--- What is so where a run ends before its job is done.
+-- What holds where a run ends before its job is done.
 use Rattle.std.specs.Prelude.{◌≡◌}
 use Rattle.rwsp_io.specs.Told.{Told}
 use Rattle.rwsp.specs.Inputs.{WhereTold, IsTooLong}

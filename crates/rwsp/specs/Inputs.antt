@@ -1,5 +1,6 @@
 -- What the files hold that a command names.
 use Rattle.std.specs.Prelude.{ℕ, ◌<◌, ◌≤◌, List, length}
+use Rattle.rwsp_terms.specs.declared.limits.TheConstants.{LONGEST_FILE, LONGEST_LOG}
 use Rattle.rwsp_io.specs.Told.{Told, Silent, Missing, Bytes}
 use Rattle.rwsp_terms.specs.Instance.{Instance}
 use Rattle.rwsp_file.specs.Spelling.{SpellsProblem}
@@ -17,9 +18,9 @@ WhereTold (Bytes bytes) Q = Q bytes
 
 -- the most bytes that a file of a kind may have
 abbrev pub longest : InputKind → ℕ
-longest Problem = 1048576
-longest Roster = 1048576
-longest Log = 536870912
+longest Problem = LONGEST_FILE
+longest Roster = LONGEST_FILE
+longest Log = LONGEST_LOG
 
 -- the kind of a command's second file
 abbrev pub second_kind : Command → InputKind
@@ -37,7 +38,9 @@ IsTooLong kind bytes = longest kind < length bytes
 
 -- a fact about the instance that the first file spells
 abbrev pub OfProblem : (List ℕ → Told) → Words → (Instance → Type 0) → Type 0
-OfProblem held words Q = WhereTold (held (problem_name words)) (λ file. IsWithinLimit Problem file × ((P : Instance) × SpellsProblem file P × Q P))
+OfProblem held words Q =
+    WhereTold (held (problem_name words))
+    (λ file. IsWithinLimit Problem file × ((P : Instance) × SpellsProblem file P × Q P))
 
 -- the first file spells an instance
 abbrev pub HasProblem : (List ℕ → Told) → Words → Type 0

@@ -9,13 +9,14 @@ use Rattle.roster_search.specs.declared.found.Found.TheVariants as Founds
 use Rattle.rwsp.specs.declared.answer.Answer.{Answer}
 use Rattle.rwsp.specs.declared.answer.Answer.TheVariants.{Roster, NoRoster, Undecided}
 
--- a roster that meets every rule; or a sharp log that passes, within the budget; or a sharp log that has spent the budget, which a
--- budget for all assignments can't be
-abbrev pub IsPlanned : Instance → ℕ → Answer → Type 0
-IsPlanned P budget (Roster s) = (s.days ≡ P.days) × MeetsAll P s.cells
-IsPlanned P budget (NoRoster g) = Passes P g × (size g ≤ budget) × IsPlannedLog P g
-IsPlanned P budget (Undecided g) = IsSpent P g budget × IsPlannedLog P g × (budget + 1 < 2 * (shift_count P + 1) ^ cells P)
-IsPlanned P budget answer = ⊥
+-- a roster that meets every rule; or a sharp log that passes, within the budget; or a sharp log that has spent the
+-- budget, which a budget for all assignments can't be
+abbrev pub IsPlanAnswer : Instance → ℕ → Answer → Type 0
+IsPlanAnswer P budget (Roster s) = (s.days ≡ P.days) × MeetsAll P s.cells
+IsPlanAnswer P budget (NoRoster g) = Passes P g × (size g ≤ budget) × IsPlannedLog P g
+IsPlanAnswer P budget (Undecided g) =
+    IsSpent P g budget × IsPlannedLog P g × (budget + 1 < 2 * (shift_count P + 1) ^ cells P)
+IsPlanAnswer P budget answer = ⊥
 
 -- the answer with what was found
 abbrev pub answer_of : Found → Answer

@@ -75,7 +75,8 @@ log_refusal_text P (Refusals.Unnamed number rule) = at_line (codes "log refused:
 log_refusal_text P (Refusals.Idle number) = at_line (codes "log refused: idle") number
 log_refusal_text P (Refusals.Long number rule) = at_line (codes "log refused: long " ++ decimal rule) number
 log_refusal_text P (Refusals.Fails number) = at_line (codes "log refused: fails") number
-log_refusal_text P (Refusals.Escape number w) = at_line (codes "log refused: escape") number ++ codes ":" ++ word_text P w
+log_refusal_text P (Refusals.Escape number w) =
+    at_line (codes "log refused: escape") number ++ codes ":" ++ word_text P w
 log_refusal_text P (Refusals.Unfinished number) = at_line (codes "log refused: open") number
 log_refusal_text P Refusals.Ends = codes "log refused: ends"
 log_refusal_text P (Refusals.Extra number) = at_line (codes "log refused: extra") number
@@ -88,14 +89,17 @@ accepted_text R = codes "accepted: rules" ++ flat_map (λ k. 32 ∷ decimal k) R
 -- where a window begins and how long it is; the rule of a day has no such place
 abbrev pub place_text : Rule → Broken → List ℕ
 place_text (Day day) broken = []
-place_text rule broken = codes " week " ++ decimal broken.week ++ codes " day " ++ decimal broken.day ++ codes " length " ++ decimal broken.length
+place_text rule broken =
+    codes " week " ++ decimal broken.week ++ codes " day " ++ decimal broken.day ++ codes " length "
+    ++ decimal broken.length
 
 abbrev pub broken_text : Instance → Option Rule → Broken → List ℕ
 broken_text P None broken = []
 broken_text P (Some rule) broken = rule_text P rule ++ place_text rule broken
 
 abbrev pub breaks_text : Instance → Broken → List ℕ
-breaks_text P broken = codes "breaks rule " ++ decimal broken.rule ++ codes " " ++ broken_text P (rule_of P broken.rule) broken
+breaks_text P broken =
+    codes "breaks rule " ++ decimal broken.rule ++ codes " " ++ broken_text P (rule_of P broken.rule) broken
 
 -- what an accepted staff text decides
 abbrev pub staffed_text : Staffed → List ℕ
@@ -172,29 +176,30 @@ HasFixedLine (Accepted R) = ⊥
 HasFixedLine (RosterRefused why) = ⊥
 HasFixedLine answer = HasFixedText answer
 
--- the text of an answer, for the instance that the problem's file spells, or that of a trial. A calendar's text is of more than the instance
-abbrev pub text_of : Instance → Answer → List ℕ
-text_of P (Roster s) = roster_text P s.cells
-text_of P (NoRoster g) = log_text P g
-text_of P (Undecided g) = log_text P g
-text_of P (Accepted R) = line (accepted_text R)
-text_of P (LogRefused why) = line (log_refusal_text P why)
-text_of P (Reduced g) = log_text P g
-text_of P Meets = line (codes "meets")
-text_of P (Breaks broken) = line (breaks_text P broken)
-text_of P (RosterRefused why) = line (roster_refusal_text why)
-text_of P Shown = problem_text P
-text_of P (Trial trial) = trial_text P trial
-text_of P Usage = line usage_text
-text_of P (FileRefused why) = line (file_refusal_text why)
-text_of P (TooLong kind) = line (kind_text kind)
-text_of P Horizon = line (codes "horizon refused")
-text_of P (NoEmployee e) = line (codes "no employee " ++ decimal e)
-text_of P (Staff run) = staff_text P run
-text_of P (StaffRange weeks) = line (codes "staff range: weeks " ++ decimal weeks)
-text_of P (StaffAccepted staffed) = line (staffed_text staffed)
-text_of P (StaffRefused why) = line (staff_refusal_text P why)
-text_of P Crew = []
+-- the text of an answer, for the instance that the problem's file spells, or that of a trial. A calendar's text is of
+-- more than the instance
+abbrev pub answer_text : Instance → Answer → List ℕ
+answer_text P (Roster s) = roster_text P s.cells
+answer_text P (NoRoster g) = log_text P g
+answer_text P (Undecided g) = log_text P g
+answer_text P (Accepted R) = line (accepted_text R)
+answer_text P (LogRefused why) = line (log_refusal_text P why)
+answer_text P (Reduced g) = log_text P g
+answer_text P Meets = line (codes "meets")
+answer_text P (Breaks broken) = line (breaks_text P broken)
+answer_text P (RosterRefused why) = line (roster_refusal_text why)
+answer_text P Shown = problem_text P
+answer_text P (Trial trial) = trial_text P trial
+answer_text P Usage = line usage_text
+answer_text P (FileRefused why) = line (file_refusal_text why)
+answer_text P (TooLong kind) = line (kind_text kind)
+answer_text P Horizon = line (codes "horizon refused")
+answer_text P (NoEmployee e) = line (codes "no employee " ++ decimal e)
+answer_text P (Staff run) = staff_text P run
+answer_text P (StaffRange weeks) = line (codes "staff range: weeks " ++ decimal weeks)
+answer_text P (StaffAccepted staffed) = line (staffed_text staffed)
+answer_text P (StaffRefused why) = line (staff_refusal_text P why)
+answer_text P Crew = []
 
 -- a word that escapes has symbols of the instance
 abbrev pub HasSymbols : Instance → LogRefusal → Type 0
@@ -233,20 +238,23 @@ IsCalendarOf command P s text = ⊥
 
 -- the same, of the roster that the second file spells
 abbrev pub IsCalendarText : Command → Told → Instance → List ℕ → Type 0
-IsCalendarText command told P text = WhereTold told (λ bytes. (s : List Symbol) × SpellsRoster P bytes s × IsCalendarOf command P s text)
+IsCalendarText command told P text =
+    WhereTold told (λ bytes. (s : List Symbol) × SpellsRoster P bytes s × IsCalendarOf command P s text)
 
 -- the text of the answer to a command, for an instance and what the second file tells
 abbrev pub IsReplyText : Command → Told → Instance → Answer → List ℕ → Type 0
 IsReplyText command told P answer text =
-    (IsPrintable P answer × (text ≡ text_of P answer)) ⊎ ((answer ≡ Crew) × IsCalendarText command told P text)
+    (IsPrintable P answer × (text ≡ answer_text P answer)) ⊎ ((answer ≡ Crew) × IsCalendarText command told P text)
 
 -- the text is that of the answer to a trial, for the trial's problem
 abbrev pub IsTextOfTrial : Answer → List ℕ → Type 0
-IsTextOfTrial answer text = (P : Instance) × IsProblemOfTrial answer P × (text ≡ text_of P answer)
+IsTextOfTrial answer text = (P : Instance) × IsProblemOfTrial answer P × (text ≡ answer_text P answer)
 
--- the text is the answer's, which is the same for every instance, or is for the one that the problem's file spells, or for that of a trial
+-- the text is the answer's, which is the same for every instance, or is for the one that the problem's file spells,
+-- or for that of a trial
 abbrev pub IsTextOf : (List ℕ → Told) → Words → Answer → List ℕ → Type 0
 IsTextOf held words answer text =
-    (HasFixedText answer × ((P : Instance) → text ≡ text_of P answer))
-    ⊎ (((command : Command) × IsForm words command × ((P : Instance) × IsProblemOf held words P × IsReplyText command (held (second_name words)) P answer text))
+    (HasFixedText answer × ((P : Instance) → text ≡ answer_text P answer))
+    ⊎ (((command : Command) × IsForm words command
+        × ((P : Instance) × IsProblemOf held words P × IsReplyText command (held (second_name words)) P answer text))
     ⊎ IsTextOfTrial answer text)

@@ -1,5 +1,6 @@
 -- What a trial says of the problem of its number and weeks.
 use Rattle.std.specs.Prelude.{◌≡◌, ℕ}
+use Rattle.rwsp_terms.specs.declared.limits.TheConstants.{TRIAL_BUDGET}
 use Rattle.rwsp_terms.specs.Instance.{Instance}
 use Rattle.rwsp_terms.specs.Roster.{MeetsAll}
 use Rattle.refutation_terms.specs.Log.{IsSpent}
@@ -11,19 +12,18 @@ use Rattle.rwsp.specs.declared.answer.TrialResult.{TrialResult}
 use Rattle.rwsp.specs.declared.answer.Answer.{Answer}
 use Rattle.rwsp.specs.declared.answer.Answer.TheVariants.{Trial}
 
--- the most lines of splits and leaves that a trial's log has
-abbrev pub trial_budget : ℕ
-trial_budget = 2000
-
--- a roster that meets every rule, or a sharp log that has spent the budget. There is no refutation, since a roster exists
+-- a roster that meets every rule, or a sharp log that has spent the budget. There is no refutation, since a roster
+-- exists
 abbrev pub IsTried : Instance → Found → Type 0
 IsTried P (Founds.Roster s) = (s.days ≡ P.days) × MeetsAll P s.cells
-IsTried P (Founds.Undecided g) = IsSpent P g trial_budget × IsPlannedLog P g
+IsTried P (Founds.Undecided g) = IsSpent P g TRIAL_BUDGET × IsPlannedLog P g
 IsTried P (Founds.NoRoster g) = ⊥
 
 -- what was found for the problem of the number and the weeks
 abbrev pub IsTrial : ℕ → ℕ → TrialResult → Type 0
-IsTrial number weeks trial = (trial.number ≡ number) × (trial.weeks ≡ weeks) × ((P : Instance) × IsGenerated number weeks P × IsTried P trial.found)
+IsTrial number weeks trial =
+    (trial.number ≡ number) × (trial.weeks ≡ weeks)
+    × ((P : Instance) × IsGenerated number weeks P × IsTried P trial.found)
 
 -- the answer is that of a trial
 abbrev pub IsTrialAnswer : ℕ → ℕ → Answer → Type 0

@@ -8,7 +8,8 @@ use roster_checker::Broken;
 use roster_print::RosterRefusal;
 use roster_search::Found;
 use rwsp_file::FileRefusal;
-use rwsp_model::{Roster, RuleList};
+use rwsp_model::Roster;
+use rwsp_terms::RuleList;
 use std::alloc::AllocError;
 
 /// Which input is too long.

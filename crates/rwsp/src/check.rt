@@ -1,6 +1,5 @@
 // Whether a log passes.
 ghost use Rattle.std.specs.Prelude.{◌≤◌, IfOk};
-ghost use Rattle.rwsp.specs.Commands.{most_workers};
 ghost use Rattle.rwsp.specs.Inputs.{IsWithinLimit};
 ghost use Rattle.rwsp.specs.Answers.{IsLogAnswer, IsOfLog};
 ghost use Rattle.rwsp.specs.Texts.{IsPrintable};
@@ -10,10 +9,11 @@ use crate::answer::Answer;
 use potential_bounds::Gate;
 use refutation_checker::check_with;
 use rwsp_model::{Fail, Problem};
+use rwsp_terms::limits::MOST_WORKERS;
 use std::alloc::{AllocError, Global};
 use std::thread::Threads;
 
-/// The answer to the bytes of a log, by so many workers.
+/// The answer to the bytes of a log, worked out by `workers` threads at most.
 #[tactic(auto, using(crate::proofs::Logs::printable))]
 pub fn log_verdict<R: Threads + Sync, G: Gate>(
     rt: &R,
@@ -24,7 +24,7 @@ pub fn log_verdict<R: Threads + Sync, G: Gate>(
     gate: &G,
 ) -> Result<Answer, AllocError>
     requires short { IsWithinLimit Kinds.Log bytes.now }
-    requires workers { (1 ≤ workers) × (workers ≤ most_workers) }
+    requires workers { (1 ≤ workers) × (workers ≤ MOST_WORKERS) }
     ensures answer { IfOk result (λ a. IsLogAnswer a problem.now bytes.now) }
     ensures kind { IfOk result IsOfLog }
     ensures printable { IfOk result (IsPrintable problem.now) }

@@ -2,21 +2,24 @@
 ghost use Rattle.std.specs.Prelude.{◌≡◌, ◌≢◌, codes, ℕ, ◌<◌, ◌↔◌, [], ◌∷◌, length, IsTrue, MatchOption, slice_get};
 ghost use Rattle.std.specs.String.{string_bytes};
 ghost use Rattle.jiff.specs.Types.{Date as PlainDate};
-ghost use Rattle.rwsp.specs.Commands.{IsFileWord, IsCount, IsForm, IsCrewForm, IsStaffForm, HasNoForm, HasFewDays, IsWithinHorizon, word_bytes};
+ghost use Rattle.rwsp.specs.Commands.{IsFileWord, IsCount, IsCommandOf, AreDatesOf, AreSizesOf, HasFewDays, IsWithinHorizon, word_bytes};
 
 use crew_calendar::{date_of, fits};
 use jiff::civil::Date;
-use rwsp_terms::limits::{GREATEST_STAFF_BUDGET, MOST_SIZES, USUAL_STAFF_BUDGET};
+use rwsp_terms::limits::{
+    GREATEST_BUDGET, GREATEST_STAFF_BUDGET, LONGEST_CALENDAR, MOST_SIZES, MOST_WEEKS, MOST_WORKERS, USUAL_BUDGET,
+    USUAL_STAFF_BUDGET, USUAL_WORKERS,
+};
 use rwsp_text::number;
 
 /// What is to be done. The names of files are words of their own.
 #[derive(Clone, Copy, Debug, PartialEq, Eq)]
 pub enum Command {
-    /// A roster for a problem, or the log of a refutation of at most so many lines.
+    /// A roster for a problem, or the log of a refutation of at most `budget` lines.
     Plan {
         budget: u32,
     },
-    /// Whether a log passes, by so many workers.
+    /// Whether a log passes, checked by some workers.
     Check {
         workers: u32,
     },
@@ -26,12 +29,12 @@ pub enum Command {
     Reduce,
     /// The canonical text of a problem.
     Show,
-    /// What a search finds for the problem of a number and so many weeks.
+    /// What a search finds for the problem of a number and of some weeks.
     Trial {
         number: u32,
         weeks: u32,
     },
-    /// The calendar of a roster from a date on, for so many days: of all employees, or the duties of one.
+    /// The calendar of a roster from a date on, for some days: of all employees, or the duties of one.
     Crew {
         date: Date,
         days: u32,
@@ -47,24 +50,6 @@ pub enum Command {
     /// Whether what `staff` wrote is right.
     CheckStaff,
 }
-
-/// The budget of `plan` where none is given, and the greatest.
-const USUAL_BUDGET: u32 = 20_000;
-
-const GREATEST_BUDGET: u32 = 200_000;
-
-/// The workers of `check` where none are given, and the most.
-const USUAL_WORKERS: u32 = 4;
-
-const MOST_WORKERS: u32 = 64;
-
-/// The most weeks of a trial.
-const MOST_WEEKS: u32 = 600;
-
-/// The most days of a calendar, and the greatest number of an employee.
-const MOST_DAYS: u32 = 400;
-
-const MOST_EMPLOYEES: u32 = 600;
 
 fn is_file_word(word: &str) -> bool
     ensures { IsTrue result ↔ IsFileWord word.now }
@@ -83,7 +68,7 @@ fn count_in(word: &str, limit: u32) -> Option<u32>
 
 /// The command that the words are a form of; None exactly where they are a form of none. Takes no memory.
 pub fn command_of(words: &Vec<String>) -> Option<Command>
-    ensures { MatchOption result (HasNoForm words.now.items) (IsForm words.now.items) }
+    ensures { IsCommandOf words.now.items result }
 {
     match words.as_slice() {
         [word, file] => on_one_file(word, file),
@@ -99,7 +84,7 @@ pub fn command_of(words: &Vec<String>) -> Option<Command>
 
 // A command with the problem's file alone.
 fn on_one_file(word: &String, file: &String) -> Option<Command>
-    ensures { MatchOption result (HasNoForm (word.now ∷ file.now ∷ [])) (IsForm (word.now ∷ file.now ∷ [])) }
+    ensures { IsCommandOf (word.now ∷ file.now ∷ []) result }
 {
     if !is_file_word(file.as_str()) {
         return None;
@@ -117,7 +102,7 @@ fn on_one_file(word: &String, file: &String) -> Option<Command>
 
 // A trial, or a command with a second file.
 fn on_three_words(word: &String, first: &String, second: &String) -> Option<Command>
-    ensures { MatchOption result (HasNoForm (word.now ∷ first.now ∷ second.now ∷ [])) (IsForm (word.now ∷ first.now ∷ second.now ∷ [])) }
+    ensures { IsCommandOf (word.now ∷ first.now ∷ second.now ∷ []) result }
 {
     if word.as_str() == "trial" {
         trial_of(word, first, second)
@@ -129,7 +114,7 @@ fn on_three_words(word: &String, first: &String, second: &String) -> Option<Comm
 // The trial of a number and a count of weeks.
 fn trial_of(word: &String, number_word: &String, weeks_word: &String) -> Option<Command>
     requires { string_bytes word.now ≡ codes "trial" }
-    ensures { MatchOption result (HasNoForm (word.now ∷ number_word.now ∷ weeks_word.now ∷ [])) (IsForm (word.now ∷ number_word.now ∷ weeks_word.now ∷ [])) }
+    ensures { IsCommandOf (word.now ∷ number_word.now ∷ weeks_word.now ∷ []) result }
 {
     let number = number(number_word.as_bytes())?;
     let weeks = count_in(weeks_word.as_str(), MOST_WEEKS)?;
@@ -139,7 +124,7 @@ fn trial_of(word: &String, number_word: &String, weeks_word: &String) -> Option<
 // A command with a second file.
 fn on_two_files(word: &String, file: &String, second: &String) -> Option<Command>
     requires { string_bytes word.now ≢ codes "trial" }
-    ensures { MatchOption result (HasNoForm (word.now ∷ file.now ∷ second.now ∷ [])) (IsForm (word.now ∷ file.now ∷ second.now ∷ [])) }
+    ensures { IsCommandOf (word.now ∷ file.now ∷ second.now ∷ []) result }
 {
     if !is_file_word(file.as_str()) {
         return None;
@@ -164,7 +149,7 @@ fn on_two_files(word: &String, file: &String, second: &String) -> Option<Command
 
 // `plan` with a budget, or `staff` without one.
 fn on_four_words(word: &String, file: &String, third: &String, fourth: &String) -> Option<Command>
-    ensures { MatchOption result (HasNoForm (word.now ∷ file.now ∷ third.now ∷ fourth.now ∷ [])) (IsForm (word.now ∷ file.now ∷ third.now ∷ fourth.now ∷ [])) }
+    ensures { IsCommandOf (word.now ∷ file.now ∷ third.now ∷ fourth.now ∷ []) result }
 {
     if word.as_str() == "staff" {
         return staff_of(word, file, third, fourth);
@@ -174,7 +159,7 @@ fn on_four_words(word: &String, file: &String, third: &String, fourth: &String) 
 
 // The first and the last number of weeks of a `staff`.
 fn sizes_of(word: &String, file: &String, low: &String, high: &String) -> Option<(u32, u32)>
-    ensures { MatchOption result ((l h : ℕ) → IsStaffForm (string_bytes word.now) (string_bytes file.now) (string_bytes low.now) (string_bytes high.now) l h → ⊥) (λ both. IsStaffForm (string_bytes word.now) (string_bytes file.now) (string_bytes low.now) (string_bytes high.now) both.0 both.1) }
+    ensures { AreSizesOf word.now file.now low.now high.now result }
 {
     if word.as_str() != "staff" {
         return None;
@@ -193,7 +178,7 @@ fn sizes_of(word: &String, file: &String, low: &String, high: &String) -> Option
 // `staff` with the usual budget.
 fn staff_of(word: &String, file: &String, low: &String, high: &String) -> Option<Command>
     requires { string_bytes word.now ≡ codes "staff" }
-    ensures { MatchOption result (HasNoForm (word.now ∷ file.now ∷ low.now ∷ high.now ∷ [])) (IsForm (word.now ∷ file.now ∷ low.now ∷ high.now ∷ [])) }
+    ensures { IsCommandOf (word.now ∷ file.now ∷ low.now ∷ high.now ∷ []) result }
 {
     let (low, high) = sizes_of(word, file, low, high)?;
     Some(Command::Staff {
@@ -206,7 +191,7 @@ fn staff_of(word: &String, file: &String, low: &String, high: &String) -> Option
 // `plan` with a budget.
 fn plan_by_option(word: &String, file: &String, option: &String, number: &String) -> Option<Command>
     requires { string_bytes word.now ≢ codes "staff" }
-    ensures { MatchOption result (HasNoForm (word.now ∷ file.now ∷ option.now ∷ number.now ∷ [])) (IsForm (word.now ∷ file.now ∷ option.now ∷ number.now ∷ [])) }
+    ensures { IsCommandOf (word.now ∷ file.now ∷ option.now ∷ number.now ∷ []) result }
 {
     if word.as_str() != "plan" {
         return None;
@@ -229,7 +214,7 @@ fn on_five_words(
     option: &String,
     number: &String,
 ) -> Option<Command>
-    ensures { MatchOption result (HasNoForm (word.now ∷ file.now ∷ second.now ∷ option.now ∷ number.now ∷ [])) (IsForm (word.now ∷ file.now ∷ second.now ∷ option.now ∷ number.now ∷ [])) }
+    ensures { IsCommandOf (word.now ∷ file.now ∷ second.now ∷ option.now ∷ number.now ∷ []) result }
 {
     if word.as_str() == "crew" {
         return crew_of_all(word, file, second, option, number);
@@ -245,7 +230,7 @@ fn dates_of(
     date: &String,
     days: &String,
 ) -> Option<(Date, u32)>
-    ensures { MatchOption result ((first : PlainDate) (n : ℕ) → IsCrewForm (string_bytes word.now) (string_bytes file.now) (string_bytes second.now) (string_bytes date.now) (string_bytes days.now) first n → ⊥) (λ both. IsCrewForm (string_bytes word.now) (string_bytes file.now) (string_bytes second.now) (string_bytes date.now) (string_bytes days.now) both.0 both.1) }
+    ensures { AreDatesOf word.now file.now second.now date.now days.now result }
 {
     if word.as_str() != "crew" {
         return None;
@@ -257,7 +242,7 @@ fn dates_of(
         return None;
     }
     let date = date_of(date.as_str())?;
-    let days = count_in(days.as_str(), MOST_DAYS)?;
+    let days = count_in(days.as_str(), LONGEST_CALENDAR)?;
     Some((date, days))
 }
 
@@ -270,7 +255,7 @@ fn crew_of_all(
     days: &String,
 ) -> Option<Command>
     requires { string_bytes word.now ≡ codes "crew" }
-    ensures { MatchOption result (HasNoForm (word.now ∷ file.now ∷ second.now ∷ date.now ∷ days.now ∷ [])) (IsForm (word.now ∷ file.now ∷ second.now ∷ date.now ∷ days.now ∷ [])) }
+    ensures { IsCommandOf (word.now ∷ file.now ∷ second.now ∷ date.now ∷ days.now ∷ []) result }
 {
     let (date, days) = dates_of(word, file, second, date, days)?;
     Some(Command::Crew {
@@ -290,10 +275,10 @@ fn crew_of_one(
     number: &String,
 ) -> Option<Command>
     requires { string_bytes word.now ≢ codes "staff" }
-    ensures { MatchOption result (HasNoForm (word.now ∷ file.now ∷ second.now ∷ date.now ∷ days.now ∷ number.now ∷ [])) (IsForm (word.now ∷ file.now ∷ second.now ∷ date.now ∷ days.now ∷ number.now ∷ [])) }
+    ensures { IsCommandOf (word.now ∷ file.now ∷ second.now ∷ date.now ∷ days.now ∷ number.now ∷ []) result }
 {
     let (date, days) = dates_of(word, file, second, date, days)?;
-    let employee = count_in(number.as_str(), MOST_EMPLOYEES)?;
+    let employee = count_in(number.as_str(), MOST_WEEKS)?;
     Some(Command::Crew {
         date,
         days,
@@ -310,7 +295,7 @@ fn on_six_words(
     fifth: &String,
     number: &String,
 ) -> Option<Command>
-    ensures { MatchOption result (HasNoForm (word.now ∷ file.now ∷ third.now ∷ fourth.now ∷ fifth.now ∷ number.now ∷ [])) (IsForm (word.now ∷ file.now ∷ third.now ∷ fourth.now ∷ fifth.now ∷ number.now ∷ [])) }
+    ensures { IsCommandOf (word.now ∷ file.now ∷ third.now ∷ fourth.now ∷ fifth.now ∷ number.now ∷ []) result }
 {
     if word.as_str() == "staff" {
         return staff_by_option(word, file, third, fourth, fifth, number);
@@ -328,7 +313,7 @@ fn staff_by_option(
     number: &String,
 ) -> Option<Command>
     requires { string_bytes word.now ≡ codes "staff" }
-    ensures { MatchOption result (HasNoForm (word.now ∷ file.now ∷ low.now ∷ high.now ∷ option.now ∷ number.now ∷ [])) (IsForm (word.now ∷ file.now ∷ low.now ∷ high.now ∷ option.now ∷ number.now ∷ [])) }
+    ensures { IsCommandOf (word.now ∷ file.now ∷ low.now ∷ high.now ∷ option.now ∷ number.now ∷ []) result }
 {
     let (low, high) = sizes_of(word, file, low, high)?;
     if option.as_str() != "--budget" {
@@ -358,7 +343,7 @@ fn check_by_option(
     number: &String,
 ) -> Option<Command>
     requires { string_bytes word.now ≢ codes "crew" }
-    ensures { MatchOption result (HasNoForm (word.now ∷ file.now ∷ second.now ∷ option.now ∷ number.now ∷ [])) (IsForm (word.now ∷ file.now ∷ second.now ∷ option.now ∷ number.now ∷ [])) }
+    ensures { IsCommandOf (word.now ∷ file.now ∷ second.now ∷ option.now ∷ number.now ∷ []) result }
 {
     if word.as_str() != "check" {
         return None;

@@ -3,8 +3,8 @@ ghost use Rattle.std.specs.Prelude.{◌≡◌, ◌≤◌, ℕ, Some, IfOk, IfErr
 ghost use Rattle.rwsp_io.specs.Told.{NeverFall, Rose, Bytes};
 ghost use Rattle.rwsp_terms.specs.Roster.{IsRoster};
 ghost use Rattle.roster_print.specs.RosterText.{SpellsRoster};
-ghost use Rattle.crew_calendar.specs.Calendar.{Fits};
-ghost use Rattle.rwsp.specs.Commands.{most_days, IsEmployeeNumber};
+ghost use Rattle.crew_calendar.specs.Calendar.{FitsDates};
+ghost use Rattle.rwsp.specs.Commands.{IsEmployeeNumber};
 ghost use Rattle.rwsp.specs.Inputs.{WhereTold, IsWithinLimit};
 ghost use Rattle.rwsp.specs.Answers.{IsCrewAnswer, IsOfCrew, SpellsRight};
 ghost use Rattle.rwsp.specs.Texts.{IsReplyText, IsCalendarOf};
@@ -21,6 +21,7 @@ use roster_checker::first_broken;
 use roster_print::read_roster;
 use rwsp_io::Shelf;
 use rwsp_model::{Fail, Problem, Roster};
+use rwsp_terms::limits::LONGEST_CALENDAR;
 use std::alloc::Global;
 
 /// The reply with the calendar of the roster that a file spells, from the date on, of all employees or of one.
@@ -33,12 +34,14 @@ pub fn crew_reply<S: Shelf>(
     days: u32,
     employee: Option<u32>,
 ) -> Result<Reply, Stop>
-    requires days { days ≤ most_days }
+    requires days { days ≤ LONGEST_CALENDAR }
     requires employee { IsEmployeeNumber employee }
-    requires fits { Fits date days }
-    ensures answer { IfOk result (λ r. WhereTold (S.held shelf.old name.now) (IsCrewAnswer employee r.answer problem.now)) }
+    requires fits { FitsDates date days }
+    ensures answer { IfOk result (λ r.
+        WhereTold (S.held shelf.old name.now) (IsCrewAnswer employee r.answer problem.now)) }
     ensures kind { IfOk result (λ r. IsOfCrew r.answer) }
-    ensures text { IfOk result (λ r. IsReplyText (Asked date days employee) (S.held shelf.old name.now) problem.now r.answer r.text.items) }
+    ensures text { IfOk result (λ r.
+        IsReplyText (Asked date days employee) (S.held shelf.old name.now) problem.now r.answer r.text.items) }
     ensures stop { IfErr result (IsStop (Rose (S.faults shelf.old name.now) (S.faults shelf.new name.now))) }
     ensures faults { NeverFall (S.faults shelf.old) (S.faults shelf.new) }
 {
@@ -59,12 +62,13 @@ fn calendar(
     employee: Option<u32>,
 ) -> Result<Reply, Stop>
     requires short { IsWithinLimit Kinds.Roster bytes.now }
-    requires days { days ≤ most_days }
+    requires days { days ≤ LONGEST_CALENDAR }
     requires employee { IsEmployeeNumber employee }
-    requires fits { Fits date days }
+    requires fits { FitsDates date days }
     ensures answer { IfOk result (λ r. IsCrewAnswer employee r.answer problem.now bytes.now) }
     ensures kind { IfOk result (λ r. IsOfCrew r.answer) }
-    ensures text { IfOk result (λ r. IsReplyText (Asked date days employee) (Bytes bytes.now) problem.now r.answer r.text.items) }
+    ensures text { IfOk result (λ r.
+        IsReplyText (Asked date days employee) (Bytes bytes.now) problem.now r.answer r.text.items) }
     ensures fault { IsErrOf result Stop.ReadFault → ⊥ }
 {
     match read_roster(alloc, problem, bytes) {
@@ -87,12 +91,13 @@ fn on_roster(
     requires short { IsWithinLimit Kinds.Roster bytes.now }
     requires spelled { SpellsRoster problem.now bytes.now roster.now.cells }
     requires roster { IsRoster problem.now roster.now.cells }
-    requires days { days ≤ most_days }
+    requires days { days ≤ LONGEST_CALENDAR }
     requires employee { IsEmployeeNumber employee }
-    requires fits { Fits date days }
+    requires fits { FitsDates date days }
     ensures answer { IfOk result (λ r. IsCrewAnswer employee r.answer problem.now bytes.now) }
     ensures kind { IfOk result (λ r. IsOfCrew r.answer) }
-    ensures text { IfOk result (λ r. IsReplyText (Asked date days employee) (Bytes bytes.now) problem.now r.answer r.text.items) }
+    ensures text { IfOk result (λ r.
+        IsReplyText (Asked date days employee) (Bytes bytes.now) problem.now r.answer r.text.items) }
     ensures fault { IsErrOf result Stop.ReadFault → ⊥ }
 {
     if let Some(broken) = first_broken(problem, roster) {
@@ -120,12 +125,13 @@ fn duties_of(
     requires right { SpellsRight problem.now bytes.now }
     requires spelled { SpellsRoster problem.now bytes.now roster.now.cells }
     requires roster { IsRoster problem.now roster.now.cells }
-    requires days { days ≤ most_days }
+    requires days { days ≤ LONGEST_CALENDAR }
     requires employee { 1 ≤ number }
-    requires fits { Fits date days }
+    requires fits { FitsDates date days }
     ensures answer { IfOk result (λ r. IsCrewAnswer (Some number) r.answer problem.now bytes.now) }
     ensures kind { IfOk result (λ r. IsOfCrew r.answer) }
-    ensures text { IfOk result (λ r. IsReplyText (Asked date days (Some number)) (Bytes bytes.now) problem.now r.answer r.text.items) }
+    ensures text { IfOk result (λ r.
+        IsReplyText (Asked date days (Some number)) (Bytes bytes.now) problem.now r.answer r.text.items) }
     ensures fault { IsErrOf result Stop.ReadFault → ⊥ }
 {
     if number > problem.weeks() {

@@ -10,6 +10,7 @@ use crate::answer::{Answer, InputKind, Stop};
 use rwsp_file::read_problem;
 use rwsp_io::{ReadFail, Shelf, read_all};
 use rwsp_model::{Fail, Problem};
+use rwsp_terms::limits::{LONGEST_FILE, LONGEST_LOG};
 use std::alloc::Global;
 
 /// Why a run ends before its job is done.
@@ -27,9 +28,9 @@ fn longest(kind: InputKind) -> usize
     ensures few { result ≤ longest Kinds.Log }
 {
     match kind {
-        InputKind::Problem => 1_048_576,
-        InputKind::Roster => 1_048_576,
-        InputKind::Log => 536_870_912,
+        InputKind::Problem => LONGEST_FILE as usize,
+        InputKind::Roster => LONGEST_FILE as usize,
+        InputKind::Log => LONGEST_LOG as usize,
     }
 }
 
@@ -42,7 +43,8 @@ pub fn bytes_in<S: Shelf>(
 ) -> Result<Vec<u8>, Exit>
     ensures bytes { IfOk result (λ v. WhereTold (S.held shelf.old name.now) (λ bytes. v.items ≡ bytes)) }
     ensures short { IfOk result (λ v. IsWithinLimit kind v.items) }
-    ensures exit { IfErr result (IsReadExit (S.held shelf.old name.now) (Rose (S.faults shelf.old name.now) (S.faults shelf.new name.now)) kind) }
+    ensures exit { IfErr result (IsReadExit (S.held shelf.old name.now)
+        (Rose (S.faults shelf.old name.now) (S.faults shelf.new name.now)) kind) }
     ensures missing { S.held shelf.old name.now ≡ Missing → IsErrOf result (Exit.Stop Stop.ReadFault) }
     ensures held { (other : List ℕ) → S.held shelf.new other ≡ S.held shelf.old other }
     ensures faults { NeverFall (S.faults shelf.old) (S.faults shelf.new) }
@@ -57,8 +59,10 @@ pub fn bytes_in<S: Shelf>(
 
 /// The problem that a file spells.
 pub fn problem_in<S: Shelf>(alloc: Global, shelf: &mut S, name: &str) -> Result<Problem, Exit>
-    ensures problem { IfOk result (λ P. WhereTold (S.held shelf.old name.now) (λ file. IsWithinLimit Kinds.Problem file × SpellsProblem file P)) }
-    ensures exit { IfErr result (IsProblemExit (S.held shelf.old name.now) (Rose (S.faults shelf.old name.now) (S.faults shelf.new name.now))) }
+    ensures problem { IfOk result (λ P.
+        WhereTold (S.held shelf.old name.now) (λ file. IsWithinLimit Kinds.Problem file × SpellsProblem file P)) }
+    ensures exit { IfErr result (IsProblemExit (S.held shelf.old name.now)
+        (Rose (S.faults shelf.old name.now) (S.faults shelf.new name.now))) }
     ensures missing { S.held shelf.old name.now ≡ Missing → IsErrOf result (Exit.Stop Stop.ReadFault) }
     ensures held { (other : List ℕ) → S.held shelf.new other ≡ S.held shelf.old other }
     ensures faults { NeverFall (S.faults shelf.old) (S.faults shelf.new) }

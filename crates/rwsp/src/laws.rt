@@ -1,8 +1,9 @@
 // Laws of the definitions. Each function's contract is the law.
 ghost use Rattle.rwsp.specs.Laws.{AnswersAreOne, TextsAreOne, ProblemsAreAnswered, RefutationsAreAccepted, RostersMeet, ReductionsAreAccepted, StaffTextsAreAccepted, WorkersMakeNoDifference};
 
-/// What is said of each answer fits no other answer, but for those that a search is free to choose. So an answer comes exactly
-/// where what is said of it is so: no other can come but want of memory, and a fault that the counts show.
+/// What is said of each answer fits no other answer, except those that a search is free to choose. So an answer
+/// comes exactly where what is said of it is so: no other can come but want of memory, and a fault that the counts
+/// show.
 pub fn answers_are_one()
     ensures { AnswersAreOne }
 {}
@@ -12,8 +13,8 @@ pub fn texts_are_one()
     ensures { TextsAreOne }
 {}
 
-/// A command over a file that spells a problem has an answer of its own: `plan` a roster, a refutation, or a log that has spent
-/// the whole budget.
+/// A command over a file that spells a problem has an answer of its own: `plan` a roster, a refutation, or a log that
+/// has spent the whole budget.
 pub fn problems_are_answered()
     ensures { ProblemsAreAnswered }
 {}

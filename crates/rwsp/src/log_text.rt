@@ -8,7 +8,8 @@ ghost use Rattle.rwsp.specs.Texts.{line, at_line, accepted_text, log_refusal_tex
 
 use refutation_log::LogRefusal;
 use roster_print::put_after_blanks;
-use rwsp_model::{Problem, RuleList, Symbol};
+use rwsp_model::Problem;
+use rwsp_terms::{RuleList, Symbol};
 use rwsp_text::put_number;
 use std::alloc::{AllocError, Global};
 
@@ -80,7 +81,8 @@ pub fn put_refusal(out: &mut Vec<u8>, problem: &Problem, why: &LogRefusal) -> Re
 
 // Appends the refusal by a rule that isn't named.
 fn put_unnamed(out: &mut Vec<u8>, rule: u32, number: u32) -> Result<(), AllocError>
-    ensures { OnOk result (out.new.items ≡ out.old.items ++ at_line (codes "log refused: unnamed " ++ decimal rule) number) }
+    ensures { OnOk result (out.new.items
+        ≡ out.old.items ++ at_line (codes "log refused: unnamed " ++ decimal rule) number) }
 {
     put_rule_line(out, b"log refused: unnamed ".as_slice(), rule, number)
 }
@@ -101,7 +103,9 @@ fn put_escape(
     word: &[Symbol],
 ) -> Result<(), AllocError>
     requires { All (IsSymbol problem.now) word.now }
-    ensures { OnOk result (out.new.items ≡ out.old.items ++ at_line (codes "log refused: escape") number ++ codes ":" ++ word_text problem.now word.now) }
+    ensures { OnOk result (out.new.items
+        ≡ out.old.items ++ at_line (codes "log refused: escape") number ++ codes ":"
+        ++ word_text problem.now word.now) }
 {
     put_line_number(out, b"log refused: escape".as_slice(), number)?;
     out.push(b':')?;

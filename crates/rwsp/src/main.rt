@@ -11,7 +11,7 @@ mod log_text;
 mod plan;
 mod reduce;
 mod run;
-mod second;
+mod second_file;
 mod staff;
 mod staff_text;
 #[cfg(test)]

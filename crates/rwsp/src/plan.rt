@@ -1,13 +1,13 @@
 // A roster for a problem, or a refutation.
 ghost use Rattle.std.specs.Prelude.{◌≡◌, ◌≤◌, IfOk};
-ghost use Rattle.rwsp.specs.Commands.{greatest_budget};
-ghost use Rattle.rwsp.specs.Plans.{IsPlanned, answer_of};
+ghost use Rattle.rwsp.specs.Plans.{IsPlanAnswer, answer_of};
 
 use crate::answer::Answer;
 use potential_bounds::Gate;
 use roster_planner::plan_roster;
 use roster_search::Found;
 use rwsp_model::Problem;
+use rwsp_terms::limits::GREATEST_BUDGET;
 use std::alloc::{AllocError, Global};
 use std::thread::Threads;
 
@@ -19,8 +19,8 @@ pub fn planned<R: Threads + Sync, G: Gate>(
     budget: u32,
     gate: &G,
 ) -> Result<Answer, AllocError>
-    requires { (1 ≤ budget) × (budget ≤ greatest_budget) }
-    ensures { IfOk result (IsPlanned problem.now budget) }
+    requires { (1 ≤ budget) × (budget ≤ GREATEST_BUDGET) }
+    ensures { IfOk result (IsPlanAnswer problem.now budget) }
 {
     let found = plan_roster(rt, alloc, problem, budget, gate)?;
     Ok(answer_of(found))

@@ -4,10 +4,10 @@ ghost use Rattle.std.specs.Io.KnownBytes.{Appends, Keeps};
 ghost use Rattle.rwsp_io.specs.Told.{Rose, NeverFall, Missing};
 ghost use Rattle.rwsp_terms.specs.Instance.{Instance};
 ghost use Rattle.rwsp.specs.Answers.{IsAnswer, IsAnswerOn, IsReadFault};
-ghost use Rattle.rwsp.specs.Commands.{IsForm, ReadsProblem, ReadsSecond, IsWithinHorizon, AsksNoCalendar, greatest_budget, most_weeks, problem_name, second_name};
-ghost use Rattle.rwsp.specs.Plans.{IsPlanned};
+ghost use Rattle.rwsp.specs.Commands.{IsForm, ReadsProblem, ReadsSecond, IsWithinHorizon, AsksNoCalendar, problem_name, second_name};
+ghost use Rattle.rwsp.specs.Plans.{IsPlanAnswer};
 ghost use Rattle.rwsp.specs.Trials.{IsTrialAnswer};
-ghost use Rattle.rwsp.specs.Texts.{IsTextOf, IsReplyText, IsTextOfTrial, HasFixedText, IsPrintable, text_of};
+ghost use Rattle.rwsp.specs.Texts.{IsTextOf, IsReplyText, IsTextOfTrial, HasFixedText, IsPrintable, answer_text};
 ghost use Rattle.rwsp.specs.declared.answer.Answer.{Answer};
 
 use crate::answer::{Answer, Outcome, Stop};
@@ -15,13 +15,14 @@ use crate::command::{Command, command_of, is_within_horizon, word_at};
 use crate::crew::crew_reply;
 use crate::input::{Exit, problem_in};
 use crate::plan::planned;
-use crate::second::second_answer;
+use crate::second_file::second_answer;
 use crate::staff::staffed;
 use crate::text::{fixed_text, text_on};
 use crate::trial::run_trial;
 use potential_bounds::Gate;
 use rwsp_io::{Shelf, Sink, write_all};
 use rwsp_model::Problem;
+use rwsp_terms::limits::{GREATEST_BUDGET, MOST_WEEKS};
 use std::alloc::Global;
 use std::thread::Threads;
 
@@ -43,18 +44,26 @@ pub fn run<R: Threads + Sync, S: Shelf, K: Sink, G: Gate>(
     out: &mut K,
     gate: &G,
 ) -> Outcome
-    // What an answer says is so.
+    // What an answer says is true.
     ensures answer { (a : Answer) → result ≡ Outcome.Done a → IsAnswer (S.held shelf.old) words.now.items a }
-    ensures answer_at_fault { (a : Answer) → result ≡ Outcome.WriteFault a → IsAnswer (S.held shelf.old) words.now.items a }
+    ensures answer_at_fault { (a : Answer) → result ≡ Outcome.WriteFault a
+        → IsAnswer (S.held shelf.old) words.now.items a }
 
     // All of its text was written, or a prefix of it.
-    ensures written { (a : Answer) → result ≡ Outcome.Done a → (text : List ℕ) × IsTextOf (S.held shelf.old) words.now.items a text × Appends (K.got out.old) (K.got out.new) text }
-    ensures prefix { (a : Answer) → result ≡ Outcome.WriteFault a → (text : List ℕ) × IsTextOf (S.held shelf.old) words.now.items a text × ((n : ℕ) × (n ≤ length text) × Appends (K.got out.old) (K.got out.new) (take n text)) }
+    ensures written { (a : Answer) → result ≡ Outcome.Done a
+        → (text : List ℕ) × IsTextOf (S.held shelf.old) words.now.items a text
+        × Appends (K.got out.old) (K.got out.new) text }
+    ensures prefix { (a : Answer) → result ≡ Outcome.WriteFault a
+        → (text : List ℕ) × IsTextOf (S.held shelf.old) words.now.items a text
+        × ((n : ℕ) × (n ≤ length text) × Appends (K.got out.old) (K.got out.new) (take n text)) }
     ensures write_fault { (a : Answer) → result ≡ Outcome.WriteFault a → Rose (K.faults out.old) (K.faults out.new) }
 
     // Where a file couldn't be read, or there was no memory, nothing was written.
-    ensures read_fault { result ≡ Outcome.ReadFault → IsReadFault (S.held shelf.old) (S.faults shelf.old) (S.faults shelf.new) words.now.items }
-    ensures missing { (command : Command) → IsForm words.now.items command → IsWithinHorizon command → ReadsProblem command → S.held shelf.old (problem_name words.now.items) ≡ Missing → result ≡ Outcome.ReadFault }
+    ensures read_fault { result ≡ Outcome.ReadFault
+        → IsReadFault (S.held shelf.old) (S.faults shelf.old) (S.faults shelf.new) words.now.items }
+    ensures missing { (command : Command) → IsForm words.now.items command → IsWithinHorizon command
+        → ReadsProblem command → S.held shelf.old (problem_name words.now.items) ≡ Missing
+        → result ≡ Outcome.ReadFault }
     ensures silent_at_fault { result ≡ Outcome.ReadFault → Keeps (K.got out.old) (K.got out.new) }
     ensures silent_without_memory { result ≡ Outcome.Memory → Keeps (K.got out.old) (K.got out.new) }
 {
@@ -81,8 +90,11 @@ fn reply_to<R: Threads + Sync, S: Shelf, G: Gate>(
 ) -> Result<Reply, Stop>
     ensures answer { IfOk result (λ r. IsAnswer (S.held shelf.old) words.now.items r.answer) }
     ensures text { IfOk result (λ r. IsTextOf (S.held shelf.old) words.now.items r.answer r.text.items) }
-    ensures missing { (command : Command) → IsForm words.now.items command → IsWithinHorizon command → ReadsProblem command → S.held shelf.old (problem_name words.now.items) ≡ Missing → IsErrOf result Stop.ReadFault }
-    ensures fault { IsErrOf result Stop.ReadFault → IsReadFault (S.held shelf.old) (S.faults shelf.old) (S.faults shelf.new) words.now.items }
+    ensures missing { (command : Command) → IsForm words.now.items command → IsWithinHorizon command
+        → ReadsProblem command → S.held shelf.old (problem_name words.now.items) ≡ Missing
+        → IsErrOf result Stop.ReadFault }
+    ensures fault { IsErrOf result Stop.ReadFault
+        → IsReadFault (S.held shelf.old) (S.faults shelf.old) (S.faults shelf.new) words.now.items }
 {
     let Some(command) = command_of(words) else {
         return fixed(alloc, Answer::Usage);
@@ -111,7 +123,8 @@ fn reply_on_file<R: Threads + Sync, S: Shelf, G: Gate>(
     ensures answer { IfOk result (λ r. IsAnswer (S.held shelf.old) words.now.items r.answer) }
     ensures text { IfOk result (λ r. IsTextOf (S.held shelf.old) words.now.items r.answer r.text.items) }
     ensures missing { S.held shelf.old (problem_name words.now.items) ≡ Missing → IsErrOf result Stop.ReadFault }
-    ensures fault { IsErrOf result Stop.ReadFault → IsReadFault (S.held shelf.old) (S.faults shelf.old) (S.faults shelf.new) words.now.items }
+    ensures fault { IsErrOf result Stop.ReadFault
+        → IsReadFault (S.held shelf.old) (S.faults shelf.old) (S.faults shelf.new) words.now.items }
 {
     let problem = match problem_in(alloc, shelf, word_at(words, 1)) {
         Ok(problem) => problem,
@@ -134,10 +147,13 @@ fn on_problem<R: Threads + Sync, S: Shelf, G: Gate>(
     requires form { IsForm words.now.items command }
     requires horizon { IsWithinHorizon command }
     requires reads { ReadsProblem command }
-    ensures answer { IfOk result (λ r. IsAnswerOn command (S.held shelf.old (second_name words.now.items)) problem.now r.answer) }
-    ensures text { IfOk result (λ r. IsReplyText command (S.held shelf.old (second_name words.now.items)) problem.now r.answer r.text.items) }
+    ensures answer { IfOk result (λ r.
+        IsAnswerOn command (S.held shelf.old (second_name words.now.items)) problem.now r.answer) }
+    ensures text { IfOk result (λ r.
+        IsReplyText command (S.held shelf.old (second_name words.now.items)) problem.now r.answer r.text.items) }
     ensures second { IsErrOf result Stop.ReadFault → ReadsSecond command }
-    ensures fault { IsErrOf result Stop.ReadFault → Rose (S.faults shelf.old (second_name words.now.items)) (S.faults shelf.new (second_name words.now.items)) }
+    ensures fault { IsErrOf result Stop.ReadFault
+        → Rose (S.faults shelf.old (second_name words.now.items)) (S.faults shelf.new (second_name words.now.items)) }
     ensures faults { NeverFall (S.faults shelf.old) (S.faults shelf.new) }
 {
     if let Command::Crew {
@@ -176,7 +192,8 @@ fn answer_on<R: Threads + Sync, S: Shelf, G: Gate>(
     ensures answer { IfOk result (IsAnswerOn command (S.held shelf.old (second_name words.now.items)) problem.now) }
     ensures printable { IfOk result (IsPrintable problem.now) }
     ensures second { IsErrOf result Stop.ReadFault → ReadsSecond command }
-    ensures fault { IsErrOf result Stop.ReadFault → Rose (S.faults shelf.old (second_name words.now.items)) (S.faults shelf.new (second_name words.now.items)) }
+    ensures fault { IsErrOf result Stop.ReadFault
+        → Rose (S.faults shelf.old (second_name words.now.items)) (S.faults shelf.new (second_name words.now.items)) }
     ensures faults { NeverFall (S.faults shelf.old) (S.faults shelf.new) }
 {
     match command {
@@ -198,7 +215,7 @@ fn tried<R: Threads + Sync, G: Gate>(
     weeks: u32,
     gate: &G,
 ) -> Result<Reply, Stop>
-    requires { (1 ≤ weeks) × (weeks ≤ most_weeks) }
+    requires { (1 ≤ weeks) × (weeks ≤ MOST_WEEKS) }
     ensures answer { IfOk result (λ r. IsTrialAnswer number weeks r.answer) }
     ensures text { IfOk result (λ r. IsTextOfTrial r.answer r.text.items) }
     ensures fault { IsErrOf result Stop.ReadFault → ⊥ }
@@ -215,7 +232,7 @@ fn fixed(alloc: Global, answer: Answer) -> Result<Reply, Stop>
     requires { HasFixedText answer }
     ensures answer { IfOk result (λ r. r.answer ≡ answer) }
     ensures fixed { IfOk result (λ r. HasFixedText r.answer) }
-    ensures text { IfOk result (λ r. (P : Instance) → r.text.items ≡ text_of P r.answer) }
+    ensures text { IfOk result (λ r. (P : Instance) → r.text.items ≡ answer_text P r.answer) }
     ensures fault { IsErrOf result Stop.ReadFault → ⊥ }
 {
     let text = fixed_text(alloc, &answer)?;
@@ -226,7 +243,7 @@ fn fixed(alloc: Global, answer: Answer) -> Result<Reply, Stop>
 pub fn printed(alloc: Global, problem: &Problem, answer: Answer) -> Result<Reply, Stop>
     requires { IsPrintable problem.now answer }
     ensures answer { IfOk result (λ r. r.answer ≡ answer) }
-    ensures text { IfOk result (λ r. IsPrintable problem.now r.answer × (r.text.items ≡ text_of problem.now r.answer)) }
+    ensures text { IfOk result (λ r. IsPrintable problem.now r.answer × (r.text.items ≡ answer_text problem.now r.answer)) }
     ensures fault { IsErrOf result Stop.ReadFault → ⊥ }
 {
     let text = text_on(alloc, problem, &answer)?;
@@ -242,8 +259,8 @@ fn plan<R: Threads + Sync, G: Gate>(
     budget: u32,
     gate: &G,
 ) -> Result<Answer, Stop>
-    requires { (1 ≤ budget) × (budget ≤ greatest_budget) }
-    ensures answer { IfOk result (IsPlanned problem.now budget) }
+    requires { (1 ≤ budget) × (budget ≤ GREATEST_BUDGET) }
+    ensures answer { IfOk result (IsPlanAnswer problem.now budget) }
     ensures printable { IfOk result (IsPrintable problem.now) }
     ensures fault { IsErrOf result Stop.ReadFault → ⊥ }
 {

@@ -30,7 +30,7 @@ fn words_of(alloc: Global, words: &[&str]) -> Result<Vec<String>, AllocError> {
     Ok(all)
 }
 
-// A shelf with these files, which gives so many bytes at a time, and whose calls with these numbers fail.
+// A shelf with these files, which gives a few bytes at a time, and whose calls with these numbers fail.
 fn shelf_of(
     alloc: Global,
     files: &[(&str, &str)],

@@ -2,7 +2,7 @@
 ghost use Rattle.std.specs.Prelude.{◌≡◌, ◌++◌, IfOk, OnOk};
 ghost use Rattle.std.specs.String.{string_bytes};
 ghost use Rattle.rwsp_terms.specs.Instance.{Instance};
-ghost use Rattle.rwsp.specs.Texts.{text_of, place_text, line, file_refusal_text, roster_refusal_text, breaks_text, HasBroken, HasFixedText, HasFixedLine, IsPrintable};
+ghost use Rattle.rwsp.specs.Texts.{answer_text, place_text, line, file_refusal_text, roster_refusal_text, breaks_text, HasBroken, HasFixedText, HasFixedLine, IsPrintable};
 
 use crate::answer::{Answer, InputKind};
 use crate::log_text::{accepted_line, log_refusal_line, put_labelled, put_line_number};
@@ -12,7 +12,8 @@ use refutation_log::print_log;
 use roster_checker::Broken;
 use roster_print::{RosterRefusal, print_roster, put_rule};
 use rwsp_file::{FileRefusal, print_problem};
-use rwsp_model::{Problem, Rule, rule_at};
+use rwsp_model::{Problem, rule_at};
+use rwsp_terms::Rule;
 use std::alloc::{AllocError, Global};
 
 const USAGE: &str =
@@ -62,7 +63,7 @@ fn roster_refusal_line(alloc: Global, refusal: RosterRefusal) -> Result<Vec<u8>,
 /// The text of an answer that is the same for every problem.
 pub fn fixed_text(alloc: Global, answer: &Answer) -> Result<Vec<u8>, AllocError>
     requires { HasFixedText answer.now }
-    ensures { IfOk result (λ v. (P : Instance) → v.items ≡ text_of P answer.now) }
+    ensures { IfOk result (λ v. (P : Instance) → v.items ≡ answer_text P answer.now) }
 {
     if let Answer::Accepted(rules) = answer {
         return accepted_line(alloc, rules);
@@ -76,7 +77,7 @@ pub fn fixed_text(alloc: Global, answer: &Answer) -> Result<Vec<u8>, AllocError>
 
 fn fixed_line(alloc: Global, answer: &Answer) -> Result<String, AllocError>
     requires { HasFixedLine answer.now }
-    ensures { IfOk result (λ t. (P : Instance) → string_bytes t ≡ text_of P answer.now) }
+    ensures { IfOk result (λ t. (P : Instance) → string_bytes t ≡ answer_text P answer.now) }
 {
     match answer {
         Answer::Usage => String::from_str(alloc, USAGE),
@@ -131,7 +132,7 @@ fn breaks_line(alloc: Global, problem: &Problem, broken: &Broken) -> Result<Vec<
 /// The text of an answer on a problem.
 pub fn text_on(alloc: Global, problem: &Problem, answer: &Answer) -> Result<Vec<u8>, AllocError>
     requires { IsPrintable problem.now answer.now }
-    ensures { IfOk result (λ v. v.items ≡ text_of problem.now answer.now) }
+    ensures { IfOk result (λ v. v.items ≡ answer_text problem.now answer.now) }
 {
     match answer {
         Answer::Roster(roster) => print_roster(alloc, problem, roster),

@@ -1,5 +1,5 @@
 // What a search finds for the problem of a number.
-ghost use Rattle.std.specs.Prelude.{◌≡◌, ◌++◌, ◌≤◌, IfOk, OnOk, length};
+ghost use Rattle.std.specs.Prelude.{◌≡◌, ◌++◌, ◌*◌, ◌≤◌, IfOk, OnOk, length};
 ghost use Rattle.std.specs.Fmt.{decimal};
 ghost use Rattle.rwsp_terms.specs.Instance.{IsDay};
 ghost use Rattle.problem_generator.specs.Generated.{IsGenerated};
@@ -14,13 +14,12 @@ use refutation_log::print_log;
 use roster_planner::plan_roster;
 use roster_print::print_roster;
 use roster_search::Found;
-use rwsp_model::{Problem, Symbol};
+use rwsp_model::Problem;
+use rwsp_terms::Symbol;
+use rwsp_terms::limits::{MOST_SHIFTS, MOST_WEEKS, TRIAL_BUDGET};
 use rwsp_text::put_number;
 use std::alloc::{AllocError, Global};
 use std::thread::Threads;
-
-/// The most lines of splits and leaves that a trial's log has.
-const TRIAL_BUDGET: u32 = 2_000;
 
 /// A trial and its whole text.
 #[derive(Debug, Drop)]
@@ -37,7 +36,7 @@ pub fn run_trial<R: Threads + Sync, G: Gate>(
     weeks: u32,
     gate: &G,
 ) -> Result<Trial, AllocError>
-    requires { (1 ≤ weeks) × (weeks ≤ 600) }
+    requires { (1 ≤ weeks) × (weeks ≤ MOST_WEEKS) }
     ensures trial { IfOk result (λ t. IsTrial number weeks t.result) }
     ensures text { IfOk result (λ t. IsTrialText t.result t.text.items) }
 {
@@ -72,7 +71,7 @@ fn tried<R: Threads + Sync, G: Gate>(
 fn demand_on(problem: &Problem, day: u32) -> u32
     requires { IsDay problem.now day }
     ensures value { result ≡ demand_on problem.now day }
-    ensures few { result ≤ 4800 }
+    ensures few { result ≤ MOST_WEEKS * MOST_SHIFTS }
 {
     let mut demand = 0;
     for x in 0..problem.shifts() {

@@ -29,7 +29,8 @@ pub fn roster_verdict(alloc: Global, problem: &Problem, bytes: &[u8]) -> Result<
 
 fn checked(problem: &Problem, roster: &Roster) -> Answer
     requires { IsRoster problem.now roster.now.cells }
-    ensures answer { (bytes : List ℕ) → IsWithinLimit Kinds.Roster bytes → SpellsRoster problem.now bytes roster.now.cells → IsRosterAnswer result problem.now bytes }
+    ensures answer { (bytes : List ℕ) → IsWithinLimit Kinds.Roster bytes
+        → SpellsRoster problem.now bytes roster.now.cells → IsRosterAnswer result problem.now bytes }
     ensures kind { IsOfRoster result }
     ensures printable { IsPrintable problem.now result }
 {

@@ -2,15 +2,15 @@
 //! its faults, so that a caller can tell a fault of the outside from one of its own.
 #![tactic(auto)]
 
-mod calls;
+mod failing_calls;
 mod memory;
-mod real;
 mod shelf;
 mod sink;
+mod system_files;
 #[cfg(test)]
 mod tests;
 
 pub use memory::{MemoryShelf, MemorySink};
-pub use real::{RealShelf, RealSink};
 pub use shelf::{ReadFail, Shelf, ShelfFault, read_all};
 pub use sink::{Sink, SinkFault, WriteFault, write_all};
+pub use system_files::{RealShelf, RealSink};

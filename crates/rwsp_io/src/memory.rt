@@ -6,14 +6,14 @@ ghost use Rattle.rwsp_io.specs.Told.{Missing, told_bytes, is_missing, Rose, Neve
 ghost use Rattle.rwsp_io.specs.Files.{file_of, bytes_from, IsFileAt};
 ghost use Rattle.rwsp_io.specs.CallPlan.{next_fails, after_call};
 
-use crate::calls::Calls;
+use crate::failing_calls::Calls;
 use crate::{Shelf, ShelfFault, Sink, SinkFault};
 use std::alloc::{AllocError, Global};
 
 /// Named files in memory. Where two have one name, the first of them is held under it.
 ///
 /// A take gives at most `step` bytes. The calls of `choose` and `take` whose numbers are listed fail, counted together
-/// from 1, but for a `take` of an empty piece, and so does a `choose` of a name that is not held; no other call does.
+/// from 1, except a `take` of an empty piece, and so does a `choose` of a name that is not held; no other call does.
 /// All names are counted together.
 #[derive(Drop)]
 pub struct MemoryShelf {
@@ -162,8 +162,8 @@ impl Shelf for MemoryShelf {
 
 /// The bytes that were put, up to a room.
 ///
-/// A put takes at most `step` bytes. The calls of `put` whose numbers are listed fail, counted from 1, and so does a put
-/// of a piece that is not empty where no room is left; no other call does.
+/// A put takes at most `step` bytes. The calls of `put` whose numbers are listed fail, counted from 1, and so does a
+/// put of a piece that is not empty where no room is left; no other call does.
 #[derive(Drop)]
 pub struct MemorySink {
     bytes: Vec<u8>,
@@ -178,7 +178,7 @@ pub struct MemorySink {
 impl MemorySink {
     ghost use Rattle.rwsp_io.specs.MemoryForms.{sink_got, sink_faults, sink_calls, sink_room, sink_step};
 
-    /// A sink with room for so many bytes, that has got none and counted no fault. `failing` lists the calls that fail.
+    /// A sink with room for `room` bytes, that has got none and counted no fault. `failing` lists the calls that fail.
     pub fn new(
         alloc: Global,
         room: usize,

@@ -75,6 +75,9 @@ pub trait Shelf {
         ensures cause { OnErr result (AllRose (faults self.old) (faults self.new)) };
 }
 
+/// The greatest limit on the bytes of a file: half a gibibyte.
+pub const GREATEST_LIMIT: usize = 512 * 1024 * 1024;
+
 // The first piece that is read of a file, in bytes.
 const FIRST_PIECE: usize = 64 * 1024;
 
@@ -91,21 +94,21 @@ pub fn read_all<S: Shelf>(
     name: &str,
     limit: usize,
 ) -> Result<Vec<u8>, ReadFail>
-    requires { limit ≤ 536870912 }
+    requires { limit ≤ GREATEST_LIMIT }
 
     // An answer's bytes are those of the file, and they keep the limit.
     ensures all { (bytes : List ℕ) → S.held shelf.old name.now ≡ Bytes bytes
         → IfOk result (λ v. v.items ≡ bytes) }
     ensures within { IfOk result (λ v. vec_len v ≤ limit) }
 
-    // Why there is none: only where it is so.
+    // The reason for a failure is true.
     ensures fault { IsErrOf result ReadFail.Fault
         → Rose (S.faults shelf.old name.now) (S.faults shelf.new name.now) }
     ensures too_long { IsErrOf result ReadFail.TooLong
         → (bytes : List ℕ) → S.held shelf.old name.now ≡ Bytes bytes
         → (limit < length bytes) × (S.left shelf.new ≡ Some (drop (limit + 1) bytes)) }
 
-    // And wherever it is so, want of memory aside.
+    // And it is given wherever it is true, want of memory aside.
     ensures missing { S.held shelf.old name.now ≡ Missing → IsErrOf result ReadFail.Fault }
     ensures beyond { (bytes : List ℕ) → S.held shelf.old name.now ≡ Bytes bytes
         → limit < length bytes → IsErr result }

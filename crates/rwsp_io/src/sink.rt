@@ -14,7 +14,8 @@ pub struct WriteFault;
 
 /// Takes bytes a piece at a time.
 ///
-/// It counts its faults in a `u64`, and a count that stands at its last value, 2^64 - 1, counts as risen by every fault.
+/// It counts its faults in a `u64`, and a count that stands at its last value, 2^64 - 1, counts as risen by every
+/// fault.
 pub trait Sink {
     /// The bytes that it got, where they are told.
     ghost got: { Self → Option (List ℕ) };

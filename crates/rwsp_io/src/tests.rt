@@ -5,7 +5,7 @@ use std::alloc::{AllocError, Global};
 use std::test::Fail;
 use std::{env, fs, process};
 
-// A shelf that holds the bytes under "F", and other ones under "G" and once more under "F".
+// A shelf that holds the bytes under "F", and other ones under "G" and again under "F".
 fn shelf_of(
     alloc: Global,
     bytes: &[u8],

@@ -10,6 +10,7 @@ use Rattle.std.proofs.lemmas.Bool.Decides.{nat_tests, Decides-eqb, Decides-and, 
 use Rattle.std.proofs.lemmas.List.{take_more, append_assoc, append-nil, get_or-take, length-take-le, get_or_default}
 use Rattle.std.proofs.lemmas.List.Folds.{list_any_none, list_any_at}
 use Rattle.std.proofs.lemmas.Slice.Eq.{bytes_eq-Decides}
+use Rattle.rwsp_terms.specs.declared.limits.TheConstants.{MOST_DAYS, MOST_WEEKS, MOST_CELLS, MOST_SHIFTS, GREATEST_BOUND, MOST_SEQUENCES}
 use Rattle.rwsp_terms.specs.Instance.{Instance, cells, shift_count, off_name}
 use Rattle.rwsp_terms.specs.declared.data.Bounds.{Bounds}
 use Rattle.rwsp_terms.specs.declared.data.ShiftRow.{ShiftRow}
@@ -25,10 +26,10 @@ Decides-between : (low high n : ℕ) → Decides (is_between low high n) ((low �
 Decides-between low high n = Decides-and (nat_le low n) (nat_le n high) (Decides-leb low n) (Decides-leb n high)
 
 Decides-small : (b : Bounds) → Decides (are_small b) (AreSmall b)
-Decides-small b = Decides-and (nat_le b.least 10000) (nat_le b.greatest 10000) (Decides-leb b.least 10000) (Decides-leb b.greatest 10000)
+Decides-small b = Decides-and (nat_le b.least GREATEST_BOUND) (nat_le b.greatest GREATEST_BOUND) (Decides-leb b.least GREATEST_BOUND) (Decides-leb b.greatest GREATEST_BOUND)
 
 Decides-small_range : (b : Bounds) → Decides (is_small_range b) (IsSmallRange b)
-Decides-small_range b = Decides-and (nat_le b.least 600) (nat_le b.greatest 600) (Decides-leb b.least 600) (Decides-leb b.greatest 600)
+Decides-small_range b = Decides-and (nat_le b.least MOST_WEEKS) (nat_le b.greatest MOST_WEEKS) (Decides-leb b.least MOST_WEEKS) (Decides-leb b.greatest MOST_WEEKS)
 
 Decides-all : {X : Type 0} (p : X → Bool) (P : X → Type 0) → ((x : X) → Decides (p x) (P x)) → (xs : List X) → Decides (list_all p xs) (All P xs)
 Decides-all p P each xs = Decides-by_and p P (list_all p) each refl (λ _ _. refl) xs
@@ -231,8 +232,8 @@ Decides-shape P =
 Decides-demand : (rows : List (List Bounds)) → Decides (list_all (λ row. list_all is_small_range row) rows) (All (λ (row : List Bounds). All IsSmallRange row) rows)
 Decides-demand rows = Decides-all (λ (row : List Bounds). list_all is_small_range row) (λ (row : List Bounds). All IsSmallRange row) (λ row. Decides-all is_small_range IsSmallRange Decides-small_range row) rows
 
-Decides-times : (rows : List ShiftRow) → Decides (list_all (λ row. nat_le row.start 10000 && nat_le row.length 10000) rows) (All (λ (row : ShiftRow). (row.start ≤ 10000) × (row.length ≤ 10000)) rows)
-Decides-times rows = Decides-all (λ (row : ShiftRow). nat_le row.start 10000 && nat_le row.length 10000) (λ (row : ShiftRow). (row.start ≤ 10000) × (row.length ≤ 10000)) (λ row. Decides-and (nat_le row.start 10000) (nat_le row.length 10000) (Decides-leb row.start 10000) (Decides-leb row.length 10000)) rows
+Decides-times : (rows : List ShiftRow) → Decides (list_all (λ row. nat_le row.start GREATEST_BOUND && nat_le row.length GREATEST_BOUND) rows) (All (λ (row : ShiftRow). (row.start ≤ GREATEST_BOUND) × (row.length ≤ GREATEST_BOUND)) rows)
+Decides-times rows = Decides-all (λ (row : ShiftRow). nat_le row.start GREATEST_BOUND && nat_le row.length GREATEST_BOUND) (λ (row : ShiftRow). (row.start ≤ GREATEST_BOUND) × (row.length ≤ GREATEST_BOUND)) (λ row. Decides-and (nat_le row.start GREATEST_BOUND) (nat_le row.length GREATEST_BOUND) (Decides-leb row.start GREATEST_BOUND) (Decides-leb row.length GREATEST_BOUND)) rows
 
 Decides-blocks : (P : Instance) → Decides (list_all (λ row. are_small row.bounds) P.shifts && are_small P.off && are_small P.work) (All (λ (row : ShiftRow). AreSmall row.bounds) P.shifts × AreSmall P.off × AreSmall P.work)
 Decides-blocks P =
@@ -248,10 +249,10 @@ valid_keeps P h =
     let shape = kept_shape (has_shape P) (limit_refusal P (position not (limits_kept P))) h in
     let rest = no_limit P (position not (limits_kept P)) shape.1 in
     let s = (Decides-shape P).0 shape.0 in
-    let k = nine (is_between 1 28 P.days) (is_between 1 600 P.weeks) (nat_le (cells P) 4200) (is_between 1 8 (shift_count P)) (list_all (λ row. list_all is_small_range row) P.demand) (list_all (λ row. nat_le row.start 10000 && nat_le row.length 10000) P.shifts) (list_all (λ row. are_small row.bounds) P.shifts && are_small P.off && are_small P.work) (nat_le (length P.pairs) 64) (nat_le (length P.triples) 64) (all_kept (limits_kept P) rest.0) in
-    let days = (Decides-between 1 28 P.days).0 k.0 in
-    let weeks = (Decides-between 1 600 P.weeks).0 k.1 in
-    let shifts = (Decides-between 1 8 (shift_count P)).0 k.3 in
+    let k = nine (is_between 1 MOST_DAYS P.days) (is_between 1 MOST_WEEKS P.weeks) (nat_le (cells P) MOST_CELLS) (is_between 1 MOST_SHIFTS (shift_count P)) (list_all (λ row. list_all is_small_range row) P.demand) (list_all (λ row. nat_le row.start GREATEST_BOUND && nat_le row.length GREATEST_BOUND) P.shifts) (list_all (λ row. are_small row.bounds) P.shifts && are_small P.off && are_small P.work) (nat_le (length P.pairs) MOST_SEQUENCES) (nat_le (length P.triples) MOST_SEQUENCES) (all_kept (limits_kept P) rest.0) in
+    let days = (Decides-between 1 MOST_DAYS P.days).0 k.0 in
+    let weeks = (Decides-between 1 MOST_WEEKS P.weeks).0 k.1 in
+    let shifts = (Decides-between 1 MOST_SHIFTS (shift_count P)).0 k.3 in
     let blocks = (Decides-blocks P).0 k.6 in
     let names = names_where_none P.shifts rest.1 in
     record {
@@ -263,7 +264,7 @@ valid_keeps P h =
       few_days = days.1;
       some_weeks = weeks.0;
       few_weeks = weeks.1;
-      few_cells = leb-true (P.weeks * P.days) 4200 k.2;
+      few_cells = leb-true (P.weeks * P.days) MOST_CELLS k.2;
       some_shifts = shifts.0;
       few_shifts = shifts.1;
       demand = (Decides-demand P.demand).0 k.4;
@@ -271,8 +272,8 @@ valid_keeps P h =
       blocks = blocks.0;
       off = blocks.1;
       work = blocks.2;
-      few_pairs = leb-true (length P.pairs) 64 k.7;
-      few_triples = leb-true (length P.triples) 64 k.8;
+      few_pairs = leb-true (length P.pairs) MOST_SEQUENCES k.7;
+      few_triples = leb-true (length P.triples) MOST_SEQUENCES k.8;
       names = names.0;
       distinct = names.1;
     }
@@ -282,16 +283,16 @@ unfolding HasShape Names
 keeps_valid P k =
     let shape : has_shape P ≡ true = (Decides-shape P).1 (k.rows, k.long_rows, k.known_pairs, k.known_triples) in
     let kept : list_all (λ b. b) (limits_kept P) ≡ true =
-    nine_joined (is_between 1 28 P.days) (is_between 1 600 P.weeks) (nat_le (cells P) 4200) (is_between 1 8 (shift_count P)) (list_all (λ row. list_all is_small_range row) P.demand) (list_all (λ row. nat_le row.start 10000 && nat_le row.length 10000) P.shifts) (list_all (λ row. are_small row.bounds) P.shifts && are_small P.off && are_small P.work) (nat_le (length P.pairs) 64) (nat_le (length P.triples) 64)
-    ((Decides-between 1 28 P.days).1 (k.some_days, k.few_days))
-    ((Decides-between 1 600 P.weeks).1 (k.some_weeks, k.few_weeks))
-    ((Decides-leb (P.weeks * P.days) 4200).1 k.few_cells)
-    ((Decides-between 1 8 (shift_count P)).1 (k.some_shifts, k.few_shifts))
+    nine_joined (is_between 1 MOST_DAYS P.days) (is_between 1 MOST_WEEKS P.weeks) (nat_le (cells P) MOST_CELLS) (is_between 1 MOST_SHIFTS (shift_count P)) (list_all (λ row. list_all is_small_range row) P.demand) (list_all (λ row. nat_le row.start GREATEST_BOUND && nat_le row.length GREATEST_BOUND) P.shifts) (list_all (λ row. are_small row.bounds) P.shifts && are_small P.off && are_small P.work) (nat_le (length P.pairs) MOST_SEQUENCES) (nat_le (length P.triples) MOST_SEQUENCES)
+    ((Decides-between 1 MOST_DAYS P.days).1 (k.some_days, k.few_days))
+    ((Decides-between 1 MOST_WEEKS P.weeks).1 (k.some_weeks, k.few_weeks))
+    ((Decides-leb (P.weeks * P.days) MOST_CELLS).1 k.few_cells)
+    ((Decides-between 1 MOST_SHIFTS (shift_count P)).1 (k.some_shifts, k.few_shifts))
     ((Decides-demand P.demand).1 k.demand)
     ((Decides-times P.shifts).1 k.times)
     ((Decides-blocks P).1 (k.blocks, k.off, k.work))
-    ((Decides-leb (length P.pairs) 64).1 k.few_pairs)
-    ((Decides-leb (length P.triples) 64).1 k.few_triples) in
+    ((Decides-leb (length P.pairs) MOST_SEQUENCES).1 k.few_pairs)
+    ((Decides-leb (length P.triples) MOST_SEQUENCES).1 k.few_triples) in
     ap (λ (b : Bool). cond b (limit_refusal P (position not (limits_kept P))) (Some Shape)) shape
     ∙ ap (limit_refusal P) (none_broken (limits_kept P) kept)
     ∙ ap name_refusal (none_where_names P.shifts (k.names, k.distinct))

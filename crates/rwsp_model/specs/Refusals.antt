@@ -1,4 +1,4 @@
--- What is so where a call refuses what it was given.
+-- What holds where a call refuses its arguments.
 use Rattle.std.specs.Prelude.{Result, Ok, Err}
 use Rattle.rwsp_model.specs.declared.fail.Fail.{Fail}
 use Rattle.rwsp_model.specs.declared.fail.Fail.TheVariants.{Refused, Memory}

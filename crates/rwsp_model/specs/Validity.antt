@@ -2,6 +2,7 @@
 use Rattle.std.specs.Prelude.{◌≡◌, ◌≢◌, ℕ, ◌+◌, ◌*◌, ◌≤◌, List, [], ◌∷◌, ◌++◌, length, Option, Some, None, Bool, false, not, ◌&&◌, ◌||◌, ◌==◌, nat_le, slice_index, if◌then◌else◌, position, All, AllPairs}
 use Rattle.std.specs.List.{list_all, list_any}
 use Rattle.std.specs.Str.{bytes_eq}
+use Rattle.rwsp_terms.specs.declared.limits.TheConstants.{MOST_DAYS, MOST_WEEKS, MOST_CELLS, MOST_SHIFTS, GREATEST_BOUND, MOST_SEQUENCES, LONGEST_NAME}
 use Rattle.rwsp_terms.specs.Instance.{Instance, cells, shift_count, off_name}
 use Rattle.rwsp_terms.specs.declared.data.Bounds.{Bounds}
 use Rattle.rwsp_terms.specs.declared.data.ShiftRow.{ShiftRow}
@@ -17,28 +18,30 @@ has_shape P =
     (length P.demand == length P.shifts)
     && list_all (λ row. length row == P.days) P.demand
     && list_all (λ x. nat_le x.0.number (length P.shifts) && nat_le x.1.number (length P.shifts)) P.pairs
-    && list_all (λ x. nat_le x.0.number (length P.shifts) && nat_le x.1.number (length P.shifts) && nat_le x.2.number (length P.shifts)) P.triples
+    && list_all (λ x.
+    nat_le x.0.number (length P.shifts) && nat_le x.1.number (length P.shifts)
+    && nat_le x.2.number (length P.shifts)) P.triples
 
--- both numbers of a demand are at most 600
+-- both numbers of a demand are at most that of the weeks of a schedule
 abbrev pub is_small_range : Bounds → Bool
-is_small_range b = nat_le b.least 600 && nat_le b.greatest 600
+is_small_range b = nat_le b.least MOST_WEEKS && nat_le b.greatest MOST_WEEKS
 
--- both bounds of a block are at most 10,000
+-- neither bound of a block is too great
 abbrev pub are_small : Bounds → Bool
-are_small b = nat_le b.least 10000 && nat_le b.greatest 10000
+are_small b = nat_le b.least GREATEST_BOUND && nat_le b.greatest GREATEST_BOUND
 
 -- the limits, in the order of their numbers from 1 on
 abbrev pub limits_kept : Instance → List Bool
 limits_kept P =
-    is_between 1 28 P.days
-    ∷ is_between 1 600 P.weeks
-    ∷ nat_le (cells P) 4200
-    ∷ is_between 1 8 (shift_count P)
+    is_between 1 MOST_DAYS P.days
+    ∷ is_between 1 MOST_WEEKS P.weeks
+    ∷ nat_le (cells P) MOST_CELLS
+    ∷ is_between 1 MOST_SHIFTS (shift_count P)
     ∷ list_all (λ row. list_all is_small_range row) P.demand
-    ∷ list_all (λ row. nat_le row.start 10000 && nat_le row.length 10000) P.shifts
+    ∷ list_all (λ row. nat_le row.start GREATEST_BOUND && nat_le row.length GREATEST_BOUND) P.shifts
     ∷ (list_all (λ row. are_small row.bounds) P.shifts && are_small P.off && are_small P.work)
-    ∷ nat_le (length P.pairs) 64
-    ∷ nat_le (length P.triples) 64
+    ∷ nat_le (length P.pairs) MOST_SEQUENCES
+    ∷ nat_le (length P.triples) MOST_SEQUENCES
     ∷ []
 
 -- a blank, a tab, or the end of a line
@@ -48,7 +51,7 @@ is_blank b = (b == 32) || (b == 9) || (b == 13) || (b == 10)
 -- a word that may name a shift, by itself
 abbrev pub is_shift_name : List ℕ → Bool
 is_shift_name name =
-    is_between 1 32 (length name)
+    is_between 1 LONGEST_NAME (length name)
     && list_all (λ b. not (is_blank b)) name
     && not (slice_index name 0 == 35)
     && not (bytes_eq name off_name)
@@ -60,7 +63,8 @@ is_named_well earlier row = is_shift_name row.name && not (list_any (λ other. b
 -- the first shift that isn't named well, where the rows count from k on and others come earlier
 abbrev pub bad_name_from : List ShiftRow → ℕ → List ShiftRow → Option ℕ
 bad_name_from earlier k [] = None
-bad_name_from earlier k (row ∷ rows) = if is_named_well earlier row then bad_name_from (earlier ++ row ∷ []) (k + 1) rows else Some k
+bad_name_from earlier k (row ∷ rows) =
+    if is_named_well earlier row then bad_name_from (earlier ++ row ∷ []) (k + 1) rows else Some k
 
 abbrev pub name_refusal : Option ℕ → Option PartsRefusal
 name_refusal None = None
@@ -80,15 +84,15 @@ IsValid P = refusal_of P ≡ None
 -- the same in plain facts
 
 abbrev pub IsSmallRange : Bounds → Type 0
-IsSmallRange b = (b.least ≤ 600) × (b.greatest ≤ 600)
+IsSmallRange b = (b.least ≤ MOST_WEEKS) × (b.greatest ≤ MOST_WEEKS)
 
 abbrev pub AreSmall : Bounds → Type 0
-AreSmall b = (b.least ≤ 10000) × (b.greatest ≤ 10000)
+AreSmall b = (b.least ≤ GREATEST_BOUND) × (b.greatest ≤ GREATEST_BOUND)
 
--- 1 to 32 bytes with no blank, tab or line end, no `#` in front, and not the name of the day off
+-- from 1 byte to the longest name, with no blank, tab or line end, no `#` in front, and not the name of the day off
 pub record IsShiftName (name : List ℕ) : Type 0 where
   pub some : 1 ≤ length name
-  pub few : length name ≤ 32
+  pub few : length name ≤ LONGEST_NAME
   pub unbroken : All (λ b. is_blank b ≡ false) name
   pub no_hash : slice_index name 0 ≢ 35
   pub no_dash : name ≢ off_name
@@ -98,20 +102,21 @@ pub record KeepsLimits (P : Instance) : Type 0 where
   pub rows : length P.demand ≡ length P.shifts
   pub long_rows : All (λ row. length row ≡ P.days) P.demand
   pub known_pairs : All (λ x. (x.0.number ≤ shift_count P) × (x.1.number ≤ shift_count P)) P.pairs
-  pub known_triples : All (λ x. (x.0.number ≤ shift_count P) × (x.1.number ≤ shift_count P) × (x.2.number ≤ shift_count P)) P.triples
+  pub known_triples : All (λ x.
+      (x.0.number ≤ shift_count P) × (x.1.number ≤ shift_count P) × (x.2.number ≤ shift_count P)) P.triples
   pub some_days : 1 ≤ P.days
-  pub few_days : P.days ≤ 28
+  pub few_days : P.days ≤ MOST_DAYS
   pub some_weeks : 1 ≤ P.weeks
-  pub few_weeks : P.weeks ≤ 600
-  pub few_cells : P.weeks * P.days ≤ 4200
+  pub few_weeks : P.weeks ≤ MOST_WEEKS
+  pub few_cells : P.weeks * P.days ≤ MOST_CELLS
   pub some_shifts : 1 ≤ length P.shifts
-  pub few_shifts : length P.shifts ≤ 8
+  pub few_shifts : length P.shifts ≤ MOST_SHIFTS
   pub demand : All (λ row. All IsSmallRange row) P.demand
-  pub times : All (λ row. (row.start ≤ 10000) × (row.length ≤ 10000)) P.shifts
+  pub times : All (λ row. (row.start ≤ GREATEST_BOUND) × (row.length ≤ GREATEST_BOUND)) P.shifts
   pub blocks : All (λ row. AreSmall row.bounds) P.shifts
   pub off : AreSmall P.off
   pub work : AreSmall P.work
-  pub few_pairs : length P.pairs ≤ 64
-  pub few_triples : length P.triples ≤ 64
+  pub few_pairs : length P.pairs ≤ MOST_SEQUENCES
+  pub few_triples : length P.triples ≤ MOST_SEQUENCES
   pub names : All (λ row. IsShiftName row.name) P.shifts
   pub distinct : AllPairs (λ a b. a.name ≢ b.name) P.shifts

@@ -8,7 +8,6 @@ mod problem;
 mod refusal;
 mod roster;
 mod rules;
-mod sharing;
 #[cfg(test)]
 mod tests;
 mod validity;

@@ -1,11 +1,14 @@
-ghost use Rattle.std.specs.Prelude.{◌≡◌, ◌+◌, ◌-◌, ◌*◌, ◌<◌, ◌≤◌, ◌≤ℤ◌, pos, negsuc, length, Option, Some, None, MatchResult, IfOk, IfSome, slice_get, position};
+ghost use Rattle.std.specs.Prelude.{◌≡◌, ◌+◌, ◌-◌, ◌*◌, ◌<◌, ◌≤◌, ◌≤ℤ◌, pos, neg_ℤ, length, Option, Some, None, MatchResult, IfOk, IfSome, slice_get, position};
 ghost use Rattle.std.specs.Option.{option_map};
 ghost use Rattle.std.specs.Str.{bytes_eq};
 ghost use Rattle.rwsp_terms.specs.Instance.{bounds, shift_count, cells, symbol_of, name_of, name_among, least, greatest, IsClass, IsSymbol, IsShift, IsDay};
 ghost use Rattle.rwsp_model.specs.Parts.{instance_of};
-ghost use Rattle.rwsp_model.specs.Validity.{refusal_of, KeepsLimits};
+ghost use Rattle.rwsp_model.specs.Validity.{refusal_of, IsValid, KeepsLimits};
 
 use crate::{PartsRefusal, demand, validity};
+use rwsp_terms::limits::{
+    GREATEST_BOUND, MOST_CELLS, MOST_DAYS, MOST_SEQUENCES, MOST_SHIFTS, MOST_WEEKS,
+};
 use rwsp_terms::{Bounds, Class, DemandRow, ShiftRow, Symbol};
 use std::alloc::AllocError;
 use std::marker::Model;
@@ -55,6 +58,14 @@ impl Problem {
         }
     }
 
+    /// The problem of parts that are known to make one, so that they aren't judged again.
+    pub fn of_valid(parts: Parts) -> Problem
+        requires { IsValid (instance_of parts) }
+        ensures { result ≡ instance_of parts }
+    {
+        Problem { parts }
+    }
+
     /// An equal problem.
     pub fn copy(&self) -> Result<Problem, AllocError>
         ensures { IfOk result (λ P. P ≡ self.now) }
@@ -75,7 +86,7 @@ impl Problem {
     pub fn days(&self) -> u32
         ensures value { result ≡ self.now.days }
         ensures some { 1 ≤ result }
-        ensures few { result ≤ 28 }
+        ensures few { result ≤ MOST_DAYS }
     {
         self.keeps_limits();
         self.parts.days
@@ -85,7 +96,7 @@ impl Problem {
     pub fn weeks(&self) -> u32
         ensures value { result ≡ self.now.weeks }
         ensures some { 1 ≤ result }
-        ensures few { result ≤ 600 }
+        ensures few { result ≤ MOST_WEEKS }
     {
         self.keeps_limits();
         self.parts.weeks
@@ -94,7 +105,7 @@ impl Problem {
     /// The cells of a roster: its weeks times its days.
     pub fn cells(&self) -> u32
         ensures value { result ≡ cells self.now }
-        ensures few { result ≤ 4200 }
+        ensures few { result ≤ MOST_CELLS }
     {
         self.keeps_limits();
         self.parts.weeks * self.parts.days
@@ -104,7 +115,7 @@ impl Problem {
     pub fn shifts(&self) -> u8
         ensures value { result ≡ shift_count self.now }
         ensures some { 1 ≤ result }
-        ensures few { result ≤ 8 }
+        ensures few { result ≤ MOST_SHIFTS }
     {
         self.keeps_limits();
         self.parts.shifts.len() as u8
@@ -113,7 +124,7 @@ impl Problem {
     /// The pairs of symbols that may not follow each other.
     pub fn pairs(&self) -> &[(Symbol, Symbol)]
         ensures value { result.now ≡ self.now.pairs }
-        ensures few { length result.now ≤ 64 }
+        ensures few { length result.now ≤ MOST_SEQUENCES }
     {
         self.keeps_limits();
         &self.parts.pairs
@@ -122,7 +133,7 @@ impl Problem {
     /// The triples of symbols that may not follow each other.
     pub fn triples(&self) -> &[(Symbol, Symbol, Symbol)]
         ensures value { result.now ≡ self.now.triples }
-        ensures few { length result.now ≤ 64 }
+        ensures few { length result.now ≤ MOST_SEQUENCES }
     {
         self.keeps_limits();
         &self.parts.triples
@@ -132,7 +143,7 @@ impl Problem {
     pub fn bounds(&self, class: Class) -> Bounds
         requires { IsClass self.now class }
         ensures value { result ≡ bounds self.now class }
-        ensures small { (result.least ≤ 10000) × (result.greatest ≤ 10000) }
+        ensures small { (result.least ≤ GREATEST_BOUND) × (result.greatest ≤ GREATEST_BOUND) }
     {
         self.keeps_limits();
         match class {
@@ -187,8 +198,8 @@ impl Problem {
         requires symbol { IsSymbol self.now x }
         requires day { IsDay self.now day }
         ensures value { result ≡ least self.now x.number day }
-        ensures above { negsuc 4799 ≤ℤ result }
-        ensures below { result ≤ℤ pos 600 }
+        ensures above { neg_ℤ (pos (MOST_WEEKS * MOST_SHIFTS)) ≤ℤ result }
+        ensures below { result ≤ℤ pos MOST_WEEKS }
     {
         demand::least_of(&self.parts, x, day)
     }
@@ -198,8 +209,8 @@ impl Problem {
         requires symbol { IsSymbol self.now x }
         requires day { IsDay self.now day }
         ensures value { result ≡ greatest self.now x.number day }
-        ensures above { negsuc 4799 ≤ℤ result }
-        ensures below { result ≤ℤ pos 600 }
+        ensures above { neg_ℤ (pos (MOST_WEEKS * MOST_SHIFTS)) ≤ℤ result }
+        ensures below { result ≤ℤ pos MOST_WEEKS }
     {
         demand::greatest_of(&self.parts, x, day)
     }
@@ -236,4 +247,11 @@ fn place_of_name(rows: &[ShiftRow], name: &[u8]) -> Option<usize>
     ensures within { IfSome result (λ k. k < length rows.now) }
 {
     rows.iter().position(|row| validity::has_name(row, name))
+}
+
+// A problem may be sent to other threads and shared with them.
+fn shared<T: Send + Sync>(_: &T) {}
+
+fn problems_are_shared(problem: &Problem) {
+    shared(problem);
 }

@@ -65,3 +65,10 @@ impl Roster {
         self.cells[weeks_before * self.days as usize + (day as usize - 1)]
     }
 }
+
+// A roster may be sent to other threads and shared with them.
+fn shared<T: Send + Sync>(_: &T) {}
+
+fn rosters_are_shared(roster: &Roster) {
+    shared(roster);
+}

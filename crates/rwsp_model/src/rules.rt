@@ -7,6 +7,7 @@ ghost use Rattle.rwsp_terms.specs.Rules.{rules, rule_of, IsShort, NamesShortRule
 ghost use Rattle.rwsp_model.specs.RuleNumbers.{place_of, IsShortNumber};
 
 use crate::Problem;
+use rwsp_terms::limits::{GREATEST_SHORT_BOUND, MOST_RULES, MOST_SHIFTS};
 use rwsp_terms::{Class, Rule, RuleList, Symbol};
 use std::alloc::{AllocError, Global};
 
@@ -14,7 +15,7 @@ use std::alloc::{AllocError, Global};
 #[tactic(auto, using(crate::proofs::Numbering::rules_are_many))]
 pub fn rule_count(problem: &Problem) -> u32
     ensures value { result ≡ length (rules problem.now) }
-    ensures few { result ≤ 176 }
+    ensures few { result ≤ MOST_RULES }
 {
     problem.keeps_limits();
     let shifts = u32::from(problem.shifts());
@@ -24,7 +25,7 @@ pub fn rule_count(problem: &Problem) -> u32
 
 // The rule of a place in front, where the rules of the shifts stand.
 fn shift_rule(place: u32) -> Rule
-    requires { place < 16 }
+    requires { place < 2 * MOST_SHIFTS }
     ensures { (P : Instance) → place < 2 * shift_count P → IsRule P result × (place_of P result ≡ place) }
 {
     let shift = Symbol {
@@ -98,7 +99,7 @@ pub fn rule_at(problem: &Problem, number: u32) -> Rule
 fn place_of(problem: &Problem, rule: Rule) -> u32
     requires { IsRule problem.now rule }
     ensures value { result ≡ place_of problem.now rule }
-    ensures few { result < 176 }
+    ensures few { result < MOST_RULES }
 {
     problem.keeps_limits();
     let shifts = u32::from(problem.shifts());
@@ -122,23 +123,25 @@ pub fn number_of(problem: &Problem, rule: Rule) -> u32
     requires { IsRule problem.now rule }
     ensures value { rule_of problem.now result ≡ Some rule }
     ensures within { (1 ≤ result) × (result ≤ length (rules problem.now)) }
-    ensures few { result ≤ 176 }
+    ensures few { result ≤ MOST_RULES }
 {
     place_of(problem, rule) + 1
 }
 
-/// Whether the rule's windows are at most 32 days long.
+/// Whether a line of a log may cite the rule in a list: whether its windows are at most two days longer than the
+/// greatest short bound.
 pub fn is_short(problem: &Problem, rule: Rule) -> bool
     requires { IsRule problem.now rule }
     ensures { IsTrue result ↔ IsShort problem.now rule }
 {
     match rule {
-        Rule::MaxShift(shift) => problem.bounds(Class::Shift(shift)).greatest <= 30,
-        Rule::MinShift(shift) => problem.bounds(Class::Shift(shift)).least <= 30,
-        Rule::MaxOff => problem.bounds(Class::Off).greatest <= 30,
-        Rule::MinOff => problem.bounds(Class::Off).least <= 30,
-        Rule::MaxWork => problem.bounds(Class::Work).greatest <= 30,
-        Rule::MinWork => problem.bounds(Class::Work).least <= 30,
+        Rule::MaxShift(shift) => problem.bounds(Class::Shift(shift)).greatest
+            <= GREATEST_SHORT_BOUND,
+        Rule::MinShift(shift) => problem.bounds(Class::Shift(shift)).least <= GREATEST_SHORT_BOUND,
+        Rule::MaxOff => problem.bounds(Class::Off).greatest <= GREATEST_SHORT_BOUND,
+        Rule::MinOff => problem.bounds(Class::Off).least <= GREATEST_SHORT_BOUND,
+        Rule::MaxWork => problem.bounds(Class::Work).greatest <= GREATEST_SHORT_BOUND,
+        Rule::MinWork => problem.bounds(Class::Work).least <= GREATEST_SHORT_BOUND,
         Rule::Pair(_) | Rule::Triple(_) => true,
         Rule::Day(_) => false,
     }
@@ -149,7 +152,8 @@ fn put_if_short(list: &mut RuleList, problem: &Problem, number: u32) -> Result<(
     requires ascends { IsStrictlyIncreasing list.old }
     requires number { (0 < number) × (number ≤ length (rules problem.now)) }
     ensures ascends { IsStrictlyIncreasing list.new }
-    ensures holds { OnOk result ((k : ℕ) → Contains list.new k ↔ (Contains list.old k ⊎ ((k ≡ number) × IsShortNumber problem.now k))) }
+    ensures holds { OnOk result ((k : ℕ)
+        → Contains list.new k ↔ (Contains list.old k ⊎ ((k ≡ number) × IsShortNumber problem.now k))) }
 {
     if is_short(problem, rule_at(problem, number)) {
         list.put(number)?;

@@ -7,7 +7,7 @@ use crate::{
 use std::alloc::{AllocError, Global};
 use std::test::Fail;
 
-// Parts that make a problem, but for what a test changes.
+// Parts that make a problem, in which a test changes something.
 #[derive(Drop)]
 struct Draft<'a> {
     days: u32,

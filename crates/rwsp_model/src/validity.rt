@@ -6,6 +6,9 @@ ghost use Rattle.rwsp_model.specs.Parts.{instance_of};
 ghost use Rattle.rwsp_model.specs.Validity.{refusal_of, has_shape, are_small, is_small_range, is_between, limits_kept, is_shift_name, is_named_well, bad_name_from, is_blank};
 
 use crate::{Parts, PartsRefusal};
+use rwsp_terms::limits::{
+    GREATEST_BOUND, LONGEST_NAME, MOST_CELLS, MOST_DAYS, MOST_SEQUENCES, MOST_SHIFTS, MOST_WEEKS,
+};
 use rwsp_terms::{Bounds, DemandRow, ShiftRow, Symbol};
 
 fn is_long(row: &DemandRow, days: usize) -> bool
@@ -27,7 +30,8 @@ fn pairs_are_within(pairs: &[(Symbol, Symbol)], last: usize) -> bool
 }
 
 fn triples_are_within(triples: &[(Symbol, Symbol, Symbol)], last: usize) -> bool
-    ensures { result ≡ list_all (λ x. nat_le x.0.number last && nat_le x.1.number last && nat_le x.2.number last) triples.now }
+    ensures { result ≡ list_all (λ x.
+        nat_le x.0.number last && nat_le x.1.number last && nat_le x.2.number last) triples.now }
 {
     triples.iter().all(|(x, y, z)| {
         x.number as usize <= last && y.number as usize <= last && z.number as usize <= last
@@ -48,13 +52,13 @@ fn shape_is_kept(parts: &Parts) -> bool
 fn are_small(bounds: Bounds) -> bool
     ensures { result ≡ are_small bounds }
 {
-    bounds.least <= 10_000 && bounds.greatest <= 10_000
+    bounds.least <= GREATEST_BOUND && bounds.greatest <= GREATEST_BOUND
 }
 
 fn is_small_range(range: Bounds) -> bool
     ensures { result ≡ is_small_range range }
 {
-    range.least <= 600 && range.greatest <= 600
+    range.least <= MOST_WEEKS && range.greatest <= MOST_WEEKS
 }
 
 fn ranges_are_small(row: &DemandRow) -> bool
@@ -70,10 +74,9 @@ fn demand_is_small(rows: &[DemandRow]) -> bool
 }
 
 fn times_are_small(rows: &[ShiftRow]) -> bool
-    ensures { result ≡ list_all (λ row. nat_le row.start 10000 && nat_le row.length 10000) rows.now }
+    ensures { result ≡ list_all (λ row. nat_le row.start GREATEST_BOUND && nat_le row.length GREATEST_BOUND) rows.now }
 {
-    rows.iter()
-        .all(|row| row.start <= 10_000 && row.length <= 10_000)
+    rows.iter().all(|row| row.start <= GREATEST_BOUND && row.length <= GREATEST_BOUND)
 }
 
 fn blocks_are_small(rows: &[ShiftRow]) -> bool
@@ -97,15 +100,15 @@ fn first_broken_limit(parts: &Parts) -> Option<usize>
     let off = are_small(parts.off);
     let work = are_small(parts.work);
     let kept = [
-        is_between(1, 28, u64::from(parts.days)),
-        is_between(1, 600, u64::from(parts.weeks)),
-        u64::from(parts.weeks) * u64::from(parts.days) <= 4200,
-        is_between(1, 8, shifts.len() as u64),
+        is_between(1, u64::from(MOST_DAYS), u64::from(parts.days)),
+        is_between(1, u64::from(MOST_WEEKS), u64::from(parts.weeks)),
+        u64::from(parts.weeks) * u64::from(parts.days) <= u64::from(MOST_CELLS),
+        is_between(1, u64::from(MOST_SHIFTS), shifts.len() as u64),
         demand_is_small(&parts.demand),
         times_are_small(shifts),
         blocks && off && work,
-        parts.pairs.len() <= 64,
-        parts.triples.len() <= 64,
+        parts.pairs.len() <= MOST_SEQUENCES as usize,
+        parts.triples.len() <= MOST_SEQUENCES as usize,
     ];
     kept.iter().position(|kept| !*kept)
 }
@@ -125,7 +128,7 @@ fn has_no_blank(name: &[u8]) -> bool
 fn is_shift_name(name: &[u8]) -> bool
     ensures { result ≡ is_shift_name name.now }
 {
-    if name.is_empty() || name.len() > 32 {
+    if name.is_empty() || name.len() > LONGEST_NAME as usize {
         return false;
     }
     has_no_blank(name) && name[0] != b'#' && name != b"-".as_slice()
@@ -156,7 +159,7 @@ fn is_named_well(earlier: &[ShiftRow], row: &ShiftRow) -> bool
 // Counted from 1.
 #[tactic(auto, using(crate::proofs::Limits::bad_here, crate::proofs::Limits::bad_later))]
 fn first_bad_name(rows: &[ShiftRow]) -> Option<u32>
-    requires { length rows.now ≤ 8 }
+    requires { length rows.now ≤ MOST_SHIFTS }
     ensures { result ≡ bad_name_from [] 1 rows.now }
 {
     for (i, row) in rows.iter().enumerate() {

@@ -6,10 +6,11 @@ ghost use Rattle.rwsp_terms.specs.Roster.{weeks_with};
 
 use crate::Problem;
 use rwsp_terms::Symbol;
+use rwsp_terms::limits::{MOST_DAYS, MOST_WEEKS};
 
 // Whether the week holds the symbol on the day. Weeks count from 0.
 fn has_on_day(cells: &[Symbol], days: u32, week: u32, x: Symbol, day: u32) -> bool
-    requires few { (days ≤ 28) × (week < 600) }
+    requires few { (days ≤ MOST_DAYS) × (week < MOST_WEEKS) }
     requires day { (0 < day) × (day ≤ days) }
     requires within { week * days + (day - 1) < length cells.now }
     ensures { result ≡ ((slice_index_or cells.now (week * days + (day - 1)) off_symbol).number == x.number) }
@@ -19,10 +20,11 @@ fn has_on_day(cells: &[Symbol], days: u32, week: u32, x: Symbol, day: u32) -> bo
 
 #[tactic(auto, using(rwsp_terms::proofs::Counting::count_then, rwsp_terms::proofs::Counting::count_else))]
 fn count_weeks(cells: &[Symbol], days: u32, weeks: u32, x: Symbol, day: u32) -> u32
-    requires few { (days ≤ 28) × (weeks ≤ 600) }
+    requires few { (days ≤ MOST_DAYS) × (weeks ≤ MOST_WEEKS) }
     requires cells { length cells.now ≡ weeks * days }
     requires day { (0 < day) × (day ≤ days) }
-    ensures value { result ≡ count_by (λ i. (slice_index_or cells.now (i * days + (day - 1)) off_symbol).number == x.number) (range_with_len 0 weeks) }
+    ensures value { result ≡ count_by (λ i.
+        (slice_index_or cells.now (i * days + (day - 1)) off_symbol).number == x.number) (range_with_len 0 weeks) }
     ensures few { result ≤ weeks }
 {
     let mut count = 0;
@@ -39,7 +41,7 @@ pub fn weeks_with(problem: &Problem, cells: &[Symbol], x: Symbol, day: u32) -> u
     requires cells { length cells.now ≡ problem.now.weeks * problem.now.days }
     requires day { IsDay problem.now day }
     ensures value { result ≡ weeks_with problem.now cells.now x.number day }
-    ensures few { result ≤ 600 }
+    ensures few { result ≤ MOST_WEEKS }
 {
     count_weeks(cells, problem.days(), problem.weeks(), x, day)
 }

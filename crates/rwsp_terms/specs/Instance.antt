@@ -47,7 +47,8 @@ column_least P j = sum_by (λ row. (slice_index_or row (j - 1) no_bounds).least)
 abbrev pub column_greatest : Instance → ℕ → ℕ
 column_greatest P j = sum_by (λ row. (slice_index_or row (j - 1) no_bounds).greatest) P.demand
 
--- the least number of weeks that hold a symbol on a day: of the day off, the weeks that the shifts may leave at least, which may be negative
+-- the least number of weeks that hold a symbol on a day: of the day off, the weeks that the shifts may leave at
+-- least, which may be negative
 abbrev pub least : Instance → ℕ → ℕ → ℤ
 least P zero j = pos P.weeks -ℤ pos (column_greatest P j)
 least P (suc x) j = pos (shift_demand P (suc x) j).least

@@ -9,11 +9,14 @@ use Rattle.rwsp_terms.specs.declared.data.Rule.TheVariants.{MaxShift, MinShift, 
 
 -- how many weeks hold the symbol on the day
 abbrev pub weeks_with : Instance → List Symbol → ℕ → ℕ → ℕ
-weeks_with P s x j = count_by (λ i. (slice_index_or s (i * P.days + (j - 1)) off_symbol).number == x) (range_with_len 0 P.weeks)
+weeks_with P s x j =
+    count_by (λ i. (slice_index_or s (i * P.days + (j - 1)) off_symbol).number == x) (range_with_len 0 P.weeks)
 
 -- the day has at least the least and at most the greatest number of each symbol, of the day off too
 abbrev pub MeetsDay : Instance → ℕ → List Symbol → Type 0
-MeetsDay P j s = (x : ℕ) → x ≤ shift_count P → (least P x j ≤ℤ pos (weeks_with P s x j)) × (pos (weeks_with P s x j) ≤ℤ greatest P x j)
+MeetsDay P j s =
+    (x : ℕ) → x ≤ shift_count P
+    → (least P x j ≤ℤ pos (weeks_with P s x j)) × (pos (weeks_with P s x j) ≤ℤ greatest P x j)
 
 -- no window is of the kind
 abbrev pub HasNoWindow : (List Symbol → Type 0) → List Symbol → Type 0

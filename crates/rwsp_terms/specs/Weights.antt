@@ -1,14 +1,15 @@
 -- Lists of what symbols weigh on days.
-use Rattle.std.specs.Prelude.{◌≡◌, ◌≢◌, ◌⊎◌, ℕ, ◌<◌, ◌≤ℤ◌, ℤ, pos, negsuc, List, AllPairs, All, ◌&&◌, ◌==◌, [], ◌∷◌, if◌then◌else◌}
+use Rattle.std.specs.Prelude.{◌≡◌, ◌≢◌, ◌⊎◌, ℕ, ◌<◌, ◌≤ℤ◌, ℤ, pos, neg_ℤ, List, AllPairs, All, ◌&&◌, ◌==◌, [], ◌∷◌, if◌then◌else◌}
 use Rattle.rwsp_terms.specs.declared.data.Weight.{Weight}
+use Rattle.rwsp_terms.specs.declared.limits.TheConstants.{GREATEST_WEIGHT}
 
 -- an earlier day, or the same day and a lower symbol
 abbrev pub ComesBefore : Weight → Weight → Type 0
 ComesBefore a b = (a.day < b.day) ⊎ ((a.day ≡ b.day) × (a.symbol.number < b.symbol.number))
 
--- a value from -1000 to 1000 that isn't 0
+-- a value that isn't 0, from the least weight to the greatest
 abbrev pub IsWeight : Weight → Type 0
-IsWeight a = (negsuc 999 ≤ℤ a.value) × (a.value ≤ℤ pos 1000) × (a.value ≢ pos 0)
+IsWeight a = (neg_ℤ (pos GREATEST_WEIGHT) ≤ℤ a.value) × (a.value ≤ℤ pos GREATEST_WEIGHT) × (a.value ≢ pos 0)
 
 -- ascending by day and then by symbol, without repeats
 pub record AreWeights (y : List Weight) : Type 0 where

@@ -3,6 +3,7 @@ ghost use Rattle.std.specs.Prelude.{◌≡◌, ◌↔◌, ◌<◌, IsTrue};
 ghost use Rattle.rwsp_terms.specs.Window.{InClass};
 
 use std::alloc::AllocError;
+use std::fmt;
 use std::marker::Model;
 
 /// The day off, numbered 0, or a shift, numbered from 1 in the order of the file.
@@ -55,6 +56,23 @@ pub enum Rule {
     Pair(u32),
     Triple(u32),
     Day(u32),
+}
+
+/// The rule in words, with the numbers of its shift, pair, triple or day.
+impl fmt::Display for Rule {
+    fn fmt<W: fmt::Write>(&self, f: &mut fmt::Formatter<W>) -> fmt::Result {
+        match self {
+            Rule::MaxShift(shift) => write!(f, "the longest block of shift {}", shift.number),
+            Rule::MinShift(shift) => write!(f, "the shortest block of shift {}", shift.number),
+            Rule::MaxOff => f.write_str("the longest block of days off"),
+            Rule::MinOff => f.write_str("the shortest block of days off"),
+            Rule::MaxWork => f.write_str("the longest block of work"),
+            Rule::MinWork => f.write_str("the shortest block of work"),
+            Rule::Pair(pair) => write!(f, "forbidden pair {pair}, counted from 0"),
+            Rule::Triple(triple) => write!(f, "forbidden triple {triple}, counted from 0"),
+            Rule::Day(day) => write!(f, "the demand of day {day}"),
+        }
+    }
 }
 
 /// What a symbol weighs on a day. Days count from 1.

@@ -13,10 +13,12 @@ pub fn window_is_long()
 
 /// Lists of rules that hold the same numbers are equal.
 pub fn rule_lists_are_sets()
-    ensures { (r s : List ℕ) → IsStrictlyIncreasing r → IsStrictlyIncreasing s → ((k : ℕ) → Contains r k ↔ Contains s k) → r ≡ s }
+    ensures { (r s : List ℕ) → IsStrictlyIncreasing r → IsStrictlyIncreasing s
+        → ((k : ℕ) → Contains r k ↔ Contains s k) → r ≡ s }
 {}
 
 /// Weights that are the same everywhere are equal.
 pub fn weights_are_told_by_values()
-    ensures { (y z : List Weight) → AreWeights y → AreWeights z → ((j x : ℕ) → weight_at y j x ≡ weight_at z j x) → y ≡ z }
+    ensures { (y z : List Weight) → AreWeights y → AreWeights z → ((j x : ℕ) → weight_at y j x ≡ weight_at z j x)
+        → y ≡ z }
 {}

@@ -5,7 +5,6 @@ mod data;
 mod laws;
 pub mod limits;
 mod rule_list;
-mod sharing;
 #[cfg(test)]
 mod tests;
 mod weights;

@@ -32,6 +32,10 @@ pub const LONGEST_NAME: u32 = 32;
 /// The greatest bound, in days, of a block rule that a `dead` or a `bound` line may cite.
 pub const GREATEST_SHORT_BOUND: u32 = 30;
 
+/// The most days of a block that a tail counts: one more than the greatest short bound, so that a block that is too
+/// long is told from one that isn't.
+pub const LONGEST_RUN: u32 = GREATEST_SHORT_BOUND + 1;
+
 /// The most days of a window or a word that a refutation speaks of.
 pub const LONGEST_WORD: u32 = 16_800;
 
@@ -49,6 +53,12 @@ pub const USUAL_BUDGET: u32 = 20_000;
 
 /// The greatest budget of a plan, in lines of its log.
 pub const GREATEST_BUDGET: u32 = 200_000;
+
+/// The budget of a trial, in lines of its log.
+pub const TRIAL_BUDGET: u32 = 2_000;
+
+/// The most days of a calendar.
+pub const LONGEST_CALENDAR: u32 = 400;
 
 /// The workers of a check where none are given.
 pub const USUAL_WORKERS: u32 = 4;

@@ -32,7 +32,7 @@ impl RuleList {
         }
     }
 
-    /// The same list once more.
+    /// A copy of the list.
     pub fn copy(&self) -> Result<RuleList, AllocError>
         ensures { IfOk result (λ r. r ≡ self.now) }
     {
@@ -40,7 +40,7 @@ impl RuleList {
         Ok(RuleList { numbers })
     }
 
-    /// How many rules it lists.
+    /// The number of rules that it lists.
     pub fn len(&self) -> usize
         ensures { result ≡ length self.now }
     {
@@ -95,9 +95,17 @@ fn insert_number(numbers: &mut Vec<u32>, place: usize, number: u32) -> Result<()
     requires ascends { IsStrictlyIncreasing numbers.old.items }
     requires place { NumberBelongs numbers.old.items place number }
     ensures ascends { IsStrictlyIncreasing numbers.new.items }
-    ensures holds { OnOk result ((k : ℕ) → Contains numbers.new.items k ↔ (Contains numbers.old.items k ⊎ (k ≡ number))) }
+    ensures holds { OnOk result ((k : ℕ)
+        → Contains numbers.new.items k ↔ (Contains numbers.old.items k ⊎ (k ≡ number))) }
     ensures kept { OnErr result (numbers.new.items ≡ numbers.old.items) }
 {
     numbers.insert(place, number)?;
     Ok(())
+}
+
+// A list of rules may be sent to other threads and shared with them.
+fn shared<T: Send + Sync>(_: &T) {}
+
+fn rule_lists_are_shared(rules: &RuleList) {
+    shared(rules);
 }

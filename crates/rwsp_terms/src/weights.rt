@@ -1,8 +1,9 @@
-ghost use Rattle.std.specs.Prelude.{◌≡◌, ◌↔◌, ℕ, ◌<◌, ◌≤◌, ◌≤ℤ◌, pos, negsuc, [], length, slice_index_or, AllPairs, IsTrue, MatchResult, IfOk, OnOk, OnErr};
+ghost use Rattle.std.specs.Prelude.{◌≡◌, ◌↔◌, ℕ, ◌<◌, ◌≤◌, ◌≤ℤ◌, pos, neg_ℤ, [], length, slice_index_or, AllPairs, IsTrue, MatchResult, IfOk, OnOk, OnErr};
 ghost use Rattle.rwsp_terms.specs.Weights.{AreWeights, ComesBefore, weight_at};
 ghost use Rattle.rwsp_terms.specs.Places.{EntryStands, EntryBelongs, Precedes, is_at, SetsWeight};
 ghost use Rattle.rwsp_terms.specs.declared.data.Weight.{Weight};
 
+use crate::limits::GREATEST_WEIGHT;
 use crate::{Symbol, Weight};
 use std::alloc::{AllocError, Global};
 use std::marker::Model;
@@ -36,7 +37,7 @@ impl Weights {
         }
     }
 
-    /// The same weights once more.
+    /// A copy of the weights.
     pub fn copy(&self) -> Result<Weights, AllocError>
         ensures { IfOk result (λ w. w ≡ self.now) }
     {
@@ -44,7 +45,7 @@ impl Weights {
         Ok(Weights { entries })
     }
 
-    /// How many weights aren't 0.
+    /// The number of weights that aren't 0.
     pub fn len(&self) -> usize
         ensures { result ≡ length self.now }
     {
@@ -68,8 +69,8 @@ impl Weights {
 
     /// Sets what the symbol weighs on the day; 0 takes its entry out.
     pub fn put(&mut self, day: u32, x: Symbol, value: i32) -> Result<(), AllocError>
-        requires low { negsuc 999 ≤ℤ value }
-        requires high { value ≤ℤ pos 1000 }
+        requires low { neg_ℤ (pos GREATEST_WEIGHT) ≤ℤ value }
+        requires high { value ≤ℤ pos GREATEST_WEIGHT }
         ensures weights { AreWeights self.new }
         ensures sets { OnOk result (SetsWeight self.old self.new day x.number value) }
         ensures kept { OnErr result (self.new ≡ self.old) }
@@ -117,7 +118,8 @@ fn value_at(entries: &[Weight], day: u32, x: Symbol) -> i32
 fn entries_before(entries: &[Weight], day: u32, x: Symbol) -> usize
     ensures within { result ≤ length entries.now }
     ensures before { (k : ℕ) (d : Weight) → k < result → Precedes (slice_index_or entries.now k d) day x.number }
-    ensures next { (d : Weight) → result < length entries.now → ¬ Precedes (slice_index_or entries.now result d) day x.number }
+    ensures next { (d : Weight) → result < length entries.now
+        → ¬ Precedes (slice_index_or entries.now result d) day x.number }
 {
     for (i, entry) in entries.iter().enumerate() {
         if !precedes(entry, day, x) {
@@ -130,7 +132,8 @@ fn entries_before(entries: &[Weight], day: u32, x: Symbol) -> usize
 // The place of the entry of the symbol on the day, or else the place where it belongs.
 fn place_of_entry(entries: &[Weight], day: u32, x: Symbol) -> Result<usize, usize>
     requires { AllPairs ComesBefore entries.now }
-    ensures { MatchResult result (λ i. EntryStands entries.now day x.number i) (λ i. EntryBelongs entries.now day x.number i) }
+    ensures { MatchResult result (λ i. EntryStands entries.now day x.number i)
+        (λ i. EntryBelongs entries.now day x.number i) }
 {
     let place = entries_before(entries, day, x);
     if place == entries.len() {
@@ -146,7 +149,7 @@ fn place_of_entry(entries: &[Weight], day: u32, x: Symbol) -> Result<usize, usiz
 fn change_entry(entries: &mut Vec<Weight>, place: usize, entry: Weight)
     requires weights { AreWeights entries.old.items }
     requires place { EntryStands entries.old.items entry.day entry.symbol.number place }
-    requires value { (negsuc 999 ≤ℤ entry.value) × (entry.value ≤ℤ pos 1000) }
+    requires value { (neg_ℤ (pos GREATEST_WEIGHT) ≤ℤ entry.value) × (entry.value ≤ℤ pos GREATEST_WEIGHT) }
     ensures { SetsWeight entries.old.items entries.new.items entry.day entry.symbol.number entry.value }
 {
     if entry.value == 0 {
@@ -159,12 +162,20 @@ fn change_entry(entries: &mut Vec<Weight>, place: usize, entry: Weight)
 fn add_entry(entries: &mut Vec<Weight>, place: usize, entry: Weight) -> Result<(), AllocError>
     requires weights { AreWeights entries.old.items }
     requires place { EntryBelongs entries.old.items entry.day entry.symbol.number place }
-    requires value { (negsuc 999 ≤ℤ entry.value) × (entry.value ≤ℤ pos 1000) }
-    ensures sets { OnOk result (SetsWeight entries.old.items entries.new.items entry.day entry.symbol.number entry.value) }
+    requires value { (neg_ℤ (pos GREATEST_WEIGHT) ≤ℤ entry.value) × (entry.value ≤ℤ pos GREATEST_WEIGHT) }
+    ensures sets { OnOk result (SetsWeight entries.old.items entries.new.items entry.day entry.symbol.number
+        entry.value) }
     ensures kept { OnErr result (entries.new.items ≡ entries.old.items) }
 {
     if entry.value != 0 {
         entries.insert(place, entry)?;
     }
     Ok(())
+}
+
+// Weights may be sent to other threads and shared with them.
+fn shared<T: Send + Sync>(_: &T) {}
+
+fn weights_are_shared(weights: &Weights) {
+    shared(weights);
 }

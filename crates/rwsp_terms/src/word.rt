@@ -48,3 +48,10 @@ impl Word {
         self.symbols[i]
     }
 }
+
+// A word may be sent to other threads and shared with them.
+fn shared<T: Send + Sync>(_: &T) {}
+
+fn words_are_shared(word: &Word) {
+    shared(word);
+}

@@ -37,9 +37,12 @@ NoLines lines = lines ≡ []
 abbrev pub InSplits : (List Line → Type 0) → ℕ → Store → Domains → ℕ → List OpenSplit → List Line → Type 0
 InSplits Q n S D from [] lines = (from ≤ length S.trail) × Agrees n S D × Q lines
 InSplits Q n S D from (o ∷ splits) lines =
-    IsSplitAt n S D from o × (first : List Line) × (rest : List Line) × (lines ≡ Split o.p o.x ∷ (first ++ rest)) × IsFirstSide o.in_second first × InSplits Q n S (narrowed D (Split o.p o.x) (side_in o.in_second)) o.mark.len splits rest
+    IsSplitAt n S D from o × (first : List Line) × (rest : List Line) × (lines ≡ Split o.p o.x ∷ (first ++ rest))
+    × IsFirstSide o.in_second first
+    × InSplits Q n S (narrowed D (Split o.p o.x) (side_in o.in_second)) o.mark.len splits rest
 
--- the lines are a whole tree, and the store has the domains before it; or they end inside the splits, where the next tree begins
+-- the lines are a whole tree, and the store has the domains before it; or they end inside the splits, where the next
+-- tree begins
 abbrev pub HasRead : Bool → ℕ → Store → Domains → List OpenSplit → List Line → Type 0
 HasRead true n S D splits lines = (splits ≡ []) × InSplits IsTree n S D 0 [] lines
 HasRead false n S D splits lines = InSplits NoLines n S D 0 splits lines

@@ -14,8 +14,11 @@ use domain_store::Domains;
 pub fn end_tree(domains: &mut Domains, splits: &mut Vec<OpenSplit>) -> bool
     requires { IsBehindTree domains.old splits.old.items }
     ensures same { HasSameShape domains.old domains.new }
-    ensures ended { (D : DomainTest) (lines : List Line) → InSplits IsTree (length domains.old.sets) domains.old D 0 splits.old.items lines → HasRead result (length domains.old.sets) domains.new D splits.new.items lines }
-    ensures counted { second_sides_to_come splits.old.items ≡ cond result 0 (second_sides_to_come splits.new.items + 1) }
+    ensures ended { (D : DomainTest) (lines : List Line)
+        → InSplits IsTree (length domains.old.sets) domains.old D 0 splits.old.items lines
+        → HasRead result (length domains.old.sets) domains.new D splits.new.items lines }
+    ensures counted { second_sides_to_come splits.old.items
+        ≡ cond result 0 (second_sides_to_come splits.new.items + 1) }
 {
     while let Some(split) = splits.pop() {
         domains.undo_to(split.mark);

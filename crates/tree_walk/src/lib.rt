@@ -3,7 +3,6 @@
 
 mod ending;
 mod open_split;
-mod sharing;
 #[cfg(test)]
 mod tests;
 mod walk;

@@ -1,8 +1,8 @@
 use domain_store::Mark;
-use rwsp_model::Symbol;
+use rwsp_terms::Symbol;
 
-/// A split whose sides haven't all been read: its position and symbol, where the domains stood before it, and whether its
-/// first side has been read.
+/// A split whose sides haven't all been read: its position and symbol, where the domains stood before it, and whether
+/// its first side has been read.
 #[derive(Clone, Copy, Debug, PartialEq, Eq)]
 pub struct OpenSplit {
     pub p: u32,

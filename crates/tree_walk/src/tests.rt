@@ -1,7 +1,8 @@
 // Walks through small trees, worked by hand.
 use crate::Walk;
 use refutation_terms::Turn;
-use rwsp_model::{Bounds, DemandRow, Name, Parts, Problem, ShiftRow, Symbol};
+use rwsp_model::{Parts, Problem};
+use rwsp_terms::{Bounds, DemandRow, Name, ShiftRow, Symbol};
 use std::alloc::{AllocError, Global};
 use std::process::Abort;
 use std::test::Fail;

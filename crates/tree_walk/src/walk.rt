@@ -14,7 +14,9 @@ use crate::ending::end_tree;
 use crate::open_split::OpenSplit;
 use domain_store::Domains;
 use refutation_terms::Turn;
-use rwsp_model::{Problem, Symbol};
+use rwsp_model::Problem;
+use rwsp_terms::Symbol;
+use rwsp_terms::limits::MOST_CELLS;
 use std::alloc::{AllocError, Global};
 use std::marker::Model;
 
@@ -75,8 +77,9 @@ impl Walk {
     /// The number of positions.
     pub fn cells(&self) -> u32
         ensures positions { result ≡ length self.now.store.sets }
-        ensures value { (P : Instance) (turn : Option TheTurn) (lines : List Line) → IsStateOf P turn lines self.now → result ≡ cells P }
-        ensures few { result ≤ 4200 }
+        ensures value { (P : Instance) (turn : Option TheTurn) (lines : List Line) → IsStateOf P turn lines self.now
+            → result ≡ cells P }
+        ensures few { result ≤ MOST_CELLS }
     {
         self.domains.facts();
         self.domains.cells()
@@ -95,7 +98,8 @@ impl Walk {
     /// Whether the lines are those of one whole tree, behind which no line stands.
     pub fn is_whole(&self) -> bool
         ensures value { result ≡ self.now.whole }
-        ensures tree { (P : Instance) (turn : Option TheTurn) (lines : List Line) → IsStateOf P turn lines self.now → IsTrue result ↔ IsTree lines }
+        ensures tree { (P : Instance) (turn : Option TheTurn) (lines : List Line) → IsStateOf P turn lines self.now
+            → IsTrue result ↔ IsTree lines }
     {
         self.whole
     }
@@ -103,7 +107,8 @@ impl Walk {
     /// How many whole trees must still follow, so that the lines become those of one.
     pub fn open_count(&self) -> usize
         ensures value { result ≡ open_trees self.now }
-        ensures trees { (P : Instance) (turn : Option TheTurn) (lines rest : List Line) → IsStateOf P turn lines self.now →
+        ensures trees { (P : Instance) (turn : Option TheTurn) (lines rest : List Line)
+            → IsStateOf P turn lines self.now →
             after_trees 1 (lines ++ rest) ≡ after_trees result rest }
     {
         if self.whole {
@@ -117,7 +122,8 @@ impl Walk {
     pub fn is_idle(&self, p: u32, x: Symbol) -> bool
         requires { p < length self.now.store.sets }
         ensures value { result ≡ is_idle_in self.now.store p x.number }
-        ensures idle { (P : Instance) (turn : Option TheTurn) (lines : List Line) → IsStateOf P turn lines self.now → result ≡ is_idle P (domains_at P turn lines (length lines)) p x.number }
+        ensures idle { (P : Instance) (turn : Option TheTurn) (lines : List Line) → IsStateOf P turn lines self.now
+            → result ≡ is_idle P (domains_at P turn lines (length lines)) p x.number }
     {
         self.domains.facts();
         is_idle_there(&self.domains, p, x)
@@ -128,7 +134,9 @@ impl Walk {
         requires part { self.old.whole ≡ false }
         requires position { p < length self.old.store.sets }
         requires useful { is_idle_in self.old.store p x.number ≡ false }
-        ensures splits { IfOk result (λ _. (P : Instance) (turn : Option TheTurn) (lines : List Line) → IsStateOf P turn lines self.old → IsStateOf P turn (lines ++ Split p x ∷ []) self.new) }
+        ensures splits { IfOk result (λ _.
+            (P : Instance) (turn : Option TheTurn) (lines : List Line) → IsStateOf P turn lines self.old
+            → IsStateOf P turn (lines ++ Split p x ∷ []) self.new) }
         ensures one_more { IfOk result (λ _. open_trees self.new ≡ open_trees self.old + 1) }
         ensures part_still { IfOk result (λ _. self.new.whole ≡ false) }
         ensures same { HasSameShape self.old.store self.new.store }
@@ -148,7 +156,8 @@ impl Walk {
     /// Reads a leaf, by which the second side of a split may begin, or the whole tree end.
     pub fn read_leaf(&mut self)
         requires { self.old.whole ≡ false }
-        ensures ends { (P : Instance) (turn : Option TheTurn) (lines : List Line) (leaf : Line) → IsStateOf P turn lines self.old → IsLeaf leaf → IsStateOf P turn (lines ++ leaf ∷ []) self.new }
+        ensures ends { (P : Instance) (turn : Option TheTurn) (lines : List Line) (leaf : Line)
+            → IsStateOf P turn lines self.old → IsLeaf leaf → IsStateOf P turn (lines ++ leaf ∷ []) self.new }
         ensures one_less { open_trees self.old ≡ open_trees self.new + 1 }
         ensures same { HasSameShape self.old.store self.new.store }
     {
@@ -197,4 +206,11 @@ fn opening_domains(
         domains.set_only(turn.day - 1, turn.x);
     }
     Ok(domains)
+}
+
+// A walk may be sent to other threads and shared with them.
+fn shared<T: Send + Sync>(_: &T) {}
+
+fn walks_are_shared(walk: &Walk) {
+    shared(walk);
 }

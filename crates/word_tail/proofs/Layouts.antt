@@ -2,11 +2,13 @@
 use Rattle.std.proofs.Common.{◌≡◌, ◌⊎◌, ℕ, zero, suc, ◌+◌, ◌*◌, ◌<◌, ◌≤◌, List, length, get_or, Option, Some, Bool, false, ◌&&◌, refl, ap, sym, ◌∙◌, subst, inl, inr, ⊎_elim, arith, ltb, replicate}
 use Rattle.std.proofs.Common.{◌≢◌, set, below_more, get_or-set_other, get_or-set_same}
 use Rattle.std.proofs.lemmas.List.{get_or_past}
+use Rattle.word_tail.specs.declared.tables.TheConstants.{PAIRS, TRIPLES}
 use Rattle.word_tail.specs.declared.tables.Lengths.{Lengths}
 use Rattle.std.specs.Prelude.{◌↔◌, IsTrue, Contains, slice_get}
 use Rattle.std.proofs.lemmas.Option.{get_or_from_slice_get, slice_get_within}
 use Rattle.std.proofs.lemmas.Bool.{cases_lt}
 use Rattle.std.proofs.Math.Bool.{and-false}
+use Rattle.rwsp_terms.specs.declared.limits.TheConstants.{MOST_SHIFTS, MOST_SYMBOLS, GREATEST_SHORT_BOUND}
 use Rattle.rwsp_terms.specs.declared.data.Symbol.{Symbol}
 use Rattle.rwsp_terms.specs.declared.data.Class.{Class}
 use Rattle.rwsp_terms.specs.declared.data.Class.TheVariants.{Shift, Off, Work}
@@ -19,12 +21,12 @@ use Rattle.word_tail.specs.Ends.{max_rule, min_rule, class_numbered}
 use Rattle.word_tail.specs.Tables.{AreLengths, no_lengths, pair_in, triple_in, HoldsPairs, HoldsTriples, NamesPair, NamesTriple}
 
 -- the lengths of rules that are short
-pub short_max : (P : Instance) (R : List ℕ) (c : Class) → NamesShortOnly P R → Names P R (max_rule c) → (bounds P c).greatest ≤ 30
+pub short_max : (P : Instance) (R : List ℕ) (c : Class) → NamesShortOnly P R → Names P R (max_rule c) → (bounds P c).greatest ≤ GREATEST_SHORT_BOUND
 short_max P R (Shift x) short named = short (max_rule (Shift x)) named
 short_max P R Off short named = short (max_rule Off) named
 short_max P R Work short named = short (max_rule Work) named
 
-pub short_min : (P : Instance) (R : List ℕ) (c : Class) → NamesShortOnly P R → Names P R (min_rule c) → (bounds P c).least ≤ 30
+pub short_min : (P : Instance) (R : List ℕ) (c : Class) → NamesShortOnly P R → Names P R (min_rule c) → (bounds P c).least ≤ GREATEST_SHORT_BOUND
 short_min P R (Shift x) short named = short (min_rule (Shift x)) named
 short_min P R Off short named = short (min_rule Off) named
 short_min P R Work short named = short (min_rule Work) named
@@ -110,16 +112,16 @@ unset zero k = refl
 unset (suc n) zero = refl
 unset (suc n) (suc k) = unset n k
 
-pub no_pairs : (P : Instance) (R : List ℕ) (table : List Bool) → table ≡ replicate 81 false → HoldsPairs P R table 0
+pub no_pairs : (P : Instance) (R : List ℕ) (table : List Bool) → table ≡ replicate PAIRS false → HoldsPairs P R table 0
 no_pairs P R table e a b =
-    let none : get_or table (9 * a.number + b.number) false ≡ false = ap (λ t. get_or t (9 * a.number + b.number) false) e ∙ unset 81 (9 * a.number + b.number) in
-    let unheld : pair_in table a b ≡ false = ap (λ k. ltb a.number 9 && ltb b.number 9 && k) none ∙ and-false (ltb a.number 9 && ltb b.number 9) in
+    let none : get_or table (MOST_SYMBOLS * a.number + b.number) false ≡ false = ap (λ t. get_or t (MOST_SYMBOLS * a.number + b.number) false) e ∙ unset PAIRS (MOST_SYMBOLS * a.number + b.number) in
+    let unheld : pair_in table a b ≡ false = ap (λ k. ltb a.number MOST_SYMBOLS && ltb b.number MOST_SYMBOLS && k) none ∙ and-false (ltb a.number MOST_SYMBOLS && ltb b.number MOST_SYMBOLS) in
     (λ t. absurd (cc), λ k. absurd (omega (arith, k.1)))
 
-pub no_triples : (P : Instance) (R : List ℕ) (table : List Bool) → table ≡ replicate 729 false → HoldsTriples P R table 0
+pub no_triples : (P : Instance) (R : List ℕ) (table : List Bool) → table ≡ replicate TRIPLES false → HoldsTriples P R table 0
 no_triples P R table e a b c =
-    let none : get_or table (81 * a.number + 9 * b.number + c.number) false ≡ false = ap (λ t. get_or t (81 * a.number + 9 * b.number + c.number) false) e ∙ unset 729 (81 * a.number + 9 * b.number + c.number) in
-    let unheld : triple_in table a b c ≡ false = ap (λ k. ltb a.number 9 && ltb b.number 9 && ltb c.number 9 && k) none ∙ and-false (ltb a.number 9 && ltb b.number 9 && ltb c.number 9) in
+    let none : get_or table (PAIRS * a.number + MOST_SYMBOLS * b.number + c.number) false ≡ false = ap (λ t. get_or t (PAIRS * a.number + MOST_SYMBOLS * b.number + c.number) false) e ∙ unset TRIPLES (PAIRS * a.number + MOST_SYMBOLS * b.number + c.number) in
+    let unheld : triple_in table a b c ≡ false = ap (λ k. ltb a.number MOST_SYMBOLS && ltb b.number MOST_SYMBOLS && ltb c.number MOST_SYMBOLS && k) none ∙ and-false (ltb a.number MOST_SYMBOLS && ltb b.number MOST_SYMBOLS && ltb c.number MOST_SYMBOLS) in
     (λ t. absurd (cc), λ k. absurd (omega (arith, k.1)))
 
 -- one entry more of the lengths by symbols
@@ -130,10 +132,10 @@ next_lengths P R symbols n lengths within here below =
     (rw get_or-set_same here)
 
 -- no lengths behind the table's end
-pub all_lengths : (P : Instance) (R : List ℕ) (symbols : List Lengths) → ((Q : Instance) (s : Rule) → Contains (rules Q) s ↔ IsRule Q s) → shift_count P ≤ 8 → length symbols ≡ 9 → ((k : ℕ) → k < 9 → AreLengths P R (class_numbered k) (get_or symbols k no_lengths)) → (n : ℕ) → AreLengths P R (class_numbered n) (get_or symbols n no_lengths)
+pub all_lengths : (P : Instance) (R : List ℕ) (symbols : List Lengths) → ((Q : Instance) (s : Rule) → Contains (rules Q) s ↔ IsRule Q s) → shift_count P ≤ MOST_SHIFTS → length symbols ≡ MOST_SYMBOLS → ((k : ℕ) → k < MOST_SYMBOLS → AreLengths P R (class_numbered k) (get_or symbols k no_lengths)) → (n : ℕ) → AreLengths P R (class_numbered n) (get_or symbols n no_lengths)
 all_lengths P R symbols law few long below n =
-    ⊎_elim (λ (less : n < 9). below n less)
-    (λ (more : 9 ≤ n).
+    ⊎_elim (λ (less : n < MOST_SYMBOLS). below n less)
+    (λ (more : MOST_SYMBOLS ≤ n).
     let none : get_or symbols n no_lengths ≡ no_lengths = get_or_past symbols n no_lengths (omega (arith, long, more)) in
     subst (AreLengths P R (class_numbered n)) (sym none) (none_above P R n law (omega (arith, few, more))))
-    (cases_lt n 9)
+    (cases_lt n MOST_SYMBOLS)

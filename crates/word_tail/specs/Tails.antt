@@ -1,6 +1,7 @@
 -- The tail of a word.
 use Rattle.std.specs.Prelude.{ℕ, List, Option, Some, None, Bool, true, ◌==◌, nat_lt, reverse, slice_get, min}
 use Rattle.std.specs.List.{suffix_len, list_all}
+use Rattle.rwsp_terms.specs.declared.limits.TheConstants.{LONGEST_RUN}
 use Rattle.rwsp_terms.specs.declared.data.Symbol.{Symbol}
 use Rattle.word_tail.specs.declared.tail.Tail.{Tail}
 
@@ -42,9 +43,9 @@ abbrev pub all_one_by : Option Symbol → List Symbol → Bool
 all_one_by None w = true
 all_one_by (Some x) w = are_all x w
 
--- counted to 31 at most
+-- counted to the longest run at most
 abbrev pub capped : ℕ → ℕ
-capped n = min n 31
+capped n = min n LONGEST_RUN
 
 -- the six facts of a word
 abbrev pub tail_of : List Symbol → Tail

@@ -7,9 +7,10 @@ ghost use Rattle.rwsp_terms.specs.declared.data.Symbol.{Symbol};
 ghost use Rattle.word_tail.specs.Ends.{max_rule, min_rule, class_numbered};
 ghost use Rattle.word_tail.specs.Tables.{IsGreatest, IsLeast, AreLengths, AreTables, no_lengths, pair_in, triple_in, HoldsPairs, HoldsTriples, NamesPair, NamesTriple};
 
-use crate::tables::{Lengths, RuleTables};
-use rwsp_model::{Problem, Rule, RuleList, every_rule_is_listed, number_of, rules_have_one_number};
-use rwsp_terms::{Class, Symbol};
+use crate::tables::{Lengths, PAIRS, RuleTables, TRIPLES, place_of_pair, place_of_triple};
+use rwsp_model::{Problem, every_rule_is_listed, number_of, rules_have_one_number};
+use rwsp_terms::limits::MOST_SYMBOLS;
+use rwsp_terms::{Class, Rule, RuleList, Symbol};
 use std::alloc::{AllocError, Global};
 
 // Whether the list names the rule.
@@ -95,35 +96,35 @@ fn lengths_numbered(problem: &Problem, list: &RuleList, number: u8) -> Lengths
     }
 }
 
-fn symbol_lengths(problem: &Problem, list: &RuleList) -> [Lengths; 9]
+fn symbol_lengths(problem: &Problem, list: &RuleList) -> [Lengths; MOST_SYMBOLS as usize]
     requires { NamesShortOnly problem.now list.now }
     ensures { (n : ℕ) →
         AreLengths problem.now list.now (class_numbered n) (slice_index_or result n no_lengths) }
 {
     every_rule_is_listed();
     problem.keeps_limits();
-    let mut symbols = [Lengths::NONE; 9];
-    for number in 0..9u8 {
+    let mut symbols = [Lengths::NONE; MOST_SYMBOLS as usize];
+    for number in 0..MOST_SYMBOLS as u8 {
         symbols[number as usize] = lengths_numbered(problem, list, number);
     }
     symbols
 }
 
 fn put_pair(table: &mut Vec<bool>, a: Symbol, b: Symbol)
-    requires long { length table.old.items ≡ 81 }
-    requires known { (a.number < 9) × (b.number < 9) }
-    ensures long { length table.new.items ≡ 81 }
+    requires long { length table.old.items ≡ PAIRS }
+    requires known { (a.number < MOST_SYMBOLS) × (b.number < MOST_SYMBOLS) }
+    ensures long { length table.new.items ≡ PAIRS }
     ensures puts { (x y : Symbol) → IsTrue (pair_in table.new.items x y)
         ↔ (IsTrue (pair_in table.old.items x y) ⊎ ((x ≡ a) × (y ≡ b))) }
 {
-    table[9 * a.number as usize + b.number as usize] = true;
+    table[place_of_pair(a, b)] = true;
 }
 
 // Puts the pair of a number into the table, where the list names the rule against it.
 fn put_named_pair(table: &mut Vec<bool>, problem: &Problem, list: &RuleList, pair: u32)
-    requires long { length table.old.items ≡ 81 }
+    requires long { length table.old.items ≡ PAIRS }
     requires pair { pair < length problem.now.pairs }
-    ensures long { length table.new.items ≡ 81 }
+    ensures long { length table.new.items ≡ PAIRS }
     ensures next { HoldsPairs problem.now list.now table.old.items pair
         → HoldsPairs problem.now list.now table.new.items (pair + 1) }
 {
@@ -135,11 +136,11 @@ fn put_named_pair(table: &mut Vec<bool>, problem: &Problem, list: &RuleList, pai
 }
 
 fn pairs_of(alloc: Global, problem: &Problem, list: &RuleList) -> Result<Vec<bool>, AllocError>
-    ensures long { IfOk result (λ table. length table.items ≡ 81) }
+    ensures long { IfOk result (λ table. length table.items ≡ PAIRS) }
     ensures holds { IfOk result (λ table. (a b : Symbol) →
         IsTrue (pair_in table.items a b) ↔ NamesPair problem.now list.now a b) }
 {
-    let mut table = vec![in alloc; false; 81]?;
+    let mut table = vec![in alloc; false; PAIRS]?;
     for pair in 0..problem.pairs().len() as u32 {
         put_named_pair(&mut table, problem, list, pair);
     }
@@ -147,20 +148,20 @@ fn pairs_of(alloc: Global, problem: &Problem, list: &RuleList) -> Result<Vec<boo
 }
 
 fn put_triple(table: &mut Vec<bool>, a: Symbol, b: Symbol, c: Symbol)
-    requires long { length table.old.items ≡ 729 }
-    requires known { (a.number < 9) × (b.number < 9) × (c.number < 9) }
-    ensures long { length table.new.items ≡ 729 }
+    requires long { length table.old.items ≡ TRIPLES }
+    requires known { (a.number < MOST_SYMBOLS) × (b.number < MOST_SYMBOLS) × (c.number < MOST_SYMBOLS) }
+    ensures long { length table.new.items ≡ TRIPLES }
     ensures puts { (x y z : Symbol) → IsTrue (triple_in table.new.items x y z)
         ↔ (IsTrue (triple_in table.old.items x y z) ⊎ ((x ≡ a) × (y ≡ b) × (z ≡ c))) }
 {
-    table[81 * a.number as usize + 9 * b.number as usize + c.number as usize] = true;
+    table[place_of_triple(a, b, c)] = true;
 }
 
 // Puts the triple of a number into the table, where the list names the rule against it.
 fn put_named_triple(table: &mut Vec<bool>, problem: &Problem, list: &RuleList, triple: u32)
-    requires long { length table.old.items ≡ 729 }
+    requires long { length table.old.items ≡ TRIPLES }
     requires triple { triple < length problem.now.triples }
-    ensures long { length table.new.items ≡ 729 }
+    ensures long { length table.new.items ≡ TRIPLES }
     ensures next { HoldsTriples problem.now list.now table.old.items triple
         → HoldsTriples problem.now list.now table.new.items (triple + 1) }
 {
@@ -172,11 +173,11 @@ fn put_named_triple(table: &mut Vec<bool>, problem: &Problem, list: &RuleList, t
 }
 
 fn triples_of(alloc: Global, problem: &Problem, list: &RuleList) -> Result<Vec<bool>, AllocError>
-    ensures long { IfOk result (λ table. length table.items ≡ 729) }
+    ensures long { IfOk result (λ table. length table.items ≡ TRIPLES) }
     ensures holds { IfOk result (λ table. (a b c : Symbol) →
         IsTrue (triple_in table.items a b c) ↔ NamesTriple problem.now list.now a b c) }
 {
-    let mut table = vec![in alloc; false; 729]?;
+    let mut table = vec![in alloc; false; TRIPLES]?;
     for triple in 0..problem.triples().len() as u32 {
         put_named_triple(&mut table, problem, list, triple);
     }

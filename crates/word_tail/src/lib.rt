@@ -3,7 +3,6 @@
 
 mod laws;
 mod layout;
-mod sharing;
 mod tables;
 mod tail;
 mod tail_rules;

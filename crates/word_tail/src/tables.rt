@@ -1,8 +1,15 @@
 // The rules of a list laid out by kind, so that a step looks each kind up once.
-ghost use Rattle.std.specs.Prelude.{◌≡◌, ◌<◌, ◌≤◌, ◌↔◌, IsTrue, length, slice_index_or, MatchOption};
+ghost use Rattle.std.specs.Prelude.{◌≡◌, ◌+◌, ◌*◌, ◌<◌, ◌≤◌, ◌↔◌, IsTrue, nat_lt, length, slice_index_or, MatchOption};
 
 use crate::Tail;
 use rwsp_terms::Symbol;
+use rwsp_terms::limits::MOST_SYMBOLS;
+
+/// The entries of a table of all pairs of symbols.
+pub(crate) const PAIRS: usize = (MOST_SYMBOLS * MOST_SYMBOLS) as usize;
+
+/// The entries of a table of all triples of symbols.
+pub(crate) const TRIPLES: usize = (MOST_SYMBOLS * MOST_SYMBOLS * MOST_SYMBOLS) as usize;
 
 /// The least and the greatest length of the blocks of a class, in days, where the list has a rule.
 #[derive(Clone, Copy, Debug)]
@@ -22,16 +29,37 @@ impl Lengths {
 #[derive(Debug, Drop)]
 pub(crate) struct RuleTables {
     /// Of the blocks of one symbol, by its number.
-    pub symbols: [Lengths; 9],
+    pub symbols: [Lengths; MOST_SYMBOLS as usize],
     /// Of the blocks of shifts.
     pub work: Lengths,
-    /// Whether a symbol may not follow another, at 9 times the first number plus the second.
+    /// Whether a symbol may not follow another, by `place_of_pair`.
     pub pairs: Vec<bool>,
-    /// Whether three symbols may not follow each other, at 81 times the first number plus 9 times the second plus the third.
+    /// Whether three symbols may not follow each other, by `place_of_triple`.
     pub triples: Vec<bool>,
 }
 
-// Whether one more day makes a block of so many days too long.
+// Whether the tables have room for the symbol.
+fn is_known(x: Symbol) -> bool
+    ensures { result ≡ nat_lt x.number MOST_SYMBOLS }
+{
+    u32::from(x.number) < MOST_SYMBOLS
+}
+
+/// Where the table of pairs has the second symbol behind the first.
+pub(crate) fn place_of_pair(a: Symbol, b: Symbol) -> usize
+    ensures { result ≡ MOST_SYMBOLS * a.number + b.number }
+{
+    MOST_SYMBOLS as usize * a.number as usize + b.number as usize
+}
+
+/// Where the table of triples has the third symbol behind the first two.
+pub(crate) fn place_of_triple(a: Symbol, b: Symbol, c: Symbol) -> usize
+    ensures { result ≡ PAIRS * a.number + MOST_SYMBOLS * b.number + c.number }
+{
+    PAIRS * a.number as usize + place_of_pair(b, c)
+}
+
+// Whether one more day makes a block of `days` days too long.
 fn exceeds(days: u8, greatest: Option<u32>) -> bool
     ensures { MatchOption greatest (¬ IsTrue result) (λ m. IsTrue result ↔ (m ≤ days)) }
 {
@@ -41,7 +69,7 @@ fn exceeds(days: u8, greatest: Option<u32>) -> bool
     }
 }
 
-// Whether a block of so many days is there and too short.
+// Whether there is a block, of `days` days, and it is too short.
 fn falls_short(days: u8, least: Option<u32>) -> bool
     ensures { MatchOption least (¬ IsTrue result) (λ m. IsTrue result ↔ ((0 < days) × (days < m))) }
 {
@@ -59,7 +87,7 @@ impl RuleTables {
     fn of_symbol(&self, x: Symbol) -> Lengths
         ensures { result ≡ slice_index_or self.now.symbols x.number no_lengths }
     {
-        if x.number < 9 {
+        if is_known(x) {
             self.symbols[x.number as usize]
         } else {
             Lengths::NONE
@@ -68,21 +96,18 @@ impl RuleTables {
 
     // Whether the second symbol may not follow the first.
     fn has_pair(&self, a: Symbol, b: Symbol) -> bool
-        requires { length self.now.pairs.items ≡ 81 }
+        requires { length self.now.pairs.items ≡ PAIRS }
         ensures { result ≡ pair_in self.now.pairs.items a b }
     {
-        a.number < 9 && b.number < 9 && self.pairs[9 * a.number as usize + b.number as usize]
+        is_known(a) && is_known(b) && self.pairs[place_of_pair(a, b)]
     }
 
     // Whether the three symbols may not follow each other.
     fn has_triple(&self, a: Symbol, b: Symbol, c: Symbol) -> bool
-        requires { length self.now.triples.items ≡ 729 }
+        requires { length self.now.triples.items ≡ TRIPLES }
         ensures { result ≡ triple_in self.now.triples.items a b c }
     {
-        a.number < 9
-            && b.number < 9
-            && c.number < 9
-            && self.triples[81 * a.number as usize + 9 * b.number as usize + c.number as usize]
+        is_known(a) && is_known(b) && is_known(c) && self.triples[place_of_triple(a, b, c)]
     }
 
     // Whether the symbol makes the block of equal symbols at the end too long.
@@ -135,7 +160,7 @@ impl RuleTables {
 
     // Whether the symbol may not follow the last one.
     fn breaks_pair(&self, tail: Tail, x: Symbol) -> bool
-        requires { length self.now.pairs.items ≡ 81 }
+        requires { length self.now.pairs.items ≡ PAIRS }
         ensures { Tells self.now tail x result BreaksPair }
     {
         match tail.last {
@@ -146,7 +171,7 @@ impl RuleTables {
 
     // Whether the symbol may not follow the last two.
     fn breaks_triple(&self, tail: Tail, x: Symbol) -> bool
-        requires { length self.now.triples.items ≡ 729 }
+        requires { length self.now.triples.items ≡ TRIPLES }
         ensures { Tells self.now tail x result BreaksTriple }
     {
         let Some(last) = tail.last else {
@@ -160,8 +185,8 @@ impl RuleTables {
 
     // Whether the word and the symbol end in a part that breaks a rule of the list.
     pub fn forbids(&self, tail: Tail, x: Symbol) -> bool
-        requires pairs { length self.now.pairs.items ≡ 81 }
-        requires triples { length self.now.triples.items ≡ 729 }
+        requires pairs { length self.now.pairs.items ≡ PAIRS }
+        requires triples { length self.now.triples.items ≡ TRIPLES }
         ensures { Tells self.now tail x result BreaksAny }
     {
         if self.breaks_run_max(tail, x) || self.breaks_work_max(tail, x) {

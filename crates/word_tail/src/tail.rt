@@ -3,6 +3,7 @@ ghost use Rattle.rwsp_terms.specs.declared.data.Symbol.{Symbol};
 ghost use Rattle.word_tail.specs.Tails.{capped};
 
 use rwsp_terms::Symbol;
+use rwsp_terms::limits::LONGEST_RUN;
 
 /// Six facts of a word: its tail.
 #[derive(Clone, Copy, Debug, PartialEq, Eq, PartialOrd, Ord)]
@@ -11,9 +12,9 @@ pub struct Tail {
     pub last: Option<Symbol>,
     /// The symbol before the last. A word of fewer than two symbols has none.
     pub before: Option<Symbol>,
-    /// The number of equal symbols at the end, counted to 31 at most.
+    /// The number of equal symbols at the end, counted to `LONGEST_RUN` at most.
     pub run: u8,
-    /// The number of shifts in a row at the end, counted to 31 at most.
+    /// The number of shifts in a row at the end, counted to `LONGEST_RUN` at most.
     pub work: u8,
     /// Whether all symbols are equal. Those of the empty word are.
     pub all_one: bool,
@@ -38,7 +39,7 @@ impl Tail {
         }
     }
 
-    // The number of symbols equal to x at the end, counted to 31 at most.
+    // The number of symbols equal to x at the end, counted to `LONGEST_RUN` at most.
     pub(crate) fn run_of(self, x: Symbol) -> u8
         ensures { (w : List Symbol) → tail_of w ≡ self → result ≡ capped (run_of x w) }
     {
@@ -58,7 +59,7 @@ impl Tail {
         }
     }
 
-    // The number of shifts at the end of the word with one symbol more, counted to 31 at most.
+    // The number of shifts at the end of the word with one symbol more, counted to `LONGEST_RUN` at most.
     fn work_with(self, x: Symbol) -> u8
         ensures { (w : List Symbol) → tail_of w ≡ self → result ≡ capped (work_of (w ++ x ∷ [])) }
     {
@@ -87,9 +88,20 @@ impl Tail {
     }
 }
 
-// One more, counted to 31 at most.
+// One more, counted to `LONGEST_RUN` at most.
 fn one_more(count: u8) -> u8
     ensures { (n : ℕ) → capped n ≡ count → result ≡ capped (n + 1) }
 {
-    if count < 31 { count + 1 } else { count }
+    if u32::from(count) < LONGEST_RUN {
+        count + 1
+    } else {
+        count
+    }
+}
+
+// A tail may be sent to other threads and shared with them.
+fn shared<T: Send + Sync>(_: &T) {}
+
+fn tails_are_shared(tail: &Tail) {
+    shared(tail);
 }

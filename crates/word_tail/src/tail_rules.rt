@@ -7,8 +7,8 @@ ghost use Rattle.word_tail.specs.Tails.{tail_of};
 use crate::Tail;
 use crate::layout::tables_of;
 use crate::tables::RuleTables;
-use rwsp_model::{Problem, RuleList};
-use rwsp_terms::Symbol;
+use rwsp_model::Problem;
+use rwsp_terms::{RuleList, Symbol};
 use std::alloc::{AllocError, Global};
 use std::marker::Model;
 
@@ -77,4 +77,11 @@ impl TailRules {
             Some(tail.longer(x))
         }
     }
+}
+
+// Tail rules may be sent to other threads and shared with them.
+fn shared<T: Send + Sync>(_: &T) {}
+
+fn tail_rules_are_shared(rules: &TailRules) {
+    shared(rules);
 }

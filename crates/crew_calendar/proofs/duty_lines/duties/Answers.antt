@@ -1,4 +1,5 @@
 use Rattle.std.proofs.Common.{◌≡◌, ◌+◌, ◌++◌, ap, ◌∙◌, arith}
+use Rattle.crew_calendar.specs.declared.calendar.TheConstants.{MOST_DAYS_LATER}
 use Rattle.crew_calendar.specs.Texts.{duty_line, duties_text}
 use Rattle.crew_calendar.proofs.Appended.{day_more}
 use Rattle.crew_calendar.proofs.Calendars.{calendar_from, is_calendar}
@@ -8,7 +9,7 @@ pub loop-t-preserved : goal.loop-t-preserved
 loop-t-preserved c =
     let P = c.args.problem.now in
     let on = calendar_from c.args.date in
-    let line = c.in_ok-put_duty.ensures on (λ t less. is_calendar c.args.date (c.args.days + 13) c.requires.fits t (omega (arith, less))) in
+    let line = c.in_ok-put_duty.ensures on (λ t less. is_calendar c.args.date (c.args.days + MOST_DAYS_LATER) c.requires.fits t (omega (arith, less))) in
     day_more (duty_line P c.args.roster.now.cells on c.args.employee) c.loop-t.t c.loop-t.out.items c.put_duty.new.out.items c.loop-t.invariant
     (line ∙ ap (λ s. c.loop-t.out.items ++ duty_line P s on c.args.employee c.loop-t.t) c.cells.ensures)
 

@@ -1,6 +1,7 @@
 use Rattle.std.proofs.Common.{◌≡◌, ◌≤◌, ◌+◌, ◌*◌, ◌/◌, ◌++◌, ap, ◌∙◌, arith}
 use Rattle.std.specs.Prelude.{codes}
 use Rattle.rwsp_terms.specs.Instance.{name_of}
+use Rattle.crew_calendar.specs.declared.calendar.TheConstants.{MOST_DAYS_LATER}
 use Rattle.crew_calendar.specs.Texts.{day_minutes, moment_text, start_of, length_of}
 use Rattle.crew_calendar.proofs.Appended.{shift_joined}
 use Rattle.crew_calendar.proofs.duty_lines.put_shift.Goals as goal
@@ -10,8 +11,8 @@ returns c on calendar =
     let P = c.args.problem.now in
     let start = c.args.t * day_minutes + c.start_of.result in
     let end = start + c.length_of.result in
-    let few_start : start / day_minutes + 1 ≤ c.args.t + 14 = omega (arith, c.start_of.ensures.few) in
-    let few_end : end / day_minutes + 1 ≤ c.args.t + 14 = omega (arith, c.start_of.ensures.few, c.length_of.ensures.few) in
+    let few_start : start / day_minutes + 1 ≤ c.args.t + 1 + MOST_DAYS_LATER = omega (arith, c.start_of.ensures.few) in
+    let few_end : end / day_minutes + 1 ≤ c.args.t + 1 + MOST_DAYS_LATER = omega (arith, c.start_of.ensures.few, c.length_of.ensures.few) in
     let starts : start ≡ c.args.t * day_minutes + start_of P c.args.shift = ap (λ n. c.args.t * day_minutes + n) c.start_of.ensures.value in
     let ends : end ≡ c.args.t * day_minutes + start_of P c.args.shift + length_of P c.args.shift = ap (λ n. n + c.length_of.result) starts ∙ ap (λ n. c.args.t * day_minutes + start_of P c.args.shift + n) c.length_of.ensures.value in
     let from = c.in_ok-put_moment.ensures on (λ t less. calendar t (omega (arith, less, few_start))) in

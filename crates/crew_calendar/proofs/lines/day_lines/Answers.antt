@@ -1,5 +1,6 @@
 use Rattle.std.proofs.Common.{◌≡◌, ◌<◌, ◌+◌, ◌∷◌, [], ◌++◌, ap, sym, ◌∙◌, arith}
 use Rattle.jiff.specs.Words.{date_text}
+use Rattle.crew_calendar.specs.declared.calendar.TheConstants.{MOST_DAYS_LATER}
 use Rattle.crew_calendar.specs.Texts.{day_line, crew_text, table_text}
 use Rattle.crew_calendar.proofs.Appended.{day_more}
 use Rattle.crew_calendar.proofs.Calendars.{calendar_from, is_calendar, one_text}
@@ -9,8 +10,8 @@ pub loop-t-preserved : goal.loop-t-preserved
 loop-t-preserved c =
     let P = c.args.problem.now in
     let on = calendar_from c.args.date in
-    let less : c.loop-t.t < c.args.days + 13 = omega arith in
-    let day : date_text c.date_after.result ≡ date_text (on c.loop-t.t) = one_text c.date_after.result (on c.loop-t.t) (c.date_after.ensures ∙ sym (is_calendar c.args.date (c.args.days + 13) c.requires.fits c.loop-t.t less)) in
+    let less : c.loop-t.t < c.args.days + MOST_DAYS_LATER = omega arith in
+    let day : date_text c.date_after.result ≡ date_text (on c.loop-t.t) = one_text c.date_after.result (on c.loop-t.t) (c.date_after.ensures ∙ sym (is_calendar c.args.date (c.args.days + MOST_DAYS_LATER) c.requires.fits c.loop-t.t less)) in
     day_more (day_line P c.args.cells.now on) c.loop-t.t c.loop-t.out.items c.put_day.new.out.items c.loop-t.invariant
     (c.in_ok-put_day.ensures ∙ ap (λ text. c.loop-t.out.items ++ (text ++ crew_text P c.args.cells.now c.loop-t.t ++ 10 ∷ [])) day)
 

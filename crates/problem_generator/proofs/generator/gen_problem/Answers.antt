@@ -12,8 +12,8 @@ demand_of-requires-clause-cells c =
     let cells = c.deref-2.ensures.value ∙ c.in_ok-cells.ensures ∙ ap roster_of c.deref.ensures.value in
     ap length cells ∙ long ∙ c.in_ok-stints.ensures.stints.whole
 
-pub problem_of-requires : goal.problem_of-requires
-problem_of-requires c =
+pub of_valid-requires : goal.of_valid-requires
+of_valid-requires c =
     let weeks = c.args.weeks in
     let cells = c.deref-2.ensures.value ∙ c.in_ok-cells.ensures ∙ ap roster_of c.deref.ensures.value in
     let made = c.in_ok-parts.ensures ∙ ap (problem_with weeks) (c.in_ok-demand.ensures ∙ ap (demand_of weeks) cells) in
@@ -24,4 +24,4 @@ returns c =
     let weeks = c.args.weeks in
     let cells = c.deref-2.ensures.value ∙ c.in_ok-cells.ensures ∙ ap roster_of c.deref.ensures.value in
     let made = c.in_ok-parts.ensures ∙ ap (problem_with weeks) (c.in_ok-demand.ensures ∙ ap (demand_of weeks) cells) in
-    (c.in_ok-stints.stints.items, c.in_ok-stints.ensures.stints, c.problem_of.ensures ∙ made)
+    (c.in_ok-stints.stints.items, c.in_ok-stints.ensures.stints, c.of_valid.ensures ∙ made)

@@ -1,5 +1,6 @@
 use Rattle.std.proofs.Common.{List, ℕ, subst, sym}
-use Rattle.rwsp.specs.Commands.{IsCount, most_employees}
+use Rattle.rwsp_terms.specs.declared.limits.TheConstants.{MOST_WEEKS}
+use Rattle.rwsp.specs.Commands.{IsCount}
 use Rattle.rwsp.proofs.Forms.{no_crew_of_one, no_number}
 use Rattle.rwsp.proofs.command.crew_of_one.Goals as goal
 
@@ -9,4 +10,4 @@ returns-in_err-date c = rw c.from_residual.ensures (no_crew_of_one c.args.word.n
 pub returns-in_err-employee : goal.returns-in_err-employee
 returns-in_err-employee c =
     rw c.from_residual-in_err-employee.ensures (no_number c.args.word.now c.args.file.now c.args.second.now c.args.date.now c.args.days.now c.args.number.now c.requires
-    (λ e count. c.in_err-employee.ensures e (subst (λ (word : List ℕ). IsCount word most_employees e) (sym c.as_str.ensures.value) count)))
+    (λ e count. c.in_err-employee.ensures e (subst (λ (word : List ℕ). IsCount word MOST_WEEKS e) (sym c.as_str.ensures.value) count)))

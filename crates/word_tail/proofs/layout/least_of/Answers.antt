@@ -3,6 +3,7 @@ use Rattle.rwsp_terms.specs.Rules.{Names}
 use Rattle.rwsp_terms.specs.declared.data.Rule.{Rule}
 use Rattle.rwsp_terms.specs.declared.data.Bounds.{Bounds}
 use Rattle.std.proofs.Common.{ℕ, ◌≤◌}
+use Rattle.rwsp_terms.specs.declared.limits.TheConstants.{GREATEST_SHORT_BOUND}
 use Rattle.word_tail.proofs.Layouts.{short_min}
 use Rattle.word_tail.proofs.layout.least_of.Goals as goal
 
@@ -12,4 +13,4 @@ returns-then-names c =
     let R = c.args.list.now in
     let named = subst (λ (r : Rule). Names P R r) c.min_rule.ensures.value (c.names.ensures.0 c.if-names.true) in
     let value = ap (λ (b : Bounds). b.least) (sym c.bounds.ensures.value) in
-    (named, value, subst (λ (n : ℕ). n ≤ 30) value (short_min P R c.args.class c.requires.short named))
+    (named, value, subst (λ (n : ℕ). n ≤ GREATEST_SHORT_BOUND) value (short_min P R c.args.class c.requires.short named))

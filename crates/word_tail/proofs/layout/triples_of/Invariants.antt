@@ -1,10 +1,11 @@
 use Rattle.std.proofs.Common.{◌≡◌, length}
+use Rattle.word_tail.specs.declared.tables.TheConstants.{TRIPLES}
 use Rattle.word_tail.specs.Tables.{HoldsTriples}
 use Rattle.word_tail.proofs.layout.triples_of.Given as goal
 
 abbrev pub invariant-loop-triple : goal.invariant-loop-triple
 invariant-loop-triple l = record {
-  long : length l.table.items ≡ 729;
+  long : length l.table.items ≡ TRIPLES;
   count : l.triple-end ≡ length l.problem.triples;
   holds : HoldsTriples l.problem l.list l.table.items l.triple;
 }

@@ -1,5 +1,6 @@
 -- A counter holds no more than the weeks.
 use Rattle.std.proofs.Common.{◌≡◌, ◌≤◌, ◌<◌, ap, arith}
+use Rattle.rwsp_terms.specs.declared.limits.TheConstants.{MOST_SYMBOLS}
 use Rattle.demand_counts.specs.Counted.{Counted}
 use Rattle.demand_counts.specs.Tallies.{is_held}
 use Rattle.demand_counts.proofs.TallyLemmas.{tally_few}
@@ -10,7 +11,7 @@ returns-clause-few c =
     let days : c.self.inside.days ≡ c.args.self.now.days = ap (λ (C : Counted). C.days) c.self.view_is in
     let weeks : c.self.inside.weeks ≡ c.args.self.now.weeks = ap (λ (C : Counted). C.weeks) c.self.view_is in
     let shifts : c.self.inside.shifts ≡ c.args.self.now.shifts = ap (λ (C : Counted). C.shifts) c.self.view_is in
-    let small : c.args.x.number < 9 = omega (arith, c.requires.symbol, shifts, c.self.invariant.few_shifts) in
+    let small : c.args.x.number < MOST_SYMBOLS = omega (arith, c.requires.symbol, shifts, c.self.invariant.few_shifts) in
     let le : c.args.day ≤ c.self.inside.days = omega (arith, c.requires.day.1, days) in
     omega (arith, weeks, tally_few is_held c.self.inside.days c.self.inside.weeks c.self.inside.sets.items c.self.inside.possible.items c.args.day c.args.x.number c.index.result.now c.self.invariant.possible_counted c.requires.day.0 le small c.index.ensures)
 

@@ -8,7 +8,7 @@ use Rattle.domain_store.specs.Store.{Store, has_domain}
 use Rattle.roster_search.specs.declared.sight.Sight.TheVariants.{Leaf, Cut, Quiet}
 use Rattle.roster_search.specs.Guides.{IsSight}
 use Rattle.roster_search.proofs.Forced.{seen, leaf_under_way, split_under_way}
-use Rattle.roster_search.proofs.step.step.Goals as goal
+use Rattle.roster_search.proofs.search_step.step.Goals as goal
 use Rattle.rwsp_model.proofs.Limits.{some_cells}
 
 pub close-requires-clause-holds : goal.close-requires-clause-holds

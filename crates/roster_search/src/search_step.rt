@@ -32,17 +32,22 @@ pub fn step<A: Propagator, G: Guide>(
     arrival: &mut Arrival,
     progress: &mut Progress,
 ) -> Result<Option<Roster>, AllocError>
-    requires under_way { IsUnderWay problem.now progress.old.turn budget (A.leaves propagator.old) (A.spent propagator.old) progress.old }
+    requires under_way { IsUnderWay problem.now progress.old.turn budget (A.leaves propagator.old)
+        (A.spent propagator.old) progress.old }
     requires part { progress.old.walk.whole ≡ false }
     requires room { length progress.old.lines.items < budget }
     requires serves { A.serves propagator.old problem.now }
     requires tracks { A.tracks propagator.old progress.old.walk.store }
     requires plain { HasPlainLeaves problem.now (A.leaves propagator.old) }
     requires guide { G.serves guide.old problem.now }
-    ensures under_way { IfOk result (λ found. found ≡ None → IsUnderWay problem.now progress.old.turn budget (A.leaves propagator.old) (A.spent propagator.old) progress.new) }
-    ensures longer { IfOk result (λ found. found ≡ None → length progress.old.lines.items < length progress.new.lines.items) }
+    ensures under_way { IfOk result (λ found.
+        found ≡ None → IsUnderWay problem.now progress.old.turn budget (A.leaves propagator.old)
+        (A.spent propagator.old) progress.new) }
+    ensures longer { IfOk result (λ found.
+        found ≡ None → length progress.old.lines.items < length progress.new.lines.items) }
     ensures tracks { IfOk result (λ found. found ≡ None → A.tracks propagator.new progress.new.walk.store) }
-    ensures roster { IfOk result (λ found. IfSome found (λ s. (s.days ≡ problem.now.days) × MeetsAll problem.now s.cells)) }
+    ensures roster { IfOk result (λ found.
+        IfSome found (λ s. (s.days ≡ problem.now.days) × MeetsAll problem.now s.cells)) }
     ensures serves { (P : Instance) → A.serves propagator.old P ↔ A.serves propagator.new P }
     ensures leaves { (S : Store) (line : Line) → A.leaves propagator.old S line ↔ A.leaves propagator.new S line }
     ensures spent { (S : Store) (p : ℕ) (x : Symbol) → A.spent propagator.old S p x ↔ A.spent propagator.new S p x }
