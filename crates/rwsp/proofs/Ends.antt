@@ -31,7 +31,7 @@ use Rattle.rwsp.specs.declared.answer.Answer.TheVariants.{Roster, NoRoster, Unde
 use Rattle.crew_size.specs.declared.verdict.Staffed.{Staffed}
 use Rattle.crew_size.specs.declared.verdict.StaffRefusal.{StaffRefusal}
 use Rattle.crew_size.specs.Verdict.{IsStaffVerdict}
-use Rattle.crew_size.proofs.OneVerdict.{one_staff_verdict}
+use Rattle.crew_size.proofs.OneVerdict.{one_verdict as one_staff_verdict}
 use Rattle.rwsp.specs.Staffs.{IsStaffVerdictOf}
 use Rattle.rwsp.proofs.Logs.{one_verdict}
 use Rattle.rwsp.proofs.Reductions.{one_reduced}
@@ -181,7 +181,7 @@ one_crew_end P bytes employee a b (nobody k r is past e) (nobody j q also beyond
     e ∙ ap NoEmployee same ∙ sym f
 
 -- the answer with a verdict on a staff text
-staff_answer : Result Staffed StaffRefusal → Answer
+abbrev staff_answer : Result Staffed StaffRefusal → Answer
 staff_answer (Ok staffed) = StaffAccepted staffed
 staff_answer (Err why) = StaffRefused why
 

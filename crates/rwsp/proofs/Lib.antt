@@ -1,6 +1,7 @@
 pub mod Appends
 pub mod Replies
 pub mod Logs
+pub mod StaffTexts
 pub mod Plans
 pub mod Trials
 pub mod Reductions

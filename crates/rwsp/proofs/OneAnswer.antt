@@ -22,7 +22,7 @@ use Rattle.rwsp.specs.declared.answer.InputKind.TheVariants as Kinds
 use Rattle.rwsp.specs.declared.answer.Answer.{Answer}
 use Rattle.rwsp.specs.declared.answer.Answer.TheVariants.{Roster, NoRoster, Undecided, Accepted, LogRefused, Reduced, Meets, Shown, Breaks, RosterRefused, Trial as TrialOf, Usage, FileRefused, TooLong, Crew, Horizon, NoEmployee, Staff, StaffRange, StaffAccepted, StaffRefused}
 use Rattle.rwsp.specs.Staffs.{IsStaffAnswer}
-use Rattle.crew_size.proofs.Decisions.{searches_agree, printed_runs_are_accepted, accepted_texts_decide}
+use Rattle.crew_size.proofs.Decided.{searches_agree, printed_accepted, accepted_decide}
 use Rattle.crew_size.specs.Sizes.{IsSize}
 use Rattle.rwsp.proofs.Logs.{accepted}
 use Rattle.rwsp.specs.Plans.{IsPlanAnswer}
@@ -197,8 +197,8 @@ pub staff_taken : StaffTextsAreAccepted
 staff_taken file P low high budget run staffed a spells sizes answer decides short h =
     let limits = valid_keeps P spells.valid in
     let fits : IsSize P high = record { some = omega (arith, sizes); few = sizes.2; few_cells = answer.0 } in
-    let accepted = printed_runs_are_accepted P low high budget run staffed limits sizes.0 sizes.1 fits answer.1 decides in
-    one_second CheckStaff P (answer_text P (Staff run)) a (StaffAccepted staffed) limits h (short, accepted, accepted_texts_decide P (answer_text P (Staff run)) staffed accepted)
+    let accepted = printed_accepted P low high budget run staffed limits sizes.0 sizes.1 fits answer.1 decides in
+    one_second CheckStaff P (answer_text P (Staff run)) a (StaffAccepted staffed) limits h (short, accepted, accepted_decide P (answer_text P (Staff run)) staffed accepted)
 
 -- what a reduction leaves is accepted
 pub kept : ReductionsAreAccepted

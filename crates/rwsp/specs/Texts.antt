@@ -174,6 +174,7 @@ HasFixedText answer = Unit {0}
 abbrev pub HasFixedLine : Answer → Type 0
 HasFixedLine (Accepted R) = ⊥
 HasFixedLine (RosterRefused why) = ⊥
+HasFixedLine (StaffAccepted staffed) = ⊥
 HasFixedLine answer = HasFixedText answer
 
 -- the text of an answer, for the instance that the problem's file spells, or that of a trial. A calendar's text is of

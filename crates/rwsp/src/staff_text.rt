@@ -1,6 +1,5 @@
 // The texts of the answers to a staff text.
 ghost use Rattle.std.specs.Prelude.{◌≡◌, ◌++◌, [], IfOk, OnOk, codes};
-ghost use Rattle.std.specs.String.{string_bytes};
 ghost use Rattle.rwsp.specs.Texts.{line, staffed_text, staff_refusal_text, at_weeks, breaks_text, log_refusal_text, roster_refusal_text, NamesItsOwn, HasSymbols, HasBroken};
 
 use crate::log_text::{put_labelled, put_line_number, put_refusal};
@@ -12,14 +11,30 @@ use roster_print::RosterRefusal;
 use rwsp_model::Problem;
 use std::alloc::{AllocError, Global};
 
-/// The line that says what an accepted text decides.
-pub fn staffed_line(alloc: Global, staffed: Staffed) -> Result<String, AllocError>
-    ensures { IfOk result (λ t. string_bytes t ≡ line (staffed_text staffed)) }
+// Appends what an accepted text decides.
+fn put_staffed(out: &mut Vec<u8>, staffed: Staffed) -> Result<(), AllocError>
+    ensures { OnOk result (out.new.items ≡ out.old.items ++ staffed_text staffed) }
 {
     match staffed {
-        Staffed::Least(low, weeks) => format!(in alloc; "accepted: least {weeks} from {low}\n"),
-        Staffed::NoneTo(low, last) => format!(in alloc; "accepted: none {low} to {last}\n"),
+        Staffed::Least(low, weeks) => {
+            put_labelled(out, b"accepted: least ".as_slice(), weeks)?;
+            put_labelled(out, b" from ".as_slice(), low)
+        }
+        Staffed::NoneTo(low, last) => {
+            put_labelled(out, b"accepted: none ".as_slice(), low)?;
+            put_labelled(out, b" to ".as_slice(), last)
+        }
     }
+}
+
+/// The line that says what an accepted text decides.
+pub fn staffed_line(alloc: Global, staffed: Staffed) -> Result<Vec<u8>, AllocError>
+    ensures { IfOk result (λ v. v.items ≡ line (staffed_text staffed)) }
+{
+    let mut out = Vec::new(alloc);
+    put_staffed(&mut out, staffed)?;
+    out.push(b'\n')?;
+    Ok(out)
 }
 
 // Appends the number of weeks at which the text fails.

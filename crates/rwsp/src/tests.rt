@@ -2,6 +2,7 @@
 mod crews;
 mod logs;
 mod plans;
+mod staffs;
 mod trials;
 
 ghost use Rattle.std.specs.Prelude.{◌<◌};
@@ -194,11 +195,11 @@ fn refused_problems(rt: HostRuntime) -> Result<(), Fail> {
 }
 
 const USAGE: &str =
-    "usage: rwsp plan FILE [--budget B] | check FILE LOG [--workers N] | verify FILE ROSTER | reduce FILE LOG | show FILE | trial NUMBER WEEKS | crew FILE ROSTER DATE DAYS [EMPLOYEE]\n";
+    "usage: rwsp plan FILE [--budget B] | check FILE LOG [--workers N] | verify FILE ROSTER | reduce FILE LOG | show FILE | trial NUMBER WEEKS | crew FILE ROSTER DATE DAYS [EMPLOYEE] | staff FILE LOW HIGH [--budget B] | check-staff FILE TEXT\n";
 
 #[test]
 fn words_that_are_no_command(rt: HostRuntime) -> Result<(), Fail> {
-    let cases: [&[&str]; 27] = [
+    let cases: [&[&str]; 32] = [
         &[],
         &["show", "-x"],
         &["verify", "F", ""],
@@ -226,6 +227,11 @@ fn words_that_are_no_command(rt: HostRuntime) -> Result<(), Fail> {
         &["crew", "F", "R", "2025-02-28", "1", "0"],
         &["crew", "F", "R", "2025-02-28", "1", "601"],
         &["crew", "F", "-R", "2025-02-28", "1"],
+        &["staff", "F", "600", "601"],
+        &["staff", "F", "2", "1"],
+        &["staff", "F", "1", "65"],
+        &["staff", "F", "1", "2", "--budget", "10001"],
+        &["check-staff", "F"],
     ];
     for words in cases {
         assert!(rt; ends(&rt, rt.alloc(), words, &[], 2, USAGE)?);

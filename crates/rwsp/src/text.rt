@@ -1,5 +1,6 @@
 // The texts of the answers.
-ghost use Rattle.std.specs.Prelude.{◌≡◌, ◌++◌, IfOk, OnOk};
+ghost use Rattle.std.specs.Prelude.{◌≡◌, ◌++◌, IfOk, OnOk, codes};
+ghost use Rattle.std.specs.Fmt.{decimal};
 ghost use Rattle.std.specs.String.{string_bytes};
 ghost use Rattle.rwsp_terms.specs.Instance.{Instance};
 ghost use Rattle.rwsp.specs.Texts.{answer_text, place_text, line, file_refusal_text, roster_refusal_text, breaks_text, HasBroken, HasFixedText, HasFixedLine, IsPrintable};
@@ -47,8 +48,15 @@ pub fn put_roster_refusal(out: &mut Vec<u8>, refusal: RosterRefusal) -> Result<(
     match refusal {
         RosterRefusal::Unknown(n) => put_line_number(out, b"roster refused: unknown".as_slice(), n),
         RosterRefusal::Width(n) => put_line_number(out, b"roster refused: width".as_slice(), n),
-        RosterRefusal::Weeks(count) => put_labelled(out, b"roster refused: weeks ".as_slice(), count),
+        RosterRefusal::Weeks(count) => put_weeks(out, count),
     }
+}
+
+// Appends the refusal of a roster with another number of weeks.
+fn put_weeks(out: &mut Vec<u8>, count: u32) -> Result<(), AllocError>
+    ensures { OnOk result (out.new.items ≡ out.old.items ++ codes "roster refused: weeks " ++ decimal count) }
+{
+    put_labelled(out, b"roster refused: weeks ".as_slice(), count)
 }
 
 fn roster_refusal_line(alloc: Global, refusal: RosterRefusal) -> Result<Vec<u8>, AllocError>
@@ -71,6 +79,9 @@ pub fn fixed_text(alloc: Global, answer: &Answer) -> Result<Vec<u8>, AllocError>
     if let Answer::RosterRefused(refusal) = answer {
         return roster_refusal_line(alloc, *refusal);
     }
+    if let Answer::StaffAccepted(staffed) = answer {
+        return staffed_line(alloc, *staffed);
+    }
     let text = fixed_line(alloc, answer)?;
     Vec::from_slice(alloc, text.as_bytes())
 }
@@ -88,7 +99,6 @@ fn fixed_line(alloc: Global, answer: &Answer) -> Result<String, AllocError>
         Answer::Horizon => String::from_str(alloc, "horizon refused\n"),
         Answer::NoEmployee(employee) => format!(in alloc; "no employee {employee}\n"),
         Answer::StaffRange(weeks) => format!(in alloc; "staff range: weeks {weeks}\n"),
-        Answer::StaffAccepted(staffed) => staffed_line(alloc, *staffed),
         Answer::FileRefused(refusal) => file_refusal_line(alloc, *refusal),
         _ => unreachable!(),
     }
