@@ -1,5 +1,5 @@
 // Marks for all days of a word.
-ghost use Rattle.std.specs.Prelude.{◌≡◌, ◌≢◌, ◌↔◌, ℕ, ◌+◌, ◌<◌, ◌≤◌, false, true, length, replicate, slice_set, IfOk, IsTrue};
+ghost use Rattle.std.specs.Prelude.{◌≡◌, ◌≢◌, ◌↔◌, ℕ, ◌+◌, ◌*◌, ◌<◌, ◌≤◌, false, true, length, replicate, slice_set, IfOk, IsTrue};
 ghost use Rattle.domain_store.specs.Sets.{has_symbol};
 ghost use Rattle.kept_cycle.specs.Marks.{row_at, from_of, to_of, IsWide, IsPass, MendsFront, MendsBack, FitsInto, AllFitInto};
 
