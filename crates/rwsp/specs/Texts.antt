@@ -96,7 +96,8 @@ breaks_text P broken =
     codes "breaks rule " ++ decimal broken.rule ++ codes " " ++ broken_text P (rule_of P broken.rule) broken
 
 abbrev pub usage_text : List ℕ
-usage_text = codes "usage: rwsp plan FILE [--budget B] | check FILE LOG [--workers N] | verify FILE ROSTER | reduce FILE LOG | show FILE | trial NUMBER WEEKS | crew FILE ROSTER DATE DAYS [EMPLOYEE]"
+usage_text =
+    codes "usage: rwsp plan FILE [--budget B] | check FILE LOG [--workers N] | verify FILE ROSTER | reduce FILE LOG | show FILE | trial NUMBER WEEKS | crew FILE ROSTER DATE DAYS [EMPLOYEE]"
 
 abbrev pub kind_text : InputKind → List ℕ
 kind_text Kinds.Problem = codes "too long: problem"
