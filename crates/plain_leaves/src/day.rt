@@ -1,6 +1,7 @@
 // Day leaves: too many weeks hold a symbol on a day for sure, or too few can.
 ghost use Rattle.std.specs.Prelude.{◌≡◌, ◌+◌, ◌-◌, ◌*◌, ◌<◌, ◌≤◌, ◌↔◌, length, IsTrue};
 ghost use Rattle.rwsp_terms.specs.Instance.{IsDay, IsSymbol};
+ghost use Rattle.rwsp_terms.specs.declared.limits.TheConstants.{MOST_WEEKS};
 ghost use Rattle.refutation_terms.specs.declared.lines.Line.TheVariants.{Day};
 ghost use Rattle.refutation_terms.specs.Leaf.{is_only, fixed, possible};
 ghost use Rattle.refutation_terms.specs.Log.{Holds};
@@ -29,7 +30,7 @@ fn count_fixed(problem: &Problem, doms: &Domains, day: u32, x: Symbol) -> u32
     requires domains { BelongsTo problem.now doms.now }
     requires day { IsDay problem.now day }
     ensures value { result ≡ fixed problem.now (has_domain doms.now) day x.number }
-    ensures few { result ≤ 600 }
+    ensures few { result ≤ MOST_WEEKS }
 {
     let mut count = 0;
     for week in 0..problem.weeks() {
@@ -46,7 +47,7 @@ fn count_possible(problem: &Problem, doms: &Domains, day: u32, x: Symbol) -> u32
     requires domains { BelongsTo problem.now doms.now }
     requires day { IsDay problem.now day }
     ensures value { result ≡ possible problem.now (has_domain doms.now) day x.number }
-    ensures few { result ≤ 600 }
+    ensures few { result ≤ MOST_WEEKS }
 {
     let mut count = 0;
     for week in 0..problem.weeks() {
