@@ -1,6 +1,7 @@
 // The leaves of windows.
 ghost use Rattle.std.specs.Prelude.{◌≡◌, ℕ, ◌<◌, ◌≤◌, ◌↔◌, length, IfOk, MatchOption, IsTrue, true, false, [], slice_set, slice_index_or};
 ghost use Rattle.rwsp_terms.specs.declared.data.Symbol.{Symbol};
+ghost use Rattle.rwsp_terms.specs.declared.limits.TheConstants.{MOST_CELLS, MOST_SHIFTS};
 ghost use Rattle.rwsp_terms.specs.Instance.{cells};
 ghost use Rattle.refutation_terms.specs.declared.lines.Line.{Line};
 ghost use Rattle.refutation_terms.specs.declared.lines.Line.TheVariants.{Window};
@@ -14,6 +15,7 @@ use crate::{Look, Propagator};
 use domain_store::{Domains, SymbolSet};
 use refutation_terms::Line;
 use rwsp_model::Problem;
+use rwsp_terms::limits::MOST_SYMBOLS;
 use std::alloc::{AllocError, Global};
 use std::marker::Model;
 
@@ -154,8 +156,8 @@ impl WindowProp {
     // Gives the position another domain. Where that lacks a symbol, the position has to be looked at.
     fn put(&mut self, p: u32, set: SymbolSet)
         requires position { p < length self.old.sets }
-        requires few { p < 4200 }
-        requires small { (x : ℕ) → has_symbol set x ≡ true → x ≤ 8 }
+        requires few { p < MOST_CELLS }
+        requires small { (x : ℕ) → has_symbol set x ≡ true → x ≤ MOST_SHIFTS }
         ensures problem { self.new.problem ≡ self.old.problem }
         ensures sets { self.new.sets ≡ slice_set self.old.sets p set }
     {
@@ -207,7 +209,7 @@ impl Propagator for WindowProp {
 
 // The span from `first` to `end`, so far as it has to go to take in the position.
 fn widened(first: u32, end: u32, p: u32, takes_in: bool) -> (u32, u32)
-    requires { p < 4200 }
+    requires { p < MOST_CELLS }
     ensures position { takes_in ≡ true → (result.0 ≤ p) × (p < result.1) }
     ensures others { (q : ℕ) → first ≤ q → q < end → (result.0 ≤ q) × (q < result.1) }
     ensures within { (n : ℕ) → end ≤ n → p < n → result.1 ≤ n }
@@ -223,10 +225,10 @@ fn widened(first: u32, end: u32, p: u32, takes_in: bool) -> (u32, u32)
 
 // Whether the second set has all symbols of the first.
 fn is_part(part: &SymbolSet, whole: &SymbolSet) -> bool
-    requires { (x : ℕ) → has_symbol part.now x ≡ true → x ≤ 8 }
+    requires { (x : ℕ) → has_symbol part.now x ≡ true → x ≤ MOST_SHIFTS }
     ensures { result ≡ true → (x : ℕ) → has_symbol part.now x ≡ true → has_symbol whole.now x ≡ true }
 {
-    for x in 0..9u8 {
+    for x in 0..MOST_SYMBOLS as u8 {
         if part.has(x) && !whole.has(x) {
             return false;
         }
