@@ -14,19 +14,6 @@ use Rattle.window_rules.specs.Views.{LiesIn, LiesOutside, left_in}
 abbrev pub HasOnly : Store → ℕ → ℕ → Type 0
 HasOnly S p x = (y : ℕ) → IsTrue (has_domain S p y) → y ≡ x
 
-pub only_of_one : (S : Store) (p x : ℕ) → HasDomains S → length (domain_at S p) ≡ 1 → IsTrue (has_domain S p x) → HasOnly S p x
-only_of_one S p x h one has y there = sym (h.alone p x y one has there)
-
-pub has_of_only : (S : Store) (p x : ℕ) → HasDomains S → p < length S.sets → HasOnly S p x → IsTrue (has_domain S p x)
-has_of_only S p x h lt only =
-    let some = h.some p lt in
-    subst (λ y. IsTrue (has_domain S p y)) (only some.0 some.1) some.1
-
-pub not_only_of_two : (S : Store) (p x : ℕ) → HasDomains S → 2 ≤ length (domain_at S p) → HasOnly S p x → ⊥
-not_only_of_two S p x h two only =
-    let other = h.others p x two in
-    other.1 (only other.0 other.2)
-
 -- the same at a day, with the number of positions by its name
 pub only_at : (S : Store) (day n x : ℕ) (A : Type 0) → n ≡ length S.sets → (A ↔ HasOnly S (day % n) x) → A ↔ HasOnly S (day % length S.sets) x
 only_at S day n x A same h = (
