@@ -71,8 +71,8 @@ pub fn position_of(problem: &Problem, doms: &Domains, week: u32, day: u32) -> u3
     week * problem.days() + (day - 1)
 }
 
-/// Whether more weeks hold the symbol on the day for sure than may hold it, where `over` is set, and otherwise whether
-/// fewer can hold it than must. Days count from 1. Takes no memory.
+/// Whether more weeks hold the symbol on the day for sure than may hold it, where `over` is set, and otherwise
+/// whether fewer can hold it than must. Days count from 1. Takes no memory.
 pub fn day_holds(problem: &Problem, doms: &Domains, day: u32, x: Symbol, over: bool) -> bool
     requires domains { BelongsTo problem.now doms.now }
     requires day { IsDay problem.now day }

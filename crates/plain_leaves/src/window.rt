@@ -10,8 +10,9 @@ use domain_store::Domains;
 use rwsp_model::{Problem, rule_at};
 use window_rules::bad_length;
 
-/// Whether the number is that of a rule for which every word of `len` days over the domains from position `p` on is bad.
-/// No word is bad for a day's rule. A word that passes a position twice may take two symbols there. Takes no memory.
+/// Whether the number is that of a rule for which every word of `len` days over the domains from position `p` on is
+/// bad. No word is bad for a day's rule. A word that passes a position twice may take two symbols there. Takes no
+/// memory.
 pub fn window_holds(problem: &Problem, doms: &Domains, rule: u32, p: u32, len: u32) -> bool
     requires domains { BelongsTo problem.now doms.now }
     requires rule { (1 ≤ rule) × (rule ≤ length (rules problem.now)) }

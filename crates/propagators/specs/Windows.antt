@@ -35,7 +35,8 @@ pub record IsWatch (w : WindowWatch) : Type 0 where
   pub long : length w.sets ≡ cells w.problem
   pub flags : length w.pending ≡ cells w.problem
   pub small : (p x : ℕ) → has_known w.sets p x ≡ true → x ≤ MOST_SHIFTS
-  pub awaited : (number p len : ℕ) → LineFits w.problem (Window number p len) → IsBlocked w.problem (has_known w.sets) number p len
+  pub awaited : (number p len : ℕ) → LineFits w.problem (Window number p len)
+      → IsBlocked w.problem (has_known w.sets) number p len
       → (q : ℕ) × (slice_index_or w.pending q false ≡ true) × LiesOver w.problem p len q
 
 -- the positions that have still to be looked at come from the first on and before the end

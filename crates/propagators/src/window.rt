@@ -21,10 +21,10 @@ use std::marker::Model;
 
 /// Closes where every word over the domains of a window is bad for a rule. It takes no symbol away.
 ///
-/// It keeps the domains that it tracks, and which positions it has still to look at: those that lost a symbol since a look
-/// found nothing there. A look goes over the windows of these positions alone, at a cost of a few steps for each rule and
-/// each day of its bound, and of one for each position between two of them; what an undoing gives back costs nothing at the
-/// next look.
+/// It keeps the domains that it tracks, and which positions it has still to look at: those that lost a symbol since a
+/// look found nothing there. A look goes over the windows of these positions alone, at a cost of a few steps for each
+/// rule and each day of its bound, and of one for each position between two of them; what an undoing gives back costs
+/// nothing at the next look.
 #[derive(Debug, Drop)]
 pub struct WindowProp {
     problem: Problem,
@@ -44,7 +44,9 @@ impl Model for WindowProp {
 
     ghost view = { λ w. record { problem = w.problem; sets = w.sets.items; pending = w.pending.items } };
 
-    ghost invariant = { λ w. IsWatch (record { problem = w.problem; sets = w.sets.items; pending = w.pending.items }) × IsSpan w.pending.items w.first w.end };
+    ghost invariant = { λ w. IsWatch
+        (record { problem = w.problem; sets = w.sets.items; pending = w.pending.items })
+        × IsSpan w.pending.items w.first w.end };
 }
 
 impl WindowProp {
@@ -53,9 +55,13 @@ impl WindowProp {
         requires { BelongsTo problem.now doms.now }
         ensures serves { IfOk result (λ w. ⟦<WindowProp as Propagator>⟧.serves w problem.now) }
         ensures tracks { IfOk result (λ w. ⟦<WindowProp as Propagator>⟧.tracks w doms.now) }
-        ensures leaves { IfOk result (λ w. (S : Store) (number p len : ℕ) → LineFits problem.now (Window number p len) → ⟦<WindowProp as Propagator>⟧.leaves w S (Window number p len)) }
-        ensures windows_only { IfOk result (λ w. (S : Store) (line : Line) → ⟦<WindowProp as Propagator>⟧.leaves w S line → IsWindowLeaf problem.now line) }
-        ensures none_spent { IfOk result (λ w. (S : Store) (p : ℕ) (x : Symbol) → ⟦<WindowProp as Propagator>⟧.spent w S p x → ⊥) }
+        ensures leaves { IfOk result (λ w. (S : Store) (number p len : ℕ)
+            → LineFits problem.now (Window number p len)
+            → ⟦<WindowProp as Propagator>⟧.leaves w S (Window number p len)) }
+        ensures windows_only { IfOk result (λ w. (S : Store) (line : Line)
+            → ⟦<WindowProp as Propagator>⟧.leaves w S line → IsWindowLeaf problem.now line) }
+        ensures none_spent { IfOk result (λ w. (S : Store) (p : ℕ) (x : Symbol)
+            → ⟦<WindowProp as Propagator>⟧.spent w S p x → ⊥) }
     {
         doms.facts();
         let cells = problem.cells();
@@ -99,7 +105,8 @@ impl WindowProp {
         requires span { IsSpan self.old.pending first end }
         ensures problem { self.new.problem ≡ self.old.problem }
         ensures sets { self.new.sets ≡ self.old.sets }
-        ensures seen { MatchOption result ((q : ℕ) → slice_index_or self.new.pending q false ≡ false) (λ leaf. IsWindow self.old.problem doms.now leaf.rule leaf.p leaf.len) }
+        ensures seen { MatchOption result ((q : ℕ) → slice_index_or self.new.pending q false ≡ false)
+            (λ leaf. IsWindow self.old.problem doms.now leaf.rule leaf.p leaf.len) }
     {
         self.facts();
         for p in first..end {
@@ -117,8 +124,10 @@ impl WindowProp {
         requires position { p < cells self.old.problem }
         ensures problem { self.new.problem ≡ self.old.problem }
         ensures sets { self.new.sets ≡ self.old.sets }
-        ensures seen { MatchOption result (slice_index_or self.new.pending p false ≡ false) (λ leaf. IsWindow self.old.problem doms.now leaf.rule leaf.p leaf.len) }
-        ensures others { (q : ℕ) → slice_index_or self.new.pending q false ≡ true → slice_index_or self.old.pending q false ≡ true }
+        ensures seen { MatchOption result (slice_index_or self.new.pending p false ≡ false)
+            (λ leaf. IsWindow self.old.problem doms.now leaf.rule leaf.p leaf.len) }
+        ensures others { (q : ℕ) → slice_index_or self.new.pending q false ≡ true
+            → slice_index_or self.old.pending q false ≡ true }
     {
         if !self.pending[p as usize] {
             return None;

@@ -33,8 +33,8 @@ impl WindowLeaf {
     }
 }
 
-/// A window leaf that holds. Where there is none, none that lies over the position holds. It costs a few steps for each rule
-/// and each day of its bound.
+/// A window leaf that holds. Where there is none, none that lies over the position holds. It costs a few steps for
+/// each rule and each day of its bound.
 pub fn window_over(problem: &Problem, doms: &Domains, q: u32) -> Option<WindowLeaf>
     requires domains { BelongsTo problem.now doms.now }
     requires position { q < cells problem.now }

@@ -26,8 +26,8 @@ fn shift(alloc: Global, name: &[u8], bounds: Bounds) -> Result<ShiftRow, AllocEr
     })
 }
 
-// Weeks of two days. On each day at most `weeks` weeks hold D, and as many N; all blocks have at most seven days, and those
-// of D at least so many. The sequences are forbidden.
+// Weeks of two days. On each day at most `weeks` weeks hold D, and as many N; all blocks have at most seven days, and
+// those of D at least so many. The sequences are forbidden.
 fn problem(
     alloc: Global,
     weeks: u32,
@@ -43,7 +43,10 @@ fn problem(
         days: 2,
         weeks,
         demand: vec![in alloc; day, night]?,
-        shifts: vec![in alloc; shift(alloc, b"D", range(least, 7))?, shift(alloc, b"N", week)?]?,
+        shifts: vec![in alloc;
+            shift(alloc, b"D", range(least, 7))?,
+            shift(alloc, b"N", week)?,
+        ]?,
         off: week,
         work: week,
         pairs: pairs.to_vec(alloc)?,

@@ -63,8 +63,8 @@ pub record IsPlaced (A : ℕ → Symbol → Type 0) (m : Pattern) (p inner : ℕ
 abbrev pub IsPlacedFor : (ℕ → Symbol → Type 0) → Pattern → ℕ → ℕ → Type 0
 IsPlacedFor A m p len = (inner : ℕ) × IsPlaced A m p inner × (len ≡ 1 + inner + days_of m.last)
 
--- all windows are of one length, or the inner days are a block between two days outside. So no two windows of the pattern
--- begin at one position
+-- all windows are of one length, or the inner days are a block between two days outside. So no two windows of the
+-- pattern begin at one position
 abbrev pub HasOneLength : Pattern → Type 0
 HasOneLength m = (m.fewest ≡ m.most) ⊎ ((m.first ≡ Outside m.inner) × (m.last ≡ Some (Outside m.inner)))
 

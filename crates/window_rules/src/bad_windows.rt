@@ -1,8 +1,8 @@
 // The windows that break a rule, by where they begin.
 //
-// A window that begins at a position and breaks a rule has one length: a longest run of the class decides it. So a rule is
-// judged at a position by going along that run once, and where there is no bad window, the run tells how many further
-// positions have none either.
+// A window that begins at a position and breaks a rule has one length: a longest run of the class decides it. So a
+// rule is judged at a position by going along that run once, and where there is no bad window, the run tells how many
+// further positions have none either.
 ghost use Rattle.std.specs.Prelude.{◌≡◌, ℕ, ◌+◌, ◌-◌, ◌*◌, ◌<◌, ◌≤◌, ◌↔◌, IsTrue, MatchOption};
 ghost use Rattle.rwsp_terms.specs.Roster.{IsRule};
 ghost use Rattle.rwsp_terms.specs.declared.limits.TheConstants.{GREATEST_BOUND, LONGEST_WORD, MOST_CELLS};
@@ -21,8 +21,8 @@ pub struct BadWindow {
     pub length: u32,
 }
 
-/// How many days the window has that begins at the position and breaks the rule, whatever stands there. There is one such
-/// length at most. It costs a step for each of its days.
+/// How many days the window has that begins at the position and breaks the rule, whatever stands there. There is one
+/// such length at most. It costs a step for each of its days.
 pub fn bad_length<V: View>(view: &V, problem: &Problem, rule: Rule, p: u32) -> Option<u32>
     requires view { V.has_days view.now }
     requires rule { IsRule problem.now rule }
@@ -39,8 +39,8 @@ pub fn bad_length<V: View>(view: &V, problem: &Problem, rule: Rule, p: u32) -> O
     }
 }
 
-/// The first window that begins before `end` and breaks the rule, whatever stands there. It costs two steps at most for each
-/// position before `end` and each day of the window.
+/// The first window that begins before `end` and breaks the rule, whatever stands there. It costs two steps at most
+/// for each position before `end` and each day of the window.
 pub fn first_bad_window<V: View>(
     view: &V,
     problem: &Problem,
@@ -61,8 +61,8 @@ pub fn first_bad_window<V: View>(
     first_window(view, pattern, 0, end)
 }
 
-/// A window that breaks the rule, whatever stands there; where there is none, no such window has the position in it. It goes
-/// back as far as such a window can begin, and costs a few steps for each day of the run that it finds there.
+/// A window that breaks the rule, whatever stands there; where there is none, no such window has the position in it.
+/// It goes back as far as such a window can begin, and costs a few steps for each day of the run that it finds there.
 pub fn bad_window_over<V: View>(
     view: &V,
     problem: &Problem,
@@ -85,8 +85,8 @@ pub fn bad_window_over<V: View>(
     first_window(view, pattern, p - run - 1, p + 1)
 }
 
-// What a pattern says of the windows that begin at a position: that there is one of so many days, or that there is none at
-// so many positions from there on.
+// What a pattern says of the windows that begin at a position: that there is one of so many days, or that there is
+// none at so many positions from there on.
 #[derive(Clone, Copy)]
 enum Start {
     Bad(u32),
@@ -133,8 +133,8 @@ fn window_from<V: View>(view: &V, pattern: Pattern, p: u32) -> Start
     Start::Bad(1 + run + pattern.days_behind())
 }
 
-// How many positions have no window where the first has none and so many days of the class follow it. Where these are all
-// that were counted, more may follow, and the next position is looked at by itself.
+// How many positions have no window where the first has none and so many days of the class follow it. Where these are
+// all that were counted, more may follow, and the next position is looked at by itself.
 fn clean_from(run: u32, most: u32) -> u32
     requires run { run ≤ most }
     requires most { most ≤ GREATEST_BOUND }

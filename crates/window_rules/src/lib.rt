@@ -1,5 +1,5 @@
-//! The rules on windows, judged in one place: how long a window from a position on is that breaks a rule, whatever may
-//! stand there by the cells of a roster or by domains.
+//! The rules on windows, judged in one place: how long a window from a position on is that breaks a rule, whatever
+//! may stand there by the cells of a roster or by domains.
 #![tactic(auto)]
 
 mod bad_windows;

@@ -1,4 +1,5 @@
-// What the windows that break a rule have in common. This is the one place that tells the kinds of rules on windows apart.
+// What the windows that break a rule have in common. This is the one place that tells the kinds of rules on windows
+// apart.
 ghost use Rattle.std.specs.Prelude.{◌≡◌, ◌<◌, ◌≤◌, List, length, MatchOption, slice_get, Some};
 ghost use Rattle.rwsp_terms.specs.Instance.{bounds, IsClass};
 ghost use Rattle.rwsp_terms.specs.Roster.{IsRule};
