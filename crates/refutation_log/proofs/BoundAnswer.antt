@@ -7,7 +7,8 @@ use Rattle.rwsp_terms.specs.declared.data.Weight.{Weight}
 use Rattle.rwsp_model.specs.declared.fail.Fail.{Fail}
 use Rattle.refutation_terms.specs.declared.lines.Line.{Line}
 use Rattle.refutation_terms.specs.declared.lines.Line.TheVariants.{Bound}
-use Rattle.refutation_terms.specs.LogText.{RawBound, NamedWeight}
+use Rattle.refutation_terms.specs.LogText.{RawBound}
+use Rattle.rwsp_text.specs.Fields.{NamedWeight}
 use Rattle.refutation_log.specs.declared.refusal.LineRefusal.{LineRefusal}
 use Rattle.refutation_log.specs.declared.gather.Gathered.{Gathered}
 use Rattle.refutation_log.specs.declared.gather.Gathered.TheVariants.{Rising, Falling, Unknown}

@@ -8,7 +8,8 @@ use Rattle.rwsp_terms.specs.Instance.{Instance, IsDay}
 use Rattle.rwsp_terms.specs.Rules.{rules}
 use Rattle.rwsp_model.specs.Validity.{KeepsLimits}
 use Rattle.refutation_terms.specs.Log.{AreRules}
-use Rattle.refutation_terms.specs.LogText.{IsName, numbers, rules_text}
+use Rattle.refutation_terms.specs.LogText.{rules_text}
+use Rattle.rwsp_text.specs.Fields.{IsName, numbers}
 use Rattle.refutation_terms.specs.Verdict.{SpellsTurn}
 use Rattle.refutation_log.specs.FieldList.{fields_of}
 use Rattle.refutation_log.specs.Refusals.{SpellsRules}

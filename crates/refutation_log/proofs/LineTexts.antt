@@ -18,7 +18,8 @@ use Rattle.rwsp_model.specs.declared.fail.Fail.{Fail}
 use Rattle.rwsp_model.specs.declared.fail.Fail.TheVariants.{Refused, Memory}
 use Rattle.rwsp_model.proofs.Numbering.{rules_are_many}
 use Rattle.refutation_terms.specs.declared.lines.Line.{Line}
-use Rattle.refutation_terms.specs.LogText.{RawLine, RawSplit, RawWindow, RawDay, RawDead, RawBound, RawUnfinished, NamedWeight, WeightIsInRange, IsName, IsInRange, IsWritten, fields, place, numbers, way, weight_fields, text_of, line_text, line_of, Ascends}
+use Rattle.refutation_terms.specs.LogText.{RawLine, RawSplit, RawWindow, RawDay, RawDead, RawBound, RawUnfinished, WeightIsInRange, IsInRange, IsWritten, fields, place, way, line_text, line_of, Ascends}
+use Rattle.rwsp_text.specs.Fields.{NamedWeight, IsName, numbers, weight_fields, text_of}
 use Rattle.refutation_terms.specs.Verdict.{Spells}
 use Rattle.refutation_log.specs.FieldList.{is_blank, fields_of}
 use Rattle.refutation_log.specs.Refusals.{IsLineRefused}

@@ -14,7 +14,8 @@ use Rattle.rwsp_terms.specs.Weights.{ComesBefore, IsWeight}
 use Rattle.refutation_terms.specs.declared.lines.Line.{Line}
 use Rattle.refutation_terms.specs.declared.lines.Line.TheVariants.{Split, Window, Day, Dead, Bound, Unfinished}
 use Rattle.refutation_terms.specs.Log.{LineFits}
-use Rattle.refutation_terms.specs.LogText.{RawLine, RawSplit, RawWindow, RawDay, RawDead, RawBound, RawUnfinished, NamedWeight, named_weight, weights_of, raw, line_of, line_text, IsInRange, WeightIsInRange, Ascends}
+use Rattle.refutation_terms.specs.LogText.{RawLine, RawSplit, RawWindow, RawDay, RawDead, RawBound, RawUnfinished, named_weight, weights_of, raw, line_of, line_text, IsInRange, WeightIsInRange, Ascends}
+use Rattle.rwsp_text.specs.Fields.{NamedWeight}
 use Rattle.refutation_terms.specs.Verdict.{Spells}
 use Rattle.refutation_terms.proofs.Spelled.{symbol_of-name, mapped}
 use Rattle.refutation_log.specs.Gathering.{weight_of}

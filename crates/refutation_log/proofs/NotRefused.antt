@@ -13,7 +13,8 @@ use Rattle.refutation_terms.specs.declared.lines.LogRefusal.{LogRefusal}
 use Rattle.refutation_terms.specs.declared.lines.LogRefusal.TheVariants as Refusals
 use Rattle.refutation_terms.specs.Tree.{IsTree, after_trees, lines_in, domains_at}
 use Rattle.refutation_terms.specs.Log.{Log, Fits, LineFits, AreRules}
-use Rattle.refutation_terms.specs.LogText.{raw, line_of, line_text, log_text, version_text, rules_text, turn_text, numbers, IsWritten, Ascends}
+use Rattle.refutation_terms.specs.LogText.{raw, line_of, line_text, log_text, version_text, rules_text, turn_text, IsWritten, Ascends}
+use Rattle.rwsp_text.specs.Fields.{numbers}
 use Rattle.refutation_terms.specs.Verdict.{Front, Start, Versioned, BeforeTurn, Reading, front_text, IsNextLine, IsWhole, Cause, VersionCause, RulesCause, TurnCause, TreeCause, SpellsTurn}
 use Rattle.refutation_terms.proofs.Trees.{tree_is_whole, part_is_not_whole}
 use Rattle.refutation_terms.proofs.Texts.{each_fits}

@@ -13,7 +13,8 @@ use Rattle.refutation_terms.specs.declared.lines.LogRefusal.{LogRefusal}
 use Rattle.refutation_terms.specs.declared.lines.LogRefusal.TheVariants as Refusals
 use Rattle.refutation_terms.specs.Tree.{IsTree, domains_at}
 use Rattle.refutation_terms.specs.Log.{Log, TurnFits}
-use Rattle.refutation_terms.specs.LogText.{raw, fields, text_of, line_text, version_text, rules_text}
+use Rattle.refutation_terms.specs.LogText.{raw, fields, line_text, version_text, rules_text}
+use Rattle.rwsp_text.specs.Fields.{text_of}
 use Rattle.refutation_terms.specs.Verdict.{Front, Start, Versioned, BeforeTurn, Reading, front_text, header_lines, Cause, HasNoFeed, IsNextLine}
 use Rattle.refutation_terms.specs.TextLaws.{IsWritable, HasNames}
 use Rattle.refutation_terms.proofs.TextParts.{IsInField, AreFields}

@@ -20,7 +20,8 @@ use Rattle.refutation_terms.specs.declared.lines.Line.{Line}
 use Rattle.refutation_terms.specs.declared.lines.Line.TheVariants.{Split, Window, Day, Dead, Bound, Unfinished}
 use Rattle.refutation_terms.specs.declared.lines.Turn.{Turn}
 use Rattle.refutation_terms.specs.Log.{Log, Fits, LineFits, AreRules}
-use Rattle.refutation_terms.specs.LogText.{named_weight, with_weight, weights_of, raw, line_of, line_text, log_text, rules_text, turn_text, numbers, fields, IsName, IsInRange, WeightIsInRange, Ascends}
+use Rattle.refutation_terms.specs.LogText.{named_weight, with_weight, weights_of, raw, line_of, line_text, log_text, rules_text, turn_text, fields, IsInRange, WeightIsInRange, Ascends}
+use Rattle.rwsp_text.specs.Fields.{numbers, IsName}
 use Rattle.refutation_terms.specs.TextLaws.{HasNames, IsWritable}
 use Rattle.refutation_terms.proofs.Fronts.{texts_distinct}
 use Rattle.refutation_log.specs.FieldList.{fields_of}

@@ -9,7 +9,8 @@ use Rattle.std.proofs.Math.Nat.{le-div_iff_mul-le, div-le_self}
 use Rattle.rwsp_terms.specs.Instance.{Instance, cells}
 use Rattle.rwsp_terms.specs.Rules.{rules}
 use Rattle.refutation_terms.specs.Log.{AreRules}
-use Rattle.refutation_terms.specs.LogText.{RawLine, RawSplit, RawWindow, RawDay, RawDead, RawBound, RawUnfinished, NamedWeight, IsInRange, fields, place, numbers, way, weight_fields}
+use Rattle.refutation_terms.specs.LogText.{RawLine, RawSplit, RawWindow, RawDay, RawDead, RawBound, RawUnfinished, IsInRange, fields, place, way}
+use Rattle.rwsp_text.specs.Fields.{NamedWeight, numbers, weight_fields}
 use Rattle.refutation_log.specs.Reading.{◌>>=◌, number_at, name_at, word_at, way_at, done_at, place_at, rules_front, rules_at, weights_at, split_at, window_at, day_at, head_at, dead_at, bound_at, open_at, raw_at, most_turns}
 use Rattle.refutation_log.proofs.Numerals.{bind_found, bind_only, word_no_number}
 use Rattle.refutation_log.proofs.RulesFront.{pair_of, same_pairs}

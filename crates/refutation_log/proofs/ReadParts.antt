@@ -14,7 +14,8 @@ use Rattle.std.proofs.lemmas.List.Elements.{All-nil, All-cons, All-head, All-tai
 use Rattle.rwsp_terms.specs.Instance.{Instance, cells}
 use Rattle.rwsp_terms.specs.Rules.{rules}
 use Rattle.refutation_terms.specs.Log.{AreRules}
-use Rattle.refutation_terms.specs.LogText.{IsName, NamedWeight, WeightIsInRange, numbers, place, way, weight_fields}
+use Rattle.refutation_terms.specs.LogText.{WeightIsInRange, place, way}
+use Rattle.rwsp_text.specs.Fields.{IsName, NamedWeight, numbers, weight_fields}
 use Rattle.refutation_terms.proofs.Spelled.{mapped}
 use Rattle.refutation_log.specs.Reading.{◌>>=◌, number_in, value_in, is_name, is_visible, number_at, name_at, word_at, way_at, done_at, place_at, front_onto, rules_front, weight_from, weight_of_fields, weights_at}
 use Rattle.refutation_log.proofs.Numerals.{if_some, if_true, bind_found, bind_only, number_found, number_only, value_found, value_only}

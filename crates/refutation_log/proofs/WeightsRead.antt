@@ -7,7 +7,8 @@ use Rattle.rwsp_terms.specs.declared.data.Symbol.{Symbol}
 use Rattle.rwsp_terms.specs.declared.data.Weight.{Weight}
 use Rattle.rwsp_terms.specs.Instance.{Instance, symbol_of}
 use Rattle.rwsp_terms.specs.Weights.{ComesBefore}
-use Rattle.refutation_terms.specs.LogText.{NamedWeight, with_weight, weights_of}
+use Rattle.refutation_terms.specs.LogText.{with_weight, weights_of}
+use Rattle.rwsp_text.specs.Fields.{NamedWeight}
 use Rattle.refutation_log.specs.declared.gather.Gathered.{Gathered}
 use Rattle.refutation_log.specs.declared.gather.Gathered.TheVariants.{Rising, Falling, Unknown}
 use Rattle.refutation_log.specs.Reading.{◌>>=◌, number_in, value_in, is_name, number_at, name_at, value_at, weight_in, weight_from, weight_of_fields, weights_at}

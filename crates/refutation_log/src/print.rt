@@ -7,7 +7,8 @@ ghost use Rattle.rwsp_terms.specs.declared.data.Symbol.{Symbol};
 ghost use Rattle.rwsp_terms.specs.declared.data.Weight.{Weight};
 ghost use Rattle.refutation_terms.specs.declared.lines.Line.{Line};
 ghost use Rattle.refutation_terms.specs.Log.{Fits, LineFits, TurnFits, WeightsFit};
-ghost use Rattle.refutation_terms.specs.LogText.{RawSplit, RawWindow, RawDay, RawDead, RawBound, raw, fields, line_text, log_text, header_text, rules_text, turn_text, place, numbers, weight_fields, named_weight, way};
+ghost use Rattle.refutation_terms.specs.LogText.{RawSplit, RawWindow, RawDay, RawDead, RawBound, raw, fields, line_text, log_text, header_text, rules_text, turn_text, place, named_weight, way};
+ghost use Rattle.rwsp_text.specs.Fields.{numbers, weight_fields};
 ghost use Rattle.refutation_log.specs.Printing.{spaced, lines_text, words_of};
 
 use crate::Log;

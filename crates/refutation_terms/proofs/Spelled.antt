@@ -16,12 +16,10 @@ use Rattle.rwsp_terms.proofs.Elements.{all_from, all_to}
 use Rattle.refutation_terms.specs.declared.lines.Line.{Line}
 use Rattle.refutation_terms.specs.declared.lines.Line.TheVariants.{Split, Window, Day, Dead, Bound, Unfinished}
 use Rattle.refutation_terms.specs.Log.{LineFits}
-use Rattle.refutation_terms.specs.LogText.{NamedWeight, RawLine, RawSplit, RawWindow, RawDay, RawDead, RawBound, RawUnfinished, named_weight, raw, line_text, WeightIsInRange, IsInRange, with_weight, weights_of, line_of, Ascends}
+use Rattle.refutation_terms.specs.LogText.{RawLine, RawSplit, RawWindow, RawDay, RawDead, RawBound, RawUnfinished, named_weight, raw, line_text, WeightIsInRange, IsInRange, with_weight, weights_of, line_of, Ascends}
+use Rattle.rwsp_text.proofs.Numerals.{mapped}
+use Rattle.rwsp_text.specs.Fields.{NamedWeight}
 use Rattle.refutation_terms.specs.TextLaws.{HasNames, SpelledLinesFit, FittingLinesAreSpelled}
-
-pub mapped : {A B : Type 0} (f : A → B) (o : Option A) (y : B) → option_map f o ≡ Some y → (x : A) × (o ≡ Some x) × (f x ≡ y)
-mapped f None y e = absurd (cc)
-mapped f (Some x) y e = (x, refl, let same : f x ≡ y = cc in same)
 
 no_row : ShiftRow
 no_row = record { name = []; start = 0; length = 0; bounds = no_bounds }
@@ -71,7 +69,7 @@ weights_read P (e ∷ y) ys h is =
     let same_first : named_weight P (record { day = e.day; symbol = w.0; value = e.value }) ≡ e = ap (λ n. record { day = e.day; name = n; value = e.value }) named.1 in
     subst (AreRead P (e ∷ y)) w.4 (record {
       same = ap (λ f. f ∷ map (named_weight P) w.1) same_first ∙ ap (λ fs. e ∷ fs) rest.same;
-      small = ((h.0.2, h.0.3, h.0.4), rest.small);
+      small = (h.0.2, rest.small);
       of = ((h.0.0, named.0), rest.of);
     })
 
@@ -117,7 +115,7 @@ weights_back P [] names small of = (tt, refl)
 weights_back P (e ∷ ys) names small of =
     let rest = weights_back P ys names small.1 of.1 in
     let name = names e.symbol of.0.1 in (
-      ((of.0.0, name.0, small.0.0, small.0.1, small.0.2), rest.0),
+      ((of.0.0, name.0, small.0), rest.0),
       ap (λ o. with_weight (named_weight P e) o (weights_of P (map (named_weight P) ys))) name.1 ∙ ap (with_weight (named_weight P e) (Some e.symbol)) rest.1,
     )
 

@@ -12,6 +12,7 @@ use Rattle.std.proofs.lemmas.List.{append-nil}
 use Rattle.std.proofs.lemmas.List.Elements.{All-nil, All-cons, All-head, All-tail, All-weaker}
 use Rattle.rwsp_text.specs.Fields.{Words, Field, Word, Number, Name, Choice, Place, Rules, Weights, Values, Keeps, spell, Says, read, ◌>>=◌, IsName, IsValue, NamedWeight, IsWeight, numbers, week_and_day, chosen, weight_fields, is_visible, is_name, number_at, name_at, word_at, choice_at, place_at, rules_at, weights_at}
 use Rattle.rwsp_text.specs.Kinds.{Kind, IsOfKind, IsLine, read_by, read_line, ClosesNumbers, ClosesWeights, AreReadable, IsFree, IsReadable, IsBlankless, AreBlankless, LinesAreRead, LinesSayOne, LinesAreBlankless}
+use Rattle.rwsp_text.specs.Lines.{AreWords}
 use Rattle.rwsp_text.proofs.Printed.{ascii_digits_model}
 use Rattle.rwsp_text.proofs.Numerals.{bind_found, bind_only, no_number, if_true}
 use Rattle.rwsp_text.proofs.Words.{Stops, Ascend, ascend, number_at_found, number_at_only, seen_only, name_found, name_at_found, name_at_only, word_at_found, word_at_only, same_bytes, bytes_same, choice_found, choice_only, done_found, place_within, place_found, place_only, rules_found, rules_only, weights_found, weights_only}
@@ -172,7 +173,7 @@ by_only (kind ∷ table) w ws x s (inl l) =
 by_only (kind ∷ table) w ws x s (inr l) =
     ap (λ b. cond b (read kind.fields kind.make ws) (read_by table w ws)) (later table kind.word w ws x s.0.2 l) ∙ by_only table w ws x s.1 l
 
-no_words : {X : Type 0} (table : List (Kind X)) (x : X) → IsLine table [] x → ⊥
+pub no_words : {X : Type 0} (table : List (Kind X)) (x : X) → IsLine table [] x → ⊥
 no_words [] x l = l
 no_words (kind ∷ table) x (inl l) = l
 no_words (kind ∷ table) x (inr l) = no_words table x l
@@ -200,3 +201,8 @@ lines_are_blankless (kind ∷ table) (w ∷ ws) x s (inl l) =
     let says = l.1 in
     (subst IsBlankless (sym l.0) (word_blankless kind.word s.0.1), subst AreBlankless (sym says.spelled) (fields_blankless kind.fields says.values s.0.0 says.keeps))
 lines_are_blankless (kind ∷ table) ws x s (inr l) = lines_are_blankless table ws x s.1 l
+
+-- a line has a word
+pub lines_are_words : {X : Type 0} (table : List (Kind X)) (ws : Words) (x : X) → IsReadable table → IsLine table ws x → AreWords ws
+lines_are_words table [] x s l = absurd (no_words table x l)
+lines_are_words table (w ∷ ws) x s l = (omega arith, lines_are_blankless table (w ∷ ws) x s l)
