@@ -6,3 +6,5 @@ pub mod Numerals
 pub mod Words
 pub mod KindLaws
 pub mod LineLaws
+pub mod NextLines
+pub mod WordSteps

@@ -8,6 +8,7 @@ use Rattle.std.specs.Fmt.{decimal, signed_decimal}
 use Rattle.std.proofs.lemmas.Str.Parse.{digits_value_short}
 use Rattle.std.proofs.lemmas.Fmt.{decimal_digit, digits_decimal, digits_value-decimal, decimal_nonempty, length-decimal-le, first_decimal, decimal-digits_value}
 use Rattle.std.proofs.lemmas.Bool.{leb-true, le-leb, eq-eqb, ne_eqb, eqb-true, and_parts, and_from, or_cases, or_right, not-true}
+use Rattle.std.proofs.lemmas.Bool.Decides.{nat_tests}
 use Rattle.std.proofs.lemmas.Int.{ints}
 use Rattle.rwsp_text.specs.Numbers.{number_of, value_of}
 use Rattle.rwsp_text.specs.Fields.{◌>>=◌, is_plain, numeral, within, number_in, value_in, negated, IsValue}
@@ -125,6 +126,25 @@ plain_number low high w n plain e =
     (and_from (nat_le 1 (length w) && nat_le (length w) 19) (list_all is_ascii_digit w)
     (and_from (nat_le 1 (length w)) (nat_le (length w) 19) lens.0 (le-leb (length w) 19 (omega (arith, nine)))) tests.1)) in
     ap (λ o. o >>= within low high) (read ∙ t.1)
+
+above_leb : (a b : ℕ) → b < a → nat_le a b ≡ false
+above_leb a b h = grind (arith, nat_tests)
+
+and_false : (b : Bool) → (b && false) ≡ false
+and_false true = refl
+and_false false = refl
+
+pub plain_within : (low high : ℕ) (w : List ℕ) (n : ℕ) → is_plain w ≡ true → number_of w ≡ Some n → low ≤ n → n ≤ high → number_in low high w ≡ Some n
+plain_within low high w n plain e a b =
+    plain_number low high w n plain e ∙ if_true (nat_le low n && nat_le n high) (Some n) None (and_from (nat_le low n) (nat_le n high) (le-leb low n a) (le-leb n high b))
+
+pub plain_below : (low high : ℕ) (w : List ℕ) (n : ℕ) → is_plain w ≡ true → number_of w ≡ Some n → n < low → number_in low high w ≡ None
+plain_below low high w n plain e out =
+    plain_number low high w n plain e ∙ if_false (nat_le low n && nat_le n high) (Some n) None (ap (λ b. b && nat_le n high) (above_leb low n out))
+
+pub plain_above : (low high : ℕ) (w : List ℕ) (n : ℕ) → is_plain w ≡ true → number_of w ≡ Some n → high < n → number_in low high w ≡ None
+plain_above low high w n plain e out =
+    plain_number low high w n plain e ∙ if_false (nat_le low n && nat_le n high) (Some n) None (ap (λ b. nat_le low n && b) (above_leb n high out) ∙ and_false (nat_le low n))
 
 -- values
 

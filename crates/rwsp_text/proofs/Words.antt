@@ -243,7 +243,6 @@ ascend_by last high (n ∷ R) first up in' =
     let f : last < n = first (omega arith) in
     (omega (arith, f), (All-head (λ k. (0 < k) × (k ≤ high)) n R in').1, ascend_by n high R (λ some. up 0 (omega (arith, some))) (tail_increases n R up) (All-tail (λ k. (0 < k) × (k ≤ high)) n R in'))
 
-
 pub rules_found : (high : ℕ) (ws : Words) → (ws ≡ numbers (rules_at high ws).0 ++ (rules_at high ws).1) × Ascends high (rules_at high ws).0
 unfolding rules_at
 rules_found high ws =

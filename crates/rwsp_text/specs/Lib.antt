@@ -4,3 +4,4 @@ pub mod Lexemes
 pub mod Lines
 pub mod Numbers
 pub mod Places
+pub mod Reads
