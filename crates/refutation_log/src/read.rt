@@ -10,9 +10,10 @@ ghost use Rattle.refutation_log.specs.ReadLog.{IsUnread, IsReadSoFar, IsTreeLine
 
 use crate::header::{Header, lines_of_header, read_header};
 use crate::line::read_line;
-use crate::{LineReader, LineRefusal, Log};
+use crate::{LineRefusal, Log};
 use refutation_terms::{Line, LogRefusal};
 use rwsp_model::{Fail, Problem};
+use rwsp_text::LineReader;
 use std::alloc::{AllocError, Global};
 
 /// The log that a text spells. Refused are a line that isn't spelled as one, a name that is no symbol's, a text that

@@ -51,7 +51,7 @@ pub each_fits : (P : Instance) (lines : List Line) → ((k : ℕ) (line : Line) 
 each_fits P [] h = tt
 each_fits P (line ∷ lines) h = (h 0 line refl, each_fits P lines (λ k l e. h (suc k) l e))
 
-lines_words : (P : Instance) (lines : List Line) → IsWritable P → HasNames P → AllByRecursion (LineFits P) lines → AreLines (lines_fields P lines)
+pub lines_words : (P : Instance) (lines : List Line) → IsWritable P → HasNames P → AllByRecursion (LineFits P) lines → AreLines (lines_fields P lines)
 lines_words P [] w n h = tt
 lines_words P (line ∷ lines) w n h = (line_words P line w n h.0, lines_words P lines w n h.1)
 

@@ -52,13 +52,22 @@ abbrev pub tree_kinds : Instance → List (Kind RawLine)
 tree_kinds P = split_kind P ∷ window_kind P ∷ day_kind P ∷ dead_kind P ∷ bound_kind P ∷ open_kind ∷ []
 
 -- line 1, the version: whether there is a turn
-abbrev pub version_kinds : List (Kind Bool)
-version_kinds = record { word = codes "rwsp-log"; fields = Choice (codes "2") (codes "1") ∷ []; make = λ v. v.0 } ∷ []
+abbrev pub version_kind : Kind Bool
+version_kind = record { word = codes "rwsp-log"; fields = Choice (codes "2") (codes "1") ∷ []; make = λ v. v.0 }
 
 -- line 2, the rules
-abbrev pub rules_kinds : Instance → List (Kind (List ℕ))
-rules_kinds P = record { word = codes "rules"; fields = Rules (length (rules P)) ∷ []; make = λ v. v.0 } ∷ []
+abbrev pub rules_kind : Instance → Kind (List ℕ)
+rules_kind P = record { word = codes "rules"; fields = Rules (length (rules P)) ∷ []; make = λ v. v.0 }
 
 -- line 3 where there is a turn: its name and its day
+abbrev pub turn_kind : Instance → Kind (List ℕ × ℕ)
+turn_kind P = record { word = codes "turn"; fields = Name ∷ Number 1 P.days ∷ []; make = λ v. (v.0, v.1.0) }
+
+abbrev pub version_kinds : List (Kind Bool)
+version_kinds = version_kind ∷ []
+
+abbrev pub rules_kinds : Instance → List (Kind (List ℕ))
+rules_kinds P = rules_kind P ∷ []
+
 abbrev pub turn_kinds : Instance → List (Kind (List ℕ × ℕ))
-turn_kinds P = record { word = codes "turn"; fields = Name ∷ Number 1 P.days ∷ []; make = λ v. (v.0, v.1.0) } ∷ []
+turn_kinds P = turn_kind P ∷ []

@@ -206,3 +206,13 @@ lines_are_blankless (kind ∷ table) ws x s (inr l) = lines_are_blankless table 
 pub lines_are_words : {X : Type 0} (table : List (Kind X)) (ws : Words) (x : X) → IsReadable table → IsLine table ws x → AreWords ws
 lines_are_words table [] x s l = absurd (no_words table x l)
 lines_are_words table (w ∷ ws) x s l = (omega arith, lines_are_blankless table (w ∷ ws) x s l)
+
+-- a table of one kind
+pub one_kind : {X : Type 0} (kind : Kind X) (ws : Words) → read_line (kind ∷ []) ws ≡ (word_at kind.word ws >>= read kind.fields kind.make)
+unfolding read_line word_at
+one_kind kind [] = refl
+one_kind kind (w ∷ ws) = by (bytes_eq w kind.word)
+  where
+    by : (b : Bool) → cond b (read kind.fields kind.make ws) None ≡ (cond b (Some ws) None >>= read kind.fields kind.make)
+    by true = refl
+    by false = refl
