@@ -17,6 +17,7 @@ use Rattle.rwsp_text.proofs.LineLaws.{join_no_feed, same_lines}
 use Rattle.rwsp_terms.specs.declared.data.Symbol.{Symbol}
 use Rattle.rwsp_terms.specs.declared.data.ShiftRow.{ShiftRow}
 use Rattle.rwsp_terms.specs.Instance.{Instance, IsSymbol, off_name, symbol_numbered, symbol_of, name_of, name_numbered, name_in, no_bounds}
+use Rattle.rwsp_terms.proofs.SymbolNames.{no_row, symbol_only}
 use Rattle.rwsp_model.specs.Validity.{KeepsLimits, IsShiftName, is_blank}
 use Rattle.refutation_terms.specs.declared.lines.Line.{Line}
 use Rattle.refutation_terms.specs.Log.{Log, Fits, LineFits}
@@ -29,49 +30,19 @@ use Rattle.refutation_log.proofs.LineTexts as LineTexts
 
 -- the symbol of a name
 
-off_row : ShiftRow
-off_row = record { name = []; start = 0; length = 0; bounds = no_bounds }
-
-position_at : (p : ShiftRow → Bool) (xs : List ShiftRow) (k : ℕ) → k < length xs → ((j : ℕ) → j < k → p (get_or xs j off_row) ≡ false) → p (get_or xs k off_row) ≡ true → position p xs ≡ Some k
-position_at p xs k less before here =
-    let at : position_or_len p xs ≡ k = position_or_len_is p xs k off_row (omega (arith, less)) before (λ l. here) in
-    let lt : position_or_len p xs < length xs = omega (arith, at, less) in
-    if_true (nat_lt (position_or_len p xs) (length xs)) (Some (position_or_len p xs)) None (lt-ltb (position_or_len p xs) (length xs) lt) ∙ ap (λ n. Some n) at
-
-other_bytes : (a b : List ℕ) → a ≢ b → bytes_eq a b ≡ false
-other_bytes a b ne = false_from_ne_true (bytes_eq a b) (λ t. ne (same_bytes a b t))
-
-row_named : (P : Instance) (k : ℕ) → KeepsLimits P → k < length P.shifts → symbol_of P (get_or P.shifts k off_row).name ≡ Some (symbol_numbered (suc k))
-row_named P k limits less =
-    let name = (get_or P.shifts k off_row).name in
-    let shift_name : IsShiftName name = limits.names k off_row less in
-    let e : k + 1 ≡ suc k = omega arith in
-    if_false (bytes_eq name off_name) (Some (symbol_numbered 0)) (option_map (λ k. symbol_numbered (k + 1)) (position (λ row. bytes_eq name row.name) P.shifts)) (other_bytes name off_name shift_name.no_dash)
-    ∙ ap (option_map (λ k. symbol_numbered (k + 1)))
-    (position_at (λ row. bytes_eq name row.name) P.shifts k less
-    (λ j lt. other_bytes name (get_or P.shifts j off_row).name (λ z. limits.distinct j k off_row lt less (sym z)))
-    (bytes_same name))
-    ∙ ap (λ n. Some (symbol_numbered n)) e
-
-numbered : (P : Instance) (n : ℕ) → KeepsLimits P → n ≤ length P.shifts → symbol_of P (name_numbered P n) ≡ Some (symbol_numbered n)
-numbered P zero limits le = if_true (bytes_eq off_name off_name) (Some (symbol_numbered 0)) (option_map (λ k. symbol_numbered (k + 1)) (position (λ row. bytes_eq off_name row.name) P.shifts)) (bytes_same off_name)
-numbered P (suc k) limits le =
-    let less : k < length P.shifts = omega (arith, le) in
-    ap (λ o. symbol_of P (name_in o)) (slice_get-get_or P.shifts k off_row less) ∙ row_named P k limits less
-
 pub symbol_named : (P : Instance) (x : Symbol) → KeepsLimits P → IsSymbol P x → symbol_of P (name_of P x) ≡ Some x
-symbol_named P x limits is = numbered P x.number limits is
+symbol_named P x limits is = symbol_only P (record { no_dash = λ i d less. (limits.names i d less).no_dash; distinct = limits.distinct }) x.number is
 
 pub name_there : (P : Instance) (n : ℕ) → KeepsLimits P → n ≤ length P.shifts → IsName (name_numbered P n)
 name_there P zero limits le = record { some = omega arith; visible = All-cons (λ b. (b ≢ 32) × (b ≢ 9) × (b ≢ 13) × (b ≢ 10)) 45 [] (seen_found 45 refl) (All-nil (λ b. (b ≢ 32) × (b ≢ 9) × (b ≢ 13) × (b ≢ 10))) }
 name_there P (suc k) limits le =
     let less : k < length P.shifts = omega (arith, le) in
-    let s : IsShiftName (get_or P.shifts k off_row).name = limits.names k off_row less in
-    let named : IsName (get_or P.shifts k off_row).name = record {
+    let s : IsShiftName (get_or P.shifts k no_row).name = limits.names k no_row less in
+    let named : IsName (get_or P.shifts k no_row).name = record {
       some = s.some;
-      visible = All-weaker (λ b. is_blank b ≡ false) (λ b. (b ≢ 32) × (b ≢ 9) × (b ≢ 13) × (b ≢ 10)) seen (get_or P.shifts k off_row).name s.unbroken;
+      visible = All-weaker (λ b. is_blank b ≡ false) (λ b. (b ≢ 32) × (b ≢ 9) × (b ≢ 13) × (b ≢ 10)) seen (get_or P.shifts k no_row).name s.unbroken;
     } in
-    subst (λ o. IsName (name_in o)) (sym (slice_get-get_or P.shifts k off_row less)) named
+    subst (λ o. IsName (name_in o)) (sym (slice_get-get_or P.shifts k no_row less)) named
   where
     seen : (b : ℕ) → is_blank b ≡ false → (b ≢ 32) × (b ≢ 9) × (b ≢ 13) × (b ≢ 10)
     seen b h = (

@@ -12,6 +12,7 @@ use Rattle.rwsp_terms.specs.declared.data.ShiftRow.{ShiftRow}
 use Rattle.rwsp_terms.specs.declared.data.Weight.{Weight}
 use Rattle.rwsp_terms.specs.Instance.{Instance, IsDay, IsSymbol, no_bounds, off_name, symbol_numbered, symbol_of, name_in, name_numbered, name_of}
 use Rattle.rwsp_terms.specs.Weights.{ComesBefore, IsWeight}
+use Rattle.rwsp_terms.proofs.SymbolNames.{symbol_found}
 use Rattle.rwsp_terms.proofs.Elements.{all_from, all_to}
 use Rattle.refutation_terms.specs.declared.lines.Line.{Line}
 use Rattle.refutation_terms.specs.declared.lines.Line.TheVariants.{Split, Window, Day, Dead, Bound, Unfinished}
@@ -21,29 +22,8 @@ use Rattle.rwsp_text.proofs.Numerals.{mapped}
 use Rattle.rwsp_text.specs.Fields.{NamedWeight}
 use Rattle.refutation_terms.specs.TextLaws.{HasNames, SpelledLinesFit, FittingLinesAreSpelled}
 
-no_row : ShiftRow
-no_row = record { name = []; start = 0; length = 0; bounds = no_bounds }
-
--- a symbol that has the name
-shift_named : (P : Instance) (name : List ℕ) (k : ℕ) → position (λ row. bytes_eq name row.name) P.shifts ≡ Some k → (k < length P.shifts) × (name_numbered P (k + 1) ≡ name)
-shift_named P name k e =
-    let at = position-Some (λ row. bytes_eq name row.name) P.shifts k no_row e in
-    let same : name ≡ (get_or P.shifts k no_row).name = (bytes_eq-Decides name (get_or P.shifts k no_row).name).0 at.1 in
-    let next : k + 1 ≡ suc k = omega arith in
-    (at.0, ap (name_numbered P) next ∙ ap name_in (slice_get-get_or P.shifts k no_row at.0) ∙ sym same)
-
-symbol_by : (P : Instance) (name : List ℕ) (x : Symbol) (b : Bool) → bytes_eq name off_name ≡ b → cond b (Some (symbol_numbered 0)) (option_map (λ k. symbol_numbered (k + 1)) (position (λ row. bytes_eq name row.name) P.shifts)) ≡ Some x → IsSymbol P x × (name_of P x ≡ name)
-symbol_by P name x true e h =
-    let is_off : symbol_numbered 0 ≡ x = cc in
-    (subst (IsSymbol P) is_off (let le : 0 ≤ length P.shifts = omega arith in le), ap (name_of P) (sym is_off) ∙ sym ((bytes_eq-Decides name off_name).0 e))
-symbol_by P name x false e h =
-    let m = mapped (λ k. symbol_numbered (k + 1)) (position (λ row. bytes_eq name row.name) P.shifts) x h in
-    let named = shift_named P name m.0 m.1 in
-    let le : m.0 + 1 ≤ length P.shifts = omega (arith, named.0) in
-    (subst (IsSymbol P) m.2 le, ap (name_of P) (sym m.2) ∙ named.1)
-
 pub symbol_of-name : (P : Instance) (name : List ℕ) (x : Symbol) → symbol_of P name ≡ Some x → IsSymbol P x × (name_of P x ≡ name)
-symbol_of-name P name x h = symbol_by P name x (bytes_eq name off_name) refl h
+symbol_of-name P name x h = let f = symbol_found P name x h in (f.0, sym f.1)
 
 -- a weight and further ones that were read
 with_read : (e : NamedWeight) (o : Option Symbol) (rest : Option (List Weight)) (ys : List Weight) → with_weight e o rest ≡ Some ys → (x : Symbol) × (zs : List Weight) × (o ≡ Some x) × (rest ≡ Some zs) × (record { day = e.day; symbol = x; value = e.value } ∷ zs ≡ ys)

@@ -7,9 +7,9 @@ mod laws;
 mod reader;
 mod scan;
 
-pub use digits::{number, put_number};
+pub use digits::{number, put_number, put_signed};
 pub use fields::Fields;
-pub use laws::printed_is_read;
+pub use laws::{lines_are_blankless, lines_are_read, lines_say_one, printed_is_read};
 pub use reader::LineReader;
 pub use scan::{Token, tokens};
 
