@@ -1,5 +1,7 @@
 // The limits of the numbers in a file, each under the number that a refusal names.
-use rwsp_terms::limits::{GREATEST_BOUND, MOST_CELLS, MOST_DAYS, MOST_SEQUENCES, MOST_SHIFTS, MOST_WEEKS};
+use rwsp_terms::limits::{
+    GREATEST_BOUND, MOST_CELLS, MOST_DAYS, MOST_SEQUENCES, MOST_SHIFTS, MOST_WEEKS,
+};
 
 /// A limit: the number by which a refusal names it, and the least and the greatest number that keep it.
 #[derive(Clone, Copy)]

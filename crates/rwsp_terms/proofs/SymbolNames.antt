@@ -44,7 +44,7 @@ symbol_found P text x e = at (bytes_eq text off_name) refl (position (test_name 
       subst (λ (y : Symbol). (y.number ≤ shift_count P) × (text ≡ name_of P y)) same
       (omega (arith, f.0), named ∙ sym (in_place P k f.0) ∙ ap (name_numbered P) next)
 
-other_bytes : (a b : List ℕ) → a ≢ b → bytes_eq a b ≡ false
+pub other_bytes : (a b : List ℕ) → a ≢ b → bytes_eq a b ≡ false
 other_bytes a b ne = false_from_ne_true (bytes_eq a b) (λ t. ne ((bytes_eq-Decides a b).0 t))
 
 position_of_name : (P : Instance) → HasNames P → (k : ℕ) → k < length P.shifts → position (test_name (get_or P.shifts k no_row).name) P.shifts ≡ Some k
