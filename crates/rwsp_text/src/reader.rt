@@ -1,6 +1,6 @@
-// The lines of a text.
+// The lines of a text, one after another.
 ghost use Rattle.std.specs.Prelude.{◌≡◌, ◌≢◌, ◌<◌, ◌≤◌, ℕ, List, [], ◌++◌, length, take, drop, MatchOption};
-ghost use Rattle.refutation_terms.specs.Verdict.{IsNextLine};
+ghost use Rattle.rwsp_text.specs.Lines.{IsNextLine};
 
 use std::marker::Model;
 

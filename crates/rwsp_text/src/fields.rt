@@ -1,11 +1,11 @@
-// The fields of a line, one after another.
-ghost use Rattle.std.specs.Prelude.{◌≡◌, ◌≢◌, ◌<◌, ◌≤◌, ℕ, List, [], ◌∷◌, length, take, Option, Some, None, MatchOption, IfSome, MatchBool};
+// The fields of a line, read one after another.
+ghost use Rattle.std.specs.Prelude.{◌≡◌, ◌≢◌, ◌<◌, ◌≤◌, ◌^◌, ℕ, List, [], ◌∷◌, length, take, Option, Some, None, MatchOption, IfSome, MatchBool};
 ghost use Rattle.std.specs.List.{list_all};
-ghost use Rattle.refutation_log.specs.FieldList.{fields_of, fields_after, rest_of};
-ghost use Rattle.refutation_log.specs.Reading.{is_plain, number_in, value_in, IsValue, is_visible, is_name, number_at, name_at, value_at, word_at, way_at, place_at, Reads, TakesNumber, ReadsRest};
+ghost use Rattle.rwsp_text.specs.Lines.{words_of, words_after, rest_of};
+ghost use Rattle.rwsp_text.specs.Fields.{is_plain, number_in, value_in, IsValue, is_visible, is_name, number_at, name_at, value_at, word_at, choice_at, place_at};
+ghost use Rattle.rwsp_text.specs.Reads.{Reads, TakesNumber, ReadsRest};
 
-use rwsp_model::Problem;
-use rwsp_text::number;
+use crate::digits::number;
 use std::marker::Model;
 
 /// The fields that are left; each ends at a blank, the last one at the end.
@@ -17,17 +17,17 @@ pub struct Fields<'a> {
 
 impl<'a> Model for Fields<'a> {
     ghost use Rattle.std.specs.Prelude.{List, ℕ};
-    ghost use Rattle.refutation_log.specs.FieldList.{fields_left};
+    ghost use Rattle.rwsp_text.specs.Lines.{words_left};
 
     ghost Value = { List (List ℕ) };
 
-    ghost view = { λ f. fields_left f.bytes.now f.done };
+    ghost view = { λ f. words_left f.bytes.now f.done };
 }
 
 impl<'a> Fields<'a> {
     /// All fields of a line without its LF.
     pub fn of(body: &'a [u8]) -> Fields<'a>
-        ensures { result ≡ fields_of body.now }
+        ensures { result ≡ words_of body.now }
     {
         Fields {
             bytes: body,
@@ -36,7 +36,7 @@ impl<'a> Fields<'a> {
     }
 
     /// Whether no field is left.
-    #[tactic(auto, using(crate::proofs::FieldSteps::none_left, crate::proofs::FieldSteps::some_left))]
+    #[tactic(auto, using(crate::proofs::WordSteps::none_left, crate::proofs::WordSteps::some_left))]
     pub fn is_done(&self) -> bool
         ensures { MatchBool result (self.now ≡ []) (self.now ≢ []) }
     {
@@ -44,20 +44,20 @@ impl<'a> Fields<'a> {
     }
 
     // The first field, which stays.
-    #[tactic(auto, using(crate::proofs::FieldSteps::first_field))]
+    #[tactic(auto, using(crate::proofs::WordSteps::first_word))]
     fn first(&self) -> Option<&'a [u8]>
         ensures { MatchOption result (self.now ≡ []) (λ w. self.now ≡ w.now ∷ rest_of self.now) }
     {
         if self.done {
             None
         } else {
-            let end = field_end(self.bytes);
+            let end = word_end(self.bytes);
             Some(&self.bytes[..end])
         }
     }
 
     /// The next field.
-    #[tactic(auto, using(crate::proofs::FieldSteps::last_field, crate::proofs::FieldSteps::next_field))]
+    #[tactic(auto, using(crate::proofs::WordSteps::last_word, crate::proofs::WordSteps::next_word))]
     pub fn next(&mut self) -> Option<&'a [u8]>
         ensures { MatchOption result ((self.old ≡ []) × (self.new ≡ [])) (λ w. self.old ≡ w.now ∷ self.new) }
     {
@@ -65,7 +65,7 @@ impl<'a> Fields<'a> {
             return None;
         }
         let bytes = self.bytes;
-        let end = field_end(bytes);
+        let end = word_end(bytes);
         if end == bytes.len() {
             self.done = true;
         } else {
@@ -75,8 +75,9 @@ impl<'a> Fields<'a> {
     }
 
     /// The number of the next field, where it is in the range; else the field stays.
-    #[tactic(auto, unfolding(crate::specs::Reading::number_at))]
+    #[tactic(auto, unfolding(crate::specs::Fields::number_at))]
     pub fn number(&mut self, low: u32, high: u32) -> Option<u32>
+        requires { high < 10 ^ 9 }
         ensures takes { TakesNumber (number_at low high self.old) result self.old self.new }
         ensures range { IfSome result (λ n. (low ≤ n) × (n ≤ high)) }
     {
@@ -87,7 +88,7 @@ impl<'a> Fields<'a> {
     }
 
     /// The next field, where it is a name.
-    #[tactic(auto, unfolding(crate::specs::Reading::name_at))]
+    #[tactic(auto, unfolding(crate::specs::Fields::name_at))]
     pub fn name(&mut self) -> Option<&'a [u8]>
         ensures { MatchOption result (name_at self.old ≡ None) (λ name. name_at self.old ≡ Some (name.now, self.new)) }
     {
@@ -95,18 +96,19 @@ impl<'a> Fields<'a> {
         if is_name(word) { Some(word) } else { None }
     }
 
-    /// The value of the next field, from -1000 to 1000 and not 0.
-    #[tactic(auto, unfolding(crate::specs::Reading::value_at))]
-    pub fn value(&mut self) -> Option<i32>
-        ensures reads { Reads (value_at self.old) result self.new }
-        ensures range { IfSome result (λ v. IsValue v) }
+    /// The value of the next field, which isn't 0.
+    #[tactic(auto, unfolding(crate::specs::Fields::value_at))]
+    pub fn value(&mut self, greatest: u32) -> Option<i32>
+        requires { greatest < 10 ^ 9 }
+        ensures reads { Reads (value_at greatest self.old) result self.new }
+        ensures range { IfSome result (IsValue greatest) }
     {
         let word = self.next()?;
-        value_in(word)
+        value_in(greatest, word)
     }
 
     /// That the next field is the word.
-    #[tactic(auto, unfolding(crate::specs::Reading::word_at))]
+    #[tactic(auto, unfolding(crate::specs::Fields::word_at))]
     pub fn word(&mut self, word: &[u8]) -> Option<()>
         ensures { ReadsRest (word_at word.now self.old) result self.new }
     {
@@ -114,38 +116,38 @@ impl<'a> Fields<'a> {
         if field == word { Some(()) } else { None }
     }
 
-    /// Whether the next field is `over`; it may be `short` too.
-    #[tactic(auto, unfolding(crate::specs::Reading::way_at))]
-    pub fn way(&mut self) -> Option<bool>
-        ensures { Reads (way_at self.old) result self.new }
+    /// Whether the next field is the one word; it may be the other too.
+    #[tactic(auto, unfolding(crate::specs::Fields::choice_at))]
+    pub fn choice(&mut self, one: &[u8], other: &[u8]) -> Option<bool>
+        ensures { Reads (choice_at one.now other.now self.old) result self.new }
     {
         let field = self.next()?;
-        if field == b"over".as_slice() {
+        if field == one {
             Some(true)
-        } else if field == b"short".as_slice() {
+        } else if field == other {
             Some(false)
         } else {
             None
         }
     }
 
-    /// A position, from 0 on, by its week and its day.
-    #[tactic(auto, unfolding(crate::specs::Reading::place_at))]
-    pub fn place(&mut self, problem: &Problem) -> Option<u32>
-        ensures { Reads (place_at problem.now self.old) result self.new }
+    /// A position among the days of all weeks, from 0 on, by its week and its day.
+    #[tactic(auto, unfolding(crate::specs::Fields::place_at))]
+    pub fn place(&mut self, weeks: u32, days: u32) -> Option<u32>
+        requires { (weeks < 10 ^ 4) × (days < 10 ^ 4) }
+        ensures { Reads (place_at weeks days self.old) result self.new }
     {
-        let days = problem.days();
-        let week = self.number(1, problem.weeks())?;
+        let week = self.number(1, weeks)?;
         let day = self.number(1, days)?;
         Some((week - 1) * days + (day - 1))
     }
 }
 
 // Where the first field ends.
-#[tactic(auto, using(crate::proofs::FieldSteps::field_found, crate::proofs::FieldSteps::field_alone))]
-fn field_end(bytes: &[u8]) -> usize
+#[tactic(auto, using(crate::proofs::WordSteps::word_found, crate::proofs::WordSteps::word_alone))]
+fn word_end(bytes: &[u8]) -> usize
     ensures within { result ≤ length bytes.now }
-    ensures fields { fields_of bytes.now ≡ take result bytes.now ∷ fields_after bytes.now result }
+    ensures fields { words_of bytes.now ≡ take result bytes.now ∷ words_after bytes.now result }
 {
     for (i, byte) in bytes.iter().enumerate() {
         if *byte == b' ' {
@@ -161,8 +163,9 @@ fn is_plain(text: &[u8]) -> bool
     text.len() <= 1 || text[0] != b'0'
 }
 
-#[tactic(auto, unfolding(crate::specs::Reading::number_in))]
+#[tactic(auto, using(crate::proofs::Numerals::not_plain, crate::proofs::Numerals::too_long))]
 fn number_in(low: u32, high: u32, text: &[u8]) -> Option<u32>
+    requires { high < 10 ^ 9 }
     ensures value { result ≡ number_in low high text.now }
     ensures range { IfSome result (λ n. (low ≤ n) × (n ≤ high)) }
 {
@@ -173,17 +176,18 @@ fn number_in(low: u32, high: u32, text: &[u8]) -> Option<u32>
     if low <= n && n <= high { Some(n) } else { None }
 }
 
-#[tactic(auto, unfolding(crate::specs::Reading::value_in))]
-fn value_in(text: &[u8]) -> Option<i32>
-    ensures value { result ≡ value_in text.now }
-    ensures range { IfSome result (λ v. IsValue v) }
+#[tactic(auto, unfolding(crate::specs::Fields::value_in))]
+fn value_in(greatest: u32, text: &[u8]) -> Option<i32>
+    requires { greatest < 10 ^ 9 }
+    ensures value { result ≡ value_in greatest text.now }
+    ensures range { IfSome result (IsValue greatest) }
 {
     let (first, rest) = text.split_first()?;
     if *first == b'-' {
-        let n = number_in(1, 1000, rest)?;
+        let n = number_in(1, greatest, rest)?;
         Some(-(n as i32))
     } else {
-        let n = number_in(1, 1000, text)?;
+        let n = number_in(1, greatest, text)?;
         Some(n as i32)
     }
 }
