@@ -4,3 +4,4 @@ pub mod Indexed
 pub mod WordGraph
 pub mod Choices
 pub mod Best
+pub mod Front

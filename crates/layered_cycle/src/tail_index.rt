@@ -69,6 +69,15 @@ impl TailIndex {
     }
 }
 
+// The place of a tail that is in the list.
+pub fn place_of(tails: &[Tail], tail: Tail) -> u32
+    requires few { length tails.now < 2 ^ 32 }
+    requires some { (k : ℕ) × StandsAt tails.now k tail }
+    ensures { StandsAt tails.now result tail }
+{
+    place_along(tails, tail).unwrap_or(0)
+}
+
 // The place of the tail in the list. Its time grows with the list.
 fn place_along(tails: &[Tail], tail: Tail) -> Option<u32>
     requires { length tails.now < 2 ^ 32 }
