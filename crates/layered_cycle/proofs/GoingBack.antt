@@ -102,7 +102,7 @@ gone_back C day days fs a b tail node first old new chain long read_last read_fi
 pub record IsTaken (C : Course) (end day : ℕ) (rest : List Front) (front : Front) : Type 0 where
   pub before : day ≤ end
   pub kept : AreKept C day rest
-  pub front : IsFront C day front.tails.items front.row
+  pub is_front : IsFront C day front.tails.items front.row
 
 pub taken_off : (C : Course) (end day : ℕ) (rest : List Front) (f : Front) → AreKept C end (rest ++ f ∷ []) → day ≡ length rest * 128 → IsTaken C end day rest f
 taken_off C end day rest f kept is =
@@ -116,7 +116,7 @@ taken_off C end day rest f kept is =
           let here : front_at (rest ++ f ∷ []) d i ≡ front_at rest d i = get_or_append_left rest (f ∷ []) d i lt in
           let R : Front → Type 0 = λ x. IsFront C (i * 128) x.tails.items x.row in
           subst R here (kept.1 i d (omega (arith, lt, length-append rest (f ∷ [])))));
-      front = subst Q (sym is) (subst P at (kept.1 (length rest) f (omega (arith, length-append rest (f ∷ [])))));
+      is_front = subst Q (sym is) (subst P at (kept.1 (length rest) f (omega (arith, length-append rest (f ∷ [])))));
     }
 
 -- back at the first day
@@ -130,3 +130,11 @@ at_start C len end last tail symbols word kept are none some completes is =
     empty : (u : List Symbol) → length u ≡ 0 → u ≡ []
     empty [] e = refl
     empty (x ∷ u) e = absurd (omega (arith, e))
+
+pub stands_somewhere : (C : Course) (day days : ℕ) (fs : List Front) (a : Front) (tail : Tail) (tails : List Tail) → IsChain C day fs → length fs ≡ days + 1 → a ≡ get_or fs days a → tails ≡ a.tails.items → (u : List Symbol) × IsBestTo C (day + days) tail u → (k : ℕ) × StandsAt tails k tail
+stands_somewhere C day days fs a tail tails chain long read same some =
+    let P : Front → Type 0 = λ x. IsFront C (day + days) x.tails.items x.row in
+    let front : IsFront C (day + days) a.tails.items a.row = subst P (sym read) (chain.each days a (omega (arith, long))) in
+    let k = front.all some.0 some.1.clean in
+    let Q : List Tail → Type 0 = λ ts. StandsAt ts k.0 tail in
+    (k.0, subst Q (sym same) (k.1, get_or_default a.tails.items k.0 tail (tail_of []) k.1 ∙ k.2 ∙ some.1.ends))

@@ -1,5 +1,5 @@
 -- Where the best of all words ends.
-use Rattle.std.proofs.Common.{◌≡◌, ◌⊎◌, ℕ, ◌<◌, ◌≤◌, List, length, refl, ap, sym, ◌∙◌, subst, inl, inr, arith, Some, None, ℤ}
+use Rattle.std.proofs.Common.{◌≡◌, ◌⊎◌, ℕ, ◌<◌, ◌≤◌, List, length, refl, ap, sym, ◌∙◌, subst, inl, inr, arith, Option, Some, None, ℤ}
 use Rattle.std.specs.Prelude.{◌<ℤ◌}
 use Rattle.std.proofs.Math.Nat.{eq-or-lt_of_le}
 use Rattle.std.proofs.lemmas.Int.{ints}
@@ -11,7 +11,7 @@ use Rattle.layered_cycle.specs.declared.choice.Choice.{Choice}
 use Rattle.layered_cycle.specs.declared.ends.End.{End}
 use Rattle.layered_cycle.specs.Choices.{Row, choice_at}
 use Rattle.layered_cycle.specs.Best.{gained}
-use Rattle.layered_cycle.specs.Front.{Course, IsOf, IsNoWorse, IsBestTo, tail_at, IsFront, IsHeaviestEnd, IsBestOf}
+use Rattle.layered_cycle.specs.Front.{Course, IsOf, IsNoWorse, IsBestTo, tail_at, IsFront, IsHeaviestEnd, IsBestOf, AreBelow}
 use Rattle.layered_cycle.proofs.Orders.{first_itself, first_from_before, first_then}
 use Rattle.layered_cycle.proofs.Fronts.{best_once}
 
@@ -69,3 +69,13 @@ none_of_all C len tails row f h u of =
     let none : choice_at row k.0 ≡ None = h k.0 (omega (arith, k.1, f.long)) in
     let some : choice_at row k.0 ≡ Some w.0 = w.1 in
     absurd (cc)
+
+pub below_end : (C : Course) (len : ℕ) (tails : List Tail) (row : Row) (f : IsFront C len tails row) (e : End) (least : ℤ) → IsHeaviestEnd row (length row) (Some e) → e.weight <ℤ least → AreBelow C len least
+below_end C len tails row f e least h less u of = by_best ((best_end C len tails row f e h).best u of)
+  where
+    weight : gained C.gain 0 (f.word e.node) ≡ e.weight
+    weight = (best_end C len tails row f e h).gains
+
+    by_best : IsNoWorse C (f.word e.node) u → gained C.gain 0 u <ℤ least
+    by_best (inl lt) = omega (arith, ints, lt, weight, less)
+    by_best (inr same) = omega (arith, ints, same.0, weight, less)

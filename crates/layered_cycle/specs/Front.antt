@@ -110,3 +110,7 @@ pub record IsBestOf (C : Course) (len : ℕ) (weight : ℤ) (word : List Symbol)
   pub clean : IsOf C len word
   pub gains : gained C.gain 0 word ≡ weight
   pub best : (u : List Symbol) → IsOf C len u → IsNoWorse C word u
+
+-- all words of so many days gain less
+abbrev pub AreBelow : Course → ℕ → ℤ → Type 0
+AreBelow C len least = (u : List Symbol) → IsOf C len u → gained C.gain 0 u <ℤ least

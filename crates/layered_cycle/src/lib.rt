@@ -20,6 +20,6 @@ mod tests;
 
 pub use best::{Gain, HeavyWord, best_word};
 pub use cut::{Cut, escape};
-pub use heaviest::{heaviest_clean};
+pub use heaviest::{heaviest_clean, heaviest_reaching};
 pub use layers::Layers;
 pub use step::{Layer, Step};
