@@ -129,15 +129,23 @@ heaviest_of_course T S P p len size days y (Ok (Some h)) is week long best =
     subst A is (subst B long (heaviest_by_best T S p len days y h (week ∙ ap (λ (Q : Instance). Q.days) (sym is)) best))
 heaviest_of_course T S P p len size days y (Err e) is week long h = h
 
-pub reaching_of_course : (T : Listed) (S : Store) (P : Instance) (p len size days : ℕ) (y : List Weight) (least : ℤ) (r : Result (Option HeavyWord) AllocError) → T.problem ≡ P → days ≡ P.days → len ≡ size →
+reaching_by_course : (T : Listed) (S : Store) (P : Instance) (p len size days : ℕ) (y : List Weight) (least : ℤ) (r : Result (Option HeavyWord) AllocError) → T.problem ≡ P → days ≡ P.days → len ≡ size →
     IfOk r (λ found. MatchOption found (AreBelow (course T S p (gain_from y p days)) len least) (λ h. IsBestOf (course T S p (gain_from y p days)) len h.weight h.word × (least ≤ℤ h.weight))) →
     IfOk r (λ found. MatchOption found (AreLighter P (has_domain S) p size T.rules y least) (λ h. IsHeaviestFound P (has_domain S) p size T.rules y (Some h) × (least ≤ℤ h.weight)))
-reaching_of_course T S P p len size days y least (Ok None) is week long below =
+reaching_by_course T S P p len size days y least (Ok None) is week long below =
     let A : Instance → Type 0 = λ Q. AreLighter Q (has_domain S) p size T.rules y least in
     let B : ℕ → Type 0 = λ n. AreLighter T.problem (has_domain S) p n T.rules y least in
     subst A is (subst B long (lighter_by_below T S p len days y least (week ∙ ap (λ (Q : Instance). Q.days) (sym is)) below))
-reaching_of_course T S P p len size days y least (Ok (Some h)) is week long best =
+reaching_by_course T S P p len size days y least (Ok (Some h)) is week long best =
     let A : Instance → Type 0 = λ Q. IsHeaviestFound Q (has_domain S) p size T.rules y (Some h) in
     let B : ℕ → Type 0 = λ n. IsHeaviestFound T.problem (has_domain S) p n T.rules y (Some h) in
     (subst A is (subst B long (heaviest_by_best T S p len days y h (week ∙ ap (λ (Q : Instance). Q.days) (sym is)) best.0)), best.1)
-reaching_of_course T S P p len size days y least (Err e) is week long h = h
+reaching_by_course T S P p len size days y least (Err e) is week long h = h
+
+-- the same where the number that was asked is read back
+pub reaching_of_course : (T : Listed) (S : Store) (P : Instance) (p len size days : ℕ) (y : List Weight) (least asked : ℤ) (r : Result (Option HeavyWord) AllocError) → asked ≡ least → T.problem ≡ P → days ≡ P.days → len ≡ size →
+    IfOk r (λ found. MatchOption found (AreBelow (course T S p (gain_from y p days)) len asked) (λ h. IsBestOf (course T S p (gain_from y p days)) len h.weight h.word × (asked ≤ℤ h.weight))) →
+    IfOk r (λ found. MatchOption found (AreLighter P (has_domain S) p size T.rules y least) (λ h. IsHeaviestFound P (has_domain S) p size T.rules y (Some h) × (least ≤ℤ h.weight)))
+reaching_of_course T S P p len size days y least asked r read is week long h =
+    let A : ℤ → Type 0 = λ z. IfOk r (λ found. MatchOption found (AreBelow (course T S p (gain_from y p days)) len z) (λ h. IsBestOf (course T S p (gain_from y p days)) len h.weight h.word × (z ≤ℤ h.weight))) in
+    reaching_by_course T S P p len size days y least r is week long (subst A read h)
