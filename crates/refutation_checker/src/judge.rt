@@ -17,7 +17,7 @@ ghost use Rattle.refutation_checker.specs.LineTexts.{IsLineRead, IsSpellingRefus
 
 use crate::bound::bound_escape;
 use crate::kept_tails::tails_of;
-use crate::plain::plain_refusal;
+use crate::plain_causes::plain_refusal;
 use crate::step::step;
 use domain_store::Domains;
 use layered_cycle::escape;
@@ -131,7 +131,7 @@ impl<'a> Judge<'a> {
             (IsSound self.old.problem self.old.named (has_domain doms.now) line.now)
             (LineCause self.old.problem self.old.named (has_domain doms.now) number line.now)) }
     {
-        if let Some(why) = plain_refusal(alloc, self.problem, self.named, doms, line, number)? {
+        if let Some(why) = plain_refusal(self.problem, self.named, doms, line, number) {
             return Ok(Some(why));
         }
         match self.leaf_escape(alloc, doms, line)? {

@@ -9,14 +9,15 @@ mod kept_tails;
 mod laws;
 mod line_ends;
 mod log_check;
-mod long;
-mod named;
-mod plain;
+mod long_rules;
+
+mod plain_causes;
 mod scan;
 mod step;
 #[cfg(test)]
 mod tests;
 mod turn;
+mod unnamed_rules;
 mod verdict;
 mod workers;
 

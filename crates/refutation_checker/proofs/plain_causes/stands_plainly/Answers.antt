@@ -1,6 +1,6 @@
 use Rattle.domain_store.specs.Store.{has_domain}
 use Rattle.refutation_checker.proofs.Lines.{day_stands}
-use Rattle.refutation_checker.proofs.plain.stands_plainly.Goals as goal
+use Rattle.refutation_checker.proofs.plain_causes.stands_plainly.Goals as goal
 
 pub returns-in-Day : goal.returns-in-Day
 returns-in-Day c =

@@ -2,7 +2,7 @@ use Rattle.std.proofs.Common.{◌≤◌, IsTrue, length, sym, subst, arith}
 use Rattle.refutation_terms.proofs.InWords.{there}
 use Rattle.domain_store.specs.Store.{has_domain, domain_at}
 use Rattle.refutation_checker.proofs.Lines.{may_split, split_of_many}
-use Rattle.refutation_checker.proofs.plain.can_split.Goals as goal
+use Rattle.refutation_checker.proofs.plain_causes.can_split.Goals as goal
 
 pub returns : goal.returns
 returns c =

@@ -4,7 +4,7 @@ use Rattle.std.specs.Prelude.{MatchOption}
 use Rattle.refutation_terms.specs.declared.lines.Line.{Line}
 use Rattle.refutation_terms.specs.Log.{ListsShortOnly}
 use Rattle.refutation_terms.specs.Verdict.{IsLeast, ListsLong}
-use Rattle.refutation_checker.proofs.long.long_rule.Goals as goal
+use Rattle.refutation_checker.proofs.long_rules.long_rule.Goals as goal
 
 pub returns-in-Dead : goal.returns-in-Dead
 returns-in-Dead c =

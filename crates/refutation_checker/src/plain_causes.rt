@@ -1,17 +1,16 @@
 // Whether a line stands by itself: what can be judged without searching for a word.
-ghost use Rattle.std.specs.Prelude.{◌≡◌, ◌<◌, ◌↔◌, length, IsTrue, false, IfOk, MatchOption};
+ghost use Rattle.std.specs.Prelude.{◌≡◌, ◌<◌, ◌↔◌, length, IsTrue, false, MatchOption};
 ghost use Rattle.refutation_terms.specs.Log.{LineFits};
 ghost use Rattle.refutation_terms.specs.Tree.{is_idle};
 ghost use Rattle.domain_store.specs.Store.{BelongsTo, has_domain};
 ghost use Rattle.refutation_checker.specs.LineVerdicts.{StandsPlainly, IsPlainlySound, IsPlainFailure, PlainCause};
 
-use crate::long::long_rule;
-use crate::named::unnamed;
+use crate::long_rules::long_rule;
+use crate::unnamed_rules::unnamed_rule;
 use domain_store::Domains;
 use plain_leaves::{day_holds, window_holds};
 use refutation_terms::{Line, LogRefusal};
 use rwsp_model::{Problem, RuleList, Symbol};
-use std::alloc::{AllocError, Global};
 
 // Whether the symbol is in the domain of the position beside another.
 fn can_split(problem: &Problem, doms: &Domains, p: u32, x: Symbol) -> bool
@@ -59,27 +58,26 @@ fn plain_failure(line: &Line, number: u32) -> LogRefusal
 /// where there is no other cause. It goes by a rule that isn't named, an idle split, a rule of a list that isn't short, a
 /// window or a day leaf that doesn't hold, and a case that wasn't worked out.
 pub fn plain_refusal(
-    alloc: Global,
     problem: &Problem,
     named: &RuleList,
     doms: &Domains,
     line: &Line,
     number: u32,
-) -> Result<Option<LogRefusal>, AllocError>
+) -> Option<LogRefusal>
     requires domains { BelongsTo problem.now doms.now }
     requires line { LineFits problem.now line.now }
-    ensures { IfOk result (λ found. MatchOption found
+    ensures { MatchOption result
         (IsPlainlySound problem.now named.now (has_domain doms.now) line.now)
-        (λ why. PlainCause problem.now named.now (has_domain doms.now) number line.now why)) }
+        (λ why. PlainCause problem.now named.now (has_domain doms.now) number line.now why) }
 {
-    if let Some(rule) = unnamed(alloc, problem, named, line)? {
-        return Ok(Some(LogRefusal::Unnamed(number, rule)));
+    if let Some(rule) = unnamed_rule(problem, named, line) {
+        return Some(LogRefusal::Unnamed(number, rule));
     }
     if let Some(rule) = long_rule(problem, line) {
-        return Ok(Some(LogRefusal::Long(number, rule)));
+        return Some(LogRefusal::Long(number, rule));
     }
     if stands_plainly(problem, doms, line) {
-        return Ok(None);
+        return None;
     }
-    Ok(Some(plain_failure(line, number)))
+    Some(plain_failure(line, number))
 }
