@@ -3,7 +3,7 @@ use Rattle.std.proofs.lemmas.Result.{IfOk-weaker}
 use Rattle.refutation_checker.specs.ChunkVerdicts.{Start}
 use Rattle.refutation_checker.specs.Chunks.{IsFew, line_count}
 use Rattle.refutation_checker.proofs.Feeds.{one_for_each}
-use Rattle.refutation_checker.proofs.scan.chunks_for.Goals as goal
+use Rattle.refutation_checker.proofs.chunk_starts.chunks_for.Goals as goal
 
 pub returns-clause-few : goal.returns-clause-few
 returns-clause-few c =
