@@ -3,20 +3,21 @@
 
 mod bound;
 mod chunk;
+mod chunk_starts;
 mod header;
 mod judge;
 mod kept_tails;
 mod laws;
 mod line_ends;
+mod line_walk;
 mod log_check;
-mod long;
-mod named;
-mod plain;
-mod scan;
-mod step;
+mod long_rules;
+mod plain_causes;
 #[cfg(test)]
 mod tests;
 mod turn;
+mod unnamed_rules;
+mod unread_splits;
 mod verdict;
 mod workers;
 
