@@ -13,3 +13,4 @@ pub mod Joining
 pub mod Feeds
 pub mod Deciding
 pub mod SomeVerdict
+pub mod LeafJudging

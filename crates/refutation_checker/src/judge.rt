@@ -143,7 +143,7 @@ impl<'a> Judge<'a> {
 
     // The word that escapes a dead or a bound leaf; None exactly where the leaf holds, and for
     // other lines.
-    fn leaf_escape(
+    pub fn leaf_escape(
         &mut self,
         alloc: Global,
         doms: &Domains,

@@ -7,6 +7,7 @@ mod chunk_starts;
 mod header;
 mod judge;
 mod kept_tails;
+mod leaf_judge;
 mod laws;
 mod line_ends;
 mod line_walk;
@@ -22,6 +23,7 @@ mod verdict;
 mod workers;
 
 pub use laws::texts_have_a_verdict;
+pub use leaf_judge::{LeafJudge, go_past};
 pub use log_check::check_log;
 pub use potential_bounds::{Gate, NoGate};
 pub use verdict::{check, check_with};
