@@ -3,6 +3,7 @@
 #![tactic(auto)]
 
 mod calls;
+mod interrupted;
 mod memory;
 mod real;
 mod shelf;
