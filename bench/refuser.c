@@ -7,6 +7,7 @@
 #include <stdatomic.h>
 #include <stdio.h>
 #include <stdlib.h>
+#include <sys/syscall.h>
 #include <unistd.h>
 
 static atomic_long made;
@@ -44,7 +45,7 @@ void *realloc(void *old, size_t size)
     return is_refused() ? NULL : next(old, size);
 }
 
-__attribute__((destructor)) static void end(void)
+static void tell(void)
 {
     const char *path = getenv("REQUESTS_MADE");
     int file = path ? creat(path, 0600) : -1;
@@ -52,4 +53,17 @@ __attribute__((destructor)) static void end(void)
         return;
     dprintf(file, "%ld", atomic_load(&made));
     close(file);
+}
+
+/* The program ends by this call, behind which nothing runs. */
+__attribute__((noreturn)) void _exit(int status)
+{
+    tell();
+    syscall(SYS_exit_group, status);
+    __builtin_unreachable();
+}
+
+__attribute__((destructor)) static void end(void)
+{
+    tell();
 }
