@@ -1,14 +1,13 @@
 -- What the marks of a cycle say of words, and what they become where a domain changes.
-use Rattle.std.proofs.Common.{◌≡◌, ◌≢◌, ◌⊎◌, inl, inr, ℕ, zero, suc, ◌+◌, ◌-◌, ◌*◌, ◌%◌, ◌<◌, ◌≤◌, List, [], ◌∷◌, ◌++◌, length, get_or, set, refl, ap, sym, ◌∙◌, subst, arith, Bool, true, false, not, IsTrue, Option, Some, get_or-set_same, get_or-set_other, replicate}
-use Rattle.std.specs.Prelude.{◌↔◌, Contains, slice_get, nat_le, slice_index}
+use Rattle.std.proofs.Common.{◌≡◌, ◌≢◌, ◌⊎◌, inl, inr, ℕ, zero, suc, ◌+◌, ◌-◌, ◌*◌, ◌%◌, ◌<◌, ◌≤◌, List, [], ◌∷◌, length, get_or, set, refl, ap, sym, ◌∙◌, subst, arith, Bool, true, false, not, IsTrue, get_or-set_same, get_or-set_other, replicate}
+use Rattle.std.specs.Prelude.{◌↔◌, nat_le, slice_index}
 use Rattle.std.proofs.lemmas.Bool.{cases_eq, cases_lt, le-leb}
 use Rattle.std.proofs.lemmas.List.{length-set, length-replicate, get_or-replicate, ext_get_or}
-use Rattle.std.proofs.lemmas.List.Elements.{Contains-get_or}
 use Rattle.std.proofs.lemmas.Nat.{mod_below, mod-mul-add}
 use Rattle.rwsp_terms.specs.declared.limits.TheConstants.{MOST_CELLS}
 use Rattle.rwsp_terms.specs.declared.data.Symbol.{Symbol}
 use Rattle.rwsp_terms.specs.Instance.{Instance, cells, shift_count}
-use Rattle.refutation_terms.specs.Word.{Domains, Over, Clean}
+use Rattle.refutation_terms.specs.Word.{Over}
 use Rattle.refutation_terms.specs.Leaf.{IsDead}
 use Rattle.refutation_terms.specs.Sharp.{NoWordHas}
 use Rattle.refutation_terms.specs.Escape.{IsCleanOver}
@@ -18,10 +17,10 @@ use Rattle.word_tail.specs.Listed.{Listed}
 use Rattle.layered_cycle.specs.declared.step.Step.{Step}
 use Rattle.layered_cycle.specs.Graph.{Leads, AreLayers}
 use Rattle.kept_cycle.specs.Known.{KnownCycle, has_known, StandsFor, DiffersAtMostAt}
-use Rattle.kept_cycle.specs.Marks.{is_marked, row_at, layer_at, has_on, from_of, to_of, IsJoined, IsPass, IsFrontStep, IsBackStep, MendsFront, MendsBack, IsWide, AllFitInto}
+use Rattle.kept_cycle.specs.Marks.{is_marked, row_at, layer_at, has_on, from_of, to_of, IsPass, IsFrontStep, IsBackStep, MendsFront, MendsBack, IsWide, AllFitInto}
 use Rattle.kept_cycle.specs.KeptCycle.{HasSymbolsOf, HasLayers, IsCycle, HasJoiningStep}
-use Rattle.kept_cycle.proofs.Marking.{marked_within, unlike}
-use Rattle.kept_cycle.proofs.TwoTurns.{Held, ArePasses, came, goes_on, GoesOn, WordHas, Supports, word_has, has_support}
+use Rattle.kept_cycle.proofs.Marking.{unlike}
+use Rattle.kept_cycle.proofs.TwoTurns.{Held, ArePasses, goes_on, WordHas, word_has, has_support}
 
 abbrev known : Listed → List (List ℕ) → KnownCycle
 known T sets = record { problem = T.problem; rules = T.rules; sets = sets }

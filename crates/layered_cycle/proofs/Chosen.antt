@@ -32,15 +32,15 @@ In-Contains (x ∷ xs) s (inr h) =
     let r : Contains xs s = In-Contains xs s h in (suc r.0, omega (arith, r.1), r.2)
 
 -- later steps come after the first
-later_at : (x : Step) (xs : List Step) (s : Step) (k : ℕ) → AllPairs StepBefore (x ∷ xs) → k < length xs → get_or xs k s ≡ s → StepBefore x s
-later_at x xs s k ordered lt e =
-    let P : Step → Type 0 = λ z. StepBefore x z in subst P e (ordered 0 (suc k) s (omega arith) (omega (arith, lt)))
+later_at : (R : Step → Step → Type 0) (x : Step) (xs : List Step) (s : Step) (k : ℕ) → AllPairs R (x ∷ xs) → k < length xs → get_or xs k s ≡ s → R x s
+later_at R x xs s k ordered lt e =
+    let P : Step → Type 0 = λ z. R x z in subst P e (ordered 0 (suc k) s (omega arith) (omega (arith, lt)))
 
-pub later : (x : Step) (xs : List Step) → AllPairs StepBefore (x ∷ xs) → (s : Step) → In xs s → StepBefore x s
-later x xs ordered s h = let r : Contains xs s = In-Contains xs s h in later_at x xs s r.0 ordered r.1 r.2
+pub later : (R : Step → Step → Type 0) (x : Step) (xs : List Step) → AllPairs R (x ∷ xs) → (s : Step) → In xs s → R x s
+later R x xs ordered s h = let r : Contains xs s = In-Contains xs s h in later_at R x xs s r.0 ordered r.1 r.2
 
-pub ordered_rest : (x : Step) (xs : List Step) → AllPairs StepBefore (x ∷ xs) → AllPairs StepBefore xs
-ordered_rest x xs ordered = λ i j d lt less. ordered (suc i) (suc j) d (omega (arith, lt)) (omega (arith, less))
+pub ordered_rest : (R : Step → Step → Type 0) (x : Step) (xs : List Step) → AllPairs R (x ∷ xs) → AllPairs R xs
+ordered_rest R x xs ordered = λ i j d lt less. ordered (suc i) (suc j) d (omega (arith, lt)) (omega (arith, less))
 
 -- what a step offers
 pub record Offers (gain : ℕ → Symbol → ℤ) (day : ℕ) (next : Row) (s : Step) (a : Choice) : Type 0 where
@@ -66,21 +66,21 @@ pub choice_by-some : (gain : ℕ → Symbol → ℤ) (day : ℕ) (next : Row) (s
 choice_by-some gain day next s c e = ap (option_map (by_step gain day s)) e
 
 -- the step that is chosen: the others are lighter, or as heavy and later
-pub record IsFirstHeaviest (gain : ℕ → Symbol → ℤ) (day : ℕ) (next : Row) (node : ℕ) (steps : List Step) (c : Choice) : Type 0 where
+pub record IsFirstHeaviest (R : Step → Step → Type 0) (gain : ℕ → Symbol → ℤ) (day : ℕ) (next : Row) (node : ℕ) (steps : List Step) (c : Choice) : Type 0 where
   pub step : Step
   pub within : In steps step
   pub from : step.from ≡ node
   pub is : choice_by gain day next step ≡ Some c
-  pub others : (s : Step) (d : Choice) → In steps s → s.from ≡ node → choice_by gain day next s ≡ Some d → (d.weight <ℤ c.weight) ⊎ ((d.weight ≡ c.weight) × ((c.symbol.number < s.symbol.number) ⊎ (s ≡ step)))
+  pub others : (s : Step) (d : Choice) → In steps s → s.from ≡ node → choice_by gain day next s ≡ Some d → (d.weight <ℤ c.weight) ⊎ ((d.weight ≡ c.weight) × (R step s ⊎ (s ≡ step)))
 
-abbrev pub IsChosen : (ℕ → Symbol → ℤ) → ℕ → Row → ℕ → List Step → Option Choice → Type 0
-IsChosen gain day next node steps None = (s : Step) → In steps s → s.from ≡ node → choice_by gain day next s ≡ None
-IsChosen gain day next node steps (Some c) = IsFirstHeaviest gain day next node steps c
+abbrev pub IsChosen : (Step → Step → Type 0) → (ℕ → Symbol → ℤ) → ℕ → Row → ℕ → List Step → Option Choice → Type 0
+IsChosen R gain day next node steps None = (s : Step) → In steps s → s.from ≡ node → choice_by gain day next s ≡ None
+IsChosen R gain day next node steps (Some c) = IsFirstHeaviest R gain day next node steps c
 
-skipped : (gain : ℕ → Symbol → ℤ) (day : ℕ) (next : Row) (node : ℕ) (x : Step) (xs : List Step) → (x.from ≡ node → ⊥) → (r : Option Choice) → IsChosen gain day next node xs r → IsChosen gain day next node (x ∷ xs) r
-skipped gain day next node x xs ne None h =
+skipped : (R : Step → Step → Type 0) (gain : ℕ → Symbol → ℤ) (day : ℕ) (next : Row) (node : ℕ) (x : Step) (xs : List Step) → (x.from ≡ node → ⊥) → (r : Option Choice) → IsChosen R gain day next node xs r → IsChosen R gain day next node (x ∷ xs) r
+skipped R gain day next node x xs ne None h =
     λ s m f. elim m [ inl q ↦ absurd (ne (ap (λ z. z.from) (sym q) ∙ f)) | inr within ↦ h s within f ]
-skipped gain day next node x xs ne (Some c) h =
+skipped R gain day next node x xs ne (Some c) h =
     record {
       step = h.step;
       within = inr h.within;
@@ -94,13 +94,13 @@ one_value : (gain : ℕ → Symbol → ℤ) (day : ℕ) (next : Row) (x s : Step
 one_value gain day next x s a d q e f =
     let same : choice_by gain day next s ≡ choice_by gain day next x = ap (choice_by gain day next) q in cc
 
-symbol_before : (gain : ℕ → Symbol → ℤ) (day : ℕ) (next : Row) (node : ℕ) (x s : Step) (a : Choice) → x.from ≡ node → s.from ≡ node → choice_by gain day next x ≡ Some a → StepBefore x s → a.symbol.number < s.symbol.number
+pub symbol_before : (gain : ℕ → Symbol → ℤ) (day : ℕ) (next : Row) (node : ℕ) (x s : Step) (a : Choice) → x.from ≡ node → s.from ≡ node → choice_by gain day next x ≡ Some a → StepBefore x s → a.symbol.number < s.symbol.number
 symbol_before gain day next node x s a at here e before =
     let o : a.symbol.number ≡ x.symbol.number = ap (λ y. y.number) ((offers gain day next x a e).symbol) in
     elim before [ inl lt ↦ absurd (omega (arith, lt, at, here)) | inr h ↦ omega (arith, h.1, o) ]
 
-kept_first : (gain : ℕ → Symbol → ℤ) (day : ℕ) (next : Row) (node : ℕ) (x : Step) (xs : List Step) (a c : Choice) → x.from ≡ node → ((s : Step) → In xs s → StepBefore x s) → choice_by gain day next x ≡ Some a → c.weight ≤ℤ a.weight → IsFirstHeaviest gain day next node xs c → IsFirstHeaviest gain day next node (x ∷ xs) a
-kept_first gain day next node x xs a c at after e le h =
+kept_first : (R : Step → Step → Type 0) (gain : ℕ → Symbol → ℤ) (day : ℕ) (next : Row) (node : ℕ) (x : Step) (xs : List Step) (a c : Choice) → x.from ≡ node → ((s : Step) → In xs s → R x s) → choice_by gain day next x ≡ Some a → c.weight ≤ℤ a.weight → IsFirstHeaviest R gain day next node xs c → IsFirstHeaviest R gain day next node (x ∷ xs) a
+kept_first R gain day next node x xs a c at after e le h =
     record {
       step = x;
       within = inl refl;
@@ -109,9 +109,8 @@ kept_first gain day next node x xs a c at after e le h =
       others = λ s d m f g. elim m [
         | inl q ↦ inr (ap (λ z. z.weight) (one_value gain day next x s a d q e g), inr q)
         | inr within ↦
-            let first : a.symbol.number < s.symbol.number = symbol_before gain day next node x s a at f e (after s within) in
             let ordered : d.weight ≤ℤ c.weight = elim (h.others s d within f g) [ inl lt ↦ omega (arith, ints, lt) | inr w ↦ omega (arith, ints, w.0) ] in
-            heavier_or_same d.weight a.weight (a.symbol.number < s.symbol.number) (s ≡ x) first (omega (arith, ints, ordered, le))
+            heavier_or_same d.weight a.weight (R x s) (s ≡ x) (after s within) (omega (arith, ints, ordered, le))
       ];
     }
   where
@@ -121,8 +120,8 @@ kept_first gain day next node x xs a c at after e le h =
     heavier_or_same : (y z : ℤ) (A B : Type 0) → A → y ≤ℤ z → (y <ℤ z) ⊎ ((y ≡ z) × (A ⊎ B))
     heavier_or_same y z A B first le = elim (split y z le) [ inl lt ↦ inl lt | inr same ↦ inr (same, inl first) ]
 
-replaced : (gain : ℕ → Symbol → ℤ) (day : ℕ) (next : Row) (node : ℕ) (x : Step) (xs : List Step) (a c : Choice) → choice_by gain day next x ≡ Some a → a.weight <ℤ c.weight → IsFirstHeaviest gain day next node xs c → IsFirstHeaviest gain day next node (x ∷ xs) c
-replaced gain day next node x xs a c e lt h =
+replaced : (R : Step → Step → Type 0) (gain : ℕ → Symbol → ℤ) (day : ℕ) (next : Row) (node : ℕ) (x : Step) (xs : List Step) (a c : Choice) → choice_by gain day next x ≡ Some a → a.weight <ℤ c.weight → IsFirstHeaviest R gain day next node xs c → IsFirstHeaviest R gain day next node (x ∷ xs) c
+replaced R gain day next node x xs a c e lt h =
     record {
       step = h.step;
       within = inr h.within;
@@ -134,14 +133,14 @@ replaced gain day next node x xs a c e lt h =
       ];
     }
 
-compared : (gain : ℕ → Symbol → ℤ) (day : ℕ) (next : Row) (node : ℕ) (x : Step) (xs : List Step) (a c : Choice) → x.from ≡ node → ((s : Step) → In xs s → StepBefore x s) → choice_by gain day next x ≡ Some a → IsFirstHeaviest gain day next node xs c → (b : Bool) → int_lt a.weight c.weight ≡ b → IsChosen gain day next node (x ∷ xs) (if b then Some c else Some a)
-compared gain day next node x xs a c at after e h true is = replaced gain day next node x xs a c e (grind (arith, ints)) h
-compared gain day next node x xs a c at after e h false is = kept_first gain day next node x xs a c at after e (grind (arith, ints)) h
+compared : (R : Step → Step → Type 0) (gain : ℕ → Symbol → ℤ) (day : ℕ) (next : Row) (node : ℕ) (x : Step) (xs : List Step) (a c : Choice) → x.from ≡ node → ((s : Step) → In xs s → R x s) → choice_by gain day next x ≡ Some a → IsFirstHeaviest R gain day next node xs c → (b : Bool) → int_lt a.weight c.weight ≡ b → IsChosen R gain day next node (x ∷ xs) (if b then Some c else Some a)
+compared R gain day next node x xs a c at after e h true is = replaced R gain day next node x xs a c e (grind (arith, ints)) h
+compared R gain day next node x xs a c at after e h false is = kept_first R gain day next node x xs a c at after e (grind (arith, ints)) h
 
-taken : (gain : ℕ → Symbol → ℤ) (day : ℕ) (next : Row) (node : ℕ) (x : Step) (xs : List Step) → x.from ≡ node → ((s : Step) → In xs s → StepBefore x s) → (a r : Option Choice) → choice_by gain day next x ≡ a → IsChosen gain day next node xs r → IsChosen gain day next node (x ∷ xs) (preferred a r)
-taken gain day next node x xs at after None None e h =
+taken : (R : Step → Step → Type 0) (gain : ℕ → Symbol → ℤ) (day : ℕ) (next : Row) (node : ℕ) (x : Step) (xs : List Step) → x.from ≡ node → ((s : Step) → In xs s → R x s) → (a r : Option Choice) → choice_by gain day next x ≡ a → IsChosen R gain day next node xs r → IsChosen R gain day next node (x ∷ xs) (preferred a r)
+taken R gain day next node x xs at after None None e h =
     λ s m f. elim m [ inl q ↦ ap (choice_by gain day next) q ∙ e | inr within ↦ h s within f ]
-taken gain day next node x xs at after None (Some c) e h =
+taken R gain day next node x xs at after None (Some c) e h =
     record {
       step = h.step;
       within = inr h.within;
@@ -152,7 +151,7 @@ taken gain day next node x xs at after None (Some c) e h =
         | inr within ↦ h.others s d within f g
       ];
     }
-taken gain day next node x xs at after (Some a) None e h =
+taken R gain day next node x xs at after (Some a) None e h =
     record {
       step = x;
       within = inl refl;
@@ -163,16 +162,16 @@ taken gain day next node x xs at after (Some a) None e h =
         | inr within ↦ let none : choice_by gain day next s ≡ None = h s within f in absurd (cc)
       ];
     }
-taken gain day next node x xs at after (Some a) (Some c) e h = compared gain day next node x xs a c at after e h (int_lt a.weight c.weight) refl
+taken R gain day next node x xs at after (Some a) (Some c) e h = compared R gain day next node x xs a c at after e h (int_lt a.weight c.weight) refl
 
-either : (gain : ℕ → Symbol → ℤ) (day : ℕ) (next : Row) (node : ℕ) (x : Step) (xs : List Step) → ((s : Step) → In xs s → StepBefore x s) → (r : Option Choice) → IsChosen gain day next node xs r → (b : Bool) → (x.from == node) ≡ b → IsChosen gain day next node (x ∷ xs) (if b then preferred (choice_by gain day next x) r else r)
-either gain day next node x xs after r h true is = taken gain day next node x xs (grind arith) after (choice_by gain day next x) r refl h
-either gain day next node x xs after r h false is = skipped gain day next node x xs (λ same. grind arith) r h
+either : (R : Step → Step → Type 0) (gain : ℕ → Symbol → ℤ) (day : ℕ) (next : Row) (node : ℕ) (x : Step) (xs : List Step) → ((s : Step) → In xs s → R x s) → (r : Option Choice) → IsChosen R gain day next node xs r → (b : Bool) → (x.from == node) ≡ b → IsChosen R gain day next node (x ∷ xs) (if b then preferred (choice_by gain day next x) r else r)
+either R gain day next node x xs after r h true is = taken R gain day next node x xs (grind arith) after (choice_by gain day next x) r refl h
+either R gain day next node x xs after r h false is = skipped R gain day next node x xs (λ same. grind arith) r h
 
-pub chosen_is : (gain : ℕ → Symbol → ℤ) (day : ℕ) (next : Row) (node : ℕ) (steps : List Step) → AllPairs StepBefore steps → IsChosen gain day next node steps (chosen gain day next node steps)
-chosen_is gain day next node [] ordered = λ s m f. absurd m
-chosen_is gain day next node (x ∷ xs) ordered =
-    either gain day next node x xs (later x xs ordered) (chosen gain day next node xs) (chosen_is gain day next node xs (ordered_rest x xs ordered)) (x.from == node) refl
+pub chosen_is : (R : Step → Step → Type 0) (gain : ℕ → Symbol → ℤ) (day : ℕ) (next : Row) (node : ℕ) (steps : List Step) → AllPairs R steps → IsChosen R gain day next node steps (chosen gain day next node steps)
+chosen_is R gain day next node [] ordered = λ s m f. absurd m
+chosen_is R gain day next node (x ∷ xs) ordered =
+    either R gain day next node x xs (later R x xs ordered) (chosen gain day next node xs) (chosen_is R gain day next node xs (ordered_rest R x xs ordered)) (x.from == node) refl
 
 -- a row to which a step was offered
 pub offered : (gain : ℕ → Symbol → ℤ) (day : ℕ) (next row : Row) (s : Step) (steps : List Step) (v : Option Choice) → s.from < length row → ((node : ℕ) → node < length row → choice_at row node ≡ chosen gain day next node steps) → v ≡ choice_by gain day next s →

@@ -14,7 +14,7 @@ use Rattle.word_tail.specs.Tails.{tail_of}
 use Rattle.word_tail.specs.declared.tail.Tail.{Tail}
 use Rattle.layered_cycle.specs.declared.step.Step.{Step}
 use Rattle.layered_cycle.specs.Graph.{Precedes, StepBefore}
-use Rattle.layered_cycle.specs.Grown.{StandsAt, IsStep, IsReached, Grown}
+use Rattle.layered_cycle.specs.Grown.{StandsAt, AreDistinct, IsStep, IsReached, Grown}
 
 pub stands_left : {X : Type 0} (xs ys : List X) (k : ℕ) (x : X) → StandsAt xs k x → StandsAt (xs ++ ys) k x
 stands_left xs ys k x h =
@@ -64,6 +64,7 @@ precedes_more k n node number (inr (same, lt)) = inr (same, omega arith)
 pub grown_without : (T : Listed) (D : Domains) (q : ℕ) (nodes : List Tail) (steps : List Step) (next : List Tail) (node : ℕ) (x : Symbol) → Grown T D q nodes steps next node x.number → ((w : List Symbol) → IsTrue (D q x.number) → Clean T.problem T.rules w → StandsAt nodes node (tail_of w) → Clean T.problem T.rules (w ++ x ∷ []) → ⊥) → Grown T D q nodes steps next node (x.number + 1)
 grown_without T D q nodes steps next node x g none = record {
   few = g.few;
+  distinct = g.distinct;
   ordered = g.ordered;
   before = λ s h. precedes_more s.from s.symbol.number node x.number (g.before s h);
   sound = g.sound;
@@ -86,9 +87,10 @@ grown_unclean T D q nodes steps next node x tail g here refused =
     grown_without T D q nodes steps next node x g (λ w inside clean at longer. refused w clean (stands_once nodes node (tail_of w) tail at here) longer)
 
 -- a step by this symbol
-pub grown_with : (T : Listed) (D : Domains) (q : ℕ) (nodes : List Tail) (steps : List Step) (next rest : List Tail) (node to : ℕ) (x : Symbol) (tail new : Tail) → Grown T D q nodes steps next node x.number → length (next ++ rest) < 2 ^ 32 → StandsAt nodes node tail → IsTrue (D q x.number) → ((w : List Symbol) → Clean T.problem T.rules w → tail_of w ≡ tail → Clean T.problem T.rules (w ++ x ∷ []) × (new ≡ tail_of (w ++ x ∷ []))) → StandsAt (next ++ rest) to new → ((k : ℕ) → length next ≤ k → k < length (next ++ rest) → k ≡ to) → Grown T D q nodes (steps ++ record { from = node; symbol = x; to = to } ∷ []) (next ++ rest) node (x.number + 1)
-grown_with T D q nodes steps next rest node to x tail new g few here inside follows there others = record {
+pub grown_with : (T : Listed) (D : Domains) (q : ℕ) (nodes : List Tail) (steps : List Step) (next rest : List Tail) (node to : ℕ) (x : Symbol) (tail new : Tail) → Grown T D q nodes steps next node x.number → length (next ++ rest) < 2 ^ 32 → AreDistinct (next ++ rest) → StandsAt nodes node tail → IsTrue (D q x.number) → ((w : List Symbol) → Clean T.problem T.rules w → tail_of w ≡ tail → Clean T.problem T.rules (w ++ x ∷ []) × (new ≡ tail_of (w ++ x ∷ []))) → StandsAt (next ++ rest) to new → ((k : ℕ) → length next ≤ k → k < length (next ++ rest) → k ≡ to) → Grown T D q nodes (steps ++ record { from = node; symbol = x; to = to } ∷ []) (next ++ rest) node (x.number + 1)
+grown_with T D q nodes steps next rest node to x tail new g few distinct here inside follows there others = record {
   few = few;
+  distinct = distinct;
   ordered = all_pairs_push StepBefore steps step g.ordered (λ k d lt. g.before (get_or steps k d) (Contains-get_or steps k d lt));
   before = λ s h. before s (contains_cases steps step s h);
   sound = λ s h. sound s (contains_cases steps step s h);
@@ -136,6 +138,7 @@ grown_with T D q nodes steps next rest node to x tail new g few here inside foll
 pub grown_node : (T : Listed) (D : Domains) (q last : ℕ) (nodes : List Tail) (steps : List Step) (next : List Tail) (node : ℕ) → ((x : ℕ) → IsTrue (D q x) → x < last) → Grown T D q nodes steps next node last → Grown T D q nodes steps next (node + 1) 0
 grown_node T D q last nodes steps next node known g = record {
   few = g.few;
+  distinct = g.distinct;
   ordered = g.ordered;
   before = λ s h. before s (g.before s h);
   sound = g.sound;

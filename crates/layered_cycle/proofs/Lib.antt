@@ -7,3 +7,7 @@ pub mod Chosen
 pub mod Passes
 pub mod BestWords
 pub mod Escapes
+pub mod Orders
+pub mod Fronts
+pub mod GoingBack
+pub mod HeaviestEnds

@@ -41,7 +41,7 @@ over_last P D p [] x h =
     subst (λ (k : ℕ). IsTrue (D (k % cells P) x.number)) e h.0
 over_last P D p (y ∷ w) x h = inside_at P D (p + 1) (length w) p (length (y ∷ w)) x (omega arith) (over_last P D (p + 1) w x h.1)
 
-clean_front : (P : Instance) (R : List ℕ) (w : List Symbol) (x : Symbol) → Clean P R (w ++ x ∷ []) → Clean P R w
+pub clean_front : (P : Instance) (R : List ℕ) (w : List Symbol) (x : Symbol) → Clean P R (w ++ x ∷ []) → Clean P R w
 clean_front P R w x h = clean-part P R [] w (x ∷ []) h
 
 -- the nodes behind the layers are the tails of the clean words of this length, which lead to them

@@ -16,6 +16,10 @@ StandsAt xs k x = (k < length xs) × (slice_index_or xs k x ≡ x)
 abbrev pub Extends : {X : Type 0} → List X → List X → Type 0
 Extends {X} xs ys = (rest : List X) × (ys ≡ xs ++ rest)
 
+-- no element stands at two places
+abbrev pub AreDistinct : {X : Type 0} → List X → Type 0
+AreDistinct {X} xs = (j k : ℕ) (x : X) → StandsAt xs j x → StandsAt xs k x → j ≡ k
+
 -- the symbol is in the domain, and makes of each clean word that has the tail of the one node a clean word that has the tail of the other
 pub record IsStep (T : Listed) (D : Domains) (q : ℕ) (nodes next : List Tail) (s : Step) : Type 0 where
   pub from : s.from < length nodes
@@ -30,6 +34,7 @@ IsReached steps to = (s : Step) × Contains steps s × (s.to ≡ to)
 -- the layer has all steps that there are before this node and this symbol, in order, and they lead to all nodes behind it
 pub record Grown (T : Listed) (D : Domains) (q : ℕ) (nodes : List Tail) (steps : List Step) (next : List Tail) (node number : ℕ) : Type 0 where
   pub few : length next < 2 ^ 32
+  pub distinct : AreDistinct next
   pub ordered : AllPairs StepBefore steps
   pub before : (s : Step) → Contains steps s → Precedes s.from s.symbol.number node number
   pub sound : (s : Step) → Contains steps s → IsStep T D q nodes next s

@@ -112,7 +112,7 @@ fn row_before<G: Gain>(
 }
 
 // To take the step, and then what is chosen where it leads.
-fn choice_by<G: Gain>(gain: &G, day: u32, step: Step, next: &ChoiceRow) -> Option<Choice>
+pub fn choice_by<G: Gain>(gain: &G, day: u32, step: Step, next: &ChoiceRow) -> Option<Choice>
     requires { AreWithin 16799000 next.now }
     ensures value { result ≡ choice_by (G.gain_of gain.now) day next.now step }
     ensures light { (n : ℕ) → AreWithin n next.now → IsWithin (n + 1000) result }

@@ -1,7 +1,8 @@
 // Rows of choices, a row for each layer.
-ghost use Rattle.std.specs.Prelude.{◌≡◌, ◌<◌, List, [], ◌∷◌, ◌++◌, length, reverse, replicate, Option, slice_set, IfOk, OnOk, MatchBool};
+ghost use Rattle.std.specs.Prelude.{◌≡◌, ◌<◌, List, [], ◌∷◌, ◌++◌, length, reverse, replicate, Option, slice_set, map, IfOk, OnOk, MatchBool};
 ghost use Rattle.layered_cycle.specs.Choices.{Row, choice_at, preferred, choice_or_end, end_choice, first_row};
 
+use crate::Step;
 use rwsp_terms::Symbol;
 use std::alloc::{AllocError, Global};
 use std::marker::Model;
@@ -45,6 +46,13 @@ impl ChoiceRow {
         Ok(ChoiceRow { choices })
     }
 
+    /// How many nodes there are.
+    pub fn len(&self) -> usize
+        ensures { result ≡ length self.now }
+    {
+        self.choices.len()
+    }
+
     /// What is chosen at a node.
     pub fn at(&self, node: u32) -> Option<Choice>
         ensures { result ≡ choice_at self.now node }
@@ -54,6 +62,14 @@ impl ChoiceRow {
         } else {
             None
         }
+    }
+
+    /// What is chosen where each of some steps leads.
+    pub fn behind(&self, alloc: Global, steps: &[Step]) -> Result<ChoiceRow, AllocError>
+        ensures { IfOk result (λ r. r ≡ map (λ s. choice_at self.now s.to) steps.now) }
+    {
+        let choices = steps.iter().map(|s| self.at(s.to)).collect(alloc)?;
+        Ok(ChoiceRow { choices })
     }
 
     /// Puts a choice at a node, unless one is there that is heavier.

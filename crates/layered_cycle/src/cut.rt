@@ -6,10 +6,9 @@ ghost use Rattle.refutation_terms.specs.Leaf.{IsDead};
 ghost use Rattle.refutation_terms.specs.Escape.{IsCleanOver, IsLeastClean};
 ghost use Rattle.domain_store.specs.Store.{has_domain, BelongsTo};
 
-use crate::graph::{LayeredGraph, graph_of};
 use crate::growth::{Growth, layer_of_day};
 use crate::tail_index::TailIndex;
-use crate::{Gain, HeavyWord, best_word};
+use crate::{Gain, HeavyWord, heaviest_clean};
 use domain_store::Domains;
 use rwsp_terms::{Symbol, Word};
 use std::alloc::{AllocError, Global};
@@ -50,6 +49,7 @@ impl Cut {
 }
 
 /// The least clean word of this length over the domains, from a position on; None exactly where there is none.
+/// Its time grows with the steps of all days, its memory with the tails of each 128th day.
 pub fn escape(
     alloc: Global,
     tails: &TailRules,
@@ -64,11 +64,7 @@ pub fn escape(
         (IsDead tails.now.problem (has_domain doms.now) p len tails.now.rules)
         (λ w. IsLeastClean tails.now.problem (has_domain doms.now) p len tails.now.rules w)) }
 {
-    let LayeredGraph {
-        layers,
-        node_counts,
-    } = graph_of(alloc, tails, doms, p, len)?;
-    match best_word(alloc, &layers, &node_counts, &NoGain)? {
+    match heaviest_clean(alloc, tails, doms, p, len, &NoGain)? {
         Some(HeavyWord { weight: _, word }) => Ok(Some(word)),
         None => Ok(None),
     }

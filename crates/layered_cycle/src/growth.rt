@@ -2,7 +2,8 @@
 ghost use Rattle.std.specs.Prelude.{◌≡◌, ℕ, ◌+◌, ◌%◌, ◌<◌, ◌≤◌, ◌^◌, List, length, IfOk, OnOk, vec_len};
 ghost use Rattle.rwsp_terms.specs.Instance.{Instance, cells};
 ghost use Rattle.domain_store.specs.Store.{has_domain, BelongsTo};
-ghost use Rattle.layered_cycle.specs.Grown.{StandsAt, Extends, Grown};
+ghost use Rattle.layered_cycle.specs.Grown.{StandsAt, Extends, AreDistinct, Grown};
+ghost use Rattle.layered_cycle.specs.Indexed.{Indexed};
 
 use crate::Step;
 use crate::tail_index::TailIndex;
@@ -20,9 +21,12 @@ pub struct Growth {
 
 // The node of the tail, which is put behind the others where it isn't among them.
 fn node_of(nodes: &mut Vec<Tail>, index: &mut TailIndex, tail: Tail) -> Result<u32, AllocError>
-    requires { length nodes.old.items < 2 ^ 32 }
+    requires few { length nodes.old.items < 2 ^ 32 }
+    requires indexed { Indexed index.old.places.items nodes.old.items }
     ensures few { length nodes.new.items < 2 ^ 32 }
     ensures grows { Extends nodes.old.items nodes.new.items }
+    ensures indexed { OnOk result (Indexed index.new.places.items nodes.new.items) }
+    ensures distinct { AreDistinct nodes.old.items → AreDistinct nodes.new.items }
     ensures node { IfOk result (λ node. StandsAt nodes.new.items node tail) }
     ensures others { IfOk result (λ node. (k : ℕ) → length nodes.old.items ≤ k → k < length nodes.new.items → k ≡ node) }
 {
@@ -53,8 +57,10 @@ impl Growth {
     ) -> Result<(), AllocError>
         requires position { q < length doms.now.sets }
         requires from { from < length nodes.now }
+        requires indexed { Indexed index.old.places.items self.old.nodes.items }
         requires grown { Grown tails.now (has_domain doms.now) q nodes.now self.old.steps.items self.old.nodes.items from x.number }
-        ensures { OnOk result (Grown tails.now (has_domain doms.now) q nodes.now self.new.steps.items self.new.nodes.items from (x.number + 1)) }
+        ensures indexed { OnOk result (Indexed index.new.places.items self.new.nodes.items) }
+        ensures grown { OnOk result (Grown tails.now (has_domain doms.now) q nodes.now self.new.steps.items self.new.nodes.items from (x.number + 1)) }
     {
         if !doms.has(q, x) {
             return Ok(());
@@ -83,8 +89,10 @@ impl Growth {
     ) -> Result<(), AllocError>
         requires position { q < length doms.now.sets }
         requires from { from < length nodes.now }
+        requires indexed { Indexed index.old.places.items self.old.nodes.items }
         requires grown { Grown tails.now (has_domain doms.now) q nodes.now self.old.steps.items self.old.nodes.items from 0 }
-        ensures { OnOk result (Grown tails.now (has_domain doms.now) q nodes.now self.new.steps.items self.new.nodes.items (from + 1) 0) }
+        ensures indexed { OnOk result (Indexed index.new.places.items self.new.nodes.items) }
+        ensures grown { OnOk result (Grown tails.now (has_domain doms.now) q nodes.now self.new.steps.items self.new.nodes.items (from + 1) 0) }
     {
         doms.facts();
         for number in 0..doms.shifts() + 1 {

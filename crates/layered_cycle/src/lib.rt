@@ -4,8 +4,13 @@
 mod best;
 mod choice;
 mod cut;
+mod ends;
+mod front;
+mod going_back;
 mod graph;
+mod heaviest;
 mod growth;
+mod kept_fronts;
 mod layers;
 mod sharing;
 mod step;
@@ -15,5 +20,6 @@ mod tests;
 
 pub use best::{Gain, HeavyWord, best_word};
 pub use cut::{Cut, escape};
+pub use heaviest::{heaviest_clean, heaviest_reaching};
 pub use layers::Layers;
 pub use step::{Layer, Step};

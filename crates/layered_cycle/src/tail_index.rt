@@ -1,7 +1,8 @@
 // Where tails stand in a list.
-ghost use Rattle.std.specs.Prelude.{ℕ, ◌≤◌};
-ghost use Rattle.std.specs.Option.{IfSome};
+ghost use Rattle.std.specs.Prelude.{◌≡◌, ℕ, ◌+◌, ◌<◌, ◌≤◌, ◌^◌, List, [], ◌∷◌, ◌++◌, length, MatchOption};
+ghost use Rattle.word_tail.specs.declared.tail.Tail.{Tail};
 ghost use Rattle.layered_cycle.specs.Grown.{StandsAt};
+ghost use Rattle.layered_cycle.specs.Indexed.{Indexed, Misses, end_number, tail_code};
 
 use rwsp_terms::Symbol;
 use std::alloc::{AllocError, Global};
@@ -19,8 +20,8 @@ const RUNS: usize = ENDS + LENGTHS;
 const CODES: usize = ENDS * RUNS * LENGTHS * 4;
 
 // The place where each tail was last put into a list, by the tail's code. What stands there is looked at again, so one
-// index serves one list after another and is never cleared (the sparse sets of Briggs and Torczon, 1993). Each code is one
-// tail's own, so what was put into the list is found; a tail that was missed would stand there twice, and no word be lost.
+// index serves one list after another and is never cleared (the sparse sets of Briggs and Torczon, 1993). Each tail of a
+// word has a code of its own, so a look-up reads one place; where two tails had one code, it would go along the list.
 #[derive(Debug, Drop)]
 pub struct TailIndex {
     places: Vec<u32>,
@@ -33,24 +34,34 @@ impl TailIndex {
         Ok(TailIndex { places })
     }
 
-    // The place of the tail in the list, if it was noted.
+    // The place of the tail in the list; None exactly where it isn't there.
     pub fn find(&self, tails: &[Tail], tail: Tail) -> Option<u32>
-        ensures { IfSome result (λ k. StandsAt tails.now k tail) }
+        requires few { length tails.now < 2 ^ 32 }
+        requires indexed { Indexed self.now.places.items tails.now }
+        ensures { MatchOption result (Misses tails.now tail) (λ k. StandsAt tails.now k tail) }
     {
         let code = code_of(tail);
         if code >= self.places.len() {
-            return None;
+            return place_along(tails, tail);
         }
         let place = self.places[code];
-        if (place as usize) < tails.len() && tails[place as usize] == tail {
-            Some(place)
+        if place as usize >= tails.len() {
+            return None;
+        }
+        if tails[place as usize] == tail {
+            return Some(place);
+        }
+        if code_of(tails[place as usize]) == code {
+            place_along(tails, tail)
         } else {
             None
         }
     }
 
-    // Notes that the tail stands at the place.
-    pub fn note(&mut self, tail: Tail, place: u32) {
+    // Notes that the tail stands behind all others.
+    pub fn note(&mut self, tail: Tail, place: u32)
+        ensures { (tails : List Tail) → length tails ≡ place → Indexed self.old.places.items tails → Indexed self.new.places.items (tails ++ tail ∷ []) }
+    {
         let code = code_of(tail);
         if code < self.places.len() {
             self.places[code] = place;
@@ -58,8 +69,33 @@ impl TailIndex {
     }
 }
 
+// The place of a tail that is in the list.
+pub fn place_of(tails: &[Tail], tail: Tail) -> u32
+    requires few { length tails.now < 2 ^ 32 }
+    requires some { (k : ℕ) × StandsAt tails.now k tail }
+    ensures { StandsAt tails.now result tail }
+{
+    place_along(tails, tail).unwrap_or(0)
+}
+
+// The place of the tail in the list. Its time grows with the list.
+fn place_along(tails: &[Tail], tail: Tail) -> Option<u32>
+    requires { length tails.now < 2 ^ 32 }
+    ensures { MatchOption result (Misses tails.now tail) (λ k. StandsAt tails.now k tail) }
+{
+    for (k, other) in tails.iter().enumerate() {
+        if *other == tail {
+            return Some(k as u32);
+        }
+    }
+    None
+}
+
 // A number below CODES, another one for each tail of a word of nine symbols: a longer run has its symbol before it.
-fn code_of(tail: Tail) -> usize {
+#[tactic(auto, unfolding(crate::specs::Indexed::tail_code))]
+fn code_of(tail: Tail) -> usize
+    ensures { result ≡ tail_code tail }
+{
     let run = tail.run as usize;
     let before = if run > 1 {
         ENDS + run
@@ -67,11 +103,14 @@ fn code_of(tail: Tail) -> usize {
         end_number(tail.before)
     };
     let end = end_number(tail.last) * RUNS + before;
-    (end * LENGTHS + tail.work as usize) * 4 + tail.all_one as usize * 2 + tail.all_work as usize
+    let all_one = if tail.all_one { 2 } else { 0 };
+    let all_work = if tail.all_work { 1 } else { 0 };
+    (end * LENGTHS + tail.work as usize) * 4 + all_one + all_work
 }
 
 fn end_number(symbol: Option<Symbol>) -> usize
-    ensures { result ≤ 256 }
+    ensures value { result ≡ end_number symbol }
+    ensures few { result ≤ 256 }
 {
     match symbol {
         Some(x) => x.number as usize + 1,

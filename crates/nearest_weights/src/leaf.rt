@@ -12,8 +12,10 @@ use domain_store::Domains;
 use potential_bounds::{heaviest, total};
 use refutation_terms::Line;
 use rwsp_model::Problem;
+use rwsp_terms::limits::{
+    GREATEST_WEIGHT, LONGEST_WORD, MOST_DAYS, MOST_SHIFTS, MOST_SYMBOLS, MOST_WEEKS,
+};
 use rwsp_terms::{Symbol, Weights};
-use rwsp_terms::limits::{GREATEST_WEIGHT, LONGEST_WORD, MOST_DAYS, MOST_SHIFTS, MOST_SYMBOLS, MOST_WEEKS};
 use std::alloc::{AllocError, Global};
 use word_tail::TailRules;
 

@@ -135,7 +135,10 @@ fn direction(alloc: Global, off: &[i64]) -> Result<Option<Vec<i64>>, AllocError>
     }
     let mut weights = Vec::new(alloc);
     for x in off {
-        let weight = x.saturating_mul(i64::from(GREATEST_WEIGHT)).checked_div(most).unwrap_or(0);
+        let weight = x
+            .saturating_mul(i64::from(GREATEST_WEIGHT))
+            .checked_div(most)
+            .unwrap_or(0);
         weights.push(weight)?;
     }
     Ok(Some(weights))

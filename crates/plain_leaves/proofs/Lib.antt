@@ -1,4 +1,2 @@
-mod Lying
 pub mod Domains
-pub mod BadWords
-pub mod Words
+pub mod Blocked

@@ -1,6 +1,7 @@
 // Day leaves: too many weeks hold a symbol on a day for sure, or too few can.
 ghost use Rattle.std.specs.Prelude.{◌≡◌, ◌+◌, ◌-◌, ◌*◌, ◌<◌, ◌≤◌, ◌↔◌, length, IsTrue};
 ghost use Rattle.rwsp_terms.specs.Instance.{IsDay, IsSymbol};
+ghost use Rattle.rwsp_terms.specs.declared.limits.TheConstants.{MOST_WEEKS};
 ghost use Rattle.refutation_terms.specs.declared.lines.Line.TheVariants.{Day};
 ghost use Rattle.refutation_terms.specs.Leaf.{is_only, fixed, possible};
 ghost use Rattle.refutation_terms.specs.Log.{Holds};
@@ -29,7 +30,7 @@ fn count_fixed(problem: &Problem, doms: &Domains, day: u32, x: Symbol) -> u32
     requires domains { BelongsTo problem.now doms.now }
     requires day { IsDay problem.now day }
     ensures value { result ≡ fixed problem.now (has_domain doms.now) day x.number }
-    ensures few { result ≤ 600 }
+    ensures few { result ≤ MOST_WEEKS }
 {
     let mut count = 0;
     for week in 0..problem.weeks() {
@@ -46,7 +47,7 @@ fn count_possible(problem: &Problem, doms: &Domains, day: u32, x: Symbol) -> u32
     requires domains { BelongsTo problem.now doms.now }
     requires day { IsDay problem.now day }
     ensures value { result ≡ possible problem.now (has_domain doms.now) day x.number }
-    ensures few { result ≤ 600 }
+    ensures few { result ≤ MOST_WEEKS }
 {
     let mut count = 0;
     for week in 0..problem.weeks() {
@@ -70,8 +71,8 @@ pub fn position_of(problem: &Problem, doms: &Domains, week: u32, day: u32) -> u3
     week * problem.days() + (day - 1)
 }
 
-/// Whether more weeks hold the symbol on the day for sure than may hold it, where `over` is set, and otherwise whether
-/// fewer can hold it than must. Days count from 1. Takes no memory.
+/// Whether more weeks hold the symbol on the day for sure than may hold it, where `over` is set, and otherwise
+/// whether fewer can hold it than must. Days count from 1. Takes no memory.
 pub fn day_holds(problem: &Problem, doms: &Domains, day: u32, x: Symbol, over: bool) -> bool
     requires domains { BelongsTo problem.now doms.now }
     requires day { IsDay problem.now day }

@@ -1,6 +1,6 @@
 -- The best words of layers are the heaviest clean words.
-use Rattle.std.proofs.Common.{◌≡◌, ℕ, ◌+◌, ◌*◌, ◌%◌, List, [], ◌∷◌, length, refl, ap, sym, ◌∙◌, subst, arith, pos, ℤ, Option, Some, None}
-use Rattle.std.specs.Prelude.{◌<ℤ◌, ◌+ℤ◌, ◌*ℤ◌, ◌↔◌, IsTrue, MatchOption, IfOk, Result, Ok, Err, int_lt}
+use Rattle.std.proofs.Common.{◌≡◌, ℕ, ◌+◌, ◌*◌, ◌%◌, List, [], ◌∷◌, length, refl, ap, sym, ◌∙◌, subst, arith, pos, ℤ, Option, Some, None, ◌⊎◌, inl, inr}
+use Rattle.std.specs.Prelude.{◌<ℤ◌, ◌≤ℤ◌, ◌+ℤ◌, ◌*ℤ◌, ◌↔◌, IsTrue, MatchOption, IfOk, Result, Ok, Err, int_lt}
 use Rattle.std.specs.declared.alloc.AllocError.{AllocError}
 use Rattle.layered_cycle.specs.declared.step.Step.{Step}
 use Rattle.std.proofs.lemmas.Int.{ints}
@@ -11,13 +11,15 @@ use Rattle.rwsp_terms.specs.Weights.{weight_at}
 use Rattle.refutation_terms.specs.Word.{Domains, Over, weight, total}
 use Rattle.refutation_terms.specs.Leaf.{IsDead}
 use Rattle.refutation_terms.specs.Sharp.{HoldsAtTop}
-use Rattle.refutation_terms.specs.Escape.{IsCleanOver, IsLeastHeaviest}
-use Rattle.domain_store.specs.Store.{has_domain}
+use Rattle.refutation_terms.specs.Escape.{ComesFirst, IsCleanOver, IsHeaviest, IsLeastHeaviest}
+use Rattle.domain_store.specs.Store.{Store, has_domain}
+use Rattle.word_tail.specs.Listed.{Listed}
 use Rattle.layered_cycle.specs.Graph.{Leads}
 use Rattle.layered_cycle.specs.Best.{gained, IsBest, NoneLeads}
+use Rattle.layered_cycle.specs.Front.{course, IsNoWorse, IsBestOf, AreBelow}
 use Rattle.layered_cycle.specs.WordGraph.{WordGraph, IsWordGraph}
 use Rattle.layered_cycle.specs.declared.best.HeavyWord.{HeavyWord}
-use Rattle.potential_bounds.specs.Heaviest.{IsHeaviestFound, IsOneTurn}
+use Rattle.potential_bounds.specs.Heaviest.{AreLighter, IsHeaviestFound, IsOneTurn}
 
 -- what a symbol weighs on a day of a word from a position on
 abbrev pub gain_from : List Weight → ℕ → ℕ → ℕ → Symbol → ℤ
@@ -98,3 +100,52 @@ light_decides g y found h P t a b turn is some same sum left right =
     let bound : b ≡ total g.problem y = right ∙ sum ∙ ap (λ p. total p y) same in
     let both : (a <ℤ total g.problem y) ↔ HoldsAtTop g.problem (has_domain g.store) g.rules y = holds_if_light g y a h.word turn best.0 (left ∙ best.1) in
     (λ lt. both.0 (omega (arith, ints, lt_true a b lt, bound)), λ holds. true_lt a b (omega (arith, ints, both.1 holds, bound)))
+
+-- the best of the words of a course are the heaviest clean words
+heaviest_by_best : (T : Listed) (S : Store) (p len days : ℕ) (y : List Weight) (h : HeavyWord) → days ≡ T.problem.days → IsBestOf (course T S p (gain_from y p days)) len h.weight h.word → IsHeaviestFound T.problem (has_domain S) p len T.rules y (Some h)
+heaviest_by_best T S p len days y h same b = (record { heavy = record { clean = b.clean; heaviest = λ v over. heaviest v (b.best v over) }; least = λ v heavy. least v heavy (b.best v heavy.clean) }, sym b.gains ∙ gained-word T.problem y p days h.word same)
+  where
+    heaviest : (v : List Symbol) → IsNoWorse (course T S p (gain_from y p days)) h.word v → weight T.problem y p v ≤ℤ weight T.problem y p h.word
+    heaviest v (inl lt) = omega (arith, ints, lt, gained-word T.problem y p days v same, gained-word T.problem y p days h.word same)
+    heaviest v (inr e) = omega (arith, ints, e.0, gained-word T.problem y p days v same, gained-word T.problem y p days h.word same)
+
+    least : (v : List Symbol) → IsHeaviest T.problem (has_domain S) p len T.rules y v → IsNoWorse (course T S p (gain_from y p days)) h.word v → ComesFirst h.word v
+    least v heavy (inl lt) = absurd (omega (arith, ints, lt, gained-word T.problem y p days v same, gained-word T.problem y p days h.word same, heavy.heaviest h.word b.clean))
+    least v heavy (inr e) = e.1
+
+lighter_by_below : (T : Listed) (S : Store) (p len days : ℕ) (y : List Weight) (least : ℤ) → days ≡ T.problem.days → AreBelow (course T S p (gain_from y p days)) len least → AreLighter T.problem (has_domain S) p len T.rules y least
+lighter_by_below T S p len days y least same below u clean = omega (arith, ints, below u clean, gained-word T.problem y p days u same)
+
+-- by a problem that is that of the tails, and its length
+pub heaviest_of_course : (T : Listed) (S : Store) (P : Instance) (p len size days : ℕ) (y : List Weight) (r : Result (Option HeavyWord) AllocError) → T.problem ≡ P → days ≡ P.days → len ≡ size →
+    IfOk r (λ found. MatchOption found (IsDead T.problem (has_domain S) p len T.rules) (λ h. IsBestOf (course T S p (gain_from y p days)) len h.weight h.word)) → IfOk r (λ found. IsHeaviestFound P (has_domain S) p size T.rules y found)
+heaviest_of_course T S P p len size days y (Ok None) is week long dead =
+    let A : Instance → Type 0 = λ Q. IsDead Q (has_domain S) p size T.rules in
+    let B : ℕ → Type 0 = λ n. IsDead T.problem (has_domain S) p n T.rules in
+    subst A is (subst B long dead)
+heaviest_of_course T S P p len size days y (Ok (Some h)) is week long best =
+    let A : Instance → Type 0 = λ Q. IsHeaviestFound Q (has_domain S) p size T.rules y (Some h) in
+    let B : ℕ → Type 0 = λ n. IsHeaviestFound T.problem (has_domain S) p n T.rules y (Some h) in
+    subst A is (subst B long (heaviest_by_best T S p len days y h (week ∙ ap (λ (Q : Instance). Q.days) (sym is)) best))
+heaviest_of_course T S P p len size days y (Err e) is week long h = h
+
+reaching_by_course : (T : Listed) (S : Store) (P : Instance) (p len size days : ℕ) (y : List Weight) (least : ℤ) (r : Result (Option HeavyWord) AllocError) → T.problem ≡ P → days ≡ P.days → len ≡ size →
+    IfOk r (λ found. MatchOption found (AreBelow (course T S p (gain_from y p days)) len least) (λ h. IsBestOf (course T S p (gain_from y p days)) len h.weight h.word × (least ≤ℤ h.weight))) →
+    IfOk r (λ found. MatchOption found (AreLighter P (has_domain S) p size T.rules y least) (λ h. IsHeaviestFound P (has_domain S) p size T.rules y (Some h) × (least ≤ℤ h.weight)))
+reaching_by_course T S P p len size days y least (Ok None) is week long below =
+    let A : Instance → Type 0 = λ Q. AreLighter Q (has_domain S) p size T.rules y least in
+    let B : ℕ → Type 0 = λ n. AreLighter T.problem (has_domain S) p n T.rules y least in
+    subst A is (subst B long (lighter_by_below T S p len days y least (week ∙ ap (λ (Q : Instance). Q.days) (sym is)) below))
+reaching_by_course T S P p len size days y least (Ok (Some h)) is week long best =
+    let A : Instance → Type 0 = λ Q. IsHeaviestFound Q (has_domain S) p size T.rules y (Some h) in
+    let B : ℕ → Type 0 = λ n. IsHeaviestFound T.problem (has_domain S) p n T.rules y (Some h) in
+    (subst A is (subst B long (heaviest_by_best T S p len days y h (week ∙ ap (λ (Q : Instance). Q.days) (sym is)) best.0)), best.1)
+reaching_by_course T S P p len size days y least (Err e) is week long h = h
+
+-- the same where the number that was asked is read back
+pub reaching_of_course : (T : Listed) (S : Store) (P : Instance) (p len size days : ℕ) (y : List Weight) (least asked : ℤ) (r : Result (Option HeavyWord) AllocError) → asked ≡ least → T.problem ≡ P → days ≡ P.days → len ≡ size →
+    IfOk r (λ found. MatchOption found (AreBelow (course T S p (gain_from y p days)) len asked) (λ h. IsBestOf (course T S p (gain_from y p days)) len h.weight h.word × (asked ≤ℤ h.weight))) →
+    IfOk r (λ found. MatchOption found (AreLighter P (has_domain S) p size T.rules y least) (λ h. IsHeaviestFound P (has_domain S) p size T.rules y (Some h) × (least ≤ℤ h.weight)))
+reaching_of_course T S P p len size days y least asked r read is week long h =
+    let A : ℤ → Type 0 = λ z. IfOk r (λ found. MatchOption found (AreBelow (course T S p (gain_from y p days)) len z) (λ h. IsBestOf (course T S p (gain_from y p days)) len h.weight h.word × (z ≤ℤ h.weight))) in
+    reaching_by_course T S P p len size days y least r is week long (subst A read h)

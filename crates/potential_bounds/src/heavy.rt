@@ -1,14 +1,14 @@
 // The heaviest clean words over domains.
-ghost use Rattle.std.specs.Prelude.{◌≡◌, ℕ, ◌+◌, ◌*◌, ◌%◌, ◌<◌, ◌≤◌, ◌↔◌, Some, IfOk, IsTrue};
+ghost use Rattle.std.specs.Prelude.{◌≡◌, ℕ, ◌+◌, ◌*◌, ◌%◌, ◌<◌, ◌≤◌, ◌↔◌, Some, IfOk, IsTrue, MatchOption, ◌≤ℤ◌};
 ghost use Rattle.rwsp_terms.specs.Instance.{cells};
 ghost use Rattle.rwsp_terms.specs.Weights.{weight_at};
 ghost use Rattle.refutation_terms.specs.Sharp.{HoldsAtTop};
 ghost use Rattle.domain_store.specs.Store.{has_domain, BelongsTo};
-ghost use Rattle.potential_bounds.specs.Heaviest.{IsHeaviestFound, IsOneTurn};
+ghost use Rattle.potential_bounds.specs.Heaviest.{AreLighter, IsHeaviestFound, IsOneTurn};
 
 use crate::total;
 use domain_store::Domains;
-use layered_cycle::{Gain, HeavyWord, Layers, best_word};
+use layered_cycle::{Gain, HeavyWord, Layers, best_word, heaviest_clean};
 use rwsp_model::{Problem, Weights};
 use rwsp_terms::Symbol;
 use std::alloc::{AllocError, Global};
@@ -32,8 +32,43 @@ pub fn heaviest(
     requires few { turns * cells problem.now ≤ 16800 }
     ensures { IfOk result (λ found. IsHeaviestFound problem.now (has_domain doms.now) p (turns * cells problem.now) tails.now.rules weights.now found) }
 {
-    let layers = Layers::of(alloc, tails, doms, p, turns * problem.cells())?;
-    heaviest_in(alloc, &layers, weights)
+    problem.keeps_limits();
+    let gain = WeightGain {
+        weights,
+        position: p,
+        days: problem.days(),
+    };
+    heaviest_clean(alloc, tails, doms, p, turns * problem.cells(), &gain)
+}
+
+/// The heaviest clean words of so many turns over the domains from a position on, if they weigh so much at least: their
+/// weight, with the least of them. None exactly where every clean word weighs less; no word is sought then.
+pub fn heaviest_reaching(
+    alloc: Global,
+    problem: &Problem,
+    tails: &TailRules,
+    doms: &Domains,
+    p: u32,
+    turns: u32,
+    weights: &Weights,
+    least: i64,
+) -> Result<Option<HeavyWord>, AllocError>
+    requires same { tails.now.problem ≡ problem.now }
+    requires belongs { BelongsTo problem.now doms.now }
+    requires position { p < cells problem.now }
+    requires some { 1 ≤ turns }
+    requires few { turns * cells problem.now ≤ 16800 }
+    ensures { IfOk result (λ found. MatchOption found
+        (AreLighter problem.now (has_domain doms.now) p (turns * cells problem.now) tails.now.rules weights.now least)
+        (λ h. IsHeaviestFound problem.now (has_domain doms.now) p (turns * cells problem.now) tails.now.rules weights.now (Some h) × (least ≤ℤ h.weight))) }
+{
+    problem.keeps_limits();
+    let gain = WeightGain {
+        weights,
+        position: p,
+        days: problem.days(),
+    };
+    layered_cycle::heaviest_reaching(alloc, tails, doms, p, turns * problem.cells(), &gain, least)
 }
 
 /// The weight of the heaviest words of the layers, with the least of them. None exactly where no word leads through them.

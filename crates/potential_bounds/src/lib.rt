@@ -12,7 +12,7 @@ mod totals;
 
 pub use first::first_plain;
 pub use gate::{Gate, NoGate};
-pub use heavy::{heaviest, heaviest_in, holds_at_top};
+pub use heavy::{heaviest, heaviest_in, heaviest_reaching, holds_at_top};
 pub use layered_cycle::HeavyWord;
 pub use plain::plain_bounds;
 pub use rwsp_model::Weights;

@@ -1,7 +1,6 @@
 mod Pairs
 mod CutCounts
 mod Cuts
-mod Runs
 mod Over
 mod Watching
 pub mod SameWords

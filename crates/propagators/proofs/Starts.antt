@@ -13,6 +13,7 @@ use Rattle.rwsp_terms.specs.declared.data.Rule.{Rule}
 use Rattle.rwsp_terms.specs.Instance.{Instance, cells, shift_count, IsDay, IsSymbol}
 use Rattle.rwsp_terms.specs.Rules.{rules, rule_of, Names, NamesShortRules}
 use Rattle.rwsp_terms.specs.Weights.{AreWeights, IsWeight}
+use Rattle.rwsp_terms.specs.declared.limits.TheConstants.{MOST_CELLS}
 use Rattle.rwsp_terms.proofs.SameLists.{same_rule_lists, HoldSame}
 use Rattle.rwsp_model.specs.Validity.{KeepsLimits}
 use Rattle.rwsp_model.specs.RuleNumbers.{IsShortNumber}
@@ -156,7 +157,7 @@ searched_answer P D R (Some y) none found = (searched_fit P D R found.0 y found.
 top_bound : (P : Instance) (D : Domains) (R : List ℕ) (y : List Weight) → KeepsLimits P → AreShortRules P R → IsTopAnswer P D R (Some y) → LineFits P (Bound 0 1 R y)
 top_bound P D R y limits short h =
     let some : 0 < cells P = some_cells P limits in
-    let few : cells P ≤ 4200 = limits.few_cells in
+    let few : cells P ≤ MOST_CELLS = limits.few_cells in
     (some, (omega (arith, some), omega (arith, few)), short.are_rules, h.0)
 
 -- where there are no such weights, no such bound holds

@@ -5,6 +5,7 @@ use Rattle.std.proofs.lemmas.Nat.{mod-mul-add}
 use Rattle.std.proofs.lemmas.List.{length-set, length-replicate, ext_get_or, get_or-replicate}
 use Rattle.rwsp_terms.specs.declared.data.Symbol.{Symbol}
 use Rattle.rwsp_terms.specs.Instance.{Instance, cells}
+use Rattle.rwsp_terms.specs.declared.limits.TheConstants.{MOST_SHIFTS}
 use Rattle.refutation_terms.specs.declared.lines.Line.TheVariants.{Split, Window, Day, Dead, Bound, Unfinished}
 use Rattle.refutation_terms.specs.Word.{Domains, Over}
 use Rattle.refutation_terms.specs.Leaf.{IsBlocked}
@@ -108,7 +109,7 @@ wider_by P sets p at len s lt more i x less has =
 
 pub taken_over : (P : Instance) (sets : List (List ℕ)) (pending : List Bool) (p : ℕ) (s : List ℕ) (flag lost : Bool)
     → IsWatch (record { problem = P; sets = sets; pending = pending }) → p < length sets → flag ≡ (get_or pending p false || lost)
-    → (lost ≡ false → (x : ℕ) → has_known sets p x ≡ true → has_symbol s x ≡ true) → ((x : ℕ) → has_symbol s x ≡ true → x ≤ 8)
+    → (lost ≡ false → (x : ℕ) → has_known sets p x ≡ true → has_symbol s x ≡ true) → ((x : ℕ) → has_symbol s x ≡ true → x ≤ MOST_SHIFTS)
     → IsWatch (record { problem = P; sets = set sets p s; pending = set pending p flag })
 taken_over P sets pending p s flag lost w lt is part small = record {
   long = length-set sets p s ∙ w.long;

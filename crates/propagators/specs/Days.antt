@@ -44,7 +44,8 @@ place P i j = i * P.days + (j - 1)
 
 -- where the symbol saturates its day, it stands beside no other on the day
 abbrev pub TakesNone : Instance → Domains → ℕ → ℕ → Type 0
-TakesNone P D j x = (i : ℕ) (over : Bool) → i < P.weeks → is_idle P D (place P i j) x ≡ false → Saturates P D j x over → ⊥
+TakesNone P D j x = (i : ℕ) (over : Bool) → i < P.weeks → is_idle P D (place P i j) x ≡ false
+    → Saturates P D j x over → ⊥
 
 -- whether the symbol saturates its day while it stands beside another there
 abbrev pub IsSaturation : Instance → Domains → ℕ → ℕ → Option Bool → Type 0
@@ -75,7 +76,8 @@ IsPlaceAnswer P D j x None = (i : ℕ) → i < P.weeks → is_idle P D (place P 
 IsPlaceAnswer P D j x (Some r) = IsPlaceBeside P D j x r.0 r.1
 
 -- a symbol that the leaf takes away
-pub record IsDayCut (P : Instance) (D : Domains) (p : ℕ) (x : Symbol) (j : ℕ) (counted : Symbol) (over : Bool) : Type 0 where
+pub record IsDayCut (P : Instance) (D : Domains) (p : ℕ) (x : Symbol) (j : ℕ) (counted : Symbol)
+    (over : Bool) : Type 0 where
   pub position : p < cells P
   pub useful : is_idle P D p x.number ≡ false
   pub fits : LineFits P (Day j counted over)

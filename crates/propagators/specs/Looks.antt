@@ -27,14 +27,16 @@ pub record IsClosing (P : Instance) (leaves : Line → Type 0) (S : Store) (line
   pub holds : Holds P (has_domain S) line
 
 -- a spent symbol, which is in the domain of its position beside another, and a leaf that holds once it is alone there
-pub record IsCut (P : Instance) (spent : ℕ → Symbol → Type 0) (S : Store) (p : ℕ) (x : Symbol) (line : Line) : Type 0 where
+pub record IsCut (P : Instance) (spent : ℕ → Symbol → Type 0) (S : Store)
+    (p : ℕ) (x : Symbol) (line : Line) : Type 0 where
   pub is_spent : spent p x
   pub position : p < cells P
   pub useful : is_idle P (has_domain S) p x.number ≡ false
   pub is_leaf : IsLeafOf P line
   pub holds : Holds P (narrowed (has_domain S) (Split p x) First) line
 
--- closed exactly where a leaf holds; a cut exactly where none does and a symbol is spent; quiet where there is neither
+-- closed exactly where a leaf holds; a cut exactly where none does and a symbol is spent; quiet where there is
+-- neither
 abbrev pub IsLook : Instance → (Line → Type 0) → (ℕ → Symbol → Type 0) → Store → Look → Type 0
 IsLook P leaves spent S Quiet = (Closes P leaves S → ⊥) × ((p : ℕ) (x : Symbol) → spent p x → ⊥)
 IsLook P leaves spent S (Closed line) = IsClosing P leaves S line
@@ -52,10 +54,13 @@ pub record IsBesideAnother (P : Instance) (S : Store) (p : ℕ) (x : Symbol) : T
 
 -- under all domains of a problem that is served, a spent symbol stands beside another
 abbrev pub AreSpentBesideAnother : (Instance → Type 0) → (Store → ℕ → Symbol → Type 0) → Type 0
-AreSpentBesideAnother serves spent = (P : Instance) (S : Store) (p : ℕ) (x : Symbol) → serves P → BelongsTo P S → spent S p x → IsBesideAnother P S p x
+AreSpentBesideAnother serves spent = (P : Instance) (S : Store) (p : ℕ) (x : Symbol) → serves P
+    → BelongsTo P S → spent S p x → IsBesideAnother P S p x
 
 -- before and now the same problems are served, with the same leaves and the same spent symbols
-pub record SameReasons (serves_before serves_now : Instance → Type 0) (leaves_before leaves_now : Store → Line → Type 0) (spent_before spent_now : Store → ℕ → Symbol → Type 0) : Type 0 where
+pub record SameReasons (serves_before serves_now : Instance → Type 0)
+    (leaves_before leaves_now : Store → Line → Type 0)
+    (spent_before spent_now : Store → ℕ → Symbol → Type 0) : Type 0 where
   pub serves : (P : Instance) → serves_before P ↔ serves_now P
   pub leaves : (S : Store) (line : Line) → leaves_before S line ↔ leaves_now S line
   pub spent : (S : Store) (p : ℕ) (x : Symbol) → spent_before S p x ↔ spent_now S p x

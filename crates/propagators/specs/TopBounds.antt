@@ -12,7 +12,8 @@ use Rattle.propagators.specs.Cycles.{AreShortRules}
 
 -- the weights of a plain bound, or of one of the first 32 rounds of the search
 abbrev pub AreTopWeights : Instance → Domains → List ℕ → List Weight → Type 0
-AreTopWeights P D R y = ((k : ℕ) × (slice_get (plain_bounds P) k ≡ Some y)) ⊎ ((k : ℕ) × (k < 32) × IsSearched P D R k y)
+AreTopWeights P D R y = ((k : ℕ) × (slice_get (plain_bounds P) k ≡ Some y))
+    ⊎ ((k : ℕ) × (k < 32) × IsSearched P D R k y)
 
 -- a bound of one turn from position 0 on, by all short rules and such weights
 abbrev pub IsTopBound : Instance → Domains → Line → Type 0
@@ -29,8 +30,8 @@ abbrev pub IsTopAnswer : Instance → Domains → List ℕ → Option (List Weig
 IsTopAnswer P D R None = NoBoundHolds P D R
 IsTopAnswer P D R (Some y) = AreWeightsOf P y × AreTopWeights P D R y × HoldsAtTop P D R y
 
--- what a propagator of bounds is made of: its problem, the domains that it was made with, the list of all short rules, and
--- weights whose bound holds there, if some do
+-- what a propagator of bounds is made of: its problem, the domains that it was made with, the list of all short
+-- rules, and weights whose bound holds there, if some do
 pub record TopWatch : Type 0 where
   pub problem : Instance
   pub start : Store

@@ -1,10 +1,7 @@
 -- The leaves of windows, and which of them a propagator has still to look at.
-use Rattle.std.specs.Prelude.{◌≡◌, ℕ, ◌+◌, ◌%◌, ◌<◌, ◌≤◌, List, [], length, Bool, true, false, Option, Some, None, slice_get, slice_index_or}
-use Rattle.rwsp_terms.specs.declared.data.Symbol.{Symbol}
-use Rattle.rwsp_terms.specs.declared.data.Class.TheVariants.{Shift, Off, Work}
-use Rattle.rwsp_terms.specs.declared.data.Rule.{Rule}
-use Rattle.rwsp_terms.specs.declared.data.Rule.TheVariants.{MaxShift, MinShift, MaxOff, MinOff, MaxWork, MinWork, Pair, Triple, Day}
-use Rattle.rwsp_terms.specs.Instance.{Instance, cells, bounds}
+use Rattle.std.specs.Prelude.{◌≡◌, ℕ, ◌+◌, ◌%◌, ◌<◌, ◌≤◌, List, [], length, Bool, true, false, slice_index_or}
+use Rattle.rwsp_terms.specs.declared.limits.TheConstants.{MOST_SHIFTS}
+use Rattle.rwsp_terms.specs.Instance.{Instance, cells}
 use Rattle.refutation_terms.specs.declared.lines.Line.{Line}
 use Rattle.refutation_terms.specs.declared.lines.Line.TheVariants.{Window}
 use Rattle.refutation_terms.specs.Word.{Domains}
@@ -12,7 +9,6 @@ use Rattle.refutation_terms.specs.Leaf.{IsBlocked}
 use Rattle.refutation_terms.specs.Log.{LineFits}
 use Rattle.domain_store.specs.Sets.{has_symbol}
 use Rattle.domain_store.specs.Store.{Store, has_domain}
-use Rattle.plain_leaves.specs.Runs.{IsLongRun, IsShortRun, IsPairRun, IsTripleRun}
 
 -- a window leaf of the problem
 abbrev pub IsWindowLeaf : Instance → Line → Type 0
@@ -38,8 +34,9 @@ LiesOver P p len q = (i : ℕ) × (i < len) × ((p + i) % cells P ≡ q)
 pub record IsWatch (w : WindowWatch) : Type 0 where
   pub long : length w.sets ≡ cells w.problem
   pub flags : length w.pending ≡ cells w.problem
-  pub small : (p x : ℕ) → has_known w.sets p x ≡ true → x ≤ 8
-  pub awaited : (number p len : ℕ) → LineFits w.problem (Window number p len) → IsBlocked w.problem (has_known w.sets) number p len
+  pub small : (p x : ℕ) → has_known w.sets p x ≡ true → x ≤ MOST_SHIFTS
+  pub awaited : (number p len : ℕ) → LineFits w.problem (Window number p len)
+      → IsBlocked w.problem (has_known w.sets) number p len
       → (q : ℕ) × (slice_index_or w.pending q false ≡ true) × LiesOver w.problem p len q
 
 -- the positions that have still to be looked at come from the first on and before the end
@@ -55,25 +52,3 @@ pub record IsWindow (P : Instance) (S : Store) (number p len : ℕ) : Type 0 whe
 -- no window of the rule that lies over the position holds
 abbrev pub NoWindowOver : Instance → Store → ℕ → ℕ → Type 0
 NoWindowOver P S number q = (p len : ℕ) → IsWindow P S number p len → LiesOver P p len q → ⊥
-
--- the domains of so many days, counted on and on round the cycle, make every word over them bad for the rule
-abbrev pub IsRun : Instance → Store → Rule → ℕ → ℕ → Type 0
-IsRun P S (MaxShift x) day len = IsLongRun (Shift x) (bounds P (Shift x)).greatest S day len
-IsRun P S (MinShift x) day len = IsShortRun (Shift x) (bounds P (Shift x)).least S day len
-IsRun P S MaxOff day len = IsLongRun Off (bounds P Off).greatest S day len
-IsRun P S MinOff day len = IsShortRun Off (bounds P Off).least S day len
-IsRun P S MaxWork day len = IsLongRun Work (bounds P Work).greatest S day len
-IsRun P S MinWork day len = IsShortRun Work (bounds P Work).least S day len
-IsRun P S (Pair k) day len = (x : Symbol × Symbol) × (slice_get P.pairs k ≡ Some x) × IsPairRun x S day len
-IsRun P S (Triple k) day len = (x : Symbol × Symbol × Symbol) × (slice_get P.triples k ≡ Some x) × IsTripleRun x S day len
-IsRun P S (Day j) day len = ⊥
-
--- such days, or there are none among which the day is
-pub record IsRunFound (Is : ℕ → ℕ → Type 0) (day start len : ℕ) : Type 0 where
-  pub run : Is start len
-  pub early : start ≤ day
-  pub short : len ≤ 10001
-
-abbrev pub IsRunAnswer : (ℕ → ℕ → Type 0) → ℕ → Option (ℕ × ℕ) → Type 0
-IsRunAnswer Is day None = (start len : ℕ) → start ≤ day → day < start + len → Is start len → ⊥
-IsRunAnswer Is day (Some r) = IsRunFound Is day r.0 r.1

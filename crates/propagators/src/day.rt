@@ -18,9 +18,9 @@ use rwsp_model::{Problem, Symbol};
 use std::alloc::{AllocError, Global};
 use std::marker::Model;
 
-/// Closes where more weeks hold a symbol on a day for sure than may hold it, or fewer can hold it than must, and takes
-/// away what would lead there at once. It keeps counts of the domains that it tracks: a look takes a step for each day and
-/// symbol, and one for each week where a symbol is taken away.
+/// Closes where more weeks hold a symbol on a day for sure than may hold it, or fewer can hold it than must, and
+/// takes away what would lead there at once. It keeps counts of the domains that it tracks: a look takes a step for
+/// each day and symbol, and one for each week where a symbol is taken away.
 #[derive(Debug, Drop)]
 pub struct DayProp {
     problem: Problem,
@@ -45,9 +45,12 @@ impl DayProp {
         requires { BelongsTo problem.now doms.now }
         ensures serves { IfOk result (λ d. ⟦<DayProp as Propagator>⟧.serves d problem.now) }
         ensures tracks { IfOk result (λ d. ⟦<DayProp as Propagator>⟧.tracks d doms.now) }
-        ensures leaves { IfOk result (λ d. (S : Store) (j : ℕ) (x : Symbol) (over : Bool) → LineFits problem.now (Day j x over) → ⟦<DayProp as Propagator>⟧.leaves d S (Day j x over)) }
-        ensures days_only { IfOk result (λ d. (S : Store) (line : Line) → ⟦<DayProp as Propagator>⟧.leaves d S line → IsDayLeaf problem.now line) }
-        ensures spent { IfOk result (λ d. (S : Store) (p : ℕ) (x : Symbol) → ⟦<DayProp as Propagator>⟧.spent d S p x ↔ IsDaySpent problem.now (has_domain S) p x) }
+        ensures leaves { IfOk result (λ d. (S : Store) (j : ℕ) (x : Symbol) (over : Bool)
+            → LineFits problem.now (Day j x over) → ⟦<DayProp as Propagator>⟧.leaves d S (Day j x over)) }
+        ensures days_only { IfOk result (λ d. (S : Store) (line : Line)
+            → ⟦<DayProp as Propagator>⟧.leaves d S line → IsDayLeaf problem.now line) }
+        ensures spent { IfOk result (λ d. (S : Store) (p : ℕ) (x : Symbol)
+            → ⟦<DayProp as Propagator>⟧.spent d S p x ↔ IsDaySpent problem.now (has_domain S) p x) }
     {
         let counts = Counts::new(alloc, problem, doms)?;
         Ok(DayProp {

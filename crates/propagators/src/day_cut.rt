@@ -14,7 +14,8 @@ use plain_leaves::position_of;
 use refutation_terms::Line;
 use rwsp_model::{Problem, Symbol};
 
-/// A symbol `x` at a position, and the day leaf that holds once `x` is alone there. Days count from 1, positions from 0.
+/// A symbol `x` at a position, and the day leaf that holds once `x` is alone there. Days count from 1, positions from
+/// 0.
 #[derive(Clone, Copy, Debug)]
 pub struct DayCut {
     pub p: u32,
@@ -45,7 +46,8 @@ impl DayCut {
 pub fn first_cut(problem: &Problem, counts: &Counts, doms: &Domains) -> Option<DayCut>
     requires { AreCountsOf problem.now doms.now counts.now }
     ensures { MatchOption result
-        ((j z : ℕ) → IsDay problem.now j → z ≤ shift_count problem.now → TakesNone problem.now (has_domain doms.now) j z)
+        ((j z : ℕ) → IsDay problem.now j → z ≤ shift_count problem.now
+        → TakesNone problem.now (has_domain doms.now) j z)
         (λ cut. IsDayCut problem.now (has_domain doms.now) cut.p cut.x cut.day cut.counted cut.over) }
 {
     for day in 1..problem.days() + 1 {
@@ -103,8 +105,8 @@ fn cut_by(
     })
 }
 
-// Whether one week more for sure would be too many (true), or one fewer too few, where the symbol stands beside another
-// on the day at all.
+// Whether one week more for sure would be too many (true), or one fewer too few, where the symbol stands beside
+// another on the day at all.
 fn saturation(
     problem: &Problem,
     counts: &Counts,

@@ -7,7 +7,6 @@ mod look;
 mod pair;
 mod propagator;
 mod root_bounds;
-mod run;
 #[cfg(test)]
 mod tests;
 mod window;

@@ -19,10 +19,14 @@ pub struct Pair<A, B> {
 impl<A: Propagator, B: Propagator> Pair<A, B> {
     /// The two as one. Takes no memory.
     pub fn new(first: A, second: B) -> Pair<A, B>
-        ensures serves { (P : Instance) → ⟦<Pair<A, B> as Propagator>⟧.serves result P ↔ (A.serves first P × B.serves second P) }
-        ensures tracks { (S : Store) → ⟦<Pair<A, B> as Propagator>⟧.tracks result S ↔ (A.tracks first S × B.tracks second S) }
-        ensures leaves { (S : Store) (line : Line) → ⟦<Pair<A, B> as Propagator>⟧.leaves result S line ↔ (A.leaves first S line ⊎ B.leaves second S line) }
-        ensures spent { (S : Store) (p : ℕ) (x : Symbol) → ⟦<Pair<A, B> as Propagator>⟧.spent result S p x ↔ (A.spent first S p x ⊎ B.spent second S p x) }
+        ensures serves { (P : Instance) → ⟦<Pair<A, B> as Propagator>⟧.serves result P
+            ↔ (A.serves first P × B.serves second P) }
+        ensures tracks { (S : Store) → ⟦<Pair<A, B> as Propagator>⟧.tracks result S
+            ↔ (A.tracks first S × B.tracks second S) }
+        ensures leaves { (S : Store) (line : Line) → ⟦<Pair<A, B> as Propagator>⟧.leaves result S line
+            ↔ (A.leaves first S line ⊎ B.leaves second S line) }
+        ensures spent { (S : Store) (p : ℕ) (x : Symbol) → ⟦<Pair<A, B> as Propagator>⟧.spent result S p x
+            ↔ (A.spent first S p x ⊎ B.spent second S p x) }
     {
         Pair { first, second }
     }

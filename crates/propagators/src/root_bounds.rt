@@ -23,8 +23,8 @@ use word_tail::TailRules;
 // The rounds of the search for weights.
 const ROUNDS: u32 = 32;
 
-/// Closes the domains that it was made with where a bound of one turn from position 0 on holds there: a plain bound, or one
-/// of the first 32 searched weights. It closes no others, and takes no symbol away.
+/// Closes the domains that it was made with where a bound of one turn from position 0 on holds there: a plain bound,
+/// or one of the first 32 searched weights. It closes no others, and takes no symbol away.
 ///
 /// All bounds are tried when it is made, so a look only compares domains, and does so only where a bound holds.
 #[derive(Debug, Drop)]
@@ -45,12 +45,13 @@ impl Model for RootBounds {
 
     ghost view = { λ w. record { problem = w.problem; start = w.start; rules = w.rules; weights = w.weights } };
 
-    ghost invariant = { λ w. IsTopWatch (record { problem = w.problem; start = w.start; rules = w.rules; weights = w.weights }) };
+    ghost invariant = { λ w. IsTopWatch
+        (record { problem = w.problem; start = w.start; rules = w.rules; weights = w.weights }) };
 }
 
 impl RootBounds {
-    /// Tries the bounds under the domains: the plain ones shared out among workers, who pass the gate, and where none holds
-    /// the searched ones.
+    /// Tries the bounds under the domains: the plain ones shared out among workers, who pass the gate, and where none
+    /// holds the searched ones.
     pub fn new<R: Threads + Sync, G: Gate>(
         rt: &R,
         alloc: Global,
@@ -63,8 +64,10 @@ impl RootBounds {
         requires workers { (1 ≤ workers) × (workers ≤ 64) }
         ensures serves { IfOk result (λ b. ⟦<RootBounds as Propagator>⟧.serves b problem.now) }
         ensures tracks { IfOk result (λ b. (S : Store) → ⟦<RootBounds as Propagator>⟧.tracks b S) }
-        ensures leaves { IfOk result (λ b. (S : Store) (line : Line) → ⟦<RootBounds as Propagator>⟧.leaves b S line ↔ IsStartBound problem.now doms.now S line) }
-        ensures none_spent { IfOk result (λ b. (S : Store) (p : ℕ) (x : Symbol) → ⟦<RootBounds as Propagator>⟧.spent b S p x → ⊥) }
+        ensures leaves { IfOk result (λ b. (S : Store) (line : Line)
+            → ⟦<RootBounds as Propagator>⟧.leaves b S line ↔ IsStartBound problem.now doms.now S line) }
+        ensures none_spent { IfOk result (λ b. (S : Store) (p : ℕ) (x : Symbol)
+            → ⟦<RootBounds as Propagator>⟧.spent b S p x → ⊥) }
     {
         let rules = short_rules(alloc, problem)?;
         let weights = holding_weights(rt, alloc, problem, &rules, doms, workers, gate)?;
@@ -164,7 +167,8 @@ fn plain_bound(alloc: Global, problem: &Problem, index: usize) -> Result<Weights
     Ok(weights)
 }
 
-// Whether the two leave the same symbols at each position. Takes a step for each position up to the first at which they differ.
+// Whether the two leave the same symbols at each position. Takes a step for each position up to the first at which
+// they differ.
 fn are_same(problem: &Problem, start: &Domains, doms: &Domains) -> bool
     requires start { BelongsTo problem.now start.now }
     requires doms { BelongsTo problem.now doms.now }

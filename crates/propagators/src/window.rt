@@ -1,6 +1,7 @@
 // The leaves of windows.
 ghost use Rattle.std.specs.Prelude.{◌≡◌, ℕ, ◌<◌, ◌≤◌, ◌↔◌, length, IfOk, MatchOption, IsTrue, true, false, [], slice_set, slice_index_or};
 ghost use Rattle.rwsp_terms.specs.declared.data.Symbol.{Symbol};
+ghost use Rattle.rwsp_terms.specs.declared.limits.TheConstants.{MOST_CELLS, MOST_SHIFTS};
 ghost use Rattle.rwsp_terms.specs.Instance.{cells};
 ghost use Rattle.refutation_terms.specs.declared.lines.Line.{Line};
 ghost use Rattle.refutation_terms.specs.declared.lines.Line.TheVariants.{Window};
@@ -14,15 +15,16 @@ use crate::{Look, Propagator};
 use domain_store::{Domains, SymbolSet};
 use refutation_terms::Line;
 use rwsp_model::Problem;
+use rwsp_terms::limits::MOST_SYMBOLS;
 use std::alloc::{AllocError, Global};
 use std::marker::Model;
 
 /// Closes where every word over the domains of a window is bad for a rule. It takes no symbol away.
 ///
-/// It keeps the domains that it tracks, and which positions it has still to look at: those that lost a symbol since a look
-/// found nothing there. A look goes over the windows of these positions alone, at a cost of a few steps for each rule and
-/// each day of its bound, and of one for each position between two of them; what an undoing gives back costs nothing at the
-/// next look.
+/// It keeps the domains that it tracks, and which positions it has still to look at: those that lost a symbol since a
+/// look found nothing there. A look goes over the windows of these positions alone, at a cost of a few steps for each
+/// rule and each day of its bound, and of one for each position between two of them; what an undoing gives back costs
+/// nothing at the next look.
 #[derive(Debug, Drop)]
 pub struct WindowProp {
     problem: Problem,
@@ -42,7 +44,9 @@ impl Model for WindowProp {
 
     ghost view = { λ w. record { problem = w.problem; sets = w.sets.items; pending = w.pending.items } };
 
-    ghost invariant = { λ w. IsWatch (record { problem = w.problem; sets = w.sets.items; pending = w.pending.items }) × IsSpan w.pending.items w.first w.end };
+    ghost invariant = { λ w. IsWatch
+        (record { problem = w.problem; sets = w.sets.items; pending = w.pending.items })
+        × IsSpan w.pending.items w.first w.end };
 }
 
 impl WindowProp {
@@ -51,9 +55,13 @@ impl WindowProp {
         requires { BelongsTo problem.now doms.now }
         ensures serves { IfOk result (λ w. ⟦<WindowProp as Propagator>⟧.serves w problem.now) }
         ensures tracks { IfOk result (λ w. ⟦<WindowProp as Propagator>⟧.tracks w doms.now) }
-        ensures leaves { IfOk result (λ w. (S : Store) (number p len : ℕ) → LineFits problem.now (Window number p len) → ⟦<WindowProp as Propagator>⟧.leaves w S (Window number p len)) }
-        ensures windows_only { IfOk result (λ w. (S : Store) (line : Line) → ⟦<WindowProp as Propagator>⟧.leaves w S line → IsWindowLeaf problem.now line) }
-        ensures none_spent { IfOk result (λ w. (S : Store) (p : ℕ) (x : Symbol) → ⟦<WindowProp as Propagator>⟧.spent w S p x → ⊥) }
+        ensures leaves { IfOk result (λ w. (S : Store) (number p len : ℕ)
+            → LineFits problem.now (Window number p len)
+            → ⟦<WindowProp as Propagator>⟧.leaves w S (Window number p len)) }
+        ensures windows_only { IfOk result (λ w. (S : Store) (line : Line)
+            → ⟦<WindowProp as Propagator>⟧.leaves w S line → IsWindowLeaf problem.now line) }
+        ensures none_spent { IfOk result (λ w. (S : Store) (p : ℕ) (x : Symbol)
+            → ⟦<WindowProp as Propagator>⟧.spent w S p x → ⊥) }
     {
         doms.facts();
         let cells = problem.cells();
@@ -97,7 +105,8 @@ impl WindowProp {
         requires span { IsSpan self.old.pending first end }
         ensures problem { self.new.problem ≡ self.old.problem }
         ensures sets { self.new.sets ≡ self.old.sets }
-        ensures seen { MatchOption result ((q : ℕ) → slice_index_or self.new.pending q false ≡ false) (λ leaf. IsWindow self.old.problem doms.now leaf.rule leaf.p leaf.len) }
+        ensures seen { MatchOption result ((q : ℕ) → slice_index_or self.new.pending q false ≡ false)
+            (λ leaf. IsWindow self.old.problem doms.now leaf.rule leaf.p leaf.len) }
     {
         self.facts();
         for p in first..end {
@@ -115,8 +124,10 @@ impl WindowProp {
         requires position { p < cells self.old.problem }
         ensures problem { self.new.problem ≡ self.old.problem }
         ensures sets { self.new.sets ≡ self.old.sets }
-        ensures seen { MatchOption result (slice_index_or self.new.pending p false ≡ false) (λ leaf. IsWindow self.old.problem doms.now leaf.rule leaf.p leaf.len) }
-        ensures others { (q : ℕ) → slice_index_or self.new.pending q false ≡ true → slice_index_or self.old.pending q false ≡ true }
+        ensures seen { MatchOption result (slice_index_or self.new.pending p false ≡ false)
+            (λ leaf. IsWindow self.old.problem doms.now leaf.rule leaf.p leaf.len) }
+        ensures others { (q : ℕ) → slice_index_or self.new.pending q false ≡ true
+            → slice_index_or self.old.pending q false ≡ true }
     {
         if !self.pending[p as usize] {
             return None;
@@ -154,8 +165,8 @@ impl WindowProp {
     // Gives the position another domain. Where that lacks a symbol, the position has to be looked at.
     fn put(&mut self, p: u32, set: SymbolSet)
         requires position { p < length self.old.sets }
-        requires few { p < 4200 }
-        requires small { (x : ℕ) → has_symbol set x ≡ true → x ≤ 8 }
+        requires few { p < MOST_CELLS }
+        requires small { (x : ℕ) → has_symbol set x ≡ true → x ≤ MOST_SHIFTS }
         ensures problem { self.new.problem ≡ self.old.problem }
         ensures sets { self.new.sets ≡ slice_set self.old.sets p set }
     {
@@ -207,7 +218,7 @@ impl Propagator for WindowProp {
 
 // The span from `first` to `end`, so far as it has to go to take in the position.
 fn widened(first: u32, end: u32, p: u32, takes_in: bool) -> (u32, u32)
-    requires { p < 4200 }
+    requires { p < MOST_CELLS }
     ensures position { takes_in ≡ true → (result.0 ≤ p) × (p < result.1) }
     ensures others { (q : ℕ) → first ≤ q → q < end → (result.0 ≤ q) × (q < result.1) }
     ensures within { (n : ℕ) → end ≤ n → p < n → result.1 ≤ n }
@@ -223,10 +234,10 @@ fn widened(first: u32, end: u32, p: u32, takes_in: bool) -> (u32, u32)
 
 // Whether the second set has all symbols of the first.
 fn is_part(part: &SymbolSet, whole: &SymbolSet) -> bool
-    requires { (x : ℕ) → has_symbol part.now x ≡ true → x ≤ 8 }
+    requires { (x : ℕ) → has_symbol part.now x ≡ true → x ≤ MOST_SHIFTS }
     ensures { result ≡ true → (x : ℕ) → has_symbol part.now x ≡ true → has_symbol whole.now x ≡ true }
 {
-    for x in 0..9u8 {
+    for x in 0..MOST_SYMBOLS as u8 {
         if part.has(x) && !whole.has(x) {
             return false;
         }

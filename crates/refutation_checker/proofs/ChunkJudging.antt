@@ -15,7 +15,7 @@ use Rattle.tree_walk.specs.States.{State, IsStateOf}
 use Rattle.refutation_checker.specs.LineTexts.{Judging, IsLineRead}
 use Rattle.refutation_checker.specs.ChunkVerdicts.{AreSoundBehind, AreAllSound, IsRefusedBehind, Start, StandsBehind}
 use Rattle.refutation_checker.proofs.SoundLines.{lines_joined, sound_joined}
-use Rattle.refutation_checker.proofs.Walking.{some_bytes}
+use Rattle.refutation_log.proofs.LogLines.{some_bytes}
 
 -- sound lines have been read, as far as what is left
 pub record JudgedUpTo (P : Instance) (R : List ℕ) (turn : Option Turn) (earlier : List Line) (bytes left : List ℕ) (w : State) (number : ℕ) : Type 0 where

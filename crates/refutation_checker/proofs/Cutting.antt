@@ -1,72 +1,136 @@
 -- Cutting the lines of a text into chunks.
-use Rattle.std.proofs.Common.{◌≡◌, ◌≢◌, ◌⊎◌, ℕ, ◌+◌, ◌*◌, ◌^◌, ◌<◌, ◌≤◌, List, [], ◌∷◌, ◌++◌, length, refl, ap, sym, ◌∙◌, append_assoc, length-append, subst, arith, Option, inl, inr, true, ◌==◌}
-use Rattle.std.specs.Prelude.{All}
-use Rattle.std.proofs.lemmas.Bool.{eqb-true}
+use Rattle.std.proofs.Common.{◌≡◌, ◌≢◌, ◌⊎◌, ℕ, ◌+◌, ◌*◌, ◌<◌, ◌≤◌, List, [], ◌∷◌, ◌++◌, length, take, refl, ap, sym, ◌∙◌, append_assoc, length-append, subst, arith, Option, Some, None, inl, inr}
+use Rattle.std.specs.Prelude.{All, IfSome}
 use Rattle.std.proofs.lemmas.List.{append-nil, take_all}
 use Rattle.std.proofs.lemmas.List.Elements.{All-nil, All-cons, All-append}
 use Rattle.rwsp_terms.specs.Instance.{Instance}
 use Rattle.refutation_terms.specs.declared.lines.Line.{Line}
 use Rattle.refutation_terms.specs.declared.lines.Turn.{Turn}
-use Rattle.tree_walk.specs.States.{IsStateOf}
+use Rattle.refutation_log.specs.Printing.{lines_text, EachFits}
+use Rattle.tree_walk.specs.States.{State, IsStateOf}
 use Rattle.refutation_checker.specs.ChunkVerdicts.{Start, StandsBehind}
-use Rattle.refutation_checker.specs.Chunks.{feeds, line_count, HasFirstLines, LeadsTo, IsCutOff, AreChunks, IsJudgeable, IsFew}
+use Rattle.refutation_checker.specs.UnreadSplits.{Unread, EndInside}
+use Rattle.refutation_checker.specs.Chunks.{feeds, line_count, EndsLines, IsCutOff, AreChunks, IsJudgeable, IsFew}
 use Rattle.refutation_checker.proofs.Feeds.{lines_of_both, some_line}
-use Rattle.refutation_checker.proofs.Walking.{some_bytes}
+use Rattle.refutation_log.proofs.LogLines.{some_bytes}
 
--- the chunks so far: they hold all bytes, or the next ones go on behind them
-pub record IsOpen (P : Instance) (size : ℕ) (turn : Option Turn) (earlier : List Line) (bytes : List ℕ) (chunks : List Start) (rest : Start) : Type 0 where
-  pub lines : List Line
-  pub behind : StandsBehind P turn (earlier ++ lines) rest
-  pub goes_on : (more : List Start) → AreChunks P turn size (earlier ++ lines) rest.bytes more → AreChunks P turn size earlier bytes (chunks ++ more)
+-- the lines of chunks, one chunk after another
+abbrev pub AreLinesOf : Instance → List Start → List Line → Type 0
+AreLinesOf P [] lines = lines ≡ []
+AreLinesOf P (c ∷ chunks) lines =
+    (front : List Line) × (rest : List Line) × (lines ≡ front ++ rest) × EachFits P front × (c.bytes ≡ lines_text P front) × AreLinesOf P chunks rest
 
-abbrev pub IsOpenOrDone : Instance → ℕ → Option Turn → List Line → List ℕ → List Start → Start → Type 0
-IsOpenOrDone P size turn earlier bytes chunks rest =
-    ((rest.bytes ≡ []) × AreChunks P turn size earlier bytes chunks) ⊎ IsOpen P size turn earlier bytes chunks rest
+lines_added : (P : Instance) (chunks : List Start) (c : Start) (front more : List Line) → AreLinesOf P chunks front → EachFits P more → c.bytes ≡ lines_text P more → AreLinesOf P (chunks ++ c ∷ []) (front ++ more)
+lines_added P [] c front more none fit text = (more, [], ap (λ ls. ls ++ more) none ∙ sym (append-nil more), fit, text, refl)
+lines_added P (d ∷ chunks) c front more are fit text =
+    (are.0, are.1 ++ more, ap (λ ls. ls ++ more) are.2 ∙ append_assoc are.0 are.1 more, are.3, are.4, lines_added P chunks c are.1 more are.5 fit text)
+
+record LastLines (P : Instance) (chunks : List Start) (c : Start) (lines : List Line) : Type 0 where
+  pub front : List Line
+  pub more : List Line
+  pub both : lines ≡ front ++ more
+  pub are : AreLinesOf P chunks front
+  pub fit : EachFits P more
+  pub text : c.bytes ≡ lines_text P more
+
+last_lines : (P : Instance) (chunks : List Start) (c : Start) (lines : List Line) → AreLinesOf P (chunks ++ c ∷ []) lines → LastLines P chunks c lines
+last_lines P [] c lines are = record {
+  front = [];
+  more = are.0;
+  both = are.2 ∙ ap (λ ls. are.0 ++ ls) are.5 ∙ append-nil are.0;
+  are = refl;
+  fit = are.3;
+  text = are.4;
+}
+last_lines P (d ∷ chunks) c lines are =
+    let last = last_lines P chunks c are.1 are.5 in
+    record {
+      front = are.0 ++ last.front;
+      more = last.more;
+      both = are.2 ∙ ap (λ ls. are.0 ++ ls) last.both ∙ sym (append_assoc are.0 last.front last.more);
+      are = (are.0, last.front, refl, are.3, are.4, last.are);
+      fit = last.fit;
+      text = last.text;
+    }
+
+-- the chunks so far, and the splits that are open behind them, where the rest stands
+pub record IsOpen (P : Instance) (size : ℕ) (turn : Option Turn) (bytes : List ℕ) (before : List Unread) (chunks : List Start) (rest : Start) : Type 0 where
+  pub inside : (lines : List Line) → AreLinesOf P chunks lines → EndInside P before lines × StandsBehind P turn lines rest
+  pub goes_on : (more : List Start) → ((lines : List Line) → AreLinesOf P chunks lines → AreChunks P turn size lines rest.bytes more) → AreChunks P turn size [] bytes (chunks ++ more)
+
+abbrev pub IsOpenOrDone : Instance → ℕ → Option Turn → List ℕ → List Unread → List Start → Option Start → Type 0
+IsOpenOrDone P size turn bytes before chunks None = AreChunks P turn size [] bytes chunks
+IsOpenOrDone P size turn bytes before chunks (Some rest) = IsOpen P size turn bytes before chunks rest
+
+abbrev pub bytes_left : Option Start → List ℕ
+bytes_left None = []
+bytes_left (Some rest) = rest.bytes
 
 -- the chunks so far are few enough
 abbrev pub AreFewSoFar : ℕ → List ℕ → ℕ → List ℕ → Type 0
 AreFewSoFar size bytes count rest =
     ((rest ≡ []) × IsFew count size bytes) ⊎ (count * size + line_count rest ≤ line_count bytes)
 
-pub record CutSoFar (P : Instance) (size : ℕ) (all : Start) (chunks : List Start) (rest : Start) : Type 0 where
-  pub few : rest.bytes ≢ [] → rest.first + length rest.bytes < 2 ^ 31
-  pub short : length chunks + length rest.bytes ≤ length all.bytes
-  pub count : AreFewSoFar size all.bytes (length chunks) rest.bytes
+pub record CutSoFar (P : Instance) (size : ℕ) (all : Start) (before : List Unread) (chunks : List Start) (rest : Option Start) : Type 0 where
+  pub next : IfSome rest (λ r. IsJudgeable P r × (r.bytes ≢ []))
+  pub short : length chunks + length (bytes_left rest) ≤ length all.bytes
+  pub count : AreFewSoFar size all.bytes (length chunks) (bytes_left rest)
   pub each : All (IsJudgeable P) chunks
-  pub parts : (turn : Option Turn) (earlier : List Line) → StandsBehind P turn earlier all → IsOpenOrDone P size turn earlier all.bytes chunks rest
+  pub parts : (turn : Option Turn) → StandsBehind P turn [] all → IsOpenOrDone P size turn all.bytes before chunks rest
 
--- bytes are left, so the next chunk stands behind some lines
-pub open_there : (P : Instance) (size : ℕ) (turn : Option Turn) (earlier : List Line) (bytes : List ℕ) (chunks : List Start) (rest : Start) → IsOpenOrDone P size turn earlier bytes chunks rest → rest.bytes ≢ [] → IsOpen P size turn earlier bytes chunks rest
-open_there P size turn earlier bytes chunks rest h some = elim h [ inl done ↦ absurd (some done.0) | inr on ↦ on ]
-
-pub rest_judgeable : (P : Instance) (size : ℕ) (all : Start) (chunks : List Start) (rest : Start) → CutSoFar P size all chunks rest → IsJudgeable P all → rest.bytes ≢ [] → IsJudgeable P rest
-rest_judgeable P size all chunks rest so h some =
-    let o = open_there P size h.0.0 h.0.1 all.bytes chunks rest (so.parts h.0.0 h.0.1 h.0.2) some in ((h.0.0, h.0.1 ++ o.lines, o.behind), so.few some)
+-- nothing was cut off
+pub cut_none : (P : Instance) (size : ℕ) (all : Start) (before : List Unread) (chunks : List Start) → IsJudgeable P all → all.bytes ≢ [] → before ≡ [] → chunks ≡ [] → CutSoFar P size all before chunks (Some all)
+cut_none P size all before chunks h some none empty =
+    subst (λ o. CutSoFar P size all o chunks (Some all)) (sym none)
+    (subst (λ cs. CutSoFar P size all [] cs (Some all)) (sym empty)
+    (record {
+      next = (h, some);
+      short = omega arith;
+      count = inr (omega arith);
+      each = All-nil (IsJudgeable P);
+      parts = λ turn st. record {
+        inside = λ lines are. (are, subst (λ ls. StandsBehind P turn ls all) (sym are) st);
+        goes_on = λ more f. f [] refl;
+      };
+    }))
 
 -- a chunk stands where what it was cut off stood
 same_place : (P : Instance) (turn : Option Turn) (earlier : List Line) (old chunk : Start) → chunk.walk ≡ old.walk → chunk.first ≡ old.first → StandsBehind P turn earlier old → StandsBehind P turn earlier chunk
 same_place P turn earlier old chunk e f h = record { state = subst (IsStateOf P turn earlier) (sym e) h.state; counted = f ∙ h.counted }
 
-cut_last : (P : Instance) (size : ℕ) (turn : Option Turn) (earlier : List Line) (bytes : List ℕ) (chunks : List Start) (old chunk rest : Start) → IsOpen P size turn earlier bytes chunks old → IsCutOff P size old chunk rest → rest.bytes ≡ [] → AreChunks P turn size earlier bytes (chunks ++ chunk ∷ [])
-cut_last P size turn earlier bytes chunks old chunk rest o c none =
-    o.goes_on (chunk ∷ []) (same_place P turn (earlier ++ o.lines) old chunk c.walk c.first o.behind, c.lines turn (earlier ++ o.lines) o.behind, rest.bytes, c.whole, inl (none, refl))
+cut_last : (P : Instance) (size : ℕ) (turn : Option Turn) (bytes : List ℕ) (start : State) (before after : List Unread) (chunks : List Start) (old chunk : Start) → IsStateOf P turn [] start → IsOpen P size turn bytes before chunks old → IsCutOff P size start before after old chunk None → AreChunks P turn size [] bytes (chunks ++ chunk ∷ [])
+cut_last P size turn bytes start before after chunks old chunk st o c =
+    o.goes_on (chunk ∷ []) (λ lines are.
+    let i = o.inside lines are in
+    let same : chunk.bytes ≡ old.bytes = ap (λ (s : Start). s.bytes) c.0 in (
+      subst (StandsBehind P turn lines) (sym c.0) i.1,
+      record { end = c.1.0; lines = c.1.1; cut = inr (same, c.1.2 turn lines st i.0) },
+      [],
+      sym same ∙ sym (append-nil chunk.bytes),
+      inl (refl, refl),
+    ))
 
-cut_on : (P : Instance) (size : ℕ) (turn : Option Turn) (earlier : List Line) (bytes : List ℕ) (chunks : List Start) (old chunk rest : Start) → (o : IsOpen P size turn earlier bytes chunks old) → IsCutOff P size old chunk rest → LeadsTo P turn (earlier ++ o.lines) chunk rest → IsOpen P size turn earlier bytes (chunks ++ chunk ∷ []) rest
-cut_on P size turn earlier bytes chunks old chunk rest o c to =
-    let longer : (earlier ++ o.lines) ++ to.lines ≡ earlier ++ (o.lines ++ to.lines) = append_assoc earlier o.lines to.lines in
-    record {
-      lines = o.lines ++ to.lines;
-      behind = subst (λ ls. StandsBehind P turn ls rest) longer to.behind;
-      goes_on = λ more a.
-          subst (AreChunks P turn size earlier bytes) (sym (append_assoc chunks (chunk ∷ []) more))
-          (o.goes_on (chunk ∷ more)
-          (same_place P turn (earlier ++ o.lines) old chunk c.walk c.first o.behind, c.lines turn (earlier ++ o.lines) o.behind, rest.bytes, c.whole, inr (to.lines, to.fit, to.text, subst (λ ls. AreChunks P turn size ls rest.bytes more) (sym longer) a)));
-    }
-
-chunk_judgeable : (P : Instance) (size : ℕ) (old chunk rest : Start) → IsJudgeable P old → IsCutOff P size old chunk rest → IsJudgeable P chunk
-chunk_judgeable P size old chunk rest h c =
-    let long : length old.bytes ≡ length chunk.bytes + length rest.bytes = ap length c.whole ∙ length-append chunk.bytes rest.bytes in
-    ((h.0.0, h.0.1, same_place P h.0.0 h.0.1 old chunk c.walk c.first h.0.2), omega (arith, h.1, long, c.first))
+cut_on : (P : Instance) (size : ℕ) (turn : Option Turn) (bytes : List ℕ) (start : State) (before after : List Unread) (chunks : List Start) (old chunk rest : Start) → IsStateOf P turn [] start → IsOpen P size turn bytes before chunks old → IsCutOff P size start before after old chunk (Some rest) → IsOpen P size turn bytes after (chunks ++ chunk ∷ []) rest
+cut_on P size turn bytes start before after chunks old chunk rest st o c = record {
+  inside = λ lines are.
+      let last = last_lines P chunks chunk lines are in
+      let i = o.inside last.front last.are in
+      let to = c.8.passed last.front last.more i.0 last.fit last.text in
+      let size_now : length (last.front ++ last.more) ≡ length last.front + length last.more = length-append last.front last.more in
+      subst (λ ls. EndInside P after ls × StandsBehind P turn ls rest) (sym last.both) (
+        to.1,
+        record { state = c.8.walk turn (last.front ++ last.more) st to.1; counted = omega (arith, to.0, c.1, i.1.counted, size_now) },
+      );
+  goes_on = λ more f.
+      subst (AreChunks P turn size [] bytes) (sym (append_assoc chunks (chunk ∷ []) more))
+      (o.goes_on (chunk ∷ more) (λ lines are. (
+        same_place P turn lines old chunk c.0 c.1 (o.inside lines are).1,
+        record { end = c.6.0; lines = c.6.1; cut = inl c.6.2 },
+        rest.bytes,
+        c.2,
+        inr (c.5, λ further fit text. f (lines ++ further) (lines_added P chunks chunk lines further are fit text)),
+      )));
+}
 
 all_of_both : (a b bytes : List ℕ) → bytes ≡ a ++ b → a ≡ bytes → b ≢ [] → ⊥
 all_of_both a b bytes e f some =
@@ -76,64 +140,79 @@ all_of_both a b bytes e f some =
     omega (arith, long, same, one)
 
 -- a chunk that isn't the last has so many LF
-full : (P : Instance) (turn : Option Turn) (earlier : List Line) (size : ℕ) (old chunk rest : List ℕ) (c : Start) → c.bytes ≡ chunk → old ≡ chunk ++ rest → rest ≢ [] → HasFirstLines P turn earlier size old c → feeds chunk ≡ size
-full P turn earlier size old chunk rest c is e some h =
-    elim h.cut [
-      | inr all ↦ absurd (all_of_both chunk rest old e (sym is ∙ all.0) some)
-      | inl front ↦ elim h.lines [
-        | inl lines ↦ ap feeds (sym is ∙ front) ∙ lines.0
-        | inr last ↦ absurd (all_of_both chunk rest old e (sym is ∙ front ∙ take_all h.end old (omega (arith, last.0))) some)
-      ]
+full : (size end : ℕ) (old chunk rest : List ℕ) → old ≡ chunk ++ rest → rest ≢ [] → EndsLines old size end → chunk ≡ take end old → feeds chunk ≡ size
+full size end old chunk rest e some ends is =
+    elim ends [
+      | inl lines ↦ ap feeds is ∙ lines.0
+      | inr last ↦ absurd (all_of_both chunk rest old e (is ∙ take_all end old (omega (arith, last.0))) some)
     ]
 
-few_more : (P : Instance) (turn : Option Turn) (earlier : List Line) (size count : ℕ) (bytes old chunk rest : List ℕ) (c : Start) → c.bytes ≡ chunk → old ≡ chunk ++ rest → old ≢ [] → HasFirstLines P turn earlier size old c → count * size + line_count old ≤ line_count bytes → AreFewSoFar size bytes (count + 1) rest
-few_more P turn earlier size count bytes old chunk [] c is e some h le = let one = some_line old some in inl (refl, omega (arith, le, one))
-few_more P turn earlier size count bytes old chunk (b ∷ rest) c is e some h le =
-    let more : b ∷ rest ≢ [] = λ no. cc in
-    let fed = full P turn earlier size old chunk (b ∷ rest) c is e more h in
-    let lines : line_count old ≡ feeds chunk + line_count (b ∷ rest) = ap line_count e ∙ lines_of_both chunk (b ∷ rest) more in
-    inr (omega (arith, le, fed, lines))
-
-few_on : (P : Instance) (turn : Option Turn) (earlier : List Line) (size count : ℕ) (bytes : List ℕ) (old chunk rest : Start) → AreFewSoFar size bytes count old.bytes → old.bytes ≢ [] → IsCutOff P size old chunk rest → StandsBehind P turn earlier old → AreFewSoFar size bytes (count + 1) rest.bytes
-few_on P turn earlier size count bytes old chunk rest few some c st =
+few_on : (P : Instance) (size count : ℕ) (bytes : List ℕ) (start : State) (before after : List Unread) (old chunk : Start) (rest : Option Start) → AreFewSoFar size bytes count old.bytes → old.bytes ≢ [] → IsCutOff P size start before after old chunk rest → AreFewSoFar size bytes (count + 1) (bytes_left rest)
+few_on P size count bytes start before after old chunk None few some c =
     elim few [
       | inl done ↦ absurd (some done.0)
-      | inr le ↦ few_more P turn earlier size count bytes old.bytes chunk.bytes rest.bytes chunk refl c.whole some (c.lines turn earlier st) le
+      | inr le ↦ let one = some_line old.bytes some in inl (refl, omega (arith, le, one))
+    ]
+few_on P size count bytes start before after old chunk (Some rest) few some c =
+    elim few [
+      | inl done ↦ absurd (some done.0)
+      | inr le ↦
+          let fed = full size c.6.0 old.bytes chunk.bytes rest.bytes c.2 c.4 c.6.1 c.6.2 in
+          let lines : line_count old.bytes ≡ feeds chunk.bytes + line_count rest.bytes = ap line_count c.2 ∙ lines_of_both chunk.bytes rest.bytes c.4 in
+          inr (omega (arith, le, fed, lines))
     ]
 
-pub few_in_all : (P : Instance) (size : ℕ) (all : Start) (chunks : List Start) (rest : Start) → CutSoFar P size all chunks rest → 1 ≤ size → IsFew (length chunks) size all.bytes
-few_in_all P size all chunks rest so some = elim so.count [ inl done ↦ done.1 | inr le ↦ omega (arith, le, some) ]
+pub few_in_all : (P : Instance) (size : ℕ) (all : Start) (before : List Unread) (chunks : List Start) → CutSoFar P size all before chunks None → 1 ≤ size → IsFew (length chunks) size all.bytes
+few_in_all P size all before chunks so some = elim so.count [ inl done ↦ done.1 | inr le ↦ omega (arith, le, some) ]
 
-pub cut_more : (P : Instance) (size : ℕ) (all : Start) (chunks more : List Start) (old chunk rest : Start) → IsJudgeable P all → CutSoFar P size all chunks old → old.bytes ≢ [] → IsCutOff P size old chunk rest → more ≡ chunks ++ chunk ∷ [] → CutSoFar P size all more rest
-cut_more P size all chunks more old chunk rest h so some c is =
-    let long : length old.bytes ≡ length chunk.bytes + length rest.bytes = ap length c.whole ∙ length-append chunk.bytes rest.bytes in
-    let one = some_bytes chunk.bytes c.some in
+short_on : (P : Instance) (size count : ℕ) (bytes : List ℕ) (start : State) (before after : List Unread) (old chunk : Start) (rest : Option Start) → count + length old.bytes ≤ length bytes → old.bytes ≢ [] → IsCutOff P size start before after old chunk rest → count + 1 + length (bytes_left rest) ≤ length bytes
+short_on P size count bytes start before after old chunk None le some c = let one = some_bytes old.bytes some in omega (arith, le, one)
+short_on P size count bytes start before after old chunk (Some rest) le some c =
+    let long : length old.bytes ≡ length chunk.bytes + length rest.bytes = ap length c.2 ∙ length-append chunk.bytes rest.bytes in
+    let one = some_bytes chunk.bytes c.3 in
+    omega (arith, le, long, one)
+
+chunk_judgeable : (P : Instance) (size : ℕ) (start : State) (before after : List Unread) (old chunk : Start) (rest : Option Start) → IsJudgeable P old → IsCutOff P size start before after old chunk rest → IsJudgeable P chunk
+chunk_judgeable P size start before after old chunk None h c = subst (IsJudgeable P) (sym c.0) h
+chunk_judgeable P size start before after old chunk (Some rest) h c =
+    let long : length old.bytes ≡ length chunk.bytes + length rest.bytes = ap length c.2 ∙ length-append chunk.bytes rest.bytes in
+    ((h.0.0, h.0.1, subst (IsStateOf P h.0.0 h.0.1) (sym c.0) h.0.2), omega (arith, h.1, long, c.1))
+
+next_on : (P : Instance) (size : ℕ) (start : State) (before after : List Unread) (old chunk : Start) (rest : Option Start) → IsCutOff P size start before after old chunk rest → IfSome rest (λ r. IsJudgeable P r × (r.bytes ≢ []))
+next_on P size start before after old chunk None c = tt
+next_on P size start before after old chunk (Some rest) c = (c.7, c.4)
+
+part_on : (P : Instance) (size : ℕ) (turn : Option Turn) (bytes : List ℕ) (start : State) (before after : List Unread) (chunks : List Start) (old chunk : Start) (rest : Option Start) → IsStateOf P turn [] start → IsOpen P size turn bytes before chunks old → IsCutOff P size start before after old chunk rest → IsOpenOrDone P size turn bytes after (chunks ++ chunk ∷ []) rest
+part_on P size turn bytes start before after chunks old chunk None st o c = cut_last P size turn bytes start before after chunks old chunk st o c
+part_on P size turn bytes start before after chunks old chunk (Some rest) st o c = cut_on P size turn bytes start before after chunks old chunk rest st o c
+
+pub cut_more : (P : Instance) (size : ℕ) (all : Start) (start : State) (before after : List Unread) (chunks more : List Start) (old chunk : Start) (rest : Option Start) → start ≡ all.walk → CutSoFar P size all before chunks (Some old) → IsCutOff P size start before after old chunk rest → more ≡ chunks ++ chunk ∷ [] → CutSoFar P size all after more rest
+cut_more P size all start before after chunks more old chunk rest begun so c is =
     let count : length (chunks ++ chunk ∷ []) ≡ length chunks + 1 = length-append chunks (chunk ∷ []) in
-    let here : IsOpen P size h.0.0 h.0.1 all.bytes chunks old = open_there P size h.0.0 h.0.1 all.bytes chunks old (so.parts h.0.0 h.0.1 h.0.2) some in
-    let this : IsJudgeable P chunk = chunk_judgeable P size old chunk rest (rest_judgeable P size all chunks old so h some) c in
-    subst (λ cs. CutSoFar P size all cs rest) (sym is)
+    let short = short_on P size (length chunks) all.bytes start before after old chunk rest so.short so.next.1 c in
+    let this : IsJudgeable P chunk = chunk_judgeable P size start before after old chunk rest so.next.0 c in
+    subst (λ cs. CutSoFar P size all after cs rest) (sym is)
     (record {
-      few = c.few;
-      short = omega (arith, so.short, long, one, count);
+      next = next_on P size start before after old chunk rest c;
+      short = omega (arith, short, count);
       count =
-          subst (λ n. AreFewSoFar size all.bytes n rest.bytes) (sym count)
-          (few_on P h.0.0 (h.0.1 ++ here.lines) size (length chunks) all.bytes old chunk rest so.count some c here.behind);
+          subst (λ n. AreFewSoFar size all.bytes n (bytes_left rest)) (sym count)
+          (few_on P size (length chunks) all.bytes start before after old chunk rest so.count so.next.1 c);
       each = All-append (IsJudgeable P) chunks (chunk ∷ []) so.each (All-cons (IsJudgeable P) chunk [] this (All-nil (IsJudgeable P)));
-      parts = λ turn earlier st.
-          let o : IsOpen P size turn earlier all.bytes chunks old = open_there P size turn earlier all.bytes chunks old (so.parts turn earlier st) some in
-          elim (c.leads turn (earlier ++ o.lines) o.behind) [
-            | inl none ↦ inl (none, cut_last P size turn earlier all.bytes chunks old chunk rest o c none)
-            | inr to ↦ inr (cut_on P size turn earlier all.bytes chunks old chunk rest o c to)
-          ];
+      parts = λ turn st. part_on P size turn all.bytes start before after chunks old chunk rest (subst (IsStateOf P turn []) (sym begun) st.state) (so.parts turn st) c;
     })
 
-pub cut_all : (P : Instance) (size : ℕ) (all : Start) (chunks : List Start) (rest : Start) → CutSoFar P size all chunks rest → rest.bytes ≡ [] → (turn : Option Turn) (earlier : List Line) → StandsBehind P turn earlier all → AreChunks P turn size earlier all.bytes chunks
-cut_all P size all chunks rest so none turn earlier st =
-    elim (so.parts turn earlier st) [
-      | inl done ↦ done.1
-      | inr on ↦ subst (AreChunks P turn size earlier all.bytes) (append-nil chunks) (on.goes_on [] none)
-    ]
+pub cut_smaller : (P : Instance) (size : ℕ) (start : State) (before after : List Unread) (left : Option Start) (old chunk : Start) (rest : Option Start) → left ≡ Some old → old.bytes ≢ [] → IsCutOff P size start before after old chunk rest → length (bytes_left rest) < length (bytes_left left)
+cut_smaller P size start before after left old chunk None is some c =
+    let one = some_bytes old.bytes some in
+    let same : length (bytes_left left) ≡ length old.bytes = ap (λ o. length (bytes_left o)) is in
+    omega (arith, one, same)
+cut_smaller P size start before after left old chunk (Some rest) is some c =
+    let long : length old.bytes ≡ length chunk.bytes + length rest.bytes = ap length c.2 ∙ length-append chunk.bytes rest.bytes in
+    let one = some_bytes chunk.bytes c.3 in
+    let same : length (bytes_left left) ≡ length old.bytes = ap (λ o. length (bytes_left o)) is in
+    omega (arith, one, same, long)
 
-pub none_left : (left bytes : List ℕ) → true ≡ (length left == 0) → left ≡ bytes → bytes ≡ []
-none_left [] bytes t e = sym e
-none_left (b ∷ left) bytes t e = let z : length (b ∷ left) ≡ 0 = eqb-true (length (b ∷ left)) 0 (sym t) in absurd (omega (arith, z))
+-- where a chunk is still to be cut off
+pub next_some : (P : Instance) (size : ℕ) (all : Start) (before : List Unread) (chunks : List Start) (left : Option Start) (old : Start) → left ≡ Some old → CutSoFar P size all before chunks left → CutSoFar P size all before chunks (Some old)
+next_some P size all before chunks left old is so = subst (CutSoFar P size all before chunks) is so

@@ -5,7 +5,6 @@ use Rattle.std.specs.List.{join_with_byte}
 use Rattle.std.proofs.lemmas.List.{append-nil}
 use Rattle.std.proofs.lemmas.List.Elements.{All-head, All-tail}
 use Rattle.rwsp_terms.specs.Instance.{Instance}
-use Rattle.rwsp_model.specs.Validity.{KeepsLimits}
 use Rattle.rwsp_model.specs.declared.fail.Fail.{Fail}
 use Rattle.rwsp_model.specs.declared.fail.Fail.TheVariants.{Refused, Memory}
 use Rattle.refutation_terms.specs.declared.lines.Line.{Line}
@@ -16,11 +15,10 @@ use Rattle.refutation_terms.specs.LogText.{raw, line_text, fields}
 use Rattle.refutation_terms.specs.Verdict.{HasNoFeed, IsNextLine, Cause, Reading}
 use Rattle.refutation_log.specs.Printing.{lines_text, EachFits}
 use Rattle.refutation_log.specs.ReadLog.{log_with}
-use Rattle.refutation_log.proofs.OneText.{one_list}
 use Rattle.refutation_checker.specs.ChunkVerdicts.{AreSoundBehind, AreAllSound, IsRefusedBehind, IsJudged, Start, StandsBehind}
-use Rattle.refutation_checker.specs.Chunks.{AreChunks, joined_from}
+use Rattle.refutation_checker.specs.Chunks.{AreChunks, EndWithFeed, joined_from}
 use Rattle.refutation_checker.proofs.SoundLines.{lines_joined, sound_joined}
-use Rattle.refutation_checker.proofs.Walking.{some_bytes}
+use Rattle.refutation_log.proofs.LogLines.{some_bytes}
 
 abbrev pub Answer : Type 0
 Answer = Result Bool (Fail LogRefusal)
@@ -67,7 +65,7 @@ ends_with_feed P line (m ∷ lines) =
     let rest = ends_with_feed P m lines in
     (line_text P (raw P line) ++ rest.0, ap (λ t. line_text P (raw P line) ++ t) rest.1 ∙ sym (append_assoc (line_text P (raw P line)) rest.0 (10 ∷ [])))
 
-not_at_end : (P : Instance) (lines : List Line) (front line : List ℕ) → line ≢ [] → HasNoFeed line → lines_text P lines ≡ front ++ line → ⊥
+pub not_at_end : (P : Instance) (lines : List Line) (front line : List ℕ) → line ≢ [] → HasNoFeed line → lines_text P lines ≡ front ++ line → ⊥
 not_at_end P [] front line some none e =
     let long : length (front ++ line) ≡ length front + length line = length-append front line in
     let zero_long : 0 ≡ length (front ++ line) = ap length e in
@@ -76,9 +74,10 @@ not_at_end P [] front line some none e =
 not_at_end P (l ∷ lines) front line some none e =
     let feed = ends_with_feed P l lines in no_feed_at_end front line feed.0 some none (sym e ∙ feed.1)
 
--- what follows a chunk: nothing, or chunks behind its lines
+-- what follows a chunk: nothing, or chunks behind its lines, whatever they are
 abbrev pub IsFollowed : Instance → Option Turn → ℕ → List Line → Start → List ℕ → List Start → Type 0
-IsFollowed P turn size earlier c below chunks = ((below ≡ []) × (chunks ≡ [])) ⊎ ((lines : List Line) × EachFits P lines × (c.bytes ≡ lines_text P lines) × AreChunks P turn size (earlier ++ lines) below chunks)
+IsFollowed P turn size earlier c below chunks =
+    ((below ≡ []) × (chunks ≡ [])) ⊎ (EndWithFeed c.bytes × ((lines : List Line) → EachFits P lines → c.bytes ≡ lines_text P lines → AreChunks P turn size (earlier ++ lines) below chunks))
 
 -- a line of a chunk is one of the whole text
 next_in_all : (P : Instance) (turn : Option Turn) (size : ℕ) (earlier : List Line) (c : Start) (below : List ℕ) (chunks : List Start) (front line rest : List ℕ) → IsFollowed P turn size earlier c below chunks → c.bytes ≡ front ++ line ++ rest → IsNextLine line rest → IsNextLine line (rest ++ below)
@@ -87,7 +86,9 @@ next_in_all P turn size earlier c below chunks front line rest followed e next =
       | inl fed ↦ inl fed
       | inr last ↦ elim followed [
         | inl none ↦ inr (last.0, last.1, ap (λ r. r ++ below) last.2 ∙ none.0)
-        | inr goes ↦ absurd (not_at_end P goes.0 front line last.0 last.1 (sym goes.2 ∙ e ∙ ap (λ r. (front ++ line) ++ r) last.2 ∙ append-nil (front ++ line)))
+        | inr goes ↦
+            let here : c.bytes ≡ front ++ line = e ∙ ap (λ r. (front ++ line) ++ r) last.2 ∙ append-nil (front ++ line) in
+            absurd (no_feed_at_end front line goes.0.0 last.0 last.1 (sym here ∙ goes.0.1))
       ]
     ]
 
@@ -127,32 +128,34 @@ judged_through P R turn earlier front bytes here below (Err (Refused why)) sound
   cause = subst (λ ls. Cause P (Reading (log_with R turn ls)) k.line why) (append_assoc earlier front k.lines) k.cause;
 }
 
-nothing_below : (P : Instance) (turn : Option Turn) (size : ℕ) (earlier : List Line) (c : Start) (below : List ℕ) → IsFollowed P turn size earlier c below [] → below ≡ []
-nothing_below P turn size earlier c below followed = elim followed [ inl none ↦ none.0 | inr goes ↦ goes.3 ]
+nothing_below : (P : Instance) (R : List ℕ) (turn : Option Turn) (size : ℕ) (earlier : List Line) (c : Start) (below : List ℕ) (whole : Bool) → IsFollowed P turn size earlier c below [] → AreAllSound P R turn earlier c.bytes whole → below ≡ []
+nothing_below P R turn size earlier c below whole followed all =
+    elim followed [ inl none ↦ none.0 | inr goes ↦ goes.1 all.lines (fit_from_sound P R turn earlier all.lines all.sound) all.text ]
 
--- the lines that a chunk was cut by are those that were judged
-goes_below : (P : Instance) (R : List ℕ) (turn : Option Turn) (size : ℕ) (earlier : List Line) (c d : Start) (below : List ℕ) (chunks : List Start) (whole : Bool) → KeepsLimits P → IsFollowed P turn size earlier c below (d ∷ chunks) → (all : AreAllSound P R turn earlier c.bytes whole) → AreChunks P turn size (earlier ++ all.lines) below (d ∷ chunks)
-goes_below P R turn size earlier c d below chunks whole limits followed all =
+-- the next chunk stands behind the lines that were judged
+goes_below : (P : Instance) (R : List ℕ) (turn : Option Turn) (size : ℕ) (earlier : List Line) (c d : Start) (below : List ℕ) (chunks : List Start) (whole : Bool) → IsFollowed P turn size earlier c below (d ∷ chunks) → (all : AreAllSound P R turn earlier c.bytes whole) → AreChunks P turn size (earlier ++ all.lines) below (d ∷ chunks)
+goes_below P R turn size earlier c d below chunks whole followed all =
     elim followed [
       | inl none ↦ absurd (let no : d ∷ chunks ≡ [] = none.1 in cc)
-      | inr goes ↦ subst (λ ls. AreChunks P turn size (earlier ++ ls) below (d ∷ chunks)) (one_list P goes.0 all.lines limits goes.1 (fit_from_sound P R turn earlier all.lines all.sound) (sym goes.2 ∙ all.text)) goes.3
+      | inr goes ↦ goes.1 all.lines (fit_from_sound P R turn earlier all.lines all.sound) all.text
     ]
 
-joined_behind : (P : Instance) (R : List ℕ) (turn : Option Turn) (size : ℕ) (c : Start) (cs : List Start) (answers : List Answer) (earlier : List Line) (bytes : List ℕ) (before : Bool) → KeepsLimits P → AreAnswersTo P R (c ∷ cs) answers → AreChunks P turn size earlier bytes (c ∷ cs) → IsJudged P R turn earlier bytes (joined_from before answers)
-joined_behind P R turn size c cs [] earlier bytes before limits are chunks = absurd are
-joined_behind P R turn size c cs (Err Memory ∷ answers) earlier bytes before limits are chunks = tt
-joined_behind P R turn size c cs (Err (Refused why) ∷ answers) earlier bytes before limits are chunks =
+joined_behind : (P : Instance) (R : List ℕ) (turn : Option Turn) (size : ℕ) (c : Start) (cs : List Start) (answers : List Answer) (earlier : List Line) (bytes : List ℕ) (before : Bool) → AreAnswersTo P R (c ∷ cs) answers → AreChunks P turn size earlier bytes (c ∷ cs) → IsJudged P R turn earlier bytes (joined_from before answers)
+joined_behind P R turn size c cs [] earlier bytes before are chunks = absurd are
+joined_behind P R turn size c cs (Err Memory ∷ answers) earlier bytes before are chunks = tt
+joined_behind P R turn size c cs (Err (Refused why) ∷ answers) earlier bytes before are chunks =
     refused_in_front P R turn size earlier c chunks.2 bytes cs why chunks.4 chunks.3 (are.0 turn earlier chunks.0)
-joined_behind P R turn size c [] (Ok whole ∷ a ∷ answers) earlier bytes before limits are chunks = absurd are.1
-joined_behind P R turn size c [] (Ok whole ∷ []) earlier bytes before limits are chunks =
-    let same : bytes ≡ c.bytes = chunks.3 ∙ ap (λ t. c.bytes ++ t) (nothing_below P turn size earlier c chunks.2 chunks.4) ∙ append-nil c.bytes in
-    subst (λ t. AreAllSound P R turn earlier t whole) (sym same) (are.0 turn earlier chunks.0)
-joined_behind P R turn size c (d ∷ cs) (Ok whole ∷ answers) earlier bytes before limits are chunks =
+joined_behind P R turn size c [] (Ok whole ∷ a ∷ answers) earlier bytes before are chunks = absurd are.1
+joined_behind P R turn size c [] (Ok whole ∷ []) earlier bytes before are chunks =
     let all : AreAllSound P R turn earlier c.bytes whole = are.0 turn earlier chunks.0 in
-    let below : AreChunks P turn size (earlier ++ all.lines) chunks.2 (d ∷ cs) = goes_below P R turn size earlier c d chunks.2 cs whole limits chunks.4 all in
+    let same : bytes ≡ c.bytes = chunks.3 ∙ ap (λ t. c.bytes ++ t) (nothing_below P R turn size earlier c chunks.2 whole chunks.4 all) ∙ append-nil c.bytes in
+    subst (λ t. AreAllSound P R turn earlier t whole) (sym same) all
+joined_behind P R turn size c (d ∷ cs) (Ok whole ∷ answers) earlier bytes before are chunks =
+    let all : AreAllSound P R turn earlier c.bytes whole = are.0 turn earlier chunks.0 in
+    let below : AreChunks P turn size (earlier ++ all.lines) chunks.2 (d ∷ cs) = goes_below P R turn size earlier c d chunks.2 cs whole chunks.4 all in
     judged_through P R turn earlier all.lines bytes c.bytes chunks.2 (joined_from whole answers) all.sound all.text chunks.3
-    (joined_behind P R turn size d cs answers (earlier ++ all.lines) chunks.2 whole limits are.1 below)
+    (joined_behind P R turn size d cs answers (earlier ++ all.lines) chunks.2 whole are.1 below)
 
-pub joined : (P : Instance) (R : List ℕ) (turn : Option Turn) (size : ℕ) (chunks : List Start) (answers : List Answer) (earlier : List Line) (bytes : List ℕ) (before : Bool) → KeepsLimits P → AreAnswersTo P R chunks answers → AreChunks P turn size earlier bytes chunks → bytes ≢ [] → IsJudged P R turn earlier bytes (joined_from before answers)
-joined P R turn size [] answers earlier bytes before limits are chunks some = absurd (some chunks)
-joined P R turn size (c ∷ cs) answers earlier bytes before limits are chunks some = joined_behind P R turn size c cs answers earlier bytes before limits are chunks
+pub joined : (P : Instance) (R : List ℕ) (turn : Option Turn) (size : ℕ) (chunks : List Start) (answers : List Answer) (earlier : List Line) (bytes : List ℕ) (before : Bool) → AreAnswersTo P R chunks answers → AreChunks P turn size earlier bytes chunks → bytes ≢ [] → IsJudged P R turn earlier bytes (joined_from before answers)
+joined P R turn size [] answers earlier bytes before are chunks some = absurd (some chunks)
+joined P R turn size (c ∷ cs) answers earlier bytes before are chunks some = joined_behind P R turn size c cs answers earlier bytes before are chunks

@@ -18,7 +18,7 @@ use Rattle.domain_store.specs.Store.{Store, BelongsTo, has_domain, IsStore, HasD
 use Rattle.tree_walk.specs.States.{State, IsStateOf}
 use Rattle.tree_walk.proofs.Idle.{idle_in_store}
 use Rattle.refutation_checker.specs.LineVerdicts.{StandsPlainly, IsPlainlySound, IsIdleSplit, PlainCause, HoldsByWords, IsSound, LineCause}
-use Rattle.refutation_checker.specs.LineTexts.{IsLineRead, MayStep}
+use Rattle.refutation_checker.specs.LineTexts.{IsLineRead, MayStep, StillWalks}
 
 pub plain_is_cause : (P : Instance) (named : List ℕ) (D : Domains) (n : ℕ) (line : Line) (why : LogRefusal) → PlainCause P named D n line why → LineCause P named D n line why
 plain_is_cause P named D n line (Refusals.Form i) h = h
@@ -140,3 +140,14 @@ pub passed_reads : (P : Instance) (named : List ℕ) (old : State) (bytes : List
 passed_reads P named old bytes line number w (Ok found) spelled part h =
     λ turn lines state is. passed_read P named turn lines bytes line number w found spelled (part turn lines state) is (h turn lines state)
 passed_reads P named old bytes line number w (Err e) spelled part h = tt
+
+-- where no cause was found, the walk read the line
+pub passed_walks : (P : Instance) (named : List ℕ) (old w : State) (line : Line) (number : ℕ) (answer : Result (Option LogRefusal) AllocError)
+    → (turn : Option Turn) × (lines : List Line) × IsStateOf P turn lines old
+    → IfOk answer (λ found. (turn : Option Turn) (lines : List Line) → IsStateOf P turn lines old → MatchOption found
+    (IsSound P named (domains_at P turn lines (length lines)) line × IsStateOf P turn (lines ++ line ∷ []) w)
+    (LineCause P named (domains_at P turn lines (length lines)) number line))
+    → IfOk answer (StillWalks P w)
+passed_walks P named old w line number (Ok None) state h = (state.0, state.1 ++ line ∷ [], (h state.0 state.1 state.2).1)
+passed_walks P named old w line number (Ok (Some why)) state h = tt
+passed_walks P named old w line number (Err e) state h = tt

@@ -6,9 +6,11 @@ pub mod Passing
 pub mod HeaderFaults
 pub mod SoundLines
 pub mod ChunkJudging
-pub mod Walking
+pub mod Unread
+pub mod Starts
 pub mod Cutting
 pub mod Joining
 pub mod Feeds
 pub mod Deciding
 pub mod SomeVerdict
+pub mod LeafJudging

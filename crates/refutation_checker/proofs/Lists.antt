@@ -1,66 +1,167 @@
 -- Rules by their numbers in lists.
-use Rattle.std.proofs.Common.{◌≡◌, ◌⊎◌, ℕ, ◌+◌, ◌<◌, List, [], length, Some, sym, subst, ◌∙◌, arith, inl, inr}
+use Rattle.std.proofs.Common.{◌≡◌, ◌⊎◌, ℕ, ◌+◌, ◌<◌, ◌≤◌, min, List, length, get_or, Some, ap, sym, subst, ◌∙◌, arith, inl, inr, ⊎_elim, IsTrue, refl, Bool, true, false}
 use Rattle.std.proofs.lemmas.Bool.{cases_lt}
-use Rattle.std.specs.Prelude.{Contains, ◌↔◌, Option, None, MatchOption}
+use Rattle.std.specs.Prelude.{Contains, ◌↔◌, Option, None, MatchOption, slice_get}
+use Rattle.std.specs.List.Sorted.{IsStrictlyIncreasing}
 use Rattle.std.proofs.lemmas.Option.{same_Some}
+use Rattle.std.proofs.lemmas.List.{get_or_default}
+use Rattle.std.proofs.lemmas.List.Elements.{All-get_or}
 use Rattle.rwsp_terms.specs.Instance.{Instance}
-use Rattle.rwsp_terms.specs.Rules.{rules, rule_of, Names, IsShort, NamesShortOnly}
+use Rattle.rwsp_terms.specs.Rules.{rules, rule_of, IsShort, NamesShortOnly}
 use Rattle.rwsp_terms.specs.declared.data.Rule.{Rule}
-use Rattle.rwsp_model.proofs.Numbering.{one_number, rule_in_range}
+use Rattle.rwsp_terms.specs.declared.data.Rule.TheVariants.{Day}
+use Rattle.rwsp_terms.specs.declared.data.Weight.{Weight}
+use Rattle.rwsp_terms.proofs.Ascending.{rising}
+use Rattle.rwsp_model.specs.RuleNumbers.{IsShortNumber}
+use Rattle.rwsp_model.proofs.Numbering.{one_number}
+use Rattle.refutation_terms.specs.declared.lines.Line.{Line}
+use Rattle.refutation_terms.specs.Log.{AreRules, Cites, CitesOnlyNamed, LineFits}
 use Rattle.refutation_terms.specs.Verdict.{IsLeast, IsUnnamed, IsLongIn}
-use Rattle.refutation_log.specs.Cited.{Adds, IsCited}
-use Rattle.refutation_checker.specs.Outside.{IsOutside, HoldsUpTo, IsShortIn}
+use Rattle.refutation_log.specs.Cited.{IsDayRule, IsWeighedDayRule}
+use Rattle.refutation_log.proofs.Adding.{StandsOn, weighed_steps}
+use Rattle.refutation_log.proofs.CitedRules.{TellsCited, line_numbered, rule_there}
+use Rattle.refutation_checker.specs.Outside.{IsOutside, HoldsAll, IsLeastOutside, lesser}
 
-nothing : (k : ℕ) → Contains {X = ℕ} [] k → ⊥
-nothing k h = omega (arith, h.1)
+-- the same numbers are asked for
+pub same_outside : (A B : ℕ → Type 0) (list : List ℕ) (found : Option ℕ) → ((k : ℕ) → A k ↔ B k) → IsLeastOutside A list found → IsLeastOutside B list found
+same_outside A B list None same h = λ k b. h k ((same k).1 b)
+same_outside A B list (Some n) same h = (((same n).0 h.0.0, h.0.1), λ i b. h.1 i ((same i).1 b.0, b.1))
 
--- the numbers that were put into an empty list
-cited_in : (P : Instance) (Cited : Rule → Type 0) (empty cited : List ℕ) (k : ℕ) → empty ≡ [] → Adds empty cited (IsCited P Cited) → Contains cited k → IsCited P Cited k
-cited_in P Cited empty cited k none adds holds =
-    elim ((adds k).0 holds) [
-      | inl old ↦ absurd (nothing k (subst (λ e. Contains e k) none old))
-      | inr new ↦ new
+pub day_outside : (P : Instance) (j n : ℕ) (list : List ℕ) (found : Option ℕ) → rule_of P n ≡ Some (Day j) → IsLeastOutside (λ k. k ≡ n) list found → IsLeastOutside (IsDayRule P j) list found
+day_outside P j n list found is h =
+    same_outside (λ k. k ≡ n) (IsDayRule P j) list found (λ k. (λ e. ap (rule_of P) e ∙ is, λ e. one_number P k n (Day j) e is)) h
+
+-- what either of two asks for
+pub lesser_outside : (A B : ℕ → Type 0) (list : List ℕ) (a b : Option ℕ) → IsLeastOutside A list a → IsLeastOutside B list b → IsLeastOutside (λ k. A k ⊎ B k) list (lesser a b)
+lesser_outside A B list None None f g = λ k h. ⊎_elim (λ (x : A k). f k x) (λ (y : B k). g k y) h
+lesser_outside A B list None (Some n) f g =
+    ((inr g.0.0, g.0.1), λ i h. ⊎_elim (λ (x : A i). absurd (h.1 (f i x))) (λ (y : B i). g.1 i (y, h.1)) h.0)
+lesser_outside A B list (Some m) None f g =
+    ((inl f.0.0, f.0.1), λ i h. ⊎_elim (λ (x : A i). f.1 i (x, h.1)) (λ (y : B i). absurd (h.1 (g i y))) h.0)
+lesser_outside A B list (Some m) (Some n) f g =
+    let least : (i : ℕ) → IsOutside (λ k. A k ⊎ B k) list i → min m n ≤ i = λ i h.
+    ⊎_elim
+    (λ (x : A i). let le = f.1 i (x, h.1) in omega (arith, le))
+    (λ (y : B i). let le = g.1 i (y, h.1) in omega (arith, le))
+    h.0 in
+    elim (cases_lt m n) [
+      | inl less ↦
+          let e : m ≡ min m n = omega (arith, less) in
+          (subst (IsOutside (λ k. A k ⊎ B k) list) e (inl f.0.0, f.0.1), least)
+      | inr more ↦
+          let e : n ≡ min m n = omega (arith, more) in
+          (subst (IsOutside (λ k. A k ⊎ B k) list) e (inr g.0.0, g.0.1), least)
     ]
 
-pub all_named : (P : Instance) (Cited : Rule → Type 0) (empty cited named : List ℕ) (last : ℕ) → Adds empty cited (IsCited P Cited)
-    → ((r : Rule) → Names P cited r ↔ (Names P empty r ⊎ Cited r)) → last ≡ length (rules P) → HoldsUpTo cited named last → (r : Rule) → Cited r → Names P named r
-all_named P Cited empty cited named last adds names is holds r cites =
-    let in_it = (names r).1 (inr cites) in
-    let within = rule_in_range P in_it.0 r in_it.2 in
-    (in_it.0, holds in_it.0 (omega (arith, within.1, is)) in_it.1, in_it.2)
+-- the list holds what stands in another below a place
+abbrev pub HoldsBelow : List ℕ → List ℕ → ℕ → Type 0
+HoldsBelow list cited i = (m : ℕ) → m < i → Contains list (get_or cited m 0)
 
-pub least_unnamed : (P : Instance) (Cited : Rule → Type 0) (empty cited named : List ℕ) (k : ℕ) → empty ≡ [] → Adds empty cited (IsCited P Cited)
-    → IsLeast (IsOutside cited named) k → IsLeast (IsUnnamed P named Cited) k
-least_unnamed P Cited empty cited named k none adds least =
-    let here = cited_in P Cited empty cited k none adds least.0.0 in (
-      (here.0, here.1, here.2, λ in_it. least.0.1 (subst (Contains named) (one_number P in_it.0 k here.0 in_it.2 here.1) in_it.1)),
-      λ i h. least.1 i ((adds i).1 (inr (h.0, h.1, h.2)), λ in_it. h.3 (i, in_it, h.1)),
+pub holds_all : (cited items list : List ℕ) (i : ℕ) → items ≡ cited → length items ≤ i → HoldsBelow list items i → HoldsAll (Contains cited) list
+holds_all cited items list i e all below =
+    subst (λ z. HoldsAll (Contains z) list) e
+    (λ k c. let less : c.0 < i = omega (arith, c.1, all) in subst (Contains list) (get_or_default items c.0 0 k c.1 ∙ c.2) (below c.0 less))
+
+-- the first that isn't held is the least
+pub least_of : (cited items list : List ℕ) (i n : ℕ) → items ≡ cited → IsStrictlyIncreasing items → i < length items → n ≡ get_or items i 0 → HoldsBelow list items i → (Contains list n → ⊥) → IsLeastOutside (Contains cited) list (Some n)
+least_of cited items list i n e rises inside is below gone =
+    subst (λ z. IsLeast (IsOutside (Contains z) list) n) e (
+      ((i, inside, get_or_default items i n 0 inside ∙ sym is), gone),
+      λ k h. elim (cases_lt h.0.0 i) [
+        | inl less ↦ absurd (h.1 (subst (Contains list) (get_or_default items h.0.0 0 k h.0.1 ∙ h.0.2) (below h.0.0 less)))
+        | inr more ↦
+            let order = rising items rises i h.0.0 more h.0.1 in
+            let same : get_or items h.0.0 0 ≡ k = get_or_default items h.0.0 0 k h.0.1 ∙ h.0.2 in
+            omega (arith, order, same, is)
+      ],
     )
 
+-- the days of the first i weights
+abbrev pub DaysBelow : Instance → List Weight → ℕ → ℕ → Type 0
+DaysBelow P y i k = (m : ℕ) × (m < i) × StandsOn P y m k
+
+same_weight : (a b : Weight) → Some a ≡ Some b → a ≡ b
+same_weight a b e = cc
+
+pub no_days : (P : Instance) (y : List Weight) (list : List ℕ) → IsLeastOutside (DaysBelow P y 0) list None
+no_days P y list = λ k h. absurd (omega (arith, h.1))
+
+pub days_more : (P : Instance) (y : List Weight) (i : ℕ) (e : Weight) (list : List ℕ) (a b : Option ℕ) → slice_get y i ≡ Some e → IsLeastOutside (DaysBelow P y i) list a → IsLeastOutside (IsDayRule P e.day) list b → IsLeastOutside (DaysBelow P y (i + 1)) list (lesser a b)
+days_more P y i e list a b is f g =
+    same_outside (λ k. DaysBelow P y i k ⊎ IsDayRule P e.day k) (DaysBelow P y (i + 1)) list (lesser a b)
+    (λ k. (
+      λ h. ⊎_elim
+          (λ (q : DaysBelow P y i k). (q.0, omega (arith, q.1), q.2))
+          (λ (q : IsDayRule P e.day k). (i, omega arith, (e, is, q)))
+          h,
+      λ q. elim (cases_lt q.0 i) [
+        | inl less ↦ inl (q.0, less, q.2)
+        | inr more ↦
+            let at : q.0 ≡ i = omega (arith, q.1, more) in
+            let there : slice_get y i ≡ Some q.2.0 = subst (λ m. slice_get y m ≡ Some q.2.0) at q.2.1 in
+            let same : q.2.0 ≡ e = same_weight q.2.0 e (sym there ∙ is) in
+            inr (subst (λ (w : Weight). IsDayRule P w.day k) same q.2.2)
+      ],
+    ))
+    (lesser_outside (DaysBelow P y i) (IsDayRule P e.day) list a b f g)
+
+pub all_days : (P : Instance) (items y : List Weight) (i : ℕ) (list : List ℕ) (found : Option ℕ) → items ≡ y → i ≡ length items → IsLeastOutside (DaysBelow P items i) list found → IsLeastOutside (IsWeighedDayRule P y) list found
+all_days P items y i list found e all h =
+    subst (λ z. IsLeastOutside (IsWeighedDayRule P z) list found) e
+    (same_outside (DaysBelow P items (length items)) (IsWeighedDayRule P items) list found (λ k. ((weighed_steps P items k).1, (weighed_steps P items k).0))
+    (subst (λ n. IsLeastOutside (DaysBelow P items n) list found) all h))
+
 -- what the search for a number outside the list says of the rules
-pub unnamed_found : (P : Instance) (Cited : Rule → Type 0) (empty cited named : List ℕ) (last : ℕ) (found : Option ℕ) → empty ≡ [] → Adds empty cited (IsCited P Cited)
-    → ((r : Rule) → Names P cited r ↔ (Names P empty r ⊎ Cited r)) → last ≡ length (rules P)
-    → MatchOption found (HoldsUpTo cited named last) (λ k. IsLeast (IsOutside cited named) k)
-    → MatchOption found ((r : Rule) → Cited r → Names P named r) (λ k. IsLeast (IsUnnamed P named Cited) k)
-unnamed_found P Cited empty cited named last None none adds names is holds = all_named P Cited empty cited named last adds names is holds
-unnamed_found P Cited empty cited named last (Some k) none adds names is least = least_unnamed P Cited empty cited named k none adds least
+pub found_unnamed : (P : Instance) (named : List ℕ) (line : Line) (A : ℕ → Type 0) (found : Option ℕ) → LineFits P line → TellsCited P line A → IsLeastOutside A named found
+    → MatchOption found (CitesOnlyNamed P named line) (λ k. IsLeast (IsUnnamed P named (Cites P line)) k)
+found_unnamed P named line A None fits tells h =
+    λ r cites. let k = line_numbered P line fits r cites in (k.0, h k.0 ((tells k.0).1 (r, k.1, cites)), k.1)
+found_unnamed P named line A (Some n) fits tells h =
+    let here = (tells n).0 h.0.0 in (
+      (here.0, here.1, here.2, λ in_it. h.0.1 (subst (Contains named) (one_number P in_it.0 n here.0 in_it.2 here.1) in_it.1)),
+      λ i q. h.1 i ((tells i).1 (q.0, q.1, q.2), λ in_it. q.3 (i, in_it, q.1)),
+    )
 
--- no number below n is outside
-pub least_of : (cited named : List ℕ) (n : ℕ) → ((k : ℕ) → k < n → Contains cited k → Contains named k) → Contains cited n → (Contains named n → ⊥) → IsLeast (IsOutside cited named) n
-least_of cited named n below here gone =
-    ((here, gone), λ i h. elim (cases_lt i n) [ inl less ↦ absurd (h.1 (below i less h.0)) | inr more ↦ more ])
+-- rules that aren't short
 
-pub all_short : (P : Instance) (R : List ℕ) (n : ℕ) → n ≡ length (rules P) + 1 → ((k : ℕ) → k < n → IsShortIn P R k) → NamesShortOnly P R
-all_short P R n is below r named =
-    let within = rule_in_range P named.0 r named.2 in
-    below named.0 (omega (arith, within.1, is)) r named.2 named.1
+pub short_number : (P : Instance) (k : ℕ) (r : Rule) → rule_of P k ≡ Some r → IsShortNumber P k → IsShort P r
+short_number P k r is h = subst (IsShort P) (same_Some h.0 r (sym h.1 ∙ is)) h.2
 
-pub least_long_of : (P : Instance) (R : List ℕ) (n : ℕ) → ((k : ℕ) → k < n → IsShortIn P R k) → IsLongIn P R n → IsLeast (IsLongIn P R) n
-least_long_of P R n below here =
-    (here, λ i h. elim (cases_lt i n) [ inl less ↦ absurd (h.3 (below i less h.0 h.1 h.2)) | inr more ↦ more ])
+abbrev pub AreShortBelow : Instance → List ℕ → ℕ → Type 0
+AreShortBelow P R i = (m : ℕ) → m < i → IsShortNumber P (get_or R m 0)
 
-pub none_at_zero : (P : Instance) (R : List ℕ) (n : ℕ) → n ≡ 1 → (k : ℕ) → k < n → IsShortIn P R k
-none_at_zero P R n is k less r numbered in_it = absurd (let within = rule_in_range P k r numbered in omega (arith, within.0))
+-- the rule of a number in the list is short, if the number stands below
+short_below : (P : Instance) (R : List ℕ) (i k : ℕ) (r : Rule) → AreShortBelow P R i → (c : Contains R k) → c.0 < i → rule_of P k ≡ Some r → IsShort P r
+short_below P R i k r below c less is =
+    short_number P k r is (subst (IsShortNumber P) (get_or_default R c.0 0 k c.1 ∙ c.2) (below c.0 less))
 
-pub short_of : (P : Instance) (R : List ℕ) (k : ℕ) (r : Rule) → rule_of P k ≡ Some r → IsShort P r → IsShortIn P R k
-short_of P R k r is short q same in_it = subst (IsShort P) (same_Some r q (sym is ∙ same)) short
+pub all_short : (P : Instance) (R items : List ℕ) (i : ℕ) → items ≡ R → length items ≤ i → AreShortBelow P items i → NamesShortOnly P R
+all_short P R items i e all below =
+    subst (NamesShortOnly P) e
+    (λ r named. let less : named.1.0 < i = omega (arith, named.1.1, all) in short_below P items i named.0 r below named.1 less named.2)
+
+pub least_long_of : (P : Instance) (R items : List ℕ) (i n : ℕ) → items ≡ R → AreRules P R → i < length items → n ≡ get_or items i 0 → AreShortBelow P items i → (IsShortNumber P n → ⊥) → IsLeast (IsLongIn P R) n
+least_long_of P R items i n e are inside is below long =
+    let rules_here : AreRules P items = subst (AreRules P) (sym e) are in
+    let within : (0 < get_or items i 0) × (get_or items i 0 ≤ length (rules P)) = All-get_or (λ k. (0 < k) × (k ≤ length (rules P))) items i 0 inside rules_here.1 in
+    let r = rule_there P n (omega (arith, is, within.0)) (omega (arith, is, within.1)) in
+    subst (λ z. IsLeast (IsLongIn P z) n) e (
+      (r.0, r.1, (i, inside, get_or_default items i n 0 inside ∙ sym is), λ short. long (r.0, r.1, short)),
+      λ k h. elim (cases_lt h.2.0 i) [
+        | inl less ↦ absurd (h.3 (short_below P items i k h.0 below h.2 less h.1))
+        | inr more ↦
+            let order = rising items rules_here.0 i h.2.0 more h.2.1 in
+            let same : get_or items h.2.0 0 ≡ k = get_or_default items h.2.0 0 k h.2.1 ∙ h.2.2 in
+            omega (arith, order, same, is)
+      ],
+    )
+
+-- by the answer of a test
+
+pub not_so : (b : Bool) (A : Type 0) → (IsTrue b ↔ A) → b ≡ false → A → ⊥
+not_so true A test e h = absurd (cc)
+not_so false A test e h = absurd (let t : IsTrue false = test.1 h in cc)
+
+pub is_so : (b : Bool) (A : Type 0) → (IsTrue b ↔ A) → b ≡ true → A
+is_so true A test e = test.0 refl
+is_so false A test e = absurd (cc)

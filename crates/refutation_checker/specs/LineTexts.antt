@@ -1,5 +1,5 @@
 -- The lines of a log, judged one after the other.
-use Rattle.std.specs.Prelude.{◌≡◌, ℕ, ◌<◌, false, List, [], ◌∷◌, ◌++◌, length, Option}
+use Rattle.std.specs.Prelude.{◌≡◌, ℕ, ◌<◌, false, List, [], ◌∷◌, ◌++◌, length, Option, Some, None}
 use Rattle.rwsp_terms.specs.Instance.{Instance}
 use Rattle.refutation_terms.specs.declared.lines.Line.{Line}
 use Rattle.refutation_terms.specs.declared.lines.Turn.{Turn}
@@ -43,3 +43,8 @@ MayStep S leaf = Unit {0}
 abbrev pub IsSpellingRefusal : LineRefusal → ℕ → LogRefusal → Type 0
 IsSpellingRefusal Lines.Form n why = why ≡ Refusals.Form n
 IsSpellingRefusal Lines.Name n why = why ≡ Refusals.Name n
+
+-- where there is no cause, some lines lead to where the walk is
+abbrev pub StillWalks : Instance → State → Option LogRefusal → Type 0
+StillWalks P w None = (turn : Option Turn) × (lines : List Line) × IsStateOf P turn lines w
+StillWalks P w (Some why) = Unit {0}

@@ -1,17 +1,22 @@
--- Numbers in lists of rules.
-use Rattle.std.specs.Prelude.{◌≡◌, ℕ, ◌≤◌, List, Contains, Some}
-use Rattle.rwsp_terms.specs.declared.data.Rule.{Rule}
-use Rattle.rwsp_terms.specs.Instance.{Instance}
-use Rattle.rwsp_terms.specs.Rules.{rule_of, IsShort}
+-- Numbers that are asked for and that a list doesn't hold.
+use Rattle.std.specs.Prelude.{ℕ, List, Contains, Option, Some, None, min}
+use Rattle.refutation_terms.specs.Verdict.{IsLeast}
 
--- the first list holds the number, and the second doesn't
-abbrev pub IsOutside : List ℕ → List ℕ → ℕ → Type 0
-IsOutside cited named k = Contains cited k × (Contains named k → ⊥)
+-- the number is asked for, and the list doesn't hold it
+abbrev pub IsOutside : (ℕ → Type 0) → List ℕ → ℕ → Type 0
+IsOutside IsAsked list k = IsAsked k × (Contains list k → ⊥)
 
--- the second list holds what the first holds up to the last number
-abbrev pub HoldsUpTo : List ℕ → List ℕ → ℕ → Type 0
-HoldsUpTo cited named last = (k : ℕ) → k ≤ last → Contains cited k → Contains named k
+-- the list holds each number that is asked for
+abbrev pub HoldsAll : (ℕ → Type 0) → List ℕ → Type 0
+HoldsAll IsAsked list = (k : ℕ) → IsAsked k → Contains list k
 
--- the rule of the number is short, if the list holds the number
-abbrev pub IsShortIn : Instance → List ℕ → ℕ → Type 0
-IsShortIn P R k = (r : Rule) → rule_of P k ≡ Some r → Contains R k → IsShort P r
+-- the least number that is asked for and that the list doesn't hold; None where it holds them all
+abbrev pub IsLeastOutside : (ℕ → Type 0) → List ℕ → Option ℕ → Type 0
+IsLeastOutside IsAsked list None = HoldsAll IsAsked list
+IsLeastOutside IsAsked list (Some k) = IsLeast (IsOutside IsAsked list) k
+
+-- the lesser of the numbers that are there
+abbrev pub lesser : Option ℕ → Option ℕ → Option ℕ
+lesser None b = b
+lesser (Some a) None = Some a
+lesser (Some a) (Some b) = Some (min a b)

@@ -2,6 +2,7 @@
 ghost use Rattle.std.specs.Prelude.{◌+◌, ◌^◌, ◌<◌, List, length, Option};
 ghost use Rattle.refutation_terms.specs.declared.lines.Line.{Line};
 ghost use Rattle.refutation_terms.specs.declared.lines.Turn.{Turn};
+ghost use Rattle.tree_walk.specs.States.{IsStateOf};
 ghost use Rattle.refutation_checker.specs.ChunkVerdicts.{StandsBehind, IsJudged};
 
 use crate::judge::Judge;
@@ -40,7 +41,7 @@ pub fn judge_chunk(
     named: &RuleList,
     chunk: Chunk,
 ) -> Result<bool, Fail<LogRefusal>>
-    requires start { (turn : Option Turn) × (earlier : List Line) × StandsBehind problem.now turn earlier chunk }
+    requires state { (turn : Option Turn) × (earlier : List Line) × IsStateOf problem.now turn earlier chunk.walk }
     requires few { chunk.first + length chunk.bytes < 2 ^ 31 }
     ensures { (turn : Option Turn) (earlier : List Line) → StandsBehind problem.now turn earlier chunk.entry →
         IsJudged problem.now named.now turn earlier chunk.entry.bytes result }

@@ -13,12 +13,12 @@ ghost use Rattle.refutation_terms.specs.Verdict.{Cause, Reading, Escapes, header
 ghost use Rattle.domain_store.specs.Store.{BelongsTo, has_domain};
 ghost use Rattle.tree_walk.specs.States.{IsStateOf};
 ghost use Rattle.refutation_checker.specs.LineVerdicts.{HoldsByWords, IsSound, LineCause};
-ghost use Rattle.refutation_checker.specs.LineTexts.{IsLineRead, IsSpellingRefusal};
+ghost use Rattle.refutation_checker.specs.LineTexts.{IsLineRead, IsSpellingRefusal, StillWalks};
 
 use crate::bound::bound_escape;
 use crate::kept_tails::tails_of;
-use crate::plain::plain_refusal;
-use crate::step::step;
+use crate::plain_causes::plain_refusal;
+use crate::line_walk::step;
 use domain_store::Domains;
 use layered_cycle::escape;
 use refutation_log::{LineRefusal, read_line};
@@ -78,6 +78,7 @@ impl<'a> Judge<'a> {
             MatchOption found
             (IsLineRead self.old.problem self.old.named turn lines bytes.now walk.new)
             (λ why. Cause self.old.problem (Reading (record { named = self.old.named; turn = turn; lines = lines })) bytes.now why)) }
+        ensures walks { IfOk result (StillWalks self.old.problem walk.new) }
     {
         if walk.is_whole() {
             return Ok(Some(LogRefusal::Extra(number)));
@@ -131,7 +132,7 @@ impl<'a> Judge<'a> {
             (IsSound self.old.problem self.old.named (has_domain doms.now) line.now)
             (LineCause self.old.problem self.old.named (has_domain doms.now) number line.now)) }
     {
-        if let Some(why) = plain_refusal(alloc, self.problem, self.named, doms, line, number)? {
+        if let Some(why) = plain_refusal(self.problem, self.named, doms, line, number) {
             return Ok(Some(why));
         }
         match self.leaf_escape(alloc, doms, line)? {
@@ -142,7 +143,7 @@ impl<'a> Judge<'a> {
 
     // The word that escapes a dead or a bound leaf; None exactly where the leaf holds, and for
     // other lines.
-    fn leaf_escape(
+    pub fn leaf_escape(
         &mut self,
         alloc: Global,
         doms: &Domains,

@@ -3,24 +3,27 @@
 
 mod bound;
 mod chunk;
+mod chunk_starts;
 mod header;
 mod judge;
 mod kept_tails;
+mod leaf_judge;
 mod laws;
 mod line_ends;
+mod line_walk;
 mod log_check;
-mod long;
-mod named;
-mod plain;
-mod scan;
-mod step;
+mod long_rules;
+mod plain_causes;
 #[cfg(test)]
 mod tests;
 mod turn;
+mod unnamed_rules;
+mod unread_splits;
 mod verdict;
 mod workers;
 
 pub use laws::texts_have_a_verdict;
+pub use leaf_judge::{LeafJudge, go_past};
 pub use log_check::check_log;
 pub use potential_bounds::{Gate, NoGate};
 pub use verdict::{check, check_with};

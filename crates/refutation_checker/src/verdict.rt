@@ -1,5 +1,5 @@
 // The verdict on a whole log.
-ghost use Rattle.std.specs.Prelude.{◌≡◌, ◌≤◌, length, [], IfOk};
+ghost use Rattle.std.specs.Prelude.{◌≡◌, ◌≤◌, length, [], IfOk, false};
 ghost use Rattle.rwsp_model.specs.Refusals.{MatchAnswer};
 ghost use Rattle.refutation_terms.specs.Log.{Log as LogValue, TurnFits};
 ghost use Rattle.refutation_terms.specs.Verdict.{IsAccepted, IsRefused};
@@ -55,6 +55,7 @@ fn body_of<'a>(
 ) -> Result<Chunk<'a>, AllocError>
     requires fits { TurnFits problem.now header.now.turn }
     ensures start { IfOk result (λ body. StandsBehind problem.now header.now.turn [] body) }
+    ensures part { IfOk result (λ body. body.walk.whole ≡ false) }
     ensures bytes { IfOk result (λ body. body.bytes ≡ header.now.body.now) }
     ensures first { IfOk result (λ body. body.first ≤ 4) }
 {

@@ -6,7 +6,7 @@ ghost use Rattle.refutation_checker.specs.ChunkVerdicts.{StandsBehind, IsJudged}
 ghost use Rattle.refutation_checker.specs.Chunks.{IsJudgeable, joined_from};
 
 use crate::chunk::{Chunk, judge_chunk};
-use crate::scan::chunks_for;
+use crate::chunk_starts::chunks_for;
 use potential_bounds::Gate;
 use refutation_terms::LogRefusal;
 use rwsp_model::{Fail, Problem, RuleList};
@@ -26,12 +26,12 @@ pub fn judge_by_workers<R: Threads + Sync, G: Gate>(
     gate: &G,
 ) -> Result<bool, Fail<LogRefusal>>
     requires start { IsJudgeable problem.now all }
+    requires part { all.walk.whole ≡ false }
     requires some { all.bytes ≢ [] }
     requires workers { (1 ≤ workers) × (workers ≤ 64) }
-    ensures { (turn : Option Turn) (earlier : List Line) → StandsBehind problem.now turn earlier all.entry →
-        IsJudged problem.now named.now turn earlier all.entry.bytes result }
+    ensures { (turn : Option Turn) → StandsBehind problem.now turn [] all.entry →
+        IsJudged problem.now named.now turn [] all.entry.bytes result }
 {
-    problem.keeps_limits();
     let Ok(chunks) = chunks_for(alloc, problem, all, workers) else {
         return Err(Fail::Memory);
     };

@@ -14,7 +14,8 @@ use Rattle.rwsp_terms.specs.Weights.{ComesBefore, weight_at, AreWeights, IsWeigh
 use Rattle.rwsp_terms.specs.Places.{is_at, SetsWeight}
 use Rattle.rwsp_terms.proofs.Ascending.{increasing_from_pairs, weight_past, weight_first, test_from_here, here_from_test}
 use Rattle.rwsp_terms.proofs.SameLists.{same_rule_lists, same_weights, before_all}
-use Rattle.refutation_log.specs.Reading.{IsValue}
+use Rattle.rwsp_text.specs.Fields.{IsValue}
+use Rattle.rwsp_terms.specs.declared.limits.TheConstants.{GREATEST_WEIGHT}
 use Rattle.refutation_log.specs.Gathering.{weight_of, with_last}
 use Rattle.refutation_log.proofs.CitedRules.{not_here}
 
@@ -85,7 +86,7 @@ same_here old new j s v k x false t before sets =
     sets.elsewhere k x (λ q. let same : is_at (weight_of j s v) k x ≡ true = test_from_here (weight_of j s v) k x (sym q.0, sym q.1) in cc)
     ∙ sym (off_end old (weight_of j s v) k x t)
 
-pub weight_behind : (old new : List Weight) (j : ℕ) (s : Symbol) (v : ℤ) → AreWeights old → AllPairs ComesBefore (with_last old j s v) → IsValue v → SetsWeight old new j s.number v → new ≡ with_last old j s v
+pub weight_behind : (old new : List Weight) (j : ℕ) (s : Symbol) (v : ℤ) → AreWeights old → AllPairs ComesBefore (with_last old j s v) → IsValue GREATEST_WEIGHT v → SetsWeight old new j s.number v → new ≡ with_last old j s v
 weight_behind old new j s v are ascends value sets =
     same_weights new (old ++ weight_of j s v ∷ []) sets.weights
     (record {

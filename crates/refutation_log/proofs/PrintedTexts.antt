@@ -8,7 +8,8 @@ use Rattle.std.proofs.lemmas.List.Concat.{flat_map-append}
 use Rattle.rwsp_terms.specs.declared.data.Weight.{Weight}
 use Rattle.rwsp_terms.specs.Instance.{Instance}
 use Rattle.refutation_terms.specs.declared.lines.Line.{Line}
-use Rattle.refutation_terms.specs.LogText.{RawSplit, RawWindow, RawDay, RawDead, RawBound, raw, fields, line_text, place, way, numbers, named_weight, weight_fields, rules_text, turn_text}
+use Rattle.refutation_terms.specs.LogText.{RawSplit, RawWindow, RawDay, RawDead, RawBound, raw, fields, line_text, place, way, named_weight, rules_text, turn_text}
+use Rattle.rwsp_text.specs.Fields.{numbers, weight_fields}
 use Rattle.refutation_log.specs.Printing.{spaced, lines_text, words_of}
 
 pub join_spaced : (w : List ℕ) (ws : List (List ℕ)) → join_with_byte 32 (w ∷ ws) ≡ w ++ spaced ws

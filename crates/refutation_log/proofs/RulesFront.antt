@@ -2,15 +2,8 @@
 use Rattle.std.proofs.Common.{◌≡◌, ℕ, ◌+◌, ◌<◌, List, [], ◌∷◌, ◌++◌, length, refl, ap, sym, ◌∙◌, arith, Option, Some, None, append_assoc}
 use Rattle.std.specs.Option.{option_map}
 use Rattle.std.proofs.lemmas.List.{append-nil}
-use Rattle.refutation_log.specs.Reading.{number_in, number_at, front_onto, rules_front}
-
-abbrev pub pair_of : {A B : Type 0} → A → B → A × B
-pair_of a b = (a, b)
-
-pub same_pairs : {A B : Type 0} (a b : A) (c d : B) → Some (pair_of a c) ≡ Some (pair_of b d) → (a ≡ b) × (c ≡ d)
-same_pairs {A} {B} a b c d e =
-    let p : pair_of a c ≡ pair_of b d = cc in
-    (ap (λ (q : A × B). q.0) p, ap (λ (q : A × B). q.1) p)
+use Rattle.rwsp_text.specs.Fields.{number_in, number_at, front_onto, rules_front}
+use Rattle.rwsp_text.proofs.Words.{same_pairs}
 
 front_by : (high : ℕ) (w : List ℕ) (ws : List (List ℕ)) (o : Option ℕ) (n : ℕ) (rest : List (List ℕ)) → option_map {U = ℕ × List (List ℕ)} (λ m. (m, ws)) o ≡ Some (n, rest) → front_onto o (λ m. rules_front high m ws) (w ∷ ws) ≡ (n ∷ (rules_front high n rest).0, (rules_front high n rest).1)
 front_by high w ws None n rest e = absurd (cc)

@@ -8,7 +8,8 @@ use Rattle.rwsp_model.specs.declared.fail.Fail.{Fail}
 use Rattle.rwsp_model.specs.declared.fail.Fail.TheVariants.{Refused}
 use Rattle.refutation_terms.specs.declared.lines.Line.{Line}
 use Rattle.refutation_terms.specs.declared.lines.Line.TheVariants.{Bound}
-use Rattle.refutation_terms.specs.LogText.{NamedWeight, weights_of}
+use Rattle.refutation_terms.specs.LogText.{weights_of}
+use Rattle.rwsp_text.specs.Fields.{NamedWeight}
 use Rattle.refutation_log.specs.declared.refusal.LineRefusal.{LineRefusal}
 use Rattle.refutation_log.specs.declared.refusal.LineRefusal.TheVariants.{Form, Name}
 use Rattle.refutation_log.specs.declared.gather.Gathered.{Gathered}

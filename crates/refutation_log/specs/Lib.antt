@@ -1,5 +1,4 @@
 pub mod Cited
-pub mod FieldList
 pub mod Gathering
 pub mod Laws
 pub mod Printing

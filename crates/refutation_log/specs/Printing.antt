@@ -5,7 +5,8 @@ use Rattle.rwsp_terms.specs.declared.data.Weight.{Weight}
 use Rattle.rwsp_terms.specs.Instance.{Instance}
 use Rattle.refutation_terms.specs.declared.lines.Line.{Line}
 use Rattle.refutation_terms.specs.Log.{LineFits}
-use Rattle.refutation_terms.specs.LogText.{raw, line_text, weight_fields, named_weight}
+use Rattle.refutation_terms.specs.LogText.{raw, line_text, named_weight}
+use Rattle.rwsp_text.specs.Fields.{weight_fields}
 
 -- a blank in front of each word
 abbrev pub spaced : List (List ℕ) → List ℕ

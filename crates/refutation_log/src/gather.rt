@@ -3,7 +3,8 @@ ghost use Rattle.std.specs.Prelude.{◌≡◌, ◌↔◌, ℤ, IfOk, OnOk, AllPa
 ghost use Rattle.rwsp_terms.specs.Instance.{symbol_of};
 ghost use Rattle.rwsp_terms.specs.Places.{Precedes};
 ghost use Rattle.rwsp_terms.specs.Weights.{AreWeights, ComesBefore};
-ghost use Rattle.refutation_log.specs.Reading.{IsValue};
+ghost use Rattle.rwsp_text.specs.Fields.{IsValue};
+ghost use Rattle.rwsp_terms.specs.declared.limits.TheConstants.{GREATEST_WEIGHT};
 ghost use Rattle.refutation_log.specs.Gathering.{IsAdded, with_last};
 
 use rwsp_model::Problem;
@@ -26,7 +27,7 @@ pub fn add(
     name: &[u8],
     value: i32,
 ) -> Result<Gathered, AllocError>
-    requires { IsValue value }
+    requires { IsValue GREATEST_WEIGHT value }
     ensures { IfOk result (IsAdded state (symbol_of problem.now name.now) day value) }
 {
     let Some(x) = problem.symbol(name) else {
@@ -40,7 +41,7 @@ pub fn add(
 }
 
 fn add_behind(mut weights: Weights, day: u32, x: Symbol, value: i32) -> Result<Gathered, AllocError>
-    requires { IsValue value }
+    requires { IsValue GREATEST_WEIGHT value }
     ensures { IfOk result (IsAdded (Gathered.Rising weights) (Some x) day value) }
 {
     if goes_behind(weights.entries(), day, x) {
@@ -56,7 +57,7 @@ fn add_behind(mut weights: Weights, day: u32, x: Symbol, value: i32) -> Result<G
 fn append(weights: &mut Weights, day: u32, x: Symbol, value: i32) -> Result<(), AllocError>
     requires weights { AreWeights weights.old }
     requires last { AllPairs ComesBefore (with_last weights.old day x value) }
-    requires value { IsValue value }
+    requires value { IsValue GREATEST_WEIGHT value }
     ensures { OnOk result (weights.new ≡ with_last weights.old day x value) }
 {
     weights.put(day, x, value)

@@ -5,17 +5,17 @@ ghost use Rattle.rwsp_model.specs.Refusals.{MatchAnswer};
 ghost use Rattle.refutation_terms.specs.Log.{AreRules, TurnFits};
 ghost use Rattle.refutation_terms.specs.LogText.{version_text, rules_text, turn_text};
 ghost use Rattle.refutation_terms.specs.Verdict.{header_lines, TurnsTo};
-ghost use Rattle.refutation_log.specs.FieldList.{fields_of};
+ghost use Rattle.rwsp_text.specs.Lines.{words_of};
 ghost use Rattle.refutation_log.specs.Refusals.{SpellsVersion, SpellsRules, IsTurnRefused};
 ghost use Rattle.refutation_log.specs.Reading.{named_at, turn_at};
 ghost use Rattle.refutation_log.specs.ReadLog.{IsHeaderRefused, BeginsWithHeader};
 
-use crate::fields::Fields;
+use crate::LineRefusal;
 use crate::line::{body_of, rule_numbers};
-use crate::{LineReader, LineRefusal};
 use refutation_terms::{LogRefusal, Turn};
 use rwsp_model::{Fail, Problem};
 use rwsp_terms::RuleList;
+use rwsp_text::{Fields, LineReader};
 use std::alloc::{AllocError, Global};
 
 /// The number of lines of a header: three with a turn, else two.
@@ -160,7 +160,7 @@ fn read_rules(
 
 #[tactic(auto, unfolding(crate::specs::Reading::named_at))]
 fn rules_of(alloc: Global, problem: &Problem, body: &[u8]) -> Result<Option<RuleList>, AllocError>
-    ensures { IfOk result (λ o. named_at problem.now (fields_of body.now) ≡ o) }
+    ensures { IfOk result (λ o. named_at problem.now (words_of body.now) ≡ o) }
 {
     let mut fields = Fields::of(body);
     let Some(()) = fields.word(b"rules") else {
@@ -193,7 +193,7 @@ fn read_turn(problem: &Problem, bytes: &[u8]) -> Result<Turn, LineRefusal>
 
 #[tactic(auto, unfolding(crate::specs::Reading::turn_at))]
 fn turn_parts<'a>(problem: &Problem, body: &'a [u8]) -> Option<(&'a [u8], u32)>
-    ensures { MatchOption result (turn_at problem.now (fields_of body.now) ≡ None) (λ r. turn_at problem.now (fields_of body.now) ≡ Some (r.0.now, r.1)) }
+    ensures { MatchOption result (turn_at problem.now (words_of body.now) ≡ None) (λ r. turn_at problem.now (words_of body.now) ≡ Some (r.0.now, r.1)) }
 {
     let mut fields = Fields::of(body);
     fields.word(b"turn")?;

@@ -2,7 +2,6 @@
 #![tactic(auto)]
 
 mod cited;
-mod fields;
 mod gather;
 mod header;
 mod laws;
@@ -10,7 +9,6 @@ mod line;
 mod log;
 mod print;
 mod read;
-mod reader;
 mod refusal;
 #[cfg(test)]
 mod tests;
@@ -25,7 +23,7 @@ pub use line::read_line;
 pub use log::{Log, copy_line};
 pub use print::print_log;
 pub use read::read_log;
-pub use reader::LineReader;
 pub use refusal::LineRefusal;
 pub use refutation_terms::{Line, LogRefusal, Turn};
+pub use rwsp_text::LineReader;
 pub use turn::first_turn;

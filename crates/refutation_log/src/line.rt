@@ -1,21 +1,26 @@
 // Lines of a log's text, read by their fields.
-ghost use Rattle.std.specs.Prelude.{◌≡◌, ◌≢◌, ◌<◌, ◌++◌, ◌∷◌, ℕ, List, [], Option, Some, None, MatchOption, IfOk, IfSome, OnOk, All};
+ghost use Rattle.std.specs.Prelude.{◌≡◌, ◌≢◌, ◌<◌, ◌≤◌, ◌^◌, ◌++◌, ◌∷◌, ℕ, List, [], Option, Some, None, MatchOption, IfOk, IfSome, OnOk, All};
 ghost use Rattle.std.specs.List.Sorted.{IsStrictlyIncreasing};
 ghost use Rattle.rwsp_terms.specs.Rules.{rules};
 ghost use Rattle.rwsp_model.specs.Refusals.{MatchAnswer};
 ghost use Rattle.refutation_terms.specs.LogText.{RawSplit, RawWindow, RawDay};
 ghost use Rattle.refutation_terms.specs.Verdict.{Spells};
-ghost use Rattle.refutation_log.specs.FieldList.{fields_of};
+ghost use Rattle.rwsp_text.specs.Lines.{words_of};
 ghost use Rattle.refutation_log.specs.Refusals.{IsLineRefused};
-ghost use Rattle.refutation_log.specs.Reading.{split_at, window_at, day_at, head_at, rules_at, dead_at, weight_in, weights_at, bound_at, raw_at, Reads, Answers, most_turns, IsValue};
+ghost use Rattle.rwsp_text.specs.Fields.{IsValue};
+ghost use Rattle.rwsp_text.specs.Reads.{Reads};
+ghost use Rattle.rwsp_terms.specs.declared.limits.TheConstants.{GREATEST_WEIGHT};
+ghost use Rattle.refutation_terms.specs.LineKinds.{most_turns};
+ghost use Rattle.refutation_log.specs.Reading.{split_at, window_at, day_at, head_at, rules_in, dead_at, weight_at, all_weights_at, bound_at, raw_at, Answers};
 ghost use Rattle.refutation_log.specs.Gathering.{GivesAll, IsBound};
 
 use crate::LineRefusal;
-use crate::fields::Fields;
 use crate::gather::{Gathered, add};
 use refutation_terms::Line;
 use rwsp_model::{Fail, Problem, rule_count};
+use rwsp_terms::limits::{GREATEST_WEIGHT, LONGEST_WORD};
 use rwsp_terms::{RuleList, Weights};
+use rwsp_text::Fields;
 use std::alloc::{AllocError, Global};
 
 const FORM: Fail<LineRefusal> = Fail::Refused(LineRefusal::Form);
@@ -43,7 +48,7 @@ pub fn body_of(bytes: &[u8]) -> Option<&[u8]>
 
 #[tactic(auto, unfolding(crate::specs::Reading::raw_at))]
 fn read_body(alloc: Global, problem: &Problem, body: &[u8]) -> Result<Line, Fail<LineRefusal>>
-    ensures { Answers problem.now (raw_at problem.now (fields_of body.now)) result }
+    ensures { Answers problem.now (raw_at problem.now (words_of body.now)) result }
 {
     let mut fields = Fields::of(body);
     let Some(word) = fields.next() else {
@@ -70,7 +75,7 @@ fn read_body(alloc: Global, problem: &Problem, body: &[u8]) -> Result<Line, Fail
 fn split_parts<'a>(problem: &Problem, fields: &mut Fields<'a>) -> Option<(u32, &'a [u8])>
     ensures { MatchOption result (split_at problem.now fields.old ≡ None) (λ r. split_at problem.now fields.old ≡ Some (RawSplit r.0 r.1.now)) }
 {
-    let p = fields.place(problem)?;
+    let p = fields.place(problem.weeks(), problem.days())?;
     let name = fields.name()?;
     if fields.is_done() {
         Some((p, name))
@@ -96,8 +101,8 @@ fn window_parts(problem: &Problem, fields: &mut Fields) -> Option<(u32, u32, u32
     ensures { MatchOption result (window_at problem.now fields.old ≡ None) (λ r. window_at problem.now fields.old ≡ Some (RawWindow r.0 r.1 r.2)) }
 {
     let rule = fields.number(1, rule_count(problem))?;
-    let p = fields.place(problem)?;
-    let len = fields.number(1, 16_800)?;
+    let p = fields.place(problem.weeks(), problem.days())?;
+    let len = fields.number(1, LONGEST_WORD)?;
     if fields.is_done() {
         Some((rule, p, len))
     } else {
@@ -120,7 +125,7 @@ fn day_parts<'a>(problem: &Problem, fields: &mut Fields<'a>) -> Option<(u32, &'a
 {
     let day = fields.number(1, problem.days())?;
     let name = fields.name()?;
-    let over = fields.way()?;
+    let over = fields.choice(b"over", b"short")?;
     if fields.is_done() {
         Some((day, name, over))
     } else {
@@ -143,22 +148,23 @@ fn read_day(problem: &Problem, fields: &mut Fields) -> Result<Line, Fail<LineRef
 // A position, a number of at most so much, and the word that begins a list of rules.
 #[tactic(auto, unfolding(crate::specs::Reading::head_at))]
 fn head(problem: &Problem, fields: &mut Fields, high: u32) -> Option<(u32, u32)>
+    requires { high < 10 ^ 9 }
     ensures { Reads (head_at problem.now high fields.old) result fields.new }
 {
-    let p = fields.place(problem)?;
+    let p = fields.place(problem.weeks(), problem.days())?;
     let n = fields.number(1, high)?;
     fields.word(b"rules")?;
     Some((p, n))
 }
 
 /// The ascending numbers of rules in front.
-#[tactic(auto, unfolding(crate::specs::Reading::rules_at))]
+#[tactic(auto, unfolding(rwsp_text::specs::Fields::rules_at))]
 pub fn rule_numbers(
     alloc: Global,
     problem: &Problem,
     fields: &mut Fields,
 ) -> Result<RuleList, AllocError>
-    ensures { IfOk result (λ R. rules_at problem.now fields.old ≡ (R, fields.new)) }
+    ensures { IfOk result (λ R. rules_in problem.now fields.old ≡ (R, fields.new)) }
 {
     let high = rule_count(problem);
     let mut list = RuleList::new(alloc);
@@ -188,7 +194,7 @@ fn read_dead(
 ) -> Result<Line, Fail<LineRefusal>>
     ensures { Answers problem.now (dead_at problem.now fields.old) result }
 {
-    let Some((p, len)) = head(problem, fields, 16_800) else {
+    let Some((p, len)) = head(problem, fields, LONGEST_WORD) else {
         return Err(FORM);
     };
     let Ok(rules) = rule_numbers(alloc, problem, fields) else {
@@ -201,14 +207,14 @@ fn read_dead(
     }
 }
 
-#[tactic(auto, unfolding(crate::specs::Reading::weight_in))]
+#[tactic(auto, unfolding(rwsp_text::specs::Fields::weight_in))]
 fn weight<'a>(problem: &Problem, fields: &mut Fields<'a>) -> Option<(u32, &'a [u8], i32)>
-    ensures value { MatchOption result (weight_in problem.now fields.old ≡ None) (λ r. weight_in problem.now fields.old ≡ Some (record { day = r.0; name = r.1.now; value = r.2 }, fields.new)) }
-    ensures range { IfSome result (λ r. IsValue r.2) }
+    ensures value { MatchOption result (weight_at problem.now fields.old ≡ None) (λ r. weight_at problem.now fields.old ≡ Some (record { day = r.0; name = r.1.now; value = r.2 }, fields.new)) }
+    ensures range { IfSome result (λ r. IsValue GREATEST_WEIGHT r.2) }
 {
     let day = fields.number(1, problem.days())?;
     let name = fields.name()?;
-    let value = fields.value()?;
+    let value = fields.value(GREATEST_WEIGHT)?;
     Some((day, name, value))
 }
 
@@ -218,7 +224,7 @@ fn weights(
     problem: &Problem,
     fields: &mut Fields,
 ) -> Result<Option<Gathered>, AllocError>
-    ensures { IfOk result (GivesAll problem.now (weights_at problem.now fields.old)) }
+    ensures { IfOk result (GivesAll problem.now (all_weights_at problem.now fields.old)) }
 {
     let mut state = Gathered::Rising(Weights::new(alloc));
     while !fields.is_done() {
@@ -230,7 +236,7 @@ fn weights(
     Ok(Some(state))
 }
 
-#[tactic(auto, unfolding(crate::specs::Reading::bound_at))]
+#[tactic(auto, unfolding(crate::specs::Reading::bound_at), using(crate::proofs::LineTexts::few_turns))]
 fn read_bound(
     alloc: Global,
     problem: &Problem,
@@ -259,7 +265,7 @@ fn most_turns(problem: &Problem) -> u32
     ensures { result ≡ most_turns problem.now }
 {
     problem.keeps_limits();
-    16_800 / problem.cells()
+    LONGEST_WORD / problem.cells()
 }
 
 fn bound_of(p: u32, turns: u32, rules: RuleList, state: Gathered) -> Result<Line, Fail<LineRefusal>>

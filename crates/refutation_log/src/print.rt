@@ -1,5 +1,5 @@
 // The text of a log.
-ghost use Rattle.std.specs.Prelude.{◌≡◌, ℕ, ◌++◌, ◌∷◌, ◌<◌, map, OnOk, OnErr, IfOk, Option, Some, slice_get};
+ghost use Rattle.std.specs.Prelude.{◌≡◌, ℕ, ◌++◌, ◌∷◌, ◌<◌, map, OnOk, IfOk, Option, Some, slice_get};
 ghost use Rattle.std.specs.List.{join_with_byte};
 ghost use Rattle.std.specs.Fmt.{signed_decimal, decimal};
 ghost use Rattle.rwsp_terms.specs.Instance.{cells, IsSymbol, name_of};
@@ -7,14 +7,15 @@ ghost use Rattle.rwsp_terms.specs.declared.data.Symbol.{Symbol};
 ghost use Rattle.rwsp_terms.specs.declared.data.Weight.{Weight};
 ghost use Rattle.refutation_terms.specs.declared.lines.Line.{Line};
 ghost use Rattle.refutation_terms.specs.Log.{Fits, LineFits, TurnFits, WeightsFit};
-ghost use Rattle.refutation_terms.specs.LogText.{RawSplit, RawWindow, RawDay, RawDead, RawBound, raw, fields, line_text, log_text, header_text, rules_text, turn_text, place, numbers, weight_fields, named_weight, way};
+ghost use Rattle.refutation_terms.specs.LogText.{RawSplit, RawWindow, RawDay, RawDead, RawBound, raw, fields, line_text, log_text, header_text, rules_text, turn_text, place, named_weight, way};
+ghost use Rattle.rwsp_text.specs.Fields.{numbers, weight_fields};
 ghost use Rattle.refutation_log.specs.Printing.{spaced, lines_text, words_of};
 
 use crate::Log;
 use refutation_terms::{Line, Turn};
 use rwsp_model::Problem;
 use rwsp_terms::{Symbol, Weight};
-use rwsp_text::put_number;
+use rwsp_text::{put_number, put_signed};
 use std::alloc::{AllocError, Global};
 
 /// The text of the log.
@@ -31,13 +32,11 @@ pub fn print_log(alloc: Global, problem: &Problem, log: &Log) -> Result<Vec<u8>,
 // Appends the text of the line, with its LF.
 fn put_line(out: &mut Vec<u8>, problem: &Problem, line: &Line) -> Result<(), AllocError>
     requires { LineFits problem.now line.now }
-    ensures ok { OnOk result (out.new.items ≡ out.old.items ++ line_text problem.now (raw problem.now line.now)) }
-    ensures err { OnErr result (out.new.items ≡ out.old.items) }
+    ensures { OnOk result (out.new.items ≡ out.old.items ++ line_text problem.now (raw problem.now line.now)) }
 {
-    let mut text = Vec::new(*out.allocator());
-    put_fields(&mut text, problem, line)?;
-    text.push(b'\n')?;
-    out.extend_from_slice(&text)
+    put_fields(out, problem, line)?;
+    out.push(b'\n')?;
+    Ok(())
 }
 
 #[tactic(auto, using(crate::proofs::PrintedTexts::pieces_more, crate::proofs::PrintedTexts::joined_lines))]
@@ -269,6 +268,6 @@ fn put_weight(out: &mut Vec<u8>, problem: &Problem, entry: &Weight) -> Result<()
 fn put_value(out: &mut Vec<u8>, value: i32) -> Result<(), AllocError>
     ensures { OnOk result (out.new.items ≡ out.old.items ++ 32 ∷ signed_decimal value) }
 {
-    let digits = value.to_string(*out.allocator())?;
-    put_word(out, digits.as_bytes())
+    out.push(b' ')?;
+    put_signed(out, value)
 }

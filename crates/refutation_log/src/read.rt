@@ -1,5 +1,6 @@
 // A log read from its text, line by line.
 ghost use Rattle.std.specs.Prelude.{◌≡◌, ◌≤◌, ◌<◌, ◌+◌, ◌^◌, ◌++◌, ◌∷◌, [], length, OnOk};
+ghost use Rattle.rwsp_terms.specs.declared.limits.TheConstants.{LONGEST_LOG};
 ghost use Rattle.rwsp_model.specs.Refusals.{MatchAnswer};
 ghost use Rattle.refutation_terms.specs.Tree.{IsTree};
 ghost use Rattle.refutation_terms.specs.Log.{Fits, AreRules, TurnFits};
@@ -10,15 +11,16 @@ ghost use Rattle.refutation_log.specs.ReadLog.{IsUnread, IsReadSoFar, IsTreeLine
 
 use crate::header::{Header, lines_of_header, read_header};
 use crate::line::read_line;
-use crate::{LineReader, LineRefusal, Log};
+use crate::{LineRefusal, Log};
 use refutation_terms::{Line, LogRefusal};
 use rwsp_model::{Fail, Problem};
+use rwsp_text::LineReader;
 use std::alloc::{AllocError, Global};
 
 /// The log that a text spells. Refused are a line that isn't spelled as one, a name that is no symbol's, a text that
 /// ends before the tree does, and a line behind the tree; what the lines say isn't looked at.
 pub fn read_log(alloc: Global, problem: &Problem, bytes: &[u8]) -> Result<Log, Fail<LogRefusal>>
-    requires { length bytes.now ≤ 536870912 }
+    requires { length bytes.now ≤ LONGEST_LOG }
     ensures { MatchAnswer result
         (λ g. (bytes.now ≡ log_text problem.now g) × Fits problem.now g × IsTree g.lines)
         (IsUnread problem.now bytes.now) }
@@ -48,9 +50,12 @@ fn read_lines(
 ) -> Result<Vec<Line>, Fail<LogRefusal>>
     requires named { AreRules problem.now header.now.named }
     requires turn { TurnFits problem.now header.now.turn }
-    requires few { length reader.old ≤ 536870912 }
+    requires few { length reader.old ≤ LONGEST_LOG }
     ensures { MatchAnswer result
-        (λ v. IsTree v.items × IsReadSoFar problem.now (log_with header.now.named header.now.turn v.items) × (reader.old ≡ lines_text problem.now v.items ++ reader.new) × (length v.items ≤ 536870912))
+        (λ v. IsTree v.items
+        × IsReadSoFar problem.now (log_with header.now.named header.now.turn v.items)
+        × (reader.old ≡ lines_text problem.now v.items ++ reader.new)
+        × (length v.items ≤ LONGEST_LOG))
         (IsUnread problem.now (header_text problem.now header.now.named header.now.turn ++ reader.old)) }
 {
     problem.keeps_limits();

@@ -16,12 +16,12 @@ use Rattle.refutation_terms.specs.Word.{Domains, weight, total}
 use Rattle.refutation_terms.specs.Tree.{is_idle}
 use Rattle.refutation_terms.specs.Log.{Holds, Cites, CitesOnlyNamed, ListsShortOnly}
 use Rattle.refutation_terms.specs.Escape.{ComesFirst}
-use Rattle.refutation_terms.specs.LogText.{RawLine, raw, fields, text_of, line_text, line_of, turn_text, IsName, IsWritten}
+use Rattle.refutation_terms.specs.LogText.{RawLine, raw, fields, line_text, line_of, turn_text, IsWritten}
+use Rattle.rwsp_text.specs.Fields.{text_of, IsName}
 use Rattle.refutation_terms.specs.Verdict.{IsLeast, IsUnnamed, ListsLong, IsPlainLeaf, Escapes, SpellsNothing, SpellsUnknown, Spells, TreeCause, SpellsTurn, SpellsNoTurn, TurnCause, RulesCause, VersionCause, ExtraCause}
 use Rattle.refutation_terms.specs.TextLaws.{IsWritable, HasNames}
-use Rattle.refutation_terms.proofs.TextParts.{same_fields}
-use Rattle.refutation_terms.proofs.TextLines.{same_line, line_fields, line_has_fields, day_small}
-use Rattle.refutation_terms.proofs.Texts.{turn_fields, turn_line}
+use Rattle.rwsp_text.proofs.LineLaws.{same_words}
+use Rattle.refutation_terms.proofs.LineTables.{turn_fields, turn_words, turn_same, tree_words, tree_same}
 use Rattle.refutation_terms.proofs.Sound.{too_light}
 
 least_same : (A : ℕ → Type 0) (k m : ℕ) → IsLeast A k → IsLeast A m → k ≡ m
@@ -30,8 +30,7 @@ least_same A k m a b = let x : k ≤ m = a.1 m b.0 in let y : m ≤ k = b.1 k a.
 -- bytes spell one line
 lines_same : (P : Instance) (a b : RawLine) → IsWritable P → (line_text P a ≡ line_text P b) → Rattle.refutation_terms.specs.LogText.IsInRange P a → Rattle.refutation_terms.specs.LogText.IsInRange P b → a ≡ b
 lines_same P a b w e ha hb =
-    let moved : text_of (fields P a) ++ [] ≡ text_of (fields P b) ++ [] = ap (λ t. t ++ []) e in
-    same_line P a b w ha hb (same_fields (fields P a) (fields P b) [] [] (line_has_fields P a) (line_has_fields P b) (line_fields P a w ha) (line_fields P b w hb) moved).0
+    tree_same P a b w ha hb (same_words (fields P a) (fields P b) [] [] (tree_words P a w ha) (tree_words P b w hb) (ap (λ t. t ++ []) e)).0
 
 pub spells_same : (P : Instance) (bytes : List ℕ) (a b : Line) → IsWritable P → HasNames P → Spells P bytes a → Spells P bytes b → a ≡ b
 spells_same P bytes a b w n sa sb =
@@ -229,53 +228,22 @@ tree_cause_same P named D n bytes why other w m a b = one_level P named D n byte
 
 pub version_cause : (bytes : List ℕ) (why : LogRefusal) → VersionCause bytes why → why ≡ Refusals.Form 1
 version_cause bytes (Refusals.Form i) h = ap Refusals.Form h.0
-version_cause bytes (Refusals.Name i) h = absurd h
-version_cause bytes (Refusals.Unnamed i k) h = absurd h
-version_cause bytes (Refusals.Idle i) h = absurd h
-version_cause bytes (Refusals.Long i k) h = absurd h
-version_cause bytes (Refusals.Fails i) h = absurd h
-version_cause bytes (Refusals.Escape i u) h = absurd h
-version_cause bytes (Refusals.Unfinished i) h = absurd h
-version_cause bytes Refusals.Ends h = absurd h
-version_cause bytes (Refusals.Extra i) h = absurd h
-version_cause bytes (Refusals.Turn i) h = absurd h
+version_cause bytes why h = absurd h
 
 pub rules_cause : (P : Instance) (bytes : List ℕ) (why : LogRefusal) → RulesCause P bytes why → why ≡ Refusals.Form 2
 rules_cause P bytes (Refusals.Form i) h = ap Refusals.Form h.0
-rules_cause P bytes (Refusals.Name i) h = absurd h
-rules_cause P bytes (Refusals.Unnamed i k) h = absurd h
-rules_cause P bytes (Refusals.Idle i) h = absurd h
-rules_cause P bytes (Refusals.Long i k) h = absurd h
-rules_cause P bytes (Refusals.Fails i) h = absurd h
-rules_cause P bytes (Refusals.Escape i u) h = absurd h
-rules_cause P bytes (Refusals.Unfinished i) h = absurd h
-rules_cause P bytes Refusals.Ends h = absurd h
-rules_cause P bytes (Refusals.Extra i) h = absurd h
-rules_cause P bytes (Refusals.Turn i) h = absurd h
+rules_cause P bytes why h = absurd h
 
 pub extra_cause : (n : ℕ) (why : LogRefusal) → ExtraCause n why → why ≡ Refusals.Extra n
-extra_cause n (Refusals.Form i) h = absurd h
-extra_cause n (Refusals.Name i) h = absurd h
-extra_cause n (Refusals.Unnamed i k) h = absurd h
-extra_cause n (Refusals.Idle i) h = absurd h
-extra_cause n (Refusals.Long i k) h = absurd h
-extra_cause n (Refusals.Fails i) h = absurd h
-extra_cause n (Refusals.Escape i u) h = absurd h
-extra_cause n (Refusals.Unfinished i) h = absurd h
-extra_cause n Refusals.Ends h = absurd h
+
 extra_cause n (Refusals.Extra i) h = ap Refusals.Extra h
-extra_cause n (Refusals.Turn i) h = absurd h
+extra_cause n why h = absurd h
 
 -- bytes spell one turn
 pub turns_same : (P : Instance) (bytes name name' : List ℕ) (day day' : ℕ) → IsWritable P → SpellsTurn P bytes name day → SpellsTurn P bytes name' day' → (name ≡ name') × (day ≡ day')
 turns_same P bytes name name' day day' w a b =
-    let moved : text_of (turn_fields name day) ++ [] ≡ text_of (turn_fields name' day') ++ [] = ap (λ t. t ++ []) (sym a.2 ∙ b.2) in
-    let la = turn_line P name day w a.0 a.1 in
-    let lb = turn_line P name' day' w b.0 b.1 in
-    let same : turn_fields name day ≡ turn_fields name' day' = (same_fields (turn_fields name day) (turn_fields name' day') [] [] la.0 lb.0 la.1 lb.1 moved).0 in
-    let names : name ≡ name' = cc in
-    let digits : decimal day ≡ decimal day' = cc in
-    (names, decimal_injective day day' (day_small P day w a.1) (day_small P day' w b.1) digits)
+    let same = same_words (turn_fields name day) (turn_fields name' day') [] [] (turn_words P name day w a.0 a.1) (turn_words P name' day' w b.0 b.1) (ap (λ t. t ++ []) (sym a.2 ∙ b.2)) in
+    turn_same P name name' day day' w (a.0, a.1) (b.0, b.1) same.0
 
 abbrev pub IsLeastUnnamedDay : Instance → List ℕ → ℕ → ℕ → Type 0
 IsLeastUnnamedDay P named day k = IsLeast (IsUnnamed P named (λ r. r ≡ TheRules.Day day)) k

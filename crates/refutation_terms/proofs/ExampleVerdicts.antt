@@ -16,7 +16,8 @@ use Rattle.refutation_terms.specs.declared.lines.LogRefusal.TheVariants as Refus
 use Rattle.refutation_terms.specs.Tree.{IsTree, after_trees, domains_at}
 use Rattle.refutation_terms.specs.Log.{AreRules, HoldsAt, Cites}
 use Rattle.refutation_terms.specs.Escape.{IsCleanOver}
-use Rattle.refutation_terms.specs.LogText.{RawSplit, RawBound, RawUnfinished, IsName, IsWritten, WeightIsInRange, line_text, turn_text}
+use Rattle.refutation_terms.specs.LogText.{RawSplit, RawBound, RawUnfinished, IsWritten, WeightIsInRange, line_text, turn_text}
+use Rattle.rwsp_text.specs.Fields.{IsName}
 use Rattle.refutation_terms.specs.Verdict.{Reading, BeforeTurn, IsSoundSoFar, IsNextLine, IsVerdict, Spells}
 use Rattle.refutation_terms.specs.Examples.{two_of_four, three_of_six, split_log, blocks_dead, shift_D, weighs, one_turn_text, open_text, cut_text, extra_text, idle_text, unnamed_turn_text, none_demanded, none_demanded_text, split_text, heavy_word}
 use Rattle.refutation_terms.proofs.Tests.{left_of, right_of, failed_by_not}
@@ -264,7 +265,7 @@ heavy_word_escapes =
     bound_written : IsWritten two_of_four (line_text two_of_four (RawBound 0 1 (1 ∷ 3 ∷ 4 ∷ []) (record { day = 1; name = codes "D"; value = pos 1 } ∷ []))) (RawBound 0 1 (1 ∷ 3 ∷ 4 ∷ []) (record { day = 1; name = codes "D"; value = pos 1 } ∷ []))
     bound_written = record {
       spelled = refl;
-      in_range = (lit< tt, (lit< tt, lit≤ tt), are_rules two_of_four (1 ∷ 3 ∷ 4 ∷ []) refl refl, all_from (WeightIsInRange two_of_four) (record { day = 1; name = codes "D"; value = pos 1 } ∷ []) (((lit< tt, lit≤ tt), D_is_name, le_z_yes tt, le_z_yes tt, λ e. cc), tt));
+      in_range = (lit< tt, (lit< tt, lit≤ tt), are_rules two_of_four (1 ∷ 3 ∷ 4 ∷ []) refl refl, all_from (WeightIsInRange two_of_four) (record { day = 1; name = codes "D"; value = pos 1 } ∷ []) (((lit< tt, lit≤ tt), D_is_name, (le_z_yes tt, le_z_yes tt, λ e. cc)), tt));
       ascends = pairs_of_one ComesBefore (weighs 1);
     }
 

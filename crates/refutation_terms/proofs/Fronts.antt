@@ -1,43 +1,32 @@
--- A text begins with one front of so many lines.
-use Rattle.std.proofs.Common.{◌≡◌, ◌≢◌, ◌⊎◌, ℕ, zero, suc, ◌+◌, ◌<◌, ◌≤◌, List, [], ◌∷◌, ◌++◌, length, get_or, map, refl, ap, sym, ◌∙◌, subst, append_assoc, arith, inl, inr, Bool, true, false, Option, Some, None}
+-- A text begins with one front of so many lines, and the line behind it is one of the same text's other fronts.
+use Rattle.std.proofs.Common.{◌≡◌, ◌≢◌, ◌⊎◌, ℕ, ◌+◌, ◌<◌, List, [], ◌∷◌, ◌++◌, length, map, refl, ap, sym, ◌∙◌, subst, append_assoc, append-nil, arith, inl, inr, Bool, true, false, Option, Some, None}
 use Rattle.std.specs.List.{AllByRecursion}
-use Rattle.std.proofs.lemmas.List.{append-nil}
+use Rattle.rwsp_text.specs.Fields.{Words, text_of}
+use Rattle.rwsp_text.specs.Lines.{text_of_lines, AreLines, AreFronts}
+use Rattle.rwsp_text.proofs.LineLaws.{same_lines}
 use Rattle.rwsp_terms.specs.Instance.{Instance, name_of}
 use Rattle.refutation_terms.specs.declared.lines.Line.{Line}
 use Rattle.refutation_terms.specs.declared.lines.Turn.{Turn}
+use Rattle.refutation_terms.specs.declared.lines.LogRefusal.{LogRefusal}
 use Rattle.refutation_terms.specs.Log.{Log, Fits, TurnFits, AreRules, LineFits}
-use Rattle.refutation_terms.specs.LogText.{numbers, text_of}
+use Rattle.refutation_terms.specs.LogText.{raw, fields, line_text, version_text, rules_text, turn_text}
+use Rattle.refutation_terms.specs.Verdict.{Front, Start, Versioned, BeforeTurn, Reading, front_text}
 use Rattle.refutation_terms.specs.TextLaws.{IsWritable, HasNames, TextsAreDistinct}
-use Rattle.refutation_terms.proofs.TextLines.{numbers_same, rules_small}
-use Rattle.refutation_terms.proofs.Texts.{text_lines, AreFieldLines, one_is_longer, version_fields, rules_fields, turn_fields, header_fields, lines_fields, log_fields, log_written, log_lines, each_fits, lines_longer, turn_same}
+use Rattle.refutation_terms.proofs.LineTables.{version_fields, rules_fields, turn_fields, version_words, rules_words, version_same, rules_same}
+use Rattle.refutation_terms.proofs.Texts.{header_fields, lines_fields, log_fields, version_written, log_written, log_words, each_fits, lines_longer, turn_same}
 
-second_byte : List (List ℕ) → ℕ
-second_byte [] = 0
-second_byte (a ∷ []) = 0
-second_byte (a ∷ b ∷ ws) = get_or b 0 0
-
-pub versions_differ : version_fields true ≡ version_fields false → ⊥
-unfolding second_byte
-versions_differ e = let clash : ◌≡◌ {A = ℕ} 50 49 = ap second_byte e in omega (arith, clash)
-
-pub version_same : (a b : Bool) → version_fields a ≡ version_fields b → a ≡ b
-version_same true true e = refl
-version_same true false e = absurd (versions_differ e)
-version_same false true e = absurd (versions_differ (sym e))
-version_same false false e = refl
-
-pub rules_same : (P : Instance) (R Q : List ℕ) → IsWritable P → AreRules P R → AreRules P Q → rules_fields R ≡ rules_fields Q → R ≡ Q
-rules_same P R Q w hr hq e = let n : numbers R ≡ numbers Q = cc in numbers_same R Q (rules_small P R w hr) (rules_small P Q w hq) n
+versions_differ : version_fields true ≡ version_fields false → ⊥
+versions_differ e = let clash : true ≡ false = version_same true false e in cc
 
 -- a log that goes on where another ends
-record GoesOn (P : Instance) (named : List ℕ) (turn : Option Turn) (lines : List Line) (named' : List ℕ) (turn' : Option Turn) (lines' : List Line) (zs : List (List (List ℕ))) : Type 0 where
+record GoesOn (P : Instance) (named : List ℕ) (turn : Option Turn) (lines : List Line) (named' : List ℕ) (turn' : Option Turn) (lines' : List Line) (zs : List Words) : Type 0 where
   more : List Line
   same_named : named ≡ named'
   same_turn : turn ≡ turn'
   longer : lines' ≡ lines ++ more
   written : zs ≡ lines_fields P more
 
-goes_on : (P : Instance) (named : List ℕ) (turn : Option Turn) (lines : List Line) (named' : List ℕ) (turn' : Option Turn) (lines' : List Line) (zs : List (List (List ℕ))) → IsWritable P → HasNames P → AreRules P named → AreRules P named' → TurnFits P turn → TurnFits P turn' → AllByRecursion (LineFits P) lines → AllByRecursion (LineFits P) lines' → header_fields P named' turn' ++ lines_fields P lines' ≡ header_fields P named turn ++ lines_fields P lines ++ zs → GoesOn P named turn lines named' turn' lines' zs
+goes_on : (P : Instance) (named : List ℕ) (turn : Option Turn) (lines : List Line) (named' : List ℕ) (turn' : Option Turn) (lines' : List Line) (zs : List Words) → IsWritable P → HasNames P → AreRules P named → AreRules P named' → TurnFits P turn → TurnFits P turn' → AllByRecursion (LineFits P) lines → AllByRecursion (LineFits P) lines' → header_fields P named' turn' ++ lines_fields P lines' ≡ header_fields P named turn ++ lines_fields P lines ++ zs → GoesOn P named turn lines named' turn' lines' zs
 goes_on P named None lines named' None lines' zs w n hr hq ht hu hl hm e =
     let rules : rules_fields named ≡ rules_fields named' = cc in
     let rest : lines_fields P lines' ≡ lines_fields P lines ++ zs = cc in
@@ -54,7 +43,7 @@ goes_on P named (Some t) lines named' (Some u) lines' zs w n hr hq ht hu hl hm e
     let m = lines_longer P lines lines' zs w n hl hm rest in
     record { more = m.0; same_named = rules_same P named named' w hr hq rules; same_turn = ap Some (turn_same P t u w n ht hu turn); longer = m.1; written = m.2 }
 
-pub log_goes_on : (P : Instance) (g h : Log) (zs : List (List (List ℕ))) → IsWritable P → HasNames P → Fits P g → Fits P h → log_fields P h ≡ log_fields P g ++ zs → (more : List Line) × (h ≡ record { named = g.named; turn = g.turn; lines = g.lines ++ more }) × (zs ≡ lines_fields P more)
+pub log_goes_on : (P : Instance) (g h : Log) (zs : List Words) → IsWritable P → HasNames P → Fits P g → Fits P h → log_fields P h ≡ log_fields P g ++ zs → (more : List Line) × (h ≡ record { named = g.named; turn = g.turn; lines = g.lines ++ more }) × (zs ≡ lines_fields P more)
 log_goes_on P g h zs w n hg hh e =
     let s = goes_on P g.named g.turn g.lines h.named h.turn h.lines zs w n hg.named hh.named hg.turn hh.turn (each_fits P g.lines hg.lines) (each_fits P h.lines hh.lines) e in (
       s.more,
@@ -73,31 +62,128 @@ log_same P g h w n hg hh e =
     let lines : g.lines ++ s.0 ≡ g.lines = ap (λ m. g.lines ++ m) none ∙ append-nil g.lines in
     sym (s.1 ∙ ap (λ i. record { named = g.named; turn = g.turn; lines = i }) lines)
 
-no_lines : (zs : List (List (List ℕ))) (q : List ℕ) → [] ≡ text_lines zs ++ q → AreFieldLines zs → zs ≡ []
-no_lines [] q e f = refl
-no_lines ([] ∷ zs) q e f = let lt = f.0.0 in absurd (omega (arith, lt))
-no_lines ((w ∷ ws) ∷ zs) q e f = absurd (text_some (w ∷ ws) (text_lines zs) q e)
-  where
-    text_some : (ws : List (List ℕ)) (r q : List ℕ) → [] ≡ text_of ws ++ r ++ q → ⊥
-    text_some ws r q e =
-        let n : 0 ≡ length (text_of ws ++ r ++ q) = ap (λ t. length t) e in
-        let a : length (text_of ws ++ r ++ q) ≡ length (text_of ws ++ r) + length q = Rattle.std.proofs.Common.length-append (text_of ws ++ r) q in
-        let b : length (text_of ws ++ r) ≡ length (text_of ws) + length r = Rattle.std.proofs.Common.length-append (text_of ws) r in
-        let c : length (text_of ws) ≡ length (Rattle.std.specs.List.join_with_byte 32 ws) + 1 = Rattle.std.proofs.Common.length-append (Rattle.std.specs.List.join_with_byte 32 ws) (10 ∷ []) in
-        omega (arith, n, a, b, c)
-
-pub fields_after : (xs zs : List (List (List ℕ))) → AreFieldLines (xs ++ zs) → AreFieldLines zs
-fields_after [] zs h = h
-fields_after (x ∷ xs) zs h = fields_after xs zs h.1
-
--- equal texts have equal lines
-pub same_text_lines : (xs ys : List (List (List ℕ))) → AreFieldLines xs → AreFieldLines ys → text_lines xs ≡ text_lines ys → xs ≡ ys
-same_text_lines xs ys fx fy e =
-    elim (one_is_longer xs ys [] [] fx fy (append-nil (text_lines xs) ∙ e ∙ sym (append-nil (text_lines ys)))) [
-      | inl a ↦ (let none : a.0 ≡ [] = no_lines a.0 [] a.2 (fields_after xs a.0 (subst AreFieldLines a.1 fy)) in sym (append-nil xs) ∙ ap (λ z. xs ++ z) (sym none) ∙ sym a.1)
-      | inr b ↦ (let none : b.0 ≡ [] = no_lines b.0 [] b.2 (fields_after ys b.0 (subst AreFieldLines b.1 fx)) in b.1 ∙ ap (λ z. ys ++ z) none ∙ append-nil ys)
-    ]
-
 pub texts_distinct : TextsAreDistinct
 texts_distinct P g h w n hg hh e =
-    log_same P g h w n hg hh (sym (same_text_lines (log_fields P g) (log_fields P h) (log_lines P g w n hg) (log_lines P h w n hh) (sym (log_written P g) ∙ e ∙ log_written P h)))
+    log_same P g h w n hg hh (sym (same_lines (log_fields P g) (log_fields P h) (log_words P g w n hg) (log_words P h w n hh) (sym (log_written P g) ∙ e ∙ log_written P h)))
+
+-- the lines of a front
+abbrev pub front_fields : Instance → Front → List Words
+front_fields P Start = []
+front_fields P (Versioned b) = version_fields b ∷ []
+front_fields P (BeforeTurn R) = version_fields true ∷ rules_fields R ∷ []
+front_fields P (Reading g) = log_fields P g
+
+pub front_written : (P : Instance) (F : Front) → front_text P F ≡ text_of_lines (front_fields P F)
+front_written P Start = refl
+front_written P (Versioned b) = version_written b ∙ sym (append-nil (text_of (version_fields b)))
+front_written P (BeforeTurn R) = ap (λ t. version_text true ++ t) (sym (append-nil (rules_text R)))
+front_written P (Reading g) = log_written P g
+
+-- the first two lines of a log
+record Header (P : Instance) (g : Log) : Type 0 where
+  has_turn : Bool
+  rest : List Words
+  whole : log_fields P g ≡ version_fields has_turn ∷ rules_fields g.named ∷ rest
+
+header_by : (P : Instance) (named : List ℕ) (turn : Option Turn) (lines : List Line) → Header P (record { named = named; turn = turn; lines = lines })
+header_by P named None lines = record { has_turn = false; rest = lines_fields P lines; whole = refl }
+header_by P named (Some t) lines = record { has_turn = true; rest = turn_fields (name_of P t.x) t.day ∷ lines_fields P lines; whole = refl }
+
+header_of : (P : Instance) (g : Log) → Header P g
+header_of P g = header_by P g.named g.turn g.lines
+
+-- behind two lines of version 2 a log has a turn
+record TurnNext (P : Instance) (turn : Option Turn) (lines : List Line) (zs : List Words) : Type 0 where
+  turned : Turn
+  is_turn : turn ≡ Some turned
+  whole : zs ≡ turn_fields (name_of P turned.x) turned.day ∷ lines_fields P lines
+
+turn_next : (P : Instance) (named R : List ℕ) (turn : Option Turn) (lines : List Line) (zs : List Words) → header_fields P named turn ++ lines_fields P lines ≡ version_fields true ∷ rules_fields R ∷ zs → TurnNext P turn lines zs
+turn_next P named R None lines zs e = let clash : version_fields false ≡ version_fields true = cc in absurd (versions_differ (sym clash))
+turn_next P named R (Some t) lines zs e = let rest : turn_fields (name_of P t.x) t.day ∷ lines_fields P lines ≡ zs = cc in record { turned = t; is_turn = refl; whole = sym rest }
+
+-- no front of two lines goes on behind a log
+too_long : (P : Instance) (named R : List ℕ) (turn : Option Turn) (lines : List Line) (z : Words) (zs : List Words) → version_fields true ∷ rules_fields R ∷ [] ≡ header_fields P named turn ++ lines_fields P lines ++ z ∷ zs → ⊥
+too_long P named R None lines z zs e = let clash : version_fields true ≡ version_fields false = cc in versions_differ clash
+too_long P named R (Some t) lines z zs e = cc
+
+-- fronts of texts, where the good ones have rules and logs that fit the problem
+module _ (P : Instance) (w : IsWritable P) (n : HasNames P) (Good : Front → Type 0) (named : (R : List ℕ) → Good (BeforeTurn R) → AreRules P R) (fits : (g : Log) → Good (Reading g) → Fits P g) where
+  front_words : (F : Front) → Good F → AreLines (front_fields P F)
+  front_words Start h = tt
+  front_words (Versioned b) h = (version_words b, tt)
+  front_words (BeforeTurn R) h = (version_words true, (rules_words P R w (named R h), tt))
+  front_words (Reading g) h = log_words P g w n (fits g h)
+
+  -- fronts with equal lines are equal
+  same_front : (F G : Front) → Good F → Good G → front_fields P G ≡ front_fields P F → F ≡ G
+  same_front Start Start hf hg e = refl
+  same_front Start (Versioned b) hf hg e = absurd (cc)
+  same_front Start (BeforeTurn R) hf hg e = absurd (cc)
+  same_front Start (Reading g) hf hg e = let h = header_of P g in let clash : version_fields h.has_turn ∷ rules_fields g.named ∷ h.rest ≡ [] = sym h.whole ∙ e in absurd (cc)
+  same_front (Versioned b) Start hf hg e = absurd (cc)
+  same_front (Versioned b) (Versioned c) hf hg e = let v : version_fields c ≡ version_fields b = cc in ap Versioned (sym (version_same c b v))
+  same_front (Versioned b) (BeforeTurn R) hf hg e = absurd (cc)
+  same_front (Versioned b) (Reading g) hf hg e = let h = header_of P g in let clash : version_fields h.has_turn ∷ rules_fields g.named ∷ h.rest ≡ version_fields b ∷ [] = sym h.whole ∙ e in absurd (cc)
+  same_front (BeforeTurn R) Start hf hg e = absurd (cc)
+  same_front (BeforeTurn R) (Versioned b) hf hg e = absurd (cc)
+  same_front (BeforeTurn R) (BeforeTurn Q) hf hg e = let r : rules_fields Q ≡ rules_fields R = cc in ap BeforeTurn (rules_same P R Q w (named R hf) (named Q hg) (sym r))
+  same_front (BeforeTurn R) (Reading g) hf hg e = let t = turn_next P g.named R g.turn g.lines [] e in let clash : [] ≡ turn_fields (name_of P t.turned.x) t.turned.day ∷ lines_fields P g.lines = t.whole in absurd (cc)
+  same_front (Reading f) Start hf hg e = let h = header_of P f in let clash : [] ≡ version_fields h.has_turn ∷ rules_fields f.named ∷ h.rest = e ∙ h.whole in absurd (cc)
+  same_front (Reading f) (Versioned b) hf hg e = let h = header_of P f in let clash : version_fields b ∷ [] ≡ version_fields h.has_turn ∷ rules_fields f.named ∷ h.rest = e ∙ h.whole in absurd (cc)
+  same_front (Reading f) (BeforeTurn R) hf hg e = let t = turn_next P f.named R f.turn f.lines [] (sym e) in let clash : [] ≡ turn_fields (name_of P t.turned.x) t.turned.day ∷ lines_fields P f.lines = t.whole in absurd (cc)
+  same_front (Reading f) (Reading g) hf hg e = ap Reading (log_same P f g w n (fits f hf) (fits g hg) e)
+
+  -- where the lines that stand in a good front have no cause there, no front goes on with a line that has one
+  module _ (C : Front → List ℕ → LogRefusal → Type 0)
+      (version_fine : (b : Bool) (why : LogRefusal) → C Start (version_text b) why → ⊥)
+      (rules_fine : (b : Bool) (R : List ℕ) (why : LogRefusal) → AreRules P R → C (Versioned b) (rules_text R) why → ⊥)
+      (turn_fine : (g : Log) (t : Turn) (why : LogRefusal) → Good (Reading g) → g.turn ≡ Some t → C (BeforeTurn g.named) (turn_text (name_of P t.x) t.day) why → ⊥)
+      (line_fine : (f : Log) (line : Line) (more : List Line) (why : LogRefusal) → Good (Reading (record { named = f.named; turn = f.turn; lines = f.lines ++ line ∷ more })) → C (Reading f) (line_text P (raw P line)) why → ⊥) where
+    fine : (F G : Front) (z : Words) (zs : List Words) (why : LogRefusal) → Good F → Good G → front_fields P G ≡ front_fields P F ++ z ∷ zs → C F (text_of z) why → ⊥
+    fine Start Start z zs why hf hg e c = cc
+    fine Start (Versioned b) z zs why hf hg e c = let first : version_fields b ≡ z = cc in version_fine b why (subst (λ t. C Start t why) (ap text_of (sym first) ∙ sym (version_written b)) c)
+    fine Start (BeforeTurn R) z zs why hf hg e c = let first : version_fields true ≡ z = cc in version_fine true why (subst (λ t. C Start t why) (ap text_of (sym first) ∙ sym (version_written true)) c)
+    fine Start (Reading g) z zs why hf hg e c =
+        let h = header_of P g in
+        let both : version_fields h.has_turn ∷ rules_fields g.named ∷ h.rest ≡ z ∷ zs = sym h.whole ∙ e in
+        let first : version_fields h.has_turn ≡ z = cc in
+        version_fine h.has_turn why (subst (λ t. C Start t why) (ap text_of (sym first) ∙ sym (version_written h.has_turn)) c)
+    fine (Versioned b) Start z zs why hf hg e c = cc
+    fine (Versioned b) (Versioned d) z zs why hf hg e c = cc
+    fine (Versioned b) (BeforeTurn R) z zs why hf hg e c =
+        let second : z ≡ rules_fields R = cc in rules_fine b R why (named R hg) (subst (λ t. C (Versioned b) t why) (ap text_of second) c)
+    fine (Versioned b) (Reading g) z zs why hf hg e c =
+        let h = header_of P g in
+        let both : version_fields h.has_turn ∷ rules_fields g.named ∷ h.rest ≡ version_fields b ∷ z ∷ zs = sym h.whole ∙ e in
+        let second : z ≡ rules_fields g.named = cc in
+        rules_fine b g.named why (fits g hg).named (subst (λ t. C (Versioned b) t why) (ap text_of second) c)
+    fine (BeforeTurn R) Start z zs why hf hg e c = cc
+    fine (BeforeTurn R) (Versioned b) z zs why hf hg e c = cc
+    fine (BeforeTurn R) (BeforeTurn Q) z zs why hf hg e c = cc
+    fine (BeforeTurn R) (Reading g) z zs why hf hg e c =
+        let h = header_of P g in
+        let both : version_fields h.has_turn ∷ rules_fields g.named ∷ h.rest ≡ version_fields true ∷ rules_fields R ∷ z ∷ zs = sym h.whole ∙ e in
+        let rules : rules_fields g.named ≡ rules_fields R = cc in
+        let same : R ≡ g.named = sym (rules_same P g.named R w (fits g hg).named (named R hf) rules) in
+        let t = turn_next P g.named R g.turn g.lines (z ∷ zs) e in
+        let turn : z ∷ zs ≡ turn_fields (name_of P t.turned.x) t.turned.day ∷ lines_fields P g.lines = t.whole in
+        let third : z ≡ turn_fields (name_of P t.turned.x) t.turned.day = cc in
+        turn_fine g t.turned why hg t.is_turn (subst (λ Q. C (BeforeTurn Q) (turn_text (name_of P t.turned.x) t.turned.day) why) same (subst (λ u. C (BeforeTurn R) u why) (ap text_of third) c))
+    fine (Reading f) Start z zs why hf hg e c =
+        let h = header_of P f in let clash : [] ≡ version_fields h.has_turn ∷ rules_fields f.named ∷ h.rest ++ z ∷ zs = e ∙ ap (λ ls. ls ++ z ∷ zs) h.whole in cc
+    fine (Reading f) (Versioned b) z zs why hf hg e c =
+        let h = header_of P f in let clash : version_fields b ∷ [] ≡ version_fields h.has_turn ∷ rules_fields f.named ∷ h.rest ++ z ∷ zs = e ∙ ap (λ ls. ls ++ z ∷ zs) h.whole in cc
+    fine (Reading f) (BeforeTurn R) z zs why hf hg e c = too_long P f.named R f.turn f.lines z zs e
+    fine (Reading f) (Reading g) z zs why hf hg e c =
+        let s = log_goes_on P f g (z ∷ zs) w n (fits f hf) (fits g hg) e in
+        going_on s.0 s.2 (subst (λ k. Good (Reading k)) s.1 hg)
+      where
+        going_on : (more : List Line) → z ∷ zs ≡ lines_fields P more → Good (Reading (record { named = f.named; turn = f.turn; lines = f.lines ++ more })) → ⊥
+        going_on [] e' h = cc
+        going_on (l ∷ ls) e' h =
+            let first : z ≡ fields P (raw P l) = cc in
+            line_fine f l ls why h (subst (λ ws. C (Reading f) (text_of ws) why) first c)
+
+    pub fronts : ((F : Front) (line : List ℕ) (why other : LogRefusal) → C F line why → C F line other → why ≡ other) → AreFronts (front_fields P) Good C
+    fronts one = record { written = front_words; same = same_front; fine = fine; one = one }

@@ -29,8 +29,7 @@ pub mod ExampleBlunt
 pub mod ExampleStrip
 pub mod ExamplePairs
 pub mod Spelled
-pub mod TextParts
-pub mod TextLines
+pub mod LineTables
 pub mod Texts
 pub mod Fronts
 pub mod Causes

@@ -12,40 +12,18 @@ use Rattle.rwsp_terms.specs.declared.data.ShiftRow.{ShiftRow}
 use Rattle.rwsp_terms.specs.declared.data.Weight.{Weight}
 use Rattle.rwsp_terms.specs.Instance.{Instance, IsDay, IsSymbol, no_bounds, off_name, symbol_numbered, symbol_of, name_in, name_numbered, name_of}
 use Rattle.rwsp_terms.specs.Weights.{ComesBefore, IsWeight}
+use Rattle.rwsp_terms.proofs.SymbolNames.{symbol_found}
 use Rattle.rwsp_terms.proofs.Elements.{all_from, all_to}
 use Rattle.refutation_terms.specs.declared.lines.Line.{Line}
 use Rattle.refutation_terms.specs.declared.lines.Line.TheVariants.{Split, Window, Day, Dead, Bound, Unfinished}
 use Rattle.refutation_terms.specs.Log.{LineFits}
-use Rattle.refutation_terms.specs.LogText.{NamedWeight, RawLine, RawSplit, RawWindow, RawDay, RawDead, RawBound, RawUnfinished, named_weight, raw, line_text, WeightIsInRange, IsInRange, with_weight, weights_of, line_of, Ascends}
+use Rattle.refutation_terms.specs.LogText.{RawLine, RawSplit, RawWindow, RawDay, RawDead, RawBound, RawUnfinished, named_weight, raw, line_text, WeightIsInRange, IsInRange, with_weight, weights_of, line_of, Ascends}
+use Rattle.rwsp_text.proofs.Numerals.{mapped}
+use Rattle.rwsp_text.specs.Fields.{NamedWeight}
 use Rattle.refutation_terms.specs.TextLaws.{HasNames, SpelledLinesFit, FittingLinesAreSpelled}
 
-pub mapped : {A B : Type 0} (f : A → B) (o : Option A) (y : B) → option_map f o ≡ Some y → (x : A) × (o ≡ Some x) × (f x ≡ y)
-mapped f None y e = absurd (cc)
-mapped f (Some x) y e = (x, refl, let same : f x ≡ y = cc in same)
-
-no_row : ShiftRow
-no_row = record { name = []; start = 0; length = 0; bounds = no_bounds }
-
--- a symbol that has the name
-shift_named : (P : Instance) (name : List ℕ) (k : ℕ) → position (λ row. bytes_eq name row.name) P.shifts ≡ Some k → (k < length P.shifts) × (name_numbered P (k + 1) ≡ name)
-shift_named P name k e =
-    let at = position-Some (λ row. bytes_eq name row.name) P.shifts k no_row e in
-    let same : name ≡ (get_or P.shifts k no_row).name = (bytes_eq-Decides name (get_or P.shifts k no_row).name).0 at.1 in
-    let next : k + 1 ≡ suc k = omega arith in
-    (at.0, ap (name_numbered P) next ∙ ap name_in (slice_get-get_or P.shifts k no_row at.0) ∙ sym same)
-
-symbol_by : (P : Instance) (name : List ℕ) (x : Symbol) (b : Bool) → bytes_eq name off_name ≡ b → cond b (Some (symbol_numbered 0)) (option_map (λ k. symbol_numbered (k + 1)) (position (λ row. bytes_eq name row.name) P.shifts)) ≡ Some x → IsSymbol P x × (name_of P x ≡ name)
-symbol_by P name x true e h =
-    let is_off : symbol_numbered 0 ≡ x = cc in
-    (subst (IsSymbol P) is_off (let le : 0 ≤ length P.shifts = omega arith in le), ap (name_of P) (sym is_off) ∙ sym ((bytes_eq-Decides name off_name).0 e))
-symbol_by P name x false e h =
-    let m = mapped (λ k. symbol_numbered (k + 1)) (position (λ row. bytes_eq name row.name) P.shifts) x h in
-    let named = shift_named P name m.0 m.1 in
-    let le : m.0 + 1 ≤ length P.shifts = omega (arith, named.0) in
-    (subst (IsSymbol P) m.2 le, ap (name_of P) (sym m.2) ∙ named.1)
-
 pub symbol_of-name : (P : Instance) (name : List ℕ) (x : Symbol) → symbol_of P name ≡ Some x → IsSymbol P x × (name_of P x ≡ name)
-symbol_of-name P name x h = symbol_by P name x (bytes_eq name off_name) refl h
+symbol_of-name P name x h = let f = symbol_found P name x h in (f.0, sym f.1)
 
 -- a weight and further ones that were read
 with_read : (e : NamedWeight) (o : Option Symbol) (rest : Option (List Weight)) (ys : List Weight) → with_weight e o rest ≡ Some ys → (x : Symbol) × (zs : List Weight) × (o ≡ Some x) × (rest ≡ Some zs) × (record { day = e.day; symbol = x; value = e.value } ∷ zs ≡ ys)
@@ -71,7 +49,7 @@ weights_read P (e ∷ y) ys h is =
     let same_first : named_weight P (record { day = e.day; symbol = w.0; value = e.value }) ≡ e = ap (λ n. record { day = e.day; name = n; value = e.value }) named.1 in
     subst (AreRead P (e ∷ y)) w.4 (record {
       same = ap (λ f. f ∷ map (named_weight P) w.1) same_first ∙ ap (λ fs. e ∷ fs) rest.same;
-      small = ((h.0.2, h.0.3, h.0.4), rest.small);
+      small = (h.0.2, rest.small);
       of = ((h.0.0, named.0), rest.of);
     })
 
@@ -117,7 +95,7 @@ weights_back P [] names small of = (tt, refl)
 weights_back P (e ∷ ys) names small of =
     let rest = weights_back P ys names small.1 of.1 in
     let name = names e.symbol of.0.1 in (
-      ((of.0.0, name.0, small.0.0, small.0.1, small.0.2), rest.0),
+      ((of.0.0, name.0, small.0), rest.0),
       ap (λ o. with_weight (named_weight P e) o (weights_of P (map (named_weight P) ys))) name.1 ∙ ap (with_weight (named_weight P e) (Some e.symbol)) rest.1,
     )
 

@@ -6,6 +6,7 @@ pub mod Escape
 pub mod Sharp
 pub mod Strip
 pub mod LogText
+pub mod LineKinds
 pub mod Verdict
 pub mod TextLaws
 pub mod Laws

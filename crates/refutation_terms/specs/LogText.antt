@@ -3,6 +3,7 @@ use Rattle.std.specs.Prelude.{◌≡◌, ◌≢◌, ℕ, ◌+◌, ◌*◌, ◌/�
 use Rattle.std.specs.List.{join_with_byte, concat, flat_map}
 use Rattle.std.specs.Fmt.{decimal, signed_decimal}
 use Rattle.std.specs.Option.{option_map}
+use Rattle.rwsp_text.specs.Fields.{chosen, IsName, NamedWeight, IsWeight, numbers, weight_fields, text_of}
 use Rattle.rwsp_terms.specs.declared.limits.TheConstants.{GREATEST_WEIGHT}
 use Rattle.rwsp_terms.specs.declared.data.Symbol.{Symbol}
 use Rattle.rwsp_terms.specs.declared.data.Weight.{Weight}
@@ -13,12 +14,6 @@ use Rattle.refutation_terms.specs.declared.lines.Line.{Line}
 use Rattle.refutation_terms.specs.declared.lines.Line.TheVariants.{Split, Window, Day, Dead, Bound, Unfinished}
 use Rattle.refutation_terms.specs.declared.lines.Turn.{Turn}
 use Rattle.refutation_terms.specs.Log.{Log, IsLength, AreRules}
-
--- what a symbol of some name weighs on a day
-pub record NamedWeight : Type 0 where
-  pub day : ℕ
-  pub name : List ℕ
-  pub value : ℤ
 
 -- a line as it is written: with the names of symbols, as their bytes
 pub data RawLine : Type 0 where
@@ -42,22 +37,13 @@ raw P (Dead p len R) = RawDead p len R
 raw P (Bound p turns R y) = RawBound p turns R (map (named_weight P) y)
 raw P Unfinished = RawUnfinished
 
--- the numbers of rules as they are written
-abbrev pub numbers : List ℕ → List (List ℕ)
-numbers R = map decimal R
-
 -- the week and the day of a position, both from 1 on
 abbrev pub place : Instance → ℕ → List (List ℕ)
 place P p = decimal (p / P.days + 1) ∷ decimal (p % P.days + 1) ∷ []
 
 -- whether a day leaf says that there are too many or too few
 abbrev pub way : Bool → List ℕ
-way true = codes "over"
-way false = codes "short"
-
--- a day, a name and a value
-abbrev pub weight_fields : NamedWeight → List (List ℕ)
-weight_fields e = decimal e.day ∷ e.name ∷ signed_decimal e.value ∷ []
+way over = chosen (codes "over") (codes "short") over
 
 -- the fields of a line: words, names and numbers
 abbrev pub fields : Instance → RawLine → List (List ℕ)
@@ -69,10 +55,6 @@ fields P (RawBound p turns R y) =
     codes "bound" ∷ place P p ++ (decimal turns ∷ codes "rules" ∷ numbers R)
     ++ (codes "weights" ∷ flat_map weight_fields y)
 fields P RawUnfinished = codes "open" ∷ []
-
--- fields with one blank between each two, and LF at the end
-abbrev pub text_of : List (List ℕ) → List ℕ
-text_of words = join_with_byte 32 words ++ 10 ∷ []
 
 -- a written line
 abbrev pub line_text : Instance → RawLine → List ℕ
@@ -100,16 +82,9 @@ header_text P named (Some t) = version_text true ++ rules_text named ++ turn_tex
 abbrev pub log_text : Instance → Log → List ℕ
 log_text P g = header_text P g.named g.turn ++ concat (map (λ line. line_text P (raw P line)) g.lines)
 
--- a run of bytes other than blank, tab, CR and LF that isn't empty
-pub record IsName (name : List ℕ) : Type 0 where
-  pub some : 0 < length name
-  pub visible : All (λ b. (b ≢ 32) × (b ≢ 9) × (b ≢ 13) × (b ≢ 10)) name
-
 -- a value that isn't 0, from the least weight to the greatest, on a day of the problem
 abbrev pub WeightIsInRange : Instance → NamedWeight → Type 0
-WeightIsInRange P e =
-    IsDay P e.day × IsName e.name × (neg_ℤ (pos GREATEST_WEIGHT) ≤ℤ e.value) × (e.value ≤ℤ pos GREATEST_WEIGHT)
-    × (e.value ≢ pos 0)
+WeightIsInRange P e = IsWeight P.days GREATEST_WEIGHT e
 
 -- the numbers of a written line are in their ranges, its lists of rules ascend, and its names are names
 abbrev pub IsInRange : Instance → RawLine → Type 0

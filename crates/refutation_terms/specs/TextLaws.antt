@@ -7,7 +7,8 @@ use Rattle.rwsp_terms.specs.Rules.{rules}
 use Rattle.refutation_terms.specs.declared.lines.Line.{Line}
 use Rattle.refutation_terms.specs.declared.lines.LogRefusal.{LogRefusal}
 use Rattle.refutation_terms.specs.Log.{Log, Fits, LineFits}
-use Rattle.refutation_terms.specs.LogText.{IsName, raw, line_text, log_text}
+use Rattle.refutation_terms.specs.LogText.{raw, line_text, log_text}
+use Rattle.rwsp_text.specs.Fields.{IsName}
 use Rattle.refutation_terms.specs.Verdict.{Spells, IsVerdict}
 
 -- each symbol has a name of its own

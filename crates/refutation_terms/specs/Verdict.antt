@@ -1,5 +1,7 @@
 -- The verdict on a text: that it is a log that passes, or its first line with a cause to refuse it.
 use Rattle.std.specs.Prelude.{◌≡◌, ◌≢◌, ◌⊎◌, ℕ, ◌+◌, ◌*◌, ◌<◌, ◌≤◌, List, [], ◌∷◌, ◌++◌, length, slice_get, take, All, Contains, Bool, true, Option, Some, None, Result, Ok, Err, pos, ◌*ℤ◌, ◌<ℤ◌, ◌≤ℤ◌}
+use Rattle.rwsp_text.specs.Lines as Lines
+use Rattle.rwsp_text.specs.Fields.{IsName}
 use Rattle.rwsp_terms.specs.declared.data.Symbol.{Symbol}
 use Rattle.rwsp_terms.specs.declared.data.Rule.{Rule}
 use Rattle.rwsp_terms.specs.declared.data.Rule.TheVariants as TheRules
@@ -14,7 +16,7 @@ use Rattle.refutation_terms.specs.Word.{Domains, weight, total}
 use Rattle.refutation_terms.specs.Tree.{IsTree, domains_at, is_idle}
 use Rattle.refutation_terms.specs.Log.{Log, Holds, HoldsAt, AreRules, Cites, CitesOnlyNamed, ListsShortOnly, IsGrounded, Passes}
 use Rattle.refutation_terms.specs.Escape.{IsLeastClean, IsLeastHeaviest}
-use Rattle.refutation_terms.specs.LogText.{RawLine, IsName, IsWritten, line_of, version_text, rules_text, turn_text, log_text}
+use Rattle.refutation_terms.specs.LogText.{RawLine, IsWritten, line_of, version_text, rules_text, turn_text, log_text}
 
 -- the least number with a property
 abbrev pub IsLeast : (ℕ → Type 0) → ℕ → Type 0
@@ -206,12 +208,11 @@ Cause P (Reading g) bytes why =
 
 -- no byte is LF
 abbrev pub HasNoFeed : List ℕ → Type 0
-HasNoFeed bytes = All (λ b. b ≢ 10) bytes
+HasNoFeed bytes = Lines.HasNoFeed bytes
 
 -- the bytes are a line of a text with its LF, or the end of a text without one
 abbrev pub IsNextLine : List ℕ → List ℕ → Type 0
-IsNextLine line rest =
-    ((body : List ℕ) × HasNoFeed body × (line ≡ body ++ 10 ∷ [])) ⊎ ((line ≢ []) × HasNoFeed line × (rest ≡ []))
+IsNextLine line rest = Lines.IsNextLine line rest
 
 -- a front of the text has no cause, and the line behind it has this one
 pub record IsRefusedLine (P : Instance) (text : List ℕ) (why : LogRefusal) : Type 0 where

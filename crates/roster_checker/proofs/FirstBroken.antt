@@ -1,10 +1,11 @@
 -- The first broken rule is one, and the check finds it.
-use Rattle.std.proofs.Common.{◌≡◌, ℕ, ◌+◌, ◌-◌, ◌*◌, ◌/◌, ◌%◌, ◌^◌, ◌<◌, ◌≤◌, inl, inr, List, length, ap, sym, ◌∙◌, arith, subst}
+use Rattle.std.proofs.Common.{◌≡◌, ℕ, ◌+◌, ◌-◌, ◌*◌, ◌/◌, ◌%◌, ◌<◌, ◌≤◌, inl, inr, List, length, ap, sym, ◌∙◌, arith, subst}
 use Rattle.std.proofs.lemmas.Bool.{cases_lt, cases_order}
 use Rattle.std.proofs.Math.Nat.{mul-le-mul_right}
 use Rattle.std.proofs.lemmas.Nat.{div-mul-add, mod-mul-add}
 use Rattle.std.proofs.lemmas.Option.{same_Some}
 use Rattle.rwsp_terms.specs.Instance.{Instance}
+use Rattle.rwsp_terms.specs.declared.limits.TheConstants.{MOST_CELLS}
 use Rattle.rwsp_terms.specs.Window.{Bad}
 use Rattle.rwsp_terms.specs.Roster.{MeetsRule, MeetsAll, IsRule}
 use Rattle.rwsp_terms.specs.Rules.{rule_of}
@@ -12,7 +13,7 @@ use Rattle.rwsp_terms.specs.declared.data.Symbol.{Symbol}
 use Rattle.rwsp_terms.specs.declared.data.Rule.{Rule}
 use Rattle.rwsp_terms.specs.declared.data.Rule.TheVariants.{MaxShift, MinShift, MaxOff, MinOff, MaxWork, MinWork, Pair, Triple, Day}
 use Rattle.roster_checker.specs.FirstBroken.{BeginsFirstBadWindow, BreaksFirst, FailsDay, IsFirst, IsFirstBroken, position_of}
-use Rattle.roster_checker.specs.Scan.{IsFirstPlace, StandsAt}
+use Rattle.roster_checker.specs.Places.{IsFirstPlace, StandsAt}
 use Rattle.roster_checker.specs.declared.broken.Broken.{Broken}
 use Rattle.rwsp_model.proofs.Numbering.{rule_numbered}
 
@@ -151,7 +152,7 @@ place_breaks P (Pair k) s b p n long is at first = window_begins P (Pair k) s b 
 place_breaks P (Triple k) s b p n long is at first = window_begins P (Triple k) s b p n long at first
 place_breaks P (Day j) s b p n long is at first = day_fails P j s b p n is at first
 
-pub place_is_small : (P : Instance) (r : Rule) (s : List Symbol) (p n : ℕ) → length s < 2 ^ 31 → P.days < 2 ^ 31 → IsRule P r → IsFirstPlace P r s p n → p < 2 ^ 31
+pub place_is_small : (P : Instance) (r : Rule) (s : List Symbol) (p n : ℕ) → length s ≤ MOST_CELLS → P.days ≤ MOST_CELLS → IsRule P r → IsFirstPlace P r s p n → p < MOST_CELLS
 place_is_small P (MaxShift x) s p n few days is first = omega (arith, few, first.within)
 place_is_small P (MinShift x) s p n few days is first = omega (arith, few, first.within)
 place_is_small P MaxOff s p n few days is first = omega (arith, few, first.within)

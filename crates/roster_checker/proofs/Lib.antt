@@ -1,4 +1,2 @@
-pub mod BlockCells
+pub mod ByCells
 pub mod FirstBroken
-pub mod FirstSequence
-pub mod Runs

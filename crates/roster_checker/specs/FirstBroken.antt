@@ -9,7 +9,8 @@ use Rattle.rwsp_terms.specs.declared.data.Rule.{Rule}
 use Rattle.rwsp_terms.specs.declared.data.Rule.TheVariants.{Day}
 use Rattle.roster_checker.specs.declared.broken.Broken.{Broken}
 
--- the window from p on with so many days is of the kind, none that begins earlier is, and none that begins there and is shorter
+-- the window from p on with so many days is of the kind, none that begins earlier is, and none that begins there and
+-- is shorter
 pub record IsFirst (IsKind : List Symbol → Type 0) (s : List Symbol) (p days : ℕ) : Type 0 where
   pub within : p < length s
   pub here : IsKind (window s p days)

@@ -1,2 +1,2 @@
 pub mod FirstBroken
-pub mod Scan
+pub mod Places

@@ -1,17 +1,18 @@
 // The first rule that a roster breaks.
 ghost use Rattle.std.specs.Prelude.{◌≡◌, ◌+◌, ◌-◌, ◌*◌, ◌<◌, ◌≤◌, ◌^◌, length, MatchOption, Some};
-ghost use Rattle.rwsp_terms.specs.Roster.{IsRoster, IsRule, MeetsAll, MeetsRule};
+ghost use Rattle.rwsp_terms.specs.Roster.{IsRoster, MeetsAll};
 ghost use Rattle.rwsp_terms.specs.Rules.{rules};
-ghost use Rattle.rwsp_terms.specs.declared.data.Rule.{Rule};
+ghost use Rattle.rwsp_terms.specs.declared.limits.TheConstants.{MOST_CELLS};
 ghost use Rattle.roster_checker.specs.FirstBroken.{IsFirstBroken, MeetsBelow};
-ghost use Rattle.roster_checker.specs.Scan.{StandsAt};
+ghost use Rattle.roster_checker.specs.Places.{StandsAt};
 
 use crate::place::Place;
 use crate::rules::first_place;
-use rwsp_model::{Problem, Roster, Symbol, rule_at, rule_count};
+use rwsp_model::{Problem, Roster, rule_at, rule_count};
 
-/// The first rule that a roster breaks, by its number, and where: the week and the day on which the first bad window begins, both counted from 1, and how many days it has.
-/// For a rule of a day, week is 1, day is that day and length is 0.
+/// The first rule that a roster breaks, by its number, and where: the week and the day on which the first bad window
+/// begins, both counted from 1, and how many days it has. For a rule of a day, week is 1, day is that day and length
+/// is 0.
 #[derive(Clone, Copy, Debug, PartialEq, Eq)]
 pub struct Broken {
     pub rule: u32,
@@ -22,7 +23,7 @@ pub struct Broken {
 
 // The answer for the rule and the place where it is broken first.
 fn broken_at(problem: &Problem, rule: u32, place: Place) -> Broken
-    requires { place.position < 2 ^ 31 }
+    requires { place.position < MOST_CELLS }
     ensures rule { result.rule ≡ rule }
     ensures place { StandsAt problem.now result place.position place.length }
 {
@@ -36,38 +37,31 @@ fn broken_at(problem: &Problem, rule: u32, place: Place) -> Broken
 }
 
 // Where the rule of the number is broken first, if all rules with lower numbers are met.
-fn breach(problem: &Problem, cells: &[Symbol], number: u32) -> Option<Broken>
-    requires cells { (0 < length cells.now) × (length cells.now < 2 ^ 31) × (length cells.now ≡ problem.now.weeks * problem.now.days) }
+fn breach(problem: &Problem, roster: &Roster, number: u32) -> Option<Broken>
+    requires roster { IsRoster problem.now roster.now.cells }
     requires number { (0 < number) × (number ≤ length (rules problem.now)) }
-    requires lower { MeetsBelow problem.now cells.now number }
-    ensures { MatchOption result (MeetsBelow problem.now cells.now (number + 1)) (IsFirstBroken problem.now cells.now) }
+    requires lower { MeetsBelow problem.now roster.now.cells number }
+    ensures { MatchOption result
+        (MeetsBelow problem.now roster.now.cells (number + 1))
+        (IsFirstBroken problem.now roster.now.cells) }
 {
     problem.keeps_limits();
-    match first_place(problem, cells, rule_at(problem, number)) {
+    match first_place(problem, roster, rule_at(problem, number)) {
         None => None,
         Some(place) => Some(broken_at(problem, number, place)),
     }
 }
 
-// The first rule that the cells break, and where.
-fn first_broken_among(problem: &Problem, cells: &[Symbol]) -> Option<Broken>
-    requires cells { (0 < length cells.now) × (length cells.now < 2 ^ 31) × (length cells.now ≡ problem.now.weeks * problem.now.days) }
-    ensures { MatchOption result ((r : Rule) → IsRule problem.now r → MeetsRule problem.now r cells.now) (IsFirstBroken problem.now cells.now) }
-{
-    for number in 1..rule_count(problem) + 1 {
-        if let Some(broken) = breach(problem, cells, number) {
-            return Some(broken);
-        }
-    }
-    None
-}
-
 /// The first rule that the roster breaks, and where it does so first; `None` where the roster meets every rule.
-/// It scans the cells once for each rule and takes no memory.
+/// It scans the cells twice at most for each rule and takes no memory.
 pub fn first_broken(problem: &Problem, roster: &Roster) -> Option<Broken>
     requires { IsRoster problem.now roster.now.cells }
     ensures { MatchOption result (MeetsAll problem.now roster.now.cells) (IsFirstBroken problem.now roster.now.cells) }
 {
-    problem.keeps_limits();
-    first_broken_among(problem, roster.cells())
+    for number in 1..rule_count(problem) + 1 {
+        if let Some(broken) = breach(problem, roster, number) {
+            return Some(broken);
+        }
+    }
+    None
 }

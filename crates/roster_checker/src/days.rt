@@ -1,7 +1,8 @@
 // The demand of each day.
-ghost use Rattle.std.specs.Prelude.{◌≡◌, ◌*◌, ◌≤◌, ◌↔◌, ◌≤ℤ◌, length, IsTrue, pos};
-ghost use Rattle.rwsp_terms.specs.Roster.{weeks_with, MeetsDay};
-ghost use Rattle.rwsp_terms.specs.Instance.{least, greatest, IsSymbol, IsDay};
+ghost use Rattle.std.specs.Prelude.{◌≡◌, ◌*◌, ◌↔◌, length, IsTrue};
+ghost use Rattle.rwsp_terms.specs.Roster.{MeetsDay};
+ghost use Rattle.rwsp_terms.specs.Instance.{IsSymbol, IsDay};
+ghost use Rattle.roster_checker.specs.Places.{MeetsDemand};
 
 use rwsp_model::{Problem, Symbol, weeks_with};
 
@@ -10,7 +11,7 @@ fn is_in_range(problem: &Problem, cells: &[Symbol], x: Symbol, day: u32) -> bool
     requires cells { length cells.now ≡ problem.now.weeks * problem.now.days }
     requires symbol { IsSymbol problem.now x }
     requires day { IsDay problem.now day }
-    ensures { IsTrue result ↔ ((least problem.now x.number day ≤ℤ pos (weeks_with problem.now cells.now x.number day)) × (pos (weeks_with problem.now cells.now x.number day) ≤ℤ greatest problem.now x.number day)) }
+    ensures { IsTrue result ↔ MeetsDemand problem.now x.number day cells.now }
 {
     let weeks = weeks_with(problem, cells, x, day) as i32;
     problem.demand_least(x, day) <= weeks && weeks <= problem.demand_greatest(x, day)

@@ -1,14 +1,11 @@
 //! Whether a roster meets the rules of its problem, and else where it breaks the first one.
 #![tactic(auto)]
 
-mod blocks;
 mod broken;
-mod cycle;
 mod days;
 mod laws;
 mod place;
 mod rules;
-mod sequences;
 
 pub use broken::{Broken, first_broken};
 pub use laws::{first_broken_rule_is_not_met, first_broken_rule_is_unique};

@@ -1,4 +1,4 @@
-// Small problems of one week or three, and where their rosters break a rule first.
+// Rosters worked by hand, and where they break a rule first.
 ghost use Rattle.std.specs.Prelude.{IfSome};
 ghost use Rattle.rwsp_terms.specs.Roster.{IsRoster};
 
@@ -26,43 +26,27 @@ fn shift(alloc: Global, name: &[u8], bounds: Bounds) -> Result<ShiftRow, AllocEr
     })
 }
 
-// Shift D alone. Blocks of days off and of work have 1 to `greatest` days.
-fn one_shift(
+// Weeks of two days. On each day at most `weeks` weeks hold D, and as many N; all blocks have at most seven days, and
+// those of D at least so many. The sequences are forbidden.
+fn problem(
     alloc: Global,
     weeks: u32,
-    demand: &[Bounds],
-    bounds: Bounds,
-    greatest: u32,
-) -> Result<Problem, Fail> {
-    let parts = Parts {
-        days: 2,
-        weeks,
-        demand: vec![in alloc; DemandRow::of(demand.to_vec(alloc)?)]?,
-        shifts: vec![in alloc; shift(alloc, b"D", bounds)?]?,
-        off: range(1, greatest),
-        work: range(1, greatest),
-        pairs: Vec::new(alloc),
-        triples: Vec::new(alloc),
-    };
-    Ok(Problem::of(parts)?)
-}
-
-// Shifts D and N in one week, and blocks of 1 to 7 days.
-fn two_shifts(
-    alloc: Global,
-    day: &[Bounds],
-    night: &[Bounds],
+    least: u32,
     pairs: &[(Symbol, Symbol)],
     triples: &[(Symbol, Symbol, Symbol)],
 ) -> Result<Problem, Fail> {
     let week = range(1, 7);
-    let first = DemandRow::of(day.to_vec(alloc)?);
-    let second = DemandRow::of(night.to_vec(alloc)?);
+    let demand = [range(0, weeks), range(0, weeks)];
+    let day = DemandRow::of(demand.to_vec(alloc)?);
+    let night = DemandRow::of(demand.to_vec(alloc)?);
     let parts = Parts {
         days: 2,
-        weeks: 1,
-        demand: vec![in alloc; first, second]?,
-        shifts: vec![in alloc; shift(alloc, b"D", week)?, shift(alloc, b"N", week)?]?,
+        weeks,
+        demand: vec![in alloc; day, night]?,
+        shifts: vec![in alloc;
+            shift(alloc, b"D", range(least, 7))?,
+            shift(alloc, b"N", week)?,
+        ]?,
         off: week,
         work: week,
         pairs: pairs.to_vec(alloc)?,
@@ -89,95 +73,28 @@ fn broken(alloc: Global, problem: &Problem, cells: &[Symbol]) -> Result<Option<B
     Ok(first_broken(problem, &roster))
 }
 
-#[test]
-fn one_roster_meets_all_rules(rt: HostRuntime) -> Result<(), Fail> {
-    let alloc = rt.alloc();
-    let problem = one_shift(alloc, 1, &[range(1, 1), range(0, 0)], range(1, 1), 1)?;
-    assert_eq!(rt; broken(alloc, &problem, &[D, OFF])?, None);
-    Ok(())
+const fn at(rule: u32, week: u32, day: u32, length: u32) -> Option<Broken> {
+    Some(Broken {
+        rule,
+        week,
+        day,
+        length,
+    })
 }
 
 #[test]
-fn a_block_across_the_wrap_is_too_short(rt: HostRuntime) -> Result<(), Fail> {
+fn rosters_break_a_rule_first(rt: HostRuntime) -> Result<(), Fail> {
     let alloc = rt.alloc();
-    let problem = one_shift(alloc, 3, &[range(1, 1), range(1, 1)], range(3, 5), 5)?;
-    let found = broken(alloc, &problem, &[D, OFF, OFF, OFF, OFF, D])?;
-    assert_eq!(rt;
-        found,
-        Some(Broken {
-            rule: 2,
-            week: 3,
-            day: 1,
-            length: 4
-        })
-    );
-    Ok(())
-}
-
-#[test]
-fn work_without_end_is_too_long(rt: HostRuntime) -> Result<(), Fail> {
-    let alloc = rt.alloc();
-    let problem = two_shifts(
-        alloc,
-        &[range(1, 1), range(0, 0)],
-        &[range(0, 0), range(1, 1)],
-        &[],
-        &[],
-    )?;
-    let found = broken(alloc, &problem, &[D, N])?;
-    assert_eq!(rt;
-        found,
-        Some(Broken {
-            rule: 7,
-            week: 1,
-            day: 1,
-            length: 8
-        })
-    );
-    Ok(())
-}
-
-#[test]
-fn a_day_without_demand_is_not_met(rt: HostRuntime) -> Result<(), Fail> {
-    let alloc = rt.alloc();
-    let none = one_shift(alloc, 1, &[range(0, 0), range(0, 0)], range(1, 1), 1)?;
-    assert_eq!(rt;
-        broken(alloc, &none, &[D, OFF])?,
-        Some(Broken {
-            rule: 7,
-            week: 1,
-            day: 1,
-            length: 0
-        })
-    );
-    let some = one_shift(alloc, 1, &[range(0, 1), range(0, 1)], range(1, 1), 1)?;
-    assert_eq!(rt; broken(alloc, &some, &[D, OFF])?, None);
-    Ok(())
-}
-
-#[test]
-fn sequences_are_found_across_the_wrap(rt: HostRuntime) -> Result<(), Fail> {
-    let alloc = rt.alloc();
-    let any = [range(0, 1), range(0, 1)];
-    let pair = two_shifts(alloc, &any, &any, &[(N, D), (D, OFF)], &[])?;
-    assert_eq!(rt;
-        broken(alloc, &pair, &[OFF, D])?,
-        Some(Broken {
-            rule: 10,
-            week: 1,
-            day: 2,
-            length: 2
-        })
-    );
-    let triple = two_shifts(alloc, &any, &any, &[], &[(OFF, D, N), (D, OFF, D)])?;
-    assert_eq!(rt;
-        broken(alloc, &triple, &[OFF, D])?,
-        Some(Broken {
-            rule: 10,
-            week: 1,
-            day: 2,
-            length: 3
-        })
-    );
+    let three_weeks = problem(alloc, 3, 3, &[], &[])?;
+    let across = [D, OFF, OFF, OFF, OFF, D];
+    assert_eq!(rt; broken(alloc, &three_weeks, &across)?, at(2, 3, 1, 4));
+    let one_week = problem(alloc, 1, 1, &[], &[])?;
+    assert_eq!(rt; broken(alloc, &one_week, &[D, OFF])?, None);
+    // work without end
+    assert_eq!(rt; broken(alloc, &one_week, &[D, N])?, at(7, 1, 1, 8));
+    let pair = problem(alloc, 1, 1, &[(N, D), (D, OFF)], &[])?;
+    assert_eq!(rt; broken(alloc, &pair, &[OFF, D])?, at(10, 1, 2, 2));
+    let triple = problem(alloc, 1, 1, &[], &[(OFF, D, N), (D, OFF, D)])?;
+    assert_eq!(rt; broken(alloc, &triple, &[OFF, D])?, at(10, 1, 2, 3));
     Ok(())
 }

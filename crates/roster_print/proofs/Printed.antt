@@ -19,6 +19,7 @@ use Rattle.rwsp_terms.specs.Roster.{IsRoster}
 use Rattle.rwsp_terms.specs.declared.data.Symbol.{Symbol}
 use Rattle.rwsp_terms.specs.declared.data.ShiftRow.{ShiftRow}
 use Rattle.rwsp_terms.proofs.Elements.{all_joined}
+use Rattle.rwsp_terms.proofs.SymbolNames.{HasNames, no_row, symbol_only}
 use Rattle.rwsp_model.specs.Validity.{KeepsLimits, IsShiftName, is_blank}
 use Rattle.rwsp_model.proofs.Limits.{valid_keeps}
 use Rattle.roster_print.specs.RosterText.{weeks_of, week_at, week_text, roster_text, SpellsRoster}
@@ -119,9 +120,6 @@ weeks_joined d s a (suc n) =
 
 -- the names of a valid problem's symbols
 
-no_row : ShiftRow
-no_row = record { name = []; start = 0; length = 0; bounds = no_bounds }
-
 plain_of : (b : ℕ) → is_blank b ≡ false → IsPlain b
 plain_of b h = or_parts (is_space b) (is_end b) h
 
@@ -142,35 +140,11 @@ numbered_is_word P limits (suc k) h =
     let below : k < length P.shifts = omega arith in
     subst IsWord (ap name_in (sym (slice_get-get_or P.shifts k no_row below))) (name_is_word (get_or P.shifts k no_row).name (limits.names k no_row below))
 
--- a name is found where it stands
-place_of_name : (P : Instance) → KeepsLimits P → (k : ℕ) → k < length P.shifts → position_or_len (λ row. bytes_eq (get_or P.shifts k no_row).name row.name) P.shifts ≡ k
-place_of_name P limits k below =
-    let name = (get_or P.shifts k no_row).name in
-    let within : k ≤ length P.shifts = omega arith in
-    position_or_len_is (λ row. bytes_eq name row.name) P.shifts k no_row within
-    (λ i early. false_from_ne_true (bytes_eq name (get_or P.shifts i no_row).name) (λ same. limits.distinct i k no_row early below (sym ((bytes_eq-Decides name (get_or P.shifts i no_row).name).0 same))))
-    (λ _. (bytes_eq-Decides name name).1 refl)
-
-symbol_of_shift : (P : Instance) → KeepsLimits P → (k : ℕ) → k < length P.shifts → symbol_of P (get_or P.shifts k no_row).name ≡ Some (symbol_numbered (k + 1))
-symbol_of_shift P limits k below =
-    let name = (get_or P.shifts k no_row).name in
-    let place = place_of_name P limits k below in
-    let other : bytes_eq name off_name ≡ false = false_from_ne_true (bytes_eq name off_name) (λ same. (limits.names k no_row below).no_dash ((bytes_eq-Decides name off_name).0 same)) in
-    cond-false (bytes_eq name off_name) (Some (symbol_numbered 0)) (option_map (λ i. symbol_numbered (i + 1)) (position (λ row. bytes_eq name row.name) P.shifts)) other
-    ∙ ap (λ i. option_map (λ j. symbol_numbered (j + 1)) (cond (nat_lt i (length P.shifts)) (Some i) None)) place
-    ∙ ap (λ b. option_map (λ j. symbol_numbered (j + 1)) (cond b (Some k) None)) (lt-ltb k (length P.shifts) below)
-
-symbol_of_number : (P : Instance) → KeepsLimits P → (n : ℕ) → n ≤ shift_count P → symbol_of P (name_numbered P n) ≡ Some (symbol_numbered n)
-symbol_of_number P limits zero h = refl
-symbol_of_number P limits (suc k) h =
-    let below : k < length P.shifts = omega arith in
-    let next : k + 1 ≡ suc k = omega arith in
-    ap (λ o. symbol_of P (name_in o)) (slice_get-get_or P.shifts k no_row below)
-    ∙ symbol_of_shift P limits k below
-    ∙ ap (λ n. Some (symbol_numbered n)) next
+names_of : (P : Instance) → KeepsLimits P → HasNames P
+names_of P limits = record { no_dash = λ i d less. (limits.names i d less).no_dash; distinct = limits.distinct }
 
 symbol_of_name : (P : Instance) → KeepsLimits P → (x : Symbol) → IsSymbol P x → symbol_of P (name_of P x) ≡ Some x
-symbol_of_name P limits x h = symbol_of_number P limits x.number h
+symbol_of_name P limits x h = symbol_only P (names_of P limits) x.number h
 
 symbols_of_names : (P : Instance) → KeepsLimits P → (week : List Symbol) → All (IsSymbol P) week → map (symbol_of P) (map (name_of P) week) ≡ map Some week
 symbols_of_names P limits [] h = refl

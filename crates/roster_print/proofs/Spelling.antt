@@ -9,6 +9,7 @@ use Rattle.std.proofs.lemmas.List.Elements.{All-from_recursion, All-head, All-ta
 use Rattle.std.proofs.lemmas.List.Quantifiers.{position-Some}
 use Rattle.std.proofs.lemmas.Bool.{or_parts, or_from, ne_eqb, cond-true, cond-false}
 use Rattle.rwsp_text.specs.Lexemes.{lines_of, words_of_line, has_some}
+use Rattle.rwsp_terms.proofs.SymbolNames.{symbol_found}
 use Rattle.rwsp_terms.specs.Instance.{Instance, symbol_of, shift_count, symbol_numbered, off_name, IsSymbol, no_bounds}
 use Rattle.rwsp_terms.specs.declared.data.Symbol.{Symbol}
 use Rattle.rwsp_terms.specs.declared.data.ShiftRow.{ShiftRow}
@@ -32,22 +33,8 @@ one_roster P bytes s t a b = some_same s t (sym a.names ∙ b.names)
 
 -- the symbol of a name is a symbol
 
-no_row : ShiftRow
-no_row = record { name = []; start = 0; length = 0; bounds = no_bounds }
-
-numbered_is_symbol : (P : Instance) (o : Option ℕ) (x : Symbol) → ((k : ℕ) → o ≡ Some k → k < shift_count P) → option_map (λ k. symbol_numbered (k + 1)) o ≡ Some x → IsSymbol P x
-numbered_is_symbol P None x h e = absurd (cc)
-numbered_is_symbol P (Some k) x h e =
-    let same : symbol_numbered (k + 1) ≡ x = cc in
-    let below : k < shift_count P = h k refl in
-    subst (IsSymbol P) same (omega arith)
-
-named_by : (P : Instance) (name : List ℕ) (x : Symbol) (b : Bool) → cond b (Some (symbol_numbered 0)) (option_map (λ k. symbol_numbered (k + 1)) (position (λ row. bytes_eq name row.name) P.shifts)) ≡ Some x → IsSymbol P x
-named_by P name x true e = let same : symbol_numbered 0 ≡ x = cc in subst (IsSymbol P) same (omega arith)
-named_by P name x false e = numbered_is_symbol P (position (λ row. bytes_eq name row.name) P.shifts) x (λ k h. (position-Some (λ row. bytes_eq name row.name) P.shifts k no_row h).0) e
-
 named_is_symbol : (P : Instance) (name : List ℕ) (x : Symbol) → symbol_of P name ≡ Some x → IsSymbol P x
-named_is_symbol P name x e = named_by P name x (bytes_eq name off_name) e
+named_is_symbol P name x e = (symbol_found P name x e).0
 
 named_are_symbols : (P : Instance) (names : List (List ℕ)) (s : List Symbol) → map (symbol_of P) names ≡ map Some s → AllByRecursion (IsSymbol P) s
 named_are_symbols P names [] e = tt

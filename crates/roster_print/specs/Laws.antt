@@ -1,5 +1,6 @@
 -- What is so of all texts and rosters.
 use Rattle.std.specs.Prelude.{◌≡◌, ℕ, ◌≤◌, List, length, MatchOption}
+use Rattle.rwsp_terms.specs.declared.limits.TheConstants.{LONGEST_FILE}
 use Rattle.rwsp_terms.specs.Instance.{Instance}
 use Rattle.rwsp_terms.specs.Roster.{IsRoster}
 use Rattle.rwsp_terms.specs.declared.data.Symbol.{Symbol}
@@ -25,4 +26,4 @@ PrintedIsSpelled = (P : Instance) (s : List Symbol) → IsValid P → IsRoster P
 
 -- and is short enough to be read
 abbrev pub PrintedIsShort : Type 0
-PrintedIsShort = (P : Instance) (s : List Symbol) → IsValid P → IsRoster P s → length (roster_text P s) ≤ 1048576
+PrintedIsShort = (P : Instance) (s : List Symbol) → IsValid P → IsRoster P s → length (roster_text P s) ≤ LONGEST_FILE

@@ -1,6 +1,7 @@
 // The roster that a text spells.
 ghost use Rattle.std.specs.Prelude.{◌≡◌, ◌≤◌, List, [], ◌∷◌, length, Some, None, IfOk, OnOk, true, is_none, ◌==◌, position};
 ghost use Rattle.std.specs.List.{list_any, flat_map, position_or_len};
+ghost use Rattle.rwsp_terms.specs.declared.limits.TheConstants.{LONGEST_FILE};
 ghost use Rattle.rwsp_text.specs.Lexemes.{lines_of, words_of_line, has_some};
 ghost use Rattle.rwsp_text.specs.Places.{AreWithin};
 ghost use Rattle.rwsp_terms.specs.Instance.{symbol_of};
@@ -70,7 +71,7 @@ fn read_week(
 // The words of a line.
 #[tactic(auto, using(crate::proofs::Reading::line_words))]
 fn words_of(alloc: Global, text: &[u8]) -> Result<Vec<Token>, AllocError>
-    requires few { length text.now ≤ 1048576 }
+    requires few { length text.now ≤ LONGEST_FILE }
     requires one { lines_of text.now ≡ text.now ∷ [] }
     ensures words { IfOk result (λ words.
         words_at text.now words.items ≡ words_of_line text.now) }
@@ -88,7 +89,7 @@ fn read_line(
     line: u32,
     cells: &mut Vec<Symbol>,
 ) -> Result<bool, Fail<RosterRefusal>>
-    requires few { length text.now ≤ 1048576 }
+    requires few { length text.now ≤ LONGEST_FILE }
     requires one { lines_of text.now ≡ text.now ∷ [] }
     ensures week { IfOk result (λ week. week ≡ has_some (words_of_line text.now)) }
     ensures names { OnOk result
@@ -133,7 +134,7 @@ fn read_weeks(
     problem: &Problem,
     bytes: &[u8],
 ) -> Result<(Vec<Symbol>, u32), Fail<RosterRefusal>>
-    requires { length bytes.now ≤ 1048576 }
+    requires { length bytes.now ≤ LONGEST_FILE }
     ensures names { IfOk result (λ read. AppendsNamed problem.now
         (flat_map (λ week. week.1) (numbered_weeks bytes.now)) [] read.0.items) }
     ensures count { IfOk result (λ read. read.1 ≡ length (numbered_weeks bytes.now)) }
@@ -165,7 +166,7 @@ pub fn read_roster(
     problem: &Problem,
     bytes: &[u8],
 ) -> Result<Roster, Fail<RosterRefusal>>
-    requires { length bytes.now ≤ 1048576 }
+    requires { length bytes.now ≤ LONGEST_FILE }
     ensures spelled { IfOk result (λ s. SpellsRoster problem.now bytes.now s.cells) }
     ensures roster { IfOk result (λ s. IsRoster problem.now s.cells) }
     ensures days { IfOk result (λ s. s.days ≡ problem.now.days) }

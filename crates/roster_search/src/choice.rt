@@ -8,8 +8,8 @@ ghost use Rattle.roster_search.specs.Guides.{IsSplitIn};
 use crate::need::most_needed;
 use domain_store::Domains;
 use rwsp_model::Problem;
-use rwsp_terms::{Class, Symbol};
 use rwsp_terms::limits::{MOST_DAYS, MOST_SHIFTS, MOST_WEEKS};
+use rwsp_terms::{Class, Symbol};
 
 /// A position, counted from 0, and a symbol of its domain.
 #[derive(Clone, Copy)]

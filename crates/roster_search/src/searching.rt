@@ -10,8 +10,8 @@ ghost use Rattle.roster_search.specs.Founds.{IsFound, HasSpentBudget};
 
 use crate::ending::end;
 use crate::progress::Progress;
-use crate::sight::Arrival;
 use crate::search_step::step;
+use crate::sight::Arrival;
 use crate::{Found, Guide, NoGuide};
 use propagators::Propagator;
 use refutation_terms::Turn;

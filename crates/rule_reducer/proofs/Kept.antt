@@ -41,7 +41,7 @@ gone_first n m R e =
     (λ (q : ((m == n) ≡ false) × (m ≢ n)). absurd (q.1 e))
     (eqb_tells m n)
 
-same_or_not : (m n : ℕ) → (m ≡ n) ⊎ (m ≢ n)
+pub same_or_not : (m n : ℕ) → (m ≡ n) ⊎ (m ≢ n)
 same_or_not m n =
     ⊎_elim
     (λ (q : ((m == n) ≡ true) × (m ≡ n)). inl q.1)

@@ -1,8 +1,9 @@
 pub mod Citing
 pub mod Descents
+pub mod InPlace
 pub mod Kept
 pub mod Needs
-pub mod Results
+pub mod Stripped
 pub mod Strips
 pub mod Together
-pub mod Verdicts
+pub mod Walking

@@ -139,7 +139,7 @@ weights_stay P (Some TheRules.MinWork) y are = are
 weights_stay P (Some (TheRules.Pair k)) y are = are
 weights_stay P (Some (TheRules.Triple k)) y are = are
 
-line_fits_still : (P : Instance) (n : ℕ) (line : Line) → LineFits P line → LineFits P (strip_line P n line)
+pub line_fits_still : (P : Instance) (n : ℕ) (line : Line) → LineFits P line → LineFits P (strip_line P n line)
 line_fits_still P n (Split p x) h = h
 line_fits_still P n (Window r p len) h = h
 line_fits_still P n (Day j x over) h = h

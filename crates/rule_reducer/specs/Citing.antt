@@ -1,16 +1,40 @@
--- Leaves that cite a rule otherwise than in a list.
-use Rattle.std.specs.Prelude.{◌≡◌, ℕ, List, slice_get, Some}
+-- Which rules the lines of a log cite, and which of them no strip takes out.
+use Rattle.std.specs.Prelude.{◌≡◌, ◌↔◌, ◌⊎◌, ℕ, List, slice_get, Some, Bool, true, false}
 use Rattle.rwsp_terms.specs.declared.data.Rule.{Rule}
-use Rattle.rwsp_terms.specs.declared.data.Rule.TheVariants as TheRules
+use Rattle.rwsp_terms.specs.Instance.{Instance}
+use Rattle.rwsp_terms.specs.Rules.{Names}
 use Rattle.refutation_terms.specs.declared.lines.Line.{Line}
-use Rattle.refutation_terms.specs.declared.lines.Line.TheVariants.{Window, Day}
+use Rattle.refutation_terms.specs.declared.lines.Line.TheVariants.{Split, Window, Day, Dead, Bound, Unfinished}
+use Rattle.refutation_terms.specs.Log.{Log, Cites, TurnCites}
 
--- a window or a day leaf that cites the rule, which has this number
-abbrev pub CitesPlainly : ℕ → Rule → Line → Type 0
-CitesPlainly number r (Window cited p len) = cited ≡ number
-CitesPlainly number r (Day j x over) = r ≡ TheRules.Day j
-CitesPlainly number r line = ⊥
+-- a window or a day leaf, which rests on one rule by itself and not by a list
+abbrev pub is_plain : Line → Bool
+is_plain (Split p x) = false
+is_plain (Window number p len) = true
+is_plain (Day j x over) = true
+is_plain (Dead p len R) = false
+is_plain (Bound p turns R y) = false
+is_plain Unfinished = false
 
--- such a leaf is among the lines
-abbrev pub OneCitesPlainly : ℕ → Rule → List Line → Type 0
-OneCitesPlainly number r lines = (k : ℕ) × (line : Line) × (slice_get lines k ≡ Some line) × CitesPlainly number r line
+-- one of the lines, a plain leaf or another line, cites the rule
+abbrev pub OneCites : Instance → Bool → List Line → Rule → Type 0
+OneCites P plain lines r = (k : ℕ) × (line : Line) × (slice_get lines k ≡ Some line) × (is_plain line ≡ plain) × Cites P line r
+
+-- a plain leaf or the turn cites the rule, and no strip takes it out there
+abbrev pub CitesForGood : Instance → Log → Rule → Type 0
+CitesForGood P g r = TurnCites g.turn r ⊎ OneCites P true g.lines r
+
+-- the first list names the rules that are cited for good; the second names each rule that another line cites, and maybe rules that
+-- lines cited once
+pub record AreCited (P : Instance) (g : Log) (for_good in_lists : List ℕ) : Type 0 where
+  pub lasting : (r : Rule) → Names P for_good r ↔ CitesForGood P g r
+  pub listed : (r : Rule) → OneCites P false g.lines r → Names P in_lists r
+
+-- a dead or a bound leaf, which rests on a list of rules
+abbrev pub HasList : Line → Type 0
+HasList (Split p x) = ⊥
+HasList (Window number p len) = ⊥
+HasList (Day j x over) = ⊥
+HasList (Dead p len R) = Unit {0}
+HasList (Bound p turns R y) = Unit {0}
+HasList Unfinished = ⊥

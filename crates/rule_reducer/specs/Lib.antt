@@ -1,2 +1,3 @@
 pub mod Citing
 pub mod Needs
+pub mod Without

@@ -1,11 +1,13 @@
 //! Logs of refutations without the rules that they can do without.
 #![tactic(auto)]
 
-mod cited;
+mod citations;
 mod descent;
 mod lists;
-mod passing;
 mod reducing;
+mod refusing_lines;
+mod shrinking_log;
+mod stripped_lines;
 mod stripping;
 #[cfg(test)]
 mod tests;

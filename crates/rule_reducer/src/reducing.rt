@@ -7,7 +7,9 @@ ghost use Rattle.refutation_terms.specs.Strip.{IsReduced};
 ghost use Rattle.refutation_terms.specs.Verdict.{IsRefused};
 ghost use Rattle.rule_reducer.specs.Needs.{NeedsEach, NeedsTogether};
 
-use crate::descent::descend;
+use crate::citations::citations_of;
+use crate::descent::{LastRefusal, descend};
+use crate::shrinking_log::ShrinkingLog;
 use refutation_checker::check_log;
 use refutation_log::Log;
 use refutation_terms::LogRefusal;
@@ -20,12 +22,14 @@ fn descend_to_end(alloc: Global, problem: &Problem, log: &Log) -> Result<Log, Al
     ensures reduced { IfOk result (IsReduced problem.now log.now) }
     ensures passes { IfOk result (Passes problem.now) }
 {
-    let mut reduced = log.copy()?;
+    let mut reduced = ShrinkingLog::of(alloc, log)?;
+    let cited = citations_of(alloc, problem, &reduced)?;
+    let mut last = LastRefusal { place: 0 };
     loop {
         let named = reduced.named().len();
-        descend(alloc, problem, &mut reduced)?;
+        descend(alloc, problem, &mut reduced, &cited, &mut last)?;
         if reduced.named().len() == named {
-            return Ok(reduced);
+            return Ok(reduced.into_log());
         }
     }
 }
@@ -33,6 +37,10 @@ fn descend_to_end(alloc: Global, problem: &Problem, log: &Log) -> Result<Log, Al
 /// What repeated descents leave of the log, each of which drops rules from the highest number down
 /// wherever the log then still passes: a log that needs each rule that it names. A log that doesn't
 /// pass is refused, with the cause that checking its text gives.
+///
+/// A strip leaves the domains at each line as they are. So a rule that no line cites is dropped, and one that a window or a day leaf
+/// or the turn cites is kept, without judging anything; for each other rule the dead and bound leaves that list it are judged
+/// without it, up to the first that doesn't hold. Beside the log there is memory for one copy of it.
 pub fn reduce(alloc: Global, problem: &Problem, log: &Log) -> Result<Log, Fail<LogRefusal>>
     requires { Fits problem.now log.now }
     ensures reduced { MatchAnswer result (λ g. IsReduced problem.now log.now g) (IsRefused problem.now (log_text problem.now log.now)) }

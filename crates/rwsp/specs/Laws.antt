@@ -79,7 +79,8 @@ IsRosterOf answer = ⊥
 abbrev pub RostersMeet : Type 0
 RostersMeet =
     (file : List ℕ) (P : Instance) (budget : ℕ) (planned a : Answer)
-    → SpellsProblem file P → IsRosterOf planned → IsPlanAnswer P budget planned → IsRosterAnswer a P (answer_text P planned)
+    → SpellsProblem file P → IsRosterOf planned → IsPlanAnswer P budget planned
+        → IsRosterAnswer a P (answer_text P planned)
     → a ≡ Meets
 
 -- the text of what `reduce` writes is accepted by `check`, with the rules that it names

@@ -243,7 +243,8 @@ fn fixed(alloc: Global, answer: Answer) -> Result<Reply, Stop>
 pub fn printed(alloc: Global, problem: &Problem, answer: Answer) -> Result<Reply, Stop>
     requires { IsPrintable problem.now answer }
     ensures answer { IfOk result (λ r. r.answer ≡ answer) }
-    ensures text { IfOk result (λ r. IsPrintable problem.now r.answer × (r.text.items ≡ answer_text problem.now r.answer)) }
+    ensures text { IfOk result (λ r.
+        IsPrintable problem.now r.answer × (r.text.items ≡ answer_text problem.now r.answer)) }
     ensures fault { IsErrOf result Stop.ReadFault → ⊥ }
 {
     let text = text_on(alloc, problem, &answer)?;

@@ -14,7 +14,7 @@ use Rattle.rwsp_model.specs.Validity.{KeepsLimits, IsSmallRange, AreSmall}
 use Rattle.rwsp_model.proofs.Limits.{valid_keeps}
 use Rattle.rwsp_file.specs.Text.{demand_text, bounds_words, shift_words, frame_lines, lines_of_words, pair_words, triple_words, file_line}
 use Rattle.rwsp_file.specs.Laws.{CanonicalTextsAreShort}
-use Rattle.rwsp_file.proofs.SymbolReader.{in_place, no_row}
+use Rattle.rwsp_terms.proofs.SymbolNames.{in_place, no_row}
 use Rattle.rwsp_file.proofs.WordForms.{all_images, all_weaker}
 use Rattle.rwsp_file.proofs.Printing.{IsPrintedRow, rows_printed}
 

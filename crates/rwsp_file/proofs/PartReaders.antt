@@ -14,7 +14,8 @@ use Rattle.rwsp_file.specs.declared.refusal.FileRefusal.{FileRefusal}
 use Rattle.rwsp_file.proofs.Readers.{IsReader, AllAfter, bind_ok, then_ok, ok_same, given, with_fields, many_reader}
 use Rattle.rwsp_file.proofs.FieldReaders.{number_reader, weeks_reader, demand_reader, AreWeeks}
 use Rattle.rwsp_file.proofs.RowReader.{IsGoodRow, shift_reader}
-use Rattle.rwsp_file.proofs.SymbolReader.{HasNames, IsPair, IsTriple, pair_fields, triple_fields, pair_reader, triple_reader}
+use Rattle.rwsp_file.proofs.SymbolReader.{IsPair, IsTriple, pair_fields, triple_fields, pair_reader, triple_reader}
+use Rattle.rwsp_terms.proofs.SymbolNames.{HasNames}
 
 abbrev IsBounded : ℕ → ℕ → ℕ → Type 0
 IsBounded least greatest n = is_between least greatest n ≡ true

@@ -21,7 +21,8 @@ use Rattle.rwsp_file.specs.Spelling.{Field, Spell, fields, IsDemand, IsRow, on_l
 use Rattle.rwsp_file.specs.Spelling.Field.{DemandField, ShiftField}
 use Rattle.rwsp_file.specs.Text.{demand_text, bounds_words, shift_words, lines_of_words, pair_words, triple_words, problem_text}
 use Rattle.rwsp_file.specs.Laws.{CanonicalTextsSpell}
-use Rattle.rwsp_file.proofs.SymbolReader.{in_place, no_row, pair_fields, triple_fields}
+use Rattle.rwsp_file.proofs.SymbolReader.{pair_fields, triple_fields}
+use Rattle.rwsp_terms.proofs.SymbolNames.{in_place, no_row}
 use Rattle.rwsp_file.proofs.Whole.{fields_from_shifts, fields_from_frame, sequence_fields}
 use Rattle.rwsp_file.proofs.WordForms.{all_images, all_weaker}
 use Rattle.rwsp_file.proofs.PrintSteps.{IsPrinted, lexeme, numbered, text_lexemes, later, line_cut}

@@ -8,7 +8,8 @@ use Rattle.std.proofs.lemmas.List.Folds.{list_any_at}
 use Rattle.std.proofs.lemmas.Option.{slice_get-get_or, same_Some}
 use Rattle.std.proofs.lemmas.Slice.Eq.{bytes_eq-Decides}
 use Rattle.std.proofs.lemmas.Bool.{cases_order}
-use Rattle.rwsp_terms.specs.Instance.{Instance, shift_count, off_name, name_of, name_numbered, name_in, symbol_among, symbol_numbered}
+use Rattle.rwsp_terms.specs.Instance.{Instance, shift_count, name_of, symbol_among}
+use Rattle.rwsp_terms.proofs.SymbolNames.{HasNames, symbol_found, symbol_only}
 use Rattle.rwsp_terms.specs.declared.data.ShiftRow.{ShiftRow}
 use Rattle.rwsp_terms.specs.declared.data.Symbol.{Symbol}
 use Rattle.rwsp_file.specs.Spelling.{Field, Spell, name_fields}
@@ -17,76 +18,6 @@ use Rattle.rwsp_file.specs.Reading.{Unread, ◌>>=◌, or_refuse, symbol_at, pai
 use Rattle.rwsp_file.specs.declared.refusal.FileRefusal.TheVariants.{Unknown}
 use Rattle.rwsp_file.proofs.Readers.{IsReader, bind_ok, then_ok, some_ok, ok_same, given, word_reader}
 use Rattle.rwsp_file.proofs.Lines.{is_some-position}
-
--- names by which shifts can be told cases_order, and from the day off
-pub record HasNames (P : Instance) : Type 0 where
-  pub no_dash : All (λ (row : ShiftRow). row.name ≢ off_name) P.shifts
-  pub distinct : AllPairs (λ (a b : ShiftRow). a.name ≢ b.name) P.shifts
-
-abbrev test_name : List ℕ → ShiftRow → Bool
-test_name name row = bytes_eq name row.name
-
-pub no_row : ShiftRow
-no_row = record { name = []; start = 0; length = 0; bounds = record { least = 0; greatest = 0 } }
-
-pub in_place : (P : Instance) (k : ℕ) → k < length P.shifts → name_numbered P (suc k) ≡ (get_or P.shifts k no_row).name
-in_place P k less = ap name_in (slice_get-get_or P.shifts k no_row less)
-
-symbol_found : (P : Instance) (text : List ℕ) (x : Symbol) → symbol_among P.shifts text ≡ Some x → (x.number ≤ shift_count P) × (text ≡ name_of P x)
-symbol_found P text x e = at (bytes_eq text off_name) refl (position (test_name text) P.shifts) refl e where
-  at : (b : Bool) → bytes_eq text off_name ≡ b → (o : Option ℕ) → position (test_name text) P.shifts ≡ o → cond b (Some (symbol_numbered 0)) (option_map (λ k. symbol_numbered (k + 1)) o) ≡ Some x →
-      (x.number ≤ shift_count P) × (text ≡ name_of P x)
-  at true d o p h =
-      let same : symbol_numbered 0 ≡ x = same_Some (symbol_numbered 0) x h in
-      subst (λ (y : Symbol). (y.number ≤ shift_count P) × (text ≡ name_of P y)) same (omega arith, (bytes_eq-Decides text off_name).0 d)
-  at false d None p h = absurd (cc)
-  at false d (Some k) p h =
-      let same : symbol_numbered (k + 1) ≡ x = same_Some (symbol_numbered (k + 1)) x h in
-      let f : (k < length P.shifts) × (test_name text (get_or P.shifts k no_row) ≡ true) × ((j : ℕ) → j < k → test_name text (get_or P.shifts j no_row) ≡ false) =
-      position-Some (test_name text) P.shifts k no_row p in
-      let named : text ≡ (get_or P.shifts k no_row).name = (bytes_eq-Decides text (get_or P.shifts k no_row).name).0 f.1 in
-      let next : suc k ≡ k + 1 = omega arith in
-      subst (λ (y : Symbol). (y.number ≤ shift_count P) × (text ≡ name_of P y)) same
-      (omega (arith, f.0), named ∙ sym (in_place P k f.0) ∙ ap (name_numbered P) next)
-
-pub not_equal : (a b : List ℕ) → a ≢ b → bytes_eq a b ≡ false
-not_equal a b h = at (bytes_eq a b) refl where
-  at : (t : Bool) → bytes_eq a b ≡ t → t ≡ false
-  at true e = absurd (h ((bytes_eq-Decides a b).0 e))
-  at false e = refl
-
-the_place : (P : Instance) (names : HasNames P) (k i : ℕ) → k < length P.shifts → i < length P.shifts → (get_or P.shifts k no_row).name ≡ (get_or P.shifts i no_row).name → i ≡ k
-the_place P names k i lk li e = at (cases_order i k) where
-  at : (i ≡ k) ⊎ ((i < k) ⊎ (k < i)) → i ≡ k
-  at (inl h) = h
-  at (inr (inl h)) = absurd (names.distinct i k no_row h lk (sym e))
-  at (inr (inr h)) = absurd (names.distinct k i no_row h li e)
-
-some_of : {A : Type 0} (o : Option A) → is_some o ≡ true → (x : A) × (o ≡ Some x)
-some_of None e = absurd (cc)
-some_of (Some x) e = (x, refl)
-
-position_of_name : (P : Instance) (names : HasNames P) (k : ℕ) → k < length P.shifts → position (test_name (get_or P.shifts k no_row).name) P.shifts ≡ Some k
-position_of_name P names k less =
-    let name : List ℕ = (get_or P.shifts k no_row).name in
-    let here : test_name (get_or P.shifts k no_row).name (get_or P.shifts k no_row) ≡ true = (bytes_eq-Decides (get_or P.shifts k no_row).name (get_or P.shifts k no_row).name).1 refl in
-    let o : (i : ℕ) × (position (test_name (get_or P.shifts k no_row).name) P.shifts ≡ Some i) =
-    some_of (position (test_name (get_or P.shifts k no_row).name) P.shifts)
-    (is_some-position (test_name (get_or P.shifts k no_row).name) P.shifts ∙ list_any_at (test_name (get_or P.shifts k no_row).name) P.shifts k no_row less here) in
-    let f : (o.0 < length P.shifts) × (test_name (get_or P.shifts k no_row).name (get_or P.shifts o.0 no_row) ≡ true) × ((j : ℕ) → j < o.0 → test_name (get_or P.shifts k no_row).name (get_or P.shifts j no_row) ≡ false) =
-    position-Some (test_name (get_or P.shifts k no_row).name) P.shifts o.0 no_row o.1 in
-    o.1 ∙ ap Some (the_place P names k o.0 less f.0 ((bytes_eq-Decides (get_or P.shifts k no_row).name (get_or P.shifts o.0 no_row).name).0 f.1))
-
-symbol_only : (P : Instance) (names : HasNames P) (n : ℕ) → n ≤ shift_count P → symbol_among P.shifts (name_numbered P n) ≡ Some (symbol_numbered n)
-symbol_only P names zero le = refl
-symbol_only P names (suc k) le =
-    let less : k < length P.shifts = omega (arith, le) in
-    let off : bytes_eq (get_or P.shifts k no_row).name off_name ≡ false = not_equal _ _ (names.no_dash k no_row less) in
-    let next : k + 1 ≡ suc k = omega arith in
-    ap (symbol_among P.shifts) (in_place P k less)
-    ∙ ap (λ b. cond b (Some (symbol_numbered 0)) (option_map (λ j. symbol_numbered (j + 1)) (position (test_name (get_or P.shifts k no_row).name) P.shifts))) off
-    ∙ ap (option_map (λ j. symbol_numbered (j + 1))) (position_of_name P names k less)
-    ∙ ap (λ n. Some (symbol_numbered n)) next
 
 -- a name in a sequence that is the name of a symbol
 pub symbol_reader : (P : Instance) → HasNames P → IsReader (λ x. x.number ≤ shift_count P) (λ x. NameField (name_of P x) ∷ []) (symbol_at P.shifts)

@@ -18,7 +18,8 @@ use Rattle.rwsp_file.specs.Spelling.Field.{DemandField, ShiftField}
 use Rattle.rwsp_file.specs.Reading.{is_new_name}
 use Rattle.rwsp_file.proofs.RowReader.{IsGoodRow}
 use Rattle.rwsp_file.proofs.Chains.{after_at, after_from, between_found, between_only, le_test}
-use Rattle.rwsp_file.proofs.SymbolReader.{IsPair, IsTriple, not_equal}
+use Rattle.rwsp_file.proofs.SymbolReader.{IsPair, IsTriple}
+use Rattle.rwsp_terms.proofs.SymbolNames.{other_bytes}
 use Rattle.rwsp_file.proofs.PartReaders.{IsDemandRow, AreBounds, size_fields, make_size}
 use Rattle.rwsp_file.proofs.Whole.{IsRead, good_names, no_other, fields_from_demand, fields_from_shifts, fields_from_frame}
 use Rattle.rwsp_file.proofs.WordForms.{IsWord, IsWordField, AreWords, names_are_words, all_front, all_mapped}
@@ -74,12 +75,12 @@ new_name : (rows : List ShiftRow) (i : ℕ) (d : ShiftRow) → i < length rows �
 new_name rows i d less name distinct =
     and_from (nat_le (length (get_or rows i d).name) 32 && not (bytes_eq (get_or rows i d).name off_name)) (not (list_any (λ row. bytes_eq (get_or rows i d).name row.name) (take i rows)))
     (and_from (nat_le (length (get_or rows i d).name) 32) (not (bytes_eq (get_or rows i d).name off_name)) (le_test (length (get_or rows i d).name) 32 name.few)
-    (not_from_false _ (not_equal (get_or rows i d).name off_name name.no_dash)))
+    (not_from_false _ (other_bytes (get_or rows i d).name off_name name.no_dash)))
     (not_from_false _ (list_any_none (λ row. bytes_eq (get_or rows i d).name row.name) (take i rows) (λ j e within.
     let long : length (take i rows) ≡ i = length-take-le i rows (omega (arith, less)) in
     let before : j < i = omega (arith, within, long) in
     let here : get_or (take i rows) j e ≡ get_or rows j e = get_or-take i rows j e before in
-    not_equal (get_or rows i d).name (get_or (take i rows) j e).name (λ same.
+    other_bytes (get_or rows i d).name (get_or (take i rows) j e).name (λ same.
     distinct j i e before less
     (sym (same ∙ ap (λ (row : ShiftRow). row.name) here) ∙ ap (λ (row : ShiftRow). row.name) (get_or_default rows i d e less))))))
 

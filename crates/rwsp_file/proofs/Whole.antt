@@ -21,7 +21,8 @@ use Rattle.rwsp_file.specs.declared.refusal.FileRefusal.{FileRefusal}
 use Rattle.rwsp_file.proofs.Readers.{AllAfter, bind_ok, then_ok, ok_same, given}
 use Rattle.rwsp_file.proofs.RowReader.{IsGoodRow}
 use Rattle.rwsp_file.proofs.Chains.{after_at}
-use Rattle.rwsp_file.proofs.SymbolReader.{HasNames, IsPair, IsTriple, pair_fields, triple_fields}
+use Rattle.rwsp_file.proofs.SymbolReader.{IsPair, IsTriple, pair_fields, triple_fields}
+use Rattle.rwsp_terms.proofs.SymbolNames.{HasNames}
 use Rattle.rwsp_file.proofs.PartReaders.{IsSize, IsFrame, IsDemandRow, size_fields, frame_fields, make_size, make_frame, size_reader, frame_reader, demand_rows_reader, shift_rows_reader, pairs_reader, triples_reader}
 
 -- a new name, in plain words

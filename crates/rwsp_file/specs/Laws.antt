@@ -1,5 +1,6 @@
 -- Laws of texts, instances and refusals.
 use Rattle.std.specs.Prelude.{◌≡◌, ℕ, ◌≤◌, List, length, MatchOption}
+use Rattle.rwsp_terms.specs.declared.limits.TheConstants.{LONGEST_FILE}
 use Rattle.rwsp_terms.specs.Instance.{Instance}
 use Rattle.rwsp_model.specs.Validity.{IsValid}
 use Rattle.rwsp_file.specs.Spelling.{SpellsProblem}
@@ -20,4 +21,4 @@ CanonicalTextsSpell = (P : Instance) → IsValid P → SpellsProblem (problem_te
 
 -- and is short enough to be read again
 abbrev pub CanonicalTextsAreShort : Type 0
-CanonicalTextsAreShort = (P : Instance) → IsValid P → length (problem_text P) ≤ 1048576
+CanonicalTextsAreShort = (P : Instance) → IsValid P → length (problem_text P) ≤ LONGEST_FILE

@@ -5,6 +5,7 @@ use Rattle.std.specs.List.{list_any, before_first, after_first}
 use Rattle.std.specs.Str.{bytes_eq}
 use Rattle.rwsp_text.specs.Lexemes.{Lexeme, lexemes, last_line}
 use Rattle.rwsp_text.specs.Numbers.{number_of}
+use Rattle.rwsp_terms.specs.declared.limits.TheConstants.{MOST_DAYS, MOST_WEEKS, MOST_CELLS, MOST_SHIFTS, LONGEST_NAME, GREATEST_BOUND, MOST_SEQUENCES}
 use Rattle.rwsp_terms.specs.Instance.{Instance, symbol_among, off_name}
 use Rattle.rwsp_terms.specs.declared.data.Bounds.{Bounds}
 use Rattle.rwsp_terms.specs.declared.data.ShiftRow.{ShiftRow}
@@ -54,8 +55,8 @@ number_at limit least greatest u = do
 -- the weeks, which limit 2 and then limit 3 bound
 unfoldable pub limited_weeks : ℕ → Lexeme → Result ℕ FileRefusal
 limited_weeks days w = do
-  n ← limited 2 1 600 w
-  if nat_le (n * days) 4200 then Ok n else Err (Range w.line 3)
+  n ← limited 2 1 MOST_WEEKS w
+  if nat_le (n * days) MOST_CELLS then Ok n else Err (Range w.line 3)
 
 unfoldable pub weeks_at : ℕ → Unread → Result (ℕ × Unread) FileRefusal
 weeks_at days u = do
@@ -65,9 +66,9 @@ weeks_at days u = do
 
 unfoldable pub size_at : Unread → Result (Size × Unread) FileRefusal
 size_at u = do
-  days ← number_at 1 1 28 u
+  days ← number_at 1 1 MOST_DAYS u
   weeks ← weeks_at days.0 days.1
-  shifts ← number_at 4 1 8 weeks.1
+  shifts ← number_at 4 1 MOST_SHIFTS weeks.1
   Ok (record { days = days.0; weeks = weeks.0; shifts = shifts.0 }, shifts.1)
 
 -- a range from a number to the number behind the second of two dots
@@ -128,10 +129,10 @@ words_of_row (name ∷ start ∷ minutes ∷ least ∷ greatest ∷ []) = Some (
 words_of_row (name ∷ start ∷ minutes ∷ long_name ∷ least ∷ greatest ∷ []) = Some (row_words name start minutes least greatest)
 words_of_row words = None
 
--- at most 32 bytes, not the name of the day off, and not the name of an earlier shift
+-- at most as long as names are, not the name of the day off, and not the name of an earlier shift
 abbrev pub is_new_name : List ShiftRow → List ℕ → Bool
 is_new_name earlier name =
-    nat_le (length name) 32 && not (bytes_eq name off_name) && not (list_any (λ row. bytes_eq name row.name) earlier)
+    nat_le (length name) LONGEST_NAME && not (bytes_eq name off_name) && not (list_any (λ row. bytes_eq name row.name) earlier)
 
 unfoldable pub new_name : List ShiftRow → Lexeme → Result (List ℕ) FileRefusal
 new_name earlier w = if is_new_name earlier w.text then Ok w.text else Err (Name w.line)
@@ -139,10 +140,10 @@ new_name earlier w = if is_new_name earlier w.text then Ok w.text else Err (Name
 -- the start, the length, and the bounds of the blocks
 unfoldable pub numbers_of_row : RowWords → Result (ℕ × ℕ × Bounds) FileRefusal
 numbers_of_row words = do
-  start ← limited 6 0 10000 words.start
-  minutes ← limited 6 0 10000 words.minutes
-  least ← limited 7 0 10000 words.least
-  greatest ← limited 7 0 10000 words.greatest
+  start ← limited 6 0 GREATEST_BOUND words.start
+  minutes ← limited 6 0 GREATEST_BOUND words.minutes
+  least ← limited 7 0 GREATEST_BOUND words.least
+  greatest ← limited 7 0 GREATEST_BOUND words.greatest
   Ok (start, minutes, record { least = least; greatest = greatest })
 
 -- the shift of its words: its name, and then its numbers
@@ -171,16 +172,16 @@ shift_rows_at count u = many shift_at count [] u
 
 unfoldable pub bounds_at : Unread → Result (Bounds × Unread) FileRefusal
 bounds_at u = do
-  least ← number_at 7 0 10000 u
-  greatest ← number_at 7 0 10000 least.1
+  least ← number_at 7 0 GREATEST_BOUND u
+  greatest ← number_at 7 0 GREATEST_BOUND least.1
   Ok (record { least = least.0; greatest = greatest.0 }, greatest.1)
 
 unfoldable pub frame_at : Unread → Result (Frame × Unread) FileRefusal
 frame_at u = do
   off ← bounds_at u
   work ← bounds_at off.1
-  pairs ← number_at 8 0 64 work.1
-  triples ← number_at 9 0 64 pairs.1
+  pairs ← number_at 8 0 MOST_SEQUENCES work.1
+  triples ← number_at 9 0 MOST_SEQUENCES pairs.1
   Ok (record { off = off.0; work = work.0; pairs = pairs.0; triples = triples.0 }, triples.1)
 
 unfoldable pub symbol_at : List ShiftRow → Unread → Result (Symbol × Unread) FileRefusal

@@ -1,5 +1,6 @@
 // Reading the fields of a text in their order.
 ghost use Rattle.std.specs.Prelude.{◌≡◌, IfOk, ◌≤◌};
+ghost use Rattle.rwsp_terms.specs.declared.limits.TheConstants.{MOST_DAYS};
 ghost use Rattle.rwsp_file.specs.Reading.{limited_weeks, weeks_at, size_at, demand_at, demand_row_at, demand_rows_at, frame_at};
 ghost use Rattle.rwsp_file.specs.Reads.{Reads, ReadsUnless};
 
@@ -29,7 +30,7 @@ pub struct Frame {
 
 #[tactic(auto, unfolding(crate::specs::Reading::limited_weeks))]
 fn limited_weeks(days: u32, word: &Lexeme) -> Result<u32, FileRefusal>
-    requires { days ≤ 28 }
+    requires { days ≤ MOST_DAYS }
     ensures { result ≡ limited_weeks days word.now }
 {
     let weeks = word.limited(WEEKS)?;
@@ -41,7 +42,7 @@ fn limited_weeks(days: u32, word: &Lexeme) -> Result<u32, FileRefusal>
 
 #[tactic(auto, unfolding(crate::specs::Reading::weeks_at))]
 fn read_weeks(days: u32, cursor: &mut Cursor) -> Result<u32, FileRefusal>
-    requires { days ≤ 28 }
+    requires { days ≤ MOST_DAYS }
     ensures { Reads (weeks_at days cursor.old) result cursor.new }
 {
     let word = cursor.next()?;

@@ -1,4 +1,7 @@
-// The limits of the numbers in a file.
+// The limits of the numbers in a file, each under the number that a refusal names.
+use rwsp_terms::limits::{
+    GREATEST_BOUND, MOST_CELLS, MOST_DAYS, MOST_SEQUENCES, MOST_SHIFTS, MOST_WEEKS,
+};
 
 /// A limit: the number by which a refusal names it, and the least and the greatest number that keep it.
 #[derive(Clone, Copy)]
@@ -12,61 +15,61 @@ pub struct Limit {
 pub const DAYS: Limit = Limit {
     number: 1,
     least: 1,
-    greatest: 28,
+    greatest: MOST_DAYS,
 };
 
 /// How many weeks there are.
 pub const WEEKS: Limit = Limit {
     number: 2,
     least: 1,
-    greatest: 600,
+    greatest: MOST_WEEKS,
 };
 
 /// How many days all weeks have.
 pub const CELLS: Limit = Limit {
     number: 3,
     least: 1,
-    greatest: 4_200,
+    greatest: MOST_CELLS,
 };
 
 /// How many shifts there are.
 pub const SHIFTS: Limit = Limit {
     number: 4,
     least: 1,
-    greatest: 8,
+    greatest: MOST_SHIFTS,
 };
 
 /// Both numbers of a demand.
 pub const DEMAND: Limit = Limit {
     number: 5,
     least: 0,
-    greatest: 600,
+    greatest: MOST_WEEKS,
 };
 
 /// The start and the length of a shift, in minutes.
 pub const MINUTES: Limit = Limit {
     number: 6,
     least: 0,
-    greatest: 10_000,
+    greatest: GREATEST_BOUND,
 };
 
 /// Both bounds of blocks, in days.
 pub const BLOCK: Limit = Limit {
     number: 7,
     least: 0,
-    greatest: 10_000,
+    greatest: GREATEST_BOUND,
 };
 
 /// How many pairs are forbidden.
 pub const PAIRS: Limit = Limit {
     number: 8,
     least: 0,
-    greatest: 64,
+    greatest: MOST_SEQUENCES,
 };
 
 /// How many triples are forbidden.
 pub const TRIPLES: Limit = Limit {
     number: 9,
     least: 0,
-    greatest: 64,
+    greatest: MOST_SEQUENCES,
 };

@@ -1,5 +1,6 @@
 // Reading problem files.
 ghost use Rattle.std.specs.Prelude.{◌≡◌, ◌==◌, ◌≤◌, count_by, length, Some, IfOk};
+ghost use Rattle.rwsp_terms.specs.declared.limits.TheConstants.{LONGEST_FILE};
 ghost use Rattle.rwsp_text.specs.Lexemes.{last_line};
 ghost use Rattle.rwsp_model.specs.Refusals.{IfRefused};
 ghost use Rattle.rwsp_model.specs.Parts.{instance_of};
@@ -24,7 +25,7 @@ fn count_line_ends(bytes: &[u8]) -> usize
 }
 
 fn last_line(bytes: &[u8]) -> u32
-    requires { length bytes.now ≤ 1048576 }
+    requires { length bytes.now ≤ LONGEST_FILE }
     ensures { result ≡ last_line bytes.now }
 {
     count_line_ends(bytes) as u32 + 1
@@ -52,7 +53,7 @@ fn read_parts(alloc: Global, cursor: &mut Cursor) -> Result<Parts, Fail<FileRefu
 }
 
 fn parts_of(alloc: Global, bytes: &[u8]) -> Result<Parts, Fail<FileRefusal>>
-    requires { length bytes.now ≤ 1048576 }
+    requires { length bytes.now ≤ LONGEST_FILE }
     ensures { GivesUnless instance_of (reading (unread_of bytes.now)) result }
 {
     let Ok(tokens) = tokens(alloc, bytes) else {
@@ -64,7 +65,7 @@ fn parts_of(alloc: Global, bytes: &[u8]) -> Result<Parts, Fail<FileRefusal>>
 
 /// The problem that the bytes spell, or the first failure in them.
 pub fn read_problem(alloc: Global, bytes: &[u8]) -> Result<Problem, Fail<FileRefusal>>
-    requires { length bytes.now ≤ 1048576 }
+    requires { length bytes.now ≤ LONGEST_FILE }
     ensures ok { IfOk result (λ P. SpellsProblem bytes.now P) }
     ensures refused { IfRefused result (λ why. file_refusal bytes.now ≡ Some why) }
 {

@@ -10,10 +10,8 @@ use crate::cursor::{Cursor, Lexeme};
 use crate::limits::{BLOCK, MINUTES};
 use crate::shifts::Shifts;
 use rwsp_model::{Bounds, Fail, Name, ShiftRow};
+use rwsp_terms::limits::LONGEST_NAME;
 use std::alloc::Global;
-
-// The longest name of a shift, in bytes.
-const LONGEST_NAME: usize = 32;
 
 /// The words of a shift, without its long name.
 #[derive(Drop)]
@@ -74,7 +72,7 @@ fn is_new_name(shifts: &Shifts, name: &[u8]) -> bool
     ensures { result ≡ is_new_name shifts.now name.now }
 {
     let taken = is_taken(shifts, name);
-    name.len() <= LONGEST_NAME && name != b"-".as_slice() && !taken
+    name.len() <= LONGEST_NAME as usize && name != b"-".as_slice() && !taken
 }
 
 #[tactic(auto, unfolding(crate::specs::Reading::new_name))]

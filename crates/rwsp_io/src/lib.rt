@@ -3,6 +3,7 @@
 #![tactic(auto)]
 
 mod failing_calls;
+mod interrupted;
 mod memory;
 mod shelf;
 mod sink;

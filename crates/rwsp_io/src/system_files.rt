@@ -2,12 +2,13 @@
 ghost use Rattle.std.specs.Prelude.{◌≡◌, ℕ, List, None, is_some, false};
 ghost use Rattle.rwsp_io.specs.Told.{Silent};
 
+use crate::interrupted::{read_again, write_again};
 use crate::{Shelf, ShelfFault, Sink, SinkFault};
-use std::io::{Read, Write};
 use std::rt::Files;
 use std::{fs, io};
 
-/// Files of the system, named by their paths. All names are counted together.
+/// Files of the system, named by their paths. All names are counted together. A read that a signal interrupts is made again, and so
+/// is an opening.
 #[derive(Drop)]
 pub struct RealShelf<'a, R: Files> {
     rt: &'a R,
@@ -60,9 +61,9 @@ impl<'a, R: Files> Shelf for RealShelf<'a, R> {
         if piece.is_empty() {
             return Ok(0);
         }
-        match file.read(piece) {
+        match read_again(file, piece) {
             Ok(count) => Ok(count),
-            Err(_) => {
+            Err(ShelfFault) => {
                 self.faults = self.faults.saturating_add(1);
                 Err(ShelfFault)
             }
@@ -70,7 +71,7 @@ impl<'a, R: Files> Shelf for RealShelf<'a, R> {
     }
 }
 
-/// Standard output. A write that takes nothing is a fault.
+/// Standard output. A write that takes nothing is a fault; one that a signal interrupts is made again.
 #[derive(Drop)]
 pub struct RealSink<'a, R: Print> {
     rt: &'a R,
@@ -95,7 +96,7 @@ impl<'a, R: Print> Sink for RealSink<'a, R> {
         if piece.is_empty() {
             return Ok(0);
         }
-        match io::writer(self.rt).write(piece) {
+        match write_again(&mut io::writer(self.rt), piece) {
             Ok(count) if count > 0 => Ok(count),
             _ => {
                 self.faults = self.faults.saturating_add(1);

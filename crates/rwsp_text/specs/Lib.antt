@@ -1,3 +1,7 @@
+pub mod Fields
+pub mod Kinds
 pub mod Lexemes
+pub mod Lines
 pub mod Numbers
 pub mod Places
+pub mod Reads

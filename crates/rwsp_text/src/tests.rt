@@ -31,3 +31,25 @@ fn numbers_are_read_and_printed(rt: HostRuntime) -> Result<(), Fail> {
     assert_eq!(rt; out.as_slice(), b"018446744073709551615".as_slice());
     Ok(())
 }
+
+#[test]
+fn fields_are_read_one_by_one(rt: HostRuntime) -> Result<(), Fail> {
+    let mut reader = LineReader::new(b"split 2 7 D\nday 05\n-12 over");
+    let Some(line) = reader.next() else {
+        return Err(Fail::new("no line"));
+    };
+    assert_eq!(rt; line, b"split 2 7 D\n".as_slice());
+    let mut fields = Fields::of(b"split 2 7 D -12 over 05");
+    assert!(rt; fields.word(b"split").is_some());
+    assert_eq!(rt; fields.place(4, 7), Some(13));
+    assert_eq!(rt; fields.name(), Some(b"D".as_slice()));
+    assert_eq!(rt; fields.value(1_000), Some(-12));
+    assert_eq!(rt; fields.choice(b"over", b"short"), Some(true));
+    assert_eq!(rt; fields.number(1, 9), None);
+    assert!(rt; !fields.is_done());
+    let mut out = Vec::new(rt.alloc());
+    put_signed(&mut out, -2_147_483_648)?;
+    put_signed(&mut out, 7)?;
+    assert_eq!(rt; out.as_slice(), b"-21474836487".as_slice());
+    Ok(())
+}

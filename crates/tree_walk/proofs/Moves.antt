@@ -13,13 +13,13 @@ use Rattle.refutation_terms.specs.declared.lines.Line.{Line}
 use Rattle.refutation_terms.specs.declared.lines.Line.TheVariants.{Split, Unfinished}
 use Rattle.refutation_terms.specs.declared.lines.Turn.{Turn}
 use Rattle.refutation_terms.specs.Word.{Domains, AreSame}
-use Rattle.refutation_terms.specs.Tree.{IsLeaf, IsTree, after_trees, opening, lines_leave, domains_at, is_idle}
+use Rattle.refutation_terms.specs.Tree.{IsLeaf, Leaf, IsTree, after_trees, opening, lines_leave, domains_at, is_idle}
 use Rattle.refutation_terms.specs.Log.{TurnFits}
 use Rattle.domain_store.specs.Store.{Store, store_at, domain_at, has_domain, changed, full_store, HasSameShape, BelongsTo, IsStore, HasDomains}
 use Rattle.tree_walk.specs.declared.open_split.OpenSplit.{OpenSplit}
 use Rattle.tree_walk.specs.Splits.{Agrees, IsSplitAt, NoLines, InSplits, HasRead, IsBehindTree, second_sides_to_come, is_idle_in}
 use Rattle.tree_walk.specs.States.{IsStateOf, IsWalk}
-use Rattle.tree_walk.proofs.Stack.{leaf_read, split_read, second_ended, first_ended, innermost, read_leaves, read_is_tree, read_whole, read_part}
+use Rattle.tree_walk.proofs.Stack.{tree_read, split_read, second_ended, first_ended, innermost, read_leaves, read_is_tree, read_whole, read_part}
 use Rattle.tree_walk.proofs.Idle.{idle_in_store, held_where_useful, more_where_useful, positions_of}
 
 -- the split on top of the stack
@@ -91,23 +91,27 @@ behind_split P turn lines S T splits after whole p x o part is_p is_x first at_e
       read = subst (λ b. HasRead b (length T.sets) T (opening P turn) after (lines ++ Split p x ∷ [])) (sym part) (subst (λ n. InSplits NoLines n T (opening P turn) 0 after (lines ++ Split p x ∷ [])) (sym same.positions) there);
     }
 
--- a leaf was read: it is a tree, and ends what it ends
-pub leaf_is_tree : (P : Instance) (turn : Option Turn) (lines : List Line) (S : Store) (splits : List OpenSplit) (whole : Bool) (leaf : Line) → IsLeaf leaf → whole ≡ false → IsStateOf P turn lines (record { store = S; splits = splits; whole = whole }) → InSplits IsTree (length S.sets) S (opening P turn) 0 splits (lines ++ leaf ∷ [])
-leaf_is_tree P turn lines S splits whole leaf is_leaf part w =
-    leaf_read (length S.sets) S (opening P turn) splits lines leaf is_leaf (part_of P turn lines S splits whole part w)
+-- a whole tree was read, and ends what it ends
+pub tree_follows : (P : Instance) (turn : Option Turn) (lines tree : List Line) (S : Store) (splits : List OpenSplit) (whole : Bool) → IsTree tree → whole ≡ false → IsStateOf P turn lines (record { store = S; splits = splits; whole = whole }) → InSplits IsTree (length S.sets) S (opening P turn) 0 splits (lines ++ tree)
+tree_follows P turn lines tree S splits whole is_tree part w =
+    tree_read (length S.sets) S (opening P turn) splits lines tree is_tree (part_of P turn lines S splits whole part w)
+
+-- a leaf is a whole tree
+pub leaf_is_tree : (leaf : Line) → IsLeaf leaf → IsTree (leaf ∷ [])
+leaf_is_tree leaf is_leaf = (Leaf leaf is_leaf, refl)
 
 pub leaf_can_end : (S : Store) (splits : List OpenSplit) (whole : Bool) → whole ≡ false → IsWalk (record { store = S; splits = splits; whole = whole }) → IsBehindTree S splits
-leaf_can_end S splits whole part w = (opening w.0 w.1, w.2 ++ Unfinished ∷ [], leaf_is_tree w.0 w.1 w.2 S splits whole Unfinished tt part w.3)
+leaf_can_end S splits whole part w = (opening w.0 w.1, w.2 ++ Unfinished ∷ [], tree_follows w.0 w.1 w.2 (Unfinished ∷ []) S splits whole (leaf_is_tree Unfinished tt) part w.3)
 
-pub behind_leaf : (P : Instance) (turn : Option Turn) (lines : List Line) (leaf : Line) (S T : Store) (splits after : List OpenSplit) (whole ended : Bool) → IsLeaf leaf → whole ≡ false → HasSameShape S T → ((D : Domains) (lines : List Line) → InSplits IsTree (length S.sets) S D 0 splits lines → HasRead ended (length S.sets) T D after lines) → IsStateOf P turn lines (record { store = S; splits = splits; whole = whole }) → IsStateOf P turn (lines ++ leaf ∷ []) (record { store = T; splits = after; whole = ended })
-behind_leaf P turn lines leaf S T splits after whole ended is_leaf part same ends w = record {
+pub behind_tree : (P : Instance) (turn : Option Turn) (lines tree : List Line) (S T : Store) (splits after : List OpenSplit) (whole ended : Bool) → IsTree tree → whole ≡ false → HasSameShape S T → ((D : Domains) (lines : List Line) → InSplits IsTree (length S.sets) S D 0 splits lines → HasRead ended (length S.sets) T D after lines) → IsStateOf P turn lines (record { store = S; splits = splits; whole = whole }) → IsStateOf P turn (lines ++ tree) (record { store = T; splits = after; whole = ended })
+behind_tree P turn lines tree S T splits after whole ended is_tree part same ends w = record {
   belongs = belongs_still P S T w.belongs same;
-  read = subst (λ n. HasRead ended n T (opening P turn) after (lines ++ leaf ∷ [])) (sym same.positions) (ends (opening P turn) (lines ++ leaf ∷ []) (leaf_is_tree P turn lines S splits whole leaf is_leaf part w));
+  read = subst (λ n. HasRead ended n T (opening P turn) after (lines ++ tree)) (sym same.positions) (ends (opening P turn) (lines ++ tree) (tree_follows P turn lines tree S splits whole is_tree part w));
 }
 
 pub still_walk : (S T : Store) (splits after : List OpenSplit) (whole ended : Bool) → whole ≡ false → HasSameShape S T → ((D : Domains) (lines : List Line) → InSplits IsTree (length S.sets) S D 0 splits lines → HasRead ended (length S.sets) T D after lines) → IsWalk (record { store = S; splits = splits; whole = whole }) → IsWalk (record { store = T; splits = after; whole = ended })
 still_walk S T splits after whole ended part same ends w =
-    (w.0, w.1, w.2 ++ Unfinished ∷ [], behind_leaf w.0 w.1 w.2 Unfinished S T splits after whole ended tt part same ends w.3)
+    (w.0, w.1, w.2 ++ Unfinished ∷ [], behind_tree w.0 w.1 w.2 (Unfinished ∷ []) S T splits after whole ended (leaf_is_tree Unfinished tt) part same ends w.3)
 
 -- the domains are those of the next line
 pub state_domains : (P : Instance) (turn : Option Turn) (lines : List Line) (S : Store) (splits : List OpenSplit) (whole : Bool) → IsStore S → IsStateOf P turn lines (record { store = S; splits = splits; whole = whole }) → AreSame P (has_domain S) (domains_at P turn lines (length lines))

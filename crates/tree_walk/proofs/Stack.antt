@@ -8,7 +8,7 @@ use Rattle.std.proofs.Math.Bool.{and_assoc, and_comm, and-true}
 use Rattle.refutation_terms.specs.declared.lines.Line.{Line}
 use Rattle.refutation_terms.specs.declared.lines.Line.TheVariants.{Split}
 use Rattle.refutation_terms.specs.Word.{Domains}
-use Rattle.refutation_terms.specs.Tree.{IsLeaf, Leaf, Node, lines_in, IsTree, after_trees, side, side_takes, line_leaves, lines_leave, narrowed}
+use Rattle.refutation_terms.specs.Tree.{Node, lines_in, IsTree, after_trees, side, side_takes, line_leaves, lines_leave, narrowed}
 use Rattle.refutation_terms.proofs.Trees.{tree_is_read, tree_is_whole}
 use Rattle.refutation_terms.proofs.TreeDomains.{in_first, in_second, tree_leaves_all}
 use Rattle.refutation_terms.proofs.AsSaid.{past_front}
@@ -50,14 +50,14 @@ outer_kept Q R n S T limit tail new_tail added same room under step (o ∷ outer
       outer_kept Q R n S T limit tail new_tail added same room under step outer E o.mark.len h.2 h.5,
     )
 
--- a leaf is a whole tree
-pub leaf_read : (n : ℕ) (S : Store) (D : Domains) (splits : List OpenSplit) (lines : List Line) (leaf : Line) → IsLeaf leaf → InSplits NoLines n S D 0 splits lines → InSplits IsTree n S D 0 splits (lines ++ leaf ∷ [])
-leaf_read n S D splits lines leaf is_leaf h =
+-- the lines of a whole tree follow
+pub tree_read : (n : ℕ) (S : Store) (D : Domains) (splits : List OpenSplit) (lines tree : List Line) → IsTree tree → InSplits NoLines n S D 0 splits lines → InSplits IsTree n S D 0 splits (lines ++ tree)
+tree_read n S D splits lines tree is_tree h =
     let inner : InSplits NoLines n S D 0 (splits ++ []) lines = subst (λ s. InSplits NoLines n S D 0 s lines) (sym (append-nil splits)) h in
-    let done : InSplits IsTree n S D 0 (splits ++ []) (lines ++ leaf ∷ []) =
-    outer_kept NoLines IsTree n S S (length S.trail) [] [] (leaf ∷ []) (λ len le. refl) (omega arith) (λ E from rest i. i.0)
-    (λ E from rest i. (i.0, i.1, (Leaf leaf is_leaf, sym (ap (λ ls. ls ++ leaf ∷ []) i.2)))) splits D 0 lines inner in
-    subst (λ s. InSplits IsTree n S D 0 s (lines ++ leaf ∷ [])) (append-nil splits) done
+    let done : InSplits IsTree n S D 0 (splits ++ []) (lines ++ tree) =
+    outer_kept NoLines IsTree n S S (length S.trail) [] [] tree (λ len le. refl) (omega arith) (λ E from rest i. i.0)
+    (λ E from rest i. (i.0, i.1, subst (λ ls. IsTree (ls ++ tree)) (sym i.2) is_tree)) splits D 0 lines inner in
+    subst (λ s. InSplits IsTree n S D 0 s (lines ++ tree)) (append-nil splits) done
 
 same_either_way : (a b : ℕ) → (a == b) ≡ (b == a)
 same_either_way a b =

@@ -153,11 +153,14 @@ impl Walk {
         Ok(())
     }
 
-    /// Reads a leaf, by which the second side of a split may begin, or the whole tree end.
+    /// Reads a leaf, by which the second side of a split may begin, or the whole tree end. A whole tree leaves the same walk as
+    /// a leaf in its place: so this also goes past the lines of one that nobody looks at.
     pub fn read_leaf(&mut self)
         requires { self.old.whole ≡ false }
         ensures ends { (P : Instance) (turn : Option TheTurn) (lines : List Line) (leaf : Line)
             → IsStateOf P turn lines self.old → IsLeaf leaf → IsStateOf P turn (lines ++ leaf ∷ []) self.new }
+        ensures trees { (P : Instance) (turn : Option TheTurn) (lines tree : List Line) →
+            IsStateOf P turn lines self.old → IsTree tree → IsStateOf P turn (lines ++ tree) self.new }
         ensures one_less { open_trees self.old ≡ open_trees self.new + 1 }
         ensures same { HasSameShape self.old.store self.new.store }
     {

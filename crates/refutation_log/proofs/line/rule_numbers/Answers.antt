@@ -1,7 +1,7 @@
 use Rattle.std.proofs.Common.{◌<◌, ◌+◌, arith, ap, ◌∙◌, subst, sym}
 use Rattle.std.specs.Prelude.{All}
 use Rattle.std.proofs.lemmas.List.Elements.{All-push, All-weaker}
-use Rattle.refutation_log.specs.Reading.{rules_at, rules_front}
+use Rattle.rwsp_text.specs.Fields.{rules_at, rules_front}
 use Rattle.refutation_log.proofs.RulesFront.{reads_on, reads_done, number_shortens}
 use Rattle.refutation_log.proofs.line.rule_numbers.Goals as goal
 

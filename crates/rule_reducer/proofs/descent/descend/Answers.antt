@@ -1,5 +1,6 @@
 use Rattle.std.proofs.Common.{◌≡◌, ◌-◌, ◌<◌, length, arith, ap, subst, ◌∙◌, Some}
 use Rattle.std.specs.Prelude.{slice_get}
+use Rattle.rule_reducer.proofs.Citing.{cited_on}
 use Rattle.rule_reducer.proofs.Descents.{descent_goes_on}
 use Rattle.rule_reducer.proofs.descent.descend.Goals as goal
 
@@ -15,4 +16,8 @@ loop-done-preserved c =
     let here : slice_get g.named (length g.named - 1 - c.loop-done.done) ≡ Some c.at-number.result =
     subst (λ l. slice_get l (length g.named - 1 - c.loop-done.done) ≡ Some c.at-number.result) same
     (subst (λ i. slice_get named i ≡ Some c.at-number.result) place c.at-number.ensures) in
-    descent_goes_on P g c.loop-done.log c.drop_rule.new.log c.loop-done.done c.at-number.result c.loop-done.invariant less here c.in_ok-drop_rule.ensures
+    let so_far = c.loop-done.invariant.so_far in
+    record {
+      so_far = descent_goes_on P g c.loop-done.log c.drop_rule.new.log c.loop-done.done c.at-number.result so_far less here c.in_ok-drop_rule.ensures;
+      cited = cited_on P c.at-number.result c.loop-done.log c.drop_rule.new.log _ _ so_far.passes.grounded.fits c.loop-done.invariant.cited c.in_ok-drop_rule.ensures;
+    }

@@ -1,9 +1,8 @@
-use Rattle.std.proofs.Common.{sym, subst}
-use Rattle.refutation_terms.specs.Log.{Fits}
-use Rattle.rule_reducer.proofs.Strips.{fits_still}
+use Rattle.std.proofs.Common.{sym, refl, inl, inr}
 use Rattle.rule_reducer.proofs.descent.drop_rule.Goals as goal
 
-pub passes-requires : goal.passes-requires
-passes-requires c =
-    let P = c.args.problem.now in
-    subst (Fits P) (sym c.in_ok-stripped.ensures) (fits_still P c.args.number c.args.log.now c.requires.fits)
+pub returns-then-droppable : goal.returns-then-droppable
+returns-then-droppable c = inl (rw c.if-droppable.true at c.in_ok-droppable.ensures, sym (c.in_ok-strip.ensures c.args.problem.now c.rule_at-rule.ensures.value))
+
+pub returns : goal.returns
+returns c = inr (rw c.if-droppable.false at c.in_ok-droppable.ensures, refl)

@@ -1,24 +1,31 @@
-use Rattle.std.proofs.Common.{◌≡◌, ℕ, sym, subst, ◌∙◌, ap, Some}
-use Rattle.std.proofs.lemmas.Result.{IfOk-weaker}
-use Rattle.rwsp_terms.specs.Rules.{rule_of}
+use Rattle.std.proofs.Common.{◌≡◌, ◌∙◌, ap, sym, subst, List, Some}
 use Rattle.rwsp_model.proofs.Numbering.{one_number}
+use Rattle.refutation_terms.specs.declared.lines.Line.{Line}
 use Rattle.refutation_terms.specs.Log.{Log, Fits}
+use Rattle.refutation_terms.specs.Tree.{IsTree}
 use Rattle.refutation_terms.specs.Strip.{strip}
-use Rattle.rule_reducer.proofs.Strips.{fits_still}
+use Rattle.rule_reducer.proofs.Strips.{fits_still, tree_stays}
 use Rattle.rule_reducer.proofs.stripping.strip.Goals as goal
+
+pub into_log-requires : goal.into_log-requires
+into_log-requires c =
+    let P = c.args.problem.now in
+    let n = c.number_of-number.result in
+    let g = c.args.log.now in
+    subst (λ (x : Log). IsTree x.lines) (sym (c.in_ok-strip.ensures P c.number_of-number.ensures.value ∙ ap (strip P n) c.in_ok-kept.ensures))
+    (tree_stays P n g.lines c.lines-tree.ensures.tree)
 
 pub returns-clause-value : goal.returns-clause-value
 returns-clause-value c =
+    λ n is.
     let P = c.args.problem.now in
-    let g = c.args.log.now in
-    IfOk-weaker c.strip_number.result (λ (kept : Log). kept ≡ strip P c.number_of.result g) (λ (kept : Log). (n : ℕ) → rule_of P n ≡ Some c.args.rule → kept ≡ strip P n g)
-    (λ kept e n is. e ∙ ap (λ m. strip P m g) (one_number P c.number_of.result n c.args.rule c.number_of.ensures.value is))
-    c.strip_number.ensures
+    let m = c.number_of-number.result in
+    c.into_log.ensures ∙ c.in_ok-strip.ensures P c.number_of-number.ensures.value ∙ ap (strip P m) c.in_ok-kept.ensures
+    ∙ ap (λ k. strip P k c.args.log.now) (one_number P m n c.args.rule c.number_of-number.ensures.value is)
 
 pub returns-clause-fits : goal.returns-clause-fits
 returns-clause-fits c =
     let P = c.args.problem.now in
+    let m = c.number_of-number.result in
     let g = c.args.log.now in
-    IfOk-weaker c.strip_number.result (λ (kept : Log). kept ≡ strip P c.number_of.result g) (Fits P)
-    (λ kept e. subst (Fits P) (sym e) (fits_still P c.number_of.result g c.requires.fits))
-    c.strip_number.ensures
+    subst (Fits P) (sym (c.into_log.ensures ∙ c.in_ok-strip.ensures P c.number_of-number.ensures.value ∙ ap (strip P m) c.in_ok-kept.ensures)) (fits_still P m g c.requires.fits)

@@ -2,7 +2,7 @@ use Rattle.std.proofs.Common.{subst, IsTrue}
 use Rattle.refutation_terms.specs.Verdict.{Spells}
 use Rattle.refutation_terms.proofs.Spelled.{spelled_lines_fit}
 use Rattle.refutation_checker.specs.LineTexts.{Judging}
-use Rattle.refutation_checker.proofs.Judging.{passed_reads}
+use Rattle.refutation_checker.proofs.Judging.{passed_reads, passed_walks}
 use Rattle.refutation_checker.proofs.judge.Judge.read.Goals as goal
 
 pub pass-requires-clause-line : goal.pass-requires-clause-line
@@ -17,3 +17,7 @@ returns-in-Ok-clause-read c =
     (subst (λ (j : Judging). Spells j.problem bytes c.in-Ok.line) c.self.view_is c.in-Ok.ensures)
     (λ turn lines state tree. let whole : IsTrue c.is_whole.result = (c.is_whole.ensures.tree P turn lines state).1 tree in absurd (cc))
     c.pass.ensures.passed
+
+pub returns-in-Ok-clause-walks : goal.returns-in-Ok-clause-walks
+returns-in-Ok-clause-walks c =
+    passed_walks c.args.self.now.problem c.args.self.now.named c.args.walk.now c.pass.new.walk c.in-Ok.line c.args.number c.pass.result c.requires.state c.pass.ensures.passed

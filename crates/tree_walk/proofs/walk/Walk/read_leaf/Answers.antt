@@ -1,7 +1,7 @@
 -- A leaf is a tree, and its end leaves a walk.
-use Rattle.std.proofs.Common.{◌≡◌, ◌+◌, false, sym, subst}
+use Rattle.std.proofs.Common.{◌≡◌, ◌+◌, [], ◌∷◌, false, sym, subst}
 use Rattle.tree_walk.specs.States.{IsStateOf, State, open_trees}
-use Rattle.tree_walk.proofs.Moves.{leaf_can_end, still_walk, behind_leaf, open_behind_leaf}
+use Rattle.tree_walk.proofs.Moves.{leaf_can_end, leaf_is_tree, still_walk, behind_tree, open_behind_leaf}
 use Rattle.tree_walk.proofs.walk.Walk.read_leaf.Goals as goal
 
 pub end_tree-self-inside-requires : goal.end_tree-self-inside-requires
@@ -18,7 +18,13 @@ invariant_of-self c =
 pub returns-clause-ends : goal.returns-clause-ends
 returns-clause-ends c P turn lines leaf w is_leaf =
     let part : State → Type 0 = λ v. v.whole ≡ false in
-    behind_leaf P turn lines leaf c.self.inside.domains c.end_tree-self-inside.new.domains c.self.inside.splits.items c.end_tree-self-inside.new.splits.items c.self.inside.whole c.end_tree-self-inside.result is_leaf
+    behind_tree P turn lines (leaf ∷ []) c.self.inside.domains c.end_tree-self-inside.new.domains c.self.inside.splits.items c.end_tree-self-inside.new.splits.items c.self.inside.whole c.end_tree-self-inside.result (leaf_is_tree leaf is_leaf)
+    (subst part (sym c.self.view_is) c.requires) c.end_tree-self-inside.ensures.same c.end_tree-self-inside.ensures.ended (subst (IsStateOf P turn lines) (sym c.self.view_is) w)
+
+pub returns-clause-trees : goal.returns-clause-trees
+returns-clause-trees c P turn lines tree w is_tree =
+    let part : State → Type 0 = λ v. v.whole ≡ false in
+    behind_tree P turn lines tree c.self.inside.domains c.end_tree-self-inside.new.domains c.self.inside.splits.items c.end_tree-self-inside.new.splits.items c.self.inside.whole c.end_tree-self-inside.result is_tree
     (subst part (sym c.self.view_is) c.requires) c.end_tree-self-inside.ensures.same c.end_tree-self-inside.ensures.ended (subst (IsStateOf P turn lines) (sym c.self.view_is) w)
 
 pub returns-clause-one_less : goal.returns-clause-one_less

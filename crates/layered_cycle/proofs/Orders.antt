@@ -1,0 +1,74 @@
+-- The order of words, and words with one symbol more.
+use Rattle.std.proofs.Common.{◌≡◌, ◌⊎◌, ℕ, ◌+◌, ◌<◌, List, [], ◌∷◌, ◌++◌, length, refl, ap, sym, ◌∙◌, subst, inl, inr, arith}
+use Rattle.std.specs.Prelude.{ℤ, ◌+ℤ◌}
+use Rattle.std.proofs.lemmas.Int.{ints}
+use Rattle.rwsp_terms.specs.declared.data.Symbol.{Symbol}
+use Rattle.refutation_terms.specs.Escape.{ComesFirst}
+use Rattle.layered_cycle.specs.Best.{gained}
+use Rattle.layered_cycle.specs.Front.{ComesBefore}
+
+pub gained_push : (gain : ℕ → Symbol → ℤ) (day : ℕ) (u : List Symbol) (x : Symbol) → gained gain day (u ++ x ∷ []) ≡ gained gain day u +ℤ gain (day + length u) x
+gained_push gain day [] x =
+    let e : day + 0 ≡ day = omega arith in
+    omega (arith, ints, ap (λ (n : ℕ). gain n x) e)
+gained_push gain day (y ∷ u) x =
+    let e : day + 1 + length u ≡ day + length (y ∷ u) = omega arith in
+    let rest : gained gain (day + 1) (u ++ x ∷ []) ≡ gained gain (day + 1) u +ℤ gain (day + 1 + length u) x = gained_push gain (day + 1) u x in
+    omega (arith, ints, rest, ap (λ (n : ℕ). gain n x) e)
+
+pub before_push : (u v : List Symbol) (x y : Symbol) → ComesBefore u v → ComesBefore (u ++ x ∷ []) (v ++ y ∷ [])
+before_push [] v x y h = absurd h
+before_push (a ∷ u) [] x y h = absurd h
+before_push (a ∷ u) (b ∷ v) x y (inl lt) = inl lt
+before_push (a ∷ u) (b ∷ v) x y (inr (e, h)) = inr (e, before_push u v x y h)
+
+pub first_push_lower : (u v : List Symbol) (x y : Symbol) → length u ≡ length v → ComesFirst u v → x.number < y.number → ComesBefore (u ++ x ∷ []) (v ++ y ∷ [])
+first_push_lower [] [] x y long h lt = inl lt
+first_push_lower [] (b ∷ v) x y long h lt = absurd (omega (arith, long))
+first_push_lower (a ∷ u) [] x y long h lt = absurd h
+first_push_lower (a ∷ u) (b ∷ v) x y long (inl less) lt = inl less
+first_push_lower (a ∷ u) (b ∷ v) x y long (inr (e, h)) lt = inr (e, first_push_lower u v x y (omega (arith, long)) h lt)
+
+pub first_push_same : (u v : List Symbol) (x : Symbol) → length u ≡ length v → ComesFirst u v → ComesFirst (u ++ x ∷ []) (v ++ x ∷ [])
+first_push_same [] [] x long h = inr (refl, tt)
+first_push_same [] (b ∷ v) x long h = absurd (omega (arith, long))
+first_push_same (a ∷ u) [] x long h = absurd h
+first_push_same (a ∷ u) (b ∷ v) x long (inl less) = inl less
+first_push_same (a ∷ u) (b ∷ v) x long (inr (e, h)) = inr (e, first_push_same u v x (omega (arith, long)) h)
+
+pub first_itself : (u : List Symbol) → ComesFirst u u
+first_itself [] = tt
+first_itself (x ∷ u) = inr (refl, first_itself u)
+
+pub first_from_before : (u v : List Symbol) → ComesBefore u v → ComesFirst u v
+first_from_before [] v h = absurd h
+first_from_before (a ∷ u) [] h = absurd h
+first_from_before (a ∷ u) (b ∷ v) (inl lt) = inl lt
+first_from_before (a ∷ u) (b ∷ v) (inr (e, h)) = inr (e, first_from_before u v h)
+
+pub before_then : (u v w : List Symbol) → ComesBefore u v → ComesFirst v w → ComesBefore u w
+before_then [] v w h g = absurd h
+before_then (a ∷ u) [] w h g = absurd h
+before_then (a ∷ u) (b ∷ v) [] h g = absurd g
+before_then (a ∷ u) (b ∷ v) (c ∷ w) (inl lt) (inl less) = inl (omega (arith, lt, less))
+before_then (a ∷ u) (b ∷ v) (c ∷ w) (inl lt) (inr (e, g)) = inl (omega (arith, lt, ap (λ (x : Symbol). x.number) e))
+before_then (a ∷ u) (b ∷ v) (c ∷ w) (inr (e, h)) (inl less) = inl (omega (arith, less, ap (λ (x : Symbol). x.number) e))
+before_then (a ∷ u) (b ∷ v) (c ∷ w) (inr (e, h)) (inr (f, g)) = inr (e ∙ f, before_then u v w h g)
+
+pub first_then : (u v w : List Symbol) → ComesFirst u v → ComesFirst v w → ComesFirst u w
+first_then [] v w h g = tt
+first_then (a ∷ u) [] w h g = absurd h
+first_then (a ∷ u) (b ∷ v) [] h g = absurd g
+first_then (a ∷ u) (b ∷ v) (c ∷ w) (inl lt) (inl less) = inl (omega (arith, lt, less))
+first_then (a ∷ u) (b ∷ v) (c ∷ w) (inl lt) (inr (e, g)) = inl (omega (arith, lt, ap (λ (x : Symbol). x.number) e))
+first_then (a ∷ u) (b ∷ v) (c ∷ w) (inr (e, h)) (inl less) = inl (omega (arith, less, ap (λ (x : Symbol). x.number) e))
+first_then (a ∷ u) (b ∷ v) (c ∷ w) (inr (e, h)) (inr (f, g)) = inr (e ∙ f, first_then u v w h g)
+
+pub first_once : (u v : List Symbol) → ComesFirst u v → ComesFirst v u → u ≡ v
+first_once [] [] h g = refl
+first_once [] (b ∷ v) h g = absurd g
+first_once (a ∷ u) [] h g = absurd h
+first_once (a ∷ u) (b ∷ v) (inl lt) (inl less) = absurd (omega (arith, lt, less))
+first_once (a ∷ u) (b ∷ v) (inl lt) (inr (e, g)) = absurd (omega (arith, lt, ap (λ (x : Symbol). x.number) e))
+first_once (a ∷ u) (b ∷ v) (inr (e, h)) (inl less) = absurd (omega (arith, less, ap (λ (x : Symbol). x.number) e))
+first_once (a ∷ u) (b ∷ v) (inr (e, h)) (inr (f, g)) = ap (λ (x : Symbol). x ∷ u) e ∙ ap (λ (w : List Symbol). b ∷ w) (first_once u v h g)

@@ -1,0 +1,16 @@
+use Rattle.std.proofs.Common.{◌≡◌, ℕ, ◌<◌, ◌-◌, suc, length, map, arith, refl, subst}
+use Rattle.std.proofs.lemmas.List.{get_or-map, length-map}
+use Rattle.layered_cycle.specs.Front.{turned}
+use Rattle.layered_cycle.proofs.Chosen.{HasChosen, row_started, row_offered}
+use Rattle.layered_cycle.proofs.front.row_behind.Goals as goal
+
+pub loop-k-init : goal.loop-k-init
+loop-k-init g c =
+    let P : ℕ → Type 0 = λ n. HasChosen (g.G.Gain.gain_of c.args.gain.now) c.args.day c.args.count n c.args.row.now c.in_ok-next.next (map turned c.args.steps.now) in
+    subst P (length-map c.args.steps.now turned) (row_started _ _ _ _ _ (map turned c.args.steps.now) c.in_ok-next.ensures)
+
+pub loop-k-preserved : goal.loop-k-preserved
+loop-k-preserved g c =
+    let back : c.loop-k.k ≡ suc (c.loop-k.k - 1) = omega (arith, c.loop-k-test.true) in
+    let within : c.loop-k.k - 1 < length c.args.steps.now = omega (arith, c.loop-k-test.true, c.loop-k.invariant.within, length-map c.args.steps.now turned) in
+    row_offered _ _ _ _ _ _ _ _ _ _ _ _ c.loop-k.invariant back (get_or-map turned c.args.steps.now (c.loop-k.k - 1) _ (turned (record { from = 0; symbol = record { number = 0 }; to = 0 })) within) (c.requires.to _ _ within) c.choice_by-choice.ensures.value c.choice_by-choice.ensures.light c.offer.ensures

@@ -1,0 +1,11 @@
+use Rattle.std.proofs.Common.{◌≡◌, List, ap, ◌∙◌, arith, rules, w32, w64, to_z, of_z, SFits}
+use Rattle.std.proofs.lemmas.Int.{ints}
+use Rattle.word_tail.specs.declared.tail.Tail.{Tail}
+use Rattle.layered_cycle.specs.Front.{Course, course, tail_at}
+use Rattle.layered_cycle.proofs.HeaviestEnds.{none_of_all}
+use Rattle.layered_cycle.proofs.heaviest.heaviest_clean.Goals as goal
+
+pub returns : goal.returns
+returns g c = λ u long over clean.
+    let C : Course = course c.args.rules.now c.args.doms.now c.args.p (g.G.Gain.gain_of c.args.gain.now) in
+    none_of_all C c.args.len c.in_ok-fronts.fronts.last.tails.items c.in_ok-fronts.fronts.last.row c.in_ok-fronts.ensures.last c.in-None.ensures u (record { long = long; over = over; clean = clean })

@@ -1,0 +1,136 @@
+// Fronts: where the clean words of so many days end.
+ghost use Rattle.std.specs.Prelude.{◌≡◌, ℕ, ◌+◌, ◌<◌, ◌^◌, length, map, All, IfOk};
+ghost use Rattle.std.specs.List.{filter};
+ghost use Rattle.rwsp_terms.specs.Instance.{cells};
+ghost use Rattle.domain_store.specs.Store.{BelongsTo};
+ghost use Rattle.layered_cycle.specs.Choices.{AreWithin, choice_at, chosen};
+ghost use Rattle.layered_cycle.specs.Front.{Course, course, IsFront, AreLinked, tail_at, turned, is_picked};
+
+use crate::best::choice_by;
+use crate::choice::{ChoiceRow, END};
+use crate::growth::layer_of_day;
+use crate::tail_index::TailIndex;
+use crate::{Gain, Step};
+use domain_store::Domains;
+use std::alloc::{AllocError, Global};
+use word_tail::{Tail, TailRules, empty_word_is_clean};
+
+// The tails of the clean words of so many days, in the order of the best word to each, and the row of these words: what
+// each gains, its last symbol, and the place in the front of the day before where the best word without it ends.
+#[derive(Drop)]
+pub struct Front {
+    pub tails: Vec<Tail>,
+    pub row: ChoiceRow,
+}
+
+impl Front {
+    // The front before the first day: the empty word.
+    pub fn start(alloc: Global) -> Result<Front, AllocError>
+        ensures { IfOk result (λ f. (C : Course) → IsFront C 0 f.tails.items f.row) }
+    {
+        empty_word_is_clean();
+        let mut tails = Vec::new(alloc);
+        tails.push(Tail::empty())?;
+        let row = ChoiceRow::of(alloc, 1, Some(END))?;
+        Ok(Front { tails, row })
+    }
+
+    // The front of the day after (the longest path through layers by dynamic programming, Bellman 1957). Its time grows
+    // with the steps.
+    pub fn next<G: Gain>(
+        &self,
+        alloc: Global,
+        index: &mut TailIndex,
+        rules: &TailRules,
+        doms: &Domains,
+        p: u32,
+        day: u32,
+        gain: &G,
+    ) -> Result<Front, AllocError>
+        requires belongs { BelongsTo rules.now.problem doms.now }
+        requires position { p < cells rules.now.problem }
+        requires day { day < 16800 }
+        requires front { IsFront (course rules.now doms.now p (G.gain_of gain.now)) day self.now.tails.items self.now.row }
+        ensures front { IfOk result (λ f. IsFront (course rules.now doms.now p (G.gain_of gain.now)) (day + 1) f.tails.items f.row) }
+        ensures linked { IfOk result (λ f. AreLinked (course rules.now doms.now p (G.gain_of gain.now)) day self.now.tails.items f.tails.items f.row) }
+    {
+        let growth = layer_of_day(alloc, index, rules, doms, p, day, &self.tails)?;
+        let count = growth.nodes.len() as u32;
+        let row = row_behind(alloc, count, &growth.steps, &self.row, day, gain)?;
+        let picks = picks(alloc, &row, &growth.steps)?;
+        Ok(Front {
+            tails: tails_behind(alloc, &growth.nodes, &picks)?,
+            row: row.behind(alloc, &picks)?,
+        })
+    }
+}
+
+// What is chosen at each node of the next day: the heaviest step there, the first of these.
+fn row_behind<G: Gain>(
+    alloc: Global,
+    count: u32,
+    steps: &[Step],
+    row: &ChoiceRow,
+    day: u32,
+    gain: &G,
+) -> Result<ChoiceRow, AllocError>
+    requires to { All (λ s. s.to < count) steps.now }
+    requires light { AreWithin 16799000 row.now }
+    ensures long { IfOk result (λ next. length next ≡ count) }
+    ensures each { IfOk result (λ next. (n : ℕ) → n < count → choice_at next n ≡ chosen (G.gain_of gain.now) day row.now n (map turned steps.now)) }
+    ensures light { IfOk result (λ next. (n : ℕ) → AreWithin n row.now → AreWithin (n + 1000) next) }
+{
+    let mut next = ChoiceRow::of(alloc, count, None)?;
+    let mut k = steps.len();
+    while 0 < k {
+        k -= 1;
+        let step = steps[k];
+        let back = Step {
+            from: step.to,
+            symbol: step.symbol,
+            to: step.from,
+        };
+        let choice = choice_by(gain, day, back, row);
+        next.offer(back.from, choice);
+    }
+    Ok(next)
+}
+
+// The steps that are chosen where they lead.
+fn picks(alloc: Global, row: &ChoiceRow, steps: &[Step]) -> Result<Vec<Step>, AllocError>
+    ensures picks { IfOk result (λ picks. picks.items ≡ filter (is_picked row.now) steps.now) }
+    ensures few { IfOk result (λ picks. length picks.items < 2 ^ 32) }
+{
+    let picks: Vec<Step> = steps.iter().filter(|s| is_picked(row, **s)).copied().collect(alloc)?;
+    // Never so: each node has one.
+    if picks.len() > u32::MAX as usize {
+        return Err(AllocError);
+    }
+    Ok(picks)
+}
+
+fn is_picked(row: &ChoiceRow, step: Step) -> bool
+    ensures { result ≡ is_picked row.now step }
+{
+    match row.at(step.to) {
+        Some(choice) => choice.to == step.from && choice.symbol.number == step.symbol.number,
+        None => false,
+    }
+}
+
+// The tails where some steps lead.
+fn tails_behind(alloc: Global, nodes: &[Tail], steps: &[Step]) -> Result<Vec<Tail>, AllocError>
+    ensures { IfOk result (λ tails. tails.items ≡ map (λ s. tail_at nodes.now s.to) steps.now) }
+{
+    steps.iter().map(|s| tail_at(nodes, s.to)).collect(alloc)
+}
+
+pub fn tail_at(nodes: &[Tail], node: u32) -> Tail
+    ensures { result ≡ tail_at nodes.now node }
+{
+    if (node as usize) < nodes.len() {
+        nodes[node as usize]
+    } else {
+        Tail::empty()
+    }
+}

@@ -1,0 +1,112 @@
+// The heaviest clean words.
+ghost use Rattle.std.specs.Prelude.{◌≡◌, ◌<◌, ◌≤◌, length, Some, IfOk, IsTrue, false, MatchOption, ◌<ℤ◌, ◌≤ℤ◌};
+ghost use Rattle.rwsp_terms.specs.Instance.{cells};
+ghost use Rattle.refutation_terms.specs.Leaf.{IsDead};
+ghost use Rattle.domain_store.specs.Store.{has_domain, BelongsTo};
+ghost use Rattle.layered_cycle.specs.Front.{course, AreKept, IsFront, IsHeaviestEnd, IsBestOf, AreBelow};
+
+use crate::ends::{End, heaviest_end};
+use crate::front::tail_at;
+use crate::going_back::best_word_to;
+use crate::kept_fronts::{KeptFronts, fronts_of};
+use crate::tail_index::TailIndex;
+use crate::{Gain, HeavyWord};
+use domain_store::Domains;
+use std::alloc::{AllocError, Global};
+use word_tail::TailRules;
+
+/// The heaviest clean word of this length over the domains, from a position on, and the least of its weight; None exactly
+/// where there is no clean word. Its memory grows with the tails of each 128th day, its time with the steps of all days.
+pub fn heaviest_clean<G: Gain>(
+    alloc: Global,
+    rules: &TailRules,
+    doms: &Domains,
+    p: u32,
+    len: u32,
+    gain: &G,
+) -> Result<Option<HeavyWord>, AllocError>
+    requires belongs { BelongsTo rules.now.problem doms.now }
+    requires position { p < cells rules.now.problem }
+    requires few { len ≤ 16800 }
+    ensures { IfOk result (λ found. MatchOption found
+        (IsDead rules.now.problem (has_domain doms.now) p len rules.now.rules)
+        (λ h. IsBestOf (course rules.now doms.now p (G.gain_of gain.now)) len h.weight h.word)) }
+{
+    let mut index = TailIndex::new(alloc)?;
+    let fronts = fronts_of(alloc, &mut index, rules, doms, p, len, gain)?;
+    match heaviest_end(&fronts.last.row) {
+        Some(end) => {
+            let heavy = best_of(alloc, &mut index, rules, doms, p, len, gain, fronts, end)?;
+            Ok(Some(heavy))
+        }
+        None => Ok(None),
+    }
+}
+
+/// The heaviest clean word of this length over the domains, from a position on, and the least of its weight, if it weighs
+/// so much at least; None exactly where every clean word weighs less. No word is sought then.
+pub fn heaviest_reaching<G: Gain>(
+    alloc: Global,
+    rules: &TailRules,
+    doms: &Domains,
+    p: u32,
+    len: u32,
+    gain: &G,
+    least: i64,
+) -> Result<Option<HeavyWord>, AllocError>
+    requires belongs { BelongsTo rules.now.problem doms.now }
+    requires position { p < cells rules.now.problem }
+    requires few { len ≤ 16800 }
+    ensures { IfOk result (λ found. MatchOption found
+        (AreBelow (course rules.now doms.now p (G.gain_of gain.now)) len least)
+        (λ h. IsBestOf (course rules.now doms.now p (G.gain_of gain.now)) len h.weight h.word × (least ≤ℤ h.weight))) }
+{
+    let mut index = TailIndex::new(alloc)?;
+    let fronts = fronts_of(alloc, &mut index, rules, doms, p, len, gain)?;
+    let Some(end) = heaviest_end(&fronts.last.row) else {
+        return Ok(None);
+    };
+    if is_below(end, least) {
+        return Ok(None);
+    }
+    let heavy = best_of(alloc, &mut index, rules, doms, p, len, gain, fronts, end)?;
+    Ok(Some(heavy))
+}
+
+fn is_below(end: End, least: i64) -> bool
+    ensures yes { IsTrue result → end.weight <ℤ least }
+    ensures no { (result ≡ false) → least ≤ℤ end.weight }
+{
+    i64::from(end.weight) < least
+}
+
+// The best word, by where it ends.
+fn best_of<G: Gain>(
+    alloc: Global,
+    index: &mut TailIndex,
+    rules: &TailRules,
+    doms: &Domains,
+    p: u32,
+    len: u32,
+    gain: &G,
+    fronts: KeptFronts,
+    end: End,
+) -> Result<HeavyWord, AllocError>
+    requires belongs { BelongsTo rules.now.problem doms.now }
+    requires position { p < cells rules.now.problem }
+    requires few { len ≤ 16800 }
+    requires kept { AreKept (course rules.now doms.now p (G.gain_of gain.now)) len fronts.kept.items }
+    requires last { IsFront (course rules.now doms.now p (G.gain_of gain.now)) len fronts.last.tails.items fronts.last.row }
+    requires end { IsHeaviestEnd fronts.last.row (length fronts.last.row) (Some end) }
+    ensures best { IfOk result (λ h. IsBestOf (course rules.now doms.now p (G.gain_of gain.now)) len h.weight h.word) }
+    ensures weight { IfOk result (λ h. h.weight ≡ end.weight) }
+{
+    let last = tail_at(&fronts.last.tails, end.node);
+    let word = best_word_to(
+        alloc, index, rules, doms, p, len, gain, fronts.kept, last,
+    )?;
+    Ok(HeavyWord {
+        weight: i64::from(end.weight),
+        word,
+    })
+}

@@ -1,0 +1,40 @@
+-- Dead and bound leaves, judged apart from their log.
+use Rattle.std.proofs.Common.{◌≡◌, ℕ, ◌<◌, Option, Some, None, Bool, IsTrue, true, false, refl, arith}
+use Rattle.std.specs.Prelude.{◌↔◌, MatchOption}
+use Rattle.rwsp_terms.specs.declared.data.Symbol.{Symbol}
+use Rattle.std.proofs.Common.{List}
+use Rattle.rwsp_terms.specs.Instance.{Instance, cells}
+use Rattle.refutation_terms.specs.declared.lines.Line.{Line}
+use Rattle.refutation_terms.specs.declared.lines.Line.TheVariants.{Split, Window, Day, Dead, Bound, Unfinished}
+use Rattle.refutation_terms.specs.Word.{Domains, AreSame}
+use Rattle.refutation_terms.specs.Log.{LineFits}
+use Rattle.refutation_terms.specs.Verdict.{Escapes}
+use Rattle.refutation_terms.proofs.Causes.{escaped_not_holding}
+use Rattle.refutation_terms.proofs.SameDomains.{same_holds, turned_round}
+use Rattle.refutation_checker.specs.LineVerdicts.{HoldsByWords}
+
+pub same_by_words : (P : Instance) (D E : Domains) (line : Line) → LineFits P line → AreSame P D E → HoldsByWords P D line → HoldsByWords P E line
+same_by_words P D E (Split p x) fits same h = tt
+same_by_words P D E (Window number p len) fits same h = tt
+same_by_words P D E (Day j x over) fits same h = tt
+same_by_words P D E (Dead p len R) fits same h = same_holds P D E (Dead p len R) (omega (arith, fits.0)) fits same h
+same_by_words P D E (Bound p turns R y) fits same h = same_holds P D E (Bound p turns R y) (omega (arith, fits.0)) fits same h
+same_by_words P D E Unfinished fits same h = tt
+
+pub escaped_by_words : (P : Instance) (D : Domains) (line : Line) (w : List Symbol) → Escapes P D line w → HoldsByWords P D line → ⊥
+escaped_by_words P D (Split p x) w e h = absurd e
+escaped_by_words P D (Window number p len) w e h = absurd e
+escaped_by_words P D (Day j x over) w e h = absurd e
+escaped_by_words P D (Dead p len R) w e h = escaped_not_holding P D (Dead p len R) w e h
+escaped_by_words P D (Bound p turns R y) w e h = escaped_not_holding P D (Bound p turns R y) w e h
+escaped_by_words P D Unfinished w e h = absurd e
+
+-- what the words tell under the domains of a walk, told under those of its lines
+pub holds_there : (P : Instance) (D E : Domains) (line : Line) → LineFits P line → AreSame P D E → HoldsByWords P D line → IsTrue true ↔ HoldsByWords P E line
+holds_there P D E line fits same h = (λ yes. same_by_words P D E line fits same h, λ there. refl)
+
+pub fails_there : (P : Instance) (D E : Domains) (line : Line) (w : List Symbol) → LineFits P line → AreSame P D E → Escapes P D line w → IsTrue false ↔ HoldsByWords P E line
+fails_there P D E line w fits same e = (
+  λ no. absurd (cc),
+  λ there. absurd (escaped_by_words P D line w e (same_by_words P E D line fits (turned_round P D E same) there)),
+)

@@ -1,0 +1,28 @@
+-- The domains of the walk are those at the line.
+use Rattle.std.proofs.Common.{length, subst}
+use Rattle.rwsp_terms.specs.Instance.{Instance}
+use Rattle.refutation_terms.specs.Tree.{domains_at}
+use Rattle.refutation_terms.specs.Verdict.{Escapes}
+use Rattle.domain_store.specs.Store.{has_domain}
+use Rattle.refutation_checker.specs.LineVerdicts.{HoldsByWords}
+use Rattle.refutation_checker.proofs.LeafJudging.{holds_there, fails_there}
+use Rattle.refutation_checker.proofs.leaf_judge.LeafJudge.holds.Goals as goal
+
+pub returns-in-Some-clause-holds : goal.returns-in-Some-clause-holds
+returns-in-Some-clause-holds c =
+    λ turn lines state.
+    let P = c.args.self.now in
+    let D = has_domain c.domains.result.now in
+    let leaf = c.args.leaf.now in
+    let word = c.in-Some._word in
+    fails_there P D (domains_at P turn lines (length lines)) leaf word c.requires.fits (c.domains.ensures.has P turn lines state)
+    (subst (λ (Q : Instance). Escapes Q D leaf word) c.self.view_is (rw c.in-Some.is at c.in_ok-_word.ensures.escape))
+
+pub returns-clause-holds : goal.returns-clause-holds
+returns-clause-holds c =
+    λ turn lines state.
+    let P = c.args.self.now in
+    let D = has_domain c.domains.result.now in
+    let leaf = c.args.leaf.now in
+    holds_there P D (domains_at P turn lines (length lines)) leaf c.requires.fits (c.domains.ensures.has P turn lines state)
+    (subst (λ (Q : Instance). HoldsByWords Q D leaf) c.self.view_is (rw c.in_default.is at c.in_ok-_word.ensures.escape))

@@ -1,0 +1,72 @@
+// Single lines of a log whose other lines are known to hold.
+ghost use Rattle.std.specs.Prelude.{◌≡◌, ◌↔◌, ◌∷◌, [], ◌++◌, List, length, Option, IsTrue, false, IfOk};
+ghost use Rattle.refutation_terms.specs.declared.lines.Line.{Line};
+ghost use Rattle.refutation_terms.specs.declared.lines.Turn.{Turn};
+ghost use Rattle.refutation_terms.specs.Tree.{domains_at};
+ghost use Rattle.refutation_terms.specs.Log.{LineFits, ListsShortOnly, Holds};
+ghost use Rattle.tree_walk.specs.States.{IsStateOf};
+ghost use Rattle.refutation_checker.specs.LineVerdicts.{HoldsByWords};
+
+use crate::judge::Judge;
+use crate::step::step;
+use refutation_terms::Line;
+use rwsp_model::{Problem, RuleList};
+use std::alloc::{AllocError, Global};
+use std::marker::Model;
+use tree_walk::Walk;
+
+/// Judges dead and bound leaves apart from the other lines of their log. What was made for the list of one leaf serves
+/// the next leaves with the same list.
+#[derive(Debug, Drop)]
+pub struct LeafJudge<'a> {
+    judge: Judge<'a>,
+}
+
+impl<'a> Model for LeafJudge<'a> {
+    ghost use Rattle.rwsp_terms.specs.Instance.{Instance};
+
+    ghost Value = { Instance };
+
+    ghost view = { λ j. j.judge.problem };
+}
+
+impl<'a> LeafJudge<'a> {
+    /// A judge of leaves of this problem, in a log that names these rules.
+    pub fn new(problem: &'a Problem, named: &'a RuleList) -> LeafJudge<'a>
+        ensures { result ≡ problem.now }
+    {
+        LeafJudge {
+            judge: Judge::new(problem, named),
+        }
+    }
+
+    /// Whether the leaf holds as the next line behind those that the walk has read. Of lines that are neither a dead nor
+    /// a bound leaf this says nothing.
+    pub fn holds(&mut self, alloc: Global, walk: &Walk, leaf: &Line) -> Result<bool, AllocError>
+        requires state { (turn : Option Turn) × (lines : List Line) × IsStateOf self.old turn lines walk.now }
+        requires fits { LineFits self.old leaf.now }
+        requires short { ListsShortOnly self.old leaf.now }
+        ensures same { self.new ≡ self.old }
+        ensures holds { IfOk result (λ yes. (turn : Option Turn) (lines : List Line) → IsStateOf self.old turn lines walk.now →
+            IsTrue yes ↔ HoldsByWords self.old (domains_at self.old turn lines (length lines)) leaf.now) }
+    {
+        if let Some(_word) = self.judge.leaf_escape(alloc, walk.domains(), leaf)? {
+            return Ok(false);
+        }
+        Ok(true)
+    }
+}
+
+/// The walk reads a line that is known to hold there, which isn't judged.
+pub fn go_past(walk: &mut Walk, problem: &Problem, line: &Line) -> Result<(), AllocError>
+    requires part { walk.old.whole ≡ false }
+    requires fits { LineFits problem.now line.now }
+    requires holds { (turn : Option Turn) × (lines : List Line) × IsStateOf problem.now turn lines walk.old ×
+        Holds problem.now (domains_at problem.now turn lines (length lines)) line.now }
+    ensures { IfOk result (λ _. (turn : Option Turn) (lines : List Line) →
+        IsStateOf problem.now turn lines walk.old → IsStateOf problem.now turn (lines ++ line.now ∷ []) walk.new) }
+{
+    problem.keeps_limits();
+    walk.domains().facts();
+    step(walk, line)
+}

@@ -1,0 +1,48 @@
+// The rules of a line's list whose windows are too long for layers.
+ghost use Rattle.std.specs.Prelude.{◌≡◌, ◌≤◌, ◌<◌, ◌↔◌, length, IsTrue, MatchOption};
+ghost use Rattle.rwsp_terms.specs.Rules.{rules, NamesShortOnly};
+ghost use Rattle.rwsp_model.specs.RuleNumbers.{IsShortNumber};
+ghost use Rattle.refutation_terms.specs.Log.{AreRules, LineFits, ListsShortOnly};
+ghost use Rattle.refutation_terms.specs.Verdict.{IsLeast, IsLongIn, ListsLong};
+
+use refutation_terms::Line;
+use rwsp_model::{Problem, RuleList, is_short, rule_at};
+
+// Whether the rule of the number is short.
+#[tactic(auto, using(crate::proofs::Lists::short_number))]
+fn is_short_number(problem: &Problem, number: u32) -> bool
+    requires { (0 < number) × (number ≤ length (rules problem.now)) }
+    ensures { IsTrue result ↔ IsShortNumber problem.now number }
+{
+    is_short(problem, rule_at(problem, number))
+}
+
+// The least number in the list of a rule that isn't short.
+fn least_long(problem: &Problem, list: &RuleList) -> Option<u32>
+    requires { AreRules problem.now list.now }
+    ensures { MatchOption result
+        (NamesShortOnly problem.now list.now)
+        (λ k. IsLeast (IsLongIn problem.now list.now) k) }
+{
+    for number in list.numbers() {
+        if !is_short_number(problem, *number) {
+            return Some(*number);
+        }
+    }
+    None
+}
+
+/// The number of the least rule in the list of a dead or a bound leaf that isn't short; None where all are short, and for
+/// lines without a list. Goes along the list once.
+pub fn long_rule(problem: &Problem, line: &Line) -> Option<u32>
+    requires { LineFits problem.now line.now }
+    ensures { MatchOption result
+        (ListsShortOnly problem.now line.now)
+        (λ k. IsLeast (ListsLong problem.now line.now) k) }
+{
+    match line {
+        Line::Dead { rules, .. } => least_long(problem, rules),
+        Line::Bound { rules, .. } => least_long(problem, rules),
+        Line::Split { .. } | Line::Window { .. } | Line::Day { .. } | Line::Unfinished => None,
+    }
+}

@@ -1,0 +1,83 @@
+// Whether a line stands by itself: what can be judged without searching for a word.
+ghost use Rattle.std.specs.Prelude.{◌≡◌, ◌<◌, ◌↔◌, length, IsTrue, false, MatchOption};
+ghost use Rattle.refutation_terms.specs.Log.{LineFits};
+ghost use Rattle.refutation_terms.specs.Tree.{is_idle};
+ghost use Rattle.domain_store.specs.Store.{BelongsTo, has_domain};
+ghost use Rattle.refutation_checker.specs.LineVerdicts.{StandsPlainly, IsPlainlySound, IsPlainFailure, PlainCause};
+
+use crate::long_rules::long_rule;
+use crate::unnamed_rules::unnamed_rule;
+use domain_store::Domains;
+use plain_leaves::{day_holds, window_holds};
+use refutation_terms::{Line, LogRefusal};
+use rwsp_model::{Problem, RuleList, Symbol};
+
+// Whether the symbol is in the domain of the position beside another.
+fn can_split(problem: &Problem, doms: &Domains, p: u32, x: Symbol) -> bool
+    requires domains { BelongsTo problem.now doms.now }
+    requires position { p < length doms.now.sets }
+    ensures { IsTrue result ↔ (is_idle problem.now (has_domain doms.now) p x.number ≡ false) }
+{
+    problem.keeps_limits();
+    doms.facts();
+    if doms.size(p) < 2 {
+        return false;
+    }
+    doms.has(p, x)
+}
+
+// Whether a split isn't idle, or a window or a day leaf holds. A dead or a bound leaf isn't judged here.
+fn stands_plainly(problem: &Problem, doms: &Domains, line: &Line) -> bool
+    requires domains { BelongsTo problem.now doms.now }
+    requires line { LineFits problem.now line.now }
+    ensures { IsTrue result ↔ StandsPlainly problem.now (has_domain doms.now) line.now }
+{
+    doms.facts();
+    match line {
+        Line::Split { p, x } => can_split(problem, doms, *p, *x),
+        Line::Window { rule, p, len } => window_holds(problem, doms, *rule, *p, *len),
+        Line::Day { day, x, over } => day_holds(problem, doms, *day, *x, *over),
+        Line::Dead { .. } => true,
+        Line::Bound { .. } => true,
+        Line::Unfinished => false,
+    }
+}
+
+// The cause of a line that doesn't stand by itself.
+fn plain_failure(line: &Line, number: u32) -> LogRefusal
+    ensures { IsPlainFailure number line.now result }
+{
+    match line {
+        Line::Split { .. } => LogRefusal::Idle(number),
+        Line::Unfinished => LogRefusal::Unfinished(number),
+        _ => LogRefusal::Fails(number),
+    }
+}
+
+/// The lowest cause to refuse a line as text line `number`, but for a word that escapes a dead or a bound leaf; None exactly
+/// where there is no other cause. It goes by a rule that isn't named, an idle split, a rule of a list that isn't short, a
+/// window or a day leaf that doesn't hold, and a case that wasn't worked out.
+pub fn plain_refusal(
+    problem: &Problem,
+    named: &RuleList,
+    doms: &Domains,
+    line: &Line,
+    number: u32,
+) -> Option<LogRefusal>
+    requires domains { BelongsTo problem.now doms.now }
+    requires line { LineFits problem.now line.now }
+    ensures { MatchOption result
+        (IsPlainlySound problem.now named.now (has_domain doms.now) line.now)
+        (λ why. PlainCause problem.now named.now (has_domain doms.now) number line.now why) }
+{
+    if let Some(rule) = unnamed_rule(problem, named, line) {
+        return Some(LogRefusal::Unnamed(number, rule));
+    }
+    if let Some(rule) = long_rule(problem, line) {
+        return Some(LogRefusal::Long(number, rule));
+    }
+    if stands_plainly(problem, doms, line) {
+        return None;
+    }
+    Some(plain_failure(line, number))
+}

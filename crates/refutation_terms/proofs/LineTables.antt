@@ -1,0 +1,183 @@
+-- The lines of a log's text are those of its tables.
+use Rattle.std.proofs.Common.{◌≡◌, ℕ, zero, suc, ◌+◌, ◌*◌, ◌/◌, ◌^◌, ◌<◌, ◌≤◌, List, [], ◌∷◌, ◌++◌, length, refl, ap, sym, ◌∙◌, subst, arith, inl, inr, Bool, true, false, Some}
+use Rattle.std.specs.Prelude.{codes, cond}
+use Rattle.std.specs.List.{flat_map}
+use Rattle.std.specs.Fmt.{decimal}
+use Rattle.std.proofs.lemmas.List.{append-nil}
+use Rattle.std.proofs.Math.Nat.{le-div_iff_mul-le, div-le_self}
+use Rattle.rwsp_text.specs.Fields.{chosen, Words, IsName, numbers, weight_fields}
+use Rattle.rwsp_text.specs.Kinds.{IsLine, IsReadable, read_line}
+use Rattle.rwsp_text.specs.Lines.{AreWords}
+use Rattle.rwsp_text.proofs.KindLaws.{no_words, lines_are_words, lines_say_one}
+use Rattle.rwsp_terms.specs.Instance.{Instance, cells, IsDay}
+use Rattle.rwsp_terms.specs.Rules.{rules}
+use Rattle.refutation_terms.specs.Log.{AreRules}
+use Rattle.refutation_terms.specs.LogText.{RawLine, RawSplit, RawWindow, RawDay, RawDead, RawBound, RawUnfinished, place, way, fields, IsInRange}
+use Rattle.refutation_terms.specs.LineKinds.{most_turns, split_kind, window_kind, day_kind, dead_kind, bound_kind, open_kind, tree_kinds, version_kinds, rules_kinds, turn_kinds}
+use Rattle.refutation_terms.specs.TextLaws.{IsWritable}
+
+few_turns : (P : Instance) → most_turns P < 10 ^ 19
+few_turns P = let le = div-le_self 16800 (cells P) in omega (arith, le)
+
+-- the tables can be read
+
+pub tree_readable : (P : Instance) → IsWritable P → IsReadable (tree_kinds P)
+tree_readable P w =
+    let days : P.days < 10 ^ 19 = omega (arith, w.0) in
+    let weeks : P.weeks < 10 ^ 19 = omega (arith, w.1) in
+    let many : length (rules P) < 10 ^ 19 = omega (arith, w.2) in
+    let word : 16800 < 10 ^ 19 = omega arith in (
+      (((weeks, days), tt), refl, (refl, (refl, (refl, (refl, (refl, tt)))))),
+      (
+        ((many, ((weeks, days), (word, tt))), refl, (refl, (refl, (refl, (refl, tt))))),
+        (
+          ((days, ((refl, refl, refl), tt)), refl, (refl, (refl, (refl, tt)))),
+          (
+            (((weeks, days), (word, (refl, ((many, tt), tt)))), refl, (refl, (refl, tt))),
+            (
+              (((weeks, days), (few_turns P, (refl, ((many, refl), (refl, ((days, (omega arith, omega arith), tt), tt)))))), refl, (refl, tt)),
+              ((tt, refl, tt), tt),
+            ),
+          ),
+        ),
+      ),
+    )
+
+pub version_readable : IsReadable version_kinds
+version_readable = ((((refl, refl, refl), tt), refl, tt), tt)
+
+pub rules_readable : (P : Instance) → IsWritable P → IsReadable (rules_kinds P)
+rules_readable P w = ((((omega (arith, w.2), tt), tt), refl, tt), tt)
+
+pub turn_readable : (P : Instance) → IsWritable P → IsReadable (turn_kinds P)
+turn_readable P w = (((omega (arith, w.0), tt), refl, tt), tt)
+
+-- a written line is of the table
+
+some_turns : (n m : ℕ) → 0 < n * m → 1 ≤ n
+some_turns zero m h = absurd (omega (arith, h))
+some_turns (suc n) m h = omega arith
+
+pub tree_line : (P : Instance) (raw : RawLine) → IsInRange P raw → IsLine (tree_kinds P) (fields P raw) raw
+tree_line P (RawSplit p name) h = inl (refl, record { values = (p, (name, tt)); keeps = (h.0, (h.1, tt)); spelled = refl; made = refl })
+tree_line P (RawWindow rule p len) h =
+    inr (inl (refl, record { values = (rule, (p, (len, tt))); keeps = ((h.0, h.1), (h.2, (h.3, tt))); spelled = refl; made = refl }))
+tree_line P (RawDay day name over) h =
+    inr (inr (inl (refl, record { values = (day, (name, (over, tt))); keeps = (h.0, (h.1, tt)); spelled = refl; made = refl })))
+tree_line P (RawDead p len R) h =
+    inr (inr (inr (inl (refl, record {
+      values = (p, (len, (R, tt)));
+      keeps = (h.0, (h.1, (h.2, tt)));
+      spelled = ap (λ us. place P p ++ (decimal len ∷ codes "rules" ∷ us)) (sym (append-nil (numbers R)));
+      made = refl;
+    }))))
+tree_line P (RawBound p turns R y) h =
+    let some : 0 < cells P = omega (arith, h.0) in
+    inr (inr (inr (inr (inl (refl, record {
+      values = (p, (turns, (R, (y, tt))));
+      keeps = (h.0, ((some_turns turns (cells P) h.1.0, (le-div_iff_mul-le {k = cells P} {x = turns} {y = 16800} some).1 h.1.1), (h.2, (h.3, tt))));
+      spelled = ap (λ us. place P p ++ (decimal turns ∷ codes "rules" ∷ numbers R ++ (codes "weights" ∷ us))) (sym (append-nil (flat_map weight_fields y)));
+      made = refl;
+    })))))
+tree_line P RawUnfinished h = inr (inr (inr (inr (inr (inl (refl, record { values = tt; keeps = tt; spelled = refl; made = refl }))))))
+
+full_turns : (n m : ℕ) → 1 ≤ n → 0 < m → 0 < n * m
+full_turns n m a b = grind (arith, a, b)
+
+abbrev Found : Instance → Words → RawLine → Type 0
+Found P ws raw = (ws ≡ fields P raw) × IsInRange P raw
+
+-- and a line of the table is a written line
+pub tree_found : (P : Instance) (ws : Words) (raw : RawLine) → IsLine (tree_kinds P) ws raw → Found P ws raw
+tree_found P [] raw l = absurd (no_words (tree_kinds P) raw l)
+tree_found P (w ∷ ws) raw (inl l) =
+    let s = l.1 in
+    subst (Found P (w ∷ ws)) s.made (ap (λ z. z ∷ ws) l.0 ∙ ap (λ us. codes "split" ∷ us) s.spelled, (s.keeps.0, s.keeps.1.0))
+tree_found P (w ∷ ws) raw (inr (inl l)) =
+    let s = l.1 in
+    subst (Found P (w ∷ ws)) s.made (ap (λ z. z ∷ ws) l.0 ∙ ap (λ us. codes "window" ∷ us) s.spelled, (s.keeps.0.0, s.keeps.0.1, s.keeps.1.0, s.keeps.1.1.0))
+tree_found P (w ∷ ws) raw (inr (inr (inl l))) =
+    let s = l.1 in
+    subst (Found P (w ∷ ws)) s.made (ap (λ z. z ∷ ws) l.0 ∙ ap (λ us. codes "day" ∷ us) s.spelled, (s.keeps.0, s.keeps.1.0))
+tree_found P (w ∷ ws) raw (inr (inr (inr (inl l)))) =
+    let s = l.1 in
+    subst (Found P (w ∷ ws)) s.made (
+      ap (λ z. z ∷ ws) l.0 ∙ ap (λ us. codes "dead" ∷ us) s.spelled ∙ ap (λ us. codes "dead" ∷ place P s.values.0 ++ (decimal s.values.1.0 ∷ codes "rules" ∷ us)) (append-nil (numbers s.values.1.1.0)),
+      (s.keeps.0, s.keeps.1.0, s.keeps.1.1.0),
+    )
+tree_found P (w ∷ ws) raw (inr (inr (inr (inr (inl l))))) =
+    let s = l.1 in
+    let some : 0 < cells P = omega (arith, s.keeps.0) in
+    let turns = s.values.1.0 in
+    let long : turns * cells P ≤ 16800 = (le-div_iff_mul-le {k = cells P} {x = turns} {y = 16800} some).0 s.keeps.1.0.1 in
+    let full : 0 < turns * cells P = full_turns turns (cells P) s.keeps.1.0.0 some in
+    subst (Found P (w ∷ ws)) s.made (
+      ap (λ z. z ∷ ws) l.0 ∙ ap (λ us. codes "bound" ∷ us) s.spelled ∙ ap (λ us. codes "bound" ∷ place P s.values.0 ++ (decimal turns ∷ codes "rules" ∷ numbers s.values.1.1.0 ++ (codes "weights" ∷ us))) (append-nil (flat_map weight_fields s.values.1.1.1.0)),
+      (s.keeps.0, (full, long), s.keeps.1.1.0, s.keeps.1.1.1.0),
+    )
+tree_found P (w ∷ ws) raw (inr (inr (inr (inr (inr (inl l)))))) =
+    let s = l.1 in subst (Found P (w ∷ ws)) s.made (ap (λ z. z ∷ ws) l.0 ∙ ap (λ us. codes "open" ∷ us) s.spelled, tt)
+tree_found P (w ∷ ws) raw (inr (inr (inr (inr (inr (inr l)))))) = absurd l
+
+-- the lines of a header
+
+abbrev pub version_fields : Bool → Words
+version_fields has_turn = codes "rwsp-log" ∷ chosen (codes "2") (codes "1") has_turn ∷ []
+
+abbrev pub rules_fields : List ℕ → Words
+rules_fields R = codes "rules" ∷ numbers R
+
+abbrev pub turn_fields : List ℕ → ℕ → Words
+turn_fields name day = codes "turn" ∷ name ∷ decimal day ∷ []
+
+pub version_line : (has_turn : Bool) → IsLine version_kinds (version_fields has_turn) has_turn
+version_line has_turn = inl (refl, record { values = (has_turn, tt); keeps = tt; spelled = refl; made = refl })
+
+pub rules_line : (P : Instance) (R : List ℕ) → AreRules P R → IsLine (rules_kinds P) (rules_fields R) R
+rules_line P R h = inl (refl, record { values = (R, tt); keeps = (h, tt); spelled = sym (append-nil (numbers R)); made = refl })
+
+pub turn_line : (P : Instance) (name : List ℕ) (day : ℕ) → IsName name → IsDay P day → IsLine (turn_kinds P) (turn_fields name day) (name, day)
+turn_line P name day n d = inl (refl, record { values = (name, (day, tt)); keeps = (n, (d, tt)); spelled = refl; made = refl })
+
+pub rules_found : (P : Instance) (ws : Words) (R : List ℕ) → IsLine (rules_kinds P) ws R → (ws ≡ rules_fields R) × AreRules P R
+rules_found P [] R l = absurd (no_words (rules_kinds P) R l)
+rules_found P (w ∷ ws) R (inl l) =
+    let s = l.1 in
+    subst (λ Q. (w ∷ ws ≡ rules_fields Q) × AreRules P Q) s.made (ap (λ z. z ∷ ws) l.0 ∙ ap (λ us. codes "rules" ∷ us) (s.spelled ∙ append-nil (numbers s.values.0)), s.keeps.0)
+rules_found P (w ∷ ws) R (inr l) = absurd l
+
+pub turn_found : (P : Instance) (ws : Words) (name : List ℕ) (day : ℕ) → IsLine (turn_kinds P) ws (name, day) → (ws ≡ turn_fields name day) × IsName name × IsDay P day
+turn_found P [] name day l = absurd (no_words (turn_kinds P) (name, day) l)
+turn_found P (w ∷ ws) name day (inl l) =
+    let s = l.1 in
+    subst (λ (t : List ℕ × ℕ). (w ∷ ws ≡ turn_fields t.0 t.1) × IsName t.0 × IsDay P t.1) s.made (ap (λ z. z ∷ ws) l.0 ∙ ap (λ us. codes "turn" ∷ us) s.spelled, s.keeps.0, s.keeps.1.0)
+turn_found P (w ∷ ws) name day (inr l) = absurd l
+
+-- each line has words, and says one thing
+
+pub version_words : (has_turn : Bool) → AreWords (version_fields has_turn)
+version_words has_turn = lines_are_words version_kinds (version_fields has_turn) has_turn version_readable (version_line has_turn)
+
+pub rules_words : (P : Instance) (R : List ℕ) → IsWritable P → AreRules P R → AreWords (rules_fields R)
+rules_words P R w h = lines_are_words (rules_kinds P) (rules_fields R) R (rules_readable P w) (rules_line P R h)
+
+pub turn_words : (P : Instance) (name : List ℕ) (day : ℕ) → IsWritable P → IsName name → IsDay P day → AreWords (turn_fields name day)
+turn_words P name day w n d = lines_are_words (turn_kinds P) (turn_fields name day) (name, day) (turn_readable P w) (turn_line P name day n d)
+
+pub tree_words : (P : Instance) (raw : RawLine) → IsWritable P → IsInRange P raw → AreWords (fields P raw)
+tree_words P raw w h = lines_are_words (tree_kinds P) (fields P raw) raw (tree_readable P w) (tree_line P raw h)
+
+pub version_same : (a b : Bool) → version_fields a ≡ version_fields b → a ≡ b
+version_same a b e = lines_say_one version_kinds (version_fields a) a b version_readable (version_line a) (subst (λ ws. IsLine version_kinds ws b) (sym e) (version_line b))
+
+pub rules_same : (P : Instance) (R Q : List ℕ) → IsWritable P → AreRules P R → AreRules P Q → rules_fields R ≡ rules_fields Q → R ≡ Q
+rules_same P R Q w h k e = lines_say_one (rules_kinds P) (rules_fields R) R Q (rules_readable P w) (rules_line P R h) (subst (λ ws. IsLine (rules_kinds P) ws Q) (sym e) (rules_line P Q k))
+
+pub turn_same : (P : Instance) (name name' : List ℕ) (day day' : ℕ) → IsWritable P → IsName name × IsDay P day → IsName name' × IsDay P day' → turn_fields name day ≡ turn_fields name' day' → (name ≡ name') × (day ≡ day')
+turn_same P name name' day day' w h k e =
+    let both : (name, day) ≡ (name', day') =
+    lines_say_one (turn_kinds P) (turn_fields name day) (name, day) (name', day') (turn_readable P w) (turn_line P name day h.0 h.1) (subst (λ ws. IsLine (turn_kinds P) ws (name', day')) (sym e) (turn_line P name' day' k.0 k.1)) in
+    (ap (λ (t : List ℕ × ℕ). t.0) both, ap (λ (t : List ℕ × ℕ). t.1) both)
+
+pub tree_same : (P : Instance) (a b : RawLine) → IsWritable P → IsInRange P a → IsInRange P b → fields P a ≡ fields P b → a ≡ b
+tree_same P a b w h k e = lines_say_one (tree_kinds P) (fields P a) a b (tree_readable P w) (tree_line P a h) (subst (λ ws. IsLine (tree_kinds P) ws b) (sym e) (tree_line P b k))

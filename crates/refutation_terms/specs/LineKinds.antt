@@ -1,0 +1,73 @@
+-- The kinds of lines of a log's text, as tables.
+use Rattle.std.specs.Prelude.{ℕ, ◌/◌, List, [], ◌∷◌, length, Bool, codes}
+use Rattle.rwsp_text.specs.Fields.{Word, Number, Name, Choice, Place, Rules, Weights}
+use Rattle.rwsp_text.specs.Kinds.{Kind}
+use Rattle.rwsp_terms.specs.declared.limits.TheConstants.{GREATEST_WEIGHT, LONGEST_WORD}
+use Rattle.rwsp_terms.specs.Instance.{Instance, cells}
+use Rattle.rwsp_terms.specs.Rules.{rules}
+use Rattle.refutation_terms.specs.LogText.{RawLine, RawSplit, RawWindow, RawDay, RawDead, RawBound, RawUnfinished}
+
+-- the most turns that a bound may speak of
+abbrev pub most_turns : Instance → ℕ
+most_turns P = LONGEST_WORD / cells P
+
+abbrev pub split_kind : Instance → Kind RawLine
+split_kind P = record { word = codes "split"; fields = Place P.weeks P.days ∷ Name ∷ []; make = λ v. RawSplit v.0 v.1.0 }
+
+abbrev pub window_kind : Instance → Kind RawLine
+window_kind P = record {
+  word = codes "window";
+  fields = Number 1 (length (rules P)) ∷ Place P.weeks P.days ∷ Number 1 LONGEST_WORD ∷ [];
+  make = λ v. RawWindow v.0 v.1.0 v.1.1.0;
+}
+
+abbrev pub day_kind : Instance → Kind RawLine
+day_kind P = record {
+  word = codes "day";
+  fields = Number 1 P.days ∷ Name ∷ Choice (codes "over") (codes "short") ∷ [];
+  make = λ v. RawDay v.0 v.1.0 v.1.1.0;
+}
+
+abbrev pub dead_kind : Instance → Kind RawLine
+dead_kind P = record {
+  word = codes "dead";
+  fields = Place P.weeks P.days ∷ Number 1 LONGEST_WORD ∷ Word (codes "rules") ∷ Rules (length (rules P)) ∷ [];
+  make = λ v. RawDead v.0 v.1.0 v.1.1.0;
+}
+
+abbrev pub bound_kind : Instance → Kind RawLine
+bound_kind P = record {
+  word = codes "bound";
+  fields =
+      Place P.weeks P.days ∷ Number 1 (most_turns P) ∷ Word (codes "rules") ∷ Rules (length (rules P))
+      ∷ Word (codes "weights") ∷ Weights P.days GREATEST_WEIGHT ∷ [];
+  make = λ v. RawBound v.0 v.1.0 v.1.1.0 v.1.1.1.0;
+}
+
+abbrev pub open_kind : Kind RawLine
+open_kind = record { word = codes "open"; fields = []; make = λ v. RawUnfinished }
+
+-- the lines of the tree
+abbrev pub tree_kinds : Instance → List (Kind RawLine)
+tree_kinds P = split_kind P ∷ window_kind P ∷ day_kind P ∷ dead_kind P ∷ bound_kind P ∷ open_kind ∷ []
+
+-- line 1, the version: whether there is a turn
+abbrev pub version_kind : Kind Bool
+version_kind = record { word = codes "rwsp-log"; fields = Choice (codes "2") (codes "1") ∷ []; make = λ v. v.0 }
+
+-- line 2, the rules
+abbrev pub rules_kind : Instance → Kind (List ℕ)
+rules_kind P = record { word = codes "rules"; fields = Rules (length (rules P)) ∷ []; make = λ v. v.0 }
+
+-- line 3 where there is a turn: its name and its day
+abbrev pub turn_kind : Instance → Kind (List ℕ × ℕ)
+turn_kind P = record { word = codes "turn"; fields = Name ∷ Number 1 P.days ∷ []; make = λ v. (v.0, v.1.0) }
+
+abbrev pub version_kinds : List (Kind Bool)
+version_kinds = version_kind ∷ []
+
+abbrev pub rules_kinds : Instance → List (Kind (List ℕ))
+rules_kinds P = rules_kind P ∷ []
+
+abbrev pub turn_kinds : Instance → List (Kind (List ℕ × ℕ))
+turn_kinds P = turn_kind P ∷ []

@@ -1,7 +1,0 @@
-use Rattle.std.proofs.Common.{ℕ, ◌<◌}
-use Rattle.rwsp_terms.specs.Window.{window}
-use Rattle.roster_checker.specs.Scan.{IsTriple}
-use Rattle.roster_checker.proofs.sequences.first_triple.Given as goal
-
-abbrev pub invariant-loop-position : goal.invariant-loop-position
-invariant-loop-position l = (q len : ℕ) → q < l.position → IsTriple l.triple (window l.cells q len) → ⊥

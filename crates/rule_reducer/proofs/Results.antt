@@ -1,1 +1,0 @@
--- Facts of what a call answers, by other facts of it.

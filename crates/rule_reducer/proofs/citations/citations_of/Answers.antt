@@ -1,0 +1,8 @@
+use Rattle.std.proofs.Common.{subst, List, Option}
+use Rattle.refutation_terms.specs.declared.lines.Line.{Line}
+use Rattle.rule_reducer.proofs.Citing.{both_kinds}
+use Rattle.rule_reducer.proofs.citations.citations_of.Goals as goal
+
+pub returns : goal.returns
+returns c =
+    both_kinds c.args.problem.now c.args.log.now _ _ _ _ (rw c.turn.ensures at c.in_ok-for_good.ensures) (rw c.lines.ensures at c.in_ok-put_all.ensures.plain) (rw c.lines.ensures at c.in_ok-put_all.ensures.listed)

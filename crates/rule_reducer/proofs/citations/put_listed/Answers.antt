@@ -1,0 +1,11 @@
+use Rattle.std.proofs.Common.{false, true}
+use Rattle.refutation_log.proofs.Adding.{on_ok}
+use Rattle.rule_reducer.proofs.Citing.{put_of_kind, other_kind, true_not_false}
+use Rattle.rule_reducer.proofs.citations.put_listed.Goals as goal
+
+pub returns-then-is_plain : goal.returns-then-is_plain
+returns-then-is_plain c = other_kind c.args.problem.now false c.is_plain.result c.args.line.now c.args.rules.now c.is_plain.ensures (true_not_false c.is_plain.result c.if-is_plain.true)
+
+pub returns : goal.returns
+returns c =
+    on_ok c.put_cited.result _ _ (put_of_kind c.args.problem.now false c.is_plain.result c.args.line.now c.args.rules.now c.put_cited.new.rules c.is_plain.ensures c.if-is_plain.false) c.put_cited.ensures.names

@@ -1,0 +1,11 @@
+use Rattle.std.proofs.Common.{◌≡◌, take}
+use Rattle.tree_walk.specs.States.{IsStateOf}
+use Rattle.rule_reducer.proofs.Walking.{HoldWithout}
+use Rattle.rule_reducer.proofs.refusing_lines.refusing_line.Given as goal
+
+abbrev pub invariant-loop-i : goal.invariant-loop-i
+invariant-loop-i l = record {
+  problem : l.judge ≡ l.problem;
+  walked : IsStateOf l.problem l.log.turn (take l.i l.log.lines) l.walk;
+  held : HoldWithout l.problem l.number l.log l.i;
+}

@@ -1,0 +1,23 @@
+use Rattle.std.proofs.Common.{◌≡◌, List, length, take, get_or, refl, subst, arith, Some}
+use Rattle.std.specs.Prelude.{slice_get}
+use Rattle.std.proofs.lemmas.Option.{slice_get_read}
+use Rattle.refutation_terms.specs.declared.lines.Line.{Line}
+use Rattle.rule_reducer.proofs.Walking.{not_whole, line_at, line_read}
+use Rattle.rule_reducer.proofs.refusing_lines.walk_to.Goals as goal
+
+pub go_past-requires-clause-part : goal.go_past-requires-clause-part
+go_past-requires-clause-part c =
+    not_whole c.args.problem.now c.args.log.now c.loop-i.i c.loop-i.walk c.requires.passes (omega (arith, c.requires.place)) c.loop-i.invariant
+
+pub go_past-requires-clause-fits : goal.go_past-requires-clause-fits
+go_past-requires-clause-fits c =
+    let g = c.args.log.now in
+    let line = c.index-lines-i.result in
+    c.requires.passes.grounded.fits.lines c.loop-i.i line (line_read g.lines _ c.loop-i.i line c.lines-lines.ensures (omega (arith, c.requires.place)) c.index-lines-i.is)
+
+pub go_past-requires-clause-holds : goal.go_past-requires-clause-holds
+go_past-requires-clause-holds c =
+    let g = c.args.log.now in
+    let i = c.loop-i.i in
+    let line = c.index-lines-i.result in
+    (g.turn, take i g.lines, c.loop-i.invariant, line_at c.args.problem.now g i line (line_read g.lines _ i line c.lines-lines.ensures (omega (arith, c.requires.place)) c.index-lines-i.is) c.requires.passes)

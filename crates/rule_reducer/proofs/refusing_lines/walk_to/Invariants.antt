@@ -1,0 +1,6 @@
+use Rattle.std.proofs.Common.{take}
+use Rattle.tree_walk.specs.States.{IsStateOf}
+use Rattle.rule_reducer.proofs.refusing_lines.walk_to.Given as goal
+
+abbrev pub invariant-loop-i : goal.invariant-loop-i
+invariant-loop-i l = IsStateOf l.problem l.log.turn (take l.i l.log.lines) l.walk

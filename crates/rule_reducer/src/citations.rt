@@ -1,0 +1,108 @@
+// Which rules the lines of a log cite, and which of them no strip takes out.
+ghost use Rattle.std.specs.Prelude.{◌≡◌, ◌↔◌, ◌⊎◌, ℕ, slice_get, Some, Option, IfOk, OnOk, true, false};
+ghost use Rattle.rwsp_terms.specs.declared.data.Rule.{Rule};
+ghost use Rattle.rwsp_terms.specs.Rules.{Names};
+ghost use Rattle.refutation_terms.specs.declared.lines.Line.{Line};
+ghost use Rattle.refutation_terms.specs.Log.{Fits, LineFits, TurnFits, Cites, TurnCites};
+ghost use Rattle.rule_reducer.specs.Citing.{is_plain, OneCites, AreCited};
+
+use crate::shrinking_log::ShrinkingLog;
+use refutation_log::{Turn, put_cited, put_turn_cited};
+use refutation_terms::Line;
+use rwsp_model::{Problem, RuleList};
+use std::alloc::{AllocError, Global};
+
+/// The rules that the lines of a log cite.
+#[derive(Debug, Drop)]
+pub struct Citations {
+    /// Those that the turn or a window or a day leaf cites: no strip takes them out there.
+    pub for_good: RuleList,
+    /// Those that dead and bound leaves cite by their lists and their weights.
+    pub in_lists: RuleList,
+}
+
+// Whether it is a window or a day leaf.
+fn is_plain(line: &Line) -> bool
+    ensures { result ≡ is_plain line.now }
+{
+    match line {
+        Line::Window { .. } | Line::Day { .. } => true,
+        Line::Split { .. } | Line::Dead { .. } | Line::Bound { .. } | Line::Unfinished => false,
+    }
+}
+
+// Puts the rule that a plain leaf cites into the list.
+fn put_plain(rules: &mut RuleList, problem: &Problem, line: &Line) -> Result<(), AllocError>
+    requires { LineFits problem.now line.now }
+    ensures { OnOk result ((r : Rule) →
+        Names problem.now rules.new r ↔ (Names problem.now rules.old r ⊎ ((is_plain line.now ≡ true) × Cites problem.now line.now r))) }
+{
+    if is_plain(line) {
+        return put_cited(rules, problem, line);
+    }
+    Ok(())
+}
+
+// Puts the rules that a line cites which is no plain leaf into the list.
+fn put_listed(rules: &mut RuleList, problem: &Problem, line: &Line) -> Result<(), AllocError>
+    requires { LineFits problem.now line.now }
+    ensures { OnOk result ((r : Rule) →
+        Names problem.now rules.new r ↔ (Names problem.now rules.old r ⊎ ((is_plain line.now ≡ false) × Cites problem.now line.now r))) }
+{
+    if is_plain(line) {
+        return Ok(());
+    }
+    put_cited(rules, problem, line)
+}
+
+// Puts the rules that plain leaves cite into one list, and those that other lines cite into the other.
+fn put_all(
+    plain: &mut RuleList,
+    listed: &mut RuleList,
+    problem: &Problem,
+    lines: &[Line],
+) -> Result<(), AllocError>
+    requires { (k : ℕ) (line : Line) → slice_get lines.now k ≡ Some line → LineFits problem.now line }
+    ensures plain { OnOk result ((r : Rule) →
+        Names problem.now plain.new r ↔ (Names problem.now plain.old r ⊎ OneCites problem.now true lines.now r)) }
+    ensures listed { OnOk result ((r : Rule) →
+        Names problem.now listed.new r ↔ (Names problem.now listed.old r ⊎ OneCites problem.now false lines.now r)) }
+{
+    for line in lines {
+        put_plain(plain, problem, line)?;
+        put_listed(listed, problem, line)?;
+    }
+    Ok(())
+}
+
+// The rule that a turn cites.
+fn turn_citation(
+    alloc: Global,
+    problem: &Problem,
+    turn: Option<Turn>,
+) -> Result<RuleList, AllocError>
+    requires { TurnFits problem.now turn }
+    ensures { IfOk result (λ rules. (r : Rule) → Names problem.now rules r ↔ TurnCites turn r) }
+{
+    let mut rules = RuleList::new(alloc);
+    if let Some(turn) = turn {
+        put_turn_cited(&mut rules, problem, turn)?;
+        return Ok(rules);
+    }
+    Ok(rules)
+}
+
+/// The rules that the lines of the log and its turn cite, found by going through the lines once.
+pub fn citations_of(
+    alloc: Global,
+    problem: &Problem,
+    log: &ShrinkingLog,
+) -> Result<Citations, AllocError>
+    requires { Fits problem.now log.now }
+    ensures { IfOk result (λ cited. AreCited problem.now log.now cited.for_good cited.in_lists) }
+{
+    let mut for_good = turn_citation(alloc, problem, log.turn())?;
+    let mut in_lists = RuleList::new(alloc);
+    put_all(&mut for_good, &mut in_lists, problem, log.lines())?;
+    Ok(Citations { for_good, in_lists })
+}

@@ -1,0 +1,120 @@
+// The lines of a log that refuse a strip: dead and bound leaves that don't hold without the rule.
+ghost use Rattle.std.specs.Prelude.{◌≡◌, ◌<◌, ◌≤◌, ℕ, List, length, take, slice_get, Option, Some, IsTrue, IfOk, MatchOption, MatchBool};
+ghost use Rattle.rwsp_terms.specs.Rules.{rule_of};
+ghost use Rattle.refutation_terms.specs.declared.lines.Line.{Line};
+ghost use Rattle.refutation_terms.specs.declared.lines.Turn.{Turn};
+ghost use Rattle.refutation_terms.specs.Tree.{domains_at};
+ghost use Rattle.refutation_terms.specs.Log.{LineFits, ListsShortOnly, Holds, Passes};
+ghost use Rattle.refutation_terms.specs.Strip.{strip, strip_line};
+ghost use Rattle.tree_walk.specs.States.{IsStateOf};
+ghost use Rattle.rule_reducer.specs.Without.{HoldsWithout};
+
+use crate::shrinking_log::ShrinkingLog;
+use crate::stripped_lines::{lists, strip_line};
+use refutation_checker::{LeafJudge, go_past};
+use refutation_terms::Line;
+use rwsp_model::{Problem, Rule};
+use std::alloc::{AllocError, Global};
+use tree_walk::Walk;
+
+// Whether the line, which is next for the walk, doesn't hold without the rule. Only a line that lists the rule is judged.
+fn refuses(
+    alloc: Global,
+    judge: &mut LeafJudge,
+    walk: &Walk,
+    line: &Line,
+    number: u32,
+    rule: Rule,
+) -> Result<bool, AllocError>
+    requires state { (turn : Option Turn) × (lines : List Line) × IsStateOf judge.old turn lines walk.now }
+    requires fits { LineFits judge.old line.now }
+    requires short { ListsShortOnly judge.old line.now }
+    requires rule { rule_of judge.old number ≡ Some rule }
+    ensures same { judge.new ≡ judge.old }
+    ensures refuses { IfOk result (λ yes. (turn : Option Turn) (lines : List Line) → IsStateOf judge.old turn lines walk.now →
+        Holds judge.old (domains_at judge.old turn lines (length lines)) line.now →
+        MatchBool yes
+            (Holds judge.old (domains_at judge.old turn lines (length lines)) (strip_line judge.old number line.now) → ⊥)
+            (Holds judge.old (domains_at judge.old turn lines (length lines)) (strip_line judge.old number line.now))) }
+{
+    if lists(line, number, rule) {
+        let stripped = strip_line(alloc, line, number, rule)?;
+        let holds = judge.holds(alloc, walk, &stripped)?;
+        return Ok(!holds);
+    }
+    Ok(false)
+}
+
+// The walk to a place among the lines of a log that passes, without judging any.
+fn walk_to(
+    alloc: Global,
+    problem: &Problem,
+    log: &ShrinkingLog,
+    place: usize,
+) -> Result<Walk, AllocError>
+    requires passes { Passes problem.now log.now }
+    requires place { place ≤ length log.now.lines }
+    ensures { IfOk result (IsStateOf problem.now log.now.turn (take place log.now.lines)) }
+{
+    let lines = log.lines();
+    let mut walk = Walk::new(alloc, problem, log.turn())?;
+    for i in 0..place {
+        go_past(&mut walk, problem, &lines[i])?;
+    }
+    Ok(walk)
+}
+
+/// Whether the line at the place refuses the strip of the rule. False where there is no such line, or where it doesn't list the rule.
+pub fn refuses_at(
+    alloc: Global,
+    problem: &Problem,
+    log: &ShrinkingLog,
+    number: u32,
+    rule: Rule,
+    place: usize,
+) -> Result<bool, AllocError>
+    requires passes { Passes problem.now log.now }
+    requires rule { rule_of problem.now number ≡ Some rule }
+    ensures { IfOk result (λ yes. IsTrue yes → Passes problem.now (strip problem.now number log.now) → ⊥) }
+{
+    let lines = log.lines();
+    if place >= lines.len() {
+        return Ok(false);
+    }
+    if !lists(&lines[place], number, rule) {
+        return Ok(false);
+    }
+    let walk = walk_to(alloc, problem, log, place)?;
+    let mut judge = LeafJudge::new(problem, log.named());
+    let refused = refuses(alloc, &mut judge, &walk, &lines[place], number, rule)?;
+    Ok(refused)
+}
+
+/// The first line that refuses the strip of the rule; None exactly where each line holds without the rule. Lines that don't list
+/// the rule aren't judged.
+pub fn refusing_line(
+    alloc: Global,
+    problem: &Problem,
+    log: &ShrinkingLog,
+    number: u32,
+    rule: Rule,
+) -> Result<Option<usize>, AllocError>
+    requires passes { Passes problem.now log.now }
+    requires rule { rule_of problem.now number ≡ Some rule }
+    ensures { IfOk result (λ found. MatchOption found
+        (HoldsWithout problem.now number log.now)
+        (λ k. Passes problem.now (strip problem.now number log.now) → ⊥)) }
+{
+    let lines = log.lines();
+    let mut walk = Walk::new(alloc, problem, log.turn())?;
+    let mut judge = LeafJudge::new(problem, log.named());
+    for i in 0..lines.len() {
+        let line = &lines[i];
+        let refused = refuses(alloc, &mut judge, &walk, line, number, rule)?;
+        if refused {
+            return Ok(Some(i));
+        }
+        go_past(&mut walk, problem, line)?;
+    }
+    Ok(None)
+}

@@ -1,0 +1,100 @@
+// A log that loses rules in place.
+ghost use Rattle.std.specs.Prelude.{◌≡◌, ◌≤◌, ℕ, length, map, Option, Some, IfOk, OnOk};
+ghost use Rattle.rwsp_terms.specs.Instance.{Instance};
+ghost use Rattle.rwsp_terms.specs.Rules.{rule_of};
+ghost use Rattle.refutation_terms.specs.Tree.{IsTree};
+ghost use Rattle.refutation_terms.specs.Strip.{strip, strip_line};
+
+use crate::lists::without;
+use crate::stripped_lines::strip_lines;
+use refutation_log::{Log, Turn, copy_line};
+use refutation_terms::Line;
+use rwsp_model::{Rule, RuleList};
+use std::alloc::{AllocError, Global};
+use std::marker::Model;
+
+/// A copy of a log from which rules are taken out in place. A strip costs one pass over the lines, and memory for those lists alone
+/// that hold the rule.
+#[derive(Debug, Drop)]
+pub struct ShrinkingLog {
+    named: RuleList,
+    turn: Option<Turn>,
+    lines: Vec<Line>,
+}
+
+impl Model for ShrinkingLog {
+    ghost use Rattle.std.specs.Prelude.{◌≤◌, length};
+    ghost use Rattle.refutation_terms.specs.Log.{Log as LogValue};
+
+    ghost Value = { LogValue };
+
+    ghost view = { λ g. record { named = g.named; turn = g.turn; lines = g.lines.items } };
+
+    ghost invariant = { λ g. length g.lines.items ≤ 4000000000 };
+}
+
+impl ShrinkingLog {
+    /// A copy of the log.
+    pub fn of(alloc: Global, log: &Log) -> Result<ShrinkingLog, AllocError>
+        ensures { IfOk result (λ same. same ≡ log.now) }
+    {
+        let named = log.named().copy()?;
+        let lines = copied_lines(alloc, log.lines())?;
+        Ok(ShrinkingLog {
+            named,
+            turn: log.turn(),
+            lines,
+        })
+    }
+
+    /// The rules that it names.
+    pub fn named(&self) -> &RuleList
+        ensures { result.now ≡ self.now.named }
+    {
+        &self.named
+    }
+
+    /// Its turn, if it has one.
+    pub fn turn(&self) -> Option<Turn>
+        ensures { result ≡ self.now.turn }
+    {
+        self.turn
+    }
+
+    /// Its lines.
+    pub fn lines(&self) -> &[Line]
+        ensures { result.now ≡ self.now.lines }
+    {
+        &self.lines
+    }
+
+    /// Takes out the rule, which has this number. After want of memory some lines may be without it already.
+    pub fn strip(&mut self, alloc: Global, number: u32, rule: Rule) -> Result<(), AllocError>
+        ensures { OnOk result ((P : Instance) → rule_of P number ≡ Some rule → self.new ≡ strip P number self.old) }
+    {
+        let named = without(alloc, &self.named, number)?;
+        strip_lines(alloc, &mut self.lines, number, rule)?;
+        self.named = named;
+        Ok(())
+    }
+
+    /// The log, whose lines are one whole tree.
+    pub fn into_log(self) -> Log
+        requires { IsTree self.lines }
+        ensures { result ≡ self }
+    {
+        Log::of(self.named, self.turn, self.lines)
+    }
+}
+
+// The same lines once more.
+fn copied_lines(alloc: Global, lines: &[Line]) -> Result<Vec<Line>, AllocError>
+    ensures { IfOk result (λ same. same.items ≡ lines.now) }
+{
+    let mut same = Vec::new(alloc);
+    for line in lines {
+        let copied = copy_line(line)?;
+        same.push(copied)?;
+    }
+    Ok(same)
+}

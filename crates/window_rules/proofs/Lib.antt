@@ -1,0 +1,5 @@
+mod Lying
+mod Shapes
+pub mod Words
+mod Starts
+mod Found

@@ -1,0 +1,33 @@
+-- The symbols that may stand at the positions of an endless word, and the words that may stand there.
+use Rattle.std.specs.Prelude.{◌≡◌, ℕ, ◌+◌, ◌%◌, List, [], ◌∷◌, length, IsTrue}
+use Rattle.rwsp_terms.specs.declared.data.Symbol.{Symbol}
+use Rattle.rwsp_terms.specs.declared.data.Class.{Class}
+use Rattle.rwsp_terms.specs.declared.data.Rule.{Rule}
+use Rattle.rwsp_terms.specs.Instance.{Instance}
+use Rattle.rwsp_terms.specs.Window.{InClass, Bad, cell}
+use Rattle.domain_store.specs.Store.{Store, has_domain}
+
+-- by cells: the symbol that the position holds
+abbrev pub held_by : List Symbol → ℕ → Symbol → Type 0
+held_by s p x = cell s p ≡ x
+
+-- by domains: each symbol that is left at the position, round the cycle
+abbrev pub left_in : Store → ℕ → Symbol → Type 0
+left_in S p x = IsTrue (has_domain S (p % length S.sets) x.number)
+
+-- each symbol that may stand at the position is in the class
+abbrev pub LiesIn : (ℕ → Symbol → Type 0) → Class → ℕ → Type 0
+LiesIn A c p = (x : Symbol) → A p x → InClass c x
+
+-- and none is
+abbrev pub LiesOutside : (ℕ → Symbol → Type 0) → Class → ℕ → Type 0
+LiesOutside A c p = (x : Symbol) → A p x → InClass c x → ⊥
+
+-- a word that may stand from the position on
+abbrev pub MayStand : (ℕ → Symbol → Type 0) → ℕ → List Symbol → Type 0
+MayStand A p [] = Unit {0}
+MayStand A p (x ∷ u) = A p x × MayStand A (p + 1) u
+
+-- every word of this length that may stand from the position on is bad for the rule
+abbrev pub AreAllBad : Instance → Rule → (ℕ → Symbol → Type 0) → ℕ → ℕ → Type 0
+AreAllBad P r A p len = (u : List Symbol) → length u ≡ len → MayStand A p u → Bad P r u

@@ -1,0 +1,37 @@
+// The view by domains: whatever symbol is left may stand at a position.
+ghost use Rattle.std.specs.Prelude.{◌<◌, length};
+ghost use Rattle.window_rules.specs.Views.{left_in};
+
+use crate::View;
+use domain_store::Domains;
+use rwsp_model::{Class, Symbol};
+
+impl View for Domains {
+    ghost has_days = { λ S. 0 < length S.sets };
+
+    ghost allows = { λ S. left_in S };
+
+    fn prove_some(&self) {
+        self.facts();
+    }
+
+    fn lies_in(&self, class: Class, p: u32) -> bool {
+        self.facts();
+        let position = p % self.cells();
+        match class {
+            Class::Shift(shift) => self.has_only(position, shift),
+            Class::Off => self.has_only(position, Symbol::OFF),
+            Class::Work => !self.has(position, Symbol::OFF),
+        }
+    }
+
+    fn lies_outside(&self, class: Class, p: u32) -> bool {
+        self.facts();
+        let position = p % self.cells();
+        match class {
+            Class::Shift(shift) => !self.has(position, shift),
+            Class::Off => !self.has(position, Symbol::OFF),
+            Class::Work => self.has_only(position, Symbol::OFF),
+        }
+    }
+}

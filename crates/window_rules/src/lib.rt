@@ -1,0 +1,12 @@
+//! The rules on windows, judged in one place: how long a window from a position on is that breaks a rule, whatever
+//! may stand there by the cells of a roster or by domains.
+#![tactic(auto)]
+
+mod bad_windows;
+mod domain_view;
+mod pattern;
+mod roster_view;
+mod view;
+
+pub use bad_windows::{BadWindow, bad_length, bad_window_over, first_bad_window};
+pub use view::View;
