@@ -1,0 +1,6 @@
+pub mod Sizes
+pub mod Texts
+pub mod Runs
+pub mod Sections
+pub mod Verdict
+pub mod Laws
