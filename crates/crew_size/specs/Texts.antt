@@ -4,30 +4,30 @@ use Rattle.std.specs.Fmt.{decimal}
 use Rattle.rwsp_terms.specs.Instance.{Instance}
 use Rattle.roster_print.specs.RosterText.{roster_text}
 use Rattle.refutation_terms.specs.Log.{Log}
-use Rattle.refutation_terms.specs.LogText.{text_of, log_text}
+use Rattle.refutation_terms.specs.LogText.{log_text}
 use Rattle.crew_size.specs.Sizes.{with_weeks}
 use Rattle.crew_size.specs.declared.run.StaffEnd.{StaffEnd}
 use Rattle.crew_size.specs.declared.run.StaffEnd.TheVariants.{Least, NoneTo, Undecided}
 
--- a heading: what there is for m weeks
-abbrev pub weeks_line : ℕ → List ℕ → List ℕ
-weeks_line m what = text_of (codes "weeks" ∷ decimal m ∷ what ∷ [])
+-- a heading: a word, a number, what is said of it, and LF
+abbrev pub heading : List ℕ → ℕ → List ℕ → List ℕ
+heading word m what = word ++ (decimal m ++ (what ++ 10 ∷ []))
 
--- no roster
+-- the heading of m weeks without a roster
 abbrev pub refuted_line : ℕ → List ℕ
-refuted_line m = weeks_line m (codes "none")
+refuted_line m = heading (codes "weeks ") m (codes " none")
 
--- a roster
+-- of m weeks with a roster
 abbrev pub roster_line : ℕ → List ℕ
-roster_line m = weeks_line m (codes "roster")
+roster_line m = heading (codes "weeks ") m (codes " roster")
 
--- neither was found
+-- of m weeks for which neither was found
 abbrev pub undecided_line : ℕ → List ℕ
-undecided_line m = weeks_line m (codes "undecided")
+undecided_line m = heading (codes "weeks ") m (codes " undecided")
 
--- the heading of an end without a roster
+-- of an end without a roster
 abbrev pub none_line : ℕ → List ℕ
-none_line last = text_of (codes "none" ∷ codes "to" ∷ decimal last ∷ [])
+none_line last = heading (codes "none to ") last []
 
 -- a section: its heading, and the text of the log for the problem with so many weeks
 abbrev pub section_text : Instance → ℕ → Log → List ℕ

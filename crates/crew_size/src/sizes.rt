@@ -10,5 +10,5 @@ pub fn with_weeks(problem: &Problem, weeks: u32) -> Result<Problem, AllocError>
     requires { IsSize problem.now weeks }
     ensures { IfOk result (λ sized. sized ≡ with_weeks problem.now weeks) }
 {
-    Err(AllocError)
+    problem.with_weeks(weeks)
 }
