@@ -1,1 +1,4 @@
-
+pub mod Headings
+pub mod Cuts
+pub mod Fronts
+pub mod Verdicts

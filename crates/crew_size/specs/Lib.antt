@@ -2,6 +2,6 @@ pub mod Sizes
 pub mod Texts
 pub mod Runs
 pub mod Sections
-pub mod Places
 pub mod Verdict
+pub mod Places
 pub mod Laws

@@ -1,10 +1,17 @@
 -- How far a staff text has been read, and headings as they are read.
-use Rattle.std.specs.Prelude.{◌≡◌, ℕ, ◌+◌, ◌<◌, ◌≤◌, ◌^◌, List, [], ◌∷◌, ◌++◌, length, Option, Some, None}
+use Rattle.std.specs.Prelude.{◌≡◌, ◌≢◌, ℕ, ◌+◌, ◌<◌, ◌≤◌, ◌^◌, List, [], ◌∷◌, ◌++◌, length, Option, Some, None, MatchOption, Result}
+use Rattle.std.specs.Fmt.{decimal}
+use Rattle.rwsp_terms.specs.declared.limits.TheConstants.{LONGEST_LOG}
 use Rattle.rwsp_terms.specs.Instance.{Instance}
+use Rattle.rwsp_model.specs.Refusals.{MatchAnswer}
+use Rattle.rwsp_model.specs.declared.fail.Fail.{Fail}
 use Rattle.refutation_terms.specs.Log.{Log}
 use Rattle.crew_size.specs.Sizes.{IsSize}
 use Rattle.crew_size.specs.Texts.{sections_text, refuted_line, roster_line, none_line}
 use Rattle.crew_size.specs.Sections.{StandsBehind, line_behind}
+use Rattle.crew_size.specs.Verdict.{IsStaffAccepted, IsStaffRefused}
+use Rattle.crew_size.specs.declared.verdict.Staffed.{Staffed}
+use Rattle.crew_size.specs.declared.verdict.StaffRefusal.{StaffRefusal}
 use Rattle.crew_size.specs.declared.heading.Heading.{Heading}
 use Rattle.crew_size.specs.declared.heading.Heading.TheVariants.{Refuted, Found, NoneTo}
 
@@ -39,7 +46,7 @@ heading_number (Refuted m) = m
 heading_number (Found m) = m
 heading_number (NoneTo last) = last
 
--- a number of up to nine digits that isn't 0
+-- the number has up to nine digits and isn't 0
 abbrev pub IsWritten : Heading → Type 0
 IsWritten h = (1 ≤ heading_number h) × (heading_number h < 10 ^ 9)
 
@@ -59,7 +66,7 @@ MayStand P sizes (Refuted m) = IsNext P sizes m
 MayStand P sizes (Found m) = IsNext P sizes m
 MayStand P sizes (NoneTo last) = IsLast sizes last
 
--- behind sections of these sizes line n of the text is the heading, which may stand there, and the bytes follow it
+-- behind sections of these sizes line n of the text is this one, and the bytes follow it
 pub record IsAt (P : Instance) (text : List ℕ) (sizes : Option (ℕ × ℕ)) (n : ℕ) (line bytes : List ℕ) : Type 0 where
   pub low : ℕ
   pub logs : List Log
@@ -67,7 +74,27 @@ pub record IsAt (P : Instance) (text : List ℕ) (sizes : Option (ℕ × ℕ)) (
   pub sizes : AreSizes low logs sizes
   pub number : n ≡ line_behind (sections_text P low logs)
 
--- the first size, where one is at hand
+-- the line has a number of up to nine digits that isn't 0 between a word and what closes it
+abbrev pub HasNumber : List ℕ → (word close : List ℕ) → ℕ → Type 0
+HasNumber line word close m = (1 ≤ m) × (m < 10 ^ 9) × (line ≡ word ++ (decimal m ++ close))
+
+-- it has none there
+abbrev pub HasNoNumber : List ℕ → (word close : List ℕ) → Type 0
+HasNoNumber line word close = (m : ℕ) → 1 ≤ m → m < 10 ^ 9 → line ≢ word ++ (decimal m ++ close)
+
+-- the first size, or this one where there is no section
 abbrev pub first_size : Option (ℕ × ℕ) → ℕ → ℕ
 first_size None m = m
 first_size (Some sizes) m = sizes.0
+
+-- the place has a line number, and no more is left than a text may have behind it
+abbrev pub IsShort : Place → Type 0
+IsShort place = (1 ≤ place.line) × (place.line + length place.rest ≤ LONGEST_LOG + 1)
+
+-- further on the one place is than the other
+abbrev pub IsFurther : Place → Place → Type 0
+IsFurther place before = IsShort place × (length place.rest < length before.rest)
+
+-- what was answered at a heading: the text has been read up to a further place, or this is the verdict on it
+abbrev pub Answers : Instance → List ℕ → Place → Result (Option Staffed) (Fail StaffRefusal) → Type 0
+Answers P text place result = MatchAnswer result (λ found. MatchOption found (IsPlace P text place) (IsStaffAccepted P text)) (IsStaffRefused P text)

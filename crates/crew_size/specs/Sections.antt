@@ -1,5 +1,5 @@
 -- What stands where in a staff text.
-use Rattle.std.specs.Prelude.{◌≡◌, ◌⊎◌, ℕ, ◌+◌, ◌<◌, List, [], ◌∷◌, ◌++◌, length, slice_get, Some, count_by, ◌==◌, codes}
+use Rattle.std.specs.Prelude.{◌≡◌, ◌⊎◌, ℕ, ◌+◌, ◌<◌, List, [], ◌∷◌, ◌++◌, length, take, drop, slice_get, Some, count_by, ◌==◌, codes}
 use Rattle.rwsp_terms.specs.Instance.{Instance}
 use Rattle.refutation_terms.specs.Log.{Log, Passes}
 use Rattle.crew_size.specs.Sizes.{with_weeks, IsSize}
@@ -13,9 +13,13 @@ BeginsAsHeading bytes = ((more : List ℕ) × (bytes ≡ codes "weeks " ++ more)
 abbrev pub AreWholeLines : List ℕ → Type 0
 AreWholeLines bytes = (bytes ≡ []) ⊎ ((body : List ℕ) × (bytes ≡ body ++ 10 ∷ []))
 
+-- at this place of the bytes a line begins as a heading does
+abbrev pub HasHeadingAt : List ℕ → ℕ → Type 0
+HasHeadingAt bytes i = AreWholeLines (take i bytes) × BeginsAsHeading (drop i bytes)
+
 -- no line of the bytes begins as a heading does
 abbrev pub HasNoHeading : List ℕ → Type 0
-HasNoHeading bytes = (before behind : List ℕ) → bytes ≡ before ++ behind → AreWholeLines before → BeginsAsHeading behind → ⊥
+HasNoHeading bytes = (i : ℕ) → i < length bytes → HasHeadingAt bytes i → ⊥
 
 -- of a text the bytes are all lines up to the next that begins as a heading does, or up to the end
 pub record AreUpToHeading (bytes rest : List ℕ) : Type 0 where

@@ -4,6 +4,7 @@ ghost use Rattle.rwsp_terms.specs.declared.limits.TheConstants.{LONGEST_LOG, MOS
 ghost use Rattle.rwsp_model.specs.Refusals.{MatchAnswer};
 ghost use Rattle.crew_size.specs.Verdict.{IsStaffAccepted, IsStaffRefused};
 
+use crate::sections::Sections;
 use crate::{StaffRefusal, Staffed};
 use potential_bounds::Gate;
 use rwsp_model::{Fail, Problem};
@@ -25,5 +26,13 @@ pub fn check_staff<R: Threads + Sync, G: Gate>(
     requires workers { (1 ≤ workers) × (workers ≤ MOST_WORKERS) }
     ensures { MatchAnswer result (IsStaffAccepted problem.now bytes.now) (IsStaffRefused problem.now bytes.now) }
 {
-    Err(Fail::Memory)
+    let mut sections = Sections::new(bytes);
+    loop {
+        match sections.pass(rt, alloc, problem, workers, gate) {
+            Ok(None) => {}
+            Ok(Some(staffed)) => return Ok(staffed),
+            Err(Fail::Memory) => return Err(Fail::Memory),
+            Err(Fail::Refused(why)) => return Err(Fail::Refused(why)),
+        }
+    }
 }

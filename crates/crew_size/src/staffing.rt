@@ -1,11 +1,15 @@
 // How few weeks are enough.
-ghost use Rattle.std.specs.Prelude.{ℕ, ◌≤◌, IfOk};
+ghost use Rattle.std.specs.Prelude.{◌≤◌, IfOk};
 ghost use Rattle.rwsp_terms.specs.declared.limits.TheConstants.{GREATEST_STAFF_BUDGET};
-ghost use Rattle.crew_size.specs.Sizes.{IsSize};
+ghost use Rattle.roster_planner.specs.Planned.{IsPlanned};
+ghost use Rattle.crew_size.specs.Sizes.{IsSize, with_weeks};
 ghost use Rattle.crew_size.specs.Runs.{IsStaffed, FitsSizes};
 
-use crate::StaffRun;
+use crate::sizes::with_weeks;
+use crate::{StaffEnd, StaffRun};
 use potential_bounds::Gate;
+use roster_planner::plan_roster;
+use roster_search::Found;
 use rwsp_model::Problem;
 use std::alloc::{AllocError, Global};
 use std::thread::Threads;
@@ -27,5 +31,30 @@ pub fn staff<R: Threads + Sync, G: Gate>(
     ensures staffed { IfOk result (IsStaffed problem.now low high budget) }
     ensures fits { IfOk result (FitsSizes problem.now) }
 {
-    Err(AllocError)
+    let mut logs = Vec::new(alloc);
+    for weeks in low..high + 1 {
+        match plan_for(rt, alloc, problem, weeks, budget, gate)? {
+            Found::NoRoster(log) => logs.push(log)?,
+            Found::Roster(roster) => return Ok(StaffRun::of(low, logs, StaffEnd::Least(roster))),
+            Found::Undecided(log) => return Ok(StaffRun::of(low, logs, StaffEnd::Undecided(log))),
+        }
+    }
+    Ok(StaffRun::of(low, logs, StaffEnd::NoneTo))
+}
+
+// The plan for so many weeks.
+fn plan_for<R: Threads + Sync, G: Gate>(
+    rt: &R,
+    alloc: Global,
+    problem: &Problem,
+    weeks: u32,
+    budget: u32,
+    gate: &G,
+) -> Result<Found, AllocError>
+    requires size { IsSize problem.now weeks }
+    requires budget { (1 ≤ budget) × (budget ≤ GREATEST_STAFF_BUDGET) }
+    ensures { IfOk result (IsPlanned (with_weeks problem.now weeks) budget) }
+{
+    let sized = with_weeks(problem, weeks)?;
+    plan_roster(rt, alloc, &sized, budget, gate)
 }
