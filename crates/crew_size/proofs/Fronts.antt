@@ -15,9 +15,10 @@ use Rattle.crew_size.specs.Sizes.{with_weeks, IsSize}
 use Rattle.crew_size.specs.Texts.{heading, refuted_line, roster_line, none_line, section_text, sections_text}
 use Rattle.crew_size.specs.Sections.{ArePassing, StandsBehind, IsHeadingsPlace, BeginsAsHeading, AreUpToHeading, AreWholeLines, IsNextSize, IsLastSize, line_behind}
 use Rattle.crew_size.specs.Places.{AreSizes, IsNext, IsLast}
+use Rattle.crew_size.proofs.Cuts.{rest_of_cut}
 
 -- a list with one more at its end
-pushed_at : {X : Type 0} (xs : List X) (x y : X) (k : ℕ) → slice_get (xs ++ x ∷ []) k ≡ Some y → (slice_get xs k ≡ Some y) ⊎ ((k ≡ length xs) × (x ≡ y))
+pub pushed_at : {X : Type 0} (xs : List X) (x y : X) (k : ℕ) → slice_get (xs ++ x ∷ []) k ≡ Some y → (slice_get xs k ≡ Some y) ⊎ ((k ≡ length xs) × (x ≡ y))
 pushed_at [] x y zero e = inr (refl, let same : x ≡ y = cc in same)
 pushed_at [] x y (suc k) e = absurd (cc)
 pushed_at (z ∷ xs) x y zero e = inl e
@@ -90,10 +91,6 @@ place_behind : (logs : List Log) (g : Log) (rest : List ℕ) → (rest ≡ []) �
 place_behind [] g rest h = h
 place_behind (l ∷ logs) g rest h = h
 
-place_of_cut : (log rest : List ℕ) → (rest ≡ []) ⊎ (AreWholeLines log × BeginsAsHeading rest) → (rest ≡ []) ⊎ BeginsAsHeading rest
-place_of_cut log rest (inl e) = inl e
-place_of_cut log rest (inr h) = inr h.1
-
 pub one_more_stands : (P : Instance) (text : List ℕ) (low m : ℕ) (logs : List Log) (g : Log) (log rest : List ℕ) → ArePassing P low logs → m ≡ low + length logs → IsSize P m → log ≡ log_text (with_weeks P m) g → Passes (with_weeks P m) g → text ≡ sections_text P low logs ++ (refuted_line m ++ (log ++ rest)) → AreUpToHeading log rest → StandsBehind P text low (logs ++ g ∷ []) rest
 one_more_stands P text low m logs g log rest are e size spelled passes whole cut =
     let front = sections_text P low logs in
@@ -103,7 +100,7 @@ one_more_stands P text low m logs g log rest are e size spelled passes whole cut
       whole =
           whole ∙ ap (λ t. front ++ t) (sym (append_assoc (refuted_line m) log rest)) ∙ sym (append_assoc front (refuted_line m ++ log) rest)
           ∙ ap (λ t. (front ++ t) ++ rest) section ∙ ap (λ t. t ++ rest) (sym (sections_push P low logs g));
-      place = place_behind logs g rest (place_of_cut log rest cut.cut);
+      place = place_behind logs g rest (rest_of_cut log rest cut.cut);
     }
 
 pub line_behind_one_more : (P : Instance) (low m : ℕ) (logs : List Log) (g : Log) (log : List ℕ) → m ≡ low + length logs → IsSize P m → log ≡ log_text (with_weeks P m) g → line_behind (sections_text P low (logs ++ g ∷ [])) ≡ line_behind (sections_text P low logs) + (1 + feeds log)

@@ -5,7 +5,7 @@ use Rattle.std.specs.List.{list_all}
 use Rattle.std.specs.Char.{is_ascii_digit}
 use Rattle.std.specs.Fmt.{decimal}
 use Rattle.std.proofs.lemmas.Bool.{and_parts, leb-true}
-use Rattle.std.proofs.lemmas.Fmt.{decimal_digit, decimal_nonempty, first_decimal, decimal-digits_value}
+use Rattle.std.proofs.lemmas.Fmt.{decimal_digit, first_decimal, decimal-digits_value}
 use Rattle.std.proofs.lemmas.List.{append-nil, append_assoc, append_cancel_left, append_cancel_right}
 use Rattle.std.proofs.lemmas.Str.Parse.{digits_value_short}
 use Rattle.rwsp_text.specs.Numbers.{number_of, value_of}
@@ -32,24 +32,22 @@ plain_digits w n e first =
     let not_zero : n ≢ 0 = λ z. first (ap (λ v. get_or v 0 0) (same ∙ ap decimal z ∙ decimal_digit 0 (lit< tt))) in
     (omega (arith, not_zero), subst (λ k. k < 10 ^ 9) t.1 short, same)
 
-pub number_read : (w : List ℕ) (o : Option ℕ) → (get_or w 0 0 ≡ 48 → ⊥) → o ≡ number_of w → MatchOption o (HasNoNumber w [] []) (HasNumber w [] [])
+first_is_other : (w : List ℕ) → ((rest : List ℕ) → w ≢ 48 ∷ rest) → get_or w 0 0 ≡ 48 → ⊥
+first_is_other [] h e = absurd (cc)
+first_is_other (b ∷ w) h e = h w (ap (λ c. c ∷ w) e)
+
+pub number_read : (w : List ℕ) (o : Option ℕ) → ((rest : List ℕ) → w ≢ 48 ∷ rest) → o ≡ number_of w → MatchOption o (HasNoNumber w [] []) (HasNumber w [] [])
 number_read w None first e = λ m a b f.
     let read : number_of w ≡ Some m = ap number_of (f ∙ append-nil (decimal m)) ∙ printed_is_read m b in
     absurd (cc)
 number_read w (Some n) first e =
-    let d = plain_digits w n (sym e) first in (d.0, d.1, d.2 ∙ sym (append-nil (decimal n)))
+    let d = plain_digits w n (sym e) (first_is_other w first) in (d.0, d.1, d.2 ∙ sym (append-nil (decimal n)))
 
-pub no_digits : (w : List ℕ) → length w ≡ 0 → HasNoNumber w [] []
-no_digits w e = λ m a b f.
-    let some = decimal_nonempty m (omega (arith, b)) in
-    let long : length w ≡ length (decimal m) = ap length (f ∙ append-nil (decimal m)) in
-    omega (arith, some, long, e)
-
-pub zero_in_front : (w : List ℕ) → get_or w 0 0 ≡ 48 → HasNoNumber w [] []
-zero_in_front w e = λ m a b f.
+pub zero_in_front : (w rest : List ℕ) → w ≡ 48 ∷ rest → HasNoNumber w [] []
+zero_in_front w rest e = λ m a b f.
     let first = first_decimal m a (omega (arith, b)) in
-    let same : get_or w 0 0 ≡ get_or (decimal m) 0 0 = ap (λ v. get_or v 0 0) (f ∙ append-nil (decimal m)) in
-    omega (arith, first, same, e)
+    let same : 48 ≡ get_or (decimal m) 0 0 = ap (λ v. get_or v 0 0) (sym e ∙ f ∙ append-nil (decimal m)) in
+    omega (arith, first, same)
 
 -- between a word and what closes the line
 pub no_word : (line word close : List ℕ) → ((rest : List ℕ) → line ≢ word ++ rest) → HasNoNumber line word close

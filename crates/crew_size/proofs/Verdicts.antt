@@ -51,13 +51,13 @@ at_heading P text place line bytes h e = record {
   low = h.low;
   logs = h.logs;
   stands = along P text h.low h.logs place.rest (line ++ bytes) e h.stands;
-  sizes = h.sizes;
+  known = h.sizes;
   number = h.line;
 }
 
 -- a line that is no heading that may stand there
 
-last_is_written : (P : Instance) (low : ℕ) (logs : List Log) (last : ℕ) → ArePassing P low logs → IsLastSize low logs last → (1 ≤ last) × (last < 10 ^ 9)
+pub last_is_written : (P : Instance) (low : ℕ) (logs : List Log) (last : ℕ) → ArePassing P low logs → IsLastSize low logs last → (1 ≤ last) × (last < 10 ^ 9)
 last_is_written P low [] last are h = absurd (omega (arith, h.0))
 last_is_written P low (g ∷ logs) last are h =
     let i : ℕ = length logs in
@@ -115,7 +115,7 @@ log_passed_by P text sizes line m bytes log rest place low (h ∷ logs) g accept
 
 pub log_passed : (P : Instance) (text : List ℕ) (sizes : Option (ℕ × ℕ)) (line m : ℕ) (bytes log rest : List ℕ) (place : Place) (g : Log) → IsAccepted (with_weeks P m) log g → IsNext P sizes m → bytes ≡ log ++ rest → AreUpToHeading log rest → place.sizes ≡ Some (first_size sizes m, m + 1) → place.rest ≡ rest → place.line ≡ line + (1 + feeds log) → IsAt P text sizes line (refuted_line m) bytes → IsPlace P text place
 log_passed P text sizes line m bytes log rest place g accepted next e cut a b c at =
-    log_passed_by P text sizes line m bytes log rest place at.low at.logs g accepted next e cut a b c at.stands at.sizes at.number
+    log_passed_by P text sizes line m bytes log rest place at.low at.logs g accepted next e cut a b c at.stands at.known at.number
 
 pub log_refused : (P : Instance) (text : List ℕ) (sizes : Option (ℕ × ℕ)) (line m : ℕ) (bytes log rest : List ℕ) (why : LogRefusal) → IsRefused (with_weeks P m) log why → IsNext P sizes m → bytes ≡ log ++ rest → AreUpToHeading log rest → IsAt P text sizes line (refuted_line m) bytes → HasRefusedLog P text m why
 log_refused P text sizes line m bytes log rest why refused next e cut at = record {
@@ -124,7 +124,7 @@ log_refused P text sizes line m bytes log rest why refused next e cut at = recor
   bytes = log;
   rest = rest;
   stands = along P text at.low at.logs (refuted_line m ++ bytes) (refuted_line m ++ log ++ rest) (ap (λ t. refuted_line m ++ t) e ∙ sym (append_assoc (refuted_line m) log rest)) at.stands;
-  next = next_of P at.low at.logs sizes m at.sizes next;
+  next = next_of P at.low at.logs sizes m at.known next;
   log = cut;
   refused = refused;
 }
@@ -138,7 +138,7 @@ long_roster P text sizes line m bytes long next at = record {
   m = m;
   bytes = bytes;
   stands = at.stands;
-  next = next_of P at.low at.logs sizes m at.sizes next;
+  next = next_of P at.low at.logs sizes m at.known next;
   long = long;
   number = at.number;
 }
@@ -146,7 +146,7 @@ long_roster P text sizes line m bytes long next at = record {
 ends_with : (P : Instance) (text : List ℕ) (sizes : Option (ℕ × ℕ)) (line m : ℕ) (bytes : List ℕ) → length bytes ≤ LONGEST_FILE → IsNext P sizes m → (at : IsAt P text sizes line (roster_line m) bytes) → EndsWithRoster P text at.low at.logs m bytes
 ends_with P text sizes line m bytes short next at = record {
   stands = at.stands;
-  next = next_of P at.low at.logs sizes m at.sizes next;
+  next = next_of P at.low at.logs sizes m at.known next;
   short = short;
 }
 
@@ -197,13 +197,13 @@ right_by P text sizes m bytes low (h ∷ logs) short next right stands are =
 
 pub roster_right : (P : Instance) (text : List ℕ) (sizes : Option (ℕ × ℕ)) (line m : ℕ) (bytes : List ℕ) (cells : List Symbol) → length bytes ≤ LONGEST_FILE → IsNext P sizes m → SpellsRoster (with_weeks P m) bytes cells → MeetsAll (with_weeks P m) cells → IsAt P text sizes line (roster_line m) bytes → EndsWithRight P text (first_size sizes m) m
 roster_right P text sizes line m bytes cells short next spelled meets at =
-    right_by P text sizes m bytes at.low at.logs short next (cells, spelled, meets) at.stands at.sizes
+    right_by P text sizes m bytes at.low at.logs short next (cells, spelled, meets) at.stands at.known
 
 -- an end without a roster
 
 pub goes_on : (P : Instance) (text : List ℕ) (sizes : Option (ℕ × ℕ)) (line last : ℕ) (bytes : List ℕ) → bytes ≢ [] → IsLast sizes last → IsAt P text sizes line (none_line last) bytes → GoesOnAt P text (line + 1)
 goes_on P text sizes line last bytes more is at =
-    let last_is = last_of at.low at.logs sizes last at.sizes is in
+    let last_is = last_of at.low at.logs sizes last at.known is in
     let written = last_is_written P at.low at.logs last at.stands.passing last_is in
     let one : feeds (none_line last) ≡ 1 = feeds_of_heading (codes "none to ") last [] written.1 refl refl in
     let all = feeds_append (sections_text P at.low at.logs) (none_line last) in
@@ -227,5 +227,5 @@ none_by P text sizes last low (h ∷ logs) is stands are =
 
 pub none_right : (P : Instance) (text : List ℕ) (sizes : Option (ℕ × ℕ)) (line last : ℕ) (bytes : List ℕ) → bytes ≡ [] → IsLast sizes last → IsAt P text sizes line (none_line last) bytes → EndsWithNone P text (first_size sizes last) last
 none_right P text sizes line last bytes none is at =
-    none_by P text sizes last at.low at.logs (last_of at.low at.logs sizes last at.sizes is)
-    (along P text at.low at.logs (none_line last ++ bytes) (none_line last) (ap (λ t. none_line last ++ t) none ∙ append-nil (none_line last)) at.stands) at.sizes
+    none_by P text sizes last at.low at.logs (last_of at.low at.logs sizes last at.known is)
+    (along P text at.low at.logs (none_line last ++ bytes) (none_line last) (ap (λ t. none_line last ++ t) none ∙ append-nil (none_line last)) at.stands) at.known

@@ -1,5 +1,5 @@
 -- Laws of staff texts and of the runs that they are printed of.
-use Rattle.std.specs.Prelude.{◌≡◌, ℕ, ◌+◌, ◌-◌, ◌*◌, ◌^◌, ◌<◌, ◌≤◌, List, Option, Some, None, Result, Ok}
+use Rattle.std.specs.Prelude.{◌≡◌, ◌⊎◌, ℕ, ◌+◌, ◌-◌, ◌*◌, ◌^◌, ◌<◌, ◌≤◌, List, [], Option, Some, None, Result, Ok}
 use Rattle.rwsp_terms.specs.declared.data.Symbol.{Symbol}
 use Rattle.rwsp_terms.specs.Instance.{Instance, shift_count}
 use Rattle.rwsp_terms.specs.Roster.{MeetsAll}
@@ -9,7 +9,7 @@ use Rattle.refutation_terms.specs.LogText.{log_text}
 use Rattle.crew_size.specs.Sizes.{with_weeks, IsSize}
 use Rattle.crew_size.specs.Texts.{Staff, staff_text, next_size}
 use Rattle.crew_size.specs.Runs.{IsStaffed}
-use Rattle.crew_size.specs.Sections.{HasNoHeading}
+use Rattle.crew_size.specs.Sections.{BeginsAsHeading, AreUpToHeading}
 use Rattle.crew_size.specs.Verdict.{IsStaffAccepted, IsStaffVerdict}
 use Rattle.crew_size.specs.declared.run.StaffEnd.{StaffEnd}
 use Rattle.crew_size.specs.declared.run.StaffEnd.TheVariants as Ends
@@ -75,6 +75,8 @@ EnoughBudgetDecides =
     (P : Instance) (low high budget : ℕ) (run : Staff) → IsStaffed P low high budget run
     → 2 * (shift_count P + 1) ^ (high * P.days) ≤ budget + 1 → decision_of run ≡ None → ⊥
 
--- no line of a log that fits begins as a heading does
-abbrev pub LogsHaveNoHeading : Type 0
-LogsHaveNoHeading = (P : Instance) (g : Log) → KeepsLimits P → Fits P g → HasNoHeading (log_text P g)
+-- what follows the text of a log that fits as a heading doesn't cut it short
+abbrev pub LogsAreCutWhole : Type 0
+LogsAreCutWhole =
+    (P : Instance) (g : Log) (rest : List ℕ) → KeepsLimits P → Fits P g → (rest ≡ []) ⊎ BeginsAsHeading rest
+    → AreUpToHeading (log_text P g) rest

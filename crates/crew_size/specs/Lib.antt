@@ -1,5 +1,6 @@
 pub mod Sizes
 pub mod Texts
+pub mod Fitting
 pub mod Runs
 pub mod Sections
 pub mod Verdict

@@ -71,7 +71,7 @@ pub record IsAt (P : Instance) (text : List ℕ) (sizes : Option (ℕ × ℕ)) (
   pub low : ℕ
   pub logs : List Log
   pub stands : StandsBehind P text low logs (line ++ bytes)
-  pub sizes : AreSizes low logs sizes
+  pub known : AreSizes low logs sizes
   pub number : n ≡ line_behind (sections_text P low logs)
 
 -- the line has a number of up to nine digits that isn't 0 between a word and what closes it

@@ -17,14 +17,10 @@ AreWholeLines bytes = (bytes ≡ []) ⊎ ((body : List ℕ) × (bytes ≡ body +
 abbrev pub HasHeadingAt : List ℕ → ℕ → Type 0
 HasHeadingAt bytes i = AreWholeLines (take i bytes) × BeginsAsHeading (drop i bytes)
 
--- no line of the bytes begins as a heading does
-abbrev pub HasNoHeading : List ℕ → Type 0
-HasNoHeading bytes = (i : ℕ) → i < length bytes → HasHeadingAt bytes i → ⊥
-
--- of a text the bytes are all lines up to the next that begins as a heading does, or up to the end
+-- the bytes are all lines of a text up to the next that begins as a heading does, or up to its end, and the rest follows them
 pub record AreUpToHeading (bytes rest : List ℕ) : Type 0 where
-  pub alone : HasNoHeading bytes
-  pub cut : (rest ≡ []) ⊎ (AreWholeLines bytes × BeginsAsHeading rest)
+  pub alone : (i : ℕ) → i < length bytes → HasHeadingAt (bytes ++ rest) i → ⊥
+  pub cut : (rest ≡ []) ⊎ HasHeadingAt (bytes ++ rest) (length bytes)
 
 -- each of the logs passes, for sizes that rise by one from the first and that the problem may have
 pub record ArePassing (P : Instance) (low : ℕ) (logs : List Log) : Type 0 where

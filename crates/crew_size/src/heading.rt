@@ -89,8 +89,12 @@ fn is_last(sizes: Option<(u32, u32)>, last: u32) -> bool
 fn number_between(line: &[u8], word: &[u8], close: &[u8]) -> Option<u32>
     ensures { MatchOption result (HasNoNumber line.now word.now close.now) (HasNumber line.now word.now close.now) }
 {
-    let rest = behind(line, word)?;
-    let digits = ahead(rest, close)?;
+    let Some(rest) = behind(line, word) else {
+        return None;
+    };
+    let Some(digits) = ahead(rest, close) else {
+        return None;
+    };
     plain_number(digits)
 }
 
@@ -112,9 +116,8 @@ fn ahead<'a>(line: &'a [u8], close: &[u8]) -> Option<&'a [u8]>
 fn plain_number(digits: &[u8]) -> Option<u32>
     ensures { MatchOption result (HasNoNumber digits.now [] []) (HasNumber digits.now [] []) }
 {
-    let (first, _) = digits.split_first()?;
-    if *first == b'0' {
-        return None;
+    match behind(digits, b"0") {
+        Some(_) => None,
+        None => number(digits),
     }
-    number(digits)
 }

@@ -6,7 +6,7 @@ ghost use Rattle.refutation_terms.specs.Log.{Fits};
 ghost use Rattle.refutation_terms.specs.LogText.{log_text};
 ghost use Rattle.crew_size.specs.Sizes.{IsSize, with_weeks};
 ghost use Rattle.crew_size.specs.Texts.{staff_text, section_text, end_text, heading};
-ghost use Rattle.crew_size.specs.Runs.{FitsSizes, EndFits};
+ghost use Rattle.crew_size.specs.Fitting.{FitsSizes, EndFits};
 ghost use Rattle.crew_size.specs.declared.run.StaffEnd.TheVariants as Ends;
 
 use crate::sizes::with_weeks;

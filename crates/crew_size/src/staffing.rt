@@ -3,7 +3,8 @@ ghost use Rattle.std.specs.Prelude.{◌≤◌, IfOk};
 ghost use Rattle.rwsp_terms.specs.declared.limits.TheConstants.{GREATEST_STAFF_BUDGET};
 ghost use Rattle.roster_planner.specs.Planned.{IsPlanned};
 ghost use Rattle.crew_size.specs.Sizes.{IsSize, with_weeks};
-ghost use Rattle.crew_size.specs.Runs.{IsStaffed, FitsSizes};
+ghost use Rattle.crew_size.specs.Runs.{IsStaffed};
+ghost use Rattle.crew_size.specs.Fitting.{FitsSizes};
 
 use crate::sizes::with_weeks;
 use crate::{StaffEnd, StaffRun};
