@@ -1,0 +1,9 @@
+pub mod Headings
+pub mod Cuts
+pub mod Fronts
+pub mod Verdicts
+pub mod Searches
+pub mod Decided
+pub mod Heads
+pub mod LogCuts
+pub mod OneVerdict

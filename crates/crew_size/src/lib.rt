@@ -1,0 +1,25 @@
+//! How few weeks, and so how few employees, are enough: a problem is planned for one number of weeks after the other, and
+//! each number that is too small has its refutation. The text of such a run is printed, and checked by itself.
+#![tactic(auto)]
+
+mod check;
+mod heading;
+mod laws;
+mod print;
+mod run;
+mod section;
+mod sections;
+mod sizes;
+mod staffing;
+mod verdict;
+
+pub use check::check_staff;
+pub use laws::{
+    accepted_texts_decide, enough_budget_decides, logs_are_cut_whole, printed_runs_are_accepted,
+    searches_agree, searches_decide, staff_texts_have_one_verdict,
+};
+pub use print::print_staff;
+pub use run::{StaffEnd, StaffRun};
+pub use sizes::{is_size, with_weeks};
+pub use staffing::staff;
+pub use verdict::{StaffRefusal, Staffed};
