@@ -6,7 +6,9 @@ ghost use Rattle.rwsp.specs.Commands.{IsFileWord, IsCount, IsCommandOf, AreDates
 
 use crew_calendar::{date_of, fits};
 use jiff::civil::Date;
-use rwsp_terms::limits::{GREATEST_BUDGET, LONGEST_CALENDAR, MOST_WEEKS, MOST_WORKERS, USUAL_BUDGET, USUAL_WORKERS};
+use rwsp_terms::limits::{
+    GREATEST_BUDGET, LONGEST_CALENDAR, MOST_WEEKS, MOST_WORKERS, USUAL_BUDGET, USUAL_WORKERS,
+};
 use rwsp_text::number;
 
 /// What is to be done. The names of files are words of their own.
