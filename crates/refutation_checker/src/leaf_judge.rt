@@ -8,7 +8,7 @@ ghost use Rattle.tree_walk.specs.States.{IsStateOf};
 ghost use Rattle.refutation_checker.specs.LineVerdicts.{HoldsByWords};
 
 use crate::judge::Judge;
-use crate::step::step;
+use crate::line_walk::step;
 use refutation_terms::Line;
 use rwsp_model::{Problem, RuleList};
 use std::alloc::{AllocError, Global};

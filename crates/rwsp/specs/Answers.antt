@@ -183,7 +183,7 @@ IsAnswer held words answer =
     ⊎ (((command : Command) × IsForm words command × (IsWithinHorizon command → ⊥) × (answer ≡ Horizon))
     ⊎ (((number weeks : ℕ) × IsForm words (Trial number weeks) × IsTrialAnswer number weeks answer)
     ⊎ ((command : Command) × IsForm words command × IsWithinHorizon command × ReadsProblem command
-        × IsAnswerTo command held words answer)))
+    × IsAnswerTo command held words answer)))
 
 -- a file could not be read: the count of the problem's file has risen, or that of the second file, and then the first
 -- spells an instance

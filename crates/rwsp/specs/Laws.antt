@@ -40,7 +40,7 @@ AgreeInSearch a b = IsOfSearch a × IsOfSearch b
 abbrev pub AnswersAreOne : Type 0
 AnswersAreOne =
     (held : List ℕ → Told) (words : Words) (a b : Answer) → AreTold held words → IsAnswer held words a
-        → IsAnswer held words b
+    → IsAnswer held words b
     → (a ≡ b) ⊎ AgreeInSearch a b
 
 -- an answer has one text
@@ -48,7 +48,7 @@ abbrev pub TextsAreOne : Type 0
 TextsAreOne =
     (held : List ℕ → Told) (words : Words) (a : Answer) (text other : List ℕ)
     → held (problem_name words) ≢ Silent → (a ≡ Crew → held (second_name words) ≢ Silent) → IsTextOf held words a text
-        → IsTextOf held words a other
+    → IsTextOf held words a other
     → text ≡ other
 
 -- where the words are a form of a command that reads a problem's file, and that file spells an instance, an answer is
@@ -57,7 +57,7 @@ abbrev pub ProblemsAreAnswered : Type 0
 ProblemsAreAnswered =
     (held : List ℕ → Told) (words : Words) (command : Command) (file : List ℕ) (P : Instance) (a : Answer)
     → IsForm words command → IsWithinHorizon command → ReadsProblem command → held (problem_name words) ≡ Bytes file
-        → IsWithinLimit Kinds.Problem file → SpellsProblem file P
+    → IsWithinLimit Kinds.Problem file → SpellsProblem file P
     → IsAnswer held words a
     → IsAnswerOn command (held (second_name words)) P a
 
@@ -67,7 +67,7 @@ abbrev pub RefutationsAreAccepted : Type 0
 RefutationsAreAccepted =
     (file : List ℕ) (P : Instance) (budget : ℕ) (g : Log) (a : Answer)
     → SpellsProblem file P → IsPlanAnswer P budget (NoRoster g) → IsWithinLimit Kinds.Log (answer_text P (NoRoster g))
-        → IsOfLog a → IsLogAnswer a P (answer_text P (NoRoster g))
+    → IsOfLog a → IsLogAnswer a P (answer_text P (NoRoster g))
     → a ≡ Accepted g.named
 
 -- a roster that was found
@@ -80,7 +80,7 @@ abbrev pub RostersMeet : Type 0
 RostersMeet =
     (file : List ℕ) (P : Instance) (budget : ℕ) (planned a : Answer)
     → SpellsProblem file P → IsRosterOf planned → IsPlanAnswer P budget planned
-        → IsRosterAnswer a P (answer_text P planned)
+    → IsRosterAnswer a P (answer_text P planned)
     → a ≡ Meets
 
 -- the text of what `reduce` writes is accepted by `check`, with the rules that it names
@@ -88,7 +88,7 @@ abbrev pub ReductionsAreAccepted : Type 0
 ReductionsAreAccepted =
     (file : List ℕ) (P : Instance) (bytes : List ℕ) (h : Log) (a : Answer)
     → SpellsProblem file P → IsReduction (Reduced h) P bytes → IsWithinLimit Kinds.Log (answer_text P (Reduced h))
-        → IsLogAnswer a P (answer_text P (Reduced h))
+    → IsLogAnswer a P (answer_text P (Reduced h))
     → a ≡ Accepted h.named
 
 -- the text of what `staff` writes with a least crew, or with none up to the last size, is accepted by `check-staff`, with what it decides

@@ -258,5 +258,5 @@ abbrev pub IsTextOf : (List ℕ → Told) → Words → Answer → List ℕ → 
 IsTextOf held words answer text =
     (HasFixedText answer × ((P : Instance) → text ≡ answer_text P answer))
     ⊎ (((command : Command) × IsForm words command
-        × ((P : Instance) × IsProblemOf held words P × IsReplyText command (held (second_name words)) P answer text))
+    × ((P : Instance) × IsProblemOf held words P × IsReplyText command (held (second_name words)) P answer text))
     ⊎ IsTextOfTrial answer text)
