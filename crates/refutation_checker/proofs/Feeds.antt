@@ -63,3 +63,11 @@ one_for_each k size workers bytes few is some =
           absurd (omega (arith, few, enough, e, le))
       | inr le ↦ le
     ]
+
+-- by the test of a byte
+pub fed_or_not : (bytes : List ℕ) (i : ℕ) → i < length bytes → feeds (take (i + 1) bytes) ≡ feeds (take i bytes) + cond (get_or bytes i 0 == 10) 1 0
+fed_or_not bytes i less = by_test (get_or bytes i 0 == 10) refl
+  where
+    by_test : (t : Bool) → (get_or bytes i 0 == 10) ≡ t → feeds (take (i + 1) bytes) ≡ feeds (take i bytes) + cond t 1 0
+    by_test true e = fed bytes i less (eqb-true (get_or bytes i 0) 10 e)
+    by_test false e = let same = not_fed bytes i less (λ h. absurd (let yes_it_is = eq-eqb (get_or bytes i 0) 10 h in cc)) in omega (arith, same)

@@ -37,9 +37,15 @@ pub fn count_lines(bytes: &[u8]) -> usize
     }
 }
 
+// Adds without a branch, so that many bytes are counted at once.
+#[tactic(auto, using(crate::proofs::Feeds::fed_or_not, crate::proofs::Feeds::fed_in_all))]
 fn count_feeds(bytes: &[u8]) -> usize
     ensures value { result ≡ feeds bytes.now }
     ensures few { result ≤ length bytes.now }
 {
-    bytes.iter().filter(|byte| **byte == b'\n').count()
+    let mut count: usize = 0;
+    for byte in bytes {
+        count += usize::from(*byte == b'\n');
+    }
+    count
 }

@@ -15,7 +15,7 @@ use std::thread;
 use std::thread::Threads;
 
 /// What `judge_chunk` answers to all lines, which are cut into chunks of equal length: at most one for each worker. The gate
-/// is passed once for each chunk, before its first line.
+/// is passed once for each chunk, before its first line. One worker has all lines, and they needn't be counted.
 pub fn judge_by_workers<R: Threads + Sync, G: Gate>(
     rt: &R,
     alloc: Global,
@@ -32,6 +32,9 @@ pub fn judge_by_workers<R: Threads + Sync, G: Gate>(
     ensures { (turn : Option Turn) → StandsBehind problem.now turn [] all.entry →
         IsJudged problem.now named.now turn [] all.entry.bytes result }
 {
+    if workers == 1 {
+        return judge_behind_gate(alloc, problem, named, gate, all);
+    }
     let Ok(chunks) = chunks_for(alloc, problem, all, workers) else {
         return Err(Fail::Memory);
     };
