@@ -384,10 +384,11 @@ front_next C day tails nodes row next steps m light few = record {
         let l : LastStep C day nodes steps m.front.word u = last_step C day tails nodes row next steps m u of in
         let p : Pick C m.front.word steps next l.step.to = pick C day tails nodes row next steps m l.step.to l.stands.0 in
         let inside : Contains (picks next steps) p.step = pick_is_picked C m.front.word steps next l.step.to p in
-        let here : get_or (picks next steps) inside.0 no_step ≡ p.step = get_or_default (picks next steps) inside.0 no_step p.step inside.1 ∙ inside.2 in
-        (inside.0,
-        omega (arith, inside.1, length-map (picks next steps) (λ s. tail_at nodes s.to)),
-        tail_read nodes (picks next steps) inside.0 inside.1 ∙ ap (λ (z : Step). tail_at nodes z.to) here ∙ ap (tail_at nodes) p.leads ∙ tail_of_stands nodes l.step.to (tail_of u) l.stands)
+        let here : get_or (picks next steps) inside.0 no_step ≡ p.step = get_or_default (picks next steps) inside.0 no_step p.step inside.1 ∙ inside.2 in (
+          inside.0,
+          omega (arith, inside.1, length-map (picks next steps) (λ s. tail_at nodes s.to)),
+          tail_read nodes (picks next steps) inside.0 inside.1 ∙ ap (λ (z : Step). tail_at nodes z.to) here ∙ ap (tail_at nodes) p.leads ∙ tail_of_stands nodes l.step.to (tail_of u) l.stands,
+        )
 
     by_order : (a b : Step) → a.from < length tails → b.from < length tails → StepBefore a b → ComesBefore (word_by_step m.front.word a) (word_by_step m.front.word b)
     by_order a b la lb (inl earlier) = before_push (m.front.word a.from) (m.front.word b.from) a.symbol b.symbol (m.front.ordered a.from b.from earlier lb)
@@ -412,11 +413,14 @@ linked_next C day tails nodes row next steps m k lt =
     let Q : Symbol → Type 0 = λ x. IsBestTo C (day + 1) (tail_at nodes s.to) (m.front.word p.pick.choice.to ++ x ∷ []) in
     let R : Tail → Type 0 = λ t. IsBestTo C (day + 1) t (m.front.word p.pick.choice.to ++ p.pick.choice.symbol ∷ []) in
     let whole : IsBestTo C (day + 1) (tail_at (tails_by nodes (picks next steps)) k) (m.front.word p.pick.choice.to ++ p.pick.choice.symbol ∷ []) =
-    subst R (sym (tail_read nodes (picks next steps) k less)) (subst Q (sym p.pick.symbol) (subst P (sym p.pick.from) b)) in
-    (p.pick.choice, choice_read next (picks next steps) k less ∙ p.pick.is, from,
-    λ u best.
-        let U : List Symbol → Type 0 = λ w. IsBestTo C (day + 1) (tail_at (tails_by nodes (picks next steps)) k) (w ++ p.pick.choice.symbol ∷ []) in
-        subst U (best_once C day (tail_at tails p.pick.choice.to) (m.front.word p.pick.choice.to) u (m.front.best p.pick.choice.to from) best) whole)
+    subst R (sym (tail_read nodes (picks next steps) k less)) (subst Q (sym p.pick.symbol) (subst P (sym p.pick.from) b)) in (
+      p.pick.choice,
+      choice_read next (picks next steps) k less ∙ p.pick.is,
+      from,
+      λ u best.
+          let U : List Symbol → Type 0 = λ w. IsBestTo C (day + 1) (tail_at (tails_by nodes (picks next steps)) k) (w ++ p.pick.choice.symbol ∷ []) in
+          subst U (best_once C day (tail_at tails p.pick.choice.to) (m.front.word p.pick.choice.to) u (m.front.best p.pick.choice.to from) best) whole,
+    )
 
 -- the front that is made of the steps that are picked
 pub front_made : (C : Course) (day : ℕ) (tails nodes : List Tail) (row next : Row) (steps : List Step) → Moves C day tails nodes row next steps → AreWithin (1000 * day + 1000) next → (ps : List Step) → ps ≡ filter (is_picked next) steps → length ps < 2 ^ 32 → (later : List Tail) (late : Row) → later ≡ map (λ s. tail_at nodes s.to) ps → late ≡ map (λ s. choice_at next s.to) ps → IsFront C (day + 1) later late × AreLinked C day tails later late

@@ -16,11 +16,14 @@ goes_back C len last day tails later row node back c linked is on =
     let l = linked node on.0 in
     let e : c ≡ l.0 = is ∙ ap choice_or_end l.1 in
     let P : Choice → Type 0 = λ x. GoesOn C len last day tails x.to (back ++ x.symbol ∷ []) in
-    subst P (sym e) (l.2, λ u best.
-        let whole : IsBestTo C len last ((u ++ l.0.symbol ∷ []) ++ reverse back) = on.1 (u ++ l.0.symbol ∷ []) (l.3 u best) in
-        let turn : (u ++ l.0.symbol ∷ []) ++ reverse back ≡ u ++ reverse (back ++ l.0.symbol ∷ []) = append_assoc u (l.0.symbol ∷ []) (reverse back) ∙ ap (λ (z : List Symbol). u ++ z) (sym (reverse-append back (l.0.symbol ∷ []))) in
-        let Q : List Symbol → Type 0 = λ w. IsBestTo C len last w in
-        subst Q turn whole)
+    subst P (sym e) (
+      l.2,
+      λ u best.
+          let whole : IsBestTo C len last ((u ++ l.0.symbol ∷ []) ++ reverse back) = on.1 (u ++ l.0.symbol ∷ []) (l.3 u best) in
+          let turn : (u ++ l.0.symbol ∷ []) ++ reverse back ≡ u ++ reverse (back ++ l.0.symbol ∷ []) = append_assoc u (l.0.symbol ∷ []) (reverse back) ∙ ap (λ (z : List Symbol). u ++ z) (sym (reverse-append back (l.0.symbol ∷ []))) in
+          let Q : List Symbol → Type 0 = λ w. IsBestTo C len last w in
+          subst Q turn whole,
+    )
 
 pub walked : (C : Course) (day len : ℕ) (last : Tail) (fs : List Front) (d : Front) (j k node : ℕ) (back : List Symbol) (c : Choice) → IsChain C day fs → k ≡ j + 1 → k < length fs → c ≡ choice_or_end (choice_at (front_at fs d k).row node) → GoesOn C len last (day + k) (front_at fs d k).tails.items node back → GoesOn C len last (day + j) (front_at fs d j).tails.items c.to (back ++ c.symbol ∷ [])
 walked C day len last fs d j k node back c chain e lt is on =
@@ -112,10 +115,13 @@ taken_off C end day rest f kept is =
     let Q : ℕ → Type 0 = λ n. IsFront C n f.tails.items f.row in
     record {
       before = omega (arith, long, is);
-      kept = (omega (arith, is), λ i d lt.
-          let here : front_at (rest ++ f ∷ []) d i ≡ front_at rest d i = get_or_append_left rest (f ∷ []) d i lt in
-          let R : Front → Type 0 = λ x. IsFront C (i * 128) x.tails.items x.row in
-          subst R here (kept.1 i d (omega (arith, lt, length-append rest (f ∷ [])))));
+      kept = (
+        omega (arith, is),
+        λ i d lt.
+            let here : front_at (rest ++ f ∷ []) d i ≡ front_at rest d i = get_or_append_left rest (f ∷ []) d i lt in
+            let R : Front → Type 0 = λ x. IsFront C (i * 128) x.tails.items x.row in
+            subst R here (kept.1 i d (omega (arith, lt, length-append rest (f ∷ [])))),
+      );
       is_front = subst Q (sym is) (subst P at (kept.1 (length rest) f (omega (arith, length-append rest (f ∷ [])))));
     }
 

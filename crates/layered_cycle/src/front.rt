@@ -101,7 +101,11 @@ fn picks(alloc: Global, row: &ChoiceRow, steps: &[Step]) -> Result<Vec<Step>, Al
     ensures picks { IfOk result (λ picks. picks.items ≡ filter (is_picked row.now) steps.now) }
     ensures few { IfOk result (λ picks. length picks.items < 2 ^ 32) }
 {
-    let picks: Vec<Step> = steps.iter().filter(|s| is_picked(row, **s)).copied().collect(alloc)?;
+    let picks: Vec<Step> = steps
+        .iter()
+        .filter(|s| is_picked(row, **s))
+        .copied()
+        .collect(alloc)?;
     // Never so: each node has one.
     if picks.len() > u32::MAX as usize {
         return Err(AllocError);

@@ -118,7 +118,17 @@ pub fn best_word_to<G: Gain>(
     while let Some(front) = kept.pop() {
         let day = kept.len() as u32 * STRIDE;
         tail = back_to(
-            alloc, index, rules, doms, p, day, end - day, front, gain, tail, &mut symbols,
+            alloc,
+            index,
+            rules,
+            doms,
+            p,
+            day,
+            end - day,
+            front,
+            gain,
+            tail,
+            &mut symbols,
         )?;
         end = day;
     }

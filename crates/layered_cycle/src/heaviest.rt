@@ -102,9 +102,7 @@ fn best_of<G: Gain>(
     ensures weight { IfOk result (λ h. h.weight ≡ end.weight) }
 {
     let last = tail_at(&fronts.last.tails, end.node);
-    let word = best_word_to(
-        alloc, index, rules, doms, p, len, gain, fronts.kept, last,
-    )?;
+    let word = best_word_to(alloc, index, rules, doms, p, len, gain, fronts.kept, last)?;
     Ok(HeavyWord {
         weight: i64::from(end.weight),
         word,
