@@ -19,7 +19,9 @@ use Rattle.refutation_log.specs.declared.refusal.LineRefusal.{LineRefusal}
 use Rattle.refutation_log.specs.declared.refusal.LineRefusal.TheVariants.{Form, Name}
 use Rattle.refutation_log.proofs.Named.{spelled_fits}
 use Rattle.refutation_log.proofs.LogLines.{some_bytes}
-use Rattle.refutation_log.proofs.OneText.{body, body_feedless, cut, line_there, one_line, is_writable}
+use Rattle.refutation_log.proofs.OneText.{has_names, one_list, is_writable}
+use Rattle.refutation_terms.proofs.Spelled.{spell}
+use Rattle.refutation_log.specs.Printing.{lines_text}
 use Rattle.domain_store.specs.Store.{Store, IsStore}
 use Rattle.tree_walk.specs.Splits.{IsFirstSide}
 use Rattle.tree_walk.specs.States.{State, IsStateOf}
@@ -34,7 +36,7 @@ use Rattle.refutation_checker.proofs.Unread.{PassedSoFar, tree_passed}
 
 pub spelled : (P : Instance) (bytes : List ℕ) (l : Line) → KeepsLimits P → IsTextOf P bytes l → Spells P bytes l
 spelled P bytes l limits h =
-    let t = line_there P l limits h.fits in
+    let t = spell P l (has_names P limits) h.fits in
     (raw P l, record { spelled = h.text; in_range = t.0; ascends = subst (λ o. IfSome o Ascends) (sym t.1) t.2 }, t.1)
 
 pub text_spelled : (P : Instance) (bytes : List ℕ) (l : Line) → Spells P bytes l → IsTextOf P bytes l
@@ -42,9 +44,10 @@ text_spelled P bytes l h = let s = spelled_fits P bytes l h in record { fits = s
 
 pub same_text : (P : Instance) (bytes : List ℕ) (a b : Line) → KeepsLimits P → IsTextOf P bytes a → IsTextOf P bytes b → a ≡ b
 same_text P bytes a b limits f g =
-    one_line P a b limits f.fits g.fits
-    (cut (body P a) (body P b) [] [] (body_feedless P a limits f.fits) (body_feedless P b limits g.fits)
-    (append-nil (line_text P (raw P a)) ∙ sym f.text ∙ g.text ∙ sym (append-nil (line_text P (raw P b))))).0
+    let one : lines_text P (a ∷ []) ≡ lines_text P (b ∷ []) =
+      append-nil (line_text P (raw P a)) ∙ sym f.text ∙ g.text ∙ sym (append-nil (line_text P (raw P b))) in
+    let same : a ∷ [] ≡ b ∷ [] = one_list P (a ∷ []) (b ∷ []) limits (f.fits, tt) (g.fits, tt) one in
+    cc
 
 pub not_refused : (P : Instance) (bytes : List ℕ) (l : Line) (why : LineRefusal) → KeepsLimits P → IsTextOf P bytes l → IsLineRefused P bytes why → ⊥
 not_refused P bytes l Form limits h refused = let s = spelled P bytes l limits h in refused s.0 s.1

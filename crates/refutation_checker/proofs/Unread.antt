@@ -11,12 +11,17 @@ use Rattle.refutation_terms.specs.Tree.{IsLeaf, IsTree, Node, lines_in}
 use Rattle.refutation_terms.specs.LogText.{raw, line_text}
 use Rattle.refutation_terms.specs.Verdict.{IsNextLine}
 use Rattle.refutation_log.specs.Printing.{lines_text, EachFits}
-use Rattle.refutation_log.proofs.OneText.{body, body_feedless, cut, nothing_ends}
+use Rattle.rwsp_text.proofs.LineLaws.{cut}
+use Rattle.refutation_log.proofs.OneText.{body, body_feedless}
 use Rattle.tree_walk.specs.Splits.{IsFirstSide, NoLines}
 use Rattle.tree_walk.proofs.Moves.{leaf_is_tree}
 use Rattle.refutation_checker.specs.UnreadSplits.{Unread, IsTextOf, LeadInto, EndInside, HasTree}
 use Rattle.refutation_checker.proofs.Joining.{not_at_end}
 use Rattle.refutation_log.proofs.LogLines.{some_bytes}
+
+nothing_ends : (a r : List ℕ) → [] ≡ (a ++ 10 ∷ []) ++ r → ⊥
+nothing_ends [] r e = cc
+nothing_ends (x ∷ a) r e = cc
 
 -- what follows the splits may grow
 pub grows : (P : Instance) (Q R : List Line → Type 0) (more : List Line) → ((ls : List Line) → Q ls → R (ls ++ more)) → (splits : List Unread) (lines : List Line) → LeadInto P Q splits lines → LeadInto P R splits (lines ++ more)

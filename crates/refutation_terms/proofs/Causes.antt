@@ -235,7 +235,6 @@ rules_cause P bytes (Refusals.Form i) h = ap Refusals.Form h.0
 rules_cause P bytes why h = absurd h
 
 pub extra_cause : (n : ℕ) (why : LogRefusal) → ExtraCause n why → why ≡ Refusals.Extra n
-
 extra_cause n (Refusals.Extra i) h = ap Refusals.Extra h
 extra_cause n why h = absurd h
 

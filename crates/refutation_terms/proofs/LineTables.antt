@@ -65,20 +65,26 @@ tree_line P (RawWindow rule p len) h =
 tree_line P (RawDay day name over) h =
     inr (inr (inl (refl, record { values = (day, (name, (over, tt))); keeps = (h.0, (h.1, tt)); spelled = refl; made = refl })))
 tree_line P (RawDead p len R) h =
-    inr (inr (inr (inl (refl, record {
-      values = (p, (len, (R, tt)));
-      keeps = (h.0, (h.1, (h.2, tt)));
-      spelled = ap (λ us. place P p ++ (decimal len ∷ codes "rules" ∷ us)) (sym (append-nil (numbers R)));
-      made = refl;
-    }))))
+    inr (inr (inr (inl (
+      refl,
+      record {
+        values = (p, (len, (R, tt)));
+        keeps = (h.0, (h.1, (h.2, tt)));
+        spelled = ap (λ us. place P p ++ (decimal len ∷ codes "rules" ∷ us)) (sym (append-nil (numbers R)));
+        made = refl;
+      },
+    ))))
 tree_line P (RawBound p turns R y) h =
     let some : 0 < cells P = omega (arith, h.0) in
-    inr (inr (inr (inr (inl (refl, record {
-      values = (p, (turns, (R, (y, tt))));
-      keeps = (h.0, ((some_turns turns (cells P) h.1.0, (le-div_iff_mul-le {k = cells P} {x = turns} {y = 16800} some).1 h.1.1), (h.2, (h.3, tt))));
-      spelled = ap (λ us. place P p ++ (decimal turns ∷ codes "rules" ∷ numbers R ++ (codes "weights" ∷ us))) (sym (append-nil (flat_map weight_fields y)));
-      made = refl;
-    })))))
+    inr (inr (inr (inr (inl (
+      refl,
+      record {
+        values = (p, (turns, (R, (y, tt))));
+        keeps = (h.0, ((some_turns turns (cells P) h.1.0, (le-div_iff_mul-le {k = cells P} {x = turns} {y = 16800} some).1 h.1.1), (h.2, (h.3, tt))));
+        spelled = ap (λ us. place P p ++ (decimal turns ∷ codes "rules" ∷ numbers R ++ (codes "weights" ∷ us))) (sym (append-nil (flat_map weight_fields y)));
+        made = refl;
+      },
+    )))))
 tree_line P RawUnfinished h = inr (inr (inr (inr (inr (inl (refl, record { values = tt; keeps = tt; spelled = refl; made = refl }))))))
 
 full_turns : (n m : ℕ) → 1 ≤ n → 0 < m → 0 < n * m

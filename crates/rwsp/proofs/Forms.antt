@@ -190,7 +190,7 @@ one_form words a b h k =
     let same : undated a ≡ undated b = cc in
     let date : dated a ≡ dated b = one_dated words a b (has_date words a h) (has_date words b k) same in
     let both : Some a ≡ Some b =
-      sym (back_is a) ∙ ap (λ d. back d (undated a)) date ∙ ap (back (dated b)) same ∙ back_is b in
+    sym (back_is a) ∙ ap (λ d. back d (undated a)) date ∙ ap (back (dated b)) same ∙ back_is b in
     cc
 
 -- words that begin with `crew` and aren't its form have no form

@@ -7,8 +7,8 @@ ghost use Rattle.rwsp.specs.Commands.{IsFileWord, IsCount, IsCommandOf, AreDates
 use crew_calendar::{date_of, fits};
 use jiff::civil::Date;
 use rwsp_terms::limits::{
-    GREATEST_BUDGET, GREATEST_STAFF_BUDGET, LONGEST_CALENDAR, MOST_SIZES, MOST_WEEKS, MOST_WORKERS, USUAL_BUDGET,
-    USUAL_STAFF_BUDGET, USUAL_WORKERS,
+    GREATEST_BUDGET, GREATEST_STAFF_BUDGET, LONGEST_CALENDAR, MOST_SIZES, MOST_WEEKS, MOST_WORKERS,
+    USUAL_BUDGET, USUAL_STAFF_BUDGET, USUAL_WORKERS,
 };
 use rwsp_text::number;
 

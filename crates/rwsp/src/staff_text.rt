@@ -47,7 +47,12 @@ fn put_weeks(out: &mut Vec<u8>, weeks: u32) -> Result<(), AllocError>
 }
 
 // Appends the failure of the log of a number of weeks.
-fn put_log(out: &mut Vec<u8>, problem: &Problem, weeks: u32, why: &LogRefusal) -> Result<(), AllocError>
+fn put_log(
+    out: &mut Vec<u8>,
+    problem: &Problem,
+    weeks: u32,
+    why: &LogRefusal,
+) -> Result<(), AllocError>
     requires { HasSymbols problem.now why.now }
     ensures { OnOk result (out.new.items ≡ out.old.items ++ at_weeks weeks (log_refusal_text problem.now why.now)) }
 {
@@ -64,7 +69,12 @@ fn put_roster(out: &mut Vec<u8>, weeks: u32, why: RosterRefusal) -> Result<(), A
 }
 
 // Appends the rule that a roster breaks.
-fn put_broken(out: &mut Vec<u8>, problem: &Problem, weeks: u32, broken: &Broken) -> Result<(), AllocError>
+fn put_broken(
+    out: &mut Vec<u8>,
+    problem: &Problem,
+    weeks: u32,
+    broken: &Broken,
+) -> Result<(), AllocError>
     requires { HasBroken problem.now broken.now }
     ensures { OnOk result (out.new.items ≡ out.old.items ++ at_weeks weeks (breaks_text problem.now broken.now)) }
 {

@@ -54,7 +54,10 @@ fn what_a_staff_text_decides(rt: HostRuntime) -> Result<(), Fail> {
     for (text, status, printed) in cases {
         let files = [("F", THREE_OF_SIX), ("T", text)];
         let words = ["check-staff", "F", "T"];
-        assert!(rt; ends(&rt, rt.alloc(), &words, &files, status, printed)?, "{text}");
+        assert!(rt;
+            ends(&rt, rt.alloc(), &words, &files, status, printed)?,
+            "{text}"
+        );
     }
     Ok(())
 }
@@ -65,10 +68,28 @@ fn what_a_search_writes_is_accepted(rt: HostRuntime) -> Result<(), Fail> {
     assert!(rt; least.contains("weeks 5 none\n") && least.contains("weeks 6 roster\n"));
     let files = [("F", TWO_OF_FOUR), ("T", least.as_str())];
     let words = ["check-staff", "F", "T"];
-    assert!(rt; ends(&rt, rt.alloc(), &words, &files, 0, "accepted: least 6 from 1\n")?);
+    assert!(rt;
+        ends(
+            &rt,
+            rt.alloc(),
+            &words,
+            &files,
+            0,
+            "accepted: least 6 from 1\n"
+        )?
+    );
     let none = printed(&rt, rt.alloc(), &["staff", "F", "2", "3"], THREE_OF_SIX, 1)?;
     let files = [("F", THREE_OF_SIX), ("T", none.as_str())];
-    assert!(rt; ends(&rt, rt.alloc(), &words, &files, 0, "accepted: none 2 to 3\n")?);
+    assert!(rt;
+        ends(
+            &rt,
+            rt.alloc(),
+            &words,
+            &files,
+            0,
+            "accepted: none 2 to 3\n"
+        )?
+    );
     Ok(())
 }
 
@@ -77,9 +98,19 @@ fn searches_that_decide_nothing(rt: HostRuntime) -> Result<(), Fail> {
     let words = ["staff", "F", "5", "5", "--budget", "1"];
     let open = printed(&rt, rt.alloc(), &words, THREE_OF_FIVE, 4)?;
     assert!(rt; open.starts_with("weeks 5 undecided\nrwsp-log 2\nrules 7\nturn D 1\nsplit "));
-    let days = "28\n1\n1\n0 0 0 0 0 0 0 0 0 0 0 0 0 0 0 0 0 0 0 0 0 0 0 0 0 0 0 0\nD 360 480 1 7\n1 7\n1 7\n0 0\n";
+    let days =
+        "28\n1\n1\n0 0 0 0 0 0 0 0 0 0 0 0 0 0 0 0 0 0 0 0 0 0 0 0 0 0 0 0\nD 360 480 1 7\n1 7\n1 7\n0 0\n";
     let files = [("F", days)];
     let words = ["staff", "F", "100", "151"];
-    assert!(rt; ends(&rt, rt.alloc(), &words, &files, 3, "staff range: weeks 151\n")?);
+    assert!(rt;
+        ends(
+            &rt,
+            rt.alloc(),
+            &words,
+            &files,
+            3,
+            "staff range: weeks 151\n"
+        )?
+    );
     Ok(())
 }
