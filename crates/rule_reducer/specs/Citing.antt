@@ -18,14 +18,15 @@ is_plain Unfinished = false
 
 -- one of the lines, a plain leaf or another line, cites the rule
 abbrev pub OneCites : Instance → Bool → List Line → Rule → Type 0
-OneCites P plain lines r = (k : ℕ) × (line : Line) × (slice_get lines k ≡ Some line) × (is_plain line ≡ plain) × Cites P line r
+OneCites P plain lines r =
+    (k : ℕ) × (line : Line) × (slice_get lines k ≡ Some line) × (is_plain line ≡ plain) × Cites P line r
 
 -- a plain leaf or the turn cites the rule, and no strip takes it out there
 abbrev pub CitesForGood : Instance → Log → Rule → Type 0
 CitesForGood P g r = TurnCites g.turn r ⊎ OneCites P true g.lines r
 
--- the first list names the rules that are cited for good; the second names each rule that another line cites, and maybe rules that
--- lines cited once
+-- the first list names the rules that are cited for good; the second names each rule that another line cites, and maybe
+-- rules that lines cited once
 pub record AreCited (P : Instance) (g : Log) (for_good in_lists : List ℕ) : Type 0 where
   pub lasting : (r : Rule) → Names P for_good r ↔ CitesForGood P g r
   pub listed : (r : Rule) → OneCites P false g.lines r → Names P in_lists r

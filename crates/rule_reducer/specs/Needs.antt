@@ -21,4 +21,5 @@ NamesWindowRule P g number = Contains g.named number × ((j : ℕ) → rule_of P
 
 -- nor does it pass without several of these together
 abbrev pub NeedsTogether : Instance → Log → Type 0
-NeedsTogether P g = (numbers : List ℕ) → numbers ≢ [] → All (NamesWindowRule P g) numbers → Passes P (strip_all P numbers g) → ⊥
+NeedsTogether P g =
+    (numbers : List ℕ) → numbers ≢ [] → All (NamesWindowRule P g) numbers → Passes P (strip_all P numbers g) → ⊥

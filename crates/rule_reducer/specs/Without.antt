@@ -9,4 +9,5 @@ use Rattle.refutation_terms.specs.Strip.{strip_line}
 -- each line of the log still holds where it stands with the rule of this number taken out
 abbrev pub HoldsWithout : Instance → ℕ → Log → Type 0
 HoldsWithout P number g =
-    (k : ℕ) (line : Line) → slice_get g.lines k ≡ Some line → Holds P (domains_at P g.turn g.lines k) (strip_line P number line)
+    (k : ℕ) (line : Line) → slice_get g.lines k ≡ Some line →
+    Holds P (domains_at P g.turn g.lines k) (strip_line P number line)

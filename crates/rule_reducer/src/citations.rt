@@ -35,7 +35,8 @@ fn is_plain(line: &Line) -> bool
 fn put_plain(rules: &mut RuleList, problem: &Problem, line: &Line) -> Result<(), AllocError>
     requires { LineFits problem.now line.now }
     ensures { OnOk result ((r : Rule) →
-        Names problem.now rules.new r ↔ (Names problem.now rules.old r ⊎ ((is_plain line.now ≡ true) × Cites problem.now line.now r))) }
+        Names problem.now rules.new r ↔
+        (Names problem.now rules.old r ⊎ ((is_plain line.now ≡ true) × Cites problem.now line.now r))) }
 {
     if is_plain(line) {
         return put_cited(rules, problem, line);
@@ -47,7 +48,8 @@ fn put_plain(rules: &mut RuleList, problem: &Problem, line: &Line) -> Result<(),
 fn put_listed(rules: &mut RuleList, problem: &Problem, line: &Line) -> Result<(), AllocError>
     requires { LineFits problem.now line.now }
     ensures { OnOk result ((r : Rule) →
-        Names problem.now rules.new r ↔ (Names problem.now rules.old r ⊎ ((is_plain line.now ≡ false) × Cites problem.now line.now r))) }
+        Names problem.now rules.new r ↔
+        (Names problem.now rules.old r ⊎ ((is_plain line.now ≡ false) × Cites problem.now line.now r))) }
 {
     if is_plain(line) {
         return Ok(());

@@ -12,7 +12,8 @@ use crate::shrinking_log::ShrinkingLog;
 use rwsp_model::{Problem, Rule, rule_at};
 use std::alloc::{AllocError, Global};
 
-/// The line that refused the last strip. The next one is tried there first: a line that can't do without one rule often needs others.
+/// The line that refused the last strip. The next one is tried there first: a line that can't do without one rule often
+/// needs others.
 #[derive(Debug, Drop)]
 pub struct LastRefusal {
     pub place: usize,
@@ -44,8 +45,8 @@ fn holds_without(
     Ok(true)
 }
 
-// Whether the log passes without the rule, which has this number. No line is judged for a rule that none lists, nor for one that is
-// cited for good.
+// Whether the log passes without the rule, which has this number. No line is judged for a rule that none lists, nor for
+// one that is cited for good.
 fn can_drop(
     alloc: Global,
     problem: &Problem,

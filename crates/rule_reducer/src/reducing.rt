@@ -38,12 +38,14 @@ fn descend_to_end(alloc: Global, problem: &Problem, log: &Log) -> Result<Log, Al
 /// wherever the log then still passes: a log that needs each rule that it names. A log that doesn't
 /// pass is refused, with the cause that checking its text gives.
 ///
-/// A strip leaves the domains at each line as they are. So a rule that no line cites is dropped, and one that a window or a day leaf
-/// or the turn cites is kept, without judging anything; for each other rule the dead and bound leaves that list it are judged
-/// without it, up to the first that doesn't hold. Beside the log there is memory for one copy of it.
+/// A strip leaves the domains at each line as they are. So a rule that no line cites is dropped, and one that a window or
+/// a day leaf or the turn cites is kept, without judging anything; for each other rule the dead and bound leaves that
+/// list it are judged without it, up to the first that doesn't hold. Beside the log there is memory for one copy of it.
 pub fn reduce(alloc: Global, problem: &Problem, log: &Log) -> Result<Log, Fail<LogRefusal>>
     requires { Fits problem.now log.now }
-    ensures reduced { MatchAnswer result (λ g. IsReduced problem.now log.now g) (IsRefused problem.now (log_text problem.now log.now)) }
+    ensures reduced { MatchAnswer result
+        (λ g. IsReduced problem.now log.now g)
+        (IsRefused problem.now (log_text problem.now log.now)) }
     ensures accepted { IfOk result (λ g. Passes problem.now log.now) }
     ensures passes { IfOk result (Passes problem.now) }
     ensures fits { IfOk result (Fits problem.now) }

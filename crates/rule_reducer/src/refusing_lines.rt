@@ -1,5 +1,5 @@
 // The lines of a log that refuse a strip: dead and bound leaves that don't hold without the rule.
-ghost use Rattle.std.specs.Prelude.{◌≡◌, ◌<◌, ◌≤◌, ℕ, List, length, take, slice_get, Option, Some, IsTrue, IfOk, MatchOption, MatchBool};
+ghost use Rattle.std.specs.Prelude.{◌≡◌, ◌≤◌, List, length, take, Option, Some, IsTrue, IfOk, MatchOption, MatchBool};
 ghost use Rattle.rwsp_terms.specs.Rules.{rule_of};
 ghost use Rattle.refutation_terms.specs.declared.lines.Line.{Line};
 ghost use Rattle.refutation_terms.specs.declared.lines.Turn.{Turn};
@@ -17,7 +17,8 @@ use rwsp_model::{Problem, Rule};
 use std::alloc::{AllocError, Global};
 use tree_walk::Walk;
 
-// Whether the line, which is next for the walk, doesn't hold without the rule. Only a line that lists the rule is judged.
+// Whether the line, which is next for the walk, doesn't hold without the rule. Only a line that lists the rule is
+// judged.
 fn refuses(
     alloc: Global,
     judge: &mut LeafJudge,
@@ -31,11 +32,13 @@ fn refuses(
     requires short { ListsShortOnly judge.old line.now }
     requires rule { rule_of judge.old number ≡ Some rule }
     ensures same { judge.new ≡ judge.old }
-    ensures refuses { IfOk result (λ yes. (turn : Option Turn) (lines : List Line) → IsStateOf judge.old turn lines walk.now →
-        Holds judge.old (domains_at judge.old turn lines (length lines)) line.now →
+    ensures refuses { IfOk result (λ yes. (turn : Option Turn) (lines : List Line) →
+        IsStateOf judge.old turn lines walk.now →
+        let D = domains_at judge.old turn lines (length lines) in
+        Holds judge.old D line.now →
         MatchBool yes
-            (Holds judge.old (domains_at judge.old turn lines (length lines)) (strip_line judge.old number line.now) → ⊥)
-            (Holds judge.old (domains_at judge.old turn lines (length lines)) (strip_line judge.old number line.now))) }
+            (Holds judge.old D (strip_line judge.old number line.now) → ⊥)
+            (Holds judge.old D (strip_line judge.old number line.now))) }
 {
     if lists(line, number, rule) {
         let stripped = strip_line(alloc, line, number, rule)?;
@@ -64,7 +67,8 @@ fn walk_to(
     Ok(walk)
 }
 
-/// Whether the line at the place refuses the strip of the rule. False where there is no such line, or where it doesn't list the rule.
+/// Whether the line at the place refuses the strip of the rule. False where there is no such line, or where it doesn't
+/// list the rule.
 pub fn refuses_at(
     alloc: Global,
     problem: &Problem,
@@ -90,8 +94,8 @@ pub fn refuses_at(
     Ok(refused)
 }
 
-/// The first line that refuses the strip of the rule; None exactly where each line holds without the rule. Lines that don't list
-/// the rule aren't judged.
+/// The first line that refuses the strip of the rule; None exactly where each line holds without the rule. Lines that
+/// don't list the rule aren't judged.
 pub fn refusing_line(
     alloc: Global,
     problem: &Problem,

@@ -13,8 +13,8 @@ use rwsp_model::{Rule, RuleList};
 use std::alloc::{AllocError, Global};
 use std::marker::Model;
 
-/// A copy of a log from which rules are taken out in place. A strip costs one pass over the lines, and memory for those lists alone
-/// that hold the rule.
+/// A copy of a log from which rules are taken out in place. A strip costs one pass over the lines, and memory for one
+/// line at a time.
 #[derive(Debug, Drop)]
 pub struct ShrinkingLog {
     named: RuleList,

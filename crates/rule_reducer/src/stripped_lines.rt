@@ -34,11 +34,12 @@ fn loses_weights(weights: &Weights, rule: Rule) -> bool
     }
 }
 
-/// Whether a strip of the rule, which has this number, can change the line: a dead or a bound leaf that lists the rule, or has weights
-/// on its day.
+/// Whether a strip of the rule, which has this number, can change the line: a dead or a bound leaf that lists the rule,
+/// or has weights on its day.
 pub fn lists(line: &Line, number: u32, rule: Rule) -> bool
     ensures leaf { IsTrue result → HasList line.now }
-    ensures same { (result ≡ false) → (P : Instance) → rule_of P number ≡ Some rule → strip_line P number line.now ≡ line.now }
+    ensures same { (result ≡ false) → (P : Instance) →
+        rule_of P number ≡ Some rule → strip_line P number line.now ≡ line.now }
 {
     match line {
         Line::Dead { rules, .. } => rules.holds(number),
@@ -54,7 +55,8 @@ pub fn lists(line: &Line, number: u32, rule: Rule) -> bool
 
 /// The line without the rule, which has this number.
 pub fn strip_line(alloc: Global, line: &Line, number: u32, rule: Rule) -> Result<Line, AllocError>
-    ensures { IfOk result (λ kept. (P : Instance) → rule_of P number ≡ Some rule → kept ≡ strip_line P number line.now) }
+    ensures { IfOk result (λ kept. (P : Instance) →
+        rule_of P number ≡ Some rule → kept ≡ strip_line P number line.now) }
 {
     match line {
         Line::Dead { p, len, rules } => {
@@ -103,7 +105,8 @@ pub fn strip_lines(
     number: u32,
     rule: Rule,
 ) -> Result<(), AllocError>
-    ensures { OnOk result ((P : Instance) → rule_of P number ≡ Some rule → lines.new ≡ map (strip_line P number) lines.old) }
+    ensures { OnOk result ((P : Instance) →
+        rule_of P number ≡ Some rule → lines.new ≡ map (strip_line P number) lines.old) }
 {
     for i in 0..lines.len() {
         strip_in_place(alloc, &mut lines[i], number, rule)?;

@@ -16,7 +16,8 @@ use std::alloc::{AllocError, Global};
 pub fn strip(alloc: Global, log: &Log, rule: Rule, problem: &Problem) -> Result<Log, AllocError>
     requires fits { Fits problem.now log.now }
     requires rule { IsRule problem.now rule }
-    ensures value { IfOk result (λ kept. (number : ℕ) → rule_of problem.now number ≡ Some rule → kept ≡ strip problem.now number log.now) }
+    ensures value { IfOk result (λ kept. (number : ℕ) →
+        rule_of problem.now number ≡ Some rule → kept ≡ strip problem.now number log.now) }
     ensures fits { IfOk result (Fits problem.now) }
 {
     let number = number_of(problem, rule);
