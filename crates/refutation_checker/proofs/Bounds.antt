@@ -1,16 +1,29 @@
 -- What the heaviest clean words say of a bound leaf.
-use Rattle.std.proofs.Common.{ℕ, ◌*◌, List, arith}
-use Rattle.std.specs.Prelude.{pos, ◌*ℤ◌, ◌<ℤ◌}
-use Rattle.std.proofs.lemmas.Int.{ints}
+use Rattle.std.proofs.Common.{◌≡◌, ℕ, ◌*◌, List, subst}
+use Rattle.std.specs.Prelude.{ℤ, pos, ◌*ℤ◌, ◌≤ℤ◌, ◌<ℤ◌, Some}
 use Rattle.rwsp_terms.specs.declared.data.Symbol.{Symbol}
 use Rattle.rwsp_terms.specs.declared.data.Weight.{Weight}
 use Rattle.rwsp_terms.specs.Instance.{Instance, cells}
+use Rattle.refutation_terms.specs.declared.lines.Line.TheVariants.{Bound}
 use Rattle.refutation_terms.specs.Word.{Domains, weight, total}
 use Rattle.refutation_terms.specs.Leaf.{IsTooLight}
-use Rattle.refutation_terms.specs.Escape.{IsLeastHeaviest}
+use Rattle.refutation_terms.specs.Verdict.{Escapes}
+use Rattle.potential_bounds.specs.Heaviest.{AreLighter, IsHeaviestFound}
+use Rattle.layered_cycle.specs.declared.best.HeavyWord.{HeavyWord}
 
--- no clean word weighs enough where a heaviest one doesn't
-pub too_light : (P : Instance) (D : Domains) (p turns : ℕ) (R : List ℕ) (y : List Weight) (u : List Symbol) → IsLeastHeaviest P D p (turns * cells P) R y u → weight P y p u <ℤ (pos turns *ℤ total P y) → IsTooLight P D p turns R y
-too_light P D p turns R y u heavy light v long over clean =
-    let less = heavy.heavy.heaviest v (record { long = long; over = over; clean = clean }) in
-    omega (arith, ints, less, light)
+-- what is asked of the words of a bound leaf
+abbrev IsAsked : Instance → ℕ → List Weight → ℤ → Type 0
+IsAsked P turns y least = least ≡ pos turns *ℤ total P y
+
+-- the leaf holds where all clean words weigh less
+pub too_light : (P : Instance) (D : Domains) (p turns : ℕ) (R : List ℕ) (y : List Weight) (least : ℤ) → IsAsked P turns y least
+    → AreLighter P D p (turns * cells P) R y least → IsTooLight P D p turns R y
+too_light P D p turns R y least is light v long over clean =
+    subst (λ (n : ℤ). weight P y p v <ℤ n) is (light v (record { long = long; over = over; clean = clean }))
+
+-- and a heaviest one that doesn't escapes it
+pub escapes : (P : Instance) (D : Domains) (p turns : ℕ) (R : List ℕ) (y : List Weight) (least : ℤ) (h : HeavyWord) → IsAsked P turns y least
+    → IsHeaviestFound P D p (turns * cells P) R y (Some h) → least ≤ℤ h.weight → Escapes P D (Bound p turns R y) h.word
+escapes P D p turns R y least h is found enough =
+    let weighs : least ≤ℤ weight P y p h.word = subst (λ (n : ℤ). least ≤ℤ n) found.1 enough in
+    (found.0, subst (λ (n : ℤ). n ≤ℤ weight P y p h.word) is weighs)

@@ -1,13 +1,14 @@
 // The word that escapes a bound leaf.
-ghost use Rattle.std.specs.Prelude.{◌≡◌, ◌*◌, ◌<◌, ◌≤◌, IsTrue, false, IfOk, MatchOption, pos, neg_ℤ, ◌*ℤ◌, ◌<ℤ◌, ◌≤ℤ◌};
+ghost use Rattle.std.specs.Prelude.{◌≡◌, ◌*◌, ◌<◌, ◌≤◌, IfOk, MatchOption, pos, neg_ℤ, ◌*ℤ◌, ◌≤ℤ◌};
 ghost use Rattle.rwsp_terms.specs.Instance.{cells};
+ghost use Rattle.rwsp_terms.specs.declared.limits.TheConstants.{GREATEST_WEIGHT, LONGEST_WORD, MOST_DAYS, MOST_SHIFTS, MOST_SYMBOLS, MOST_WEEKS};
 ghost use Rattle.refutation_terms.specs.declared.lines.Line.TheVariants.{Bound};
 ghost use Rattle.refutation_terms.specs.Leaf.{IsTooLight};
 ghost use Rattle.refutation_terms.specs.Verdict.{Escapes};
 ghost use Rattle.domain_store.specs.Store.{BelongsTo, has_domain};
 
 use domain_store::Domains;
-use potential_bounds::{heaviest, total};
+use potential_bounds::{heaviest_reaching, total};
 use rwsp_model::{Problem, Weights, Word};
 use std::alloc::{AllocError, Global};
 use word_tail::TailRules;
@@ -28,29 +29,25 @@ pub fn bound_escape(
     requires belongs { BelongsTo problem.now doms.now }
     requires position { p < cells problem.now }
     requires some { 1 ≤ turns }
-    requires few { turns * cells problem.now ≤ 16800 }
+    requires few { turns * cells problem.now ≤ LONGEST_WORD }
     ensures { IfOk result (λ found. MatchOption found
         (IsTooLight problem.now (has_domain doms.now) p turns tails.now.rules weights.now)
         (Escapes problem.now (has_domain doms.now) (Bound p turns tails.now.rules weights.now))) }
 {
     problem.keeps_limits();
-    let Some(heavy) = heaviest(alloc, problem, tails, doms, p, turns, weights)? else {
-        return Ok(None);
-    };
-    if reaches(heavy.weight, turns, total(problem, weights)) {
-        Ok(Some(heavy.word))
-    } else {
-        Ok(None)
+    let least = times(turns, total(problem, weights));
+    match heaviest_reaching(alloc, problem, tails, doms, p, turns, weights, least)? {
+        Some(heavy) => Ok(Some(heavy.word)),
+        None => Ok(None),
     }
 }
 
-// Whether the weight is at least so many times the total.
-fn reaches(weight: i64, turns: u32, total: i64) -> bool
-    requires few { turns ≤ 16800 }
-    requires above { neg_ℤ (pos 1209600000) ≤ℤ total }
-    requires below { total ≤ℤ pos 1209600000 }
-    ensures yes { IsTrue result → (pos turns *ℤ total) ≤ℤ weight }
-    ensures no { (result ≡ false) → weight <ℤ (pos turns *ℤ total) }
+// So many times the total.
+fn times(turns: u32, total: i64) -> i64
+    requires few { turns ≤ LONGEST_WORD }
+    requires above { neg_ℤ (pos (GREATEST_WEIGHT * MOST_SHIFTS * MOST_WEEKS * MOST_SYMBOLS * MOST_DAYS)) ≤ℤ total }
+    requires below { total ≤ℤ pos (GREATEST_WEIGHT * MOST_SHIFTS * MOST_WEEKS * MOST_SYMBOLS * MOST_DAYS) }
+    ensures { result ≡ pos turns *ℤ total }
 {
-    i64::from(turns) * total <= weight
+    i64::from(turns) * total
 }
