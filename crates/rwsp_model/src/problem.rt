@@ -1,6 +1,7 @@
 ghost use Rattle.std.specs.Prelude.{◌≡◌, ◌+◌, ◌-◌, ◌*◌, ◌<◌, ◌≤◌, ◌≤ℤ◌, pos, negsuc, length, Option, Some, None, MatchResult, IfOk, IfSome, slice_get, position};
 ghost use Rattle.std.specs.Option.{option_map};
 ghost use Rattle.std.specs.Str.{bytes_eq};
+ghost use Rattle.rwsp_terms.specs.declared.limits.TheConstants.{MOST_WEEKS, MOST_CELLS};
 ghost use Rattle.rwsp_terms.specs.Instance.{bounds, shift_count, cells, symbol_of, name_of, name_among, least, greatest, IsClass, IsSymbol, IsShift, IsDay};
 ghost use Rattle.rwsp_model.specs.Parts.{instance_of};
 ghost use Rattle.rwsp_model.specs.Validity.{refusal_of, KeepsLimits};
@@ -62,6 +63,19 @@ impl Problem {
         Ok(Problem {
             parts: copy_of(&self.parts)?,
         })
+    }
+
+    /// The same problem with so many weeks in place of its own.
+    pub fn with_weeks(&self, weeks: u32) -> Result<Problem, AllocError>
+        requires some { 1 ≤ weeks }
+        requires few { weeks ≤ MOST_WEEKS }
+        requires few_cells { weeks * self.now.days ≤ MOST_CELLS }
+        ensures { IfOk result (λ P. P ≡ record self.now { weeks = weeks }) }
+    {
+        self.keeps_limits();
+        let mut parts = copy_of(&self.parts)?;
+        parts.weeks = weeks;
+        Ok(Problem { parts })
     }
 
     /// That the problem keeps its limits.

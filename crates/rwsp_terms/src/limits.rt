@@ -55,3 +55,12 @@ pub const USUAL_WORKERS: u32 = 4;
 
 /// The most workers of a check.
 pub const MOST_WORKERS: u32 = 64;
+
+/// The most numbers of weeks that one run of a search for the least crew tries.
+pub const MOST_SIZES: u32 = 64;
+
+/// The lines of the log of each number of weeks in such a run where no budget is given.
+pub const USUAL_STAFF_BUDGET: u32 = 2_000;
+
+/// The greatest budget of such a run, in lines of the log of each number of weeks.
+pub const GREATEST_STAFF_BUDGET: u32 = 10_000;
