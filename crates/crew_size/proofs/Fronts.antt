@@ -1,11 +1,11 @@
 -- Behind one section more.
-use Rattle.std.proofs.Common.{◌≡◌, ◌≢◌, ℕ, zero, suc, ◌+◌, ◌^◌, ◌<◌, ◌≤◌, List, [], ◌∷◌, ◌++◌, length, Bool, true, false, cond, Option, Some, None, refl, ap, sym, ◌∙◌, subst, arith, inl, inr, ⊎_elim, length-append}
+use Rattle.std.proofs.Common.{◌≡◌, ◌≢◌, ℕ, zero, suc, ◌+◌, ◌^◌, ◌<◌, ◌≤◌, List, [], ◌∷◌, ◌++◌, length, take, get_or, Bool, true, false, cond, Option, Some, None, refl, ap, sym, ◌∙◌, subst, arith, inl, inr, ⊎_elim, length-append}
 use Rattle.std.specs.Prelude.{◌⊎◌, slice_get, count_by, ◌==◌, codes}
 use Rattle.std.specs.List.{list_all}
 use Rattle.std.specs.Char.{is_ascii_digit}
 use Rattle.std.specs.Fmt.{decimal}
 use Rattle.std.proofs.lemmas.Bool.{and_parts, leb-true, ne_eqb}
-use Rattle.std.proofs.lemmas.List.{append-nil, append_assoc}
+use Rattle.std.proofs.lemmas.List.{append-nil, append_assoc, take_more, length-take-le}
 use Rattle.std.proofs.lemmas.List.Sums.{sum_by-append}
 use Rattle.rwsp_text.proofs.Printed.{digits_printed}
 use Rattle.rwsp_terms.specs.Instance.{Instance}
@@ -143,3 +143,12 @@ is_last low (g ∷ logs) sizes last e h = subst (λ (s : Option (ℕ × ℕ)). I
 pub size_behind : (P : Instance) (low : ℕ) (logs : List Log) (m : ℕ) → IsNextSize P low logs m → IsSize P m
 size_behind P low [] m h = h
 size_behind P low (g ∷ logs) m h = h.0
+
+-- the sections of the first logs and of one more
+pub sections_more : (P : Instance) (low : ℕ) (logs : List Log) (i weeks : ℕ) (g : Log) (out new : List ℕ) → i < length logs → get_or logs i g ≡ g → weeks ≡ low + i → out ≡ sections_text P low (take i logs) → new ≡ out ++ section_text P weeks g → new ≡ sections_text P low (take (i + 1) logs)
+sections_more P low logs i weeks g out new less same size e f =
+    let long : length (take i logs) ≡ i = length-take-le i logs (omega (arith, less)) in
+    let here : weeks ≡ low + length (take i logs) = omega (arith, size, long) in
+    let more : take i logs ++ g ∷ [] ≡ take (i + 1) logs = ap (λ (x : Log). take i logs ++ x ∷ []) (sym same) ∙ sym (take_more logs i g less) in
+    f ∙ ap (λ o. o ++ section_text P weeks g) e ∙ ap (λ k. sections_text P low (take i logs) ++ section_text P k g) here
+    ∙ sym (sections_push P low (take i logs) g) ∙ ap (sections_text P low) more

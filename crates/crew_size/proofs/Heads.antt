@@ -1,5 +1,5 @@
 -- What stands at a heading's place has one verdict at most.
-use Rattle.std.proofs.Common.{◌≡◌, ◌≢◌, ℕ, zero, suc, ◌+◌, ◌^◌, ◌<◌, ◌≤◌, List, [], ◌∷◌, ◌++◌, length, Bool, true, false, not, ◌==◌, Option, Some, None, refl, ap, sym, ◌∙◌, subst, arith, inl, inr, length-append}
+use Rattle.std.proofs.Common.{◌≡◌, ◌≢◌, ℕ, zero, suc, ◌+◌, ◌^◌, ◌<◌, ◌≤◌, List, [], ◌∷◌, ◌++◌, length, get_or, Bool, true, false, not, ◌==◌, Option, Some, None, refl, ap, sym, ◌∙◌, subst, arith, inl, inr, length-append}
 use Rattle.std.specs.Prelude.{◌⊎◌, codes, All, Result, Ok, Err, MatchOption}
 use Rattle.std.specs.List.{list_all}
 use Rattle.std.specs.Char.{is_ascii_digit}
@@ -200,6 +200,23 @@ refuted_or_found m k t u a b e =
     let once = numbers_once m k 32 32 (codes "none" ++ 10 ∷ t) (codes "roster" ++ 10 ∷ u) a b refl refl (same_word (codes "weeks ") m k (codes " none") (codes " roster") t u e) in
     let other = once.1 in cc
 
+pub headings_once : (h k : Heading) (t u : List ℕ) → IsWritten h → IsWritten k → heading_line h ++ t ≡ heading_line k ++ u → h ≡ k
+headings_once (Refuted m) (Refuted k) t u w v e = ap (λ (n : ℕ). Refuted n) (refuted_once m k t u w.1 v.1 e).0
+headings_once (Refuted m) (Found k) t u w v e = absurd (refuted_or_found m k t u w.1 v.1 e)
+headings_once (Refuted m) (NoneTo k) t u w v e = let z : 119 ≡ 110 = ap (λ l. get_or l 0 0) e in absurd (omega (arith, z))
+headings_once (Found m) (Refuted k) t u w v e = absurd (refuted_or_found k m u t v.1 w.1 (sym e))
+headings_once (Found m) (Found k) t u w v e = ap (λ (n : ℕ). Found n) (found_once m k t u w.1 v.1 e).0
+headings_once (Found m) (NoneTo k) t u w v e = let z : 119 ≡ 110 = ap (λ l. get_or l 0 0) e in absurd (omega (arith, z))
+headings_once (NoneTo m) (Refuted k) t u w v e = let z : 110 ≡ 119 = ap (λ l. get_or l 0 0) e in absurd (omega (arith, z))
+headings_once (NoneTo m) (Found k) t u w v e = let z : 110 ≡ 119 = ap (λ l. get_or l 0 0) e in absurd (omega (arith, z))
+headings_once (NoneTo m) (NoneTo k) t u w v e = ap (λ (n : ℕ). NoneTo n) (none_once m k t u w.1 v.1 e).0
+
+-- a line that is one heading, which may not stand there, is no other that may
+pub no_other : (P : Instance) (sizes : Option (ℕ × ℕ)) (line : List ℕ) (h : Heading) → IsWritten h → line ≡ heading_line h → (MayStand P sizes h → ⊥) → (k : Heading) → IsWritten k → MayStand P sizes k → line ≢ heading_line k
+no_other P sizes line h w e no k v may f =
+    let same : h ≡ k = headings_once h k [] [] w v (ap (λ l. l ++ []) (sym e ∙ f)) in
+    no (subst (MayStand P sizes) (sym same) may)
+
 -- one outcome for each heading
 
 err_once : (a b : LogRefusal) (x y : Result Log LogRefusal) → x ≡ Err a → y ≡ Err b → x ≡ y → a ≡ b
@@ -280,15 +297,15 @@ heading_once P sizes n (Refuted m) (Refuted k) t u o p limits w v e a b =
     let other : OfLog P m t p = subst (λ (l : ℕ). OfLog P l t p) (sym once.0) (subst (λ (l : List ℕ). OfLog P k l p) (sym once.1) b.1) in
     log_once P m t o p (sized_keeps P m limits (size_of_next P sizes m a.0)) a.1 other
 heading_once P sizes n (Refuted m) (Found k) t u o p limits w v e a b = absurd (refuted_or_found m k t u w.1 v.1 e)
-heading_once P sizes n (Refuted m) (NoneTo k) t u o p limits w v e a b = absurd (cc)
+heading_once P sizes n (Refuted m) (NoneTo k) t u o p limits w v e a b = let z : 119 ≡ 110 = ap (λ l. get_or l 0 0) e in absurd (omega (arith, z))
 heading_once P sizes n (Found m) (Refuted k) t u o p limits w v e a b = absurd (refuted_or_found k m u t v.1 w.1 (sym e))
 heading_once P sizes n (Found m) (Found k) t u o p limits w v e a b =
     let once = found_once m k t u w.1 v.1 e in
     let other : OfRoster P (first_size sizes m) m n t p = subst (λ (l : ℕ). OfRoster P (first_size sizes l) l n t p) (sym once.0) (subst (λ (l : List ℕ). OfRoster P (first_size sizes k) k n l p) (sym once.1) b.1) in
     roster_once P (first_size sizes m) m n t o p a.1 other
-heading_once P sizes n (Found m) (NoneTo k) t u o p limits w v e a b = absurd (cc)
-heading_once P sizes n (NoneTo m) (Refuted k) t u o p limits w v e a b = absurd (cc)
-heading_once P sizes n (NoneTo m) (Found k) t u o p limits w v e a b = absurd (cc)
+heading_once P sizes n (Found m) (NoneTo k) t u o p limits w v e a b = let z : 119 ≡ 110 = ap (λ l. get_or l 0 0) e in absurd (omega (arith, z))
+heading_once P sizes n (NoneTo m) (Refuted k) t u o p limits w v e a b = let z : 110 ≡ 119 = ap (λ l. get_or l 0 0) e in absurd (omega (arith, z))
+heading_once P sizes n (NoneTo m) (Found k) t u o p limits w v e a b = let z : 110 ≡ 119 = ap (λ l. get_or l 0 0) e in absurd (omega (arith, z))
 heading_once P sizes n (NoneTo m) (NoneTo k) t u o p limits w v e a b =
     let once = none_once m k t u w.1 v.1 e in
     let other : OfEnd (first_size sizes m) m n t p = subst (λ (l : ℕ). OfEnd (first_size sizes l) l n t p) (sym once.0) (subst (λ (l : List ℕ). OfEnd (first_size sizes k) k n l p) (sym once.1) b) in

@@ -134,9 +134,13 @@ plain_line w ws other none = record {
   other = other_line w ws other;
 }
 
+version_other : IsOther (codes "rwsp-log")
+version_other t (inl a) = let h : 114 ≡ 119 = ap (λ v. get_or v 0 0) a.1 in omega (arith, h)
+version_other t (inr a) = let h : 114 ≡ 110 = ap (λ v. get_or v 0 0) a.1 in omega (arith, h)
+
 version_plain : (v : Bool) → IsPlainLine (version_text v)
-version_plain false = plain_line (codes "rwsp-log") (codes "1" ∷ []) (λ t h. ⊎_elim (λ (a : (more : List ℕ) × (codes "rwsp-log" ++ t ≡ codes "weeks " ++ more)). let e = a.1 in cc) (λ (a : (more : List ℕ) × (codes "rwsp-log" ++ t ≡ codes "none " ++ more)). let e = a.1 in cc) h) (word_feedless (codes "rwsp-log 1") refl)
-version_plain true = plain_line (codes "rwsp-log") (codes "2" ∷ []) (λ t h. ⊎_elim (λ (a : (more : List ℕ) × (codes "rwsp-log" ++ t ≡ codes "weeks " ++ more)). let e = a.1 in cc) (λ (a : (more : List ℕ) × (codes "rwsp-log" ++ t ≡ codes "none " ++ more)). let e = a.1 in cc) h) (word_feedless (codes "rwsp-log 2") refl)
+version_plain false = plain_line (codes "rwsp-log") (codes "1" ∷ []) version_other (word_feedless (codes "rwsp-log 1") refl)
+version_plain true = plain_line (codes "rwsp-log") (codes "2" ∷ []) version_other (word_feedless (codes "rwsp-log 2") refl)
 
 number_feedless : (n : ℕ) → n < 2 ^ 64 → HasNone (decimal n)
 number_feedless n small = digits_feedless (decimal n) (digits_decimal ascii_digits_model n small)
@@ -148,12 +152,12 @@ numbers_feedless high (k ∷ R) small h =
     (number_feedless k (omega (arith, here.1, small)), numbers_feedless high R small (All-tail (λ k. (0 < k) × (k ≤ high)) k R h))
 
 rules_other : IsOther (codes "rules")
-rules_other t (inl a) = let e = a.1 in cc
-rules_other t (inr a) = let e = a.1 in cc
+rules_other t (inl a) = let h : 114 ≡ 119 = ap (λ v. get_or v 0 0) a.1 in omega (arith, h)
+rules_other t (inr a) = let h : 114 ≡ 110 = ap (λ v. get_or v 0 0) a.1 in omega (arith, h)
 
 turn_other : IsOther (codes "turn")
-turn_other t (inl a) = let e = a.1 in cc
-turn_other t (inr a) = let e = a.1 in cc
+turn_other t (inl a) = let h : 116 ≡ 119 = ap (λ v. get_or v 0 0) a.1 in omega (arith, h)
+turn_other t (inr a) = let h : 116 ≡ 110 = ap (λ v. get_or v 0 0) a.1 in omega (arith, h)
 
 rules_plain : (P : Instance) (R : List ℕ) → KeepsLimits P → All (λ k. (0 < k) × (k ≤ length (rules P))) R → IsPlainLine (rules_text R)
 rules_plain P R limits are =
@@ -169,28 +173,28 @@ turn_plain P t limits fits =
     (join_feedless (codes "turn") (name_of P t.x ∷ decimal t.day ∷ []) (word_feedless (codes "turn") refl) (name, (number_feedless t.day small, tt)))
 
 split_other : IsOther (codes "split")
-split_other t (inl a) = let e = a.1 in cc
-split_other t (inr a) = let e = a.1 in cc
+split_other t (inl a) = let h : 115 ≡ 119 = ap (λ v. get_or v 0 0) a.1 in omega (arith, h)
+split_other t (inr a) = let h : 115 ≡ 110 = ap (λ v. get_or v 0 0) a.1 in omega (arith, h)
 
 window_other : IsOther (codes "window")
-window_other t (inl a) = let e = a.1 in cc
-window_other t (inr a) = let e = a.1 in cc
+window_other t (inl a) = let h : 105 ≡ 101 = ap (λ v. get_or v 1 0) a.1 in omega (arith, h)
+window_other t (inr a) = let h : 119 ≡ 110 = ap (λ v. get_or v 0 0) a.1 in omega (arith, h)
 
 day_other : IsOther (codes "day")
-day_other t (inl a) = let e = a.1 in cc
-day_other t (inr a) = let e = a.1 in cc
+day_other t (inl a) = let h : 100 ≡ 119 = ap (λ v. get_or v 0 0) a.1 in omega (arith, h)
+day_other t (inr a) = let h : 100 ≡ 110 = ap (λ v. get_or v 0 0) a.1 in omega (arith, h)
 
 dead_other : IsOther (codes "dead")
-dead_other t (inl a) = let e = a.1 in cc
-dead_other t (inr a) = let e = a.1 in cc
+dead_other t (inl a) = let h : 100 ≡ 119 = ap (λ v. get_or v 0 0) a.1 in omega (arith, h)
+dead_other t (inr a) = let h : 100 ≡ 110 = ap (λ v. get_or v 0 0) a.1 in omega (arith, h)
 
 bound_other : IsOther (codes "bound")
-bound_other t (inl a) = let e = a.1 in cc
-bound_other t (inr a) = let e = a.1 in cc
+bound_other t (inl a) = let h : 98 ≡ 119 = ap (λ v. get_or v 0 0) a.1 in omega (arith, h)
+bound_other t (inr a) = let h : 98 ≡ 110 = ap (λ v. get_or v 0 0) a.1 in omega (arith, h)
 
 open_other : IsOther (codes "open")
-open_other t (inl a) = let e = a.1 in cc
-open_other t (inr a) = let e = a.1 in cc
+open_other t (inl a) = let h : 111 ≡ 119 = ap (λ v. get_or v 0 0) a.1 in omega (arith, h)
+open_other t (inr a) = let h : 111 ≡ 110 = ap (λ v. get_or v 0 0) a.1 in omega (arith, h)
 
 abbrev tail_of : List (List ℕ) → List (List ℕ)
 tail_of [] = []

@@ -3,44 +3,37 @@ ghost use Rattle.crew_size.specs.Laws.{AcceptedTextsDecide, SearchesDecide, Sear
 
 /// An accepted text that ends in a roster means that so many weeks have a roster, and that no smaller number from the
 /// first on has one; one that ends without means that none of its numbers has one.
-#[tactic(auto, using(crate::proofs::Decided::accepted_decide))]
 pub fn accepted_texts_decide()
     ensures { AcceptedTextsDecide }
 {}
 
 /// What a search gives with a roster, or with refutations alone, means the same.
-#[tactic(auto, using(crate::proofs::Decided::searches_decide))]
 pub fn searches_decide()
     ensures { SearchesDecide }
 {}
 
 /// Two searches of the same numbers of weeks that decide say the same, whatever their budgets.
-#[tactic(auto, using(crate::proofs::Decided::searches_agree))]
 pub fn searches_agree()
     ensures { SearchesAgree }
 {}
 
 /// A search decides where the budget is enough for all assignments.
-#[tactic(auto, using(crate::proofs::Decided::enough_budget))]
 pub fn enough_budget_decides()
     ensures { EnoughBudgetDecides }
 {}
 
 /// What is printed of a search that decides is accepted.
-#[tactic(auto, using(crate::proofs::Decided::printed_accepted))]
 pub fn printed_runs_are_accepted()
     ensures { PrintedRunsAreAccepted }
 {}
 
 /// A staff text has one verdict at most, for each valid problem. So what is printed of a search that decides has no other
 /// verdict.
-#[tactic(auto, using(crate::proofs::OneVerdict::one_verdict))]
 pub fn staff_texts_have_one_verdict()
     ensures { StaffTextsHaveOneVerdict }
 {}
 
 /// No line of a log that fits begins as a heading does, so a section is cut off where its log ends.
-#[tactic(auto, using(crate::proofs::LogCuts::logs_are_cut_whole))]
 pub fn logs_are_cut_whole()
     ensures { LogsAreCutWhole }
 {}
