@@ -29,12 +29,12 @@ cut_at_end bytes n e before = record {
 pub cut_once : (a b r q : List ℕ) → AreUpToHeading a r → AreUpToHeading b q → a ++ r ≡ b ++ q → (a ≡ b) × (r ≡ q)
 cut_once a b r q h k e =
     let no : length a ≡ length b =
-        ⊎_elim (λ (l : length a < length b). absurd (shorter a b r q h k e l))
-        (λ (l : length b ≤ length a).
-            ⊎_elim (λ (m : length b < length a). absurd (shorter b a q r k h (sym e) m))
-            (λ (m : length a ≤ length b). omega (arith, l, m))
-            (cases_lt (length b) (length a)))
-        (cases_lt (length a) (length b)) in
+    ⊎_elim (λ (l : length a < length b). absurd (shorter a b r q h k e l))
+    (λ (l : length b ≤ length a).
+    ⊎_elim (λ (m : length b < length a). absurd (shorter b a q r k h (sym e) m))
+    (λ (m : length a ≤ length b). omega (arith, l, m))
+    (cases_lt (length b) (length a)))
+    (cases_lt (length a) (length b)) in
     let front : a ≡ b = sym (take-append_seam a r) ∙ ap (take (length a)) e ∙ ap (λ n. take n (b ++ q)) no ∙ take-append_seam b q in
     (front, append_cancel_left a r q (e ∙ ap (λ t. t ++ q) (sym front)))
   where
@@ -42,11 +42,11 @@ cut_once a b r q h k e =
     shorter a b r q h k e l =
         ⊎_elim
         (λ (none : r ≡ []).
-            let long : length (a ++ r) ≡ length (b ++ q) = ap length e in
-            let left = length-append a r in
-            let right = length-append b q in
-            let empty : length r ≡ 0 = ap length none in
-            omega (arith, long, left, right, empty, l))
+        let long : length (a ++ r) ≡ length (b ++ q) = ap length e in
+        let left = length-append a r in
+        let right = length-append b q in
+        let empty : length r ≡ 0 = ap length none in
+        omega (arith, long, left, right, empty, l))
         (λ (here : HasHeadingAt (a ++ r) (length a)). k.alone (length a) l (subst (λ t. HasHeadingAt t (length a)) e here))
         h.cut
 

@@ -96,10 +96,10 @@ sizes_agree P low high a m b n h k less =
 within_agree : (P : Instance) (low high : ℕ) (a b : Staffed) → IsDecidedWithin P low high a → IsDecidedWithin P low high b → a ≡ b
 within_agree P low high (Least a m) (Least b n) h k =
     let same : m ≡ n =
-        ⊎_elim (λ (l : m < n). absurd (sizes_agree P low high a m b n h k l))
-        (λ (l : n ≤ m).
-            ⊎_elim (λ (r : n < m). absurd (sizes_agree P low high b n a m k h r)) (λ (r : m ≤ n). omega (arith, l, r)) (cases_lt n m))
-        (cases_lt m n) in
+    ⊎_elim (λ (l : m < n). absurd (sizes_agree P low high a m b n h k l))
+    (λ (l : n ≤ m).
+    ⊎_elim (λ (r : n < m). absurd (sizes_agree P low high b n a m k h r)) (λ (r : m ≤ n). omega (arith, l, r)) (cases_lt n m))
+    (cases_lt m n) in
     ap (λ (x : ℕ). Least x m) (h.0 ∙ sym k.0) ∙ ap (λ (x : ℕ). Least b x) same
 within_agree P low high (Least a m) (NoneTo b last) h k =
     let le : b ≤ m = omega (arith, h.0, k.0, h.2.0) in

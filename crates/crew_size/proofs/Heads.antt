@@ -53,8 +53,8 @@ pub record OfLog (P : Instance) (m : ℕ) (bytes : List ℕ) (o : Outcome) : Typ
   pub whole : bytes ≡ log ++ rest
   pub cut : AreUpToHeading log rest
   pub said :
-    ((why : LogRefusal) × IsRefused (with_weeks P m) log why × (o ≡ refused (Refusals.Log m why)))
-    ⊎ ((g : Log) × IsAccepted (with_weeks P m) log g × (o ≡ None))
+      ((why : LogRefusal) × IsRefused (with_weeks P m) log why × (o ≡ refused (Refusals.Log m why)))
+      ⊎ ((g : Log) × IsAccepted (with_weeks P m) log g × (o ≡ None))
 
 -- the bytes of a roster that aren't too long
 abbrev pub OfShort : Instance → (first m : ℕ) → List ℕ → Outcome → Type 0
@@ -213,9 +213,9 @@ headings_once (NoneTo m) (NoneTo k) t u w v e = ap (λ (n : ℕ). NoneTo n) (non
 
 -- a line that is one heading, which may not stand there, is no other that may
 pub no_other : (P : Instance) (sizes : Option (ℕ × ℕ)) (line : List ℕ) (h : Heading) → IsWritten h → line ≡ heading_line h → (MayStand P sizes h → ⊥) → (k : Heading) → IsWritten k → MayStand P sizes k → line ≢ heading_line k
-no_other P sizes line h w e no k v may f =
+no_other P sizes line h w e never k v may f =
     let same : h ≡ k = headings_once h k [] [] w v (ap (λ l. l ++ []) (sym e ∙ f)) in
-    no (subst (MayStand P sizes) (sym same) may)
+    never (subst (MayStand P sizes) (sym same) may)
 
 -- one outcome for each heading
 
@@ -249,7 +249,7 @@ log_once P m bytes o p limits h k =
 spells_none : (P : Instance) (bytes : List ℕ) (why : RosterRefusal) (s : List Symbol) → refusal_of_roster P bytes ≡ Some why → SpellsRoster P bytes s → ⊥
 spells_none P bytes why s e spelled =
     let none : (t : List Symbol) → SpellsRoster P bytes t → ⊥ =
-        subst (λ (o : Option RosterRefusal). MatchOption o ((t : List Symbol) × SpellsRoster P bytes t) (λ why. (t : List Symbol) → SpellsRoster P bytes t → ⊥)) e (refusals_decide P bytes) in
+    subst (λ (o : Option RosterRefusal). MatchOption o ((t : List Symbol) × SpellsRoster P bytes t) (λ why. (t : List Symbol) → SpellsRoster P bytes t → ⊥)) e (refusals_decide P bytes) in
     none s spelled
 
 short_once : (P : Instance) (first m : ℕ) (bytes : List ℕ) (o p : Outcome) → OfShort P first m bytes o → OfShort P first m bytes p → o ≡ p

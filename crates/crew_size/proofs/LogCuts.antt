@@ -59,7 +59,7 @@ none_within line more (suc i) plain less h =
     let within : suc i < length (plain.body ++ (10 ∷ more)) = omega (arith, inside, length-append plain.body (10 ∷ more)) in
     let same : suc i - 1 ≡ i = omega arith in
     let other : get_or (plain.body ++ (10 ∷ more)) (suc i - 1) 0 ≡ 10 → ⊥ = λ e.
-        plain.feedless i 0 inside (sym (get_or_append_left plain.body (10 ∷ more) 0 i inside) ∙ ap (λ k. get_or (plain.body ++ (10 ∷ more)) k 0) (sym same) ∙ e) in
+    plain.feedless i 0 inside (sym (get_or_append_left plain.body (10 ∷ more) 0 i inside) ∙ ap (λ k. get_or (plain.body ++ (10 ∷ more)) k 0) (sym same) ∙ e) in
     line_goes_on (plain.body ++ (10 ∷ more)) (suc i) within (λ e. omega (arith, e)) other (subst (λ t. AreWholeLines (take (suc i) t)) whole h.0)
 
 behind_line : (line more : List ℕ) (j : ℕ) → HasHeadingAt (line ++ more) (length line + j) → HasHeadingAt more j
@@ -79,10 +79,10 @@ none_in_lines (line ∷ lines) rest i are less h =
     ⊎_elim
     (λ (l : i < length line). none_within line (concat lines ++ rest) i are.0 l here)
     (λ (l : length line ≤ i).
-        let j : ℕ = i - length line in
-        let place : i ≡ length line + j = omega (arith, l) in
-        let fewer : j < length (concat lines) = omega (arith, less, l, length-append line (concat lines)) in
-        none_in_lines lines rest j are.1 fewer (behind_line line (concat lines ++ rest) j (subst (HasHeadingAt (line ++ (concat lines ++ rest))) place here)))
+    let j : ℕ = i - length line in
+    let place : i ≡ length line + j = omega (arith, l) in
+    let fewer : j < length (concat lines) = omega (arith, less, l, length-append line (concat lines)) in
+    none_in_lines lines rest j are.1 fewer (behind_line line (concat lines ++ rest) j (subst (HasHeadingAt (line ++ (concat lines ++ rest))) place here)))
     (cases_lt i (length line))
 
 whole_lines : (lines : List (List ℕ)) → AreLines lines → AreWholeLines (concat lines)
@@ -123,7 +123,7 @@ other_line : (w : List ℕ) (ws : List (List ℕ)) → IsOther w → IsOther (jo
 other_line w ws other t h =
     let j = join_begins w ws in
     let same : (join_with_byte 32 (w ∷ ws) ++ 10 ∷ []) ++ t ≡ w ++ (j.0 ++ 10 ∷ t) =
-        ap (λ z. (z ++ 10 ∷ []) ++ t) j.1 ∙ append_assoc (w ++ j.0) (10 ∷ []) t ∙ append_assoc w j.0 (10 ∷ t) in
+    ap (λ z. (z ++ 10 ∷ []) ++ t) j.1 ∙ append_assoc (w ++ j.0) (10 ∷ []) t ∙ append_assoc w j.0 (10 ∷ t) in
     other (j.0 ++ 10 ∷ t) (subst BeginsAsHeading same h)
 
 plain_line : (w : List ℕ) (ws : List (List ℕ)) → IsOther w → HasNone (join_with_byte 32 (w ∷ ws)) → IsPlainLine (join_with_byte 32 (w ∷ ws) ++ 10 ∷ [])

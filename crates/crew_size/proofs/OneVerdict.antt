@@ -74,7 +74,11 @@ accepted_said P text (Sizes.Least low m) h =
       rest = roster_line m ++ h.bytes;
       stands = h.ends.stands;
       said = inr (inr (
-        Found m, h.bytes, refl, written_next P low h.logs m h.ends.next, next,
+        Found m,
+        h.bytes,
+        refl,
+        written_next P low h.logs m h.ends.next,
+        next,
         (next, inr (h.ends.short, inr (inr (h.right.0, h.right.1, h.right.2, ap (λ (n : ℕ). Some (Ok (Sizes.Least n m))) (first_of_least P low m h.logs h.size))))),
       ));
     }
@@ -84,7 +88,11 @@ accepted_said P text (Sizes.NoneTo low last) h = record {
   rest = none_line last;
   stands = h.stands;
   said = inr (inr (
-    NoneTo last, [], sym (append-nil (none_line last)), last_is_written P low h.logs last h.stands.passing h.last_size, is_last low h.logs (sizes_of low h.logs) last (are_sizes low h.logs) h.last_size,
+    NoneTo last,
+    [],
+    sym (append-nil (none_line last)),
+    last_is_written P low h.logs last h.stands.passing h.last_size,
+    is_last low h.logs (sizes_of low h.logs) last (are_sizes low h.logs) h.last_size,
     inl (refl, ap (λ (n : ℕ). Some (Ok (Sizes.NoneTo n last))) (first_of_none low last h.logs h.last_size)),
   ));
 }
@@ -96,7 +104,11 @@ refused_said P text (Refusals.Form n) (inl h) = record {
   rest = h.line ++ h.rest;
   stands = h.stands;
   said = inr (inl (
-    h.line, h.rest, refl, h.is_line, λ k w may e. h.no_heading (stands_as P h.low h.logs k h.line may e),
+    h.line,
+    h.rest,
+    refl,
+    h.is_line,
+    λ k w may e. h.no_heading (stands_as P h.low h.logs k h.line may e),
     ap (λ (i : ℕ). refused (Refusals.Form i)) h.number,
   ));
 }
@@ -111,7 +123,11 @@ refused_said P text (Refusals.Form n) (inr (inl h)) =
       rest = none_line h.last ++ h.rest;
       stands = h.stands;
       said = inr (inr (
-        NoneTo h.last, h.rest, refl, written, is_last h.low h.logs (sizes_of h.low h.logs) h.last (are_sizes h.low h.logs) h.last_size,
+        NoneTo h.last,
+        h.rest,
+        refl,
+        written,
+        is_last h.low h.logs (sizes_of h.low h.logs) h.last (are_sizes h.low h.logs) h.last_size,
         inr (h.more, ap (λ (i : ℕ). refused (Refusals.Form i)) number),
       ));
     }
@@ -123,7 +139,11 @@ refused_said P text (Refusals.Form n) (inr (inr h)) =
       rest = roster_line h.m ++ h.bytes;
       stands = h.stands;
       said = inr (inr (
-        Found h.m, h.bytes, refl, written_next P h.low h.logs h.m h.next, next,
+        Found h.m,
+        h.bytes,
+        refl,
+        written_next P h.low h.logs h.m h.next,
+        next,
         (next, inl (h.long, ap (λ (i : ℕ). refused (Refusals.Form i)) h.number)),
       ));
     }
@@ -135,7 +155,11 @@ refused_said P text (Refusals.Log m why) h =
       rest = refuted_line m ++ h.bytes ++ h.rest;
       stands = h.stands;
       said = inr (inr (
-        Refuted m, h.bytes ++ h.rest, append_assoc (refuted_line m) h.bytes h.rest, written_next P h.low h.logs m h.next, next,
+        Refuted m,
+        h.bytes ++ h.rest,
+        append_assoc (refuted_line m) h.bytes h.rest,
+        written_next P h.low h.logs m h.next,
+        next,
         (next, record { log = h.bytes; rest = h.rest; whole = refl; cut = h.log; said = inl (why, h.refused, refl) }),
       ));
     }
@@ -147,7 +171,11 @@ refused_said P text (Refusals.Roster m why) h =
       rest = roster_line m ++ h.bytes;
       stands = h.ends.stands;
       said = inr (inr (
-        Found m, h.bytes, refl, written_next P h.low h.logs m h.ends.next, next,
+        Found m,
+        h.bytes,
+        refl,
+        written_next P h.low h.logs m h.ends.next,
+        next,
         (next, inr (h.ends.short, inl (why, h.refused, refl))),
       ));
     }
@@ -159,7 +187,11 @@ refused_said P text (Refusals.Breaks m broken) h =
       rest = roster_line m ++ h.bytes;
       stands = h.ends.stands;
       said = inr (inr (
-        Found m, h.bytes, refl, written_next P h.low h.logs m h.ends.next, next,
+        Found m,
+        h.bytes,
+        refl,
+        written_next P h.low h.logs m h.ends.next,
+        next,
         (next, inr (h.ends.short, inr (inl (h.cells, broken, h.spelled, h.breaks, refl)))),
       ));
     }
@@ -180,14 +212,21 @@ log_cut P m g rest limits size passes place = logs_are_cut_whole (with_weeks P m
 -- where one follows nothing else is said
 follows_said : (P : Instance) (sizes : Option (ℕ × ℕ)) (m n : ℕ) (rest : List ℕ) → KeepsLimits P → IsNext P sizes m → Follows P m rest → OfRest P sizes n rest None
 follows_said P sizes m n rest limits next f = inr (inr (
-  Refuted m, log_text (with_weeks P m) f.log ++ f.behind, f.whole, (f.size.some, size_is_short P m f.size), next,
-  (next, record {
-    log = log_text (with_weeks P m) f.log;
-    rest = f.behind;
-    whole = refl;
-    cut = log_cut P m f.log f.behind limits f.size f.passes f.place;
-    said = inr (f.log, (refl, f.passes), refl);
-  }),
+  Refuted m,
+  log_text (with_weeks P m) f.log ++ f.behind,
+  f.whole,
+  (f.size.some, size_is_short P m f.size),
+  next,
+  (
+    next,
+    record {
+      log = log_text (with_weeks P m) f.log;
+      rest = f.behind;
+      whole = refl;
+      cut = log_cut P m f.log f.behind limits f.size f.passes f.place;
+      said = inr (f.log, (refl, f.passes), refl);
+    },
+  ),
 ))
 
 tail_passing : (P : Instance) (low : ℕ) (g : Log) (logs : List Log) → ArePassing P low (g ∷ logs) → ArePassing P (low + 1) logs
@@ -245,9 +284,9 @@ fronts P m (g ∷ logs) rest (h ∷ others) other limits are are' place place' e
     let first' = first_log P m h others are' in
     let behind = append_cancel_left (refuted_line m) (log_text (with_weeks P m) g ++ (sections_text P (m + 1) logs ++ rest)) (log_text (with_weeks P m) h ++ (sections_text P (m + 1) others ++ other)) (sym (first_section P m g logs rest) ∙ e ∙ first_section P m h others other) in
     let once = cut_once (log_text (with_weeks P m) g) (log_text (with_weeks P m) h) (sections_text P (m + 1) logs ++ rest) (sections_text P (m + 1) others ++ other)
-        (log_cut P m g (sections_text P (m + 1) logs ++ rest) limits first.0 first.1 (rest_place P (m + 1) g logs rest place))
-        (log_cut P m h (sections_text P (m + 1) others ++ other) limits first'.0 first'.1 (rest_place P (m + 1) h others other place'))
-        behind in
+    (log_cut P m g (sections_text P (m + 1) logs ++ rest) limits first.0 first.1 (rest_place P (m + 1) g logs rest place))
+    (log_cut P m h (sections_text P (m + 1) others ++ other) limits first'.0 first'.1 (rest_place P (m + 1) h others other place'))
+    behind in
     step (fronts P (m + 1) logs rest others other limits (tail_passing P m g logs are) (tail_passing P m h others are') (tail_place g logs rest place) (tail_place h others other place') once.1) once.0
   where
     step : AreSame P (m + 1) logs rest others other ⊎ (Follows P (m + 1 + length logs) rest ⊎ Follows P (m + 1 + length others) other) → log_text (with_weeks P m) g ≡ log_text (with_weeks P m) h → AreSame P m (g ∷ logs) rest (h ∷ others) other ⊎ (Follows P (m + length (g ∷ logs)) rest ⊎ Follows P (m + length (h ∷ others)) other)
@@ -279,9 +318,9 @@ at_one_place P low g h logs others rest other v w limits same said said' =
     let sizes : Option (ℕ × ℕ) = Some (low, low + length (g ∷ logs)) in
     let n : ℕ = line_of P low (g ∷ logs) in
     let here : OfRest P sizes n rest (Some w) =
-        subst (λ (l : ℕ). OfRest P (Some (low, low + l)) n rest (Some w)) (sym same.0)
-        (subst (λ (t : List ℕ). OfRest P (Some (low, low + length (h ∷ others))) (line_behind t) rest (Some w)) (sym same.1)
-        (subst (λ (t : List ℕ). OfRest P (Some (low, low + length (h ∷ others))) (line_of P low (h ∷ others)) t (Some w)) (sym same.2) said')) in
+    subst (λ (l : ℕ). OfRest P (Some (low, low + l)) n rest (Some w)) (sym same.0)
+    (subst (λ (t : List ℕ). OfRest P (Some (low, low + length (h ∷ others))) (line_behind t) rest (Some w)) (sym same.1)
+    (subst (λ (t : List ℕ). OfRest P (Some (low, low + length (h ∷ others))) (line_of P low (h ∷ others)) t (Some w)) (sym same.2) said')) in
     some_once v w (Some v) (Some w) refl refl (rest_once P sizes n rest (Some v) (Some w) limits said here)
 
 next_behind : (P : Instance) (low : ℕ) (g : Log) (logs : List Log) (rest : List ℕ) → Follows P (low + length (g ∷ logs)) rest → IsNext P (sizes_of low (g ∷ logs)) (low + length (g ∷ logs))
@@ -311,7 +350,7 @@ one_by P text low (g ∷ logs) rest high (h ∷ others) other v w limits s t sai
     let first = first_log P low g logs s.passing in
     let first' = first_log P high h others t.passing in
     let once = refuted_once low high (log_text (with_weeks P low) g ++ (sections_text P (low + 1) logs ++ rest)) (log_text (with_weeks P high) h ++ (sections_text P (high + 1) others ++ other)) (size_is_short P low first.0) (size_is_short P high first'.0)
-        (sym (first_section P low g logs rest) ∙ sym s.whole ∙ t.whole ∙ first_section P high h others other) in
+    (sym (first_section P low g logs rest) ∙ sym s.whole ∙ t.whole ∙ first_section P high h others other) in
     let t' : StandsBehind P text low (h ∷ others) other = subst (λ n. StandsBehind P text n (h ∷ others) other) (sym once.0) t in
     let said_here : SaidOf P low (h ∷ others) other w = subst (λ n. SaidOf P n (h ∷ others) other w) (sym once.0) said' in
     one_low P low g h logs others rest other v w limits s.passing t'.passing s.place t'.place (sym s.whole ∙ t'.whole) said said_here

@@ -33,10 +33,10 @@ pub one_more_refuted : (P : Instance) (budget low m : ℕ) (logs more : List Log
 one_more_refuted P budget low m logs more g are e planned same =
     subst (AreRefuted P budget low) (sym same)
     (λ k h at.
-        ⊎_elim (λ (a : slice_get logs k ≡ Some h). are k h a)
-        (λ (b : (k ≡ length logs) × (g ≡ h)).
-            subst (λ n. IsPlanned (with_weeks P n) budget (Founds.NoRoster h)) (sym e ∙ ap (λ n. low + n) (sym b.0)) (subst (λ (x : Log). IsPlanned (with_weeks P m) budget (Founds.NoRoster x)) b.1 planned))
-        (pushed_at logs g h k at))
+    ⊎_elim (λ (a : slice_get logs k ≡ Some h). are k h a)
+    (λ (b : (k ≡ length logs) × (g ≡ h)).
+    subst (λ n. IsPlanned (with_weeks P n) budget (Founds.NoRoster h)) (sym e ∙ ap (λ n. low + n) (sym b.0)) (subst (λ (x : Log). IsPlanned (with_weeks P m) budget (Founds.NoRoster x)) b.1 planned))
+    (pushed_at logs g h k at))
 
 pub size_of_more : (low m : ℕ) (logs more : List Log) (g : Log) → low + length logs ≡ m → more ≡ logs ++ g ∷ [] → low + length more ≡ m + 1
 size_of_more low m logs more g e same = let long : length more ≡ length logs + 1 = ap length same ∙ length-append logs (g ∷ []) in omega (arith, e, long)

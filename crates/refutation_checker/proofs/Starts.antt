@@ -45,7 +45,7 @@ text_spelled P bytes l h = let s = spelled_fits P bytes l h in record { fits = s
 pub same_text : (P : Instance) (bytes : List ℕ) (a b : Line) → KeepsLimits P → IsTextOf P bytes a → IsTextOf P bytes b → a ≡ b
 same_text P bytes a b limits f g =
     let one : lines_text P (a ∷ []) ≡ lines_text P (b ∷ []) =
-      append-nil (line_text P (raw P a)) ∙ sym f.text ∙ g.text ∙ sym (append-nil (line_text P (raw P b))) in
+    append-nil (line_text P (raw P a)) ∙ sym f.text ∙ g.text ∙ sym (append-nil (line_text P (raw P b))) in
     let same : a ∷ [] ≡ b ∷ [] = one_list P (a ∷ []) (b ∷ []) limits (f.fits, tt) (g.fits, tt) one in
     cc
 

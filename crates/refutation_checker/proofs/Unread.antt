@@ -205,7 +205,7 @@ tree_passed P old splits all left bytes rest count limits so some e next ends ea
       (earlier ++ up.done) ++ f.line ∷ [],
       f.rest,
       ap (λ ls. earlier ++ ls) (up.both ∙ ap (λ ls. up.done ++ ls) f.here)
-      ∙ sym (append_assoc earlier up.done (f.line ∷ f.rest)) ∙ sym (append_assoc (earlier ++ up.done) (f.line ∷ []) f.rest),
+          ∙ sym (append_assoc earlier up.done (f.line ∷ f.rest)) ∙ sym (append_assoc (earlier ++ up.done) (f.line ∷ []) f.rest),
       ends (earlier ++ up.done) f.line up.inside f.text,
     )
 

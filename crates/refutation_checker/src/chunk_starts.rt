@@ -180,7 +180,7 @@ fn walk_behind<'a>(
     ensures behind { IfOk result (λ found. MatchOption found
         (ArePassed problem.now start.now splits.old.items splits.new.items bytes.now None)
         (λ next. ArePassed problem.now start.now splits.old.items splits.new.items bytes.now (Some next.0)
-            × IsInto problem.now start.now splits.new.items (Some next.1))) }
+        × IsInto problem.now start.now splits.new.items (Some next.1))) }
 {
     let Some(count) = pass_lines(alloc, problem, start, splits, bytes)? else {
         return Ok(None);

@@ -17,8 +17,8 @@ ghost use Rattle.refutation_checker.specs.LineTexts.{IsLineRead, IsSpellingRefus
 
 use crate::bound::bound_escape;
 use crate::kept_tails::tails_of;
-use crate::plain_causes::plain_refusal;
 use crate::line_walk::step;
+use crate::plain_causes::plain_refusal;
 use domain_store::Domains;
 use layered_cycle::escape;
 use refutation_log::{LineRefusal, read_line};

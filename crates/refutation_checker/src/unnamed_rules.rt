@@ -13,7 +13,11 @@ use rwsp_model::{Problem, Rule, RuleList, Weights, number_of};
 fn outside(number: u32, named: &RuleList) -> Option<u32>
     ensures { IsLeastOutside (λ k. k ≡ number) named.now result }
 {
-    if named.holds(number) { None } else { Some(number) }
+    if named.holds(number) {
+        None
+    } else {
+        Some(number)
+    }
 }
 
 // The number of the day's rule, if the list doesn't hold it.

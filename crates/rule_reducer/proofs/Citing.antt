@@ -146,8 +146,7 @@ cites_still P n g r c =
 
 cited_once : (P : Instance) (n : ℕ) (plain : Bool) (g : Log) (r : Rule) → Fits P g → OneCites P plain (strip P n g).lines r → OneCites P plain g.lines r
 cited_once P n plain g r fits c =
-    let old = line_before P n g.lines c.0 c.1 c.2 in
-    (
+    let old = line_before P n g.lines c.0 c.1 c.2 in (
       c.0,
       old.0,
       old.1,

@@ -37,8 +37,8 @@ fn refuses(
         let D = domains_at judge.old turn lines (length lines) in
         Holds judge.old D line.now →
         MatchBool yes
-            (Holds judge.old D (strip_line judge.old number line.now) → ⊥)
-            (Holds judge.old D (strip_line judge.old number line.now))) }
+        (Holds judge.old D (strip_line judge.old number line.now) → ⊥)
+        (Holds judge.old D (strip_line judge.old number line.now))) }
 {
     if lists(line, number, rule) {
         let stripped = strip_line(alloc, line, number, rule)?;
