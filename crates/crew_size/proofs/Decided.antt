@@ -1,6 +1,6 @@
 -- What accepted texts and searches decide.
-use Rattle.std.proofs.Common.{◌≡◌, ◌≢◌, ℕ, zero, suc, ◌+◌, ◌-◌, ◌*◌, ◌^◌, ◌<◌, ◌≤◌, List, [], ◌∷◌, ◌++◌, length, get_or, Option, Some, None, refl, ap, sym, ◌∙◌, subst, arith, inl, inr, ⊎_elim}
-use Rattle.std.specs.Prelude.{◌⊎◌, slice_get, codes}
+use Rattle.std.proofs.Common.{◌≡◌, ◌≢◌, ℕ, ◌+◌, ◌-◌, ◌*◌, ◌^◌, ◌<◌, ◌≤◌, List, [], ◌∷◌, ◌++◌, length, get_or, Some, None, refl, ap, sym, ◌∙◌, subst, arith, inl, inr, ⊎_elim}
+use Rattle.std.specs.Prelude.{slice_get, codes}
 use Rattle.std.specs.Fmt.{decimal}
 use Rattle.std.proofs.Math.Nat.{mul-le-mul_right, pow-le-pow_right}
 use Rattle.std.proofs.lemmas.Bool.{cases_lt}
@@ -15,12 +15,12 @@ use Rattle.refutation_terms.specs.Log.{Log, Passes}
 use Rattle.refutation_terms.proofs.Sound.{passing_leaves_none}
 use Rattle.refutation_terms.proofs.Named.{named-IsRule}
 use Rattle.crew_size.specs.Sizes.{with_weeks, IsSize}
-use Rattle.crew_size.specs.Texts.{Staff, next_size, roster_line, none_line, sections_text, end_text, staff_text}
+use Rattle.crew_size.specs.Texts.{Staff, next_size, roster_line, none_line, sections_text, end_text}
 use Rattle.crew_size.specs.Fitting.{EndFits, FitsSizes}
 use Rattle.crew_size.specs.Runs.{IsEnd, IsStaffed}
 use Rattle.crew_size.specs.Sections.{ArePassing, BeginsAsHeading, IsHeadingsPlace, IsNextSize}
 use Rattle.crew_size.specs.Verdict.{IsStaffAccepted}
-use Rattle.crew_size.specs.Laws.{HasRoster, HasNoRoster, IsDecided, decision_at, decision_of, AcceptedTextsDecide, SearchesDecide, SearchesAgree, EnoughBudgetDecides, PrintedRunsAreAccepted}
+use Rattle.crew_size.specs.Laws.{HasNoRoster, IsDecided, decision_at, decision_of, AcceptedTextsDecide, SearchesDecide, SearchesAgree, EnoughBudgetDecides, PrintedRunsAreAccepted}
 use Rattle.crew_size.specs.declared.run.StaffEnd.{StaffEnd}
 use Rattle.crew_size.specs.declared.run.StaffEnd.TheVariants as Ends
 use Rattle.crew_size.specs.declared.verdict.Staffed.{Staffed}

@@ -1,10 +1,10 @@
 -- Behind one section more.
-use Rattle.std.proofs.Common.{◌≡◌, ◌≢◌, ℕ, zero, suc, ◌+◌, ◌^◌, ◌<◌, ◌≤◌, List, [], ◌∷◌, ◌++◌, length, take, get_or, Bool, true, false, cond, Option, Some, None, refl, ap, sym, ◌∙◌, subst, arith, inl, inr, ⊎_elim, length-append}
+use Rattle.std.proofs.Common.{◌≡◌, ℕ, zero, suc, ◌+◌, ◌^◌, ◌<◌, List, [], ◌∷◌, ◌++◌, length, take, get_or, true, false, cond, Option, Some, refl, ap, sym, ◌∙◌, subst, arith, inl, inr, ⊎_elim, length-append}
 use Rattle.std.specs.Prelude.{◌⊎◌, slice_get, count_by, ◌==◌, codes}
 use Rattle.std.specs.List.{list_all}
 use Rattle.std.specs.Char.{is_ascii_digit}
 use Rattle.std.specs.Fmt.{decimal}
-use Rattle.std.proofs.lemmas.Bool.{and_parts, leb-true, ne_eqb}
+use Rattle.std.proofs.lemmas.Bool.{and_parts, ne_eqb}
 use Rattle.std.proofs.lemmas.List.{append-nil, append_assoc, take_more, length-take-le}
 use Rattle.std.proofs.lemmas.List.Sums.{sum_by-append}
 use Rattle.rwsp_text.proofs.Printed.{digits_printed}
@@ -12,8 +12,8 @@ use Rattle.rwsp_terms.specs.Instance.{Instance}
 use Rattle.refutation_terms.specs.Log.{Log, Passes}
 use Rattle.refutation_terms.specs.LogText.{log_text}
 use Rattle.crew_size.specs.Sizes.{with_weeks, IsSize}
-use Rattle.crew_size.specs.Texts.{heading, refuted_line, roster_line, none_line, section_text, sections_text}
-use Rattle.crew_size.specs.Sections.{ArePassing, StandsBehind, IsHeadingsPlace, BeginsAsHeading, AreUpToHeading, AreWholeLines, IsNextSize, IsLastSize, line_behind}
+use Rattle.crew_size.specs.Texts.{heading, refuted_line, section_text, sections_text}
+use Rattle.crew_size.specs.Sections.{ArePassing, StandsBehind, IsHeadingsPlace, BeginsAsHeading, AreUpToHeading, IsNextSize, IsLastSize, line_behind}
 use Rattle.crew_size.specs.Places.{AreSizes, IsNext, IsLast}
 use Rattle.crew_size.proofs.Cuts.{rest_of_cut}
 

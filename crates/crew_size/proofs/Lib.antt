@@ -7,3 +7,4 @@ pub mod Decided
 pub mod Heads
 pub mod LogCuts
 pub mod OneVerdict
+pub mod Refused

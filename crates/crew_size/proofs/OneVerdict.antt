@@ -1,6 +1,6 @@
 -- A staff text has one verdict at most.
-use Rattle.std.proofs.Common.{◌≡◌, ◌≢◌, ℕ, zero, suc, ◌+◌, ◌^◌, ◌<◌, ◌≤◌, List, [], ◌∷◌, ◌++◌, length, Option, Some, None, refl, ap, sym, ◌∙◌, subst, arith, inl, inr, length-append}
-use Rattle.std.specs.Prelude.{◌⊎◌, slice_get, codes, Result, Ok, Err}
+use Rattle.std.proofs.Common.{◌≡◌, ℕ, suc, ◌+◌, ◌^◌, ◌<◌, ◌≤◌, List, [], ◌∷◌, ◌++◌, length, Option, Some, None, refl, ap, sym, ◌∙◌, subst, arith, inl, inr}
+use Rattle.std.specs.Prelude.{◌⊎◌, codes, Result, Ok, Err}
 use Rattle.std.specs.Fmt.{decimal}
 use Rattle.std.proofs.lemmas.List.{append-nil, append_assoc, append_cancel_left}
 use Rattle.rwsp_terms.specs.Instance.{Instance}
@@ -10,8 +10,8 @@ use Rattle.refutation_terms.specs.LogText.{log_text}
 use Rattle.crew_size.specs.Sizes.{with_weeks, IsSize}
 use Rattle.crew_size.specs.Texts.{refuted_line, roster_line, none_line, section_text, sections_text}
 use Rattle.crew_size.specs.Sections.{BeginsAsHeading, AreUpToHeading, ArePassing, StandsBehind, IsHeadingsPlace, IsNextSize, IsLastSize, IsHeading, line_behind}
-use Rattle.crew_size.specs.Verdict.{IsStaffVerdict, EndsWithRight, EndsWithNone}
-use Rattle.crew_size.specs.Places.{AreSizes, IsNext, MayStand, IsWritten, heading_line, first_size}
+use Rattle.crew_size.specs.Verdict.{IsStaffVerdict}
+use Rattle.crew_size.specs.Places.{AreSizes, IsNext, MayStand, heading_line, first_size}
 use Rattle.crew_size.specs.Laws.{StaffTextsHaveOneVerdict}
 use Rattle.crew_size.specs.declared.heading.Heading.{Heading}
 use Rattle.crew_size.specs.declared.heading.Heading.TheVariants.{Refuted, Found, NoneTo}

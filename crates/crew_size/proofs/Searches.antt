@@ -1,11 +1,10 @@
 -- What a search size by size gives, put together.
-use Rattle.std.proofs.Common.{◌≡◌, ◌≢◌, ℕ, zero, suc, ◌+◌, ◌*◌, ◌<◌, ◌≤◌, List, [], ◌∷◌, ◌++◌, length, Option, Some, None, refl, ap, sym, ◌∙◌, subst, arith, inl, inr, ⊎_elim, length-append}
-use Rattle.std.specs.Prelude.{◌⊎◌, slice_get}
+use Rattle.std.proofs.Common.{◌≡◌, ℕ, ◌+◌, ◌*◌, ◌≤◌, List, [], ◌∷◌, ◌++◌, length, Some, ap, sym, ◌∙◌, subst, arith, ⊎_elim, length-append}
+use Rattle.std.specs.Prelude.{slice_get}
 use Rattle.std.proofs.Math.Nat.{mul-le-mul_right}
 use Rattle.std.proofs.lemmas.Option.{slice_get_within}
 use Rattle.rwsp_terms.specs.Instance.{Instance}
-use Rattle.rwsp_terms.specs.Roster.{IsRoster}
-use Rattle.refutation_terms.specs.Log.{Log, Fits}
+use Rattle.refutation_terms.specs.Log.{Log}
 use Rattle.roster_search.specs.declared.found.Found.TheVariants as Founds
 use Rattle.roster_planner.specs.Planned.{IsPlanned}
 use Rattle.crew_size.specs.Sizes.{with_weeks, IsSize}

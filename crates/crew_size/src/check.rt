@@ -28,11 +28,8 @@ pub fn check_staff<R: Threads + Sync, G: Gate>(
 {
     let mut sections = Sections::new(bytes);
     loop {
-        match sections.pass(rt, alloc, problem, workers, gate) {
-            Ok(None) => {}
-            Ok(Some(staffed)) => return Ok(staffed),
-            Err(Fail::Memory) => return Err(Fail::Memory),
-            Err(Fail::Refused(why)) => return Err(Fail::Refused(why)),
+        if let Some(staffed) = sections.pass(rt, alloc, problem, workers, gate)? {
+            return Ok(staffed);
         }
     }
 }

@@ -1,9 +1,7 @@
 use Rattle.std.proofs.Common.{◌≡◌, ◌+◌, ◌≤◌, subst, arith}
-use Rattle.roster_search.specs.declared.found.Found.{Found}
 use Rattle.roster_search.specs.declared.found.Found.TheVariants as Founds
 use Rattle.roster_planner.specs.Planned.{IsPlanned}
 use Rattle.crew_size.specs.Sizes.{with_weeks}
-use Rattle.crew_size.specs.Runs.{IsStaffed}
 use Rattle.crew_size.specs.declared.run.StaffEnd.TheVariants as Ends
 use Rattle.crew_size.proofs.Searches.{is_staffed, fits_sizes, one_more_refuted, size_of_more}
 use Rattle.crew_size.proofs.staffing.staff.Goals as goal

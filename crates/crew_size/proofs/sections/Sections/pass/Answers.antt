@@ -1,4 +1,4 @@
-use Rattle.std.proofs.Common.{◌≡◌, ℕ, ◌++◌, Option, ap, sym, ◌∙◌, subst, inl, inr}
+use Rattle.std.proofs.Common.{◌≡◌, ℕ, ◌++◌, Option, ap, sym, ◌∙◌, subst, inl}
 use Rattle.crew_size.specs.Places.{Place, MayStand}
 use Rattle.crew_size.specs.Verdict.{HasNoHeadingAt}
 use Rattle.crew_size.proofs.Verdicts.{no_heading_here}

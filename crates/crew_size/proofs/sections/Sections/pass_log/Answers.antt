@@ -1,4 +1,4 @@
-use Rattle.std.proofs.Common.{◌≡◌, ℕ, ◌+◌, List, ◌++◌, take, drop, Option, Some, refl, ap, sym, ◌∙◌, subst, take-append-drop}
+use Rattle.std.proofs.Common.{◌≡◌, ℕ, ◌+◌, ◌++◌, take, drop, Option, Some, refl, ap, sym, ◌∙◌, subst, take-append-drop}
 use Rattle.rwsp_terms.specs.Instance.{Instance}
 use Rattle.refutation_terms.specs.Verdict.{IsAccepted}
 use Rattle.crew_size.specs.Sections.{AreUpToHeading}

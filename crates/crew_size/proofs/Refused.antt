@@ -1,0 +1,12 @@
+-- A refusal that is passed on.
+use Rattle.std.proofs.Common.{◌≡◌, subst, sym}
+use Rattle.std.specs.Prelude.{Result, Err}
+use Rattle.rwsp_model.specs.declared.fail.Fail.{Fail}
+use Rattle.rwsp_model.specs.declared.fail.Fail.TheVariants.{Refused, Memory}
+use Rattle.rwsp_model.specs.Refusals.{MatchAnswer}
+use Rattle.crew_size.specs.declared.verdict.StaffRefusal.{StaffRefusal}
+
+pub refused_again : (T : Type 0) {U : Type 0} (f : Fail StaffRefusal) (r : Result U (Fail StaffRefusal)) (P : T → Type 0) (S : U → Type 0)
+    (Q : StaffRefusal → Type 0) → r ≡ Err f → MatchAnswer {T = T} (Err f) P Q → MatchAnswer r S Q
+refused_again T {U} Memory r P S Q e h = subst (λ (x : Result U (Fail StaffRefusal)). MatchAnswer x S Q) (sym e) tt
+refused_again T {U} (Refused why) r P S Q e h = subst (λ (x : Result U (Fail StaffRefusal)). MatchAnswer x S Q) (sym e) h
