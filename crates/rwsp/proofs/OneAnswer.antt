@@ -76,9 +76,9 @@ planned_agree P budget a b h k = absurd h
 -- two searches for the least crew
 staffs_agree : (P : Instance) (low high budget : ℕ) (a b : Answer) → IsStaffAnswer P low high budget a → IsStaffAnswer P low high budget b → (a ≡ b) ⊎ AgreeInSearch a b
 staffs_agree P low high budget (StaffRange m) (StaffRange n) h k = inl (ap StaffRange (h.0 ∙ sym k.0))
-staffs_agree P low high budget (StaffRange m) (Staff run) h k = let no : ⊥ = omega (arith, h.1, k.0) in absurd no
-staffs_agree P low high budget (Staff run) (StaffRange n) h k = let no : ⊥ = omega (arith, h.0, k.1) in absurd no
-staffs_agree P low high budget (Staff run) (Staff other) h k = inr (λ x y e f. searches_agree P low high budget budget run other x y h.1 k.1 e f)
+staffs_agree P low high budget (StaffRange m) (Staff run) h k = let no : ⊥ = omega (arith, h.1, k.1) in absurd no
+staffs_agree P low high budget (Staff run) (StaffRange n) h k = let no : ⊥ = omega (arith, h.1, k.1) in absurd no
+staffs_agree P low high budget (Staff run) (Staff other) h k = inr (λ x y e f. searches_agree P low high budget budget run other x y h.0 h.2 k.2 e f)
 staffs_agree P low high budget (StaffRange m) b h k = absurd k
 staffs_agree P low high budget (Staff run) b h k = absurd k
 staffs_agree P low high budget a b h k = absurd h
@@ -196,8 +196,8 @@ verified file P budget answer a spells kind planned h = absurd kind
 pub staff_taken : StaffTextsAreAccepted
 staff_taken file P low high budget run staffed a spells sizes answer decides short h =
     let limits = valid_keeps P spells.valid in
-    let fits : IsSize P high = record { some = omega (arith, sizes); few = sizes.2; few_cells = answer.0 } in
-    let accepted = printed_accepted P low high budget run staffed limits sizes.0 sizes.1 fits answer.1 decides in
+    let fits : IsSize P high = record { some = omega (arith, sizes); few = sizes.2; few_cells = answer.1 } in
+    let accepted = printed_accepted P low high budget run staffed limits sizes.0 sizes.1 fits answer.2 decides in
     one_second CheckStaff P (answer_text P (Staff run)) a (StaffAccepted staffed) limits h (short, accepted, accepted_decide P (answer_text P (Staff run)) staffed accepted)
 
 -- what a reduction leaves is accepted

@@ -14,7 +14,7 @@ use Rattle.rwsp.specs.declared.answer.Answer.TheVariants.{Staff, StaffRange, Sta
 -- gives too many cells
 abbrev pub IsStaffAnswer : Instance → (low high budget : ℕ) → Answer → Type 0
 IsStaffAnswer P low high budget (StaffRange weeks) = (weeks ≡ high) × (MOST_CELLS < high * P.days)
-IsStaffAnswer P low high budget (Staff run) = (high * P.days ≤ MOST_CELLS) × IsStaffed P low high budget run
+IsStaffAnswer P low high budget (Staff run) = (low ≤ high) × (high * P.days ≤ MOST_CELLS) × IsStaffed P low high budget run
 IsStaffAnswer P low high budget answer = ⊥
 
 -- what an answer says of an instance and the bytes of a staff text: accepted is what the text decides, and so it is

@@ -26,7 +26,7 @@ use Rattle.roster_search.specs.declared.found.Found.{Found}
 use Rattle.roster_search.specs.declared.found.Found.TheVariants as Founds
 use Rattle.crew_calendar.specs.Texts.{IsTable, AreDuties}
 use Rattle.crew_size.specs.Texts.{staff_text}
-use Rattle.crew_size.specs.Runs.{FitsSizes}
+use Rattle.crew_size.specs.Fitting.{FitsSizes}
 use Rattle.crew_size.specs.declared.verdict.Staffed.{Staffed}
 use Rattle.crew_size.specs.declared.verdict.Staffed.TheVariants as Decided
 use Rattle.crew_size.specs.declared.verdict.StaffRefusal.{StaffRefusal}
@@ -103,8 +103,8 @@ breaks_text P broken =
 
 -- what an accepted staff text decides
 abbrev pub staffed_text : Staffed → List ℕ
-staffed_text (Decided.Least low m) = codes "accepted: least " ++ decimal m ++ codes " from " ++ decimal low
-staffed_text (Decided.NoneTo low last) = codes "accepted: none " ++ decimal low ++ codes " to " ++ decimal last
+staffed_text (Decided.Least low m) = (codes "accepted: least " ++ decimal m) ++ codes " from " ++ decimal low
+staffed_text (Decided.NoneTo low last) = (codes "accepted: none " ++ decimal low) ++ codes " to " ++ decimal last
 
 -- a failure at a number of weeks
 abbrev pub at_weeks : ℕ → List ℕ → List ℕ

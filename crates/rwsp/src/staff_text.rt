@@ -1,5 +1,6 @@
 // The texts of the answers to a staff text.
 ghost use Rattle.std.specs.Prelude.{◌≡◌, ◌++◌, [], IfOk, OnOk, codes};
+ghost use Rattle.std.specs.Fmt.{decimal};
 ghost use Rattle.rwsp.specs.Texts.{line, staffed_text, staff_refusal_text, at_weeks, breaks_text, log_refusal_text, roster_refusal_text, NamesItsOwn, HasSymbols, HasBroken};
 
 use crate::log_text::{put_labelled, put_line_number, put_refusal};
@@ -11,19 +12,53 @@ use roster_print::RosterRefusal;
 use rwsp_model::Problem;
 use std::alloc::{AllocError, Global};
 
+// Appends two numbers, each behind a label.
+fn put_two(
+    out: &mut Vec<u8>,
+    label: &[u8],
+    first: u32,
+    between: &[u8],
+    second: u32,
+) -> Result<(), AllocError>
+    ensures { OnOk result (out.new.items ≡ out.old.items ++ (label.now ++ decimal first) ++ between.now ++ decimal second) }
+{
+    put_labelled(out, label, first)?;
+    put_labelled(out, between, second)
+}
+
+// Appends the least number of weeks that has a roster, and the first that was tried.
+fn put_least(out: &mut Vec<u8>, low: u32, weeks: u32) -> Result<(), AllocError>
+    ensures { OnOk result (out.new.items ≡ out.old.items ++ (codes "accepted: least " ++ decimal weeks) ++ codes " from " ++ decimal low) }
+{
+    put_two(
+        out,
+        b"accepted: least ".as_slice(),
+        weeks,
+        b" from ".as_slice(),
+        low,
+    )
+}
+
+// Appends the first and the last number of weeks that have no roster.
+fn put_none(out: &mut Vec<u8>, low: u32, last: u32) -> Result<(), AllocError>
+    ensures { OnOk result (out.new.items ≡ out.old.items ++ (codes "accepted: none " ++ decimal low) ++ codes " to " ++ decimal last) }
+{
+    put_two(
+        out,
+        b"accepted: none ".as_slice(),
+        low,
+        b" to ".as_slice(),
+        last,
+    )
+}
+
 // Appends what an accepted text decides.
 fn put_staffed(out: &mut Vec<u8>, staffed: Staffed) -> Result<(), AllocError>
     ensures { OnOk result (out.new.items ≡ out.old.items ++ staffed_text staffed) }
 {
     match staffed {
-        Staffed::Least(low, weeks) => {
-            put_labelled(out, b"accepted: least ".as_slice(), weeks)?;
-            put_labelled(out, b" from ".as_slice(), low)
-        }
-        Staffed::NoneTo(low, last) => {
-            put_labelled(out, b"accepted: none ".as_slice(), low)?;
-            put_labelled(out, b" to ".as_slice(), last)
-        }
+        Staffed::Least(low, weeks) => put_least(out, low, weeks),
+        Staffed::NoneTo(low, last) => put_none(out, low, last),
     }
 }
 

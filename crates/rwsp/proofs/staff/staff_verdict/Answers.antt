@@ -13,4 +13,4 @@ returns-in-Ok-clause-answer g c =
 pub returns-in-Err-Refused-clause-printable : goal.returns-in-Err-Refused-clause-printable
 returns-in-Err-Refused-clause-printable g c =
     let refused = c.in-Err-Refused in
-    names_its_own c.args.problem.now c.args.bytes.now refused.why refused.ensures
+    names_its_own c.args.problem.now c.args.bytes.now refused.why (rw refused.field-0-is at refused.ensures)
