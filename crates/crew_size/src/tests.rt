@@ -83,7 +83,9 @@ const TEXTS: [(&str, (&str, u32, u32)); 9] = [
 fn texts_have_their_verdicts(rt: HostRuntime) -> Result<(), Fail> {
     let problem = Problem::of(three_of_six(rt.alloc())?).expect(&rt, "within the limits");
     for (text, wanted) in TEXTS {
-        let answer = check_staff(&rt, rt.alloc(), &problem, text.as_bytes(), 2, &NoGate);
+        let bytes = text.as_bytes();
+        assert!(rt; bytes.len() <= 1_000);
+        let answer = check_staff(&rt, rt.alloc(), &problem, bytes, 2, &NoGate);
         assert_eq!(rt; told(answer), wanted, "{text}");
     }
     Ok(())
@@ -94,7 +96,9 @@ fn searches_end(rt: HostRuntime) -> Result<(), Fail> {
     let problem = Problem::of(three_of_six(rt.alloc())?).expect(&rt, "within the limits");
     let run = staff(&rt, rt.alloc(), &problem, 2, 3, 2_000, &NoGate)?;
     let text = print_staff(rt.alloc(), &problem, &run)?;
-    let answer = check_staff(&rt, rt.alloc(), &problem, &text, 2, &NoGate);
+    let bytes = text.as_slice();
+    assert!(rt; bytes.len() <= 1_000);
+    let answer = check_staff(&rt, rt.alloc(), &problem, bytes, 2, &NoGate);
     assert_eq!(rt; told(answer), ("none", 2, 3));
     Ok(())
 }
