@@ -21,6 +21,7 @@ RANGES = of_lines("1", "4", "1", "1..2", "D 360 480 1 1", "2 2", "1 4", "0 0")
 TWOS = of_lines("1", "6", "1", "3", "D 360 480 2 2", "2 2", "2 2", "0 0")
 THREE_OF_FIVE = of_lines("1", "5", "1", "3", "D 360 480 2 2", "1 2", "2 2", "0 0")
 ONE_CELL = of_lines("1", "1", "1", "1", "D 360 480 1 7", "1 1", "1 7", "0 0")
+EIGHT_DAYS = of_lines("8", "1", "1", "1 1 1 1 0 0 0 0", "D 360 480 1 7", "1 7", "1 7", "0 0")
 NO_DAY = of_lines("2", "1", "1", "0 0", "D 360 480 1 1", "1 1", "1 1", "0 0")
 THREE_WEEKS = of_lines("2", "3", "1", "1 1", "D 360 480 3 5", "1 5", "1 5", "0 0")
 ENDLESS = of_lines("2", "1", "2", "1 0", "0 1", "D 360 480 1 7", "N 1320 480 1 7", "1 7", "1 7", "0 0")
@@ -37,7 +38,7 @@ ONE_WEEK = of_lines(
 # Small problems, on which every command is quick.
 SMALL = [
     TWO_DAYS, BOTH_DAYS, TOO_MANY, TWO_OF_FOUR, RANGES, TWOS, THREE_OF_FIVE, ONE_CELL, NO_DAY, THREE_WEEKS, ENDLESS,
-    LONG_BLOCKS, COMMENTED, ONE_WEEK,
+    LONG_BLOCKS, COMMENTED, ONE_WEEK, EIGHT_DAYS,
 ]
 
 # Problems with a roster of each.
@@ -71,4 +72,32 @@ LOGS = [
     (NO_DAY, of_lines("rwsp-log 2", "rules 7", "turn D 1", "open")),
     (example("clinic"), example("clinic_log")),
     (example("clinic"), example("clinic_all_rules_log")),
+]
+
+NONE_TO_THREE = of_lines(
+    "weeks 2 none", "rwsp-log 1", "rules 7", "day 1 - over",
+    "weeks 3 none", "rwsp-log 1", "rules 1 7", "bound 1 1 1 rules 1 weights 1 D 1", "none to 3",
+)
+LEAST_SIX = of_lines(
+    "weeks 4 none", "rwsp-log 1", "rules 1 3 4 7", "bound 1 1 2 rules 1 3 4 weights 1 D 1",
+    "weeks 5 none", "rwsp-log 1", "rules 1 3 4 7", "bound 1 1 3 rules 1 3 4 weights 1 D 1",
+    "weeks 6 roster", "D", "-", "-", "D", "-", "-",
+)
+
+# Problems with a text on the least crew of each.
+STAFFS = [
+    (TWOS, NONE_TO_THREE),
+    (TWO_OF_FOUR, LEAST_SIX),
+    (RANGES, of_lines("weeks 1 undecided", "rwsp-log 2", "rules 7", "turn D 1", "open")),
+    (TWO_DAYS, of_lines("weeks 1 roster", "D -")),
+    (ONE_WEEK, of_lines("weeks 1 roster", "D D A A A - -")),
+    (example("nine_weeks"), "weeks 9 roster\n" + example("nine_weeks_roster")),
+    (example("clinic"), "weeks 2 none\n" + example("clinic_log") + "none to 2\n"),
+]
+
+# Command lines that are over at once: what they read is a small problem, or isn't there.
+LINES = [
+    "show F", "plan F", "plan F --budget 5", "check F ABSENT", "check F ABSENT --workers 3", "verify F ABSENT", "reduce F ABSENT",
+    "trial 7 3", "trial 999999999 5", "crew F ABSENT 2024-02-28 3", "crew F ABSENT 9999-12-31 1", "crew F ABSENT 2024-02-28 3 1",
+    "staff F 1 3", "staff F 1 3 --budget 5", "check-staff F ABSENT", "check-staff ABSENT T",
 ]

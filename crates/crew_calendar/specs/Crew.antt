@@ -1,4 +1,4 @@
--- Where the employees stand on each day.
+-- The position of each employee on each day.
 use Rattle.std.specs.Prelude.{ℕ, ◌+◌, ◌-◌, ◌*◌, ◌%◌, ◌≤◌, List, slice_index_or}
 use Rattle.std.specs.List.{range_with_len}
 use Rattle.rwsp_terms.specs.Instance.{Instance, cells, off_symbol}
@@ -11,7 +11,7 @@ IsEmployee P e = (1 ≤ e) × (e ≤ P.weeks)
 abbrev pub employees : Instance → List ℕ
 employees P = range_with_len 1 P.weeks
 
--- the position of an employee on a day, where days count from 0: each starts in the week of his number, and all go on
+-- the position of an employee on a day, where days count from 0: each starts in the week of his number, and all move
 -- round the cycle
 abbrev pub position_of : Instance → ℕ → ℕ → ℕ
 position_of P e t = ((e - 1) * P.days + t) % cells P

@@ -35,13 +35,13 @@ FollowsCycle P s = (e t days : ℕ) → stretch P s e t days ≡ window s ((e - 
 abbrev pub IsClean : Instance → List Symbol → Type 0
 IsClean P s = (e t days : ℕ) (r : Rule) → IsRule P r → Bad P r (stretch P s e t days) → ⊥
 
--- the employee stands at the position on this one of the days of a round that begins on day t, and on no other
+-- the employee is at the position on this one of the days of a round that begins on day t, and on no other
 pub record StandsOnce (P : Instance) (e t p day : ℕ) : Type 0 where
   pub within : day < cells P
   pub here : position_of P e (t + day) ≡ p
   pub only : (other : ℕ) → other < cells P → position_of P e (t + other) ≡ p → other ≡ day
 
--- in as many days as the cycle has, an employee stands once at each position
+-- in as many days as the cycle has, an employee is once at each position
 abbrev pub GoesRound : Instance → Type 0
 GoesRound P = (e t p : ℕ) → p < cells P → (day : ℕ) × StandsOnce P e t p day
 

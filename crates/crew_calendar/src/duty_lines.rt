@@ -55,7 +55,7 @@ fn start_of(problem: &Problem, shift: Symbol) -> u32
     ensures value { result ≡ start_of problem.now shift }
     ensures few { result ≤ GREATEST_BOUND }
 {
-    problem.keeps_limits();
+    problem.prove_limits();
     problem.start(shift)
 }
 
@@ -65,7 +65,7 @@ fn length_of(problem: &Problem, shift: Symbol) -> u32
     ensures value { result ≡ length_of problem.now shift }
     ensures few { result ≤ GREATEST_BOUND }
 {
-    problem.keeps_limits();
+    problem.prove_limits();
     problem.length(shift)
 }
 

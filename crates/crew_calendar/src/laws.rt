@@ -18,7 +18,7 @@ pub fn employees_keep_the_rules()
     ensures { EmployeesKeepTheRules }
 {}
 
-/// In as many days in a row as the cycle has, from any day on, an employee stands once at each position.
+/// In as many days in a row as the cycle has, from any day on, an employee is once at each position.
 pub fn employees_go_round()
     ensures { EmployeesGoRound }
 {}

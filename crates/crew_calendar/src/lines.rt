@@ -108,6 +108,6 @@ pub fn crew_table(
     ensures clean { MeetsAll problem.now roster.now.cells → IsClean problem.now roster.now.cells }
     ensures round { GoesRound problem.now }
 {
-    problem.keeps_limits();
+    problem.prove_limits();
     day_lines(alloc, problem, roster.cells(), date, days)
 }

@@ -1,4 +1,4 @@
-// Where the employees stand.
+// The positions of the employees.
 ghost use Rattle.std.specs.Prelude.{◌≡◌, ◌+◌, ◌*◌, ◌<◌, ◌≤◌, length};
 ghost use Rattle.rwsp_terms.specs.Instance.{cells};
 ghost use Rattle.rwsp_terms.specs.Roster.{IsRoster};
@@ -15,7 +15,7 @@ pub fn place(problem: &Problem, employee: u32, t: u32) -> u32
     ensures value { result ≡ position_of problem.now employee t }
     ensures within { result < cells problem.now }
 {
-    problem.keeps_limits();
+    problem.prove_limits();
     ((employee - 1) * problem.days() + t) % problem.cells()
 }
 

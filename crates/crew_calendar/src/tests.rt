@@ -200,7 +200,7 @@ fn duties_end_days_later(rt: HostRuntime) -> Result<(), Fail> {
     Ok(())
 }
 
-// Three weeks of two days: `D -`, `- D` and `D D`. The third employee starts in week 3, goes on with week 1, and is
+// Three weeks of two days: `D -`, `- D` and `D D`. The third employee starts in week 3, continues with week 1, and is
 // off on the second day of that week alone.
 #[test]
 fn employees_start_in_their_weeks(rt: HostRuntime) -> Result<(), Fail> {

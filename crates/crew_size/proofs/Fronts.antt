@@ -13,7 +13,7 @@ use Rattle.refutation_terms.specs.Log.{Log, Passes}
 use Rattle.refutation_terms.specs.LogText.{log_text}
 use Rattle.crew_size.specs.Sizes.{with_weeks, IsSize}
 use Rattle.crew_size.specs.Texts.{heading, refuted_line, section_text, sections_text}
-use Rattle.crew_size.specs.Sections.{ArePassing, StandsBehind, IsHeadingsPlace, BeginsAsHeading, AreUpToHeading, IsNextSize, IsLastSize, line_behind}
+use Rattle.crew_size.specs.Sections.{ArePassing, StandsBehindLogs, IsHeadingsPlace, BeginsAsHeading, AreUpToHeading, IsNextSize, IsLastSize, line_behind}
 use Rattle.crew_size.specs.Places.{AreSizes, IsNext, IsLast}
 use Rattle.crew_size.proofs.Cuts.{rest_of_cut}
 
@@ -91,7 +91,7 @@ place_behind : (logs : List Log) (g : Log) (rest : List ℕ) → (rest ≡ []) �
 place_behind [] g rest h = h
 place_behind (l ∷ logs) g rest h = h
 
-pub one_more_stands : (P : Instance) (text : List ℕ) (low m : ℕ) (logs : List Log) (g : Log) (log rest : List ℕ) → ArePassing P low logs → m ≡ low + length logs → IsSize P m → log ≡ log_text (with_weeks P m) g → Passes (with_weeks P m) g → text ≡ sections_text P low logs ++ (refuted_line m ++ (log ++ rest)) → AreUpToHeading log rest → StandsBehind P text low (logs ++ g ∷ []) rest
+pub one_more_stands : (P : Instance) (text : List ℕ) (low m : ℕ) (logs : List Log) (g : Log) (log rest : List ℕ) → ArePassing P low logs → m ≡ low + length logs → IsSize P m → log ≡ log_text (with_weeks P m) g → Passes (with_weeks P m) g → text ≡ sections_text P low logs ++ (refuted_line m ++ (log ++ rest)) → AreUpToHeading log rest → StandsBehindLogs P text low (logs ++ g ∷ []) rest
 one_more_stands P text low m logs g log rest are e size spelled passes whole cut =
     let front = sections_text P low logs in
     let section : refuted_line m ++ log ≡ section_text P (low + length logs) g = ap (λ t. refuted_line m ++ t) spelled ∙ ap (λ k. section_text P k g) e in

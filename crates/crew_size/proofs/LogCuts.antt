@@ -13,10 +13,10 @@ use Rattle.rwsp_terms.specs.Instance.{Instance, name_of}
 use Rattle.rwsp_terms.specs.Rules.{rules}
 use Rattle.rwsp_model.specs.Validity.{KeepsLimits}
 use Rattle.refutation_terms.specs.declared.lines.Line.{Line}
-use Rattle.refutation_terms.specs.declared.lines.Line.TheVariants.{Split, Window, Day, Dead, Bound, Unfinished}
+use Rattle.refutation_terms.specs.declared.lines.Line.TheVariants.{Split, Window, Day, Dead, Bound, Few, Free, Unfinished}
 use Rattle.refutation_terms.specs.declared.lines.Turn.{Turn}
 use Rattle.refutation_terms.specs.Log.{Log, Fits, LineFits, TurnFits}
-use Rattle.refutation_terms.specs.LogText.{raw, fields, line_text, log_text, version_text, rules_text, turn_text}
+use Rattle.refutation_terms.specs.LogText.{raw, raw_fields, line_text, log_text, version_text, rules_text, turn_text}
 use Rattle.refutation_log.proofs.OneText.{is_writable, name_there, body_feedless}
 use Rattle.crew_size.specs.Sections.{AreWholeLines, BeginsAsHeading, HasHeadingAt, AreUpToHeading}
 use Rattle.crew_size.specs.Laws.{LogsAreCutWhole}
@@ -195,21 +195,31 @@ open_other : IsOther (codes "open")
 open_other t (inl a) = let h : 111 ≡ 119 = ap (λ v. get_or v 0 0) a.1 in omega (arith, h)
 open_other t (inr a) = let h : 111 ≡ 110 = ap (λ v. get_or v 0 0) a.1 in omega (arith, h)
 
+few_other : IsOther (codes "few")
+few_other t (inl a) = let h : 102 ≡ 119 = ap (λ v. get_or v 0 0) a.1 in omega (arith, h)
+few_other t (inr a) = let h : 102 ≡ 110 = ap (λ v. get_or v 0 0) a.1 in omega (arith, h)
+
+free_other : IsOther (codes "free")
+free_other t (inl a) = let h : 102 ≡ 119 = ap (λ v. get_or v 0 0) a.1 in omega (arith, h)
+free_other t (inr a) = let h : 102 ≡ 110 = ap (λ v. get_or v 0 0) a.1 in omega (arith, h)
+
 abbrev tail_of : List (List ℕ) → List (List ℕ)
 tail_of [] = []
 tail_of (w ∷ ws) = ws
 
 line_other : (P : Instance) (line : Line) → IsOther (line_text P (raw P line))
-line_other P (Split p x) = other_line (codes "split") (tail_of (fields P (raw P (Split p x)))) split_other
-line_other P (Window rule p len) = other_line (codes "window") (tail_of (fields P (raw P (Window rule p len)))) window_other
-line_other P (Day j x over) = other_line (codes "day") (tail_of (fields P (raw P (Day j x over)))) day_other
-line_other P (Dead p len R) = other_line (codes "dead") (tail_of (fields P (raw P (Dead p len R)))) dead_other
-line_other P (Bound p turns R y) = other_line (codes "bound") (tail_of (fields P (raw P (Bound p turns R y)))) bound_other
+line_other P (Split p x) = other_line (codes "split") (tail_of (raw_fields P (raw P (Split p x)))) split_other
+line_other P (Window rule p len) = other_line (codes "window") (tail_of (raw_fields P (raw P (Window rule p len)))) window_other
+line_other P (Day j x over) = other_line (codes "day") (tail_of (raw_fields P (raw P (Day j x over)))) day_other
+line_other P (Dead p len R) = other_line (codes "dead") (tail_of (raw_fields P (raw P (Dead p len R)))) dead_other
+line_other P (Bound p turns R y) = other_line (codes "bound") (tail_of (raw_fields P (raw P (Bound p turns R y)))) bound_other
+line_other P Few = other_line (codes "few") [] few_other
+line_other P (Free turns reward R y) = other_line (codes "free") (tail_of (raw_fields P (raw P (Free turns reward R y)))) free_other
 line_other P Unfinished = other_line (codes "open") [] open_other
 
 line_plain : (P : Instance) (line : Line) → KeepsLimits P → LineFits P line → IsPlainLine (line_text P (raw P line))
 line_plain P line limits fits = record {
-  body = join_with_byte 32 (fields P (raw P line));
+  body = join_with_byte 32 (raw_fields P (raw P line));
   feedless = body_feedless P line limits fits;
   ends = refl;
   other = line_other P line;
@@ -224,20 +234,20 @@ abbrev lines_of : Instance → List ℕ → Option Turn → List Line → List (
 lines_of P named None lines = version_text false ∷ rules_text named ∷ map (λ line. line_text P (raw P line)) lines
 lines_of P named (Some t) lines = version_text true ∷ rules_text named ∷ turn_text (name_of P t.x) t.day ∷ map (λ line. line_text P (raw P line)) lines
 
-abbrev log_of : List ℕ → Option Turn → List Line → Log
-log_of named turn lines = record { named = named; turn = turn; lines = lines }
+abbrev log_of : List ℕ → Option Turn → Option ℕ → List Line → Log
+log_of named turn goal lines = record { named = named; turn = turn; goal = goal; lines = lines }
 
-by_lines : (P : Instance) (named : List ℕ) (turn : Option Turn) (lines : List Line) → concat (lines_of P named turn lines) ≡ log_text P (log_of named turn lines)
-by_lines P named None lines = sym (append_assoc (version_text false) (rules_text named) (concat (map (λ line. line_text P (raw P line)) lines)))
-by_lines P named (Some t) lines =
+by_lines : (P : Instance) (named : List ℕ) (turn : Option Turn) (goal : Option ℕ) (lines : List Line) → concat (lines_of P named turn lines) ≡ log_text P (log_of named turn goal lines)
+by_lines P named None goal lines = sym (append_assoc (version_text false) (rules_text named) (concat (map (λ line. line_text P (raw P line)) lines)))
+by_lines P named (Some t) goal lines =
     let tree = concat (map (λ line. line_text P (raw P line)) lines) in
     sym (append_assoc (version_text true) (rules_text named) (turn_text (name_of P t.x) t.day ++ tree))
     ∙ sym (append_assoc (version_text true ++ rules_text named) (turn_text (name_of P t.x) t.day) tree)
 
-all_plain : (P : Instance) (named : List ℕ) (turn : Option Turn) (lines : List Line) → KeepsLimits P → Fits P (log_of named turn lines) → AreLines (lines_of P named turn lines)
-all_plain P named None lines limits fits = (version_plain false, (rules_plain P named limits fits.named.1, lines_plain P lines limits fits.lines))
-all_plain P named (Some t) lines limits fits = (version_plain true, (rules_plain P named limits fits.named.1, (turn_plain P t limits fits.turn, lines_plain P lines limits fits.lines)))
+all_plain : (P : Instance) (named : List ℕ) (turn : Option Turn) (goal : Option ℕ) (lines : List Line) → KeepsLimits P → Fits P (log_of named turn goal lines) → AreLines (lines_of P named turn lines)
+all_plain P named None goal lines limits fits = (version_plain false, (rules_plain P named limits fits.named.1, lines_plain P lines limits fits.lines))
+all_plain P named (Some t) goal lines limits fits = (version_plain true, (rules_plain P named limits fits.named.1, (turn_plain P t limits fits.turn, lines_plain P lines limits fits.lines)))
 
 pub logs_are_cut_whole : LogsAreCutWhole
 logs_are_cut_whole P g rest limits fits place =
-    subst (λ t. AreUpToHeading t rest) (by_lines P g.named g.turn g.lines) (cut_of_lines (lines_of P g.named g.turn g.lines) rest (all_plain P g.named g.turn g.lines limits fits) place)
+    subst (λ t. AreUpToHeading t rest) (by_lines P g.named g.turn g.goal g.lines) (cut_of_lines (lines_of P g.named g.turn g.lines) rest (all_plain P g.named g.turn g.goal g.lines limits fits) place)

@@ -9,7 +9,7 @@ use Rattle.refutation_terms.specs.Log.{Log, Passes}
 use Rattle.refutation_terms.specs.LogText.{log_text}
 use Rattle.crew_size.specs.Sizes.{with_weeks, IsSize}
 use Rattle.crew_size.specs.Texts.{refuted_line, roster_line, none_line, section_text, sections_text}
-use Rattle.crew_size.specs.Sections.{BeginsAsHeading, AreUpToHeading, ArePassing, StandsBehind, IsHeadingsPlace, IsNextSize, IsLastSize, IsHeading, line_behind}
+use Rattle.crew_size.specs.Sections.{BeginsAsHeading, AreUpToHeading, ArePassing, StandsBehindLogs, IsHeadingsPlace, IsNextSize, IsLastSize, IsHeading, line_behind}
 use Rattle.crew_size.specs.Verdict.{IsStaffVerdict}
 use Rattle.crew_size.specs.Places.{AreSizes, IsNext, MayStand, heading_line, first_size}
 use Rattle.crew_size.specs.Laws.{StaffTextsHaveOneVerdict}
@@ -43,7 +43,7 @@ record IsSaid (P : Instance) (text : List ℕ) (o : Outcome) : Type 0 where
   low : ℕ
   logs : List Log
   rest : List ℕ
-  stands : StandsBehind P text low logs rest
+  stands : StandsBehindLogs P text low logs rest
   said : OfRest P (sizes_of low logs) (line_of P low logs) rest o
 
 stands_as : (P : Instance) (low : ℕ) (logs : List Log) (h : Heading) (line : List ℕ) → MayStand P (sizes_of low logs) h → line ≡ heading_line h → IsHeading P low logs line
@@ -335,7 +335,7 @@ one_low P low g h logs others rest other v w limits are are' place place' e said
     by (inr (inl f)) = absurd (not_said P low (g ∷ logs) (low + length (g ∷ logs)) rest v limits (next_behind P low g logs rest f) f said)
     by (inr (inr f)) = absurd (not_said P low (h ∷ others) (low + length (h ∷ others)) other w limits (next_behind P low h others other f) f said')
 
-one_by : (P : Instance) (text : List ℕ) (low : ℕ) (logs : List Log) (rest : List ℕ) (high : ℕ) (others : List Log) (other : List ℕ) (v w : Result Staffed StaffRefusal) → KeepsLimits P → StandsBehind P text low logs rest → StandsBehind P text high others other → SaidOf P low logs rest v → SaidOf P high others other w → v ≡ w
+one_by : (P : Instance) (text : List ℕ) (low : ℕ) (logs : List Log) (rest : List ℕ) (high : ℕ) (others : List Log) (other : List ℕ) (v w : Result Staffed StaffRefusal) → KeepsLimits P → StandsBehindLogs P text low logs rest → StandsBehindLogs P text high others other → SaidOf P low logs rest v → SaidOf P high others other w → v ≡ w
 one_by P text low [] rest high [] other v w limits s t said said' =
     let same : rest ≡ other = sym s.whole ∙ t.whole in
     let here : OfRest P None (line_behind []) rest (Some w) = subst (λ (r : List ℕ). OfRest P None (line_behind []) r (Some w)) (sym same) said' in
@@ -351,7 +351,7 @@ one_by P text low (g ∷ logs) rest high (h ∷ others) other v w limits s t sai
     let first' = first_log P high h others t.passing in
     let once = refuted_once low high (log_text (with_weeks P low) g ++ (sections_text P (low + 1) logs ++ rest)) (log_text (with_weeks P high) h ++ (sections_text P (high + 1) others ++ other)) (size_is_short P low first.0) (size_is_short P high first'.0)
     (sym (first_section P low g logs rest) ∙ sym s.whole ∙ t.whole ∙ first_section P high h others other) in
-    let t' : StandsBehind P text low (h ∷ others) other = subst (λ n. StandsBehind P text n (h ∷ others) other) (sym once.0) t in
+    let t' : StandsBehindLogs P text low (h ∷ others) other = subst (λ n. StandsBehindLogs P text n (h ∷ others) other) (sym once.0) t in
     let said_here : SaidOf P low (h ∷ others) other w = subst (λ n. SaidOf P n (h ∷ others) other w) (sym once.0) said' in
     one_low P low g h logs others rest other v w limits s.passing t'.passing s.place t'.place (sym s.whole ∙ t'.whole) said said_here
 

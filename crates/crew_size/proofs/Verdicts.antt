@@ -17,7 +17,7 @@ use Rattle.refutation_terms.specs.Log.{Log}
 use Rattle.refutation_terms.specs.Verdict.{IsNextLine, IsRefused, IsAccepted}
 use Rattle.crew_size.specs.Sizes.{with_weeks, IsSize}
 use Rattle.crew_size.specs.Texts.{refuted_line, roster_line, none_line, sections_text}
-use Rattle.crew_size.specs.Sections.{ArePassing, StandsBehind, AreUpToHeading, IsNextSize, IsLastSize, IsHeading, line_behind}
+use Rattle.crew_size.specs.Sections.{ArePassing, StandsBehindLogs, AreUpToHeading, IsNextSize, IsLastSize, IsHeading, line_behind}
 use Rattle.crew_size.specs.Verdict.{EndsWithRoster, EndsWithRight, EndsWithNone, SpellsRight, HasNoHeadingAt, GoesOnAt, HasLongRosterAt, HasRefusedLog, HasRefusedRoster, HasBrokenRoster, EndsTooEarly}
 use Rattle.crew_size.specs.Places.{Place, IsPlace, IsAt, AreSizes, IsNext, IsLast, MayStand, IsWritten, heading_line, first_size}
 use Rattle.crew_size.specs.declared.heading.Heading.{Heading}
@@ -36,8 +36,8 @@ at_start P text place a b c = record {
 }
 
 -- the text stands so with the same rest
-along : (P : Instance) (text : List ℕ) (low : ℕ) (logs : List Log) (rest other : List ℕ) → rest ≡ other → StandsBehind P text low logs rest → StandsBehind P text low logs other
-along P text low logs rest other e h = subst (StandsBehind P text low logs) e h
+along : (P : Instance) (text : List ℕ) (low : ℕ) (logs : List Log) (rest other : List ℕ) → rest ≡ other → StandsBehindLogs P text low logs rest → StandsBehindLogs P text low logs other
+along P text low logs rest other e h = subst (StandsBehindLogs P text low logs) e h
 
 pub ends_here : (P : Instance) (text : List ℕ) (place : Place) → IsPlace P text place → place.rest ≡ [] → EndsTooEarly P text
 ends_here P text place h e = record {
@@ -90,7 +90,7 @@ no_heading_here P text place line more h e next none = record {
 
 -- the log of a section
 
-log_passed_by : (P : Instance) (text : List ℕ) (sizes : Option (ℕ × ℕ)) (line m : ℕ) (bytes log rest : List ℕ) (place : Place) (low : ℕ) (logs : List Log) (g : Log) → IsAccepted (with_weeks P m) log g → IsNext P sizes m → bytes ≡ log ++ rest → AreUpToHeading log rest → place.sizes ≡ Some (first_size sizes m, m + 1) → place.rest ≡ rest → place.line ≡ line + (1 + feeds log) → StandsBehind P text low logs (refuted_line m ++ bytes) → AreSizes low logs sizes → line ≡ line_behind (sections_text P low logs) → IsPlace P text place
+log_passed_by : (P : Instance) (text : List ℕ) (sizes : Option (ℕ × ℕ)) (line m : ℕ) (bytes log rest : List ℕ) (place : Place) (low : ℕ) (logs : List Log) (g : Log) → IsAccepted (with_weeks P m) log g → IsNext P sizes m → bytes ≡ log ++ rest → AreUpToHeading log rest → place.sizes ≡ Some (first_size sizes m, m + 1) → place.rest ≡ rest → place.line ≡ line + (1 + feeds log) → StandsBehindLogs P text low logs (refuted_line m ++ bytes) → AreSizes low logs sizes → line ≡ line_behind (sections_text P low logs) → IsPlace P text place
 log_passed_by P text sizes line m bytes log rest place low [] g accepted next e cut a b c stands are number =
     let size : IsSize P m = next_of P low [] sizes m are next in
     let here : m ≡ m + 0 = omega arith in
@@ -98,7 +98,7 @@ log_passed_by P text sizes line m bytes log rest place low [] g accepted next e 
     record {
       low = m;
       logs = g ∷ [];
-      stands = subst (StandsBehind P text m (g ∷ [])) (sym b) (one_more_stands P text m m [] g log rest (none_passing P m) here size accepted.0 accepted.1 whole cut);
+      stands = subst (StandsBehindLogs P text m (g ∷ [])) (sym b) (one_more_stands P text m m [] g log rest (none_passing P m) here size accepted.0 accepted.1 whole cut);
       sizes = a ∙ ap (λ (s : Option (ℕ × ℕ)). Some (first_size s m, m + 1)) are ∙ sizes_one_more m m [] g here;
       line = c ∙ ap (λ n. n + (1 + feeds log)) number ∙ sym (line_behind_one_more P m m [] g log here size accepted.0);
     }
@@ -108,7 +108,7 @@ log_passed_by P text sizes line m bytes log rest place low (h ∷ logs) g accept
     record {
       low = low;
       logs = (h ∷ logs) ++ g ∷ [];
-      stands = subst (StandsBehind P text low ((h ∷ logs) ++ g ∷ [])) (sym b) (one_more_stands P text low m (h ∷ logs) g log rest stands.passing is.1 is.0 accepted.0 accepted.1 whole cut);
+      stands = subst (StandsBehindLogs P text low ((h ∷ logs) ++ g ∷ [])) (sym b) (one_more_stands P text low m (h ∷ logs) g log rest stands.passing is.1 is.0 accepted.0 accepted.1 whole cut);
       sizes = a ∙ ap (λ (s : Option (ℕ × ℕ)). Some (first_size s m, m + 1)) are ∙ sizes_one_more low m (h ∷ logs) g is.1;
       line = c ∙ ap (λ n. n + (1 + feeds log)) number ∙ sym (line_behind_one_more P low m (h ∷ logs) g log is.1 is.0 accepted.0);
     }
@@ -170,7 +170,7 @@ roster_broken P text sizes line m bytes cells broken short next spelled breaks a
   breaks = breaks;
 }
 
-right_by : (P : Instance) (text : List ℕ) (sizes : Option (ℕ × ℕ)) (m : ℕ) (bytes : List ℕ) (low : ℕ) (logs : List Log) → length bytes ≤ LONGEST_FILE → IsNext P sizes m → SpellsRight P m bytes → StandsBehind P text low logs (roster_line m ++ bytes) → AreSizes low logs sizes → EndsWithRight P text (first_size sizes m) m
+right_by : (P : Instance) (text : List ℕ) (sizes : Option (ℕ × ℕ)) (m : ℕ) (bytes : List ℕ) (low : ℕ) (logs : List Log) → length bytes ≤ LONGEST_FILE → IsNext P sizes m → SpellsRight P m bytes → StandsBehindLogs P text low logs (roster_line m ++ bytes) → AreSizes low logs sizes → EndsWithRight P text (first_size sizes m) m
 right_by P text sizes m bytes low [] short next right stands are =
     subst (λ (s : Option (ℕ × ℕ)). EndsWithRight P text (first_size s m) m) (sym are)
     (record {
@@ -219,7 +219,7 @@ goes_on P text sizes line last bytes more is at =
       number = omega (arith, one, all, number);
     }
 
-none_by : (P : Instance) (text : List ℕ) (sizes : Option (ℕ × ℕ)) (last : ℕ) (low : ℕ) (logs : List Log) → IsLastSize low logs last → StandsBehind P text low logs (none_line last) → AreSizes low logs sizes → EndsWithNone P text (first_size sizes last) last
+none_by : (P : Instance) (text : List ℕ) (sizes : Option (ℕ × ℕ)) (last : ℕ) (low : ℕ) (logs : List Log) → IsLastSize low logs last → StandsBehindLogs P text low logs (none_line last) → AreSizes low logs sizes → EndsWithNone P text (first_size sizes last) last
 none_by P text sizes last low [] is stands are = absurd (omega (arith, is.0))
 none_by P text sizes last low (h ∷ logs) is stands are =
     subst (λ (s : Option (ℕ × ℕ)). EndsWithNone P text (first_size s last) last) (sym are)

@@ -14,7 +14,7 @@ EndFits P m (Least s) = IsSize P m × (s.days ≡ P.days) × IsRoster (with_week
 EndFits P m NoneTo = Unit {0}
 EndFits P m (Undecided g) = IsSize P m × Fits (with_weeks P m) g
 
--- each log and the end fit the problem with so many weeks, and there is a log where no roster was found
+-- each log and the end fit the problem with their number of weeks, and there is a log where no roster was found
 pub record FitsSizes (P : Instance) (run : Staff) : Type 0 where
   pub sizes : (k : ℕ) (g : Log) → slice_get run.logs k ≡ Some g → IsSize P (run.low + k)
   pub logs : (k : ℕ) (g : Log) → slice_get run.logs k ≡ Some g → Fits (with_weeks P (run.low + k)) g

@@ -25,7 +25,8 @@ HasRoster P m = (s : List Symbol) × MeetsAll (with_weeks P m) s
 abbrev pub HasNoRoster : Instance → ℕ → Type 0
 HasNoRoster P m = (s : List Symbol) → MeetsAll (with_weeks P m) s → ⊥
 
--- what the sizes say: the last one has a roster, and none from the first on that is smaller has one; or none from the first to the last has one
+-- what the sizes say: the last one has a roster, and none from the first on that is smaller has one; or none from the
+-- first to the last has one
 abbrev pub IsDecided : Instance → Staffed → Type 0
 IsDecided P (Least low m) = (low ≤ m) × HasRoster P m × ((k : ℕ) → low ≤ k → k < m → HasNoRoster P k)
 IsDecided P (NoneTo low last) = (low ≤ last) × ((k : ℕ) → low ≤ k → k ≤ last → HasNoRoster P k)
@@ -40,9 +41,10 @@ decision_at low m (Ends.Undecided g) = None
 abbrev pub decision_of : Staff → Option Staffed
 decision_of run = decision_at run.low (next_size run) run.end
 
--- what an accepted text says is so
+-- what an accepted text says is true
 abbrev pub AcceptedTextsDecide : Type 0
-AcceptedTextsDecide = (P : Instance) (text : List ℕ) (staffed : Staffed) → IsStaffAccepted P text staffed → IsDecided P staffed
+AcceptedTextsDecide =
+    (P : Instance) (text : List ℕ) (staffed : Staffed) → IsStaffAccepted P text staffed → IsDecided P staffed
 
 -- and so is what a search gives
 abbrev pub SearchesDecide : Type 0
@@ -59,8 +61,10 @@ StaffTextsHaveOneVerdict =
 -- the text of what a search gives is accepted where it decides
 abbrev pub PrintedRunsAreAccepted : Type 0
 PrintedRunsAreAccepted =
-    (P : Instance) (low high budget : ℕ) (run : Staff) (staffed : Staffed) → KeepsLimits P → 1 ≤ low → low ≤ high → IsSize P high
-    → IsStaffed P low high budget run → decision_of run ≡ Some staffed → IsStaffVerdict P (staff_text P run) (Ok staffed)
+    (P : Instance) (low high budget : ℕ) (run : Staff) (staffed : Staffed)
+    → KeepsLimits P → 1 ≤ low → low ≤ high → IsSize P high
+    → IsStaffed P low high budget run → decision_of run ≡ Some staffed
+    → IsStaffVerdict P (staff_text P run) (Ok staffed)
 
 -- two searches of the same sizes that decide say the same
 abbrev pub SearchesAgree : Type 0

@@ -8,14 +8,14 @@ use Rattle.rwsp_model.specs.declared.fail.Fail.{Fail}
 use Rattle.refutation_terms.specs.Log.{Log}
 use Rattle.crew_size.specs.Sizes.{IsSize}
 use Rattle.crew_size.specs.Texts.{sections_text, refuted_line, roster_line, none_line}
-use Rattle.crew_size.specs.Sections.{StandsBehind, line_behind}
+use Rattle.crew_size.specs.Sections.{StandsBehindLogs, line_behind}
 use Rattle.crew_size.specs.Verdict.{IsStaffAccepted, IsStaffRefused}
 use Rattle.crew_size.specs.declared.verdict.Staffed.{Staffed}
 use Rattle.crew_size.specs.declared.verdict.StaffRefusal.{StaffRefusal}
 use Rattle.crew_size.specs.declared.heading.Heading.{Heading}
 use Rattle.crew_size.specs.declared.heading.Heading.TheVariants.{Refuted, Found, NoneTo}
 
--- the first size and the next one, where there is a section; the bytes that are left, and the number of their first line
+-- the first size and the next one, where there is a section; the bytes that are left, and their first line's number
 pub record Place : Type 0 where
   pub sizes : Option (ℕ × ℕ)
   pub rest : List ℕ
@@ -30,7 +30,7 @@ AreSizes low (g ∷ logs) sizes = sizes ≡ Some (low, low + length (g ∷ logs)
 pub record IsPlace (P : Instance) (text : List ℕ) (place : Place) : Type 0 where
   pub low : ℕ
   pub logs : List Log
-  pub stands : StandsBehind P text low logs place.rest
+  pub stands : StandsBehindLogs P text low logs place.rest
   pub sizes : AreSizes low logs place.sizes
   pub line : place.line ≡ line_behind (sections_text P low logs)
 
@@ -60,7 +60,7 @@ abbrev pub IsLast : Option (ℕ × ℕ) → ℕ → Type 0
 IsLast None last = ⊥
 IsLast (Some sizes) last = last + 1 ≡ sizes.1
 
--- the heading may stand behind sections of these sizes
+-- the heading may follow sections of these sizes
 abbrev pub MayStand : Instance → Option (ℕ × ℕ) → Heading → Type 0
 MayStand P sizes (Refuted m) = IsNext P sizes m
 MayStand P sizes (Found m) = IsNext P sizes m
@@ -70,7 +70,7 @@ MayStand P sizes (NoneTo last) = IsLast sizes last
 pub record IsAt (P : Instance) (text : List ℕ) (sizes : Option (ℕ × ℕ)) (n : ℕ) (line bytes : List ℕ) : Type 0 where
   pub low : ℕ
   pub logs : List Log
-  pub stands : StandsBehind P text low logs (line ++ bytes)
+  pub stands : StandsBehindLogs P text low logs (line ++ bytes)
   pub known : AreSizes low logs sizes
   pub number : n ≡ line_behind (sections_text P low logs)
 
@@ -97,4 +97,7 @@ IsFurther place before = IsShort place × (length place.rest < length before.res
 
 -- what was answered at a heading: the text has been read up to a further place, or this is the verdict on it
 abbrev pub Answers : Instance → List ℕ → Place → Result (Option Staffed) (Fail StaffRefusal) → Type 0
-Answers P text place result = MatchAnswer result (λ found. MatchOption found (IsPlace P text place) (IsStaffAccepted P text)) (IsStaffRefused P text)
+Answers P text place result =
+    MatchAnswer result
+    (λ found. MatchOption found (IsPlace P text place) (IsStaffAccepted P text))
+    (IsStaffRefused P text)

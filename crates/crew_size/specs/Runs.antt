@@ -9,14 +9,16 @@ use Rattle.crew_size.specs.Texts.{Staff}
 use Rattle.crew_size.specs.declared.run.StaffEnd.{StaffEnd}
 use Rattle.crew_size.specs.declared.run.StaffEnd.TheVariants.{Least, NoneTo, Undecided}
 
--- the end is what a plan for m weeks finds, a roster or a log that has spent the budget; or all sizes up to the last one were refuted
+-- the end is what a plan for m weeks finds, a roster or a log that has spent the budget; or all sizes up to the last
+-- one were refuted
 abbrev pub IsEnd : Instance → (high budget m : ℕ) → StaffEnd → Type 0
 IsEnd P high budget m (Least s) = (m ≤ high) × IsPlanned (with_weeks P m) budget (Founds.Roster s)
 IsEnd P high budget m NoneTo = m ≡ high + 1
 IsEnd P high budget m (Undecided g) = (m ≤ high) × IsPlanned (with_weeks P m) budget (Founds.Undecided g)
 
--- each size from the first on has the log of a plan that finds no roster for so many weeks, up to the end
+-- each size from the first on has the log of a plan that finds no roster of that size, up to the end
 pub record IsStaffed (P : Instance) (low high budget : ℕ) (run : Staff) : Type 0 where
   pub first : run.low ≡ low
-  pub refuted : (k : ℕ) (g : Log) → slice_get run.logs k ≡ Some g → IsPlanned (with_weeks P (low + k)) budget (Founds.NoRoster g)
+  pub refuted : (k : ℕ) (g : Log)
+      → slice_get run.logs k ≡ Some g → IsPlanned (with_weeks P (low + k)) budget (Founds.NoRoster g)
   pub end : IsEnd P high budget (low + length run.logs) run.end

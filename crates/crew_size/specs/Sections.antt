@@ -1,4 +1,4 @@
--- What stands where in a staff text.
+-- The sections and headings of a staff text, and their places.
 use Rattle.std.specs.Prelude.{◌≡◌, ◌⊎◌, ℕ, ◌+◌, ◌<◌, List, [], ◌∷◌, ◌++◌, length, take, drop, slice_get, Some, count_by, ◌==◌, codes}
 use Rattle.rwsp_terms.specs.Instance.{Instance}
 use Rattle.refutation_terms.specs.Log.{Log, Passes}
@@ -7,7 +7,8 @@ use Rattle.crew_size.specs.Texts.{sections_text, refuted_line, roster_line, none
 
 -- the bytes begin as a heading does
 abbrev pub BeginsAsHeading : List ℕ → Type 0
-BeginsAsHeading bytes = ((more : List ℕ) × (bytes ≡ codes "weeks " ++ more)) ⊎ ((more : List ℕ) × (bytes ≡ codes "none " ++ more))
+BeginsAsHeading bytes =
+    ((more : List ℕ) × (bytes ≡ codes "weeks " ++ more)) ⊎ ((more : List ℕ) × (bytes ≡ codes "none " ++ more))
 
 -- no bytes, or some that end with LF
 abbrev pub AreWholeLines : List ℕ → Type 0
@@ -17,7 +18,8 @@ AreWholeLines bytes = (bytes ≡ []) ⊎ ((body : List ℕ) × (bytes ≡ body +
 abbrev pub HasHeadingAt : List ℕ → ℕ → Type 0
 HasHeadingAt bytes i = AreWholeLines (take i bytes) × BeginsAsHeading (drop i bytes)
 
--- the bytes are all lines of a text up to the next that begins as a heading does, or up to its end, and the rest follows them
+-- the bytes are all lines of a text up to the next that begins as a heading does, or up to its end, and the rest
+-- follows them
 pub record AreUpToHeading (bytes rest : List ℕ) : Type 0 where
   pub alone : (i : ℕ) → i < length bytes → HasHeadingAt (bytes ++ rest) i → ⊥
   pub cut : (rest ≡ []) ⊎ HasHeadingAt (bytes ++ rest) (length bytes)
@@ -27,13 +29,14 @@ pub record ArePassing (P : Instance) (low : ℕ) (logs : List Log) : Type 0 wher
   pub sizes : (k : ℕ) (g : Log) → slice_get logs k ≡ Some g → IsSize P (low + k)
   pub passes : (k : ℕ) (g : Log) → slice_get logs k ≡ Some g → Passes (with_weeks P (low + k)) g
 
--- behind a section a heading's place is where a line begins as a heading does, or the text ends; in front of all sections it is the start
+-- behind a section a heading's place is where a line begins as a heading does, or the text ends; in front of all
+-- sections it is the start
 abbrev pub IsHeadingsPlace : List Log → List ℕ → Type 0
 IsHeadingsPlace [] rest = Unit {0}
 IsHeadingsPlace (g ∷ logs) rest = (rest ≡ []) ⊎ BeginsAsHeading rest
 
 -- the text begins with sections whose logs pass, and the rest of it begins at a heading's place
-pub record StandsBehind (P : Instance) (text : List ℕ) (low : ℕ) (logs : List Log) (rest : List ℕ) : Type 0 where
+pub record StandsBehindLogs (P : Instance) (text : List ℕ) (low : ℕ) (logs : List Log) (rest : List ℕ) : Type 0 where
   pub passing : ArePassing P low logs
   pub whole : text ≡ sections_text P low logs ++ rest
   pub place : IsHeadingsPlace logs rest
@@ -47,7 +50,7 @@ IsNextSize P low (g ∷ logs) m = IsSize P m × (m ≡ low + length (g ∷ logs)
 abbrev pub IsLastSize : ℕ → List Log → ℕ → Type 0
 IsLastSize low logs last = (0 < length logs) × (last + 1 ≡ low + length logs)
 
--- a heading that may stand behind the sections
+-- a heading that may follow the sections
 abbrev pub IsHeading : Instance → ℕ → List Log → List ℕ → Type 0
 IsHeading P low logs line =
     ((m : ℕ) × IsNextSize P low logs m × ((line ≡ refuted_line m) ⊎ (line ≡ roster_line m)))

@@ -29,7 +29,7 @@ undecided_line m = heading (codes "weeks ") m (codes " undecided")
 abbrev pub none_line : ℕ → List ℕ
 none_line last = heading (codes "none to ") last []
 
--- a section: its heading, and the text of the log for the problem with so many weeks
+-- a section: its heading, and the text of the log for the problem with that number of weeks
 abbrev pub section_text : Instance → ℕ → Log → List ℕ
 section_text P m g = refuted_line m ++ log_text (with_weeks P m) g
 

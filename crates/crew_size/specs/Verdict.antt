@@ -14,15 +14,16 @@ use Rattle.refutation_terms.specs.Log.{Log}
 use Rattle.refutation_terms.specs.Verdict.{IsNextLine, IsRefused}
 use Rattle.crew_size.specs.Sizes.{with_weeks}
 use Rattle.crew_size.specs.Texts.{refuted_line, roster_line, none_line, sections_text}
-use Rattle.crew_size.specs.Sections.{StandsBehind, AreUpToHeading, IsNextSize, IsLastSize, IsHeading, line_behind}
+use Rattle.crew_size.specs.Sections.{StandsBehindLogs, AreUpToHeading, IsNextSize, IsLastSize, IsHeading, line_behind}
 use Rattle.crew_size.specs.declared.verdict.Staffed.{Staffed}
 use Rattle.crew_size.specs.declared.verdict.Staffed.TheVariants.{Least, NoneTo}
 use Rattle.crew_size.specs.declared.verdict.StaffRefusal.{StaffRefusal}
 use Rattle.crew_size.specs.declared.verdict.StaffRefusal.TheVariants as Refusals
 
 -- behind sections from the first size on, the text ends with these bytes for a roster of the next size
-pub record EndsWithRoster (P : Instance) (text : List ℕ) (low : ℕ) (logs : List Log) (m : ℕ) (bytes : List ℕ) : Type 0 where
-  pub stands : StandsBehind P text low logs (roster_line m ++ bytes)
+pub record EndsWithRoster
+    (P : Instance) (text : List ℕ) (low : ℕ) (logs : List Log) (m : ℕ) (bytes : List ℕ) : Type 0 where
+  pub stands : StandsBehindLogs P text low logs (roster_line m ++ bytes)
   pub next : IsNextSize P low logs m
   pub short : length bytes ≤ LONGEST_FILE
 
@@ -30,7 +31,8 @@ pub record EndsWithRoster (P : Instance) (text : List ℕ) (low : ℕ) (logs : L
 abbrev pub SpellsRight : Instance → ℕ → List ℕ → Type 0
 SpellsRight P m bytes = (s : List Symbol) × SpellsRoster (with_weeks P m) bytes s × MeetsAll (with_weeks P m) s
 
--- the text ends with a roster that meets every rule. The first size is that of the first section, or that of the roster where there is none
+-- the text ends with a roster that meets every rule. The first size is that of the first section, or that of the roster
+-- where there is none
 pub record EndsWithRight (P : Instance) (text : List ℕ) (low m : ℕ) : Type 0 where
   pub logs : List Log
   pub bytes : List ℕ
@@ -42,32 +44,32 @@ pub record EndsWithRight (P : Instance) (text : List ℕ) (low m : ℕ) : Type 0
 pub record EndsWithNone (P : Instance) (text : List ℕ) (low last : ℕ) : Type 0 where
   pub logs : List Log
   pub last_size : IsLastSize low logs last
-  pub stands : StandsBehind P text low logs (none_line last)
+  pub stands : StandsBehindLogs P text low logs (none_line last)
 
 -- what the text decides, where it is accepted: the first size and the last one
 abbrev pub IsStaffAccepted : Instance → List ℕ → Staffed → Type 0
 IsStaffAccepted P text (Least low m) = EndsWithRight P text low m
 IsStaffAccepted P text (NoneTo low last) = EndsWithNone P text low last
 
--- line n stands in a heading's place and is no heading that may stand there; one with an undecided end never may
+-- line n is in a heading's place and is no heading that may be there; one with an undecided end never may
 pub record HasNoHeadingAt (P : Instance) (text : List ℕ) (n : ℕ) : Type 0 where
   pub low : ℕ
   pub logs : List Log
   pub line : List ℕ
   pub rest : List ℕ
-  pub stands : StandsBehind P text low logs (line ++ rest)
+  pub stands : StandsBehindLogs P text low logs (line ++ rest)
   pub is_line : IsNextLine line rest
   pub no_heading : IsHeading P low logs line → ⊥
   pub number : n ≡ line_behind (sections_text P low logs)
 
--- line n stands behind the end without a roster
+-- line n is behind the end without a roster
 pub record GoesOnAt (P : Instance) (text : List ℕ) (n : ℕ) : Type 0 where
   pub low : ℕ
   pub logs : List Log
   pub last : ℕ
   pub rest : List ℕ
   pub last_size : IsLastSize low logs last
-  pub stands : StandsBehind P text low logs (none_line last ++ rest)
+  pub stands : StandsBehindLogs P text low logs (none_line last ++ rest)
   pub more : rest ≢ []
   pub number : n ≡ line_behind (sections_text P low logs ++ none_line last)
 
@@ -77,7 +79,7 @@ pub record HasLongRosterAt (P : Instance) (text : List ℕ) (n : ℕ) : Type 0 w
   pub logs : List Log
   pub m : ℕ
   pub bytes : List ℕ
-  pub stands : StandsBehind P text low logs (roster_line m ++ bytes)
+  pub stands : StandsBehindLogs P text low logs (roster_line m ++ bytes)
   pub next : IsNextSize P low logs m
   pub long : LONGEST_FILE < length bytes
   pub number : n ≡ line_behind (sections_text P low logs)
@@ -88,7 +90,7 @@ pub record HasRefusedLog (P : Instance) (text : List ℕ) (m : ℕ) (why : LogRe
   pub logs : List Log
   pub bytes : List ℕ
   pub rest : List ℕ
-  pub stands : StandsBehind P text low logs (refuted_line m ++ bytes ++ rest)
+  pub stands : StandsBehindLogs P text low logs (refuted_line m ++ bytes ++ rest)
   pub next : IsNextSize P low logs m
   pub log : AreUpToHeading bytes rest
   pub refused : IsRefused (with_weeks P m) bytes why
@@ -115,7 +117,7 @@ pub record HasBrokenRoster (P : Instance) (text : List ℕ) (m : ℕ) (broken : 
 pub record EndsTooEarly (P : Instance) (text : List ℕ) : Type 0 where
   pub low : ℕ
   pub logs : List Log
-  pub stands : StandsBehind P text low logs []
+  pub stands : StandsBehindLogs P text low logs []
 
 -- the first failure of the text
 abbrev pub IsStaffRefused : Instance → List ℕ → StaffRefusal → Type 0

@@ -12,8 +12,8 @@ use std::alloc::Global;
 use std::thread::Threads;
 
 /// The verdict on a staff text: the first and the last number of weeks that it decides, where the log of each section
-/// passes and a roster at the end meets every rule; else its first failure. Each log is judged by the workers, who pass the
-/// gate.
+/// passes and a roster at the end meets every rule; else its first failure. Each log is judged by the workers, who pass
+/// the gate.
 pub fn check_staff<R: Threads + Sync, G: Gate>(
     rt: &R,
     alloc: Global,

@@ -11,11 +11,11 @@ use rwsp_text::number;
 /// A heading that a text may have where it is accepted.
 #[derive(Clone, Copy, Debug, PartialEq, Eq)]
 pub enum Heading {
-    /// So many weeks have no roster; the log of that follows.
+    /// This number of weeks has no roster; the log that shows it follows.
     Refuted(u32),
-    /// So many weeks have the roster that follows.
+    /// This number of weeks has the roster that follows.
     Found(u32),
-    /// None up to so many weeks has a roster.
+    /// No number of weeks up to this one has a roster.
     NoneTo(u32),
 }
 
@@ -38,7 +38,7 @@ pub fn heading_of(line: &[u8]) -> Option<Heading>
     }
 }
 
-/// Whether the heading may stand behind sections of these sizes, the first and the next one.
+/// Whether the heading may follow sections of these sizes, the first and the next one.
 pub fn may_stand(problem: &Problem, sizes: Option<(u32, u32)>, heading: Heading) -> bool
     requires { IsWritten heading }
     ensures { MatchBool result (MayStand problem.now sizes heading) (MayStand problem.now sizes heading → ⊥) }
@@ -100,14 +100,18 @@ fn number_between(line: &[u8], word: &[u8], close: &[u8]) -> Option<u32>
 
 // What follows a word.
 fn behind<'a>(line: &'a [u8], word: &[u8]) -> Option<&'a [u8]>
-    ensures { MatchOption result ((rest : List ℕ) → line.now ≢ word.now ++ rest) (λ rest. line.now ≡ word.now ++ rest.now) }
+    ensures { MatchOption result
+        ((rest : List ℕ) → line.now ≢ word.now ++ rest)
+        (λ rest. line.now ≡ word.now ++ rest.now) }
 {
     line.strip_prefix(word)
 }
 
-// What stands in front of the close of a line.
+// What is in front of the close of a line.
 fn ahead<'a>(line: &'a [u8], close: &[u8]) -> Option<&'a [u8]>
-    ensures { MatchOption result ((front : List ℕ) → line.now ≢ front ++ close.now) (λ front. line.now ≡ front.now ++ close.now) }
+    ensures { MatchOption result
+        ((front : List ℕ) → line.now ≢ front ++ close.now)
+        (λ front. line.now ≡ front.now ++ close.now) }
 {
     line.strip_suffix(close)
 }

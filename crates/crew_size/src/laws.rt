@@ -1,7 +1,7 @@
 // Laws of staff texts and of the runs that they are printed of. Each function's contract is the law.
 ghost use Rattle.crew_size.specs.Laws.{AcceptedTextsDecide, SearchesDecide, SearchesAgree, EnoughBudgetDecides, PrintedRunsAreAccepted, StaffTextsHaveOneVerdict, LogsAreCutWhole};
 
-/// An accepted text that ends in a roster means that so many weeks have a roster, and that no smaller number from the
+/// An accepted text that ends in a roster means that its weeks have a roster, and that no smaller number from the
 /// first on has one; one that ends without means that none of its numbers has one.
 pub fn accepted_texts_decide()
     ensures { AcceptedTextsDecide }
@@ -27,8 +27,8 @@ pub fn printed_runs_are_accepted()
     ensures { PrintedRunsAreAccepted }
 {}
 
-/// A staff text has one verdict at most, for each valid problem. So what is printed of a search that decides has no other
-/// verdict.
+/// A staff text has one verdict at most, for each valid problem. So what is printed of a search that decides has no
+/// other verdict.
 pub fn staff_texts_have_one_verdict()
     ensures { StaffTextsHaveOneVerdict }
 {}

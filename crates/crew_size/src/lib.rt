@@ -1,5 +1,5 @@
-//! How few weeks, and so how few employees, are enough: a problem is planned for one number of weeks after the other, and
-//! each number that is too small has its refutation. The text of such a run is printed, and checked by itself.
+//! How few weeks, and so how few employees, are enough: a problem is planned for one number of weeks after the other,
+//! and each number that is too small has its refutation. The text of such a run is printed, and checked by itself.
 #![tactic(auto)]
 
 mod check;

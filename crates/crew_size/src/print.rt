@@ -32,7 +32,7 @@ pub fn print_staff(alloc: Global, problem: &Problem, run: &StaffRun) -> Result<V
     Ok(out)
 }
 
-// Appends the section of so many weeks.
+// Appends the section of this number of weeks.
 fn put_section(
     alloc: Global,
     out: &mut Vec<u8>,
@@ -48,7 +48,7 @@ fn put_section(
     put_log(alloc, out, problem, weeks, log)
 }
 
-// Appends the end, where so many weeks come next.
+// Appends the end, where this number of weeks comes next.
 fn put_end(
     alloc: Global,
     out: &mut Vec<u8>,
@@ -84,7 +84,7 @@ fn put_heading(out: &mut Vec<u8>, word: &[u8], number: u32, what: &[u8]) -> Resu
     Ok(())
 }
 
-// Appends the text of a log for so many weeks.
+// Appends the text of a log for this number of weeks.
 fn put_log(
     alloc: Global,
     out: &mut Vec<u8>,
@@ -102,7 +102,7 @@ fn put_log(
     Ok(())
 }
 
-// Appends the text of a roster of so many weeks.
+// Appends the text of a roster of this number of weeks.
 fn put_roster(
     alloc: Global,
     out: &mut Vec<u8>,
@@ -113,7 +113,8 @@ fn put_roster(
     requires size { IsSize problem.now weeks }
     requires roster { IsRoster (with_weeks problem.now weeks) roster.now.cells }
     requires days { roster.now.days ≡ problem.now.days }
-    ensures { OnOk result (out.new.items ≡ out.old.items ++ roster_text (with_weeks problem.now weeks) roster.now.cells) }
+    ensures { OnOk result (
+        out.new.items ≡ out.old.items ++ roster_text (with_weeks problem.now weeks) roster.now.cells) }
 {
     let sized = with_weeks(problem, weeks)?;
     let text = print_roster(alloc, &sized, roster)?;

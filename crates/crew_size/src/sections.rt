@@ -64,7 +64,8 @@ impl<'a> Sections<'a> {
     ) -> Result<Option<Staffed>, Fail<StaffRefusal>>
         requires short { IsShort self.old }
         requires workers { (1 ≤ workers) × (workers ≤ MOST_WORKERS) }
-        ensures verdict { (text : List ℕ) → IsPlace problem.now text self.old → Answers problem.now text self.new result }
+        ensures verdict { (text : List ℕ)
+            → IsPlace problem.now text self.old → Answers problem.now text self.new result }
         ensures further { IfOk result (λ found. MatchOption found (IsFurther self.new self.old) (λ _. Unit {0})) }
     {
         let mut reader = LineReader::new(self.rest);
@@ -86,7 +87,7 @@ impl<'a> Sections<'a> {
         }
     }
 
-    // Judges the log of so many weeks, with which the bytes behind its heading begin.
+    // Judges the log of this number of weeks, with which the bytes behind its heading begin.
     fn pass_log<R: Threads + Sync, G: Gate>(
         &mut self,
         rt: &R,
@@ -101,7 +102,8 @@ impl<'a> Sections<'a> {
         requires behind { length bytes.now < length self.old.rest }
         requires next { IsNext problem.now self.old.sizes weeks }
         requires workers { (1 ≤ workers) × (workers ≤ MOST_WORKERS) }
-        ensures verdict { (text : List ℕ) → IsAt problem.now text self.old.sizes self.old.line (refuted_line weeks) bytes.now →
+        ensures verdict { (text : List ℕ)
+            → IsAt problem.now text self.old.sizes self.old.line (refuted_line weeks) bytes.now →
             Answers problem.now text self.new result }
         ensures further { IfOk result (λ found. MatchOption found (IsFurther self.new self.old) (λ _. Unit {0})) }
     {
@@ -122,7 +124,7 @@ impl<'a> Sections<'a> {
     }
 }
 
-// The heading that the line is, where it may stand behind sections of these sizes.
+// The heading that the line is, where it may follow sections of these sizes.
 fn heading_in_place(problem: &Problem, sizes: Option<(u32, u32)>, line: &[u8]) -> Option<Heading>
     ensures { MatchOption result
         ((h : Heading) → IsWritten h → MayStand problem.now sizes h → line.now ≢ heading_line h)
@@ -136,7 +138,7 @@ fn heading_in_place(problem: &Problem, sizes: Option<(u32, u32)>, line: &[u8]) -
     }
 }
 
-// The verdict on a text that ends with these bytes behind the heading of a roster of so many weeks.
+// The verdict on a text that ends with these bytes behind the heading of a roster of this size.
 fn roster_end(
     alloc: Global,
     problem: &Problem,
@@ -175,7 +177,8 @@ fn none_end(
 ) -> Result<Option<Staffed>, Fail<StaffRefusal>>
     requires last { IsLast sizes last }
     requires few { line < 2 ^ 31 }
-    ensures verdict { (P : Instance) (text : List ℕ) (place : Place) → IsAt P text sizes line (none_line last) bytes.now →
+    ensures verdict { (P : Instance) (text : List ℕ) (place : Place)
+        → IsAt P text sizes line (none_line last) bytes.now →
         Answers P text place result }
     ensures some { IfOk result IsSome }
 {

@@ -6,7 +6,7 @@ use rwsp_model::Problem;
 use rwsp_terms::limits::{MOST_CELLS, MOST_WEEKS};
 use std::alloc::AllocError;
 
-/// Whether the problem may have so many weeks.
+/// Whether the problem may have this number of weeks.
 pub fn is_size(problem: &Problem, weeks: u32) -> bool
     ensures { MatchBool result (IsSize problem.now weeks) (IsSize problem.now weeks → ⊥) }
 {
@@ -19,7 +19,7 @@ pub fn is_size(problem: &Problem, weeks: u32) -> bool
     weeks * problem.days() <= MOST_CELLS
 }
 
-/// The problem with so many weeks in place of its own, and all else the same.
+/// The problem with this number of weeks in place of its own, and all else the same.
 pub fn with_weeks(problem: &Problem, weeks: u32) -> Result<Problem, AllocError>
     requires { IsSize problem.now weeks }
     ensures { IfOk result (λ sized. sized ≡ with_weeks problem.now weeks) }

@@ -15,8 +15,8 @@ use rwsp_model::Problem;
 use std::alloc::{AllocError, Global};
 use std::thread::Threads;
 
-/// Plans the problem for `low` weeks, and for one more as long as there is a refutation, up to `high` weeks; the budget is
-/// for each number of weeks anew. The workers of a plan pass the gate.
+/// Plans the problem for `low` weeks, and for one more as long as there is a refutation, up to `high` weeks; each
+/// number of weeks has the whole budget. The workers of a plan pass the gate.
 pub fn staff<R: Threads + Sync, G: Gate>(
     rt: &R,
     alloc: Global,
@@ -43,7 +43,7 @@ pub fn staff<R: Threads + Sync, G: Gate>(
     Ok(StaffRun::of(low, logs, StaffEnd::NoneTo))
 }
 
-// The plan for so many weeks.
+// The plan for this number of weeks.
 fn plan_for<R: Threads + Sync, G: Gate>(
     rt: &R,
     alloc: Global,

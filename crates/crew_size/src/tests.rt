@@ -2,7 +2,8 @@
 use super::*;
 use refutation_checker::NoGate;
 use refutation_terms::LogRefusal;
-use rwsp_model::{Bounds, DemandRow, Fail as Failure, Name, Parts, Problem, ShiftRow};
+use rwsp_model::{Fail as Failure, Parts, Problem};
+use rwsp_terms::{Bounds, DemandRow, Name, ShiftRow};
 use std::alloc::{AllocError, Global};
 use std::test::Fail;
 

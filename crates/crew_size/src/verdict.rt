@@ -14,12 +14,13 @@ pub enum Staffed {
 /// Why a staff text is refused. Lines count from 1.
 #[derive(Debug, Drop)]
 pub enum StaffRefusal {
-    /// The line stands in a heading's place and is none that may stand there, or the text of the roster behind it is too
+    /// The line is where a heading has to be and is none that may be there, or the text of the roster behind it is too
     /// long.
     Form(u32),
     /// The log of this number of weeks is refused; its lines count from its own first line.
     Log(u32, LogRefusal),
-    /// The text behind the last heading spells no roster of this number of weeks; its lines count from its own first line.
+    /// The text behind the last heading spells no roster of this number of weeks; its lines count from its own first
+    /// line.
     Roster(u32, RosterRefusal),
     /// The roster of this number of weeks breaks a rule.
     Breaks(u32, Broken),

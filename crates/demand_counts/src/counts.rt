@@ -65,8 +65,8 @@ impl Counts {
         requires differs { DiffersAtMostAt self.old doms.now p }
         ensures { StandsFor self.new doms.now }
     {
-        self.facts();
-        doms.facts();
+        self.prove_facts();
+        doms.prove_facts();
         self.take_over(doms, p);
     }
 
@@ -75,8 +75,8 @@ impl Counts {
         requires { HasShapeOf self.old doms.now }
         ensures { StandsFor self.new doms.now }
     {
-        self.facts();
-        doms.facts();
+        self.prove_facts();
+        doms.prove_facts();
         for p in 0..doms.cells() {
             self.take_over(doms, p);
         }
@@ -110,7 +110,7 @@ impl Counts {
     }
 
     // Brings into a proof what holds of all counts. Does nothing when run.
-    fn facts(&self)
+    fn prove_facts(&self)
         ensures long { length self.now.sets ≡ self.now.weeks * self.now.days }
         ensures some_days { 1 ≤ self.now.days }
         ensures few_weeks { self.now.weeks ≤ MOST_WEEKS }
@@ -150,7 +150,7 @@ impl Counts {
     {
         let set = doms.set(p);
         if !self.has_set(p, set) {
-            self.put(p, set.copy());
+            self.put(p, *set);
         }
     }
 

@@ -16,7 +16,7 @@ use Rattle.rwsp_terms.specs.Roster.{IsRoster}
 use Rattle.rwsp_terms.specs.declared.data.Symbol.{Symbol}
 use Rattle.rwsp_model.specs.Validity.{KeepsLimits}
 use Rattle.domain_store.specs.declared.change.Change.{Change}
-use Rattle.domain_store.specs.Sets.{has_symbol, without, IsDomain}
+use Rattle.domain_store.specs.Sets.{has_symbol, without_symbol, IsDomain}
 use Rattle.domain_store.specs.Store.{Store, domain_at, has_domain, IsDecided, BelongsTo, full_store, changed, undone, store_at, HasSameShape, spare, IsStore, IsStoreThroughout, HasDomains}
 use Rattle.domain_store.specs.Kept.{IsKept}
 use Rattle.domain_store.proofs.SetLemmas.{has_symbol_within, has_without, length_without, IsDomain_without, IsDomain_single, IsDomain_full, has_symbol_full}
@@ -233,11 +233,11 @@ symbol_is_known S p x now within has = omega (arith, symbol_within S p x now wit
 pub single_domain : (S : Store) (p x : ℕ) → IsStore S → p < length S.sets → has_domain S p x ≡ true → IsDomain S.shifts (x ∷ [])
 single_domain S p x now within has = IsDomain_single S.shifts x (symbol_within S p x now within has)
 
-pub smaller_domain : (S : Store) (p x : ℕ) → IsStore S → p < length S.sets → has_domain S p x ≡ true → 2 ≤ length (domain_at S p) → IsDomain S.shifts (without x (domain_at S p))
+pub smaller_domain : (S : Store) (p x : ℕ) → IsStore S → p < length S.sets → has_domain S p x ≡ true → 2 ≤ length (domain_at S p) → IsDomain S.shifts (without_symbol x (domain_at S p))
 smaller_domain S p x now within has another =
     IsDomain_without S.shifts x (domain_at S p) (All-get_or (IsDomain S.shifts) S.sets p [] within now.domains) has another
 
-pub length_smaller : (S : Store) (p x : ℕ) → IsStore S → p < length S.sets → has_domain S p x ≡ true → length (without x (domain_at S p)) < length (domain_at S p)
+pub length_smaller : (S : Store) (p x : ℕ) → IsStore S → p < length S.sets → has_domain S p x ≡ true → length (without_symbol x (domain_at S p)) < length (domain_at S p)
 length_smaller S p x now within has =
     let domain : IsDomain S.shifts (domain_at S p) = All-get_or (IsDomain S.shifts) S.sets p [] within now.domains in
     omega (arith, length_without x (domain_at S p) domain.ascends has)
@@ -255,8 +255,8 @@ has-changed S p q y domain test within here =
           ∙ sym (ap (λ b. (not b || test) && has_domain S q y) (ne_eqb q p other))
     ]
 
-pub has_removed : (S : Store) (p x q y : ℕ) → p < length S.sets → has_domain (changed S p (without x (domain_at S p))) q y ≡ ((not (eqb q p) || not (eqb y x)) && has_domain S q y)
-has_removed S p x q y within = has-changed S p q y (without x (domain_at S p)) (not (eqb y x)) within (has_without x y (domain_at S p))
+pub has_removed : (S : Store) (p x q y : ℕ) → p < length S.sets → has_domain (changed S p (without_symbol x (domain_at S p))) q y ≡ ((not (eqb q p) || not (eqb y x)) && has_domain S q y)
+has_removed S p x q y within = has-changed S p q y (without_symbol x (domain_at S p)) (not (eqb y x)) within (has_without x y (domain_at S p))
 
 single-has : (x y : ℕ) (set : List ℕ) → has_symbol set x ≡ true → has_symbol (x ∷ []) y ≡ (eqb y x && has_symbol set y)
 single-has x y set has =

@@ -1,15 +1,17 @@
 -- Sets of symbols, as the ascending lists of their numbers.
-use Rattle.std.specs.Prelude.{ℕ, ◌+◌, ◌<◌, ◌≤◌, List, [], ◌∷◌, length, Bool, true, false, ◌==◌, not, All, filter}
-use Rattle.std.specs.List.{list_any}
+use Rattle.std.specs.Prelude.{ℕ, ◌+◌, ◌<◌, ◌≤◌, ◌^◌, List, [], ◌∷◌, length, Bool, ◌==◌, not, All, filter}
+use Rattle.std.specs.Int.{bit_at}
+use Rattle.std.specs.List.{list_any, range_with_len}
 use Rattle.std.specs.List.Sorted.{IsStrictlyIncreasing}
+use Rattle.rwsp_terms.specs.declared.limits.TheConstants.{MOST_SYMBOLS}
 
 -- whether the set has the symbol
 abbrev pub has_symbol : List ℕ → ℕ → Bool
 has_symbol set x = list_any (λ y. y == x) set
 
 -- the set less the symbol
-abbrev pub without : ℕ → List ℕ → List ℕ
-without x set = filter (λ y. not (y == x)) set
+abbrev pub without_symbol : ℕ → List ℕ → List ℕ
+without_symbol x set = filter (λ y. not (y == x)) set
 
 -- a set with some symbol and none above the last
 pub record IsDomain (last : ℕ) (set : List ℕ) : Type 0 where
@@ -17,8 +19,11 @@ pub record IsDomain (last : ℕ) (set : List ℕ) : Type 0 where
   pub ascends : IsStrictlyIncreasing set
   pub symbols : All (λ x. x ≤ last) set
 
--- the numbers of the flags that are set, where the first flag has number k
-abbrev pub numbers_from : ℕ → List Bool → List ℕ
-numbers_from k [] = []
-numbers_from k (true ∷ flags) = k ∷ numbers_from (k + 1) flags
-numbers_from k (false ∷ flags) = numbers_from (k + 1) flags
+-- the symbols whose bits are set: the lowest bit is that of the day off, and each shift has its own
+abbrev pub symbols_of : ℕ → List ℕ
+symbols_of bits = filter (λ x. bit_at bits x == 1) (range_with_len 0 MOST_SYMBOLS)
+
+-- the number that has the bits of these symbols
+abbrev pub bits_of : List ℕ → ℕ
+bits_of [] = 0
+bits_of (x ∷ set) = 2 ^ x + bits_of set

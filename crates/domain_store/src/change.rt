@@ -1,7 +1,7 @@
 use crate::symbol_set::SymbolSet;
 
 /// A change of a domain: its position, and the domain that stood there before.
-#[derive(Debug, Drop)]
+#[derive(Clone, Copy, Debug)]
 pub struct Change {
     pub position: u32,
     pub before: SymbolSet,

@@ -4,7 +4,7 @@ ghost use Rattle.std.specs.List.{range_with_len};
 ghost use Rattle.rwsp_terms.specs.Instance.{cells, shift_count};
 ghost use Rattle.rwsp_terms.specs.Roster.{IsRoster};
 ghost use Rattle.rwsp_terms.specs.declared.data.Symbol.{Symbol};
-ghost use Rattle.domain_store.specs.Sets.{without, IsDomain};
+ghost use Rattle.domain_store.specs.Sets.{without_symbol, IsDomain};
 
 use crate::Mark;
 use crate::change::Change;
@@ -59,7 +59,7 @@ impl Domains {
         ensures has { IfOk result (λ D.
             (p x : ℕ) → p < cells problem.now → has_domain D p x ≡ nat_le x (shift_count problem.now)) }
     {
-        problem.keeps_limits();
+        problem.prove_limits();
         let days = problem.days();
         let weeks = problem.weeks();
         let shifts = problem.shifts();
@@ -97,7 +97,7 @@ impl Domains {
     }
 
     /// Brings into a proof what holds of all domains, now and as they were at each mark. Does nothing when run.
-    pub fn facts(&self)
+    pub fn prove_facts(&self)
         ensures now { IsStore self.now }
         ensures tests { HasDomains self.now }
         ensures before { (len : ℕ) → len ≤ length self.now.trail → IsStore (store_at self.now len) }
@@ -124,7 +124,7 @@ impl Domains {
         ensures value { result ≡ self.now.shifts }
         ensures few { result ≤ MOST_SHIFTS }
     {
-        self.facts();
+        self.prove_facts();
         self.shifts
     }
 
@@ -134,7 +134,7 @@ impl Domains {
         ensures positions { result ≡ length self.now.sets }
         ensures few { result ≤ MOST_CELLS }
     {
-        self.facts();
+        self.prove_facts();
         self.weeks * self.days
     }
 
@@ -162,7 +162,7 @@ impl Domains {
         ensures some { 1 ≤ result }
         ensures few { result ≤ MOST_SYMBOLS }
     {
-        self.facts();
+        self.prove_facts();
         let set = &self.sets[p as usize];
         set.size()
     }
@@ -172,7 +172,7 @@ impl Domains {
         requires { p < length self.now.sets }
         ensures { MatchOption result (2 ≤ length (domain_at self.now p)) (λ x. domain_at self.now p ≡ x.number ∷ []) }
     {
-        self.facts();
+        self.prove_facts();
         let set = &self.sets[p as usize];
         match set.only() {
             Some(number) => Some(Symbol { number }),
@@ -188,7 +188,7 @@ impl Domains {
         ensures held { IsTrue result → IsTrue (has_domain self.now p x.number) }
         ensures others { IsTrue result ↔ ((y : ℕ) → IsTrue (has_domain self.now p y) → y ≡ x.number) }
     {
-        self.facts();
+        self.prove_facts();
         let set = &self.sets[p as usize];
         set.is_only(x.number)
     }
@@ -219,7 +219,7 @@ impl Domains {
             → has_domain self.new q y ≡ ((not (q == p) || (y == x.number)) && has_domain self.old q y) }
         ensures marks { (len : ℕ) → len ≤ length self.old.trail → store_at self.new len ≡ store_at self.old len }
     {
-        self.facts();
+        self.prove_facts();
         self.change(p, SymbolSet::single(x.number));
     }
 
@@ -229,13 +229,13 @@ impl Domains {
         requires position { p < length self.old.sets }
         requires held { IsTrue (has_domain self.old p x.number) }
         requires another { 2 ≤ length (domain_at self.old p) }
-        ensures changed { self.new ≡ changed self.old p (without x.number (domain_at self.old p)) }
+        ensures changed { self.new ≡ changed self.old p (without_symbol x.number (domain_at self.old p)) }
         ensures same { HasSameShape self.old self.new }
         ensures has { (q y : ℕ)
             → has_domain self.new q y ≡ ((not (q == p) || not (y == x.number)) && has_domain self.old q y) }
         ensures marks { (len : ℕ) → len ≤ length self.old.trail → store_at self.new len ≡ store_at self.old len }
     {
-        self.facts();
+        self.prove_facts();
         let set = &self.sets[p as usize];
         let rest = set.without(x.number);
         self.change(p, rest);
@@ -275,7 +275,7 @@ impl Domains {
             (p : ℕ) (d : Symbol) → p < length R.cells
             → IsTrue (has_domain self.now p (slice_index_or R.cells p d).number)) }
     {
-        self.facts();
+        self.prove_facts();
         let alloc = *self.sets.allocator();
         let cells = only_symbols(alloc, &self.sets)?;
         Ok(Roster::of(problem, cells))
@@ -341,7 +341,7 @@ fn copied_sets(alloc: Global, sets: &[SymbolSet]) -> Result<Vec<SymbolSet>, Allo
 {
     let mut copies = Vec::with_capacity(alloc, sets.len())?;
     for set in sets {
-        copies.push(set.copy())?;
+        copies.push(*set)?;
     }
     Ok(copies)
 }
@@ -352,10 +352,7 @@ fn copied_trail(alloc: Global, trail: &[Change], room: usize) -> Result<Vec<Chan
 {
     let mut copies = Vec::with_capacity(alloc, room)?;
     for change in trail {
-        copies.push(Change {
-            position: change.position,
-            before: change.before.copy(),
-        })?;
+        copies.push(*change)?;
     }
     Ok(copies)
 }

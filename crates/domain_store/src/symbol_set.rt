@@ -1,113 +1,108 @@
 // Sets of symbols.
-ghost use Rattle.std.specs.Prelude.{◌≡◌, ◌≢◌, ℕ, ◌+◌, ◌<◌, ◌≤◌, List, [], ◌∷◌, length, MatchOption, slice_get, count_by, IsTrue, ◌↔◌};
+ghost use Rattle.std.specs.Prelude.{◌≡◌, ◌≢◌, ℕ, ◌+◌, ◌<◌, ◌≤◌, List, [], ◌∷◌, length, MatchOption, slice_get, IsTrue, ◌↔◌};
 ghost use Rattle.std.specs.List.{range_with_len};
-ghost use Rattle.domain_store.specs.Sets.{has_symbol, without};
+ghost use Rattle.domain_store.specs.Sets.{has_symbol, without_symbol};
 
 use rwsp_terms::limits::MOST_SYMBOLS;
 use std::marker::Model;
 
-/// A set of symbols whose numbers are below `MOST_SYMBOLS`, seen as the ascending list of the numbers.
-#[derive(Debug, Drop)]
+/// A set of symbols whose numbers are below `MOST_SYMBOLS`, seen as the ascending list of the numbers. Each symbol has
+/// the bit of its number.
+#[derive(Clone, Copy, Debug)]
 pub struct SymbolSet {
-    flags: [bool; MOST_SYMBOLS as usize],
+    bits: u16,
 }
 
 impl Model for SymbolSet {
-    ghost use Rattle.std.specs.Prelude.{List, ℕ};
-    ghost use Rattle.domain_store.specs.Sets.{numbers_from};
+    ghost use Rattle.std.specs.Prelude.{List, ℕ, ◌<◌, ◌^◌};
+    ghost use Rattle.rwsp_terms.specs.declared.limits.TheConstants.{MOST_SYMBOLS};
+    ghost use Rattle.domain_store.specs.Sets.{symbols_of, bits_of};
+    ghost use Rattle.domain_store.specs.Bits.{bits_of_symbols};
 
     ghost Value = { List ℕ };
 
-    ghost view = { λ s. numbers_from 0 s.flags };
+    ghost view = { λ s. symbols_of s.bits };
+
+    ghost invariant = { λ s. s.bits < 2 ^ MOST_SYMBOLS };
+
+    ghost inverse = { λ set. record { bits = bits_of set } };
+
+    ghost inverse_ok = { λ s small i. record { bits = bits_of_symbols s.bits small i } };
 }
 
 impl SymbolSet {
     /// No symbol.
+    #[tactic(auto, using(crate::proofs::BitLemmas::no_bits))]
     pub fn empty() -> SymbolSet
         ensures { result ≡ [] }
     {
-        SymbolSet {
-            flags: [false; MOST_SYMBOLS as usize],
-        }
+        SymbolSet { bits: 0 }
     }
 
     /// All symbols up to the last.
-    #[tactic(auto, using(crate::proofs::SetLemmas::front_grows, crate::proofs::SetLemmas::numbers_in_front))]
+    #[tactic(auto, using(crate::proofs::BitLemmas::low_bits, crate::proofs::BitLemmas::low_bits_fit))]
     pub fn up_to(last: u8) -> SymbolSet
         requires { last < MOST_SYMBOLS }
         ensures { result ≡ range_with_len 0 (last + 1) }
     {
-        let mut flags = [false; MOST_SYMBOLS as usize];
-        for x in 0..last as usize + 1 {
-            flags[x] = true;
+        SymbolSet {
+            bits: (1 << (last + 1)) - 1,
         }
-        SymbolSet { flags }
     }
 
     /// The one symbol.
+    #[tactic(auto, using(crate::proofs::BitLemmas::one_bit, crate::proofs::BitLemmas::one_bit_fits))]
     pub fn single(x: u8) -> SymbolSet
         requires { x < MOST_SYMBOLS }
         ensures { result ≡ x ∷ [] }
     {
-        let mut flags = [false; MOST_SYMBOLS as usize];
-        flags[x as usize] = true;
-        SymbolSet { flags }
-    }
-
-    /// The same set.
-    pub fn copy(&self) -> SymbolSet
-        ensures { result ≡ self.now }
-    {
-        let flags = self.flags;
-        SymbolSet { flags }
+        SymbolSet { bits: 1 << x }
     }
 
     /// Whether both have the same symbols.
     pub fn is_same(&self, other: &SymbolSet) -> bool
         ensures { IsTrue result ↔ (self.now ≡ other.now) }
     {
-        self.flags == other.flags
+        self.bits == other.bits
     }
 
     /// The set less the symbol.
-    #[tactic(auto, using(crate::proofs::SetLemmas::numbers_cleared))]
+    #[tactic(auto, using(crate::proofs::BitLemmas::bit_cleared, crate::proofs::BitLemmas::cleared_fits))]
     pub fn without(&self, x: u8) -> SymbolSet
         requires { x < MOST_SYMBOLS }
-        ensures { result ≡ without x self.now }
+        ensures { result ≡ without_symbol x self.now }
     {
-        let mut flags = self.flags;
-        flags[x as usize] = false;
-        SymbolSet { flags }
+        SymbolSet {
+            bits: self.bits & !(1 << x),
+        }
     }
 
     /// Whether the set has the symbol.
-    #[tactic(auto, using(crate::proofs::SetLemmas::has_numbers, crate::proofs::SetLemmas::has_no_number_past))]
+    #[tactic(auto, using(crate::proofs::BitLemmas::has_bit, crate::proofs::BitLemmas::has_no_bit_past))]
     pub fn has(&self, x: u8) -> bool
         ensures { result ≡ has_symbol self.now x }
     {
-        u32::from(x) < MOST_SYMBOLS && self.flags[x as usize]
+        u32::from(x) < MOST_SYMBOLS && (self.bits >> x) & 1 == 1
     }
 
     /// The number of symbols.
-    #[tactic(auto, using(crate::proofs::SetLemmas::numbers_counted, crate::proofs::SetLemmas::flags_counted))]
     pub fn size(&self) -> u32
         ensures value { result ≡ length self.now }
         ensures few { result ≤ MOST_SYMBOLS }
     {
-        count_set(&self.flags) as u32
+        self.bits.count_ones()
     }
 
     /// The lowest symbol.
-    #[tactic(auto, using(crate::proofs::SetLemmas::numbers_set, crate::proofs::SetLemmas::numbers_clear, crate::proofs::SetLemmas::numbers_past))]
+    #[tactic(auto, using(crate::proofs::BitLemmas::no_bits))]
     pub fn first(&self) -> Option<u8>
         ensures { result ≡ slice_get self.now 0 }
     {
-        for x in 0..MOST_SYMBOLS as u8 {
-            if self.flags[x as usize] {
-                return Some(x);
-            }
+        if self.bits == 0 {
+            None
+        } else {
+            Some(self.bits.trailing_zeros() as u8)
         }
-        None
     }
 
     /// The symbol, where there is just one.
@@ -124,10 +119,4 @@ impl SymbolSet {
     {
         self.only() == Some(x)
     }
-}
-
-fn count_set(flags: &[bool]) -> usize
-    ensures { result ≡ count_by (λ flag. flag) flags.now }
-{
-    flags.iter().filter(|flag| **flag).count()
 }

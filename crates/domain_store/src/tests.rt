@@ -109,7 +109,7 @@ fn changes_and_their_undoing(rt: HostRuntime) -> Result<(), Fail> {
         (Step::Take(0, 0), 3, b"..N ..N -DN -DN"),
         (Step::UndoTo(2), 2, b"-.N ..N -DN -DN"),
         (Step::UndoTo(0), 0, b"-DN -DN -DN -DN"),
-        // A deeper undo ends a mark: other changes stand there then.
+        // A deeper undo ends a mark: the trail has other changes there then.
         (Step::Take(3, 0), 1, b"-DN -DN -DN .DN"),
         (Step::UndoTo(0), 0, b"-DN -DN -DN -DN"),
         (Step::Take(3, 2), 1, b"-DN -DN -DN -D."),
@@ -125,30 +125,6 @@ fn changes_and_their_undoing(rt: HostRuntime) -> Result<(), Fail> {
 }
 
 #[test]
-fn a_copy_goes_its_own_way(rt: HostRuntime) -> Result<(), Fail> {
-    let mut domains = small_domains(&rt, rt.alloc())?;
-    go(&rt, &mut domains, Step::Keep(2, 1));
-    let mut copy = domains.copy()?;
-    go(&rt, &mut copy, Step::Take(3, 1));
-    expect(&rt, &copy, b"-DN -DN .D. -.N");
-    go(&rt, &mut copy, Step::UndoTo(0));
-    expect(&rt, &copy, b"-DN -DN -DN -DN");
-    expect(&rt, &domains, b"-DN -DN .D. -DN");
-    Ok(())
-}
-
-#[test]
-fn a_symbol_alone(rt: HostRuntime) -> Result<(), Fail> {
-    let mut domains = small_domains(&rt, rt.alloc())?;
-    go(&rt, &mut domains, Step::Keep(2, 1));
-    for (p, number, alone) in [(2, 1, true), (2, 0, false), (3, 1, false)] {
-        assert!(rt; p < domains.cells());
-        assert_eq!(rt; domains.has_only(p, Symbol { number }), alone);
-    }
-    Ok(())
-}
-
-#[test]
 fn decided_domains_make_a_roster(rt: HostRuntime) -> Result<(), Fail> {
     let problem = small_problem(&rt, rt.alloc())?;
     let mut domains = Domains::new(rt.alloc(), &problem)?;
@@ -159,7 +135,9 @@ fn decided_domains_make_a_roster(rt: HostRuntime) -> Result<(), Fail> {
     assert!(rt; !domains.decided());
     go(&rt, &mut domains, Step::Take(3, 2));
     assert!(rt; domains.decided());
-    let roster = domains.to_roster(&problem)?;
+    assert!(rt; 1 < domains.cells());
+    assert!(rt; domains.has_only(1, Symbol { number: 2 }));
+    let roster = domains.copy()?.to_roster(&problem)?;
     let wanted = [1, 2, 0, 1].map(|number| Symbol { number });
     assert_eq!(rt; roster.cells(), wanted.as_slice());
     Ok(())

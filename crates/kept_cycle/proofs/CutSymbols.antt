@@ -9,7 +9,7 @@ use Rattle.rwsp_model.specs.Validity.{KeepsLimits}
 use Rattle.rwsp_terms.specs.declared.data.Symbol.{Symbol}
 use Rattle.rwsp_terms.specs.Instance.{Instance, cells, symbol_numbered}
 use Rattle.refutation_terms.specs.declared.lines.Line.{Line}
-use Rattle.refutation_terms.specs.declared.lines.Line.TheVariants.{Split, Window, Day, Dead, Bound, Unfinished}
+use Rattle.refutation_terms.specs.declared.lines.Line.TheVariants.{Split, Window, Day, Dead, Bound, Few, Free, Unfinished}
 use Rattle.refutation_terms.specs.Word.{Domains, Over}
 use Rattle.refutation_terms.specs.Leaf.{IsDead}
 use Rattle.refutation_terms.specs.Tree.{First, narrowed, is_idle}
@@ -20,7 +20,7 @@ use Rattle.domain_store.specs.Sets.{has_symbol}
 use Rattle.domain_store.specs.Store.{Store, BelongsTo, domain_at, has_domain, HasDomains}
 use Rattle.propagators.specs.Looks.{Closes, IsClosing, IsCut, IsLeafOf}
 use Rattle.propagators.specs.Cycles.{AreShortRules, IsCycleLeaf, IsCycleSpent}
-use Rattle.kept_cycle.specs.Known.{KnownCycle, has_known, StandsFor}
+use Rattle.kept_cycle.specs.Known.{KnownCycle, has_known, KnowsDomains}
 use Rattle.kept_cycle.specs.CycleCuts.{IsUnsupported, IsShortCycle}
 
 -- the known domains are the store's
@@ -31,12 +31,12 @@ cells_of_store P S b = ap (λ w. w * S.days) b.weeks ∙ ap (λ d. P.weeks * d) 
 pub some_cells : (P : Instance) → KeepsLimits P → 0 < cells P
 some_cells P limits = mul-pos (omega (arith, limits.some_weeks)) (omega (arith, limits.some_days))
 
-nowhere_in_store : (C : KnownCycle) (S : Store) (p : ℕ) (x : Symbol) → C.sets ≡ S.sets → NoWordHas C.problem (has_known C) C.rules p x → NoWordHas C.problem (has_domain S) C.rules p x
+pub nowhere_in_store : (C : KnownCycle) (S : Store) (p : ℕ) (x : Symbol) → C.sets ≡ S.sets → NoWordHas C.problem (has_known C) C.rules p x → NoWordHas C.problem (has_domain S) C.rules p x
 nowhere_in_store C S p x e h =
     let F : List (List ℕ) → Type 0 = λ sets. NoWordHas C.problem (λ q y. has_symbol (get_or sets q []) y) C.rules p x in
     subst F e h
 
-nowhere_known : (C : KnownCycle) (S : Store) (p : ℕ) (x : Symbol) → C.sets ≡ S.sets → NoWordHas C.problem (has_domain S) C.rules p x → NoWordHas C.problem (has_known C) C.rules p x
+pub nowhere_known : (C : KnownCycle) (S : Store) (p : ℕ) (x : Symbol) → C.sets ≡ S.sets → NoWordHas C.problem (has_domain S) C.rules p x → NoWordHas C.problem (has_known C) C.rules p x
 nowhere_known C S p x e h =
     let F : List (List ℕ) → Type 0 = λ sets. NoWordHas C.problem (λ q y. has_symbol (get_or sets q []) y) C.rules p x in
     subst F (sym e) h
@@ -67,7 +67,7 @@ not_there C S p x held is none u =
     unlike : (b : Bool) → b ≡ false → IsTrue b → ⊥
     unlike b e h = cc
 
-beside_another : (P : Instance) (S : Store) (p x : ℕ) → BelongsTo P S → HasDomains S → IsTrue (has_domain S p x) → 2 ≤ length (domain_at S p) → is_idle P (has_domain S) p x ≡ false
+pub beside_another : (P : Instance) (S : Store) (p x : ℕ) → BelongsTo P S → HasDomains S → IsTrue (has_domain S p x) → 2 ≤ length (domain_at S p) → is_idle P (has_domain S) p x ≡ false
 beside_another P S p x b h has many =
     let other = h.others p x many in
     (idle_as_said P (has_domain S) p x).1 (has, (other.0, omega (arith, (h.known p other.0 other.2).1, b.shifts), other.1, other.2))
@@ -80,7 +80,7 @@ of_not : (b : Bool) → IsTrue (not b) → b ≡ false
 of_not true e = absurd (cc)
 of_not false e = refl
 
-pub unsupported_if : (C : KnownCycle) (S : Store) (p n : ℕ) (x : Symbol) (supported : Bool) → StandsFor C S → HasDomains S → p < cells C.problem → n ≡ length (domain_at S p) → 2 ≤ n → IsTrue (has_domain S p x.number)
+pub unsupported_if : (C : KnownCycle) (S : Store) (p n : ℕ) (x : Symbol) (supported : Bool) → KnowsDomains C S → HasDomains S → p < cells C.problem → n ≡ length (domain_at S p) → 2 ≤ n → IsTrue (has_domain S p x.number)
     → (supported ≡ false) ↔ NoWordHas C.problem (has_known C) C.rules p x → IsTrue (not supported) ↔ IsUnsupported C S p x
 unsupported_if C S p n x supported stands h within is many has test = (
   λ none. record {
@@ -186,6 +186,8 @@ none_closes C S h alive (Day j x over, among, holds) = among
 none_closes C S h alive (Dead p len R, among, holds) = alive (same_dead C S p len R h among.0 among.1 among.2 holds)
 none_closes C S h alive (Bound p turns R y, among, holds) = among
 none_closes C S h alive (Unfinished, among, holds) = among
+none_closes C S h alive (Few, among, holds) = among
+none_closes C S h alive (Free turns reward R y, among, holds) = among
 
 pub cut_cycle : (C : KnownCycle) (S : Store) (p : ℕ) (x : Symbol) (line : Line) → line ≡ Dead 0 (2 * cells C.problem) C.rules → IsShortCycle C S → 0 < cells C.problem → cells C.problem ≤ MOST_CELLS → IsUnsupported C S p x
     → IsCut C.problem (IsCycleSpent C.problem (has_domain S)) S p x line

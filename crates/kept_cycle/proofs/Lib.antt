@@ -3,3 +3,4 @@ mod Mending
 mod TwoTurns
 mod Turning
 mod CutSymbols
+mod Awaiting

@@ -43,17 +43,23 @@ back_step_by layers sets old new i here next step =
 
 -- the front has been mended up to day i: that day's step alone may be wrong
 pub record FrontMended (layers : List (List Step)) (sets : List (List ℕ)) (day : ℕ) (old rows : List (List Bool)) (i : ℕ) : Type 0 where
+  pub past : day ≤ i
+  pub before : (j : ℕ) → j ≤ day → row_at rows j ≡ row_at old j
+  pub behind : (j : ℕ) → i < j → row_at rows j ≡ row_at old j
   pub steps : (j : ℕ) → j + 1 < length rows → j ≢ i → (j ≢ day → IsFrontStep layers sets old j) → IsFrontStep layers sets rows j
   pub first : row_at rows 0 ≡ row_at old 0
   pub long : length rows ≡ length old
   pub wide : (width : ℕ) → IsWide old width → IsWide rows width
 
 pub front_unmended : (layers : List (List Step)) (sets : List (List ℕ)) (day : ℕ) (rows : List (List Bool)) → FrontMended layers sets day rows rows day
-front_unmended layers sets day rows = record { steps = λ j less other old. old other; first = refl; long = refl; wide = λ width w. w }
+front_unmended layers sets day rows = record { past = omega arith; before = λ j less. refl; behind = λ j less. refl; steps = λ j less other old. old other; first = refl; long = refl; wide = λ width w. w }
 
 pub front_more : (layers : List (List Step)) (sets : List (List ℕ)) (day : ℕ) (old rows new : List (List Bool)) (i : ℕ) → FrontMended layers sets day old rows i → IsFrontStep layers sets new i → ((j : ℕ) → j ≢ i + 1 → row_at new j ≡ row_at rows j) → length new ≡ length rows → ((width : ℕ) → IsWide rows width → IsWide new width)
     → FrontMended layers sets day old new (i + 1)
 front_more layers sets day old rows new i m step others long wide = record {
+  past = omega (arith, m.past);
+  before = λ j less. others j (λ e. omega (arith, e, less, m.past)) ∙ m.before j less;
+  behind = λ j less. others j (λ e. omega (arith, e, less)) ∙ m.behind j (omega (arith, less));
   steps = λ j less other before. elim (cases_eq j i) [
     | inl same ↦ let P : ℕ → Type 0 = λ k. IsFrontStep layers sets new k in subst P (sym same) step
     | inr apart ↦ front_step_by layers sets rows new j (others j other) (others (j + 1) (λ e. apart (omega (arith, e)))) (m.steps j (omega (arith, less, long)) apart before)
@@ -77,6 +83,7 @@ pub record BackMended (layers : List (List Step)) (sets : List (List ℕ)) (day 
   pub within : i ≤ day + 1
   pub steps : (j : ℕ) → j + 1 < length rows → j + 1 ≢ i → (j ≢ day → IsBackStep layers sets old j) → IsBackStep layers sets rows j
   pub last : (j : ℕ) → day < j → row_at rows j ≡ row_at old j
+  pub before : (j : ℕ) → j < i → row_at rows j ≡ row_at old j
   pub long : length rows ≡ length old
   pub wide : (width : ℕ) → IsWide old width → IsWide rows width
 
@@ -85,6 +92,7 @@ back_unmended layers sets day rows = record {
   within = omega arith;
   steps = λ j less other old. old (λ e. other (omega (arith, e)));
   last = λ j less. refl;
+  before = λ j less. refl;
   long = refl;
   wide = λ width w. w;
 }
@@ -98,6 +106,7 @@ back_more layers sets day old rows new i k next m step others long wide = record
     | inr apart ↦ back_step_by layers sets rows new j (others j apart) (others (j + 1) other) (m.steps j (omega (arith, less, long)) (λ e. apart (omega (arith, e, next))) before)
   ];
   last = λ j less. others j (λ e. omega (arith, e, less, m.within, next)) ∙ m.last j less;
+  before = λ j less. others j (λ e. omega (arith, e, less)) ∙ m.before j (omega (arith, less, next));
   long = long ∙ m.long;
   wide = λ width w. wide width (m.wide width w);
 }

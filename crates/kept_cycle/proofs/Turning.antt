@@ -16,7 +16,7 @@ use Rattle.domain_store.specs.Store.{Store, BelongsTo, IsStore, has_domain, doma
 use Rattle.word_tail.specs.Listed.{Listed}
 use Rattle.layered_cycle.specs.declared.step.Step.{Step}
 use Rattle.layered_cycle.specs.Graph.{Leads, AreLayers}
-use Rattle.kept_cycle.specs.Known.{KnownCycle, has_known, StandsFor, DiffersAtMostAt}
+use Rattle.kept_cycle.specs.Known.{KnownCycle, has_known, KnowsDomains, KnowsAllBut}
 use Rattle.kept_cycle.specs.Marks.{is_marked, row_at, layer_at, has_on, from_of, to_of, IsPass, IsFrontStep, IsBackStep, MendsFront, MendsBack, IsWide, AllFitInto}
 use Rattle.kept_cycle.specs.KeptCycle.{HasSymbolsOf, HasLayers, IsCycle, HasJoiningStep}
 use Rattle.kept_cycle.proofs.Marking.{unlike}
@@ -124,6 +124,26 @@ unsupported_by T layers sets front back width p x held joins c within is by_step
         let w = word_of e in
         let f = c.layered.clean w.word w.leads in
         absurd (none w.word f.0 (over_of_held T sets 0 w.word c.long w.held) f.1 w.has)
+
+-- a word has the symbol where a step joins by it
+pub supported_by : (T : Listed) (layers : List (List Step)) (sets : List (List ℕ)) (front back : List (List Bool)) (width p : ℕ) (x : Symbol) → IsCycle T layers sets front back width → p < cells T.problem
+    → IsTrue (has_symbol (get_or sets p []) x.number) → HasJoiningStep (layer_at layers p) x (row_at front p) (row_at back (p + 1)) → NoWordHas T.problem (has_known (known T sets)) T.rules p x → ⊥
+supported_by T layers sets front back width p x c within held s none =
+    let less : p < length layers = omega (arith, within, c.layered.days) in
+    let w = word_has (has_on sets) layers front back width (passes_of T layers sets front back width c) p x less
+    (record { step = s.0; is_step = s.1; symbol = s.2; held = on_place sets p x.number (omega (arith, within, c.long)) ∙ held; before = s.3; behind = s.4 }) in
+    let f = c.layered.clean w.word w.leads in
+    none w.word f.0 (over_of_held T sets 0 w.word c.long w.held) f.1 w.has
+
+-- no word has it where none joins
+pub nowhere_by : (T : Listed) (layers : List (List Step)) (sets : List (List ℕ)) (front back : List (List Bool)) (width p : ℕ) (x : Symbol) → IsCycle T layers sets front back width → p < cells T.problem
+    → (HasJoiningStep (layer_at layers p) x (row_at front p) (row_at back (p + 1)) → ⊥) → NoWordHas T.problem (has_known (known T sets)) T.rules p x
+nowhere_by T layers sets front back width p x c within none u long over clean has =
+    let less : p < length layers = omega (arith, within, c.layered.days) in
+    let h = held_of_over T sets 0 u c.long over in
+    let leads = c.layered.leads u long (symbols_of_held T.problem sets 0 u c.small h) clean in
+    let s = has_support (has_on sets) layers front back width (passes_of T layers sets front back width c) p x less (record { word = u; leads = leads; held = h; has = has }) in
+    none (s.step, s.is_step, s.symbol, s.before, s.behind)
 
 -- one domain has changed
 apart : (i p n : ℕ) → p < n → i < 2 * n → i ≢ p → i ≢ p + n → i % n ≢ p
@@ -296,11 +316,11 @@ started T layers sets front back start end width n days h empty all turns is_sta
     }
 
 -- all positions taken over
-pub all_known : (C : KnownCycle) (S : Store) → BelongsTo C.problem S → length C.sets ≡ length S.sets → ((q : ℕ) → q < length S.sets → get_or C.sets q [] ≡ get_or S.sets q []) → StandsFor C S
+pub all_known : (C : KnownCycle) (S : Store) → BelongsTo C.problem S → length C.sets ≡ length S.sets → ((q : ℕ) → q < length S.sets → get_or C.sets q [] ≡ get_or S.sets q []) → KnowsDomains C S
 all_known C S belongs long done = record { belongs = belongs; sets = ext_get_or [] C.sets S.sets long (λ q less. done q (omega (arith, less, long))) }
 
 -- one position taken over, where no other differs
-pub one_known : (C D : KnownCycle) (S : Store) (p : ℕ) → D.problem ≡ C.problem → D.sets ≡ set C.sets p (domain_at S p) → DiffersAtMostAt C S p → p < length S.sets → length C.sets ≡ length S.sets → StandsFor D S
+pub one_known : (C D : KnownCycle) (S : Store) (p : ℕ) → D.problem ≡ C.problem → D.sets ≡ set C.sets p (domain_at S p) → KnowsAllBut C S p → p < length S.sets → length C.sets ≡ length S.sets → KnowsDomains D S
 one_known C D S p same now differs within long =
     let P : Instance → Type 0 = λ z. BelongsTo z S in
     all_known D S (subst P (sym same) differs.belongs) (ap length now ∙ length-set C.sets p (domain_at S p) ∙ long) (λ q less. ap (λ z. get_or z q []) now ∙ read q)

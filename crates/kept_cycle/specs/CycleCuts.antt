@@ -6,7 +6,7 @@ use Rattle.refutation_terms.specs.Tree.{is_idle}
 use Rattle.refutation_terms.specs.Sharp.{NoWordHas}
 use Rattle.domain_store.specs.Store.{Store, has_domain}
 use Rattle.propagators.specs.Cycles.{AreShortRules}
-use Rattle.kept_cycle.specs.Known.{KnownCycle, StandsFor}
+use Rattle.kept_cycle.specs.Known.{KnownCycle, KnowsDomains}
 
 -- the symbol stands beside another in the domain of the position, and no clean word of two turns has it there
 pub record IsUnsupported (C : KnownCycle) (S : Store) (p : ℕ) (x : Symbol) : Type 0 where
@@ -17,4 +17,4 @@ pub record IsUnsupported (C : KnownCycle) (S : Store) (p : ℕ) (x : Symbol) : T
 -- a cycle for all short rules that stands for the domains
 pub record IsShortCycle (C : KnownCycle) (S : Store) : Type 0 where
   pub short : AreShortRules C.problem C.rules
-  pub stands : StandsFor C S
+  pub stands : KnowsDomains C S

@@ -1,5 +1,5 @@
 -- What a cycle keeps of its fields.
-use Rattle.std.specs.Prelude.{◌≡◌, ℕ, ◌+◌, ◌*◌, ◌<◌, ◌≤◌, ◌↔◌, List, [], ◌∷◌, length, Bool, IsTrue, Contains, slice_index_or}
+use Rattle.std.specs.Prelude.{◌≡◌, ℕ, ◌+◌, ◌*◌, ◌<◌, ◌≤◌, ◌↔◌, List, [], ◌∷◌, length, Bool, false, IsTrue, Contains, slice_index_or}
 use Rattle.rwsp_terms.specs.declared.limits.TheConstants.{MOST_CELLS}
 use Rattle.rwsp_terms.specs.declared.data.Symbol.{Symbol}
 use Rattle.rwsp_terms.specs.Instance.{Instance, cells, shift_count}
@@ -8,6 +8,7 @@ use Rattle.domain_store.specs.Sets.{has_symbol}
 use Rattle.word_tail.specs.Listed.{Listed}
 use Rattle.layered_cycle.specs.declared.step.Step.{Step}
 use Rattle.layered_cycle.specs.Graph.{Leads}
+use Rattle.kept_cycle.specs.Known.{IsSupportedAt}
 use Rattle.kept_cycle.specs.Marks.{is_marked, row_at, IsFrontStep, IsBackStep, IsWide, AllFitInto}
 
 -- the word is one of the problem's symbols
@@ -45,3 +46,9 @@ pub record IsCycle (T : Listed) (layers : List (List Step)) (sets : List (List �
 abbrev pub HasJoiningStep : List Step → Symbol → List Bool → List Bool → Type 0
 HasJoiningStep steps x before behind =
     (s : Step) × Contains steps s × (s.symbol ≡ x) × IsTrue (is_marked before s.from) × IsTrue (is_marked behind s.to)
+
+-- each symbol is supported at a position that isn't pending
+pub record AreAwaited (T : Listed) (sets : List (List ℕ)) (pending : List Bool) : Type 0 where
+  pub long : length pending ≡ cells T.problem
+  pub settled : (p : ℕ) → p < cells T.problem → slice_index_or pending p false ≡ false
+      → IsSupportedAt (record { problem = T.problem; rules = T.rules; sets = sets }) p

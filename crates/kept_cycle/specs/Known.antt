@@ -1,7 +1,9 @@
 -- The domains for which a cycle stands.
-use Rattle.std.specs.Prelude.{◌≡◌, ◌≢◌, ℕ, List, [], slice_index_or}
+use Rattle.std.specs.Prelude.{◌≡◌, ◌≢◌, ℕ, ◌≤◌, List, [], length, IsTrue, slice_index_or}
+use Rattle.rwsp_terms.specs.declared.data.Symbol.{Symbol}
 use Rattle.rwsp_terms.specs.Instance.{Instance}
 use Rattle.refutation_terms.specs.Word.{Domains}
+use Rattle.refutation_terms.specs.Sharp.{NoWordHas}
 use Rattle.domain_store.specs.Sets.{has_symbol}
 use Rattle.domain_store.specs.Store.{Store, BelongsTo, domain_at}
 
@@ -17,11 +19,17 @@ abbrev pub has_known : KnownCycle → Domains
 has_known C p x = has_symbol (slice_index_or C.sets p []) x
 
 -- the known domains are the store's
-pub record StandsFor (C : KnownCycle) (S : Store) : Type 0 where
+pub record KnowsDomains (C : KnownCycle) (S : Store) : Type 0 where
   pub belongs : BelongsTo C.problem S
   pub sets : C.sets ≡ S.sets
 
 -- the store's domains are the known ones, except at one position at most
-pub record DiffersAtMostAt (C : KnownCycle) (S : Store) (p : ℕ) : Type 0 where
+pub record KnowsAllBut (C : KnownCycle) (S : Store) (p : ℕ) : Type 0 where
   pub belongs : BelongsTo C.problem S
   pub others : (q : ℕ) → q ≢ p → slice_index_or C.sets q [] ≡ domain_at S q
+
+-- where the known domain of the position has two symbols or more, some clean word of two turns has each of them there
+abbrev pub IsSupportedAt : KnownCycle → ℕ → Type 0
+IsSupportedAt C p =
+    (x : Symbol) → 2 ≤ length (slice_index_or C.sets p []) → IsTrue (has_known C p x.number)
+    → NoWordHas C.problem (has_known C) C.rules p x → ⊥

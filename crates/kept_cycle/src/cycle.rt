@@ -1,5 +1,5 @@
 // Layers that are made once and kept while domains change.
-ghost use Rattle.std.specs.Prelude.{◌≡◌, ◌↔◌, ℕ, ◌*◌, ◌<◌, ◌≤◌, [], false, length, replicate, slice_index, slice_index_or, slice_set, IfOk, IsTrue};
+ghost use Rattle.std.specs.Prelude.{◌≡◌, ◌↔◌, ℕ, ◌*◌, ◌<◌, ◌≤◌, [], false, true, length, replicate, slice_index, slice_index_or, slice_set, IfOk, IsTrue};
 ghost use Rattle.rwsp_terms.specs.Instance.{cells, shift_count};
 ghost use Rattle.refutation_terms.specs.declared.lines.Line.TheVariants.{Dead};
 ghost use Rattle.refutation_terms.specs.Leaf.{IsDead};
@@ -11,7 +11,7 @@ ghost use Rattle.kept_cycle.specs.KeptCycle.{HasLayers, HasJoiningStep};
 use crate::day_marks::DayMarks;
 use crate::marks::Marks;
 use domain_store::{Domains, SymbolSet};
-use layered_cycle::{Layers, Step};
+use layered_cycle::{Layer, Layers, Step};
 use refutation_terms::Line;
 use rwsp_model::Problem;
 use rwsp_terms::Symbol;
@@ -20,14 +20,20 @@ use std::alloc::{AllocError, Global};
 use std::marker::Model;
 use word_tail::TailRules;
 
-// A cycle keeps two marks for each node and day, and its steps, one for each symbol at most from each node: at most
-// this many nodes times days, which is some seconds of work and about 2 GB.
+// A cycle keeps two marks for each node and day, of a byte each: at most this many nodes times days, which is 40 MB.
 const MOST_MARKS: u64 = 20_000_000;
 
-// The number of nodes has grown by then as far as it does for most rules.
+// It keeps its steps, of 12 bytes each: at most this many, which is about 400 MB with the room that lists keep free and
+// a few seconds to make. Whoever has a cycle goes over as many steps for each bound at the top and for each roster that
+// is looked for, hundreds of times, so more of them take many minutes.
+const MOST_STEPS: u64 = 20_000_000;
+
+// The number of nodes, and of steps, has grown by then as far as it does for most rules.
 const FIRST_DAYS: u32 = 64;
 
-/// The clean words of two turns round the cycle, from position 0 on, over domains that change.
+/// The clean words of two turns round the cycle, from position 0 on, over domains that change (G. Pesant's layered
+/// graph of a regular language, 2004: a symbol is supported where a step by it joins what is reached from the front
+/// with what leads to the end).
 ///
 /// The layers of all clean words are made once. What is kept beside them for each day, and changes with the domains, is
 /// which nodes are reached over them from the front, and from which nodes they lead to the end.
@@ -39,6 +45,8 @@ pub struct Cycle {
     sets: Vec<SymbolSet>,
     front: DayMarks,
     back: DayMarks,
+    // the positions at which a symbol may be without support
+    pending: Vec<bool>,
 }
 
 impl Model for Cycle {
@@ -46,15 +54,17 @@ impl Model for Cycle {
 
     ghost Value = { KnownCycle };
 
-    ghost use Rattle.kept_cycle.specs.KeptCycle.{IsCycle};
+    ghost use Rattle.kept_cycle.specs.KeptCycle.{IsCycle, AreAwaited};
 
     ghost view = { λ c. record { problem = c.tails.problem; rules = c.tails.rules; sets = c.sets.items } };
 
-    ghost invariant = { λ c. IsCycle c.tails c.layers.layers c.sets.items c.front c.back c.width };
+    ghost invariant = { λ c.
+        IsCycle c.tails c.layers.layers c.sets.items c.front c.back c.width
+        × AreAwaited c.tails c.sets.items c.pending.items };
 }
 
 impl Cycle {
-    ghost use Rattle.kept_cycle.specs.Known.{StandsFor, DiffersAtMostAt, has_known};
+    ghost use Rattle.kept_cycle.specs.Known.{KnowsDomains, KnowsAllBut, has_known, IsSupportedAt};
 
     /// A cycle that stands for the domains. Takes all memory that it will ever need; there is too little where the
     /// layers would pass the limit of their room.
@@ -62,9 +72,9 @@ impl Cycle {
         requires { BelongsTo tails.problem doms.now }
         ensures problem { IfOk result (λ C. C.problem ≡ tails.problem) }
         ensures rules { IfOk result (λ C. C.rules ≡ tails.rules) }
-        ensures stands { IfOk result (λ C. StandsFor C doms.now) }
+        ensures stands { IfOk result (λ C. KnowsDomains C doms.now) }
     {
-        tails.problem().keeps_limits();
+        tails.problem().prove_limits();
         let full = Domains::new(alloc, tails.problem())?;
         let days = 2 * tails.problem().cells();
         keep_room(alloc, &tails, &full, days)?;
@@ -113,16 +123,34 @@ impl Cycle {
         self.sets[p as usize].has(x.number) && has_joining_step(steps, x, before, behind)
     }
 
+    /// Whether a symbol may be without support at the position: its domain or the marks there have changed since it was
+    /// settled.
+    pub fn is_pending(&self, p: u32) -> bool
+        requires { p < cells self.now.problem }
+        ensures { result ≡ false → IsSupportedAt self.now p }
+    {
+        self.pending[p as usize]
+    }
+
+    /// Takes in that each symbol of the position is supported, until a change may have taken that away.
+    pub fn settle(&mut self, p: u32)
+        requires position { p < cells self.old.problem }
+        requires supported { IsSupportedAt self.old p }
+        ensures { self.new ≡ self.old }
+    {
+        self.pending[p as usize] = false;
+    }
+
     /// Stands for the present domains, which differ at one position at most. Takes no memory.
     pub fn narrowed(&mut self, doms: &Domains, p: u32)
         requires position { p < length doms.now.sets }
-        requires differs { DiffersAtMostAt self.old doms.now p }
+        requires differs { KnowsAllBut self.old doms.now p }
         ensures problem { self.new.problem ≡ self.old.problem }
         ensures rules { self.new.rules ≡ self.old.rules }
-        ensures stands { StandsFor self.new doms.now }
+        ensures stands { KnowsDomains self.new doms.now }
     {
-        self.facts();
-        doms.facts();
+        self.prove_facts();
+        doms.prove_facts();
         self.take_over(doms, p);
     }
 
@@ -132,17 +160,17 @@ impl Cycle {
         requires { BelongsTo self.old.problem doms.now }
         ensures problem { self.new.problem ≡ self.old.problem }
         ensures rules { self.new.rules ≡ self.old.rules }
-        ensures stands { StandsFor self.new doms.now }
+        ensures stands { KnowsDomains self.new doms.now }
     {
-        self.facts();
-        doms.facts();
+        self.prove_facts();
+        doms.prove_facts();
         for p in 0..doms.cells() {
             self.take_over(doms, p);
         }
     }
 
     // Brings into a proof what holds of all cycles. Does nothing when run.
-    fn facts(&self)
+    fn prove_facts(&self)
         ensures long { length self.now.sets ≡ cells self.now.problem }
         ensures few { cells self.now.problem ≤ MOST_CELLS }
     {
@@ -158,10 +186,10 @@ impl Cycle {
         ensures rules { self.new.rules ≡ self.old.rules }
         ensures sets { self.new.sets ≡ slice_set self.old.sets p (domain_at doms.now p) }
     {
-        doms.facts();
+        doms.prove_facts();
         let set = doms.set(p);
         if !self.has_set(p, set) {
-            self.put(p, set.copy());
+            self.put(p, *set);
         }
     }
 
@@ -175,7 +203,7 @@ impl Cycle {
     }
 
     // Gives the position another domain. Its two days are mended, as far as marks change: at most twice over the
-    // steps of all days for the front, and twice for the back.
+    // steps of all days for the front, and twice for the back. The positions whose marks change are pending then.
     fn put(&mut self, p: u32, set: SymbolSet)
         requires position { p < length self.old.sets }
         requires small { (x : ℕ) → IsTrue (has_symbol set x) → x ≤ shift_count self.old.problem }
@@ -184,15 +212,20 @@ impl Cycle {
         ensures sets { self.new.sets ≡ slice_set self.old.sets p set }
     {
         let first = p as usize;
-        let second = first + self.sets.len();
+        let cells = self.sets.len();
+        let second = first + cells;
         self.sets[first] = set;
-        self.front
+        let end = self
+            .front
             .mend_front(self.layers.layers(), &self.sets, first);
         self.front
             .mend_front(self.layers.layers(), &self.sets, second);
-        self.back
+        let low = self
+            .back
             .mend_back(self.layers.layers(), &self.sets, second);
-        self.back.mend_back(self.layers.layers(), &self.sets, first);
+        let start = self.back.mend_back(self.layers.layers(), &self.sets, first);
+        raise(&mut self.pending, start, end + 1);
+        raise(&mut self.pending, low, cells);
     }
 
     // A cycle in which no position has a symbol.
@@ -207,7 +240,9 @@ impl Cycle {
         ensures rules { IfOk result (λ C. C.rules ≡ tails.rules) }
     {
         let days = layers.layers().len();
-        let sets = empty_sets(alloc, tails.problem().cells())?;
+        let cells = tails.problem().cells();
+        let sets = empty_sets(alloc, cells)?;
+        let pending = vec![in alloc; false; cells as usize]?;
         let mut start = Marks::of(alloc, width as usize, false)?;
         start.put(0, true);
         let mut front = DayMarks::none(alloc, days + 1, width as usize)?;
@@ -221,12 +256,13 @@ impl Cycle {
             sets,
             front,
             back,
+            pending,
         })
     }
 }
 
-// Tells want of memory where two turns would take more marks than are kept, judged by their first days: layers of so
-// many tails take hours to make.
+// Tells want of memory where two turns would take more marks or more steps than are kept, judged by their first days:
+// no more is spent on layers that are too large.
 fn keep_room(alloc: Global, tails: &TailRules, full: &Domains, days: u32) -> Result<(), AllocError>
     requires belongs { BelongsTo tails.now.problem full.now }
     requires position { 0 < cells tails.now.problem }
@@ -234,10 +270,33 @@ fn keep_room(alloc: Global, tails: &TailRules, full: &Domains, days: u32) -> Res
 {
     let first = Layers::of(alloc, tails, full, 0, days.min(FIRST_DAYS))?;
     let nodes = greatest(first.node_counts());
-    if nodes as u64 * days as u64 > MOST_MARKS {
+    let steps = most_steps(first.layers());
+    if nodes as u64 * days as u64 > MOST_MARKS || steps > MOST_STEPS / days as u64 {
         return Err(AllocError);
     }
     Ok(())
+}
+
+// The greatest number of steps of a day. Goes once over the days.
+fn most_steps(layers: &[Layer]) -> u64 {
+    let mut most = 0;
+    for layer in layers {
+        most = most.max(layer.steps().len() as u64);
+    }
+    most
+}
+
+// Raises the flags from `start` on that come before `end`.
+fn raise(flags: &mut Vec<bool>, start: usize, end: usize)
+    ensures long { length flags.new.items ≡ length flags.old.items }
+    ensures kept { (q : ℕ) → slice_index_or flags.new.items q false ≡ false
+        → slice_index_or flags.old.items q false ≡ false }
+    ensures raised { (q : ℕ) → start ≤ q → q < end → q < length flags.old.items
+        → slice_index_or flags.new.items q false ≡ true }
+{
+    for q in start..end.min(flags.len()) {
+        flags[q] = true;
+    }
 }
 
 // Whether a step by the symbol leads from a marked node to a marked one.

@@ -3,7 +3,7 @@ ghost use Rattle.std.specs.Prelude.{◌≡◌, ℕ, ◌↔◌, IfOk};
 ghost use Rattle.rwsp_terms.specs.declared.data.Symbol.{Symbol};
 ghost use Rattle.refutation_terms.specs.declared.lines.Line.{Line};
 ghost use Rattle.domain_store.specs.Store.{Store, BelongsTo, has_domain};
-ghost use Rattle.kept_cycle.specs.Known.{StandsFor};
+ghost use Rattle.kept_cycle.specs.Known.{KnowsDomains};
 ghost use Rattle.propagators.specs.Cycles.{IsCycleLeaf, IsCycleSpent};
 ghost use Rattle.propagators.specs.Looks.{IsLook};
 ghost use Rattle.kept_cycle.specs.CycleCuts.{IsShortCycle};
@@ -58,7 +58,7 @@ impl CycleProp {
 impl Propagator for CycleProp {
     ghost serves = { λ c P. c.problem ≡ P };
 
-    ghost tracks = { λ c S. StandsFor c S };
+    ghost tracks = { λ c S. KnowsDomains c S };
 
     ghost leaves = { λ c S line. IsCycleLeaf c.problem line };
 
@@ -67,7 +67,7 @@ impl Propagator for CycleProp {
     fn prove_spent(&self) {}
 
     fn look(&mut self, _alloc: Global, doms: &Domains) -> Result<Look, AllocError> {
-        seen(&self.cycle, doms)
+        seen(&mut self.cycle, doms)
     }
 
     fn narrowed(&mut self, doms: &Domains, p: u32) {
@@ -80,12 +80,13 @@ impl Propagator for CycleProp {
 }
 
 // What the words of two turns say.
-fn seen(cycle: &Cycle, doms: &Domains) -> Result<Look, AllocError>
-    requires { IsShortCycle cycle.now doms.now }
-    ensures { let P = cycle.now.problem in
+fn seen(cycle: &mut Cycle, doms: &Domains) -> Result<Look, AllocError>
+    requires { IsShortCycle cycle.old doms.now }
+    ensures look { let P = cycle.old.problem in
         IfOk result (λ look. IsLook P (IsCycleLeaf P) (IsCycleSpent P (has_domain doms.now)) doms.now look) }
+    ensures same { cycle.new ≡ cycle.old }
 {
-    cycle.problem().keeps_limits();
+    cycle.problem().prove_limits();
     if cycle.is_dead() {
         return Ok(Look::Closed(cycle.dead_leaf()?));
     }

@@ -100,26 +100,31 @@ impl DayMarks {
     }
 
     // Mends the steps behind a day whose domain has changed, until a day keeps its marks: all further ones depend on
-    // these alone.
-    pub fn mend_front(&mut self, layers: &[Layer], sets: &[SymbolSet], day: usize)
+    // these alone. Gives the last day whose marks may be others now.
+    pub fn mend_front(&mut self, layers: &[Layer], sets: &[SymbolSet], day: usize) -> usize
         requires some { 0 < length sets.now }
         requires day { day + 1 < length self.old }
         requires wide { (width : ℕ) × IsWide self.old width × AllFitInto width layers.now }
         requires long { length self.old ≡ length layers.now + 1 }
         ensures steps { MendsFront layers.now sets.now day self.old self.new }
         ensures first { row_at self.new 0 ≡ row_at self.old 0 }
+        ensures reach { (day ≤ result) × (result < length self.old) }
+        ensures before { (i : ℕ) → i ≤ day → row_at self.new i ≡ row_at self.old i }
+        ensures behind { (i : ℕ) → result < i → i < length self.old → row_at self.new i ≡ row_at self.old i }
         ensures long { length self.new ≡ length self.old }
         ensures wide { (width : ℕ) → IsWide self.old width → IsWide self.new width }
     {
         for i in day..self.rows.len() - 1 {
             if !self.go_on(&layers[i], &sets[i % sets.len()], i) {
-                return;
+                return i;
             }
         }
+        self.rows.len() - 1
     }
 
-    // Mends the steps before a day whose domain has changed, back until a day keeps its marks.
-    pub fn mend_back(&mut self, layers: &[Layer], sets: &[SymbolSet], day: usize)
+    // Mends the steps before a day whose domain has changed, back until a day keeps its marks. Gives that day: behind
+    // it the marks may be others now.
+    pub fn mend_back(&mut self, layers: &[Layer], sets: &[SymbolSet], day: usize) -> usize
         requires some { 0 < length sets.now }
         requires day { day + 1 < length self.old }
         requires few { length self.old ≤ 2 * MOST_CELLS + 1 }
@@ -127,6 +132,8 @@ impl DayMarks {
         requires long { length self.old ≡ length layers.now + 1 }
         ensures steps { MendsBack layers.now sets.now day self.old self.new }
         ensures last { (i : ℕ) → day < i → row_at self.new i ≡ row_at self.old i }
+        ensures reach { result ≤ day }
+        ensures before { (i : ℕ) → i < result → row_at self.new (i + 1) ≡ row_at self.old (i + 1) }
         ensures long { length self.new ≡ length self.old }
         ensures wide { (width : ℕ) → IsWide self.old width → IsWide self.new width }
     {
@@ -134,8 +141,9 @@ impl DayMarks {
         while 0 < i {
             i -= 1;
             if !self.go_back(&layers[i], &sets[i % sets.len()], i) {
-                return;
+                return i;
             }
         }
+        0
     }
 }

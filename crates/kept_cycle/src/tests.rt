@@ -79,7 +79,7 @@ fn look(
     ensures serves { ⟦<CycleProp as Propagator>⟧.serves prop.new problem.now }
     ensures tracks { ⟦<CycleProp as Propagator>⟧.tracks prop.new doms.now }
 {
-    problem.keeps_limits();
+    problem.prove_limits();
     let look = prop.look(alloc, doms)?;
     Ok(kind_of(&look))
 }

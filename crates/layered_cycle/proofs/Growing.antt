@@ -13,7 +13,7 @@ use Rattle.word_tail.specs.Listed.{Listed}
 use Rattle.word_tail.specs.Tails.{tail_of}
 use Rattle.word_tail.specs.declared.tail.Tail.{Tail}
 use Rattle.layered_cycle.specs.declared.step.Step.{Step}
-use Rattle.layered_cycle.specs.Graph.{Precedes, StepBefore}
+use Rattle.layered_cycle.specs.Graph.{StepPrecedes, StepBefore}
 use Rattle.layered_cycle.specs.Grown.{StandsAt, AreDistinct, IsStep, IsReached, Grown}
 
 pub stands_left : {X : Type 0} (xs ys : List X) (k : ℕ) (x : X) → StandsAt xs k x → StandsAt (xs ++ ys) k x
@@ -48,15 +48,15 @@ step_left T D q nodes next rest s h = record {
 }
 
 -- what precedes the next symbol precedes this one, or is this one
-precedes_next : (k n node number : ℕ) → Precedes k n node (number + 1) → Precedes k n node number ⊎ ((k ≡ node) × (n ≡ number))
+precedes_next : (k n node number : ℕ) → StepPrecedes k n node (number + 1) → StepPrecedes k n node number ⊎ ((k ≡ node) × (n ≡ number))
 precedes_next k n node number (inl lt) = inl (inl lt)
 precedes_next k n node number (inr (same, lt)) = by_order (eq-or-lt_of_le {n = n} {m = number} (omega arith))
   where
-    by_order : (n ≡ number) ⊎ (n < number) → Precedes k n node number ⊎ ((k ≡ node) × (n ≡ number))
+    by_order : (n ≡ number) ⊎ (n < number) → StepPrecedes k n node number ⊎ ((k ≡ node) × (n ≡ number))
     by_order (inl equal) = inr (same, equal)
     by_order (inr less) = inl (inr (same, less))
 
-precedes_more : (k n node number : ℕ) → Precedes k n node number → Precedes k n node (number + 1)
+precedes_more : (k n node number : ℕ) → StepPrecedes k n node number → StepPrecedes k n node (number + 1)
 precedes_more k n node number (inl lt) = inl lt
 precedes_more k n node number (inr (same, lt)) = inr (same, omega arith)
 
@@ -72,7 +72,7 @@ grown_without T D q nodes steps next node x g none = record {
   complete = λ k y w order inside clean at longer. complete k y w inside clean at longer (precedes_next k y.number node x.number order);
 }
   where
-    complete : (k : ℕ) (y : Symbol) (w : List Symbol) → IsTrue (D q y.number) → Clean T.problem T.rules w → StandsAt nodes k (tail_of w) → Clean T.problem T.rules (w ++ y ∷ []) → Precedes k y.number node x.number ⊎ ((k ≡ node) × (y.number ≡ x.number)) → (to : ℕ) × Contains steps (record { from = k; symbol = y; to = to })
+    complete : (k : ℕ) (y : Symbol) (w : List Symbol) → IsTrue (D q y.number) → Clean T.problem T.rules w → StandsAt nodes k (tail_of w) → Clean T.problem T.rules (w ++ y ∷ []) → StepPrecedes k y.number node x.number ⊎ ((k ≡ node) × (y.number ≡ x.number)) → (to : ℕ) × Contains steps (record { from = k; symbol = y; to = to })
     complete k y w inside clean at longer (inl earlier) = g.complete k y w earlier inside clean at longer
     complete k y w inside clean at longer (inr (here, number)) =
         let same : y ≡ x = ap symbol_numbered number in
@@ -108,9 +108,9 @@ grown_with T D q nodes steps next rest node to x tail new g few distinct here in
     reached k (inl lt) h = let r = g.reached k lt in (r.0, Contains-append_left steps (step ∷ []) r.0 r.1, r.2)
     reached k (inr le) h = (step, Contains-push steps step, sym (others k le h))
 
-    before : (s : Step) → Contains steps s ⊎ (step ≡ s) → Precedes s.from s.symbol.number node (x.number + 1)
+    before : (s : Step) → Contains steps s ⊎ (step ≡ s) → StepPrecedes s.from s.symbol.number node (x.number + 1)
     before s (inl h) = precedes_more s.from s.symbol.number node x.number (g.before s h)
-    before s (inr e) = subst (λ (s : Step). Precedes s.from s.symbol.number node (x.number + 1)) e (inr (refl, omega arith))
+    before s (inr e) = subst (λ (s : Step). StepPrecedes s.from s.symbol.number node (x.number + 1)) e (inr (refl, omega arith))
 
     leads : (w : List Symbol) → Clean T.problem T.rules w → StandsAt nodes node (tail_of w) → Clean T.problem T.rules (w ++ x ∷ []) × StandsAt (next ++ rest) to (tail_of (w ++ x ∷ []))
     leads w clean at =
@@ -124,7 +124,7 @@ grown_with T D q nodes steps next rest node to x tail new g few distinct here in
     sound s (inl h) = step_left T D q nodes next rest s (g.sound s h)
     sound s (inr e) = subst (λ (s : Step). IsStep T D q nodes (next ++ rest) s) e is_step
 
-    complete : (k : ℕ) (y : Symbol) (w : List Symbol) → IsTrue (D q y.number) → Clean T.problem T.rules w → StandsAt nodes k (tail_of w) → Clean T.problem T.rules (w ++ y ∷ []) → Precedes k y.number node x.number ⊎ ((k ≡ node) × (y.number ≡ x.number)) → (t : ℕ) × Contains (steps ++ step ∷ []) (record { from = k; symbol = y; to = t })
+    complete : (k : ℕ) (y : Symbol) (w : List Symbol) → IsTrue (D q y.number) → Clean T.problem T.rules w → StandsAt nodes k (tail_of w) → Clean T.problem T.rules (w ++ y ∷ []) → StepPrecedes k y.number node x.number ⊎ ((k ≡ node) × (y.number ≡ x.number)) → (t : ℕ) × Contains (steps ++ step ∷ []) (record { from = k; symbol = y; to = t })
     complete k y w in_domain clean at longer (inl earlier) =
         let c = g.complete k y w earlier in_domain clean at longer in
         (c.0, Contains-append_left steps (step ∷ []) (record { from = k; symbol = y; to = c.0 }) c.1)
@@ -146,14 +146,14 @@ grown_node T D q last nodes steps next node known g = record {
   complete = λ k x w order inside clean at longer. g.complete k x w (earlier k x.number (known x.number inside) order) inside clean at longer;
 }
   where
-    before : (s : Step) → Precedes s.from s.symbol.number node last → Precedes s.from s.symbol.number (node + 1) 0
+    before : (s : Step) → StepPrecedes s.from s.symbol.number node last → StepPrecedes s.from s.symbol.number (node + 1) 0
     before s (inl lt) = inl (omega arith)
     before s (inr (same, lt)) = inl (omega arith)
 
-    earlier_by : (k n : ℕ) → n < last → (k ≡ node) ⊎ (k < node) → Precedes k n node last
+    earlier_by : (k n : ℕ) → n < last → (k ≡ node) ⊎ (k < node) → StepPrecedes k n node last
     earlier_by k n lt (inl same) = inr (same, lt)
     earlier_by k n lt (inr less) = inl less
 
-    earlier : (k n : ℕ) → n < last → Precedes k n (node + 1) 0 → Precedes k n node last
+    earlier : (k n : ℕ) → n < last → StepPrecedes k n (node + 1) 0 → StepPrecedes k n node last
     earlier k n lt (inl less) = earlier_by k n lt (eq-or-lt_of_le {n = k} {m = node} (omega arith))
     earlier k n lt (inr (same, none)) = absurd (omega arith)

@@ -1,4 +1,5 @@
 pub mod Growing
+pub mod Automata
 pub mod Ways
 pub mod Reached
 pub mod Whole

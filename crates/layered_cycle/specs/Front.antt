@@ -1,6 +1,8 @@
 -- Where the clean words of so many days end: their tails, each with the best of the words that have it.
-use Rattle.std.specs.Prelude.{◌≡◌, ◌⊎◌, ℕ, ◌+◌, ◌*◌, ◌/◌, ◌<◌, ◌≤◌, ◌^◌, List, [], ◌∷◌, ◌++◌, length, Option, Some, None, Bool, false, ◌&&◌, ◌==◌, slice_index_or, reverse, ℤ, ◌<ℤ◌}
+use Rattle.std.specs.Prelude.{◌≡◌, ◌⊎◌, ℕ, ◌+◌, ◌-◌, ◌*◌, ◌/◌, ◌<◌, ◌≤◌, ◌^◌, List, [], ◌∷◌, ◌++◌, length, Option, Some, None, Bool, false, ◌&&◌, ◌==◌, slice_index_or, reverse, ℤ, ◌<ℤ◌}
 use Rattle.rwsp_terms.specs.declared.data.Symbol.{Symbol}
+use Rattle.rwsp_terms.specs.declared.limits.TheConstants.{GREATEST_WEIGHT}
+use Rattle.layered_cycle.specs.declared.kept_fronts.TheConstants.{STRIDE}
 use Rattle.refutation_terms.specs.Word.{Domains}
 use Rattle.refutation_terms.specs.Escape.{ComesFirst, IsCleanOver}
 use Rattle.domain_store.specs.Store.{Store, has_domain}
@@ -56,7 +58,7 @@ pub record IsFront (C : Course) (day : ℕ) (tails : List Tail) (row : Row) : Ty
   pub weighs : (k : ℕ) → k < length tails → (c : Choice) × (choice_at row k ≡ Some c) × (c.weight ≡ gained C.gain 0 (word k))
   pub all : (u : List Symbol) → IsOf C day u → (k : ℕ) × (k < length tails) × (tail_at tails k ≡ tail_of u)
   pub ordered : (j k : ℕ) → j < k → k < length tails → ComesBefore (word j) (word k)
-  pub light : AreWithin (1000 * day) row
+  pub light : AreWithin (GREATEST_WEIGHT * day) row
 
 -- the choice of a later tail names an earlier one and a symbol: the best word to the one, with the symbol, is the best to the other
 abbrev pub AreLinked : Course → ℕ → List Tail → List Tail → Row → Type 0
@@ -64,11 +66,11 @@ AreLinked C day tails later row =
     (k : ℕ) → k < length later → (c : Choice) × (choice_at row k ≡ Some c) × (c.to < length tails)
     × ((u : List Symbol) → IsBestTo C day (tail_at tails c.to) u → IsBestTo C (day + 1) (tail_at later k) (u ++ c.symbol ∷ []))
 
--- the fronts of the days 0, 128, 256 and so on, of those before this one
+-- the fronts of day 0 and of each further day that is kept, of those before this one
 abbrev pub AreKept : Course → ℕ → List Front → Type 0
 AreKept C day fronts =
-    (length fronts ≡ (day + 127) / 128)
-    × ((i : ℕ) (d : Front) → i < length fronts → IsFront C (i * 128) (slice_index_or fronts i d).tails.items (slice_index_or fronts i d).row)
+    (length fronts ≡ (day + (STRIDE - 1)) / STRIDE)
+    × ((i : ℕ) (d : Front) → i < length fronts → IsFront C (i * STRIDE) (slice_index_or fronts i d).tails.items (slice_index_or fronts i d).row)
 
 -- where the heaviest words end, of the first so many ends; the first of these ends
 abbrev pub IsHeaviestEnd : Row → ℕ → Option End → Type 0

@@ -11,12 +11,12 @@ Leads (layer ∷ layers) node [] = ⊥
 Leads (layer ∷ layers) node (x ∷ u) = (to : ℕ) × Contains layer (record { from = node; symbol = x; to = to }) × Leads layers to u
 
 -- the one node is earlier, or it is the same and the one symbol is lower
-abbrev pub Precedes : ℕ → ℕ → ℕ → ℕ → Type 0
-Precedes node number other_node other_number = (node < other_node) ⊎ ((node ≡ other_node) × (number < other_number))
+abbrev pub StepPrecedes : ℕ → ℕ → ℕ → ℕ → Type 0
+StepPrecedes node number other_node other_number = (node < other_node) ⊎ ((node ≡ other_node) × (number < other_number))
 
 -- the one step is from an earlier node, or from the same by a lower symbol
 abbrev pub StepBefore : Step → Step → Type 0
-StepBefore a b = Precedes a.from a.symbol.number b.from b.symbol.number
+StepBefore a b = StepPrecedes a.from a.symbol.number b.from b.symbol.number
 
 -- the steps ascend, from so many nodes to so many
 pub record IsLayer (from_count to_count : ℕ) (layer : List Step) : Type 0 where

@@ -6,7 +6,7 @@ use Rattle.word_tail.specs.Listed.{Listed}
 use Rattle.word_tail.specs.Tails.{tail_of}
 use Rattle.word_tail.specs.declared.tail.Tail.{Tail}
 use Rattle.layered_cycle.specs.declared.step.Step.{Step}
-use Rattle.layered_cycle.specs.Graph.{Precedes, StepBefore}
+use Rattle.layered_cycle.specs.Graph.{StepPrecedes, StepBefore}
 
 -- the element stands at the place
 abbrev pub StandsAt : {X : Type 0} → List X → ℕ → X → Type 0
@@ -36,7 +36,7 @@ pub record Grown (T : Listed) (D : Domains) (q : ℕ) (nodes : List Tail) (steps
   pub few : length next < 2 ^ 32
   pub distinct : AreDistinct next
   pub ordered : AllPairs StepBefore steps
-  pub before : (s : Step) → Contains steps s → Precedes s.from s.symbol.number node number
+  pub before : (s : Step) → Contains steps s → StepPrecedes s.from s.symbol.number node number
   pub sound : (s : Step) → Contains steps s → IsStep T D q nodes next s
   pub reached : (k : ℕ) → k < length next → IsReached steps k
-  pub complete : (k : ℕ) (x : Symbol) (w : List Symbol) → Precedes k x.number node number → IsTrue (D q x.number) → Clean T.problem T.rules w → StandsAt nodes k (tail_of w) → Clean T.problem T.rules (w ++ x ∷ []) → (to : ℕ) × Contains steps (record { from = k; symbol = x; to = to })
+  pub complete : (k : ℕ) (x : Symbol) (w : List Symbol) → StepPrecedes k x.number node number → IsTrue (D q x.number) → Clean T.problem T.rules w → StandsAt nodes k (tail_of w) → Clean T.problem T.rules (w ++ x ∷ []) → (to : ℕ) × Contains steps (record { from = k; symbol = x; to = to })

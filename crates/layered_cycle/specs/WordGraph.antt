@@ -1,6 +1,7 @@
 -- The clean words over domains as a graph.
 use Rattle.std.specs.Prelude.{◌≡◌, ℕ, ◌<◌, ◌≤◌, ◌↔◌, List, length}
 use Rattle.rwsp_terms.specs.declared.data.Symbol.{Symbol}
+use Rattle.rwsp_terms.specs.declared.limits.TheConstants.{LONGEST_WORD}
 use Rattle.rwsp_terms.specs.Instance.{Instance, cells}
 use Rattle.refutation_terms.specs.Escape.{IsCleanOver}
 use Rattle.domain_store.specs.Store.{Store, has_domain, BelongsTo}
@@ -26,7 +27,7 @@ pub record IsWordGraph (g : WordGraph) : Type 0 where
   pub belongs : BelongsTo g.problem g.store
   pub position : g.position < cells g.problem
   pub some : 1 ≤ g.len
-  pub few : g.len ≤ 16800
+  pub few : g.len ≤ LONGEST_WORD
   pub long : length g.layers ≡ g.len
   pub layers : AreLayers g.node_counts g.layers
   -- the clean words over the domains are those that lead to the end

@@ -1,5 +1,6 @@
 // The best word of layers: the heaviest, and among those of its weight the least.
-ghost use Rattle.std.specs.Prelude.{◌≡◌, ℕ, ◌+◌, ◌<◌, ◌≤◌, List, [], ◌∷◌, ◌++◌, length, slice_index, slice_index_or, All, AllPairs, IfOk, MatchOption, ℤ, pos, negsuc, ◌≤ℤ◌};
+ghost use Rattle.std.specs.Prelude.{◌≡◌, ℕ, ◌+◌, ◌<◌, ◌≤◌, List, [], ◌∷◌, ◌++◌, length, slice_index, slice_index_or, All, AllPairs, IfOk, MatchOption, ℤ, pos, negsuc, ◌≤ℤ◌, ◌*◌, ◌-◌, neg_ℤ};
+ghost use Rattle.rwsp_terms.specs.declared.limits.TheConstants.{GREATEST_WEIGHT, LONGEST_WORD};
 ghost use Rattle.rwsp_terms.specs.declared.data.Symbol.{Symbol};
 ghost use Rattle.layered_cycle.specs.Graph.{AreLayers, StepBefore};
 ghost use Rattle.layered_cycle.specs.Choices.{first_row, AreRows, IsRowOf, AreWithin, IsWithin, choice_by, word_by};
@@ -17,8 +18,8 @@ pub trait Gain {
     /// What the symbol gains on a day of the word, counted from 0.
     fn gain(&self, day: u32, symbol: Symbol) -> i32
         ensures value { result ≡ gain_of self.now day symbol }
-        ensures low { negsuc 999 ≤ℤ result }
-        ensures high { result ≤ℤ pos 1000 };
+        ensures low { neg_ℤ (pos GREATEST_WEIGHT) ≤ℤ result }
+        ensures high { result ≤ℤ pos GREATEST_WEIGHT };
 }
 
 /// A word with its weight.
@@ -36,7 +37,7 @@ pub fn best_word<G: Gain>(
     node_counts: &[u32],
     gain: &G,
 ) -> Result<Option<HeavyWord>, AllocError>
-    requires few { length layers.now ≤ 16800 }
+    requires few { length layers.now ≤ LONGEST_WORD }
     requires layers { AreLayers node_counts.now layers.now }
     ensures { IfOk result (λ found. MatchOption found (NoneLeads layers.now) (λ h. IsBest (G.gain_of gain.now) layers.now h.weight h.word)) }
 {
@@ -60,7 +61,7 @@ fn rows_of<G: Gain>(
     node_counts: &[u32],
     gain: &G,
 ) -> Result<Rows, AllocError>
-    requires few { length layers.now ≤ 16800 }
+    requires few { length layers.now ≤ LONGEST_WORD }
     requires layers { AreLayers node_counts.now layers.now }
     ensures rows { IfOk result (λ rows. AreRows (G.gain_of gain.now) 0 layers.now rows) }
     ensures first { IfOk result (λ rows. length (first_row rows) ≡ 1) }
@@ -95,10 +96,10 @@ fn row_before<G: Gain>(
     requires ordered { AllPairs StepBefore steps.now }
     requires from { All (λ s. s.from < count) steps.now }
     requires to { All (λ s. s.to < length next.now) steps.now }
-    requires light { AreWithin 16799000 next.now }
+    requires light { AreWithin (GREATEST_WEIGHT * (LONGEST_WORD - 1)) next.now }
     ensures long { IfOk result (λ row. length row ≡ count) }
     ensures row { IfOk result (λ row. IsRowOf (G.gain_of gain.now) day steps.now next.now row) }
-    ensures light { IfOk result (λ row. (n : ℕ) → AreWithin n next.now → AreWithin (n + 1000) row) }
+    ensures light { IfOk result (λ row. (n : ℕ) → AreWithin n next.now → AreWithin (n + GREATEST_WEIGHT) row) }
 {
     let mut row = ChoiceRow::of(alloc, count, None)?;
     let mut k = steps.len();
@@ -113,9 +114,9 @@ fn row_before<G: Gain>(
 
 // To take the step, and then what is chosen where it leads.
 pub fn choice_by<G: Gain>(gain: &G, day: u32, step: Step, next: &ChoiceRow) -> Option<Choice>
-    requires { AreWithin 16799000 next.now }
+    requires { AreWithin (GREATEST_WEIGHT * (LONGEST_WORD - 1)) next.now }
     ensures value { result ≡ choice_by (G.gain_of gain.now) day next.now step }
-    ensures light { (n : ℕ) → AreWithin n next.now → IsWithin (n + 1000) result }
+    ensures light { (n : ℕ) → AreWithin n next.now → IsWithin (n + GREATEST_WEIGHT) result }
 {
     let after = next.at(step.to)?;
     Some(Choice {

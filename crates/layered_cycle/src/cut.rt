@@ -1,13 +1,14 @@
 // Cuts.
 ghost use Rattle.std.specs.Prelude.{ℕ, ◌<◌, ◌≤◌, List, IfOk, MatchBool, MatchOption, pos};
+ghost use Rattle.rwsp_terms.specs.declared.limits.TheConstants.{LONGEST_WORD};
 ghost use Rattle.rwsp_terms.specs.Instance.{cells};
 ghost use Rattle.rwsp_terms.specs.declared.data.Symbol.{Symbol};
 ghost use Rattle.refutation_terms.specs.Leaf.{IsDead};
 ghost use Rattle.refutation_terms.specs.Escape.{IsCleanOver, IsLeastClean};
 ghost use Rattle.domain_store.specs.Store.{has_domain, BelongsTo};
 
+use crate::automaton::Automaton;
 use crate::growth::{Growth, layer_of_day};
-use crate::tail_index::TailIndex;
 use crate::{Gain, HeavyWord, heaviest_clean};
 use domain_store::Domains;
 use rwsp_terms::{Symbol, Word};
@@ -28,20 +29,21 @@ impl Cut {
     ) -> Result<bool, AllocError>
         requires belongs { BelongsTo tails.now.problem doms.now }
         requires position { p < cells tails.now.problem }
-        requires long { (1 ≤ len) × (len ≤ 16800) }
+        requires long { (1 ≤ len) × (len ≤ LONGEST_WORD) }
         ensures { IfOk result (λ alive. MatchBool alive
             ((u : List Symbol) × IsCleanOver tails.now.problem (has_domain doms.now) p len tails.now.rules u)
             (IsDead tails.now.problem (has_domain doms.now) p len tails.now.rules)) }
     {
         empty_word_is_clean();
-        let mut index = TailIndex::new(alloc)?;
+        let mut automaton = Automaton::new(alloc)?;
         let mut nodes = Vec::new(alloc);
         nodes.push(Tail::empty())?;
         for i in 0..len {
             let Growth {
                 steps: _,
                 nodes: next,
-            } = layer_of_day(alloc, &mut index, tails, doms, p, i, &nodes)?;
+                states: _,
+            } = layer_of_day(alloc, &mut automaton, tails, doms, p, i, &nodes)?;
             nodes = next;
         }
         Ok(!nodes.is_empty())
@@ -59,11 +61,14 @@ pub fn escape(
 ) -> Result<Option<Word>, AllocError>
     requires belongs { BelongsTo tails.now.problem doms.now }
     requires position { p < cells tails.now.problem }
-    requires long { (1 ≤ len) × (len ≤ 16800) }
+    requires long { (1 ≤ len) × (len ≤ LONGEST_WORD) }
     ensures { IfOk result (λ found. MatchOption found
         (IsDead tails.now.problem (has_domain doms.now) p len tails.now.rules)
         (λ w. IsLeastClean tails.now.problem (has_domain doms.now) p len tails.now.rules w)) }
 {
+    if !Cut::alive(alloc, tails, doms, p, len)? {
+        return Ok(None);
+    }
     match heaviest_clean(alloc, tails, doms, p, len, &NoGain)? {
         Some(HeavyWord { weight: _, word }) => Ok(Some(word)),
         None => Ok(None),

@@ -1,15 +1,17 @@
 // Fronts: where the clean words of so many days end.
-ghost use Rattle.std.specs.Prelude.{◌≡◌, ℕ, ◌+◌, ◌<◌, ◌^◌, length, map, All, IfOk};
+ghost use Rattle.std.specs.Prelude.{◌≡◌, ℕ, ◌+◌, ◌<◌, ◌^◌, length, map, All, IfOk, OnOk, ◌*◌, ◌-◌};
+ghost use Rattle.rwsp_terms.specs.declared.limits.TheConstants.{GREATEST_WEIGHT, LONGEST_WORD};
 ghost use Rattle.std.specs.List.{filter};
 ghost use Rattle.rwsp_terms.specs.Instance.{cells};
 ghost use Rattle.domain_store.specs.Store.{BelongsTo};
 ghost use Rattle.layered_cycle.specs.Choices.{AreWithin, choice_at, chosen};
+ghost use Rattle.layered_cycle.specs.Automata.{IsAutomaton};
 ghost use Rattle.layered_cycle.specs.Front.{Course, course, IsFront, AreLinked, tail_at, turned, is_picked};
 
+use crate::automaton::Automaton;
 use crate::best::choice_by;
 use crate::choice::{ChoiceRow, END};
 use crate::growth::layer_of_day;
-use crate::tail_index::TailIndex;
 use crate::{Gain, Step};
 use domain_store::Domains;
 use std::alloc::{AllocError, Global};
@@ -40,21 +42,23 @@ impl Front {
     pub fn next<G: Gain>(
         &self,
         alloc: Global,
-        index: &mut TailIndex,
+        automaton: &mut Automaton,
         rules: &TailRules,
         doms: &Domains,
         p: u32,
         day: u32,
         gain: &G,
     ) -> Result<Front, AllocError>
+        requires automaton { IsAutomaton rules.now automaton.old }
         requires belongs { BelongsTo rules.now.problem doms.now }
         requires position { p < cells rules.now.problem }
-        requires day { day < 16800 }
+        requires day { day < LONGEST_WORD }
         requires front { IsFront (course rules.now doms.now p (G.gain_of gain.now)) day self.now.tails.items self.now.row }
+        ensures automaton { OnOk result (IsAutomaton rules.now automaton.new) }
         ensures front { IfOk result (λ f. IsFront (course rules.now doms.now p (G.gain_of gain.now)) (day + 1) f.tails.items f.row) }
         ensures linked { IfOk result (λ f. AreLinked (course rules.now doms.now p (G.gain_of gain.now)) day self.now.tails.items f.tails.items f.row) }
     {
-        let growth = layer_of_day(alloc, index, rules, doms, p, day, &self.tails)?;
+        let growth = layer_of_day(alloc, automaton, rules, doms, p, day, &self.tails)?;
         let count = growth.nodes.len() as u32;
         let row = row_behind(alloc, count, &growth.steps, &self.row, day, gain)?;
         let picks = picks(alloc, &row, &growth.steps)?;
@@ -75,10 +79,10 @@ fn row_behind<G: Gain>(
     gain: &G,
 ) -> Result<ChoiceRow, AllocError>
     requires to { All (λ s. s.to < count) steps.now }
-    requires light { AreWithin 16799000 row.now }
+    requires light { AreWithin (GREATEST_WEIGHT * (LONGEST_WORD - 1)) row.now }
     ensures long { IfOk result (λ next. length next ≡ count) }
     ensures each { IfOk result (λ next. (n : ℕ) → n < count → choice_at next n ≡ chosen (G.gain_of gain.now) day row.now n (map turned steps.now)) }
-    ensures light { IfOk result (λ next. (n : ℕ) → AreWithin n row.now → AreWithin (n + 1000) next) }
+    ensures light { IfOk result (λ next. (n : ℕ) → AreWithin n row.now → AreWithin (n + GREATEST_WEIGHT) next) }
 {
     let mut next = ChoiceRow::of(alloc, count, None)?;
     let mut k = steps.len();

@@ -1,5 +1,6 @@
 // All layers of the tails of clean words.
 ghost use Rattle.std.specs.Prelude.{◌≡◌, ℕ, ◌+◌, ◌<◌, ◌≤◌, ◌↔◌, List, length, IfOk};
+ghost use Rattle.rwsp_terms.specs.declared.limits.TheConstants.{LONGEST_WORD};
 ghost use Rattle.rwsp_terms.specs.Instance.{cells};
 ghost use Rattle.rwsp_terms.specs.declared.data.Symbol.{Symbol};
 ghost use Rattle.refutation_terms.specs.Escape.{IsCleanOver};
@@ -7,8 +8,8 @@ ghost use Rattle.domain_store.specs.Store.{has_domain, BelongsTo};
 ghost use Rattle.layered_cycle.specs.Graph.{Leads, AreLayers};
 
 use crate::Layer;
+use crate::automaton::Automaton;
 use crate::growth::{Growth, layer_of_day};
-use crate::tail_index::TailIndex;
 use domain_store::Domains;
 use std::alloc::{AllocError, Global};
 use word_tail::{Tail, TailRules, empty_word_is_clean};
@@ -30,22 +31,24 @@ pub fn graph_of(
 ) -> Result<LayeredGraph, AllocError>
     requires belongs { BelongsTo tails.now.problem doms.now }
     requires position { p < cells tails.now.problem }
-    requires few { len ≤ 16800 }
+    requires few { len ≤ LONGEST_WORD }
     ensures words { IfOk result (λ g. (u : List Symbol) → IsCleanOver tails.now.problem (has_domain doms.now) p len tails.now.rules u ↔ Leads g.layers.items 0 u) }
     ensures long { IfOk result (λ g. length g.layers.items ≡ len) }
     ensures layers { IfOk result (λ g. AreLayers g.node_counts.items g.layers.items) }
 {
     empty_word_is_clean();
-    let mut index = TailIndex::new(alloc)?;
+    let mut automaton = Automaton::new(alloc)?;
     let mut layers = Vec::new(alloc);
     let mut node_counts = Vec::new(alloc);
     node_counts.push(1)?;
     let mut nodes = Vec::new(alloc);
     nodes.push(Tail::empty())?;
     for i in 0..len {
-        let Growth { steps, nodes: next } = layer_of_day(
-            alloc, &mut index, tails, doms, p, i, &nodes,
-        )?;
+        let Growth {
+            steps,
+            nodes: next,
+            states: _,
+        } = layer_of_day(alloc, &mut automaton, tails, doms, p, i, &nodes)?;
         layers.push(Layer::of(steps))?;
         node_counts.push(next.len() as u32)?;
         nodes = next;

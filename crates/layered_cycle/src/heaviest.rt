@@ -1,15 +1,17 @@
 // The heaviest clean words.
-ghost use Rattle.std.specs.Prelude.{◌≡◌, ◌<◌, ◌≤◌, length, Some, IfOk, IsTrue, false, MatchOption, ◌<ℤ◌, ◌≤ℤ◌};
+ghost use Rattle.std.specs.Prelude.{◌≡◌, ◌<◌, ◌≤◌, length, Some, IfOk, OnOk, IsTrue, false, MatchOption, ◌<ℤ◌, ◌≤ℤ◌};
+ghost use Rattle.rwsp_terms.specs.declared.limits.TheConstants.{LONGEST_WORD};
 ghost use Rattle.rwsp_terms.specs.Instance.{cells};
 ghost use Rattle.refutation_terms.specs.Leaf.{IsDead};
 ghost use Rattle.domain_store.specs.Store.{has_domain, BelongsTo};
+ghost use Rattle.layered_cycle.specs.Automata.{IsAutomaton};
 ghost use Rattle.layered_cycle.specs.Front.{course, AreKept, IsFront, IsHeaviestEnd, IsBestOf, AreBelow};
 
+use crate::automaton::Automaton;
 use crate::ends::{End, heaviest_end};
 use crate::front::tail_at;
 use crate::going_back::best_word_to;
 use crate::kept_fronts::{KeptFronts, fronts_of};
-use crate::tail_index::TailIndex;
 use crate::{Gain, HeavyWord};
 use domain_store::Domains;
 use std::alloc::{AllocError, Global};
@@ -27,16 +29,26 @@ pub fn heaviest_clean<G: Gain>(
 ) -> Result<Option<HeavyWord>, AllocError>
     requires belongs { BelongsTo rules.now.problem doms.now }
     requires position { p < cells rules.now.problem }
-    requires few { len ≤ 16800 }
+    requires few { len ≤ LONGEST_WORD }
     ensures { IfOk result (λ found. MatchOption found
         (IsDead rules.now.problem (has_domain doms.now) p len rules.now.rules)
         (λ h. IsBestOf (course rules.now doms.now p (G.gain_of gain.now)) len h.weight h.word)) }
 {
-    let mut index = TailIndex::new(alloc)?;
-    let fronts = fronts_of(alloc, &mut index, rules, doms, p, len, gain)?;
+    let mut automaton = Automaton::new(alloc)?;
+    let fronts = fronts_of(alloc, &mut automaton, rules, doms, p, len, gain)?;
     match heaviest_end(&fronts.last.row) {
         Some(end) => {
-            let heavy = best_of(alloc, &mut index, rules, doms, p, len, gain, fronts, end)?;
+            let heavy = best_of(
+                alloc,
+                &mut automaton,
+                rules,
+                doms,
+                p,
+                len,
+                gain,
+                fronts,
+                end,
+            )?;
             Ok(Some(heavy))
         }
         None => Ok(None),
@@ -56,20 +68,30 @@ pub fn heaviest_reaching<G: Gain>(
 ) -> Result<Option<HeavyWord>, AllocError>
     requires belongs { BelongsTo rules.now.problem doms.now }
     requires position { p < cells rules.now.problem }
-    requires few { len ≤ 16800 }
+    requires few { len ≤ LONGEST_WORD }
     ensures { IfOk result (λ found. MatchOption found
         (AreBelow (course rules.now doms.now p (G.gain_of gain.now)) len least)
         (λ h. IsBestOf (course rules.now doms.now p (G.gain_of gain.now)) len h.weight h.word × (least ≤ℤ h.weight))) }
 {
-    let mut index = TailIndex::new(alloc)?;
-    let fronts = fronts_of(alloc, &mut index, rules, doms, p, len, gain)?;
+    let mut automaton = Automaton::new(alloc)?;
+    let fronts = fronts_of(alloc, &mut automaton, rules, doms, p, len, gain)?;
     let Some(end) = heaviest_end(&fronts.last.row) else {
         return Ok(None);
     };
     if is_below(end, least) {
         return Ok(None);
     }
-    let heavy = best_of(alloc, &mut index, rules, doms, p, len, gain, fronts, end)?;
+    let heavy = best_of(
+        alloc,
+        &mut automaton,
+        rules,
+        doms,
+        p,
+        len,
+        gain,
+        fronts,
+        end,
+    )?;
     Ok(Some(heavy))
 }
 
@@ -83,7 +105,7 @@ fn is_below(end: End, least: i64) -> bool
 // The best word, by where it ends.
 fn best_of<G: Gain>(
     alloc: Global,
-    index: &mut TailIndex,
+    automaton: &mut Automaton,
     rules: &TailRules,
     doms: &Domains,
     p: u32,
@@ -92,17 +114,29 @@ fn best_of<G: Gain>(
     fronts: KeptFronts,
     end: End,
 ) -> Result<HeavyWord, AllocError>
+    requires automaton { IsAutomaton rules.now automaton.old }
     requires belongs { BelongsTo rules.now.problem doms.now }
     requires position { p < cells rules.now.problem }
-    requires few { len ≤ 16800 }
+    requires few { len ≤ LONGEST_WORD }
     requires kept { AreKept (course rules.now doms.now p (G.gain_of gain.now)) len fronts.kept.items }
     requires last { IsFront (course rules.now doms.now p (G.gain_of gain.now)) len fronts.last.tails.items fronts.last.row }
     requires end { IsHeaviestEnd fronts.last.row (length fronts.last.row) (Some end) }
+    ensures automaton { OnOk result (IsAutomaton rules.now automaton.new) }
     ensures best { IfOk result (λ h. IsBestOf (course rules.now doms.now p (G.gain_of gain.now)) len h.weight h.word) }
     ensures weight { IfOk result (λ h. h.weight ≡ end.weight) }
 {
     let last = tail_at(&fronts.last.tails, end.node);
-    let word = best_word_to(alloc, index, rules, doms, p, len, gain, fronts.kept, last)?;
+    let word = best_word_to(
+        alloc,
+        automaton,
+        rules,
+        doms,
+        p,
+        len,
+        gain,
+        fronts.kept,
+        last,
+    )?;
     Ok(HeavyWord {
         weight: i64::from(end.weight),
         word,

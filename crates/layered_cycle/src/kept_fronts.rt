@@ -1,12 +1,14 @@
 // Fronts that are kept, one for each so many days, to go back along.
 ghost use Rattle.std.specs.Prelude.{◌≡◌, ℕ, ◌+◌, ◌<◌, ◌≤◌, IfOk, OnOk};
+ghost use Rattle.rwsp_terms.specs.declared.limits.TheConstants.{LONGEST_WORD};
 ghost use Rattle.rwsp_terms.specs.Instance.{cells};
 ghost use Rattle.domain_store.specs.Store.{BelongsTo};
+ghost use Rattle.layered_cycle.specs.Automata.{IsAutomaton};
 ghost use Rattle.layered_cycle.specs.Front.{Course, course, IsFront, AreKept};
 
 use crate::Gain;
+use crate::automaton::Automaton;
 use crate::front::Front;
-use crate::tail_index::TailIndex;
 use domain_store::Domains;
 use std::alloc::{AllocError, Global};
 use std::mem;
@@ -24,7 +26,7 @@ pub struct KeptFronts {
 
 // Keeps the front of a day, if it is one to be kept.
 fn keep(kept: &mut Vec<Front>, front: Front, day: u32) -> Result<(), AllocError>
-    requires { day < 16800 }
+    requires { day < LONGEST_WORD }
     ensures { OnOk result ((C : Course) → IsFront C day front.tails.items front.row → AreKept C day kept.old.items → AreKept C (day + 1) kept.new.items) }
 {
     if day % STRIDE == 0 {
@@ -37,23 +39,25 @@ fn keep(kept: &mut Vec<Front>, front: Front, day: u32) -> Result<(), AllocError>
 // 128th day.
 pub fn fronts_of<G: Gain>(
     alloc: Global,
-    index: &mut TailIndex,
+    automaton: &mut Automaton,
     rules: &TailRules,
     doms: &Domains,
     p: u32,
     len: u32,
     gain: &G,
 ) -> Result<KeptFronts, AllocError>
+    requires automaton { IsAutomaton rules.now automaton.old }
     requires belongs { BelongsTo rules.now.problem doms.now }
     requires position { p < cells rules.now.problem }
-    requires few { len ≤ 16800 }
+    requires few { len ≤ LONGEST_WORD }
+    ensures automaton { OnOk result (IsAutomaton rules.now automaton.new) }
     ensures kept { IfOk result (λ f. AreKept (course rules.now doms.now p (G.gain_of gain.now)) len f.kept.items) }
     ensures last { IfOk result (λ f. IsFront (course rules.now doms.now p (G.gain_of gain.now)) len f.last.tails.items f.last.row) }
 {
     let mut kept = Vec::new(alloc);
     let mut last = Front::start(alloc)?;
     for day in 0..len {
-        let next = last.next(alloc, index, rules, doms, p, day, gain)?;
+        let next = last.next(alloc, automaton, rules, doms, p, day, gain)?;
         let before = mem::replace(&mut last, next);
         keep(&mut kept, before, day)?;
     }

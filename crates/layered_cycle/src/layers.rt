@@ -1,5 +1,6 @@
 // Clean words as a graph.
 ghost use Rattle.std.specs.Prelude.{◌≡◌, ◌<◌, ◌≤◌, ◌↔◌, List, IfOk};
+ghost use Rattle.rwsp_terms.specs.declared.limits.TheConstants.{LONGEST_WORD};
 ghost use Rattle.rwsp_terms.specs.Instance.{cells};
 ghost use Rattle.rwsp_terms.specs.declared.data.Symbol.{Symbol};
 ghost use Rattle.refutation_terms.specs.Escape.{IsCleanOver};
@@ -9,7 +10,8 @@ ghost use Rattle.layered_cycle.specs.Graph.{Leads};
 use crate::Layer;
 use crate::graph::{LayeredGraph, graph_of};
 use domain_store::Domains;
-use rwsp_model::{Problem, RuleList};
+use rwsp_model::Problem;
+use rwsp_terms::RuleList;
 use std::alloc::{AllocError, Global};
 use std::marker::Model;
 use word_tail::TailRules;
@@ -51,7 +53,7 @@ impl Layers {
     ) -> Result<Layers, AllocError>
         requires belongs { BelongsTo tails.now.problem doms.now }
         requires position { p < cells tails.now.problem }
-        requires long { (1 ≤ len) × (len ≤ 16800) }
+        requires long { (1 ≤ len) × (len ≤ LONGEST_WORD) }
         ensures problem { IfOk result (λ g. g.problem ≡ tails.now.problem) }
         ensures rules { IfOk result (λ g. g.rules ≡ tails.now.rules) }
         ensures domains { IfOk result (λ g. g.store ≡ doms.now) }
@@ -74,7 +76,7 @@ impl Layers {
     }
 
     /// What is so of all layers.
-    pub fn facts(&self)
+    pub fn prove_facts(&self)
         ensures { IsWordGraph self.now }
     {
         let _ = &self.graph;

@@ -1,6 +1,7 @@
 //! Layers of a word's tails: the clean words over domains as ways through a graph, and cuts that decide whether there is one.
 #![tactic(auto)]
 
+mod automaton;
 mod best;
 mod choice;
 mod cut;

@@ -38,7 +38,7 @@ pub fn leaf_of(
     requires few { turns * cells problem.now ≤ LONGEST_WORD }
     ensures { IfOk result (λ found. IfSome found (IsHoldingLeaf problem.now (has_domain doms.now))) }
 {
-    problem.keeps_limits();
+    problem.prove_limits();
     let weights = weights_of(alloc, problem, weights)?;
     if !is_too_light(alloc, problem, tails, doms, p, turns, &weights)? {
         return Ok(None);
@@ -70,7 +70,7 @@ fn is_too_light(
     ensures { IfOk result (λ light.
         IsTrue light → IsTooLight problem.now (has_domain doms.now) p turns tails.now.rules weights.now) }
 {
-    problem.keeps_limits();
+    problem.prove_limits();
     let Some(heavy) = heaviest(alloc, problem, tails, doms, p, turns, weights)? else {
         return Ok(true);
     };

@@ -97,7 +97,7 @@ impl NearestWeights {
         let Some(words) = &self.words else {
             return Ok(None);
         };
-        self.problem.keeps_limits();
+        self.problem.prove_limits();
         let shape = Shape::of(&self.problem);
         let most = turns_within(words, &self.problem);
         if most == 0 {
@@ -181,7 +181,7 @@ fn rules_of(alloc: Global, problem: &Problem) -> Result<RuleList, AllocError>
 fn turns_within(words: &Words, problem: &Problem) -> u32
     ensures { result * cells problem.now ≤ LONGEST_WORD }
 {
-    problem.keeps_limits();
+    problem.prove_limits();
     let room = MOST_CHOICES / words.nodes().max(1);
     room.min(words.days()).min(LONGEST_WORD) / problem.cells()
 }
@@ -191,7 +191,7 @@ fn start_within(problem: &Problem, doms: &Domains) -> u32
     requires { BelongsTo problem.now doms.now }
     ensures { result < cells problem.now }
 {
-    problem.keeps_limits();
+    problem.prove_limits();
     decided(doms) / 2
 }
 

@@ -25,7 +25,7 @@ impl Words {
     // Cost: twice that of the layers of the first days until they come again.
     pub fn of(alloc: Global, tails: &TailRules) -> Result<Option<Words>, AllocError> {
         let problem = tails.problem();
-        problem.keeps_limits();
+        problem.prove_limits();
         let doms = Domains::new(alloc, problem)?;
         let mut words = None;
         let mut days = FIRST_DAYS;

@@ -8,7 +8,8 @@ ghost use Rattle.refutation_terms.specs.Log.{Holds};
 ghost use Rattle.domain_store.specs.Store.{BelongsTo, has_domain};
 
 use domain_store::Domains;
-use rwsp_model::{Problem, Symbol};
+use rwsp_model::Problem;
+use rwsp_terms::Symbol;
 
 // Whether the domain of the position has the symbol and no other.
 fn is_only(problem: &Problem, doms: &Domains, p: u32, x: Symbol) -> bool
@@ -66,8 +67,8 @@ pub fn position_of(problem: &Problem, doms: &Domains, week: u32, day: u32) -> u3
     ensures value { result ≡ week * problem.now.days + (day - 1) }
     ensures within { result < length doms.now.sets }
 {
-    problem.keeps_limits();
-    doms.facts();
+    problem.prove_limits();
+    doms.prove_facts();
     week * problem.days() + (day - 1)
 }
 

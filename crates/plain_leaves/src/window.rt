@@ -20,8 +20,8 @@ pub fn window_holds(problem: &Problem, doms: &Domains, rule: u32, p: u32, len: u
     requires length { (1 ≤ len) × (len ≤ LONGEST_WORD) }
     ensures { IsTrue result ↔ IsBlocked problem.now (has_domain doms.now) rule p len }
 {
-    problem.keeps_limits();
-    doms.facts();
+    problem.prove_limits();
+    doms.prove_facts();
     match bad_length(doms, problem, rule_at(problem, rule), p) {
         Some(bad) => bad == len,
         None => false,

@@ -4,3 +4,4 @@ pub mod HeavyWords
 pub mod Chunks
 pub mod Stepping
 pub mod Searching
+pub mod WeightRows

@@ -2,3 +2,4 @@ pub mod Days
 pub mod Heaviest
 pub mod First
 pub mod Searched
+pub mod WeightTables

@@ -11,7 +11,8 @@ use crate::heavy::{holds_at_top, one_turn};
 use crate::plain::plain_bounds;
 use domain_store::Domains;
 use layered_cycle::Layers;
-use rwsp_model::{Problem, Weights};
+use rwsp_model::Problem;
+use rwsp_terms::Weights;
 use std::alloc::{AllocError, Global};
 use std::thread;
 use std::thread::Threads;
@@ -33,7 +34,7 @@ pub fn first_plain<R: Threads + Sync, G: Gate>(
     requires workers { (1 ≤ workers) × (workers ≤ 64) }
     ensures { IfOk result (λ found. IsFirst (HoldsAtTop problem.now (has_domain doms.now) tails.now.rules) 0 (plain_bounds problem.now) found) }
 {
-    problem.keeps_limits();
+    problem.prove_limits();
     let bounds = plain_bounds(alloc, problem)?;
     let layers = one_turn(alloc, problem, tails, doms)?;
     first_holding(rt, alloc, &layers, &bounds, workers, gate)

@@ -2,15 +2,18 @@
 ghost use Rattle.std.specs.Prelude.{◌≡◌, ℕ, ◌+◌, ◌*◌, ◌%◌, ◌<◌, ◌≤◌, ◌↔◌, Some, IfOk, IsTrue, MatchOption, ◌≤ℤ◌};
 ghost use Rattle.rwsp_terms.specs.Instance.{cells};
 ghost use Rattle.rwsp_terms.specs.Weights.{weight_at};
+ghost use Rattle.rwsp_terms.specs.declared.limits.TheConstants.{LONGEST_WORD, MOST_SYMBOLS};
 ghost use Rattle.refutation_terms.specs.Sharp.{HoldsAtTop};
 ghost use Rattle.domain_store.specs.Store.{has_domain, BelongsTo};
+ghost use Rattle.potential_bounds.specs.WeightTables.{HoldsWeights};
 ghost use Rattle.potential_bounds.specs.Heaviest.{AreLighter, IsHeaviestFound, IsOneTurn};
 
 use crate::total;
+use crate::weight_table::{weight_in, weight_table};
 use domain_store::Domains;
 use layered_cycle::{Gain, HeavyWord, Layers, best_word, heaviest_clean};
-use rwsp_model::{Problem, Weights};
-use rwsp_terms::Symbol;
+use rwsp_model::Problem;
+use rwsp_terms::{Symbol, Weights};
 use std::alloc::{AllocError, Global};
 use word_tail::TailRules;
 
@@ -29,14 +32,17 @@ pub fn heaviest(
     requires belongs { BelongsTo problem.now doms.now }
     requires position { p < cells problem.now }
     requires some { 1 ≤ turns }
-    requires few { turns * cells problem.now ≤ 16800 }
+    requires few { turns * cells problem.now ≤ LONGEST_WORD }
     ensures { IfOk result (λ found. IsHeaviestFound problem.now (has_domain doms.now) p (turns * cells problem.now) tails.now.rules weights.now found) }
 {
-    problem.keeps_limits();
+    problem.prove_limits();
+    let week = problem.days();
+    let table = weight_table(alloc, weights, week)?;
     let gain = WeightGain {
         weights,
+        table: &table,
         position: p,
-        days: problem.days(),
+        days: week,
     };
     heaviest_clean(alloc, tails, doms, p, turns * problem.cells(), &gain)
 }
@@ -57,16 +63,19 @@ pub fn heaviest_reaching(
     requires belongs { BelongsTo problem.now doms.now }
     requires position { p < cells problem.now }
     requires some { 1 ≤ turns }
-    requires few { turns * cells problem.now ≤ 16800 }
+    requires few { turns * cells problem.now ≤ LONGEST_WORD }
     ensures { IfOk result (λ found. MatchOption found
         (AreLighter problem.now (has_domain doms.now) p (turns * cells problem.now) tails.now.rules weights.now least)
         (λ h. IsHeaviestFound problem.now (has_domain doms.now) p (turns * cells problem.now) tails.now.rules weights.now (Some h) × (least ≤ℤ h.weight))) }
 {
-    problem.keeps_limits();
+    problem.prove_limits();
+    let week = problem.days();
+    let table = weight_table(alloc, weights, week)?;
     let gain = WeightGain {
         weights,
+        table: &table,
         position: p,
-        days: problem.days(),
+        days: week,
     };
     layered_cycle::heaviest_reaching(alloc, tails, doms, p, turns * problem.cells(), &gain, least)
 }
@@ -79,11 +88,16 @@ pub fn heaviest_in(
 ) -> Result<Option<HeavyWord>, AllocError>
     ensures { IfOk result (λ found. IsHeaviestFound layers.now.problem (has_domain layers.now.store) layers.now.position layers.now.len layers.now.rules weights.now found) }
 {
-    layers.facts();
+    layers.prove_facts();
+    let instance = layers.problem();
+    instance.prove_limits();
+    let week = instance.days();
+    let table = weight_table(alloc, weights, week)?;
     let gain = WeightGain {
         weights,
+        table: &table,
         position: layers.position(),
-        days: layers.problem().days(),
+        days: week,
     };
     best_word(alloc, layers.layers(), layers.node_counts(), &gain)
 }
@@ -102,7 +116,7 @@ pub fn one_turn(
     ensures domains { IfOk result (λ g. g.store ≡ doms.now) }
     ensures turn { IfOk result IsOneTurn }
 {
-    problem.keeps_limits();
+    problem.prove_limits();
     Layers::of(alloc, tails, doms, 0, problem.cells())
 }
 
@@ -130,9 +144,11 @@ pub fn is_light(layers: &Layers, weights: &Weights, heavy: &HeavyWord) -> bool
 #[derive(Clone, Copy)]
 struct WeightGain<'a> {
     weights: &'a Weights,
+    table: &'a [i32],
     position: u32,
     days: u32,
     ghost some: { 1 ≤ days },
+    ghost laid: { HoldsWeights weights.now table.now (days * MOST_SYMBOLS) },
 }
 
 impl<'a> Gain for WeightGain<'a> {
@@ -141,7 +157,7 @@ impl<'a> Gain for WeightGain<'a> {
     fn gain(&self, day: u32, symbol: Symbol) -> i32 {
         self.weights.entries();
         let place = u64::from(self.position) + u64::from(day);
-        let in_week = place % u64::from(self.days);
-        self.weights.at(in_week as u32 + 1, symbol)
+        let in_week = (place % u64::from(self.days)) as u32;
+        weight_in(self.weights, self.table, self.days, in_week, symbol)
     }
 }

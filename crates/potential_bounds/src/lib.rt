@@ -9,12 +9,13 @@ mod search;
 #[cfg(test)]
 mod tests;
 mod totals;
+mod weight_table;
 
 pub use first::first_plain;
 pub use gate::{Gate, NoGate};
 pub use heavy::{heaviest, heaviest_in, heaviest_reaching, holds_at_top};
 pub use layered_cycle::HeavyWord;
 pub use plain::plain_bounds;
-pub use rwsp_model::Weights;
+pub use rwsp_terms::Weights;
 pub use search::search_weights;
 pub use totals::total;

@@ -1,13 +1,14 @@
 // The plain bounds: +1 or -1 on all shifts, or on one shift.
-ghost use Rattle.std.specs.Prelude.{◌≡◌, ◌≢◌, ℕ, ◌+◌, ◌<◌, ◌≤◌, List, [], ◌∷◌, ◌++◌, map, All, IfOk, OnOk, ℤ, pos, negsuc, ◌≤ℤ◌, ◌≤◌};
+ghost use Rattle.std.specs.Prelude.{◌≡◌, ◌≢◌, ℕ, ◌+◌, ◌<◌, ◌≤◌, List, [], ◌∷◌, ◌++◌, map, All, IfOk, OnOk, ℤ, pos, negsuc, ◌≤ℤ◌, ◌≤◌, neg_ℤ};
+ghost use Rattle.rwsp_terms.specs.declared.limits.TheConstants.{GREATEST_WEIGHT};
 ghost use Rattle.std.specs.List.{range_with_len, flat_map};
 ghost use Rattle.rwsp_terms.specs.Instance.{Instance, shift_count, symbol_numbered};
 ghost use Rattle.rwsp_terms.specs.Weights.{IsWeight, ComesBefore};
 ghost use Rattle.refutation_terms.specs.Sharp.{plain_bounds, weights_on, both_signs};
 ghost use Rattle.potential_bounds.specs.Days.{weight_of, weights_of_day};
 
-use rwsp_model::{Problem, Weights};
-use rwsp_terms::Symbol;
+use rwsp_model::Problem;
+use rwsp_terms::{Symbol, Weights};
 use std::alloc::{AllocError, Global};
 
 /// The plain bounds in order: +1, then -1, for all shifts on every day; then for each shift +1, then -1, on every day.
@@ -49,8 +50,8 @@ fn weights_on(
     value: i32,
 ) -> Result<Weights, AllocError>
     requires few { first + count ≤ 255 }
-    requires low { negsuc 999 ≤ℤ value }
-    requires high { value ≤ℤ pos 1000 }
+    requires low { neg_ℤ (pos GREATEST_WEIGHT) ≤ℤ value }
+    requires high { value ≤ℤ pos GREATEST_WEIGHT }
     requires some { value ≢ pos 0 }
     ensures { IfOk result (λ y. y ≡ weights_on problem.now (range_with_len first count) value) }
 {
@@ -71,8 +72,8 @@ fn push_day(
 ) -> Result<(), AllocError>
     requires later { All (λ e. e.day < day) weights.old }
     requires few { first + count ≤ 255 }
-    requires low { negsuc 999 ≤ℤ value }
-    requires high { value ≤ℤ pos 1000 }
+    requires low { neg_ℤ (pos GREATEST_WEIGHT) ≤ℤ value }
+    requires high { value ≤ℤ pos GREATEST_WEIGHT }
     requires some { value ≢ pos 0 }
     ensures { OnOk result (weights.new ≡ weights.old ++ weights_of_day day (range_with_len first count) value) }
 {
@@ -85,8 +86,8 @@ fn push_day(
 // One weight more, which comes after all before.
 fn push_weight(weights: &mut Weights, day: u32, x: Symbol, value: i32) -> Result<(), AllocError>
     requires last { All (λ e. ComesBefore e (weight_of day x.number value)) weights.old }
-    requires low { negsuc 999 ≤ℤ value }
-    requires high { value ≤ℤ pos 1000 }
+    requires low { neg_ℤ (pos GREATEST_WEIGHT) ≤ℤ value }
+    requires high { value ≤ℤ pos GREATEST_WEIGHT }
     requires some { value ≢ pos 0 }
     ensures { OnOk result (weights.new ≡ weights.old ++ weight_of day x.number value ∷ []) }
 {

@@ -1,5 +1,6 @@
 // The search for weights whose bound holds.
 ghost use Rattle.std.specs.Prelude.{◌≡◌, ℕ, ◌+◌, ◌-◌, ◌*◌, ◌<◌, ◌≤◌, ◌==◌, ◌≤ℤ◌, pos, neg_ℤ, length, count_by, slice_index_or, IfOk, OnOk};
+ghost use Rattle.rwsp_terms.specs.declared.limits.TheConstants.{GREATEST_WEIGHT};
 ghost use Rattle.rwsp_terms.specs.Instance.{cells, IsDay, IsSymbol};
 ghost use Rattle.rwsp_terms.specs.Weights.{weight_at};
 ghost use Rattle.refutation_terms.specs.Sharp.{step, AreStepped};
@@ -10,8 +11,8 @@ ghost use Rattle.potential_bounds.specs.Searched.{IsFirstSearched, IsFollowing, 
 use crate::heavy::{heaviest_in, is_light, one_turn};
 use domain_store::Domains;
 use layered_cycle::Layers;
-use rwsp_model::{Problem, Weights, weeks_with};
-use rwsp_terms::Symbol;
+use rwsp_model::{Problem, weeks_with};
+use rwsp_terms::{Symbol, Weights};
 use std::alloc::{AllocError, Global};
 use word_tail::TailRules;
 
@@ -30,7 +31,7 @@ pub fn search_weights(
 ) -> Result<Option<Weights>, AllocError>
     requires same { tails.now.problem ≡ problem.now }
     requires belongs { BelongsTo problem.now doms.now }
-    requires few { rounds ≤ 1000 }
+    requires few { rounds ≤ GREATEST_WEIGHT }
     ensures { IfOk result (λ found. IsFirstSearched problem.now (has_domain doms.now) tails.now.rules rounds found) }
 {
     let layers = one_turn(alloc, problem, tails, doms)?;
@@ -40,7 +41,7 @@ pub fn search_weights(
 // The first of the weights of so many rounds whose bound of one turn holds, by the words of the layers.
 fn search_in(alloc: Global, layers: &Layers, rounds: u32) -> Result<Option<Weights>, AllocError>
     requires turn { IsOneTurn layers.now }
-    requires few { rounds ≤ 1000 }
+    requires few { rounds ≤ GREATEST_WEIGHT }
     ensures { IfOk result (λ found. IsFirstSearched layers.now.problem (has_domain layers.now.store) layers.now.rules rounds found) }
 {
     let mut weights = Weights::new(alloc);
@@ -60,7 +61,7 @@ fn following(
     weights: &Weights,
 ) -> Result<Option<Weights>, AllocError>
     requires turn { IsOneTurn layers.now }
-    requires within { AreWithin 999 weights.now }
+    requires within { AreWithin (GREATEST_WEIGHT - 1) weights.now }
     ensures { IfOk result (λ next. IsFollowing layers.now.problem (has_domain layers.now.store) layers.now.rules weights.now next) }
 {
     let Some(heavy) = heaviest_in(alloc, layers, weights)? else {
@@ -81,7 +82,7 @@ fn next_weights(
     word: &[Symbol],
 ) -> Result<Weights, AllocError>
     requires word { length word.now ≡ cells problem.now }
-    requires within { AreWithin 999 weights.now }
+    requires within { AreWithin (GREATEST_WEIGHT - 1) weights.now }
     ensures { IfOk result (λ next. AreStepped problem.now weights.now word.now next) }
 {
     let mut next = Weights::new(alloc);
@@ -101,7 +102,7 @@ fn put_day(
     day: u32,
 ) -> Result<(), AllocError>
     requires word { length word.now ≡ cells problem.now }
-    requires within { AreWithin 999 weights.now }
+    requires within { AreWithin (GREATEST_WEIGHT - 1) weights.now }
     requires day { IsDay problem.now day }
     ensures { OnOk result (AreSteppedOn problem.now weights.now word.now day next.old next.new) }
 {
@@ -115,12 +116,12 @@ fn put_day(
 // A weight one step on.
 fn step(problem: &Problem, weights: &Weights, word: &[Symbol], day: u32, x: Symbol) -> i32
     requires word { length word.now ≡ cells problem.now }
-    requires within { AreWithin 999 weights.now }
+    requires within { AreWithin (GREATEST_WEIGHT - 1) weights.now }
     requires day { IsDay problem.now day }
     requires symbol { IsSymbol problem.now x }
     ensures value { result ≡ step problem.now weights.now word.now day x.number }
-    ensures above { neg_ℤ (pos 1000) ≤ℤ result }
-    ensures below { result ≤ℤ pos 1000 }
+    ensures above { neg_ℤ (pos GREATEST_WEIGHT) ≤ℤ result }
+    ensures below { result ≤ℤ pos GREATEST_WEIGHT }
 {
     let weeks = weeks_with(problem, word, x, day) as i32;
     let weight = weights.at(day, x);

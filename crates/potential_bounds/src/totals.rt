@@ -1,18 +1,19 @@
 // What a roster that meets the demand weighs at least.
-ghost use Rattle.std.specs.Prelude.{◌≡◌, ◌+◌, ◌≤◌, ℤ, pos, negsuc, neg_ℤ, ◌≤ℤ◌, ◌*ℤ◌};
+ghost use Rattle.std.specs.Prelude.{◌≡◌, ◌+◌, ◌≤◌, ℤ, pos, negsuc, neg_ℤ, ◌≤ℤ◌, ◌*ℤ◌, ◌*◌};
+ghost use Rattle.rwsp_terms.specs.declared.limits.TheConstants.{GREATEST_WEIGHT, MOST_DAYS, MOST_SHIFTS, MOST_SYMBOLS, MOST_WEEKS};
 ghost use Rattle.std.specs.List.{range_with_len};
 ghost use Rattle.rwsp_terms.specs.Instance.{IsDay, IsSymbol, shift_count};
 ghost use Rattle.rwsp_terms.specs.Weights.{weight_at};
 ghost use Rattle.refutation_terms.specs.Word.{int_sum_by, least_weight, total};
 
-use rwsp_model::{Problem, Weights};
-use rwsp_terms::Symbol;
+use rwsp_model::Problem;
+use rwsp_terms::{Symbol, Weights};
 
 /// The least that a roster can weigh which meets the demand: the sum over all days and symbols.
 pub fn total(problem: &Problem, weights: &Weights) -> i64
     ensures value { result ≡ total problem.now weights.now }
-    ensures above { neg_ℤ (pos 1209600000) ≤ℤ result }
-    ensures below { result ≤ℤ pos 1209600000 }
+    ensures above { neg_ℤ (pos (MOST_DAYS * (MOST_SYMBOLS * (GREATEST_WEIGHT * (MOST_SHIFTS * MOST_WEEKS))))) ≤ℤ result }
+    ensures below { result ≤ℤ pos (MOST_DAYS * (MOST_SYMBOLS * (GREATEST_WEIGHT * (MOST_SHIFTS * MOST_WEEKS)))) }
 {
     let mut sum = 0;
     for i in 0..problem.days() {
@@ -25,8 +26,8 @@ pub fn total(problem: &Problem, weights: &Weights) -> i64
 fn day_total(problem: &Problem, weights: &Weights, day: u32) -> i64
     requires { IsDay problem.now day }
     ensures value { result ≡ int_sum_by (λ x. least_weight problem.now weights.now day x) (range_with_len 0 (shift_count problem.now + 1)) }
-    ensures above { neg_ℤ (pos 43200000) ≤ℤ result }
-    ensures below { result ≤ℤ pos 43200000 }
+    ensures above { neg_ℤ (pos (MOST_SYMBOLS * (GREATEST_WEIGHT * (MOST_SHIFTS * MOST_WEEKS)))) ≤ℤ result }
+    ensures below { result ≤ℤ pos (MOST_SYMBOLS * (GREATEST_WEIGHT * (MOST_SHIFTS * MOST_WEEKS))) }
 {
     let mut sum = 0;
     for number in 0..problem.shifts() + 1 {
@@ -40,8 +41,8 @@ fn least_weight(problem: &Problem, weights: &Weights, day: u32, x: Symbol) -> i6
     requires day { IsDay problem.now day }
     requires symbol { IsSymbol problem.now x }
     ensures value { result ≡ least_weight problem.now weights.now day x.number }
-    ensures above { neg_ℤ (pos 4800000) ≤ℤ result }
-    ensures below { result ≤ℤ pos 4800000 }
+    ensures above { neg_ℤ (pos (GREATEST_WEIGHT * (MOST_SHIFTS * MOST_WEEKS))) ≤ℤ result }
+    ensures below { result ≤ℤ pos (GREATEST_WEIGHT * (MOST_SHIFTS * MOST_WEEKS)) }
 {
     let weight = weight_at(weights, day, x);
     let at_least = weeks_weight(weight, problem.demand_least(x, day));
@@ -51,11 +52,11 @@ fn least_weight(problem: &Problem, weights: &Weights, day: u32, x: Symbol) -> i6
 
 // What so many weeks weigh.
 fn weeks_weight(weight: i64, weeks: i32) -> i64
-    requires weight { (negsuc 999 ≤ℤ weight) × (weight ≤ℤ pos 1000) }
-    requires weeks { (negsuc 4799 ≤ℤ weeks) × (weeks ≤ℤ pos 600) }
+    requires weight { (neg_ℤ (pos GREATEST_WEIGHT) ≤ℤ weight) × (weight ≤ℤ pos GREATEST_WEIGHT) }
+    requires weeks { (neg_ℤ (pos (MOST_SHIFTS * MOST_WEEKS)) ≤ℤ weeks) × (weeks ≤ℤ pos MOST_WEEKS) }
     ensures value { result ≡ weight *ℤ weeks }
-    ensures above { neg_ℤ (pos 4800000) ≤ℤ result }
-    ensures below { result ≤ℤ pos 4800000 }
+    ensures above { neg_ℤ (pos (GREATEST_WEIGHT * (MOST_SHIFTS * MOST_WEEKS))) ≤ℤ result }
+    ensures below { result ≤ℤ pos (GREATEST_WEIGHT * (MOST_SHIFTS * MOST_WEEKS)) }
 {
     weight * i64::from(weeks)
 }
@@ -63,8 +64,8 @@ fn weeks_weight(weight: i64, weeks: i32) -> i64
 // What the symbol weighs on the day.
 fn weight_at(weights: &Weights, day: u32, x: Symbol) -> i64
     ensures value { result ≡ weight_at weights.now day x.number }
-    ensures low { negsuc 999 ≤ℤ result }
-    ensures high { result ≤ℤ pos 1000 }
+    ensures low { neg_ℤ (pos GREATEST_WEIGHT) ≤ℤ result }
+    ensures high { result ≤ℤ pos GREATEST_WEIGHT }
 {
     weights.entries();
     i64::from(weights.at(day, x))

@@ -6,7 +6,7 @@ use Rattle.std.proofs.lemmas.List.{length-set, length-replicate, ext_get_or, get
 use Rattle.rwsp_terms.specs.declared.data.Symbol.{Symbol}
 use Rattle.rwsp_terms.specs.Instance.{Instance, cells}
 use Rattle.rwsp_terms.specs.declared.limits.TheConstants.{MOST_SHIFTS}
-use Rattle.refutation_terms.specs.declared.lines.Line.TheVariants.{Split, Window, Day, Dead, Bound, Unfinished}
+use Rattle.refutation_terms.specs.declared.lines.Line.TheVariants.{Split, Window, Day, Dead, Bound, Few, Free, Unfinished}
 use Rattle.refutation_terms.specs.Word.{Domains, Over}
 use Rattle.refutation_terms.specs.Leaf.{IsBlocked}
 use Rattle.refutation_terms.specs.Log.{LineFits}
@@ -175,6 +175,8 @@ none_awaited w S watch same none (Day j x over, among, holds) = among
 none_awaited w S watch same none (Dead p len R, among, holds) = among
 none_awaited w S watch same none (Bound p turns R y, among, holds) = among
 none_awaited w S watch same none (Unfinished, among, holds) = among
+none_awaited w S watch same none (Few, among, holds) = among
+none_awaited w S watch same none (Free turns reward R y, among, holds) = among
 none_awaited w S watch same none (Window number p len, among, holds) =
     let known : IsBlocked w.problem (has_known w.sets) number p len = subst (λ t. IsBlocked w.problem (has_known t) number p len) (sym same) holds in
     let q = watch.awaited number p len among known in

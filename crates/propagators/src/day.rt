@@ -14,7 +14,8 @@ use crate::{Look, Propagator};
 use demand_counts::Counts;
 use domain_store::Domains;
 use refutation_terms::Line;
-use rwsp_model::{Problem, Symbol};
+use rwsp_model::Problem;
+use rwsp_terms::Symbol;
 use std::alloc::{AllocError, Global};
 use std::marker::Model;
 
@@ -89,8 +90,8 @@ fn seen(problem: &Problem, counts: &Counts, doms: &Domains) -> Look
     requires { AreCountsOf problem.now doms.now counts.now }
     ensures { IsLook problem.now (IsDayLeaf problem.now) (IsDaySpent problem.now (has_domain doms.now)) doms.now result }
 {
-    problem.keeps_limits();
-    doms.facts();
+    problem.prove_limits();
+    doms.prove_facts();
     if let Some((day, x, over)) = counts.overrun(problem) {
         return Look::Closed(Line::Day { day, x, over });
     }

@@ -12,7 +12,8 @@ use demand_counts::Counts;
 use domain_store::Domains;
 use plain_leaves::position_of;
 use refutation_terms::Line;
-use rwsp_model::{Problem, Symbol};
+use rwsp_model::Problem;
+use rwsp_terms::Symbol;
 
 /// A symbol `x` at a position, and the day leaf that holds once `x` is alone there. Days count from 1, positions from
 /// 0.
@@ -157,7 +158,7 @@ fn neighbour(problem: &Problem, doms: &Domains, p: u32, x: Symbol) -> Option<Sym
     if !doms.has(p, x) {
         return None;
     }
-    doms.facts();
+    doms.prove_facts();
     for number in 0..problem.shifts() + 1 {
         let other = Symbol { number };
         if number != x.number && doms.has(p, other) {

@@ -1,5 +1,5 @@
 use refutation_terms::Line;
-use rwsp_model::Symbol;
+use rwsp_terms::Symbol;
 
 /// What a propagator sees under domains.
 #[derive(Debug, Drop)]

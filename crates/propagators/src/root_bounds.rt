@@ -14,7 +14,8 @@ use crate::{Look, Propagator};
 use domain_store::Domains;
 use potential_bounds::{Gate, first_plain, plain_bounds, search_weights};
 use refutation_terms::Line;
-use rwsp_model::{Problem, RuleList, Weights, short_rules};
+use rwsp_model::{Problem, short_rules};
+use rwsp_terms::{RuleList, Weights};
 use std::alloc::{AllocError, Global};
 use std::marker::Model;
 use std::thread::Threads;
@@ -80,7 +81,7 @@ impl RootBounds {
     }
 
     // What is so of each.
-    fn facts(&self)
+    fn prove_facts(&self)
         ensures { IsTopWatch self.now }
     {
         let _ = &self.weights;
@@ -91,8 +92,8 @@ impl RootBounds {
         requires { BelongsTo self.now.problem doms.now }
         ensures { IfOk result (IsBoundLook self.now.problem self.now.start doms.now) }
     {
-        self.facts();
-        self.problem.keeps_limits();
+        self.prove_facts();
+        self.problem.prove_limits();
         let Some(weights) = &self.weights else {
             return Ok(None);
         };
@@ -174,8 +175,8 @@ fn are_same(problem: &Problem, start: &Domains, doms: &Domains) -> bool
     requires doms { BelongsTo problem.now doms.now }
     ensures { IsTrue result ↔ AreSame problem.now (has_domain doms.now) (has_domain start.now) }
 {
-    doms.facts();
-    start.facts();
+    doms.prove_facts();
+    start.prove_facts();
     for p in 0..problem.cells() {
         if !is_same_at(start, doms, p) {
             return false;
@@ -190,7 +191,7 @@ fn is_same_at(start: &Domains, doms: &Domains, p: u32) -> bool
     requires doms { p < length doms.now.sets }
     ensures { IsTrue result ↔ ((x : ℕ) → has_domain doms.now p x ≡ has_domain start.now p x) }
 {
-    doms.facts();
-    start.facts();
+    doms.prove_facts();
+    start.prove_facts();
     start.set(p).is_same(doms.set(p))
 }

@@ -63,7 +63,7 @@ impl WindowProp {
         ensures none_spent { IfOk result (λ w. (S : Store) (p : ℕ) (x : Symbol)
             → ⟦<WindowProp as Propagator>⟧.spent w S p x → ⊥) }
     {
-        doms.facts();
+        doms.prove_facts();
         let cells = problem.cells();
         let sets = copied_sets(alloc, doms)?;
         let pending = vec![in alloc; true; cells as usize]?;
@@ -77,7 +77,7 @@ impl WindowProp {
     }
 
     // What is so of each.
-    fn facts(&self)
+    fn prove_facts(&self)
         ensures { IsWatch self.now }
     {
         let _ = &self.sets;
@@ -108,7 +108,7 @@ impl WindowProp {
         ensures seen { MatchOption result ((q : ℕ) → slice_index_or self.new.pending q false ≡ false)
             (λ leaf. IsWindow self.old.problem doms.now leaf.rule leaf.p leaf.len) }
     {
-        self.facts();
+        self.prove_facts();
         for p in first..end {
             if let Some(leaf) = self.look_at(doms, p) {
                 return Some(leaf);
@@ -146,10 +146,10 @@ impl WindowProp {
         ensures problem { self.new.problem ≡ self.old.problem }
         ensures sets { self.new.sets ≡ slice_set self.old.sets p (domain_at doms.now p) }
     {
-        doms.facts();
+        doms.prove_facts();
         let set = doms.set(p);
         if !self.has_set(p, set) {
-            self.put(p, set.copy());
+            self.put(p, *set);
         }
     }
 
@@ -197,19 +197,19 @@ impl Propagator for WindowProp {
             return Ok(Look::Closed(leaf.line()));
         }
         self.empty_span();
-        self.facts();
+        self.prove_facts();
         Ok(Look::Quiet)
     }
 
     fn narrowed(&mut self, doms: &Domains, p: u32) {
-        self.facts();
-        doms.facts();
+        self.prove_facts();
+        doms.prove_facts();
         self.take_over(doms, p);
     }
 
     fn undone(&mut self, doms: &Domains) {
-        self.facts();
-        doms.facts();
+        self.prove_facts();
+        doms.prove_facts();
         for p in 0..doms.cells() {
             self.take_over(doms, p);
         }
@@ -251,7 +251,7 @@ fn copied_sets(alloc: Global, doms: &Domains) -> Result<Vec<SymbolSet>, AllocErr
     let cells = doms.cells();
     let mut sets = Vec::with_capacity(alloc, cells as usize)?;
     for p in 0..cells {
-        sets.push(doms.set(p).copy())?;
+        sets.push(*doms.set(p))?;
     }
     Ok(sets)
 }

@@ -59,8 +59,8 @@ fn window_of_rule(problem: &Problem, doms: &Domains, number: u32, q: u32) -> Opt
         (NoWindowOver problem.now doms.now number q)
         (λ leaf. IsWindow problem.now doms.now leaf.rule leaf.p leaf.len) }
 {
-    problem.keeps_limits();
-    doms.facts();
+    problem.prove_limits();
+    doms.prove_facts();
     let cells = problem.cells();
     // the same position some rounds later, so that a window of any length may begin before it
     let later = q + LONGEST_WORD * cells;

@@ -13,7 +13,7 @@ use Rattle.refutation_log.specs.Printing.{lines_text}
 use Rattle.refutation_log.specs.ReadLog.{log_with}
 use Rattle.tree_walk.specs.States.{State, IsStateOf}
 use Rattle.refutation_checker.specs.LineTexts.{Judging, IsLineRead}
-use Rattle.refutation_checker.specs.ChunkVerdicts.{AreSoundBehind, AreAllSound, IsRefusedBehind, Start, StandsBehind}
+use Rattle.refutation_checker.specs.ChunkVerdicts.{AreSoundBehind, AreAllSound, IsChunkRefused, Start, StandsBehind}
 use Rattle.refutation_checker.proofs.SoundLines.{lines_joined, sound_joined}
 use Rattle.refutation_log.proofs.LogLines.{some_bytes}
 
@@ -81,7 +81,7 @@ judged_more P R J s left bytes rest w w' number is so some e reads =
       each = λ turn earlier h. read_on P R turn earlier s.bytes left bytes rest w w' number (so.each turn earlier h) e (subst (λ (K : Judging). Reads K w w' bytes number) is reads);
     }
 
-pub judged_refused : (P : Instance) (R : List ℕ) (J : Judging) (s : Start) (left bytes rest : List ℕ) (w : State) (number : ℕ) (why : LogRefusal) → J ≡ record { problem = P; named = R } → JudgedSoFar P R s left w number → left ≡ bytes ++ rest → IsNextLine bytes rest → Refuses J w bytes number why → (turn : Option Turn) (earlier : List Line) → StandsBehind P turn earlier s → IsRefusedBehind P R turn earlier s.bytes why
+pub judged_refused : (P : Instance) (R : List ℕ) (J : Judging) (s : Start) (left bytes rest : List ℕ) (w : State) (number : ℕ) (why : LogRefusal) → J ≡ record { problem = P; named = R } → JudgedSoFar P R s left w number → left ≡ bytes ++ rest → IsNextLine bytes rest → Refuses J w bytes number why → (turn : Option Turn) (earlier : List Line) → StandsBehind P turn earlier s → IsChunkRefused P R turn earlier s.bytes why
 judged_refused P R J s left bytes rest w number why is so e next refuses turn earlier h =
     let up = so.each turn earlier h in
     let here = subst (λ (K : Judging). Refuses K w bytes number why) is refuses in

@@ -9,7 +9,7 @@ use Rattle.refutation_terms.specs.declared.lines.Turn.{Turn}
 use Rattle.refutation_log.specs.Printing.{lines_text, EachFits}
 use Rattle.tree_walk.specs.States.{State, IsStateOf}
 use Rattle.refutation_checker.specs.ChunkVerdicts.{Start, StandsBehind}
-use Rattle.refutation_checker.specs.UnreadSplits.{Unread, EndInside}
+use Rattle.refutation_checker.specs.UnreadSplits.{UnreadSplit, EndInside}
 use Rattle.refutation_checker.specs.Chunks.{feeds, line_count, EndsLines, IsCutOff, AreChunks, IsJudgeable, IsFew}
 use Rattle.refutation_checker.proofs.Feeds.{lines_of_both, some_line}
 use Rattle.refutation_log.proofs.LogLines.{some_bytes}
@@ -54,11 +54,11 @@ last_lines P (d ∷ chunks) c lines are =
     }
 
 -- the chunks so far, and the splits that are open behind them, where the rest stands
-pub record IsOpen (P : Instance) (size : ℕ) (turn : Option Turn) (bytes : List ℕ) (before : List Unread) (chunks : List Start) (rest : Start) : Type 0 where
+pub record IsOpen (P : Instance) (size : ℕ) (turn : Option Turn) (bytes : List ℕ) (before : List UnreadSplit) (chunks : List Start) (rest : Start) : Type 0 where
   pub inside : (lines : List Line) → AreLinesOf P chunks lines → EndInside P before lines × StandsBehind P turn lines rest
   pub goes_on : (more : List Start) → ((lines : List Line) → AreLinesOf P chunks lines → AreChunks P turn size lines rest.bytes more) → AreChunks P turn size [] bytes (chunks ++ more)
 
-abbrev pub IsOpenOrDone : Instance → ℕ → Option Turn → List ℕ → List Unread → List Start → Option Start → Type 0
+abbrev pub IsOpenOrDone : Instance → ℕ → Option Turn → List ℕ → List UnreadSplit → List Start → Option Start → Type 0
 IsOpenOrDone P size turn bytes before chunks None = AreChunks P turn size [] bytes chunks
 IsOpenOrDone P size turn bytes before chunks (Some rest) = IsOpen P size turn bytes before chunks rest
 
@@ -71,7 +71,7 @@ abbrev pub AreFewSoFar : ℕ → List ℕ → ℕ → List ℕ → Type 0
 AreFewSoFar size bytes count rest =
     ((rest ≡ []) × IsFew count size bytes) ⊎ (count * size + line_count rest ≤ line_count bytes)
 
-pub record CutSoFar (P : Instance) (size : ℕ) (all : Start) (before : List Unread) (chunks : List Start) (rest : Option Start) : Type 0 where
+pub record CutSoFar (P : Instance) (size : ℕ) (all : Start) (before : List UnreadSplit) (chunks : List Start) (rest : Option Start) : Type 0 where
   pub next : IfSome rest (λ r. IsJudgeable P r × (r.bytes ≢ []))
   pub short : length chunks + length (bytes_left rest) ≤ length all.bytes
   pub count : AreFewSoFar size all.bytes (length chunks) (bytes_left rest)
@@ -79,7 +79,7 @@ pub record CutSoFar (P : Instance) (size : ℕ) (all : Start) (before : List Unr
   pub parts : (turn : Option Turn) → StandsBehind P turn [] all → IsOpenOrDone P size turn all.bytes before chunks rest
 
 -- nothing was cut off
-pub cut_none : (P : Instance) (size : ℕ) (all : Start) (before : List Unread) (chunks : List Start) → IsJudgeable P all → all.bytes ≢ [] → before ≡ [] → chunks ≡ [] → CutSoFar P size all before chunks (Some all)
+pub cut_none : (P : Instance) (size : ℕ) (all : Start) (before : List UnreadSplit) (chunks : List Start) → IsJudgeable P all → all.bytes ≢ [] → before ≡ [] → chunks ≡ [] → CutSoFar P size all before chunks (Some all)
 cut_none P size all before chunks h some none empty =
     subst (λ o. CutSoFar P size all o chunks (Some all)) (sym none)
     (subst (λ cs. CutSoFar P size all [] cs (Some all)) (sym empty)
@@ -98,7 +98,7 @@ cut_none P size all before chunks h some none empty =
 same_place : (P : Instance) (turn : Option Turn) (earlier : List Line) (old chunk : Start) → chunk.walk ≡ old.walk → chunk.first ≡ old.first → StandsBehind P turn earlier old → StandsBehind P turn earlier chunk
 same_place P turn earlier old chunk e f h = record { state = subst (IsStateOf P turn earlier) (sym e) h.state; counted = f ∙ h.counted }
 
-cut_last : (P : Instance) (size : ℕ) (turn : Option Turn) (bytes : List ℕ) (start : State) (before after : List Unread) (chunks : List Start) (old chunk : Start) → IsStateOf P turn [] start → IsOpen P size turn bytes before chunks old → IsCutOff P size start before after old chunk None → AreChunks P turn size [] bytes (chunks ++ chunk ∷ [])
+cut_last : (P : Instance) (size : ℕ) (turn : Option Turn) (bytes : List ℕ) (start : State) (before after : List UnreadSplit) (chunks : List Start) (old chunk : Start) → IsStateOf P turn [] start → IsOpen P size turn bytes before chunks old → IsCutOff P size start before after old chunk None → AreChunks P turn size [] bytes (chunks ++ chunk ∷ [])
 cut_last P size turn bytes start before after chunks old chunk st o c =
     o.goes_on (chunk ∷ []) (λ lines are.
     let i = o.inside lines are in
@@ -110,7 +110,7 @@ cut_last P size turn bytes start before after chunks old chunk st o c =
       inl (refl, refl),
     ))
 
-cut_on : (P : Instance) (size : ℕ) (turn : Option Turn) (bytes : List ℕ) (start : State) (before after : List Unread) (chunks : List Start) (old chunk rest : Start) → IsStateOf P turn [] start → IsOpen P size turn bytes before chunks old → IsCutOff P size start before after old chunk (Some rest) → IsOpen P size turn bytes after (chunks ++ chunk ∷ []) rest
+cut_on : (P : Instance) (size : ℕ) (turn : Option Turn) (bytes : List ℕ) (start : State) (before after : List UnreadSplit) (chunks : List Start) (old chunk rest : Start) → IsStateOf P turn [] start → IsOpen P size turn bytes before chunks old → IsCutOff P size start before after old chunk (Some rest) → IsOpen P size turn bytes after (chunks ++ chunk ∷ []) rest
 cut_on P size turn bytes start before after chunks old chunk rest st o c = record {
   inside = λ lines are.
       let last = last_lines P chunks chunk lines are in
@@ -147,7 +147,7 @@ full size end old chunk rest e some ends is =
       | inr last ↦ absurd (all_of_both chunk rest old e (is ∙ take_all end old (omega (arith, last.0))) some)
     ]
 
-few_on : (P : Instance) (size count : ℕ) (bytes : List ℕ) (start : State) (before after : List Unread) (old chunk : Start) (rest : Option Start) → AreFewSoFar size bytes count old.bytes → old.bytes ≢ [] → IsCutOff P size start before after old chunk rest → AreFewSoFar size bytes (count + 1) (bytes_left rest)
+few_on : (P : Instance) (size count : ℕ) (bytes : List ℕ) (start : State) (before after : List UnreadSplit) (old chunk : Start) (rest : Option Start) → AreFewSoFar size bytes count old.bytes → old.bytes ≢ [] → IsCutOff P size start before after old chunk rest → AreFewSoFar size bytes (count + 1) (bytes_left rest)
 few_on P size count bytes start before after old chunk None few some c =
     elim few [
       | inl done ↦ absurd (some done.0)
@@ -162,31 +162,31 @@ few_on P size count bytes start before after old chunk (Some rest) few some c =
           inr (omega (arith, le, fed, lines))
     ]
 
-pub few_in_all : (P : Instance) (size : ℕ) (all : Start) (before : List Unread) (chunks : List Start) → CutSoFar P size all before chunks None → 1 ≤ size → IsFew (length chunks) size all.bytes
+pub few_in_all : (P : Instance) (size : ℕ) (all : Start) (before : List UnreadSplit) (chunks : List Start) → CutSoFar P size all before chunks None → 1 ≤ size → IsFew (length chunks) size all.bytes
 few_in_all P size all before chunks so some = elim so.count [ inl done ↦ done.1 | inr le ↦ omega (arith, le, some) ]
 
-short_on : (P : Instance) (size count : ℕ) (bytes : List ℕ) (start : State) (before after : List Unread) (old chunk : Start) (rest : Option Start) → count + length old.bytes ≤ length bytes → old.bytes ≢ [] → IsCutOff P size start before after old chunk rest → count + 1 + length (bytes_left rest) ≤ length bytes
+short_on : (P : Instance) (size count : ℕ) (bytes : List ℕ) (start : State) (before after : List UnreadSplit) (old chunk : Start) (rest : Option Start) → count + length old.bytes ≤ length bytes → old.bytes ≢ [] → IsCutOff P size start before after old chunk rest → count + 1 + length (bytes_left rest) ≤ length bytes
 short_on P size count bytes start before after old chunk None le some c = let one = some_bytes old.bytes some in omega (arith, le, one)
 short_on P size count bytes start before after old chunk (Some rest) le some c =
     let long : length old.bytes ≡ length chunk.bytes + length rest.bytes = ap length c.2 ∙ length-append chunk.bytes rest.bytes in
     let one = some_bytes chunk.bytes c.3 in
     omega (arith, le, long, one)
 
-chunk_judgeable : (P : Instance) (size : ℕ) (start : State) (before after : List Unread) (old chunk : Start) (rest : Option Start) → IsJudgeable P old → IsCutOff P size start before after old chunk rest → IsJudgeable P chunk
+chunk_judgeable : (P : Instance) (size : ℕ) (start : State) (before after : List UnreadSplit) (old chunk : Start) (rest : Option Start) → IsJudgeable P old → IsCutOff P size start before after old chunk rest → IsJudgeable P chunk
 chunk_judgeable P size start before after old chunk None h c = subst (IsJudgeable P) (sym c.0) h
 chunk_judgeable P size start before after old chunk (Some rest) h c =
     let long : length old.bytes ≡ length chunk.bytes + length rest.bytes = ap length c.2 ∙ length-append chunk.bytes rest.bytes in
     ((h.0.0, h.0.1, subst (IsStateOf P h.0.0 h.0.1) (sym c.0) h.0.2), omega (arith, h.1, long, c.1))
 
-next_on : (P : Instance) (size : ℕ) (start : State) (before after : List Unread) (old chunk : Start) (rest : Option Start) → IsCutOff P size start before after old chunk rest → IfSome rest (λ r. IsJudgeable P r × (r.bytes ≢ []))
+next_on : (P : Instance) (size : ℕ) (start : State) (before after : List UnreadSplit) (old chunk : Start) (rest : Option Start) → IsCutOff P size start before after old chunk rest → IfSome rest (λ r. IsJudgeable P r × (r.bytes ≢ []))
 next_on P size start before after old chunk None c = tt
 next_on P size start before after old chunk (Some rest) c = (c.7, c.4)
 
-part_on : (P : Instance) (size : ℕ) (turn : Option Turn) (bytes : List ℕ) (start : State) (before after : List Unread) (chunks : List Start) (old chunk : Start) (rest : Option Start) → IsStateOf P turn [] start → IsOpen P size turn bytes before chunks old → IsCutOff P size start before after old chunk rest → IsOpenOrDone P size turn bytes after (chunks ++ chunk ∷ []) rest
+part_on : (P : Instance) (size : ℕ) (turn : Option Turn) (bytes : List ℕ) (start : State) (before after : List UnreadSplit) (chunks : List Start) (old chunk : Start) (rest : Option Start) → IsStateOf P turn [] start → IsOpen P size turn bytes before chunks old → IsCutOff P size start before after old chunk rest → IsOpenOrDone P size turn bytes after (chunks ++ chunk ∷ []) rest
 part_on P size turn bytes start before after chunks old chunk None st o c = cut_last P size turn bytes start before after chunks old chunk st o c
 part_on P size turn bytes start before after chunks old chunk (Some rest) st o c = cut_on P size turn bytes start before after chunks old chunk rest st o c
 
-pub cut_more : (P : Instance) (size : ℕ) (all : Start) (start : State) (before after : List Unread) (chunks more : List Start) (old chunk : Start) (rest : Option Start) → start ≡ all.walk → CutSoFar P size all before chunks (Some old) → IsCutOff P size start before after old chunk rest → more ≡ chunks ++ chunk ∷ [] → CutSoFar P size all after more rest
+pub cut_more : (P : Instance) (size : ℕ) (all : Start) (start : State) (before after : List UnreadSplit) (chunks more : List Start) (old chunk : Start) (rest : Option Start) → start ≡ all.walk → CutSoFar P size all before chunks (Some old) → IsCutOff P size start before after old chunk rest → more ≡ chunks ++ chunk ∷ [] → CutSoFar P size all after more rest
 cut_more P size all start before after chunks more old chunk rest begun so c is =
     let count : length (chunks ++ chunk ∷ []) ≡ length chunks + 1 = length-append chunks (chunk ∷ []) in
     let short = short_on P size (length chunks) all.bytes start before after old chunk rest so.short so.next.1 c in
@@ -202,7 +202,7 @@ cut_more P size all start before after chunks more old chunk rest begun so c is 
       parts = λ turn st. part_on P size turn all.bytes start before after chunks old chunk rest (subst (IsStateOf P turn []) (sym begun) st.state) (so.parts turn st) c;
     })
 
-pub cut_smaller : (P : Instance) (size : ℕ) (start : State) (before after : List Unread) (left : Option Start) (old chunk : Start) (rest : Option Start) → left ≡ Some old → old.bytes ≢ [] → IsCutOff P size start before after old chunk rest → length (bytes_left rest) < length (bytes_left left)
+pub cut_smaller : (P : Instance) (size : ℕ) (start : State) (before after : List UnreadSplit) (left : Option Start) (old chunk : Start) (rest : Option Start) → left ≡ Some old → old.bytes ≢ [] → IsCutOff P size start before after old chunk rest → length (bytes_left rest) < length (bytes_left left)
 cut_smaller P size start before after left old chunk None is some c =
     let one = some_bytes old.bytes some in
     let same : length (bytes_left left) ≡ length old.bytes = ap (λ o. length (bytes_left o)) is in
@@ -214,5 +214,5 @@ cut_smaller P size start before after left old chunk (Some rest) is some c =
     omega (arith, one, same, long)
 
 -- where a chunk is still to be cut off
-pub next_some : (P : Instance) (size : ℕ) (all : Start) (before : List Unread) (chunks : List Start) (left : Option Start) (old : Start) → left ≡ Some old → CutSoFar P size all before chunks left → CutSoFar P size all before chunks (Some old)
+pub next_some : (P : Instance) (size : ℕ) (all : Start) (before : List UnreadSplit) (chunks : List Start) (left : Option Start) (old : Start) → left ≡ Some old → CutSoFar P size all before chunks left → CutSoFar P size all before chunks (Some old)
 next_some P size all before chunks left old is so = subst (CutSoFar P size all before chunks) is so

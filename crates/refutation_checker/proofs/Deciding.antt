@@ -18,7 +18,7 @@ use Rattle.rwsp_terms.proofs.Elements.{all_to}
 use Rattle.rwsp_model.specs.RuleNumbers.{place_of}
 use Rattle.rwsp_model.proofs.Numbering.{number_at_place, one_number}
 use Rattle.refutation_terms.specs.declared.lines.Line.{Line}
-use Rattle.refutation_terms.specs.declared.lines.Line.TheVariants.{Split, Window, Day, Dead, Bound, Unfinished}
+use Rattle.refutation_terms.specs.declared.lines.Line.TheVariants.{Split, Window, Day, Dead, Bound, Few, Free, Unfinished}
 use Rattle.refutation_terms.specs.declared.lines.LogRefusal.{LogRefusal}
 use Rattle.refutation_terms.specs.declared.lines.LogRefusal.TheVariants as Refusals
 use Rattle.refutation_terms.specs.Word.{Domains, weight, total}
@@ -69,6 +69,8 @@ cited_is_rule P (Bound p turns R y) r fits (inl c) = named-IsRule P R r c
 cited_is_rule P (Bound p turns R y) r fits (inr c) =
     subst (IsRule P) (sym c.2) (weighed_is_day P y c.0 c.1.0 (all_to (λ e. IsDay P e.day × IsSymbol P e.symbol) y fits.3.1) c.1.1)
 cited_is_rule P Unfinished r fits c = absurd c
+cited_is_rule P Few r fits c = absurd c
+cited_is_rule P (Free turns reward R y) r fits c = absurd fits
 
 pub cited_is_named : (P : Instance) (named : List ℕ) (Cited : Rule → Type 0) (r : Rule) → IsRule P r → ((k : ℕ) → IsUnnamed P named Cited k → ⊥) → Cited r → Names P named r
 cited_is_named P named Cited r is none cites =
@@ -213,6 +215,8 @@ lists_short P named D n (Day j x over) none all = tt
 lists_short P named D n (Dead p len R) none all = names_short P R (least_number (ListsLong P (Dead p len R)) (λ k least. none (Refusals.Long n k) (refl, all, least)))
 lists_short P named D n (Bound p turns R y) none all = names_short P R (least_number (ListsLong P (Bound p turns R y)) (λ k least. none (Refusals.Long n k) (refl, all, least)))
 lists_short P named D n Unfinished none all = tt
+lists_short P named D n Few none all = tt
+lists_short P named D n (Free turns reward R y) none all = names_short P R (least_number (ListsLong P (Free turns reward R y)) (λ k least. none (Refusals.Long n k) (refl, all, least)))
 
 line_holds : (P : Instance) (named : List ℕ) (D : Domains) (n : ℕ) (line : Line) → LineFits P line → HasNoCause P named D n line → CitesOnlyNamed P named line → ListsShortOnly P line → (Holds P D line → ⊥) → ⊥
 line_holds P named D n (Split p x) fits none all short goes = elim (cases_Bool (is_idle P D p x.number)) [ inl idle ↦ none (Refusals.Idle n) (refl, idle) | inr useful ↦ goes useful ]
@@ -225,6 +229,8 @@ line_holds P named D n (Dead p len R) fits none all short goes =
 line_holds P named D n (Bound p turns R y) fits none all short goes =
     goes (too_light P D p turns R y (all_to IsWeight y fits.3.0.small) (λ w heavy le. none (Refusals.Escape n w) (refl, all, short, (heavy, le))))
 line_holds P named D n Unfinished fits none all short goes = none (Refusals.Unfinished n) (refl, refl)
+line_holds P named D n Few fits none all short goes = absurd fits
+line_holds P named D n (Free turns reward R y) fits none all short goes = absurd fits
 
 pub line_stands : (P : Instance) (named : List ℕ) (D : Domains) (n : ℕ) (line : Line) → LineFits P line → HasNoCause P named D n line → (IsSound P named D line → ⊥) → ⊥
 line_stands P named D n line fits none goes =

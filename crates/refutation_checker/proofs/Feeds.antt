@@ -1,11 +1,14 @@
 -- Counting the LF of a text.
-use Rattle.std.proofs.Common.{◌≡◌, ◌≢◌, ℕ, ◌+◌, ◌-◌, ◌*◌, ◌/◌, ◌%◌, ◌<◌, ◌≤◌, min, List, [], ◌++◌, length, take, get_or, ap, sym, ◌∙◌, arith, Bool, true, false, cond, ◌==◌, refl, length-append, inl, inr}
+use Rattle.std.proofs.Common.{◌≡◌, ◌≢◌, ℕ, ◌+◌, ◌-◌, ◌*◌, ◌/◌, ◌%◌, ◌<◌, ◌≤◌, min, List, [], ◌++◌, length, take, drop, get_or, ap, sym, ◌∙◌, arith, Bool, true, false, cond, ◌==◌, refl, length-append, inl, inr}
+use Rattle.std.specs.List.{between}
 use Rattle.std.proofs.lemmas.Bool.{eq-eqb, eqb-true, cases_lt}
 use Rattle.std.proofs.lemmas.Grind.{div_ceil_times}
 use Rattle.std.proofs.Math.Nat.{mul-le-mul_right}
-use Rattle.std.proofs.lemmas.List.{take_all, get_or-append-add}
+use Rattle.std.proofs.Math.Seq.{take-add}
+use Rattle.std.proofs.lemmas.List.Edits.{length-between, get_or-between}
+use Rattle.std.proofs.lemmas.List.{take_all, take-take, get_or-append-add}
 use Rattle.std.proofs.lemmas.List.Sums.{count_by_more_yes, count_by_more_no, sum_by-append}
-use Rattle.refutation_checker.specs.Chunks.{feeds, line_count, IsFew}
+use Rattle.refutation_checker.specs.Chunks.{EndsLines, feeds, line_count, IsFew}
 use Rattle.refutation_log.proofs.LogLines.{some_bytes}
 
 pub fed : (bytes : List ℕ) (i : ℕ) → i < length bytes → get_or bytes i 0 ≡ 10 → feeds (take (i + 1) bytes) ≡ feeds (take i bytes) + 1
@@ -71,3 +74,23 @@ fed_or_not bytes i less = by_test (get_or bytes i 0 == 10) refl
     by_test : (t : Bool) → (get_or bytes i 0 == 10) ≡ t → feeds (take (i + 1) bytes) ≡ feeds (take i bytes) + cond t 1 0
     by_test true e = fed bytes i less (eqb-true (get_or bytes i 0) 10 e)
     by_test false e = let same = not_fed bytes i less (λ h. absurd (let yes_it_is = eq-eqb (get_or bytes i 0) 10 h in cc)) in omega (arith, same)
+
+-- the bytes of a block behind the first ones
+
+fed_behind : (bytes : List ℕ) (at n : ℕ) → feeds (take (at + n) bytes) ≡ feeds (take at bytes) + feeds (take n (drop at bytes))
+fed_behind bytes at n = ap feeds (take-add at n bytes) ∙ feeds_joined (take at bytes) (take n (drop at bytes))
+
+pub fed_by_block : (bytes : List ℕ) (at end : ℕ) → at ≤ end → feeds (take end bytes) ≡ feeds (take at bytes) + feeds (between at end bytes)
+fed_by_block bytes at end le =
+    let there : at + (end - at) ≡ end = omega (arith, le) in
+    ap (λ n. feeds (take n bytes)) (sym there) ∙ fed_behind bytes at (end - at)
+
+pub ends_in_block : (bytes : List ℕ) (at end count size n : ℕ) → at ≤ end → end ≤ length bytes → count ≡ feeds (take at bytes) → count < size → (0 < n) × (n ≤ length (between at end bytes)) → feeds (take n (between at end bytes)) ≡ size - count → get_or (between at end bytes) (n - 1) 0 ≡ 10 → EndsLines bytes size (at + n)
+ends_in_block bytes at end count size n le within is less inside fed last =
+    let long : length (between at end bytes) ≡ end - at = length-between bytes at end within in
+    let short : n ≤ end - at = omega (arith, inside.1, long) in
+    let same : take n (between at end bytes) ≡ take n (drop at bytes) = take-take n (end - at) (drop at bytes) short in
+    let there : at + n - 1 ≡ at + (n - 1) = omega (arith, inside.0) in
+    let here : at + (n - 1) < end = omega (arith, inside.0, short, le) in
+    let all : feeds (take (at + n) bytes) ≡ size = omega (arith, fed_behind bytes at n, ap feeds same, fed, is, less) in
+    inl (all, ap (λ k. get_or bytes k 0) there ∙ sym (get_or-between bytes at end (n - 1) 0 here) ∙ last)

@@ -11,11 +11,11 @@ use Rattle.refutation_terms.specs.declared.lines.Line.{Line}
 use Rattle.refutation_terms.specs.declared.lines.Turn.{Turn}
 use Rattle.refutation_terms.specs.declared.lines.LogRefusal.{LogRefusal}
 use Rattle.refutation_terms.specs.Tree.{IsTree}
-use Rattle.refutation_terms.specs.LogText.{raw, line_text, fields}
+use Rattle.refutation_terms.specs.LogText.{raw, line_text, raw_fields}
 use Rattle.refutation_terms.specs.Verdict.{HasNoFeed, IsNextLine, Cause, Reading}
 use Rattle.refutation_log.specs.Printing.{lines_text, EachFits}
 use Rattle.refutation_log.specs.ReadLog.{log_with}
-use Rattle.refutation_checker.specs.ChunkVerdicts.{AreSoundBehind, AreAllSound, IsRefusedBehind, IsJudged, Start, StandsBehind}
+use Rattle.refutation_checker.specs.ChunkVerdicts.{AreSoundBehind, AreAllSound, IsChunkRefused, IsJudged, Start, StandsBehind}
 use Rattle.refutation_checker.specs.Chunks.{AreChunks, EndWithFeed, joined_from}
 use Rattle.refutation_checker.proofs.SoundLines.{lines_joined, sound_joined}
 use Rattle.refutation_log.proofs.LogLines.{some_bytes}
@@ -60,7 +60,7 @@ no_feed_at_end (x ∷ a) line (y ∷ b) some none e = let rest : a ++ line ≡ b
 
 -- the text of lines ends with LF
 ends_with_feed : (P : Instance) (line : Line) (lines : List Line) → (b : List ℕ) × (lines_text P (line ∷ lines) ≡ b ++ 10 ∷ [])
-ends_with_feed P line [] = (join_with_byte 32 (fields P (raw P line)), append-nil (line_text P (raw P line)))
+ends_with_feed P line [] = (join_with_byte 32 (raw_fields P (raw P line)), append-nil (line_text P (raw P line)))
 ends_with_feed P line (m ∷ lines) =
     let rest = ends_with_feed P m lines in
     (line_text P (raw P line) ++ rest.0, ap (λ t. line_text P (raw P line) ++ t) rest.1 ∙ sym (append_assoc (line_text P (raw P line)) rest.0 (10 ∷ [])))
@@ -92,7 +92,7 @@ next_in_all P turn size earlier c below chunks front line rest followed e next =
       ]
     ]
 
-refused_in_front : (P : Instance) (R : List ℕ) (turn : Option Turn) (size : ℕ) (earlier : List Line) (c : Start) (below bytes : List ℕ) (chunks : List Start) (why : LogRefusal) → IsFollowed P turn size earlier c below chunks → bytes ≡ c.bytes ++ below → IsRefusedBehind P R turn earlier c.bytes why → IsRefusedBehind P R turn earlier bytes why
+refused_in_front : (P : Instance) (R : List ℕ) (turn : Option Turn) (size : ℕ) (earlier : List Line) (c : Start) (below bytes : List ℕ) (chunks : List Start) (why : LogRefusal) → IsFollowed P turn size earlier c below chunks → bytes ≡ c.bytes ++ below → IsChunkRefused P R turn earlier c.bytes why → IsChunkRefused P R turn earlier bytes why
 refused_in_front P R turn size earlier c below bytes chunks why followed e r = record {
   lines = r.lines;
   line = r.line;

@@ -4,7 +4,7 @@ use Rattle.std.specs.Prelude.{MatchOption, IfOk}
 use Rattle.std.specs.declared.alloc.AllocError.{AllocError}
 use Rattle.rwsp_terms.specs.Instance.{Instance, cells}
 use Rattle.refutation_terms.specs.declared.lines.Line.{Line}
-use Rattle.refutation_terms.specs.declared.lines.Line.TheVariants.{Split, Window, Day, Dead, Bound, Unfinished}
+use Rattle.refutation_terms.specs.declared.lines.Line.TheVariants.{Split, Window, Day, Dead, Bound, Few, Free, Unfinished}
 use Rattle.refutation_terms.specs.declared.lines.Turn.{Turn}
 use Rattle.refutation_terms.specs.declared.lines.LogRefusal.{LogRefusal}
 use Rattle.refutation_terms.specs.declared.lines.LogRefusal.TheVariants as Refusals
@@ -42,6 +42,8 @@ holds_in_all P D (Day j x false) h k = h
 holds_in_all P D (Dead p len R) h k = k
 holds_in_all P D (Bound p turns R y) h k = k
 holds_in_all P D Unfinished h k = h
+holds_in_all P D Few h k = h
+holds_in_all P D (Free turns reward R y) h k = h
 
 pub sound_in_all : (P : Instance) (named : List ℕ) (D : Domains) (line : Line) → IsPlainlySound P named D line → HoldsByWords P D line → IsSound P named D line
 sound_in_all P named D line h k = record { named_all = h.named_all; short = h.short; holds = holds_in_all P D line h.stands k }
@@ -50,11 +52,7 @@ sound_in_all P named D line h k = record { named_all = h.named_all; short = h.sh
 
 same_idle_split : (P : Instance) (D E : Domains) (line : Line) → LineFits P line → AreSame P D E → IsIdleSplit P D line → IsIdleSplit P E line
 same_idle_split P D E (Split p x) fits same h = sym (same_idle P D E p x.number fits.0 same) ∙ h
-same_idle_split P D E (Window rule p len) fits same h = h
-same_idle_split P D E (Day j x over) fits same h = h
-same_idle_split P D E (Dead p len R) fits same h = h
-same_idle_split P D E (Bound p turns R y) fits same h = h
-same_idle_split P D E Unfinished fits same h = h
+same_idle_split P D E leaf fits same h = absurd h
 
 pub same_cause : (P : Instance) (named : List ℕ) (D E : Domains) (n : ℕ) (line : Line) (why : LogRefusal) → 0 < cells P → LineFits P line → AreSame P D E → LineCause P named D n line why → LineCause P named E n line why
 same_cause P named D E n line (Refusals.Form i) some fits same h = h
@@ -78,21 +76,13 @@ pub may_step : (P : Instance) (S : Store) (line : Line) → IsStore S → HasDom
 may_step P S (Split p x) now tests belongs long fits h =
     let inside : p < length S.sets = omega (arith, long, fits.0) in
     (inside, idle_in_store P (has_domain S) S p x.number now tests belongs inside (λ z. refl) ∙ h)
-may_step P S (Window rule p len) now tests belongs long fits h = tt
-may_step P S (Day j x over) now tests belongs long fits h = tt
-may_step P S (Dead p len R) now tests belongs long fits h = tt
-may_step P S (Bound p turns R y) now tests belongs long fits h = tt
-may_step P S Unfinished now tests belongs long fits h = tt
+may_step P S leaf now tests belongs long fits h = tt
 
 -- by the text of the line
 
 pub idle_text : (P : Instance) (D : Domains) (bytes : List ℕ) (line : Line) → Spells P bytes line → IsIdleSplit P D line → SplitsIdly P D bytes
 idle_text P D bytes (Split p x) spelled h = (p, x, spelled, h)
-idle_text P D bytes (Window rule p len) spelled h = absurd h
-idle_text P D bytes (Day j x over) spelled h = absurd h
-idle_text P D bytes (Dead p len R) spelled h = absurd h
-idle_text P D bytes (Bound p turns R y) spelled h = absurd h
-idle_text P D bytes Unfinished spelled h = absurd h
+idle_text P D bytes leaf spelled h = absurd h
 
 pub cause_of_text : (P : Instance) (named : List ℕ) (D : Domains) (n : ℕ) (bytes : List ℕ) (line : Line) (why : LogRefusal) → Spells P bytes line → LineCause P named D n line why → TreeCause P named D n bytes why
 cause_of_text P named D n bytes line (Refusals.Form i) spelled h = absurd h
@@ -115,7 +105,7 @@ pub passed_read : (P : Instance) (named : List ℕ) (turn : Option Turn) (lines 
     (LineCause P named (domains_at P turn lines (length lines)) number line)
     → MatchOption found
     (IsLineRead P named turn lines bytes w)
-    (λ why. Cause P (Reading (record { named = named; turn = turn; lines = lines })) bytes why)
+    (λ why. Cause P (Reading (record { named = named; turn = turn; goal = None; lines = lines })) bytes why)
 passed_read P named turn lines bytes line number w None spelled part is h =
     let fit = spelled_lines_fit P bytes line spelled in
     record {
@@ -136,7 +126,7 @@ pub passed_reads : (P : Instance) (named : List ℕ) (old : State) (bytes : List
     (LineCause P named (domains_at P turn lines (length lines)) number line))
     → IfOk answer (λ found. (turn : Option Turn) (lines : List Line) → IsStateOf P turn lines old → number ≡ header_lines turn + length lines + 1 → MatchOption found
     (IsLineRead P named turn lines bytes w)
-    (λ why. Cause P (Reading (record { named = named; turn = turn; lines = lines })) bytes why))
+    (λ why. Cause P (Reading (record { named = named; turn = turn; goal = None; lines = lines })) bytes why))
 passed_reads P named old bytes line number w (Ok found) spelled part h =
     λ turn lines state is. passed_read P named turn lines bytes line number w found spelled (part turn lines state) is (h turn lines state)
 passed_reads P named old bytes line number w (Err e) spelled part h = tt

@@ -5,7 +5,7 @@ use Rattle.rwsp_terms.specs.declared.data.Symbol.{Symbol}
 use Rattle.std.proofs.Common.{List}
 use Rattle.rwsp_terms.specs.Instance.{Instance, cells}
 use Rattle.refutation_terms.specs.declared.lines.Line.{Line}
-use Rattle.refutation_terms.specs.declared.lines.Line.TheVariants.{Split, Window, Day, Dead, Bound, Unfinished}
+use Rattle.refutation_terms.specs.declared.lines.Line.TheVariants.{Split, Window, Day, Dead, Bound, Few, Free, Unfinished}
 use Rattle.refutation_terms.specs.Word.{Domains, AreSame}
 use Rattle.refutation_terms.specs.Log.{LineFits}
 use Rattle.refutation_terms.specs.Verdict.{Escapes}
@@ -20,6 +20,8 @@ same_by_words P D E (Day j x over) fits same h = tt
 same_by_words P D E (Dead p len R) fits same h = same_holds P D E (Dead p len R) (omega (arith, fits.0)) fits same h
 same_by_words P D E (Bound p turns R y) fits same h = same_holds P D E (Bound p turns R y) (omega (arith, fits.0)) fits same h
 same_by_words P D E Unfinished fits same h = tt
+same_by_words P D E Few fits same h = tt
+same_by_words P D E (Free turns reward R y) fits same h = tt
 
 pub escaped_by_words : (P : Instance) (D : Domains) (line : Line) (w : List Symbol) → Escapes P D line w → HoldsByWords P D line → ⊥
 escaped_by_words P D (Split p x) w e h = absurd e
@@ -28,6 +30,8 @@ escaped_by_words P D (Day j x over) w e h = absurd e
 escaped_by_words P D (Dead p len R) w e h = escaped_not_holding P D (Dead p len R) w e h
 escaped_by_words P D (Bound p turns R y) w e h = escaped_not_holding P D (Bound p turns R y) w e h
 escaped_by_words P D Unfinished w e h = absurd e
+escaped_by_words P D Few w e h = absurd e
+escaped_by_words P D (Free turns reward R y) w e h = absurd e
 
 -- what the words tell under the domains of a walk, told under those of its lines
 pub holds_there : (P : Instance) (D E : Domains) (line : Line) → LineFits P line → AreSame P D E → HoldsByWords P D line → IsTrue true ↔ HoldsByWords P E line

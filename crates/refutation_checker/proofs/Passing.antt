@@ -21,7 +21,7 @@ use Rattle.refutation_terms.specs.declared.lines.LogRefusal.TheVariants as Refus
 use Rattle.refutation_terms.specs.Word.{Domains}
 use Rattle.refutation_terms.specs.Tree.{IsTree, after_trees, lines_in, opening, lines_leave, domains_at}
 use Rattle.refutation_terms.specs.Log.{Log, Fits, LineFits, TurnFits, TurnCites, AreRules, Passes, Holds}
-use Rattle.refutation_terms.specs.LogText.{raw, line_text, log_text, header_text, turn_text, fields}
+use Rattle.refutation_terms.specs.LogText.{raw, line_text, log_text, header_text, turn_text, raw_fields}
 use Rattle.refutation_terms.specs.Verdict.{Reading, BeforeTurn, IsSoundSoFar, IsRefusedLine, IsRefused, TurnCause, TreeCause, header_lines}
 use Rattle.refutation_terms.proofs.Spelled.{fitting_lines_are_spelled}
 use Rattle.refutation_terms.proofs.Trees.{part_is_not_whole, tree_is_whole}
@@ -134,7 +134,7 @@ sound_front P g i fits tree turn sound less =
     λ k line here. let there = at_take g.lines i k line within here in sound k line there.0 there.1 in
     record {
       grounded = record {
-        fits = record { named = fits.named; turn = fits.turn; lines = λ k line here. fits.lines k line (at_take g.lines i k line within here).1 };
+        fits = record { named = fits.named; turn = fits.turn; is_goal = refl; goal_fits = tt; lines = λ k line here. fits.lines k line (at_take g.lines i k line within here).1 };
         turn = turn.allowed;
         turn_named = turn.named_day;
         named = λ k line r here. (at k line here).named_all r;
@@ -180,7 +180,7 @@ refused_line P g i why limits fits tree turn at =
           ap (λ t. header_text P g.named g.turn ++ t) (lines_cut P g.lines i at.line at.here)
           ∙ sym (append_assoc (header_text P g.named g.turn) (lines_text P (take i g.lines)) (bytes ++ rest))
           ∙ sym (append_assoc (header_text P g.named g.turn ++ lines_text P (take i g.lines)) bytes rest);
-      is_line = inl (join_with_byte 32 (fields P (raw P at.line)), body_feedless P at.line limits fit, refl);
+      is_line = inl (join_with_byte 32 (raw_fields P (raw P at.line)), body_feedless P at.line limits fit, refl);
       cause = inr (
         no_front g.lines i tree less,
         subst (λ n. TreeCause P g.named (domains_at P g.turn (take i g.lines) (length (take i g.lines))) (header_lines g.turn + n + 1) bytes why) (sym long)

@@ -18,7 +18,7 @@ use Rattle.refutation_log.specs.Printing.{lines_text}
 use Rattle.refutation_log.specs.ReadLog.{log_with}
 use Rattle.refutation_checker.specs.Headers.{HasHeader}
 use Rattle.refutation_checker.specs.LineTexts.{IsSoundNext}
-use Rattle.refutation_checker.specs.ChunkVerdicts.{AreSoundBehind, AreAllSound, IsRefusedBehind}
+use Rattle.refutation_checker.specs.ChunkVerdicts.{AreSoundBehind, AreAllSound, IsChunkRefused}
 use Rattle.refutation_checker.proofs.HeaderFaults.{refused_at_line}
 
 pub lines_joined : (P : Instance) (a b : List Line) → lines_text P (a ++ b) ≡ lines_text P a ++ lines_text P b
@@ -41,7 +41,7 @@ sound_at P R turn earlier (l ∷ lines) h (suc k) line e =
 pub sound_so_far : (P : Instance) (R : List ℕ) (turn : Option Turn) (text body : List ℕ) (lines : List Line) → HasHeader P text R turn body → AreSoundBehind P R turn [] lines → IsSoundSoFar P (log_with R turn lines)
 sound_so_far P R turn text body lines header sound = record {
   grounded = record {
-    fits = record { named = header.read.rules; turn = header.read.fits; lines = λ k line e. (sound_at P R turn [] lines sound k line e).fits };
+    fits = record { named = header.read.rules; turn = header.read.fits; is_goal = refl; goal_fits = tt; lines = λ k line e. (sound_at P R turn [] lines sound k line e).fits };
     turn = header.sound.allowed;
     turn_named = header.sound.named_day;
     named = λ k line r e. (sound_at P R turn [] lines sound k line e).sound.named_all r;
@@ -74,7 +74,7 @@ ends P R text body turn h all = record {
   not_whole = λ tree. (let t : IsTrue false = all.tree.1 tree in cc);
 }
 
-pub refused : (P : Instance) (R text body : List ℕ) (turn : Option Turn) (why : LogRefusal) → HasHeader P text R turn body → IsRefusedBehind P R turn [] body why → IsRefused P text why
+pub refused : (P : Instance) (R text body : List ℕ) (turn : Option Turn) (why : LogRefusal) → HasHeader P text R turn body → IsChunkRefused P R turn [] body why → IsRefused P text why
 refused P R text body turn why h r =
     refused_at_line P text why
     (record {

@@ -29,7 +29,7 @@ use Rattle.tree_walk.proofs.Idle.{positions_of}
 use Rattle.tree_walk.proofs.Moves.{leaf_is_tree}
 use Rattle.refutation_checker.specs.ChunkVerdicts.{Start}
 use Rattle.refutation_checker.specs.Chunks.{EndsLines, IsCutOff}
-use Rattle.refutation_checker.specs.UnreadSplits.{Unread, IsTextOf, EndInside, HasIdleSplit, IsEntered, IsInto, ArePassed}
+use Rattle.refutation_checker.specs.UnreadSplits.{UnreadSplit, IsTextOf, EndInside, HasIdleSplit, IsEntered, IsInto, ArePassed}
 use Rattle.refutation_checker.proofs.Unread.{PassedSoFar, tree_passed}
 
 -- lines that are spelled
@@ -62,18 +62,18 @@ split_within P w S bytes line p x is store h spells split =
 
 -- entering splits
 
-pub refused_entry : (P : Instance) (u : Unread) (old new : State) (bytes : List ℕ) (why : LineRefusal) → KeepsLimits P → bytes ≡ u.line → IsLineRefused P bytes why → IsEntered P u old new false
+pub refused_entry : (P : Instance) (u : UnreadSplit) (old new : State) (bytes : List ℕ) (why : LineRefusal) → KeepsLimits P → bytes ≡ u.line → IsLineRefused P bytes why → IsEntered P u old new false
 refused_entry P u old new bytes why limits is refused turn lines first p x state text side =
     absurd (not_refused P bytes (Split p x) why limits (subst (λ b. IsTextOf P b (Split p x)) (sym is) text) refused)
 
-pub no_entry : (P : Instance) (u : Unread) (old new : State) (bytes : List ℕ) (line : Line) → KeepsLimits P → bytes ≡ u.line → Spells P bytes line → ((p : ℕ) (x : Symbol) → line ≡ Split p x → ⊥) → IsEntered P u old new false
+pub no_entry : (P : Instance) (u : UnreadSplit) (old new : State) (bytes : List ℕ) (line : Line) → KeepsLimits P → bytes ≡ u.line → Spells P bytes line → ((p : ℕ) (x : Symbol) → line ≡ Split p x → ⊥) → IsEntered P u old new false
 no_entry P u old new bytes line limits is spells other turn lines first p x state text side =
     absurd (other p x (same_text P bytes line (Split p x) limits (text_spelled P bytes line spells) (subst (λ b. IsTextOf P b (Split p x)) (sym is) text)))
 
 same_split : (p q : ℕ) (x y : Symbol) → Split p x ≡ Split q y → (p ≡ q) × (x ≡ y)
 same_split p q x y e = (let f : p ≡ q = cc in f, let g : x ≡ y = cc in g)
 
-pub entry : (P : Instance) (u : Unread) (old new : State) (bytes : List ℕ) (line : Line) (q : ℕ) (y : Symbol) (in_second entered : Bool) → KeepsLimits P → bytes ≡ u.line → in_second ≡ u.in_second → Spells P bytes line → line ≡ Split q y
+pub entry : (P : Instance) (u : UnreadSplit) (old new : State) (bytes : List ℕ) (line : Line) (q : ℕ) (y : Symbol) (in_second entered : Bool) → KeepsLimits P → bytes ≡ u.line → in_second ≡ u.in_second → Spells P bytes line → line ≡ Split q y
     → ((R : Instance) (turn : Option Turn) (lines first : List Line) → IsStateOf R turn lines old → IsFirstSide in_second first → MatchBool entered (IsStateOf R turn (lines ++ Split q y ∷ first) new) (is_idle R (domains_at R turn lines (length lines)) q y.number ≡ true))
     → IsEntered P u old new entered
 entry P u old new bytes line q y in_second entered limits is side_is spells split goes turn lines first p x state text side =
@@ -110,19 +110,19 @@ still_part false n before is some = refl
 
 -- the first splits were entered
 
-pub record IntoUpTo (P : Instance) (turn : Option Turn) (lines : List Line) (left : List Unread) (w : State) : Type 0 where
+pub record IntoUpTo (P : Instance) (turn : Option Turn) (lines : List Line) (left : List UnreadSplit) (w : State) : Type 0 where
   pub front : List Line
   pub rest : List Line
   pub both : lines ≡ front ++ rest
   pub inside : EndInside P left rest
   pub state : IsStateOf P turn front w
 
-pub record IntoSoFar (P : Instance) (start : State) (before : List Unread) (i : ℕ) (w : State) : Type 0 where
+pub record IntoSoFar (P : Instance) (start : State) (before : List UnreadSplit) (i : ℕ) (w : State) : Type 0 where
   pub state : (turn : Option Turn) × (lines : List Line) × IsStateOf P turn lines w
   pub part : w.whole ≡ false
   pub leads : (turn : Option Turn) (lines : List Line) → IsStateOf P turn [] start → EndInside P before lines → IntoUpTo P turn lines (drop i before) w
 
-pub into_none : (P : Instance) (start w : State) (before : List Unread) → w ≡ start → (turn : Option Turn) × (lines : List Line) × IsStateOf P turn lines start → start.whole ≡ false → IntoSoFar P start before 0 w
+pub into_none : (P : Instance) (start w : State) (before : List UnreadSplit) → w ≡ start → (turn : Option Turn) × (lines : List Line) × IsStateOf P turn lines start → start.whole ≡ false → IntoSoFar P start before 0 w
 into_none P start w before is state part =
     subst (IntoSoFar P start before 0) (sym is)
     (record {
@@ -131,12 +131,12 @@ into_none P start w before is state part =
       leads = λ turn lines st h. record { front = []; rest = lines; both = refl; inside = h; state = st };
     })
 
-left_from : (before : List Unread) (i : ℕ) (u : Unread) → i < length before → u ≡ get_or before i u → drop i before ≡ u ∷ drop (i + 1) before
+left_from : (before : List UnreadSplit) (i : ℕ) (u : UnreadSplit) → i < length before → u ≡ get_or before i u → drop i before ≡ u ∷ drop (i + 1) before
 left_from before i u less is =
     let next : suc i ≡ i + 1 = omega arith in
     drop-cons before i u less ∙ ap (λ v. v ∷ drop (suc i) before) (sym is) ∙ ap (λ n. u ∷ drop n before) next
 
-pub into_more : (P : Instance) (start w w' : State) (before : List Unread) (i : ℕ) (u : Unread) → i < length before → u ≡ get_or before i u → IntoSoFar P start before i w → (turn : Option Turn) × (lines : List Line) × IsStateOf P turn lines w' → w'.whole ≡ false
+pub into_more : (P : Instance) (start w w' : State) (before : List UnreadSplit) (i : ℕ) (u : UnreadSplit) → i < length before → u ≡ get_or before i u → IntoSoFar P start before i w → (turn : Option Turn) × (lines : List Line) × IsStateOf P turn lines w' → w'.whole ≡ false
     → IsEntered P u w w' true → IntoSoFar P start before (i + 1) w'
 into_more P start w w' before i u less is so state part enters = record {
   state = state;
@@ -153,7 +153,7 @@ into_more P start w w' before i u less is so state part enters = record {
       };
 }
 
-pub into_idle : (P : Instance) (start w w' : State) (before : List Unread) (i : ℕ) (u : Unread) → i < length before → u ≡ get_or before i u → IntoSoFar P start before i w → IsEntered P u w w' false → IsInto P start before None
+pub into_idle : (P : Instance) (start w w' : State) (before : List UnreadSplit) (i : ℕ) (u : UnreadSplit) → i < length before → u ≡ get_or before i u → IntoSoFar P start before i w → IsEntered P u w w' false → IsInto P start before None
 into_idle P start w w' before i u less is so enters turn lines st h =
     let up = so.leads turn lines st h in
     let inside : EndInside P (u ∷ drop (i + 1) before) up.rest = subst (λ o. EndInside P o up.rest) (left_from before i u less is) up.inside in
@@ -166,7 +166,7 @@ into_idle P start w w' before i u less is so enters turn lines st h =
       idle = enters turn up.front inside.2 inside.0 inside.1 up.state inside.5 inside.6;
     }
 
-pub into_all : (P : Instance) (start w : State) (before : List Unread) (i : ℕ) → length before ≤ i → IntoSoFar P start before i w → IsInto P start before (Some w)
+pub into_all : (P : Instance) (start w : State) (before : List UnreadSplit) (i : ℕ) → length before ≤ i → IntoSoFar P start before i w → IsInto P start before (Some w)
 into_all P start w before i all so turn lines st h =
     let up = so.leads turn lines st h in
     let none : up.rest ≡ [] = subst (λ o. EndInside P o up.rest) (drop_all i before all) up.inside in
@@ -186,24 +186,24 @@ idle_in_all P turn a b h = record {
   idle = h.idle;
 }
 
-pub passed_tree : (P : Instance) (start : State) (before splits after : List Unread) (all left bytes rest : List ℕ) (count : ℕ) → KeepsLimits P → PassedSoFar P before splits all left count → bytes ≢ [] → left ≡ bytes ++ rest → IsNextLine bytes rest
+pub passed_tree : (P : Instance) (start : State) (before splits after : List UnreadSplit) (all left bytes rest : List ℕ) (count : ℕ) → KeepsLimits P → PassedSoFar P before splits all left count → bytes ≢ [] → left ≡ bytes ++ rest → IsNextLine bytes rest
     → ((earlier : List Line) (l : Line) → EndInside P splits earlier → IsTextOf P bytes l → IsTree (earlier ++ l ∷ [])) → ArePassed P start before after all None
 passed_tree P start before splits after all left bytes rest count limits so some e next ends turn done lines st h fit text =
     inl (tree_passed P before splits all left bytes rest count limits so some e next ends done lines h fit text)
 
-pub passed_idle : (P : Instance) (start : State) (before splits after : List Unread) (all left : List ℕ) (count : ℕ) → PassedSoFar P before splits all left count → IsInto P start splits None → ArePassed P start before after all None
+pub passed_idle : (P : Instance) (start : State) (before splits after : List UnreadSplit) (all left : List ℕ) (count : ℕ) → PassedSoFar P before splits all left count → IsInto P start splits None → ArePassed P start before after all None
 passed_idle P start before splits after all left count so idle turn done lines st h fit text =
     let up = so.each done lines h fit text in
     let here = idle_in_all P turn (done ++ up.done) up.rest (idle turn (done ++ up.done) st up.inside) in
     inr (subst (HasIdleSplit P turn) (append_assoc done up.done up.rest ∙ ap (λ ls. done ++ ls) (sym up.both)) here)
 
 -- all lines were passed, but one of the splits that are open behind them is idle
-pub behind_idle : (P : Instance) (start : State) (before after : List Unread) (bytes : List ℕ) (count : ℕ) → ArePassed P start before after bytes (Some count) → IsInto P start after None → ArePassed P start before after bytes None
+pub behind_idle : (P : Instance) (start : State) (before after : List UnreadSplit) (bytes : List ℕ) (count : ℕ) → ArePassed P start before after bytes (Some count) → IsInto P start after None → ArePassed P start before after bytes None
 behind_idle P start before after bytes count passed idle turn done lines st h fit text =
     inr (idle turn (done ++ lines) st (passed done lines h fit text).1)
 
 -- a chunk was cut off at an end of lines
-pub cut_here : (P : Instance) (size : ℕ) (start : State) (before after : List Unread) (all : Start) (w walk : State) (bytes front back : List ℕ) (first end count : ℕ) → record { walk = w; bytes = bytes; first = first } ≡ all
+pub cut_here : (P : Instance) (size : ℕ) (start : State) (before after : List UnreadSplit) (all : Start) (w walk : State) (bytes front back : List ℕ) (first end count : ℕ) → record { walk = w; bytes = bytes; first = first } ≡ all
     → front ≡ take end bytes → back ≡ drop end bytes → end ≢ length bytes → end ≤ length bytes → (0 < length bytes → 0 < end) → EndsLines bytes size end → all.bytes ≢ [] → all.first + length all.bytes < 2 ^ 31 → count ≤ length (take end bytes)
     → (turn : Option Turn) × (lines : List Line) × IsStateOf P turn lines walk → ArePassed P start before after (take end bytes) (Some count) → IsInto P start after (Some walk)
     → IsCutOff P size start before after all (record { walk = w; bytes = front; first = first }) (Some (record { walk = walk; bytes = back; first = first + count }))

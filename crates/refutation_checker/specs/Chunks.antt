@@ -8,7 +8,7 @@ use Rattle.refutation_terms.specs.declared.lines.LogRefusal.{LogRefusal}
 use Rattle.refutation_log.specs.Printing.{lines_text, EachFits}
 use Rattle.tree_walk.specs.States.{State, IsStateOf}
 use Rattle.refutation_checker.specs.ChunkVerdicts.{Start, StandsBehind}
-use Rattle.refutation_checker.specs.UnreadSplits.{Unread, EndInside, IsEnded, IsInto}
+use Rattle.refutation_checker.specs.UnreadSplits.{UnreadSplit, EndInside, IsEnded, IsInto}
 
 -- how many LF the bytes hold
 abbrev pub feeds : List ℕ → ℕ
@@ -42,12 +42,12 @@ abbrev pub IsJudgeable : Instance → Start → Type 0
 IsJudgeable P s = ((turn : Option Turn) × (earlier : List Line) × IsStateOf P turn earlier s.walk) × (s.first + length s.bytes < 2 ^ 31)
 
 -- behind the lines of the chunk, whatever they are, so many lines more were counted and other splits are open, and the walk of the rest stands there
-pub record LeadsTo (P : Instance) (start : State) (before after : List Unread) (chunk rest : Start) : Type 0 where
+pub record LeadsTo (P : Instance) (start : State) (before after : List UnreadSplit) (chunk rest : Start) : Type 0 where
   pub passed : (done lines : List Line) → EndInside P before done → EachFits P lines → chunk.bytes ≡ lines_text P lines → (rest.first ≡ chunk.first + length lines) × EndInside P after (done ++ lines)
   pub walk : IsInto P start after (Some rest.walk)
 
 -- the chunk is cut off the front of the bytes: it has so many lines, and the rest has what is left; or it has all bytes, and no further chunk is needed
-abbrev pub IsCutOff : Instance → ℕ → State → List Unread → List Unread → Start → Start → Option Start → Type 0
+abbrev pub IsCutOff : Instance → ℕ → State → List UnreadSplit → List UnreadSplit → Start → Start → Option Start → Type 0
 IsCutOff P size start before after all chunk None =
     (chunk ≡ all)
     × ((end : ℕ) × EndsLines all.bytes size end × ((turn : Option Turn) (done : List Line) → IsStateOf P turn [] start → EndInside P before done → IsLast P turn done all.bytes end))

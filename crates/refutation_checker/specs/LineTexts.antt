@@ -6,7 +6,7 @@ use Rattle.refutation_terms.specs.declared.lines.Turn.{Turn}
 use Rattle.refutation_terms.specs.Tree.{IsTree, domains_at}
 use Rattle.refutation_terms.specs.Log.{LineFits}
 use Rattle.refutation_terms.specs.LogText.{raw, line_text}
-use Rattle.refutation_terms.specs.declared.lines.Line.TheVariants.{Split, Window, Day, Dead, Bound, Unfinished}
+use Rattle.refutation_terms.specs.declared.lines.Line.TheVariants.{Split}
 use Rattle.refutation_terms.specs.declared.lines.LogRefusal.{LogRefusal}
 use Rattle.refutation_terms.specs.declared.lines.LogRefusal.TheVariants as Refusals
 use Rattle.refutation_log.specs.declared.refusal.LineRefusal.{LineRefusal}
@@ -37,11 +37,7 @@ pub record IsLineRead (P : Instance) (named : List ℕ) (turn : Option Turn) (li
 -- a leaf, or a split that isn't idle under the domains of the store
 abbrev pub MayStep : Store → Line → Type 0
 MayStep S (Split p x) = (p < length S.sets) × (is_idle_in S p x.number ≡ false)
-MayStep S (Window rule p len) = Unit {0}
-MayStep S (Day j x over) = Unit {0}
-MayStep S (Dead p len R) = Unit {0}
-MayStep S (Bound p turns R y) = Unit {0}
-MayStep S Unfinished = Unit {0}
+MayStep S leaf = Unit {0}
 
 -- the cause of a text line that is no line of a log
 abbrev pub IsSpellingRefusal : LineRefusal → ℕ → LogRefusal → Type 0

@@ -2,7 +2,7 @@
 use Rattle.std.specs.Prelude.{◌≡◌, ℕ, List, true}
 use Rattle.rwsp_terms.specs.Instance.{Instance}
 use Rattle.refutation_terms.specs.declared.lines.Line.{Line}
-use Rattle.refutation_terms.specs.declared.lines.Line.TheVariants.{Split, Window, Day, Dead, Bound, Unfinished}
+use Rattle.refutation_terms.specs.declared.lines.Line.TheVariants.{Split, Dead, Bound, Unfinished}
 use Rattle.refutation_terms.specs.declared.lines.LogRefusal.{LogRefusal}
 use Rattle.refutation_terms.specs.declared.lines.LogRefusal.TheVariants as Refusals
 use Rattle.refutation_terms.specs.Word.{Domains}
@@ -15,10 +15,7 @@ use Rattle.refutation_terms.specs.Verdict.{IsLeast, IsUnnamed, ListsLong, IsPlai
 abbrev pub StandsPlainly : Instance → Domains → Line → Type 0
 StandsPlainly P D (Dead p len R) = Unit {0}
 StandsPlainly P D (Bound p turns R y) = Unit {0}
-StandsPlainly P D (Split p x) = Holds P D (Split p x)
-StandsPlainly P D (Window rule p len) = Holds P D (Window rule p len)
-StandsPlainly P D (Day j x over) = Holds P D (Day j x over)
-StandsPlainly P D Unfinished = Holds P D Unfinished
+StandsPlainly P D line = Holds P D line
 
 -- the line has no cause but a word that escapes it
 pub record IsPlainlySound (P : Instance) (named : List ℕ) (D : Domains) (line : Line) : Type 0 where
@@ -29,11 +26,7 @@ pub record IsPlainlySound (P : Instance) (named : List ℕ) (D : Domains) (line 
 -- an idle split
 abbrev pub IsIdleSplit : Instance → Domains → Line → Type 0
 IsIdleSplit P D (Split p x) = is_idle P D p x.number ≡ true
-IsIdleSplit P D (Window rule p len) = ⊥
-IsIdleSplit P D (Day j x over) = ⊥
-IsIdleSplit P D (Dead p len R) = ⊥
-IsIdleSplit P D (Bound p turns R y) = ⊥
-IsIdleSplit P D Unfinished = ⊥
+IsIdleSplit P D leaf = ⊥
 
 -- the lowest cause to refuse the line as text line n, but for a word that escapes it
 abbrev pub PlainCause : Instance → List ℕ → Domains → ℕ → Line → LogRefusal → Type 0
@@ -48,19 +41,13 @@ PlainCause P named D n line why = ⊥
 abbrev pub IsPlainFailure : ℕ → Line → LogRefusal → Type 0
 IsPlainFailure n (Split p x) why = why ≡ Refusals.Idle n
 IsPlainFailure n Unfinished why = why ≡ Refusals.Unfinished n
-IsPlainFailure n (Window rule p len) why = why ≡ Refusals.Fails n
-IsPlainFailure n (Day j x over) why = why ≡ Refusals.Fails n
-IsPlainFailure n (Dead p len R) why = why ≡ Refusals.Fails n
-IsPlainFailure n (Bound p turns R y) why = why ≡ Refusals.Fails n
+IsPlainFailure n leaf why = why ≡ Refusals.Fails n
 
 -- a dead or a bound leaf that holds. Nothing is said of other lines
 abbrev pub HoldsByWords : Instance → Domains → Line → Type 0
 HoldsByWords P D (Dead p len R) = IsDead P D p len R
 HoldsByWords P D (Bound p turns R y) = IsTooLight P D p turns R y
-HoldsByWords P D (Split p x) = Unit {0}
-HoldsByWords P D (Window rule p len) = Unit {0}
-HoldsByWords P D (Day j x over) = Unit {0}
-HoldsByWords P D Unfinished = Unit {0}
+HoldsByWords P D line = Unit {0}
 
 -- the line has no cause
 pub record IsSound (P : Instance) (named : List ℕ) (D : Domains) (line : Line) : Type 0 where

@@ -13,7 +13,7 @@ use Rattle.tree_walk.specs.Splits.{IsFirstSide, NoLines}
 use Rattle.tree_walk.specs.States.{State, IsStateOf}
 
 -- the text line of a split, and whether its first side was passed too
-pub record Unread : Type 0 where
+pub record UnreadSplit : Type 0 where
   pub line : List ℕ
   pub in_second : Bool
 
@@ -23,14 +23,14 @@ pub record IsTextOf (P : Instance) (bytes : List ℕ) (line : Line) : Type 0 whe
   pub text : bytes ≡ line_text P (raw P line)
 
 -- the lines lead into these splits, the outermost first, and there are followed by lines as Q says
-abbrev pub LeadInto : Instance → (List Line → Type 0) → List Unread → List Line → Type 0
+abbrev pub LeadInto : Instance → (List Line → Type 0) → List UnreadSplit → List Line → Type 0
 LeadInto P Q [] lines = Q lines
 LeadInto P Q (u ∷ splits) lines =
     (p : ℕ) × (x : Symbol) × (first : List Line) × (rest : List Line)
     × (lines ≡ Split p x ∷ (first ++ rest)) × IsTextOf P u.line (Split p x) × IsFirstSide u.in_second first × LeadInto P Q splits rest
 
 -- they end there, where the next tree begins
-abbrev pub EndInside : Instance → List Unread → List Line → Type 0
+abbrev pub EndInside : Instance → List UnreadSplit → List Line → Type 0
 EndInside P splits lines = LeadInto P NoLines splits lines
 
 -- a front of the lines is a whole tree
@@ -51,20 +51,20 @@ abbrev pub IsEnded : Instance → Option Turn → List Line → Type 0
 IsEnded P turn lines = HasTree lines ⊎ HasIdleSplit P turn lines
 
 -- some lines end inside these splits, and a walk started in front of the first of them: then either one is an idle split, or this walk stands behind them
-abbrev pub IsInto : Instance → State → List Unread → Option State → Type 0
+abbrev pub IsInto : Instance → State → List UnreadSplit → Option State → Type 0
 IsInto P start splits None = (turn : Option Turn) (lines : List Line) → IsStateOf P turn [] start → EndInside P splits lines → HasIdleSplit P turn lines
 IsInto P start splits (Some w) = (turn : Option Turn) (lines : List Line) → IsStateOf P turn [] start → EndInside P splits lines → IsStateOf P turn lines w
 
 -- the bytes were passed behind lines that end inside splits. If they are the text of lines that fit, then either no line behind them is the first that is refused, or they are so many
 -- lines, and end inside other splits
-abbrev pub ArePassed : Instance → State → List Unread → List Unread → List ℕ → Option ℕ → Type 0
+abbrev pub ArePassed : Instance → State → List UnreadSplit → List UnreadSplit → List ℕ → Option ℕ → Type 0
 ArePassed P start before after bytes None =
     (turn : Option Turn) (done lines : List Line) → IsStateOf P turn [] start → EndInside P before done → EachFits P lines → bytes ≡ lines_text P lines → IsEnded P turn (done ++ lines)
 ArePassed P start before after bytes (Some count) =
     (done lines : List Line) → EndInside P before done → EachFits P lines → bytes ≡ lines_text P lines → (count ≡ length lines) × EndInside P after (done ++ lines)
 
 -- a walk goes by the line of a split, if it is spelled, and by its first side if that was passed too; or it is an idle split
-abbrev pub IsEntered : Instance → Unread → State → State → Bool → Type 0
+abbrev pub IsEntered : Instance → UnreadSplit → State → State → Bool → Type 0
 IsEntered P u old new entered =
     (turn : Option Turn) (lines first : List Line) (p : ℕ) (x : Symbol) → IsStateOf P turn lines old → IsTextOf P u.line (Split p x) → IsFirstSide u.in_second first
     → MatchBool entered (IsStateOf P turn (lines ++ Split p x ∷ first) new) (is_idle P (domains_at P turn lines (length lines)) p x.number ≡ true)

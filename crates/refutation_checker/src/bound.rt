@@ -9,7 +9,8 @@ ghost use Rattle.domain_store.specs.Store.{BelongsTo, has_domain};
 
 use domain_store::Domains;
 use potential_bounds::{heaviest_reaching, total};
-use rwsp_model::{Problem, Weights, Word};
+use rwsp_model::Problem;
+use rwsp_terms::{Weights, Word};
 use std::alloc::{AllocError, Global};
 use word_tail::TailRules;
 
@@ -34,7 +35,7 @@ pub fn bound_escape(
         (IsTooLight problem.now (has_domain doms.now) p turns tails.now.rules weights.now)
         (Escapes problem.now (has_domain doms.now) (Bound p turns tails.now.rules weights.now))) }
 {
-    problem.keeps_limits();
+    problem.prove_limits();
     let least = times(turns, total(problem, weights));
     match heaviest_reaching(alloc, problem, tails, doms, p, turns, weights, least)? {
         Some(heavy) => Ok(Some(heavy.word)),

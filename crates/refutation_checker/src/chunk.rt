@@ -8,7 +8,8 @@ ghost use Rattle.refutation_checker.specs.ChunkVerdicts.{StandsBehind, IsJudged}
 use crate::judge::Judge;
 use refutation_log::LineReader;
 use refutation_terms::LogRefusal;
-use rwsp_model::{Fail, Problem, RuleList};
+use rwsp_model::{Fail, Problem};
+use rwsp_terms::RuleList;
 use std::alloc::Global;
 use std::marker::Model;
 use tree_walk::Walk;

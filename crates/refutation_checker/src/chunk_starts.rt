@@ -23,7 +23,8 @@ use crate::line_ends::{count_lines, lines_end};
 use crate::unread_splits::{UnreadSplit, pass_line};
 use refutation_log::{LineReader, read_line};
 use refutation_terms::Line;
-use rwsp_model::{Fail, Problem, Symbol};
+use rwsp_model::{Fail, Problem};
+use rwsp_terms::Symbol;
 use rwsp_terms::limits::{MOST_CELLS, MOST_SHIFTS};
 use std::alloc::{AllocError, Global};
 use tree_walk::Walk;
@@ -78,8 +79,8 @@ fn enter(
         (turn : Option Turn) × (lines : List TheLine) × IsStateOf problem.now turn lines walk.new) }
     ensures entered { IfOk result (IsEntered problem.now split.now walk.old walk.new) }
 {
-    problem.keeps_limits();
-    walk.domains().facts();
+    problem.prove_limits();
+    walk.domains().prove_facts();
     let line = match read_line(alloc, problem, split.line) {
         Ok(line) => line,
         Err(Fail::Memory) => return Err(AllocError),
@@ -147,7 +148,7 @@ fn pass_lines<'a>(
     ensures few { IfOk result (λ passed. IfSome passed (λ count. count ≤ length bytes.now)) }
     ensures passed { IfOk result (ArePassed problem.now start.now splits.old.items splits.new.items bytes.now) }
 {
-    problem.keeps_limits();
+    problem.prove_limits();
     let mut reader = LineReader::new(bytes);
     let mut count = 0;
     while let Some(line) = reader.next() {

@@ -19,7 +19,7 @@ pub fn judge_header<'a>(
         (λ h. HasHeader problem.now bytes.now h.named h.turn h.body.now)
         (IsRefused problem.now bytes.now) }
 {
-    problem.keeps_limits();
+    problem.prove_limits();
     let header = match read_header(alloc, problem, bytes) {
         Ok(header) => header,
         Err(fail) => return Err(fail),

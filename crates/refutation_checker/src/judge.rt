@@ -23,7 +23,8 @@ use domain_store::Domains;
 use layered_cycle::escape;
 use refutation_log::{LineRefusal, read_line};
 use refutation_terms::{Line, LogRefusal};
-use rwsp_model::{Fail, Problem, RuleList, Weights, Word};
+use rwsp_model::{Fail, Problem};
+use rwsp_terms::{RuleList, Weights, Word};
 use std::alloc::{AllocError, Global};
 use std::marker::Model;
 use tree_walk::Walk;
@@ -77,7 +78,7 @@ impl<'a> Judge<'a> {
         ensures read { IfOk result (λ found. (turn : Option Turn) (lines : List Line) → IsStateOf self.old.problem turn lines walk.old → number ≡ header_lines turn + length lines + 1 →
             MatchOption found
             (IsLineRead self.old.problem self.old.named turn lines bytes.now walk.new)
-            (λ why. Cause self.old.problem (Reading (record { named = self.old.named; turn = turn; lines = lines })) bytes.now why)) }
+            (λ why. Cause self.old.problem (Reading (record { named = self.old.named; turn = turn; goal = None; lines = lines })) bytes.now why)) }
         ensures walks { IfOk result (StillWalks self.old.problem walk.new) }
     {
         if walk.is_whole() {
@@ -108,8 +109,8 @@ impl<'a> Judge<'a> {
             (IsSound self.old.problem self.old.named (domains_at self.old.problem turn lines (length lines)) line.now × IsStateOf self.old.problem turn (lines ++ line.now ∷ []) walk.new)
             (LineCause self.old.problem self.old.named (domains_at self.old.problem turn lines (length lines)) number line.now)) }
     {
-        self.problem.keeps_limits();
-        walk.domains().facts();
+        self.problem.prove_limits();
+        walk.domains().prove_facts();
         if let Some(why) = self.line_refusal(alloc, walk.domains(), line, number)? {
             return Ok(Some(why));
         }

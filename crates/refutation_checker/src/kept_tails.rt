@@ -2,7 +2,8 @@
 ghost use Rattle.std.specs.Prelude.{◌≡◌, IsTrue, IfOk, IfSome};
 ghost use Rattle.rwsp_terms.specs.Rules.{NamesShortOnly};
 
-use rwsp_model::{Problem, RuleList};
+use rwsp_model::Problem;
+use rwsp_terms::RuleList;
 use std::alloc::{AllocError, Global};
 use word_tail::TailRules;
 

@@ -10,7 +10,8 @@ ghost use Rattle.refutation_checker.specs.LineVerdicts.{HoldsByWords};
 use crate::judge::Judge;
 use crate::line_walk::step;
 use refutation_terms::Line;
-use rwsp_model::{Problem, RuleList};
+use rwsp_model::Problem;
+use rwsp_terms::RuleList;
 use std::alloc::{AllocError, Global};
 use std::marker::Model;
 use tree_walk::Walk;
@@ -66,7 +67,7 @@ pub fn go_past(walk: &mut Walk, problem: &Problem, line: &Line) -> Result<(), Al
     ensures { IfOk result (λ _. (turn : Option Turn) (lines : List Line) →
         IsStateOf problem.now turn lines walk.old → IsStateOf problem.now turn (lines ++ line.now ∷ []) walk.new) }
 {
-    problem.keeps_limits();
-    walk.domains().facts();
+    problem.prove_limits();
+    walk.domains().prove_facts();
     step(walk, line)
 }

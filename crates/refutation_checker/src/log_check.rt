@@ -36,7 +36,7 @@ fn log_refusal(
     requires { Fits problem.now log.now }
     ensures { IfOk result (λ found. MatchOption found (Passes problem.now log.now) (IsRefused problem.now (log_text problem.now log.now))) }
 {
-    problem.keeps_limits();
+    problem.prove_limits();
     if let Some(why) = turn_refusal(problem, log.named(), log.turn()) {
         return Ok(Some(why));
     }

@@ -6,7 +6,8 @@ ghost use Rattle.refutation_terms.specs.Log.{AreRules, LineFits, ListsShortOnly}
 ghost use Rattle.refutation_terms.specs.Verdict.{IsLeast, IsLongIn, ListsLong};
 
 use refutation_terms::Line;
-use rwsp_model::{Problem, RuleList, is_short, rule_at};
+use rwsp_model::{Problem, is_short, rule_at};
+use rwsp_terms::RuleList;
 
 // Whether the rule of the number is short.
 #[tactic(auto, using(crate::proofs::Lists::short_number))]
@@ -43,6 +44,11 @@ pub fn long_rule(problem: &Problem, line: &Line) -> Option<u32>
     match line {
         Line::Dead { rules, .. } => least_long(problem, rules),
         Line::Bound { rules, .. } => least_long(problem, rules),
-        Line::Split { .. } | Line::Window { .. } | Line::Day { .. } | Line::Unfinished => None,
+        Line::Free { rules, .. } => least_long(problem, rules),
+        Line::Split { .. }
+        | Line::Window { .. }
+        | Line::Day { .. }
+        | Line::Few
+        | Line::Unfinished => None,
     }
 }

@@ -10,7 +10,8 @@ use crate::unnamed_rules::unnamed_rule;
 use domain_store::Domains;
 use plain_leaves::{day_holds, window_holds};
 use refutation_terms::{Line, LogRefusal};
-use rwsp_model::{Problem, RuleList, Symbol};
+use rwsp_model::Problem;
+use rwsp_terms::{RuleList, Symbol};
 
 // Whether the symbol is in the domain of the position beside another.
 fn can_split(problem: &Problem, doms: &Domains, p: u32, x: Symbol) -> bool
@@ -18,8 +19,8 @@ fn can_split(problem: &Problem, doms: &Domains, p: u32, x: Symbol) -> bool
     requires position { p < length doms.now.sets }
     ensures { IsTrue result ↔ (is_idle problem.now (has_domain doms.now) p x.number ≡ false) }
 {
-    problem.keeps_limits();
-    doms.facts();
+    problem.prove_limits();
+    doms.prove_facts();
     if doms.size(p) < 2 {
         return false;
     }
@@ -32,14 +33,14 @@ fn stands_plainly(problem: &Problem, doms: &Domains, line: &Line) -> bool
     requires line { LineFits problem.now line.now }
     ensures { IsTrue result ↔ StandsPlainly problem.now (has_domain doms.now) line.now }
 {
-    doms.facts();
+    doms.prove_facts();
     match line {
         Line::Split { p, x } => can_split(problem, doms, *p, *x),
         Line::Window { rule, p, len } => window_holds(problem, doms, *rule, *p, *len),
         Line::Day { day, x, over } => day_holds(problem, doms, *day, *x, *over),
         Line::Dead { .. } => true,
         Line::Bound { .. } => true,
-        Line::Unfinished => false,
+        Line::Few | Line::Free { .. } | Line::Unfinished => false,
     }
 }
 

@@ -4,7 +4,8 @@ ghost use Rattle.refutation_terms.specs.Log.{TurnFits};
 ghost use Rattle.refutation_checker.specs.Turns.{IsSoundTurn, TurnFault, IsTurnFault};
 
 use refutation_terms::{LogRefusal, Turn};
-use rwsp_model::{Problem, Rule, RuleList, number_of};
+use rwsp_model::{Problem, number_of};
+use rwsp_terms::{Rule, RuleList};
 
 // Why the turn of line 3 is refused: the rule of its day isn't named, or no week must hold its
 // symbol then.

@@ -7,7 +7,8 @@ ghost use Rattle.refutation_log.specs.Cited.{IsDayRule, IsWeighedDayRule};
 ghost use Rattle.refutation_checker.specs.Outside.{IsLeastOutside, lesser};
 
 use refutation_terms::Line;
-use rwsp_model::{Problem, Rule, RuleList, Weights, number_of};
+use rwsp_model::{Problem, number_of};
+use rwsp_terms::{Rule, RuleList, Weights};
 
 // The number, if the list doesn't hold it.
 fn outside(number: u32, named: &RuleList) -> Option<u32>
@@ -74,7 +75,7 @@ pub fn unnamed_rule(problem: &Problem, named: &RuleList, line: &Line) -> Option<
         (λ k. IsLeast (IsUnnamed problem.now named.now (Cites problem.now line.now)) k) }
 {
     match line {
-        Line::Split { .. } | Line::Unfinished => None,
+        Line::Split { .. } | Line::Few | Line::Free { .. } | Line::Unfinished => None,
         Line::Window { rule, .. } => outside(*rule, named),
         Line::Day { day, .. } => day_outside(problem, *day, named),
         Line::Dead { rules, .. } => least_outside(rules, named),

@@ -19,9 +19,9 @@ pub struct UnreadSplit<'a> {
 }
 
 impl<'a> Model for UnreadSplit<'a> {
-    ghost use Rattle.refutation_checker.specs.UnreadSplits.{Unread};
+    ghost use Rattle.refutation_checker.specs.UnreadSplits.{UnreadSplit};
 
-    ghost Value = { Unread };
+    ghost Value = { UnreadSplit };
 
     ghost view = { λ s. record { line = s.line.now; in_second = s.in_second } };
 }

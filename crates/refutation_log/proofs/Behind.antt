@@ -16,7 +16,7 @@ use Rattle.rwsp_terms.proofs.Ascending.{increasing_from_pairs, weight_past, weig
 use Rattle.rwsp_terms.proofs.SameLists.{same_rule_lists, same_weights, before_all}
 use Rattle.rwsp_text.specs.Fields.{IsValue}
 use Rattle.rwsp_terms.specs.declared.limits.TheConstants.{GREATEST_WEIGHT}
-use Rattle.refutation_log.specs.Gathering.{weight_of, with_last}
+use Rattle.refutation_log.specs.Gathering.{entry_of, with_last}
 use Rattle.refutation_log.proofs.CitedRules.{not_here}
 
 pub number_behind : (old new : List ℕ) (n : ℕ) → IsStrictlyIncreasing old → All (λ k. k < n) old → IsStrictlyIncreasing new → ((k : ℕ) → Contains new k ↔ (Contains old k ⊎ (k ≡ n))) → new ≡ old ++ n ∷ []
@@ -76,21 +76,21 @@ off_end : (y : List Weight) (e : Weight) (j x : ℕ) → is_at e j x ≡ false �
 off_end [] e j x off = weight_past e [] j x off
 off_end (a ∷ y) e j x off = off_by a y e j x (is_at a j x) refl (off_end y e j x off)
 
-same_here : (old new : List Weight) (j : ℕ) (s : Symbol) (v : ℤ) (k x : ℕ) (b : Bool) → is_at (weight_of j s v) k x ≡ b → All (λ (a : Weight). ComesBefore a (weight_of j s v)) old → SetsWeight old new j s.number v → weight_at new k x ≡ weight_at (old ++ weight_of j s v ∷ []) k x
+same_here : (old new : List Weight) (j : ℕ) (s : Symbol) (v : ℤ) (k x : ℕ) (b : Bool) → is_at (entry_of j s v) k x ≡ b → All (λ (a : Weight). ComesBefore a (entry_of j s v)) old → SetsWeight old new j s.number v → weight_at new k x ≡ weight_at (old ++ entry_of j s v ∷ []) k x
 same_here old new j s v k x true t before sets =
-    let here = here_from_test (weight_of j s v) k x t in
+    let here = here_from_test (entry_of j s v) k x t in
     let none : All (λ (a : Weight). is_at a k x ≡ false) old =
-    λ i d lt. subst (λ n. is_at (get_or old i d) n x ≡ false) here.0 (subst (λ n. is_at (get_or old i d) j n ≡ false) here.1 (not_here (get_or old i d) (weight_of j s v) (before i d lt))) in
-    subst (λ n. weight_at new n x ≡ v) here.0 (subst (λ n. weight_at new j n ≡ v) here.1 sets.here) ∙ sym (past_front old (weight_of j s v) k x none t)
+    λ i d lt. subst (λ n. is_at (get_or old i d) n x ≡ false) here.0 (subst (λ n. is_at (get_or old i d) j n ≡ false) here.1 (not_here (get_or old i d) (entry_of j s v) (before i d lt))) in
+    subst (λ n. weight_at new n x ≡ v) here.0 (subst (λ n. weight_at new j n ≡ v) here.1 sets.here) ∙ sym (past_front old (entry_of j s v) k x none t)
 same_here old new j s v k x false t before sets =
-    sets.elsewhere k x (λ q. let same : is_at (weight_of j s v) k x ≡ true = test_from_here (weight_of j s v) k x (sym q.0, sym q.1) in cc)
-    ∙ sym (off_end old (weight_of j s v) k x t)
+    sets.elsewhere k x (λ q. let same : is_at (entry_of j s v) k x ≡ true = test_from_here (entry_of j s v) k x (sym q.0, sym q.1) in cc)
+    ∙ sym (off_end old (entry_of j s v) k x t)
 
 pub weight_behind : (old new : List Weight) (j : ℕ) (s : Symbol) (v : ℤ) → AreWeights old → AllPairs ComesBefore (with_last old j s v) → IsValue GREATEST_WEIGHT v → SetsWeight old new j s.number v → new ≡ with_last old j s v
 weight_behind old new j s v are ascends value sets =
-    same_weights new (old ++ weight_of j s v ∷ []) sets.weights
+    same_weights new (old ++ entry_of j s v ∷ []) sets.weights
     (record {
       ascends = ascends;
-      small = All-push IsWeight old (weight_of j s v) are.small value;
+      small = All-push IsWeight old (entry_of j s v) are.small value;
     })
-    (λ k x. same_here old new j s v k x (is_at (weight_of j s v) k x) refl (before_last old (weight_of j s v) ascends) sets)
+    (λ k x. same_here old new j s v k x (is_at (entry_of j s v) k x) refl (before_last old (entry_of j s v) ascends) sets)

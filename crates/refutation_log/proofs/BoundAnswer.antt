@@ -14,7 +14,7 @@ use Rattle.refutation_log.specs.declared.refusal.LineRefusal.{LineRefusal}
 use Rattle.refutation_log.specs.declared.refusal.LineRefusal.TheVariants.{Form}
 use Rattle.refutation_log.specs.declared.gather.Gathered.{Gathered}
 use Rattle.refutation_log.specs.declared.gather.Gathered.TheVariants.{Rising, Falling, Unknown}
-use Rattle.refutation_log.specs.Reading.{head_at, rules_in, all_weights_at, bound_at, Answers, IsAnswer}
+use Rattle.refutation_log.specs.Reading.{head_at, rules_in, all_weights_at, bound_at, Answers, IsLineAnswer}
 use Rattle.refutation_log.specs.Gathering.{IsBound, Gives, GivesAll}
 
 read_bound : (P : Instance) (ws h r u : List (List ℕ)) (p turns : ℕ) (R : List ℕ) (y : List NamedWeight) → head_at P (most_turns P) ws ≡ Some ((p, turns), h) → rules_in P h ≡ (R, r) → word_at (codes "weights") r ≡ Some u → all_weights_at P u ≡ Some y → bound_at P ws ≡ Some (RawBound p turns R y)
@@ -44,6 +44,6 @@ missed_by P ws h r u p turns R None a b c d g = rw (a, b, c, d) refl
 missed_by P ws h r u p turns R (Some y) a b c d g = absurd g
 
 -- weights that aren't read make no bound
-pub bound_missed : (P : Instance) (high : ℕ) (ws h r u : List (List ℕ)) (p turns : ℕ) (R : List ℕ) → high ≡ most_turns P → head_at P high ws ≡ Some ((p, turns), h) → rules_in P h ≡ (R, r) → word_at (codes "weights") r ≡ Some u → GivesAll P (all_weights_at P u) None → IsAnswer P (bound_at P ws) (Err Form)
+pub bound_missed : (P : Instance) (high : ℕ) (ws h r u : List (List ℕ)) (p turns : ℕ) (R : List ℕ) → high ≡ most_turns P → head_at P high ws ≡ Some ((p, turns), h) → rules_in P h ≡ (R, r) → word_at (codes "weights") r ≡ Some u → GivesAll P (all_weights_at P u) None → IsLineAnswer P (bound_at P ws) (Err Form)
 bound_missed P high ws h r u p turns R e a b c g =
-    subst (λ o. IsAnswer P o (Err Form)) (sym (missed_by P ws h r u p turns R (all_weights_at P u) (ap (λ n. head_at P n ws) (sym e) ∙ a) b c refl g)) tt
+    subst (λ o. IsLineAnswer P o (Err Form)) (sym (missed_by P ws h r u p turns R (all_weights_at P u) (ap (λ n. head_at P n ws) (sym e) ∙ a) b c refl g)) tt

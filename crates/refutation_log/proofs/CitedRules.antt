@@ -16,7 +16,7 @@ use Rattle.rwsp_terms.proofs.Ascending.{Contains-cons, Contains-first, weight_pa
 use Rattle.rwsp_model.proofs.Numbering.{one_number, number_at_place}
 use Rattle.rwsp_model.specs.RuleNumbers.{place_of}
 use Rattle.refutation_terms.specs.declared.lines.Line.{Line}
-use Rattle.refutation_terms.specs.declared.lines.Line.TheVariants.{Split, Window, Day as DayLeaf, Dead, Bound, Unfinished}
+use Rattle.refutation_terms.specs.declared.lines.Line.TheVariants.{Split, Window, Day as DayLeaf, Dead, Bound, Few, Free, Unfinished}
 use Rattle.refutation_terms.specs.declared.lines.Turn.{Turn}
 use Rattle.refutation_terms.specs.Log.{LineFits, Cites, TurnCites, HasWeight, AreRules}
 use Rattle.refutation_log.specs.Cited.{Adds, IsCited, IsDayRule, IsWeighedDayRule}
@@ -155,6 +155,8 @@ line_numbered P (Bound p turns R y) fits r c =
     day_numbered P d.0 r (subst (IsDay P) e.4 day) d.2)
     c
 line_numbered P Unfinished fits r c = absurd c
+line_numbered P Few fits r c = absurd c
+line_numbered P (Free turns reward R y) fits r c = absurd fits
 
 pub turn_numbered : (P : Instance) (t : Turn) → IsDay P t.day → (r : Rule) → TurnCites (Some t) r → (k : ℕ) × (rule_of P k ≡ Some r)
 turn_numbered P t is r c = day_numbered P t.day r is c

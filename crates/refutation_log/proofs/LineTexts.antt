@@ -17,7 +17,7 @@ use Rattle.rwsp_model.specs.declared.fail.Fail.{Fail}
 use Rattle.rwsp_model.specs.declared.fail.Fail.TheVariants.{Refused, Memory}
 use Rattle.rwsp_model.proofs.Numbering.{rules_are_many}
 use Rattle.refutation_terms.specs.declared.lines.Line.{Line}
-use Rattle.refutation_terms.specs.LogText.{RawLine, RawDead, RawBound, RawUnfinished, IsWritten, fields, line_of, Ascends}
+use Rattle.refutation_terms.specs.LogText.{RawLine, RawDead, RawBound, RawUnfinished, IsWritten, raw_fields, line_of, Ascends}
 use Rattle.refutation_terms.specs.LineKinds.{most_turns, split_kind, window_kind, day_kind, dead_kind, bound_kind, tree_kinds}
 use Rattle.refutation_terms.specs.Verdict.{Spells}
 use Rattle.refutation_terms.specs.TextLaws.{IsWritable}
@@ -83,13 +83,13 @@ raw_is P (w ∷ ws) =
 -- what is written is read
 pub written_read : (P : Instance) (bytes body : List ℕ) (raw : RawLine) → IsWritable P → bytes ≡ body ++ 10 ∷ [] → IsWritten P bytes raw → read_line (tree_kinds P) (words_of body) ≡ Some raw
 written_read P bytes body raw s e h =
-    ap (read_line (tree_kinds P)) (text_words bytes body (fields P raw) (tree_words P raw s h.in_range) e h.spelled)
-    ∙ line_only (tree_kinds P) (fields P raw) raw (tree_readable P s) (tree_line P raw h.in_range)
+    ap (read_line (tree_kinds P)) (text_words bytes body (raw_fields P raw) (tree_words P raw s h.in_range) e h.spelled)
+    ∙ line_only (tree_kinds P) (raw_fields P raw) raw (tree_readable P s) (tree_line P raw h.in_range)
 
 pub read_written : (P : Instance) (bytes body : List ℕ) (raw : RawLine) → bytes ≡ body ++ 10 ∷ [] → read_line (tree_kinds P) (words_of body) ≡ Some raw → IfSome (line_of P raw) Ascends → IsWritten P bytes raw
 read_written P bytes body raw e h up =
     let f = tree_found P (words_of body) raw (line_found (tree_kinds P) (words_of body) raw h) in
-    record { spelled = words_text bytes body (fields P raw) e f.0; in_range = f.1; ascends = up }
+    record { spelled = words_text bytes body (raw_fields P raw) e f.0; in_range = f.1; ascends = up }
 
 answer_by : (P : Instance) (bytes body : List ℕ) (o : Option RawLine) (result : Result Line (Fail LineRefusal)) → IsWritable P → bytes ≡ body ++ 10 ∷ [] → read_line (tree_kinds P) (words_of body) ≡ o → Answers P o result → MatchAnswer result (Spells P bytes) (IsLineRefused P bytes)
 answer_by P bytes body None (Ok line) s e r a = absurd a
@@ -114,7 +114,7 @@ line_answered P bytes body result k e a =
     answer_by P bytes body (read_line (tree_kinds P) (words_of body)) result (is_writable P k) e refl (subst (λ o. Answers P o result) (raw_is P (words_of body)) a)
 
 pub no_feed_no_line : (P : Instance) (bytes : List ℕ) → ((body : List ℕ) → bytes ≢ body ++ 10 ∷ []) → IsLineRefused P bytes Form
-no_feed_no_line P bytes none = λ raw h. none (join_with_byte 32 (fields P raw)) h.spelled
+no_feed_no_line P bytes none = λ raw h. none (join_with_byte 32 (raw_fields P raw)) h.spelled
 
 pub small_from : (P : Instance) → KeepsLimits P → IsWritable P
 small_from P limits = is_writable P limits

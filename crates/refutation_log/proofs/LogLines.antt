@@ -41,11 +41,7 @@ fits_at P (l ∷ lines) h (suc k) line e = fits_at P lines h.1 k line e
 -- one line more of a walk
 walk_by : (n : ℕ) (line : Line) (more : List Line) → after_trees (suc n) (line ∷ more) ≡ after_trees (open_after (suc n) line) more
 walk_by n (Split p x) more = let e : suc (suc n) ≡ suc n + 1 = omega arith in ap (λ k. after_trees k more) e
-walk_by n (Window r p len) more = let e : n ≡ suc n - 1 = omega arith in ap (λ k. after_trees k more) e
-walk_by n (Day j x over) more = let e : n ≡ suc n - 1 = omega arith in ap (λ k. after_trees k more) e
-walk_by n (Dead p len R) more = let e : n ≡ suc n - 1 = omega arith in ap (λ k. after_trees k more) e
-walk_by n (Bound p turns R y) more = let e : n ≡ suc n - 1 = omega arith in ap (λ k. after_trees k more) e
-walk_by n Unfinished more = let e : n ≡ suc n - 1 = omega arith in ap (λ k. after_trees k more) e
+walk_by n leaf more = let e : n ≡ suc n - 1 = omega arith in ap (λ k. after_trees k more) e
 
 walk_one : (count : ℕ) (line : Line) (more : List Line) → 0 < count → after_trees count (line ∷ more) ≡ after_trees (open_after count line) more
 walk_one zero line more h = absurd (omega (arith, h))
@@ -53,11 +49,7 @@ walk_one (suc n) line more h = walk_by n line more
 
 pub open_few : (count : ℕ) (line : Line) → open_after count line ≤ count + 1
 open_few count (Split p x) = omega arith
-open_few count (Window r p len) = omega arith
-open_few count (Day j x over) = omega arith
-open_few count (Dead p len R) = omega arith
-open_few count (Bound p turns R y) = omega arith
-open_few count Unfinished = omega arith
+open_few count leaf = omega arith
 
 -- so many trees are open behind the lines
 abbrev pub Walks : List Line → ℕ → Type 0
@@ -129,7 +121,7 @@ lines_more P old left bytes rest lines more line count next so some full e spell
 
 pub is_read : (P : Instance) (named : List ℕ) (turn : Option Turn) (old left : List ℕ) (lines : List Line) (count : ℕ) → AreRules P named → TurnFits P turn → LinesSoFar P old left lines count → IsReadSoFar P (log_with named turn lines)
 is_read P named turn old left lines count a b so = record {
-  fits = record { named = a; turn = b; lines = fits_at P lines so.fits };
+  fits = record { named = a; turn = b; is_goal = refl; goal_fits = tt; lines = fits_at P lines so.fits };
   in_tree = so.parts;
 }
 

@@ -51,7 +51,7 @@ level_fine P R D n line why limits fits (Nothing a e) r = let s = fitting_lines_
 level_fine P R D n line why limits fits (Unknown a e) r = not_unknown P (line_text P (raw P line)) line (is_writable P limits) (fitting_lines_are_spelled P line (has_names P limits) fits) a
 level_fine P R D n line why limits fits (Known other a q) r = no_reason P R D n other why q r
 
-line_fine : (P : Instance) (f : Log) (line : Line) (more : List Line) (why : LogRefusal) → KeepsLimits P → IsReadSoFar P (record { named = f.named; turn = f.turn; lines = f.lines ++ line ∷ more }) → ReadCause P (Reading f) (line_text P (raw P line)) why → ⊥
+line_fine : (P : Instance) (f : Log) (line : Line) (more : List Line) (why : LogRefusal) → KeepsLimits P → IsReadSoFar P (record { named = f.named; turn = f.turn; goal = f.goal; lines = f.lines ++ line ∷ more }) → ReadCause P (Reading f) (line_text P (raw P line)) why → ⊥
 line_fine P f line more why limits h (inl c, r) =
     let short : length f.lines < length (f.lines ++ line ∷ more) = omega (arith, length-append f.lines (line ∷ more)) in
     h.in_tree (length f.lines) short (subst IsTree (sym (take-append_seam f.lines (line ∷ more))) c.0)

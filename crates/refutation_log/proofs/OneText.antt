@@ -18,10 +18,10 @@ use Rattle.rwsp_terms.specs.declared.data.Symbol.{Symbol}
 use Rattle.rwsp_terms.specs.declared.data.ShiftRow.{ShiftRow}
 use Rattle.rwsp_terms.specs.Instance.{Instance, IsSymbol, off_name, symbol_numbered, symbol_of, name_of, name_numbered, name_in, no_bounds}
 use Rattle.rwsp_terms.proofs.SymbolNames.{no_row, symbol_only}
-use Rattle.rwsp_model.specs.Validity.{KeepsLimits, IsShiftName, is_blank}
+use Rattle.rwsp_model.specs.Validity.{KeepsLimits, IsShiftName, breaks_name}
 use Rattle.refutation_terms.specs.declared.lines.Line.{Line}
 use Rattle.refutation_terms.specs.Log.{Log, Fits, LineFits}
-use Rattle.refutation_terms.specs.LogText.{raw, fields, line_text, log_text}
+use Rattle.refutation_terms.specs.LogText.{raw, raw_fields, line_text, log_text}
 use Rattle.refutation_terms.specs.TextLaws.{HasNames, IsWritable}
 use Rattle.refutation_terms.proofs.Texts.{lines_fields, line_words, lines_words, lines_longer}
 use Rattle.refutation_terms.proofs.Fronts.{texts_distinct}
@@ -40,16 +40,16 @@ name_there P (suc k) limits le =
     let s : IsShiftName (get_or P.shifts k no_row).name = limits.names k no_row less in
     let named : IsName (get_or P.shifts k no_row).name = record {
       some = s.some;
-      visible = All-weaker (λ b. is_blank b ≡ false) (λ b. (b ≢ 32) × (b ≢ 9) × (b ≢ 13) × (b ≢ 10)) seen (get_or P.shifts k no_row).name s.unbroken;
+      visible = All-weaker (λ b. breaks_name b ≡ false) (λ b. (b ≢ 32) × (b ≢ 9) × (b ≢ 13) × (b ≢ 10)) seen (get_or P.shifts k no_row).name s.unbroken;
     } in
     subst (λ o. IsName (name_in o)) (sym (slice_get-get_or P.shifts k no_row less)) named
   where
-    seen : (b : ℕ) → is_blank b ≡ false → (b ≢ 32) × (b ≢ 9) × (b ≢ 13) × (b ≢ 10)
+    seen : (b : ℕ) → breaks_name b ≡ false → (b ≢ 32) × (b ≢ 9) × (b ≢ 13) × (b ≢ 10)
     seen b h = (
-      λ e. let no : is_blank 32 ≡ false = subst (λ z. is_blank z ≡ false) e h in cc,
-      λ e. let no : is_blank 9 ≡ false = subst (λ z. is_blank z ≡ false) e h in cc,
-      λ e. let no : is_blank 13 ≡ false = subst (λ z. is_blank z ≡ false) e h in cc,
-      λ e. let no : is_blank 10 ≡ false = subst (λ z. is_blank z ≡ false) e h in cc,
+      λ e. let no : breaks_name 32 ≡ false = subst (λ z. breaks_name z ≡ false) e h in cc,
+      λ e. let no : breaks_name 9 ≡ false = subst (λ z. breaks_name z ≡ false) e h in cc,
+      λ e. let no : breaks_name 13 ≡ false = subst (λ z. breaks_name z ≡ false) e h in cc,
+      λ e. let no : breaks_name 10 ≡ false = subst (λ z. breaks_name z ≡ false) e h in cc,
     )
 
 pub has_names : (P : Instance) → KeepsLimits P → HasNames P
@@ -61,13 +61,13 @@ is_writable P limits = LineTexts.is_writable P limits
 -- texts of lines
 
 abbrev pub body : Instance → Line → List ℕ
-body P line = join_with_byte 32 (fields P (raw P line))
+body P line = join_with_byte 32 (raw_fields P (raw P line))
 
 pub feedless_words : (ws : Words) → AreBlankless ws → HasNoFeed (join_with_byte 32 ws)
 feedless_words ws h = join_no_feed ws h
 
 pub body_feedless : (P : Instance) (line : Line) → KeepsLimits P → LineFits P line → HasNoFeed (body P line)
-body_feedless P line limits f = join_no_feed (fields P (raw P line)) (line_words P line (is_writable P limits) (has_names P limits) f).1
+body_feedless P line limits f = join_no_feed (raw_fields P (raw P line)) (line_words P None line (is_writable P limits) (has_names P limits) f).1
 
 written : (P : Instance) (ls : List Line) → lines_text P ls ≡ text_of_lines (lines_fields P ls)
 written P [] = refl
@@ -77,8 +77,8 @@ pub one_list : (P : Instance) (ls ms : List Line) → KeepsLimits P → EachFits
 one_list P ls ms limits f g e =
     let w = is_writable P limits in
     let n = has_names P limits in
-    let words = same_lines (lines_fields P ls) (lines_fields P ms) (lines_words P ls w n f) (lines_words P ms w n g) (sym (written P ls) ∙ e ∙ written P ms) in
-    let longer = lines_longer P ms ls [] w n g f (words ∙ sym (append-nil (lines_fields P ms))) in
+    let words = same_lines (lines_fields P ls) (lines_fields P ms) (lines_words P None ls w n f) (lines_words P None ms w n g) (sym (written P ls) ∙ e ∙ written P ms) in
+    let longer = lines_longer P None ms ls [] w n g f (words ∙ sym (append-nil (lines_fields P ms))) in
     longer.1 ∙ ap (λ z. ms ++ z) (nothing longer.0 longer.2) ∙ append-nil ms
   where
     nothing : (more : List Line) → [] ≡ lines_fields P more → more ≡ []

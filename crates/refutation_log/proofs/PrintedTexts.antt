@@ -8,7 +8,7 @@ use Rattle.std.proofs.lemmas.List.Concat.{flat_map-append}
 use Rattle.rwsp_terms.specs.declared.data.Weight.{Weight}
 use Rattle.rwsp_terms.specs.Instance.{Instance}
 use Rattle.refutation_terms.specs.declared.lines.Line.{Line}
-use Rattle.refutation_terms.specs.LogText.{RawSplit, RawWindow, RawDay, RawDead, RawBound, raw, fields, line_text, place, way, named_weight, rules_text, turn_text}
+use Rattle.refutation_terms.specs.LogText.{RawSplit, RawWindow, RawDay, RawDead, RawBound, RawFree, raw, raw_fields, line_text, place, way, named_weight, rules_text, turn_text}
 use Rattle.rwsp_text.specs.Fields.{numbers, weight_fields}
 use Rattle.refutation_log.specs.Printing.{spaced, lines_text, words_of}
 
@@ -62,25 +62,25 @@ finish a w ws b e = e ∙ ap (λ t. a ++ t) (sym (join_spaced w ws))
 close : (a t b c : List ℕ) → b ≡ a ++ t → c ≡ b ++ 10 ∷ [] → c ≡ a ++ (t ++ 10 ∷ [])
 close a t b c e f = f ∙ ap (λ z. z ++ 10 ∷ []) e ∙ append_assoc a t (10 ∷ [])
 
-pub split_text : (P : Instance) (p : ℕ) (name a b c d : List ℕ) → b ≡ a ++ codes "split" → c ≡ b ++ spaced (place P p) → d ≡ c ++ 32 ∷ name → d ≡ a ++ join_with_byte 32 (fields P (RawSplit p name))
+pub split_text : (P : Instance) (p : ℕ) (name a b c d : List ℕ) → b ≡ a ++ codes "split" → c ≡ b ++ spaced (place P p) → d ≡ c ++ 32 ∷ name → d ≡ a ++ join_with_byte 32 (raw_fields P (RawSplit p name))
 split_text P p name a b c d e f g =
     let w = codes "split" in
     finish a w (place P p ++ (name ∷ [])) d (word a w (place P p) name c d (more a w [] (place P p) b c (begin a w b e) f) g)
 
-pub window_text : (P : Instance) (rule p len : ℕ) (a b c d e : List ℕ) → b ≡ a ++ codes "window" → c ≡ b ++ 32 ∷ decimal rule → d ≡ c ++ spaced (place P p) → e ≡ d ++ 32 ∷ decimal len → e ≡ a ++ join_with_byte 32 (fields P (RawWindow rule p len))
+pub window_text : (P : Instance) (rule p len : ℕ) (a b c d e : List ℕ) → b ≡ a ++ codes "window" → c ≡ b ++ 32 ∷ decimal rule → d ≡ c ++ spaced (place P p) → e ≡ d ++ 32 ∷ decimal len → e ≡ a ++ join_with_byte 32 (raw_fields P (RawWindow rule p len))
 window_text P rule p len a b c d e q r s t =
     let w = codes "window" in
     let ws : List (List ℕ) = decimal rule ∷ [] in
     finish a w (ws ++ place P p ++ (decimal len ∷ [])) e
     (word a w (ws ++ place P p) (decimal len) d e (more a w ws (place P p) c d (word a w [] (decimal rule) b c (begin a w b q) r) s) t)
 
-pub day_text : (P : Instance) (day : ℕ) (name : List ℕ) (over : Bool) (a b c d e : List ℕ) → b ≡ a ++ codes "day" → c ≡ b ++ 32 ∷ decimal day → d ≡ c ++ 32 ∷ name → e ≡ d ++ 32 ∷ way over → e ≡ a ++ join_with_byte 32 (fields P (RawDay day name over))
+pub day_text : (P : Instance) (day : ℕ) (name : List ℕ) (over : Bool) (a b c d e : List ℕ) → b ≡ a ++ codes "day" → c ≡ b ++ 32 ∷ decimal day → d ≡ c ++ 32 ∷ name → e ≡ d ++ 32 ∷ way over → e ≡ a ++ join_with_byte 32 (raw_fields P (RawDay day name over))
 day_text P day name over a b c d e q r s t =
     let w = codes "day" in
     finish a w (decimal day ∷ name ∷ way over ∷ []) e
     (word a w (decimal day ∷ name ∷ []) (way over) d e (word a w (decimal day ∷ []) name c d (word a w [] (decimal day) b c (begin a w b q) r) s) t)
 
-pub dead_text : (P : Instance) (p len : ℕ) (R a b c d e f : List ℕ) → b ≡ a ++ codes "dead" → c ≡ b ++ spaced (place P p) → d ≡ c ++ 32 ∷ decimal len → e ≡ d ++ 32 ∷ codes "rules" → f ≡ e ++ spaced (numbers R) → f ≡ a ++ join_with_byte 32 (fields P (RawDead p len R))
+pub dead_text : (P : Instance) (p len : ℕ) (R a b c d e f : List ℕ) → b ≡ a ++ codes "dead" → c ≡ b ++ spaced (place P p) → d ≡ c ++ 32 ∷ decimal len → e ≡ d ++ 32 ∷ codes "rules" → f ≡ e ++ spaced (numbers R) → f ≡ a ++ join_with_byte 32 (raw_fields P (RawDead p len R))
 dead_text P p len R a b c d e f q r s t u =
     let w = codes "dead" in
     let ws : List (List ℕ) = place P p ++ (decimal len ∷ []) in
@@ -88,7 +88,7 @@ dead_text P p len R a b c d e f q r s t u =
     finish a w (vs ++ numbers R) f
     (more a w vs (numbers R) e f (word a w ws (codes "rules") d e (word a w (place P p) (decimal len) c d (more a w [] (place P p) b c (begin a w b q) r) s) t) u)
 
-pub bound_text : (P : Instance) (p turns : ℕ) (R : List ℕ) (y : List Weight) (a b c d e f g h : List ℕ) → b ≡ a ++ codes "bound" → c ≡ b ++ spaced (place P p) → d ≡ c ++ 32 ∷ decimal turns → e ≡ d ++ 32 ∷ codes "rules" → f ≡ e ++ spaced (numbers R) → g ≡ f ++ 32 ∷ codes "weights" → h ≡ g ++ spaced (words_of P y) → h ≡ a ++ join_with_byte 32 (fields P (RawBound p turns R (map (named_weight P) y)))
+pub bound_text : (P : Instance) (p turns : ℕ) (R : List ℕ) (y : List Weight) (a b c d e f g h : List ℕ) → b ≡ a ++ codes "bound" → c ≡ b ++ spaced (place P p) → d ≡ c ++ 32 ∷ decimal turns → e ≡ d ++ 32 ∷ codes "rules" → f ≡ e ++ spaced (numbers R) → g ≡ f ++ 32 ∷ codes "weights" → h ≡ g ++ spaced (words_of P y) → h ≡ a ++ join_with_byte 32 (raw_fields P (RawBound p turns R (map (named_weight P) y)))
 bound_text P p turns R y a b c d e f g h q r s t u v x =
     let w = codes "bound" in
     let ws : List (List ℕ) = place P p ++ (decimal turns ∷ []) in
@@ -98,6 +98,19 @@ bound_text P p turns R y a b c d e f g h q r s t u v x =
     finish a w (ts ++ words_of P y) h
     (more a w ts (words_of P y) g h
     (word a w us (codes "weights") f g (more a w vs (numbers R) e f (word a w ws (codes "rules") d e (word a w (place P p) (decimal turns) c d (more a w [] (place P p) b c (begin a w b q) r) s) t) u) v)
+    x)
+    ∙ ap (λ t. a ++ join_with_byte 32 (w ∷ t)) (append_assoc us (codes "weights" ∷ []) (words_of P y))
+
+pub free_text : (P : Instance) (turns reward : ℕ) (R : List ℕ) (y : List Weight) (a b c d e f g h : List ℕ) → b ≡ a ++ codes "free" → c ≡ b ++ 32 ∷ decimal turns → d ≡ c ++ 32 ∷ decimal reward → e ≡ d ++ 32 ∷ codes "rules" → f ≡ e ++ spaced (numbers R) → g ≡ f ++ 32 ∷ codes "weights" → h ≡ g ++ spaced (words_of P y) → h ≡ a ++ join_with_byte 32 (raw_fields P (RawFree turns reward R (map (named_weight P) y)))
+free_text P turns reward R y a b c d e f g h q r s t u v x =
+    let w = codes "free" in
+    let ws : List (List ℕ) = decimal turns ∷ decimal reward ∷ [] in
+    let vs : List (List ℕ) = ws ++ (codes "rules" ∷ []) in
+    let us : List (List ℕ) = vs ++ numbers R in
+    let ts : List (List ℕ) = us ++ (codes "weights" ∷ []) in
+    finish a w (ts ++ words_of P y) h
+    (more a w ts (words_of P y) g h
+    (word a w us (codes "weights") f g (more a w vs (numbers R) e f (word a w ws (codes "rules") d e (word a w (decimal turns ∷ []) (decimal reward) c d (word a w [] (decimal turns) b c (begin a w b q) r) s) t) u) v)
     x)
     ∙ ap (λ t. a ++ join_with_byte 32 (w ∷ t)) (append_assoc us (codes "weights" ∷ []) (words_of P y))
 

@@ -13,7 +13,7 @@ use Rattle.rwsp_terms.specs.declared.limits.TheConstants.{GREATEST_WEIGHT}
 use Rattle.refutation_log.specs.declared.gather.Gathered.{Gathered}
 use Rattle.refutation_log.specs.declared.gather.Gathered.TheVariants.{Rising, Falling, Unknown}
 use Rattle.refutation_log.specs.Reading.{weight_at, all_weights_at}
-use Rattle.refutation_log.specs.Gathering.{Gives, GivesAll, IsAdded, weight_of}
+use Rattle.refutation_log.specs.Gathering.{Gives, GivesAll, IsAdded, entry_of}
 use Rattle.rwsp_text.proofs.Words.{same_pairs}
 
 abbrev Left : Type 0
@@ -79,20 +79,20 @@ weight_shortens P ws e rest h = let t = weight_taken P ws e rest h in omega (ari
 
 -- weights with symbols for their names
 
-pub inverted : (a : NamedWeight) (o : Option Symbol) (p : Option (List Weight)) (z : List Weight) → with_weight a o p ≡ Some z → (x : Symbol) × (y : List Weight) × (o ≡ Some x) × (p ≡ Some y) × (z ≡ weight_of a.day x a.value ∷ y)
+pub inverted : (a : NamedWeight) (o : Option Symbol) (p : Option (List Weight)) (z : List Weight) → with_weight a o p ≡ Some z → (x : Symbol) × (y : List Weight) × (o ≡ Some x) × (p ≡ Some y) × (z ≡ entry_of a.day x a.value ∷ y)
 inverted a None p z h = absurd (cc)
 inverted a (Some x) None z h = absurd (cc)
-inverted a (Some x) (Some y) z h = (x, y, refl, refl, let e : weight_of a.day x a.value ∷ y ≡ z = cc in sym e)
+inverted a (Some x) (Some y) z h = (x, y, refl, refl, let e : entry_of a.day x a.value ∷ y ≡ z = cc in sym e)
 
-pub known_behind : (P : Instance) (y : List NamedWeight) (e : NamedWeight) (z : List Weight) (x : Symbol) → weights_of P y ≡ Some z → symbol_of P e.name ≡ Some x → weights_of P (y ++ e ∷ []) ≡ Some (z ++ weight_of e.day x e.value ∷ [])
+pub known_behind : (P : Instance) (y : List NamedWeight) (e : NamedWeight) (z : List Weight) (x : Symbol) → weights_of P y ≡ Some z → symbol_of P e.name ≡ Some x → weights_of P (y ++ e ∷ []) ≡ Some (z ++ entry_of e.day x e.value ∷ [])
 known_behind P [] e z x h s =
     let none : [] ≡ z = cc in
-    ap (λ o. with_weight e o (Some [])) s ∙ ap (λ w. Some (w ++ weight_of e.day x e.value ∷ [])) none
+    ap (λ o. with_weight e o (Some [])) s ∙ ap (λ w. Some (w ++ entry_of e.day x e.value ∷ [])) none
 known_behind P (a ∷ y) e z x h s =
     let i = inverted a (symbol_of P a.name) (weights_of P y) z h in
     ap (λ o. with_weight a o (weights_of P (y ++ e ∷ []))) i.2
     ∙ ap (λ p. with_weight a (Some i.0) p) (known_behind P y e i.1 x i.3 s)
-    ∙ ap (λ w. Some (w ++ weight_of e.day x e.value ∷ [])) (sym i.4)
+    ∙ ap (λ w. Some (w ++ entry_of e.day x e.value ∷ [])) (sym i.4)
 
 no_rest : (a : NamedWeight) (o : Option Symbol) → with_weight a o None ≡ None
 no_rest a None = refl
@@ -121,9 +121,9 @@ gives_more_by : (P : Instance) (y : List NamedWeight) (e : NamedWeight) (s : Gat
 gives_more_by P y e s None new g t h = subst (Gives P (y ++ e ∷ [])) (sym h) (unknown_last P y e t)
 gives_more_by P y e Unknown (Some x) new g t h = subst (Gives P (y ++ e ∷ [])) (sym h) (unknown_front P y e g)
 gives_more_by P y e Falling (Some x) new g t h =
-    subst (Gives P (y ++ e ∷ [])) (sym h) (g.0 ++ weight_of e.day x e.value ∷ [], known_behind P y e g.0 x g.1 t, λ pairs. g.2 (front_pairs g.0 (weight_of e.day x e.value) pairs))
+    subst (Gives P (y ++ e ∷ [])) (sym h) (g.0 ++ entry_of e.day x e.value ∷ [], known_behind P y e g.0 x g.1 t, λ pairs. g.2 (front_pairs g.0 (entry_of e.day x e.value) pairs))
 gives_more_by P y e (Rising z) (Some x) (Rising w) g t h = (known_behind P y e z x g.0 t ∙ ap (λ u. Some u) (sym h.0), h.1)
-gives_more_by P y e (Rising z) (Some x) Falling g t h = (z ++ weight_of e.day x e.value ∷ [], known_behind P y e z x g.0 t, h)
+gives_more_by P y e (Rising z) (Some x) Falling g t h = (z ++ entry_of e.day x e.value ∷ [], known_behind P y e z x g.0 t, h)
 gives_more_by P y e (Rising z) (Some x) Unknown g t h = absurd h
 
 pub gives_more : (P : Instance) (y : List NamedWeight) (e : NamedWeight) (s new : Gathered) → Gives P y s → IsAdded s (symbol_of P e.name) e.day e.value new → Gives P (y ++ e ∷ []) new

@@ -35,12 +35,12 @@ GivesAll P (Some y) None = ⊥
 GivesAll P (Some y) (Some s) = Gives P y s
 
 -- what a symbol weighs on a day
-abbrev pub weight_of : ℕ → Symbol → ℤ → Weight
-weight_of j x v = record { day = j; symbol = x; value = v }
+abbrev pub entry_of : ℕ → Symbol → ℤ → Weight
+entry_of j x v = record { day = j; symbol = x; value = v }
 
 -- the weights with this one behind them
 abbrev pub with_last : List Weight → ℕ → Symbol → ℤ → List Weight
-with_last z j x v = z ++ weight_of j x v ∷ []
+with_last z j x v = z ++ entry_of j x v ∷ []
 
 -- what is gathered with one weight more, of a known symbol or not
 abbrev pub IsAdded : Gathered → Option Symbol → ℕ → ℤ → Gathered → Type 0

@@ -1,5 +1,5 @@
 -- Why a text is refused by reading alone: its lines are spelled, its names known, and it is one whole tree. What the lines say isn't looked at.
-use Rattle.std.specs.Prelude.{◌≡◌, ℕ, ◌+◌, ◌-◌, ◌<◌, List, ◌++◌, length, take, Option}
+use Rattle.std.specs.Prelude.{◌≡◌, ℕ, ◌+◌, ◌-◌, ◌<◌, List, ◌++◌, length, take, Option, None}
 use Rattle.rwsp_terms.specs.Instance.{Instance}
 use Rattle.refutation_terms.specs.declared.lines.Line.{Line}
 use Rattle.refutation_terms.specs.declared.lines.Line.TheVariants.{Split}
@@ -76,6 +76,6 @@ abbrev pub open_after : ℕ → Line → ℕ
 open_after n (Split p x) = n + 1
 open_after n leaf = n - 1
 
--- the log of these rules, this turn and these lines
+-- the log of these rules, this turn and these lines, without a goal
 abbrev pub log_with : List ℕ → Option Turn → List Line → Log
-log_with named turn lines = record { named = named; turn = turn; lines = lines }
+log_with named turn lines = record { named = named; turn = turn; goal = None; lines = lines }

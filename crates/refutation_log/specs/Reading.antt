@@ -64,16 +64,16 @@ raw_at P (w ∷ ws) =
     (cond (bytes_eq w (codes "open")) (done_at RawUnfinished ws) None)))))
 
 -- the answer to a line that was read so: the line, or why it is refused
-abbrev pub IsAnswer : Instance → Option RawLine → Result Line LineRefusal → Type 0
-IsAnswer P None (Ok line) = ⊥
-IsAnswer P None (Err Form) = Unit {0}
-IsAnswer P None (Err Name) = ⊥
-IsAnswer P (Some raw) (Ok line) = (line_of P raw ≡ Some line) × Ascends line
-IsAnswer P (Some raw) (Err Form) = (line : Line) × (line_of P raw ≡ Some line) × (Ascends line → ⊥)
-IsAnswer P (Some raw) (Err Name) = line_of P raw ≡ None
+abbrev pub IsLineAnswer : Instance → Option RawLine → Result Line LineRefusal → Type 0
+IsLineAnswer P None (Ok line) = ⊥
+IsLineAnswer P None (Err Form) = Unit {0}
+IsLineAnswer P None (Err Name) = ⊥
+IsLineAnswer P (Some raw) (Ok line) = (line_of P raw ≡ Some line) × Ascends line
+IsLineAnswer P (Some raw) (Err Form) = (line : Line) × (line_of P raw ≡ Some line) × (Ascends line → ⊥)
+IsLineAnswer P (Some raw) (Err Name) = line_of P raw ≡ None
 
 -- the same where memory may run out
 abbrev pub Answers : Instance → Option RawLine → Result Line (Fail LineRefusal) → Type 0
-Answers P read (Ok line) = IsAnswer P read (Ok line)
+Answers P read (Ok line) = IsLineAnswer P read (Ok line)
 Answers P read (Err Memory) = Unit {0}
-Answers P read (Err (Refused why)) = IsAnswer P read (Err why)
+Answers P read (Err (Refused why)) = IsLineAnswer P read (Err why)

@@ -27,11 +27,16 @@ fn put_line_cited(rules: &mut RuleList, problem: &Problem, line: &Line) -> Resul
     ensures err { OnErr result (AddsSome rules.old rules.new (IsCited problem.now (Cites problem.now line.now))) }
 {
     match line {
-        Line::Split { .. } | Line::Unfinished => Ok(()),
+        Line::Split { .. } | Line::Few | Line::Unfinished => Ok(()),
         Line::Window { rule, .. } => rules.put(*rule),
         Line::Day { day, .. } => put_day_rule(rules, problem, *day),
         Line::Dead { rules: cited, .. } => put_all(rules, cited),
         Line::Bound {
+            rules: cited,
+            weights,
+            ..
+        } => put_cited_of_bound(rules, problem, cited, weights),
+        Line::Free {
             rules: cited,
             weights,
             ..

@@ -119,7 +119,7 @@ fn turn_line(
         (λ t. TurnFits problem.now (Some t) × (reader.old ≡ turn_text (name_of problem.now t.x) t.day ++ reader.new))
         (IsHeaderRefused problem.now (version_text true ++ rules_text named.now ++ reader.old)) }
 {
-    problem.keeps_limits();
+    problem.prove_limits();
     let Some(bytes) = reader.next() else {
         return Err(LogRefusal::Ends);
     };
@@ -151,7 +151,7 @@ fn read_rules(
 ) -> Result<Option<RuleList>, AllocError>
     ensures { IfOk result (SpellsRules problem.now bytes.now) }
 {
-    problem.keeps_limits();
+    problem.prove_limits();
     match body_of(bytes) {
         None => Ok(None),
         Some(body) => rules_of(alloc, problem, body),
@@ -178,7 +178,7 @@ fn rules_of(alloc: Global, problem: &Problem, body: &[u8]) -> Result<Option<Rule
 fn read_turn(problem: &Problem, bytes: &[u8]) -> Result<Turn, LineRefusal>
     ensures { MatchResult result (λ t. TurnsTo problem.now bytes.now t.day t.x) (IsTurnRefused problem.now bytes.now) }
 {
-    problem.keeps_limits();
+    problem.prove_limits();
     let Some(body) = body_of(bytes) else {
         return Err(LineRefusal::Form);
     };

@@ -31,7 +31,7 @@ const NAME: Fail<LineRefusal> = Fail::Refused(LineRefusal::Name);
 pub fn read_line(alloc: Global, problem: &Problem, bytes: &[u8]) -> Result<Line, Fail<LineRefusal>>
     ensures { MatchAnswer result (Spells problem.now bytes.now) (IsLineRefused problem.now bytes.now) }
 {
-    problem.keeps_limits();
+    problem.prove_limits();
     match body_of(bytes) {
         None => Err(FORM),
         Some(body) => read_body(alloc, problem, body),
@@ -264,7 +264,7 @@ fn read_bound(
 fn most_turns(problem: &Problem) -> u32
     ensures { result ≡ most_turns problem.now }
 {
-    problem.keeps_limits();
+    problem.prove_limits();
     LONGEST_WORD / problem.cells()
 }
 

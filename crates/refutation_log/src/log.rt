@@ -1,5 +1,5 @@
 // Logs, and copies of them.
-ghost use Rattle.std.specs.Prelude.{◌≡◌, ◌≤◌, length, Option, IfOk};
+ghost use Rattle.std.specs.Prelude.{◌≡◌, ◌≤◌, length, Option, Some, None, IfOk};
 ghost use Rattle.refutation_terms.specs.Tree.{IsTree};
 
 use refutation_terms::{Line, Turn};
@@ -7,11 +7,13 @@ use rwsp_terms::RuleList;
 use std::alloc::{AllocError, Global};
 use std::marker::Model;
 
-/// The rules that a refutation names, its turn if it has one, and its lines, which are one whole tree.
+/// The rules that a refutation names, its turn if it has one, its goal if it has one, and its lines, which are one
+/// whole tree. A log with a goal says that no roster has so many free weekends.
 #[derive(Debug, Drop)]
 pub struct Log {
     named: RuleList,
     turn: Option<Turn>,
+    goal: Option<u32>,
     lines: Vec<Line>,
 }
 
@@ -22,7 +24,7 @@ impl Model for Log {
 
     ghost Value = { LogValue };
 
-    ghost view = { λ g. record { named = g.named; turn = g.turn; lines = g.lines.items } };
+    ghost view = { λ g. record { named = g.named; turn = g.turn; goal = g.goal; lines = g.lines.items } };
 
     ghost invariant = { λ g. (after_trees 1 g.lines.items ≡ Some []) × (length g.lines.items ≤ 4000000000) };
 }
@@ -30,15 +32,38 @@ impl Model for Log {
 impl Log {
     ghost use Rattle.refutation_terms.specs.Log.{Log as LogValue};
 
-    /// The log of these rules, this turn and these lines.
+    /// The log of these rules, this turn and these lines, without a goal.
     pub fn of(named: RuleList, turn: Option<Turn>, lines: Vec<Line>) -> Log
         requires tree { IsTree lines.items }
         requires few { length lines.items ≤ 4000000000 }
         ensures named { result.named ≡ named }
         ensures turn { result.turn ≡ turn }
+        ensures goal { result.goal ≡ None }
         ensures lines { result.lines ≡ lines.items }
     {
-        Log { named, turn, lines }
+        Log {
+            named,
+            turn,
+            goal: None,
+            lines,
+        }
+    }
+
+    /// The free log of these rules, this goal and these lines. It has no turn.
+    pub fn with_goal(named: RuleList, goal: u32, lines: Vec<Line>) -> Log
+        requires tree { IsTree lines.items }
+        requires few { length lines.items ≤ 4000000000 }
+        ensures named { result.named ≡ named }
+        ensures turn { result.turn ≡ None }
+        ensures goal { result.goal ≡ Some goal }
+        ensures lines { result.lines ≡ lines.items }
+    {
+        Log {
+            named,
+            turn: None,
+            goal: Some(goal),
+            lines,
+        }
     }
 
     /// The rules that it names.
@@ -55,6 +80,13 @@ impl Log {
         self.turn
     }
 
+    /// How many free weekends it says that no roster has, if it is a free log.
+    pub fn goal(&self) -> Option<u32>
+        ensures { result ≡ self.now.goal }
+    {
+        self.goal
+    }
+
     /// The lines, which are one whole tree: a split before its sides.
     pub fn lines(&self) -> &[Line]
         ensures value { result.now ≡ self.now.lines }
@@ -62,6 +94,16 @@ impl Log {
         ensures few { length result.now ≤ 4000000000 }
     {
         &self.lines
+    }
+
+    /// Its rules, its turn and its lines, by themselves.
+    pub fn into_parts(self) -> (RuleList, Option<Turn>, Vec<Line>)
+        ensures named { result.0 ≡ self.named }
+        ensures turn { result.1 ≡ self.turn }
+        ensures lines { result.2.items ≡ self.lines }
+        ensures few { length result.2.items ≤ 4000000000 }
+    {
+        (self.named, self.turn, self.lines)
     }
 
     /// The same log once more.
@@ -73,6 +115,7 @@ impl Log {
         Ok(Log {
             named,
             turn: self.turn,
+            goal: self.goal,
             lines,
         })
     }
@@ -113,6 +156,22 @@ pub fn copy_line(line: &Line) -> Result<Line, AllocError>
             Ok(Line::Bound {
                 p: *p,
                 turns: *turns,
+                rules,
+                weights,
+            })
+        }
+        Line::Few => Ok(Line::Few),
+        Line::Free {
+            turns,
+            reward,
+            rules,
+            weights,
+        } => {
+            let rules = rules.copy()?;
+            let weights = weights.copy()?;
+            Ok(Line::Free {
+                turns: *turns,
+                reward: *reward,
                 rules,
                 weights,
             })

@@ -7,7 +7,7 @@ ghost use Rattle.rwsp_terms.specs.declared.data.Symbol.{Symbol};
 ghost use Rattle.rwsp_terms.specs.declared.data.Weight.{Weight};
 ghost use Rattle.refutation_terms.specs.declared.lines.Line.{Line};
 ghost use Rattle.refutation_terms.specs.Log.{Fits, LineFits, TurnFits, WeightsFit};
-ghost use Rattle.refutation_terms.specs.LogText.{RawSplit, RawWindow, RawDay, RawDead, RawBound, raw, fields, line_text, log_text, header_text, rules_text, turn_text, place, named_weight, way};
+ghost use Rattle.refutation_terms.specs.LogText.{RawSplit, RawWindow, RawDay, RawDead, RawBound, RawFree, raw, raw_fields, line_text, log_text, header_text, rules_text, turn_text, place, named_weight, way};
 ghost use Rattle.rwsp_text.specs.Fields.{numbers, weight_fields};
 ghost use Rattle.refutation_log.specs.Printing.{spaced, lines_text, words_of};
 
@@ -97,7 +97,7 @@ fn put_turn(out: &mut Vec<u8>, problem: &Problem, turn: Turn) -> Result<(), Allo
 // The fields of a line, with a blank between each two.
 fn put_fields(out: &mut Vec<u8>, problem: &Problem, line: &Line) -> Result<(), AllocError>
     requires { LineFits problem.now line.now }
-    ensures { OnOk result (out.new.items ≡ out.old.items ++ join_with_byte 32 (fields problem.now (raw problem.now line.now))) }
+    ensures { OnOk result (out.new.items ≡ out.old.items ++ join_with_byte 32 (raw_fields problem.now (raw problem.now line.now))) }
 {
     match line {
         Line::Split { p, x } => put_split(out, problem, *p, *x),
@@ -110,6 +110,20 @@ fn put_fields(out: &mut Vec<u8>, problem: &Problem, line: &Line) -> Result<(), A
             rules,
             weights,
         } => put_bound(out, problem, *p, *turns, rules.numbers(), weights.entries()),
+        Line::Few => out.extend_from_slice(b"few"),
+        Line::Free {
+            turns,
+            reward,
+            rules,
+            weights,
+        } => put_free(
+            out,
+            problem,
+            *turns,
+            *reward,
+            rules.numbers(),
+            weights.entries(),
+        ),
         Line::Unfinished => out.extend_from_slice(b"open"),
     }
 }
@@ -118,7 +132,7 @@ fn put_fields(out: &mut Vec<u8>, problem: &Problem, line: &Line) -> Result<(), A
 fn put_split(out: &mut Vec<u8>, problem: &Problem, p: u32, x: Symbol) -> Result<(), AllocError>
     requires place { p < cells problem.now }
     requires symbol { IsSymbol problem.now x }
-    ensures { OnOk result (out.new.items ≡ out.old.items ++ join_with_byte 32 (fields problem.now (RawSplit p (name_of problem.now x)))) }
+    ensures { OnOk result (out.new.items ≡ out.old.items ++ join_with_byte 32 (raw_fields problem.now (RawSplit p (name_of problem.now x)))) }
 {
     out.extend_from_slice(b"split")?;
     put_place(out, problem, p)?;
@@ -134,7 +148,7 @@ fn put_window(
     len: u32,
 ) -> Result<(), AllocError>
     requires { p < cells problem.now }
-    ensures { OnOk result (out.new.items ≡ out.old.items ++ join_with_byte 32 (fields problem.now (RawWindow rule p len))) }
+    ensures { OnOk result (out.new.items ≡ out.old.items ++ join_with_byte 32 (raw_fields problem.now (RawWindow rule p len))) }
 {
     out.extend_from_slice(b"window")?;
     put_count(out, rule)?;
@@ -151,7 +165,7 @@ fn put_day(
     over: bool,
 ) -> Result<(), AllocError>
     requires { IsSymbol problem.now x }
-    ensures { OnOk result (out.new.items ≡ out.old.items ++ join_with_byte 32 (fields problem.now (RawDay day (name_of problem.now x) over))) }
+    ensures { OnOk result (out.new.items ≡ out.old.items ++ join_with_byte 32 (raw_fields problem.now (RawDay day (name_of problem.now x) over))) }
 {
     out.extend_from_slice(b"day")?;
     put_count(out, day)?;
@@ -168,7 +182,7 @@ fn put_dead(
     rules: &[u32],
 ) -> Result<(), AllocError>
     requires { p < cells problem.now }
-    ensures { OnOk result (out.new.items ≡ out.old.items ++ join_with_byte 32 (fields problem.now (RawDead p len rules.now))) }
+    ensures { OnOk result (out.new.items ≡ out.old.items ++ join_with_byte 32 (raw_fields problem.now (RawDead p len rules.now))) }
 {
     out.extend_from_slice(b"dead")?;
     put_place(out, problem, p)?;
@@ -188,11 +202,32 @@ fn put_bound(
 ) -> Result<(), AllocError>
     requires place { p < cells problem.now }
     requires symbols { WeightsFit problem.now weights.now }
-    ensures { OnOk result (out.new.items ≡ out.old.items ++ join_with_byte 32 (fields problem.now (RawBound p turns rules.now (map (named_weight problem.now) weights.now)))) }
+    ensures { OnOk result (out.new.items ≡ out.old.items ++ join_with_byte 32 (raw_fields problem.now (RawBound p turns rules.now (map (named_weight problem.now) weights.now)))) }
 {
     out.extend_from_slice(b"bound")?;
     put_place(out, problem, p)?;
     put_count(out, turns)?;
+    put_word(out, b"rules")?;
+    put_numbers(out, rules)?;
+    put_word(out, b"weights")?;
+    put_weights(out, problem, weights)
+}
+
+#[tactic(auto, using(crate::proofs::PrintedTexts::free_text))]
+fn put_free(
+    out: &mut Vec<u8>,
+    problem: &Problem,
+    turns: u32,
+    reward: u32,
+    rules: &[u32],
+    weights: &[Weight],
+) -> Result<(), AllocError>
+    requires { WeightsFit problem.now weights.now }
+    ensures { OnOk result (out.new.items ≡ out.old.items ++ join_with_byte 32 (raw_fields problem.now (RawFree turns reward rules.now (map (named_weight problem.now) weights.now)))) }
+{
+    out.extend_from_slice(b"free")?;
+    put_count(out, turns)?;
+    put_count(out, reward)?;
     put_word(out, b"rules")?;
     put_numbers(out, rules)?;
     put_word(out, b"weights")?;
@@ -229,7 +264,7 @@ fn put_place(out: &mut Vec<u8>, problem: &Problem, p: u32) -> Result<(), AllocEr
     requires { p < cells problem.now }
     ensures { OnOk result (out.new.items ≡ out.old.items ++ spaced (place problem.now p)) }
 {
-    problem.keeps_limits();
+    problem.prove_limits();
     let days = problem.days();
     put_count(out, p / days + 1)?;
     put_count(out, p % days + 1)

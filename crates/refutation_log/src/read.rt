@@ -58,7 +58,7 @@ fn read_lines(
         × (length v.items ≤ LONGEST_LOG))
         (IsUnread problem.now (header_text problem.now header.now.named header.now.turn ++ reader.old)) }
 {
-    problem.keeps_limits();
+    problem.prove_limits();
     let first = lines_of_header(header.turn) + 1;
     let mut lines = Vec::new(alloc);
     let mut count: u64 = 1;

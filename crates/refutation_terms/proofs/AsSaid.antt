@@ -3,7 +3,7 @@ use Rattle.std.proofs.Common.{◌≡◌, ◌≢◌, ◌⊎◌, ℕ, List, [], �
 use Rattle.std.proofs.lemmas.Bool.{eqb-true, eq-eqb, eqb-false, ne_eqb}
 use Rattle.rwsp_terms.specs.declared.data.Symbol.{Symbol}
 use Rattle.refutation_terms.specs.declared.lines.Line.{Line}
-use Rattle.refutation_terms.specs.declared.lines.Line.TheVariants.{Split, Window, Day, Dead, Bound, Unfinished}
+use Rattle.refutation_terms.specs.declared.lines.Line.TheVariants.{Split}
 use Rattle.refutation_terms.specs.Tree.{Tree, Leaf, Node, lines_in, IsTree, after_trees, Side, First, Second, Neither, side, side_of, InFirst, InSecond, side_takes, line_leaves, lines_leave, opening}
 use Rattle.refutation_terms.specs.Laws.{IsOneLeaf, IsSplitWithTrees, TreesAreAsSaid, WalksReadTrees, SidesAreAsSaid, DomainsAreAsSaid}
 use Rattle.refutation_terms.proofs.Tests.{both, left_of, right_of, where_passed, passed_there, not_passed, failed_by_not}
@@ -89,11 +89,7 @@ leaves-splits lines p z h (line ∷ before) between x e =
 line_takes : (line : Line) (later : List Line) (p z : ℕ) → SplitsTake (line ∷ later) p z → IsTrue (line_leaves line (side later) p z)
 line_takes (Split q x) later p z h =
     where_passed (q == p) (side_takes (side later) (z == x.number)) (λ e. h [] later x (ap (λ r. Split r x ∷ later) (eqb-true q p e)))
-line_takes (Window r q len) later p z h = refl
-line_takes (Day j x over) later p z h = refl
-line_takes (Dead q len R) later p z h = refl
-line_takes (Bound q turns R y) later p z h = refl
-line_takes Unfinished later p z h = refl
+line_takes leaf later p z h = refl
 
 splits-leave : (lines : List Line) (p z : ℕ) → SplitsTake lines p z → IsTrue (lines_leave lines p z)
 splits-leave [] p z h = refl

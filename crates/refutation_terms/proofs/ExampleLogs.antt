@@ -31,6 +31,8 @@ split_fits : Fits three_of_six split_log
 split_fits = record {
   named = are_rules three_of_six split_log.named refl refl;
   turn = tt;
+  is_goal = refl;
+  goal_fits = tt;
   lines = each_at (λ k line. LineFits three_of_six line) split_log.lines
       ((lit< tt, lit≤ tt), ((lit< tt, (lit< tt, lit≤ tt), are_rules three_of_six (1 ∷ 2 ∷ 3 ∷ 4 ∷ []) refl refl), ((lit< tt, (lit< tt, lit≤ tt), are_rules three_of_six (1 ∷ 2 ∷ 3 ∷ 4 ∷ []) refl refl), tt)));
 }
@@ -68,6 +70,8 @@ turn_log_passes = record {
     fits = record {
       named = are_rules three_of_six turn_log.named refl refl;
       turn = ((lit< tt, lit≤ tt), lit≤ tt);
+      is_goal = refl;
+      goal_fits = tt;
       lines = each_at (λ k line. LineFits three_of_six line) turn_log.lines ((lit< tt, (lit< tt, lit≤ tt), are_rules three_of_six (1 ∷ 2 ∷ 3 ∷ 4 ∷ []) refl refl), tt);
     };
     turn = le_z_yes tt;
@@ -100,6 +104,8 @@ two_in_a_row_log_passes = record {
     fits = record {
       named = are_rules two_in_a_row two_in_a_row_log.named refl refl;
       turn = tt;
+      is_goal = refl;
+      goal_fits = tt;
       lines = each_at (λ k line. LineFits two_in_a_row line) two_in_a_row_log.lines (
         (
           lit< tt,
@@ -140,6 +146,8 @@ two_of_four_log_passes =
         fits = record {
           named = are_rules two_of_four (1 ∷ 3 ∷ 4 ∷ 7 ∷ []) refl refl;
           turn = tt;
+          is_goal = refl;
+          goal_fits = tt;
           lines = each_at (λ k line. LineFits two_of_four line) g.lines (
             (
               lit< tt,
@@ -194,6 +202,8 @@ one_cell_log_passes = record {
     fits = record {
       named = are_rules one_cell one_cell_log.named refl refl;
       turn = tt;
+      is_goal = refl;
+      goal_fits = tt;
       lines = each_at (λ k line. LineFits one_cell line) one_cell_log.lines
           ((lit< tt, lit≤ tt), ((lit< tt, lit≤ tt, lit< tt, (lit< tt, lit≤ tt)), ((lit< tt, lit≤ tt, lit< tt, (lit< tt, lit≤ tt)), tt)));
     };

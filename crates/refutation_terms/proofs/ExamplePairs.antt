@@ -25,6 +25,8 @@ pairs_log_passes = record {
     fits = record {
       named = are_rules unmixed pairs_log.named refl refl;
       turn = tt;
+      is_goal = refl;
+      goal_fits = tt;
       lines = each_at (λ k line. LineFits unmixed line) pairs_log.lines
           ((lit< tt, lit≤ tt), ((lit< tt, lit≤ tt), (((lit< tt, lit≤ tt), lit≤ tt), ((lit< tt, lit≤ tt, lit< tt, (lit< tt, lit≤ tt)), ((lit< tt, lit≤ tt), ((lit< tt, lit≤ tt, lit< tt, (lit< tt, lit≤ tt)), (((lit< tt, lit≤ tt), lit≤ tt), tt)))))));
     };
@@ -68,6 +70,8 @@ triple_log_passes = record {
     fits = record {
       named = are_rules unmixed triple_log.named refl refl;
       turn = ((lit< tt, lit≤ tt), lit≤ tt);
+      is_goal = refl;
+      goal_fits = tt;
       lines = each_at (λ k line. LineFits unmixed line) triple_log.lines ((lit< tt, (lit< tt, lit≤ tt), are_rules unmixed (7 ∷ 9 ∷ []) refl refl), tt);
     };
     turn = le_z_yes tt;

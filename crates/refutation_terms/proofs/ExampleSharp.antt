@@ -13,7 +13,7 @@ use Rattle.refutation_terms.specs.Word.{full}
 use Rattle.refutation_terms.specs.Log.{IsSpent, HoldsAt, AreWeightsOf, LineFits, Cites, ListsShortOnly}
 use Rattle.refutation_terms.specs.Escape.{IsLeastHeaviest}
 use Rattle.refutation_terms.specs.Sharp.{IsDemanded, IsFirstTurn, IsUndecided, IsSharp, IsSearched, step}
-use Rattle.refutation_terms.specs.Examples.{three_of_six, turn_log, open_log, two_in_a_row, shift_D, blocks_dead, short_rules, searched_weights, weight_of, from_to}
+use Rattle.refutation_terms.specs.Examples.{three_of_six, turn_log, open_log, two_in_a_row, shift_D, blocks_dead, short_rules, searched_weights, weight_on, from_to}
 use Rattle.refutation_terms.proofs.Lists.{each_at, are_rules, pairs_of_two}
 use Rattle.refutation_terms.proofs.ExampleShort.{block_rules_are_short}
 use Rattle.refutation_terms.proofs.Words.{AreSmall, is_clean, least_heaviest}
@@ -62,6 +62,8 @@ open_log_is_spent = record {
     fits = record {
       named = are_rules three_of_six [] refl refl;
       turn = tt;
+      is_goal = refl;
+      goal_fits = tt;
       lines = each_at (λ k line. LineFits three_of_six line) open_log.lines ((lit< tt, lit≤ tt), (tt, (tt, tt)));
     };
     turn = tt;
@@ -83,8 +85,8 @@ first_word : IsLeastHeaviest two_in_a_row (full two_in_a_row) 0 (cells two_in_a_
 first_word = least_heaviest two_in_a_row (full two_in_a_row) 0 (cells two_in_a_row) short_rules [] (symbol_numbered 0 ∷ symbol_numbered 1 ∷ []) full_small
     (record { long = refl; over = (refl, (refl, tt)); clean = is_clean two_in_a_row short_rules (symbol_numbered 0 ∷ symbol_numbered 1 ∷ []) refl refl refl }) refl refl
 
-second_word : IsLeastHeaviest two_in_a_row (full two_in_a_row) 0 (cells two_in_a_row) short_rules (weight_of 1 0 (negsuc 0) ∷ weight_of 1 1 (pos 1) ∷ []) (symbol_numbered 1 ∷ symbol_numbered 0 ∷ [])
-second_word = least_heaviest two_in_a_row (full two_in_a_row) 0 (cells two_in_a_row) short_rules (weight_of 1 0 (negsuc 0) ∷ weight_of 1 1 (pos 1) ∷ []) (symbol_numbered 1 ∷ symbol_numbered 0 ∷ []) full_small
+second_word : IsLeastHeaviest two_in_a_row (full two_in_a_row) 0 (cells two_in_a_row) short_rules (weight_on 1 0 (negsuc 0) ∷ weight_on 1 1 (pos 1) ∷ []) (symbol_numbered 1 ∷ symbol_numbered 0 ∷ [])
+second_word = least_heaviest two_in_a_row (full two_in_a_row) 0 (cells two_in_a_row) short_rules (weight_on 1 0 (negsuc 0) ∷ weight_on 1 1 (pos 1) ∷ []) (symbol_numbered 1 ∷ symbol_numbered 0 ∷ []) full_small
     (record { long = refl; over = (refl, (refl, tt)); clean = is_clean two_in_a_row short_rules (symbol_numbered 1 ∷ symbol_numbered 0 ∷ []) refl refl refl }) refl refl
 
 -- days 1 and 2, symbols 0 and 1
@@ -98,22 +100,22 @@ each_value Q a b c d (suc (suc zero)) (suc zero) day le = d
 each_value Q a b c d (suc (suc zero)) (suc (suc x)) day le = absurd (omega (arith, le))
 each_value Q a b c d (suc (suc (suc j))) x day le = let h : suc (suc (suc j)) ≤ 2 = day.1 in absurd (omega (arith, h))
 
-one_up : (j x : ℕ) → IsWeight (weight_of j x (pos 1))
+one_up : (j x : ℕ) → IsWeight (weight_on j x (pos 1))
 one_up j x = (le_z_yes tt, le_z_yes tt, λ e. cc)
 
-one_down : (j x : ℕ) → IsWeight (weight_of j x (negsuc 0))
+one_down : (j x : ℕ) → IsWeight (weight_on j x (negsuc 0))
 one_down j x = (le_z_yes tt, le_z_yes tt, λ e. cc)
 
 abbrev OnDays : Weight → Type 0
 OnDays e = IsDay two_in_a_row e.day × IsSymbol two_in_a_row e.symbol
 
-round_one_weights : AreWeightsOf two_in_a_row (weight_of 1 0 (negsuc 0) ∷ weight_of 1 1 (pos 1) ∷ [])
+round_one_weights : AreWeightsOf two_in_a_row (weight_on 1 0 (negsuc 0) ∷ weight_on 1 1 (pos 1) ∷ [])
 round_one_weights = (
   record {
-    ascends = pairs_of_two ComesBefore (weight_of 1 0 (negsuc 0)) (weight_of 1 1 (pos 1)) (inr (refl, lit< tt));
-    small = all_from IsWeight (weight_of 1 0 (negsuc 0) ∷ weight_of 1 1 (pos 1) ∷ []) (one_down 1 0, (one_up 1 1, tt));
+    ascends = pairs_of_two ComesBefore (weight_on 1 0 (negsuc 0)) (weight_on 1 1 (pos 1)) (inr (refl, lit< tt));
+    small = all_from IsWeight (weight_on 1 0 (negsuc 0) ∷ weight_on 1 1 (pos 1) ∷ []) (one_down 1 0, (one_up 1 1, tt));
   },
-  all_from OnDays (weight_of 1 0 (negsuc 0) ∷ weight_of 1 1 (pos 1) ∷ []) (((lit< tt, lit≤ tt), lit≤ tt), (((lit< tt, lit≤ tt), lit≤ tt), tt)),
+  all_from OnDays (weight_on 1 0 (negsuc 0) ∷ weight_on 1 1 (pos 1) ∷ []) (((lit< tt, lit≤ tt), lit≤ tt), (((lit< tt, lit≤ tt), lit≤ tt), tt)),
 )
 
 four_ascend : (i j : ℕ) (d : Weight) → i < j → j < 4 → ComesBefore (get_or searched_weights i d) (get_or searched_weights j d)
@@ -143,7 +145,7 @@ searched_are_weights = (
 
 pub two_rounds : IsSearched two_in_a_row (full two_in_a_row) short_rules 2 searched_weights
 two_rounds = (
-  weight_of 1 0 (negsuc 0) ∷ weight_of 1 1 (pos 1) ∷ [],
+  weight_on 1 0 (negsuc 0) ∷ weight_on 1 1 (pos 1) ∷ [],
   (
     [],
     refl,
@@ -152,7 +154,7 @@ two_rounds = (
       is_heaviest = first_word;
       stepped = record {
         are_weights = round_one_weights;
-        values = each_value (λ j x. weight_at (weight_of 1 0 (negsuc 0) ∷ weight_of 1 1 (pos 1) ∷ []) j x ≡ step two_in_a_row [] (symbol_numbered 0 ∷ symbol_numbered 1 ∷ []) j x) refl refl refl refl;
+        values = each_value (λ j x. weight_at (weight_on 1 0 (negsuc 0) ∷ weight_on 1 1 (pos 1) ∷ []) j x ≡ step two_in_a_row [] (symbol_numbered 0 ∷ symbol_numbered 1 ∷ []) j x) refl refl refl refl;
       };
     },
   ),
@@ -161,7 +163,7 @@ two_rounds = (
     is_heaviest = second_word;
     stepped = record {
       are_weights = searched_are_weights;
-      values = each_value (λ j x. weight_at searched_weights j x ≡ step two_in_a_row (weight_of 1 0 (negsuc 0) ∷ weight_of 1 1 (pos 1) ∷ []) (symbol_numbered 1 ∷ symbol_numbered 0 ∷ []) j x) refl refl refl refl;
+      values = each_value (λ j x. weight_at searched_weights j x ≡ step two_in_a_row (weight_on 1 0 (negsuc 0) ∷ weight_on 1 1 (pos 1) ∷ []) (symbol_numbered 1 ∷ symbol_numbered 0 ∷ []) j x) refl refl refl refl;
     };
   },
 )

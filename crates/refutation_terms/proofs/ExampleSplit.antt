@@ -225,6 +225,8 @@ odd_log_passes = record {
     fits = record {
       named = are_rules odd_cycle odd_log.named refl refl;
       turn = tt;
+      is_goal = refl;
+      goal_fits = tt;
       lines = each_at (λ k line. LineFits odd_cycle line) odd_log.lines
           ((lit< tt, lit≤ tt), ((lit< tt, (lit< tt, lit≤ tt), are_rules odd_cycle (1 ∷ 3 ∷ []) refl refl), ((lit< tt, (lit< tt, lit≤ tt), are_rules odd_cycle (1 ∷ 3 ∷ []) refl refl), tt)));
     };

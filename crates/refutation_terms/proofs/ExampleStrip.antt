@@ -38,6 +38,8 @@ day_passes named R y named_rules rules weights within days short test = record {
     fits = record {
       named = named_rules;
       turn = tt;
+      is_goal = refl;
+      goal_fits = tt;
       lines = each_at (λ k line. LineFits two_on_day_one line) (Bound 0 1 R y ∷ []) ((lit< tt, (lit< tt, lit≤ tt), rules, weights), tt);
     };
     turn = tt;

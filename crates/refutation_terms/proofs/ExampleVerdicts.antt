@@ -35,10 +35,10 @@ no_line : (k : ℕ) (line : Line) → slice_get [] k ≡ Some line → ⊥
 no_line k line e = cc
 
 -- a header without a turn has no cause
-header_sound : (P : Instance) (R : List ℕ) → AreRules P R → IsSoundSoFar P (record { named = R; turn = None; lines = [] })
+header_sound : (P : Instance) (R : List ℕ) → AreRules P R → IsSoundSoFar P (record { named = R; turn = None; goal = None; lines = [] })
 header_sound P R h = record {
   grounded = record {
-    fits = record { named = h; turn = tt; lines = λ k line e. absurd (no_line k line e) };
+    fits = record { named = h; turn = tt; is_goal = refl; goal_fits = tt; lines = λ k line e. absurd (no_line k line e) };
     turn = tt;
     turn_named = λ r c. absurd c;
     named = λ k line r e c. absurd (no_line k line e);
@@ -95,16 +95,16 @@ line_before zero line e = e
 line_before (suc zero) line e = e
 line_before (suc (suc k)) line e = absurd (no_line k line e)
 
-first_lines_sound : IsSoundSoFar three_of_six (record { named = 1 ∷ 2 ∷ 3 ∷ 4 ∷ []; turn = None; lines = Split 0 shift_D ∷ blocks_dead ∷ [] })
+first_lines_sound : IsSoundSoFar three_of_six (record { named = 1 ∷ 2 ∷ 3 ∷ 4 ∷ []; turn = None; goal = None; lines = Split 0 shift_D ∷ blocks_dead ∷ [] })
 first_lines_sound = record {
   grounded = record {
-    fits = record { named = split_log_passes.grounded.fits.named; turn = tt; lines = λ k line e. split_log_passes.grounded.fits.lines k line (line_before k line e) };
+    fits = record { named = split_log_passes.grounded.fits.named; turn = tt; is_goal = refl; goal_fits = tt; lines = λ k line e. split_log_passes.grounded.fits.lines k line (line_before k line e) };
     turn = tt;
     turn_named = λ r c. absurd c;
     named = λ k line r e c. split_log_passes.grounded.named k line r (line_before k line e) c;
     short = λ k line e. split_log_passes.grounded.short k line (line_before k line e);
   };
-  holds = each_at (HoldsAt three_of_six (record { named = 1 ∷ 2 ∷ 3 ∷ 4 ∷ []; turn = None; lines = Split 0 shift_D ∷ blocks_dead ∷ [] })) (Split 0 shift_D ∷ blocks_dead ∷ [])
+  holds = each_at (HoldsAt three_of_six (record { named = 1 ∷ 2 ∷ 3 ∷ 4 ∷ []; turn = None; goal = None; lines = Split 0 shift_D ∷ blocks_dead ∷ [] })) (Split 0 shift_D ∷ blocks_dead ∷ [])
       (split_log_passes.holds 0 (Split 0 shift_D) refl, (split_log_passes.holds 1 blocks_dead refl, tt));
   in_tree = in_tree;
 }
@@ -116,23 +116,23 @@ first_lines_sound = record {
 
 pub cut_refused : IsVerdict three_of_six cut_text (Err Refusals.Ends)
 cut_refused = record {
-  front = Reading (record { named = 1 ∷ 2 ∷ 3 ∷ 4 ∷ []; turn = None; lines = Split 0 shift_D ∷ blocks_dead ∷ [] });
+  front = Reading (record { named = 1 ∷ 2 ∷ 3 ∷ 4 ∷ []; turn = None; goal = None; lines = Split 0 shift_D ∷ blocks_dead ∷ [] });
   no_cause = first_lines_sound;
   whole = rw (d1, d2, d3, d4, d7) refl;
   not_whole = λ t. not_tree (Split 0 shift_D ∷ blocks_dead ∷ []) refl t;
 }
 
 -- a front of one split
-split_sound : (R : List ℕ) → AreRules three_of_six R → IsSoundSoFar three_of_six (record { named = R; turn = None; lines = Split 0 shift_D ∷ [] })
+split_sound : (R : List ℕ) → AreRules three_of_six R → IsSoundSoFar three_of_six (record { named = R; turn = None; goal = None; lines = Split 0 shift_D ∷ [] })
 split_sound R h = record {
   grounded = record {
-    fits = record { named = h; turn = tt; lines = λ k line e. split_log_passes.grounded.fits.lines k line (here k line e) };
+    fits = record { named = h; turn = tt; is_goal = refl; goal_fits = tt; lines = λ k line e. split_log_passes.grounded.fits.lines k line (here k line e) };
     turn = tt;
     turn_named = λ r c. absurd c;
     named = λ k line r e c. absurd (cites_none k line r e c);
     short = λ k line e. split_log_passes.grounded.short k line (here k line e);
   };
-  holds = each_at (HoldsAt three_of_six (record { named = R; turn = None; lines = Split 0 shift_D ∷ [] })) (Split 0 shift_D ∷ []) (refl, tt);
+  holds = each_at (HoldsAt three_of_six (record { named = R; turn = None; goal = None; lines = Split 0 shift_D ∷ [] })) (Split 0 shift_D ∷ []) (refl, tt);
   in_tree = in_tree;
 }
   where
@@ -151,7 +151,7 @@ split_sound R h = record {
 -- sides that weren't worked out
 pub open_refused : IsVerdict three_of_six open_text (Err (Refusals.Unfinished 4))
 open_refused = record {
-  front = Reading (record { named = []; turn = None; lines = Split 0 shift_D ∷ [] });
+  front = Reading (record { named = []; turn = None; goal = None; lines = Split 0 shift_D ∷ [] });
   line = line_text three_of_six RawUnfinished;
   rest = line_text three_of_six RawUnfinished;
   no_cause = split_sound [] (are_rules three_of_six [] refl refl);
@@ -163,7 +163,7 @@ open_refused = record {
 -- an idle split
 pub idle_refused : IsVerdict three_of_six idle_text (Err (Refusals.Idle 4))
 idle_refused = record {
-  front = Reading (record { named = 1 ∷ []; turn = None; lines = Split 0 shift_D ∷ [] });
+  front = Reading (record { named = 1 ∷ []; turn = None; goal = None; lines = Split 0 shift_D ∷ [] });
   line = line_text three_of_six (RawSplit 0 (codes "D"));
   rest = [];
   no_cause = split_sound (1 ∷ []) (are_rules three_of_six (1 ∷ []) refl refl);
@@ -239,7 +239,7 @@ heavy_clean = record {
 pub heavy_word_escapes : IsVerdict two_of_four one_turn_text (Err (Refusals.Escape 3 heavy_word))
 heavy_word_escapes =
     record {
-      front = Reading (record { named = 1 ∷ 3 ∷ 4 ∷ 7 ∷ []; turn = None; lines = [] });
+      front = Reading (record { named = 1 ∷ 3 ∷ 4 ∷ 7 ∷ []; turn = None; goal = None; lines = [] });
       line = line_text two_of_four (RawBound 0 1 (1 ∷ 3 ∷ 4 ∷ []) (record { day = 1; name = codes "D"; value = pos 1 } ∷ []));
       rest = [];
       no_cause = header_sound two_of_four (1 ∷ 3 ∷ 4 ∷ 7 ∷ []) (are_rules two_of_four (1 ∷ 3 ∷ 4 ∷ 7 ∷ []) refl refl);

@@ -1,5 +1,6 @@
 -- A text begins with one front of so many lines, and the line behind it is one of the same text's other fronts.
-use Rattle.std.proofs.Common.{◌≡◌, ◌≢◌, ◌⊎◌, ℕ, ◌+◌, ◌<◌, List, [], ◌∷◌, ◌++◌, length, map, refl, ap, sym, ◌∙◌, subst, append_assoc, append-nil, arith, inl, inr, Bool, true, false, Option, Some, None}
+use Rattle.std.proofs.Common.{◌≡◌, ◌≢◌, ◌⊎◌, ℕ, ◌+◌, ◌<◌, List, [], ◌∷◌, ◌++◌, length, get_or, map, refl, ap, sym, ◌∙◌, subst, append_assoc, append-nil, arith, inl, inr, Bool, true, false, Option, Some, None}
+use Rattle.std.specs.Prelude.{codes}
 use Rattle.std.specs.List.{AllByRecursion}
 use Rattle.rwsp_text.specs.Fields.{Words, text_of}
 use Rattle.rwsp_text.specs.Lines.{text_of_lines, AreLines, AreFronts}
@@ -8,12 +9,12 @@ use Rattle.rwsp_terms.specs.Instance.{Instance, name_of}
 use Rattle.refutation_terms.specs.declared.lines.Line.{Line}
 use Rattle.refutation_terms.specs.declared.lines.Turn.{Turn}
 use Rattle.refutation_terms.specs.declared.lines.LogRefusal.{LogRefusal}
-use Rattle.refutation_terms.specs.Log.{Log, Fits, TurnFits, AreRules, LineFits}
-use Rattle.refutation_terms.specs.LogText.{raw, fields, line_text, version_text, rules_text, turn_text}
+use Rattle.refutation_terms.specs.Log.{Log, Fits, FitsFor, TurnFits, AreRules, LineFitsFor}
+use Rattle.refutation_terms.specs.LogText.{raw, raw_fields, line_text, version_text, rules_text, turn_text, log_text}
 use Rattle.refutation_terms.specs.Verdict.{Front, Start, Versioned, BeforeTurn, Reading, front_text}
 use Rattle.refutation_terms.specs.TextLaws.{IsWritable, HasNames, TextsAreDistinct}
-use Rattle.refutation_terms.proofs.LineTables.{version_fields, rules_fields, turn_fields, version_words, rules_words, version_same, rules_same}
-use Rattle.refutation_terms.proofs.Texts.{header_fields, lines_fields, log_fields, version_written, log_written, log_words, each_fits, lines_longer, turn_same}
+use Rattle.refutation_terms.proofs.LineTables.{version_fields, rules_fields, turn_fields, free_version_fields, goal_fields, version_words, rules_words, version_same, rules_same, goal_same}
+use Rattle.refutation_terms.proofs.Texts.{header_fields, lines_fields, log_fields, free_log_fields, log_fields_for, version_written, log_written, log_written_for, log_words, log_words_for, each_fits, lines_longer, turn_same}
 
 versions_differ : version_fields true ≡ version_fields false → ⊥
 versions_differ e = let clash : true ≡ false = version_same true false e in cc
@@ -26,11 +27,11 @@ record GoesOn (P : Instance) (named : List ℕ) (turn : Option Turn) (lines : Li
   longer : lines' ≡ lines ++ more
   written : zs ≡ lines_fields P more
 
-goes_on : (P : Instance) (named : List ℕ) (turn : Option Turn) (lines : List Line) (named' : List ℕ) (turn' : Option Turn) (lines' : List Line) (zs : List Words) → IsWritable P → HasNames P → AreRules P named → AreRules P named' → TurnFits P turn → TurnFits P turn' → AllByRecursion (LineFits P) lines → AllByRecursion (LineFits P) lines' → header_fields P named' turn' ++ lines_fields P lines' ≡ header_fields P named turn ++ lines_fields P lines ++ zs → GoesOn P named turn lines named' turn' lines' zs
+goes_on : (P : Instance) (named : List ℕ) (turn : Option Turn) (lines : List Line) (named' : List ℕ) (turn' : Option Turn) (lines' : List Line) (zs : List Words) → IsWritable P → HasNames P → AreRules P named → AreRules P named' → TurnFits P turn → TurnFits P turn' → AllByRecursion (LineFitsFor P None) lines → AllByRecursion (LineFitsFor P None) lines' → header_fields P named' turn' ++ lines_fields P lines' ≡ header_fields P named turn ++ lines_fields P lines ++ zs → GoesOn P named turn lines named' turn' lines' zs
 goes_on P named None lines named' None lines' zs w n hr hq ht hu hl hm e =
     let rules : rules_fields named ≡ rules_fields named' = cc in
     let rest : lines_fields P lines' ≡ lines_fields P lines ++ zs = cc in
-    let m = lines_longer P lines lines' zs w n hl hm rest in
+    let m = lines_longer P None lines lines' zs w n hl hm rest in
     record { more = m.0; same_named = rules_same P named named' w hr hq rules; same_turn = refl; longer = m.1; written = m.2 }
 goes_on P named None lines named' (Some u) lines' zs w n hr hq ht hu hl hm e =
     let clash : version_fields true ≡ version_fields false = cc in absurd (versions_differ clash)
@@ -40,14 +41,15 @@ goes_on P named (Some t) lines named' (Some u) lines' zs w n hr hq ht hu hl hm e
     let rules : rules_fields named ≡ rules_fields named' = cc in
     let turn : turn_fields (name_of P t.x) t.day ≡ turn_fields (name_of P u.x) u.day = cc in
     let rest : lines_fields P lines' ≡ lines_fields P lines ++ zs = cc in
-    let m = lines_longer P lines lines' zs w n hl hm rest in
+    let m = lines_longer P None lines lines' zs w n hl hm rest in
     record { more = m.0; same_named = rules_same P named named' w hr hq rules; same_turn = ap Some (turn_same P t u w n ht hu turn); longer = m.1; written = m.2 }
 
-pub log_goes_on : (P : Instance) (g h : Log) (zs : List Words) → IsWritable P → HasNames P → Fits P g → Fits P h → log_fields P h ≡ log_fields P g ++ zs → (more : List Line) × (h ≡ record { named = g.named; turn = g.turn; lines = g.lines ++ more }) × (zs ≡ lines_fields P more)
+pub log_goes_on : (P : Instance) (g h : Log) (zs : List Words) → IsWritable P → HasNames P → Fits P g → Fits P h → log_fields P h ≡ log_fields P g ++ zs → (more : List Line) × (h ≡ record { named = g.named; turn = g.turn; goal = g.goal; lines = g.lines ++ more }) × (zs ≡ lines_fields P more)
 log_goes_on P g h zs w n hg hh e =
-    let s = goes_on P g.named g.turn g.lines h.named h.turn h.lines zs w n hg.named hh.named hg.turn hh.turn (each_fits P g.lines hg.lines) (each_fits P h.lines hh.lines) e in (
+    let s = goes_on P g.named g.turn g.lines h.named h.turn h.lines zs w n hg.named hh.named hg.turn hh.turn (each_fits P None g.lines hg.lines) (each_fits P None h.lines hh.lines) e in (
       s.more,
-      ap (λ i. record { named = i; turn = h.turn; lines = h.lines }) (sym s.same_named) ∙ ap (λ i. record { named = g.named; turn = i; lines = h.lines }) (sym s.same_turn) ∙ ap (λ i. record { named = g.named; turn = g.turn; lines = i }) s.longer,
+      ap (λ i. record { named = i; turn = h.turn; goal = h.goal; lines = h.lines }) (sym s.same_named) ∙ ap (λ i. record { named = g.named; turn = i; goal = h.goal; lines = h.lines }) (sym s.same_turn)
+          ∙ ap (λ i. record { named = g.named; turn = g.turn; goal = i; lines = h.lines }) (hh.is_goal ∙ sym hg.is_goal) ∙ ap (λ i. record { named = g.named; turn = g.turn; goal = g.goal; lines = i }) s.longer,
       s.written,
     )
 
@@ -60,11 +62,66 @@ log_same P g h w n hg hh e =
     let s = log_goes_on P g h [] w n hg hh (e ∙ sym (append-nil (log_fields P g))) in
     let none : s.0 ≡ [] = nothing_more P s.0 s.2 in
     let lines : g.lines ++ s.0 ≡ g.lines = ap (λ m. g.lines ++ m) none ∙ append-nil g.lines in
-    sym (s.1 ∙ ap (λ i. record { named = g.named; turn = g.turn; lines = i }) lines)
+    sym (s.1 ∙ ap (λ i. record { named = g.named; turn = g.turn; goal = g.goal; lines = i }) lines)
 
-pub texts_distinct : TextsAreDistinct
-texts_distinct P g h w n hg hh e =
-    log_same P g h w n hg hh (sym (same_lines (log_fields P g) (log_fields P h) (log_words P g w n hg) (log_words P h w n hh) (sym (log_written P g) ∙ e ∙ log_written P h)))
+-- a free log that goes on where another ends
+pub record FreeGoesOn (P : Instance) (goal other : ℕ) (g h : Log) (zs : List Words) : Type 0 where
+  pub more : List Line
+  pub same_goal : goal ≡ other
+  pub longer : h ≡ record { named = g.named; turn = g.turn; goal = g.goal; lines = g.lines ++ more }
+  pub written : zs ≡ lines_fields P more
+
+pub free_goes_on : (P : Instance) (goal other : ℕ) (g h : Log) (zs : List Words) → IsWritable P → HasNames P → FitsFor P (Some goal) g → FitsFor P (Some other) h → free_log_fields P other h ≡ free_log_fields P goal g ++ zs → FreeGoesOn P goal other g h zs
+free_goes_on P goal other g h zs w n hg hh e =
+    let rules : rules_fields g.named ≡ rules_fields h.named = cc in
+    let goals : goal_fields goal ≡ goal_fields other = cc in
+    let rest : lines_fields P h.lines ≡ lines_fields P g.lines ++ zs = cc in
+    let named : h.named ≡ g.named = sym (rules_same P g.named h.named w hg.named hh.named rules) in
+    let turn : h.turn ≡ g.turn = hh.goal_fits.0 ∙ sym hg.goal_fits.0 in
+    let same : goal ≡ other = goal_same P goal other w hg.goal_fits.2 hh.goal_fits.2 goals in
+    let goal_is : h.goal ≡ g.goal = hh.is_goal ∙ ap Some (sym same) ∙ sym hg.is_goal in
+    let m = lines_longer P (Some goal) g.lines h.lines zs w n (each_fits P (Some goal) g.lines hg.lines)
+    (subst (λ o. AllByRecursion (LineFitsFor P (Some o)) h.lines) (sym same) (each_fits P (Some other) h.lines hh.lines)) rest in
+    record {
+      more = m.0;
+      same_goal = same;
+      longer =
+          ap (λ i. record { named = i; turn = h.turn; goal = h.goal; lines = h.lines }) named ∙ ap (λ i. record { named = g.named; turn = i; goal = h.goal; lines = h.lines }) turn
+          ∙ ap (λ i. record { named = g.named; turn = g.turn; goal = i; lines = h.lines }) goal_is ∙ ap (λ i. record { named = g.named; turn = g.turn; goal = g.goal; lines = i }) m.1;
+      written = m.2;
+    }
+
+-- a free log whose lines are those of another
+pub free_log_same : (P : Instance) (goal other : ℕ) (g h : Log) → IsWritable P → HasNames P → FitsFor P (Some goal) g → FitsFor P (Some other) h → free_log_fields P other h ≡ free_log_fields P goal g → (goal ≡ other) × (g ≡ h)
+free_log_same P goal other g h w n hg hh e =
+    let s = free_goes_on P goal other g h [] w n hg hh (e ∙ sym (append-nil (free_log_fields P goal g))) in
+    let none : s.more ≡ [] = nothing_more P s.more s.written in
+    let lines : g.lines ++ s.more ≡ g.lines = ap (λ m. g.lines ++ m) none ∙ append-nil g.lines in
+    (s.same_goal, sym (s.longer ∙ ap (λ i. record { named = g.named; turn = g.turn; goal = g.goal; lines = i }) lines))
+
+kinds_differ : (b : Bool) → version_fields b ≡ free_version_fields → ⊥
+kinds_differ b e =
+    let words : codes "rwsp-log" ≡ codes "rwsp-free" = cc in
+    let letters : get_or (codes "rwsp-log") 5 0 ≡ get_or (codes "rwsp-free") 5 0 = ap (λ w. get_or w 5 0) words in
+    let clash : 108 ≡ 102 = letters in omega (arith, clash)
+
+logs_differ : (P : Instance) (named : List ℕ) (turn : Option Turn) (lines : List Line) (other : ℕ) (h : Log) → header_fields P named turn ++ lines_fields P lines ≡ free_log_fields P other h → ⊥
+logs_differ P named None lines other h e = let first : version_fields false ≡ free_version_fields = cc in kinds_differ false first
+logs_differ P named (Some t) lines other h e = let first : version_fields true ≡ free_version_fields = cc in kinds_differ true first
+
+log_same_for : (P : Instance) (goal other : Option ℕ) (g h : Log) → IsWritable P → HasNames P → FitsFor P goal g → FitsFor P other h → log_fields_for P other h ≡ log_fields_for P goal g → g ≡ h
+log_same_for P None None g h w n hg hh e = log_same P g h w n hg hh e
+log_same_for P None (Some other) g h w n hg hh e = absurd (logs_differ P g.named g.turn g.lines other h (sym e))
+log_same_for P (Some goal) None g h w n hg hh e = absurd (logs_differ P h.named h.turn h.lines goal g e)
+log_same_for P (Some goal) (Some other) g h w n hg hh e = (free_log_same P goal other g h w n hg hh e).1
+
+pub texts_distinct_for : TextsAreDistinct
+texts_distinct_for P goal other g h w n hg hh e =
+    log_same_for P goal other g h w n hg hh
+    (sym (same_lines (log_fields_for P goal g) (log_fields_for P other h) (log_words_for P goal g w n hg) (log_words_for P other h w n hh) (sym (log_written_for P goal g) ∙ e ∙ log_written_for P other h)))
+
+pub texts_distinct : (P : Instance) (g h : Log) → IsWritable P → HasNames P → Fits P g → Fits P h → log_text P g ≡ log_text P h → g ≡ h
+texts_distinct P g h w n hg hh e = texts_distinct_for P None None g h w n hg hh e
 
 -- the lines of a front
 abbrev pub front_fields : Instance → Front → List Words
@@ -85,12 +142,12 @@ record Header (P : Instance) (g : Log) : Type 0 where
   rest : List Words
   whole : log_fields P g ≡ version_fields has_turn ∷ rules_fields g.named ∷ rest
 
-header_by : (P : Instance) (named : List ℕ) (turn : Option Turn) (lines : List Line) → Header P (record { named = named; turn = turn; lines = lines })
-header_by P named None lines = record { has_turn = false; rest = lines_fields P lines; whole = refl }
-header_by P named (Some t) lines = record { has_turn = true; rest = turn_fields (name_of P t.x) t.day ∷ lines_fields P lines; whole = refl }
+header_by : (P : Instance) (named : List ℕ) (turn : Option Turn) (goal : Option ℕ) (lines : List Line) → Header P (record { named = named; turn = turn; goal = goal; lines = lines })
+header_by P named None goal lines = record { has_turn = false; rest = lines_fields P lines; whole = refl }
+header_by P named (Some t) goal lines = record { has_turn = true; rest = turn_fields (name_of P t.x) t.day ∷ lines_fields P lines; whole = refl }
 
 header_of : (P : Instance) (g : Log) → Header P g
-header_of P g = header_by P g.named g.turn g.lines
+header_of P g = header_by P g.named g.turn g.goal g.lines
 
 -- behind two lines of version 2 a log has a turn
 record TurnNext (P : Instance) (turn : Option Turn) (lines : List Line) (zs : List Words) : Type 0 where
@@ -139,7 +196,7 @@ module _ (P : Instance) (w : IsWritable P) (n : HasNames P) (Good : Front → Ty
       (version_fine : (b : Bool) (why : LogRefusal) → C Start (version_text b) why → ⊥)
       (rules_fine : (b : Bool) (R : List ℕ) (why : LogRefusal) → AreRules P R → C (Versioned b) (rules_text R) why → ⊥)
       (turn_fine : (g : Log) (t : Turn) (why : LogRefusal) → Good (Reading g) → g.turn ≡ Some t → C (BeforeTurn g.named) (turn_text (name_of P t.x) t.day) why → ⊥)
-      (line_fine : (f : Log) (line : Line) (more : List Line) (why : LogRefusal) → Good (Reading (record { named = f.named; turn = f.turn; lines = f.lines ++ line ∷ more })) → C (Reading f) (line_text P (raw P line)) why → ⊥) where
+      (line_fine : (f : Log) (line : Line) (more : List Line) (why : LogRefusal) → Good (Reading (record { named = f.named; turn = f.turn; goal = f.goal; lines = f.lines ++ line ∷ more })) → C (Reading f) (line_text P (raw P line)) why → ⊥) where
     fine : (F G : Front) (z : Words) (zs : List Words) (why : LogRefusal) → Good F → Good G → front_fields P G ≡ front_fields P F ++ z ∷ zs → C F (text_of z) why → ⊥
     fine Start Start z zs why hf hg e c = cc
     fine Start (Versioned b) z zs why hf hg e c = let first : version_fields b ≡ z = cc in version_fine b why (subst (λ t. C Start t why) (ap text_of (sym first) ∙ sym (version_written b)) c)
@@ -179,10 +236,10 @@ module _ (P : Instance) (w : IsWritable P) (n : HasNames P) (Good : Front → Ty
         let s = log_goes_on P f g (z ∷ zs) w n (fits f hf) (fits g hg) e in
         going_on s.0 s.2 (subst (λ k. Good (Reading k)) s.1 hg)
       where
-        going_on : (more : List Line) → z ∷ zs ≡ lines_fields P more → Good (Reading (record { named = f.named; turn = f.turn; lines = f.lines ++ more })) → ⊥
+        going_on : (more : List Line) → z ∷ zs ≡ lines_fields P more → Good (Reading (record { named = f.named; turn = f.turn; goal = f.goal; lines = f.lines ++ more })) → ⊥
         going_on [] e' h = cc
         going_on (l ∷ ls) e' h =
-            let first : z ≡ fields P (raw P l) = cc in
+            let first : z ≡ raw_fields P (raw P l) = cc in
             line_fine f l ls why h (subst (λ ws. C (Reading f) (text_of ws) why) first c)
 
     pub fronts : ((F : Front) (line : List ℕ) (why other : LogRefusal) → C F line why → C F line other → why ≡ other) → AreFronts (front_fields P) Good C

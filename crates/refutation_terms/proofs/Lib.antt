@@ -9,6 +9,7 @@ pub mod Alone
 pub mod Sums
 pub mod Weighing
 pub mod Turning
+pub mod FreeCounts
 pub mod Named
 pub mod Sound
 pub mod AsSaid
@@ -28,9 +29,11 @@ pub mod ExampleSplit
 pub mod ExampleBlunt
 pub mod ExampleStrip
 pub mod ExamplePairs
+pub mod ExampleFree
 pub mod Spelled
 pub mod LineTables
 pub mod Texts
 pub mod Fronts
 pub mod Causes
 pub mod Unique
+pub mod FreeUnique

@@ -1,19 +1,19 @@
 -- The lines of a log's text are those of its tables.
-use Rattle.std.proofs.Common.{◌≡◌, ℕ, zero, suc, ◌+◌, ◌*◌, ◌/◌, ◌^◌, ◌<◌, ◌≤◌, List, [], ◌∷◌, ◌++◌, length, refl, ap, sym, ◌∙◌, subst, arith, inl, inr, Bool, true, false, Some}
+use Rattle.std.proofs.Common.{◌≡◌, ℕ, zero, suc, ◌+◌, ◌*◌, ◌/◌, ◌^◌, ◌<◌, ◌≤◌, List, [], ◌∷◌, ◌++◌, length, refl, ap, sym, ◌∙◌, subst, arith, inl, inr, Bool, true, false, Option, Some, None}
 use Rattle.std.specs.Prelude.{codes, cond}
 use Rattle.std.specs.List.{flat_map}
 use Rattle.std.specs.Fmt.{decimal}
 use Rattle.std.proofs.lemmas.List.{append-nil}
 use Rattle.std.proofs.Math.Nat.{le-div_iff_mul-le, div-le_self}
 use Rattle.rwsp_text.specs.Fields.{chosen, Words, IsName, numbers, weight_fields}
-use Rattle.rwsp_text.specs.Kinds.{IsLine, IsReadable, read_line}
+use Rattle.rwsp_text.specs.Kinds.{Kind, IsLine, IsReadable, read_line}
 use Rattle.rwsp_text.specs.Lines.{AreWords}
 use Rattle.rwsp_text.proofs.KindLaws.{no_words, lines_are_words, lines_say_one}
 use Rattle.rwsp_terms.specs.Instance.{Instance, cells, IsDay}
 use Rattle.rwsp_terms.specs.Rules.{rules}
 use Rattle.refutation_terms.specs.Log.{AreRules}
-use Rattle.refutation_terms.specs.LogText.{RawLine, RawSplit, RawWindow, RawDay, RawDead, RawBound, RawUnfinished, place, way, fields, IsInRange}
-use Rattle.refutation_terms.specs.LineKinds.{most_turns, split_kind, window_kind, day_kind, dead_kind, bound_kind, open_kind, tree_kinds, version_kinds, rules_kinds, turn_kinds}
+use Rattle.refutation_terms.specs.LogText.{RawLine, RawSplit, RawWindow, RawDay, RawDead, RawBound, RawFew, RawFree, RawUnfinished, place, way, raw_fields, IsInRange, IsInFreeRange, IsInRangeFor}
+use Rattle.refutation_terms.specs.LineKinds.{most_turns, split_kind, window_kind, day_kind, dead_kind, bound_kind, open_kind, tree_kinds, free_kinds, version_kinds, free_version_kinds, rules_kinds, turn_kinds, goal_kinds}
 use Rattle.refutation_terms.specs.TextLaws.{IsWritable}
 
 few_turns : (P : Instance) → most_turns P < 10 ^ 19
@@ -43,6 +43,47 @@ tree_readable P w =
       ),
     )
 
+free_readable : (P : Instance) → IsWritable P → IsReadable (free_kinds P)
+free_readable P w =
+    let days : P.days < 10 ^ 19 = omega (arith, w.0) in
+    let weeks : P.weeks < 10 ^ 19 = omega (arith, w.1) in
+    let many : length (rules P) < 10 ^ 19 = omega (arith, w.2) in
+    let word : 16800 < 10 ^ 19 = omega arith in
+    let reward : 1000 < 10 ^ 19 = omega arith in (
+      (((weeks, days), tt), refl, (refl, (refl, (refl, (refl, (refl, (refl, tt))))))),
+      (
+        ((many, ((weeks, days), (word, tt))), refl, (refl, (refl, (refl, (refl, (refl, tt)))))),
+        (
+          ((days, ((refl, refl, refl), tt)), refl, (refl, (refl, (refl, (refl, tt))))),
+          (
+            (((weeks, days), (word, (refl, ((many, tt), tt)))), refl, (refl, (refl, (refl, tt)))),
+            (
+              (tt, refl, (refl, (refl, tt))),
+              (
+                ((few_turns P, (reward, (refl, ((many, refl), (refl, ((days, (omega arith, omega arith), tt), tt)))))), refl, (refl, tt)),
+                ((tt, refl, tt), tt),
+              ),
+            ),
+          ),
+        ),
+      ),
+    )
+
+-- the lines of the tree of a log with this goal or none
+abbrev pub kinds_for : Instance → Option ℕ → List (Kind RawLine)
+kinds_for P None = tree_kinds P
+kinds_for P (Some goal) = free_kinds P
+
+pub readable_for : (P : Instance) (goal : Option ℕ) → IsWritable P → IsReadable (kinds_for P goal)
+readable_for P None w = tree_readable P w
+readable_for P (Some goal) w = free_readable P w
+
+pub free_version_readable : IsReadable free_version_kinds
+free_version_readable = (((refl, tt), refl, tt), tt)
+
+pub goal_readable : (P : Instance) → IsWritable P → IsReadable (goal_kinds P)
+goal_readable P w = (((omega (arith, w.1), tt), refl, tt), tt)
+
 pub version_readable : IsReadable version_kinds
 version_readable = ((((refl, refl, refl), tt), refl, tt), tt)
 
@@ -58,7 +99,7 @@ some_turns : (n m : ℕ) → 0 < n * m → 1 ≤ n
 some_turns zero m h = absurd (omega (arith, h))
 some_turns (suc n) m h = omega arith
 
-pub tree_line : (P : Instance) (raw : RawLine) → IsInRange P raw → IsLine (tree_kinds P) (fields P raw) raw
+pub tree_line : (P : Instance) (raw : RawLine) → IsInRange P raw → IsLine (tree_kinds P) (raw_fields P raw) raw
 tree_line P (RawSplit p name) h = inl (refl, record { values = (p, (name, tt)); keeps = (h.0, (h.1, tt)); spelled = refl; made = refl })
 tree_line P (RawWindow rule p len) h =
     inr (inl (refl, record { values = (rule, (p, (len, tt))); keeps = ((h.0, h.1), (h.2, (h.3, tt))); spelled = refl; made = refl }))
@@ -86,12 +127,57 @@ tree_line P (RawBound p turns R y) h =
       },
     )))))
 tree_line P RawUnfinished h = inr (inr (inr (inr (inr (inl (refl, record { values = tt; keeps = tt; spelled = refl; made = refl }))))))
+tree_line P RawFew h = absurd h
+tree_line P (RawFree turns reward R y) h = absurd h
+
+no_turns_of_none : (c turns : ℕ) → 1 ≤ turns → turns ≤ 16800 / c → 0 < c
+no_turns_of_none zero turns some few = let none : 16800 / zero ≡ 0 = refl in absurd (omega (arith, some, few, none))
+no_turns_of_none (suc c) turns some few = omega arith
+
+some_cells : (n m : ℕ) → 0 < n * m → 0 < m
+some_cells n zero h = let e : n * zero ≡ 0 = omega arith in absurd (omega (arith, h, e))
+some_cells n (suc m) h = omega arith
+
+free_line : (P : Instance) (raw : RawLine) → IsInFreeRange P raw → IsLine (free_kinds P) (raw_fields P raw) raw
+free_line P (RawSplit p name) h = inl (refl, record { values = (p, (name, tt)); keeps = (h.0, (h.1, tt)); spelled = refl; made = refl })
+free_line P (RawWindow rule p len) h =
+    inr (inl (refl, record { values = (rule, (p, (len, tt))); keeps = ((h.0, h.1), (h.2, (h.3, tt))); spelled = refl; made = refl }))
+free_line P (RawDay day name over) h =
+    inr (inr (inl (refl, record { values = (day, (name, (over, tt))); keeps = (h.0, (h.1, tt)); spelled = refl; made = refl })))
+free_line P (RawDead p len R) h =
+    inr (inr (inr (inl (
+      refl,
+      record {
+        values = (p, (len, (R, tt)));
+        keeps = (h.0, (h.1, (h.2, tt)));
+        spelled = ap (λ us. place P p ++ (decimal len ∷ codes "rules" ∷ us)) (sym (append-nil (numbers R)));
+        made = refl;
+      },
+    ))))
+free_line P (RawBound p turns R y) h = absurd h
+free_line P RawFew h = inr (inr (inr (inr (inl (refl, record { values = tt; keeps = tt; spelled = refl; made = refl })))))
+free_line P (RawFree turns reward R y) h =
+    let some : 0 < cells P = some_cells turns (cells P) h.0.0 in
+    inr (inr (inr (inr (inr (inl (
+      refl,
+      record {
+        values = (turns, (reward, (R, (y, tt))));
+        keeps = ((some_turns turns (cells P) h.0.0, (le-div_iff_mul-le {k = cells P} {x = turns} {y = 16800} some).1 h.0.1), ((omega arith, h.1), (h.2, (h.3, tt))));
+        spelled = ap (λ us. decimal turns ∷ decimal reward ∷ codes "rules" ∷ numbers R ++ (codes "weights" ∷ us)) (sym (append-nil (flat_map weight_fields y)));
+        made = refl;
+      },
+    ))))))
+free_line P RawUnfinished h = inr (inr (inr (inr (inr (inr (inl (refl, record { values = tt; keeps = tt; spelled = refl; made = refl })))))))
+
+pub line_for : (P : Instance) (goal : Option ℕ) (raw : RawLine) → IsInRangeFor P goal raw → IsLine (kinds_for P goal) (raw_fields P raw) raw
+line_for P None raw h = tree_line P raw h
+line_for P (Some goal) raw h = free_line P raw h
 
 full_turns : (n m : ℕ) → 1 ≤ n → 0 < m → 0 < n * m
 full_turns n m a b = grind (arith, a, b)
 
 abbrev Found : Instance → Words → RawLine → Type 0
-Found P ws raw = (ws ≡ fields P raw) × IsInRange P raw
+Found P ws raw = (ws ≡ raw_fields P raw) × IsInRange P raw
 
 -- and a line of the table is a written line
 pub tree_found : (P : Instance) (ws : Words) (raw : RawLine) → IsLine (tree_kinds P) ws raw → Found P ws raw
@@ -124,6 +210,47 @@ tree_found P (w ∷ ws) raw (inr (inr (inr (inr (inl l))))) =
 tree_found P (w ∷ ws) raw (inr (inr (inr (inr (inr (inl l)))))) =
     let s = l.1 in subst (Found P (w ∷ ws)) s.made (ap (λ z. z ∷ ws) l.0 ∙ ap (λ us. codes "open" ∷ us) s.spelled, tt)
 tree_found P (w ∷ ws) raw (inr (inr (inr (inr (inr (inr l)))))) = absurd l
+
+abbrev FreeFound : Instance → Words → RawLine → Type 0
+FreeFound P ws raw = (ws ≡ raw_fields P raw) × IsInFreeRange P raw
+
+free_found : (P : Instance) (ws : Words) (raw : RawLine) → IsLine (free_kinds P) ws raw → FreeFound P ws raw
+free_found P [] raw l = absurd (no_words (free_kinds P) raw l)
+free_found P (w ∷ ws) raw (inl l) =
+    let s = l.1 in
+    subst (FreeFound P (w ∷ ws)) s.made (ap (λ z. z ∷ ws) l.0 ∙ ap (λ us. codes "split" ∷ us) s.spelled, (s.keeps.0, s.keeps.1.0))
+free_found P (w ∷ ws) raw (inr (inl l)) =
+    let s = l.1 in
+    subst (FreeFound P (w ∷ ws)) s.made (ap (λ z. z ∷ ws) l.0 ∙ ap (λ us. codes "window" ∷ us) s.spelled, (s.keeps.0.0, s.keeps.0.1, s.keeps.1.0, s.keeps.1.1.0))
+free_found P (w ∷ ws) raw (inr (inr (inl l))) =
+    let s = l.1 in
+    subst (FreeFound P (w ∷ ws)) s.made (ap (λ z. z ∷ ws) l.0 ∙ ap (λ us. codes "day" ∷ us) s.spelled, (s.keeps.0, s.keeps.1.0))
+free_found P (w ∷ ws) raw (inr (inr (inr (inl l)))) =
+    let s = l.1 in
+    subst (FreeFound P (w ∷ ws)) s.made (
+      ap (λ z. z ∷ ws) l.0 ∙ ap (λ us. codes "dead" ∷ us) s.spelled ∙ ap (λ us. codes "dead" ∷ place P s.values.0 ++ (decimal s.values.1.0 ∷ codes "rules" ∷ us)) (append-nil (numbers s.values.1.1.0)),
+      (s.keeps.0, s.keeps.1.0, s.keeps.1.1.0),
+    )
+free_found P (w ∷ ws) raw (inr (inr (inr (inr (inl l))))) =
+    let s = l.1 in subst (FreeFound P (w ∷ ws)) s.made (ap (λ z. z ∷ ws) l.0 ∙ ap (λ us. codes "few" ∷ us) s.spelled, tt)
+free_found P (w ∷ ws) raw (inr (inr (inr (inr (inr (inl l)))))) =
+    let s = l.1 in
+    let turns = s.values.0 in
+    let some : 0 < cells P = no_turns_of_none (cells P) turns s.keeps.0.0 s.keeps.0.1 in
+    let long : turns * cells P ≤ 16800 = (le-div_iff_mul-le {k = cells P} {x = turns} {y = 16800} some).0 s.keeps.0.1 in
+    let full : 0 < turns * cells P = full_turns turns (cells P) s.keeps.0.0 some in
+    subst (FreeFound P (w ∷ ws)) s.made (
+      ap (λ z. z ∷ ws) l.0 ∙ ap (λ us. codes "free" ∷ us) s.spelled ∙ ap (λ us. codes "free" ∷ decimal turns ∷ decimal s.values.1.0 ∷ codes "rules" ∷ numbers s.values.1.1.0 ++ (codes "weights" ∷ us)) (append-nil (flat_map weight_fields s.values.1.1.1.0)),
+      ((full, long), s.keeps.1.0.1, s.keeps.1.1.0, s.keeps.1.1.1.0),
+    )
+free_found P (w ∷ ws) raw (inr (inr (inr (inr (inr (inr (inl l))))))) =
+    let s = l.1 in subst (FreeFound P (w ∷ ws)) s.made (ap (λ z. z ∷ ws) l.0 ∙ ap (λ us. codes "open" ∷ us) s.spelled, tt)
+free_found P (w ∷ ws) raw (inr (inr (inr (inr (inr (inr (inr l))))))) = absurd l
+
+-- a line of the table for a goal or none is a written line
+pub found_for : (P : Instance) (goal : Option ℕ) (ws : Words) (raw : RawLine) → IsLine (kinds_for P goal) ws raw → (ws ≡ raw_fields P raw) × IsInRangeFor P goal raw
+found_for P None ws raw l = tree_found P ws raw l
+found_for P (Some goal) ws raw l = free_found P ws raw l
 
 -- the lines of a header
 
@@ -170,8 +297,32 @@ rules_words P R w h = lines_are_words (rules_kinds P) (rules_fields R) R (rules_
 pub turn_words : (P : Instance) (name : List ℕ) (day : ℕ) → IsWritable P → IsName name → IsDay P day → AreWords (turn_fields name day)
 turn_words P name day w n d = lines_are_words (turn_kinds P) (turn_fields name day) (name, day) (turn_readable P w) (turn_line P name day n d)
 
-pub tree_words : (P : Instance) (raw : RawLine) → IsWritable P → IsInRange P raw → AreWords (fields P raw)
-tree_words P raw w h = lines_are_words (tree_kinds P) (fields P raw) raw (tree_readable P w) (tree_line P raw h)
+pub line_words_for : (P : Instance) (goal : Option ℕ) (raw : RawLine) → IsWritable P → IsInRangeFor P goal raw → AreWords (raw_fields P raw)
+line_words_for P goal raw w h = lines_are_words (kinds_for P goal) (raw_fields P raw) raw (readable_for P goal w) (line_for P goal raw h)
+
+abbrev pub free_version_fields : Words
+free_version_fields = codes "rwsp-free" ∷ codes "1" ∷ []
+
+abbrev pub goal_fields : ℕ → Words
+goal_fields goal = codes "goal" ∷ decimal goal ∷ []
+
+pub free_version_line : IsLine free_version_kinds free_version_fields tt
+free_version_line = inl (refl, record { values = tt; keeps = tt; spelled = refl; made = refl })
+
+pub goal_line : (P : Instance) (goal : ℕ) → goal ≤ P.weeks + 1 → IsLine (goal_kinds P) (goal_fields goal) goal
+goal_line P goal h = inl (refl, record { values = (goal, tt); keeps = ((omega arith, h), tt); spelled = refl; made = refl })
+
+pub free_version_words : AreWords free_version_fields
+free_version_words = lines_are_words free_version_kinds free_version_fields tt free_version_readable free_version_line
+
+pub goal_words : (P : Instance) (goal : ℕ) → IsWritable P → goal ≤ P.weeks + 1 → AreWords (goal_fields goal)
+goal_words P goal w h = lines_are_words (goal_kinds P) (goal_fields goal) goal (goal_readable P w) (goal_line P goal h)
+
+pub goal_same : (P : Instance) (a b : ℕ) → IsWritable P → a ≤ P.weeks + 1 → b ≤ P.weeks + 1 → goal_fields a ≡ goal_fields b → a ≡ b
+goal_same P a b w h k e = lines_say_one (goal_kinds P) (goal_fields a) a b (goal_readable P w) (goal_line P a h) (subst (λ ws. IsLine (goal_kinds P) ws b) (sym e) (goal_line P b k))
+
+pub tree_words : (P : Instance) (raw : RawLine) → IsWritable P → IsInRange P raw → AreWords (raw_fields P raw)
+tree_words P raw w h = lines_are_words (tree_kinds P) (raw_fields P raw) raw (tree_readable P w) (tree_line P raw h)
 
 pub version_same : (a b : Bool) → version_fields a ≡ version_fields b → a ≡ b
 version_same a b e = lines_say_one version_kinds (version_fields a) a b version_readable (version_line a) (subst (λ ws. IsLine version_kinds ws b) (sym e) (version_line b))
@@ -185,5 +336,8 @@ turn_same P name name' day day' w h k e =
     lines_say_one (turn_kinds P) (turn_fields name day) (name, day) (name', day') (turn_readable P w) (turn_line P name day h.0 h.1) (subst (λ ws. IsLine (turn_kinds P) ws (name', day')) (sym e) (turn_line P name' day' k.0 k.1)) in
     (ap (λ (t : List ℕ × ℕ). t.0) both, ap (λ (t : List ℕ × ℕ). t.1) both)
 
-pub tree_same : (P : Instance) (a b : RawLine) → IsWritable P → IsInRange P a → IsInRange P b → fields P a ≡ fields P b → a ≡ b
-tree_same P a b w h k e = lines_say_one (tree_kinds P) (fields P a) a b (tree_readable P w) (tree_line P a h) (subst (λ ws. IsLine (tree_kinds P) ws b) (sym e) (tree_line P b k))
+pub tree_same : (P : Instance) (a b : RawLine) → IsWritable P → IsInRange P a → IsInRange P b → raw_fields P a ≡ raw_fields P b → a ≡ b
+tree_same P a b w h k e = lines_say_one (tree_kinds P) (raw_fields P a) a b (tree_readable P w) (tree_line P a h) (subst (λ ws. IsLine (tree_kinds P) ws b) (sym e) (tree_line P b k))
+
+pub line_same_for : (P : Instance) (goal : Option ℕ) (a b : RawLine) → IsWritable P → IsInRangeFor P goal a → IsInRangeFor P goal b → raw_fields P a ≡ raw_fields P b → a ≡ b
+line_same_for P goal a b w h k e = lines_say_one (kinds_for P goal) (raw_fields P a) a b (readable_for P goal w) (line_for P goal a h) (subst (λ ws. IsLine (kinds_for P goal) ws b) (sym e) (line_for P goal b k))

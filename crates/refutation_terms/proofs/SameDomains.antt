@@ -8,7 +8,7 @@ use Rattle.rwsp_terms.specs.declared.data.Weight.{Weight}
 use Rattle.rwsp_terms.specs.Instance.{Instance, cells, shift_count, IsDay, least, greatest}
 use Rattle.rwsp_terms.proofs.Counting.{count_same}
 use Rattle.refutation_terms.specs.declared.lines.Line.{Line}
-use Rattle.refutation_terms.specs.declared.lines.Line.TheVariants.{Split, Window, Day, Dead, Bound, Unfinished}
+use Rattle.refutation_terms.specs.declared.lines.Line.TheVariants.{Split, Window, Day, Dead, Bound, Few, Free, Unfinished}
 use Rattle.refutation_terms.specs.Word.{Domains, AreSame, Over}
 use Rattle.refutation_terms.specs.Leaf.{is_only, fixed, possible}
 use Rattle.refutation_terms.specs.Escape.{IsCleanOver, IsHeaviest}
@@ -67,6 +67,8 @@ same_holds P D E (Day j x false) some fits same h = subst (λ n. pos n <ℤ leas
 same_holds P D E (Dead p len R) some fits same h = λ u long over. h u long (same_over P E D p u some (turned_round P D E same) over)
 same_holds P D E (Bound p turns R y) some fits same h = λ u long over. h u long (same_over P E D p u some (turned_round P D E same) over)
 same_holds P D E Unfinished some fits same h = h
+same_holds P D E Few some fits same h = absurd h
+same_holds P D E (Free turns reward R y) some fits same h = absurd h
 
 -- and a word that escapes it under the one escapes it under the other
 pub same_escapes : (P : Instance) (D E : Domains) (line : Line) (w : List Symbol) → 0 < cells P → AreSame P D E → Escapes P D line w → Escapes P E line w
@@ -85,3 +87,5 @@ same_escapes P D E (Bound p turns R y) w some same h = (
   h.1,
 )
 same_escapes P D E Unfinished w some same h = h
+same_escapes P D E Few w some same h = absurd h
+same_escapes P D E (Free turns reward R y) w some same h = absurd h

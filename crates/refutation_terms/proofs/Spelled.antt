@@ -15,11 +15,12 @@ use Rattle.rwsp_terms.specs.Weights.{ComesBefore, IsWeight}
 use Rattle.rwsp_terms.proofs.SymbolNames.{symbol_found}
 use Rattle.rwsp_terms.proofs.Elements.{all_from, all_to}
 use Rattle.refutation_terms.specs.declared.lines.Line.{Line}
-use Rattle.refutation_terms.specs.declared.lines.Line.TheVariants.{Split, Window, Day, Dead, Bound, Unfinished}
-use Rattle.refutation_terms.specs.Log.{LineFits}
-use Rattle.refutation_terms.specs.LogText.{RawLine, RawSplit, RawWindow, RawDay, RawDead, RawBound, RawUnfinished, named_weight, raw, line_text, WeightIsInRange, IsInRange, with_weight, weights_of, line_of, Ascends}
+use Rattle.refutation_terms.specs.declared.lines.Line.TheVariants.{Split, Window, Day, Dead, Bound, Few, Free, Unfinished}
+use Rattle.refutation_terms.specs.Log.{LineFits, FreeLineFits, LineFitsFor}
+use Rattle.refutation_terms.specs.LogText.{RawLine, RawSplit, RawWindow, RawDay, RawDead, RawBound, RawFew, RawFree, RawUnfinished, named_weight, raw, line_text, WeightIsInRange, IsInRange, IsInFreeRange, IsInRangeFor, with_weight, weights_of, line_of, Ascends}
 use Rattle.rwsp_text.proofs.Numerals.{mapped}
 use Rattle.rwsp_text.specs.Fields.{NamedWeight}
+use Rattle.refutation_terms.specs.Verdict.{Spells}
 use Rattle.refutation_terms.specs.TextLaws.{HasNames, SpelledLinesFit, FittingLinesAreSpelled}
 
 pub symbol_of-name : (P : Instance) (name : List ℕ) (x : Symbol) → symbol_of P name ≡ Some x → IsSymbol P x × (name_of P x ≡ name)
@@ -83,11 +84,58 @@ fits_as P (RawBound p turns R y) line h a e =
 fits_as P RawUnfinished line h a e =
     let same : Unfinished ≡ line = cc in
     subst (FitsAs P RawUnfinished) same (tt, refl)
+fits_as P RawFew line h a e = absurd h
+fits_as P (RawFree turns reward R y) line h a e = absurd h
 
-pub spelled_lines_fit : SpelledLinesFit
-spelled_lines_fit P bytes line spells =
-    let f = fits_as P spells.0 line spells.1.in_range spells.1.ascends spells.2 in
+-- the same of lines of free logs, which share all kinds but bounds with other logs
+abbrev IsNoBound : RawLine → Type 0
+IsNoBound (RawBound p turns R y) = ⊥
+IsNoBound line = Unit {0}
+
+free_too : (P : Instance) (written : RawLine) (line : Line) → IsNoBound written → written ≡ raw P line → LineFits P line → FreeLineFits P line
+free_too P written (Bound p turns R y) other e h = subst IsNoBound e other
+free_too P written (Split p x) other e h = h
+free_too P written (Window rule p len) other e h = h
+free_too P written (Day day x over) other e h = h
+free_too P written (Dead p len R) other e h = h
+free_too P written Unfinished other e h = h
+free_too P written Few other e h = absurd h
+free_too P written (Free turns reward R y) other e h = absurd h
+
+abbrev FitsFreeAs : Instance → RawLine → Line → Type 0
+FitsFreeAs P written line = FreeLineFits P line × (written ≡ raw P line)
+
+shared_fits_as : (P : Instance) (written : RawLine) (line : Line) → IsNoBound written → IsInRange P written → IfSome (line_of P written) Ascends → line_of P written ≡ Some line → FitsFreeAs P written line
+shared_fits_as P written line other h a e =
+    let f = fits_as P written line h a e in
+    (free_too P written line other f.1 f.0, f.1)
+
+free_fits_as : (P : Instance) (written : RawLine) (line : Line) → IsInFreeRange P written → IfSome (line_of P written) Ascends → line_of P written ≡ Some line → FitsFreeAs P written line
+free_fits_as P RawFew line h a e =
+    let same : Few ≡ line = cc in
+    subst (FitsFreeAs P RawFew) same (tt, refl)
+free_fits_as P (RawFree turns reward R y) line h a e =
+    let m = mapped (λ ys. Free turns reward R ys) (weights_of P y) line e in
+    let read = weights_read P y m.0 (all_to (WeightIsInRange P) y h.3) m.1 in
+    let ascends : AllPairs ComesBefore m.0 = subst (λ o. IfSome (option_map (λ ys. Free turns reward R ys) o) Ascends) m.1 a in
+    subst (FitsFreeAs P (RawFree turns reward R y)) m.2 (
+      (h.0, h.1, h.2, (record { ascends = ascends; small = all_from IsWeight m.0 read.small }, all_from (IsOf P) m.0 read.of)),
+      ap (RawFree turns reward R) (sym read.same),
+    )
+free_fits_as P (RawBound p turns R y) line h a e = absurd h
+free_fits_as P written line h a e = shared_fits_as P written line tt h a e
+
+fits_as_for : (P : Instance) (goal : Option ℕ) (written : RawLine) (line : Line) → IsInRangeFor P goal written → IfSome (line_of P written) Ascends → line_of P written ≡ Some line → LineFitsFor P goal line × (written ≡ raw P line)
+fits_as_for P None written line h a e = fits_as P written line h a e
+fits_as_for P (Some goal) written line h a e = free_fits_as P written line h a e
+
+pub spelled_lines_fit_for : SpelledLinesFit
+spelled_lines_fit_for P goal bytes line spells =
+    let f = fits_as_for P goal spells.0 line spells.1.in_range spells.1.ascends spells.2 in
     (f.0, spells.1.spelled ∙ ap (line_text P) f.1)
+
+pub spelled_lines_fit : (P : Instance) (bytes : List ℕ) (line : Line) → Spells P bytes line → LineFits P line × (bytes ≡ line_text P (raw P line))
+spelled_lines_fit P bytes line spells = spelled_lines_fit_for P None bytes line spells
 
 -- weights of the problem are read from their names
 weights_back : (P : Instance) (ys : List Weight) → HasNames P → AllByRecursion IsWeight ys → AllByRecursion (IsOf P) ys → AllByRecursion (WeightIsInRange P) (map (named_weight P) ys) × (weights_of P (map (named_weight P) ys) ≡ Some ys)
@@ -108,8 +156,25 @@ spell P (Bound p turns R y) names h =
     let back = weights_back P y names (all_to IsWeight y h.3.0.small) (all_to (IsOf P) y h.3.1) in
     ((h.0, h.1, h.2, all_from (WeightIsInRange P) (map (named_weight P) y) back.0), ap (option_map (λ ys. Bound p turns R ys)) back.1, h.3.0.ascends)
 spell P Unfinished names h = (tt, refl, tt)
+spell P Few names h = absurd h
+spell P (Free turns reward R y) names h = absurd h
 
-pub fitting_lines_are_spelled : FittingLinesAreSpelled
-fitting_lines_are_spelled P line names h =
-    let s = spell P line names h in
+free_spell : (P : Instance) (line : Line) → HasNames P → FreeLineFits P line → IsInFreeRange P (raw P line) × (line_of P (raw P line) ≡ Some line) × Ascends line
+free_spell P Few names h = (tt, refl, tt)
+free_spell P (Free turns reward R y) names h =
+    let back = weights_back P y names (all_to IsWeight y h.3.0.small) (all_to (IsOf P) y h.3.1) in
+    ((h.0, h.1, h.2, all_from (WeightIsInRange P) (map (named_weight P) y) back.0), ap (option_map (λ ys. Free turns reward R ys)) back.1, h.3.0.ascends)
+free_spell P (Bound p turns R y) names h = absurd h
+free_spell P line names h = spell P line names h
+
+pub spell_for : (P : Instance) (goal : Option ℕ) (line : Line) → HasNames P → LineFitsFor P goal line → IsInRangeFor P goal (raw P line) × (line_of P (raw P line) ≡ Some line) × Ascends line
+spell_for P None line names h = spell P line names h
+spell_for P (Some goal) line names h = free_spell P line names h
+
+pub fitting_lines_are_spelled_for : FittingLinesAreSpelled
+fitting_lines_are_spelled_for P goal line names h =
+    let s = spell_for P goal line names h in
     (raw P line, record { spelled = refl; in_range = s.0; ascends = subst (λ o. IfSome o Ascends) (sym s.1) s.2 }, s.1)
+
+pub fitting_lines_are_spelled : (P : Instance) (line : Line) → HasNames P → LineFits P line → Spells P (line_text P (raw P line)) line
+fitting_lines_are_spelled P line names h = fitting_lines_are_spelled_for P None line names h

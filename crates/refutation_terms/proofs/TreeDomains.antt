@@ -8,7 +8,7 @@ use Rattle.std.proofs.Math.Seq.{take-append-add}
 use Rattle.std.proofs.lemmas.Option.{slice_get_within}
 use Rattle.rwsp_terms.specs.declared.data.Symbol.{Symbol}
 use Rattle.refutation_terms.specs.declared.lines.Line.{Line}
-use Rattle.refutation_terms.specs.declared.lines.Line.TheVariants.{Split, Window, Day, Dead, Bound, Unfinished}
+use Rattle.refutation_terms.specs.declared.lines.Line.TheVariants.{Split}
 use Rattle.refutation_terms.specs.Word.{Domains}
 use Rattle.refutation_terms.specs.Tree.{IsLeaf, Tree, Leaf, Node, lines_in, after_trees, Side, First, Second, Neither, side, side_of, line_leaves, lines_leave, narrowed}
 use Rattle.refutation_terms.proofs.Trees.{tree_is_read, two_in_front, part_is_not_whole}
@@ -37,11 +37,7 @@ in_neither between rest left h e = ap (λ o. side_of o (after_trees 2 between)) 
 
 leaf_leaves : (line : Line) → IsLeaf line → (a : Side) (p z : ℕ) → line_leaves line a p z ≡ true
 leaf_leaves (Split q x) h a p z = absurd h
-leaf_leaves (Window r q len) h a p z = refl
-leaf_leaves (Day j x over) h a p z = refl
-leaf_leaves (Dead q len R) h a p z = refl
-leaf_leaves (Bound q turns R y) h a p z = refl
-leaf_leaves Unfinished h a p z = refl
+leaf_leaves leaf h a p z = refl
 
 left_true : (a b : Bool) → a ≡ true → (a && b) ≡ b
 left_true true b h = refl

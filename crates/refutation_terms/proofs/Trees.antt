@@ -4,16 +4,12 @@ use Rattle.std.proofs.lemmas.List.{append-nil, take-append-le}
 use Rattle.std.proofs.Math.Seq.{take-append-add}
 use Rattle.std.proofs.lemmas.Bool.{cases_lt}
 use Rattle.refutation_terms.specs.declared.lines.Line.{Line}
-use Rattle.refutation_terms.specs.declared.lines.Line.TheVariants.{Split, Window, Day, Dead, Bound, Unfinished}
+use Rattle.refutation_terms.specs.declared.lines.Line.TheVariants.{Split}
 use Rattle.refutation_terms.specs.Tree.{IsLeaf, Tree, Leaf, Node, lines_in, IsTree, after_trees}
 
 leaf_is_read : (line : Line) → IsLeaf line → (n : ℕ) (rest : List Line) → after_trees (suc n) (line ∷ rest) ≡ after_trees n rest
 leaf_is_read (Split p x) h n rest = absurd h
-leaf_is_read (Window r p len) h n rest = refl
-leaf_is_read (Day j x over) h n rest = refl
-leaf_is_read (Dead p len R) h n rest = refl
-leaf_is_read (Bound p turns R y) h n rest = refl
-leaf_is_read Unfinished h n rest = refl
+leaf_is_read leaf h n rest = refl
 
 -- a tree in front is read whole
 pub tree_is_read : (t : Tree) (n : ℕ) (rest : List Line) → after_trees (suc n) (lines_in t ++ rest) ≡ after_trees n rest
@@ -33,11 +29,7 @@ front (suc fuel) (Split p x ∷ lines) n rest le h =
     let a = front fuel lines (suc n) rest (omega (arith, le)) h in
     let b = front fuel a.1 n rest (omega (arith, le, ap length a.2, length-append (lines_in a.0) a.1)) a.3 in
     (Node p x a.0 b.0, b.1, ap (λ ls. Split p x ∷ ls) (a.2 ∙ ap (λ ls. lines_in a.0 ++ ls) b.2 ∙ sym (append_assoc (lines_in a.0) (lines_in b.0) b.1)), b.3)
-front (suc fuel) (Window r p len ∷ lines) n rest le h = (Leaf (Window r p len) tt, lines, refl, h)
-front (suc fuel) (Day j x over ∷ lines) n rest le h = (Leaf (Day j x over) tt, lines, refl, h)
-front (suc fuel) (Dead p len R ∷ lines) n rest le h = (Leaf (Dead p len R) tt, lines, refl, h)
-front (suc fuel) (Bound p turns R y ∷ lines) n rest le h = (Leaf (Bound p turns R y) tt, lines, refl, h)
-front (suc fuel) (Unfinished ∷ lines) n rest le h = (Leaf Unfinished tt, lines, refl, h)
+front (suc fuel) (leaf ∷ lines) n rest le h = (Leaf leaf tt, lines, refl, h)
 
 pub front_tree : (lines : List Line) (n : ℕ) (rest : List Line) → after_trees (suc n) lines ≡ Some rest → Front lines n rest
 front_tree lines n rest h = let le : length lines ≤ length lines = omega arith in front (length lines) lines n rest le h

@@ -49,7 +49,7 @@ turned-IsRoster P k s some roster = record {
       subst (IsSymbol P) (sym (get_or-window s (k * P.days) (cells P) i d less)) (roster.symbols ((k * P.days + i) % length s) off_symbol there);
 }
 
-count_shift : (f : ℕ → Bool) (b a n : ℕ) → count_by f (range_with_len (b + a) n) ≡ count_by (λ i. f (b + i)) (range_with_len a n)
+pub count_shift : (f : ℕ → Bool) (b a n : ℕ) → count_by f (range_with_len (b + a) n) ≡ count_by (λ i. f (b + i)) (range_with_len a n)
 count_shift f b a zero = refl
 count_shift f b a (suc n) =
     let e : b + a + 1 ≡ b + (a + 1) = omega arith in
@@ -64,7 +64,7 @@ count_last f a (suc n) =
     let again : count_by f (range_with_len a (suc n)) ≡ cond (f a) 1 0 + count_by f (range_with_len (a + 1) n) = count_next f a n in
     omega arith
 
-count_period : (f : ℕ → Bool) (m : ℕ) → ((i : ℕ) → f (i + m) ≡ f i) → (a : ℕ) → count_by f (range_with_len a m) ≡ count_by f (range_with_len 0 m)
+pub count_period : (f : ℕ → Bool) (m : ℕ) → ((i : ℕ) → f (i + m) ≡ f i) → (a : ℕ) → count_by f (range_with_len a m) ≡ count_by f (range_with_len 0 m)
 count_period f m h zero = refl
 count_period f m h (suc a) =
     let e : suc a ≡ a + 1 = omega arith in

@@ -16,29 +16,30 @@ use Rattle.refutation_terms.specs.declared.lines.LogRefusal.{LogRefusal}
 use Rattle.refutation_terms.specs.declared.lines.LogRefusal.TheVariants as Refusals
 use Rattle.refutation_terms.specs.Word.{Domains}
 use Rattle.refutation_terms.specs.Tree.{IsTree, after_trees, domains_at, opening, lines_leave, lines_in}
-use Rattle.refutation_terms.specs.Log.{Log, LineFits, TurnFits, AreRules, Holds, Cites, TurnCites, IsAllowed, ListsShortOnly, IsGrounded, Passes}
+use Rattle.refutation_terms.specs.Log.{Log, LineFitsFor, TurnFits, AreRules, HoldsFor, Cites, TurnCites, IsAllowed, ListsShortOnly, IsGrounded, PassesFor}
 use Rattle.refutation_terms.specs.LogText.{raw, line_text, version_text, rules_text, turn_text}
-use Rattle.refutation_terms.specs.Verdict.{Front, Start, Versioned, BeforeTurn, Reading, front_text, HasNoCause, IsSoundSoFar, IsWhole, header_lines, Cause, VersionCause, RulesCause, IsRefusedLine, EndsEarly, IsRefused, IsAccepted}
+use Rattle.refutation_terms.specs.Verdict.{Front, Start, Versioned, BeforeTurn, Reading, front_text, HasNoCause, IsSoundSoFarFor, IsSoundSoFar, IsWhole, header_lines, TreeCauseFor, Cause, VersionCause, RulesCause, IsRefusedLine, EndsEarly, IsRefused, IsAccepted}
 use Rattle.refutation_terms.specs.TextLaws.{IsWritable, HasNames, VerdictIsUnique}
-use Rattle.refutation_terms.proofs.Spelled.{fitting_lines_are_spelled}
+use Rattle.refutation_terms.proofs.Spelled.{fitting_lines_are_spelled_for}
+use Rattle.refutation_terms.proofs.Spent.{open_holds_not}
 use Rattle.refutation_terms.proofs.Trees.{part_is_not_whole, tree_is_whole}
 use Rattle.refutation_terms.proofs.Fronts.{texts_distinct, front_fields, front_written, fronts}
-use Rattle.refutation_terms.proofs.Causes.{spells_same, not_unknown, long_not_short, idle_not_holding, escaped_not_holding, Reason, OfName, OfIdle, OfLong, OfFail, OfEscape, OfOpen, Level, Nothing, Unknown, Known, level_of, tree_cause_same, version_cause, rules_cause, extra_cause, turns_same, TurnReason, NoTurn, NoName, NoDay, NoDemand, turn_reason, turn_cause_same}
+use Rattle.refutation_terms.proofs.Causes.{spells_same, not_unknown_for, long_not_short, idle_not_holding_for, escaped_not_holding_for, ReasonFor, OfName, OfIdle, OfLong, OfFail, OfEscape, OfOpen, LevelFor, Nothing, Unknown, Known, level_of_for, tree_cause_same, version_cause, rules_cause, extra_cause, turns_same, TurnReason, NoTurn, NoName, NoDay, NoDemand, turn_reason, turn_cause_same}
 
 -- a line of a log without a cause has none
-no_reason : (P : Instance) (named : List ℕ) (D : Domains) (n : ℕ) (line : Line) (why : LogRefusal) → Holds P D line → ((r : Rule) → Cites P line r → Names P named r) → ListsShortOnly P line → Reason P named D n line why → ⊥
-no_reason P named D n line why holds all short (OfName k a e) = a.0.3 (all a.0.0 a.0.2)
-no_reason P named D n line why holds all short (OfIdle i e) = idle_not_holding P D line i holds
-no_reason P named D n line why holds all short (OfLong all' k a e) = long_not_short P D line k short a.0
-no_reason P named D n line why holds all short (OfFail all' plain not e) = not holds
-no_reason P named D n line why holds all short (OfEscape all' short' u a e) = escaped_not_holding P D line u a holds
-no_reason P named D n line why holds all short (OfOpen o e) = subst (Holds P D) o holds
+no_reason : (P : Instance) (goal : Option ℕ) (named : List ℕ) (D : Domains) (n : ℕ) (line : Line) (why : LogRefusal) → HoldsFor P goal D line → ((r : Rule) → Cites P line r → Names P named r) → ListsShortOnly P line → ReasonFor P goal named D n line why → ⊥
+no_reason P goal named D n line why holds all short (OfName k a e) = a.0.3 (all a.0.0 a.0.2)
+no_reason P goal named D n line why holds all short (OfIdle i e) = idle_not_holding_for P goal D line i holds
+no_reason P goal named D n line why holds all short (OfLong all' k a e) = long_not_short P D line k short a.0
+no_reason P goal named D n line why holds all short (OfFail all' plain not e) = not holds
+no_reason P goal named D n line why holds all short (OfEscape all' short' u a e) = escaped_not_holding_for P goal D line u a holds
+no_reason P goal named D n line why holds all short (OfOpen o e) = open_holds_not P goal D (subst (HoldsFor P goal D) o holds)
 
-no_level : (P : Instance) (named : List ℕ) (D : Domains) (n : ℕ) (line : Line) (why : LogRefusal) → IsWritable P → HasNames P → LineFits P line → Holds P D line → ((r : Rule) → Cites P line r → Names P named r) → ListsShortOnly P line → Level P named D n (line_text P (raw P line)) why → ⊥
-no_level P named D n line why w m fits holds all short (Nothing a e) = let s = fitting_lines_are_spelled P line m fits in a s.0 s.1
-no_level P named D n line why w m fits holds all short (Unknown a e) = not_unknown P (line_text P (raw P line)) line w (fitting_lines_are_spelled P line m fits) a
-no_level P named D n line why w m fits holds all short (Known other a q) =
-    no_reason P named D n line why holds all short (subst (λ l. Reason P named D n l why) (spells_same P (line_text P (raw P line)) other line w m a (fitting_lines_are_spelled P line m fits)) q)
+no_level : (P : Instance) (goal : Option ℕ) (named : List ℕ) (D : Domains) (n : ℕ) (line : Line) (why : LogRefusal) → IsWritable P → HasNames P → LineFitsFor P goal line → HoldsFor P goal D line → ((r : Rule) → Cites P line r → Names P named r) → ListsShortOnly P line → LevelFor P goal named D n (line_text P (raw P line)) why → ⊥
+no_level P goal named D n line why w m fits holds all short (Nothing a e) = let s = fitting_lines_are_spelled_for P goal line m fits in a s.0 s.1
+no_level P goal named D n line why w m fits holds all short (Unknown a e) = not_unknown_for P goal (line_text P (raw P line)) line w (fitting_lines_are_spelled_for P goal line m fits) a
+no_level P goal named D n line why w m fits holds all short (Known other a q) =
+    no_reason P goal named D n line why holds all short (subst (λ l. ReasonFor P goal named D n l why) (spells_same P goal (line_text P (raw P line)) other line w m a (fitting_lines_are_spelled_for P goal line m fits)) q)
 
 pub got_seam : (xs ys : List Line) (line : Line) → slice_get (xs ++ line ∷ ys) (length xs) ≡ Some line
 got_seam [] ys line = refl
@@ -47,19 +48,27 @@ got_seam (x ∷ xs) ys line = got_seam xs ys line
 take_all : (xs : List Line) → take (length xs) xs ≡ xs
 take_all xs = ap (take (length xs)) (sym (append-nil xs)) ∙ take-append_seam xs []
 
--- the next line of a longer log without a cause has none
-next_line_fine : (P : Instance) (f : Log) (line : Line) (more : List Line) (why : LogRefusal) → IsWritable P → HasNames P → IsSoundSoFar P (record { named = f.named; turn = f.turn; lines = f.lines ++ line ∷ more }) → Cause P (Reading f) (line_text P (raw P line)) why → ⊥
-next_line_fine P f line more why w n h (inl c) =
-    let short : length f.lines < length (f.lines ++ line ∷ more) = omega (arith, length-append f.lines (line ∷ more)) in
-    h.in_tree (length f.lines) short (subst IsTree (sym (take-append_seam f.lines (line ∷ more))) c.0)
-next_line_fine P f line more why w n h (inr c) =
+-- a line that holds behind a log, in which it stands without a cause, is refused for none
+pub tree_line_fine : (P : Instance) (goal : Option ℕ) (f : Log) (line : Line) (more : List Line) (n : ℕ) (why : LogRefusal) → IsWritable P → HasNames P → IsSoundSoFarFor P goal (record { named = f.named; turn = f.turn; goal = f.goal; lines = f.lines ++ line ∷ more }) → TreeCauseFor P goal f.named (domains_at P f.turn f.lines (length f.lines)) n (line_text P (raw P line)) why → ⊥
+tree_line_fine P goal f line more n why w m h c =
     let k = length f.lines in
     let here = got_seam f.lines more line in
     let D = domains_at P f.turn f.lines (length f.lines) in
     let before : take (length f.lines) (f.lines ++ line ∷ more) ≡ take (length f.lines) f.lines = take-append_seam f.lines (line ∷ more) ∙ sym (take_all f.lines) in
-    let holds : Holds P (domains_at P f.turn f.lines (length f.lines)) line =
-    subst (λ ls. Holds P (λ p z. opening P f.turn p z && lines_leave ls p z) line) before (h.holds k line here) in
-    no_level P f.named D (header_lines f.turn + length f.lines + 1) line why w n (h.grounded.fits.lines k line here) holds (λ r cites. h.grounded.named k line r here cites) (h.grounded.short k line here) (level_of P f.named D (header_lines f.turn + length f.lines + 1) (line_text P (raw P line)) why c.1)
+    let holds : HoldsFor P goal (domains_at P f.turn f.lines (length f.lines)) line =
+    subst (λ ls. HoldsFor P goal (λ p z. opening P f.turn p z && lines_leave ls p z) line) before (h.holds k line here) in
+    no_level P goal f.named D n line why w m (h.grounded.fits.lines k line here) holds (λ r cites. h.grounded.named k line r here cites) (h.grounded.short k line here) (level_of_for P goal f.named D n (line_text P (raw P line)) why c)
+
+-- and a whole tree isn't behind which it stands
+pub tree_not_before : (P : Instance) (goal : Option ℕ) (f : Log) (line : Line) (more : List Line) → IsSoundSoFarFor P goal (record { named = f.named; turn = f.turn; goal = f.goal; lines = f.lines ++ line ∷ more }) → IsTree f.lines → ⊥
+tree_not_before P goal f line more h t =
+    let short : length f.lines < length (f.lines ++ line ∷ more) = omega (arith, length-append f.lines (line ∷ more)) in
+    h.in_tree (length f.lines) short (subst IsTree (sym (take-append_seam f.lines (line ∷ more))) t)
+
+-- the next line of a longer log without a cause has none
+next_line_fine : (P : Instance) (f : Log) (line : Line) (more : List Line) (why : LogRefusal) → IsWritable P → HasNames P → IsSoundSoFar P (record { named = f.named; turn = f.turn; goal = f.goal; lines = f.lines ++ line ∷ more }) → Cause P (Reading f) (line_text P (raw P line)) why → ⊥
+next_line_fine P f line more why w n h (inl c) = tree_not_before P None f line more h c.0
+next_line_fine P f line more why w n h (inr c) = tree_line_fine P None f line more (header_lines f.turn + length f.lines + 1) why w n h c.1
 
 pub version_refutes : (b : Bool) (why : LogRefusal) → VersionCause (version_text b) why → ⊥
 version_refutes b why h = (subst (VersionCause (version_text b)) (version_cause (version_text b) why h) h).1 b refl
@@ -141,8 +150,8 @@ refusals_same P text why other w n (inr a) (inl b) = absurd (not_refused P text 
 refusals_same P text why other w n (inr a) (inr b) = refused_same (front_fields P) (HasNoCause P) (Cause P) (sound_fronts P w n) text why other (refused_behind P text why a) (refused_behind P text other b)
 
 -- a log that passes has no cause
-passing_sound : (P : Instance) (g : Log) → Passes P g → IsSoundSoFar P g
-passing_sound P g h = record {
+pub passing_sound : (P : Instance) (goal : Option ℕ) (g : Log) → PassesFor P goal g → IsSoundSoFarFor P goal g
+passing_sound P goal g h = record {
   grounded = h.grounded;
   holds = h.holds;
   in_tree = λ k lt t.
@@ -155,12 +164,12 @@ passing_sound P g h = record {
 
 passing_not_refused : (P : Instance) (text : List ℕ) (g : Log) (why : LogRefusal) → IsWritable P → HasNames P → IsAccepted P text g → (EndsEarly P text × (why ≡ Refusals.Ends)) ⊎ IsRefusedLine P text why → ⊥
 passing_not_refused P text g why w n a (inl b) =
-    let sound = passing_sound P g a.1 in
+    let sound = passing_sound P None g a.1 in
     let all = sound_fronts P w n in
     let lines : front_fields P (Reading g) ≡ front_fields P b.0.front =
     same_lines (front_fields P (Reading g)) (front_fields P b.0.front) (all.written (Reading g) sound) (all.written b.0.front b.0.no_cause) (sym (front_written P (Reading g)) ∙ sym a.0 ∙ b.0.whole ∙ front_written P b.0.front) in
     b.0.not_whole (subst IsWhole (sym (all.same b.0.front (Reading g) b.0.no_cause sound lines)) a.1.tree)
-passing_not_refused P text g why w n a (inr b) = not_refused P text (Reading g) why w n (passing_sound P g a.1) a.0 b
+passing_not_refused P text g why w n a (inr b) = not_refused P text (Reading g) why w n (passing_sound P None g a.1) a.0 b
 
 pub verdict_unique : VerdictIsUnique
 verdict_unique P text (Ok g) (Ok h) w n a b = ap Ok (texts_distinct P g h w n a.1.grounded.fits b.1.grounded.fits (sym a.0 ∙ b.0))

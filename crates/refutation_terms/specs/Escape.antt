@@ -1,5 +1,5 @@
 -- The words that escape a dead or a bound leaf: the least clean word, and the least among the heaviest.
-use Rattle.std.specs.Prelude.{◌≡◌, ◌⊎◌, ℕ, ◌<◌, List, [], ◌∷◌, length, ◌≤ℤ◌}
+use Rattle.std.specs.Prelude.{◌≡◌, ◌⊎◌, ℕ, ◌<◌, List, [], ◌∷◌, length, ℤ, ◌≤ℤ◌}
 use Rattle.rwsp_terms.specs.declared.data.Symbol.{Symbol}
 use Rattle.rwsp_terms.specs.declared.data.Weight.{Weight}
 use Rattle.rwsp_terms.specs.Instance.{Instance}
@@ -22,14 +22,21 @@ pub record IsLeastClean (P : Instance) (D : Domains) (p len : ℕ) (R : List ℕ
   pub clean : IsCleanOver P D p len R u
   pub least : (v : List Symbol) → IsCleanOver P D p len R v → ComesFirst u v
 
--- one of the heaviest of these words
-pub record IsHeaviest (P : Instance) (D : Domains) (p len : ℕ) (R : List ℕ) (y : List Weight)
+-- one of the heaviest of these words, by what each weighs
+pub record IsHeaviestBy (P : Instance) (D : Domains) (p len : ℕ) (R : List ℕ) (weighs : List Symbol → ℤ)
     (u : List Symbol) : Type 0 where
   pub clean : IsCleanOver P D p len R u
-  pub heaviest : (v : List Symbol) → IsCleanOver P D p len R v → weight P y p v ≤ℤ weight P y p u
+  pub heaviest : (v : List Symbol) → IsCleanOver P D p len R v → weighs v ≤ℤ weighs u
 
 -- the least of the heaviest
-pub record IsLeastHeaviest (P : Instance) (D : Domains) (p len : ℕ) (R : List ℕ) (y : List Weight)
+pub record IsLeastHeaviestBy (P : Instance) (D : Domains) (p len : ℕ) (R : List ℕ) (weighs : List Symbol → ℤ)
     (u : List Symbol) : Type 0 where
-  pub heavy : IsHeaviest P D p len R y u
-  pub least : (v : List Symbol) → IsHeaviest P D p len R y v → ComesFirst u v
+  pub heavy : IsHeaviestBy P D p len R weighs u
+  pub least : (v : List Symbol) → IsHeaviestBy P D p len R weighs v → ComesFirst u v
+
+-- the same by the weights of the days
+abbrev pub IsHeaviest : Instance → Domains → ℕ → ℕ → List ℕ → List Weight → List Symbol → Type 0
+IsHeaviest P D p len R y u = IsHeaviestBy P D p len R (weight P y p) u
+
+abbrev pub IsLeastHeaviest : Instance → Domains → ℕ → ℕ → List ℕ → List Weight → List Symbol → Type 0
+IsLeastHeaviest P D p len R y u = IsLeastHeaviestBy P D p len R (weight P y p) u

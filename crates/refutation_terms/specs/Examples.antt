@@ -6,7 +6,7 @@ use Rattle.rwsp_terms.specs.declared.data.Bounds.{Bounds}
 use Rattle.rwsp_terms.specs.declared.data.Weight.{Weight}
 use Rattle.rwsp_terms.specs.Instance.{Instance}
 use Rattle.refutation_terms.specs.declared.lines.Line.{Line}
-use Rattle.refutation_terms.specs.declared.lines.Line.TheVariants.{Split, Window, Day, Dead, Bound, Unfinished}
+use Rattle.refutation_terms.specs.declared.lines.Line.TheVariants.{Split, Window, Day, Dead, Bound, Few, Unfinished}
 use Rattle.refutation_terms.specs.declared.lines.Turn.{Turn}
 use Rattle.refutation_terms.specs.Log.{Log}
 
@@ -44,8 +44,12 @@ abbrev pub two_in_a_row : Instance
 two_in_a_row = one_shift 2 1 (from_to 1 1 ∷ from_to 1 1 ∷ []) (from_to 1 1) (from_to 1 1) (from_to 1 1)
 
 abbrev pub two_in_a_row_log : Log
-two_in_a_row_log =
-    record { named = 1 ∷ 7 ∷ 8 ∷ []; turn = None; lines = Bound 0 1 (1 ∷ []) (weighs 1 ∷ weighs 2 ∷ []) ∷ [] }
+two_in_a_row_log = record {
+  named = 1 ∷ 7 ∷ 8 ∷ [];
+  turn = None;
+  goal = None;
+  lines = Bound 0 1 (1 ∷ []) (weighs 1 ∷ weighs 2 ∷ []) ∷ [];
+}
 
 abbrev pub two_in_a_row_text : List ℕ
 two_in_a_row_text =
@@ -58,7 +62,7 @@ two_of_four = one_shift 1 4 (from_to 2 2 ∷ []) (from_to 1 1) (from_to 2 2) (fr
 -- a bound over some turns, under a header
 abbrev pub two_of_four_log : List ℕ → ℕ → Log
 two_of_four_log named turns =
-    record { named = named; turn = None; lines = Bound 0 turns (1 ∷ 3 ∷ 4 ∷ []) (weighs 1 ∷ []) ∷ [] }
+    record { named = named; turn = None; goal = None; lines = Bound 0 turns (1 ∷ 3 ∷ 4 ∷ []) (weighs 1 ∷ []) ∷ [] }
 
 abbrev pub two_of_four_text : List ℕ
 two_of_four_text =
@@ -72,7 +76,12 @@ abbrev pub blocks_dead : Line
 blocks_dead = Dead 0 7 (1 ∷ 2 ∷ 3 ∷ 4 ∷ [])
 
 abbrev pub split_log : Log
-split_log = record { named = 1 ∷ 2 ∷ 3 ∷ 4 ∷ []; turn = None; lines = Split 0 shift_D ∷ blocks_dead ∷ blocks_dead ∷ [] }
+split_log = record {
+  named = 1 ∷ 2 ∷ 3 ∷ 4 ∷ [];
+  turn = None;
+  goal = None;
+  lines = Split 0 shift_D ∷ blocks_dead ∷ blocks_dead ∷ [];
+}
 
 abbrev pub split_text : List ℕ
 split_text =
@@ -81,8 +90,12 @@ split_text =
 
 -- the same with a turn in place of the split
 abbrev pub turn_log : Log
-turn_log =
-    record { named = 1 ∷ 2 ∷ 3 ∷ 4 ∷ 7 ∷ []; turn = Some (record { day = 1; x = shift_D }); lines = blocks_dead ∷ [] }
+turn_log = record {
+  named = 1 ∷ 2 ∷ 3 ∷ 4 ∷ 7 ∷ [];
+  turn = Some (record { day = 1; x = shift_D });
+  goal = None;
+  lines = blocks_dead ∷ [];
+}
 
 abbrev pub turn_text : List ℕ
 turn_text =
@@ -90,14 +103,19 @@ turn_text =
 
 -- the same, not worked out
 abbrev pub open_log : Log
-open_log = record { named = []; turn = None; lines = Split 0 shift_D ∷ Unfinished ∷ Unfinished ∷ [] }
+open_log = record { named = []; turn = None; goal = None; lines = Split 0 shift_D ∷ Unfinished ∷ Unfinished ∷ [] }
 
 -- one cell, whose run has no end
 abbrev pub one_cell : Instance
 one_cell = one_shift 1 1 (from_to 1 1 ∷ []) (from_to 1 7) (from_to 1 1) (from_to 1 7)
 
 abbrev pub one_cell_log : Log
-one_cell_log = record { named = 3 ∷ 5 ∷ []; turn = None; lines = Split 0 shift_D ∷ Window 5 0 8 ∷ Window 3 0 2 ∷ [] }
+one_cell_log = record {
+  named = 3 ∷ 5 ∷ [];
+  turn = None;
+  goal = None;
+  lines = Split 0 shift_D ∷ Window 5 0 8 ∷ Window 3 0 2 ∷ [];
+}
 
 abbrev pub one_cell_text : List ℕ
 one_cell_text =
@@ -138,17 +156,17 @@ abbrev pub heavy_word : List Symbol
 heavy_word = shift_D ∷ record { number = 0 } ∷ record { number = 0 } ∷ shift_D ∷ []
 
 -- what the symbol of the number weighs on the day
-abbrev pub weight_of : ℕ → ℕ → ℤ → Weight
-weight_of day symbol value = record { day = day; symbol = record { number = symbol }; value = value }
+abbrev pub weight_on : ℕ → ℕ → ℤ → Weight
+weight_on day symbol value = record { day = day; symbol = record { number = symbol }; value = value }
 
 -- the weights that the search finds in round 2 for D on both days: D for more, days off for less
 abbrev pub searched_weights : List Weight
 searched_weights =
-    weight_of 1 0 (negsuc 0) ∷ weight_of 1 1 (pos 1) ∷ weight_of 2 0 (negsuc 0) ∷ weight_of 2 1 (pos 1) ∷ []
+    weight_on 1 0 (negsuc 0) ∷ weight_on 1 1 (pos 1) ∷ weight_on 2 0 (negsuc 0) ∷ weight_on 2 1 (pos 1) ∷ []
 
 -- D weighs so much on each of two days
 abbrev pub on_both_days : ℤ → List Weight
-on_both_days value = weight_of 1 1 value ∷ weight_of 2 1 value ∷ []
+on_both_days value = weight_on 1 1 value ∷ weight_on 2 1 value ∷ []
 
 -- the plain bounds for D on both days: +1 and -1 on all shifts, which is D alone, and again on D
 abbrev pub four_bounds : List (List Weight)
@@ -164,7 +182,7 @@ two_on_day_one = one_shift 3 1 (from_to 2 2 ∷ from_to 0 0 ∷ from_to 1 1 ∷ 
 
 -- logs for it: by a list of named rules, the rules of a bound and its weights
 abbrev pub day_log : List ℕ → List ℕ → List Weight → Log
-day_log named R y = record { named = named; turn = None; lines = Bound 0 1 R y ∷ [] }
+day_log named R y = record { named = named; turn = None; goal = None; lines = Bound 0 1 R y ∷ [] }
 
 -- what more is named than is needed, and what is left
 abbrev pub wide_log : Log
@@ -185,6 +203,7 @@ abbrev pub pairs_log : Log
 pairs_log = record {
   named = 7 ∷ 8 ∷ 10 ∷ [];
   turn = None;
+  goal = None;
   lines = Split 0 shift_D ∷ Split 1 shift_D ∷ Day 1 shift_D true ∷ Window 7 0 2 ∷ Split 1 shift_D ∷ Window 8 0 2 ∷
       Day 1 shift_D false ∷ [];
 }
@@ -199,6 +218,7 @@ abbrev pub triple_log : Log
 triple_log = record {
   named = 7 ∷ 9 ∷ 10 ∷ [];
   turn = Some (record { day = 1; x = shift_D });
+  goal = None;
   lines = Dead 0 3 (7 ∷ 9 ∷ []) ∷ [];
 }
 
@@ -213,6 +233,7 @@ odd_log =
     record {
       named = 1 ∷ 3 ∷ [];
       turn = None;
+      goal = None;
       lines = Split 0 shift_D ∷ Dead 0 4 (1 ∷ 3 ∷ []) ∷ Dead 0 4 (1 ∷ 3 ∷ []) ∷ [];
     }
 
@@ -231,6 +252,7 @@ late_dead_log =
     record {
       named = 1 ∷ 2 ∷ 3 ∷ 4 ∷ 7 ∷ [];
       turn = turn_to_D;
+      goal = None;
       lines = Split 1 shift_D ∷ blocks_dead ∷ blocks_dead ∷ [];
     }
 
@@ -240,6 +262,7 @@ late_day_log =
     record {
       named = 7 ∷ [];
       turn = turn_to_D;
+      goal = None;
       lines = Split 1 shift_D ∷ Day 1 shift_D false ∷ Day 1 shift_D false ∷ [];
     }
 
@@ -249,6 +272,7 @@ late_bound_log =
     record {
       named = 1 ∷ 7 ∷ 8 ∷ [];
       turn = turn_to_D;
+      goal = None;
       lines = Split 1 shift_D ∷ Window 1 0 2 ∷ Day 2 shift_D false ∷ [];
     }
 
@@ -258,5 +282,23 @@ none_wanted = one_shift 1 2 (from_to 0 0 ∷ []) (from_to 1 9) (from_to 1 9) (fr
 
 -- a split on the day off, which the first cell may hold, where it can't hold D
 abbrev pub free_split_log : Log
-free_split_log =
-    record { named = []; turn = None; lines = Split 0 (record { number = 0 }) ∷ Unfinished ∷ Unfinished ∷ [] }
+free_split_log = record {
+  named = [];
+  turn = None;
+  goal = None;
+  lines = Split 0 (record { number = 0 }) ∷ Unfinished ∷ Unfinished ∷ [];
+}
+
+-- one week of seven days on which D may be or not
+abbrev pub one_week : Instance
+one_week =
+    one_shift 7 1
+    (from_to 0 1 ∷ from_to 0 1 ∷ from_to 0 1 ∷ from_to 0 1 ∷ from_to 0 1 ∷ from_to 0 1 ∷ from_to 0 1 ∷ [])
+    (from_to 1 7) (from_to 1 7) (from_to 1 7)
+
+-- it has no two free weekends, whatever the rules
+abbrev pub few_log : Log
+few_log = record { named = []; turn = None; goal = Some 2; lines = Few ∷ [] }
+
+abbrev pub few_text : List ℕ
+few_text = text (codes "rwsp-free 1" ∷ codes "rules" ∷ codes "goal 2" ∷ codes "few" ∷ [])

@@ -1,5 +1,6 @@
 -- Laws of the definitions, as the contracts of src/laws.rt state them.
-use Rattle.std.specs.Prelude.{◌≡◌, ◌≢◌, ◌⊎◌, ◌↔◌, ℕ, ◌-◌, ◌+◌, ◌%◌, ◌*◌, ◌<◌, ◌≤◌, EachIndex, List, [], ◌∷◌, ◌++◌, take, length, slice_get, slice_index_or, Option, Some, IsTrue, false, Contains, pos, ◌*ℤ◌, ◌≤ℤ◌}
+use Rattle.std.specs.Prelude.{◌≡◌, ◌≢◌, ◌⊎◌, ◌↔◌, ℕ, ◌-◌, ◌+◌, ◌%◌, ◌*◌, ◌<◌, ◌≤◌, EachIndex, List, [], ◌∷◌, ◌++◌, take, length, slice_get, slice_index_or, Option, Some, None, IsTrue, false, count_by, ◌&&◌, Contains, pos, ◌*ℤ◌, ◌≤ℤ◌}
+use Rattle.std.specs.List.{range_with_len}
 use Rattle.rwsp_terms.specs.declared.data.Symbol.{Symbol}
 use Rattle.rwsp_terms.specs.declared.data.Weight.{Weight}
 use Rattle.rwsp_terms.specs.declared.data.Rule.{Rule}
@@ -11,8 +12,9 @@ use Rattle.refutation_terms.specs.declared.lines.Line.{Line}
 use Rattle.refutation_terms.specs.declared.lines.Line.TheVariants.{Split}
 use Rattle.refutation_terms.specs.declared.lines.Turn.{Turn}
 use Rattle.refutation_terms.specs.Word.{Domains, AreDomains, Within, turned, Over, Clean, weight, total}
+use Rattle.refutation_terms.specs.FreeWeekends.{is_off_at, free_weekends}
 use Rattle.refutation_terms.specs.Tree.{IsLeaf, IsTree, after_trees, First, Second, side, InFirst, InSecond, narrowed, opening, domains_at, is_idle}
-use Rattle.refutation_terms.specs.Log.{Log, TurnFits, HasWeight, Passes, IsSpent}
+use Rattle.refutation_terms.specs.Log.{Log, TurnFits, HasWeight, PassesFor, IsSpentFor}
 
 -- one leaf line
 abbrev pub IsOneLeaf : List Line → Type 0
@@ -151,10 +153,31 @@ SomeTurnHasIt =
     → IsRoster P s → IsDay P j → IsSymbol P x → MeetsDay P j s → pos 1 ≤ℤ least P x.number j
     → (k : ℕ) × (slice_index_or (turned P k s) (j - 1) off_symbol ≡ x)
 
--- a log that passes, with or without a turn, and a roster that meets the rules that it names exclude each other
+-- a roster has at least as many free weekends as the goal, where there is one
+abbrev pub HasGoal : Option ℕ → List Symbol → Type 0
+HasGoal None s = Unit {0}
+HasGoal (Some goal) s = goal ≤ free_weekends s
+
+-- a log that passes, with a turn or a goal or without, and a roster that meets the rules that it names and has as many
+-- free weekends as the goal exclude each other
 abbrev pub PassingLeavesNoRoster : Type 0
-PassingLeavesNoRoster = (P : Instance) (g : Log) (s : List Symbol) → Passes P g → Meets P g.named s → ⊥
+PassingLeavesNoRoster =
+    (P : Instance) (goal : Option ℕ) (g : Log) (s : List Symbol)
+    → PassesFor P goal g → Meets P g.named s → HasGoal goal s → ⊥
+
+-- a roster of weeks of seven days has so many free weekends as weeks with days 6 and 7 off
+abbrev pub FreeWeekendsAreWeeks : Type 0
+FreeWeekendsAreWeeks =
+    (P : Instance) (s : List Symbol) → P.days ≡ 7 → IsRoster P s
+    → free_weekends s ≡ count_by (λ i. is_off_at s (i * 7 + 5) && is_off_at s (i * 7 + 6)) (range_with_len 0 P.weeks)
+
+-- the word that goes through a whole roster of such weeks some times has its free weekends as often
+abbrev pub TurnsHaveFreeWeekends : Type 0
+TurnsHaveFreeWeekends =
+    (P : Instance) (s : List Symbol) (turns : ℕ) → P.days ≡ 7 → IsRoster P s
+    → free_weekends (window s 0 (turns * cells P)) ≡ turns * free_weekends s
 
 -- a log that passes is not spent, whatever the budget
 abbrev pub PassingIsNotSpent : Type 0
-PassingIsNotSpent = (P : Instance) (g : Log) (budget : ℕ) → Passes P g → IsSpent P g budget → ⊥
+PassingIsNotSpent =
+    (P : Instance) (goal : Option ℕ) (g : Log) (budget : ℕ) → PassesFor P goal g → IsSpentFor P goal g budget → ⊥

@@ -1,5 +1,7 @@
 pub mod Word
+pub mod FreeWeekends
 pub mod Leaf
+pub mod FreeLeaves
 pub mod Tree
 pub mod Log
 pub mod Escape
@@ -8,6 +10,7 @@ pub mod Strip
 pub mod LogText
 pub mod LineKinds
 pub mod Verdict
+pub mod FreeVerdict
 pub mod TextLaws
 pub mod Laws
 pub mod Examples

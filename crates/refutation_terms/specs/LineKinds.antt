@@ -1,11 +1,11 @@
 -- The kinds of lines of a log's text, as tables.
-use Rattle.std.specs.Prelude.{ℕ, ◌/◌, List, [], ◌∷◌, length, Bool, codes}
+use Rattle.std.specs.Prelude.{ℕ, ◌+◌, ◌/◌, List, [], ◌∷◌, length, Bool, codes}
 use Rattle.rwsp_text.specs.Fields.{Word, Number, Name, Choice, Place, Rules, Weights}
 use Rattle.rwsp_text.specs.Kinds.{Kind}
-use Rattle.rwsp_terms.specs.declared.limits.TheConstants.{GREATEST_WEIGHT, LONGEST_WORD}
+use Rattle.rwsp_terms.specs.declared.limits.TheConstants.{GREATEST_WEIGHT, GREATEST_REWARD, LONGEST_WORD}
 use Rattle.rwsp_terms.specs.Instance.{Instance, cells}
 use Rattle.rwsp_terms.specs.Rules.{rules}
-use Rattle.refutation_terms.specs.LogText.{RawLine, RawSplit, RawWindow, RawDay, RawDead, RawBound, RawUnfinished}
+use Rattle.refutation_terms.specs.LogText.{RawLine, RawSplit, RawWindow, RawDay, RawDead, RawBound, RawFew, RawFree, RawUnfinished}
 
 -- the most turns that a bound may speak of
 abbrev pub most_turns : Instance → ℕ
@@ -47,7 +47,23 @@ bound_kind P = record {
 abbrev pub open_kind : Kind RawLine
 open_kind = record { word = codes "open"; fields = []; make = λ v. RawUnfinished }
 
--- the lines of the tree
+abbrev pub few_kind : Kind RawLine
+few_kind = record { word = codes "few"; fields = []; make = λ v. RawFew }
+
+abbrev pub free_kind : Instance → Kind RawLine
+free_kind P = record {
+  word = codes "free";
+  fields =
+      Number 1 (most_turns P) ∷ Number 0 GREATEST_REWARD ∷ Word (codes "rules") ∷ Rules (length (rules P))
+      ∷ Word (codes "weights") ∷ Weights P.days GREATEST_WEIGHT ∷ [];
+  make = λ v. RawFree v.0 v.1.0 v.1.1.0 v.1.1.1.0;
+}
+
+-- the lines of the tree of a free log
+abbrev pub free_kinds : Instance → List (Kind RawLine)
+free_kinds P = split_kind P ∷ window_kind P ∷ day_kind P ∷ dead_kind P ∷ few_kind ∷ free_kind P ∷ open_kind ∷ []
+
+-- the lines of the tree of a log without a goal
 abbrev pub tree_kinds : Instance → List (Kind RawLine)
 tree_kinds P = split_kind P ∷ window_kind P ∷ day_kind P ∷ dead_kind P ∷ bound_kind P ∷ open_kind ∷ []
 
@@ -62,6 +78,20 @@ rules_kind P = record { word = codes "rules"; fields = Rules (length (rules P)) 
 -- line 3 where there is a turn: its name and its day
 abbrev pub turn_kind : Instance → Kind (List ℕ × ℕ)
 turn_kind P = record { word = codes "turn"; fields = Name ∷ Number 1 P.days ∷ []; make = λ v. (v.0, v.1.0) }
+
+-- line 1 of a free log, of which there is one version
+abbrev pub free_version_kind : Kind (Unit {0})
+free_version_kind = record { word = codes "rwsp-free"; fields = Word (codes "1") ∷ []; make = λ v. tt }
+
+-- line 3 of a free log: its goal
+abbrev pub goal_kind : Instance → Kind ℕ
+goal_kind P = record { word = codes "goal"; fields = Number 0 (P.weeks + 1) ∷ []; make = λ v. v.0 }
+
+abbrev pub free_version_kinds : List (Kind (Unit {0}))
+free_version_kinds = free_version_kind ∷ []
+
+abbrev pub goal_kinds : Instance → List (Kind ℕ)
+goal_kinds P = goal_kind P ∷ []
 
 abbrev pub version_kinds : List (Kind Bool)
 version_kinds = version_kind ∷ []

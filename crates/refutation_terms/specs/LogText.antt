@@ -4,14 +4,14 @@ use Rattle.std.specs.List.{join_with_byte, concat, flat_map}
 use Rattle.std.specs.Fmt.{decimal, signed_decimal}
 use Rattle.std.specs.Option.{option_map}
 use Rattle.rwsp_text.specs.Fields.{chosen, IsName, NamedWeight, IsWeight, numbers, weight_fields, text_of}
-use Rattle.rwsp_terms.specs.declared.limits.TheConstants.{GREATEST_WEIGHT}
+use Rattle.rwsp_terms.specs.declared.limits.TheConstants.{GREATEST_WEIGHT, GREATEST_REWARD}
 use Rattle.rwsp_terms.specs.declared.data.Symbol.{Symbol}
 use Rattle.rwsp_terms.specs.declared.data.Weight.{Weight}
 use Rattle.rwsp_terms.specs.Instance.{Instance, cells, IsDay, symbol_of, name_of}
 use Rattle.rwsp_terms.specs.Rules.{rules}
 use Rattle.rwsp_terms.specs.Weights.{ComesBefore}
 use Rattle.refutation_terms.specs.declared.lines.Line.{Line}
-use Rattle.refutation_terms.specs.declared.lines.Line.TheVariants.{Split, Window, Day, Dead, Bound, Unfinished}
+use Rattle.refutation_terms.specs.declared.lines.Line.TheVariants.{Split, Window, Day, Dead, Bound, Few, Free, Unfinished}
 use Rattle.refutation_terms.specs.declared.lines.Turn.{Turn}
 use Rattle.refutation_terms.specs.Log.{Log, IsLength, AreRules}
 
@@ -22,6 +22,8 @@ pub data RawLine : Type 0 where
   RawDay : (day : ℕ) (name : List ℕ) (over : Bool) → RawLine
   RawDead : (p len : ℕ) (R : List ℕ) → RawLine
   RawBound : (p turns : ℕ) (R : List ℕ) (y : List NamedWeight) → RawLine
+  RawFew : RawLine
+  RawFree : (turns reward : ℕ) (R : List ℕ) (y : List NamedWeight) → RawLine
   RawUnfinished : RawLine
 
 -- a weight with the name of its symbol
@@ -35,6 +37,8 @@ raw P (Window rule p len) = RawWindow rule p len
 raw P (Day j x over) = RawDay j (name_of P x) over
 raw P (Dead p len R) = RawDead p len R
 raw P (Bound p turns R y) = RawBound p turns R (map (named_weight P) y)
+raw P Few = RawFew
+raw P (Free turns reward R y) = RawFree turns reward R (map (named_weight P) y)
 raw P Unfinished = RawUnfinished
 
 -- the week and the day of a position, both from 1 on
@@ -46,19 +50,23 @@ abbrev pub way : Bool → List ℕ
 way over = chosen (codes "over") (codes "short") over
 
 -- the fields of a line: words, names and numbers
-abbrev pub fields : Instance → RawLine → List (List ℕ)
-fields P (RawSplit p name) = codes "split" ∷ place P p ++ (name ∷ [])
-fields P (RawWindow rule p len) = codes "window" ∷ decimal rule ∷ place P p ++ (decimal len ∷ [])
-fields P (RawDay day name over) = codes "day" ∷ decimal day ∷ name ∷ way over ∷ []
-fields P (RawDead p len R) = codes "dead" ∷ place P p ++ (decimal len ∷ codes "rules" ∷ numbers R)
-fields P (RawBound p turns R y) =
+abbrev pub raw_fields : Instance → RawLine → List (List ℕ)
+raw_fields P (RawSplit p name) = codes "split" ∷ place P p ++ (name ∷ [])
+raw_fields P (RawWindow rule p len) = codes "window" ∷ decimal rule ∷ place P p ++ (decimal len ∷ [])
+raw_fields P (RawDay day name over) = codes "day" ∷ decimal day ∷ name ∷ way over ∷ []
+raw_fields P (RawDead p len R) = codes "dead" ∷ place P p ++ (decimal len ∷ codes "rules" ∷ numbers R)
+raw_fields P (RawBound p turns R y) =
     codes "bound" ∷ place P p ++ (decimal turns ∷ codes "rules" ∷ numbers R)
     ++ (codes "weights" ∷ flat_map weight_fields y)
-fields P RawUnfinished = codes "open" ∷ []
+raw_fields P RawFew = codes "few" ∷ []
+raw_fields P (RawFree turns reward R y) =
+    codes "free" ∷ decimal turns ∷ decimal reward ∷ codes "rules" ∷ numbers R
+    ++ (codes "weights" ∷ flat_map weight_fields y)
+raw_fields P RawUnfinished = codes "open" ∷ []
 
 -- a written line
 abbrev pub line_text : Instance → RawLine → List ℕ
-line_text P line = text_of (fields P line)
+line_text P line = text_of (raw_fields P line)
 
 -- line 1, the version: 2 where the log has a turn
 abbrev pub version_text : Bool → List ℕ
@@ -73,20 +81,42 @@ rules_text R = text_of (codes "rules" ∷ numbers R)
 abbrev pub turn_text : List ℕ → ℕ → List ℕ
 turn_text name day = text_of (codes "turn" ∷ name ∷ decimal day ∷ [])
 
--- these lines
+-- line 1 of a free log
+abbrev pub free_version_text : List ℕ
+free_version_text = text_of (codes "rwsp-free" ∷ codes "1" ∷ [])
+
+-- and line 3, its goal
+abbrev pub goal_text : ℕ → List ℕ
+goal_text goal = text_of (codes "goal" ∷ decimal goal ∷ [])
+
+-- the header of a free log
+abbrev pub free_header_text : List ℕ → ℕ → List ℕ
+free_header_text named goal = free_version_text ++ rules_text named ++ goal_text goal
+
+-- that of a log without a goal
 abbrev pub header_text : Instance → List ℕ → Option Turn → List ℕ
 header_text P named None = version_text false ++ rules_text named
 header_text P named (Some t) = version_text true ++ rules_text named ++ turn_text (name_of P t.x) t.day
 
--- the text of a log: its header and then its lines
+-- the text of a log without a goal: its header and then its lines
 abbrev pub log_text : Instance → Log → List ℕ
 log_text P g = header_text P g.named g.turn ++ concat (map (λ line. line_text P (raw P line)) g.lines)
+
+-- the text of a free log with this goal
+abbrev pub free_log_text : Instance → ℕ → Log → List ℕ
+free_log_text P goal g = free_header_text g.named goal ++ concat (map (λ line. line_text P (raw P line)) g.lines)
+
+-- by the goal
+abbrev pub log_text_for : Instance → Option ℕ → Log → List ℕ
+log_text_for P None g = log_text P g
+log_text_for P (Some goal) g = free_log_text P goal g
 
 -- a value that isn't 0, from the least weight to the greatest, on a day of the problem
 abbrev pub WeightIsInRange : Instance → NamedWeight → Type 0
 WeightIsInRange P e = IsWeight P.days GREATEST_WEIGHT e
 
--- the numbers of a written line are in their ranges, its lists of rules ascend, and its names are names
+-- the numbers of a written line of a log without a goal are in their ranges, its lists of rules ascend, and its names
+-- are names
 abbrev pub IsInRange : Instance → RawLine → Type 0
 IsInRange P (RawSplit p name) = (p < cells P) × IsName name
 IsInRange P (RawWindow rule p len) = (0 < rule) × (rule ≤ length (rules P)) × (p < cells P) × IsLength len
@@ -95,6 +125,21 @@ IsInRange P (RawDead p len R) = (p < cells P) × IsLength len × AreRules P R
 IsInRange P (RawBound p turns R y) =
     (p < cells P) × IsLength (turns * cells P) × AreRules P R × All (WeightIsInRange P) y
 IsInRange P RawUnfinished = Unit {0}
+IsInRange P RawFew = ⊥
+IsInRange P (RawFree turns reward R y) = ⊥
+
+-- the same of a line of a free log
+abbrev pub IsInFreeRange : Instance → RawLine → Type 0
+IsInFreeRange P RawFew = Unit {0}
+IsInFreeRange P (RawFree turns reward R y) =
+    IsLength (turns * cells P) × (reward ≤ GREATEST_REWARD) × AreRules P R × All (WeightIsInRange P) y
+IsInFreeRange P (RawBound p turns R y) = ⊥
+IsInFreeRange P line = IsInRange P line
+
+-- by the goal of the log
+abbrev pub IsInRangeFor : Instance → Option ℕ → RawLine → Type 0
+IsInRangeFor P None line = IsInRange P line
+IsInRangeFor P (Some goal) line = IsInFreeRange P line
 
 -- a weight with a symbol for its name, before further weights
 abbrev pub with_weight : NamedWeight → Option Symbol → Option (List Weight) → Option (List Weight)
@@ -113,19 +158,23 @@ line_of P (RawWindow rule p len) = Some (Window rule p len)
 line_of P (RawDay day name over) = option_map (λ x. Day day x over) (symbol_of P name)
 line_of P (RawDead p len R) = Some (Dead p len R)
 line_of P (RawBound p turns R y) = option_map (λ y. Bound p turns R y) (weights_of P y)
+line_of P RawFew = Some Few
+line_of P (RawFree turns reward R y) = option_map (λ y. Free turns reward R y) (weights_of P y)
 line_of P RawUnfinished = Some Unfinished
 
 -- weights ascend by day and then by symbol
 abbrev pub Ascends : Line → Type 0
 Ascends (Bound p turns R y) = AllPairs ComesBefore y
-Ascends (Split p x) = Unit {0}
-Ascends (Window rule p len) = Unit {0}
-Ascends (Day j x over) = Unit {0}
-Ascends (Dead p len R) = Unit {0}
-Ascends Unfinished = Unit {0}
+Ascends (Free turns reward R y) = AllPairs ComesBefore y
+Ascends line = Unit {0}
 
--- the bytes are a written line with its numbers in their ranges; where all its names are known, its weights ascend
-pub record IsWritten (P : Instance) (bytes : List ℕ) (line : RawLine) : Type 0 where
+-- the bytes are a written line of a log with this goal or none, with its numbers in their ranges; where all its names
+-- are known, its weights ascend
+pub record IsWrittenFor (P : Instance) (goal : Option ℕ) (bytes : List ℕ) (line : RawLine) : Type 0 where
   pub spelled : bytes ≡ line_text P line
-  pub in_range : IsInRange P line
+  pub in_range : IsInRangeFor P goal line
   pub ascends : IfSome (line_of P line) Ascends
+
+-- of a log without a goal
+abbrev pub IsWritten : Instance → List ℕ → RawLine → Type 0
+IsWritten P bytes line = IsWrittenFor P None bytes line

@@ -8,7 +8,7 @@ use Rattle.rwsp_terms.specs.Roster.{weeks_with}
 use Rattle.rwsp_terms.specs.Rules.{NamesShortRules}
 use Rattle.rwsp_terms.specs.Weights.{weight_at}
 use Rattle.refutation_terms.specs.declared.lines.Line.{Line}
-use Rattle.refutation_terms.specs.declared.lines.Line.TheVariants.{Split, Window, Day, Dead, Bound, Unfinished}
+use Rattle.refutation_terms.specs.declared.lines.Line.TheVariants.{Split, Window, Day, Unfinished}
 use Rattle.refutation_terms.specs.declared.lines.Turn.{Turn}
 use Rattle.refutation_terms.specs.Word.{Domains, Over, Clean}
 use Rattle.refutation_terms.specs.Leaf.{IsDead, IsTooLight}
@@ -88,10 +88,7 @@ pub record NoBoundHolds (P : Instance) (D : Domains) (R : List ℕ) : Type 0 whe
 abbrev pub IsUndecided : Line → Type 0
 IsUndecided (Split p x) = Unit {0}
 IsUndecided Unfinished = Unit {0}
-IsUndecided (Window number p len) = ⊥
-IsUndecided (Day j x over) = ⊥
-IsUndecided (Dead p len R) = ⊥
-IsUndecided (Bound p turns R y) = ⊥
+IsUndecided line = ⊥
 
 -- some week must hold the shift on the day
 abbrev pub IsDemanded : Instance → ℕ → Symbol → Type 0

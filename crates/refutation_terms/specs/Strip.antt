@@ -6,32 +6,30 @@ use Rattle.rwsp_terms.specs.declared.data.Rule.TheVariants as TheRules
 use Rattle.rwsp_terms.specs.Instance.{Instance}
 use Rattle.rwsp_terms.specs.Rules.{rule_of}
 use Rattle.refutation_terms.specs.declared.lines.Line.{Line}
-use Rattle.refutation_terms.specs.declared.lines.Line.TheVariants.{Split, Window, Day, Dead, Bound, Unfinished}
+use Rattle.refutation_terms.specs.declared.lines.Line.TheVariants.{Dead, Bound}
 use Rattle.refutation_terms.specs.Log.{Log, Passes}
 
 -- the list without the number
-abbrev pub without : ℕ → List ℕ → List ℕ
-without number R = filter (λ k. not (k == number)) R
+abbrev pub without_rule : ℕ → List ℕ → List ℕ
+without_rule number R = filter (λ k. not (k == number)) R
 
 -- the weights of a day set to 0 where the rule is that day's
 abbrev pub without_day : Option Rule → List Weight → List Weight
 without_day (Some (TheRules.Day j)) y = filter (λ e. not (e.day == j)) y
 without_day rule y = y
 
--- a line without the rule in its lists. A window or a day leaf that cites it stays
+-- a line of a log without a goal, without the rule in its lists. A window or a day leaf that cites it stays
 abbrev pub strip_line : Instance → ℕ → Line → Line
-strip_line P number (Dead p len R) = Dead p len (without number R)
-strip_line P number (Bound p turns R y) = Bound p turns (without number R) (without_day (rule_of P number) y)
-strip_line P number (Split p x) = Split p x
-strip_line P number (Window rule p len) = Window rule p len
-strip_line P number (Day j x over) = Day j x over
-strip_line P number Unfinished = Unfinished
+strip_line P number (Dead p len R) = Dead p len (without_rule number R)
+strip_line P number (Bound p turns R y) = Bound p turns (without_rule number R) (without_day (rule_of P number) y)
+strip_line P number line = line
 
 -- the log without the rule of this number. Its turn stays
 abbrev pub strip : Instance → ℕ → Log → Log
 strip P number g = record {
-  named = without number g.named;
+  named = without_rule number g.named;
   turn = g.turn;
+  goal = g.goal;
   lines = map (strip_line P number) g.lines;
 }
 

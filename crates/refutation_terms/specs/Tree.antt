@@ -3,7 +3,7 @@ use Rattle.std.specs.Prelude.{◌≡◌, ℕ, zero, suc, ◌-◌, List, [], ◌�
 use Rattle.rwsp_terms.specs.declared.data.Symbol.{Symbol}
 use Rattle.rwsp_terms.specs.Instance.{Instance}
 use Rattle.refutation_terms.specs.declared.lines.Line.{Line}
-use Rattle.refutation_terms.specs.declared.lines.Line.TheVariants.{Split, Window, Day, Dead, Bound, Unfinished}
+use Rattle.refutation_terms.specs.declared.lines.Line.TheVariants.{Split}
 use Rattle.refutation_terms.specs.declared.lines.Turn.{Turn}
 use Rattle.refutation_terms.specs.Word.{Domains, full}
 use Rattle.refutation_terms.specs.Leaf.{is_only}
@@ -11,11 +11,7 @@ use Rattle.refutation_terms.specs.Leaf.{is_only}
 -- every line but a split
 abbrev pub IsLeaf : Line → Type 0
 IsLeaf (Split p x) = ⊥
-IsLeaf (Window number p len) = Unit {0}
-IsLeaf (Day j x over) = Unit {0}
-IsLeaf (Dead p len R) = Unit {0}
-IsLeaf (Bound p turns R y) = Unit {0}
-IsLeaf Unfinished = Unit {0}
+IsLeaf line = Unit {0}
 
 -- a tree is one leaf, or a split with a tree for each of its sides
 pub data Tree : Type 0 where
@@ -37,11 +33,7 @@ abbrev pub after_trees : ℕ → List Line → Option (List Line)
 after_trees zero lines = Some lines
 after_trees (suc n) [] = None
 after_trees (suc n) (Split p x ∷ lines) = after_trees (suc (suc n)) lines
-after_trees (suc n) (Window number p len ∷ lines) = after_trees n lines
-after_trees (suc n) (Day j x over ∷ lines) = after_trees n lines
-after_trees (suc n) (Dead p len R ∷ lines) = after_trees n lines
-after_trees (suc n) (Bound p turns R y ∷ lines) = after_trees n lines
-after_trees (suc n) (Unfinished ∷ lines) = after_trees n lines
+after_trees (suc n) (leaf ∷ lines) = after_trees n lines
 
 -- the side of a split that a later line is in
 pub data Side : Type 0 where
@@ -77,11 +69,7 @@ side_takes Neither same = true
 -- none
 abbrev pub line_leaves : Line → Side → Domains
 line_leaves (Split q x) s p z = not (q == p) || side_takes s (z == x.number)
-line_leaves (Window number q len) s p z = true
-line_leaves (Day j x over) s p z = true
-line_leaves (Dead q len R) s p z = true
-line_leaves (Bound q turns R y) s p z = true
-line_leaves Unfinished s p z = true
+line_leaves leaf s p z = true
 
 -- the domains in a side of a line that is read under other domains
 abbrev pub narrowed : Domains → Line → Side → Domains

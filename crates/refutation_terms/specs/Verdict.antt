@@ -8,15 +8,17 @@ use Rattle.rwsp_terms.specs.declared.data.Rule.TheVariants as TheRules
 use Rattle.rwsp_terms.specs.Instance.{Instance, cells, least, IsDay, symbol_of}
 use Rattle.rwsp_terms.specs.Rules.{rule_of, Names, IsShort}
 use Rattle.refutation_terms.specs.declared.lines.Line.{Line}
-use Rattle.refutation_terms.specs.declared.lines.Line.TheVariants.{Split, Window, Day, Dead, Bound, Unfinished}
+use Rattle.refutation_terms.specs.declared.lines.Line.TheVariants.{Split, Window, Day, Dead, Bound, Few, Free, Unfinished}
 use Rattle.refutation_terms.specs.declared.lines.Turn.{Turn}
 use Rattle.refutation_terms.specs.declared.lines.LogRefusal.{LogRefusal}
 use Rattle.refutation_terms.specs.declared.lines.LogRefusal.TheVariants as Refusals
 use Rattle.refutation_terms.specs.Word.{Domains, weight, total}
+use Rattle.refutation_terms.specs.FreeWeekends.{free_weight}
+use Rattle.refutation_terms.specs.FreeLeaves.{free_total}
 use Rattle.refutation_terms.specs.Tree.{IsTree, domains_at, is_idle}
-use Rattle.refutation_terms.specs.Log.{Log, Holds, HoldsAt, AreRules, Cites, CitesOnlyNamed, ListsShortOnly, IsGrounded, Passes}
-use Rattle.refutation_terms.specs.Escape.{IsLeastClean, IsLeastHeaviest}
-use Rattle.refutation_terms.specs.LogText.{RawLine, IsWritten, line_of, version_text, rules_text, turn_text, log_text}
+use Rattle.refutation_terms.specs.Log.{Log, HoldsFor, HoldsAtFor, AreRules, Cites, CitesOnlyNamed, ListsShortOnly, IsGroundedFor, Passes}
+use Rattle.refutation_terms.specs.Escape.{IsLeastClean, IsLeastHeaviest, IsLeastHeaviestBy}
+use Rattle.refutation_terms.specs.LogText.{RawLine, IsWrittenFor, line_of, version_text, rules_text, turn_text, log_text}
 
 -- the least number with a property
 abbrev pub IsLeast : (ℕ → Type 0) → ℕ → Type 0
@@ -30,83 +32,107 @@ IsUnnamed P named Cited k = (r : Rule) × (rule_of P k ≡ Some r) × Cited r ×
 abbrev pub IsLongIn : Instance → List ℕ → ℕ → Type 0
 IsLongIn P R k = (r : Rule) × (rule_of P k ≡ Some r) × Contains R k × (IsShort P r → ⊥)
 
--- the same of the list of a dead or a bound leaf
+-- the same of the list of a dead, a bound or a free leaf
 abbrev pub ListsLong : Instance → Line → ℕ → Type 0
 ListsLong P (Dead p len R) k = IsLongIn P R k
 ListsLong P (Bound p turns R y) k = IsLongIn P R k
-ListsLong P (Split p x) k = ⊥
-ListsLong P (Window rule p len) k = ⊥
-ListsLong P (Day j x over) k = ⊥
-ListsLong P Unfinished k = ⊥
+ListsLong P (Free turns reward R y) k = IsLongIn P R k
+ListsLong P line k = ⊥
 
--- a window or a day leaf
+-- a window or a day leaf, or few free weekends
 abbrev pub IsPlainLeaf : Line → Type 0
 IsPlainLeaf (Window rule p len) = Unit {0}
 IsPlainLeaf (Day j x over) = Unit {0}
-IsPlainLeaf (Split p x) = ⊥
-IsPlainLeaf (Dead p len R) = ⊥
-IsPlainLeaf (Bound p turns R y) = ⊥
-IsPlainLeaf Unfinished = ⊥
+IsPlainLeaf Few = Unit {0}
+IsPlainLeaf line = ⊥
 
 -- the word that shows that a dead or a bound leaf doesn't hold
 abbrev pub Escapes : Instance → Domains → Line → List Symbol → Type 0
 Escapes P D (Dead p len R) w = IsLeastClean P D p len R w
 Escapes P D (Bound p turns R y) w =
     IsLeastHeaviest P D p (turns * cells P) R y w × ((pos turns *ℤ total P y) ≤ℤ weight P y p w)
-Escapes P D (Split p x) w = ⊥
-Escapes P D (Window rule p len) w = ⊥
-Escapes P D (Day j x over) w = ⊥
-Escapes P D Unfinished w = ⊥
+Escapes P D line w = ⊥
 
--- the bytes of a text line spell no line
-abbrev pub SpellsNothing : Instance → List ℕ → Type 0
-SpellsNothing P bytes = (raw : RawLine) → IsWritten P bytes raw → ⊥
+-- and that a leaf of a free log with this goal doesn't hold
+abbrev pub EscapesFree : Instance → ℕ → Domains → Line → List Symbol → Type 0
+EscapesFree P goal D (Free turns reward R y) w =
+    IsLeastHeaviestBy P D 0 (turns * cells P) R (free_weight P y reward 0) w
+    × ((pos turns *ℤ free_total P y reward goal) ≤ℤ free_weight P y reward 0 w)
+EscapesFree P goal D line w = Escapes P D line w
+
+-- by the goal of the log
+abbrev pub EscapesFor : Instance → Option ℕ → Domains → Line → List Symbol → Type 0
+EscapesFor P None D line w = Escapes P D line w
+EscapesFor P (Some goal) D line w = EscapesFree P goal D line w
+
+-- the bytes of a text line spell no line of a log with this goal or none
+abbrev pub SpellsNothingFor : Instance → Option ℕ → List ℕ → Type 0
+SpellsNothingFor P goal bytes = (raw : RawLine) → IsWrittenFor P goal bytes raw → ⊥
 
 -- they spell a line with a name of no symbol
-abbrev pub SpellsUnknown : Instance → List ℕ → Type 0
-SpellsUnknown P bytes = (raw : RawLine) × IsWritten P bytes raw × (line_of P raw ≡ None)
+abbrev pub SpellsUnknownFor : Instance → Option ℕ → List ℕ → Type 0
+SpellsUnknownFor P goal bytes = (raw : RawLine) × IsWrittenFor P goal bytes raw × (line_of P raw ≡ None)
 
 -- they spell this line
-abbrev pub Spells : Instance → List ℕ → Line → Type 0
-Spells P bytes line = (raw : RawLine) × IsWritten P bytes raw × (line_of P raw ≡ Some line)
+abbrev pub SpellsFor : Instance → Option ℕ → List ℕ → Line → Type 0
+SpellsFor P goal bytes line = (raw : RawLine) × IsWrittenFor P goal bytes raw × (line_of P raw ≡ Some line)
 
 -- and each rule that it cites is named
-abbrev pub SpellsNamed : Instance → List ℕ → List ℕ → Line → Type 0
-SpellsNamed P named bytes line = Spells P bytes line × CitesOnlyNamed P named line
+abbrev pub SpellsNamed : Instance → Option ℕ → List ℕ → List ℕ → Line → Type 0
+SpellsNamed P goal named bytes line = SpellsFor P goal bytes line × CitesOnlyNamed P named line
 
 -- the line that the bytes spell cites a rule that isn't named, and this is the least one
-abbrev pub CitesUnnamed : Instance → List ℕ → List ℕ → ℕ → Type 0
-CitesUnnamed P named bytes k = (line : Line) × Spells P bytes line × IsLeast (IsUnnamed P named (Cites P line)) k
+abbrev pub CitesUnnamed : Instance → Option ℕ → List ℕ → List ℕ → ℕ → Type 0
+CitesUnnamed P goal named bytes k =
+    (line : Line) × SpellsFor P goal bytes line × IsLeast (IsUnnamed P named (Cites P line)) k
 
 -- it is an idle split
-abbrev pub SplitsIdly : Instance → Domains → List ℕ → Type 0
-SplitsIdly P D bytes = (p : ℕ) × (x : Symbol) × Spells P bytes (Split p x) × (is_idle P D p x.number ≡ true)
+abbrev pub SplitsIdlyFor : Instance → Option ℕ → Domains → List ℕ → Type 0
+SplitsIdlyFor P goal D bytes =
+    (p : ℕ) × (x : Symbol) × SpellsFor P goal bytes (Split p x) × (is_idle P D p x.number ≡ true)
 
 -- its list holds a rule that isn't short, and this is the least one
-abbrev pub HasLongRule : Instance → List ℕ → List ℕ → ℕ → Type 0
-HasLongRule P named bytes k = (line : Line) × SpellsNamed P named bytes line × IsLeast (ListsLong P line) k
+abbrev pub HasLongRule : Instance → Option ℕ → List ℕ → List ℕ → ℕ → Type 0
+HasLongRule P goal named bytes k = (line : Line) × SpellsNamed P goal named bytes line × IsLeast (ListsLong P line) k
 
--- it is a window or a day leaf that doesn't hold
-abbrev pub LeafFails : Instance → List ℕ → Domains → List ℕ → Type 0
-LeafFails P named D bytes = (line : Line) × SpellsNamed P named bytes line × IsPlainLeaf line × (Holds P D line → ⊥)
+-- it is a leaf of one rule or of few free weekends that doesn't hold
+abbrev pub LeafFails : Instance → Option ℕ → List ℕ → Domains → List ℕ → Type 0
+LeafFails P goal named D bytes =
+    (line : Line) × SpellsNamed P goal named bytes line × IsPlainLeaf line × (HoldsFor P goal D line → ⊥)
 
--- it is a dead or a bound leaf that this word escapes
-abbrev pub LeafEscaped : Instance → List ℕ → Domains → List ℕ → List Symbol → Type 0
-LeafEscaped P named D bytes w =
-    (line : Line) × SpellsNamed P named bytes line × ListsShortOnly P line × Escapes P D line w
+-- it is a dead, a bound or a free leaf that this word escapes
+abbrev pub LeafEscaped : Instance → Option ℕ → List ℕ → Domains → List ℕ → List Symbol → Type 0
+LeafEscaped P goal named D bytes w =
+    (line : Line) × SpellsNamed P goal named bytes line × ListsShortOnly P line × EscapesFor P goal D line w
 
--- why a line of the tree is refused as text line n, under these rules and domains. Where a cause applies no lower one
--- does
+-- why a line of the tree of a log with this goal or none is refused as text line n, under these rules and domains.
+-- Where a cause applies no lower one does
+abbrev pub TreeCauseFor : Instance → Option ℕ → List ℕ → Domains → ℕ → List ℕ → LogRefusal → Type 0
+TreeCauseFor P goal named D n bytes (Refusals.Form i) = (i ≡ n) × SpellsNothingFor P goal bytes
+TreeCauseFor P goal named D n bytes (Refusals.Name i) = (i ≡ n) × SpellsUnknownFor P goal bytes
+TreeCauseFor P goal named D n bytes (Refusals.Unnamed i k) = (i ≡ n) × CitesUnnamed P goal named bytes k
+TreeCauseFor P goal named D n bytes (Refusals.Idle i) = (i ≡ n) × SplitsIdlyFor P goal D bytes
+TreeCauseFor P goal named D n bytes (Refusals.Long i k) = (i ≡ n) × HasLongRule P goal named bytes k
+TreeCauseFor P goal named D n bytes (Refusals.Fails i) = (i ≡ n) × LeafFails P goal named D bytes
+TreeCauseFor P goal named D n bytes (Refusals.Escape i w) = (i ≡ n) × LeafEscaped P goal named D bytes w
+TreeCauseFor P goal named D n bytes (Refusals.Unfinished i) = (i ≡ n) × SpellsFor P goal bytes Unfinished
+TreeCauseFor P goal named D n bytes why = ⊥
+
+-- the same for logs without a goal
+abbrev pub SpellsNothing : Instance → List ℕ → Type 0
+SpellsNothing P bytes = SpellsNothingFor P None bytes
+
+abbrev pub SpellsUnknown : Instance → List ℕ → Type 0
+SpellsUnknown P bytes = SpellsUnknownFor P None bytes
+
+abbrev pub Spells : Instance → List ℕ → Line → Type 0
+Spells P bytes line = SpellsFor P None bytes line
+
+abbrev pub SplitsIdly : Instance → Domains → List ℕ → Type 0
+SplitsIdly P D bytes = SplitsIdlyFor P None D bytes
+
 abbrev pub TreeCause : Instance → List ℕ → Domains → ℕ → List ℕ → LogRefusal → Type 0
-TreeCause P named D n bytes (Refusals.Form i) = (i ≡ n) × SpellsNothing P bytes
-TreeCause P named D n bytes (Refusals.Name i) = (i ≡ n) × SpellsUnknown P bytes
-TreeCause P named D n bytes (Refusals.Unnamed i k) = (i ≡ n) × CitesUnnamed P named bytes k
-TreeCause P named D n bytes (Refusals.Idle i) = (i ≡ n) × SplitsIdly P D bytes
-TreeCause P named D n bytes (Refusals.Long i k) = (i ≡ n) × HasLongRule P named bytes k
-TreeCause P named D n bytes (Refusals.Fails i) = (i ≡ n) × LeafFails P named D bytes
-TreeCause P named D n bytes (Refusals.Escape i w) = (i ≡ n) × LeafEscaped P named D bytes w
-TreeCause P named D n bytes (Refusals.Unfinished i) = (i ≡ n) × Spells P bytes Unfinished
-TreeCause P named D n bytes why = ⊥
+TreeCause P named D n bytes why = TreeCauseFor P None named D n bytes why
 
 -- the bytes spell a turn to a symbol of this name on this day
 abbrev pub SpellsTurn : Instance → List ℕ → List ℕ → ℕ → Type 0
@@ -173,11 +199,16 @@ abbrev pub header_lines : Option Turn → ℕ
 header_lines None = 2
 header_lines (Some t) = 3
 
--- lines of a log that are refused for no cause: all is named, allowed and holds, and none stands behind a whole tree
-pub record IsSoundSoFar (P : Instance) (g : Log) : Type 0 where
-  pub grounded : IsGrounded P g
-  pub holds : (k : ℕ) (line : Line) → slice_get g.lines k ≡ Some line → HoldsAt P g k line
+-- lines of a log, with this goal or none, that are refused for no cause: all is named, allowed and holds, and none
+-- stands behind a whole tree
+pub record IsSoundSoFarFor (P : Instance) (goal : Option ℕ) (g : Log) : Type 0 where
+  pub grounded : IsGroundedFor P goal g
+  pub holds : (k : ℕ) (line : Line) → slice_get g.lines k ≡ Some line → HoldsAtFor P goal g k line
   pub in_tree : (k : ℕ) → k < length g.lines → IsTree (take k g.lines) → ⊥
+
+-- those of a log without a goal
+abbrev pub IsSoundSoFar : Instance → Log → Type 0
+IsSoundSoFar P g = IsSoundSoFarFor P None g
 
 -- no line of the front has a cause
 abbrev pub HasNoCause : Instance → Front → Type 0

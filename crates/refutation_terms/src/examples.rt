@@ -2,12 +2,12 @@
 // spent or reduced, what its text is, the verdict on a text, or what the search for weights finds.
 ghost use Rattle.std.specs.Prelude.{◌≡◌, ℕ, List, [], ◌∷◌, Ok, Err};
 ghost use Rattle.refutation_terms.specs.Word.{full};
-ghost use Rattle.refutation_terms.specs.Log.{Passes, IsSpent, size};
+ghost use Rattle.refutation_terms.specs.Log.{Passes, FreePasses, IsSpent, size};
 ghost use Rattle.refutation_terms.specs.Sharp.{IsSharp, IsSearched, plain_bounds};
 ghost use Rattle.refutation_terms.specs.Strip.{IsReduced};
-ghost use Rattle.refutation_terms.specs.LogText.{log_text};
+ghost use Rattle.refutation_terms.specs.LogText.{log_text, free_log_text};
 ghost use Rattle.refutation_terms.specs.Verdict.{IsVerdict};
-ghost use Rattle.refutation_terms.specs.Examples.{two_in_a_row, two_in_a_row_log, two_in_a_row_text, two_of_four, two_of_four_log, two_of_four_text, three_of_six, split_log, split_text, turn_log, turn_text, open_log, one_cell, one_cell_log, one_cell_text, one_turn_text, open_text, cut_text, extra_text, idle_text, unnamed_turn_text, none_demanded, none_demanded_text, heavy_word, short_rules, searched_weights, four_bounds, two_on_day_one, wide_log, narrow_log, unmixed, pairs_log, pairs_text, triple_log, odd_cycle, odd_log, odd_text, late_dead_log, late_day_log, late_bound_log, none_wanted, free_split_log};
+ghost use Rattle.refutation_terms.specs.Examples.{two_in_a_row, two_in_a_row_log, two_in_a_row_text, two_of_four, two_of_four_log, two_of_four_text, three_of_six, split_log, split_text, turn_log, turn_text, open_log, one_cell, one_cell_log, one_cell_text, one_turn_text, open_text, cut_text, extra_text, idle_text, unnamed_turn_text, none_demanded, none_demanded_text, heavy_word, short_rules, searched_weights, four_bounds, two_on_day_one, wide_log, narrow_log, unmixed, pairs_log, pairs_text, triple_log, odd_cycle, odd_log, odd_text, late_dead_log, late_day_log, late_bound_log, none_wanted, free_split_log, one_week, few_log, few_text};
 
 use crate::LogRefusal;
 
@@ -114,4 +114,10 @@ pub fn pairs_and_triples_pass()
     ensures pairs { Passes unmixed pairs_log }
     ensures text { log_text unmixed pairs_log ≡ pairs_text }
     ensures triple { Passes unmixed triple_log }
+{}
+
+/// No roster of one week has two free weekends, whatever the rules.
+pub fn a_goal_above_the_weeks_passes()
+    ensures passes { FreePasses one_week 2 few_log }
+    ensures text { free_log_text one_week 2 few_log ≡ few_text }
 {}

@@ -1,10 +1,18 @@
 // Laws of the definitions. Each function's contract is the law, and specs/Laws.antt states it.
-ghost use Rattle.refutation_terms.specs.Laws.{TreesAreAsSaid, WalksReadTrees, SidesAreAsSaid, DomainsAreAsSaid, IdleIsAsSaid, OverIsAsSaid, DomainsAreNeverEmpty, WindowsAreOver, SidesTakeAll, SidesShareNone, WindowsAreClean, PartsAreClean, FewerRulesAreClean, WindowsWeighEnough, WindowsWeighExactly, TurningKeepsRules, TurningKeepsLists, SomeTurnHasIt, PassingLeavesNoRoster, PassingIsNotSpent};
-ghost use Rattle.refutation_terms.specs.TextLaws.{SpelledLinesFit, FittingLinesAreSpelled, TextsAreDistinct, VerdictIsUnique};
+ghost use Rattle.refutation_terms.specs.Laws.{TreesAreAsSaid, WalksReadTrees, SidesAreAsSaid, DomainsAreAsSaid, IdleIsAsSaid, OverIsAsSaid, DomainsAreNeverEmpty, WindowsAreOver, SidesTakeAll, SidesShareNone, WindowsAreClean, PartsAreClean, FewerRulesAreClean, WindowsWeighEnough, WindowsWeighExactly, TurningKeepsRules, TurningKeepsLists, SomeTurnHasIt, FreeWeekendsAreWeeks, TurnsHaveFreeWeekends, PassingLeavesNoRoster, PassingIsNotSpent};
+ghost use Rattle.refutation_terms.specs.TextLaws.{SpelledLinesFit, FittingLinesAreSpelled, TextsAreDistinct, VerdictIsUnique, FreeVerdictIsUnique};
 
-/// A log that passes, with or without a turn, and a roster that meets the rules that it names exclude each other.
+/// A log that passes, with a turn or a goal or without, and a roster that meets the rules that it names and has as many
+/// free weekends as the goal exclude each other.
 pub fn passing_leaves_no_roster()
     ensures { PassingLeavesNoRoster }
+{}
+
+/// In weeks of seven days the free weekends of a roster are the weeks with days 6 and 7 off, and a word that goes
+/// through the whole roster some times has them as often.
+pub fn free_weekends_are_weeks()
+    ensures weeks { FreeWeekendsAreWeeks }
+    ensures turns { TurnsHaveFreeWeekends }
 {}
 
 /// Within the domains, every window of a roster is a word over them, from every position, for every length.
@@ -88,7 +96,8 @@ pub fn texts_are_distinct()
     ensures { TextsAreDistinct }
 {}
 
-/// A text has one verdict at most.
+/// A text has one verdict at most as a log without a goal, and one as a free log.
 pub fn the_verdict_is_unique()
-    ensures { VerdictIsUnique }
+    ensures plain { VerdictIsUnique }
+    ensures free { FreeVerdictIsUnique }
 {}

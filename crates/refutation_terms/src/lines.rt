@@ -36,6 +36,16 @@ pub enum Line {
         rules: RuleList,
         weights: Weights,
     },
+    /// Fewer weeks than the log's goal can have both days 6 and 7 off.
+    Few,
+    /// Every clean word of `turns` rounds through all weeks, from the first day on, weighs less than the demand and
+    /// the log's goal ask for, where each free weekend weighs `reward`.
+    Free {
+        turns: u32,
+        reward: u32,
+        rules: RuleList,
+        weights: Weights,
+    },
     /// A case that wasn't worked out, written `open`.
     Unfinished,
 }
@@ -60,9 +70,9 @@ pub enum LogRefusal {
     Idle(u32),
     /// A list holds a rule that isn't short; the least such rule.
     Long(u32, u32),
-    /// A window or a day leaf doesn't hold.
+    /// A window or a day leaf, or one of few free weekends, doesn't hold.
     Fails(u32),
-    /// A dead or a bound leaf doesn't hold, as the word shows.
+    /// A dead, a bound or a free leaf doesn't hold, as the word shows.
     Escape(u32, Word),
     /// The case wasn't worked out.
     Unfinished(u32),

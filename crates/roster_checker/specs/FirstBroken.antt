@@ -9,7 +9,7 @@ use Rattle.rwsp_terms.specs.declared.data.Rule.{Rule}
 use Rattle.rwsp_terms.specs.declared.data.Rule.TheVariants.{Day}
 use Rattle.roster_checker.specs.declared.broken.Broken.{Broken}
 
--- the window from p on with so many days is of the kind, none that begins earlier is, and none that begins there and
+-- the window of this length from p on is of the kind, none that begins earlier is, and none that begins there and
 -- is shorter
 pub record IsFirst (IsKind : List Symbol → Type 0) (s : List Symbol) (p days : ℕ) : Type 0 where
   pub within : p < length s

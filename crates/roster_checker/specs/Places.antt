@@ -19,7 +19,7 @@ IsFirstPlace P r s p n = IsFirst (Bad P r) s p n
 abbrev pub MeetsDemand : Instance → ℕ → ℕ → List Symbol → Type 0
 MeetsDemand P x j s = (least P x j ≤ℤ pos (weeks_with P s x j)) × (pos (weeks_with P s x j) ≤ℤ greatest P x j)
 
--- the answer has the day that stands at the position, and the length
+-- the answer has the day of the position, and the length
 pub record StandsAt (P : Instance) (b : Broken) (p n : ℕ) : Type 0 where
   pub week : 1 ≤ b.week
   pub day : (1 ≤ b.day) × (b.day ≤ P.days)

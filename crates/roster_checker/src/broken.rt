@@ -45,7 +45,7 @@ fn breach(problem: &Problem, roster: &Roster, number: u32) -> Option<Broken>
         (MeetsBelow problem.now roster.now.cells (number + 1))
         (IsFirstBroken problem.now roster.now.cells) }
 {
-    problem.keeps_limits();
+    problem.prove_limits();
     match first_place(problem, roster, rule_at(problem, number)) {
         None => None,
         Some(place) => Some(broken_at(problem, number, place)),

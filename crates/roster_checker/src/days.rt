@@ -4,7 +4,8 @@ ghost use Rattle.rwsp_terms.specs.Roster.{MeetsDay};
 ghost use Rattle.rwsp_terms.specs.Instance.{IsSymbol, IsDay};
 ghost use Rattle.roster_checker.specs.Places.{MeetsDemand};
 
-use rwsp_model::{Problem, Symbol, weeks_with};
+use rwsp_model::{Problem, weeks_with};
+use rwsp_terms::Symbol;
 
 // Whether the number of weeks that hold the symbol on the day is in the range that is demanded.
 fn is_in_range(problem: &Problem, cells: &[Symbol], x: Symbol, day: u32) -> bool

@@ -9,7 +9,8 @@ ghost use Rattle.roster_checker.specs.Places.{IsFirstPlace};
 
 use crate::days::day_is_met;
 use crate::place::Place;
-use rwsp_model::{Problem, Roster, Rule};
+use rwsp_model::{Problem, Roster};
+use rwsp_terms::Rule;
 use window_rules::first_bad_window;
 
 // The first window that breaks the rule.
@@ -20,7 +21,7 @@ fn first_window(problem: &Problem, roster: &Roster, rule: Rule) -> Option<Place>
         (HasNoWindow (Bad problem.now rule) roster.now.cells)
         (λ w. IsFirst (Bad problem.now rule) roster.now.cells w.position w.length) }
 {
-    problem.keeps_limits();
+    problem.prove_limits();
     match first_bad_window(roster, problem, rule, problem.cells()) {
         Some(window) => Some(Place {
             position: window.start,

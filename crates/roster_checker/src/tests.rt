@@ -3,7 +3,8 @@ ghost use Rattle.std.specs.Prelude.{IfSome};
 ghost use Rattle.rwsp_terms.specs.Roster.{IsRoster};
 
 use super::{Broken, first_broken};
-use rwsp_model::{Bounds, DemandRow, Name, Parts, Problem, Roster, ShiftRow, Symbol};
+use rwsp_model::{Parts, Problem, Roster};
+use rwsp_terms::{Bounds, DemandRow, Name, ShiftRow, Symbol};
 use std::alloc::{AllocError, Global};
 use std::test::Fail;
 
@@ -27,7 +28,7 @@ fn shift(alloc: Global, name: &[u8], bounds: Bounds) -> Result<ShiftRow, AllocEr
 }
 
 // Weeks of two days. On each day at most `weeks` weeks hold D, and as many N; all blocks have at most seven days, and
-// those of D at least so many. The sequences are forbidden.
+// those of D at least that many. The sequences are forbidden.
 fn problem(
     alloc: Global,
     weeks: u32,

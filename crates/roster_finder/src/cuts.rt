@@ -4,7 +4,7 @@ use crate::setting::Setting;
 use crate::steady_layer::SteadyLayer;
 use std::alloc::{AllocError, Global};
 
-/// So many new cuts are made at most at a time.
+/// The most new cuts that are made at a time.
 const MOST_CUTS: usize = 20;
 
 /// A part of the layer counts that holds this many days at least, or a week where that is longer, and leaves as many

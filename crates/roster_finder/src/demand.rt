@@ -21,7 +21,7 @@ impl Range {
     };
 }
 
-/// For each symbol and weekday in how many weeks it stands. Symbols and weekdays count from 0.
+/// For each symbol and weekday, in how many weeks it is. Symbols and weekdays count from 0.
 #[derive(Debug, Drop)]
 pub(crate) struct Demand {
     pub days: usize,

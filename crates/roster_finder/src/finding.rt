@@ -53,7 +53,7 @@ const BLOCK_OFF: i64 = 30;
 /// After this many moves without a new best the counters that are off weigh more.
 const PATIENCE: usize = 200;
 
-/// So many cells of words that meet the demand and yet break a rule of long blocks end the search.
+/// The search ends when the words that met the demand and broke a rule of long blocks have this many cells in all.
 const MOST_REFUSED: usize = 10_000_000;
 
 /// A search, as far as it is.

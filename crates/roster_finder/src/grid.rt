@@ -1,7 +1,7 @@
 // Tables and lists that may be asked of any place.
 use std::alloc::{AllocError, Global};
 
-/// A table of values by row and column. Outside of it stands one value everywhere, and a write there does nothing.
+/// A table of values by row and column. Outside of it every value is the same, and a write there does nothing.
 #[derive(Debug, Drop)]
 pub(crate) struct Grid<T: Copy + Drop> {
     columns: usize,
@@ -10,7 +10,7 @@ pub(crate) struct Grid<T: Copy + Drop> {
 }
 
 impl<T: Copy + Drop> Grid<T> {
-    /// A table in which the outside's value stands everywhere.
+    /// A table that has the outside's value everywhere.
     pub fn new(
         alloc: Global,
         rows: usize,

@@ -8,7 +8,7 @@ use crate::setting::Setting;
 use nearest_point::{Hull, SCALE};
 use std::alloc::{AllocError, Global};
 
-/// About how many days a word has: so many that its free ends matter little.
+/// About how many days a word has: enough that its free ends matter little.
 const WORD_DAYS: usize = 3_000;
 
 /// How often a word goes through all weeks at least.
@@ -195,8 +195,8 @@ impl Mixture {
         sum
     }
 
-    /// How often the mixture takes each step on each weekday as it goes through all weeks once, by weekday and step, in
-    /// parts of which so many are one use.
+    /// How often the mixture takes each step on each weekday as it goes through all weeks once, by weekday and step.
+    /// One use counts `one_use`.
     pub fn uses(
         &self,
         alloc: Global,
@@ -273,7 +273,7 @@ fn hull_of(alloc: Global, demand: &Demand, turns: usize, cuts: usize) -> Result<
     Hull::new(alloc, low, high)
 }
 
-// The coordinates of a word: how often each symbol stands on each weekday, and how often the word is led over each cut.
+// The coordinates of a word: how often it has each symbol on each weekday, and how often the word is led over each cut.
 fn row_of(
     alloc: Global,
     setting: &Setting,

@@ -3,7 +3,7 @@ use rwsp_terms::Symbol;
 use std::alloc::{AllocError, Global};
 use word_tail::{Tail, TailRules};
 
-/// So many tails are looked at. Steps out of further ones are left out.
+/// The most tails that are looked at. Steps out of further ones are left out.
 const MOST_TAILS: usize = 4000;
 
 /// Tails, and for each of them and each symbol the tail that follows.
@@ -52,7 +52,7 @@ impl TailGraph {
         Ok(())
     }
 
-    // Where the tail stands; it is put behind the others where it doesn't yet. Costs one look at each tail.
+    // The place of the tail; a new one is put behind the others. Costs one look at each tail.
     fn place_of(&mut self, tail: Tail) -> Result<usize, AllocError> {
         if let Some(place) = self.tails.iter().position(|other| *other == tail) {
             return Ok(place);

@@ -8,7 +8,8 @@ fn range(least: u32, greatest: u32) -> Bounds {
     Bounds { least, greatest }
 }
 
-// Four weeks with one shift in blocks of 3 to 6 days, and 1 to 3 days off between; a number of weeks hold it on each day.
+// Four weeks with one shift in blocks of 3 to 6 days, and 1 to 3 days off between; the same number of weeks have it on
+// each day.
 fn problem(alloc: Global, weeks: Bounds) -> Result<Problem, Fail> {
     let row = DemandRow::of(vec![in alloc; weeks; 7]?);
     let shift = ShiftRow {

@@ -27,7 +27,7 @@ pub fn plan_roster<R: Threads + Sync, G: Gate>(
     requires { (1 ≤ budget) × (budget ≤ GREATEST_BUDGET) }
     ensures { IfOk result (IsPlanned problem.now budget) }
 {
-    problem.keeps_limits();
+    problem.prove_limits();
     let turn = first_turn(problem);
     let mut reasons = reasons_of(rt, alloc, problem, turn, gate)?;
     let mut guide = PlanGuide::new(alloc, problem, turn)?;

@@ -31,7 +31,7 @@ pub fn reasons_of<R: Threads + Sync, G: Gate>(
     ensures reasons { IfOk result (λ r.
         AreReasons problem.now turn (⟦<Reasons as Propagator>⟧.leaves r) (⟦<Reasons as Propagator>⟧.spent r)) }
 {
-    problem.keeps_limits();
+    problem.prove_limits();
     let walk = Walk::new(alloc, problem, turn)?;
     let doms = walk.domains();
     let windows = WindowProp::new(alloc, problem, doms)?;

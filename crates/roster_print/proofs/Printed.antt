@@ -14,85 +14,22 @@ use Rattle.std.proofs.lemmas.Bool.{cond-true, cond-false, lt-ltb, ne_eqb, false_
 use Rattle.std.proofs.Math.Seq.{take-add}
 use Rattle.std.proofs.lemmas.List.FromFn.{length-range_with_len}
 use Rattle.rwsp_text.specs.Lexemes.{lines_of, words_of_line, has_some, is_space}
+use Rattle.rwsp_text.proofs.Steps.{IsWordByte}
+use Rattle.rwsp_text.proofs.JoinedWords.{IsPrinted, printed_word, words_printed, line_printed, length_of_line, length_of_lines}
 use Rattle.rwsp_terms.specs.Instance.{Instance, symbol_of, name_of, name_in, name_numbered, shift_count, symbol_numbered, off_name, IsSymbol, no_bounds}
 use Rattle.rwsp_terms.specs.Roster.{IsRoster}
 use Rattle.rwsp_terms.specs.declared.data.Symbol.{Symbol}
 use Rattle.rwsp_terms.specs.declared.data.ShiftRow.{ShiftRow}
 use Rattle.rwsp_terms.proofs.Elements.{all_joined}
 use Rattle.rwsp_terms.proofs.SymbolNames.{HasNames, no_row, symbol_only}
-use Rattle.rwsp_model.specs.Validity.{KeepsLimits, IsShiftName, is_blank}
+use Rattle.rwsp_model.specs.Validity.{KeepsLimits, IsShiftName, breaks_name}
 use Rattle.rwsp_model.proofs.Limits.{valid_keeps}
 use Rattle.roster_print.specs.RosterText.{weeks_of, week_at, week_text, roster_text, SpellsRoster}
 use Rattle.roster_print.specs.Laws.{PrintedIsSpelled, PrintedIsShort}
 
-abbrev is_end : ℕ → Bool
-is_end b = b == 10
-
--- bytes that neither end a line nor part words
-abbrev IsPlain : ℕ → Type 0
-IsPlain b = (is_space b ≡ false) × (is_end b ≡ false)
-
--- a word that is read as it stands
-pub record IsWord (word : List ℕ) : Type 0 where
-  pub some : has_some word ≡ true
-  pub plain : AllByRecursion IsPlain word
-  pub no_comment : (slice_index word 0 == 35) ≡ false
-
-no_space : (word : List ℕ) → AllByRecursion IsPlain word → AllByRecursion (λ b. is_space b ≡ false) word
-no_space [] h = tt
-no_space (b ∷ word) h = (h.0.0, no_space word h.1)
-
--- words with blanks between them are parted at the blanks
-parts_joined : (word : List ℕ) (words : List (List ℕ)) → AllByRecursion IsWord (word ∷ words) → slice_split is_space (join_with_byte 32 (word ∷ words)) ≡ word ∷ words
-parts_joined word [] h = slice_split_none is_space word (All-from_recursion (λ b. is_space b ≡ false) word (no_space word h.0.plain))
-parts_joined word (next ∷ words) h =
-    slice_split_at is_space word 32 (join_with_byte 32 (next ∷ words)) (All-from_recursion (λ b. is_space b ≡ false) word (no_space word h.0.plain)) refl
-    ∙ ap (λ w. word ∷ w) (parts_joined next words h.1)
-
-all_some : (words : List (List ℕ)) → AllByRecursion IsWord words → filter has_some words ≡ words
-all_some [] h = refl
-all_some (word ∷ words) h =
-    cond-true (has_some word) (word ∷ filter has_some words) (filter has_some words) h.0.some
-    ∙ ap (λ w. word ∷ w) (all_some words h.1)
-
-abbrev is_no_comment : List ℕ → Bool
-is_no_comment word = not (slice_index word 0 == 35)
-
-no_comments : (words : List (List ℕ)) → AllByRecursion IsWord words → take_while is_no_comment words ≡ words
-no_comments [] h = refl
-no_comments (word ∷ words) h =
-    let k = prefix_len is_no_comment words in
-    let one_more : 1 + k ≡ suc k = omega arith in
-    ap (λ v. take (cond (not v) (1 + k) 0) (word ∷ words)) h.0.no_comment
-    ∙ ap (λ m. take m (word ∷ words)) one_more
-    ∙ ap (λ w. word ∷ w) (no_comments words h.1)
-
--- the words of a line that was printed
-words_printed : (words : List (List ℕ)) → AllByRecursion IsWord words → words_of_line (join_with_byte 32 words) ≡ words
-words_printed [] h = refl
-words_printed (word ∷ words) h =
-    ap (λ parts. take_while is_no_comment (filter has_some parts)) (parts_joined word words h)
-    ∙ ap (take_while is_no_comment) (all_some (word ∷ words) h)
-    ∙ no_comments (word ∷ words) h
-
-no_end_in : (word : List ℕ) → AllByRecursion IsPlain word → AllByRecursion (λ b. is_end b ≡ false) word
-no_end_in [] h = tt
-no_end_in (b ∷ word) h = (h.0.1, no_end_in word h.1)
-
-no_end_joined : (words : List (List ℕ)) → AllByRecursion IsWord words → AllByRecursion (λ b. is_end b ≡ false) (join_with_byte 32 words)
-no_end_joined [] h = tt
-no_end_joined (word ∷ []) h = no_end_in word h.0.plain
-no_end_joined (word ∷ next ∷ words) h = all_joined (λ b. is_end b ≡ false) word (32 ∷ join_with_byte 32 (next ∷ words)) (no_end_in word h.0.plain) (refl, no_end_joined (next ∷ words) h.1)
-
--- a line that is printed, and what follows
-line_printed : (words : List (List ℕ)) (rest : List ℕ) → AllByRecursion IsWord words → lines_of ((join_with_byte 32 words ++ 10 ∷ []) ++ rest) ≡ join_with_byte 32 words ∷ lines_of rest
-line_printed words rest h =
-    ap lines_of (append_assoc (join_with_byte 32 words) (10 ∷ []) rest)
-    ∙ slice_split_at is_end (join_with_byte 32 words) 10 rest (All-from_recursion (λ b. is_end b ≡ false) (join_with_byte 32 words) (no_end_joined words h)) refl
-
 -- a week that is printed: words, at least one
 abbrev IsWeek : List (List ℕ) → Type 0
-IsWeek week = AllByRecursion IsWord week × (has_some week ≡ true)
+IsWeek week = AllByRecursion IsPrinted week × (has_some week ≡ true)
 
 weeks_printed : (week : ℕ → List (List ℕ)) (ks : List ℕ) → AllByRecursion (λ k. IsWeek (week k)) ks → weeks_of (flat_map (λ k. join_with_byte 32 (week k) ++ 10 ∷ []) ks) ≡ map week ks
 weeks_printed week [] h = refl
@@ -120,25 +57,17 @@ weeks_joined d s a (suc n) =
 
 -- the names of a valid problem's symbols
 
-plain_of : (b : ℕ) → is_blank b ≡ false → IsPlain b
-plain_of b h = or_parts (is_space b) (is_end b) h
+bytes_in : (name : List ℕ) → All (λ b. breaks_name b ≡ false) name → AllByRecursion IsWordByte name
+bytes_in [] h = tt
+bytes_in (b ∷ name) h = (or_parts (is_space b) (b == 10) (All-head (λ c. breaks_name c ≡ false) b name h), bytes_in name (All-tail (λ c. breaks_name c ≡ false) b name h))
 
-plain_in : (name : List ℕ) → All (λ b. is_blank b ≡ false) name → AllByRecursion IsPlain name
-plain_in [] h = tt
-plain_in (b ∷ name) h = (plain_of b (All-head (λ c. is_blank c ≡ false) b name h), plain_in name (All-tail (λ c. is_blank c ≡ false) b name h))
-
-some_in : (name : List ℕ) → 1 ≤ length name → has_some name ≡ true
-some_in [] h = absurd (omega arith)
-some_in (b ∷ name) h = refl
-
-name_is_word : (name : List ℕ) → IsShiftName name → IsWord name
-name_is_word name h = record { some = some_in name h.some; plain = plain_in name h.unbroken; no_comment = ne_eqb (slice_index name 0) 35 h.no_hash }
-
-numbered_is_word : (P : Instance) → KeepsLimits P → (n : ℕ) → n ≤ shift_count P → IsWord (name_numbered P n)
-numbered_is_word P limits zero h = record { some = refl; plain = ((refl, refl), tt); no_comment = refl }
-numbered_is_word P limits (suc k) h =
+numbered_is_printed : (P : Instance) → KeepsLimits P → (n : ℕ) → n ≤ shift_count P → IsPrinted (name_numbered P n)
+numbered_is_printed P limits zero h = (refl, ((refl, refl), tt))
+numbered_is_printed P limits (suc k) h =
     let below : k < length P.shifts = omega arith in
-    subst IsWord (ap name_in (sym (slice_get-get_or P.shifts k no_row below))) (name_is_word (get_or P.shifts k no_row).name (limits.names k no_row below))
+    let name = (get_or P.shifts k no_row).name in
+    let good = limits.names k no_row below in
+    subst IsPrinted (ap name_in (sym (slice_get-get_or P.shifts k no_row below))) (printed_word name good.some good.no_hash (bytes_in name good.unbroken))
 
 names_of : (P : Instance) → KeepsLimits P → HasNames P
 names_of P limits = record { no_dash = λ i d less. (limits.names i d less).no_dash; distinct = limits.distinct }
@@ -153,9 +82,9 @@ symbols_of_names P limits (x ∷ week) h =
     let rest : map (symbol_of P) (map (name_of P) week) ≡ map Some week = symbols_of_names P limits week (All-tail (IsSymbol P) x week h) in
     ap (λ o. o ∷ map (symbol_of P) (map (name_of P) week)) one ∙ ap (λ w. Some x ∷ w) rest
 
-names_are_words : (P : Instance) → KeepsLimits P → (week : List Symbol) → All (IsSymbol P) week → AllByRecursion IsWord (map (name_of P) week)
-names_are_words P limits [] h = tt
-names_are_words P limits (x ∷ week) h = (numbered_is_word P limits x.number (All-head (IsSymbol P) x week h), names_are_words P limits week (All-tail (IsSymbol P) x week h))
+names_are_printed : (P : Instance) → KeepsLimits P → (week : List Symbol) → All (IsSymbol P) week → AllByRecursion IsPrinted (map (name_of P) week)
+names_are_printed P limits [] h = tt
+names_are_printed P limits (x ∷ week) h = (numbered_is_printed P limits x.number (All-head (IsSymbol P) x week h), names_are_printed P limits week (All-tail (IsSymbol P) x week h))
 
 -- the weeks of a roster
 
@@ -177,7 +106,7 @@ week_is_printed : (P : Instance) (s : List Symbol) → KeepsLimits P → IsRoste
 week_is_printed P s limits h k below =
     let long : length (week_names P s k) ≡ P.days = length-map (week_at P s k) (name_of P) ∙ length-week_at P s k h below in
     let days : 1 ≤ P.days = limits.some_days in
-    (names_are_words P limits (week_at P s k) (week_symbols P s k h), has_words (week_names P s k) (omega arith))
+    (names_are_printed P limits (week_at P s k) (week_symbols P s k h), has_words (week_names P s k) (omega arith))
   where
     has_words : (words : List (List ℕ)) → 1 ≤ length words → has_some words ≡ true
     has_words [] h = absurd (omega arith)
@@ -220,15 +149,6 @@ printed_is_spelled P s valid h = printed_spells P s (valid_keeps P valid) h
 
 -- how long the printed text is
 
-length-joined : (words : List (List ℕ)) → AllByRecursion (λ word. length word ≤ 32) words → length (join_with_byte 32 words) ≤ 33 * length words
-length-joined [] h = omega arith
-length-joined (word ∷ []) h = let here = h.0 in omega arith
-length-joined (word ∷ next ∷ words) h =
-    let here = h.0 in
-    let rest : length (join_with_byte 32 (next ∷ words)) ≤ 33 * suc (length words) = length-joined (next ∷ words) h.1 in
-    let both : length (word ++ (32 ∷ join_with_byte 32 (next ∷ words))) ≡ length word + suc (length (join_with_byte 32 (next ∷ words))) = length-append word (32 ∷ join_with_byte 32 (next ∷ words)) in
-    omega arith
-
 numbered_is_short : (P : Instance) → KeepsLimits P → (n : ℕ) → n ≤ shift_count P → length (name_numbered P n) ≤ 32
 numbered_is_short P limits zero h = omega arith
 numbered_is_short P limits (suc k) h =
@@ -244,23 +164,13 @@ week_is_short : (P : Instance) (s : List Symbol) → KeepsLimits P → IsRoster 
 week_is_short P s limits h k below =
     let names = week_names P s k in
     let long : length names ≡ P.days = length-map (week_at P s k) (name_of P) ∙ length-week_at P s k h below in
-    let short : length (join_with_byte 32 names) ≤ 33 * length names = length-joined names (names_are_short P limits (week_at P s k) (week_symbols P s k h)) in
-    let whole : length (join_with_byte 32 names ++ 10 ∷ []) ≡ length (join_with_byte 32 names) + 1 = length-append (join_with_byte 32 names) (10 ∷ []) in
-    omega arith
-
-length-weeks : (f : ℕ → List ℕ) (m : ℕ) (ks : List ℕ) → AllByRecursion (λ k. length (f k) ≤ m) ks → length (flat_map f ks) ≤ length ks * m
-length-weeks f m [] h = omega arith
-length-weeks f m (k ∷ ks) h =
-    let here = h.0 in
-    let rest : length (flat_map f ks) ≤ length ks * m = length-weeks f m ks h.1 in
-    let both : length (f k ++ flat_map f ks) ≡ length (f k) + length (flat_map f ks) = length-append (f k) (flat_map f ks) in
-    omega arith
+    length_of_line 32 P.days names (names_are_short P limits (week_at P s k) (week_symbols P s k h)) (omega (arith, long))
 
 pub printed_is_short : PrintedIsShort
 printed_is_short P s valid h =
     let limits = valid_keeps P valid in
     let ks = range_with_len 0 P.weeks in
-    let all : length (roster_text P s) ≤ length ks * (33 * P.days + 1) = length-weeks (λ k. week_text P (week_at P s k)) (33 * P.days + 1) ks (all_range (λ k. length (week_text P (week_at P s k)) ≤ 33 * P.days + 1) 0 P.weeks (λ k low high. week_is_short P s limits h k (omega arith))) in
+    let all : length (roster_text P s) ≤ length ks * (33 * P.days + 1) = length_of_lines (λ k. week_text P (week_at P s k)) (33 * P.days + 1) ks (all_range (λ k. length (week_text P (week_at P s k)) ≤ 33 * P.days + 1) 0 P.weeks (λ k low high. week_is_short P s limits h k (omega arith))) in
     let count : length ks ≡ P.weeks = length-range_with_len 0 P.weeks in
     let size : length ks * (33 * P.days + 1) ≡ P.weeks * (33 * P.days + 1) = ap (λ n. n * (33 * P.days + 1)) count in
     let spread : P.weeks * (33 * P.days + 1) ≡ 33 * (P.weeks * P.days) + P.weeks = omega arith in

@@ -1,4 +1,4 @@
--- What is so of all texts and rosters.
+-- What holds for all texts and rosters.
 use Rattle.std.specs.Prelude.{◌≡◌, ℕ, ◌≤◌, List, length, MatchOption}
 use Rattle.rwsp_terms.specs.declared.limits.TheConstants.{LONGEST_FILE}
 use Rattle.rwsp_terms.specs.Instance.{Instance}
@@ -10,11 +10,16 @@ use Rattle.roster_print.specs.Refusal.{refusal_of_roster}
 
 -- a text spells one roster at most
 abbrev pub TextSpellsOneRoster : Type 0
-TextSpellsOneRoster = (P : Instance) (bytes : List ℕ) (s t : List Symbol) → SpellsRoster P bytes s → SpellsRoster P bytes t → s ≡ t
+TextSpellsOneRoster =
+    (P : Instance) (bytes : List ℕ) (s t : List Symbol) → SpellsRoster P bytes s → SpellsRoster P bytes t → s ≡ t
 
 -- a text that isn't refused spells a roster, and one that is refused spells none
 abbrev pub RefusalsDecideSpelling : Type 0
-RefusalsDecideSpelling = (P : Instance) (bytes : List ℕ) → MatchOption (refusal_of_roster P bytes) ((s : List Symbol) × SpellsRoster P bytes s) (λ why. (s : List Symbol) → SpellsRoster P bytes s → ⊥)
+RefusalsDecideSpelling =
+    (P : Instance) (bytes : List ℕ)
+    → MatchOption (refusal_of_roster P bytes)
+    ((s : List Symbol) × SpellsRoster P bytes s)
+    (λ why. (s : List Symbol) → SpellsRoster P bytes s → ⊥)
 
 -- what a text spells has a symbol for each cell
 abbrev pub SpelledIsRoster : Type 0

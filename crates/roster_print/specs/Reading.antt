@@ -1,4 +1,4 @@
--- What tokens of a text stand for, and the cells that their words name.
+-- The words at the tokens of a text, and the cells that they name.
 use Rattle.std.specs.Prelude.{◌≡◌, ℕ, ◌++◌, List, Some, map, slice_range}
 use Rattle.rwsp_text.specs.declared.scan.Token.{Token}
 use Rattle.rwsp_terms.specs.Instance.{Instance, symbol_of}

@@ -29,4 +29,5 @@ count_refusal P n = if n == P.weeks then None else Some (Weeks n)
 
 -- why a text spells no roster
 abbrev pub refusal_of_roster : Instance → List ℕ → Option RosterRefusal
-refusal_of_roster P bytes = option_or (first_refusal P (numbered_weeks bytes)) (count_refusal P (length (weeks_of bytes)))
+refusal_of_roster P bytes =
+    option_or (first_refusal P (numbered_weeks bytes)) (count_refusal P (length (weeks_of bytes)))

@@ -6,7 +6,8 @@ ghost use Rattle.rwsp_terms.specs.Roster.{IsRoster};
 ghost use Rattle.roster_print.specs.RosterText.{roster_text, week_text};
 
 use crate::names::put_after_blanks;
-use rwsp_model::{Problem, Roster, Symbol};
+use rwsp_model::{Problem, Roster};
+use rwsp_terms::Symbol;
 use std::alloc::{AllocError, Global};
 
 // Appends the names of the symbols with single blanks between them.

@@ -13,7 +13,8 @@ ghost use Rattle.roster_print.specs.Refusal.{refusal_of_roster, week_refusal, fi
 ghost use Rattle.roster_print.specs.Reading.{words_at, AppendsNamed};
 
 use crate::RosterRefusal;
-use rwsp_model::{Fail, Problem, Roster, Symbol};
+use rwsp_model::{Fail, Problem, Roster};
+use rwsp_terms::Symbol;
 use rwsp_text::{Token, tokens};
 use std::alloc::{AllocError, Global};
 
@@ -37,9 +38,7 @@ fn read_names(
         let Some(symbol) = problem.symbol(&text[word.start..word.end]) else {
             return Err(Fail::Refused(RosterRefusal::Unknown(line)));
         };
-        if cells.push(symbol).is_err() {
-            return Err(Fail::Memory);
-        }
+        cells.push(symbol)?;
     }
     Ok(())
 }
@@ -100,9 +99,7 @@ fn read_line(
         (has_some (words_of_line text.now) ≡ true)
         × (week_refusal problem.now (line, words_of_line text.now) ≡ Some why)) }
 {
-    let Ok(words) = words_of(alloc, text) else {
-        return Err(Fail::Memory);
-    };
+    let words = words_of(alloc, text)?;
     if words.is_empty() {
         return Ok(false);
     }

@@ -6,7 +6,8 @@ ghost use Rattle.rwsp_terms.specs.Roster.{IsRule};
 ghost use Rattle.roster_print.specs.RuleText.{rule_text, not_text, pair_list, triple_list};
 
 use crate::names::put_after_blanks;
-use rwsp_model::{Problem, Rule, Symbol};
+use rwsp_model::Problem;
+use rwsp_terms::{Rule, Symbol};
 use rwsp_text::put_number;
 use std::alloc::{AllocError, Global};
 
@@ -45,7 +46,7 @@ fn pair_text(alloc: Global, problem: &Problem, place: u32) -> Result<Vec<u8>, Al
     ensures { IfOk result (λ text. text.items
         ≡ not_text problem.now (pair_list (slice_get problem.now.pairs place))) }
 {
-    problem.keeps_limits();
+    problem.prove_limits();
     let (x, y) = problem.pairs()[place as usize];
     not_sequence(alloc, problem, &[x, y])
 }
@@ -55,7 +56,7 @@ fn triple_text(alloc: Global, problem: &Problem, place: u32) -> Result<Vec<u8>, 
     ensures { IfOk result (λ text. text.items
         ≡ not_text problem.now (triple_list (slice_get problem.now.triples place))) }
 {
-    problem.keeps_limits();
+    problem.prove_limits();
     let (x, y, z) = problem.triples()[place as usize];
     not_sequence(alloc, problem, &[x, y, z])
 }

@@ -2,9 +2,8 @@ ghost use Rattle.std.specs.Prelude.{IsTrue};
 ghost use Rattle.rwsp_terms.specs.Roster.{IsRule};
 
 use super::*;
-use rwsp_model::{
-    Bounds, DemandRow, Fail as Refuse, Name, Parts, Problem, Roster, Rule, ShiftRow, Symbol,
-};
+use rwsp_model::{Fail as Refuse, Parts, Problem, Roster};
+use rwsp_terms::{Bounds, DemandRow, Name, Rule, ShiftRow, Symbol};
 use std::alloc::{AllocError, Global};
 use std::test::Fail;
 

@@ -6,7 +6,7 @@ use Rattle.std.proofs.lemmas.List.{take-append-le, take_all}
 use Rattle.rwsp_terms.specs.declared.data.Symbol.{Symbol}
 use Rattle.rwsp_terms.specs.Instance.{Instance}
 use Rattle.refutation_terms.specs.declared.lines.Line.{Line}
-use Rattle.refutation_terms.specs.declared.lines.Line.TheVariants.{Split, Window, Day, Dead, Bound, Unfinished}
+use Rattle.refutation_terms.specs.declared.lines.Line.TheVariants.{Split}
 use Rattle.refutation_terms.specs.declared.lines.Turn.{Turn}
 use Rattle.refutation_terms.specs.Word.{Domains}
 use Rattle.refutation_terms.specs.Tree.{IsLeaf, Leaf, after_trees, side, side_of, line_leaves, lines_leave, opening, domains_at}
@@ -22,21 +22,13 @@ none_still : (more : List Line) → EndNone more → (n : ℕ) (ls : List Line) 
 none_still more h zero ls e = absurd (cc)
 none_still more h (suc n) [] e = h n
 none_still more h (suc n) (Split p x ∷ ls) e = none_still more h (suc (suc n)) ls e
-none_still more h (suc n) (Window r p len ∷ ls) e = none_still more h n ls e
-none_still more h (suc n) (Day j x over ∷ ls) e = none_still more h n ls e
-none_still more h (suc n) (Dead p len R ∷ ls) e = none_still more h n ls e
-none_still more h (suc n) (Bound p turns R y ∷ ls) e = none_still more h n ls e
-none_still more h (suc n) (Unfinished ∷ ls) e = none_still more h n ls e
+none_still more h (suc n) (leaf ∷ ls) e = none_still more h n ls e
 
 some_still : (more : List Line) (n : ℕ) (ls rest : List Line) → after_trees n ls ≡ Some rest → after_trees n (ls ++ more) ≡ Some (rest ++ more)
 some_still more zero ls rest e = let same : ls ≡ rest = cc in ap (λ l. Some (l ++ more)) same
 some_still more (suc n) [] rest e = absurd (cc)
 some_still more (suc n) (Split p x ∷ ls) rest e = some_still more (suc (suc n)) ls rest e
-some_still more (suc n) (Window r p len ∷ ls) rest e = some_still more n ls rest e
-some_still more (suc n) (Day j x over ∷ ls) rest e = some_still more n ls rest e
-some_still more (suc n) (Dead p len R ∷ ls) rest e = some_still more n ls rest e
-some_still more (suc n) (Bound p turns R y ∷ ls) rest e = some_still more n ls rest e
-some_still more (suc n) (Unfinished ∷ ls) rest e = some_still more n ls rest e
+some_still more (suc n) (leaf ∷ ls) rest e = some_still more n ls rest e
 
 side_same : (more : List Line) (a b c d : Option (List Line)) → (a ≡ None → c ≡ None) → ((r : List Line) → a ≡ Some r → c ≡ Some (r ++ more)) → (b ≡ None → d ≡ None) → ((r : List Line) → b ≡ Some r → d ≡ Some (r ++ more)) → side_of c d ≡ side_of a b
 side_same more None b c d an asome bn bsome = ap (λ o. side_of o d) (an refl)

@@ -1,5 +1,5 @@
 -- The logs that a search ends with.
-use Rattle.std.proofs.Common.{◌≡◌, ℕ, zero, suc, ◌+◌, ◌<◌, ◌≤◌, List, [], ◌++◌, length, get_or, Option, Some, refl, ap, sym, ◌∙◌, subst, append-nil, arith, length-append, inl, inr, cond, false}
+use Rattle.std.proofs.Common.{◌≡◌, ℕ, zero, suc, ◌+◌, ◌<◌, ◌≤◌, List, [], ◌++◌, length, get_or, Option, Some, None, refl, ap, sym, ◌∙◌, subst, append-nil, arith, length-append, inl, inr, cond, false}
 use Rattle.std.specs.Prelude.{slice_get, Contains, replicate}
 use Rattle.std.specs.List.Sorted.{IsStrictlyIncreasing}
 use Rattle.std.proofs.lemmas.List.{get_or_default, length-replicate}
@@ -39,7 +39,7 @@ abbrev pub AreOpen : List Line → Type 0
 AreOpen rest = (m : ℕ) (line : Line) → slice_get rest m ≡ Some line → line ≡ Unfinished
 
 abbrev pub log_of : Progress → List Line → Log
-log_of s rest = record { named = s.named; turn = s.turn; lines = s.lines.items ++ rest }
+log_of s rest = record { named = s.named; turn = s.turn; goal = None; lines = s.lines.items ++ rest }
 
 each_in : (Q : Line → Type 0) (ls rest : List Line) → ((k : ℕ) (line : Line) → slice_get ls k ≡ Some line → Q line) → Q Unfinished → AreOpen rest → (k : ℕ) (line : Line) → slice_get (ls ++ rest) k ≡ Some line → Q line
 each_in Q ls rest each here opened k line e = elim (got_in ls rest k line e) [
@@ -52,6 +52,8 @@ grounded P s rest w allowed up opened = record {
   fits = record {
     named = are_rules P s.named up w.numbers;
     turn = w.turn_fits;
+    is_goal = refl;
+    goal_fits = tt;
     lines = each_in (LineFits P) s.lines.items rest (λ k line e. (w.stand k line e).fits) tt opened;
   };
   turn = allowed;
@@ -75,11 +77,12 @@ is_log_of_turn P s rest w = record {
   ];
 }
 
-same_log : (g h : Log) → g.named ≡ h.named → g.turn ≡ h.turn → g.lines ≡ h.lines → g ≡ h
-same_log g h a b c =
-    ap (λ (R : List ℕ). record { named = R; turn = g.turn; lines = g.lines }) a
-    ∙ ap (λ (t : Option Turn). record { named = h.named; turn = t; lines = g.lines }) b
-    ∙ ap (λ (ls : List Line). record { named = h.named; turn = h.turn; lines = ls }) c
+same_log : (g h : Log) → g.named ≡ h.named → g.turn ≡ h.turn → g.goal ≡ h.goal → g.lines ≡ h.lines → g ≡ h
+same_log g h a b d c =
+    ap (λ (R : List ℕ). record { named = R; turn = g.turn; goal = g.goal; lines = g.lines }) a
+    ∙ ap (λ (t : Option Turn). record { named = h.named; turn = t; goal = g.goal; lines = g.lines }) b
+    ∙ ap (λ (o : Option ℕ). record { named = h.named; turn = h.turn; goal = o; lines = g.lines }) d
+    ∙ ap (λ (ls : List Line). record { named = h.named; turn = h.turn; goal = h.goal; lines = ls }) c
 
 abbrev none : List Line
 none = []
@@ -88,10 +91,10 @@ none_open : AreOpen none
 none_open m line e = absurd (cc)
 
 -- a whole tree passes
-pub passing_end : (P : Instance) (s : Progress) (budget : ℕ) (g : Log) → IsProgress P s → IsAllowed P s.turn → IsStrictlyIncreasing s.named → IsTree s.lines.items → length s.lines.items ≤ budget → g.named ≡ s.named → g.turn ≡ s.turn → g.lines ≡ s.lines.items → IsEnded P s.turn budget s.lines.items (NoRoster g)
-passing_end P s budget g w allowed up tree few a b c =
+pub passing_end : (P : Instance) (s : Progress) (budget : ℕ) (g : Log) → IsProgress P s → IsAllowed P s.turn → IsStrictlyIncreasing s.named → IsTree s.lines.items → length s.lines.items ≤ budget → g.named ≡ s.named → g.turn ≡ s.turn → g.goal ≡ None → g.lines ≡ s.lines.items → IsEnded P s.turn budget s.lines.items (NoRoster g)
+passing_end P s budget g w allowed up tree few a b d c =
     let whole : s.lines.items ++ none ≡ s.lines.items = append-nil s.lines.items in
-    let is : log_of s none ≡ g = sym (same_log g (log_of s none) a b (c ∙ sym whole)) in
+    let is : log_of s none ≡ g = sym (same_log g (log_of s none) a b d (c ∙ sym whole)) in
     let worked : size g ≤ length g.lines = count_by-le-length is_worked g.lines in
     let long : length g.lines ≡ length s.lines.items = ap length c in
     let passes : Passes P (log_of s none) = record {
@@ -121,10 +124,10 @@ pub some_open : (w : State) → w.whole ≡ false → 1 ≤ open_trees w
 some_open w part = let e : open_trees w ≡ second_sides_to_come w.splits + 1 = ap (λ b. cond b 0 (second_sides_to_come w.splits + 1)) part in omega arith
 
 -- lines that have used up the budget, with the rest left open
-pub spent_end : (P : Instance) (s : Progress) (budget n : ℕ) (g : Log) → IsProgress P s → IsAllowed P s.turn → IsStrictlyIncreasing s.named → IsTree (s.lines.items ++ replicate n Unfinished) → length s.lines.items ≤ budget → budget ≤ length s.lines.items → 1 ≤ n → g.named ≡ s.named → g.turn ≡ s.turn → g.lines ≡ s.lines.items ++ replicate n Unfinished → IsEnded P s.turn budget s.lines.items (Undecided g)
-spent_end P s budget n g w allowed up tree few all some a b c =
+pub spent_end : (P : Instance) (s : Progress) (budget n : ℕ) (g : Log) → IsProgress P s → IsAllowed P s.turn → IsStrictlyIncreasing s.named → IsTree (s.lines.items ++ replicate n Unfinished) → length s.lines.items ≤ budget → budget ≤ length s.lines.items → 1 ≤ n → g.named ≡ s.named → g.turn ≡ s.turn → g.goal ≡ None → g.lines ≡ s.lines.items ++ replicate n Unfinished → IsEnded P s.turn budget s.lines.items (Undecided g)
+spent_end P s budget n g w allowed up tree few all some a b d c =
     let rest : List Line = replicate n Unfinished in
-    let is : log_of s rest ≡ g = sym (same_log g (log_of s rest) a b c) in
+    let is : log_of s rest ≡ g = sym (same_log g (log_of s rest) a b d c) in
     let long : length (s.lines.items ++ rest) ≡ length s.lines.items + length rest = length-append s.lines.items rest in
     let many : length rest ≡ n = length-replicate n Unfinished in
     let spent : IsSpent P (log_of s rest) budget = record {

@@ -27,7 +27,7 @@ pub fn choose(problem: &Problem, domains: &Domains) -> Option<NextSplit>
     requires { BelongsTo problem.now domains.now }
     ensures { MatchOption result (IsDecided domains.now) (IsSplitIn domains.now) }
 {
-    domains.facts();
+    domains.prove_facts();
     let p = first_open(domains)?;
     let x = wanted_at(problem, domains, p)?;
     Some(NextSplit { p, x })
@@ -94,7 +94,7 @@ fn unfinished(problem: &Problem, domains: &Domains, p: u32) -> Option<Symbol>
     requires position { p < length domains.now.sets }
     ensures { IfSome result (λ x. IsTrue (has_domain domains.now p x.number)) }
 {
-    domains.facts();
+    domains.prove_facts();
     if p == 0 {
         return None;
     }

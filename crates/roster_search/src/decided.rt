@@ -22,8 +22,8 @@ pub fn met_roster(problem: &Problem, domains: &Domains) -> Result<Roster, AllocE
     ensures days { IfOk result (λ s. s.days ≡ problem.now.days) }
     ensures meets { IfOk result (λ s. MeetsAll problem.now s.cells) }
 {
-    problem.keeps_limits();
-    domains.facts();
+    problem.prove_limits();
+    domains.prove_facts();
     let roster = domains.to_roster(problem)?;
     Ok(roster)
 }

@@ -29,7 +29,7 @@ pub fn end(problem: &Problem, budget: u32, progress: Progress) -> Result<Found, 
         named,
     } = progress;
     named.numbers();
-    problem.keeps_limits();
+    problem.prove_limits();
     if walk.is_whole() {
         return Ok(Found::NoRoster(Log::of(named, turn, lines)));
     }

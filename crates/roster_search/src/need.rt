@@ -17,7 +17,7 @@ pub fn most_needed(problem: &Problem, domains: &Domains, p: u32, lowest: Symbol)
     ensures { MatchOption result (HasNoneFrom domains.now p lowest.number)
         (λ x. (lowest.number ≤ x.number) × IsTrue (has_domain domains.now p x.number)) }
 {
-    domains.facts();
+    domains.prove_facts();
     let mut best: Option<Wanted> = None;
     for number in lowest.number..domains.shifts() + 1 {
         let x = Symbol { number };

@@ -19,7 +19,7 @@ pub fn chronological(problem: &Problem, domains: &Domains, first: u32) -> Option
     requires { BelongsTo problem.now domains.now }
     ensures { MatchOption result (IsDecided domains.now) (IsSplitIn domains.now) }
 {
-    domains.facts();
+    domains.prove_facts();
     let p = first_open_from(domains, first)?;
     let x = most_needed(problem, domains, p, Symbol::OFF)?;
     Some(NextSplit { p, x })

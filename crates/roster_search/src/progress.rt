@@ -61,14 +61,14 @@ impl Progress {
     }
 
     /// Brings into a proof what holds of the domains at the next line. Does nothing when run.
-    pub fn domain_facts(&self)
+    pub fn prove_domains(&self)
         ensures store { IsStore self.now.walk.store }
         ensures tests { HasDomains self.now.walk.store }
         ensures same { (P : Instance) → IsProgress P self.now
             → AreSame P (has_domain self.now.walk.store)
             (domains_at P self.now.turn self.now.lines.items (length self.now.lines.items)) }
     {
-        self.walk.domains().facts();
+        self.walk.domains().prove_facts();
     }
 
     /// Writes a leaf. After want of memory the lines can't be used.
@@ -98,10 +98,10 @@ impl Progress {
         ensures part { IfOk result (λ _. self.new.walk.whole ≡ false) }
         ensures turn { self.new.turn ≡ self.old.turn }
     {
-        self.domain_facts();
+        self.prove_domains();
         self.lines.push(Line::Split { p, x })?;
         self.walk.read_split(p, x)?;
-        self.domain_facts();
+        self.prove_domains();
         Ok(())
     }
 
@@ -129,12 +129,12 @@ impl Progress {
             → self.new.lines.items ≡ self.old.lines.items ++ Split p x ∷ line ∷ []) }
         ensures turn { self.new.turn ≡ self.old.turn }
     {
-        problem.keeps_limits();
-        self.domain_facts();
+        problem.prove_limits();
+        self.prove_domains();
         self.split(p, x)?;
         if self.has_room(budget) {
             self.close(problem, line)?;
-            self.domain_facts();
+            self.prove_domains();
         }
         Ok(())
     }

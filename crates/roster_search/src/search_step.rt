@@ -53,8 +53,8 @@ pub fn step<A: Propagator, G: Guide>(
     ensures spent { (S : Store) (p : ℕ) (x : Symbol) → A.spent propagator.old S p x ↔ A.spent propagator.new S p x }
     ensures guide { (P : Instance) → G.serves guide.old P ↔ G.serves guide.new P }
 {
-    problem.keeps_limits();
-    progress.domain_facts();
+    problem.prove_limits();
+    progress.prove_domains();
     match see(alloc, propagator, guide, *arrival, progress.walk.domains())? {
         Sight::Roster(roster) => Ok(Some(roster)),
         Sight::Leaf(line) => {

@@ -14,7 +14,7 @@ use Rattle.rwsp_terms.specs.Places.{NumberBelongs, EntryBelongs, SetsWeight}
 use Rattle.rwsp_terms.specs.Weights.{AreWeights, ComesBefore, IsWeight, weight_at}
 use Rattle.rwsp_terms.proofs.Ascending.{increasing_from_pairs, insert_increasing, Contains-insert, Contains-cons, Contains-first, Contains-later, inserted}
 use Rattle.rwsp_terms.proofs.SameLists.{same_rule_lists, same_weights, WeighSame}
-use Rattle.refutation_terms.specs.Strip.{without, without_day}
+use Rattle.refutation_terms.specs.Strip.{without_rule, without_day}
 
 -- numbers
 
@@ -27,17 +27,17 @@ put_last old new n up up' low holds =
     (λ k. (λ c. (Contains-insert old (length old) n k).1 ((holds k).0 c), λ c. (holds k).1 ((Contains-insert old (length old) n k).0 c)))
     ∙ insert_end old n
 
-pub kept_first : (n m : ℕ) (R : List ℕ) → m ≢ n → without n (m ∷ R) ≡ m ∷ without n R
+pub kept_first : (n m : ℕ) (R : List ℕ) → m ≢ n → without_rule n (m ∷ R) ≡ m ∷ without_rule n R
 kept_first n m R ne =
     ⊎_elim
     (λ (q : ((m == n) ≡ true) × (m ≡ n)). absurd (ne q.1))
-    (λ (q : ((m == n) ≡ false) × (m ≢ n)). ap (λ b. cond (not b) (m ∷ without n R) (without n R)) q.0)
+    (λ (q : ((m == n) ≡ false) × (m ≢ n)). ap (λ b. cond (not b) (m ∷ without_rule n R) (without_rule n R)) q.0)
     (eqb_tells m n)
 
-pub gone_first : (n m : ℕ) (R : List ℕ) → m ≡ n → without n (m ∷ R) ≡ without n R
+pub gone_first : (n m : ℕ) (R : List ℕ) → m ≡ n → without_rule n (m ∷ R) ≡ without_rule n R
 gone_first n m R e =
     ⊎_elim
-    (λ (q : ((m == n) ≡ true) × (m ≡ n)). ap (λ b. cond (not b) (m ∷ without n R) (without n R)) q.0)
+    (λ (q : ((m == n) ≡ true) × (m ≡ n)). ap (λ b. cond (not b) (m ∷ without_rule n R) (without_rule n R)) q.0)
     (λ (q : ((m == n) ≡ false) × (m ≢ n)). absurd (q.1 e))
     (eqb_tells m n)
 
@@ -49,7 +49,7 @@ same_or_not m n =
     (eqb_tells m n)
 
 -- what the shorter list holds
-pub was_listed : (n : ℕ) (R : List ℕ) (k : ℕ) → Contains (without n R) k → Contains R k × (k ≢ n)
+pub was_listed : (n : ℕ) (R : List ℕ) (k : ℕ) → Contains (without_rule n R) k → Contains R k × (k ≢ n)
 was_listed n [] k c = absurd (omega (arith, c.1))
 was_listed n (m ∷ R) k c =
     ⊎_elim
@@ -58,12 +58,12 @@ was_listed n (m ∷ R) k c =
     (Contains-later m R k q.0, q.1))
     (λ (ne : m ≢ n).
     ⊎_elim
-    (λ (later : Contains (without n R) k). let q = was_listed n R k later in (Contains-later m R k q.0, q.1))
+    (λ (later : Contains (without_rule n R) k). let q = was_listed n R k later in (Contains-later m R k q.0, q.1))
     (λ (e : k ≡ m). (Contains-first m R k e, λ same. ne (sym e ∙ same)))
-    (Contains-cons m (without n R) k (subst (λ l. Contains l k) (kept_first n m R ne) c)))
+    (Contains-cons m (without_rule n R) k (subst (λ l. Contains l k) (kept_first n m R ne) c)))
     (same_or_not m n)
 
-pub still_listed : (n : ℕ) (R : List ℕ) (k : ℕ) → Contains R k → k ≢ n → Contains (without n R) k
+pub still_listed : (n : ℕ) (R : List ℕ) (k : ℕ) → Contains R k → k ≢ n → Contains (without_rule n R) k
 still_listed n [] k c ne = absurd (omega (arith, c.1))
 still_listed n (m ∷ R) k c ne =
     ⊎_elim
@@ -71,13 +71,13 @@ still_listed n (m ∷ R) k c ne =
     let rest = still_listed n R k later ne in
     ⊎_elim
     (λ (e : m ≡ n). subst (λ l. Contains l k) (sym (gone_first n m R e)) rest)
-    (λ (d : m ≢ n). subst (λ l. Contains l k) (sym (kept_first n m R d)) (Contains-later m (without n R) k rest))
+    (λ (d : m ≢ n). subst (λ l. Contains l k) (sym (kept_first n m R d)) (Contains-later m (without_rule n R) k rest))
     (same_or_not m n))
     (λ (e : k ≡ m).
-    subst (λ l. Contains l k) (sym (kept_first n m R (λ same. ne (e ∙ same)))) (Contains-first m (without n R) k e))
+    subst (λ l. Contains l k) (sym (kept_first n m R (λ same. ne (e ∙ same)))) (Contains-first m (without_rule n R) k e))
     (Contains-cons m R k c)
 
-pub not_longer : (n : ℕ) (R : List ℕ) → length (without n R) ≤ length R
+pub not_longer : (n : ℕ) (R : List ℕ) → length (without_rule n R) ≤ length R
 not_longer n [] = omega arith
 not_longer n (m ∷ R) =
     let rest = not_longer n R in
@@ -86,7 +86,7 @@ not_longer n (m ∷ R) =
     (λ (d : m ≢ n). let l = ap length (kept_first n m R d) in omega (arith, l, rest))
     (same_or_not m n)
 
-pub shorter : (n : ℕ) (R : List ℕ) → Contains R n → length (without n R) < length R
+pub shorter : (n : ℕ) (R : List ℕ) → Contains R n → length (without_rule n R) < length R
 shorter n [] c = absurd (omega (arith, c.1))
 shorter n (m ∷ R) c =
     ⊎_elim
@@ -115,11 +115,11 @@ take_pairs R xs i within pairs = λ j k d lt less.
     subst (λ x. R x (get_or (take i xs) k d)) (sym (get_or-take i xs j d (omega (arith, lt, low))))
     (subst (λ x. R (get_or xs j d) x) (sym (get_or-take i xs k d low)) (pairs j k d lt (omega (arith, low, within))))
 
-pub lower_in_front : (R : List ℕ) (n i d : ℕ) → IsStrictlyIncreasing R → i < length R → All (λ k. k < get_or R i d) (without n (take i R))
+pub lower_in_front : (R : List ℕ) (n i d : ℕ) → IsStrictlyIncreasing R → i < length R → All (λ k. k < get_or R i d) (without_rule n (take i R))
 lower_in_front R n i d up less =
     All-filter (λ k. not (k == n)) (λ k. k < get_or R i d) (take i R) (front_pairs (λ x y. x < y) R i d (AllPairs-from_increasing R up) less)
 
-pub front_ascends : (R : List ℕ) (n i : ℕ) → IsStrictlyIncreasing R → i ≤ length R → IsStrictlyIncreasing (without n (take i R))
+pub front_ascends : (R : List ℕ) (n i : ℕ) → IsStrictlyIncreasing R → i ≤ length R → IsStrictlyIncreasing (without_rule n (take i R))
 front_ascends R n i up within =
     IsStrictlyIncreasing-filter (λ k. not (k == n)) (take i R)
     (increasing_from_pairs (take i R) (take_pairs (λ x y. x < y) R i within (AllPairs-from_increasing R up)))

@@ -13,11 +13,11 @@ use Rattle.rwsp_terms.specs.Weights.{AreWeights, IsWeight}
 use Rattle.rwsp_terms.proofs.Ascending.{Contains-first, Contains-later}
 use Rattle.rwsp_model.proofs.Numbering.{one_number}
 use Rattle.refutation_terms.specs.declared.lines.Line.{Line}
-use Rattle.refutation_terms.specs.declared.lines.Line.TheVariants.{Split, Window, Day, Dead, Bound, Unfinished}
+use Rattle.refutation_terms.specs.declared.lines.Line.TheVariants.{Split, Window, Day, Dead, Bound, Few, Free, Unfinished}
 use Rattle.refutation_terms.specs.Word.{Domains}
 use Rattle.refutation_terms.specs.Tree.{domains_at}
 use Rattle.refutation_terms.specs.Log.{Log, LineFits, Holds, HasWeight, Cites, TurnCites, ListsShortOnly, Passes}
-use Rattle.refutation_terms.specs.Strip.{without, without_day, strip_line, strip}
+use Rattle.refutation_terms.specs.Strip.{without_rule, without_day, strip_line, strip}
 use Rattle.refutation_log.proofs.CitedRules.{weight_of_entry, entry_of_weight, read_at}
 use Rattle.rule_reducer.specs.Citing.{is_plain, OneCites, CitesForGood, AreCited}
 use Rattle.rule_reducer.specs.Without.{HoldsWithout}
@@ -79,7 +79,7 @@ no_day_lost y j are none =
 
 -- lists
 
-pub none_left_out : (n : ℕ) (R : List ℕ) → (Contains R n → ⊥) → without n R ≡ R
+pub none_left_out : (n : ℕ) (R : List ℕ) → (Contains R n → ⊥) → without_rule n R ≡ R
 none_left_out n [] none = refl
 none_left_out n (m ∷ R) none =
     kept_first n m R (λ e. none (Contains-first m R n (sym e)))
@@ -107,9 +107,11 @@ cited_before P n (Day j x over) r fits c = c
 cited_before P n (Dead p len R) r fits c = (c.0, (was_listed n R c.0 c.1).0, c.2)
 cited_before P n (Bound p turns R y) r fits (inl c) = inl (c.0, (was_listed n R c.0 c.1).0, c.2)
 cited_before P n (Bound p turns R y) r fits (inr c) = inr (c.0, weighed_before P (rule_of P n) y c.0 fits.3.0 c.1, c.2)
+cited_before P n Few r fits c = c
+cited_before P n (Free turns reward R y) r fits c = c
 cited_before P n Unfinished r fits c = c
 
-not_in_list : (P : Instance) (n : ℕ) (r : Rule) (R : List ℕ) → rule_of P n ≡ Some r → Names P (without n R) r → ⊥
+not_in_list : (P : Instance) (n : ℕ) (r : Rule) (R : List ℕ) → rule_of P n ≡ Some r → Names P (without_rule n R) r → ⊥
 not_in_list P n r R is named = (was_listed n R named.0 named.1).1 (one_number P named.0 n r named.2 is)
 
 -- a line that is no plain leaf doesn't cite the rule once it was stripped
@@ -123,6 +125,8 @@ stripped_cites_not P n (Bound p turns R y) r is fits other (inr c) =
     let day : rule_of P n ≡ Some (TheRules.Day c.0) = is ∙ ap (λ (z : Rule). Some z) c.2 in
     let has : HasWeight (without_day (Some (TheRules.Day c.0)) y) c.0 = subst (λ o. HasWeight (without_day o y) c.0) day c.1 in
     (weight_left y c.0 c.0 fits.3.0 has).1 refl
+stripped_cites_not P n Few r is fits other c = c
+stripped_cites_not P n (Free turns reward R y) r is fits other c = absurd fits
 stripped_cites_not P n Unfinished r is fits other c = c
 
 same_weights_for : (r : Rule) (y : List Weight) → AreWeights y → ((j : ℕ) → HasWeight y j → r ≡ TheRules.Day j → ⊥) → without_day (Some r) y ≡ y
@@ -145,6 +149,8 @@ same_stripped P n (Dead p len R) r is fits none = ap (Dead p len) (none_left_out
 same_stripped P n (Bound p turns R y) r is fits none =
     ap (λ l. Bound p turns l (without_day (rule_of P n) y)) (none_left_out n R (λ c. none (inl (n, c, is))))
     ∙ ap (Bound p turns R) (ap (λ o. without_day o y) is ∙ same_weights_for r y fits.3.0 (λ j has e. none (inr (j, has, e))))
+same_stripped P n Few r is fits none = refl
+same_stripped P n (Free turns reward R y) r is fits none = refl
 same_stripped P n Unfinished r is fits none = refl
 
 -- what tells that a strip can't change a line
@@ -169,6 +175,8 @@ plain_stays P n (Window number p len) = refl
 plain_stays P n (Day j x over) = refl
 plain_stays P n (Dead p len R) = refl
 plain_stays P n (Bound p turns R y) = refl
+plain_stays P n Few = refl
+plain_stays P n (Free turns reward R y) = refl
 plain_stays P n Unfinished = refl
 
 pub plain_same : (P : Instance) (n : ℕ) (line : Line) → is_plain line ≡ true → strip_line P n line ≡ line
@@ -177,6 +185,8 @@ plain_same P n (Window number p len) e = refl
 plain_same P n (Day j x over) e = refl
 plain_same P n (Dead p len R) e = absurd (cc)
 plain_same P n (Bound p turns R y) e = absurd (cc)
+plain_same P n Few e = refl
+plain_same P n (Free turns reward R y) e = refl
 plain_same P n Unfinished e = refl
 
 -- the test
@@ -185,7 +195,7 @@ other_rule : (P : Instance) (n k : ℕ) (r z : Rule) → rule_of P n ≡ Some r 
 other_rule P n k r z is e there = let same : Some z ≡ Some r = sym there ∙ ap (rule_of P) e ∙ is in cc
 
 -- a rule that isn't the one left out is named still
-still_named : (P : Instance) (n : ℕ) (r z : Rule) (named : List ℕ) → rule_of P n ≡ Some r → z ≢ r → Names P named z → Names P (without n named) z
+still_named : (P : Instance) (n : ℕ) (r z : Rule) (named : List ℕ) → rule_of P n ≡ Some r → z ≢ r → Names P named z → Names P (without_rule n named) z
 still_named P n r z named is ne names =
     (names.0, still_listed n named names.0 names.1 (λ e. ne (other_rule P n names.0 r z is e names.2)), names.2)
 
@@ -195,6 +205,8 @@ short_still P n (Window number p len) h = h
 short_still P n (Day j x over) h = h
 short_still P n (Dead p len R) h = λ r c. h r (c.0, (was_listed n R c.0 c.1).0, c.2)
 short_still P n (Bound p turns R y) h = λ r c. h r (c.0, (was_listed n R c.0 c.1).0, c.2)
+short_still P n Few h = h
+short_still P n (Free turns reward R y) h = h
 short_still P n Unfinished h = h
 
 pub short_stripped : (P : Instance) (n : ℕ) (line : Line) → ListsShortOnly P line → ListsShortOnly P (strip_line P n line)

@@ -13,11 +13,11 @@ use Rattle.rwsp_terms.specs.Instance.{Instance, IsDay, IsSymbol}
 use Rattle.rwsp_terms.specs.Rules.{rule_of, rules}
 use Rattle.rwsp_terms.specs.Weights.{ComesBefore, IsWeight}
 use Rattle.refutation_terms.specs.declared.lines.Line.{Line}
-use Rattle.refutation_terms.specs.declared.lines.Line.TheVariants.{Split, Window, Day, Dead, Bound, Unfinished}
+use Rattle.refutation_terms.specs.declared.lines.Line.TheVariants.{Split, Window, Day, Dead, Bound, Few, Free, Unfinished}
 use Rattle.refutation_terms.specs.declared.lines.Turn.{Turn}
 use Rattle.refutation_terms.specs.Tree.{IsLeaf, Tree, Leaf, Node, lines_in, IsTree, after_trees, Side, side, side_of, line_leaves, lines_leave, opening, domains_at}
 use Rattle.refutation_terms.specs.Log.{Log, AreRules, AreWeightsOf, LineFits, Fits}
-use Rattle.refutation_terms.specs.Strip.{without, without_day, strip_line, strip}
+use Rattle.refutation_terms.specs.Strip.{without_rule, without_day, strip_line, strip}
 use Rattle.refutation_terms.proofs.TreeDomains.{same_domains}
 
 -- the tree
@@ -28,6 +28,8 @@ leaf_stays P n (Window r p len) h = h
 leaf_stays P n (Day j x over) h = h
 leaf_stays P n (Dead p len R) h = h
 leaf_stays P n (Bound p turns R y) h = h
+leaf_stays P n Few h = h
+leaf_stays P n (Free turns reward R y) h = h
 leaf_stays P n Unfinished h = h
 
 mapped_append : (f : Line → Line) (xs ys : List Line) → map f (xs ++ ys) ≡ map f xs ++ map f ys
@@ -58,6 +60,8 @@ after_stays P n (suc count) (Window r p len ∷ lines) = after_stays P n count l
 after_stays P n (suc count) (Day j x over ∷ lines) = after_stays P n count lines
 after_stays P n (suc count) (Dead p len R ∷ lines) = after_stays P n count lines
 after_stays P n (suc count) (Bound p turns R y ∷ lines) = after_stays P n count lines
+after_stays P n (suc count) (Few ∷ lines) = after_stays P n count lines
+after_stays P n (suc count) (Free turns reward R y ∷ lines) = after_stays P n count lines
 after_stays P n (suc count) (Unfinished ∷ lines) = after_stays P n count lines
 
 side_of_mapped : (f : List Line → List Line) (one two : Option (List Line)) → side_of (option_map f one) (option_map f two) ≡ side_of one two
@@ -78,6 +82,8 @@ line_leaves_same P n (Window r q len) s p z = refl
 line_leaves_same P n (Day j x over) s p z = refl
 line_leaves_same P n (Dead q len R) s p z = refl
 line_leaves_same P n (Bound q turns R y) s p z = refl
+line_leaves_same P n Few s p z = refl
+line_leaves_same P n (Free turns reward R y) s p z = refl
 line_leaves_same P n Unfinished s p z = refl
 
 lines_leave_same : (P : Instance) (n : ℕ) (lines : List Line) (p z : ℕ) → lines_leave (map (strip_line P n) lines) p z ≡ lines_leave lines p z
@@ -112,7 +118,7 @@ line_before P n lines k line got = from (slice_get lines k) refl
 
 -- the log fits
 
-pub rules_stay : (P : Instance) (n : ℕ) (R : List ℕ) → AreRules P R → AreRules P (without n R)
+pub rules_stay : (P : Instance) (n : ℕ) (R : List ℕ) → AreRules P R → AreRules P (without_rule n R)
 rules_stay P n R are = (
   IsStrictlyIncreasing-filter (λ k. not (k == n)) R are.0,
   All-filter (λ k. not (k == n)) (λ k. (0 < k) × (k ≤ length (rules P))) R are.1,
@@ -145,12 +151,16 @@ line_fits_still P n (Window r p len) h = h
 line_fits_still P n (Day j x over) h = h
 line_fits_still P n (Dead p len R) h = (h.0, h.1, rules_stay P n R h.2)
 line_fits_still P n (Bound p turns R y) h = (h.0, h.1, rules_stay P n R h.2, weights_stay P (rule_of P n) y h.3)
+line_fits_still P n Few h = h
+line_fits_still P n (Free turns reward R y) h = h
 line_fits_still P n Unfinished h = h
 
 pub fits_still : (P : Instance) (n : ℕ) (g : Log) → Fits P g → Fits P (strip P n g)
 fits_still P n g fits = record {
   named = rules_stay P n g.named fits.named;
   turn = fits.turn;
+  is_goal = fits.is_goal;
+  goal_fits = tt;
   lines = λ k line got.
       let old = line_before P n g.lines k line got in
       subst (LineFits P) old.2 (line_fits_still P n old.0 (fits.lines k old.0 old.1));

@@ -9,12 +9,12 @@ use Rattle.rwsp_terms.specs.Instance.{Instance}
 use Rattle.rwsp_terms.specs.Rules.{rule_of, rules, Names, NamesShortOnly}
 use Rattle.rwsp_model.proofs.Numbering.{one_number}
 use Rattle.refutation_terms.specs.declared.lines.Line.{Line}
-use Rattle.refutation_terms.specs.declared.lines.Line.TheVariants.{Split, Window, Day, Dead, Bound, Unfinished}
+use Rattle.refutation_terms.specs.declared.lines.Line.TheVariants.{Split, Window, Day, Dead, Bound, Few, Free, Unfinished}
 use Rattle.refutation_terms.specs.Word.{Domains}
 use Rattle.refutation_terms.specs.Leaf.{IsTooLight}
 use Rattle.refutation_terms.specs.Tree.{IsTree, domains_at}
 use Rattle.refutation_terms.specs.Log.{Log, AreRules, LineFits, Fits, Holds, HasWeight, Cites, ListsShortOnly, Passes}
-use Rattle.refutation_terms.specs.Strip.{without, without_day, strip_line, strip}
+use Rattle.refutation_terms.specs.Strip.{without_rule, without_day, strip_line, strip}
 use Rattle.refutation_terms.proofs.Windows.{clean-fewer}
 use Rattle.refutation_log.proofs.CitedRules.{rule_there}
 use Rattle.rule_reducer.specs.Needs.{NeedsEach, NeedsTogether, NamesWindowRule, strip_all}
@@ -39,21 +39,23 @@ pub record IsLaidOut (P : Instance) (g : Log) : Type 0 where
   pub tree : IsTree g.lines
   pub listed : (k : ℕ) (line : Line) → slice_get g.lines k ≡ Some line → ListsAreNamed P g.named line
 
-more_named : (P : Instance) (n : ℕ) (R : List ℕ) (r : Rule) → Names P (without n R) r → Names P R r
+more_named : (P : Instance) (n : ℕ) (R : List ℕ) (r : Rule) → Names P (without_rule n R) r → Names P R r
 more_named P n R r named = (named.0, (was_listed n R named.0 named.1).0, named.2)
 
-list_stays : (P : Instance) (n : ℕ) (named R : List ℕ) → ListIsNamed P named R → ListIsNamed P (without n named) (without n R)
+list_stays : (P : Instance) (n : ℕ) (named R : List ℕ) → ListIsNamed P named R → ListIsNamed P (without_rule n named) (without_rule n R)
 list_stays P n named R h = (
   λ k c. let q = was_listed n R k c in still_listed n named k (h.0 k q.0) q.1,
   λ r c. h.1 r (more_named P n R r c),
 )
 
-lists_stay : (P : Instance) (n : ℕ) (named : List ℕ) (line : Line) → ListsAreNamed P named line → ListsAreNamed P (without n named) (strip_line P n line)
+lists_stay : (P : Instance) (n : ℕ) (named : List ℕ) (line : Line) → ListsAreNamed P named line → ListsAreNamed P (without_rule n named) (strip_line P n line)
 lists_stay P n named (Split p x) h = h
 lists_stay P n named (Window r p len) h = h
 lists_stay P n named (Day j x over) h = h
 lists_stay P n named (Dead p len R) h = list_stays P n named R h
 lists_stay P n named (Bound p turns R y) h = list_stays P n named R h
+lists_stay P n named Few h = h
+lists_stay P n named (Free turns reward R y) h = h
 lists_stay P n named Unfinished h = h
 
 laid_out_still : (P : Instance) (n : ℕ) (g : Log) → IsLaidOut P g → IsLaidOut P (strip P n g)
@@ -62,7 +64,7 @@ laid_out_still P n g laid = record {
   tree = tree_stays P n g.lines laid.tree;
   listed = λ k line got.
       let old = line_before P n g.lines k line got in
-      subst (ListsAreNamed P (without n g.named)) old.2 (lists_stay P n g.named old.0 (laid.listed k old.0 old.1));
+      subst (ListsAreNamed P (without_rule n g.named)) old.2 (lists_stay P n g.named old.0 (laid.listed k old.0 old.1));
 }
 
 -- a list whose rules are all named holds named numbers alone
@@ -79,6 +81,8 @@ lists_named P named (Window r p len) fits h short = tt
 lists_named P named (Day j x over) fits h short = tt
 lists_named P named (Dead p len R) fits h short = (list_named P named R fits.2 h, short)
 lists_named P named (Bound p turns R y) fits h short = (list_named P named R fits.2 (λ r c. h r (inl c)), short)
+lists_named P named Few fits h short = tt
+lists_named P named (Free turns reward R y) fits h short = tt
 lists_named P named Unfinished fits h short = tt
 
 passing_laid_out : (P : Instance) (g : Log) → Passes P g → IsLaidOut P g
@@ -103,7 +107,7 @@ no_day (Some (TheRules.Pair k)) y h = refl
 no_day (Some (TheRules.Triple k)) y h = refl
 
 -- the rules that a line cites are named where those are that it cites without one rule
-line_named : (P : Instance) (n : ℕ) (named : List ℕ) (line : Line) → IsWindowRule P n → ListsAreNamed P named line → ((r : Rule) → Cites P (strip_line P n line) r → Names P (without n named) r) → (r : Rule) → Cites P line r → Names P named r
+line_named : (P : Instance) (n : ℕ) (named : List ℕ) (line : Line) → IsWindowRule P n → ListsAreNamed P named line → ((r : Rule) → Cites P (strip_line P n line) r → Names P (without_rule n named) r) → (r : Rule) → Cites P line r → Names P named r
 line_named P n named (Split p x) window lists h r c = absurd c
 line_named P n named (Window number p len) window lists h r c = more_named P n named r (h r c)
 line_named P n named (Day j x over) window lists h r c = more_named P n named r (h r c)
@@ -111,15 +115,19 @@ line_named P n named (Dead p len R) window lists h r c = (c.0, lists.0 c.0 c.1, 
 line_named P n named (Bound p turns R y) window lists h r (inl c) = (c.0, lists.0 c.0 c.1, c.2)
 line_named P n named (Bound p turns R y) window lists h r (inr c) =
     more_named P n named r (h r (inr (c.0, subst (λ z. HasWeight z c.0) (sym (no_day (rule_of P n) y window)) c.1, c.2)))
+line_named P n named Few window lists h r c = absurd c
+line_named P n named (Free turns reward R y) window lists h r c = more_named P n named r (h r c)
 line_named P n named Unfinished window lists h r c = absurd c
 
-lists_short : (P : Instance) (named : List ℕ) (line : Line) → ListsAreNamed P named line → ListsShortOnly P line
-lists_short P named (Split p x) h = h
-lists_short P named (Window r p len) h = h
-lists_short P named (Day j x over) h = h
-lists_short P named (Dead p len R) h = h.1
-lists_short P named (Bound p turns R y) h = h.1
-lists_short P named Unfinished h = h
+lists_short : (P : Instance) (named : List ℕ) (line : Line) → LineFits P line → ListsAreNamed P named line → ListsShortOnly P line
+lists_short P named (Split p x) fits h = h
+lists_short P named (Window r p len) fits h = h
+lists_short P named (Day j x over) fits h = h
+lists_short P named (Dead p len R) fits h = h.1
+lists_short P named (Bound p turns R y) fits h = h.1
+lists_short P named Few fits h = h
+lists_short P named (Free turns reward R y) fits h = absurd fits
+lists_short P named Unfinished fits h = h
 
 -- a line that holds without a window rule holds with it
 holds_with : (P : Instance) (n : ℕ) (D : Domains) (line : Line) → IsWindowRule P n → Holds P D (strip_line P n line) → Holds P D line
@@ -127,10 +135,12 @@ holds_with P n D (Split p x) window h = h
 holds_with P n D (Window r p len) window h = h
 holds_with P n D (Day j x true) window h = h
 holds_with P n D (Day j x false) window h = h
-holds_with P n D (Dead p len R) window h = λ u long over clean. h u long over (clean-fewer P R (without n R) u (λ k c. (was_listed n R k c).0) clean)
+holds_with P n D (Dead p len R) window h = λ u long over clean. h u long over (clean-fewer P R (without_rule n R) u (λ k c. (was_listed n R k c).0) clean)
 holds_with P n D (Bound p turns R y) window h = λ u long over clean.
-    let light : IsTooLight P D p turns (without n R) y = subst (λ z. IsTooLight P D p turns (without n R) z) (no_day (rule_of P n) y window) h in
-    light u long over (clean-fewer P R (without n R) u (λ k c. (was_listed n R k c).0) clean)
+    let light : IsTooLight P D p turns (without_rule n R) y = subst (λ z. IsTooLight P D p turns (without_rule n R) z) (no_day (rule_of P n) y window) h in
+    light u long over (clean-fewer P R (without_rule n R) u (λ k c. (was_listed n R k c).0) clean)
+holds_with P n D Few window h = h
+holds_with P n D (Free turns reward R y) window h = h
 holds_with P n D Unfinished window h = h
 
 passes_with : (P : Instance) (n : ℕ) (g : Log) → IsLaidOut P g → IsWindowRule P n → Passes P (strip P n g) → Passes P g
@@ -142,7 +152,7 @@ passes_with P n g laid window passes = record {
     named = λ k line r got c.
         line_named P n g.named line window (laid.listed k line got)
         (λ z cited. passes.grounded.named k (strip_line P n line) z (line_after P n g.lines k line got) cited) r c;
-    short = λ k line got. lists_short P g.named line (laid.listed k line got);
+    short = λ k line got. lists_short P g.named line (laid.fits.lines k line got) (laid.listed k line got);
   };
   tree = laid.tree;
   holds = λ k line got.

@@ -8,7 +8,7 @@ use Rattle.std.proofs.lemmas.Option.{same_Some, slice_get_within, slice_get_read
 use Rattle.rwsp_terms.specs.declared.data.Rule.{Rule}
 use Rattle.rwsp_terms.specs.Instance.{Instance}
 use Rattle.refutation_terms.specs.declared.lines.Line.{Line}
-use Rattle.refutation_terms.specs.declared.lines.Line.TheVariants.{Split, Window, Day, Dead, Bound, Unfinished}
+use Rattle.refutation_terms.specs.declared.lines.Line.TheVariants.{Split, Window, Day, Dead, Bound, Few, Free, Unfinished}
 use Rattle.refutation_terms.specs.declared.lines.Turn.{Turn}
 use Rattle.refutation_terms.specs.Word.{Domains}
 use Rattle.refutation_terms.specs.Tree.{opening, lines_leave, domains_at}
@@ -52,6 +52,8 @@ by_words P D n (Window number p len) has = absurd has
 by_words P D n (Day j x over) has = absurd has
 by_words P D n (Dead p len R) has = (λ h. h, λ h. h)
 by_words P D n (Bound p turns R y) has = (λ h. h, λ h. h)
+by_words P D n Few has = absurd has
+by_words P D n (Free turns reward R y) has = absurd has
 by_words P D n Unfinished has = absurd has
 
 pub judged : (P : Instance) (D : Domains) (n : ℕ) (line : Line) (b : Bool) → HasList line → IsTrue b ↔ HoldsByWords P D (strip_line P n line)

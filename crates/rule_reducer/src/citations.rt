@@ -9,7 +9,8 @@ ghost use Rattle.rule_reducer.specs.Citing.{is_plain, OneCites, AreCited};
 use crate::shrinking_log::ShrinkingLog;
 use refutation_log::{Turn, put_cited, put_turn_cited};
 use refutation_terms::Line;
-use rwsp_model::{Problem, RuleList};
+use rwsp_model::Problem;
+use rwsp_terms::RuleList;
 use std::alloc::{AllocError, Global};
 
 /// The rules that the lines of a log cite.
@@ -27,7 +28,7 @@ fn is_plain(line: &Line) -> bool
 {
     match line {
         Line::Window { .. } | Line::Day { .. } => true,
-        Line::Split { .. } | Line::Dead { .. } | Line::Bound { .. } | Line::Unfinished => false,
+        _ => false,
     }
 }
 

@@ -9,7 +9,8 @@ ghost use Rattle.rule_reducer.specs.Without.{HoldsWithout};
 use crate::citations::Citations;
 use crate::refusing_lines::{refuses_at, refusing_line};
 use crate::shrinking_log::ShrinkingLog;
-use rwsp_model::{Problem, Rule, rule_at};
+use rwsp_model::{Problem, rule_at};
+use rwsp_terms::Rule;
 use std::alloc::{AllocError, Global};
 
 /// The line that refused the last strip. The next one is tried there first: a line that can't do without one rule often

@@ -12,5 +12,5 @@ mod stripping;
 #[cfg(test)]
 mod tests;
 
-pub use reducing::reduce;
+pub use reducing::{reduce, reduce_in_place};
 pub use stripping::strip;

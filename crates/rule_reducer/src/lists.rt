@@ -3,16 +3,16 @@ ghost use Rattle.std.specs.Prelude.{◌≡◌, ◌<◌, ◌++◌, ◌∷◌, [],
 ghost use Rattle.std.specs.List.Sorted.{IsStrictlyIncreasing};
 ghost use Rattle.rwsp_terms.specs.declared.data.Rule.TheVariants.{Day};
 ghost use Rattle.rwsp_terms.specs.Weights.{AreWeights, ComesBefore, IsWeight};
-ghost use Rattle.refutation_terms.specs.Strip.{without, without_day};
+ghost use Rattle.refutation_terms.specs.Strip.{without_rule, without_day};
 
-use rwsp_model::{Rule, RuleList, Weight, Weights};
+use rwsp_terms::{Rule, RuleList, Weight, Weights};
 use std::alloc::{AllocError, Global};
 
 // Puts a number behind the others, but for the one that is left out.
 fn put_other(kept: &mut RuleList, listed: u32, left_out: u32) -> Result<(), AllocError>
     requires ascends { IsStrictlyIncreasing kept.old }
     requires last { All (λ k. k < listed) kept.old }
-    ensures { OnOk result (kept.new ≡ kept.old ++ without left_out (listed ∷ [])) }
+    ensures { OnOk result (kept.new ≡ kept.old ++ without_rule left_out (listed ∷ [])) }
 {
     if listed == left_out {
         return Ok(());
@@ -22,7 +22,7 @@ fn put_other(kept: &mut RuleList, listed: u32, left_out: u32) -> Result<(), Allo
 
 /// The list without the number.
 pub fn without(alloc: Global, list: &RuleList, number: u32) -> Result<RuleList, AllocError>
-    ensures { IfOk result (λ kept. kept ≡ without number list.now) }
+    ensures { IfOk result (λ kept. kept ≡ without_rule number list.now) }
 {
     let mut kept = RuleList::new(alloc);
     for listed in list.numbers() {

@@ -17,12 +17,12 @@ use rwsp_model::{Fail, Problem};
 use std::alloc::{AllocError, Global};
 
 // Descents of a log that passes, until one drops nothing.
-fn descend_to_end(alloc: Global, problem: &Problem, log: &Log) -> Result<Log, AllocError>
-    requires { Passes problem.now log.now }
-    ensures reduced { IfOk result (IsReduced problem.now log.now) }
+fn descend_to_end(alloc: Global, problem: &Problem, log: Log) -> Result<Log, AllocError>
+    requires { Passes problem.now log }
+    ensures reduced { IfOk result (IsReduced problem.now log) }
     ensures passes { IfOk result (Passes problem.now) }
 {
-    let mut reduced = ShrinkingLog::of(alloc, log)?;
+    let mut reduced = ShrinkingLog::of(log);
     let cited = citations_of(alloc, problem, &reduced)?;
     let mut last = LastRefusal { place: 0 };
     loop {
@@ -40,7 +40,29 @@ fn descend_to_end(alloc: Global, problem: &Problem, log: &Log) -> Result<Log, Al
 ///
 /// A strip leaves the domains at each line as they are. So a rule that no line cites is dropped, and one that a window or
 /// a day leaf or the turn cites is kept, without judging anything; for each other rule the dead and bound leaves that
-/// list it are judged without it, up to the first that doesn't hold. Beside the log there is memory for one copy of it.
+/// list it are judged without it, up to the first that doesn't hold. The log loses its rules in place, so beside it there
+/// is memory for a line at a time.
+pub fn reduce_in_place(alloc: Global, problem: &Problem, log: Log) -> Result<Log, Fail<LogRefusal>>
+    requires { Fits problem.now log }
+    ensures reduced { MatchAnswer result
+        (λ g. IsReduced problem.now log g)
+        (IsRefused problem.now (log_text problem.now log)) }
+    ensures accepted { IfOk result (λ g. Passes problem.now log) }
+    ensures passes { IfOk result (Passes problem.now) }
+    ensures fits { IfOk result (Fits problem.now) }
+    ensures needed { IfOk result (NeedsEach problem.now) }
+    ensures together { IfOk result (NeedsTogether problem.now) }
+{
+    if let Err(fail) = check_log(alloc, problem, &log) {
+        return Err(fail);
+    }
+    match descend_to_end(alloc, problem, log) {
+        Ok(reduced) => Ok(reduced),
+        Err(_) => Err(Fail::Memory),
+    }
+}
+
+/// What `reduce_in_place` leaves of a copy of the log.
 pub fn reduce(alloc: Global, problem: &Problem, log: &Log) -> Result<Log, Fail<LogRefusal>>
     requires { Fits problem.now log.now }
     ensures reduced { MatchAnswer result
@@ -52,11 +74,8 @@ pub fn reduce(alloc: Global, problem: &Problem, log: &Log) -> Result<Log, Fail<L
     ensures needed { IfOk result (NeedsEach problem.now) }
     ensures together { IfOk result (NeedsTogether problem.now) }
 {
-    if let Err(fail) = check_log(alloc, problem, log) {
-        return Err(fail);
-    }
-    match descend_to_end(alloc, problem, log) {
-        Ok(reduced) => Ok(reduced),
+    match log.copy() {
+        Ok(own) => reduce_in_place(alloc, problem, own),
         Err(_) => Err(Fail::Memory),
     }
 }

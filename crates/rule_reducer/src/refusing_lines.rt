@@ -13,7 +13,8 @@ use crate::shrinking_log::ShrinkingLog;
 use crate::stripped_lines::{lists, strip_line};
 use refutation_checker::{LeafJudge, go_past};
 use refutation_terms::Line;
-use rwsp_model::{Problem, Rule};
+use rwsp_model::Problem;
+use rwsp_terms::Rule;
 use std::alloc::{AllocError, Global};
 use tree_walk::Walk;
 

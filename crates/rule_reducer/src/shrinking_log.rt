@@ -1,5 +1,5 @@
 // A log that loses rules in place.
-ghost use Rattle.std.specs.Prelude.{◌≡◌, ◌≤◌, ℕ, length, map, Option, Some, IfOk, OnOk};
+ghost use Rattle.std.specs.Prelude.{◌≡◌, ◌≤◌, ℕ, length, map, Option, Some, None, IfOk, OnOk};
 ghost use Rattle.rwsp_terms.specs.Instance.{Instance};
 ghost use Rattle.rwsp_terms.specs.Rules.{rule_of};
 ghost use Rattle.refutation_terms.specs.Tree.{IsTree};
@@ -7,14 +7,14 @@ ghost use Rattle.refutation_terms.specs.Strip.{strip, strip_line};
 
 use crate::lists::without;
 use crate::stripped_lines::strip_lines;
-use refutation_log::{Log, Turn, copy_line};
+use refutation_log::{Log, Turn};
 use refutation_terms::Line;
-use rwsp_model::{Rule, RuleList};
+use rwsp_terms::{Rule, RuleList};
 use std::alloc::{AllocError, Global};
 use std::marker::Model;
 
-/// A copy of a log from which rules are taken out in place. A strip costs one pass over the lines, and memory for one
-/// line at a time.
+/// A log without a goal, from which rules are taken out in place. A strip costs one pass over the lines, and memory for
+/// one line at a time.
 #[derive(Debug, Drop)]
 pub struct ShrinkingLog {
     named: RuleList,
@@ -23,28 +23,24 @@ pub struct ShrinkingLog {
 }
 
 impl Model for ShrinkingLog {
-    ghost use Rattle.std.specs.Prelude.{◌≤◌, length};
+    ghost use Rattle.std.specs.Prelude.{◌≤◌, length, None};
     ghost use Rattle.refutation_terms.specs.Log.{Log as LogValue};
 
     ghost Value = { LogValue };
 
-    ghost view = { λ g. record { named = g.named; turn = g.turn; lines = g.lines.items } };
+    ghost view = { λ g. record { named = g.named; turn = g.turn; goal = None; lines = g.lines.items } };
 
     ghost invariant = { λ g. length g.lines.items ≤ 4000000000 };
 }
 
 impl ShrinkingLog {
-    /// A copy of the log.
-    pub fn of(alloc: Global, log: &Log) -> Result<ShrinkingLog, AllocError>
-        ensures { IfOk result (λ same. same ≡ log.now) }
+    /// The log, to lose rules.
+    pub fn of(log: Log) -> ShrinkingLog
+        requires { log.goal ≡ None }
+        ensures { result ≡ log }
     {
-        let named = log.named().copy()?;
-        let lines = copied_lines(alloc, log.lines())?;
-        Ok(ShrinkingLog {
-            named,
-            turn: log.turn(),
-            lines,
-        })
+        let (named, turn, lines) = log.into_parts();
+        ShrinkingLog { named, turn, lines }
     }
 
     /// The rules that it names.
@@ -85,16 +81,4 @@ impl ShrinkingLog {
     {
         Log::of(self.named, self.turn, self.lines)
     }
-}
-
-// The same lines once more.
-fn copied_lines(alloc: Global, lines: &[Line]) -> Result<Vec<Line>, AllocError>
-    ensures { IfOk result (λ same. same.items ≡ lines.now) }
-{
-    let mut same = Vec::new(alloc);
-    for line in lines {
-        let copied = copy_line(line)?;
-        same.push(copied)?;
-    }
-    Ok(same)
 }

@@ -9,7 +9,7 @@ ghost use Rattle.rule_reducer.specs.Citing.{HasList};
 use crate::lists::{weights_without, without};
 use refutation_log::copy_line;
 use refutation_terms::Line;
-use rwsp_model::{Rule, Weights};
+use rwsp_terms::{Rule, Weights};
 use std::alloc::{AllocError, Global};
 
 // Whether some symbol has a weight on the day.
@@ -49,7 +49,7 @@ pub fn lists(line: &Line, number: u32, rule: Rule) -> bool
             }
             loses_weights(weights, rule)
         }
-        Line::Split { .. } | Line::Window { .. } | Line::Day { .. } | Line::Unfinished => false,
+        _ => false,
     }
 }
 

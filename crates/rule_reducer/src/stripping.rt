@@ -7,7 +7,8 @@ ghost use Rattle.refutation_terms.specs.Strip.{strip};
 
 use crate::shrinking_log::ShrinkingLog;
 use refutation_log::Log;
-use rwsp_model::{Problem, Rule, number_of};
+use rwsp_model::{Problem, number_of};
+use rwsp_terms::Rule;
 use std::alloc::{AllocError, Global};
 
 /// The log without a rule in its header and in the lists of dead and bound leaves; the rule of a day
@@ -22,7 +23,8 @@ pub fn strip(alloc: Global, log: &Log, rule: Rule, problem: &Problem) -> Result<
 {
     let number = number_of(problem, rule);
     let _tree = log.lines();
-    let mut kept = ShrinkingLog::of(alloc, log)?;
+    let own = log.copy()?;
+    let mut kept = ShrinkingLog::of(own);
     kept.strip(alloc, number, rule)?;
     Ok(kept.into_log())
 }

@@ -5,9 +5,8 @@ ghost use Rattle.refutation_terms.specs.Log.{Fits};
 use super::*;
 use refutation_log::{Log, print_log, read_log};
 use refutation_terms::LogRefusal;
-use rwsp_model::{
-    Bounds, DemandRow, Fail as Failure, Name, Parts, Problem, Rule, ShiftRow, Symbol,
-};
+use rwsp_model::{Fail as Failure, Parts, Problem};
+use rwsp_terms::{Bounds, DemandRow, Name, Rule, ShiftRow, Symbol};
 use std::alloc::{AllocError, Global};
 use std::test::Fail;
 
@@ -136,7 +135,7 @@ fn rules_are_stripped(rt: HostRuntime) -> Result<(), Fail> {
             b"rwsp-log 1\nrules 1 4 7\nbound 1 1 2 rules 1 4 weights 1 D 1\n"
         )?
     );
-    four.keeps_limits();
+    four.prove_limits();
     assert!(rt;
         strips_to(
             alloc,

@@ -27,7 +27,8 @@ AreTold held words =
     ((command : Command) → IsForm words command → ReadsProblem command → held (problem_name words) ≢ Silent)
     × ((command : Command) → IsForm words command → ReadsSecond command → held (second_name words) ≢ Silent)
 
--- two answers of a search that may both fit: a roster and a refutation never do, trials are of one problem, and two searches of sizes that decide say the same
+-- two answers of a search that may both fit: a roster and a refutation never do, trials are of one problem, and two
+-- searches of sizes that decide say the same
 abbrev pub AgreeInSearch : Answer → Answer → Type 0
 AgreeInSearch (Roster s) (NoRoster g) = ⊥
 AgreeInSearch (NoRoster g) (Roster s) = ⊥
@@ -91,11 +92,13 @@ ReductionsAreAccepted =
     → IsLogAnswer a P (answer_text P (Reduced h))
     → a ≡ Accepted h.named
 
--- the text of what `staff` writes with a least crew, or with none up to the last size, is accepted by `check-staff`, with what it decides
+-- the text of what `staff` writes with a least crew, or with none up to the last size, is accepted by `check-staff`,
+-- with what it decides
 abbrev pub StaffTextsAreAccepted : Type 0
 StaffTextsAreAccepted =
     (file : List ℕ) (P : Instance) (low high budget : ℕ) (run : StaffRun) (staffed : Staffed) (a : Answer)
-    → SpellsProblem file P → (1 ≤ low) × (low ≤ high) × (high ≤ MOST_WEEKS) → IsStaffAnswer P low high budget (Staff run) → decision_of run ≡ Some staffed
+    → SpellsProblem file P → (1 ≤ low) × (low ≤ high) × (high ≤ MOST_WEEKS)
+    → IsStaffAnswer P low high budget (Staff run) → decision_of run ≡ Some staffed
     → IsWithinLimit Kinds.Log (answer_text P (Staff run)) → IsStaffVerdictOf a P (answer_text P (Staff run))
     → a ≡ StaffAccepted staffed
 

@@ -29,7 +29,7 @@ pub fn log_verdict<R: Threads + Sync, G: Gate>(
     ensures kind { IfOk result IsOfLog }
     ensures printable { IfOk result (IsPrintable problem.now) }
 {
-    problem.keeps_limits();
+    problem.prove_limits();
     match check_with(rt, alloc, problem, bytes, workers, gate) {
         Ok(named) => Ok(Answer::Accepted(named)),
         Err(Fail::Refused(why)) => Ok(Answer::LogRefused(why)),

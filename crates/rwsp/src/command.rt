@@ -41,7 +41,7 @@ pub enum Command {
         employee: Option<u32>,
     },
     /// The least number of weeks, from the first to the last, for which the problem has a roster; for each lesser
-    /// one a log of at most so many lines.
+    /// one a log of at most this many lines.
     Staff {
         low: u32,
         high: u32,

@@ -2,7 +2,7 @@
 ghost use Rattle.rwsp.specs.Laws.{AnswersAreOne, TextsAreOne, ProblemsAreAnswered, RefutationsAreAccepted, RostersMeet, ReductionsAreAccepted, StaffTextsAreAccepted, WorkersMakeNoDifference};
 
 /// What is said of each answer fits no other answer, except those that a search is free to choose. So an answer
-/// comes exactly where what is said of it is so: no other can come but want of memory, and a fault that the counts
+/// comes exactly where what is said of it is true: no other can come but want of memory, and a fault that the counts
 /// show.
 pub fn answers_are_one()
     ensures { AnswersAreOne }
@@ -34,7 +34,8 @@ pub fn reductions_are_accepted()
     ensures { ReductionsAreAccepted }
 {}
 
-/// What `staff` writes with a least crew, or with none up to the last size, is accepted by `check-staff` over the same file.
+/// What `staff` writes with a least crew, or with none up to the last size, is accepted by `check-staff` over the same
+/// file.
 pub fn staff_texts_are_accepted()
     ensures { StaffTextsAreAccepted }
 {}

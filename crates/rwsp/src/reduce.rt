@@ -13,7 +13,7 @@ use crate::answer::Answer;
 use potential_bounds::Gate;
 use refutation_checker::check_with;
 use refutation_log::{Log, read_log};
-use rule_reducer::reduce;
+use rule_reducer::reduce_in_place;
 use rwsp_model::{Fail, Problem};
 use std::alloc::{AllocError, Global};
 use std::thread::Threads;
@@ -21,36 +21,38 @@ use std::thread::Threads;
 /// The workers that look for the first line with a cause, where a text isn't that of a log.
 const WORKERS: u32 = 4;
 
-/// The answer of a reduction to the bytes of a log.
+/// The answer of a reduction to the bytes of a log. Once they are read as a log, they are let go.
 pub fn reduction<R: Threads + Sync, G: Gate>(
     rt: &R,
     alloc: Global,
     problem: &Problem,
-    bytes: &[u8],
+    bytes: Vec<u8>,
     gate: &G,
 ) -> Result<Answer, AllocError>
-    requires { IsWithinLimit Kinds.Log bytes.now }
-    ensures answer { IfOk result (λ a. IsReduction a problem.now bytes.now) }
+    requires { IsWithinLimit Kinds.Log bytes.items }
+    ensures answer { IfOk result (λ a. IsReduction a problem.now bytes.items) }
     ensures kind { IfOk result IsOfReduction }
     ensures printable { IfOk result (IsPrintable problem.now) }
 {
-    match read_log(alloc, problem, bytes) {
-        Ok(log) => reduced(alloc, problem, bytes, &log),
-        Err(Fail::Refused(_)) => first_refusal(rt, alloc, problem, bytes, gate),
+    match read_log(alloc, problem, &bytes) {
+        Ok(log) => {
+            drop(bytes);
+            reduced(alloc, problem, log)
+        }
+        Err(Fail::Refused(_)) => first_refusal(rt, alloc, problem, &bytes, gate),
         Err(Fail::Memory) => Err(AllocError),
     }
 }
 
-// The log that the bytes spell, without the rules that it can do without.
-fn reduced(alloc: Global, problem: &Problem, bytes: &[u8], log: &Log) -> Result<Answer, AllocError>
-    requires short { IsWithinLimit Kinds.Log bytes.now }
-    requires fits { Fits problem.now log.now }
-    requires text { bytes.now ≡ log_text problem.now log.now }
-    ensures answer { IfOk result (λ a. IsReduction a problem.now bytes.now) }
+// The log without the rules that it can do without.
+fn reduced(alloc: Global, problem: &Problem, log: Log) -> Result<Answer, AllocError>
+    requires short { IsWithinLimit Kinds.Log (log_text problem.now log) }
+    requires fits { Fits problem.now log }
+    ensures answer { IfOk result (λ a. IsReduction a problem.now (log_text problem.now log)) }
     ensures kind { IfOk result IsOfReduction }
     ensures printable { IfOk result (IsPrintable problem.now) }
 {
-    match reduce(alloc, problem, log) {
+    match reduce_in_place(alloc, problem, log) {
         Ok(log) => Ok(Answer::Reduced(log)),
         Err(Fail::Refused(why)) => Ok(Answer::LogRefused(why)),
         Err(Fail::Memory) => Err(AllocError),
@@ -72,7 +74,7 @@ fn first_refusal<R: Threads + Sync, G: Gate>(
     ensures kind { IfOk result IsOfReduction }
     ensures printable { IfOk result (IsPrintable problem.now) }
 {
-    problem.keeps_limits();
+    problem.prove_limits();
     match check_with(rt, alloc, problem, bytes, WORKERS, gate) {
         Ok(_) => unreachable!(),
         Err(Fail::Refused(why)) => Ok(Answer::LogRefused(why)),

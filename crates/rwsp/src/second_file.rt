@@ -44,7 +44,7 @@ pub fn second_answer<R: Threads + Sync, S: Shelf, G: Gate>(
         Err(Exit::Answer(answer)) => return Ok(answer),
         Err(Exit::Stop(stop)) => return Err(stop),
     };
-    Ok(verdict(rt, alloc, problem, &bytes, command, gate)?)
+    Ok(verdict(rt, alloc, problem, bytes, command, gate)?)
 }
 
 // The kind of the command's second file.
@@ -62,23 +62,23 @@ fn verdict<R: Threads + Sync, G: Gate>(
     rt: &R,
     alloc: Global,
     problem: &Problem,
-    bytes: &[u8],
+    bytes: Vec<u8>,
     command: Command,
     gate: &G,
 ) -> Result<Answer, AllocError>
     requires reads { ReadsSecond command }
     requires other { AsksNoCalendar command }
     requires workers { HasFewWorkers command }
-    requires short { IsWithinLimit (second_kind command) bytes.now }
-    ensures answer { IfOk result (λ a. IsSecondAnswer command a problem.now bytes.now) }
+    requires short { IsWithinLimit (second_kind command) bytes.items }
+    ensures answer { IfOk result (λ a. IsSecondAnswer command a problem.now bytes.items) }
     ensures kind { IfOk result (IsOfSecond command) }
     ensures printable { IfOk result (IsPrintable problem.now) }
 {
     match command {
-        Command::Verify => roster_verdict(alloc, problem, bytes),
-        Command::Check { workers } => log_verdict(rt, alloc, problem, bytes, workers, gate),
+        Command::Verify => roster_verdict(alloc, problem, &bytes),
+        Command::Check { workers } => log_verdict(rt, alloc, problem, &bytes, workers, gate),
         Command::Reduce => reduction(rt, alloc, problem, bytes, gate),
-        Command::CheckStaff => staff_verdict(rt, alloc, problem, bytes, gate),
+        Command::CheckStaff => staff_verdict(rt, alloc, problem, &bytes, gate),
         _ => unreachable!(),
     }
 }

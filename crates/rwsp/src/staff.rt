@@ -15,7 +15,8 @@ use rwsp_terms::limits::{MOST_CELLS, USUAL_WORKERS};
 use std::alloc::{AllocError, Global};
 use std::thread::Threads;
 
-/// The answer to `staff`: each number of weeks from `low` to `high` is planned within the budget until one has a roster.
+/// The answer to `staff`: each number of weeks from `low` to `high` is planned within the budget, until one has a
+/// roster.
 pub fn staffed<R: Threads + Sync, G: Gate>(
     rt: &R,
     alloc: Global,

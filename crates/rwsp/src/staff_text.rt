@@ -20,7 +20,8 @@ fn put_two(
     between: &[u8],
     second: u32,
 ) -> Result<(), AllocError>
-    ensures { OnOk result (out.new.items ≡ out.old.items ++ (label.now ++ decimal first) ++ between.now ++ decimal second) }
+    ensures { OnOk result (
+        out.new.items ≡ out.old.items ++ (label.now ++ decimal first) ++ between.now ++ decimal second) }
 {
     put_labelled(out, label, first)?;
     put_labelled(out, between, second)
@@ -28,7 +29,9 @@ fn put_two(
 
 // Appends the least number of weeks that has a roster, and the first that was tried.
 fn put_least(out: &mut Vec<u8>, low: u32, weeks: u32) -> Result<(), AllocError>
-    ensures { OnOk result (out.new.items ≡ out.old.items ++ (codes "accepted: least " ++ decimal weeks) ++ codes " from " ++ decimal low) }
+    ensures { OnOk result (
+        out.new.items
+        ≡ out.old.items ++ (codes "accepted: least " ++ decimal weeks) ++ codes " from " ++ decimal low) }
 {
     put_two(
         out,
@@ -41,7 +44,8 @@ fn put_least(out: &mut Vec<u8>, low: u32, weeks: u32) -> Result<(), AllocError>
 
 // Appends the first and the last number of weeks that have no roster.
 fn put_none(out: &mut Vec<u8>, low: u32, last: u32) -> Result<(), AllocError>
-    ensures { OnOk result (out.new.items ≡ out.old.items ++ (codes "accepted: none " ++ decimal low) ++ codes " to " ++ decimal last) }
+    ensures { OnOk result (
+        out.new.items ≡ out.old.items ++ (codes "accepted: none " ++ decimal low) ++ codes " to " ++ decimal last) }
 {
     put_two(
         out,

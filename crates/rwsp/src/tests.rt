@@ -1,16 +1,18 @@
 // Command lines over files in memory: what is printed, to the byte, and the status.
 mod crews;
+mod faults;
+mod limits;
 mod logs;
 mod plans;
 mod staffs;
+mod tiny;
 mod trials;
 
 ghost use Rattle.std.specs.Prelude.{◌<◌};
 
-use crate::answer::{Answer, Outcome};
 use crate::run::run;
 use potential_bounds::NoGate;
-use rwsp_io::{MemoryShelf, MemorySink, Shelf};
+use rwsp_io::{MemoryShelf, MemorySink};
 use std::alloc::{AllocError, Global};
 use std::test::Fail;
 use std::thread::Threads;
@@ -26,6 +28,15 @@ const TWO_DAYS: &str = "2\n1\n1\n1 0\nD 360 480 1 1\n1 1\n1 1\n0 0\n";
 fn words_of(alloc: Global, words: &[&str]) -> Result<Vec<String>, AllocError> {
     let mut all = Vec::new(alloc);
     for word in words {
+        all.push(String::from_str(alloc, word)?)?;
+    }
+    Ok(all)
+}
+
+// The words of a command line that has single blanks between them.
+fn words_in(alloc: Global, line: &str) -> Result<Vec<String>, AllocError> {
+    let mut all = Vec::new(alloc);
+    for word in line.split(' ') {
         all.push(String::from_str(alloc, word)?)?;
     }
     Ok(all)
@@ -48,6 +59,51 @@ fn shelf_of(
     }
     let failing = Vec::from_slice(alloc, failing)?;
     Ok(MemoryShelf::new(all, step, failing))
+}
+
+// How a run ended: its status, and the text that it wrote.
+#[derive(Drop)]
+struct Ending {
+    status: u8,
+    text: String,
+}
+
+// A sink that takes forty bytes at a time, and whose call with this number fails; none has the number 0.
+fn sink_of(alloc: Global, failing: u64) -> Result<MemorySink, AllocError> {
+    let failing = Vec::from_slice(alloc, &[failing])?;
+    Ok(MemorySink::new(alloc, 10_000, 40, failing)?)
+}
+
+// A shelf with these files, which gives seven bytes at a time, and whose call with this number fails.
+fn shelf_by_sevens(
+    alloc: Global,
+    files: &[(&str, &str)],
+    failing: u64,
+) -> Result<MemoryShelf, AllocError> {
+    shelf_of(alloc, files, 7, &[failing])
+}
+
+fn ended_by(alloc: Global, status: u8, sink: &MemorySink) -> Result<Ending, Fail> {
+    let bytes = Vec::from_slice(alloc, sink.bytes())?;
+    let text = String::from_utf8(bytes).ok().ok_or("a text")?;
+    Ok(Ending { status, text })
+}
+
+// A run of a command line over these files. The call of the shelf and the call of the sink with these numbers fail; none
+// has the number 0.
+fn ran<R: Threads + Sync>(
+    rt: &R,
+    alloc: Global,
+    line: &str,
+    files: &[(&str, &str)],
+    failing_read: u64,
+    failing_write: u64,
+) -> Result<Ending, Fail> {
+    let words = words_in(alloc, line)?;
+    let mut shelf = shelf_by_sevens(alloc, files, failing_read)?;
+    let mut sink = sink_of(alloc, failing_write)?;
+    let outcome = run(rt, alloc, &words, &mut shelf, &mut sink, &NoGate);
+    ended_by(alloc, outcome.status(), &sink)
 }
 
 // Whether the words end with the status and print the text, over these files.
@@ -197,48 +253,6 @@ fn refused_problems(rt: HostRuntime) -> Result<(), Fail> {
 const USAGE: &str =
     "usage: rwsp plan FILE [--budget B] | check FILE LOG [--workers N] | verify FILE ROSTER | reduce FILE LOG | show FILE | trial NUMBER WEEKS | crew FILE ROSTER DATE DAYS [EMPLOYEE] | staff FILE LOW HIGH [--budget B] | check-staff FILE TEXT\n";
 
-#[test]
-fn words_that_are_no_command(rt: HostRuntime) -> Result<(), Fail> {
-    let cases: [&[&str]; 32] = [
-        &[],
-        &["show", "-x"],
-        &["verify", "F", ""],
-        &["verify", "F", "-"],
-        &["reduce", "F"],
-        &["plan", "--budget", "5", "F"],
-        &["plan", "F", "--budget", "0"],
-        &["plan", "F", "--budget", "200001"],
-        &["plan", "F", "--budget", "0000000005"],
-        &["check", "F", "--workers", "4"],
-        &["check", "F", "G", "--workers", "0"],
-        &["check", "F", "G", "--workers", "65"],
-        &["trial"],
-        &["trial", "0"],
-        &["trial", "0", "0"],
-        &["trial", "0", "601"],
-        &["trial", "1000000000", "1"],
-        &["trial", "one", "1"],
-        &["trial", "0", "1", "2"],
-        &["crew", "F", "R", "2025-02-29", "1"],
-        &["crew", "F", "R", "2025-2-28", "1"],
-        &["crew", "F", "R", "20250228", "1"],
-        &["crew", "F", "R", "2025-02-28", "0"],
-        &["crew", "F", "R", "2025-02-28", "401"],
-        &["crew", "F", "R", "2025-02-28", "1", "0"],
-        &["crew", "F", "R", "2025-02-28", "1", "601"],
-        &["crew", "F", "-R", "2025-02-28", "1"],
-        &["staff", "F", "600", "601"],
-        &["staff", "F", "2", "1"],
-        &["staff", "F", "1", "65"],
-        &["staff", "F", "1", "2", "--budget", "10001"],
-        &["check-staff", "F"],
-    ];
-    for words in cases {
-        assert!(rt; ends(&rt, rt.alloc(), words, &[], 2, USAGE)?);
-    }
-    Ok(())
-}
-
 // A file that isn't held can't be read; behind a refused problem it isn't looked for.
 #[test]
 fn files_that_are_missing(rt: HostRuntime) -> Result<(), Fail> {
@@ -255,109 +269,6 @@ fn files_that_are_missing(rt: HostRuntime) -> Result<(), Fail> {
             "file refused: ends line 2\n"
         )?
     );
-    Ok(())
-}
-
-// One byte more than the longest file may have.
-#[test]
-fn files_that_are_too_long(rt: HostRuntime) -> Result<(), Fail> {
-    let alloc = rt.alloc();
-    let long = String::from_utf8(vec![in alloc; b' '; 1_048_577]?)
-        .ok()
-        .ok_or("a text")?;
-    let files = [("F", TWO_DAYS), ("R", long.as_str())];
-    let roster = "too long: roster\n";
-    assert!(rt; ends(&rt, alloc, &["verify", "F", "R"], &files, 3, roster)?);
-    let problem = "too long: problem\n";
-    assert!(rt; ends(&rt, alloc, &["verify", "R", "F"], &files, 3, problem)?);
-    Ok(())
-}
-
-// A write that fails leaves a prefix of the text.
-#[test]
-fn writes_that_fail(rt: HostRuntime) -> Result<(), Fail> {
-    let alloc = rt.alloc();
-    let words = words_of(alloc, &["verify", "F", "R"])?;
-    for room in 0..6usize {
-        let files = [("F", NINE_WEEKS), ("R", NINE_WEEKS_ROSTER)];
-        let mut shelf = shelf_of(alloc, &files, 50, &[])?;
-        let mut sink = MemorySink::new(alloc, room, 1, Vec::new(alloc))?;
-        let outcome = run(&rt, alloc, &words, &mut shelf, &mut sink, &NoGate);
-        assert!(rt; matches!(&outcome, Outcome::WriteFault(Answer::Meets)));
-        assert_eq!(rt; outcome.status(), 7);
-        assert_eq!(rt; sink.bytes(), &b"meets\n"[..room]);
-    }
-    Ok(())
-}
-
-// Each call of the shelf fails in turn: nothing is written, until a run meets no fault.
-#[test]
-fn reads_that_fail(rt: HostRuntime) -> Result<(), Fail> {
-    let alloc = rt.alloc();
-    let words = words_of(alloc, &["verify", "F", "R"])?;
-    let mut refused = 0u64;
-    for call in 1..30u64 {
-        let files = [("F", TWO_DAYS), ("R", "D -\n")];
-        let mut shelf = shelf_of(alloc, &files, 7, &[call])?;
-        let mut sink = MemorySink::new(alloc, 100, 100, Vec::new(alloc))?;
-        let outcome = run(&rt, alloc, &words, &mut shelf, &mut sink, &NoGate);
-        if matches!(&outcome, Outcome::ReadFault) {
-            assert_eq!(rt; sink.bytes(), b"".as_slice());
-            assert_eq!(rt; refused, call - 1);
-            refused = call;
-        } else {
-            assert!(rt; matches!(&outcome, Outcome::Done(Answer::Meets)));
-            assert_eq!(rt; sink.bytes(), b"meets\n".as_slice());
-        }
-    }
-    // By sevens: one call that chooses F and seven for its 36 bytes and their end, then one and two for the 4 bytes of R.
-    assert_eq!(rt; refused, 11);
-    Ok(())
-}
-
-// Whether the words end with the status, by sevens, and the next call of the shelf has this number. That call fails.
-fn ends_before_call<R: Threads + Sync>(
-    rt: &R,
-    alloc: Global,
-    words: &[&str],
-    files: &[(&str, &str)],
-    status: u8,
-    next: u64,
-) -> Result<bool, AllocError> {
-    let words = words_of(alloc, words)?;
-    let mut shelf = shelf_of(alloc, files, 7, &[next])?;
-    let mut sink = MemorySink::new(alloc, 10_000, 1000, Vec::new(alloc))?;
-    let outcome = run(rt, alloc, &words, &mut shelf, &mut sink, &NoGate);
-    Ok(outcome.status() == status && shelf.choose("F").is_err())
-}
-
-// Each file is read once and whole, FILE first; what isn't needed isn't opened. A file of n bytes takes one call that
-// chooses it, one for each seven bytes or fewer, and one at its end.
-#[test]
-fn files_are_read_once(rt: HostRuntime) -> Result<(), Fail> {
-    let alloc = rt.alloc();
-    let small = [("F", TWO_DAYS), ("R", "D -\n")];
-    let logs = [("F", logs::TWOS), ("R", logs::SPLIT)];
-    let refused = [("F", "2\n"), ("R", "D -\n")];
-    let alone = [("F", TWO_DAYS)];
-    let cases: [(&[&str], &[(&str, &str)], u8, u64); 10] = [
-        (&["show"], &small, 2, 1),
-        (&["show", "F"], &small, 0, 9),
-        (&["plan", "F"], &small, 0, 9),
-        (&["verify", "F", "R"], &small, 0, 12),
-        (&["check", "F", "R"], &logs, 0, 23),
-        (&["reduce", "F", "R"], &logs, 0, 23),
-        (&["verify", "F", "R"], &refused, 3, 4),
-        (&["check", "F", "R"], &refused, 3, 4),
-        (&["reduce", "F", "R"], &refused, 3, 4),
-        (&["verify", "F", "R"], &alone, 6, 10),
-    ];
-    for (words, files, status, next) in cases {
-        assert!(rt;
-            ends_before_call(&rt, alloc, words, files, status, next)?,
-            "{next}"
-        );
-    }
     Ok(())
 }
 
@@ -387,100 +298,69 @@ fn problems_in_canonical_form(rt: HostRuntime) -> Result<(), Fail> {
     Ok(())
 }
 
-// The first number beyond each limit is refused.
-#[test]
-fn numbers_beyond_the_limits(rt: HostRuntime) -> Result<(), Fail> {
-    let cases = [
-        (
-            "29\n1\n1\n1 0\nD 360 480 1 1\n1 1\n1 1\n0 0\n",
-            "file refused: range 1 line 1\n",
-        ),
-        (
-            "0\n1\n1\n1 0\nD 360 480 1 1\n1 1\n1 1\n0 0\n",
-            "file refused: range 1 line 1\n",
-        ),
-        (
-            "2\n601\n1\n1 0\nD 360 480 1 1\n1 1\n1 1\n0 0\n",
-            "file refused: range 2 line 2\n",
-        ),
-        (
-            "2\n1\n9\n1 0\nD 360 480 1 1\n1 1\n1 1\n0 0\n",
-            "file refused: range 4 line 3\n",
-        ),
-        (
-            "2\n1\n1\n601 0\nD 360 480 1 1\n1 1\n1 1\n0 0\n",
-            "file refused: range 5 line 4\n",
-        ),
-        (
-            "2\n1\n1\n1 0\nD 10001 480 1 1\n1 1\n1 1\n0 0\n",
-            "file refused: range 6 line 5\n",
-        ),
-        (
-            "2\n1\n1\n1 0\nD 360 480 1 1\n1 1\n1 1\n65 0\n",
-            "file refused: range 8 line 8\n",
-        ),
-        (
-            "2\n1\n1\n1 0\nD 360 480 1 1\n1 1\n1 1\n0 65\n",
-            "file refused: range 9 line 8\n",
-        ),
-        (
-            "2\n1\n1\n1 0\nDDDDDDDDDDDDDDDDDDDDDDDDDDDDDDDDD 360 480 1 1\n1 1\n1 1\n0 0\n",
-            "file refused: name line 5\n",
-        ),
-    ];
-    for (problem, text) in cases {
-        assert!(rt; shows(&rt, rt.alloc(), problem, 3, text)?, "{text}");
-    }
-    Ok(())
-}
+// Texts that begin with a byte order mark, or have control bytes in a name. These are printed as they are.
+const MARKED: [(&str, &str, &str, u8, &str); 8] = [
+    (
+        "show F",
+        "\u{feff}2\n1\n",
+        "",
+        3,
+        "file refused: number line 1\n",
+    ),
+    (
+        "show F",
+        "\u{feff}# days\n2\n",
+        "",
+        3,
+        "file refused: number line 1\n",
+    ),
+    (
+        "verify F G",
+        TWO_DAYS,
+        "\u{feff}D -\n",
+        3,
+        "roster refused: unknown line 1\n",
+    ),
+    (
+        "verify F G",
+        TWO_DAYS,
+        "# days\n\u{feff}D -\n",
+        3,
+        "roster refused: unknown line 2\n",
+    ),
+    (
+        "check F G",
+        TWO_DAYS,
+        "\u{feff}rwsp-log 1\n",
+        5,
+        "log refused: form line 1\n",
+    ),
+    (
+        "check-staff F G",
+        TWO_DAYS,
+        "\u{feff}none to 3\n",
+        5,
+        "staff refused: form line 1\n",
+    ),
+    ("plan F", RED, "", 0, "D\u{1b}[31m -\n"),
+    (
+        "crew F G 2024-02-28 1",
+        RED,
+        "D\u{1b}[31m -\n",
+        0,
+        "2024-02-28 D\u{1b}[31m\n",
+    ),
+];
 
-// The last number within each limit is taken.
-#[test]
-fn numbers_at_the_limits(rt: HostRuntime) -> Result<(), Fail> {
-    let demand = "2\n1\n1\n600 0\nD 360 480 1 1\n1 1\n1 1\n0 0\n";
-    assert!(rt; shows(&rt, rt.alloc(), demand, 0, demand)?);
-    let name = "2\n1\n1\n1 0\nDDDDDDDDDDDDDDDDDDDDDDDDDDDDDDDD 360 480 1 1\n1 1\n1 1\n0 0\n";
-    assert!(rt; shows(&rt, rt.alloc(), name, 0, name)?);
-    let mut pairs = String::from_str(rt.alloc(), "2\n1\n1\n1 0\nD 360 480 1 1\n1 1\n1 1\n64 0\n")?;
-    for _ in 0..64u32 {
-        pairs.push_str("D D\n")?;
-    }
-    assert!(rt; shows(&rt, rt.alloc(), pairs.as_str(), 0, pairs.as_str())?);
-    Ok(())
-}
+const RED: &str = "2\n1\n1\n1 0\nD\u{1b}[31m 360 480 1 1\n1 1\n1 1\n0 0\n";
 
-// A text of the longest length, most of it one comment, and one byte more.
 #[test]
-fn the_longest_problem(rt: HostRuntime) -> Result<(), Fail> {
-    let alloc = rt.alloc();
-    let words = words_of(alloc, &["show", "F"])?;
-    for (length, status, text) in [
-        (1_048_576usize, 0u8, TWO_DAYS),
-        (1_048_577, 3, "too long: problem\n"),
-    ] {
-        let mut file = Vec::from_slice(alloc, TWO_DAYS.as_bytes())?;
-        file.push(b'#')?;
-        file.resize(length, b'x')?;
-        let file = String::from_utf8(file).ok().ok_or("a text")?;
-        let mut shelf = shelf_of(alloc, &[("F", file.as_str())], 100_000, &[])?;
-        let mut sink = MemorySink::new(alloc, 1000, 1000, Vec::new(alloc))?;
-        let outcome = run(&rt, alloc, &words, &mut shelf, &mut sink, &NoGate);
-        assert_eq!(rt; outcome.status(), status);
-        assert_eq!(rt; sink.bytes(), text.as_bytes());
+fn byte_order_marks_and_control_bytes(rt: HostRuntime) -> Result<(), Fail> {
+    for (line, problem, second, status, text) in MARKED {
+        let files = [("F", problem), ("G", second)];
+        let found = ran(&rt, rt.alloc(), line, &files, 0, 0)?;
+        assert_eq!(rt; found.status, status, "{line}");
+        assert!(rt; found.text.as_bytes() == text.as_bytes(), "{line}");
     }
-    Ok(())
-}
-
-// A fault where the end of the file would be seen.
-#[test]
-fn a_fault_behind_the_last_byte(rt: HostRuntime) -> Result<(), Fail> {
-    let alloc = rt.alloc();
-    let words = words_of(alloc, &["show", "F"])?;
-    let mut shelf = shelf_of(alloc, &[("F", TWO_DAYS)], 100, &[3])?;
-    let mut sink = MemorySink::new(alloc, 1000, 1000, Vec::new(alloc))?;
-    let outcome = run(&rt, alloc, &words, &mut shelf, &mut sink, &NoGate);
-    assert!(rt; matches!(&outcome, Outcome::ReadFault));
-    assert_eq!(rt; outcome.status(), 6);
-    assert_eq!(rt; sink.bytes(), b"".as_slice());
     Ok(())
 }

@@ -11,8 +11,8 @@ use Rattle.rwsp_text.specs.Numbers.{number_of, value_of}
 use Rattle.rwsp_terms.specs.declared.data.Bounds.{Bounds}
 use Rattle.rwsp_model.specs.Validity.{is_between, is_small_range}
 use Rattle.rwsp_file.specs.Spelling.{IsDemand, IsRange}
-use Rattle.rwsp_file.specs.Spelling.Field.{NumberField, DemandField}
-use Rattle.rwsp_file.specs.Reading.{◌>>=◌, or_refuse, limited, number_at, limited_weeks, weeks_at, limited_demand, demand_at, demand_of, range_or, range_of, range_from, is_dot}
+use Rattle.rwsp_file.specs.Spelling.FileField.{NumberField, DemandField}
+use Rattle.rwsp_file.specs.Reading.{◌>>=◌, or_refuse, limited, number_at, limited_weeks, weeks_at, limited_demand, demand_at, written_demand, range_or, range_of, range_from, is_dot}
 use Rattle.rwsp_file.proofs.Readers.{IsReader, bind_ok, then_ok, some_ok, test_ok, word_reader}
 use Rattle.rwsp_file.specs.declared.refusal.FileRefusal.{FileRefusal}
 use Rattle.rwsp_file.specs.declared.refusal.FileRefusal.TheVariants.{Number, Range}
@@ -161,7 +161,7 @@ range_only text b r =
           ∙ ap (λ o. option_map (λ m. record { least = b.least; greatest = m }) o) r.to,
     )
 
-pub demand_found : (text : List ℕ) (b : Bounds) → demand_of text ≡ Some b → IsDemand b text
+pub demand_found : (text : List ℕ) (b : Bounds) → written_demand text ≡ Some b → IsDemand b text
 demand_found text b e = at (number_of text) refl e where
   at : (o : Option ℕ) → number_of text ≡ o → range_or (range_of text) o ≡ Some b → IsDemand b text
   at None n h = inr (range_found text b h)
@@ -169,7 +169,7 @@ demand_found text b e = at (number_of text) refl e where
       let same : range_between k k ≡ b = same_Some (range_between k k) b h in
       inl (n ∙ ap (λ (r : Bounds). Some r.least) same, sym (ap (λ (r : Bounds). r.greatest) same) ∙ ap (λ (r : Bounds). r.least) same)
 
-pub demand_only : (text : List ℕ) (b : Bounds) → IsDemand b text → demand_of text ≡ Some b
+pub demand_only : (text : List ℕ) (b : Bounds) → IsDemand b text → written_demand text ≡ Some b
 demand_only text b (inl h) = ap (range_or (range_of text)) h.0 ∙ ap (λ k. Some (range_between b.least k)) (sym h.1)
 demand_only text b (inr r) =
     let both : (number_of text ≡ None) × (range_of text ≡ Some b) = range_only text b r in
@@ -180,6 +180,6 @@ unfolding demand_at limited_demand
 demand_reader =
     word_reader (λ b. is_small_range b ≡ true) DemandField limited_demand demand_at (λ u. refl)
     (λ w b e.
-    let f : (is_small_range b ≡ true) × (demand_of w.text ≡ Some b) = was_checked (demand_of w.text) is_small_range (Number w.line) (Range w.line 5) b e in
+    let f : (is_small_range b ≡ true) × (written_demand w.text ≡ Some b) = was_checked (written_demand w.text) is_small_range (Number w.line) (Range w.line 5) b e in
     (f.0, λ fs ws s. (demand_found w.text b f.1, s)))
-    (λ w b fs ws valid s. (checked (demand_of w.text) is_small_range (Number w.line) (Range w.line 5) b valid (demand_only w.text b s.0), s.1))
+    (λ w b fs ws valid s. (checked (written_demand w.text) is_small_range (Number w.line) (Range w.line 5) b valid (demand_only w.text b s.0), s.1))

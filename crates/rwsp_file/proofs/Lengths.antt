@@ -5,6 +5,7 @@ use Rattle.std.specs.List.{flat_map, join_with_byte, AllByRecursion}
 use Rattle.std.specs.Fmt.{decimal}
 use Rattle.std.proofs.lemmas.Fmt.{length-decimal-le}
 use Rattle.std.proofs.lemmas.List.{length-map}
+use Rattle.rwsp_text.proofs.JoinedWords.{length_of_line, length_of_lines}
 use Rattle.rwsp_terms.specs.Instance.{Instance, shift_count, name_numbered}
 use Rattle.rwsp_terms.specs.declared.data.Bounds.{Bounds}
 use Rattle.rwsp_terms.specs.declared.data.ShiftRow.{ShiftRow}
@@ -122,29 +123,10 @@ count_lines P k =
     omega (arith, a, b, c, d, e, f, g, k.rows, k.few_shifts, k.few_pairs, k.few_triples)
 
 -- how long they are together
-length-joined : (words : List (List ℕ)) → AllByRecursion IsShortWord words → length (join_with_byte 32 words) ≤ 33 * length words
-length-joined [] h = omega arith
-length-joined (word ∷ []) h = let here = h.0 in omega arith
-length-joined (word ∷ next ∷ words) h =
-    let here = h.0 in
-    let rest : length (join_with_byte 32 (next ∷ words)) ≤ 33 * suc (length words) = length-joined (next ∷ words) h.1 in
-    let both : length (word ++ (32 ∷ join_with_byte 32 (next ∷ words))) ≡ length word + suc (length (join_with_byte 32 (next ∷ words))) = length-append word (32 ∷ join_with_byte 32 (next ∷ words)) in
-    omega arith
-
-length-file_line : (words : List (List ℕ)) → IsShortLine words → length (file_line words) ≤ 925
-length-file_line words h =
-    let joined = length-joined words h.each in
-    let few = h.few in
-    let whole : length (file_line words) ≡ length (join_with_byte 32 words) + 1 = length-append (join_with_byte 32 words) (10 ∷ []) in
-    omega arith
-
 length-lines : (lines : List (List (List ℕ))) → AllByRecursion IsShortLine lines → length (flat_map file_line lines) ≤ length lines * 925
-length-lines [] h = omega arith
-length-lines (line ∷ lines) h =
-    let here = length-file_line line h.0 in
-    let rest : length (flat_map file_line lines) ≤ length lines * 925 = length-lines lines h.1 in
-    let both : length (file_line line ++ flat_map file_line lines) ≡ length (file_line line) + length (flat_map file_line lines) = length-append (file_line line) (flat_map file_line lines) in
-    omega arith
+length-lines lines h =
+    length_of_lines file_line 925 lines
+    (all_weaker IsShortLine (λ words. length (file_line words) ≤ 925) (λ words short. length_of_line 32 28 words short.each short.few) lines h)
 
 pub canonical_texts_are_short : CanonicalTextsAreShort
 canonical_texts_are_short P valid =

@@ -10,22 +10,23 @@ use Rattle.std.proofs.lemmas.Fmt.{decimal_nonempty}
 use Rattle.rwsp_text.specs.Lexemes.{Lexeme, is_space}
 use Rattle.rwsp_text.proofs.Steps.{IsWordByte}
 use Rattle.rwsp_text.proofs.Printed.{printed_is_read, digits_printed}
+use Rattle.rwsp_text.proofs.JoinedWords.{IsPrinted, printed_word}
 use Rattle.rwsp_terms.specs.Instance.{Instance, shift_count, name_of, name_numbered}
 use Rattle.rwsp_terms.specs.declared.data.Bounds.{Bounds}
 use Rattle.rwsp_terms.specs.declared.data.ShiftRow.{ShiftRow}
 use Rattle.rwsp_terms.specs.declared.data.Symbol.{Symbol}
 use Rattle.rwsp_terms.proofs.Elements.{all_to, all_joined}
-use Rattle.rwsp_model.specs.Validity.{IsValid, KeepsLimits, IsShiftName, IsSmallRange, AreSmall, is_blank}
+use Rattle.rwsp_model.specs.Validity.{IsValid, KeepsLimits, IsShiftName, IsSmallRange, AreSmall, breaks_name}
 use Rattle.rwsp_model.proofs.Limits.{valid_keeps}
-use Rattle.rwsp_file.specs.Spelling.{Field, Spell, fields, IsDemand, IsRow, on_line, past_line, SpellsProblem}
-use Rattle.rwsp_file.specs.Spelling.Field.{DemandField, ShiftField}
+use Rattle.rwsp_file.specs.Spelling.{FileField, Spell, file_fields, IsDemand, IsRow, on_line, past_line, SpellsProblem}
+use Rattle.rwsp_file.specs.Spelling.FileField.{DemandField, ShiftField}
 use Rattle.rwsp_file.specs.Text.{demand_text, bounds_words, shift_words, lines_of_words, pair_words, triple_words, problem_text}
 use Rattle.rwsp_file.specs.Laws.{CanonicalTextsSpell}
 use Rattle.rwsp_file.proofs.SymbolReader.{pair_fields, triple_fields}
 use Rattle.rwsp_terms.proofs.SymbolNames.{in_place, no_row}
 use Rattle.rwsp_file.proofs.Whole.{fields_from_shifts, fields_from_frame, sequence_fields}
 use Rattle.rwsp_file.proofs.WordForms.{all_images, all_weaker}
-use Rattle.rwsp_file.proofs.PrintSteps.{IsPrinted, lexeme, numbered, text_lexemes, later, line_cut}
+use Rattle.rwsp_file.proofs.PrintSteps.{lexeme, numbered, text_lexemes, later, line_cut}
 use Rattle.rwsp_file.proofs.TextLaws.{texts_spell_one}
 
 -- words that may be printed
@@ -71,19 +72,10 @@ printed_demand b h = at (b.least == b.greatest) where
       printed_digits (decimal b.least) (46 ∷ 46 ∷ decimal b.greatest) (decimal_nonempty b.least few) (digits_printed b.least l)
       ((refl, refl), ((refl, refl), digit_bytes (decimal b.greatest) (digits_printed b.greatest g)))
 
-is_other : (b : ℕ) → b ≢ 35 → (b == 35) ≡ false
-is_other b h = at (b == 35) refl where
-  at : (t : Bool) → (b == 35) ≡ t → t ≡ false
-  at true e = absurd (h (eqb-true b 35 e))
-  at false e = refl
-
-printed_word : (word : List ℕ) → 1 ≤ length word → slice_index word 0 ≢ 35 → AllByRecursion (λ b. is_blank b ≡ false) word → IsPrinted word
-printed_word [] some hash all = absurd (omega (arith, some))
-printed_word (b ∷ bs) some hash all =
-    (is_other b hash, all_weaker (λ c. is_blank c ≡ false) IsWordByte (λ c e. or_parts (is_space c) (c == 10) e) (b ∷ bs) all)
-
 printed_name : (name : List ℕ) → IsShiftName name → IsPrinted name
-printed_name name h = printed_word name h.some h.no_hash (all_to (λ b. is_blank b ≡ false) name h.unbroken)
+printed_name name h =
+    printed_word name h.some h.no_hash
+    (all_weaker (λ b. breaks_name b ≡ false) IsWordByte (λ b e. or_parts (is_space b) (b == 10) e) name (all_to (λ b. breaks_name b ≡ false) name h.unbroken))
 
 printed_symbol : (P : Instance) → KeepsLimits P → (n : ℕ) → n ≤ shift_count P → IsPrinted (name_numbered P n)
 printed_symbol P k zero le = (refl, ((refl, refl), tt))
@@ -151,15 +143,15 @@ lines_printed P k =
 
 -- what the lines spell, whatever the number of the first
 
-abbrev Spelled : List Field → List (List (List ℕ)) → Type 0
+abbrev Spelled : List FileField → List (List (List ℕ)) → Type 0
 Spelled fs lines = (n : ℕ) → Spell fs (numbered n lines)
 
-many_spelled : {X : Type 0} (Good : X → Type 0) (f : X → List Field) (g : X → List (List ℕ)) →
-    ((x : X) → Good x → (n : ℕ) (fs : List Field) (ws : List Lexeme) → Spell fs ws → Spell (f x ++ fs) (map (lexeme n) (g x) ++ ws)) →
-    (xs : List X) (fs : List Field) (lines : List (List (List ℕ))) → AllByRecursion Good xs → Spelled fs lines → Spelled (flat_map f xs ++ fs) (map g xs ++ lines)
+many_spelled : {X : Type 0} (Good : X → Type 0) (f : X → List FileField) (g : X → List (List ℕ)) →
+    ((x : X) → Good x → (n : ℕ) (fs : List FileField) (ws : List Lexeme) → Spell fs ws → Spell (f x ++ fs) (map (lexeme n) (g x) ++ ws)) →
+    (xs : List X) (fs : List FileField) (lines : List (List (List ℕ))) → AllByRecursion Good xs → Spelled fs lines → Spelled (flat_map f xs ++ fs) (map g xs ++ lines)
 many_spelled Good f g step [] fs lines good s n = s n
 many_spelled Good f g step (x ∷ xs) fs lines good s n =
-    subst (λ (gs : List Field). Spell gs (map (lexeme n) (g x) ++ numbered (n + 1) (map g xs ++ lines))) (sym (append_assoc (f x) (flat_map f xs) fs))
+    subst (λ (gs : List FileField). Spell gs (map (lexeme n) (g x) ++ numbered (n + 1) (map g xs ++ lines))) (sym (append_assoc (f x) (flat_map f xs) fs))
     (step x good.0 n (flat_map f xs ++ fs) (numbered (n + 1) (map g xs ++ lines)) (many_spelled Good f g step xs fs lines good.1 s (n + 1)))
 
 demand_spelled : (b : Bounds) → IsSmallRange b → IsDemand b (demand_text b)
@@ -173,11 +165,11 @@ demand_spelled b h = at (b.least == b.greatest) refl where
       let g : IsShortNumber b.greatest = omega (arith, h.1) in
       inr (record { least = decimal b.least; greatest = decimal b.greatest; whole = refl; from = printed_is_read b.least l; to = printed_is_read b.greatest g })
 
-demand_row_spelled : (row : List Bounds) → AllByRecursion IsSmallRange row → (n : ℕ) (fs : List Field) (ws : List Lexeme) → Spell fs ws → Spell (map DemandField row ++ fs) (map (lexeme n) (map demand_text row) ++ ws)
+demand_row_spelled : (row : List Bounds) → AllByRecursion IsSmallRange row → (n : ℕ) (fs : List FileField) (ws : List Lexeme) → Spell fs ws → Spell (map DemandField row ++ fs) (map (lexeme n) (map demand_text row) ++ ws)
 demand_row_spelled [] h n fs ws s = s
 demand_row_spelled (b ∷ row) h n fs ws s = (demand_spelled b h.0, demand_row_spelled row h.1 n fs ws s)
 
-shifts_spelled : (rows : List ShiftRow) (fs : List Field) (lines : List (List (List ℕ))) → AllByRecursion IsPrintedRow rows → Spelled fs lines → Spelled (map ShiftField rows ++ fs) (map shift_words rows ++ lines)
+shifts_spelled : (rows : List ShiftRow) (fs : List FileField) (lines : List (List (List ℕ))) → AllByRecursion IsPrintedRow rows → Spelled fs lines → Spelled (map ShiftField rows ++ fs) (map shift_words rows ++ lines)
 shifts_spelled [] fs lines good s n = s n
 shifts_spelled (row ∷ rows) fs lines good s n =
     let numbers : List (List ℕ) = decimal row.start ∷ decimal row.length ∷ bounds_words row.bounds in
@@ -202,7 +194,7 @@ all_of (x ∷ xs) = (tt, all_of xs)
 
 triples_spelled : (P : Instance) → Spelled (flat_map (triple_fields P) P.triples) (map (triple_words P) P.triples)
 triples_spelled P n =
-    subst (λ (fs : List Field). Spell fs (numbered n (map (triple_words P) P.triples))) (append-nil (flat_map (triple_fields P) P.triples))
+    subst (λ (fs : List FileField). Spell fs (numbered n (map (triple_words P) P.triples))) (append-nil (flat_map (triple_fields P) P.triples))
     (subst (λ (lines : List (List (List ℕ))). Spell (flat_map (triple_fields P) P.triples ++ []) (numbered n lines)) (append-nil (map (triple_words P) P.triples))
     (many_spelled (λ _. Unit {0}) (triple_fields P) (triple_words P) (λ x good m fs ws s. (refl, (refl, (refl, s)))) P.triples [] [] (all_of P.triples) (λ m. tt) n))
 
@@ -232,7 +224,7 @@ frame_spelled P k n =
       ),
     )
 
-lines_spelled : (P : Instance) → KeepsLimits P → Spelled (fields P) (lines_of_words P)
+lines_spelled : (P : Instance) → KeepsLimits P → Spelled (file_fields P) (lines_of_words P)
 lines_spelled P k n =
     let days : IsShortNumber P.days = omega (arith, k.few_days) in
     let weeks : IsShortNumber P.weeks = omega (arith, k.few_weeks) in
@@ -253,7 +245,7 @@ canonical_spells P valid =
     let k : KeepsLimits P = valid_keeps P valid in
     record {
       valid = valid;
-      text = subst (λ (ws : List Lexeme). Spell (fields P) ws) (sym (text_lexemes 1 (lines_of_words P) (lines_printed P k))) (lines_spelled P k 1);
+      text = subst (λ (ws : List Lexeme). Spell (file_fields P) ws) (sym (text_lexemes 1 (lines_of_words P) (lines_printed P k))) (lines_spelled P k 1);
     }
 
 pub canonical_texts_spell : CanonicalTextsSpell

@@ -7,8 +7,8 @@ use Rattle.rwsp_text.specs.Numbers.{number_of}
 use Rattle.rwsp_terms.specs.declared.data.Bounds.{Bounds}
 use Rattle.rwsp_terms.specs.declared.data.ShiftRow.{ShiftRow}
 use Rattle.rwsp_model.specs.Validity.{is_between}
-use Rattle.rwsp_file.specs.Spelling.{Field, Spell, IsShiftRow, IsRow, on_line, past_line}
-use Rattle.rwsp_file.specs.Spelling.Field.{ShiftField}
+use Rattle.rwsp_file.specs.Spelling.{FileField, Spell, IsShiftRow, IsRow, on_line, past_line}
+use Rattle.rwsp_file.specs.Spelling.FileField.{ShiftField}
 use Rattle.rwsp_file.specs.Reading.{Unread, ◌>>=◌, or_refuse, next_at, limited, words_of_row, row_words, row_words_at, is_new_name, new_name, numbers_of_row, shift_of, shift_at}
 use Rattle.rwsp_file.specs.declared.row.RowWords.{RowWords}
 use Rattle.rwsp_file.specs.declared.refusal.FileRefusal.{FileRefusal}
@@ -164,7 +164,7 @@ row_only u w ws r e h =
     then_ok (next_at u) (λ n. or_refuse (words_of_row (line_of n.0 n.1)) (Row n.0.line) >>= (λ words. Ok (words, after_row n.0 n.1))) (w, rest_of u ws) (r, rest_of u (past_line w.line ws)) (next_only u w ws e)
     (ap (λ o. or_refuse o (Row w.line) >>= (λ words. Ok (words, rest_of u (past_line w.line ws)))) h)
 
-shift_reader_found : (earlier : List ShiftRow) (u v : Unread) (row : ShiftRow) → shift_at earlier u ≡ Ok (row, v) → IsGoodRow earlier row × ((fs : List Field) → Spell fs v.lexemes → Spell (ShiftField row ∷ fs) u.lexemes)
+shift_reader_found : (earlier : List ShiftRow) (u v : Unread) (row : ShiftRow) → shift_at earlier u ≡ Ok (row, v) → IsGoodRow earlier row × ((fs : List FileField) → Spell fs v.lexemes → Spell (ShiftField row ∷ fs) u.lexemes)
 unfolding shift_at
 shift_reader_found earlier u v row e =
     let a : (p : RowWords × Unread) × (row_words_at u ≡ Ok p) × ((shift_of earlier p.0 >>= (λ r. Ok (r, p.1))) ≡ Ok (row, v)) =
@@ -179,7 +179,7 @@ shift_reader_found earlier u v row e =
           (words_found (line_of l.0 l.1) a.0.0 row l.3 s.1, subst (λ (ls : List Lexeme). Spell fs ls) (sym left) h),
     )
 
-shift_reader_only : (earlier : List ShiftRow) (u : Unread) (row : ShiftRow) (fs : List Field) (ls : List Lexeme) → u.lexemes ≡ ls → IsGoodRow earlier row → Spell (ShiftField row ∷ fs) ls →
+shift_reader_only : (earlier : List ShiftRow) (u : Unread) (row : ShiftRow) (fs : List FileField) (ls : List Lexeme) → u.lexemes ≡ ls → IsGoodRow earlier row → Spell (ShiftField row ∷ fs) ls →
     (v : Unread) × (shift_at earlier u ≡ Ok (row, v)) × Spell fs v.lexemes
 unfolding shift_at
 shift_reader_only earlier u row fs [] e good h = absurd (no_lexemes (ShiftField row) fs h)

@@ -12,8 +12,8 @@ use Rattle.rwsp_terms.specs.Instance.{Instance, shift_count, name_of, symbol_amo
 use Rattle.rwsp_terms.proofs.SymbolNames.{HasNames, symbol_found, symbol_only}
 use Rattle.rwsp_terms.specs.declared.data.ShiftRow.{ShiftRow}
 use Rattle.rwsp_terms.specs.declared.data.Symbol.{Symbol}
-use Rattle.rwsp_file.specs.Spelling.{Field, Spell, name_fields}
-use Rattle.rwsp_file.specs.Spelling.Field.{NameField}
+use Rattle.rwsp_file.specs.Spelling.{FileField, Spell, name_fields}
+use Rattle.rwsp_file.specs.Spelling.FileField.{NameField}
 use Rattle.rwsp_file.specs.Reading.{Unread, ◌>>=◌, or_refuse, symbol_at, pair_at, triple_at}
 use Rattle.rwsp_file.specs.declared.refusal.FileRefusal.TheVariants.{Unknown}
 use Rattle.rwsp_file.proofs.Readers.{IsReader, bind_ok, then_ok, some_ok, ok_same, given, word_reader}
@@ -36,17 +36,17 @@ IsPair P x = (x.0.number ≤ shift_count P) × (x.1.number ≤ shift_count P)
 abbrev pub IsTriple : Instance → Symbol × Symbol × Symbol → Type 0
 IsTriple P x = (x.0.number ≤ shift_count P) × (x.1.number ≤ shift_count P) × (x.2.number ≤ shift_count P)
 
-abbrev pub pair_fields : Instance → Symbol × Symbol → List Field
+abbrev pub pair_fields : Instance → Symbol × Symbol → List FileField
 pair_fields P x = name_fields (name_of P x.0 ∷ name_of P x.1 ∷ [])
 
-abbrev pub triple_fields : Instance → Symbol × Symbol × Symbol → List Field
+abbrev pub triple_fields : Instance → Symbol × Symbol × Symbol → List FileField
 triple_fields P x = name_fields (name_of P x.0 ∷ name_of P x.1 ∷ name_of P x.2 ∷ [])
 
 -- what a symbol's reader shows at a symbol
 abbrev Symbol_found : Instance → Unread → Unread → Symbol → Type 0
-Symbol_found P u v x = (x.number ≤ shift_count P) × ((fs : List Field) → Spell fs v.lexemes → Spell (NameField (name_of P x) ∷ fs) u.lexemes)
+Symbol_found P u v x = (x.number ≤ shift_count P) × ((fs : List FileField) → Spell fs v.lexemes → Spell (NameField (name_of P x) ∷ fs) u.lexemes)
 
-pair_found : (P : Instance) → HasNames P → (u v : Unread) (x : Symbol × Symbol) → pair_at P.shifts u ≡ Ok (x, v) → IsPair P x × ((fs : List Field) → Spell fs v.lexemes → Spell (pair_fields P x ++ fs) u.lexemes)
+pair_found : (P : Instance) → HasNames P → (u v : Unread) (x : Symbol × Symbol) → pair_at P.shifts u ≡ Ok (x, v) → IsPair P x × ((fs : List FileField) → Spell fs v.lexemes → Spell (pair_fields P x ++ fs) u.lexemes)
 unfolding pair_at
 pair_found P names u v x e =
     let a : (p : Symbol × Unread) × (symbol_at P.shifts u ≡ Ok p) × ((symbol_at P.shifts p.1 >>= (λ q. Ok ((p.0, q.0), q.1))) ≡ Ok (x, v)) =
@@ -55,11 +55,11 @@ pair_found P names u v x e =
     bind_ok (symbol_at P.shifts a.0.1) (λ q. Ok ((a.0.0, q.0), q.1)) (x, v) a.2 in
     let f : Symbol_found P u a.0.1 a.0.0 = (symbol_reader P names).found u a.0.1 a.0.0 a.1 in
     let g : Symbol_found P a.0.1 b.0.1 b.0.0 = (symbol_reader P names).found a.0.1 b.0.1 b.0.0 b.1 in
-    subst (λ (r : (Symbol × Symbol) × Unread). IsPair P r.0 × ((fs : List Field) → Spell fs r.1.lexemes → Spell (pair_fields P r.0 ++ fs) u.lexemes))
+    subst (λ (r : (Symbol × Symbol) × Unread). IsPair P r.0 × ((fs : List FileField) → Spell fs r.1.lexemes → Spell (pair_fields P r.0 ++ fs) u.lexemes))
     (ok_same ((a.0.0, b.0.0), b.0.1) (x, v) b.2)
     ((f.0, g.0), λ fs s. f.1 (NameField (name_of P b.0.0) ∷ fs) (g.1 fs s))
 
-pair_only : (P : Instance) → HasNames P → (u : Unread) (x : Symbol × Symbol) (fs : List Field) → IsPair P x → Spell (pair_fields P x ++ fs) u.lexemes → (v : Unread) × (pair_at P.shifts u ≡ Ok (x, v)) × Spell fs v.lexemes
+pair_only : (P : Instance) → HasNames P → (u : Unread) (x : Symbol × Symbol) (fs : List FileField) → IsPair P x → Spell (pair_fields P x ++ fs) u.lexemes → (v : Unread) × (pair_at P.shifts u ≡ Ok (x, v)) × Spell fs v.lexemes
 unfolding pair_at
 pair_only P names u x fs valid s =
     let a : (m : Unread) × (symbol_at P.shifts u ≡ Ok (x.0, m)) × Spell (NameField (name_of P x.1) ∷ fs) m.lexemes = (symbol_reader P names).only u x.0 (NameField (name_of P x.1) ∷ fs) valid.0 s in
@@ -73,7 +73,7 @@ pair_only P names u x fs valid s =
 pub pair_reader : (P : Instance) → HasNames P → IsReader (IsPair P) (pair_fields P) (pair_at P.shifts)
 pair_reader P names = record { found = pair_found P names; only = pair_only P names }
 
-triple_found : (P : Instance) → HasNames P → (u v : Unread) (x : Symbol × Symbol × Symbol) → triple_at P.shifts u ≡ Ok (x, v) → IsTriple P x × ((fs : List Field) → Spell fs v.lexemes → Spell (triple_fields P x ++ fs) u.lexemes)
+triple_found : (P : Instance) → HasNames P → (u v : Unread) (x : Symbol × Symbol × Symbol) → triple_at P.shifts u ≡ Ok (x, v) → IsTriple P x × ((fs : List FileField) → Spell fs v.lexemes → Spell (triple_fields P x ++ fs) u.lexemes)
 unfolding triple_at
 triple_found P names u v x e =
     let a : (p : Symbol × Unread) × (symbol_at P.shifts u ≡ Ok p) × ((symbol_at P.shifts p.1 >>= (λ q. symbol_at P.shifts q.1 >>= (λ r. Ok ((p.0, q.0, r.0), r.1)))) ≡ Ok (x, v)) =
@@ -85,11 +85,11 @@ triple_found P names u v x e =
     let f : Symbol_found P u a.0.1 a.0.0 = (symbol_reader P names).found u a.0.1 a.0.0 a.1 in
     let g : Symbol_found P a.0.1 b.0.1 b.0.0 = (symbol_reader P names).found a.0.1 b.0.1 b.0.0 b.1 in
     let h : Symbol_found P b.0.1 c.0.1 c.0.0 = (symbol_reader P names).found b.0.1 c.0.1 c.0.0 c.1 in
-    subst (λ (r : (Symbol × Symbol × Symbol) × Unread). IsTriple P r.0 × ((fs : List Field) → Spell fs r.1.lexemes → Spell (triple_fields P r.0 ++ fs) u.lexemes))
+    subst (λ (r : (Symbol × Symbol × Symbol) × Unread). IsTriple P r.0 × ((fs : List FileField) → Spell fs r.1.lexemes → Spell (triple_fields P r.0 ++ fs) u.lexemes))
     (ok_same ((a.0.0, b.0.0, c.0.0), c.0.1) (x, v) c.2)
     ((f.0, g.0, h.0), λ fs s. f.1 (NameField (name_of P b.0.0) ∷ NameField (name_of P c.0.0) ∷ fs) (g.1 (NameField (name_of P c.0.0) ∷ fs) (h.1 fs s)))
 
-triple_only : (P : Instance) → HasNames P → (u : Unread) (x : Symbol × Symbol × Symbol) (fs : List Field) → IsTriple P x → Spell (triple_fields P x ++ fs) u.lexemes → (v : Unread) × (triple_at P.shifts u ≡ Ok (x, v)) × Spell fs v.lexemes
+triple_only : (P : Instance) → HasNames P → (u : Unread) (x : Symbol × Symbol × Symbol) (fs : List FileField) → IsTriple P x → Spell (triple_fields P x ++ fs) u.lexemes → (v : Unread) × (triple_at P.shifts u ≡ Ok (x, v)) × Spell fs v.lexemes
 unfolding triple_at
 triple_only P names u x fs valid s =
     let a : (m : Unread) × (symbol_at P.shifts u ≡ Ok (x.0, m)) × Spell (NameField (name_of P x.1) ∷ NameField (name_of P x.2) ∷ fs) m.lexemes =

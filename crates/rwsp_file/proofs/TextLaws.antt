@@ -4,7 +4,7 @@ use Rattle.std.specs.Prelude.{MatchOption}
 use Rattle.rwsp_text.specs.Lexemes.{lexemes}
 use Rattle.rwsp_terms.specs.Instance.{Instance}
 use Rattle.rwsp_model.proofs.Limits.{valid_keeps}
-use Rattle.rwsp_file.specs.Spelling.{Spell, fields, SpellsProblem}
+use Rattle.rwsp_file.specs.Spelling.{Spell, file_fields, SpellsProblem}
 use Rattle.rwsp_file.specs.Reading.{reading, unread_of, refusal_in}
 use Rattle.rwsp_file.specs.Laws.{TextsSpellOne, TextsSpellOrFail}
 use Rattle.rwsp_file.specs.declared.refusal.FileRefusal.{FileRefusal}
@@ -16,7 +16,7 @@ use Rattle.rwsp_file.proofs.Valid.{read_valid, keeps_read, names_spelled}
 -- what is read of a text, the text spells
 pub reading_spells : (bytes : List ℕ) (P : Instance) → reading (unread_of bytes) ≡ Ok P → SpellsProblem bytes P
 reading_spells bytes P e =
-    let found : IsRead P × Spell (fields P) (lexemes bytes) = reading_found (unread_of bytes) P e in
+    let found : IsRead P × Spell (file_fields P) (lexemes bytes) = reading_found (unread_of bytes) P e in
     record { valid = read_valid P found.0 (names_spelled P (lexemes bytes) found.1 (lexemes_are_words bytes)); text = found.1 }
 
 -- what a text spells is read of it

@@ -13,8 +13,8 @@ use Rattle.rwsp_terms.specs.declared.data.ShiftRow.{ShiftRow}
 use Rattle.rwsp_terms.proofs.Elements.{all_from}
 use Rattle.rwsp_model.specs.Validity.{IsValid, KeepsLimits, IsShiftName, IsSmallRange, is_small_range, AreSmall}
 use Rattle.rwsp_model.proofs.Limits.{keeps_valid}
-use Rattle.rwsp_file.specs.Spelling.{Spell, fields}
-use Rattle.rwsp_file.specs.Spelling.Field.{DemandField, ShiftField}
+use Rattle.rwsp_file.specs.Spelling.{Spell, file_fields}
+use Rattle.rwsp_file.specs.Spelling.FileField.{DemandField, ShiftField}
 use Rattle.rwsp_file.specs.Reading.{is_new_name}
 use Rattle.rwsp_file.proofs.RowReader.{IsGoodRow}
 use Rattle.rwsp_file.proofs.Chains.{after_at, after_from, between_found, between_only, le_test}
@@ -116,9 +116,9 @@ keeps_read P k = record {
 }
 
 -- the names of an instance whose fields are spelled by words are words
-pub names_spelled : (P : Instance) (ws : List Lexeme) → Spell (fields P) ws → AreWords ws → All (λ (row : ShiftRow). IsWord row.name) P.shifts
+pub names_spelled : (P : Instance) (ws : List Lexeme) → Spell (file_fields P) ws → AreWords ws → All (λ (row : ShiftRow). IsWord row.name) P.shifts
 names_spelled P ws s all =
-    let whole : AllByRecursion IsWordField (size_fields (make_size P.days P.weeks (length P.shifts)) ++ fields_from_demand P) = names_are_words (fields P) ws s all in
+    let whole : AllByRecursion IsWordField (size_fields (make_size P.days P.weeks (length P.shifts)) ++ fields_from_demand P) = names_are_words (file_fields P) ws s all in
     let demand : AllByRecursion IsWordField (fields_from_demand P) = (all_front IsWordField (size_fields (make_size P.days P.weeks (length P.shifts))) (fields_from_demand P) whole).1 in
     let shifts : AllByRecursion IsWordField (fields_from_shifts P) = (all_front IsWordField (flat_map (map DemandField) P.demand) (fields_from_shifts P) demand).1 in
     let rows : AllByRecursion IsWordField (map ShiftField P.shifts) = (all_front IsWordField (map ShiftField P.shifts) (fields_from_frame P) shifts).0 in

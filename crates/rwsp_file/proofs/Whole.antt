@@ -12,8 +12,8 @@ use Rattle.rwsp_terms.specs.Instance.{Instance, off_name}
 use Rattle.rwsp_terms.specs.declared.data.Bounds.{Bounds}
 use Rattle.rwsp_terms.specs.declared.data.ShiftRow.{ShiftRow}
 use Rattle.rwsp_terms.specs.declared.data.Symbol.{Symbol}
-use Rattle.rwsp_file.specs.Spelling.{Field, Spell, fields}
-use Rattle.rwsp_file.specs.Spelling.Field.{DemandField, ShiftField}
+use Rattle.rwsp_file.specs.Spelling.{FileField, Spell, file_fields}
+use Rattle.rwsp_file.specs.Spelling.FileField.{DemandField, ShiftField}
 use Rattle.rwsp_file.specs.Reading.{Unread, ◌>>=◌, size_at, demand_rows_at, shift_rows_at, frame_at, pairs_at, triples_at, nothing_of, sequences_at, reading, instance_from, is_new_name}
 use Rattle.rwsp_file.specs.declared.fields.Size.{Size}
 use Rattle.rwsp_file.specs.declared.fields.Frame.{Frame}
@@ -82,7 +82,7 @@ names_of P good = record { no_dash = (good_names P.shifts good).0; distinct = (g
 abbrev Sequences : Type 0
 Sequences = List (Symbol × Symbol) × List (Symbol × Symbol × Symbol)
 
-abbrev pub sequence_fields : Instance → List Field
+abbrev pub sequence_fields : Instance → List FileField
 sequence_fields P = flat_map (pair_fields P) P.pairs ++ flat_map (triple_fields P) P.triples
 
 sequences_found : (P : Instance) → HasNames P → (frame : Frame) (u : Unread) → sequences_at P.shifts frame u ≡ Ok (P.pairs, P.triples) →
@@ -96,16 +96,16 @@ sequences_found P names frame u e =
     let n : (x : Unit {0}) × (nothing_of t.0.1.lexemes ≡ Ok x) × (given (p.0.0, t.0.0) ≡ Ok (P.pairs, P.triples)) =
     bind_ok (nothing_of t.0.1.lexemes) (λ _. Ok (p.0.0, t.0.0)) (P.pairs, P.triples) t.2 in
     let same : (p.0.0, t.0.0) ≡ (P.pairs, P.triples) = ok_same (p.0.0, t.0.0) (P.pairs, P.triples) n.2 in
-    let f : ((length P.pairs ≡ frame.pairs) × AllAfter (λ _. IsPair P) [] P.pairs) × ((fs : List Field) → Spell fs p.0.1.lexemes → Spell (flat_map (pair_fields P) P.pairs ++ fs) u.lexemes) =
+    let f : ((length P.pairs ≡ frame.pairs) × AllAfter (λ _. IsPair P) [] P.pairs) × ((fs : List FileField) → Spell fs p.0.1.lexemes → Spell (flat_map (pair_fields P) P.pairs ++ fs) u.lexemes) =
     (pairs_reader P names frame.pairs).found u p.0.1 P.pairs (p.1 ∙ ap (λ (s : Sequences). Ok (s.0, p.0.1)) same) in
-    let g : ((length P.triples ≡ frame.triples) × AllAfter (λ _. IsTriple P) [] P.triples) × ((fs : List Field) → Spell fs t.0.1.lexemes → Spell (flat_map (triple_fields P) P.triples ++ fs) p.0.1.lexemes) =
+    let g : ((length P.triples ≡ frame.triples) × AllAfter (λ _. IsTriple P) [] P.triples) × ((fs : List FileField) → Spell fs t.0.1.lexemes → Spell (flat_map (triple_fields P) P.triples ++ fs) p.0.1.lexemes) =
     (triples_reader P names frame.triples).found p.0.1 t.0.1 P.triples (t.1 ∙ ap (λ (s : Sequences). Ok (s.1, t.0.1)) same) in (
       f.0.0,
       g.0.0,
       f.0.1,
       g.0.1,
       f.1 (flat_map (triple_fields P) P.triples)
-          (subst (λ (fs : List Field). Spell fs p.0.1.lexemes) (append-nil (flat_map (triple_fields P) P.triples)) (g.1 [] (nothing_found t.0.1.lexemes n.0 n.1))),
+          (subst (λ (fs : List FileField). Spell fs p.0.1.lexemes) (append-nil (flat_map (triple_fields P) P.triples)) (g.1 [] (nothing_found t.0.1.lexemes n.0 n.1))),
     )
 
 sequences_only : (P : Instance) → HasNames P → AllAfter (λ _. IsPair P) [] P.pairs → AllAfter (λ _. IsTriple P) [] P.triples → (u : Unread) (off work : Bounds) → Spell (sequence_fields P) u.lexemes →
@@ -116,7 +116,7 @@ sequences_only P names pairs triples u off work s =
     (pairs_reader P names (length P.pairs)).only u P.pairs (flat_map (triple_fields P) P.triples) (refl, pairs) s in
     let t : (m : Unread) × (triples_at P.shifts (length P.triples) p.0 ≡ Ok (P.triples, m)) × Spell [] m.lexemes =
     (triples_reader P names (length P.triples)).only p.0 P.triples [] (refl, triples)
-    (subst (λ (fs : List Field). Spell fs p.0.lexemes) (sym (append-nil (flat_map (triple_fields P) P.triples))) p.2) in
+    (subst (λ (fs : List FileField). Spell fs p.0.lexemes) (sym (append-nil (flat_map (triple_fields P) P.triples))) p.2) in
     then_ok (pairs_at P.shifts (length P.pairs) u) (λ xs. triples_at P.shifts (length P.triples) xs.1 >>= (λ ys. nothing_of ys.1.lexemes >>= (λ _. Ok (xs.0, ys.0)))) (P.pairs, p.0) (P.pairs, P.triples) p.1
     (then_ok (triples_at P.shifts (length P.triples) p.0) (λ ys. nothing_of ys.1.lexemes >>= (λ _. Ok (P.pairs, ys.0))) (P.triples, t.0) (P.pairs, P.triples) t.1
     (then_ok (nothing_of t.0.lexemes) (λ _. Ok (P.pairs, P.triples)) tt (P.pairs, P.triples) (nothing_only t.0.lexemes t.2) refl))
@@ -151,28 +151,28 @@ after_frame size demand shifts frame = do
 -- what is read is spelled
 read_of : (size : Size) (demand : List (List Bounds)) (shifts : List ShiftRow) (frame : Frame) (sequences : Sequences) (u a b c d : Unread) →
     size_at u ≡ Ok (size, a) → demand_rows_at size a ≡ Ok (demand, b) → shift_rows_at size.shifts b ≡ Ok (shifts, c) → frame_at c ≡ Ok (frame, d) → sequences_at shifts frame d ≡ Ok sequences →
-    IsRead (instance_from size demand shifts frame sequences) × Spell (fields (instance_from size demand shifts frame sequences)) u.lexemes
+    IsRead (instance_from size demand shifts frame sequences) × Spell (file_fields (instance_from size demand shifts frame sequences)) u.lexemes
 read_of size demand shifts frame sequences u a b c d s1 s2 s3 s4 s5 =
     let P : Instance = instance_from size demand shifts frame sequences in
-    let f1 : IsSize size × ((fs : List Field) → Spell fs a.lexemes → Spell (size_fields size ++ fs) u.lexemes) = size_reader.found u a size s1 in
-    let f2 : ((length demand ≡ size.shifts) × AllAfter (λ _ row. IsDemandRow size.days row) [] demand) × ((fs : List Field) → Spell fs b.lexemes → Spell (flat_map (map DemandField) demand ++ fs) a.lexemes) =
+    let f1 : IsSize size × ((fs : List FileField) → Spell fs a.lexemes → Spell (size_fields size ++ fs) u.lexemes) = size_reader.found u a size s1 in
+    let f2 : ((length demand ≡ size.shifts) × AllAfter (λ _ row. IsDemandRow size.days row) [] demand) × ((fs : List FileField) → Spell fs b.lexemes → Spell (flat_map (map DemandField) demand ++ fs) a.lexemes) =
     (demand_rows_reader size).found a b demand s2 in
-    let f3 : ((length shifts ≡ size.shifts) × AllAfter IsGoodRow [] shifts) × ((fs : List Field) → Spell fs c.lexemes → Spell (map ShiftField shifts ++ fs) b.lexemes) = (shift_rows_reader size.shifts).found b c shifts s3 in
-    let f4 : IsFrame frame × ((fs : List Field) → Spell fs d.lexemes → Spell (frame_fields frame ++ fs) c.lexemes) = frame_reader.found c d frame s4 in
+    let f3 : ((length shifts ≡ size.shifts) × AllAfter IsGoodRow [] shifts) × ((fs : List FileField) → Spell fs c.lexemes → Spell (map ShiftField shifts ++ fs) b.lexemes) = (shift_rows_reader size.shifts).found b c shifts s3 in
+    let f4 : IsFrame frame × ((fs : List FileField) → Spell fs d.lexemes → Spell (frame_fields frame ++ fs) c.lexemes) = frame_reader.found c d frame s4 in
     let names : HasNames (instance_from size demand shifts frame sequences) = names_of (instance_from size demand shifts frame sequences) f3.0.1 in
     let f5 = sequences_found (instance_from size demand shifts frame sequences) names frame d s5 in
     let same_size : size ≡ make_size size.days size.weeks (length shifts) = ap (make_size size.days size.weeks) (sym f3.0.0) in
-    let g1 : IsSize (make_size size.days size.weeks (length shifts)) × ((fs : List Field) → Spell fs a.lexemes → Spell (size_fields (make_size size.days size.weeks (length shifts)) ++ fs) u.lexemes) =
-    subst (λ (z : Size). IsSize z × ((fs : List Field) → Spell fs a.lexemes → Spell (size_fields z ++ fs) u.lexemes)) same_size f1 in
+    let g1 : IsSize (make_size size.days size.weeks (length shifts)) × ((fs : List FileField) → Spell fs a.lexemes → Spell (size_fields (make_size size.days size.weeks (length shifts)) ++ fs) u.lexemes) =
+    subst (λ (z : Size). IsSize z × ((fs : List FileField) → Spell fs a.lexemes → Spell (size_fields z ++ fs) u.lexemes)) same_size f1 in
     let same_frame : frame ≡ make_frame frame.off frame.work (length sequences.0) (length sequences.1) =
     ap (λ k. make_frame frame.off frame.work k frame.triples) (sym f5.0) ∙ ap (λ k. make_frame frame.off frame.work (length sequences.0) k) (sym f5.1) in
-    let g4 : IsFrame (make_frame frame.off frame.work (length sequences.0) (length sequences.1)) × ((fs : List Field) → Spell fs d.lexemes → Spell (frame_fields (make_frame frame.off frame.work (length sequences.0) (length sequences.1)) ++ fs) c.lexemes) =
-    subst (λ (z : Frame). IsFrame z × ((fs : List Field) → Spell fs d.lexemes → Spell (frame_fields z ++ fs) c.lexemes)) same_frame f4 in (
+    let g4 : IsFrame (make_frame frame.off frame.work (length sequences.0) (length sequences.1)) × ((fs : List FileField) → Spell fs d.lexemes → Spell (frame_fields (make_frame frame.off frame.work (length sequences.0) (length sequences.1)) ++ fs) c.lexemes) =
+    subst (λ (z : Frame). IsFrame z × ((fs : List FileField) → Spell fs d.lexemes → Spell (frame_fields z ++ fs) c.lexemes)) same_frame f4 in (
       record { size = g1.0; rows = f2.0.0 ∙ sym f3.0.0; demand = f2.0.1; shifts = f3.0.1; frame = g4.0; pairs = f5.2; triples = f5.3 },
       g1.1 _ (f2.1 _ (f3.1 _ (g4.1 _ f5.4))),
     )
 
-pub reading_found : (u : Unread) (P : Instance) → reading u ≡ Ok P → IsRead P × Spell (fields P) u.lexemes
+pub reading_found : (u : Unread) (P : Instance) → reading u ≡ Ok P → IsRead P × Spell (file_fields P) u.lexemes
 unfolding reading
 reading_found u P e =
     let s1 : (x : Size × Unread) × (size_at u ≡ Ok x) × (after_size x ≡ Ok P) = bind_ok (size_at u) after_size P e in
@@ -181,21 +181,21 @@ reading_found u P e =
     let s4 : (x : Frame × Unread) × (frame_at s3.0.1 ≡ Ok x) × (after_frame s1.0.0 s2.0.0 s3.0.0 x ≡ Ok P) = bind_ok (frame_at s3.0.1) (after_frame s1.0.0 s2.0.0 s3.0.0) P s3.2 in
     let s5 : (x : Sequences) × (sequences_at s3.0.0 s4.0.0 s4.0.1 ≡ Ok x) × (given (instance_from s1.0.0 s2.0.0 s3.0.0 s4.0.0 x) ≡ Ok P) =
     bind_ok (sequences_at s3.0.0 s4.0.0 s4.0.1) (λ x. Ok (instance_from s1.0.0 s2.0.0 s3.0.0 s4.0.0 x)) P s4.2 in
-    subst (λ (Q : Instance). IsRead Q × Spell (fields Q) u.lexemes) (ok_same (instance_from s1.0.0 s2.0.0 s3.0.0 s4.0.0 s5.0) P s5.2)
+    subst (λ (Q : Instance). IsRead Q × Spell (file_fields Q) u.lexemes) (ok_same (instance_from s1.0.0 s2.0.0 s3.0.0 s4.0.0 s5.0) P s5.2)
     (read_of s1.0.0 s2.0.0 s3.0.0 s4.0.0 s5.0 u s1.0.1 s2.0.1 s3.0.1 s4.0.1 s1.1 s2.1 s3.1 s4.1 s5.1)
 
 -- the fields behind the size, the demand and the shifts
-abbrev pub fields_from_frame : Instance → List Field
+abbrev pub fields_from_frame : Instance → List FileField
 fields_from_frame P = frame_fields (make_frame P.off P.work (length P.pairs) (length P.triples)) ++ sequence_fields P
 
-abbrev pub fields_from_shifts : Instance → List Field
+abbrev pub fields_from_shifts : Instance → List FileField
 fields_from_shifts P = map ShiftField P.shifts ++ fields_from_frame P
 
-abbrev pub fields_from_demand : Instance → List Field
+abbrev pub fields_from_demand : Instance → List FileField
 fields_from_demand P = flat_map (map DemandField) P.demand ++ fields_from_shifts P
 
 -- what is spelled is read
-pub reading_only : (u : Unread) (P : Instance) → IsRead P → Spell (fields P) u.lexemes → reading u ≡ Ok P
+pub reading_only : (u : Unread) (P : Instance) → IsRead P → Spell (file_fields P) u.lexemes → reading u ≡ Ok P
 unfolding reading
 reading_only u P r s =
     let size : Size = make_size P.days P.weeks (length P.shifts) in

@@ -6,18 +6,18 @@ use Rattle.std.proofs.lemmas.Bool.{eq-eqb, or_from}
 use Rattle.rwsp_text.specs.Lexemes.{Lexeme, is_space, has_some, lines_of, words_of_line, lexemes}
 use Rattle.rwsp_terms.specs.declared.data.ShiftRow.{ShiftRow}
 use Rattle.rwsp_terms.proofs.Elements.{all_from, all_joined}
-use Rattle.rwsp_model.specs.Validity.{is_blank}
-use Rattle.rwsp_file.specs.Spelling.{Field, Spell, IsRow, on_line, past_line, is_on_line}
-use Rattle.rwsp_file.specs.Spelling.Field.{NumberField, DemandField, ShiftField, NameField}
+use Rattle.rwsp_model.specs.Validity.{breaks_name}
+use Rattle.rwsp_file.specs.Spelling.{FileField, Spell, IsRow, on_line, past_line, is_on_line}
+use Rattle.rwsp_file.specs.Spelling.FileField.{NumberField, DemandField, ShiftField, NameField}
 use Rattle.rwsp_file.proofs.Lines.{AllByRecursion-drop}
 
 -- a word as it stands in a text
 pub record IsWord (text : List ℕ) : Type 0 where
   pub some : 1 ≤ length text
-  pub unbroken : All (λ b. is_blank b ≡ false) text
+  pub unbroken : All (λ b. breaks_name b ≡ false) text
   pub no_hash : slice_index text 0 ≢ 35
 
-abbrev pub IsWordField : Field → Type 0
+abbrev pub IsWordField : FileField → Type 0
 IsWordField (ShiftField row) = IsWord row.name
 IsWordField f = Unit {0}
 
@@ -34,7 +34,7 @@ first_word row w (b ∷ c ∷ d ∷ e ∷ f ∷ []) h = h.named
 first_word row w (b ∷ c ∷ d ∷ e ∷ f ∷ g ∷ is) h = absurd h
 
 -- the names of shifts that are spelled by words are words
-pub names_are_words : (fs : List Field) (ws : List Lexeme) → Spell fs ws → AreWords ws → AllByRecursion IsWordField fs
+pub names_are_words : (fs : List FileField) (ws : List Lexeme) → Spell fs ws → AreWords ws → AllByRecursion IsWordField fs
 names_are_words [] ws s all = tt
 names_are_words (f ∷ fs) [] s all = absurd s
 names_are_words (NumberField n ∷ fs) (w ∷ ws) s all = (tt, names_are_words fs ws s.1 all.1)
@@ -119,7 +119,7 @@ no_hash_of b e same = clash (b == 35) (eq-eqb b 35 same) e where
 word_form : (word : List ℕ) → (AllByRecursion InWord word × (has_some word ≡ true)) × (not (slice_index word 0 == 35) ≡ true) → IsWord word
 word_form word h = record {
   some = some_byte word h.0.1;
-  unbroken = all_from (λ b. is_blank b ≡ false) word (all_weaker InWord (λ b. is_blank b ≡ false) (λ b i. or_from (is_space b) (b == 10) i.0 i.1.0) word h.0.0);
+  unbroken = all_from (λ b. breaks_name b ≡ false) word (all_weaker InWord (λ b. breaks_name b ≡ false) (λ b i. or_from (is_space b) (b == 10) i.0 i.1.0) word h.0.0);
   no_hash = no_hash_of (slice_index word 0) h.1;
 }
 

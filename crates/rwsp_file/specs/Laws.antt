@@ -13,11 +13,17 @@ TextsSpellOne = (bytes : List ℕ) (P Q : Instance) → SpellsProblem bytes P �
 
 -- a text that has no first failure spells an instance, and one that has one spells none
 abbrev pub TextsSpellOrFail : Type 0
-TextsSpellOrFail = (bytes : List ℕ) → MatchOption (file_refusal bytes) ((P : Instance) × SpellsProblem bytes P) (λ why. (P : Instance) → SpellsProblem bytes P → ⊥)
+TextsSpellOrFail =
+    (bytes : List ℕ)
+    → MatchOption (file_refusal bytes)
+    ((P : Instance) × SpellsProblem bytes P)
+    (λ why. (P : Instance) → SpellsProblem bytes P → ⊥)
 
 -- the canonical text of a valid instance spells it and no other
 abbrev pub CanonicalTextsSpell : Type 0
-CanonicalTextsSpell = (P : Instance) → IsValid P → SpellsProblem (problem_text P) P × ((Q : Instance) → SpellsProblem (problem_text P) Q → Q ≡ P)
+CanonicalTextsSpell =
+    (P : Instance) → IsValid P
+    → SpellsProblem (problem_text P) P × ((Q : Instance) → SpellsProblem (problem_text P) Q → Q ≡ P)
 
 -- and is short enough to be read again
 abbrev pub CanonicalTextsAreShort : Type 0

@@ -75,7 +75,8 @@ size_at u = do
 abbrev pub range_from : Option ℕ → List ℕ → Option Bounds
 range_from None rest = None
 range_from (Some least) [] = None
-range_from (Some least) (b ∷ greatest) = if b == 46 then option_map (λ n. record { least = least; greatest = n }) (number_of greatest) else None
+range_from (Some least) (b ∷ greatest) =
+    if b == 46 then option_map (λ n. record { least = least; greatest = n }) (number_of greatest) else None
 
 abbrev pub is_dot : ℕ → Bool
 is_dot b = b == 46
@@ -89,12 +90,12 @@ range_or range None = range
 range_or range (Some n) = Some (record { least = n; greatest = n })
 
 -- the demand that a text spells: one number, or else a range
-abbrev pub demand_of : List ℕ → Option Bounds
-demand_of text = range_or (range_of text) (number_of text)
+abbrev pub written_demand : List ℕ → Option Bounds
+written_demand text = range_or (range_of text) (number_of text)
 
 unfoldable pub limited_demand : Lexeme → Result Bounds FileRefusal
 limited_demand w = do
-  range ← or_refuse (demand_of w.text) (Number w.line)
+  range ← or_refuse (written_demand w.text) (Number w.line)
   if is_small_range range then Ok range else Err (Range w.line 5)
 
 unfoldable pub demand_at : Unread → Result (Bounds × Unread) FileRefusal
@@ -103,13 +104,15 @@ demand_at u = do
   range ← limited_demand w.0
   Ok (range, w.1)
 
--- so many things one after another, each read in sight of the earlier ones
-unfoldable pub many : {X : Type 0} → (List X → Unread → Result (X × Unread) FileRefusal) → ℕ → List X → Unread → Result (List X × Unread) FileRefusal
+-- n things one after another, each of which may depend on the earlier ones
+unfoldable pub many : {X : Type 0} → (List X → Unread → Result (X × Unread) FileRefusal)
+    → ℕ → List X → Unread → Result (List X × Unread) FileRefusal
 many read zero earlier u = Ok (earlier, u)
 many read (suc n) earlier u = read earlier u >>= (λ x. many read n (earlier ++ x.0 ∷ []) x.1)
 
 -- each of them read alike
-abbrev pub each : {X : Type 0} → (Unread → Result (X × Unread) FileRefusal) → List X → Unread → Result (X × Unread) FileRefusal
+abbrev pub each : {X : Type 0} → (Unread → Result (X × Unread) FileRefusal)
+    → List X → Unread → Result (X × Unread) FileRefusal
 each read earlier u = read u
 
 -- the demand of a shift
@@ -121,18 +124,26 @@ abbrev pub demand_rows_at : Size → Unread → Result (List (List Bounds) × Un
 demand_rows_at size u = many (each (demand_row_at size.days)) size.shifts [] u
 
 abbrev pub row_words : Lexeme → Lexeme → Lexeme → Lexeme → Lexeme → RowWords
-row_words name start minutes least greatest = record { name = name; start = start; minutes = minutes; least = least; greatest = greatest }
+row_words name start minutes least greatest = record {
+  name = name;
+  start = start;
+  minutes = minutes;
+  least = least;
+  greatest = greatest;
+}
 
 -- five words, or six of which the fourth is the long name
 abbrev pub words_of_row : List Lexeme → Option RowWords
 words_of_row (name ∷ start ∷ minutes ∷ least ∷ greatest ∷ []) = Some (row_words name start minutes least greatest)
-words_of_row (name ∷ start ∷ minutes ∷ long_name ∷ least ∷ greatest ∷ []) = Some (row_words name start minutes least greatest)
+words_of_row (name ∷ start ∷ minutes ∷ long_name ∷ least ∷ greatest ∷ []) =
+    Some (row_words name start minutes least greatest)
 words_of_row words = None
 
 -- at most as long as names are, not the name of the day off, and not the name of an earlier shift
 abbrev pub is_new_name : List ShiftRow → List ℕ → Bool
 is_new_name earlier name =
-    nat_le (length name) LONGEST_NAME && not (bytes_eq name off_name) && not (list_any (λ row. bytes_eq name row.name) earlier)
+    nat_le (length name) LONGEST_NAME && not (bytes_eq name off_name)
+    && not (list_any (λ row. bytes_eq name row.name) earlier)
 
 unfoldable pub new_name : List ShiftRow → Lexeme → Result (List ℕ) FileRefusal
 new_name earlier w = if is_new_name earlier w.text then Ok w.text else Err (Name w.line)
@@ -215,14 +226,16 @@ nothing_of [] = Ok tt
 nothing_of (w ∷ ws) = Err (Extra w.line)
 
 -- the forbidden pairs and triples, with which a text ends
-unfoldable pub sequences_at : List ShiftRow → Frame → Unread → Result (List (Symbol × Symbol) × List (Symbol × Symbol × Symbol)) FileRefusal
+unfoldable pub sequences_at : List ShiftRow → Frame → Unread
+    → Result (List (Symbol × Symbol) × List (Symbol × Symbol × Symbol)) FileRefusal
 sequences_at rows frame u = do
   pairs ← pairs_at rows frame.pairs u
   triples ← triples_at rows frame.triples pairs.1
   _ ← nothing_of triples.1.lexemes
   Ok (pairs.0, triples.0)
 
-abbrev pub instance_from : Size → List (List Bounds) → List ShiftRow → Frame → List (Symbol × Symbol) × List (Symbol × Symbol × Symbol) → Instance
+abbrev pub instance_from : Size → List (List Bounds) → List ShiftRow → Frame
+    → List (Symbol × Symbol) × List (Symbol × Symbol × Symbol) → Instance
 instance_from size demand shifts frame sequences = record {
   days = size.days;
   weeks = size.weeks;

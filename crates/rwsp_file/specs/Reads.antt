@@ -11,7 +11,8 @@ Reads reading (Ok x) left = reading ≡ Ok (x, left)
 Reads reading (Err why) left = reading ≡ Err why
 
 -- the same of a value that is seen by view, where memory may run out
-abbrev pub ReadsUnless : {X Y : Type 0} → (X → Y) → Result (Y × Unread) FileRefusal → Result X (Fail FileRefusal) → Unread → Type 0
+abbrev pub ReadsUnless : {X Y : Type 0} → (X → Y) → Result (Y × Unread) FileRefusal → Result X (Fail FileRefusal)
+    → Unread → Type 0
 ReadsUnless view reading (Ok x) left = reading ≡ Ok (view x, left)
 ReadsUnless view reading (Err Memory) left = Unit {0}
 ReadsUnless view reading (Err (Refused why)) left = reading ≡ Err why

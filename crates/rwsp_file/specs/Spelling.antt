@@ -8,26 +8,27 @@ use Rattle.rwsp_model.specs.Validity.{IsValid}
 use Rattle.rwsp_terms.specs.declared.data.Bounds.{Bounds}
 use Rattle.rwsp_terms.specs.declared.data.ShiftRow.{ShiftRow}
 
--- what stands in the text of an instance, one after another: a number, the demand of a shift on a day, a shift, and a name in a sequence
-pub data Field : Type 0 where
-  NumberField : (n : ℕ) → Field
-  DemandField : (range : Bounds) → Field
-  ShiftField : (row : ShiftRow) → Field
-  NameField : (name : List ℕ) → Field
+-- the text of an instance is a row of these: a number, the demand of a shift on a day, a shift, a name in a sequence
+pub data FileField : Type 0 where
+  NumberField : (n : ℕ) → FileField
+  DemandField : (range : Bounds) → FileField
+  ShiftField : (row : ShiftRow) → FileField
+  NameField : (name : List ℕ) → FileField
 
-abbrev pub number_fields : List ℕ → List Field
+abbrev pub number_fields : List ℕ → List FileField
 number_fields ns = map NumberField ns
 
-abbrev pub name_fields : List (List ℕ) → List Field
+abbrev pub name_fields : List (List ℕ) → List FileField
 name_fields names = map NameField names
 
 -- the fields of an instance, in order
-abbrev pub fields : Instance → List Field
-fields P =
+abbrev pub file_fields : Instance → List FileField
+file_fields P =
     number_fields (P.days ∷ P.weeks ∷ length P.shifts ∷ [])
     ++ (flat_map (map DemandField) P.demand
     ++ (map ShiftField P.shifts
-    ++ (number_fields (P.off.least ∷ P.off.greatest ∷ P.work.least ∷ P.work.greatest ∷ length P.pairs ∷ length P.triples ∷ [])
+    ++ (number_fields (
+    P.off.least ∷ P.off.greatest ∷ P.work.least ∷ P.work.greatest ∷ length P.pairs ∷ length P.triples ∷ [])
     ++ (flat_map (λ x. name_fields (name_of P x.0 ∷ name_of P x.1 ∷ [])) P.pairs
     ++ flat_map (λ x. name_fields (name_of P x.0 ∷ name_of P x.1 ∷ name_of P x.2 ∷ [])) P.triples))))
 
@@ -54,13 +55,14 @@ pub record IsShiftRow (row : ShiftRow) (name start minutes least greatest : Lexe
 -- the five words of a shift, or six with a long name before the bounds, which may be any word
 abbrev pub IsRow : ShiftRow → List Lexeme → Type 0
 IsRow row (name ∷ start ∷ minutes ∷ least ∷ greatest ∷ []) = IsShiftRow row name start minutes least greatest
-IsRow row (name ∷ start ∷ minutes ∷ long_name ∷ least ∷ greatest ∷ []) = IsShiftRow row name start minutes least greatest
+IsRow row (name ∷ start ∷ minutes ∷ long_name ∷ least ∷ greatest ∷ []) =
+    IsShiftRow row name start minutes least greatest
 IsRow row words = ⊥
 
 abbrev pub is_on_line : ℕ → Lexeme → Bool
 is_on_line line w = w.line == line
 
--- what of the lexemes stands on the line, and what follows
+-- the lexemes that are on the line, and those that follow
 abbrev pub on_line : ℕ → List Lexeme → List Lexeme
 on_line line ws = take_while (is_on_line line) ws
 
@@ -68,7 +70,7 @@ abbrev pub past_line : ℕ → List Lexeme → List Lexeme
 past_line line ws = drop (prefix_len (is_on_line line) ws) ws
 
 -- the lexemes spell the fields, one after another. A shift takes a lexeme and all further ones of its line
-abbrev pub Spell : List Field → List Lexeme → Type 0
+abbrev pub Spell : List FileField → List Lexeme → Type 0
 Spell [] [] = Unit {0}
 Spell [] (w ∷ ws) = ⊥
 Spell (f ∷ fs) [] = ⊥
@@ -80,4 +82,4 @@ Spell (ShiftField row ∷ fs) (w ∷ ws) = IsRow row (w ∷ on_line w.line ws) �
 -- the bytes are a text of the instance: the instance is valid, and the lexemes of the text spell its fields
 pub record SpellsProblem (bytes : List ℕ) (P : Instance) : Type 0 where
   pub valid : IsValid P
-  pub text : Spell (fields P) (lexemes bytes)
+  pub text : Spell (file_fields P) (lexemes bytes)

@@ -10,7 +10,9 @@ use Rattle.rwsp_terms.specs.declared.data.Symbol.{Symbol}
 -- a demand: one number where the two are equal, else both with `..` between them
 abbrev pub demand_text : Bounds → List ℕ
 demand_text range =
-    if range.least == range.greatest then decimal range.least else decimal range.least ++ 46 ∷ 46 ∷ decimal range.greatest
+    if range.least == range.greatest
+    then decimal range.least
+    else decimal range.least ++ 46 ∷ 46 ∷ decimal range.greatest
 
 -- the words of the bounds of blocks, of a shift, of a pair and of a triple
 
@@ -32,7 +34,8 @@ size_lines P = (decimal P.days ∷ []) ∷ (decimal P.weeks ∷ []) ∷ (decimal
 
 -- a line each for the bounds of days off, those of work, and the numbers of pairs and triples
 abbrev pub frame_lines : Instance → List (List (List ℕ))
-frame_lines P = bounds_words P.off ∷ bounds_words P.work ∷ (decimal (length P.pairs) ∷ decimal (length P.triples) ∷ []) ∷ []
+frame_lines P =
+    bounds_words P.off ∷ bounds_words P.work ∷ (decimal (length P.pairs) ∷ decimal (length P.triples) ∷ []) ∷ []
 
 -- the words of each line
 abbrev pub lines_of_words : Instance → List (List (List ℕ))
@@ -53,12 +56,12 @@ abbrev pub problem_text : Instance → List ℕ
 problem_text P = flat_map file_line (lines_of_words P)
 
 -- the demands of the shift at a place, counted from 0
-abbrev pub demand_row : Instance → ℕ → List Bounds
-demand_row P k = slice_index_or P.demand k []
+abbrev pub row_of_demand : Instance → ℕ → List Bounds
+row_of_demand P k = slice_index_or P.demand k []
 
 -- the demand of the shift at a place on a day, both counted from 0
 abbrev pub range_at : Instance → ℕ → ℕ → Bounds
-range_at P k i = slice_index_or (demand_row P k) i no_bounds
+range_at P k i = slice_index_or (row_of_demand P k) i no_bounds
 
 -- no shift, in place of one that isn't there
 abbrev pub no_shift : ShiftRow

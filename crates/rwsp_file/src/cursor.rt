@@ -8,7 +8,7 @@ ghost use Rattle.rwsp_file.specs.Reads.{Reads};
 
 use crate::FileRefusal;
 use crate::limits::{BLOCK, Limit};
-use rwsp_model::Bounds;
+use rwsp_terms::Bounds;
 use rwsp_text::{Token, number};
 use std::marker::Model;
 
@@ -79,7 +79,7 @@ impl<'a> Lexeme<'a> {
 }
 
 impl<'a> Cursor<'a> {
-    /// The words that stand at these tokens of the bytes.
+    /// The words of the bytes at these tokens.
     pub fn of(bytes: &'a [u8], tokens: &'a [Token], end: u32) -> Cursor<'a>
         requires { AreWithin bytes.now tokens.now }
         ensures { result ≡ record { lexemes = map (lexeme_at bytes.entry.now) tokens.entry.now; end = end } }

@@ -1,8 +1,8 @@
 // Demands.
 ghost use Rattle.std.specs.Prelude.{◌≡◌, position};
-ghost use Rattle.rwsp_file.specs.Reading.{demand_of, range_of, range_from, is_dot};
+ghost use Rattle.rwsp_file.specs.Reading.{written_demand, range_of, range_from, is_dot};
 
-use rwsp_model::Bounds;
+use rwsp_terms::Bounds;
 use rwsp_text::number;
 
 fn range_from(least: Option<u32>, rest: &[u8]) -> Option<Bounds>
@@ -32,7 +32,7 @@ fn range(text: &[u8]) -> Option<Bounds>
 
 /// The demand that a text spells, as the least and the greatest number.
 pub fn demand(text: &[u8]) -> Option<Bounds>
-    ensures { result ≡ demand_of text.now }
+    ensures { result ≡ written_demand text.now }
 {
     match number(text) {
         Some(n) => Some(Bounds {

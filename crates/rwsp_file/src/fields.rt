@@ -1,6 +1,6 @@
 // Reading the fields of a text in their order.
 ghost use Rattle.std.specs.Prelude.{◌≡◌, IfOk, ◌≤◌};
-ghost use Rattle.rwsp_terms.specs.declared.limits.TheConstants.{MOST_DAYS};
+ghost use Rattle.rwsp_terms.specs.declared.limits.TheConstants.{MOST_DAYS, MOST_SHIFTS};
 ghost use Rattle.rwsp_file.specs.Reading.{limited_weeks, weeks_at, size_at, demand_at, demand_row_at, demand_rows_at, frame_at};
 ghost use Rattle.rwsp_file.specs.Reads.{Reads, ReadsUnless};
 
@@ -8,7 +8,8 @@ use crate::FileRefusal;
 use crate::cursor::{Cursor, Lexeme};
 use crate::demand::demand;
 use crate::limits::{CELLS, DAYS, DEMAND, PAIRS, SHIFTS, TRIPLES, WEEKS};
-use rwsp_model::{Bounds, DemandRow, Fail};
+use rwsp_model::Fail;
+use rwsp_terms::{Bounds, DemandRow};
 use std::alloc::Global;
 
 /// How many days, weeks and shifts a problem has.
@@ -53,7 +54,7 @@ fn read_weeks(days: u32, cursor: &mut Cursor) -> Result<u32, FileRefusal>
 #[tactic(auto, unfolding(crate::specs::Reading::size_at))]
 pub fn read_size(cursor: &mut Cursor) -> Result<Size, FileRefusal>
     ensures value { Reads (size_at cursor.old) result cursor.new }
-    ensures few { IfOk result (λ size. size.shifts ≤ 8) }
+    ensures few { IfOk result (λ size. size.shifts ≤ MOST_SHIFTS) }
 {
     let days = cursor.number(DAYS)?;
     let weeks = read_weeks(days, cursor)?;
@@ -107,9 +108,7 @@ fn read_demand_row(
     let mut ranges = Vec::new(alloc);
     for day in 0..days {
         let range = read_demand_of_day(cursor).map_err(Fail::Refused)?;
-        if ranges.push(range).is_err() {
-            return Err(Fail::Memory);
-        }
+        ranges.push(range)?;
     }
     Ok(DemandRow::of(ranges))
 }
@@ -126,9 +125,7 @@ pub fn read_demand(
     let mut rows = Vec::new(alloc);
     for shift in 0..size.shifts {
         let row = read_demand_row(alloc, size.days, cursor)?;
-        if rows.push(row).is_err() {
-            return Err(Fail::Memory);
-        }
+        rows.push(row)?;
     }
     Ok(rows)
 }

@@ -3,9 +3,10 @@ ghost use Rattle.std.specs.Prelude.{◌≡◌, ◌+◌, ◌<◌, ◌≤◌, [], 
 ghost use Rattle.std.specs.List.{flat_map};
 ghost use Rattle.std.specs.Fmt.{decimal};
 ghost use Rattle.rwsp_terms.specs.Instance.{name_of, IsSymbol};
-ghost use Rattle.rwsp_file.specs.Text.{demand_text, bounds_words, file_line, pair_words, triple_words, problem_text, range_at, demand_row, row_of_shift, shift_words, size_lines, frame_lines};
+ghost use Rattle.rwsp_file.specs.Text.{demand_text, bounds_words, file_line, pair_words, triple_words, problem_text, range_at, row_of_demand, row_of_shift, shift_words, size_lines, frame_lines};
 
-use rwsp_model::{Bounds, Class, Problem, Symbol};
+use rwsp_model::Problem;
+use rwsp_terms::{Bounds, Class, Symbol};
 use rwsp_text::put_number;
 use std::alloc::{AllocError, Global};
 
@@ -91,7 +92,7 @@ fn range_at(problem: &Problem, place: u8, day: u32) -> Bounds
     requires day { day < problem.now.days }
     ensures { result ≡ range_at problem.now place day }
 {
-    problem.keeps_limits();
+    problem.prove_limits();
     let shift = Symbol { number: place + 1 };
     let least = problem.demand_least(shift, day + 1);
     let greatest = problem.demand_greatest(shift, day + 1);
@@ -113,9 +114,10 @@ fn put_next_demand(out: &mut Vec<u8>, range: Bounds) -> Result<(), AllocError>
 #[tactic(auto, using(crate::proofs::TextSteps::demand_first, crate::proofs::TextSteps::demand_more, crate::proofs::TextSteps::demand_line))]
 fn put_demand_row(out: &mut Vec<u8>, problem: &Problem, place: u8) -> Result<(), AllocError>
     requires { place < length problem.now.shifts }
-    ensures { OnOk result (out.new.items ≡ out.old.items ++ file_line (map demand_text (demand_row problem.now place))) }
+    ensures { OnOk result (
+        out.new.items ≡ out.old.items ++ file_line (map demand_text (row_of_demand problem.now place))) }
 {
-    problem.keeps_limits();
+    problem.prove_limits();
     let days = problem.days();
     put_demand(out, range_at(problem, place, 0))?;
     for day in 1..days {
@@ -127,9 +129,10 @@ fn put_demand_row(out: &mut Vec<u8>, problem: &Problem, place: u8) -> Result<(),
 // A line for each row of demands.
 #[tactic(auto, using(crate::proofs::TextSteps::lines_more, crate::proofs::TextSteps::lines_all))]
 fn put_demand_rows(out: &mut Vec<u8>, problem: &Problem) -> Result<(), AllocError>
-    ensures { OnOk result (out.new.items ≡ out.old.items ++ flat_map file_line (map (map demand_text) problem.now.demand)) }
+    ensures { OnOk result (
+        out.new.items ≡ out.old.items ++ flat_map file_line (map (map demand_text) problem.now.demand)) }
 {
-    problem.keeps_limits();
+    problem.prove_limits();
     for place in 0..problem.shifts() {
         put_demand_row(out, problem, place)?;
     }
@@ -141,7 +144,7 @@ fn numbers_at(problem: &Problem, place: u8) -> (u32, u32, Bounds)
     requires { place < length problem.now.shifts }
     ensures { let row = row_of_shift problem.now place in result ≡ (row.start, row.length, row.bounds) }
 {
-    problem.keeps_limits();
+    problem.prove_limits();
     let shift = Symbol { number: place + 1 };
     (
         problem.start(shift),
@@ -155,7 +158,7 @@ fn put_name_at(out: &mut Vec<u8>, problem: &Problem, place: u8) -> Result<(), Al
     requires { place < length problem.now.shifts }
     ensures { OnOk result (out.new.items ≡ out.old.items ++ ((row_of_shift problem.now place).name ++ 32 ∷ [])) }
 {
-    problem.keeps_limits();
+    problem.prove_limits();
     put_name_and(out, problem, Symbol { number: place + 1 }, b' ')
 }
 
@@ -185,9 +188,10 @@ fn put_shifts(out: &mut Vec<u8>, problem: &Problem) -> Result<(), AllocError>
 // A line for each pair.
 #[tactic(auto, using(crate::proofs::TextSteps::lines_more, crate::proofs::TextSteps::lines_all))]
 fn put_pairs(out: &mut Vec<u8>, problem: &Problem) -> Result<(), AllocError>
-    ensures { OnOk result (out.new.items ≡ out.old.items ++ flat_map file_line (map (pair_words problem.now) problem.now.pairs)) }
+    ensures { OnOk result (
+        out.new.items ≡ out.old.items ++ flat_map file_line (map (pair_words problem.now) problem.now.pairs)) }
 {
-    problem.keeps_limits();
+    problem.prove_limits();
     let pairs = problem.pairs();
     for i in 0..pairs.len() {
         put_pair(out, problem, pairs[i])?;
@@ -198,9 +202,10 @@ fn put_pairs(out: &mut Vec<u8>, problem: &Problem) -> Result<(), AllocError>
 // A line for each triple.
 #[tactic(auto, using(crate::proofs::TextSteps::lines_more, crate::proofs::TextSteps::lines_all))]
 fn put_triples(out: &mut Vec<u8>, problem: &Problem) -> Result<(), AllocError>
-    ensures { OnOk result (out.new.items ≡ out.old.items ++ flat_map file_line (map (triple_words problem.now) problem.now.triples)) }
+    ensures { OnOk result (
+        out.new.items ≡ out.old.items ++ flat_map file_line (map (triple_words problem.now) problem.now.triples)) }
 {
-    problem.keeps_limits();
+    problem.prove_limits();
     let triples = problem.triples();
     for i in 0..triples.len() {
         put_triple(out, problem, triples[i])?;
@@ -226,7 +231,10 @@ fn put_bounds(out: &mut Vec<u8>, bounds: Bounds) -> Result<(), AllocError>
 
 // A line of the numbers of pairs and triples.
 fn put_counts(out: &mut Vec<u8>, problem: &Problem) -> Result<(), AllocError>
-    ensures { OnOk result (out.new.items ≡ out.old.items ++ file_line (decimal (length problem.now.pairs) ∷ decimal (length problem.now.triples) ∷ [])) }
+    ensures { OnOk result (
+        out.new.items
+        ≡ out.old.items
+        ++ file_line (decimal (length problem.now.pairs) ∷ decimal (length problem.now.triples) ∷ [])) }
 {
     let pairs = problem.pairs().len() as u32;
     let triples = problem.triples().len() as u32;

@@ -56,9 +56,7 @@ fn parts_of(alloc: Global, bytes: &[u8]) -> Result<Parts, Fail<FileRefusal>>
     requires { length bytes.now ≤ LONGEST_FILE }
     ensures { GivesUnless instance_of (reading (unread_of bytes.now)) result }
 {
-    let Ok(tokens) = tokens(alloc, bytes) else {
-        return Err(Fail::Memory);
-    };
+    let tokens = tokens(alloc, bytes)?;
     let mut cursor = Cursor::of(bytes, &tokens, last_line(bytes));
     read_parts(alloc, &mut cursor)
 }

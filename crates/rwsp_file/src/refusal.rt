@@ -1,5 +1,5 @@
-/// Why bytes are no problem file. The first number is the line, counted from 1; the second of a range is the number of the
-/// limit that is broken.
+/// Why bytes are no problem file. The first number is the line, counted from 1; the second of a range is the number of
+/// the limit that is broken.
 #[derive(Clone, Copy, Debug, PartialEq, Eq)]
 pub enum FileRefusal {
     /// A word is wanted where the text ends.

@@ -9,8 +9,9 @@ use crate::FileRefusal;
 use crate::cursor::{Cursor, Lexeme};
 use crate::limits::{BLOCK, MINUTES};
 use crate::shifts::Shifts;
-use rwsp_model::{Bounds, Fail, Name, ShiftRow};
+use rwsp_model::Fail;
 use rwsp_terms::limits::LONGEST_NAME;
+use rwsp_terms::{Bounds, Name, ShiftRow};
 use std::alloc::Global;
 
 /// The words of a shift, without its long name.
@@ -77,7 +78,9 @@ fn is_new_name(shifts: &Shifts, name: &[u8]) -> bool
 
 #[tactic(auto, unfolding(crate::specs::Reading::new_name))]
 fn check_name(shifts: &Shifts, word: &Lexeme) -> Result<(), FileRefusal>
-    ensures name { MatchResult result (λ _. new_name shifts.now word.now ≡ Ok word.now.text) (λ why. new_name shifts.now word.now ≡ Err why) }
+    ensures name { MatchResult result
+        (λ _. new_name shifts.now word.now ≡ Ok word.now.text)
+        (λ why. new_name shifts.now word.now ≡ Err why) }
     ensures fresh { IfOk result (λ _. list_any (λ other. bytes_eq word.now.text other.name) shifts.now ≡ false) }
 {
     if is_new_name(shifts, word.text()) {
@@ -101,9 +104,7 @@ fn numbers_of_row(words: &RowWords) -> Result<(u32, u32, Bounds), FileRefusal>
 fn copied_name(alloc: Global, word: &Lexeme) -> Result<Name, Fail<FileRefusal>>
     ensures { GivesUnless (λ name. name) (Ok word.now.text) result }
 {
-    let Ok(bytes) = Vec::from_slice(alloc, word.text()) else {
-        return Err(Fail::Memory);
-    };
+    let bytes = Vec::from_slice(alloc, word.text())?;
     Ok(Name::of(bytes))
 }
 
@@ -149,10 +150,7 @@ pub fn read_shifts(
     let mut shifts = Shifts::new(alloc);
     for shift in 0..count {
         let row = read_shift(alloc, &shifts, cursor)?;
-        let Ok(longer) = shifts.with(alloc, row) else {
-            return Err(Fail::Memory);
-        };
-        shifts = longer;
+        shifts = shifts.with(alloc, row)?;
     }
     Ok(shifts)
 }

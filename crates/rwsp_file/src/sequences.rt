@@ -1,5 +1,6 @@
 // Reading the forbidden sequences.
 ghost use Rattle.std.specs.Prelude.{◌≡◌, length, ◌≤◌};
+ghost use Rattle.rwsp_terms.specs.declared.limits.TheConstants.{MOST_SHIFTS};
 ghost use Rattle.rwsp_terms.specs.Instance.{symbol_among};
 ghost use Rattle.rwsp_file.specs.Reading.{symbol_at, pair_at, triple_at, pairs_at, triples_at, nothing_of, sequences_at};
 ghost use Rattle.rwsp_file.specs.Reads.{Reads, ReadsUnless, GivesUnless};
@@ -8,11 +9,12 @@ use crate::FileRefusal;
 use crate::cursor::Cursor;
 use crate::fields::Frame;
 use crate::shifts::Shifts;
-use rwsp_model::{Fail, Symbol};
+use rwsp_model::Fail;
+use rwsp_terms::Symbol;
 use std::alloc::Global;
 
 fn symbol_in(shifts: &Shifts, name: &[u8]) -> Option<Symbol>
-    requires { length shifts.now ≤ 8 }
+    requires { length shifts.now ≤ MOST_SHIFTS }
     ensures { result ≡ symbol_among shifts.now name.now }
 {
     if name == b"-".as_slice() {
@@ -26,7 +28,7 @@ fn symbol_in(shifts: &Shifts, name: &[u8]) -> Option<Symbol>
 
 #[tactic(auto, unfolding(crate::specs::Reading::symbol_at))]
 fn read_symbol(shifts: &Shifts, cursor: &mut Cursor) -> Result<Symbol, FileRefusal>
-    requires { length shifts.now ≤ 8 }
+    requires { length shifts.now ≤ MOST_SHIFTS }
     ensures { Reads (symbol_at shifts.now cursor.old) result cursor.new }
 {
     let word = cursor.next()?;
@@ -35,7 +37,7 @@ fn read_symbol(shifts: &Shifts, cursor: &mut Cursor) -> Result<Symbol, FileRefus
 
 #[tactic(auto, unfolding(crate::specs::Reading::pair_at))]
 fn read_pair(shifts: &Shifts, cursor: &mut Cursor) -> Result<(Symbol, Symbol), FileRefusal>
-    requires { length shifts.now ≤ 8 }
+    requires { length shifts.now ≤ MOST_SHIFTS }
     ensures { Reads (pair_at shifts.now cursor.old) result cursor.new }
 {
     let first = read_symbol(shifts, cursor)?;
@@ -48,7 +50,7 @@ fn read_triple(
     shifts: &Shifts,
     cursor: &mut Cursor,
 ) -> Result<(Symbol, Symbol, Symbol), FileRefusal>
-    requires { length shifts.now ≤ 8 }
+    requires { length shifts.now ≤ MOST_SHIFTS }
     ensures { Reads (triple_at shifts.now cursor.old) result cursor.new }
 {
     let first = read_symbol(shifts, cursor)?;
@@ -57,7 +59,7 @@ fn read_triple(
     Ok((first, second, third))
 }
 
-// Reads so many pairs.
+// Reads this number of pairs.
 #[tactic(auto, using(crate::proofs::ManySteps::many_ok, crate::proofs::ManySteps::loop_done))]
 fn read_pairs(
     alloc: Global,
@@ -65,20 +67,18 @@ fn read_pairs(
     count: u32,
     cursor: &mut Cursor,
 ) -> Result<Vec<(Symbol, Symbol)>, Fail<FileRefusal>>
-    requires { length shifts.now ≤ 8 }
+    requires { length shifts.now ≤ MOST_SHIFTS }
     ensures { ReadsUnless (λ v. v.items) (pairs_at shifts.now count cursor.old) result cursor.new }
 {
     let mut pairs = Vec::new(alloc);
     for i in 0..count {
         let pair = read_pair(shifts, cursor).map_err(Fail::Refused)?;
-        if pairs.push(pair).is_err() {
-            return Err(Fail::Memory);
-        }
+        pairs.push(pair)?;
     }
     Ok(pairs)
 }
 
-// Reads so many triples.
+// Reads this number of triples.
 #[tactic(auto, using(crate::proofs::ManySteps::many_ok, crate::proofs::ManySteps::loop_done))]
 fn read_triples(
     alloc: Global,
@@ -86,15 +86,13 @@ fn read_triples(
     count: u32,
     cursor: &mut Cursor,
 ) -> Result<Vec<(Symbol, Symbol, Symbol)>, Fail<FileRefusal>>
-    requires { length shifts.now ≤ 8 }
+    requires { length shifts.now ≤ MOST_SHIFTS }
     ensures { ReadsUnless (λ v. v.items) (triples_at shifts.now count cursor.old) result cursor.new }
 {
     let mut triples = Vec::new(alloc);
     for i in 0..count {
         let triple = read_triple(shifts, cursor).map_err(Fail::Refused)?;
-        if triples.push(triple).is_err() {
-            return Err(Fail::Memory);
-        }
+        triples.push(triple)?;
     }
     Ok(triples)
 }
@@ -119,7 +117,7 @@ pub fn read_sequences(
     frame: Frame,
     cursor: &mut Cursor,
 ) -> Result<Sequences, Fail<FileRefusal>>
-    requires { length shifts.now ≤ 8 }
+    requires { length shifts.now ≤ MOST_SHIFTS }
     ensures { GivesUnless (λ s. (s.0.items, s.1.items)) (sequences_at shifts.now frame cursor.old) result }
 {
     let pairs = read_pairs(alloc, shifts, frame.pairs, cursor)?;

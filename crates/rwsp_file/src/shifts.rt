@@ -5,7 +5,7 @@ ghost use Rattle.std.specs.Str.{bytes_eq};
 ghost use Rattle.rwsp_terms.specs.declared.data.ShiftRow.{ShiftRow};
 
 use indexmap::IndexSet;
-use rwsp_model::ShiftRow;
+use rwsp_terms::ShiftRow;
 use std::alloc::{AllocError, Global};
 use std::marker::Model;
 

@@ -15,7 +15,7 @@ use Rattle.rwsp_terms.specs.Instance.{Instance, cells, shift_count, off_name}
 use Rattle.rwsp_terms.specs.declared.data.Bounds.{Bounds}
 use Rattle.rwsp_terms.specs.declared.data.ShiftRow.{ShiftRow}
 use Rattle.rwsp_terms.specs.declared.data.Symbol.{Symbol}
-use Rattle.rwsp_model.specs.Validity.{IsValid, KeepsLimits, limit_refusal, name_refusal, limits_kept, has_shape, are_small, AreSmall, is_small_range, IsSmallRange, is_between, is_shift_name, is_blank, IsShiftName, is_named_well, bad_name_from}
+use Rattle.rwsp_model.specs.Validity.{IsValid, KeepsLimits, limit_refusal, name_refusal, limits_kept, has_shape, are_small, AreSmall, is_small_range, IsSmallRange, is_between, is_shift_name, breaks_name, IsShiftName, is_named_well, bad_name_from}
 use Rattle.rwsp_model.specs.declared.refusal.PartsRefusal.{PartsRefusal}
 use Rattle.rwsp_model.specs.declared.refusal.PartsRefusal.TheVariants.{Shape}
 
@@ -45,12 +45,12 @@ is_false false = (λ h. refl, λ h. refl)
 
 Decides-name : (name : List ℕ) → Decides (is_shift_name name) (IsShiftName name)
 Decides-name name =
-    let tests : Decides (is_shift_name name) (((((1 ≤ length name) × (length name ≤ 32)) × All (λ b. is_blank b ≡ false) name) × (slice_index name 0 ≢ 35)) × (name ≢ off_name)) =
-    Decides-and (is_between 1 32 (length name) && list_all (λ b. not (is_blank b)) name && not (slice_index name 0 == 35)) (not (bytes_eq name off_name))
-    (Decides-and (is_between 1 32 (length name) && list_all (λ b. not (is_blank b)) name) (not (slice_index name 0 == 35))
-    (Decides-and (is_between 1 32 (length name)) (list_all (λ b. not (is_blank b)) name)
+    let tests : Decides (is_shift_name name) (((((1 ≤ length name) × (length name ≤ 32)) × All (λ b. breaks_name b ≡ false) name) × (slice_index name 0 ≢ 35)) × (name ≢ off_name)) =
+    Decides-and (is_between 1 32 (length name) && list_all (λ b. not (breaks_name b)) name && not (slice_index name 0 == 35)) (not (bytes_eq name off_name))
+    (Decides-and (is_between 1 32 (length name) && list_all (λ b. not (breaks_name b)) name) (not (slice_index name 0 == 35))
+    (Decides-and (is_between 1 32 (length name)) (list_all (λ b. not (breaks_name b)) name)
     (Decides-between 1 32 (length name))
-    (Decides-all (λ b. not (is_blank b)) (λ b. is_blank b ≡ false) (λ b. is_false (is_blank b)) name))
+    (Decides-all (λ b. not (breaks_name b)) (λ b. breaks_name b ≡ false) (λ b. is_false (breaks_name b)) name))
     (Decides-not (slice_index name 0 == 35) (Decides-eqb (slice_index name 0) 35)))
     (is_none_of off_name name) in
     Decides-like (is_shift_name name)

@@ -1,4 +1,4 @@
--- Where rules stand in the list of all rules, and which numbers are those of short rules.
+-- The places of rules in the list of all rules, and the numbers of the short rules.
 use Rattle.std.specs.Prelude.{◌≡◌, ℕ, ◌+◌, ◌-◌, ◌*◌, length, Some}
 use Rattle.rwsp_terms.specs.Instance.{Instance, shift_count}
 use Rattle.rwsp_terms.specs.Rules.{rule_of, IsShort}

@@ -45,14 +45,14 @@ limits_kept P =
     ∷ []
 
 -- a blank, a tab, or the end of a line
-abbrev pub is_blank : ℕ → Bool
-is_blank b = (b == 32) || (b == 9) || (b == 13) || (b == 10)
+abbrev pub breaks_name : ℕ → Bool
+breaks_name b = (b == 32) || (b == 9) || (b == 13) || (b == 10)
 
 -- a word that may name a shift, by itself
 abbrev pub is_shift_name : List ℕ → Bool
 is_shift_name name =
     is_between 1 LONGEST_NAME (length name)
-    && list_all (λ b. not (is_blank b)) name
+    && list_all (λ b. not (breaks_name b)) name
     && not (slice_index name 0 == 35)
     && not (bytes_eq name off_name)
 
@@ -93,7 +93,7 @@ AreSmall b = (b.least ≤ GREATEST_BOUND) × (b.greatest ≤ GREATEST_BOUND)
 pub record IsShiftName (name : List ℕ) : Type 0 where
   pub some : 1 ≤ length name
   pub few : length name ≤ LONGEST_NAME
-  pub unbroken : All (λ b. is_blank b ≡ false) name
+  pub unbroken : All (λ b. breaks_name b ≡ false) name
   pub no_hash : slice_index name 0 ≢ 35
   pub no_dash : name ≢ off_name
 

@@ -22,7 +22,4 @@ pub use problem::{Parts, Problem};
 pub use refusal::PartsRefusal;
 pub use roster::Roster;
 pub use rules::{is_short, number_of, rule_at, rule_count, short_rules};
-pub use rwsp_terms::{
-    Bounds, Class, DemandRow, Name, Rule, RuleList, ShiftRow, Symbol, Weight, Weights, Word,
-};
 pub use weeks::weeks_with;

@@ -76,21 +76,21 @@ impl Problem {
         })
     }
 
-    /// The same problem with so many weeks in place of its own.
+    /// The same problem with this number of weeks in place of its own.
     pub fn with_weeks(&self, weeks: u32) -> Result<Problem, AllocError>
         requires some { 1 ≤ weeks }
         requires few { weeks ≤ MOST_WEEKS }
         requires few_cells { weeks * self.now.days ≤ MOST_CELLS }
         ensures { IfOk result (λ P. P ≡ record self.now { weeks = weeks }) }
     {
-        self.keeps_limits();
+        self.prove_limits();
         let mut parts = copy_of(&self.parts)?;
         parts.weeks = weeks;
         Ok(Problem { parts })
     }
 
     /// That the problem keeps its limits.
-    pub fn keeps_limits(&self)
+    pub fn prove_limits(&self)
         ensures { KeepsLimits self.now }
     {
         let _ = &self.parts;
@@ -102,7 +102,7 @@ impl Problem {
         ensures some { 1 ≤ result }
         ensures few { result ≤ MOST_DAYS }
     {
-        self.keeps_limits();
+        self.prove_limits();
         self.parts.days
     }
 
@@ -112,7 +112,7 @@ impl Problem {
         ensures some { 1 ≤ result }
         ensures few { result ≤ MOST_WEEKS }
     {
-        self.keeps_limits();
+        self.prove_limits();
         self.parts.weeks
     }
 
@@ -121,7 +121,7 @@ impl Problem {
         ensures value { result ≡ cells self.now }
         ensures few { result ≤ MOST_CELLS }
     {
-        self.keeps_limits();
+        self.prove_limits();
         self.parts.weeks * self.parts.days
     }
 
@@ -131,7 +131,7 @@ impl Problem {
         ensures some { 1 ≤ result }
         ensures few { result ≤ MOST_SHIFTS }
     {
-        self.keeps_limits();
+        self.prove_limits();
         self.parts.shifts.len() as u8
     }
 
@@ -140,7 +140,7 @@ impl Problem {
         ensures value { result.now ≡ self.now.pairs }
         ensures few { length result.now ≤ MOST_SEQUENCES }
     {
-        self.keeps_limits();
+        self.prove_limits();
         &self.parts.pairs
     }
 
@@ -149,7 +149,7 @@ impl Problem {
         ensures value { result.now ≡ self.now.triples }
         ensures few { length result.now ≤ MOST_SEQUENCES }
     {
-        self.keeps_limits();
+        self.prove_limits();
         &self.parts.triples
     }
 
@@ -159,7 +159,7 @@ impl Problem {
         ensures value { result ≡ bounds self.now class }
         ensures small { (result.least ≤ GREATEST_BOUND) × (result.greatest ≤ GREATEST_BOUND) }
     {
-        self.keeps_limits();
+        self.prove_limits();
         match class {
             Class::Shift(shift) => self.parts.shifts[shift.number as usize - 1].bounds,
             Class::Off => self.parts.off,
@@ -179,7 +179,7 @@ impl Problem {
     pub fn symbol(&self, name: &[u8]) -> Option<Symbol>
         ensures { result ≡ symbol_of self.now name.now }
     {
-        self.keeps_limits();
+        self.prove_limits();
         if name == b"-".as_slice() {
             return Some(Symbol::OFF);
         }

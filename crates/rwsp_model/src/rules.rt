@@ -17,13 +17,13 @@ pub fn rule_count(problem: &Problem) -> u32
     ensures value { result ≡ length (rules problem.now) }
     ensures few { result ≤ MOST_RULES }
 {
-    problem.keeps_limits();
+    problem.prove_limits();
     let shifts = u32::from(problem.shifts());
     let sequences = problem.pairs().len() as u32 + problem.triples().len() as u32;
     2 * shifts + 4 + sequences + problem.days()
 }
 
-// The rule of a place in front, where the rules of the shifts stand.
+// The rule of a place in front, where the rules of the shifts are.
 fn shift_rule(place: u32) -> Rule
     requires { place < 2 * MOST_SHIFTS }
     ensures { (P : Instance) → place < 2 * shift_count P → IsRule P result × (place_of P result ≡ place) }
@@ -57,7 +57,7 @@ fn sequence_or_day_rule(problem: &Problem, place: u32) -> Rule
     ensures rule { IsRule problem.now result }
     ensures place { place_of problem.now result ≡ 2 * shift_count problem.now + 4 + place }
 {
-    problem.keeps_limits();
+    problem.prove_limits();
     let pairs = problem.pairs().len() as u32;
     let triples = problem.triples().len() as u32;
     if place < pairs {
@@ -101,7 +101,7 @@ fn place_of(problem: &Problem, rule: Rule) -> u32
     ensures value { result ≡ place_of problem.now rule }
     ensures few { result < MOST_RULES }
 {
-    problem.keeps_limits();
+    problem.prove_limits();
     let shifts = u32::from(problem.shifts());
     let pairs = problem.pairs().len() as u32;
     let triples = problem.triples().len() as u32;

@@ -1,9 +1,7 @@
 ghost use Rattle.std.specs.Prelude.{◌≡◌};
 
-use crate::{
-    Bounds, Class, DemandRow, Name, Parts, PartsRefusal, Problem, Rule, ShiftRow, Symbol,
-    number_of, rule_at, rule_count, short_rules,
-};
+use crate::{Parts, PartsRefusal, Problem, number_of, rule_at, rule_count, short_rules};
+use rwsp_terms::{Bounds, Class, DemandRow, Name, Rule, ShiftRow, Symbol};
 use std::alloc::{AllocError, Global};
 use std::test::Fail;
 

@@ -3,7 +3,7 @@ ghost use Rattle.std.specs.Prelude.{◌≡◌, ◌+◌, ◌-◌, ◌*◌, ◌<�
 ghost use Rattle.std.specs.List.{list_all, list_any};
 ghost use Rattle.std.specs.Str.{bytes_eq};
 ghost use Rattle.rwsp_model.specs.Parts.{instance_of};
-ghost use Rattle.rwsp_model.specs.Validity.{refusal_of, has_shape, are_small, is_small_range, is_between, limits_kept, is_shift_name, is_named_well, bad_name_from, is_blank};
+ghost use Rattle.rwsp_model.specs.Validity.{refusal_of, has_shape, are_small, is_small_range, is_between, limits_kept, is_shift_name, is_named_well, bad_name_from, breaks_name};
 
 use crate::{Parts, PartsRefusal};
 use rwsp_terms::limits::{
@@ -113,16 +113,16 @@ fn first_broken_limit(parts: &Parts) -> Option<usize>
     kept.iter().position(|kept| !*kept)
 }
 
-fn is_blank(b: u8) -> bool
-    ensures { result ≡ is_blank b }
+fn breaks_name(b: u8) -> bool
+    ensures { result ≡ breaks_name b }
 {
     b == b' ' || b == b'\t' || b == b'\r' || b == b'\n'
 }
 
 fn has_no_blank(name: &[u8]) -> bool
-    ensures { result ≡ list_all (λ b. not (is_blank b)) name.now }
+    ensures { result ≡ list_all (λ b. not (breaks_name b)) name.now }
 {
-    name.iter().all(|b| !is_blank(*b))
+    name.iter().all(|b| !breaks_name(*b))
 }
 
 fn is_shift_name(name: &[u8]) -> bool

@@ -1,13 +1,13 @@
--- Where a number or an entry stands in a list that ascends, or else belongs.
+-- The place of a number or an entry in a list that ascends, or the place where it would be put.
 use Rattle.std.specs.Prelude.{◌≡◌, ◌⊎◌, ℕ, ◌<◌, ◌≤◌, ℤ, List, length, slice_index, slice_index_or, Bool, ◌&&◌, ◌==◌}
 use Rattle.rwsp_terms.specs.Weights.{AreWeights, weight_at}
 use Rattle.rwsp_terms.specs.declared.data.Weight.{Weight}
 
--- the number stands at place i
+-- the number is at place i
 abbrev pub NumberStands : List ℕ → ℕ → ℕ → Type 0
 NumberStands xs i x = (i < length xs) × (slice_index xs i ≡ x)
 
--- lower numbers stand before place i, and greater ones from it on
+-- lower numbers are before place i, and greater ones from it on
 abbrev pub NumberBelongs : List ℕ → ℕ → ℕ → Type 0
 NumberBelongs xs i x =
     (i ≤ length xs)
@@ -26,7 +26,7 @@ Precedes e j x = (e.day < j) ⊎ ((e.day ≡ j) × (e.symbol.number < x))
 abbrev pub Follows : Weight → ℕ → ℕ → Type 0
 Follows e j x = (j < e.day) ⊎ ((e.day ≡ j) × (x < e.symbol.number))
 
--- the entry of symbol x on day j stands at place i
+-- the entry of symbol x on day j is at place i
 pub record EntryStands (y : List Weight) (j x i : ℕ) : Type 0 where
   pub within : i < length y
   pub before : (k : ℕ) (d : Weight) → k < i → Precedes (slice_index_or y k d) j x

@@ -42,6 +42,9 @@ pub const LONGEST_WORD: u32 = 16_800;
 /// The greatest weight of a symbol on a day, and, negated, the least.
 pub const GREATEST_WEIGHT: u32 = 1_000;
 
+/// The most that a free weekend may weigh.
+pub const GREATEST_REWARD: u32 = 1_000;
+
 /// The most bytes of a problem's file, and of a roster's.
 pub const LONGEST_FILE: u32 = 1_048_576;
 

@@ -8,3 +8,4 @@ pub mod KindLaws
 pub mod LineLaws
 pub mod NextLines
 pub mod WordSteps
+pub mod JoinedWords

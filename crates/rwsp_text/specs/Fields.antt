@@ -1,4 +1,5 @@
--- The fields of a line: words with one blank between each two. What each field holds, how it is written, and how it is read.
+-- The fields of a line: words with one blank between each two. What each field holds, how it is written, and how it is
+-- read.
 use Rattle.std.specs.Prelude.{◌≡◌, ◌≢◌, ℕ, ◌+◌, ◌-◌, ◌*◌, ◌/◌, ◌%◌, ◌<◌, ◌≤◌, List, [], ◌∷◌, ◌++◌, length, slice_index, map, All, Option, Some, None, Bool, true, false, not, ◌&&◌, ◌||◌, ◌==◌, cond, nat_le, if◌then◌else◌, ℤ, pos, negsuc, ◌≤ℤ◌}
 use Rattle.std.specs.List.{list_all, flat_map, join_with_byte}
 use Rattle.std.specs.List.Sorted.{IsStrictlyIncreasing}
@@ -29,7 +30,7 @@ pub record NamedWeight : Type 0 where
 abbrev pub weight_fields : NamedWeight → Words
 weight_fields e = decimal e.day ∷ e.name ∷ signed_decimal e.value ∷ []
 
--- what may stand in a line
+-- what a line may have
 pub data Field : Type 0 where
   -- this word
   Word : (word : List ℕ) → Field
@@ -116,7 +117,9 @@ is_plain text = nat_le (length text) 1 || not (slice_index text 0 == 48)
 -- the number that up to 19 digits spell with no 0 in front of others
 abbrev pub numeral : List ℕ → Option ℕ
 numeral text =
-    if is_plain text && (nat_le 1 (length text) && nat_le (length text) 19 && list_all is_ascii_digit text) then Some (value_of text) else None
+    if is_plain text && (nat_le 1 (length text) && nat_le (length text) 19 && list_all is_ascii_digit text)
+    then Some (value_of text)
+    else None
 
 abbrev pub within : ℕ → ℕ → ℕ → Option ℕ
 within low high n = if nat_le low n && nat_le n high then Some n else None
@@ -131,7 +134,8 @@ negated n = negsuc (n - 1)
 -- the value that a word spells
 unfoldable pub value_in : ℕ → List ℕ → Option ℤ
 value_in greatest [] = None
-value_in greatest (c ∷ cs) = if c == 45 then option_map negated (number_in 1 greatest cs) else option_map pos (number_in 1 greatest (c ∷ cs))
+value_in greatest (c ∷ cs) =
+    if c == 45 then option_map negated (number_in 1 greatest cs) else option_map pos (number_in 1 greatest (c ∷ cs))
 
 -- any byte of a name
 abbrev pub is_visible : ℕ → Bool
@@ -158,14 +162,18 @@ word_at word (w ∷ ws) = if bytes_eq w word then Some ws else None
 
 unfoldable pub choice_at : List ℕ → List ℕ → Words → Option (Bool × Words)
 choice_at one other [] = None
-choice_at one other (w ∷ ws) = if bytes_eq w one then Some (true, ws) else (if bytes_eq w other then Some (false, ws) else None)
+choice_at one other (w ∷ ws) =
+    if bytes_eq w one then Some (true, ws) else (if bytes_eq w other then Some (false, ws) else None)
 
 abbrev pub done_at : {X : Type 0} → X → Words → Option X
 done_at x [] = Some x
 done_at x (w ∷ ws) = None
 
 unfoldable pub place_at : ℕ → ℕ → Words → Option (ℕ × Words)
-place_at weeks days ws = number_at 1 weeks ws >>= (λ week. number_at 1 days week.1 >>= (λ day. Some ((week.0 - 1) * days + (day.0 - 1), day.1)))
+place_at weeks days ws =
+    number_at 1 weeks ws >>= (λ week.
+    number_at 1 days week.1 >>= (λ day.
+    Some ((week.0 - 1) * days + (day.0 - 1), day.1)))
 
 -- the ascending numbers in front
 abbrev pub front_onto : Option ℕ → (ℕ → List ℕ × Words) → Words → List ℕ × Words
@@ -187,23 +195,30 @@ weight_from (Some day) name true None = None
 weight_from (Some day) name true (Some value) = Some (record { day = day; name = name; value = value })
 
 abbrev pub weight_of_words : ℕ → ℕ → List ℕ → List ℕ → List ℕ → Option NamedWeight
-weight_of_words days greatest day name value = weight_from (number_in 1 days day) name (is_name name) (value_in greatest value)
+weight_of_words days greatest day name value =
+    weight_from (number_in 1 days day) name (is_name name) (value_in greatest value)
 
 unfoldable pub weight_in : ℕ → ℕ → Words → Option (NamedWeight × Words)
-weight_in days greatest ws = number_at 1 days ws >>= (λ day. name_at day.1 >>= (λ name. value_at greatest name.1 >>= (λ value. Some (record { day = day.0; name = name.0; value = value.0 }, value.1))))
+weight_in days greatest ws =
+    number_at 1 days ws >>= (λ day.
+    name_at day.1 >>= (λ name.
+    value_at greatest name.1 >>= (λ value.
+    Some (record { day = day.0; name = name.0; value = value.0 }, value.1))))
 
 -- all words as weights
 abbrev pub weights_at : ℕ → ℕ → Words → Option (List NamedWeight)
 weights_at days greatest [] = Some []
 weights_at days greatest (d ∷ []) = None
 weights_at days greatest (d ∷ n ∷ []) = None
-weights_at days greatest (d ∷ n ∷ v ∷ ws) = weight_of_words days greatest d n v >>= (λ e. weights_at days greatest ws >>= (λ y. Some (e ∷ y)))
+weights_at days greatest (d ∷ n ∷ v ∷ ws) =
+    weight_of_words days greatest d n v >>= (λ e. weights_at days greatest ws >>= (λ y. Some (e ∷ y)))
 
 -- what is made of the values of the fields, where the words are these fields
 abbrev pub read : {X : Type 0} → (fields : List Field) → (Values fields → X) → Words → Option X
 read [] make ws = done_at (make tt) ws
 read (Word word ∷ fields) make ws = word_at word ws >>= (λ rest. read fields make rest)
-read (Number least greatest ∷ fields) make ws = number_at least greatest ws >>= (λ n. read fields (λ v. make (n.0, v)) n.1)
+read (Number least greatest ∷ fields) make ws =
+    number_at least greatest ws >>= (λ n. read fields (λ v. make (n.0, v)) n.1)
 read (Name ∷ fields) make ws = name_at ws >>= (λ name. read fields (λ v. make (name.0, v)) name.1)
 read (Choice one other ∷ fields) make ws = choice_at one other ws >>= (λ c. read fields (λ v. make (c.0, v)) c.1)
 read (Place weeks days ∷ fields) make ws = place_at weeks days ws >>= (λ p. read fields (λ v. make (p.0, v)) p.1)

@@ -36,7 +36,7 @@ ClosesNumbers [] = Unit {0}
 ClosesNumbers (Word word ∷ fields) = numeral word ≡ None
 ClosesNumbers fields = ⊥
 
--- weights go on to the end of the line
+-- weights reach to the end of the line
 abbrev pub ClosesWeights : List Field → Type 0
 ClosesWeights [] = Unit {0}
 ClosesWeights fields = ⊥
@@ -46,7 +46,8 @@ AreReadable [] = Unit {0}
 AreReadable (Word word ∷ fields) = (is_name word ≡ true) × AreReadable fields
 AreReadable (Number least greatest ∷ fields) = (greatest < 10 ^ 19) × AreReadable fields
 AreReadable (Name ∷ fields) = AreReadable fields
-AreReadable (Choice one other ∷ fields) = ((is_name one ≡ true) × (is_name other ≡ true) × (bytes_eq other one ≡ false)) × AreReadable fields
+AreReadable (Choice one other ∷ fields) =
+    ((is_name one ≡ true) × (is_name other ≡ true) × (bytes_eq other one ≡ false)) × AreReadable fields
 AreReadable (Place weeks days ∷ fields) = ((weeks < 10 ^ 19) × (days < 10 ^ 19)) × AreReadable fields
 AreReadable (Rules greatest ∷ fields) = ((greatest < 10 ^ 19) × ClosesNumbers fields) × AreReadable fields
 AreReadable (Weights days greatest ∷ fields) =
@@ -60,7 +61,8 @@ IsFree w (kind ∷ table) = (bytes_eq kind.word w ≡ false) × IsFree w table
 -- each kind has fields that can be read, and a first word of its own
 abbrev pub IsReadable : {X : Type 0} → List (Kind X) → Type 0
 IsReadable [] = Unit {0}
-IsReadable (kind ∷ table) = (AreReadable kind.fields × (is_name kind.word ≡ true) × IsFree kind.word table) × IsReadable table
+IsReadable (kind ∷ table) =
+    (AreReadable kind.fields × (is_name kind.word ≡ true) × IsFree kind.word table) × IsReadable table
 
 -- no blank, tab, CR or LF
 abbrev pub IsBlankless : List ℕ → Type 0
@@ -74,12 +76,17 @@ AreBlankless (w ∷ ws) = IsBlankless w × AreBlankless ws
 
 -- a line is read as what it says, and what is read is a line that says it
 abbrev pub LinesAreRead : (X : Type 0) → Type 0
-LinesAreRead X = (table : List (Kind X)) (ws : Words) (x : X) → IsReadable table → (IsLine table ws x → read_line table ws ≡ Some x) × (read_line table ws ≡ Some x → IsLine table ws x)
+LinesAreRead X =
+    (table : List (Kind X)) (ws : Words) (x : X) → IsReadable table
+    → (IsLine table ws x → read_line table ws ≡ Some x) × (read_line table ws ≡ Some x → IsLine table ws x)
 
 -- a line says one thing
 abbrev pub LinesSayOne : (X : Type 0) → Type 0
-LinesSayOne X = (table : List (Kind X)) (ws : Words) (x y : X) → IsReadable table → IsLine table ws x → IsLine table ws y → x ≡ y
+LinesSayOne X =
+    (table : List (Kind X)) (ws : Words) (x y : X) → IsReadable table
+    → IsLine table ws x → IsLine table ws y → x ≡ y
 
 -- no word of a line has a blank in it
 abbrev pub LinesAreBlankless : (X : Type 0) → Type 0
-LinesAreBlankless X = (table : List (Kind X)) (ws : Words) (x : X) → IsReadable table → IsLine table ws x → AreBlankless ws
+LinesAreBlankless X =
+    (table : List (Kind X)) (ws : Words) (x : X) → IsReadable table → IsLine table ws x → AreBlankless ws

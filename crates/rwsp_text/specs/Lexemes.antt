@@ -24,7 +24,10 @@ words_of_line line = take_while (λ word. not (slice_index word 0 == 35)) (filte
 
 -- the lexemes of a text whose first line has the number
 abbrev pub lexemes_from : ℕ → List ℕ → List Lexeme
-lexemes_from n bytes = flat_map (λ l. map (λ word. record { text = word; line = l.0 }) (words_of_line l.1)) (enumerate_from n (lines_of bytes))
+lexemes_from n bytes =
+    flat_map
+    (λ l. map (λ word. record { text = word; line = l.0 }) (words_of_line l.1))
+    (enumerate_from n (lines_of bytes))
 
 -- the lexemes of a text
 abbrev pub lexemes : List ℕ → List Lexeme

@@ -30,7 +30,8 @@ HasNoFeed bytes = All (λ b. b ≢ 10) bytes
 
 -- the bytes are a line of a text with its LF, or the end of a text without one
 abbrev pub IsNextLine : List ℕ → List ℕ → Type 0
-IsNextLine line rest = ((body : List ℕ) × HasNoFeed body × (line ≡ body ++ 10 ∷ [])) ⊎ ((line ≢ []) × HasNoFeed line × (rest ≡ []))
+IsNextLine line rest =
+    ((body : List ℕ) × HasNoFeed body × (line ≡ body ++ 10 ∷ [])) ⊎ ((line ≢ []) × HasNoFeed line × (rest ≡ []))
 
 -- a text by the words of its lines
 abbrev pub text_of_lines : List Words → List ℕ
@@ -45,7 +46,9 @@ abbrev pub AreLines : List Words → Type 0
 AreLines lines = AllByRecursion AreWords lines
 
 -- a text is read line by line to a front, and the line behind a good front has a cause to refuse the text
-pub record IsRefusedBehind {F R : Type 0} (lines : F → List Words) (Good : F → Type 0) (Cause : F → List ℕ → R → Type 0) (text : List ℕ) (why : R) : Type 0 where
+pub record IsRefusedBehind {F R : Type 0}
+    (lines : F → List Words) (Good : F → Type 0) (Cause : F → List ℕ → R → Type 0)
+    (text : List ℕ) (why : R) : Type 0 where
   pub front : F
   pub line : List ℕ
   pub rest : List ℕ
@@ -54,10 +57,12 @@ pub record IsRefusedBehind {F R : Type 0} (lines : F → List Words) (Good : F �
   pub is_line : IsNextLine line rest
   pub cause : Cause front line why
 
--- what makes a text have one cause: good fronts are told apart by their lines, no line of a good front has a cause behind
--- an earlier one, and a line has one cause
-pub record AreFronts {F R : Type 0} (lines : F → List Words) (Good : F → Type 0) (Cause : F → List ℕ → R → Type 0) : Type 0 where
+-- what makes a text have one cause: good fronts are told apart by their lines, no line of a good front has a cause
+-- behind an earlier one, and a line has one cause
+pub record AreFronts {F R : Type 0}
+    (lines : F → List Words) (Good : F → Type 0) (Cause : F → List ℕ → R → Type 0) : Type 0 where
   pub written : (f : F) → Good f → AreLines (lines f)
   pub same : (f g : F) → Good f → Good g → lines g ≡ lines f → f ≡ g
-  pub fine : (f g : F) (z : Words) (zs : List Words) (why : R) → Good f → Good g → lines g ≡ lines f ++ z ∷ zs → Cause f (text_of z) why → ⊥
+  pub fine : (f g : F) (z : Words) (zs : List Words) (why : R)
+      → Good f → Good g → lines g ≡ lines f ++ z ∷ zs → Cause f (text_of z) why → ⊥
   pub one : (f : F) (line : List ℕ) (why other : R) → Cause f line why → Cause f line other → why ≡ other

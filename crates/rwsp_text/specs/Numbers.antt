@@ -10,7 +10,10 @@ value_of text = fold (λ n digit. n * 10 + (digit - 48)) 0 text
 
 -- the number that 1 to 9 digits spell
 abbrev pub number_of : List ℕ → Option ℕ
-number_of text = if nat_le 1 (length text) && nat_le (length text) 9 && list_all is_ascii_digit text then Some (value_of text) else None
+number_of text =
+    if nat_le 1 (length text) && nat_le (length text) 9 && list_all is_ascii_digit text
+    then Some (value_of text)
+    else None
 
 -- a number that is printed and read is the number
 abbrev pub PrintedIsRead : Type 0

@@ -2,6 +2,7 @@
 ghost use Rattle.std.specs.Prelude.{◌≡◌, ◌≢◌, ◌<◌, ◌≤◌, ℕ, List, [], ◌++◌, length, take, drop, MatchOption};
 ghost use Rattle.rwsp_text.specs.Lines.{IsNextLine};
 
+use memchr::memchr;
 use std::marker::Model;
 
 /// The bytes of a text that are left to be read, line after line.
@@ -28,7 +29,8 @@ impl<'a> LineReader<'a> {
 
     /// The next line, with its LF; the last one as it is. None exactly at the end.
     pub fn next(&mut self) -> Option<&'a [u8]>
-        ensures line { MatchOption result (self.old ≡ []) (λ line. (line.now ≢ []) × (self.old ≡ line.now ++ self.new)) }
+        ensures line { MatchOption result (self.old ≡ []) (λ line.
+            (line.now ≢ []) × (self.old ≡ line.now ++ self.new)) }
         ensures end { MatchOption result (self.new ≡ []) (λ line. IsNextLine line.now self.new) }
     {
         if self.bytes.is_empty() {
@@ -48,17 +50,14 @@ impl<'a> LineReader<'a> {
     }
 }
 
-// Where the first line ends, behind its LF.
-#[tactic(auto, using(crate::proofs::NextLines::line_found, crate::proofs::NextLines::line_last))]
+// Where the first line ends, behind its LF. Many bytes are looked at at once.
 fn line_end(bytes: &[u8]) -> usize
     requires { 0 < length bytes.now }
     ensures within { (0 < result) × (result ≤ length bytes.now) }
     ensures line { IsNextLine (take result bytes.now) (drop result bytes.now) }
 {
-    for (i, byte) in bytes.iter().enumerate() {
-        if *byte == b'\n' {
-            return i + 1;
-        }
+    match memchr(b'\n', bytes) {
+        Some(i) => i + 1,
+        None => bytes.len(),
     }
-    bytes.len()
 }

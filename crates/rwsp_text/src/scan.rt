@@ -1,5 +1,5 @@
-// The lexemes of a text, by where they stand.
-ghost use Rattle.std.specs.Prelude.{◌≡◌, ◌+◌, ◌<◌, ◌≤◌, length, IfOk, map, ◌-◌, ◌++◌, drop, IfSome, slice_index, true, OnOk};
+// The lexemes of a text, by where they are in it.
+ghost use Rattle.std.specs.Prelude.{◌≡◌, ◌+◌, ◌<◌, ◌≤◌, length, IfOk, map, ◌-◌, ◌^◌, ◌++◌, drop, IfSome, slice_index, true, OnOk};
 ghost use Rattle.std.specs.Option.{option_to_list};
 ghost use Rattle.std.specs.List.{prefix_len};
 ghost use Rattle.rwsp_text.specs.Lexemes.{is_space, lexemes, lexemes_from};
@@ -29,7 +29,7 @@ fn is_word_byte(b: u8) -> bool
     !space && !end
 }
 
-// Where the word ends that goes on at a place.
+// Where the word ends that has its byte at this place.
 #[tactic(auto, using(crate::proofs::TokenSteps::prefix_more, crate::proofs::TokenSteps::prefix_stop, crate::proofs::TokenSteps::prefix_all))]
 fn word_end(bytes: &[u8], at: usize) -> usize
     requires { (at < length bytes.now) × (is_word_byte (slice_index bytes.now at) ≡ true) }
@@ -44,7 +44,7 @@ fn word_end(bytes: &[u8], at: usize) -> usize
     bytes.len()
 }
 
-// Where the line ends whose comment goes on at a place.
+// Where the line ends that has a comment at this place.
 #[tactic(auto, using(crate::proofs::TokenSteps::prefix_more, crate::proofs::TokenSteps::prefix_stop, crate::proofs::TokenSteps::prefix_all))]
 fn comment_end(bytes: &[u8], at: usize) -> usize
     requires { (at < length bytes.now) × (is_no_line_end (slice_index bytes.now at) ≡ true) }
@@ -63,11 +63,12 @@ fn comment_end(bytes: &[u8], at: usize) -> usize
 #[tactic(auto, using(crate::proofs::TokenSteps::step_end, crate::proofs::TokenSteps::step_space, crate::proofs::TokenSteps::step_comment, crate::proofs::TokenSteps::step_word))]
 fn step(bytes: &[u8], at: usize, line: u32) -> (Option<Token>, usize, u32)
     requires at { at < length bytes.now }
-    requires few { length bytes.now ≤ 1048576 }
-    requires line { line ≤ 1048577 }
+    requires few { length bytes.now < 2 ^ 32 - 1 }
+    requires line { line ≤ at + 1 }
     ensures moves { (at < result.1) × (result.1 ≤ length bytes.now) }
     ensures line { result.2 ≤ line + (result.1 - at) }
-    ensures lexemes { lexemes_from line (drop at bytes.now) ≡ map (lexeme_at bytes.now) (option_to_list result.0) ++ lexemes_from result.2 (drop result.1 bytes.now) }
+    ensures lexemes { lexemes_from line (drop at bytes.now)
+        ≡ map (lexeme_at bytes.now) (option_to_list result.0) ++ lexemes_from result.2 (drop result.1 bytes.now) }
     ensures within { IfSome result.0 (IsWithin bytes.now) }
 {
     let b = bytes[at];
@@ -103,7 +104,7 @@ fn note(all: &mut Vec<Token>, token: Option<Token>) -> Result<(), AllocError>
 /// The lexemes of a text, in order.
 #[tactic(auto, using(crate::proofs::TokenSteps::lexemes_go_on, crate::proofs::TokenSteps::within_more, crate::proofs::TokenSteps::lexemes_done))]
 pub fn tokens(alloc: Global, bytes: &[u8]) -> Result<Vec<Token>, AllocError>
-    requires { length bytes.now ≤ 1048576 }
+    requires { length bytes.now < 2 ^ 32 - 1 }
     ensures lexemes { IfOk result (λ v. map (lexeme_at bytes.now) v.items ≡ lexemes bytes.now) }
     ensures within { IfOk result (λ v. AreWithin bytes.now v.items) }
 {

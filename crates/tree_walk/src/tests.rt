@@ -66,26 +66,6 @@ fn leaf(rt: &impl Abort, walk: &mut Walk) {
 }
 
 #[test]
-fn a_split_has_two_sides(rt: HostRuntime) -> Result<(), Fail> {
-    let problem = small_problem(&rt, rt.alloc())?;
-    let mut walk = Walk::new(rt.alloc(), &problem, None)?;
-    expect(&rt, &walk, 1, &[0, 1, 2]);
-    assert_eq!(rt; walk.open_count(), 1);
-    split(&rt, &mut walk, 1, 2)?;
-    expect(&rt, &walk, 1, &[2]);
-    expect(&rt, &walk, 0, &[0, 1, 2]);
-    assert_eq!(rt; walk.open_count(), 2);
-    leaf(&rt, &mut walk);
-    expect(&rt, &walk, 1, &[0, 1]);
-    assert!(rt; !walk.is_whole());
-    leaf(&rt, &mut walk);
-    assert!(rt; walk.is_whole());
-    assert_eq!(rt; walk.open_count(), 0);
-    expect(&rt, &walk, 1, &[0, 1, 2]);
-    Ok(())
-}
-
-#[test]
 fn splits_stand_inside_splits(rt: HostRuntime) -> Result<(), Fail> {
     let problem = small_problem(&rt, rt.alloc())?;
     let mut walk = Walk::new(rt.alloc(), &problem, None)?;

@@ -52,7 +52,7 @@ impl Walk {
         ensures part { IfOk result (λ w. w.whole ≡ false) }
     {
         let domains = opening_domains(alloc, problem, turn)?;
-        domains.facts();
+        domains.prove_facts();
         Ok(Walk {
             domains,
             splits: Vec::new(alloc),
@@ -81,7 +81,7 @@ impl Walk {
             → result ≡ cells P }
         ensures few { result ≤ MOST_CELLS }
     {
-        self.domains.facts();
+        self.domains.prove_facts();
         self.domains.cells()
     }
 
@@ -91,7 +91,7 @@ impl Walk {
         ensures has { (P : Instance) (turn : Option TheTurn) (lines : List Line) → IsStateOf P turn lines self.now →
             AreSame P (has_domain result.now) (domains_at P turn lines (length lines)) }
     {
-        self.domains.facts();
+        self.domains.prove_facts();
         &self.domains
     }
 
@@ -125,7 +125,7 @@ impl Walk {
         ensures idle { (P : Instance) (turn : Option TheTurn) (lines : List Line) → IsStateOf P turn lines self.now
             → result ≡ is_idle P (domains_at P turn lines (length lines)) p x.number }
     {
-        self.domains.facts();
+        self.domains.prove_facts();
         is_idle_there(&self.domains, p, x)
     }
 
@@ -205,7 +205,7 @@ fn opening_domains(
 {
     let mut domains = Domains::new(alloc, problem)?;
     if let Some(turn) = turn {
-        problem.keeps_limits();
+        problem.prove_limits();
         domains.set_only(turn.day - 1, turn.x);
     }
     Ok(domains)

@@ -1,4 +1,4 @@
--- The windows that break a rule, whatever of what may stand there does.
+-- The windows that break a rule, whichever of the possible words is there.
 use Rattle.std.specs.Prelude.{◌≡◌, ℕ, ◌+◌, ◌<◌, ◌≤◌, Option, Some, None}
 use Rattle.rwsp_terms.specs.declared.data.Symbol.{Symbol}
 use Rattle.rwsp_terms.specs.declared.data.Rule.{Rule}
@@ -7,7 +7,7 @@ use Rattle.rwsp_terms.specs.Instance.{Instance}
 use Rattle.window_rules.specs.declared.bad_windows.BadWindow.{BadWindow}
 use Rattle.window_rules.specs.Views.{AreAllBad}
 
--- the one length for which every word that may stand from the position on is bad, or none
+-- the one length for which every possible word from the position on is bad, or none
 abbrev pub IsBadLength : Instance → Rule → (ℕ → Symbol → Type 0) → ℕ → Option ℕ → Type 0
 IsBadLength P r A p None = (len : ℕ) → AreAllBad P r A p len → ⊥
 IsBadLength P r A p (Some n) = AreAllBad P r A p n × ((len : ℕ) → AreAllBad P r A p len → len ≡ n)

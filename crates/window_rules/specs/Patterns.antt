@@ -1,4 +1,4 @@
--- Patterns of windows: which words have one, and where every word that may stand has it.
+-- Patterns of windows: which words have one, and where every possible word has it.
 use Rattle.std.specs.Prelude.{◌≡◌, ◌⊎◌, ℕ, suc, ◌+◌, ◌<◌, ◌≤◌, List, [], ◌∷◌, length, slice_index_or, Option, Some, None}
 use Rattle.rwsp_terms.specs.declared.data.Symbol.{Symbol}
 use Rattle.rwsp_terms.specs.declared.limits.TheConstants.{GREATEST_BOUND}
@@ -42,7 +42,7 @@ pub record IsShaped (m : Pattern) (u : List Symbol) : Type 0 where
   pub within : (i : ℕ) → i < inner → InClass m.inner (slice_index_or u (suc i) off_symbol)
   pub last : IsLast m.last (slice_index_or u (suc inner) off_symbol)
 
--- each symbol that may stand at the position is on the side
+-- each possible symbol of the position is on the side
 abbrev pub Keeps : (ℕ → Symbol → Type 0) → Side → ℕ → Type 0
 Keeps A (In c) p = LiesIn A c p
 Keeps A (Outside c) p = LiesOutside A c p
@@ -51,7 +51,7 @@ abbrev pub KeepsLast : (ℕ → Symbol → Type 0) → Option Side → ℕ → T
 KeepsLast A None p = Unit {0}
 KeepsLast A (Some side) p = Keeps A side p
 
--- every word with so many inner days that may stand from the position on has the pattern
+-- every possible word with this number of inner days from the position on has the pattern
 pub record IsPlaced (A : ℕ → Symbol → Type 0) (m : Pattern) (p inner : ℕ) : Type 0 where
   pub fewest : m.fewest ≤ inner
   pub most : inner ≤ m.most

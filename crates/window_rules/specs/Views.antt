@@ -1,4 +1,4 @@
--- The symbols that may stand at the positions of an endless word, and the words that may stand there.
+-- The possible symbols at the positions of an endless word, and the possible words there.
 use Rattle.std.specs.Prelude.{◌≡◌, ℕ, ◌+◌, ◌%◌, List, [], ◌∷◌, length, IsTrue}
 use Rattle.rwsp_terms.specs.declared.data.Symbol.{Symbol}
 use Rattle.rwsp_terms.specs.declared.data.Class.{Class}
@@ -15,7 +15,7 @@ held_by s p x = cell s p ≡ x
 abbrev pub left_in : Store → ℕ → Symbol → Type 0
 left_in S p x = IsTrue (has_domain S (p % length S.sets) x.number)
 
--- each symbol that may stand at the position is in the class
+-- each possible symbol of the position is in the class
 abbrev pub LiesIn : (ℕ → Symbol → Type 0) → Class → ℕ → Type 0
 LiesIn A c p = (x : Symbol) → A p x → InClass c x
 
@@ -23,11 +23,11 @@ LiesIn A c p = (x : Symbol) → A p x → InClass c x
 abbrev pub LiesOutside : (ℕ → Symbol → Type 0) → Class → ℕ → Type 0
 LiesOutside A c p = (x : Symbol) → A p x → InClass c x → ⊥
 
--- a word that may stand from the position on
+-- a possible word from the position on
 abbrev pub MayStand : (ℕ → Symbol → Type 0) → ℕ → List Symbol → Type 0
 MayStand A p [] = Unit {0}
 MayStand A p (x ∷ u) = A p x × MayStand A (p + 1) u
 
--- every word of this length that may stand from the position on is bad for the rule
+-- every possible word of this length from the position on is bad for the rule
 abbrev pub AreAllBad : Instance → Rule → (ℕ → Symbol → Type 0) → ℕ → ℕ → Type 0
 AreAllBad P r A p len = (u : List Symbol) → length u ≡ len → MayStand A p u → Bad P r u

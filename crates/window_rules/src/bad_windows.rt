@@ -12,7 +12,8 @@ ghost use Rattle.window_rules.specs.BadWindows.{IsBadLength, HasNoneBefore, IsFi
 
 use crate::View;
 use crate::pattern::{Pattern, Side, pattern_of};
-use rwsp_model::{Class, Problem, Rule};
+use rwsp_model::Problem;
+use rwsp_terms::{Class, Rule};
 
 /// A window that breaks a rule: the position of its first day, counted from 0, and how many days it has.
 #[derive(Clone, Copy, Debug, PartialEq, Eq)]
@@ -21,8 +22,8 @@ pub struct BadWindow {
     pub length: u32,
 }
 
-/// How many days the window has that begins at the position and breaks the rule, whatever stands there. There is one
-/// such length at most. It costs a step for each of its days.
+/// How many days the window has that begins at the position and breaks the rule, whichever possible word is there.
+/// There is one such length at most. It costs a step for each of its days.
 pub fn bad_length<V: View>(view: &V, problem: &Problem, rule: Rule, p: u32) -> Option<u32>
     requires view { V.has_days view.now }
     requires rule { IsRule problem.now rule }
@@ -39,8 +40,8 @@ pub fn bad_length<V: View>(view: &V, problem: &Problem, rule: Rule, p: u32) -> O
     }
 }
 
-/// The first window that begins before `end` and breaks the rule, whatever stands there. It costs two steps at most
-/// for each position before `end` and each day of the window.
+/// The first window that begins before `end` and breaks the rule, whichever possible word is there. It costs two steps
+/// at most for each position before `end` and each day of the window.
 pub fn first_bad_window<V: View>(
     view: &V,
     problem: &Problem,
@@ -61,8 +62,9 @@ pub fn first_bad_window<V: View>(
     first_window(view, pattern, 0, end)
 }
 
-/// A window that breaks the rule, whatever stands there; where there is none, no such window has the position in it.
-/// It goes back as far as such a window can begin, and costs a few steps for each day of the run that it finds there.
+/// A window that breaks the rule, whichever possible word is there; where there is none, no such window has the
+/// position in it. It goes back as far as such a window can begin, and costs a few steps for each day of the run that
+/// it finds there.
 pub fn bad_window_over<V: View>(
     view: &V,
     problem: &Problem,
@@ -85,8 +87,8 @@ pub fn bad_window_over<V: View>(
     first_window(view, pattern, p - run - 1, p + 1)
 }
 
-// What a pattern says of the windows that begin at a position: that there is one of so many days, or that there is
-// none at so many positions from there on.
+// What a pattern says of the windows that begin at a position: that there is one, and its days; or that there is none,
+// and at how many positions from there on there is none.
 #[derive(Clone, Copy)]
 enum Start {
     Bad(u32),
@@ -133,8 +135,8 @@ fn window_from<V: View>(view: &V, pattern: Pattern, p: u32) -> Start
     Start::Bad(1 + run + pattern.days_behind())
 }
 
-// How many positions have no window where the first has none and so many days of the class follow it. Where these are
-// all that were counted, more may follow, and the next position is looked at by itself.
+// How many positions have no window where the first has none and a run of this many days of the class follows it. Where
+// these are all that were counted, more may follow, and the next position is looked at by itself.
 fn clean_from(run: u32, most: u32) -> u32
     requires run { run ≤ most }
     requires most { most ≤ GREATEST_BOUND }
@@ -146,7 +148,7 @@ fn clean_from(run: u32, most: u32) -> u32
     if run < most { run + 1 } else { 1 }
 }
 
-// Whether each symbol that may stand at the position is on the side.
+// Whether each possible symbol of the position is on the side.
 fn keeps<V: View>(view: &V, side: Side, p: u32) -> bool
     requires { V.has_days view.now }
     ensures { IsTrue result ↔ Keeps (V.allows view.now) side p }

@@ -1,10 +1,10 @@
-// The view by domains: whatever symbol is left may stand at a position.
+// The view by domains: the possible symbols of a position are those that are left.
 ghost use Rattle.std.specs.Prelude.{◌<◌, length};
 ghost use Rattle.window_rules.specs.Views.{left_in};
 
 use crate::View;
 use domain_store::Domains;
-use rwsp_model::{Class, Symbol};
+use rwsp_terms::{Class, Symbol};
 
 impl View for Domains {
     ghost has_days = { λ S. 0 < length S.sets };
@@ -12,11 +12,11 @@ impl View for Domains {
     ghost allows = { λ S. left_in S };
 
     fn prove_some(&self) {
-        self.facts();
+        self.prove_facts();
     }
 
     fn lies_in(&self, class: Class, p: u32) -> bool {
-        self.facts();
+        self.prove_facts();
         let position = p % self.cells();
         match class {
             Class::Shift(shift) => self.has_only(position, shift),
@@ -26,7 +26,7 @@ impl View for Domains {
     }
 
     fn lies_outside(&self, class: Class, p: u32) -> bool {
-        self.facts();
+        self.prove_facts();
         let position = p % self.cells();
         match class {
             Class::Shift(shift) => !self.has(position, shift),

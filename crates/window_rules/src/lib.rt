@@ -1,5 +1,5 @@
-//! The rules on windows, judged in one place: how long a window from a position on is that breaks a rule, whatever
-//! may stand there by the cells of a roster or by domains.
+//! The rules on windows, judged in one place: how long a window from a position on is that breaks a rule, whichever of
+//! the words is there that a roster's cells or domains leave possible.
 #![tactic(auto)]
 
 mod bad_windows;

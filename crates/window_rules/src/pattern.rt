@@ -9,7 +9,8 @@ ghost use Rattle.rwsp_terms.specs.declared.data.Symbol.{Symbol};
 ghost use Rattle.rwsp_terms.specs.declared.limits.TheConstants.{GREATEST_BOUND};
 ghost use Rattle.window_rules.specs.Patterns.{IsPair, IsPatternOf, IsTriple, days_of};
 
-use rwsp_model::{Class, Problem, Rule, Symbol};
+use rwsp_model::Problem;
+use rwsp_terms::{Class, Rule, Symbol};
 
 /// On which side of a class a day is.
 #[derive(Clone, Copy)]

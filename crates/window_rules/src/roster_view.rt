@@ -1,10 +1,11 @@
-// The view by the cells of a roster: one symbol may stand at each position.
+// The view by the cells of a roster: one symbol is possible at each position.
 ghost use Rattle.std.specs.Prelude.{◌≡◌, ◌<◌, length};
 ghost use Rattle.rwsp_terms.specs.Window.{cell};
 ghost use Rattle.window_rules.specs.Views.{held_by};
 
 use crate::View;
-use rwsp_model::{Class, Roster, Symbol};
+use rwsp_model::Roster;
+use rwsp_terms::{Class, Symbol};
 
 impl View for Roster {
     ghost has_days = { λ r. 0 < length r.cells };

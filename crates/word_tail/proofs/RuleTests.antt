@@ -8,7 +8,7 @@ use Rattle.rwsp_terms.specs.declared.data.Class.TheVariants.{Work}
 use Rattle.rwsp_terms.specs.Instance.{Instance, bounds}
 use Rattle.word_tail.specs.Tails.{last_of, before_last_of, capped, run_of, work_of}
 use Rattle.word_tail.specs.Ends.{max_rule, min_rule, class_numbered, Breaks, BreaksRunMax, BreaksWorkMax, BreaksRunMin, BreaksWorkMin, BreaksPair, BreaksTriple}
-use Rattle.word_tail.specs.Tables.{IsGreatest, IsLeast, AreTables, no_lengths}
+use Rattle.word_tail.specs.Tables.{IsGreatestLength, IsLeastLength, AreTables, no_lengths}
 use Rattle.std.proofs.Common.{ltb}
 use Rattle.std.proofs.lemmas.Bool.{lt-ltb}
 use Rattle.word_tail.specs.declared.tables.Lengths.{Lengths}
@@ -34,7 +34,7 @@ longer_block c w x e = suffix_len_longer (in_class c) w x ∙ ap (λ k. cond k (
 no_block : (c : Class) (w : List Symbol) (x : Symbol) → in_class c x ≡ false → suffix_len (in_class c) (w ++ x ∷ []) ≡ 0
 no_block c w x e = suffix_len_longer (in_class c) w x ∙ ap (λ k. cond k (1 + suffix_len (in_class c) w) 0) e
 
-pub max_decides : (P : Instance) (R : List ℕ) (c : Class) (w : List Symbol) (x : Symbol) (greatest : Option ℕ) (days : ℕ) (result : Bool) → IsGreatest P R c greatest → in_class c x ≡ true → days ≡ capped (suffix_len (in_class c) w) → TellsExcess greatest days result → IsTrue result ↔ Breaks P R (max_rule c) (w ++ x ∷ [])
+pub max_decides : (P : Instance) (R : List ℕ) (c : Class) (w : List Symbol) (x : Symbol) (greatest : Option ℕ) (days : ℕ) (result : Bool) → IsGreatestLength P R c greatest → in_class c x ≡ true → days ≡ capped (suffix_len (in_class c) w) → TellsExcess greatest days result → IsTrue result ↔ Breaks P R (max_rule c) (w ++ x ∷ [])
 max_decides P R c w x None days result is inside long tells = (λ t. absurd (tells t), λ b. absurd (is b.0))
 max_decides P R c w x (Some m) days result is inside long tells =
     let more = longer_block c w x inside in (
@@ -48,7 +48,7 @@ not_max P R c w x out b =
     let enough = ends_max P c (w ++ x ∷ []) b.1 in
     omega (arith, none, enough)
 
-pub min_decides : (P : Instance) (R : List ℕ) (c : Class) (w : List Symbol) (x : Symbol) (least : Option ℕ) (days : ℕ) (result : Bool) → IsLeast P R c least → in_class c x ≡ false → list_all (in_class c) w ≡ false → days ≡ capped (suffix_len (in_class c) w) → TellsLack least days result → IsTrue result ↔ Breaks P R (min_rule c) (w ++ x ∷ [])
+pub min_decides : (P : Instance) (R : List ℕ) (c : Class) (w : List Symbol) (x : Symbol) (least : Option ℕ) (days : ℕ) (result : Bool) → IsLeastLength P R c least → in_class c x ≡ false → list_all (in_class c) w ≡ false → days ≡ capped (suffix_len (in_class c) w) → TellsLack least days result → IsTrue result ↔ Breaks P R (min_rule c) (w ++ x ∷ [])
 min_decides P R c w x None days result is out begun long tells = (λ t. absurd (tells t), λ b. absurd (is b.0))
 min_decides P R c w x (Some m) days result is out begun long tells = (
   λ t. let both = tells.0 t in
@@ -91,11 +91,11 @@ class_at zero y = refl
 class_at (suc n) y = refl
 
 -- the lengths of the blocks of a symbol
-greatest_at : (P : Instance) (R : List ℕ) (l : RuleTables) (n : ℕ) (lengths : Lengths) → AreTables P R l → lengths ≡ slice_index_or l.symbols n no_lengths → IsGreatest P R (class_numbered n) lengths.greatest
-greatest_at P R l n lengths tables e = subst (λ (k : Lengths). IsGreatest P R (class_numbered n) k.greatest) (sym e) (tables.symbols n).greatest
+greatest_at : (P : Instance) (R : List ℕ) (l : RuleTables) (n : ℕ) (lengths : Lengths) → AreTables P R l → lengths ≡ slice_index_or l.symbols n no_lengths → IsGreatestLength P R (class_numbered n) lengths.greatest
+greatest_at P R l n lengths tables e = subst (λ (k : Lengths). IsGreatestLength P R (class_numbered n) k.greatest) (sym e) (tables.symbols n).greatest
 
-least_at : (P : Instance) (R : List ℕ) (l : RuleTables) (n : ℕ) (lengths : Lengths) → AreTables P R l → lengths ≡ slice_index_or l.symbols n no_lengths → IsLeast P R (class_numbered n) lengths.least
-least_at P R l n lengths tables e = subst (λ (k : Lengths). IsLeast P R (class_numbered n) k.least) (sym e) (tables.symbols n).least
+least_at : (P : Instance) (R : List ℕ) (l : RuleTables) (n : ℕ) (lengths : Lengths) → AreTables P R l → lengths ≡ slice_index_or l.symbols n no_lengths → IsLeastLength P R (class_numbered n) lengths.least
+least_at P R l n lengths tables e = subst (λ (k : Lengths). IsLeastLength P R (class_numbered n) k.least) (sym e) (tables.symbols n).least
 
 -- a run at the end is too long
 run_max_by : (P : Instance) (R : List ℕ) (w : List Symbol) (x : Symbol) (n : ℕ) (result : Bool) → (b : Bool) → eqb x.number n ≡ b → (Breaks P R (max_rule (class_numbered x.number)) (w ++ x ∷ []) → IsTrue result) → Breaks P R (max_rule (class_numbered n)) (w ++ x ∷ []) → IsTrue result

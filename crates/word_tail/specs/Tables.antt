@@ -15,22 +15,22 @@ use Rattle.word_tail.specs.Tails.{tail_of}
 use Rattle.word_tail.specs.Ends.{max_rule, min_rule, class_numbered}
 
 -- the greatest length of a class's blocks, where the list names the rule
-abbrev pub IsGreatest : Instance → List ℕ → Class → Option ℕ → Type 0
-IsGreatest P R c greatest =
+abbrev pub IsGreatestLength : Instance → List ℕ → Class → Option ℕ → Type 0
+IsGreatestLength P R c greatest =
     MatchOption greatest
     (¬ Names P R (max_rule c))
     (λ m. Names P R (max_rule c) × ((bounds P c).greatest ≡ m) × (m ≤ GREATEST_SHORT_BOUND))
 
 -- the least length of a class's blocks, where the list names the rule
-abbrev pub IsLeast : Instance → List ℕ → Class → Option ℕ → Type 0
-IsLeast P R c least =
+abbrev pub IsLeastLength : Instance → List ℕ → Class → Option ℕ → Type 0
+IsLeastLength P R c least =
     MatchOption least
     (¬ Names P R (min_rule c))
     (λ m. Names P R (min_rule c) × ((bounds P c).least ≡ m) × (m ≤ GREATEST_SHORT_BOUND))
 
 pub record AreLengths (P : Instance) (R : List ℕ) (c : Class) (l : Lengths) : Type 0 where
-  pub greatest : IsGreatest P R c l.greatest
-  pub least : IsLeast P R c l.least
+  pub greatest : IsGreatestLength P R c l.greatest
+  pub least : IsLeastLength P R c l.least
 
 abbrev pub no_lengths : Lengths
 no_lengths = record { least = None; greatest = None }

@@ -5,7 +5,7 @@ ghost use Rattle.rwsp_terms.specs.Roster.{IsRule};
 ghost use Rattle.rwsp_terms.specs.Rules.{Names, NamesShortOnly};
 ghost use Rattle.rwsp_terms.specs.declared.data.Symbol.{Symbol};
 ghost use Rattle.word_tail.specs.Ends.{max_rule, min_rule, class_numbered};
-ghost use Rattle.word_tail.specs.Tables.{IsGreatest, IsLeast, AreLengths, AreTables, no_lengths, pair_in, triple_in, HoldsPairs, HoldsTriples, NamesPair, NamesTriple};
+ghost use Rattle.word_tail.specs.Tables.{IsGreatestLength, IsLeastLength, AreLengths, AreTables, no_lengths, pair_in, triple_in, HoldsPairs, HoldsTriples, NamesPair, NamesTriple};
 
 use crate::tables::{Lengths, PAIRS, RuleTables, TRIPLES, place_of_pair, place_of_triple};
 use rwsp_model::{Problem, every_rule_is_listed, number_of, rules_have_one_number};
@@ -49,7 +49,7 @@ fn min_rule(class: Class) -> Rule
 fn greatest_of(problem: &Problem, list: &RuleList, class: Class) -> Option<u32>
     requires class { IsClass problem.now class }
     requires short { NamesShortOnly problem.now list.now }
-    ensures { IsGreatest problem.now list.now class result }
+    ensures { IsGreatestLength problem.now list.now class result }
 {
     if names(problem, list, max_rule(class)) {
         Some(problem.bounds(class).greatest)
@@ -61,7 +61,7 @@ fn greatest_of(problem: &Problem, list: &RuleList, class: Class) -> Option<u32>
 fn least_of(problem: &Problem, list: &RuleList, class: Class) -> Option<u32>
     requires class { IsClass problem.now class }
     requires short { NamesShortOnly problem.now list.now }
-    ensures { IsLeast problem.now list.now class result }
+    ensures { IsLeastLength problem.now list.now class result }
 {
     if names(problem, list, min_rule(class)) {
         Some(problem.bounds(class).least)
@@ -102,7 +102,7 @@ fn symbol_lengths(problem: &Problem, list: &RuleList) -> [Lengths; MOST_SYMBOLS 
         AreLengths problem.now list.now (class_numbered n) (slice_index_or result n no_lengths) }
 {
     every_rule_is_listed();
-    problem.keeps_limits();
+    problem.prove_limits();
     let mut symbols = [Lengths::NONE; MOST_SYMBOLS as usize];
     for number in 0..MOST_SYMBOLS as u8 {
         symbols[number as usize] = lengths_numbered(problem, list, number);
@@ -128,7 +128,7 @@ fn put_named_pair(table: &mut Vec<bool>, problem: &Problem, list: &RuleList, pai
     ensures next { HoldsPairs problem.now list.now table.old.items pair
         → HoldsPairs problem.now list.now table.new.items (pair + 1) }
 {
-    problem.keeps_limits();
+    problem.prove_limits();
     if names(problem, list, Rule::Pair(pair)) {
         let (a, b) = problem.pairs()[pair as usize];
         put_pair(table, a, b);
@@ -165,7 +165,7 @@ fn put_named_triple(table: &mut Vec<bool>, problem: &Problem, list: &RuleList, t
     ensures next { HoldsTriples problem.now list.now table.old.items triple
         → HoldsTriples problem.now list.now table.new.items (triple + 1) }
 {
-    problem.keeps_limits();
+    problem.prove_limits();
     if names(problem, list, Rule::Triple(triple)) {
         let (a, b, c) = problem.triples()[triple as usize];
         put_triple(table, a, b, c);
@@ -194,7 +194,7 @@ pub(crate) fn tables_of(
     ensures { IfOk result (λ l. AreTables problem.now list.now l) }
 {
     every_rule_is_listed();
-    problem.keeps_limits();
+    problem.prove_limits();
     Ok(RuleTables {
         symbols: symbol_lengths(problem, list),
         work: lengths_of(problem, list, Class::Work),

@@ -105,27 +105,3 @@ fn words_by_their_tails(rt: HostRuntime) -> Result<(), Fail> {
     }
     Ok(())
 }
-
-#[test]
-fn tails(rt: HostRuntime) -> Result<(), Fail> {
-    let rules = small_rules(rt.alloc())?;
-    let paused = Tail {
-        last: Some(Symbol::OFF),
-        before: Some(Symbol::OFF),
-        run: 31,
-        work: 0,
-        all_one: true,
-        all_work: false,
-    };
-    let at_night = Tail {
-        last: Some(NIGHT),
-        before: Some(DAY),
-        run: 1,
-        work: 2,
-        all_one: false,
-        all_work: true,
-    };
-    assert_eq!(rt; tail_of(&rules, &LONG_PAUSE), Some(paused));
-    assert_eq!(rt; tail_of(&rules, b"DN"), Some(at_night));
-    Ok(())
-}

@@ -38,7 +38,7 @@ pub const SPLIT: &str =
 const SPLIT_TOO_SHORT: &str =
     "rwsp-log 1\nrules 1 2 3 4\nsplit 1 1 D\ndead 1 1 6 rules 1 2 3 4\ndead 1 1 6 rules 1 2 3 4\n";
 
-const TURN: &str = "rwsp-log 2\nrules 1 2 3 4 7\nturn D 1\ndead 1 1 7 rules 1 2 3 4\n";
+pub const TURN: &str = "rwsp-log 2\nrules 1 2 3 4 7\nturn D 1\ndead 1 1 7 rules 1 2 3 4\n";
 
 pub fn checks<R: Threads + Sync>(
     rt: &R,
@@ -254,29 +254,6 @@ fn splits_in_a_row(rt: HostRuntime) -> Result<(), Fail> {
         log.push_str(line.as_str())?;
     }
     assert!(rt; checks(&rt, alloc, problem, log.as_str(), 5, "log refused: ends\n")?);
-    Ok(())
-}
-
-// Each call of the shelf fails in turn while a log is checked.
-#[test]
-fn reads_that_fail_at_a_log(rt: HostRuntime) -> Result<(), Fail> {
-    let alloc = rt.alloc();
-    let words = words_of(alloc, &["check", "F", "G"])?;
-    let mut refused = 0u64;
-    for call in 1..60u64 {
-        let mut shelf = shelf_of(alloc, &[("F", TWOS), ("G", SPLIT)], 7, &[call])?;
-        let mut sink = MemorySink::new(alloc, 100, 100, Vec::new(alloc))?;
-        let outcome = run(&rt, alloc, &words, &mut shelf, &mut sink, &NoGate);
-        if outcome.status() == 6 {
-            assert_eq!(rt; sink.bytes(), b"".as_slice());
-            assert_eq!(rt; refused, call - 1);
-            refused = call;
-        } else {
-            assert_eq!(rt; outcome.status(), 0);
-        }
-    }
-    // By sevens: one call that chooses F and six for its 34 bytes and their end, then one and fourteen for the 87 of G.
-    assert_eq!(rt; refused, 22);
     Ok(())
 }
 

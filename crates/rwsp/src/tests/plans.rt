@@ -9,7 +9,7 @@ use std::test::Fail;
 use std::thread::Threads;
 
 // Three of five days, in twos: there is no roster, and no leaf holds at the first line.
-const THREE_OF_FIVE: &str = "1\n5\n1\n3\nD 360 480 2 2\n1 2\n2 2\n0 0\n";
+pub const THREE_OF_FIVE: &str = "1\n5\n1\n3\nD 360 480 2 2\n1 2\n2 2\n0 0\n";
 
 // The status of the words, over a problem, and what is written goes into the sink.
 fn status_of<R: Threads + Sync>(
@@ -47,7 +47,7 @@ pub fn printed<R: Threads + Sync>(
 }
 
 // Whether `check` accepts the log.
-fn is_accepted<R: Threads + Sync>(
+pub fn is_accepted<R: Threads + Sync>(
     rt: &R,
     alloc: Global,
     problem: &str,

@@ -4,13 +4,13 @@ use super::plans::printed;
 use std::test::Fail;
 
 // One day a week: two of four, three of six and three of five weeks on the day shift.
-const TWO_OF_FOUR: &str = "1\n4\n1\n2\nD 360 480 1 1\n2 2\n1 4\n0 0\n";
+pub const TWO_OF_FOUR: &str = "1\n4\n1\n2\nD 360 480 1 1\n2 2\n1 4\n0 0\n";
 
 const THREE_OF_SIX: &str = "1\n6\n1\n3\nD 360 480 2 2\n2 2\n2 2\n0 0\n";
 
 const THREE_OF_FIVE: &str = "1\n5\n1\n3\nD 360 480 2 2\n1 2\n2 2\n0 0\n";
 
-const NONE_TO_THREE: &str =
+pub const NONE_TO_THREE: &str =
     "weeks 2 none\nrwsp-log 1\nrules 7\nday 1 - over\nweeks 3 none\nrwsp-log 1\nrules 1 7\nbound 1 1 1 rules 1 weights 1 D 1\nnone to 3\n";
 
 const A_SIZE_LEFT_OUT: &str =

@@ -1,12 +1,17 @@
--- One symbol more is not cut; none has a number above the last.
-use Rattle.std.proofs.Common.{◌≤◌, arith}
-use Rattle.kept_cycle.proofs.CutSymbols.{one_number_more, symbol_within}
+-- A settled position has no symbol that is cut, and one without such a symbol is settled.
+use Rattle.std.proofs.Common.{◌<◌, arith}
+use Rattle.rwsp_terms.specs.Instance.{cells}
+use Rattle.kept_cycle.proofs.CutSymbols.{cells_of_store}
+use Rattle.kept_cycle.proofs.Awaiting.{uncut_where_settled, settled_where_uncut}
 use Rattle.kept_cycle.proofs.cycle_cut.unsupported_at.Goals as goal
 
-pub loop-number-preserved : goal.loop-number-preserved
-loop-number-preserved c = one_number_more c.args.cycle.now c.args.doms.now c.args.p c.loop-number.number c.is_unsupported.result c.loop-number.invariant c.is_unsupported.ensures c.if-is_unsupported.false
+pub settle-requires-clause-supported : goal.settle-requires-clause-supported
+settle-requires-clause-supported c =
+    let C = c.args.cycle.now in
+    let S = c.args.doms.now in
+    let within : c.args.p < cells C.problem = omega (arith, c.requires.position, c.prove_facts.ensures.now.long, cells_of_store C.problem S c.requires.stands.belongs) in
+    settled_where_uncut C S c.args.p c.requires.stands c.prove_facts.ensures.tests within c.in_default.ensures
 
-pub returns : goal.returns
-returns c x u =
-    let small : x.number ≤ c.args.doms.now.shifts = symbol_within c.args.cycle.now c.args.doms.now c.args.p x c.facts.ensures.tests u in
-    c.loop-number.invariant x (omega (arith, small, c.loop-number-test.false, c.shifts-number-end.ensures.value)) u
+pub returns-then-not-is_pending-clause-cut : goal.returns-then-not-is_pending-clause-cut
+returns-then-not-is_pending-clause-cut c =
+    uncut_where_settled c.args.cycle.now c.args.doms.now c.args.p c.requires.stands c.prove_facts.ensures.tests (c.is_pending.ensures c.if-not-is_pending.true)

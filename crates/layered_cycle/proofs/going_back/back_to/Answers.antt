@@ -11,8 +11,8 @@ place_of-node-requires-clause-some g c =
     let C : Course = course c.args.rules.now c.args.doms.now c.args.p (g.G.Gain.gain_of c.args.gain.now) in
     stands_somewhere C c.args.day c.args.days c.in_ok-fronts.fronts.items c.index.result.now c.args.tail c.deref.result.now c.in_ok-fronts.ensures.chain c.in_ok-fronts.ensures.long c.index.ensures c.deref.ensures.value c.requires.some
 
-pub returns : goal.returns
-returns g c =
+pub returns-clause-back : goal.returns-clause-back
+returns-clause-back g c =
     let C : Course = course c.args.rules.now c.args.doms.now c.args.p (g.G.Gain.gain_of c.args.gain.now) in
     let stands : StandsAt c.index.result.now.tails.items c.place_of-node.result c.args.tail = subst (λ (ts : List Tail). StandsAt ts c.place_of-node.result c.args.tail) c.deref.ensures.value c.place_of-node.ensures in
     let P : List Front → Type 0 = λ xs. (D : Course) (from len : ℕ) (last : Tail) (d : Front) → IsChain D from xs → GoesOn D len last (from + (length xs - 1)) (front_at xs d (length xs - 1)).tails.items c.place_of-node.result c.args.symbols.now.items → GoesOn D len last from (front_at xs d 0).tails.items c.in_ok-first.first c.walk_back.new.symbols.items in

@@ -28,5 +28,5 @@ loop-front-preserved g c =
     let P : List Front → Type 0 = λ xs. AreKept C c.loop-front.end xs in
     let taken : IsTaken C c.loop-front.end (c.len.result * 128) c.pop.new.self.items c.in-Some.front = taken_off C c.loop-front.end (c.len.result * 128) c.pop.new.self.items c.in-Some.front (subst P c.in-Some.ensures.items c.loop-front.invariant.kept) (ap (λ (k : ℕ). k * 128) n) in
     let there : c.loop-front.end ≡ c.len.result * 128 + (c.loop-front.end - c.len.result * 128) = omega (arith, taken.before) in
-    let done = c.in_ok-tail.ensures c.args.len c.args.last (subst (λ (e : ℕ). Completes C c.args.len c.args.last e c.loop-front.tail c.loop-front.symbols.items) there c.loop-front.invariant.back) in
-    record { before = omega (arith, taken.before, c.loop-front.invariant.before); kept = taken.kept; some = done.0; back = done.1 }
+    let done = c.in_ok-tail.ensures.back c.args.len c.args.last (subst (λ (e : ℕ). Completes C c.args.len c.args.last e c.loop-front.tail c.loop-front.symbols.items) there c.loop-front.invariant.back) in
+    record { automaton = c.in_ok-tail.ensures.automaton; before = omega (arith, taken.before, c.loop-front.invariant.before); kept = taken.kept; some = done.0; back = done.1 }

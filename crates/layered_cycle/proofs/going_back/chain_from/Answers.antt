@@ -9,6 +9,7 @@ loop-i-preserved g c =
     let C : Course = course c.args.rules.now c.args.doms.now c.args.p (g.G.Gain.gain_of c.args.gain.now) in
     let P : List Front → Type 0 = λ xs. IsChain C c.args.day xs in
     record {
+      automaton = c.in_ok-next.ensures.automaton;
       chain = subst P (sym c.in_ok-push-2.ensures.items) (chain_more C c.args.day c.loop-i.i c.loop-i.fronts.items c.index.result.now c.in_ok-next.next c.loop-i.invariant.chain c.loop-i.invariant.long c.index.ensures c.in_ok-next.ensures.front c.in_ok-next.ensures.linked);
       long = omega (arith, ap length c.in_ok-push-2.ensures.items, length-append c.loop-i.fronts.items (c.in_ok-next.next ∷ []), c.loop-i.invariant.long);
     }

@@ -11,7 +11,7 @@ returns-in-Some c =
     let P = c.args.problem.now in
     let S = c.args.doms.now in
     let n = c.in-Some.bad in
-    let long = positions P S c.requires.domains c.facts.ensures.now in (
+    let long = positions P S c.requires.domains c.prove_facts.ensures.now in (
       λ yes. subst (λ len. IsBlocked P (has_domain S) c.args.rule c.args.p len) (eqb-true n c.args.len yes)
           (all_bad_blocked P S c.args.rule c.rule_at.result c.args.p n long c.rule_at.ensures.value c.in-Some.ensures.0),
       λ blocked. eq-eqb n c.args.len (sym (c.in-Some.ensures.1 c.args.len
@@ -22,7 +22,7 @@ pub returns-in-None : goal.returns-in-None
 returns-in-None c =
     let P = c.args.problem.now in
     let S = c.args.doms.now in
-    let long = positions P S c.requires.domains c.facts.ensures.now in (
+    let long = positions P S c.requires.domains c.prove_facts.ensures.now in (
       λ yes. cc,
       λ blocked. absurd (c.in-None.ensures c.args.len (blocked_all_bad P S c.args.rule c.rule_at.result c.args.p c.args.len long c.rule_at.ensures.value blocked)),
     )

@@ -8,4 +8,4 @@ pub returns : goal.returns
 returns c =
     let T : Listed = c.args.tails.now in
     let S : Store = c.args.doms.now in
-    heaviest_of_course T S c.args.problem.now c.args.p _ _ _ c.args.weights.now c.heaviest_clean.result c.requires.same c.days.ensures.value (ap (λ (n : ℕ). c.args.turns * n) c.cells.ensures.value) c.heaviest_clean.ensures
+    heaviest_of_course T S c.args.problem.now c.args.p _ _ _ c.args.weights.now c.heaviest_clean.result c.requires.same c.days-week.ensures.value (ap (λ (n : ℕ). c.args.turns * n) c.cells.ensures.value) c.heaviest_clean.ensures

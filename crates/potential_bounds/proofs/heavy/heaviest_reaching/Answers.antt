@@ -11,4 +11,4 @@ returns c =
     let S : Store = c.args.doms.now in
     let narrow : SFits w64 c.args.least = search rules in
     let read : to_z w64 (of_z w64 c.args.least) ≡ c.args.least = omega (arith, ints, narrow) in
-    reaching_of_course T S c.args.problem.now c.args.p _ _ _ c.args.weights.now c.args.least _ c.heaviest_reaching.result read c.requires.same c.days.ensures.value (ap (λ (n : ℕ). c.args.turns * n) c.cells.ensures.value) c.heaviest_reaching.ensures
+    reaching_of_course T S c.args.problem.now c.args.p _ _ _ c.args.weights.now c.args.least _ c.heaviest_reaching.result read c.requires.same c.days-week.ensures.value (ap (λ (n : ℕ). c.args.turns * n) c.cells.ensures.value) c.heaviest_reaching.ensures

@@ -29,7 +29,7 @@ returns-in-None c =
     let S = c.args.doms.now in (
       none_closes P S (c.in_default.ensures S c.requires.stands),
       λ p x spent.
-          let known : x.number ≤ S.shifts = (c.facts.ensures.tests.known p x.number (held P (has_domain S) p x.number spent.useful)).1 in
+          let known : x.number ≤ S.shifts = (c.prove_facts.ensures.tests.known p x.number (held P (has_domain S) p x.number spent.useful)).1 in
           let small : x.number ≤ shift_count P = omega (arith, known, c.requires.belongs.shifts) in
-          none_spent P (has_domain S) p x c.keeps_limits.ensures.some_days small (c.in_default.ensures S c.requires.stands) c.in-None.ensures spent,
+          none_spent P (has_domain S) p x c.prove_limits.ensures.some_days small (c.in_default.ensures S c.requires.stands) c.in-None.ensures spent,
     )

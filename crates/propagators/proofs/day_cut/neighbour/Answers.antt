@@ -25,6 +25,6 @@ returns c =
     let D = has_domain c.args.doms.now in
     idle_alone P D c.args.p c.args.x.number (sym c.has.ensures ∙ c.if-not-has.false)
     (λ z there.
-    let small : z ≤ c.args.doms.now.shifts = (c.facts.ensures.tests.known c.args.p z there).1 in
+    let small : z ≤ c.args.doms.now.shifts = (c.prove_facts.ensures.tests.known c.args.p z there).1 in
     let below : z < c.loop-number.number = omega arith in
     c.loop-number.invariant z below there)

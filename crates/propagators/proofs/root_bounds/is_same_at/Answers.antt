@@ -9,5 +9,5 @@ returns c =
     let start = c.args.start.now in
     let doms = c.args.doms.now in (
       λ is x. ap (λ (set : List ℕ). has_symbol set x) (sym c.set-2.ensures ∙ sym (c.is_same.ensures.0 is) ∙ c.set.ensures),
-      λ same. c.is_same.ensures.1 (c.set.ensures ∙ sym (same_domain doms start c.args.p c.facts.ensures.now c.facts-2.ensures.now c.requires.doms c.requires.start same) ∙ sym c.set-2.ensures),
+      λ same. c.is_same.ensures.1 (c.set.ensures ∙ sym (same_domain doms start c.args.p c.prove_facts.ensures.now c.prove_facts-2.ensures.now c.requires.doms c.requires.start same) ∙ sym c.set-2.ensures),
     )

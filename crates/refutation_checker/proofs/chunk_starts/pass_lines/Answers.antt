@@ -8,7 +8,7 @@ pub returns-then-not-branch-clause-passed : goal.returns-then-not-branch-clause-
 returns-then-not-branch-clause-passed c =
     let P = c.args.problem.now in
     passed_tree P c.args.start.now c.args.splits.now.items c.loop-line.splits.items c.pass_line.new.splits.items c.args.bytes.now c.loop-line.reader c.in-Some.line.now c.next.new.self c.loop-line.count
-    c.keeps_limits.ensures c.loop-line.invariant c.in-Some.ensures.line.0 c.in-Some.ensures.line.1 c.in-Some.ensures.end
+    c.prove_limits.ensures c.loop-line.invariant c.in-Some.ensures.line.0 c.in-Some.ensures.line.1 c.in-Some.ensures.end
     (λ earlier l h text. entered_not c.in_ok-pass_line.field-0 _ _ c.if-not-branch.true (c.in_ok-pass_line.ensures P earlier l h text))
 
 pub returns-then-branch-clause-passed : goal.returns-then-branch-clause-passed
@@ -18,7 +18,7 @@ returns-then-branch-clause-passed c =
     let after = c.pass_line.new.splits.items in
     passed_idle P c.args.start.now old after after c.args.bytes.now c.next.new.self (c.loop-line.count + 1)
     (passed_more P old c.loop-line.splits.items after c.args.bytes.now c.loop-line.reader c.in-Some.line.now c.next.new.self c.loop-line.count
-    c.keeps_limits.ensures c.loop-line.invariant c.in-Some.ensures.line.0 c.in-Some.ensures.line.1 c.in-Some.ensures.end
+    c.prove_limits.ensures c.loop-line.invariant c.in-Some.ensures.line.0 c.in-Some.ensures.line.1 c.in-Some.ensures.end
     (λ earlier l h text. entered_state c.in_ok-pass_line.field-0 _ _ c.if-not-branch.false (c.in_ok-pass_line.ensures P earlier l h text)))
     (subst (λ s. IsInto P c.args.start.now s None) c.deref.ensures.value (c.in_ok-are_too_many.ensures c.if-branch.true))
 
@@ -26,7 +26,7 @@ pub loop-line-preserved : goal.loop-line-preserved
 loop-line-preserved c =
     let P = c.args.problem.now in
     passed_more P c.args.splits.now.items c.loop-line.splits.items c.pass_line.new.splits.items c.args.bytes.now c.loop-line.reader c.in-Some.line.now c.next.new.self c.loop-line.count
-    c.keeps_limits.ensures c.loop-line.invariant c.in-Some.ensures.line.0 c.in-Some.ensures.line.1 c.in-Some.ensures.end
+    c.prove_limits.ensures c.loop-line.invariant c.in-Some.ensures.line.0 c.in-Some.ensures.line.1 c.in-Some.ensures.end
     (λ earlier l h text. entered_state c.in_ok-pass_line.field-0 _ _ c.if-not-branch.false (c.in_ok-pass_line.ensures P earlier l h text))
 
 pub returns-clause-passed : goal.returns-clause-passed

@@ -9,12 +9,12 @@ returns c =
     let P = c.args.problem.now in
     let S = c.args.doms.now in
     let many : 2 ≤ length (domain_at S c.args.p) = omega (arith, c.size.ensures.value, c.if-size-lt2.false) in (
-      λ t. may_split P S c.args.p c.args.x.number c.requires.domains c.facts.ensures.tests (subst IsTrue c.has.ensures t) many,
+      λ t. may_split P S c.args.p c.args.x.number c.requires.domains c.prove_facts.ensures.tests (subst IsTrue c.has.ensures t) many,
       λ idle. subst IsTrue (sym c.has.ensures) (there P (has_domain S) c.args.p c.args.x.number idle),
     )
 
 pub returns-then-size-lt2 : goal.returns-then-size-lt2
 returns-then-size-lt2 c = (
   λ t. absurd (cc),
-  λ idle. (let many : 2 ≤ c.size.result = split_of_many c.args.problem.now c.args.doms.now c.args.p c.args.x.number c.size.result c.facts.ensures.tests c.size.ensures.value c.size.ensures.some idle in absurd (omega arith)),
+  λ idle. (let many : 2 ≤ c.size.result = split_of_many c.args.problem.now c.args.doms.now c.args.p c.args.x.number c.size.result c.prove_facts.ensures.tests c.size.ensures.value c.size.ensures.some idle in absurd (omega arith)),
 )

@@ -2,7 +2,7 @@ use Rattle.std.proofs.Common.{◌≡◌, ℕ, List, []}
 use Rattle.refutation_terms.specs.Log.{Log as LogValue}
 use Rattle.refutation_terms.specs.Verdict.{IsAccepted, IsRefused}
 use Rattle.refutation_log.proofs.LogLines.{fail_along}
-use Rattle.refutation_checker.specs.ChunkVerdicts.{AreAllSound, IsRefusedBehind}
+use Rattle.refutation_checker.specs.ChunkVerdicts.{AreAllSound, IsChunkRefused}
 use Rattle.refutation_checker.proofs.SoundLines.{accepted, ends, refused}
 use Rattle.refutation_checker.proofs.verdict.check.Goals as goal
 
@@ -18,5 +18,5 @@ pub returns-in-Err-judge_body : goal.returns-in-Err-judge_body
 returns-in-Err-judge_body c =
     let P = c.args.problem.now in
     let h = c.in-Ok.header in
-    fail_along c.in-Err-judge_body.fail (AreAllSound P h.named h.turn [] h.body.now) (λ (R : List ℕ). (g : LogValue) × IsAccepted P c.args.bytes.now g × (g.named ≡ R)) (IsRefusedBehind P h.named h.turn [] h.body.now) (IsRefused P c.args.bytes.now)
+    fail_along c.in-Err-judge_body.fail (AreAllSound P h.named h.turn [] h.body.now) (λ (R : List ℕ). (g : LogValue) × IsAccepted P c.args.bytes.now g × (g.named ≡ R)) (IsChunkRefused P h.named h.turn [] h.body.now) (IsRefused P c.args.bytes.now)
     (λ why. refused P h.named c.args.bytes.now h.body.now h.turn why c.in-Ok.ensures) c.in-Err-judge_body.ensures

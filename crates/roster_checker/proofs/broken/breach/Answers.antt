@@ -7,7 +7,7 @@ use Rattle.roster_checker.proofs.broken.breach.Goals as goal
 pub broken_at-requires : goal.broken_at-requires
 broken_at-requires c =
     place_is_small c.args.problem.now c.rule_at.result c.args.roster.now.cells c.in-Some.place.position c.in-Some.place.length
-    (omega (arith, c.requires.roster.long, c.keeps_limits.ensures.few_cells)) (omega (arith, c.keeps_limits.ensures.few_days)) c.rule_at.ensures.rule c.in-Some.ensures
+    (omega (arith, c.requires.roster.long, c.prove_limits.ensures.few_cells)) (omega (arith, c.prove_limits.ensures.few_days)) c.rule_at.ensures.rule c.in-Some.ensures
 
 pub returns-in-Some : goal.returns-in-Some
 returns-in-Some c =

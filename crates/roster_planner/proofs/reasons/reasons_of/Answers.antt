@@ -39,7 +39,7 @@ returns-clause-reasons g c =
       cycle = λ S line is. (c.new-8.ensures.leaves S line).1 (inr ((c.new-7.ensures.leaves S line).1 (inl ((c.in_ok-cycle.ensures.leaves S line).1 is))));
       top = λ S line same bound. (c.new-8.ensures.leaves S line).1 (inr ((c.new-7.ensures.leaves S line).1 (inr ((c.in_ok-bounds.ensures.leaves S line).1 (record {
         same = λ p x inside. same p x inside ∙ sym (opened p x inside);
-        bound = same_top P (opening P turn) (has_domain start) line (some_cells P c.keeps_limits.ensures) (turned_round P (has_domain start) (opening P turn) opened) bound;
+        bound = same_top P (opening P turn) (has_domain start) line (some_cells P c.prove_limits.ensures) (turned_round P (has_domain start) (opening P turn) opened) bound;
       })))));
       taken = λ S p x. (
         λ h. elim ((c.new-8.ensures.spent S p x).0 h) [

@@ -4,5 +4,5 @@ use Rattle.roster_search.proofs.decided.met_roster.Goals as goal
 
 pub returns-clause-meets : goal.returns-clause-meets
 returns-clause-meets c =
-    meets_all c.args.problem.now c.args.domains.now _ c.keeps_limits.ensures c.requires.belongs c.facts.ensures.now c.facts.ensures.tests c.requires.decided
+    meets_all c.args.problem.now c.args.domains.now _ c.prove_limits.ensures c.requires.belongs c.prove_facts.ensures.now c.prove_facts.ensures.tests c.requires.decided
     c.in_ok-roster.ensures.roster c.in_ok-roster.ensures.has c.requires.windows c.requires.days

@@ -15,7 +15,7 @@ returns-then-is_whole c =
     let up : IsStrictlyIncreasing s.named = subst IsStrictlyIncreasing c.numbers.ensures.value c.numbers.ensures.ascends in
     passing_end P s c.args.budget c.of.result c.requires.written c.requires.allowed up
     ((c.is_whole.ensures.tree P s.turn s.lines.items c.requires.written.state).0 c.if-is_whole.true)
-    c.requires.few c.of.ensures.named c.of.ensures.turn c.of.ensures.lines
+    c.requires.few c.of.ensures.named c.of.ensures.turn c.of.ensures.goal c.of.ensures.lines
 
 pub of-requires-2-clause-tree : goal.of-requires-2-clause-tree
 of-requires-2-clause-tree c =
@@ -34,4 +34,4 @@ returns c =
     let some : 1 ≤ open_trees s.walk = some_open s.walk part in
     spent_end P s c.args.budget n c.of-2.result c.requires.written c.requires.allowed up
     (rest_ends s.lines.items n (c.open_count.ensures.trees P s.turn s.lines.items (replicate n Unfinished) c.requires.written.state))
-    c.requires.few (c.requires.spent part) (omega (arith, some, c.open_count.ensures.value)) c.of-2.ensures.named c.of-2.ensures.turn (c.of-2.ensures.lines ∙ c.in_ok-leave_open.ensures)
+    c.requires.few (c.requires.spent part) (omega (arith, some, c.open_count.ensures.value)) c.of-2.ensures.named c.of-2.ensures.turn c.of-2.ensures.goal (c.of-2.ensures.lines ∙ c.in_ok-leave_open.ensures)

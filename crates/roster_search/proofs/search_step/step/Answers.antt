@@ -20,8 +20,8 @@ close-requires-clause-holds g c =
     let spent = g.A.Propagator.spent c.args.propagator.now in
     let sight : IsSight P (leaves S) (spent S) S (Leaf c.in-Leaf.line) =
     seen P leaves spent S c.domains.result.now c.in_ok-roster.field-0 (Leaf c.in-Leaf.line) c.domains.ensures.value c.in-Leaf.is (c.in_ok-roster.ensures.sight P c.requires.serves c.requires.guide) in
-    same_holds P (has_domain S) (domains_at P a.turn a.lines.items (length a.lines.items)) c.in-Leaf.line (some_cells P c.keeps_limits.ensures) sight.is_leaf.fits
-    (c.domain_facts.ensures.same P c.requires.under_way.written)
+    same_holds P (has_domain S) (domains_at P a.turn a.lines.items (length a.lines.items)) c.in-Leaf.line (some_cells P c.prove_limits.ensures) sight.is_leaf.fits
+    (c.prove_domains.ensures.same P c.requires.under_way.written)
     sight.holds
 
 pub met_roster-requires-clause-windows : goal.met_roster-requires-clause-windows
@@ -69,7 +69,7 @@ returns-in_ok-cut-in-Cut-clause-under_way g c none =
     let spent = g.A.Propagator.spent c.args.propagator.now in
     let sight : IsSight P (leaves S) (spent S) S (Cut c.in-Cut.p c.in-Cut.x c.in-Cut.line) =
     seen P leaves spent S c.domains.result.now c.in_ok-roster.field-0 (Cut c.in-Cut.p c.in-Cut.x c.in-Cut.line) c.domains.ensures.value c.in-Cut.is (c.in_ok-roster.ensures.sight P c.requires.serves c.requires.guide) in
-    split_under_way P a.turn c.args.budget leaves spent a b c.in-Cut.p c.in-Cut.x c.requires.under_way c.in_ok-cut-in-Cut.ensures.off c.in_ok-cut-in-Cut.ensures.few c.domain_facts.ensures.store (c.domain_facts.ensures.same P c.requires.under_way.written)
+    split_under_way P a.turn c.args.budget leaves spent a b c.in-Cut.p c.in-Cut.x c.requires.under_way c.in_ok-cut-in-Cut.ensures.off c.in_ok-cut-in-Cut.ensures.few c.prove_domains.ensures.store (c.prove_domains.ensures.same P c.requires.under_way.written)
     sight.0 (λ q z s. sight.1.is_spent)
 
 pub returns-in_ok-split-in-Some-clause-under_way :
@@ -85,4 +85,4 @@ returns-in_ok-split-in-Some-clause-under_way g c none =
     seen P leaves spent S c.domains.result.now c.in_ok-roster.field-0 Quiet c.domains.ensures.value c.in-Quiet.is (c.in_ok-roster.ensures.sight P c.requires.serves c.requires.guide) in
     let long : length b.lines.items ≡ length a.lines.items + 1 = ap length c.in_ok-split-in-Some.ensures.lines ∙ length-append a.lines.items (Split c.in-Some.split.p c.in-Some.split.x ∷ []) in
     split_under_way P a.turn c.args.budget leaves spent a b c.in-Some.split.p c.in-Some.split.x
-    c.requires.under_way (c.in_ok-split-in-Some.ensures.off P c.requires.under_way.written) (omega (arith, long, c.requires.room)) c.domain_facts.ensures.store (c.domain_facts.ensures.same P c.requires.under_way.written) sight.0 (λ q z s. absurd (sight.1 q z s))
+    c.requires.under_way (c.in_ok-split-in-Some.ensures.off P c.requires.under_way.written) (omega (arith, long, c.requires.room)) c.prove_domains.ensures.store (c.prove_domains.ensures.same P c.requires.under_way.written) sight.0 (λ q z s. absurd (sight.1 q z s))

@@ -9,8 +9,8 @@ returns-then-len-named-clause-reduced c =
     let after = c.descend.new.log in
     let same : length after.named ≡ length before.named =
     sym (ap length c.named-in-loop-cited.ensures) ∙ sym c.len.ensures ∙ c.if-len-named.true ∙ c.len-named.ensures ∙ ap length c.named.ensures in
-    subst (IsReduced c.args.problem.now c.args.log.now) (sym c.into_log.ensures)
-    (reducing_ends c.args.problem.now c.args.log.now before after c.loop-cited.invariant.so_far c.in_ok-descend.ensures.descends same)
+    subst (IsReduced c.args.problem.now c.args.log) (sym c.into_log.ensures)
+    (reducing_ends c.args.problem.now c.args.log before after c.loop-cited.invariant.so_far c.in_ok-descend.ensures.descends same)
 
 pub loop-cited-smaller : goal.loop-cited-smaller
 loop-cited-smaller c =
@@ -27,6 +27,6 @@ loop-cited-preserved c =
     let other : length after.named ≢ length before.named =
     λ e. c.if-len-named.false (c.len.ensures ∙ ap length c.named-in-loop-cited.ensures ∙ e ∙ sym (ap length c.named.ensures) ∙ sym c.len-named.ensures) in
     record {
-      so_far = reducing_goes_on c.args.problem.now c.args.log.now before after c.loop-cited.invariant.so_far c.in_ok-descend.ensures.descends c.in_ok-descend.ensures.passes other;
+      so_far = reducing_goes_on c.args.problem.now c.args.log before after c.loop-cited.invariant.so_far c.in_ok-descend.ensures.descends c.in_ok-descend.ensures.passes other;
       cited = c.in_ok-descend.ensures.cited;
     }

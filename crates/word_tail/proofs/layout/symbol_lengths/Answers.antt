@@ -13,5 +13,5 @@ loop-number-preserved c =
 
 pub returns : goal.returns
 returns c =
-    all_lengths c.args.problem.now c.args.list.now c.loop-number.symbols c.every_rule_is_listed.ensures c.keeps_limits.ensures.few_shifts c.loop-number.invariant.long
+    all_lengths c.args.problem.now c.args.list.now c.loop-number.symbols c.every_rule_is_listed.ensures c.prove_limits.ensures.few_shifts c.loop-number.invariant.long
     (λ k h. c.loop-number.invariant.below k (omega (arith, h, c.loop-number-test.false)))

@@ -8,4 +8,4 @@ use Rattle.demand_counts.proofs.counts.Counts.narrowed.Goals as goal
 pub returns : goal.returns
 returns c =
     let P : Counted → Type 0 = λ C. StandsFor C c.args.doms.now in
-    subst P (sym c.take_over.ensures) (narrowed_stands c.args.self.now c.args.doms.now c.args.p (domain_at c.args.doms.now c.args.p) c.requires.differs c.facts.ensures.long c.facts-2.ensures.now.long c.requires.position refl)
+    subst P (sym c.take_over.ensures) (narrowed_stands c.args.self.now c.args.doms.now c.args.p (domain_at c.args.doms.now c.args.p) c.requires.differs c.prove_facts.ensures.long c.prove_facts-2.ensures.now.long c.requires.position refl)

@@ -28,7 +28,7 @@ joins r x steps layer before front behind back a b d h =
 pub returns-then-has : goal.returns-then-has
 returns-then-has c =
     let i = c.self.inside in
-    let v = c.self.invariant in
+    let v = c.self.invariant.0 in
     let within : c.args.p < cells i.tails.problem = subst (λ (C : KnownCycle). c.args.p < cells C.problem) (sym c.self.view_is) c.requires in
     let layer : c.steps-steps.result.now ≡ layer_at i.layers.layers c.args.p =
     c.steps-steps.ensures ∙ stands i.layers.layers c.args.p [] c.index-layers-p.result (omega (arith, within, v.layered.days)) (c.index-layers-p.is ∙ ap (λ l. get_or l c.args.p c.index-layers-p.result) c.layers.ensures) in
@@ -42,7 +42,7 @@ returns-then-has c =
 pub returns-else-has : goal.returns-else-has
 returns-else-has c =
     let i = c.self.inside in
-    let v = c.self.invariant in
+    let v = c.self.invariant.0 in
     let within : c.args.p < cells i.tails.problem = subst (λ (C : KnownCycle). c.args.p < cells C.problem) (sym c.self.view_is) c.requires in
     let set : c.index.result.now ≡ get_or i.sets.items c.args.p [] = stands i.sets.items c.args.p [] c.index.result.now (omega (arith, within, v.long)) c.index.ensures in
     let P : KnownCycle → Type 0 = λ C. (c.has.result ≡ false) ↔ NoWordHas C.problem (has_known C) C.rules c.args.p c.args.x in

@@ -19,4 +19,4 @@ returns-clause-look c =
     let C = c.args.self.now in
     let IsSeenBy : KnownCycle → Look → Type 0 = λ K look. IsLook K.problem (IsCycleLeaf K.problem) (IsCycleSpent K.problem (has_domain S)) S look in
     let IsSeenFor : Look → Instance → Type 0 = λ look P. IsLook P (IsCycleLeaf C.problem) (IsCycleSpent C.problem (has_domain S)) S look in
-    if_ok c.seen.result (IsSeenBy c.self.inside.cycle) _ (λ look h P serves. subst (IsSeenFor look) serves (subst (λ (K : KnownCycle). IsSeenBy K look) c.self.view_is h)) c.seen.ensures
+    if_ok c.seen.result (IsSeenBy c.self.inside.cycle) _ (λ look h P serves. subst (IsSeenFor look) serves (subst (λ (K : KnownCycle). IsSeenBy K look) c.self.view_is h)) c.seen.ensures.look

@@ -1,6 +1,7 @@
 -- One day more is mended, and where its marks stay, all are.
-use Rattle.std.proofs.Common.{◌≡◌, ◌+◌, ◌-◌, ◌<◌, length, arith}
+use Rattle.std.proofs.Common.{◌≡◌, ◌+◌, ◌-◌, ◌<◌, ◌∙◌, length, arith, ap}
 use Rattle.kept_cycle.proofs.Mending.{back_step_read, back_more, back_stays, fits_here}
+use Rattle.kept_cycle.specs.Marks.{row_at}
 use Rattle.kept_cycle.proofs.day_marks.DayMarks.mend_back.Goals as goal
 
 pub go_back-requires-clause-wide : goal.go_back-requires-clause-wide
@@ -30,3 +31,6 @@ loop-i-preserved c =
     back_more layers sets c.args.day c.args.self.now c.loop-i.self c.go_back.new.self (c.loop-i.i - 1) c.loop-i.i next c.loop-i.invariant
     (back_step_read layers sets c.go_back.new.self (c.loop-i.i - 1) c.index-layers-i.result c.index-sets-i.result within c.index-layers-i.is c.requires.some c.index-sets-i.is c.go_back.ensures.step)
     c.go_back.ensures.others c.go_back.ensures.long c.go_back.ensures.wide
+
+pub returns-then-not-go_back-clause-before : goal.returns-then-not-go_back-clause-before
+returns-then-not-go_back-clause-before c i less = ap (λ r. row_at r (i + 1)) (c.go_back.ensures.unchanged c.if-not-go_back.true) ∙ c.loop-i.invariant.before (i + 1) (omega (arith, less))

@@ -1,6 +1,7 @@
 -- One day more is mended, and where its marks stay, all are.
-use Rattle.std.proofs.Common.{◌<◌, length, rules}
+use Rattle.std.proofs.Common.{◌<◌, ◌∙◌, length, rules, ap}
 use Rattle.kept_cycle.proofs.Mending.{front_step_read, front_more, front_stays, fits_here}
+use Rattle.kept_cycle.specs.Marks.{row_at}
 use Rattle.kept_cycle.proofs.day_marks.DayMarks.mend_front.Goals as goal
 
 pub go_on-requires-clause-wide : goal.go_on-requires-clause-wide
@@ -28,3 +29,9 @@ loop-i-preserved c =
     front_more layers sets c.args.day c.args.self.now c.loop-i.self c.go_on.new.self c.loop-i.i c.loop-i.invariant
     (front_step_read layers sets c.go_on.new.self c.loop-i.i c.index-layers-i.result c.index-sets-i.result within c.index-layers-i.is c.requires.some c.index-sets-i.is c.go_on.ensures.step)
     c.go_on.ensures.others c.go_on.ensures.long c.go_on.ensures.wide
+
+pub returns-then-not-go_on-clause-before : goal.returns-then-not-go_on-clause-before
+returns-then-not-go_on-clause-before c i less = ap (λ r. row_at r i) (c.go_on.ensures.unchanged c.if-not-go_on.true) ∙ c.loop-i.invariant.before i less
+
+pub returns-then-not-go_on-clause-behind : goal.returns-then-not-go_on-clause-behind
+returns-then-not-go_on-clause-behind c i less within = ap (λ r. row_at r i) (c.go_on.ensures.unchanged c.if-not-go_on.true) ∙ c.loop-i.invariant.behind i less

@@ -1,4 +1,6 @@
-use Rattle.std.proofs.Common.{◌≡◌, ℕ, ◌+◌, ◌%◌, ◌<◌, List, length, map, subst, ◌∙◌, arith, rules}
+use Rattle.std.proofs.Common.{◌≡◌, ℕ, ◌+◌, ◌%◌, ◌<◌, List, length, map, subst, sym, ◌∙◌, arith, rules, slice_index_or}
+use Rattle.std.specs.Prelude.{Contains}
+use Rattle.std.proofs.lemmas.List.Elements.{Contains-get_or}
 use Rattle.rwsp_terms.specs.Instance.{cells}
 use Rattle.domain_store.specs.Store.{has_domain}
 use Rattle.word_tail.specs.declared.tail.Tail.{Tail}
@@ -9,11 +11,20 @@ use Rattle.layered_cycle.specs.Front.{Course, course, turned, IsFront, AreLinked
 use Rattle.layered_cycle.proofs.Fronts.{Moves, front_made}
 use Rattle.layered_cycle.proofs.front.Front.next.Goals as goal
 
+pub row_behind-requires-clause-to : goal.row_behind-requires-clause-to
+row_behind-requires-clause-to g c =
+    let grown : Grown c.args.rules.now (has_domain c.args.doms.now) ((c.args.p + c.args.day) % cells c.args.rules.now.problem) c.args.self.now.tails.items c.in_ok-growth.growth.steps.items c.in_ok-growth.growth.nodes.items (length c.args.self.now.tails.items) 0 =
+    subst (λ (xs : List Tail). Grown c.args.rules.now (has_domain c.args.doms.now) ((c.args.p + c.args.day) % cells c.args.rules.now.problem) xs c.in_ok-growth.growth.steps.items c.in_ok-growth.growth.nodes.items (length xs) 0) c.deref.ensures.value c.in_ok-growth.ensures.grown in
+    let len : c.len-count.result ≡ length c.in_ok-growth.growth.nodes.items = search rules in
+    let to : (s : Step) → Contains c.in_ok-growth.growth.steps.items s → s.to < c.len-count.result = λ s h. omega (arith, len, (grown.sound s h).to) in
+    let P : List Step → Type 0 = λ xs. (k : ℕ) (d : Step) → k < length xs → (slice_index_or xs k d).to < c.len-count.result in
+    subst P (sym c.deref-2.ensures.value) (λ k d lt. to (slice_index_or c.in_ok-growth.growth.steps.items k d) (Contains-get_or c.in_ok-growth.growth.steps.items k d lt))
+
 pub returns-clause-front : goal.returns-clause-front
 returns-clause-front g c =
     let C : Course = course c.args.rules.now c.args.doms.now c.args.p (g.G.Gain.gain_of c.args.gain.now) in
     let grown : Grown c.args.rules.now (has_domain c.args.doms.now) ((c.args.p + c.args.day) % cells c.args.rules.now.problem) c.args.self.now.tails.items c.in_ok-growth.growth.steps.items c.in_ok-growth.growth.nodes.items (length c.args.self.now.tails.items) 0 =
-    subst (λ (xs : List Tail). Grown c.args.rules.now (has_domain c.args.doms.now) ((c.args.p + c.args.day) % cells c.args.rules.now.problem) xs c.in_ok-growth.growth.steps.items c.in_ok-growth.growth.nodes.items (length xs) 0) c.deref.ensures.value c.in_ok-growth.ensures in
+    subst (λ (xs : List Tail). Grown c.args.rules.now (has_domain c.args.doms.now) ((c.args.p + c.args.day) % cells c.args.rules.now.problem) xs c.in_ok-growth.growth.steps.items c.in_ok-growth.growth.nodes.items (length xs) 0) c.deref.ensures.value c.in_ok-growth.ensures.grown in
     let len : c.len-count.result ≡ length c.in_ok-growth.growth.nodes.items = search rules in
     let m : Moves C c.args.day c.args.self.now.tails.items c.in_ok-growth.growth.nodes.items c.args.self.now.row c.in_ok-row.row c.in_ok-growth.growth.steps.items = record {
       front = c.requires.front;
@@ -27,7 +38,7 @@ pub returns-clause-linked : goal.returns-clause-linked
 returns-clause-linked g c =
     let C : Course = course c.args.rules.now c.args.doms.now c.args.p (g.G.Gain.gain_of c.args.gain.now) in
     let grown : Grown c.args.rules.now (has_domain c.args.doms.now) ((c.args.p + c.args.day) % cells c.args.rules.now.problem) c.args.self.now.tails.items c.in_ok-growth.growth.steps.items c.in_ok-growth.growth.nodes.items (length c.args.self.now.tails.items) 0 =
-    subst (λ (xs : List Tail). Grown c.args.rules.now (has_domain c.args.doms.now) ((c.args.p + c.args.day) % cells c.args.rules.now.problem) xs c.in_ok-growth.growth.steps.items c.in_ok-growth.growth.nodes.items (length xs) 0) c.deref.ensures.value c.in_ok-growth.ensures in
+    subst (λ (xs : List Tail). Grown c.args.rules.now (has_domain c.args.doms.now) ((c.args.p + c.args.day) % cells c.args.rules.now.problem) xs c.in_ok-growth.growth.steps.items c.in_ok-growth.growth.nodes.items (length xs) 0) c.deref.ensures.value c.in_ok-growth.ensures.grown in
     let len : c.len-count.result ≡ length c.in_ok-growth.growth.nodes.items = search rules in
     let m : Moves C c.args.day c.args.self.now.tails.items c.in_ok-growth.growth.nodes.items c.args.self.now.row c.in_ok-row.row c.in_ok-growth.growth.steps.items = record {
       front = c.requires.front;

@@ -12,6 +12,6 @@ invariant_of-result c =
     let all = c.in_ok-pending.ensures.items_if_clones_equal (λ y e. e) in
     let long : length c.in_ok-pending.pending.items ≡ c.cells-cells.result = ap length all ∙ length-replicate {A = Bool} c.cells-cells.result true in (
       subst IsWatchOf (sym c.in_ok-copy.ensures)
-          (all_awaited c.args.problem.now c.args.doms.now c.in_ok-sets.sets.items c.in_ok-pending.pending.items c.cells-cells.result c.requires c.facts.ensures.now c.facts.ensures.tests c.in_ok-sets.ensures c.cells-cells.ensures.value all),
+          (all_awaited c.args.problem.now c.args.doms.now c.in_ok-sets.sets.items c.in_ok-pending.pending.items c.cells-cells.result c.requires c.prove_facts.ensures.now c.prove_facts.ensures.tests c.in_ok-sets.ensures c.cells-cells.ensures.value all),
       span_of_all c.in_ok-pending.pending.items c.cells-cells.result long,
     )

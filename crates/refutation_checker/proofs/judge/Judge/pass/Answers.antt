@@ -18,7 +18,7 @@ returns-in-Some-clause-passed c =
     let E = domains_at P turn lines (length lines) in
     let D = has_domain c.domains-2.result.now in
     let same : AreSame P D E = c.domains-2.ensures.has P turn lines state in
-    let some : 0 < cells P = subst (λ (j : Judging). 0 < cells j.problem) c.self.view_is (some_cells c.self.inside.problem.now c.keeps_limits.ensures) in
+    let some : 0 < cells P = subst (λ (j : Judging). 0 < cells j.problem) c.self.view_is (some_cells c.self.inside.problem.now c.prove_limits.ensures) in
     same_cause P c.args.self.now.named D E c.args.number c.args.line.now c.in-Some.why some c.requires.line same (rw c.in-Some.is at c.in_ok-why.ensures.cause)
 
 pub step-requires-clause-useful : goal.step-requires-clause-useful
@@ -26,8 +26,8 @@ step-requires-clause-useful c =
     let P = c.args.self.now.problem in
     let S = c.args.walk.now.store in
     let here = c.domains.ensures.value in
-    let now : IsStore S = subst IsStore here c.facts.ensures.now in
-    let tests : HasDomains S = subst HasDomains here c.facts.ensures.tests in
+    let now : IsStore S = subst IsStore here c.prove_facts.ensures.now in
+    let tests : HasDomains S = subst HasDomains here c.prove_facts.ensures.tests in
     let state = c.requires.state.2 in
     let sound : IsSound P c.args.self.now.named (has_domain S) c.args.line.now =
     subst (λ (T : Store). IsSound P c.args.self.now.named (has_domain T) c.args.line.now) c.domains-2.ensures.value (rw c.in_default.is at c.in_ok-why.ensures.cause) in
@@ -40,7 +40,7 @@ returns-clause-passed c =
     let E = domains_at P turn lines (length lines) in
     let D = has_domain c.domains-2.result.now in
     let same : AreSame P D E = c.domains-2.ensures.has P turn lines state in
-    let some : 0 < cells P = subst (λ (j : Judging). 0 < cells j.problem) c.self.view_is (some_cells c.self.inside.problem.now c.keeps_limits.ensures) in (
+    let some : 0 < cells P = subst (λ (j : Judging). 0 < cells j.problem) c.self.view_is (some_cells c.self.inside.problem.now c.prove_limits.ensures) in (
       same_sound P c.args.self.now.named D E c.args.line.now some c.requires.line same (rw c.in_default.is at c.in_ok-why.ensures.cause),
       c.in_ok-step.ensures P turn lines state,
     )

@@ -19,8 +19,8 @@ split-requires-clause-useful c =
     let P = c.args.problem.now in
     let S = c.args.self.now.walk.store in
     let belongs = c.requires.written.state.belongs in
-    let many : length S.sets ≡ cells P = positions_of P S c.domain_facts.ensures.store belongs in
-    idle_in_store P (has_domain S) S c.args.p c.args.x.number c.domain_facts.ensures.store c.domain_facts.ensures.tests belongs (omega (arith, c.requires.position, many)) (λ z. refl) ∙ c.requires.useful
+    let many : length S.sets ≡ cells P = positions_of P S c.prove_domains.ensures.store belongs in
+    idle_in_store P (has_domain S) S c.args.p c.args.x.number c.prove_domains.ensures.store c.prove_domains.ensures.tests belongs (omega (arith, c.requires.position, many)) (λ z. refl) ∙ c.requires.useful
 
 pub close-requires-clause-holds : goal.close-requires-clause-holds
 close-requires-clause-holds c =
@@ -31,8 +31,8 @@ close-requires-clause-holds c =
     let S = a.walk.store in
     let all : List Line = a.lines.items ++ Split c.args.p x ∷ [] in
     let there : Holds P (domains_at P a.turn all (length all)) c.args.line =
-    same_holds P (narrowed (has_domain S) (Split c.args.p x) First) (domains_at P a.turn all (length all)) c.args.line (some_cells P c.keeps_limits.ensures) c.requires.leaf.fits
-    (first_side P a.turn a.lines.items (has_domain S) c.args.p x (c.domain_facts.ensures.same P c.requires.written))
+    same_holds P (narrowed (has_domain S) (Split c.args.p x) First) (domains_at P a.turn all (length all)) c.args.line (some_cells P c.prove_limits.ensures) c.requires.leaf.fits
+    (first_side P a.turn a.lines.items (has_domain S) c.args.p x (c.prove_domains.ensures.same P c.requires.written))
     c.requires.holds in
     subst (λ (t : Option Turn). Holds P (domains_at P t b.lines.items (length b.lines.items)) c.args.line) (sym c.in_ok-split.ensures.turn)
     (subst (λ (ls : List Line). Holds P (domains_at P a.turn ls (length ls)) c.args.line) (sym c.in_ok-split.ensures.lines) there)
@@ -49,8 +49,8 @@ returns-in_ok-close-clause-off c =
     let lines : b.lines.items ≡ a.lines.items ++ added = c.in_ok-close.ensures.lines ∙ ap (λ (ls : List Line). ls ++ c.args.line ∷ []) c.in_ok-split.ensures.lines ∙ append_assoc a.lines.items (Split p x ∷ []) (c.args.line ∷ []) in
     let kind : IsSplitWithLeaf p x added = inr (c.args.line, c.requires.leaf.leaf, refl) in
     let w = c.in_ok-close.ensures.written in
-    let before : HasDomainsBehind P a.turn a.lines.items a.walk.store = record { store = c.domain_facts.ensures.store; belongs = c.requires.written.state.belongs; same = c.domain_facts.ensures.same P c.requires.written } in
-    let behind : HasDomainsBehind P b.turn b.lines.items b.walk.store = record { store = c.domain_facts-then-has_room.ensures.store; belongs = w.state.belongs; same = c.domain_facts-then-has_room.ensures.same P w } in
+    let before : HasDomainsBehind P a.turn a.lines.items a.walk.store = record { store = c.prove_domains.ensures.store; belongs = c.requires.written.state.belongs; same = c.prove_domains.ensures.same P c.requires.written } in
+    let behind : HasDomainsBehind P b.turn b.lines.items b.walk.store = record { store = c.prove_domains-then-has_room.ensures.store; belongs = w.state.belongs; same = c.prove_domains-then-has_room.ensures.same P w } in
     record {
       written = w;
       same_turn = turn;

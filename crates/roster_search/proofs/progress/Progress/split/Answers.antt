@@ -19,12 +19,12 @@ returns-clause-off c P w =
     let x = c.args.x in
     let S = a.walk.store in
     let state = w.state in
-    let many : length S.sets ≡ cells P = positions_of P S c.domain_facts.ensures.store state.belongs in
+    let many : length S.sets ≡ cells P = positions_of P S c.prove_domains.ensures.store state.belongs in
     let inside : p < cells P = omega (arith, c.requires.position, many) in
-    let same = c.domain_facts.ensures.same P w in
+    let same = c.prove_domains.ensures.same P w in
     let idle : is_idle_in S p x.number ≡ is_idle P (domains_at P a.turn a.lines.items (length a.lines.items)) p x.number =
-    idle_in_store P (domains_at P a.turn a.lines.items (length a.lines.items)) S p x.number c.domain_facts.ensures.store c.domain_facts.ensures.tests state.belongs c.requires.position (λ z. same p z inside) in
-    let held = c.domain_facts.ensures.tests.known p x.number (held_where_useful S p x.number c.requires.useful) in
+    idle_in_store P (domains_at P a.turn a.lines.items (length a.lines.items)) S p x.number c.prove_domains.ensures.store c.prove_domains.ensures.tests state.belongs c.requires.position (λ z. same p z inside) in
+    let held = c.prove_domains.ensures.tests.known p x.number (held_where_useful S p x.number c.requires.useful) in
     let next = c.in_ok-read_split.ensures.splits P a.turn a.lines.items state in
     let written : IsProgress P (record a { lines = c.push.new.self; walk = c.read_split.new.self }) =
     written_next P a _ (Split p x) w (record {
@@ -36,8 +36,8 @@ returns-clause-off c P w =
       numbers = w.numbers;
       opened = omega (arith, c.in_ok-read_split.ensures.one_more);
     }) in
-    let before : HasDomainsBehind P a.turn a.lines.items S = record { store = c.domain_facts.ensures.store; belongs = state.belongs; same = same } in
-    let behind : HasDomainsBehind P a.turn c.push.new.self.items c.read_split.new.self.store = record { store = c.domain_facts-2.ensures.store; belongs = next.belongs; same = c.domain_facts-2.ensures.same P written } in
+    let before : HasDomainsBehind P a.turn a.lines.items S = record { store = c.prove_domains.ensures.store; belongs = state.belongs; same = same } in
+    let behind : HasDomainsBehind P a.turn c.push.new.self.items c.read_split.new.self.store = record { store = c.prove_domains-2.ensures.store; belongs = next.belongs; same = c.prove_domains-2.ensures.same P written } in
     record {
       written = written;
       same_turn = refl;

@@ -6,4 +6,4 @@ use Rattle.tree_walk.proofs.walk.Walk.cells.Goals as goal
 
 pub returns-clause-value : goal.returns-clause-value
 returns-clause-value c P turn lines w =
-    c.cells.ensures.positions ∙ positions_of P c.self.inside.domains c.facts.ensures.now (subst (IsStateOf P turn lines) (sym c.self.view_is) w).belongs
+    c.cells.ensures.positions ∙ positions_of P c.self.inside.domains c.prove_facts.ensures.now (subst (IsStateOf P turn lines) (sym c.self.view_is) w).belongs

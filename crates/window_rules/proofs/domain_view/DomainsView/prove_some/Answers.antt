@@ -7,5 +7,5 @@ pub returns : goal.returns
 returns c p =
     let n = length c.args.self.now.sets in
     let inside : p % n < n = omega arith in
-    let some = c.facts.ensures.tests.some (p % n) inside in
+    let some = c.prove_facts.ensures.tests.some (p % n) inside in
     (symbol_numbered some.0, some.1)

@@ -1,0 +1,21 @@
+use Rattle.std.proofs.Common.{◌≡◌, List, length, subst, arith, rules}
+use Rattle.rwsp_terms.specs.declared.limits.TheConstants.{MOST_SYMBOLS}
+use Rattle.word_tail.specs.declared.tail.Tail.{Tail}
+use Rattle.layered_cycle.specs.Indexed.{Misses}
+use Rattle.layered_cycle.proofs.Automata.{longer_by_one, distinct_put, moves_made, rows_made, unknown_row, unknown_long}
+use Rattle.layered_cycle.proofs.automaton.Automaton.state_of.Goals as goal
+
+pub returns-clause-automaton : goal.returns-clause-automaton
+returns-clause-automaton c =
+    let a = c.requires.automaton in
+    let len : c.len-state.result ≡ length c.args.self.now.tails.items = search rules in
+    let misses : Misses c.args.self.now.tails.items c.args.tail = subst (λ (xs : List Tail). Misses xs c.args.tail) c.deref.ensures.value c.in_default.ensures in
+    record {
+      few = omega (arith, c.if-state.false, len, longer_by_one _ _ _ c.in_ok-push.ensures.items);
+      distinct = rw c.in_ok-push.ensures.items (distinct_put c.args.self.now.tails.items c.args.tail a.distinct misses);
+      indexed = rw c.in_ok-push.ensures.items (c.note.ensures c.args.self.now.tails.items (omega (arith, len)) a.indexed);
+      long = omega (arith, longer_by_one _ _ _ c.in_ok-push-2.ensures.items, longer_by_one _ _ _ c.in_ok-push.ensures.items, a.long);
+      rows = rw c.in_ok-push-2.ensures.items (rows_made c.args.self.now.moves.items _ MOST_SYMBOLS (unknown_long MOST_SYMBOLS) a.rows);
+      moves = rw (c.in_ok-push.ensures.items, c.in_ok-push-2.ensures.items) (moves_made c.args.rules.now c.args.self.now.tails.items c.args.tail c.args.self.now.moves.items _ MOST_SYMBOLS a.long (unknown_row MOST_SYMBOLS) a.moves);
+      places = omega (arith, longer_by_one _ _ _ c.in_ok-push-3.ensures.items, longer_by_one _ _ _ c.in_ok-push.ensures.items, a.places);
+    }
