@@ -35,5 +35,6 @@ pub mod LineTables
 pub mod Texts
 pub mod Fronts
 pub mod Causes
+pub mod OneRefusal
 pub mod Unique
 pub mod FreeUnique

@@ -1,6 +1,6 @@
 -- What is said of domains rests on their positions alone.
-use Rattle.std.proofs.Common.{◌≡◌, ℕ, ◌+◌, ◌-◌, ◌*◌, ◌%◌, ◌<◌, List, [], ◌∷◌, ap, sym, ◌∙◌, subst, arith, Bool, true, false, IsTrue, ◌&&◌, ◌||◌, ◌==◌, not}
-use Rattle.std.specs.Prelude.{pos, ◌<ℤ◌}
+use Rattle.std.proofs.Common.{◌≡◌, ℕ, ◌+◌, ◌-◌, ◌*◌, ◌%◌, ◌<◌, List, [], ◌∷◌, ap, sym, ◌∙◌, subst, arith, Bool, true, false, IsTrue, ◌&&◌, ◌||◌, ◌==◌, not, Option, Some, None}
+use Rattle.std.specs.Prelude.{ℤ, pos, ◌<ℤ◌}
 use Rattle.std.specs.List.{range_with_len, list_all}
 use Rattle.std.proofs.Math.Path.{fun_ext}
 use Rattle.rwsp_terms.specs.declared.data.Symbol.{Symbol}
@@ -9,12 +9,14 @@ use Rattle.rwsp_terms.specs.Instance.{Instance, cells, shift_count, IsDay, least
 use Rattle.rwsp_terms.proofs.Counting.{count_same}
 use Rattle.refutation_terms.specs.declared.lines.Line.{Line}
 use Rattle.refutation_terms.specs.declared.lines.Line.TheVariants.{Split, Window, Day, Dead, Bound, Few, Free, Unfinished}
-use Rattle.refutation_terms.specs.Word.{Domains, AreSame, Over}
+use Rattle.refutation_terms.specs.Word.{Domains, AreSame, Over, weight}
+use Rattle.refutation_terms.specs.FreeWeekends.{free_weight}
+use Rattle.refutation_terms.specs.FreeLeaves.{may_be_free, HasTooFewFree}
 use Rattle.refutation_terms.specs.Leaf.{is_only, fixed, possible}
-use Rattle.refutation_terms.specs.Escape.{IsCleanOver, IsHeaviest}
+use Rattle.refutation_terms.specs.Escape.{IsCleanOver, IsHeaviestBy, IsLeastHeaviestBy}
 use Rattle.refutation_terms.specs.Tree.{is_idle}
-use Rattle.refutation_terms.specs.Log.{Holds, LineFits}
-use Rattle.refutation_terms.specs.Verdict.{Escapes}
+use Rattle.refutation_terms.specs.Log.{Holds, HoldsFree, HoldsFor, LineFits, FreeLineFits, LineFitsFor, GoalFits}
+use Rattle.refutation_terms.specs.Verdict.{Escapes, EscapesFree, EscapesFor}
 use Rattle.refutation_terms.proofs.Counts.{in_column}
 
 pub turned_round : (P : Instance) (D E : Domains) → AreSame P D E → AreSame P E D
@@ -52,10 +54,16 @@ same_over P D E p (x ∷ u) some same over =
 same_clean : (P : Instance) (D E : Domains) (p len : ℕ) (R : List ℕ) (u : List Symbol) → 0 < cells P → AreSame P D E → IsCleanOver P D p len R u → IsCleanOver P E p len R u
 same_clean P D E p len R u some same h = record { long = h.long; over = same_over P D E p u some same h.over; clean = h.clean }
 
-same_heaviest : (P : Instance) (D E : Domains) (p len : ℕ) (R : List ℕ) (y : List Weight) (u : List Symbol) → 0 < cells P → AreSame P D E → IsHeaviest P D p len R y u → IsHeaviest P E p len R y u
-same_heaviest P D E p len R y u some same h = record {
+same_heaviest : (P : Instance) (D E : Domains) (p len : ℕ) (R : List ℕ) (weighs : List Symbol → ℤ) (u : List Symbol) → 0 < cells P → AreSame P D E → IsHeaviestBy P D p len R weighs u → IsHeaviestBy P E p len R weighs u
+same_heaviest P D E p len R weighs u some same h = record {
   clean = same_clean P D E p len R u some same h.clean;
   heaviest = λ v c. h.heaviest v (same_clean P E D p len R v some (turned_round P D E same) c);
+}
+
+same_least : (P : Instance) (D E : Domains) (p len : ℕ) (R : List ℕ) (weighs : List Symbol → ℤ) (u : List Symbol) → 0 < cells P → AreSame P D E → IsLeastHeaviestBy P D p len R weighs u → IsLeastHeaviestBy P E p len R weighs u
+same_least P D E p len R weighs u some same h = record {
+  heavy = same_heaviest P D E p len R weighs u some same h.heavy;
+  least = λ v c. h.least v (same_heaviest P E D p len R weighs v some (turned_round P D E same) c);
 }
 
 -- a line that holds under the one holds under the other
@@ -79,13 +87,41 @@ same_escapes P D E (Dead p len R) w some same h = record {
   clean = same_clean P D E p len R w some same h.clean;
   least = λ v c. h.least v (same_clean P E D p len R v some (turned_round P D E same) c);
 }
-same_escapes P D E (Bound p turns R y) w some same h = (
-  record {
-    heavy = same_heaviest P D E p (turns * cells P) R y w some same h.0.heavy;
-    least = λ v c. h.0.least v (same_heaviest P E D p (turns * cells P) R y v some (turned_round P D E same) c);
-  },
-  h.1,
-)
+same_escapes P D E (Bound p turns R y) w some same h = (same_least P D E p (turns * cells P) R (weight P y p) w some same h.0, h.1)
 same_escapes P D E Unfinished w some same h = h
 same_escapes P D E Few w some same h = absurd h
 same_escapes P D E (Free turns reward R y) w some same h = absurd h
+
+-- the same of free logs
+
+in_week : (P : Instance) (i d : ℕ) → P.days ≡ 7 → i < P.weeks → d < 7 → i * 7 + d < cells P
+in_week P i d days less small =
+    let within : i * P.days + (d + 1 - 1) < cells P = in_column P i (d + 1) (omega (arith, less)) (omega arith, omega (arith, days, small)) in
+    subst (λ n. i * n + d < cells P) days (omega (arith, within))
+
+same_may_be_free : (P : Instance) (D E : Domains) (i : ℕ) → P.days ≡ 7 → i < P.weeks → AreSame P D E → may_be_free D i ≡ may_be_free E i
+same_may_be_free P D E i days less same =
+    ap (λ b. b && D (i * 7 + 6) 0) (same (i * 7 + 5) 0 (in_week P i 5 days less (omega arith)))
+    ∙ ap (λ b. E (i * 7 + 5) 0 && b) (same (i * 7 + 6) 0 (in_week P i 6 days less (omega arith)))
+
+same_few : (P : Instance) (goal : ℕ) (D E : Domains) → P.days ≡ 7 → AreSame P D E → HasTooFewFree P goal D → HasTooFewFree P goal E
+same_few P goal D E days same h =
+    subst (λ n. n < goal) (count_same (may_be_free D) (may_be_free E) 0 P.weeks (λ i le less. same_may_be_free P D E i days (omega (arith, less)) same)) h
+
+same_holds_free : (P : Instance) (goal : ℕ) (D E : Domains) (line : Line) → 0 < cells P → P.days ≡ 7 → FreeLineFits P line → AreSame P D E → HoldsFree P goal D line → HoldsFree P goal E line
+same_holds_free P goal D E Few some days fits same h = same_few P goal D E days same h
+same_holds_free P goal D E (Free turns reward R y) some days fits same h = λ u long over. h u long (same_over P E D 0 u some (turned_round P D E same) over)
+same_holds_free P goal D E (Bound p turns R y) some days fits same h = absurd fits
+same_holds_free P goal D E line some days fits same h = same_holds P D E line some fits same h
+
+same_escapes_free : (P : Instance) (goal : ℕ) (D E : Domains) (line : Line) (w : List Symbol) → 0 < cells P → AreSame P D E → EscapesFree P goal D line w → EscapesFree P goal E line w
+same_escapes_free P goal D E (Free turns reward R y) w some same h = (same_least P D E 0 (turns * cells P) R (free_weight P y reward 0) w some same h.0, h.1)
+same_escapes_free P goal D E line w some same h = same_escapes P D E line w some same h
+
+pub same_holds_for : (P : Instance) (goal : Option ℕ) (D E : Domains) (line : Line) → 0 < cells P → GoalFits P None goal → LineFitsFor P goal line → AreSame P D E → HoldsFor P goal D line → HoldsFor P goal E line
+same_holds_for P None D E line some weeks fits same h = same_holds P D E line some fits same h
+same_holds_for P (Some goal) D E line some weeks fits same h = same_holds_free P goal D E line some weeks.1 fits same h
+
+pub same_escapes_for : (P : Instance) (goal : Option ℕ) (D E : Domains) (line : Line) (w : List Symbol) → 0 < cells P → AreSame P D E → EscapesFor P goal D line w → EscapesFor P goal E line w
+same_escapes_for P None D E line w some same h = same_escapes P D E line w some same h
+same_escapes_for P (Some goal) D E line w some same h = same_escapes_free P goal D E line w some same h

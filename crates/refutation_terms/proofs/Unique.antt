@@ -3,8 +3,7 @@ use Rattle.std.proofs.Common.{◌≡◌, ◌⊎◌, ℕ, ◌+◌, ◌<◌, List,
 use Rattle.std.specs.Prelude.{slice_get, Ok, Err, ◌≤ℤ◌, ◌<ℤ◌}
 use Rattle.std.proofs.lemmas.Int.{ints}
 use Rattle.std.proofs.Math.Seq.{take-append_seam}
-use Rattle.rwsp_text.specs.Lines.{IsRefusedBehind, AreFronts}
-use Rattle.rwsp_text.proofs.LineLaws.{same_lines, whole_not_refused, refused_same}
+use Rattle.rwsp_text.specs.Lines.{AreFronts}
 use Rattle.rwsp_terms.specs.declared.data.Symbol.{Symbol}
 use Rattle.rwsp_terms.specs.declared.data.Rule.{Rule}
 use Rattle.rwsp_terms.specs.declared.data.Rule.TheVariants as TheRules
@@ -18,13 +17,14 @@ use Rattle.refutation_terms.specs.Word.{Domains}
 use Rattle.refutation_terms.specs.Tree.{IsTree, after_trees, domains_at, opening, lines_leave, lines_in}
 use Rattle.refutation_terms.specs.Log.{Log, LineFitsFor, TurnFits, AreRules, HoldsFor, Cites, TurnCites, IsAllowed, ListsShortOnly, IsGrounded, PassesFor}
 use Rattle.refutation_terms.specs.LogText.{raw, line_text, version_text, rules_text, turn_text}
-use Rattle.refutation_terms.specs.Verdict.{Front, Start, Versioned, BeforeTurn, Reading, front_text, HasNoCause, IsSoundSoFarFor, IsSoundSoFar, IsWhole, header_lines, TreeCauseFor, Cause, VersionCause, RulesCause, IsRefusedLine, EndsEarly, IsRefused, IsAccepted}
+use Rattle.refutation_terms.specs.Verdict.{Front, Start, Versioned, BeforeTurn, Reading, front_text, HasNoCause, IsSoundSoFarFor, IsWhole, header_lines_for, TreeCauseFor, CauseBehindFor, Cause, VersionCause, RulesCause, IsRefused, IsAccepted}
 use Rattle.refutation_terms.specs.TextLaws.{IsWritable, HasNames, VerdictIsUnique}
 use Rattle.refutation_terms.proofs.Spelled.{fitting_lines_are_spelled_for}
 use Rattle.refutation_terms.proofs.Spent.{open_holds_not}
 use Rattle.refutation_terms.proofs.Trees.{part_is_not_whole, tree_is_whole}
 use Rattle.refutation_terms.proofs.Fronts.{texts_distinct, front_fields, front_written, fronts}
-use Rattle.refutation_terms.proofs.Causes.{spells_same, not_unknown_for, long_not_short, idle_not_holding_for, escaped_not_holding_for, ReasonFor, OfName, OfIdle, OfLong, OfFail, OfEscape, OfOpen, LevelFor, Nothing, Unknown, Known, level_of_for, tree_cause_same, version_cause, rules_cause, extra_cause, turns_same, TurnReason, NoTurn, NoName, NoDay, NoDemand, turn_reason, turn_cause_same}
+use Rattle.refutation_terms.proofs.OneRefusal.{IsAtEndOrLine, refusals_same, whole_has_none}
+use Rattle.refutation_terms.proofs.Causes.{spells_same, not_unknown_for, long_not_short, idle_not_holding_for, escaped_not_holding_for, ReasonFor, OfName, OfIdle, OfLong, OfFail, OfEscape, OfOpen, LevelFor, Nothing, Unknown, Known, level_of_for, tree_cause_same_for, version_cause, rules_cause, extra_cause, turns_same, TurnReason, NoTurn, NoName, NoDay, NoDemand, turn_reason, turn_cause_same}
 
 -- a line of a log without a cause has none
 no_reason : (P : Instance) (goal : Option ℕ) (named : List ℕ) (D : Domains) (n : ℕ) (line : Line) (why : LogRefusal) → HoldsFor P goal D line → ((r : Rule) → Cites P line r → Names P named r) → ListsShortOnly P line → ReasonFor P goal named D n line why → ⊥
@@ -49,7 +49,7 @@ take_all : (xs : List Line) → take (length xs) xs ≡ xs
 take_all xs = ap (take (length xs)) (sym (append-nil xs)) ∙ take-append_seam xs []
 
 -- a line that holds behind a log, in which it stands without a cause, is refused for none
-pub tree_line_fine : (P : Instance) (goal : Option ℕ) (f : Log) (line : Line) (more : List Line) (n : ℕ) (why : LogRefusal) → IsWritable P → HasNames P → IsSoundSoFarFor P goal (record { named = f.named; turn = f.turn; goal = f.goal; lines = f.lines ++ line ∷ more }) → TreeCauseFor P goal f.named (domains_at P f.turn f.lines (length f.lines)) n (line_text P (raw P line)) why → ⊥
+tree_line_fine : (P : Instance) (goal : Option ℕ) (f : Log) (line : Line) (more : List Line) (n : ℕ) (why : LogRefusal) → IsWritable P → HasNames P → IsSoundSoFarFor P goal (record { named = f.named; turn = f.turn; goal = f.goal; lines = f.lines ++ line ∷ more }) → TreeCauseFor P goal f.named (domains_at P f.turn f.lines (length f.lines)) n (line_text P (raw P line)) why → ⊥
 tree_line_fine P goal f line more n why w m h c =
     let k = length f.lines in
     let here = got_seam f.lines more line in
@@ -60,15 +60,15 @@ tree_line_fine P goal f line more n why w m h c =
     no_level P goal f.named D n line why w m (h.grounded.fits.lines k line here) holds (λ r cites. h.grounded.named k line r here cites) (h.grounded.short k line here) (level_of_for P goal f.named D n (line_text P (raw P line)) why c)
 
 -- and a whole tree isn't behind which it stands
-pub tree_not_before : (P : Instance) (goal : Option ℕ) (f : Log) (line : Line) (more : List Line) → IsSoundSoFarFor P goal (record { named = f.named; turn = f.turn; goal = f.goal; lines = f.lines ++ line ∷ more }) → IsTree f.lines → ⊥
+tree_not_before : (P : Instance) (goal : Option ℕ) (f : Log) (line : Line) (more : List Line) → IsSoundSoFarFor P goal (record { named = f.named; turn = f.turn; goal = f.goal; lines = f.lines ++ line ∷ more }) → IsTree f.lines → ⊥
 tree_not_before P goal f line more h t =
     let short : length f.lines < length (f.lines ++ line ∷ more) = omega (arith, length-append f.lines (line ∷ more)) in
     h.in_tree (length f.lines) short (subst IsTree (sym (take-append_seam f.lines (line ∷ more))) t)
 
 -- the next line of a longer log without a cause has none
-next_line_fine : (P : Instance) (f : Log) (line : Line) (more : List Line) (why : LogRefusal) → IsWritable P → HasNames P → IsSoundSoFar P (record { named = f.named; turn = f.turn; goal = f.goal; lines = f.lines ++ line ∷ more }) → Cause P (Reading f) (line_text P (raw P line)) why → ⊥
-next_line_fine P f line more why w n h (inl c) = tree_not_before P None f line more h c.0
-next_line_fine P f line more why w n h (inr c) = tree_line_fine P None f line more (header_lines f.turn + length f.lines + 1) why w n h c.1
+pub next_line_fine : (P : Instance) (goal : Option ℕ) (f : Log) (line : Line) (more : List Line) (why : LogRefusal) → IsWritable P → HasNames P → IsSoundSoFarFor P goal (record { named = f.named; turn = f.turn; goal = f.goal; lines = f.lines ++ line ∷ more }) → CauseBehindFor P goal f (line_text P (raw P line)) why → ⊥
+next_line_fine P goal f line more why w n h (inl c) = tree_not_before P goal f line more h c.0
+next_line_fine P goal f line more why w n h (inr c) = tree_line_fine P goal f line more (header_lines_for goal f.turn + length f.lines + 1) why w n h c.1
 
 pub version_refutes : (b : Bool) (why : LogRefusal) → VersionCause (version_text b) why → ⊥
 version_refutes b why h = (subst (VersionCause (version_text b)) (version_cause (version_text b) why h) h).1 b refl
@@ -103,17 +103,21 @@ turn_is_fine P g R t bytes why w n h is_turn is_named spelled q =
     no_turn_reason P R t bytes why w n (subst (TurnFits P) is_turn h.fits.turn) (subst (IsAllowed P) is_turn h.turn)
     (subst (λ Q. Names P Q (TheRules.Day t.day)) is_named (h.turn_named (TheRules.Day t.day) (subst (λ o. TurnCites o (TheRules.Day t.day)) (sym is_turn) refl))) spelled q
 
+-- one cause for the line behind a header and lines
+pub cause_behind_same : (P : Instance) (goal : Option ℕ) (g : Log) (line : List ℕ) (why other : LogRefusal) → IsWritable P → HasNames P → CauseBehindFor P goal g line why → CauseBehindFor P goal g line other → why ≡ other
+cause_behind_same P goal g line why other w n (inl a) (inl b) =
+    let k = header_lines_for goal g.turn + length g.lines + 1 in extra_cause k why a.1 ∙ sym (extra_cause k other b.1)
+cause_behind_same P goal g line why other w n (inl a) (inr b) = absurd (b.0 a.0)
+cause_behind_same P goal g line why other w n (inr a) (inl b) = absurd (a.0 b.0)
+cause_behind_same P goal g line why other w n (inr a) (inr b) =
+    tree_cause_same_for P goal g.named (domains_at P g.turn g.lines (length g.lines)) (header_lines_for goal g.turn + length g.lines + 1) line why other w n a.1 b.1
+
 -- one cause for the line behind a front
 pub cause_same : (P : Instance) (F : Front) (line : List ℕ) (why other : LogRefusal) → IsWritable P → HasNames P → Cause P F line why → Cause P F line other → why ≡ other
 cause_same P Start line why other w n a b = version_cause line why a ∙ sym (version_cause line other b)
 cause_same P (Versioned v) line why other w n a b = rules_cause P line why a ∙ sym (rules_cause P line other b)
 cause_same P (BeforeTurn R) line why other w n a b = turn_cause_same P R line why other w a b
-cause_same P (Reading g) line why other w n (inl a) (inl b) =
-    let k = header_lines g.turn + length g.lines + 1 in extra_cause k why a.1 ∙ sym (extra_cause k other b.1)
-cause_same P (Reading g) line why other w n (inl a) (inr b) = absurd (b.0 a.0)
-cause_same P (Reading g) line why other w n (inr a) (inl b) = absurd (a.0 b.0)
-cause_same P (Reading g) line why other w n (inr a) (inr b) =
-    tree_cause_same P g.named (domains_at P g.turn g.lines (length g.lines)) (header_lines g.turn + length g.lines + 1) line why other w n a.1 b.1
+cause_same P (Reading g) line why other w n a b = cause_behind_same P None g line why other w n a b
 
 sound_fronts : (P : Instance) → IsWritable P → HasNames P → AreFronts (front_fields P) (HasNoCause P) (Cause P)
 sound_fronts P w n =
@@ -121,33 +125,13 @@ sound_fronts P w n =
     (λ b why c. version_refutes b why c)
     (λ b R why are c. rules_refutes P R why are c)
     (λ g t why h is_turn c. turn_is_fine P g g.named t (turn_text (name_of P t.x) t.day) why w n h.grounded is_turn refl refl (turn_reason P g.named (turn_text (name_of P t.x) t.day) why c))
-    (λ f line more why h c. next_line_fine P f line more why w n h c)
+    (λ f line more why h c. next_line_fine P None f line more why w n h c)
     (λ F line why other a b. cause_same P F line why other w n a b)
 
-refused_behind : (P : Instance) (text : List ℕ) (why : LogRefusal) → IsRefusedLine P text why → IsRefusedBehind (front_fields P) (HasNoCause P) (Cause P) text why
-refused_behind P text why r = record {
-  front = r.front;
-  line = r.line;
-  rest = r.rest;
-  good = r.no_cause;
-  whole = r.whole ∙ append_assoc (front_text P r.front) r.line r.rest ∙ ap (λ t. t ++ (r.line ++ r.rest)) (front_written P r.front);
-  is_line = r.is_line;
-  cause = r.cause;
-}
-
-not_refused : (P : Instance) (text : List ℕ) (g : Front) (why : LogRefusal) → IsWritable P → HasNames P → HasNoCause P g → text ≡ front_text P g → IsRefusedLine P text why → ⊥
-not_refused P text g why w n h e r = whole_not_refused (front_fields P) (HasNoCause P) (Cause P) (sound_fronts P w n) text g why h (e ∙ front_written P g) (refused_behind P text why r)
-
 -- a refusal is at the end or at a line
-end_or_line : (P : Instance) (text : List ℕ) (why : LogRefusal) → IsRefused P text why → (EndsEarly P text × (why ≡ Refusals.Ends)) ⊎ IsRefusedLine P text why
+end_or_line : (P : Instance) (text : List ℕ) (why : LogRefusal) → IsRefused P text why → IsAtEndOrLine (front_text P) (HasNoCause P) (Cause P) IsWhole text why
 end_or_line P text Refusals.Ends h = inl (h, refl)
 end_or_line P text why h = inr h
-
-refusals_same : (P : Instance) (text : List ℕ) (why other : LogRefusal) → IsWritable P → HasNames P → (EndsEarly P text × (why ≡ Refusals.Ends)) ⊎ IsRefusedLine P text why → (EndsEarly P text × (other ≡ Refusals.Ends)) ⊎ IsRefusedLine P text other → why ≡ other
-refusals_same P text why other w n (inl a) (inl b) = a.1 ∙ sym b.1
-refusals_same P text why other w n (inl a) (inr b) = absurd (not_refused P text a.0.front other w n a.0.no_cause a.0.whole b)
-refusals_same P text why other w n (inr a) (inl b) = absurd (not_refused P text b.0.front why w n b.0.no_cause b.0.whole a)
-refusals_same P text why other w n (inr a) (inr b) = refused_same (front_fields P) (HasNoCause P) (Cause P) (sound_fronts P w n) text why other (refused_behind P text why a) (refused_behind P text other b)
 
 -- a log that passes has no cause
 pub passing_sound : (P : Instance) (goal : Option ℕ) (g : Log) → PassesFor P goal g → IsSoundSoFarFor P goal g
@@ -162,17 +146,15 @@ passing_sound P goal g h = record {
       let clash : None ≡ Some [] = sym none ∙ some in cc;
 }
 
-passing_not_refused : (P : Instance) (text : List ℕ) (g : Log) (why : LogRefusal) → IsWritable P → HasNames P → IsAccepted P text g → (EndsEarly P text × (why ≡ Refusals.Ends)) ⊎ IsRefusedLine P text why → ⊥
-passing_not_refused P text g why w n a (inl b) =
-    let sound = passing_sound P None g a.1 in
-    let all = sound_fronts P w n in
-    let lines : front_fields P (Reading g) ≡ front_fields P b.0.front =
-    same_lines (front_fields P (Reading g)) (front_fields P b.0.front) (all.written (Reading g) sound) (all.written b.0.front b.0.no_cause) (sym (front_written P (Reading g)) ∙ sym a.0 ∙ b.0.whole ∙ front_written P b.0.front) in
-    b.0.not_whole (subst IsWhole (sym (all.same b.0.front (Reading g) b.0.no_cause sound lines)) a.1.tree)
-passing_not_refused P text g why w n a (inr b) = not_refused P text (Reading g) why w n (passing_sound P None g a.1) a.0 b
+passing_not_refused : (P : Instance) (text : List ℕ) (g : Log) (why : LogRefusal) → IsWritable P → HasNames P → IsAccepted P text g → IsRefused P text why → ⊥
+passing_not_refused P text g why w n a b =
+    whole_has_none (front_text P) (HasNoCause P) (Cause P) IsWhole (front_fields P) (front_written P) (sound_fronts P w n)
+    text (Reading g) why (passing_sound P None g a.1) a.1.tree a.0 (end_or_line P text why b)
 
 pub verdict_unique : VerdictIsUnique
 verdict_unique P text (Ok g) (Ok h) w n a b = ap Ok (texts_distinct P g h w n a.1.grounded.fits b.1.grounded.fits (sym a.0 ∙ b.0))
-verdict_unique P text (Ok g) (Err why) w n a b = absurd (passing_not_refused P text g why w n a (end_or_line P text why b))
-verdict_unique P text (Err why) (Ok g) w n a b = absurd (passing_not_refused P text g why w n b (end_or_line P text why a))
-verdict_unique P text (Err why) (Err other) w n a b = ap Err (refusals_same P text why other w n (end_or_line P text why a) (end_or_line P text other b))
+verdict_unique P text (Ok g) (Err why) w n a b = absurd (passing_not_refused P text g why w n a b)
+verdict_unique P text (Err why) (Ok g) w n a b = absurd (passing_not_refused P text g why w n b a)
+verdict_unique P text (Err why) (Err other) w n a b =
+    ap Err (refusals_same (front_text P) (HasNoCause P) (Cause P) IsWhole (front_fields P) (front_written P) (sound_fronts P w n)
+    text why other (end_or_line P text why a) (end_or_line P text other b))

@@ -1,12 +1,12 @@
 -- The verdict on the text of a free log: that it passes, or its first line with a cause to refuse it.
-use Rattle.std.specs.Prelude.{◌≡◌, ◌≢◌, ◌⊎◌, ℕ, ◌+◌, ◌<◌, ◌≤◌, List, [], ◌++◌, length, take, Some, Result, Ok, Err}
+use Rattle.std.specs.Prelude.{◌≡◌, ◌≢◌, ℕ, ◌+◌, ◌≤◌, List, [], ◌++◌, Some, Result, Ok, Err}
 use Rattle.rwsp_terms.specs.Instance.{Instance}
 use Rattle.refutation_terms.specs.declared.lines.LogRefusal.{LogRefusal}
 use Rattle.refutation_terms.specs.declared.lines.LogRefusal.TheVariants as Refusals
-use Rattle.refutation_terms.specs.Tree.{IsTree, domains_at}
+use Rattle.refutation_terms.specs.Tree.{IsTree}
 use Rattle.refutation_terms.specs.Log.{Log, AreRules, FreePasses}
 use Rattle.refutation_terms.specs.LogText.{free_version_text, rules_text, goal_text, free_log_text}
-use Rattle.refutation_terms.specs.Verdict.{IsSoundSoFarFor, RulesCause, ExtraCause, TreeCauseFor, IsNextLine}
+use Rattle.refutation_terms.specs.Verdict.{IsSoundSoFarFor, RulesCause, CauseBehindFor, IsRefusedBehindFront, EndsWithFront}
 
 -- the front of a text that has been read: nothing, the version, the rules, or a whole header with some lines
 pub data FreeFront : Type 0 where
@@ -48,28 +48,15 @@ abbrev pub FreeCause : Instance → FreeFront → List ℕ → LogRefusal → Ty
 FreeCause P FreeStart bytes why = FreeVersionCause bytes why
 FreeCause P FreeVersioned bytes why = RulesCause P bytes why
 FreeCause P (BeforeGoal named) bytes why = GoalCause P bytes why
-FreeCause P (ReadingFree goal g) bytes why =
-    let n = 3 + length g.lines + 1 in
-    (IsTree g.lines × ExtraCause n why)
-    ⊎ ((IsTree g.lines → ⊥)
-    × TreeCauseFor P (Some goal) g.named (domains_at P g.turn g.lines (length g.lines)) n bytes why)
+FreeCause P (ReadingFree goal g) bytes why = CauseBehindFor P (Some goal) g bytes why
 
--- a front of the text has no cause, and the line behind it has this one
-pub record IsRefusedFreeLine (P : Instance) (text : List ℕ) (why : LogRefusal) : Type 0 where
-  pub front : FreeFront
-  pub line : List ℕ
-  pub rest : List ℕ
-  pub no_cause : HasNoFreeCause P front
-  pub whole : text ≡ free_front_text P front ++ line ++ rest
-  pub is_line : IsNextLine line rest
-  pub cause : FreeCause P front line why
+-- a front of a free log has no cause, and the line behind it has this one
+abbrev pub IsRefusedFreeLine : Instance → List ℕ → LogRefusal → Type 0
+IsRefusedFreeLine P text why = IsRefusedBehindFront (free_front_text P) (HasNoFreeCause P) (FreeCause P) text why
 
--- the text ends with a front without a cause that isn't a whole free log
-pub record EndsEarlyFree (P : Instance) (text : List ℕ) : Type 0 where
-  pub front : FreeFront
-  pub no_cause : HasNoFreeCause P front
-  pub whole : text ≡ free_front_text P front
-  pub not_whole : IsWholeFree front → ⊥
+-- the text ends with one that isn't a whole free log
+abbrev pub EndsEarlyFree : Instance → List ℕ → Type 0
+EndsEarlyFree P text = EndsWithFront (free_front_text P) (HasNoFreeCause P) IsWholeFree text
 
 -- the text is refused for this cause
 abbrev pub IsFreeRefused : Instance → List ℕ → LogRefusal → Type 0

@@ -227,15 +227,24 @@ abbrev pub ExtraCause : ℕ → LogRefusal → Type 0
 ExtraCause n (Refusals.Extra i) = i ≡ n
 ExtraCause n why = ⊥
 
+-- how many lines the header of a log with this goal or none has
+abbrev pub header_lines_for : Option ℕ → Option Turn → ℕ
+header_lines_for None turn = header_lines turn
+header_lines_for (Some goal) turn = 3
+
+-- why the line behind the header and the lines of a log with this goal or none is refused
+abbrev pub CauseBehindFor : Instance → Option ℕ → Log → List ℕ → LogRefusal → Type 0
+CauseBehindFor P goal g bytes why =
+    let n = header_lines_for goal g.turn + length g.lines + 1 in
+    (IsTree g.lines × ExtraCause n why)
+    ⊎ ((IsTree g.lines → ⊥) × TreeCauseFor P goal g.named (domains_at P g.turn g.lines (length g.lines)) n bytes why)
+
 -- why the line behind the front is refused
 abbrev pub Cause : Instance → Front → List ℕ → LogRefusal → Type 0
 Cause P Start bytes why = VersionCause bytes why
 Cause P (Versioned has_turn) bytes why = RulesCause P bytes why
 Cause P (BeforeTurn named) bytes why = TurnCause P named bytes why
-Cause P (Reading g) bytes why =
-    let n = header_lines g.turn + length g.lines + 1 in
-    (IsTree g.lines × ExtraCause n why)
-    ⊎ ((IsTree g.lines → ⊥) × TreeCause P g.named (domains_at P g.turn g.lines (length g.lines)) n bytes why)
+Cause P (Reading g) bytes why = CauseBehindFor P None g bytes why
 
 -- no byte is LF
 abbrev pub HasNoFeed : List ℕ → Type 0
@@ -245,22 +254,33 @@ HasNoFeed bytes = Lines.HasNoFeed bytes
 abbrev pub IsNextLine : List ℕ → List ℕ → Type 0
 IsNextLine line rest = Lines.IsNextLine line rest
 
--- a front of the text has no cause, and the line behind it has this one
-pub record IsRefusedLine (P : Instance) (text : List ℕ) (why : LogRefusal) : Type 0 where
-  pub front : Front
+-- a front of the text, of this kind, has no cause, and the line behind it has this one
+pub record IsRefusedBehindFront {F : Type 0}
+    (written : F → List ℕ) (Good : F → Type 0) (CauseBehind : F → List ℕ → LogRefusal → Type 0)
+    (text : List ℕ) (why : LogRefusal) : Type 0 where
+  pub front : F
   pub line : List ℕ
   pub rest : List ℕ
-  pub no_cause : HasNoCause P front
-  pub whole : text ≡ front_text P front ++ line ++ rest
+  pub no_cause : Good front
+  pub whole : text ≡ written front ++ line ++ rest
   pub is_line : IsNextLine line rest
-  pub cause : Cause P front line why
+  pub cause : CauseBehind front line why
 
--- the text ends with a front without a cause that isn't a whole log
-pub record EndsEarly (P : Instance) (text : List ℕ) : Type 0 where
-  pub front : Front
-  pub no_cause : HasNoCause P front
-  pub whole : text ≡ front_text P front
-  pub not_whole : IsWhole front → ⊥
+-- the text ends with a front, of this kind, that has no cause and isn't whole
+pub record EndsWithFront {F : Type 0}
+    (written : F → List ℕ) (Good IsWholeFront : F → Type 0) (text : List ℕ) : Type 0 where
+  pub front : F
+  pub no_cause : Good front
+  pub whole : text ≡ written front
+  pub not_whole : IsWholeFront front → ⊥
+
+-- a front of a log without a goal has no cause, and the line behind it has this one
+abbrev pub IsRefusedLine : Instance → List ℕ → LogRefusal → Type 0
+IsRefusedLine P text why = IsRefusedBehindFront (front_text P) (HasNoCause P) (Cause P) text why
+
+-- the text ends with one that isn't a whole log
+abbrev pub EndsEarly : Instance → List ℕ → Type 0
+EndsEarly P text = EndsWithFront (front_text P) (HasNoCause P) IsWhole text
 
 -- the text is refused for this cause
 abbrev pub IsRefused : Instance → List ℕ → LogRefusal → Type 0
