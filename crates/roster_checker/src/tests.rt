@@ -2,7 +2,7 @@
 ghost use Rattle.std.specs.Prelude.{IfSome};
 ghost use Rattle.rwsp_terms.specs.Roster.{IsRoster};
 
-use super::{Broken, first_broken};
+use super::{Broken, first_broken, free_weekends};
 use rwsp_model::{Parts, Problem, Roster};
 use rwsp_terms::{Bounds, DemandRow, Name, ShiftRow, Symbol};
 use std::alloc::{AllocError, Global};
@@ -27,21 +27,22 @@ fn shift(alloc: Global, name: &[u8], bounds: Bounds) -> Result<ShiftRow, AllocEr
     })
 }
 
-// Weeks of two days. On each day at most `weeks` weeks hold D, and as many N; all blocks have at most seven days, and
+// Weeks of `days` days. On each day at most `weeks` weeks hold D, and as many N; all blocks have at most seven days, and
 // those of D at least that many. The sequences are forbidden.
 fn problem(
     alloc: Global,
+    days: u32,
     weeks: u32,
     least: u32,
     pairs: &[(Symbol, Symbol)],
     triples: &[(Symbol, Symbol, Symbol)],
 ) -> Result<Problem, Fail> {
     let week = range(1, 7);
-    let demand = [range(0, weeks), range(0, weeks)];
-    let day = DemandRow::of(demand.to_vec(alloc)?);
-    let night = DemandRow::of(demand.to_vec(alloc)?);
+    let demand = range(0, weeks);
+    let day = DemandRow::of(vec![in alloc; demand; days as usize]?);
+    let night = DemandRow::of(vec![in alloc; demand; days as usize]?);
     let parts = Parts {
-        days: 2,
+        days,
         weeks,
         demand: vec![in alloc; day, night]?,
         shifts: vec![in alloc;
@@ -86,16 +87,31 @@ const fn at(rule: u32, week: u32, day: u32, length: u32) -> Option<Broken> {
 #[test]
 fn rosters_break_a_rule_first(rt: HostRuntime) -> Result<(), Fail> {
     let alloc = rt.alloc();
-    let three_weeks = problem(alloc, 3, 3, &[], &[])?;
+    let three_weeks = problem(alloc, 2, 3, 3, &[], &[])?;
     let across = [D, OFF, OFF, OFF, OFF, D];
     assert_eq!(rt; broken(alloc, &three_weeks, &across)?, at(2, 3, 1, 4));
-    let one_week = problem(alloc, 1, 1, &[], &[])?;
+    let one_week = problem(alloc, 2, 1, 1, &[], &[])?;
     assert_eq!(rt; broken(alloc, &one_week, &[D, OFF])?, None);
     // work without end
     assert_eq!(rt; broken(alloc, &one_week, &[D, N])?, at(7, 1, 1, 8));
-    let pair = problem(alloc, 1, 1, &[(N, D), (D, OFF)], &[])?;
+    let pair = problem(alloc, 2, 1, 1, &[(N, D), (D, OFF)], &[])?;
     assert_eq!(rt; broken(alloc, &pair, &[OFF, D])?, at(10, 1, 2, 2));
-    let triple = problem(alloc, 1, 1, &[], &[(OFF, D, N), (D, OFF, D)])?;
+    let triple = problem(alloc, 2, 1, 1, &[], &[(OFF, D, N), (D, OFF, D)])?;
     assert_eq!(rt; broken(alloc, &triple, &[OFF, D])?, at(10, 1, 2, 3));
+    Ok(())
+}
+
+#[test]
+fn a_weekend_is_free_where_both_its_days_are_off(rt: HostRuntime) -> Result<(), Fail> {
+    let alloc = rt.alloc();
+    let problem = problem(alloc, 7, 3, 1, &[], &[])?;
+    let cells = [
+        D, D, D, D, D, OFF, OFF, D, D, D, D, D, D, OFF, OFF, OFF, D, D, D, OFF, D,
+    ];
+    let roster = roster(&problem, cells.to_vec(alloc)?).ok_or("no roster")?;
+    if problem.days() != 7 {
+        return Err(Fail::from("another week"));
+    }
+    assert_eq!(rt; free_weekends(&problem, &roster), 1);
     Ok(())
 }

@@ -1,6 +1,8 @@
-// Counters that should stay within ranges: of each symbol on each weekday, and of the blocks of each symbol.
+// Counters that should stay within ranges: of each symbol on each weekday, of the blocks of each symbol, and of free
+// weekends.
 use crate::demand::{Demand, Range};
 use crate::grid::{Grid, whole};
+use crate::steady_layer::LAST_OF_WEEKEND;
 use std::alloc::{AllocError, Global};
 
 /// A count, the range in which it should lie, and what it weighs to be off by one.
@@ -57,12 +59,14 @@ impl Reweighing {
     }
 }
 
-/// A counter for each symbol and weekday; in the column behind the last weekday those of the symbols' blocks.
+/// A counter for each symbol and weekday; in the column behind the last weekday those of the symbols' blocks. One more
+/// of free weekends.
 #[derive(Debug, Drop)]
 pub(crate) struct Counters {
     days: usize,
     symbols: usize,
     table: Grid<Counter>,
+    weekends: Counter,
 }
 
 impl Counters {
@@ -72,6 +76,10 @@ impl Counters {
             days: demand.days,
             symbols: demand.symbols,
             table: Grid::new(alloc, demand.symbols, columns, Counter::NONE)?,
+            weekends: Counter::within(Range {
+                least: whole(demand.free),
+                greatest: whole(demand.cells()),
+            }),
         };
         for symbol in 0..demand.symbols {
             counters.set_ranges(demand, symbol);
@@ -102,6 +110,11 @@ impl Counters {
         self.table.at(symbol, self.days)
     }
 
+    /// The counter of free weekends.
+    pub fn weekends(&self) -> Counter {
+        self.weekends
+    }
+
     /// Sets the range in which the number of a symbol's blocks should lie.
     pub fn set_block_range(&mut self, symbol: usize, range: Range) {
         let mut counter = self.blocks(symbol);
@@ -120,6 +133,16 @@ impl Counters {
         self.add_to_cell(symbol, column, number);
     }
 
+    pub fn add_to_weekends(&mut self, number: i64) {
+        self.weekends.count = self.weekends.count.wrapping_add(number);
+    }
+
+    /// Whether counters of a weekday are off, or that of the weekends which end on it.
+    pub fn is_off_on(&self, weekday: usize) -> bool {
+        let lacks_weekends = weekday == LAST_OF_WEEKEND && self.weekends.deviation() > 0;
+        lacks_weekends || self.deviation_on(weekday) > 0
+    }
+
     /// How far the counters of a weekday are off.
     pub fn deviation_on(&self, weekday: usize) -> i64 {
         let mut sum: i64 = 0;
@@ -129,9 +152,9 @@ impl Counters {
         sum
     }
 
-    /// How far the counters of all weekdays are off.
+    /// How far the counters of all weekdays and of free weekends are off.
     pub fn deviation(&self) -> i64 {
-        let mut sum: i64 = 0;
+        let mut sum = self.weekends.deviation();
         for weekday in 0..self.days {
             sum = sum.wrapping_add(self.deviation_on(weekday));
         }
@@ -155,7 +178,8 @@ impl Counters {
 
     /// How far all counters are off, each by its weight.
     pub fn weighted_deviation(&self) -> i64 {
-        let mut sum: i64 = 0;
+        let weekends = self.weekends;
+        let mut sum = weekends.weight.wrapping_mul(weekends.deviation());
         for column in 0..self.days.saturating_add(1) {
             sum = sum.wrapping_add(self.weighted_deviation_in(column));
         }
@@ -164,6 +188,7 @@ impl Counters {
 
     /// Changes all weights.
     pub fn reweigh(&mut self, reweighing: Reweighing) {
+        self.weekends.weight = reweighing.weight(self.weekends);
         for symbol in 0..self.symbols {
             self.reweigh_symbol(reweighing, symbol);
         }
@@ -179,6 +204,7 @@ impl Counters {
 
     /// Sets all counts to 0.
     pub fn clear_counts(&mut self) {
+        self.weekends.count = 0;
         for symbol in 0..self.symbols {
             self.clear_symbol(symbol);
         }

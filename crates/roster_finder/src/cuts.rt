@@ -1,5 +1,6 @@
 // Cuts round parts of the steady layer that a fractional roster hardly leaves.
 use crate::grid::{Grid, rest, whole};
+use crate::quotas::Quota;
 use crate::setting::Setting;
 use crate::steady_layer::SteadyLayer;
 use std::alloc::{AllocError, Global};
@@ -10,32 +11,6 @@ const MOST_CUTS: usize = 20;
 /// A part of the layer counts that holds this many days at least, or a week where that is longer, and leaves as many
 /// outside.
 const FEWEST_DAYS: usize = 7;
-
-/// The steps that leave a part of the layer, each with its weekday. A roster that has days in the part and days outside
-/// of it takes one of them at least.
-#[derive(Debug, Drop, PartialEq, Eq)]
-pub(crate) struct Cut {
-    steps: Vec<(usize, usize)>,
-}
-
-impl Cut {
-    /// Adds to the weights of the steps.
-    pub fn add_weight(&self, weights: &mut Grid<i64>, weight: i64) {
-        for (weekday, number) in &self.steps {
-            let before = weights.at(*weekday, *number);
-            weights.set(*weekday, *number, before.wrapping_add(weight));
-        }
-    }
-
-    /// How often the steps are taken.
-    pub fn uses(&self, uses: &Grid<i64>) -> i64 {
-        let mut sum: i64 = 0;
-        for (weekday, number) in &self.steps {
-            sum = sum.wrapping_add(uses.at(*weekday, *number));
-        }
-        sum
-    }
-}
 
 // A step that has a share on a weekday.
 #[derive(Clone, Copy, Debug)]
@@ -120,8 +95,8 @@ impl Parts {
         flow
     }
 
-    // The steps that leave a part.
-    fn cut(&self, alloc: Global, layer: &SteadyLayer, part: usize) -> Result<Cut, AllocError> {
+    // The steps that leave a part. A roster that has days in the part and days outside of it takes one of them at least.
+    fn cut(&self, alloc: Global, layer: &SteadyLayer, part: usize) -> Result<Quota, AllocError> {
         let mut steps = Vec::new(alloc);
         for weekday in 0..self.weekdays {
             for number in 0..layer.steps.len() {
@@ -131,7 +106,7 @@ impl Parts {
                 }
             }
         }
-        Ok(Cut { steps })
+        Ok(Quota { steps, least: 1 })
     }
 }
 
@@ -171,13 +146,13 @@ pub(crate) fn add_cuts(
     setting: &Setting,
     uses: &Grid<i64>,
     one_use: i64,
-    cuts: &mut Vec<Cut>,
+    quotas: &mut Vec<Quota>,
 ) -> Result<bool, AllocError> {
     let used = used_steps(alloc, setting, uses)?;
     let all = whole_flow(&used);
     let days = one_use.wrapping_mul(whole(setting.demand.days.max(FEWEST_DAYS)));
     let mut parts = Parts::new(alloc, &setting.layer, setting.demand.days)?;
-    let before = cuts.len();
+    let before = quotas.len();
     for step in &used {
         let (from, to) = parts.ends(&setting.layer, step.weekday, step.number);
         if from == to {
@@ -187,20 +162,20 @@ pub(crate) fn add_cuts(
         let flow = parts.flow(&setting.layer, &used, to);
         let is_large = flow.held >= days && all.wrapping_sub(flow.held) >= days;
         if is_large && flow.leaving < one_use.wrapping_mul(3) / 4 {
-            add_cut(cuts, parts.cut(alloc, &setting.layer, to)?)?;
+            add_cut(quotas, parts.cut(alloc, &setting.layer, to)?)?;
         }
-        if cuts.len().saturating_sub(before) >= MOST_CUTS {
+        if quotas.len().saturating_sub(before) >= MOST_CUTS {
             break;
         }
     }
-    Ok(cuts.len() > before)
+    Ok(quotas.len() > before)
 }
 
 // Adds a cut that isn't there yet.
-fn add_cut(cuts: &mut Vec<Cut>, cut: Cut) -> Result<(), AllocError> {
-    if cuts.contains(&cut) {
+fn add_cut(quotas: &mut Vec<Quota>, cut: Quota) -> Result<(), AllocError> {
+    if quotas.contains(&cut) {
         return Ok(());
     }
-    cuts.push(cut)?;
+    quotas.push(cut)?;
     Ok(())
 }

@@ -21,17 +21,19 @@ impl Range {
     };
 }
 
-/// For each symbol and weekday, in how many weeks it is. Symbols and weekdays count from 0.
+/// For each symbol and weekday, in how many weeks it is, and how many weekends are free at least. Symbols and weekdays
+/// count from 0.
 #[derive(Debug, Drop)]
 pub(crate) struct Demand {
     pub days: usize,
     pub weeks: usize,
     pub symbols: usize,
+    pub free: usize,
     ranges: Grid<Range>,
 }
 
 impl Demand {
-    pub fn of(alloc: Global, problem: &Problem) -> Result<Demand, AllocError> {
+    pub fn of(alloc: Global, problem: &Problem, free: u32) -> Result<Demand, AllocError> {
         let days = problem.days() as usize;
         let symbols = usize::from(problem.shifts()) + 1;
         let mut ranges = Grid::new(alloc, symbols, days, Range::NONE)?;
@@ -42,6 +44,7 @@ impl Demand {
             days,
             weeks: problem.weeks() as usize,
             symbols,
+            free: free as usize,
             ranges,
         })
     }

@@ -27,35 +27,39 @@ impl Draft {
         })
     }
 
-    /// Counts the days of a window and the blocks that begin in it or right behind it, each `times` times.
+    /// Counts the days of a window, and the blocks that begin and free weekends that end in it or right behind it, each
+    /// `times` times.
     pub fn count(&mut self, window: Window, times: i64) {
         let mut at = window.start;
         for _ in 0..window.len {
             let weekday = self.walk.weekday(at);
             self.counters
                 .add_to_cell(self.walk.symbol(at), weekday, times);
-            self.count_beginning(at, times);
+            self.count_change(at, times);
             at = self.walk.next(at);
         }
-        self.count_beginning(at, times);
+        self.count_change(at, times);
     }
 
-    // Counts the block that begins at a position, if one does.
-    fn count_beginning(&mut self, position: usize, times: i64) {
+    // Counts the block that begins at a position, if one does, or the free weekend that ends there.
+    fn count_change(&mut self, position: usize, times: i64) {
+        if self.walk.ends_weekend(position) {
+            self.counters.add_to_weekends(times);
+        }
         if self.walk.begins(position) {
             self.counters
                 .add_to_blocks(self.walk.symbol(position), times);
         }
     }
 
-    /// Counts all days and blocks anew.
+    /// Counts all days, blocks and free weekends anew.
     pub fn count_all(&mut self) {
         self.counters.clear_counts();
         for position in 0..self.walk.cells() {
             let weekday = self.walk.weekday(position);
             self.counters
                 .add_to_cell(self.walk.symbol(position), weekday, 1);
-            self.count_beginning(position, 1);
+            self.count_change(position, 1);
         }
     }
 }

@@ -1,6 +1,8 @@
 // The search for a roster.
-ghost use Rattle.std.specs.Prelude.{◌≡◌, IfOk, IfSome};
+ghost use Rattle.std.specs.Prelude.{◌≡◌, ◌<◌, ◌≤◌, IfOk, IfSome, IsTrue};
 ghost use Rattle.rwsp_terms.specs.Roster.{MeetsAll, IsRoster};
+ghost use Rattle.refutation_terms.specs.FreeWeekends.{free_weekends};
+ghost use Rattle.roster_finder.specs.Found.{IsRosterWith};
 
 use crate::counters::Reweighing;
 use crate::draft::{Draft, Window};
@@ -11,7 +13,7 @@ use crate::setting::Setting;
 use crate::shares::Shares;
 use crate::start::{Due, Manner, Starter};
 use crate::window::Mover;
-use roster_checker::first_broken;
+use roster_checker::{first_broken, free_weekends};
 use rwsp_model::{Problem, Roster};
 use rwsp_terms::Symbol;
 use std::alloc::{AllocError, Global};
@@ -74,8 +76,8 @@ struct Finder {
 
 impl Finder {
     // A search without a word yet. None where there are no shares.
-    fn new(alloc: Global, problem: &Problem) -> Result<Option<Finder>, AllocError> {
-        let setting = Setting::of(alloc, problem)?;
+    fn new(alloc: Global, problem: &Problem, free: u32) -> Result<Option<Finder>, AllocError> {
+        let setting = Setting::of(alloc, problem, free)?;
         if setting.layer.nodes() == 0 {
             return Ok(None);
         }
@@ -220,7 +222,7 @@ impl Finder {
         let mut drawn = 0;
         let mut seen: usize = 0;
         for weekday in 0..self.setting.demand.days {
-            if self.draft.counters.deviation_on(weekday) > 0 {
+            if self.draft.counters.is_off_on(weekday) {
                 seen = seen.saturating_add(1);
                 if self.random.below(seen) == 0 {
                     drawn = weekday;
@@ -241,10 +243,15 @@ impl Finder {
         affordable.unwrap_or(0).min(most)
     }
 
-    // Rewrites windows until the word is a roster that meets every rule.
-    fn search(&mut self, alloc: Global, problem: &Problem) -> Result<Option<Roster>, AllocError>
-        ensures { IfOk result (λ found.
-            IfSome found (λ s. (s.days ≡ problem.now.days) × MeetsAll problem.now s.cells)) }
+    // Rewrites windows until the word is a roster that meets every rule and has so many free weekends.
+    fn search(
+        &mut self,
+        alloc: Global,
+        problem: &Problem,
+        free: u32,
+    ) -> Result<Option<Roster>, AllocError>
+        requires { 0 < free → problem.now.days ≡ 7 }
+        ensures { IfOk result (λ found. IfSome found (IsRosterWith problem.now free)) }
     {
         let mut refused: usize = 0;
         for turn in 0..self.most_moves() {
@@ -253,7 +260,7 @@ impl Finder {
                 return Ok(None);
             }
             if self.draft.counters.deviation() == 0 {
-                let found = met_roster(alloc, problem, self.draft.walk.symbols())?;
+                let found = met_roster(alloc, problem, free, self.draft.walk.symbols())?;
                 if found.is_some() {
                     return Ok(found);
                 }
@@ -271,22 +278,38 @@ fn set_block_ranges(draft: &mut Draft, shares: &Shares) {
     }
 }
 
-// The roster of these symbols, where it meets every rule.
+// The roster of these symbols, where it meets every rule and has so many free weekends.
 fn met_roster(
     alloc: Global,
     problem: &Problem,
+    free: u32,
     symbols: &[usize],
 ) -> Result<Option<Roster>, AllocError>
-    ensures { IfOk result (λ found.
-        IfSome found (λ s. (s.days ≡ problem.now.days) × MeetsAll problem.now s.cells)) }
+    requires { 0 < free → problem.now.days ≡ 7 }
+    ensures { IfOk result (λ found. IfSome found (IsRosterWith problem.now free)) }
 {
     let Some(roster) = roster_of(problem, cells_of(alloc, symbols)?) else {
         return Ok(None);
     };
+    if !has_free(problem, &roster, free) {
+        return Ok(None);
+    }
     match first_broken(problem, &roster) {
         Some(_) => Ok(None),
         None => Ok(Some(roster)),
     }
+}
+
+// Whether the roster has so many free weekends.
+fn has_free(problem: &Problem, roster: &Roster, free: u32) -> bool
+    requires roster { IsRoster problem.now roster.now.cells }
+    requires week { 0 < free → problem.now.days ≡ 7 }
+    ensures { IsTrue result → free ≤ free_weekends roster.now.cells }
+{
+    if free == 0 {
+        return true;
+    }
+    free <= free_weekends(problem, roster)
 }
 
 // The cells that hold these symbols.
@@ -324,11 +347,32 @@ pub fn find_roster(alloc: Global, problem: &Problem) -> Result<Option<Roster>, A
     ensures { IfOk result (λ found.
         IfSome found (λ s. (s.days ≡ problem.now.days) × MeetsAll problem.now s.cells)) }
 {
+    find(alloc, problem, 0)
+}
+
+/// A roster that meets every rule and has at least `free` free weekends, or None. None says nothing: another search may
+/// find one. It is looked for as `find_roster` does, with free weekends as one more count.
+pub fn find_roster_with(
+    alloc: Global,
+    problem: &Problem,
+    free: u32,
+) -> Result<Option<Roster>, AllocError>
+    requires { problem.now.days ≡ 7 }
+    ensures { IfOk result (λ found. IfSome found (λ s.
+        (s.days ≡ problem.now.days) × MeetsAll problem.now s.cells × (free ≤ free_weekends s.cells))) }
+{
+    find(alloc, problem, free)
+}
+
+fn find(alloc: Global, problem: &Problem, free: u32) -> Result<Option<Roster>, AllocError>
+    requires { 0 < free → problem.now.days ≡ 7 }
+    ensures { IfOk result (λ found. IfSome found (IsRosterWith problem.now free)) }
+{
     if problem.cells() < FEWEST_CELLS {
         return Ok(None);
     }
-    match Finder::new(alloc, problem)? {
-        Some(mut finder) => finder.search(alloc, problem),
+    match Finder::new(alloc, problem, free)? {
+        Some(mut finder) => finder.search(alloc, problem, free),
         None => Ok(None),
     }
 }

@@ -11,6 +11,7 @@ mod grid;
 mod heavy_word;
 mod mixture;
 mod prices;
+mod quotas;
 mod random;
 mod setting;
 mod shares;
@@ -23,4 +24,4 @@ mod tests;
 mod walk;
 mod window;
 
-pub use finding::find_roster;
+pub use finding::{find_roster, find_roster_with};

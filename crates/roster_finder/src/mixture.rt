@@ -1,8 +1,8 @@
 // Mixtures of clean words that come near to the demand.
-use crate::cuts::Cut;
 use crate::demand::Demand;
 use crate::grid::{Grid, entry_or, quotient, whole};
 use crate::heavy_word::{HeavyWord, Weigher};
+use crate::quotas::Quota;
 use crate::random::Random;
 use crate::setting::Setting;
 use nearest_point::{Hull, SCALE};
@@ -37,8 +37,10 @@ const NEAR: i64 = SCALE as i64 / 64;
 /// Words, and a mixture of them.
 #[derive(Debug, Drop)]
 pub(crate) struct Mixture {
-    /// The cuts that the mixture has to be led over.
-    pub cuts: Vec<Cut>,
+    /// What else the mixture has to come to: free weekends, and cuts that it is led over.
+    pub quotas: Vec<Quota>,
+    // How many words are weighed at most.
+    rounds: usize,
     // How often each word goes through all weeks.
     turns: usize,
     words: Vec<HeavyWord>,
@@ -56,14 +58,16 @@ impl Mixture {
             .checked_div(demand.cells())
             .unwrap_or(0)
             .max(FEWEST_TURNS);
+        let quotas = first_quotas(alloc, setting)?;
         let len = demand.cells().saturating_mul(turns);
         Ok(Mixture {
-            cuts: Vec::new(alloc),
+            rounds: FIRST_ROUNDS,
             turns,
             words: Vec::new(alloc),
-            hull: hull_of(alloc, demand, turns, 0)?,
+            hull: hull_of(alloc, demand, turns, &quotas)?,
             weigher: Weigher::new(alloc, setting, len)?,
             weights: Grid::new(alloc, demand.days, layer.steps.len(), 0)?,
+            quotas,
         })
     }
 
@@ -98,11 +102,7 @@ impl Mixture {
         let days = setting.demand.cells().saturating_mul(self.turns);
         let looks = days.saturating_mul(setting.layer.steps.len());
         let affordable = MOST_LOOKS.checked_div(looks).unwrap_or(0);
-        if self.cuts.is_empty() {
-            affordable.min(FIRST_ROUNDS)
-        } else {
-            affordable.min(CUT_ROUNDS)
-        }
+        affordable.min(self.rounds)
     }
 
     // Adds a word and betters the mixture. False where the word is there already.
@@ -112,7 +112,7 @@ impl Mixture {
         setting: &Setting,
         word: HeavyWord,
     ) -> Result<bool, AllocError> {
-        let row = row_of(alloc, setting, &self.cuts, &word.uses)?;
+        let row = row_of(alloc, setting, &self.quotas, &word.uses)?;
         if self.hull.contains(&row) {
             return Ok(false);
         }
@@ -143,11 +143,11 @@ impl Mixture {
         for weekday in 0..setting.demand.days {
             self.set_day_weights(setting, random, noise, far, weekday);
         }
-        for (place, cut) in self.cuts.iter().enumerate() {
-            let coordinate = cut_coordinate(&setting.demand, place);
+        for (place, quota) in self.quotas.iter().enumerate() {
+            let coordinate = quota_coordinate(&setting.demand, place);
             let off = entry_or(self.hull.off(), coordinate, 0);
             let weight = quotient(off.wrapping_mul(GREATEST_STEP_WEIGHT), far);
-            cut.add_weight(&mut self.weights, weight);
+            quota.add_weight(&mut self.weights, weight);
         }
     }
 
@@ -168,14 +168,15 @@ impl Mixture {
         }
     }
 
-    // What each word weighs at least that meets the demand and is led over the cuts, as it goes through all weeks.
+    // What each word weighs at least that meets the demand and the quotas, as it goes through all weeks.
     fn wanted_weight(&self, demand: &Demand, far: i64) -> i64 {
         let mut sum: i64 = 0;
         for weekday in 0..demand.days {
             sum = sum.wrapping_add(self.wanted_on(demand, far, weekday));
         }
-        for place in 0..self.cuts.len() {
-            sum = sum.wrapping_add(self.weight(cut_coordinate(demand, place), far));
+        for (place, quota) in self.quotas.iter().enumerate() {
+            let weight = self.weight(quota_coordinate(demand, place), far);
+            sum = sum.wrapping_add(weight.wrapping_mul(quota.least));
         }
         sum.wrapping_mul(whole(self.turns))
     }
@@ -225,12 +226,13 @@ impl Mixture {
 
     /// Takes new cuts into account. Each word keeps its part.
     pub fn renew(&mut self, alloc: Global, setting: &Setting) -> Result<(), AllocError> {
-        let mut hull = hull_of(alloc, &setting.demand, self.turns, self.cuts.len())?;
+        let mut hull = hull_of(alloc, &setting.demand, self.turns, &self.quotas)?;
         for (word, part) in self.words.iter().zip(self.hull.parts().iter()) {
-            let row = row_of(alloc, setting, &self.cuts, &word.uses)?;
+            let row = row_of(alloc, setting, &self.quotas, &word.uses)?;
             hull.push_part(row, *part)?;
         }
         self.hull = hull;
+        self.rounds = CUT_ROUNDS;
         Ok(())
     }
 }
@@ -240,8 +242,8 @@ fn cell_coordinate(demand: &Demand, symbol: usize, weekday: usize) -> usize {
     symbol.wrapping_mul(demand.days).wrapping_add(weekday)
 }
 
-// The coordinate of a cut.
-fn cut_coordinate(demand: &Demand, place: usize) -> usize {
+// The coordinate of a quota.
+fn quota_coordinate(demand: &Demand, place: usize) -> usize {
     cell_coordinate(demand, demand.symbols, place)
 }
 
@@ -254,8 +256,22 @@ fn furthest(numbers: &[i64]) -> i64 {
     most
 }
 
-// No words yet, and the box that they should come to: the demand, and each cut once at least for each turn.
-fn hull_of(alloc: Global, demand: &Demand, turns: usize, cuts: usize) -> Result<Hull, AllocError> {
+// The quota of free weekends, where some are wanted.
+fn first_quotas(alloc: Global, setting: &Setting) -> Result<Vec<Quota>, AllocError> {
+    let mut quotas = Vec::new(alloc);
+    if setting.demand.free > 0 {
+        quotas.push(Quota::of_weekends(alloc, setting)?)?;
+    }
+    Ok(quotas)
+}
+
+// No words yet, and the box that they should come to: the demand and the quotas, for each turn.
+fn hull_of(
+    alloc: Global,
+    demand: &Demand,
+    turns: usize,
+    quotas: &[Quota],
+) -> Result<Hull, AllocError> {
     let times = whole(turns);
     let mut low = Vec::new(alloc);
     let mut high = Vec::new(alloc);
@@ -266,18 +282,18 @@ fn hull_of(alloc: Global, demand: &Demand, turns: usize, cuts: usize) -> Result<
             high.push(range.greatest.wrapping_mul(times))?;
         }
     }
-    for _ in 0..cuts {
-        low.push(times)?;
+    for quota in quotas {
+        low.push(quota.least.wrapping_mul(times))?;
         high.push(whole(demand.cells()).wrapping_mul(times))?;
     }
     Hull::new(alloc, low, high)
 }
 
-// The coordinates of a word: how often it has each symbol on each weekday, and how often the word is led over each cut.
+// The coordinates of a word: how often it has each symbol on each weekday, and what it has of each quota.
 fn row_of(
     alloc: Global,
     setting: &Setting,
-    cuts: &[Cut],
+    quotas: &[Quota],
     uses: &Grid<i64>,
 ) -> Result<Vec<i64>, AllocError> {
     let mut row = Vec::new(alloc);
@@ -286,8 +302,8 @@ fn row_of(
             row.push(count_of(setting, uses, symbol, weekday))?;
         }
     }
-    for cut in cuts {
-        row.push(cut.uses(uses))?;
+    for quota in quotas {
+        row.push(quota.uses(uses))?;
     }
     Ok(row)
 }

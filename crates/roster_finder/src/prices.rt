@@ -31,6 +31,7 @@ pub(crate) struct Prices {
     of_days: Grid<i64>,
     // Of the beginning of a block, by symbol.
     of_blocks: Vec<i64>,
+    of_weekend: i64,
     // The days of the window on each weekday that aren't dealt yet.
     undealt: Vec<usize>,
     // By symbol and weekday.
@@ -50,6 +51,7 @@ impl Prices {
             weekdays,
             of_days: Grid::new(alloc, LONGEST_WINDOW, symbols, 0)?,
             of_blocks: vec![in alloc; 0; symbols]?,
+            of_weekend: 0,
             undealt: vec![in alloc; 0; weekdays]?,
             hands: Grid::new(alloc, symbols, weekdays, none)?,
         })
@@ -65,20 +67,26 @@ impl Prices {
         entry_or(&self.of_blocks, symbol, 0)
     }
 
+    /// The price of a free weekend.
+    pub fn of_weekend(&self) -> i64 {
+        self.of_weekend
+    }
+
     /// Prices the beginnings of blocks: by their weight where there are too many or too few.
     pub fn price_blocks(&mut self, counters: &Counters) {
         for symbol in 0..self.symbols {
             put(
                 &mut self.of_blocks,
                 symbol,
-                block_price(counters.blocks(symbol)),
+                price_of(counters.blocks(symbol)),
             );
         }
     }
 
-    /// Prices the symbols on each day by what the demand lacks without the days of the window. Where a weekday comes
-    /// more than once, its days are dealt out at random.
+    /// Prices the symbols on each day by what the demand lacks without the days of the window, and free weekends too.
+    /// Where a weekday comes more than once, its days are dealt out at random.
     pub fn price_days(&mut self, draft: &Draft, random: &mut Random, window: Window) {
+        self.of_weekend = price_of(draft.counters.weekends());
         self.count_days(draft, window);
         for symbol in 0..self.symbols {
             self.fill_hands(&draft.counters, symbol);
@@ -144,11 +152,12 @@ impl Prices {
     }
 }
 
-fn block_price(blocks: Counter) -> i64 {
-    let weight = UNIT.wrapping_mul(blocks.weight);
-    if blocks.count > blocks.range.greatest {
+// By the weight where there are too many or too few.
+fn price_of(counter: Counter) -> i64 {
+    let weight = UNIT.wrapping_mul(counter.weight);
+    if counter.count > counter.range.greatest {
         weight
-    } else if blocks.count < blocks.range.least {
+    } else if counter.count < counter.range.least {
         weight.wrapping_neg()
     } else {
         0

@@ -13,12 +13,13 @@ pub(crate) struct Setting {
 }
 
 impl Setting {
-    pub fn of(alloc: Global, problem: &Problem) -> Result<Setting, AllocError> {
+    /// For rosters with at least `free` free weekends.
+    pub fn of(alloc: Global, problem: &Problem, free: u32) -> Result<Setting, AllocError> {
         let short = short_rules(alloc, problem)?;
         let rules = TailRules::of(alloc, problem, &short)?;
         Ok(Setting {
             layer: SteadyLayer::of(alloc, &rules, problem.shifts())?,
-            demand: Demand::of(alloc, problem)?,
+            demand: Demand::of(alloc, problem, free)?,
         })
     }
 }

@@ -44,7 +44,7 @@ impl Shares {
         }
         let mut uses = mixture.uses(alloc, setting, ONE_USE)?;
         for _ in 0..CUTTING_TURNS {
-            if !add_cuts(alloc, setting, &uses, ONE_USE, &mut mixture.cuts)? {
+            if !add_cuts(alloc, setting, &uses, ONE_USE, &mut mixture.quotas)? {
                 break;
             }
             mixture.renew(alloc, setting)?;

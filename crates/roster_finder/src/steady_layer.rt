@@ -5,6 +5,9 @@ use crate::tail_graph::TailGraph;
 use std::alloc::{AllocError, Global};
 use word_tail::TailRules;
 
+/// The last weekday of a weekend, which has two days.
+pub(crate) const LAST_OF_WEEKEND: usize = 6;
+
 /// One step through the layer.
 #[derive(Clone, Copy, Debug)]
 pub(crate) struct Step {
@@ -13,6 +16,15 @@ pub(crate) struct Step {
     pub symbol: usize,
     /// Whether a block of the symbol begins.
     pub begins: bool,
+    /// Whether the symbol is the day off, like the one before.
+    pub stays_off: bool,
+}
+
+impl Step {
+    /// Whether the step makes a weekend free where it is taken on a weekday.
+    pub fn ends_weekend(self, weekday: usize) -> bool {
+        self.stays_off && weekday == LAST_OF_WEEKEND
+    }
 }
 
 /// The nodes that clean words without end pass through, and the steps between them. A node stands for all tails that
@@ -63,6 +75,7 @@ impl SteadyLayer {
                     to,
                     symbol,
                     begins: symbol != last,
+                    stays_off: symbol == 0 && last == 0,
                 })?;
             }
         }

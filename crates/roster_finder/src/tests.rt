@@ -1,4 +1,4 @@
-use crate::find_roster;
+use crate::{find_roster, find_roster_with};
 use rwsp_model::{Parts, Problem};
 use rwsp_terms::{Bounds, DemandRow, Name, ShiftRow, Symbol};
 use std::alloc::Global;
@@ -63,5 +63,19 @@ fn a_roster_is_found_and_is_the_same_each_time(rt: HostRuntime) -> Result<(), Fa
 fn none_is_found_where_there_is_none(rt: HostRuntime) -> Result<(), Fail> {
     let problem = problem(rt.alloc(), range(4, 4))?;
     assert!(rt; find_roster(rt.alloc(), &problem)?.is_none());
+    Ok(())
+}
+
+#[test]
+fn weekends_are_free_where_the_demand_lets_them(rt: HostRuntime) -> Result<(), Fail> {
+    let problem = problem(rt.alloc(), range(2, 3))?;
+    if problem.days() != 7 {
+        return Err(Fail::from("another week"));
+    }
+    // at most two weeks have a day off
+    for (free, is_found) in [(0, true), (1, true), (2, true), (3, false)] {
+        let found = find_roster_with(rt.alloc(), &problem, free)?;
+        assert!(rt; found.is_some() == is_found, "{free}");
+    }
     Ok(())
 }

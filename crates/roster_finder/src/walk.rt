@@ -1,6 +1,6 @@
 // Closed walks through the steady layer: clean cyclic words.
 use crate::grid::{entry_or, put, rest};
-use crate::steady_layer::SteadyLayer;
+use crate::steady_layer::{LAST_OF_WEEKEND, SteadyLayer};
 use std::alloc::{AllocError, Global};
 
 /// A cyclic word and the nodes that it passes.
@@ -68,14 +68,26 @@ impl Walk {
         if next < self.symbols.len() { next } else { 0 }
     }
 
-    /// Whether a block begins at a position.
-    pub fn begins(&self, position: usize) -> bool {
+    // The symbol of the day before, round the cycle.
+    fn symbol_before(&self, position: usize) -> usize {
         let day_before = if position == 0 {
             self.symbols.len().saturating_sub(1)
         } else {
             position - 1
         };
-        self.symbol(day_before) != self.symbol(position)
+        self.symbol(day_before)
+    }
+
+    /// Whether a block begins at a position.
+    pub fn begins(&self, position: usize) -> bool {
+        self.symbol_before(position) != self.symbol(position)
+    }
+
+    /// Whether a position is the last day of a weekend and that is off, like the day before.
+    pub fn ends_weekend(&self, position: usize) -> bool {
+        self.weekday(position) == LAST_OF_WEEKEND
+            && self.symbol(position) == 0
+            && self.symbol_before(position) == 0
     }
 
     /// Whether the word from a position on can be followed from a node until it passes the nodes that it passes now,

@@ -5,6 +5,7 @@ use crate::prices::{LONGEST_WINDOW, Prices};
 use crate::random::Random;
 use crate::setting::Setting;
 use crate::shares::Shares;
+use crate::steady_layer::LAST_OF_WEEKEND;
 use crate::walk::Walk;
 use std::alloc::{AllocError, Global};
 use std::mem;
@@ -89,6 +90,9 @@ impl Mover {
             if step.begins {
                 cost = cost.wrapping_add(self.prices.of_block(step.symbol));
             }
+            if step.ends_weekend(weekday) {
+                cost = cost.wrapping_add(self.prices.of_weekend());
+            }
             if cost < entry_or(&self.next_costs, step.to, 0) {
                 put(&mut self.next_costs, step.to, cost);
                 self.parents.set(day, step.to, step.from);
@@ -103,7 +107,7 @@ impl Mover {
         let mut least = FAR;
         let mut best = None;
         for (node, cost) in self.costs.iter().enumerate() {
-            let sum = cost.wrapping_add(self.price_behind(setting, walk.symbol(behind), node));
+            let sum = cost.wrapping_add(self.price_behind(setting, walk, behind, node));
             if *cost < FAR && sum < least && walk.joins(&setting.layer, node, behind, kept) {
                 least = sum;
                 best = Some(node);
@@ -112,12 +116,15 @@ impl Mover {
         best
     }
 
-    // What the beginning of a block right behind the window costs.
-    fn price_behind(&self, setting: &Setting, symbol: usize, node: usize) -> i64 {
-        if setting.layer.last(node) == symbol {
-            0
-        } else {
+    // What the beginning of a block right behind the window costs, or the end of a free weekend.
+    fn price_behind(&self, setting: &Setting, walk: &Walk, behind: usize, node: usize) -> i64 {
+        let symbol = walk.symbol(behind);
+        if setting.layer.last(node) != symbol {
             self.prices.of_block(symbol)
+        } else if symbol == 0 && walk.weekday(behind) == LAST_OF_WEEKEND {
+            self.prices.of_weekend()
+        } else {
+            0
         }
     }
 
