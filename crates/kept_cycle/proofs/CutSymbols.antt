@@ -196,6 +196,7 @@ cut_cycle C S p x line is h some few u = subst (λ (l : Line). IsCut C.problem (
   position = u.position;
   useful = u.useful;
   is_leaf = cycle_leaf C some few h.short;
+  unweighed = tt;
   holds = dead_once_alone C.problem (has_domain S) C.rules p x u.position u.nowhere;
 })
 

@@ -201,5 +201,6 @@ cut_day P S p x j counted over cut = record {
   position = cut.position;
   useful = cut.useful;
   is_leaf = record { leaf = tt; fits = cut.fits; short = tt };
+  unweighed = tt;
   holds = cut.holds;
 }

@@ -34,6 +34,7 @@ cut_by_first P l m s t S (Cut p x line) second unclosed some other is then = (
     position = is.1.position;
     useful = is.1.useful;
     is_leaf = is.1.is_leaf;
+    unweighed = is.1.unweighed;
     holds = is.1.holds;
   },
 )

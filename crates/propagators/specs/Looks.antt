@@ -3,7 +3,7 @@ use Rattle.std.specs.Prelude.{◌≡◌, ◌≢◌, ◌↔◌, ℕ, ◌<◌, Boo
 use Rattle.rwsp_terms.specs.declared.data.Symbol.{Symbol}
 use Rattle.rwsp_terms.specs.Instance.{Instance, cells}
 use Rattle.refutation_terms.specs.declared.lines.Line.{Line}
-use Rattle.refutation_terms.specs.declared.lines.Line.TheVariants.{Split, Window, Day}
+use Rattle.refutation_terms.specs.declared.lines.Line.TheVariants.{Split, Window, Day, Bound, Free}
 use Rattle.refutation_terms.specs.Tree.{IsLeaf, First, narrowed, is_idle}
 use Rattle.refutation_terms.specs.Log.{Holds, LineFits, ListsShortOnly}
 use Rattle.domain_store.specs.Store.{Store, BelongsTo, HasSameShape, domain_at, has_domain}
@@ -20,6 +20,12 @@ pub record IsLeafOf (P : Instance) (line : Line) : Type 0 where
   pub fits : LineFits P line
   pub short : ListsShortOnly P line
 
+-- a line that weighs no words
+abbrev pub IsUnweighed : Line → Type 0
+IsUnweighed (Bound p turns R y) = ⊥
+IsUnweighed (Free turns reward R y) = ⊥
+IsUnweighed line = Unit {0}
+
 -- one of the leaves, and it holds
 pub record IsClosing (P : Instance) (leaves : Line → Type 0) (S : Store) (line : Line) : Type 0 where
   pub is_leaf : IsLeafOf P line
@@ -27,12 +33,14 @@ pub record IsClosing (P : Instance) (leaves : Line → Type 0) (S : Store) (line
   pub holds : Holds P (has_domain S) line
 
 -- a spent symbol, which is in the domain of its position beside another, and a leaf that holds once it is alone there
+-- and weighs no words
 pub record IsCut (P : Instance) (spent : ℕ → Symbol → Type 0) (S : Store)
     (p : ℕ) (x : Symbol) (line : Line) : Type 0 where
   pub is_spent : spent p x
   pub position : p < cells P
   pub useful : is_idle P (has_domain S) p x.number ≡ false
   pub is_leaf : IsLeafOf P line
+  pub unweighed : IsUnweighed line
   pub holds : Holds P (narrowed (has_domain S) (Split p x) First) line
 
 -- closed exactly where a leaf holds; a cut exactly where none does and a symbol is spent; quiet where there is
