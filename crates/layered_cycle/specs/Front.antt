@@ -65,7 +65,7 @@ pub record IsFront (C : Course) (day : ℕ) (tails : List Tail) (row : Row) : Ty
   pub word : ℕ → List Symbol
   pub best : (k : ℕ) → k < length tails → IsBestTo C day (tail_at tails k) (word k)
   pub weighs :
-    (k : ℕ) → k < length tails → (c : Choice) × (choice_at row k ≡ Some c) × (c.weight ≡ word_gain C (word k))
+      (k : ℕ) → k < length tails → (c : Choice) × (choice_at row k ≡ Some c) × (c.weight ≡ word_gain C (word k))
   pub all : (u : List Symbol) → IsOf C day u → (k : ℕ) × (k < length tails) × (tail_at tails k ≡ tail_of u)
   pub ordered : (j k : ℕ) → j < k → k < length tails → ComesBefore (word j) (word k)
   pub light : AreWithin ((GREATEST_WEIGHT + GREATEST_REWARD) * day) row

@@ -74,7 +74,7 @@ pub fn heaviest_free_reaching(
     ensures { IfOk result (λ found. MatchOption found
         (AreLighterFree problem.now (has_domain doms.now) (turns * cells problem.now) tails.now.rules weights.now reward least)
         (λ h. IsHeaviestFreeFound problem.now (has_domain doms.now) (turns * cells problem.now) tails.now.rules weights.now
-            reward (Some h) × (least ≤ℤ h.weight))) }
+        reward (Some h) × (least ≤ℤ h.weight))) }
 {
     problem.prove_limits();
     let week = problem.days();
