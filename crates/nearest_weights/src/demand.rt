@@ -1,4 +1,4 @@
-// The demand as a box: for each day and symbol, the least and the greatest number of weeks.
+// The demand as a box: for each day and symbol, the least and the greatest number of weeks, and for free weekends.
 use rwsp_model::Problem;
 use rwsp_terms::Symbol;
 use std::alloc::{AllocError, Global};
@@ -20,9 +20,14 @@ impl Shape {
         }
     }
 
-    // How many coordinates there are.
+    // How many coordinates there are for days and symbols. The one behind them is that of free weekends.
     pub fn size(self) -> usize {
         self.days.wrapping_mul(self.symbols) as usize
+    }
+
+    // Whether a weekend ends at a place, counted from 0 over any number of turns.
+    pub fn ends_weekend(self, place: u32) -> bool {
+        self.days == 7 && place % 7 == 6
     }
 
     // The coordinate of symbol 0 on the day of the week in which a place lies, counted from 0 over any number of turns.
@@ -50,6 +55,15 @@ impl Demand {
                 high.push(i64::from(problem.demand_greatest(x, i + 1)))?;
             }
         }
+        Ok(Demand { low, high })
+    }
+
+    // The same with a least number of free weekends.
+    pub fn with_goal(&self, problem: &Problem, goal: u32) -> Result<Demand, AllocError> {
+        let mut low = self.low.clone()?;
+        let mut high = self.high.clone()?;
+        low.push(i64::from(goal))?;
+        high.push(i64::from(problem.weeks().max(goal)))?;
         Ok(Demand { low, high })
     }
 

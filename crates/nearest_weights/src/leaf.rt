@@ -1,26 +1,157 @@
-// A bound leaf, after an exact test.
-ghost use Rattle.std.specs.Prelude.{◌≡◌, ◌*◌, ◌<◌, ◌≤◌, ◌+◌, ℕ, IfOk, IfSome, OnOk, IsTrue, MatchOption, pos, neg_ℤ, ◌*ℤ◌, ◌<ℤ◌, ◌≤ℤ◌};
+// A bound leaf or a free leaf, after an exact test.
+ghost use Rattle.std.specs.Prelude.{◌≡◌, ◌*◌, ◌<◌, ◌≤◌, ◌+◌, ℕ, IfOk, IfSome, OnOk, IsTrue, MatchOption, None, pos, neg_ℤ, ◌*ℤ◌, ◌<ℤ◌, ◌≤ℤ◌};
 ghost use Rattle.rwsp_terms.specs.Instance.{cells, IsDay};
 ghost use Rattle.rwsp_terms.specs.Rules.{NamesShortOnly};
 ghost use Rattle.refutation_terms.specs.Leaf.{IsTooLight};
-ghost use Rattle.refutation_terms.specs.Log.{AreRules, AreWeightsOf};
+ghost use Rattle.rwsp_terms.specs.declared.limits.TheConstants.{GREATEST_REWARD};
+ghost use Rattle.refutation_terms.specs.FreeLeaves.{IsTooLightFree};
+ghost use Rattle.refutation_terms.specs.Log.{AreRules, AreWeightsOf, GoalFits};
 ghost use Rattle.domain_store.specs.Store.{BelongsTo, has_domain};
-ghost use Rattle.nearest_weights.specs.Found.{IsHoldingLeaf};
+ghost use Rattle.potential_bounds.specs.Heaviest.{AreLighterFree};
+ghost use Rattle.nearest_weights.specs.Found.{IsHoldingFreeLeaf, IsHoldingLeaf, IsHoldingLeafFor};
 
 use crate::demand::Shape;
 use domain_store::Domains;
-use potential_bounds::{heaviest, total};
+use potential_bounds::{free_total, heaviest, heaviest_free_reaching, total};
 use refutation_terms::Line;
 use rwsp_model::Problem;
 use rwsp_terms::limits::{
-    GREATEST_WEIGHT, LONGEST_WORD, MOST_DAYS, MOST_SHIFTS, MOST_SYMBOLS, MOST_WEEKS,
+    GREATEST_REWARD, GREATEST_WEIGHT, LONGEST_WORD, MOST_DAYS, MOST_SHIFTS, MOST_SYMBOLS,
+    MOST_WEEKS,
 };
 use rwsp_terms::{Symbol, Weights};
 use std::alloc::{AllocError, Global};
 use word_tail::TailRules;
 
-// The bound leaf of these weights, one for each coordinate, where it holds.
+// The leaf of these weights, one for each coordinate, where it holds: a bound leaf, or a free leaf of a log with this goal.
 pub fn leaf_of(
+    alloc: Global,
+    problem: &Problem,
+    tails: &TailRules,
+    doms: &Domains,
+    goal: Option<u32>,
+    p: u32,
+    turns: u32,
+    weights: &[i64],
+) -> Result<Option<Line>, AllocError>
+    requires same { tails.now.problem ≡ problem.now }
+    requires rules { AreRules problem.now tails.now.rules }
+    requires short { NamesShortOnly problem.now tails.now.rules }
+    requires belongs { BelongsTo problem.now doms.now }
+    requires goal { GoalFits problem.now None goal }
+    requires position { p < cells problem.now }
+    requires some { 1 ≤ turns }
+    requires few { turns * cells problem.now ≤ LONGEST_WORD }
+    ensures { IfOk result (λ found. IfSome found (IsHoldingLeafFor problem.now goal (has_domain doms.now))) }
+{
+    match goal {
+        Some(goal) => free_leaf_of(alloc, problem, tails, doms, goal, turns, weights),
+        None => bound_leaf_of(alloc, problem, tails, doms, p, turns, weights),
+    }
+}
+
+// The free leaf of these weights, where it holds. The weight behind those of days and symbols is the reward.
+fn free_leaf_of(
+    alloc: Global,
+    problem: &Problem,
+    tails: &TailRules,
+    doms: &Domains,
+    goal: u32,
+    turns: u32,
+    weights: &[i64],
+) -> Result<Option<Line>, AllocError>
+    requires same { tails.now.problem ≡ problem.now }
+    requires rules { AreRules problem.now tails.now.rules }
+    requires short { NamesShortOnly problem.now tails.now.rules }
+    requires belongs { BelongsTo problem.now doms.now }
+    requires week { problem.now.days ≡ 7 }
+    requires goal { goal ≤ problem.now.weeks + 1 }
+    requires some { 1 ≤ turns }
+    requires few { turns * cells problem.now ≤ LONGEST_WORD }
+    ensures { IfOk result (λ found. IfSome found (IsHoldingFreeLeaf problem.now goal (has_domain doms.now))) }
+{
+    problem.prove_limits();
+    let reward = reward_of(problem, weights);
+    let weights = weights_of(alloc, problem, weights)?;
+    if !is_too_light_free(alloc, problem, tails, doms, goal, turns, reward, &weights)? {
+        return Ok(None);
+    }
+    let rules = tails.rules().copy()?;
+    Ok(Some(Line::Free {
+        turns,
+        reward,
+        rules,
+        weights,
+    }))
+}
+
+// Whether each clean word of `turns` turns, from position 0 on, weighs less than `turns` times the total, with the reward
+// for each free weekend.
+fn is_too_light_free(
+    alloc: Global,
+    problem: &Problem,
+    tails: &TailRules,
+    doms: &Domains,
+    goal: u32,
+    turns: u32,
+    reward: u32,
+    weights: &Weights,
+) -> Result<bool, AllocError>
+    requires same { tails.now.problem ≡ problem.now }
+    requires belongs { BelongsTo problem.now doms.now }
+    requires week { problem.now.days ≡ 7 }
+    requires goal { goal ≤ problem.now.weeks + 1 }
+    requires some { 1 ≤ turns }
+    requires few { turns * cells problem.now ≤ LONGEST_WORD }
+    requires reward { reward ≤ GREATEST_REWARD }
+    ensures { IfOk result (λ light. IsTrue light
+        → IsTooLightFree problem.now goal (has_domain doms.now) turns reward tails.now.rules weights.now) }
+{
+    problem.prove_limits();
+    let total = free_total(problem, weights, reward, goal);
+    match i64::from(turns).checked_mul(total) {
+        Some(least) => are_lighter(alloc, problem, tails, doms, turns, reward, weights, least),
+        None => Ok(false),
+    }
+}
+
+// Whether each clean word of `turns` turns, from position 0 on, weighs less than this, with the reward for each free
+// weekend.
+fn are_lighter(
+    alloc: Global,
+    problem: &Problem,
+    tails: &TailRules,
+    doms: &Domains,
+    turns: u32,
+    reward: u32,
+    weights: &Weights,
+    least: i64,
+) -> Result<bool, AllocError>
+    requires same { tails.now.problem ≡ problem.now }
+    requires belongs { BelongsTo problem.now doms.now }
+    requires week { problem.now.days ≡ 7 }
+    requires some { 1 ≤ turns }
+    requires few { turns * cells problem.now ≤ LONGEST_WORD }
+    requires reward { reward ≤ GREATEST_REWARD }
+    ensures { IfOk result (λ light. IsTrue light → AreLighterFree problem.now
+        (has_domain doms.now) (turns * cells problem.now) tails.now.rules weights.now reward least) }
+{
+    let found = heaviest_free_reaching(alloc, problem, tails, doms, turns, weights, reward, least)?;
+    Ok(found.is_none())
+}
+
+// The reward among the weights of all coordinates.
+fn reward_of(problem: &Problem, weights: &[i64]) -> u32
+    ensures { result ≤ GREATEST_REWARD }
+{
+    let place = Shape::of(problem).size();
+    let reward = weights.get(place).copied().unwrap_or(0);
+    let greatest = i64::from(GREATEST_REWARD);
+    reward.max(0).min(greatest) as u32
+}
+
+// The bound leaf of these weights, one for each coordinate, where it holds.
+fn bound_leaf_of(
     alloc: Global,
     problem: &Problem,
     tails: &TailRules,

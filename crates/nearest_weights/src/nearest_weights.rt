@@ -1,5 +1,5 @@
 // Bound leaves by nearest points.
-ghost use Rattle.std.specs.Prelude.{◌≡◌, ◌*◌, ◌≤◌, ◌<◌, length, IfOk, IfSome};
+ghost use Rattle.std.specs.Prelude.{◌≡◌, ◌*◌, ◌≤◌, ◌<◌, length, IfOk, IfSome, None};
 ghost use Rattle.rwsp_terms.specs.Instance.{cells};
 ghost use Rattle.rwsp_terms.specs.Rules.{NamesShortOnly};
 ghost use Rattle.refutation_terms.specs.Log.{AreRules};
@@ -39,20 +39,22 @@ const MOST_CELLS_WITHIN: u32 = 700;
 // Within a tree words begin in the middle of the first decided positions; at most this many of them count.
 const MOST_DECIDED: u32 = 28;
 
-/// A search for bound leaves of a problem, with all its short rules.
+/// A search for bound leaves and free leaves of a problem, with all its short rules.
 ///
 /// A bound leaf of some weights says that no clean word has the demanded numbers of weeks, not even on average. Such
 /// weights are a plane between the demand and the hull of what clean words have. The search for it goes to the nearest
 /// point of that hull, which it learns word by word: the heaviest word by the present weights is one more corner, and
-/// the next weights lead from the nearest mix of the corners to the demand.
+/// the next weights lead from the nearest mix of the corners to the demand. For a free leaf the number of free weekends
+/// is one count more, and the goal its demand.
 #[derive(Debug, Drop)]
 pub struct NearestWeights {
     problem: Problem,
     tails: TailRules,
     words: Option<Words>,
     demand: Demand,
-    // The weights with which the last search at the top ended.
+    // The weights with which the last search at the top ended: for a bound leaf, and for a free leaf.
     top: Vec<i64>,
+    free_top: Vec<i64>,
 }
 
 impl Model for NearestWeights {
@@ -67,7 +69,9 @@ impl Model for NearestWeights {
 }
 
 impl NearestWeights {
-    ghost use Rattle.nearest_weights.specs.Found.{IsHoldingLeaf};
+    ghost use Rattle.std.specs.Prelude.{◌+◌};
+    ghost use Rattle.refutation_terms.specs.Log.{GoalFits};
+    ghost use Rattle.nearest_weights.specs.Found.{IsHoldingFreeLeaf, IsHoldingLeaf, IsHoldingLeafFor};
 
     /// A search for the problem, of which it keeps a copy.
     pub fn new(alloc: Global, problem: &Problem) -> Result<NearestWeights, AllocError>
@@ -76,7 +80,9 @@ impl NearestWeights {
         let tails = tails_of(alloc, problem)?;
         let words = Words::of(alloc, &tails)?;
         let demand = Demand::of(alloc, problem)?;
-        let top = vec![in alloc; 0i64; Shape::of(problem).size()]?;
+        let size = Shape::of(problem).size();
+        let top = vec![in alloc; 0i64; size]?;
+        let free_top = vec![in alloc; 0i64; size.saturating_add(1)]?;
         let problem = problem.copy()?;
         Ok(NearestWeights {
             problem,
@@ -84,6 +90,7 @@ impl NearestWeights {
             words,
             demand,
             top,
+            free_top,
         })
     }
 
@@ -94,35 +101,69 @@ impl NearestWeights {
         ensures same { self.new ≡ self.old }
         ensures leaf { IfOk result (λ found. IfSome found (IsHoldingLeaf self.old.problem (has_domain doms.now))) }
     {
+        let (line, last) = self.at_top(alloc, doms, None, &self.demand)?;
+        self.top = last;
+        Ok(line)
+    }
+
+    /// A free leaf of a log with this goal at the top of a tree, where one is found, as `leaf_at_top` finds a bound leaf.
+    pub fn free_leaf_at_top(
+        &mut self,
+        alloc: Global,
+        doms: &Domains,
+        goal: u32,
+    ) -> Result<Option<Line>, AllocError>
+        requires belongs { BelongsTo self.old.problem doms.now }
+        requires week { self.old.problem.days ≡ 7 }
+        requires goal { goal ≤ self.old.problem.weeks + 1 }
+        ensures same { self.new ≡ self.old }
+        ensures leaf { IfOk result (λ found.
+            IfSome found (IsHoldingFreeLeaf self.old.problem goal (has_domain doms.now))) }
+    {
+        let demand = self.demand.with_goal(&self.problem, goal)?;
+        let (line, last) = self.at_top(alloc, doms, Some(goal), &demand)?;
+        self.free_top = last;
+        Ok(line)
+    }
+
+    // A leaf at the top of a tree, and the weights with which the search ended.
+    fn at_top(
+        &self,
+        alloc: Global,
+        doms: &Domains,
+        goal: Option<u32>,
+        demand: &Demand,
+    ) -> Result<(Option<Line>, Vec<i64>), AllocError>
+        requires belongs { BelongsTo self.now.problem doms.now }
+        requires goal { GoalFits self.now.problem None goal }
+        ensures { IfOk result (λ r. IfSome r.0 (IsHoldingLeafFor self.now.problem goal (has_domain doms.now))) }
+    {
+        let weights = vec![in alloc; 0i64; demand.low.len()]?;
         let Some(words) = &self.words else {
-            return Ok(None);
+            return Ok((None, weights));
         };
         self.problem.prove_limits();
-        let shape = Shape::of(&self.problem);
         let most = turns_within(words, &self.problem);
         if most == 0 {
-            return Ok(None);
+            return Ok((None, weights));
         }
         let first = (DAYS_AT_TOP / self.problem.cells()).max(1).min(most);
-        let place = Place::of(alloc, shape, doms, 0)?;
-        let field = Field {
-            words,
-            place: &place,
-            demand: &self.demand,
-        };
-        let weights = vec![in alloc; 0i64; shape.size()]?;
-        let (line, last) = found_leaf(
+        let place = Place::of(alloc, Shape::of(&self.problem), doms, 0)?;
+        found_leaf(
             alloc,
             &self.problem,
             &self.tails,
             doms,
-            field,
+            goal,
+            Field {
+                words,
+                place: &place,
+                demand,
+            },
             weights,
             Turns { first, most },
             AT_TOP,
-        )?;
-        self.top = last;
-        Ok(line)
+        )
     }
 
     /// A bound leaf within a tree, where one is found: words of one turn that begin and end among the first positions,
@@ -133,6 +174,45 @@ impl NearestWeights {
         ensures same { self.new ≡ self.old }
         ensures leaf { IfOk result (λ found. IfSome found (IsHoldingLeaf self.old.problem (has_domain doms.now))) }
     {
+        let start = start_within(&self.problem, doms);
+        self.within(alloc, doms, None, &self.demand, &self.top, start)
+    }
+
+    /// A free leaf of a log with this goal within a tree, where one is found, as `leaf_within` finds a bound leaf, but for
+    /// words from position 0 on.
+    pub fn free_leaf_within(
+        &mut self,
+        alloc: Global,
+        doms: &Domains,
+        goal: u32,
+    ) -> Result<Option<Line>, AllocError>
+        requires belongs { BelongsTo self.old.problem doms.now }
+        requires week { self.old.problem.days ≡ 7 }
+        requires goal { goal ≤ self.old.problem.weeks + 1 }
+        ensures same { self.new ≡ self.old }
+        ensures leaf { IfOk result (λ found.
+            IfSome found (IsHoldingFreeLeaf self.old.problem goal (has_domain doms.now))) }
+    {
+        self.problem.prove_limits();
+        let demand = self.demand.with_goal(&self.problem, goal)?;
+        self.within(alloc, doms, Some(goal), &demand, &self.free_top, 0)
+    }
+
+    // A leaf within a tree, for words of one turn from a position on, by a search that begins with these weights.
+    fn within(
+        &self,
+        alloc: Global,
+        doms: &Domains,
+        goal: Option<u32>,
+        demand: &Demand,
+        weights: &Vec<i64>,
+        start: u32,
+    ) -> Result<Option<Line>, AllocError>
+        requires belongs { BelongsTo self.now.problem doms.now }
+        requires goal { GoalFits self.now.problem None goal }
+        requires start { start < cells self.now.problem }
+        ensures { IfOk result (λ found. IfSome found (IsHoldingLeafFor self.now.problem goal (has_domain doms.now))) }
+    {
         let Some(words) = &self.words else {
             return Ok(None);
         };
@@ -140,21 +220,19 @@ impl NearestWeights {
         if cells > MOST_CELLS_WITHIN || turns_within(words, &self.problem) == 0 {
             return Ok(None);
         }
-        let shape = Shape::of(&self.problem);
-        let place = Place::of(alloc, shape, doms, start_within(&self.problem, doms))?;
-        let field = Field {
-            words,
-            place: &place,
-            demand: &self.demand,
-        };
-        let weights = self.top.clone()?;
+        let place = Place::of(alloc, Shape::of(&self.problem), doms, start)?;
         let (line, _) = found_leaf(
             alloc,
             &self.problem,
             &self.tails,
             doms,
-            field,
-            weights,
+            goal,
+            Field {
+                words,
+                place: &place,
+                demand,
+            },
+            weights.clone()?,
             Turns { first: 1, most: 1 },
             WITHIN,
         )?;

@@ -82,7 +82,7 @@ pub fn search(
         if field.is_light(word, weights, turns.first) {
             return Ok(Some(turns.first));
         }
-        let counts = sweep.counts(alloc, field.words, field.place, days)?;
+        let counts = sweep.counts(alloc, field.words, field.place, days, weights.len())?;
         if hull.contains(&counts) {
             return Ok(None);
         }

@@ -51,6 +51,11 @@ impl Place {
         self.masks.get(p as usize).copied().unwrap_or(0)
     }
 
+    // Whether a weekend ends on a day of the words.
+    fn ends_weekend(&self, day: u32) -> bool {
+        self.shape.ends_weekend(self.position.wrapping_add(day))
+    }
+
     // The coordinate of symbol 0 on a day of the words.
     fn day_start(&self, day: u32) -> usize {
         self.shape.day_start(self.position.wrapping_add(day))
@@ -112,6 +117,12 @@ impl Sweep {
                 steps: words.steps(day),
                 mask: place.mask(day),
                 coordinate: place.day_start(day),
+                ends_off: words.ends_off(day),
+                reward: if place.ends_weekend(day) {
+                    weights.get(place.shape.size()).copied().unwrap_or(0)
+                } else {
+                    0
+                },
                 choices: day.wrapping_mul(self.width) as usize,
             };
             sweep_day(&mut self.now, &self.next, &mut self.choices, part, weights);
@@ -120,15 +131,17 @@ impl Sweep {
         self.next.first().copied().flatten()
     }
 
-    // How often each symbol stands on each day of the week in the heaviest word, after a pass.
+    // How often each symbol stands on each day of the week in the heaviest word, after a pass, and how many free weekends
+    // it has.
     pub fn counts(
         &self,
         alloc: Global,
         words: &Words,
         place: &Place,
         days: u32,
+        size: usize,
     ) -> Result<Vec<i64>, AllocError> {
-        let mut counts = vec![in alloc; 0i64; place.shape.size()]?;
+        let mut counts = vec![in alloc; 0i64; size]?;
         let mut node = 0u32;
         for day in 0..days {
             let at = day.wrapping_mul(self.width).wrapping_add(node) as usize;
@@ -136,6 +149,9 @@ impl Sweep {
             if let Some(step) = words.steps(day).get(choice) {
                 let number = usize::from(step.symbol.number);
                 add_one(&mut counts, place.day_start(day).wrapping_add(number));
+                if place.ends_weekend(day) && stays_off(words.ends_off(day), *step) {
+                    add_one(&mut counts, place.shape.size());
+                }
                 node = step.to;
             }
         }
@@ -149,6 +165,11 @@ fn add_one(counts: &mut [i64], coordinate: usize) {
     }
 }
 
+// Whether the step is by the day off and the day before is off too.
+fn stays_off(ends_off: &[bool], step: Step) -> bool {
+    step.symbol.number == 0 && ends_off.get(step.from as usize).copied().unwrap_or(false)
+}
+
 // What a pass needs of a day.
 #[derive(Clone, Copy)]
 struct Day<'a> {
@@ -157,6 +178,10 @@ struct Day<'a> {
     mask: u16,
     // The coordinate of symbol 0.
     coordinate: usize,
+    // For each node before it, whether the day before is off.
+    ends_off: &'a [bool],
+    // What it weighs that this day is off and the day before.
+    reward: i64,
     // Where the choices of its nodes begin.
     choices: usize,
 }
@@ -177,7 +202,10 @@ fn sweep_day(
             continue;
         };
         let coordinate = day.coordinate.wrapping_add(usize::from(step.symbol.number));
-        let gain = weights.get(coordinate).copied().unwrap_or(0);
+        let mut gain = weights.get(coordinate).copied().unwrap_or(0);
+        if day.reward != 0 && stays_off(day.ends_off, *step) {
+            gain = gain.wrapping_add(day.reward);
+        }
         let from = step.from as usize;
         if offer(now, from, after.wrapping_add(gain)) {
             put(choices, day.choices.wrapping_add(from), k);

@@ -18,6 +18,8 @@ const MOST_STEPS: usize = 1_000_000;
 pub struct Words {
     layers: Layers,
     period: Option<usize>,
+    // For each layer and node before it, whether the words to the node end with the day off.
+    ends_off: Vec<Vec<bool>>,
 }
 
 impl Words {
@@ -35,7 +37,12 @@ impl Words {
                 return Ok(words);
             }
             let period = period_of(layers.layers());
-            words = Some(Words { layers, period });
+            let ends_off = ends_off(alloc, layers.layers(), layers.node_counts())?;
+            words = Some(Words {
+                layers,
+                period,
+                ends_off,
+            });
             if period.is_some() || days == LONGEST_WORD {
                 return Ok(words);
             }
@@ -56,6 +63,14 @@ impl Words {
     pub fn steps(&self, day: u32) -> &[Step] {
         match self.layers.layers().get(self.place(day as usize)) {
             Some(layer) => layer.steps(),
+            None => &[],
+        }
+    }
+
+    // For each node before a day, whether the words to it end with the day off.
+    pub fn ends_off(&self, day: u32) -> &[bool] {
+        match self.ends_off.get(self.place(day as usize)) {
+            Some(ends) => ends,
             None => &[],
         }
     }
@@ -85,6 +100,26 @@ impl Words {
         }
         sum
     }
+}
+
+// For each layer and node before it, whether the steps to the node are by the day off, as all are where one is.
+fn ends_off(
+    alloc: Global,
+    layers: &[Layer],
+    node_counts: &[u32],
+) -> Result<Vec<Vec<bool>>, AllocError> {
+    let mut all = Vec::new(alloc);
+    all.push(vec![in alloc; false]?)?;
+    for (layer, count) in layers.iter().zip(node_counts.iter().skip(1)) {
+        let mut ends = vec![in alloc; false; *count as usize]?;
+        for step in layer.steps() {
+            if let Some(end) = ends.get_mut(step.to as usize) {
+                *end = step.symbol.number == 0;
+            }
+        }
+        all.push(ends)?;
+    }
+    Ok(all)
 }
 
 fn step_count(layers: &[Layer]) -> usize {
