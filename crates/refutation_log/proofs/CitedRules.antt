@@ -1,5 +1,5 @@
 -- The numbers of the rules that a line cites.
-use Rattle.std.proofs.Common.{◌≡◌, ◌≢◌, ℕ, zero, suc, ◌+◌, ◌<◌, ◌≤◌, List, [], ◌∷◌, length, get_or, refl, ap, sym, ◌∙◌, subst, arith, ◌⊎◌, inl, inr, ⊎_elim, Some, Bool, true, false, pos}
+use Rattle.std.proofs.Common.{◌≡◌, ◌≢◌, ℕ, zero, suc, ◌+◌, ◌<◌, ◌≤◌, List, [], ◌∷◌, length, get_or, refl, ap, sym, ◌∙◌, subst, arith, ◌⊎◌, inl, inr, ⊎_elim, Option, Some, None, Bool, true, false, pos}
 use Rattle.std.specs.Prelude.{Contains, ◌↔◌, slice_get, AllPairs}
 use Rattle.std.proofs.lemmas.Option.{slice_get-get_or, same_Some}
 use Rattle.std.proofs.lemmas.List.Elements.{All-contains}
@@ -18,7 +18,7 @@ use Rattle.rwsp_model.specs.RuleNumbers.{place_of}
 use Rattle.refutation_terms.specs.declared.lines.Line.{Line}
 use Rattle.refutation_terms.specs.declared.lines.Line.TheVariants.{Split, Window, Day as DayLeaf, Dead, Bound, Few, Free, Unfinished}
 use Rattle.refutation_terms.specs.declared.lines.Turn.{Turn}
-use Rattle.refutation_terms.specs.Log.{LineFits, Cites, TurnCites, HasWeight, AreRules}
+use Rattle.refutation_terms.specs.Log.{LineFits, FreeLineFits, LineFitsFor, WeightsFit, Cites, TurnCites, HasWeight, AreRules}
 use Rattle.refutation_log.specs.Cited.{Adds, IsCited, IsDayRule, IsWeighedDayRule}
 
 pub rule_there : (P : Instance) (k : ℕ) → 0 < k → k ≤ length (rules P) → (r : Rule) × (rule_of P k ≡ Some r)
@@ -29,9 +29,33 @@ rule_there P (suc k) some within = (get_or (rules P) k MaxOff, slice_get-get_or 
 abbrev pub TellsCited : Instance → Line → (ℕ → Type 0) → Type 0
 TellsCited P line A = (k : ℕ) → A k ↔ IsCited P (Cites P line) k
 
+pub cited_along_for : (P : Instance) (Fits : Line → Type 0) (line base : Line) (A : ℕ → Type 0) → line ≡ base → (Fits base → TellsCited P base A) → Fits line → TellsCited P line A
+cited_along_for P Fits line base A e f fits =
+    subst (λ (l : Line). TellsCited P l A) (sym e) (f (subst Fits e fits))
+
 pub cited_along : (P : Instance) (line base : Line) (A : ℕ → Type 0) → line ≡ base → (LineFits P base → TellsCited P base A) → LineFits P line → TellsCited P line A
-cited_along P line base A e f fits =
-    subst (λ (l : Line). TellsCited P l A) (sym e) (f (subst (LineFits P) e fits))
+cited_along P line base A e f fits = cited_along_for P (LineFits P) line base A e f fits
+
+-- a line that has the same ranges with a goal and without one
+pub window_plain : (P : Instance) (goal : Option ℕ) (number p len : ℕ) → LineFitsFor P goal (Window number p len) → LineFits P (Window number p len)
+window_plain P None number p len fits = fits
+window_plain P (Some goal) number p len fits = fits
+
+pub day_plain : (P : Instance) (goal : Option ℕ) (j : ℕ) (x : Symbol) (over : Bool) → LineFitsFor P goal (DayLeaf j x over) → LineFits P (DayLeaf j x over)
+day_plain P None j x over fits = fits
+day_plain P (Some goal) j x over fits = fits
+
+pub dead_plain : (P : Instance) (goal : Option ℕ) (p len : ℕ) (R : List ℕ) → LineFitsFor P goal (Dead p len R) → LineFits P (Dead p len R)
+dead_plain P None p len R fits = fits
+dead_plain P (Some goal) p len R fits = fits
+
+pub bound_plain : (P : Instance) (goal : Option ℕ) (p turns : ℕ) (R : List ℕ) (y : List Weight) → LineFitsFor P goal (Bound p turns R y) → LineFits P (Bound p turns R y)
+bound_plain P None p turns R y fits = fits
+bound_plain P (Some goal) p turns R y fits = absurd fits
+
+pub free_plain : (P : Instance) (goal : Option ℕ) (turns reward : ℕ) (R : List ℕ) (y : List Weight) → LineFitsFor P goal (Free turns reward R y) → FreeLineFits P (Free turns reward R y)
+free_plain P None turns reward R y fits = absurd fits
+free_plain P (Some goal) turns reward R y fits = fits
 
 in_one : (n k : ℕ) → Contains (n ∷ []) k → k ≡ n
 in_one n k c =
@@ -109,11 +133,11 @@ has_weight P y m e are is =
     let small : IsWeight e = subst IsWeight at.1 (are.small m e at.0) in
     (e.symbol.number, λ z. small.2 (sym w ∙ z))
 
-pub bound_cited : (P : Instance) (p turns : ℕ) (R : List ℕ) (y : List Weight) → LineFits P (Bound p turns R y) → TellsCited P (Bound p turns R y) (λ k. Contains R k ⊎ IsWeighedDayRule P y k)
-bound_cited P p turns R y fits k = (
+weighed_cited : (P : Instance) (R : List ℕ) (y : List Weight) → AreRules P R → AreWeights y → (k : ℕ) → (Contains R k ⊎ IsWeighedDayRule P y k) ↔ IsCited P (λ r. Names P R r ⊎ ((j : ℕ) × HasWeight y j × (r ≡ Day j))) k
+weighed_cited P R y rules weights k = (
   λ h. ⊎_elim
-      (λ (c : Contains R k). let q = named_cited P R k fits.2 c in (q.0, q.1, inl q.2))
-      (λ (q : IsWeighedDayRule P y k). (Day q.1.day, q.4, inr (q.1.day, has_weight P y q.0 q.1 fits.3.0 q.3, refl)))
+      (λ (c : Contains R k). let q = named_cited P R k rules c in (q.0, q.1, inl q.2))
+      (λ (q : IsWeighedDayRule P y k). (Day q.1.day, q.4, inr (q.1.day, has_weight P y q.0 q.1 weights q.3, refl)))
       h,
   λ q. ⊎_elim
       (λ (named : Names P R q.0). inl (cited_named P R k q.0 q.1 named))
@@ -122,6 +146,12 @@ bound_cited P p turns R y fits k = (
       inr (e.0, e.1, e.2, e.3, q.1 ∙ ap (λ (r : Rule). Some r) day.2 ∙ ap (λ j. Some (Day j)) (sym e.4)))
       q.2,
 )
+
+pub bound_cited : (P : Instance) (p turns : ℕ) (R : List ℕ) (y : List Weight) → LineFits P (Bound p turns R y) → TellsCited P (Bound p turns R y) (λ k. Contains R k ⊎ IsWeighedDayRule P y k)
+bound_cited P p turns R y fits k = weighed_cited P R y fits.2 fits.3.0 k
+
+pub free_cited : (P : Instance) (turns reward : ℕ) (R : List ℕ) (y : List Weight) → FreeLineFits P (Free turns reward R y) → TellsCited P (Free turns reward R y) (λ k. Contains R k ⊎ IsWeighedDayRule P y k)
+free_cited P turns reward R y fits k = weighed_cited P R y fits.2 fits.3.0 k
 
 -- names
 
@@ -141,22 +171,28 @@ day_numbered : (P : Instance) (j : ℕ) (r : Rule) → IsDay P j → r ≡ Day j
 day_numbered P j r is e =
     (place_of P (Day j) + 1, number_at_place P (Day j) (place_of P (Day j) + 1) is refl ∙ ap (λ (z : Rule). Some z) (sym e))
 
-pub line_numbered : (P : Instance) (line : Line) → LineFits P line → (r : Rule) → Cites P line r → (k : ℕ) × (rule_of P k ≡ Some r)
-line_numbered P (Split p x) fits r c = absurd c
-line_numbered P (Window number p len) fits r c = (c.0, c.2)
-line_numbered P (DayLeaf j x over) fits r c = day_numbered P j r fits.0 c
-line_numbered P (Dead p len R) fits r c = (c.0, c.2)
-line_numbered P (Bound p turns R y) fits r c =
+weighed_numbered : (P : Instance) (R : List ℕ) (y : List Weight) → WeightsFit P y → (r : Rule) → Names P R r ⊎ ((j : ℕ) × HasWeight y j × (r ≡ Day j)) → (k : ℕ) × (rule_of P k ≡ Some r)
+weighed_numbered P R y weights r c =
     ⊎_elim (λ (n : Names P R r). (n.0, n.2))
     (λ (d : (j : ℕ) × HasWeight y j × (r ≡ Day j)).
     let e = entry_of_weight y d.0 d.1.0 d.1.1 in
     let at = read_at y e.0 e.1 e.3 in
-    let day : IsDay P e.1.day = subst (λ (w : Weight). IsDay P w.day) at.1 (fits.3.1 e.0 e.1 at.0).0 in
+    let day : IsDay P e.1.day = subst (λ (w : Weight). IsDay P w.day) at.1 (weights e.0 e.1 at.0).0 in
     day_numbered P d.0 r (subst (IsDay P) e.4 day) d.2)
     c
-line_numbered P Unfinished fits r c = absurd c
-line_numbered P Few fits r c = absurd c
-line_numbered P (Free turns reward R y) fits r c = absurd fits
+
+pub line_numbered_for : (P : Instance) (goal : Option ℕ) (line : Line) → LineFitsFor P goal line → (r : Rule) → Cites P line r → (k : ℕ) × (rule_of P k ≡ Some r)
+line_numbered_for P goal (Split p x) fits r c = absurd c
+line_numbered_for P goal (Window number p len) fits r c = (c.0, c.2)
+line_numbered_for P goal (DayLeaf j x over) fits r c = day_numbered P j r (day_plain P goal j x over fits).0 c
+line_numbered_for P goal (Dead p len R) fits r c = (c.0, c.2)
+line_numbered_for P goal (Bound p turns R y) fits r c = weighed_numbered P R y (bound_plain P goal p turns R y fits).3.1 r c
+line_numbered_for P goal (Free turns reward R y) fits r c = weighed_numbered P R y (free_plain P goal turns reward R y fits).3.1 r c
+line_numbered_for P goal Unfinished fits r c = absurd c
+line_numbered_for P goal Few fits r c = absurd c
+
+pub line_numbered : (P : Instance) (line : Line) → LineFits P line → (r : Rule) → Cites P line r → (k : ℕ) × (rule_of P k ≡ Some r)
+line_numbered P line fits r c = line_numbered_for P None line fits r c
 
 pub turn_numbered : (P : Instance) (t : Turn) → IsDay P t.day → (r : Rule) → TurnCites (Some t) r → (k : ℕ) × (rule_of P k ≡ Some r)
 turn_numbered P t is r c = day_numbered P t.day r is c

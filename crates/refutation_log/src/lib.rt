@@ -14,7 +14,7 @@ mod refusal;
 mod tests;
 mod turn;
 
-pub use cited::{put_cited, put_turn_cited};
+pub use cited::{put_cited, put_cited_for, put_turn_cited};
 pub use header::{Header, lines_of_header, read_header};
 pub use laws::{
     logs_have_one_text, texts_have_one_verdict, texts_of_logs_are_read, unread_texts_have_one_cause,

@@ -1,9 +1,6 @@
-use Rattle.refutation_terms.specs.Log.{Cites}
-use Rattle.refutation_log.proofs.Adding.{on_ok}
-use Rattle.refutation_log.proofs.CitedRules.{names_added, line_numbered}
+-- A line of a log without a goal.
+use Rattle.std.proofs.Common.{None}
 use Rattle.refutation_log.proofs.cited.put_cited.Goals as goal
 
-pub returns-clause-names : goal.returns-clause-names
-returns-clause-names c =
-    let P = c.args.problem.now in
-    on_ok c.put_line_cited.result _ _ (names_added P _ _ (Cites P c.args.line.now) (line_numbered P c.args.line.now c.requires)) c.put_line_cited.ensures.ok
+pub put_cited_for-requires : goal.put_cited_for-requires
+put_cited_for-requires c = (None, c.requires)

@@ -1,0 +1,9 @@
+use Rattle.refutation_terms.specs.Log.{Cites}
+use Rattle.refutation_log.proofs.Adding.{on_ok}
+use Rattle.refutation_log.proofs.CitedRules.{names_added, line_numbered_for}
+use Rattle.refutation_log.proofs.cited.put_cited_for.Goals as goal
+
+pub returns-clause-names : goal.returns-clause-names
+returns-clause-names c =
+    let P = c.args.problem.now in
+    on_ok c.put_line_cited.result _ _ (names_added P _ _ (Cites P c.args.line.now) (line_numbered_for P c.requires.0 c.args.line.now c.requires.1)) c.put_line_cited.ensures.ok
