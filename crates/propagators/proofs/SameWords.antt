@@ -9,7 +9,7 @@ use Rattle.refutation_terms.specs.Escape.{IsCleanOver, IsHeaviest, IsLeastHeavie
 use Rattle.refutation_terms.specs.Sharp.{IsSearched, HoldsAtTop, NoWordHas}
 use Rattle.refutation_terms.proofs.SameDomains.{turned_round}
 
-same_over : (P : Instance) (D E : Domains) (p : ℕ) (u : List Symbol) → 0 < cells P → AreSame P D E → Over P D p u → Over P E p u
+pub same_over : (P : Instance) (D E : Domains) (p : ℕ) (u : List Symbol) → 0 < cells P → AreSame P D E → Over P D p u → Over P E p u
 same_over P D E p [] some same over = tt
 same_over P D E p (x ∷ u) some same over =
     let inside : p % cells P < cells P = omega (arith, some) in

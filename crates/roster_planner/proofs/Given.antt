@@ -7,6 +7,6 @@ use Rattle.domain_store.specs.Store.{Store, has_domain}
 use Rattle.nearest_weights.specs.Found.{IsHoldingLeaf}
 use Rattle.roster_search.specs.Guides.{IsLeafGiven}
 
-pub given_of_holding : (P : Instance) (S : Store) (found : Option Line) → IfSome found (IsHoldingLeaf P (has_domain S)) → IsLeafGiven P S found
+pub given_of_holding : (P : Instance) (S : Store) (found : Option Line) → IfSome found (IsHoldingLeaf P (has_domain S)) → IsLeafGiven P None S found
 given_of_holding P S None h = h
 given_of_holding P S (Some line) h = record { is_leaf = record { leaf = h.leaf; fits = h.fits; short = h.short }; holds = h.holds }

@@ -144,7 +144,7 @@ planned_log P turn leaves spent R g limits first short reasons never h =
     }
 
 pub planned_as_found : (P : Instance) (turn : Option Turn) (budget : ℕ) (leaves : Leaves) (spent : Spent) (R : List ℕ) (found : Found) → KeepsLimits P → 1 ≤ budget → IsFirstTurn P turn → AreShortRules P R → AreReasons P turn leaves spent → IsFound P turn budget leaves spent found → (HasSpentBudget found → budget + 1 < 2 * (shift_count P + 1) ^ cells P) → IsPlanned P budget found
-planned_as_found P turn budget leaves spent R (Roster s) limits some first short reasons h few = h
+planned_as_found P turn budget leaves spent R (Roster s) limits some first short reasons h few = (h.0, h.1)
 planned_as_found P turn budget leaves spent R (NoRoster g) limits some first short reasons h few =
     (h.0, h.1, planned_log P turn leaves spent R g limits first short reasons (λ at. h.0.holds 0 Unfinished at) h.2)
 planned_as_found P turn budget leaves spent R (Undecided g) limits some first short reasons h few =

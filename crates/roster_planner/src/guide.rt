@@ -1,5 +1,5 @@
 // What a plan gives its search from outside.
-ghost use Rattle.std.specs.Prelude.{◌≡◌, IfOk};
+ghost use Rattle.std.specs.Prelude.{◌≡◌, None, IfOk};
 ghost use Rattle.domain_store.specs.Store.{BelongsTo};
 ghost use Rattle.roster_search.specs.Guides.{IsLeafGiven};
 
@@ -43,7 +43,7 @@ impl PlanGuide {
         problem: &Problem,
         turn: Option<Turn>,
     ) -> Result<PlanGuide, AllocError>
-        ensures { IfOk result (λ g. ⟦<PlanGuide as Guide>⟧.serves g problem.now) }
+        ensures { IfOk result (λ g. ⟦<PlanGuide as Guide>⟧.serves g problem.now None) }
     {
         let weights = NearestWeights::new(alloc, problem)?;
         Ok(PlanGuide {
@@ -56,7 +56,7 @@ impl PlanGuide {
 }
 
 impl Guide for PlanGuide {
-    ghost serves = { λ g P. g ≡ P };
+    ghost serves = { λ g P goal. (g ≡ P) × (goal ≡ None) };
 
     fn leaf(&mut self, alloc: Global, doms: &Domains) -> Result<Option<Line>, AllocError> {
         let is_within = self.has_begun;
@@ -83,7 +83,7 @@ fn leaf_by_weights(
 ) -> Result<Option<Line>, AllocError>
     requires { BelongsTo weights.old.problem doms.now }
     ensures same { weights.new ≡ weights.old }
-    ensures leaf { IfOk result (IsLeafGiven weights.old.problem doms.now) }
+    ensures leaf { IfOk result (IsLeafGiven weights.old.problem None doms.now) }
 {
     if is_within {
         weights.leaf_within(alloc, doms)

@@ -31,5 +31,5 @@ pub fn plan_roster<R: Threads + Sync, G: Gate>(
     let turn = first_turn(problem);
     let mut reasons = reasons_of(rt, alloc, problem, turn, gate)?;
     let mut guide = PlanGuide::new(alloc, problem, turn)?;
-    guided_search(alloc, problem, turn, &mut reasons, &mut guide, budget)
+    guided_search(alloc, problem, turn, None, &mut reasons, &mut guide, budget)
 }

@@ -9,7 +9,7 @@ use Rattle.refutation_terms.specs.declared.lines.Line.TheVariants.{Split}
 use Rattle.refutation_terms.specs.declared.lines.Turn.{Turn}
 use Rattle.refutation_terms.specs.Word.{Domains}
 use Rattle.refutation_terms.specs.Tree.{opening, domains_at}
-use Rattle.refutation_terms.specs.Log.{TurnFits, TurnCites, Cites}
+use Rattle.refutation_terms.specs.Log.{TurnFits, GoalFits, TurnCites, Cites}
 use Rattle.refutation_terms.proofs.TreeDomains.{got_left, got_right}
 use Rattle.domain_store.specs.Store.{Store}
 use Rattle.tree_walk.specs.declared.open_split.OpenSplit.{OpenSplit}
@@ -59,9 +59,10 @@ one_open P turn w part h =
 
 pub record IsNext (P : Instance) (a b : Progress) (line : Line) : Type 0 where
   pub turn : b.turn ≡ a.turn
+  pub goal : b.goal ≡ a.goal
   pub lines : b.lines.items ≡ a.lines.items ++ line ∷ []
   pub state : IsStateOf P a.turn (a.lines.items ++ line ∷ []) b.walk
-  pub stands : Stands P (domains_at P a.turn a.lines.items (length a.lines.items)) line
+  pub stands : Stands P a.goal (domains_at P a.turn a.lines.items (length a.lines.items)) line
   pub named : (r : Rule) → Names P b.named r ↔ (Names P a.named r ⊎ Cites P line r)
   pub numbers : (k : ℕ) → Contains b.named k → (r : Rule) × (rule_of P k ≡ Some r)
   pub opened : open_trees b.walk ≤ open_trees a.walk + 1
@@ -72,9 +73,10 @@ written_next P a b line w n =
     let all : List Line = a.lines.items ++ line ∷ [] in
     let long : length b.lines.items ≡ length all = ap length n.lines in
     let state : IsStateOf P b.turn b.lines.items b.walk = subst (λ t. IsStateOf P t b.lines.items b.walk) (sym n.turn) (subst (λ l. IsStateOf P a.turn l b.walk) (sym n.lines) n.state) in
-    let stand : EachAt (Stands P) P b.turn b.lines.items =
-    subst (λ t. EachAt (Stands P) P t b.lines.items) (sym n.turn)
-    (subst (EachAt (Stands P) P a.turn) (sym n.lines) (one_more (Stands P) P a.turn a.lines.items line w.stand n.stands)) in
+    let stand : EachAt (Stands P b.goal) P b.turn b.lines.items =
+    subst (λ (g : Option ℕ). EachAt (Stands P g) P b.turn b.lines.items) (sym n.goal)
+    (subst (λ t. EachAt (Stands P a.goal) P t b.lines.items) (sym n.turn)
+    (subst (EachAt (Stands P a.goal) P a.turn) (sym n.lines) (one_more (Stands P a.goal) P a.turn a.lines.items line w.stand n.stands))) in
     let cited : (r : Rule) → Names P b.named r ↔ IsCitedIn P a.turn all r = λ r. (
       λ named. more_cited P a.turn a.lines.items line r (elim ((n.named r).0 named) as (λ (h : Names P a.named r ⊎ Cites P line r). IsCitedIn P a.turn a.lines.items r ⊎ Cites P line r) [ inl old ↦ inl ((w.cited r).0 old) | inr new ↦ inr new ]),
       λ c. (n.named r).1 (elim (cited_more P a.turn a.lines.items line r c) as (λ (h : IsCitedIn P a.turn a.lines.items r ⊎ Cites P line r). Names P a.named r ⊎ Cites P line r) [ inl old ↦ inl ((w.cited r).1 old) | inr new ↦ inr new ]),
@@ -82,6 +84,7 @@ written_next P a b line w n =
     record {
       state = state;
       turn_fits = subst (TurnFits P) (sym n.turn) w.turn_fits;
+      goal_fits = subst (λ (g : Option ℕ). GoalFits P b.turn g) (sym n.goal) (subst (λ (t : Option Turn). GoalFits P t a.goal) (sym n.turn) w.goal_fits);
       stand = stand;
       cited = λ r. subst (λ t. Names P b.named r ↔ IsCitedIn P t b.lines.items r) (sym n.turn) (subst (λ l. Names P b.named r ↔ IsCitedIn P a.turn l r) (sym n.lines) (cited r));
       numbers = n.numbers;

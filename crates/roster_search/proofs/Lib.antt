@@ -1,5 +1,6 @@
 pub mod Growing
 pub mod Narrowing
+pub mod Reaching
 pub mod Cited
 pub mod Logs
 pub mod Forced

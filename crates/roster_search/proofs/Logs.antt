@@ -12,7 +12,7 @@ use Rattle.refutation_terms.specs.declared.lines.Line.{Line}
 use Rattle.refutation_terms.specs.declared.lines.Line.TheVariants.{Unfinished}
 use Rattle.refutation_terms.specs.declared.lines.Turn.{Turn}
 use Rattle.refutation_terms.specs.Tree.{IsTree, after_trees}
-use Rattle.refutation_terms.specs.Log.{Log, LineFits, Holds, HoldsAt, Cites, ListsShortOnly, IsAllowed, AreRules, IsGrounded, Passes, IsSpent, size, is_worked}
+use Rattle.refutation_terms.specs.Log.{Log, LineFitsFor, HoldsFor, HoldsAtFor, Cites, ListsShortOnly, IsAllowed, AreRules, IsGroundedFor, PassesFor, IsSpentFor, size, is_worked}
 use Rattle.refutation_terms.proofs.Trees.{whole_is_tree}
 use Rattle.refutation_terms.proofs.TreeDomains.{got_left}
 use Rattle.tree_walk.specs.Splits.{second_sides_to_come}
@@ -22,6 +22,7 @@ use Rattle.roster_search.specs.declared.found.Found.TheVariants.{NoRoster, Undec
 use Rattle.roster_search.specs.Founds.{IsLogOfTurn}
 use Rattle.roster_search.specs.Written.{IsProgress, IsEnded}
 use Rattle.roster_search.proofs.Growing.{got_in, domains_before}
+use Rattle.roster_search.proofs.Reaching.{open_fits}
 use Rattle.rwsp_model.proofs.Numbering.{rule_in_range}
 
 are_rules : (P : Instance) (R : List ℕ) → IsStrictlyIncreasing R → ((k : ℕ) → Contains R k → (r : Rule) × (rule_of P k ≡ Some r)) → AreRules P R
@@ -39,7 +40,7 @@ abbrev pub AreOpen : List Line → Type 0
 AreOpen rest = (m : ℕ) (line : Line) → slice_get rest m ≡ Some line → line ≡ Unfinished
 
 abbrev pub log_of : Progress → List Line → Log
-log_of s rest = record { named = s.named; turn = s.turn; goal = None; lines = s.lines.items ++ rest }
+log_of s rest = record { named = s.named; turn = s.turn; goal = s.goal; lines = s.lines.items ++ rest }
 
 each_in : (Q : Line → Type 0) (ls rest : List Line) → ((k : ℕ) (line : Line) → slice_get ls k ≡ Some line → Q line) → Q Unfinished → AreOpen rest → (k : ℕ) (line : Line) → slice_get (ls ++ rest) k ≡ Some line → Q line
 each_in Q ls rest each here opened k line e = elim (got_in ls rest k line e) [
@@ -47,14 +48,14 @@ each_in Q ls rest each here opened k line e = elim (got_in ls rest k line e) [
   | inr at ↦ subst Q (sym (opened at.0 line at.2)) here
 ]
 
-grounded : (P : Instance) (s : Progress) (rest : List Line) → IsProgress P s → IsAllowed P s.turn → IsStrictlyIncreasing s.named → AreOpen rest → IsGrounded P (log_of s rest)
+grounded : (P : Instance) (s : Progress) (rest : List Line) → IsProgress P s → IsAllowed P s.turn → IsStrictlyIncreasing s.named → AreOpen rest → IsGroundedFor P s.goal (log_of s rest)
 grounded P s rest w allowed up opened = record {
   fits = record {
     named = are_rules P s.named up w.numbers;
     turn = w.turn_fits;
     is_goal = refl;
-    goal_fits = tt;
-    lines = each_in (LineFits P) s.lines.items rest (λ k line e. (w.stand k line e).fits) tt opened;
+    goal_fits = w.goal_fits;
+    lines = each_in (LineFitsFor P s.goal) s.lines.items rest (λ k line e. (w.stand k line e).fits) (open_fits P s.goal) opened;
   };
   turn = allowed;
   turn_named = λ r h. (w.cited r).1 (inl h);
@@ -62,9 +63,9 @@ grounded P s rest w allowed up opened = record {
   short = each_in (ListsShortOnly P) s.lines.items rest (λ k line e. (w.stand k line e).short) tt opened;
 }
 
-holds_before : (P : Instance) (s : Progress) (rest : List Line) → IsProgress P s → (k : ℕ) (line : Line) → k < length s.lines.items → slice_get (s.lines.items ++ rest) k ≡ Some line → HoldsAt P (log_of s rest) k line
+holds_before : (P : Instance) (s : Progress) (rest : List Line) → IsProgress P s → (k : ℕ) (line : Line) → k < length s.lines.items → slice_get (s.lines.items ++ rest) k ≡ Some line → HoldsAtFor P s.goal (log_of s rest) k line
 holds_before P s rest w k line lt e = elim (got_in s.lines.items rest k line e) [
-  | inl at ↦ subst (λ D. Holds P D line) (sym (domains_before P s.turn s.lines.items rest k (omega (arith, lt)))) (w.stand k line at.1).holds
+  | inl at ↦ subst (λ D. HoldsFor P s.goal D line) (sym (domains_before P s.turn s.lines.items rest k (omega (arith, lt)))) (w.stand k line at.1).holds
   | inr at ↦ absurd (omega (arith, lt, at.1))
 ]
 
@@ -91,18 +92,18 @@ none_open : AreOpen none
 none_open m line e = absurd (cc)
 
 -- a whole tree passes
-pub passing_end : (P : Instance) (s : Progress) (budget : ℕ) (g : Log) → IsProgress P s → IsAllowed P s.turn → IsStrictlyIncreasing s.named → IsTree s.lines.items → length s.lines.items ≤ budget → g.named ≡ s.named → g.turn ≡ s.turn → g.goal ≡ None → g.lines ≡ s.lines.items → IsEnded P s.turn budget s.lines.items (NoRoster g)
+pub passing_end : (P : Instance) (s : Progress) (budget : ℕ) (g : Log) → IsProgress P s → IsAllowed P s.turn → IsStrictlyIncreasing s.named → IsTree s.lines.items → length s.lines.items ≤ budget → g.named ≡ s.named → g.turn ≡ s.turn → g.goal ≡ s.goal → g.lines ≡ s.lines.items → IsEnded P s.turn s.goal budget s.lines.items (NoRoster g)
 passing_end P s budget g w allowed up tree few a b d c =
     let whole : s.lines.items ++ none ≡ s.lines.items = append-nil s.lines.items in
     let is : log_of s none ≡ g = sym (same_log g (log_of s none) a b d (c ∙ sym whole)) in
     let worked : size g ≤ length g.lines = count_by-le-length is_worked g.lines in
     let long : length g.lines ≡ length s.lines.items = ap length c in
-    let passes : Passes P (log_of s none) = record {
+    let passes : PassesFor P s.goal (log_of s none) = record {
       grounded = grounded P s none w allowed up none_open;
       tree = subst IsTree (sym whole) tree;
       holds = λ k line e. holds_before P s none w k line (omega (arith, slice_get_within (s.lines.items ++ none) k line e, ap length whole)) e;
     } in (
-      subst (Passes P) is passes,
+      subst (PassesFor P s.goal) is passes,
       omega (arith, worked, long, few),
       subst (IsLogOfTurn P s.turn) is (is_log_of_turn P s none w),
       c,
@@ -124,20 +125,20 @@ pub some_open : (w : State) → w.whole ≡ false → 1 ≤ open_trees w
 some_open w part = let e : open_trees w ≡ second_sides_to_come w.splits + 1 = ap (λ b. cond b 0 (second_sides_to_come w.splits + 1)) part in omega arith
 
 -- lines that have used up the budget, with the rest left open
-pub spent_end : (P : Instance) (s : Progress) (budget n : ℕ) (g : Log) → IsProgress P s → IsAllowed P s.turn → IsStrictlyIncreasing s.named → IsTree (s.lines.items ++ replicate n Unfinished) → length s.lines.items ≤ budget → budget ≤ length s.lines.items → 1 ≤ n → g.named ≡ s.named → g.turn ≡ s.turn → g.goal ≡ None → g.lines ≡ s.lines.items ++ replicate n Unfinished → IsEnded P s.turn budget s.lines.items (Undecided g)
+pub spent_end : (P : Instance) (s : Progress) (budget n : ℕ) (g : Log) → IsProgress P s → IsAllowed P s.turn → IsStrictlyIncreasing s.named → IsTree (s.lines.items ++ replicate n Unfinished) → length s.lines.items ≤ budget → budget ≤ length s.lines.items → 1 ≤ n → g.named ≡ s.named → g.turn ≡ s.turn → g.goal ≡ s.goal → g.lines ≡ s.lines.items ++ replicate n Unfinished → IsEnded P s.turn s.goal budget s.lines.items (Undecided g)
 spent_end P s budget n g w allowed up tree few all some a b d c =
     let rest : List Line = replicate n Unfinished in
     let is : log_of s rest ≡ g = sym (same_log g (log_of s rest) a b d c) in
     let long : length (s.lines.items ++ rest) ≡ length s.lines.items + length rest = length-append s.lines.items rest in
     let many : length rest ≡ n = length-replicate n Unfinished in
-    let spent : IsSpent P (log_of s rest) budget = record {
+    let spent : IsSpentFor P s.goal (log_of s rest) budget = record {
       grounded = grounded P s rest w allowed up (open_rest n);
       tree = tree;
       holds = λ k line lt e. holds_before P s rest w k line (omega (arith, lt, all)) e;
       rest = λ k line le e. elim (got_in s.lines.items rest k line e) [ inl at ↦ absurd (omega (arith, at.0, le, few)) | inr at ↦ open_rest n at.0 line at.2 ];
       unfinished = omega (arith, long, many, few, some);
     } in (
-      subst (λ l. IsSpent P l budget) is spent,
+      subst (λ l. IsSpentFor P s.goal l budget) is spent,
       subst (IsLogOfTurn P s.turn) is (is_log_of_turn P s rest w),
       (n, c),
     )

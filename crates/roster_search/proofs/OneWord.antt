@@ -1,9 +1,9 @@
 -- Decided domains have one word, and a roster of them breaks only what a leaf sees.
-use Rattle.std.proofs.Common.{◌≡◌, ℕ, ◌+◌, ◌-◌, ◌*◌, ◌%◌, ◌<◌, ◌≤◌, List, [], ◌∷◌, length, get_or, Option, Some, refl, ap, sym, ◌∙◌, subst, arith, length-append, inl, inr, Bool, true, false, IsTrue, ◌||◌, ◌==◌, not, pos, ℤ}
+use Rattle.std.proofs.Common.{◌≡◌, ℕ, ◌⊎◌, ◌+◌, ◌-◌, ◌*◌, ◌%◌, ◌<◌, ◌≤◌, List, [], ◌∷◌, length, get_or, Option, Some, refl, ap, sym, ◌∙◌, subst, arith, length-append, inl, inr, Bool, true, false, IsTrue, ◌||◌, ◌==◌, not, pos, ℤ, None, ◌&&◌, count_by}
 use Rattle.std.specs.Prelude.{slice_get, All, ◌<ℤ◌, ◌≤ℤ◌}
 use Rattle.std.specs.List.{range_with_len, list_all}
 use Rattle.std.proofs.lemmas.Int.{ints, by_lt_z}
-use Rattle.std.proofs.lemmas.Bool.{eqb-true, eq-eqb}
+use Rattle.std.proofs.lemmas.Bool.{eqb-true, eq-eqb, cases_lt}
 use Rattle.std.proofs.lemmas.List.Sums.{list_all-from_AllPass}
 use Rattle.std.proofs.lemmas.Option.{slice_get_cases}
 use Rattle.rwsp_terms.specs.declared.limits.TheConstants.{GREATEST_BOUND, LONGEST_WORD}
@@ -24,12 +24,18 @@ use Rattle.rwsp_model.proofs.Numbering.{number_at_place, number_within}
 use Rattle.refutation_terms.specs.declared.lines.Line.TheVariants as Lines
 use Rattle.refutation_terms.specs.Word.{Over}
 use Rattle.refutation_terms.specs.Leaf.{is_only, fixed, possible}
-use Rattle.refutation_terms.specs.Log.{LineFits, Holds}
+use Rattle.refutation_terms.specs.declared.lines.Turn.{Turn}
+use Rattle.refutation_terms.specs.FreeWeekends.{is_off_at, free_weekends}
+use Rattle.refutation_terms.specs.FreeLeaves.{may_be_free}
+use Rattle.refutation_terms.specs.Laws.{HasGoal}
+use Rattle.refutation_terms.specs.Log.{LineFits, GoalFits, Holds, HoldsFor}
+use Rattle.refutation_terms.proofs.FreeCounts.{free_weekends_weeks}
 use Rattle.refutation_terms.proofs.Counts.{in_column}
-use Rattle.refutation_terms.proofs.Tests.{both}
+use Rattle.refutation_terms.proofs.Tests.{both, left_of, right_of}
 use Rattle.domain_store.specs.Store.{Store, BelongsTo, IsDecided, domain_at, has_domain, IsStore, HasDomains}
 use Rattle.tree_walk.proofs.Idle.{positions_of}
 use Rattle.rwsp_model.proofs.Limits.{some_cells}
+use Rattle.roster_search.proofs.Reaching.{weekend_within}
 
 -- decided domains, and the roster of their symbols
 pub record IsAlone (P : Instance) (S : Store) (s : List Symbol) : Type 0 where
@@ -148,18 +154,52 @@ meets_by P (Pair k) s h day = h
 meets_by P (Triple k) s h day = h
 meets_by P (Day j) s h day = day j refl
 
--- where no window leaf and no day leaf holds, the roster meets every rule
-pub meets_all : (P : Instance) (S : Store) (s : List Symbol) → KeepsLimits P → BelongsTo P S → IsStore S → HasDomains S → IsDecided S → IsRoster P s → ((p : ℕ) (d : Symbol) → p < length s → IsTrue (has_domain S p (get_or s p d).number)) → NoWindowHolds P S → NoDayHolds P S → MeetsAll P s
-meets_all P S s limits belongs store tests decided roster has windows days =
+-- a week that may be free is free
+free_where_may_be : (P : Instance) (S : Store) (s : List Symbol) → IsAlone P S s → P.days ≡ 7 → count_by (may_be_free (has_domain S)) (range_with_len 0 P.weeks) ≤ free_weekends s
+free_where_may_be P S s a week =
+    let may = may_be_free (has_domain S) in
+    let is_free : ℕ → Bool = λ i. is_off_at s (i * 7 + 5) && is_off_at s (i * 7 + 6) in
+    let fewer : count_by may (range_with_len 0 P.weeks) ≤ count_by is_free (range_with_len 0 P.weeks) =
+    count_mono may is_free 0 P.weeks
+    (λ i le lt left.
+    let last : i * 7 + 6 < cells P = weekend_within P i week (omega (arith, lt)) in
+    let before : i * 7 + 5 < cells P = omega (arith, last) in
+    let off = λ (q : ℕ) (inside : q < cells P) (held : IsTrue (has_domain S q 0)). eq-eqb (get_or s q off_symbol).number 0 (held_is P S s q 0 a inside held) in
+    both (is_off_at s (i * 7 + 5)) (is_off_at s (i * 7 + 6))
+    (off (i * 7 + 5) before (left_of (has_domain S (i * 7 + 5) 0) (has_domain S (i * 7 + 6) 0) left))
+    (off (i * 7 + 6) last (right_of (has_domain S (i * 7 + 5) 0) (has_domain S (i * 7 + 6) 0) left))) in
+    subst (λ n. count_by may (range_with_len 0 P.weeks) ≤ n) (sym (free_weekends_weeks P s week a.is_roster)) fewer
+
+reaches : (P : Instance) (S : Store) (s : List Symbol) (turn : Option Turn) (goal : Option ℕ) → IsAlone P S s → GoalFits P turn goal → (HoldsFor P goal (has_domain S) Lines.Few → ⊥) → HasGoal goal s
+reaches P S s turn None a fits enough = tt
+reaches P S s turn (Some goal) a fits enough =
+    let free = free_where_may_be P S s a fits.1 in
+    elim (cases_lt (count_by (may_be_free (has_domain S)) (range_with_len 0 P.weeks)) goal) [
+      | inl less ↦ absurd (enough less)
+      | inr more ↦ omega (arith, more, free)
+    ]
+
+alone : (P : Instance) (S : Store) (s : List Symbol) → KeepsLimits P → BelongsTo P S → IsStore S → HasDomains S → IsDecided S → IsRoster P s → ((p : ℕ) (d : Symbol) → p < length s → IsTrue (has_domain S p (get_or s p d).number)) → IsAlone P S s
+alone P S s limits belongs store tests decided roster has =
     let many : length S.sets ≡ cells P = positions_of P S store belongs in
-    let a : IsAlone P S s = record {
+    record {
       limits = limits;
       is_roster = roster;
       one = λ q lt. decided q [] (omega (arith, lt, many));
       has = λ q lt. has q off_symbol (omega (arith, lt, roster.long));
       tests = tests;
-    } in
+    }
+
+-- where no window leaf and no day leaf holds, the roster meets every rule
+pub meets_all : (P : Instance) (S : Store) (s : List Symbol) → KeepsLimits P → BelongsTo P S → IsStore S → HasDomains S → IsDecided S → IsRoster P s → ((p : ℕ) (d : Symbol) → p < length s → IsTrue (has_domain S p (get_or s p d).number)) → NoWindowHolds P S → NoDayHolds P S → MeetsAll P s
+meets_all P S s limits belongs store tests decided roster has windows days =
+    let a = alone P S s limits belongs store tests decided roster has in
     record {
       is_roster = roster;
       rules = λ r is. meets_by P r s (no_bad_window P S s r a windows is) (λ j e. meets_day P S s j a days (subst (IsRule P) e is));
     }
+
+-- where the leaf of few weeks doesn't hold, it has as many free weekends as the goal
+pub has_goal : (P : Instance) (S : Store) (s : List Symbol) (turn : Option Turn) (goal : Option ℕ) → KeepsLimits P → BelongsTo P S → IsStore S → HasDomains S → IsDecided S → IsRoster P s → ((p : ℕ) (d : Symbol) → p < length s → IsTrue (has_domain S p (get_or s p d).number)) → GoalFits P turn goal → (HoldsFor P goal (has_domain S) Lines.Few → ⊥) → HasGoal goal s
+has_goal P S s turn goal limits belongs store tests decided roster has fits enough =
+    reaches P S s turn goal (alone P S s limits belongs store tests decided roster has) fits enough

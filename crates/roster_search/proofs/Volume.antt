@@ -1,5 +1,5 @@
 -- How many leaves a tree can have: no more than there are words over the domains.
-use Rattle.std.proofs.Common.{◌≡◌, ◌≢◌, ◌⊎◌, ℕ, zero, suc, ◌+◌, ◌*◌, ◌^◌, ◌<◌, ◌≤◌, [], ◌++◌, length, Some, refl, ap, sym, ◌∙◌, subst, arith, length-append, inl, inr, cond, Bool, true, false, IsTrue, ◌&&◌, ◌||◌, ◌==◌, not, count_by}
+use Rattle.std.proofs.Common.{◌≡◌, ◌≢◌, ◌⊎◌, ℕ, zero, suc, ◌+◌, ◌*◌, ◌^◌, ◌<◌, ◌≤◌, [], ◌++◌, length, Option, Some, refl, ap, sym, ◌∙◌, subst, arith, length-append, inl, inr, cond, Bool, true, false, IsTrue, ◌&&◌, ◌||◌, ◌==◌, not, count_by}
 use Rattle.std.specs.List.{range_with_len}
 use Rattle.std.proofs.Math.Nat.{mul-add, add-mul, mul-le-mul, mul-pos, pow-suc, pow-zero}
 use Rattle.std.proofs.Math.Bool.{and-true}
@@ -13,12 +13,13 @@ use Rattle.refutation_terms.specs.declared.lines.Line.{Line}
 use Rattle.refutation_terms.specs.declared.lines.Line.TheVariants.{Split, Unfinished}
 use Rattle.refutation_terms.specs.Word.{Domains}
 use Rattle.refutation_terms.specs.Tree.{Tree, Leaf, Node, lines_in, First, Second, lines_leave, narrowed, opening, domains_at, is_idle}
-use Rattle.refutation_terms.specs.Log.{Log, LineFits, IsSpent}
+use Rattle.refutation_terms.specs.Log.{Log, LineFits, LineFitsFor, IsSpentFor}
 use Rattle.refutation_terms.proofs.Tests.{both, left_of}
 use Rattle.refutation_terms.proofs.InWords.{there, another}
 use Rattle.refutation_terms.proofs.NeverEmpty.{domains_never_empty}
 use Rattle.refutation_terms.proofs.TreeDomains.{EachLine, EachInOrder, in_tree}
 use Rattle.roster_search.specs.Laws.{SpentBudgetsAreSmall}
+use Rattle.roster_search.proofs.Reaching.{fitting_split, holding_split}
 
 -- the product of the first n numbers
 abbrev product : (ℕ → ℕ) → ℕ → ℕ
@@ -173,17 +174,17 @@ leaves_are_few P (Node p x a b) D each some =
 size_small : (last : ℕ) (D : Domains) (q : ℕ) → size_at last D q ≤ last + 1
 size_small last D q = omega (arith, count_by-le-length (D q) (range_with_len 0 (last + 1)), length-range_with_len 0 (last + 1))
 
-useful_splits : (P : Instance) (g : Log) (budget : ℕ) → IsSpent P g budget → EachInOrder (IsUseful P) (opening P g.turn) g.lines
-useful_splits P g budget s k line e p x is = (
-  subst (LineFits P) is (s.grounded.fits.lines k line e),
+useful_splits : (P : Instance) (goal : Option ℕ) (g : Log) (budget : ℕ) → IsSpentFor P goal g budget → EachInOrder (IsUseful P) (opening P g.turn) g.lines
+useful_splits P goal g budget s k line e p x is = (
+  fitting_split P goal p x (subst (LineFitsFor P goal) is (s.grounded.fits.lines k line e)),
   elim (cases_lt k budget) as (λ (h : (k < budget) ⊎ (budget ≤ k)). is_idle P (domains_at P g.turn g.lines k) p x.number ≡ false) [
-    | inl early ↦ s.holds k (Split p x) early (e ∙ ap (λ (l : Line). Some l) is)
+    | inl early ↦ holding_split P goal (domains_at P g.turn g.lines k) p x (s.holds k (Split p x) early (e ∙ ap (λ (l : Line). Some l) is))
     | inr late ↦ let clash : Split p x ≡ Unfinished = sym is ∙ s.rest k line late e in absurd (cc)
   ],
 )
 
-opening_has_some : (P : Instance) (g : Log) (budget : ℕ) → IsSpent P g budget → HasSome P (opening P g.turn)
-opening_has_some P g budget s q lt =
+opening_has_some : (P : Instance) (goal : Option ℕ) (g : Log) (budget : ℕ) → IsSpentFor P goal g budget → HasSome P (opening P g.turn)
+opening_has_some P goal g budget s q lt =
     let D : Domains = opening P g.turn in
     let all = domains_never_empty P g.turn g.lines 0 s.grounded.fits.turn s.tree (omega (arith, s.unfinished)) (λ i p x less. absurd (omega (arith, less))) in
     let one = all.some q lt in
@@ -191,11 +192,11 @@ opening_has_some P g budget s q lt =
     count_some (D q) 0 (shift_count P + 1) one.0 (omega arith) (omega (arith, small)) (left_of (D q one.0) (lines_leave [] q one.0) one.1)
 
 pub spent_budgets_small : SpentBudgetsAreSmall
-spent_budgets_small P g budget s =
+spent_budgets_small P goal g budget s =
     let t : Tree = s.tree.0 in
     let D : Domains = opening P g.turn in
-    let each : EachLine (IsUseful P) D t = in_tree (IsUseful P) D t (subst (EachInOrder (IsUseful P) D) (sym s.tree.1) (useful_splits P g budget s)) in
-    let few : leaf_count t ≤ product (size_at (shift_count P) D) (cells P) = leaves_are_few P t D each (opening_has_some P g budget s) in
+    let each : EachLine (IsUseful P) D t = in_tree (IsUseful P) D t (subst (EachInOrder (IsUseful P) D) (sym s.tree.1) (useful_splits P goal g budget s)) in
+    let few : leaf_count t ≤ product (size_at (shift_count P) D) (cells P) = leaves_are_few P t D each (opening_has_some P goal g budget s) in
     let most : product (size_at (shift_count P) D) (cells P) ≤ (shift_count P + 1) ^ cells P = product_most (size_at (shift_count P) D) (shift_count P + 1) (cells P) (size_small (shift_count P) D) in
     let lines : length (lines_in t) + 1 ≡ 2 * leaf_count t = line_count t in
     let same : length (lines_in t) ≡ length g.lines = ap length s.tree.1 in

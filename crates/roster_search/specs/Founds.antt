@@ -1,14 +1,15 @@
 -- What a search finds.
-use Rattle.std.specs.Prelude.{◌≡◌, ℕ, ◌≤◌, List, slice_get, Option, Some}
+use Rattle.std.specs.Prelude.{◌≡◌, ℕ, ◌≤◌, List, slice_get, Option, Some, None}
 use Rattle.rwsp_terms.specs.declared.data.Symbol.{Symbol}
 use Rattle.rwsp_terms.specs.Instance.{Instance}
 use Rattle.rwsp_terms.specs.Roster.{MeetsAll}
 use Rattle.refutation_terms.specs.declared.lines.Line.{Line}
-use Rattle.refutation_terms.specs.declared.lines.Line.TheVariants.{Split}
+use Rattle.refutation_terms.specs.declared.lines.Line.TheVariants.{Split, Few}
 use Rattle.refutation_terms.specs.declared.lines.Turn.{Turn}
 use Rattle.refutation_terms.specs.Word.{Domains, AreSame}
 use Rattle.refutation_terms.specs.Tree.{domains_at}
-use Rattle.refutation_terms.specs.Log.{Log, Passes, IsSpent, NamesOnlyCited, size}
+use Rattle.refutation_terms.specs.Log.{Log, HoldsFor, PassesFor, IsSpentFor, NamesOnlyCited, size}
+use Rattle.refutation_terms.specs.Laws.{HasGoal}
 use Rattle.domain_store.specs.Store.{Store, BelongsTo, IsStore, has_domain}
 use Rattle.propagators.specs.Looks.{Closes}
 use Rattle.roster_search.specs.declared.found.Found.{Found}
@@ -32,23 +33,44 @@ AreForced P leaves spent turn lines =
     (k p : ℕ) (x : Symbol) → slice_get lines k ≡ Some (Split p x)
     → IsForced P leaves spent (domains_at P turn lines k) p x
 
+-- with a goal, at each split as many weeks as that can still have a free weekend
+abbrev pub FewHoldsAtNoSplit : Instance → Option ℕ → Option Turn → List Line → Type 0
+FewHoldsAtNoSplit P goal turn lines =
+    (k p : ℕ) (x : Symbol) → slice_get lines k ≡ Some (Split p x)
+    → HoldsFor P goal (domains_at P turn lines k) Few → ⊥
+
 -- a log with this turn that names what it cites and no more
 pub record IsLogOfTurn (P : Instance) (turn : Option Turn) (g : Log) : Type 0 where
   pub same_turn : g.turn ≡ turn
   pub cited : NamesOnlyCited P g
 
--- such a log, whose splits are as the propagator says
-pub record IsSearchLog (P : Instance) (turn : Option Turn) (leaves : Store → Line → Type 0)
+-- such a log, whose splits are as the propagator says, for this goal or none
+pub record IsSearchLogFor (P : Instance) (turn : Option Turn) (goal : Option ℕ) (leaves : Store → Line → Type 0)
     (spent : Store → ℕ → Symbol → Type 0) (g : Log) : Type 0 where
   pub of_turn : IsLogOfTurn P turn g
   pub splits : AreForced P leaves spent turn g.lines
+  pub no_few : FewHoldsAtNoSplit P goal turn g.lines
 
--- a roster that meets every rule; or a log that passes, of at most the budget's size; or one that has spent the budget
+-- the same without a goal
+abbrev pub IsSearchLog : Instance → Option Turn → (Store → Line → Type 0) → (Store → ℕ → Symbol → Type 0) → Log
+    → Type 0
+IsSearchLog P turn leaves spent g = IsSearchLogFor P turn None leaves spent g
+
+-- a roster that meets every rule and has as many free weekends as the goal, where there is one; or a log that passes,
+-- of at most the budget's size; or one that has spent the budget
+abbrev pub IsFoundFor : Instance → Option Turn → Option ℕ → ℕ → (Store → Line → Type 0)
+    → (Store → ℕ → Symbol → Type 0) → Found → Type 0
+IsFoundFor P turn goal budget leaves spent (Roster s) =
+    (s.days ≡ P.days) × MeetsAll P s.cells × HasGoal goal s.cells
+IsFoundFor P turn goal budget leaves spent (NoRoster g) =
+    PassesFor P goal g × (size g ≤ budget) × IsSearchLogFor P turn goal leaves spent g
+IsFoundFor P turn goal budget leaves spent (Undecided g) =
+    IsSpentFor P goal g budget × IsSearchLogFor P turn goal leaves spent g
+
+-- the same without a goal
 abbrev pub IsFound : Instance → Option Turn → ℕ → (Store → Line → Type 0) → (Store → ℕ → Symbol → Type 0) → Found
     → Type 0
-IsFound P turn budget leaves spent (Roster s) = (s.days ≡ P.days) × MeetsAll P s.cells
-IsFound P turn budget leaves spent (NoRoster g) = Passes P g × (size g ≤ budget) × IsSearchLog P turn leaves spent g
-IsFound P turn budget leaves spent (Undecided g) = IsSpent P g budget × IsSearchLog P turn leaves spent g
+IsFound P turn budget leaves spent found = IsFoundFor P turn None budget leaves spent found
 
 -- the budget was spent
 abbrev pub HasSpentBudget : Found → Type 0

@@ -1,26 +1,41 @@
 -- What a guide may give a search, and what the search sees with it.
-use Rattle.std.specs.Prelude.{◌≡◌, ℕ, ◌<◌, ◌≤◌, Option, length, false}
+use Rattle.std.specs.Prelude.{◌≡◌, ℕ, ◌<◌, ◌≤◌, Option, Some, None, length, false}
 use Rattle.std.specs.Option.{IfSome}
 use Rattle.rwsp_terms.specs.declared.data.Symbol.{Symbol}
 use Rattle.rwsp_terms.specs.Instance.{Instance}
 use Rattle.rwsp_terms.specs.Roster.{MeetsAll}
 use Rattle.refutation_terms.specs.declared.lines.Line.{Line}
-use Rattle.refutation_terms.specs.Log.{Holds}
+use Rattle.refutation_terms.specs.declared.lines.Line.TheVariants.{Few}
+use Rattle.refutation_terms.specs.Tree.{IsLeaf}
+use Rattle.refutation_terms.specs.Log.{LineFitsFor, ListsShortOnly, HoldsFor}
+use Rattle.refutation_terms.specs.Laws.{HasGoal}
 use Rattle.domain_store.specs.Store.{Store, has_domain}
 use Rattle.tree_walk.specs.Splits.{is_idle_in}
-use Rattle.propagators.specs.Looks.{IsLeafOf, Closes, IsCut}
+use Rattle.propagators.specs.Looks.{IsUnweighed, Closes, IsCut}
 use Rattle.roster_search.specs.declared.choice.NextSplit.{NextSplit}
 use Rattle.roster_search.specs.declared.sight.Sight.{Sight}
 use Rattle.roster_search.specs.declared.sight.Sight.TheVariants.{Leaf, Roster, Cut, Quiet}
 
--- a leaf of the problem, and it holds under the domains
-pub record IsLeafUnder (P : Instance) (S : Store) (line : Line) : Type 0 where
-  pub is_leaf : IsLeafOf P line
-  pub holds : Holds P (has_domain S) line
+-- a leaf of a log with this goal, or without one: with its numbers in their ranges, and with short rules only in its
+-- list
+pub record IsLeafFor (P : Instance) (goal : Option ℕ) (line : Line) : Type 0 where
+  pub leaf : IsLeaf line
+  pub fits : LineFitsFor P goal line
+  pub short : ListsShortOnly P line
+
+-- such a leaf, and it holds under the domains
+pub record IsLeafUnder (P : Instance) (goal : Option ℕ) (S : Store) (line : Line) : Type 0 where
+  pub is_leaf : IsLeafFor P goal line
+  pub holds : HoldsFor P goal (has_domain S) line
 
 -- such a leaf, or none
-abbrev pub IsLeafGiven : Instance → Store → Option Line → Type 0
-IsLeafGiven P S line = IfSome line (IsLeafUnder P S)
+abbrev pub IsLeafGiven : Instance → Option ℕ → Store → Option Line → Type 0
+IsLeafGiven P goal S line = IfSome line (IsLeafUnder P goal S)
+
+-- where there is a goal, no leaf of the propagator is a bound
+abbrev pub AreUnweighedFor : Option ℕ → (Store → Line → Type 0) → Type 0
+AreUnweighedFor None leaves = Unit {0}
+AreUnweighedFor (Some goal) leaves = (S : Store) (line : Line) → leaves S line → IsUnweighed line
 
 -- a position, and a symbol of its domain that has another beside it
 abbrev pub IsSplitIn : Store → NextSplit → Type 0
@@ -31,13 +46,17 @@ abbrev pub HasNoneFrom : Store → ℕ → ℕ → Type 0
 HasNoneFrom S p lowest = (x : ℕ) → lowest ≤ x → x ≤ S.shifts → has_domain S p x ≡ false
 
 -- a leaf or a roster that a guide gave
-abbrev pub IsGiven : Instance → Store → Sight → Type 0
-IsGiven P S (Leaf line) = IsLeafUnder P S line
-IsGiven P S (Roster s) = (s.days ≡ P.days) × MeetsAll P s.cells
-IsGiven P S sight = ⊥
+abbrev pub IsGiven : Instance → Option ℕ → Store → Sight → Type 0
+IsGiven P goal S (Leaf line) = IsLeafUnder P goal S line
+IsGiven P goal S (Roster s) = (s.days ≡ P.days) × MeetsAll P s.cells × HasGoal goal s.cells
+IsGiven P goal S sight = ⊥
 
--- a leaf that holds, a roster that meets every rule, or what a propagator sees that has no leaf
-abbrev pub IsSight : Instance → (Line → Type 0) → (ℕ → Symbol → Type 0) → Store → Sight → Type 0
-IsSight P leaves spent S (Cut p x line) = (Closes P leaves S → ⊥) × IsCut P spent S p x line
-IsSight P leaves spent S Quiet = (Closes P leaves S → ⊥) × ((p : ℕ) (x : Symbol) → spent p x → ⊥)
-IsSight P leaves spent S given = IsGiven P S given
+-- no leaf of the propagator holds, and with a goal, as many weeks as that can still have a free weekend
+abbrev pub IsOpen : Instance → Option ℕ → (Line → Type 0) → Store → Type 0
+IsOpen P goal leaves S = (Closes P leaves S → ⊥) × (HoldsFor P goal (has_domain S) Few → ⊥)
+
+-- a leaf that holds, a roster that meets every rule and the goal, or what is seen of open domains
+abbrev pub IsSight : Instance → Option ℕ → (Line → Type 0) → (ℕ → Symbol → Type 0) → Store → Sight → Type 0
+IsSight P goal leaves spent S (Cut p x line) = IsOpen P goal leaves S × IsCut P spent S p x line
+IsSight P goal leaves spent S Quiet = IsOpen P goal leaves S × ((p : ℕ) (x : Symbol) → spent p x → ⊥)
+IsSight P goal leaves spent S given = IsGiven P goal S given

@@ -9,19 +9,19 @@ use Rattle.refutation_terms.specs.declared.lines.Line.TheVariants.{Split, Unfini
 use Rattle.refutation_terms.specs.declared.lines.Turn.{Turn}
 use Rattle.refutation_terms.specs.Word.{Domains}
 use Rattle.refutation_terms.specs.Tree.{IsLeaf, domains_at}
-use Rattle.refutation_terms.specs.Log.{LineFits, TurnFits, Holds, Cites, TurnCites, ListsShortOnly, Passes, IsSpent, size}
+use Rattle.refutation_terms.specs.Log.{LineFitsFor, TurnFits, GoalFits, HoldsFor, Cites, TurnCites, ListsShortOnly, PassesFor, IsSpentFor, size}
 use Rattle.domain_store.specs.Store.{Store}
 use Rattle.tree_walk.specs.States.{IsStateOf, open_trees}
 use Rattle.propagators.specs.Looks.{IsNarrowedAt}
-use Rattle.roster_search.specs.Founds.{AreForced, IsLogOfTurn}
+use Rattle.roster_search.specs.Founds.{AreForced, FewHoldsAtNoSplit, IsLogOfTurn}
 use Rattle.roster_search.specs.declared.progress.Progress.{Progress}
 use Rattle.roster_search.specs.declared.found.Found.{Found}
 use Rattle.roster_search.specs.declared.found.Found.TheVariants.{Roster, NoRoster, Undecided}
 
--- a line that holds, with its numbers in their ranges and with short rules only in its list
-pub record Stands (P : Instance) (D : Domains) (line : Line) : Type 0 where
-  pub holds : Holds P D line
-  pub fits : LineFits P line
+-- a line that holds, with its numbers in their ranges and with short rules only in its list, for this goal or none
+pub record Stands (P : Instance) (goal : Option ℕ) (D : Domains) (line : Line) : Type 0 where
+  pub holds : HoldsFor P goal D line
+  pub fits : LineFitsFor P goal line
   pub short : ListsShortOnly P line
 
 -- the rule is that of the turn, or one of the lines cites it
@@ -33,8 +33,9 @@ IsCitedIn P turn lines r =
 pub record IsProgress (P : Instance) (s : Progress) : Type 0 where
   pub state : IsStateOf P s.turn s.lines.items s.walk
   pub turn_fits : TurnFits P s.turn
+  pub goal_fits : GoalFits P s.turn s.goal
   pub stand : (k : ℕ) (line : Line) → slice_get s.lines.items k ≡ Some line
-      → Stands P (domains_at P s.turn s.lines.items k) line
+      → Stands P s.goal (domains_at P s.turn s.lines.items k) line
   pub cited : (r : Rule) → Names P s.named r ↔ IsCitedIn P s.turn s.lines.items r
   pub numbers : (k : ℕ) → Contains s.named k → (r : Rule) × (rule_of P k ≡ Some r)
   pub few_open : open_trees s.walk ≤ length s.lines.items + 1
@@ -47,22 +48,26 @@ IsSplitWithLeaf p x added = (added ≡ Split p x ∷ []) ⊎ ((leaf : Line) × I
 pub record IsSplitOff (P : Instance) (before after : Progress) (p : ℕ) (x : Symbol) : Type 0 where
   pub written : IsProgress P after
   pub same_turn : after.turn ≡ before.turn
+  pub same_goal : after.goal ≡ before.goal
   pub added : List Line
   pub split : IsSplitWithLeaf p x added
   pub lines : after.lines.items ≡ before.lines.items ++ added
   pub narrowed : IsNarrowedAt before.walk.store after.walk.store p
 
--- the lines of a search with this budget, whose splits are as the propagator says
-pub record IsUnderWay (P : Instance) (turn : Option Turn) (budget : ℕ) (leaves : Store → Line → Type 0)
-    (spent : Store → ℕ → Symbol → Type 0) (s : Progress) : Type 0 where
+-- the lines of a search with this turn, goal and budget, whose splits are as the propagator says
+pub record IsUnderWay (P : Instance) (turn : Option Turn) (goal : Option ℕ) (budget : ℕ)
+    (leaves : Store → Line → Type 0) (spent : Store → ℕ → Symbol → Type 0) (s : Progress) : Type 0 where
   pub written : IsProgress P s
   pub same_turn : s.turn ≡ turn
+  pub same_goal : s.goal ≡ goal
   pub forced : AreForced P leaves spent turn s.lines.items
+  pub no_few : FewHoldsAtNoSplit P goal turn s.lines.items
   pub few : length s.lines.items ≤ budget
 
 -- the log of these lines: one that passes, or one that has spent the budget and leaves the rest unfinished
-abbrev pub IsEnded : Instance → Option Turn → ℕ → List Line → Found → Type 0
-IsEnded P turn budget lines (Roster s) = ⊥
-IsEnded P turn budget lines (NoRoster g) = Passes P g × (size g ≤ budget) × IsLogOfTurn P turn g × (g.lines ≡ lines)
-IsEnded P turn budget lines (Undecided g) =
-    IsSpent P g budget × IsLogOfTurn P turn g × ((n : ℕ) × (g.lines ≡ lines ++ replicate n Unfinished))
+abbrev pub IsEnded : Instance → Option Turn → Option ℕ → ℕ → List Line → Found → Type 0
+IsEnded P turn goal budget lines (Roster s) = ⊥
+IsEnded P turn goal budget lines (NoRoster g) =
+    PassesFor P goal g × (size g ≤ budget) × IsLogOfTurn P turn g × (g.lines ≡ lines)
+IsEnded P turn goal budget lines (Undecided g) =
+    IsSpentFor P goal g budget × IsLogOfTurn P turn g × ((n : ℕ) × (g.lines ≡ lines ++ replicate n Unfinished))

@@ -1,26 +1,35 @@
 // Rosters of decided domains.
-ghost use Rattle.std.specs.Prelude.{◌≡◌, ℕ, Bool, IfOk};
+ghost use Rattle.std.specs.Prelude.{◌≡◌, ℕ, Bool, Option, IfOk};
 ghost use Rattle.rwsp_terms.specs.declared.data.Symbol.{Symbol};
 ghost use Rattle.rwsp_terms.specs.Roster.{MeetsAll};
-ghost use Rattle.refutation_terms.specs.declared.lines.Line.TheVariants.{Window, Day};
-ghost use Rattle.refutation_terms.specs.Log.{LineFits, Holds};
+ghost use Rattle.refutation_terms.specs.declared.lines.Line.TheVariants.{Window, Day, Few};
+ghost use Rattle.refutation_terms.specs.declared.lines.Turn.{Turn};
+ghost use Rattle.refutation_terms.specs.Log.{LineFits, GoalFits, Holds, HoldsFor};
+ghost use Rattle.refutation_terms.specs.Laws.{HasGoal};
 ghost use Rattle.domain_store.specs.Store.{has_domain, BelongsTo, IsDecided};
 
 use domain_store::Domains;
 use rwsp_model::{Problem, Roster};
 use std::alloc::AllocError;
 
-/// The roster of the only symbols of domains under which no window leaf and no day leaf holds: it meets
-/// every rule.
-pub fn met_roster(problem: &Problem, domains: &Domains) -> Result<Roster, AllocError>
+/// The roster of the only symbols of domains under which no window leaf and no day leaf holds, nor with a goal the leaf
+/// of few weeks: it meets every rule, and has as many free weekends as the goal.
+pub fn met_roster(
+    problem: &Problem,
+    goal: Option<u32>,
+    domains: &Domains,
+) -> Result<Roster, AllocError>
+    requires goal { (turn : Option Turn) × GoalFits problem.now turn goal }
     requires decided { IsDecided domains.now }
     requires belongs { BelongsTo problem.now domains.now }
     requires windows { (number p len : ℕ) → LineFits problem.now (Window number p len)
         → Holds problem.now (has_domain domains.now) (Window number p len) → ⊥ }
     requires days { (j : ℕ) (x : Symbol) (over : Bool) → LineFits problem.now (Day j x over)
         → Holds problem.now (has_domain domains.now) (Day j x over) → ⊥ }
+    requires few { HoldsFor problem.now goal (has_domain domains.now) Few → ⊥ }
     ensures days { IfOk result (λ s. s.days ≡ problem.now.days) }
     ensures meets { IfOk result (λ s. MeetsAll problem.now s.cells) }
+    ensures free { IfOk result (λ s. HasGoal goal s.cells) }
 {
     problem.prove_limits();
     domains.prove_facts();

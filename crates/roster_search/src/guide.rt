@@ -1,8 +1,9 @@
 // What a search may be given from outside.
-ghost use Rattle.std.specs.Prelude.{◌≡◌, ◌↔◌, IfOk};
+ghost use Rattle.std.specs.Prelude.{◌≡◌, ◌↔◌, ℕ, Option, IfOk};
 ghost use Rattle.std.specs.Option.{IfSome};
 ghost use Rattle.rwsp_terms.specs.Instance.{Instance};
 ghost use Rattle.rwsp_terms.specs.Roster.{MeetsAll};
+ghost use Rattle.refutation_terms.specs.Laws.{HasGoal};
 ghost use Rattle.domain_store.specs.Store.{BelongsTo};
 ghost use Rattle.roster_search.specs.Guides.{IsLeafGiven, IsSplitIn};
 
@@ -15,38 +16,42 @@ use std::alloc::{AllocError, Global};
 /// What only makes a search good. A search keeps its promises whatever its guide gives and whatever it leaves out:
 /// what it gives is true, and costs a line of the log at most.
 pub trait Guide {
-    // it was made for this problem
-    ghost serves: { Self → Instance → Type 0 };
+    // it was made for this problem, and for logs with this goal or without one
+    ghost serves: { Self → Instance → Option ℕ → Type 0 };
 
     /// A leaf that holds under the domains, if it has one. It is asked where a case begins, and again where spent
     /// symbols were taken away since and no more are seen.
     fn leaf(&mut self, alloc: Global, doms: &Domains) -> Result<Option<Line>, AllocError>
-        requires problem { (P : Instance) × serves self.old P × BelongsTo P doms.now }
-        ensures leaf { IfOk result (λ line. (P : Instance) → serves self.old P → IsLeafGiven P doms.now line) }
-        ensures serves { (P : Instance) → serves self.old P ↔ serves self.new P };
+        requires problem { (P : Instance) × (goal : Option ℕ) × serves self.old P goal × BelongsTo P doms.now }
+        ensures leaf { IfOk result (λ line.
+            (P : Instance) (goal : Option ℕ) → serves self.old P goal → IsLeafGiven P goal doms.now line) }
+        ensures serves { (P : Instance) (goal : Option ℕ) → serves self.old P goal ↔ serves self.new P goal };
 
-    /// A roster that meets every rule, if it has one. It is asked once, where the search begins with these domains
+    /// A roster that meets every rule and has as many free weekends as the goal, if it has one. It is asked once, where the search begins with these domains
     /// and no leaf closes them.
     fn roster(&mut self, alloc: Global, doms: &Domains) -> Result<Option<Roster>, AllocError>
-        requires problem { (P : Instance) × serves self.old P × BelongsTo P doms.now }
-        ensures days { IfOk result (λ found. (P : Instance) → serves self.old P → IfSome found (λ s. s.days ≡ P.days)) }
+        requires problem { (P : Instance) × (goal : Option ℕ) × serves self.old P goal × BelongsTo P doms.now }
+        ensures days { IfOk result (λ found.
+            (P : Instance) (goal : Option ℕ) → serves self.old P goal → IfSome found (λ s. s.days ≡ P.days)) }
         ensures meets { IfOk result (λ found.
-            (P : Instance) → serves self.old P → IfSome found (λ s. MeetsAll P s.cells)) }
-        ensures serves { (P : Instance) → serves self.old P ↔ serves self.new P };
+            (P : Instance) (goal : Option ℕ) → serves self.old P goal → IfSome found (λ s. MeetsAll P s.cells)) }
+        ensures free { IfOk result (λ found.
+            (P : Instance) (goal : Option ℕ) → serves self.old P goal → IfSome found (λ s. HasGoal goal s.cells)) }
+        ensures serves { (P : Instance) (goal : Option ℕ) → serves self.old P goal ↔ serves self.new P goal };
 
     /// Where to split, if it has a choice. It is asked where there is no leaf and no spent symbol.
     fn split(&mut self, doms: &Domains) -> Option<NextSplit>
-        requires problem { (P : Instance) × serves self.old P × BelongsTo P doms.now }
+        requires problem { (P : Instance) × (goal : Option ℕ) × serves self.old P goal × BelongsTo P doms.now }
         ensures split { IfSome result (IsSplitIn doms.now) }
-        ensures serves { (P : Instance) → serves self.old P ↔ serves self.new P };
+        ensures serves { (P : Instance) (goal : Option ℕ) → serves self.old P goal ↔ serves self.new P goal };
 }
 
-/// The guide that gives nothing, for any problem.
+/// The guide that gives nothing, for any problem and goal.
 #[derive(Debug, Drop)]
 pub struct NoGuide;
 
 impl Guide for NoGuide {
-    ghost serves = { λ w P. Unit {0} };
+    ghost serves = { λ w P goal. Unit {0} };
 
     fn leaf(&mut self, _alloc: Global, _doms: &Domains) -> Result<Option<Line>, AllocError> {
         Ok(None)

@@ -4,15 +4,15 @@ ghost use Rattle.rwsp_terms.specs.Instance.{Instance, cells};
 ghost use Rattle.refutation_terms.specs.declared.lines.Line.TheVariants.{Split};
 ghost use Rattle.refutation_terms.specs.Word.{AreSame};
 ghost use Rattle.refutation_terms.specs.Tree.{First, narrowed, domains_at, is_idle};
-ghost use Rattle.refutation_terms.specs.Log.{TurnFits, Holds, TurnCites};
+ghost use Rattle.refutation_terms.specs.Log.{TurnFits, GoalFits, HoldsFor, TurnCites};
 ghost use Rattle.rwsp_terms.specs.Rules.{rule_of, Names};
 ghost use Rattle.rwsp_terms.specs.declared.data.Rule.{Rule};
 ghost use Rattle.domain_store.specs.Store.{has_domain, IsStore, HasDomains};
 ghost use Rattle.tree_walk.specs.Splits.{is_idle_in};
-ghost use Rattle.propagators.specs.Looks.{IsLeafOf};
+ghost use Rattle.roster_search.specs.Guides.{IsLeafFor};
 ghost use Rattle.roster_search.specs.Written.{IsProgress, IsSplitOff};
 
-use refutation_log::{put_cited, put_turn_cited};
+use refutation_log::{put_cited_for, put_turn_cited};
 use refutation_terms::{Line, Turn};
 use rwsp_model::Problem;
 use rwsp_terms::{RuleList, Symbol};
@@ -23,6 +23,7 @@ use tree_walk::Walk;
 #[derive(Drop)]
 pub struct Progress {
     pub turn: Option<Turn>,
+    pub goal: Option<u32>,
     pub walk: Walk,
     pub lines: Vec<Line>,
     pub named: RuleList,
@@ -30,16 +31,24 @@ pub struct Progress {
 
 impl Progress {
     /// No line yet.
-    pub fn new(alloc: Global, problem: &Problem, turn: Option<Turn>) -> Result<Progress, AllocError>
-        requires { TurnFits problem.now turn }
+    pub fn new(
+        alloc: Global,
+        problem: &Problem,
+        turn: Option<Turn>,
+        goal: Option<u32>,
+    ) -> Result<Progress, AllocError>
+        requires turn { TurnFits problem.now turn }
+        requires goal { GoalFits problem.now turn goal }
         ensures written { IfOk result (λ s. IsProgress problem.now s) }
         ensures turn { IfOk result (λ s. s.turn ≡ turn) }
+        ensures goal { IfOk result (λ s. s.goal ≡ goal) }
         ensures none { IfOk result (λ s. s.lines.items ≡ []) }
     {
         let walk = Walk::new(alloc, problem, turn)?;
         let named = turn_rules(alloc, problem, turn)?;
         Ok(Progress {
             turn,
+            goal,
             walk,
             lines: Vec::new(alloc),
             named,
@@ -75,14 +84,15 @@ impl Progress {
     pub fn close(&mut self, problem: &Problem, line: Line) -> Result<(), AllocError>
         requires part { self.old.walk.whole ≡ false }
         requires written { IsProgress problem.now self.old }
-        requires leaf { IsLeafOf problem.now line }
-        requires holds { Holds problem.now
+        requires leaf { IsLeafFor problem.now self.old.goal line }
+        requires holds { HoldsFor problem.now self.old.goal
             (domains_at problem.now self.old.turn self.old.lines.items (length self.old.lines.items)) line }
         ensures written { IfOk result (λ _. IsProgress problem.now self.new) }
         ensures turn { self.new.turn ≡ self.old.turn }
+        ensures goal { self.new.goal ≡ self.old.goal }
         ensures lines { IfOk result (λ _. self.new.lines.items ≡ self.old.lines.items ++ line ∷ []) }
     {
-        put_cited(&mut self.named, problem, &line)?;
+        put_cited_for(&mut self.named, problem, &line)?;
         self.lines.push(line)?;
         self.walk.read_leaf();
         Ok(())
@@ -97,6 +107,7 @@ impl Progress {
         ensures lines { IfOk result (λ _. self.new.lines.items ≡ self.old.lines.items ++ Split p x ∷ []) }
         ensures part { IfOk result (λ _. self.new.walk.whole ≡ false) }
         ensures turn { self.new.turn ≡ self.old.turn }
+        ensures goal { self.new.goal ≡ self.old.goal }
     {
         self.prove_domains();
         self.lines.push(Line::Split { p, x })?;
@@ -120,14 +131,16 @@ impl Progress {
         requires room { length self.old.lines.items < budget }
         requires position { p < cells problem.now }
         requires useful { is_idle problem.now (has_domain self.old.walk.store) p x.number ≡ false }
-        requires leaf { IsLeafOf problem.now line }
-        requires holds { Holds problem.now (narrowed (has_domain self.old.walk.store) (Split p x) First) line }
+        requires leaf { IsLeafFor problem.now self.old.goal line }
+        requires holds { HoldsFor problem.now self.old.goal
+            (narrowed (has_domain self.old.walk.store) (Split p x) First) line }
         ensures off { IfOk result (λ _. IsSplitOff problem.now self.old self.new p x) }
         ensures few { IfOk result (λ _. length self.new.lines.items ≤ budget) }
         ensures leaf { IfOk result (λ _.
             length self.old.lines.items + 1 < budget
             → self.new.lines.items ≡ self.old.lines.items ++ Split p x ∷ line ∷ []) }
         ensures turn { self.new.turn ≡ self.old.turn }
+        ensures goal { self.new.goal ≡ self.old.goal }
     {
         problem.prove_limits();
         self.prove_domains();

@@ -5,9 +5,10 @@ ghost use Rattle.rwsp_terms.specs.Instance.{Instance};
 ghost use Rattle.rwsp_terms.specs.Roster.{MeetsAll};
 ghost use Rattle.refutation_terms.specs.declared.lines.Line.{Line};
 ghost use Rattle.refutation_terms.specs.declared.lines.Turn.{Turn};
+ghost use Rattle.refutation_terms.specs.Laws.{HasGoal};
 ghost use Rattle.domain_store.specs.Store.{Store, BelongsTo, IsDecided};
 ghost use Rattle.propagators.specs.Looks.{HasPlainLeaves};
-ghost use Rattle.roster_search.specs.Guides.{IsSplitIn};
+ghost use Rattle.roster_search.specs.Guides.{IsSplitIn, AreUnweighedFor};
 ghost use Rattle.roster_search.specs.Written.{IsUnderWay};
 
 use crate::choice::choose;
@@ -32,30 +33,34 @@ pub fn step<A: Propagator, G: Guide>(
     arrival: &mut Arrival,
     progress: &mut Progress,
 ) -> Result<Option<Roster>, AllocError>
-    requires under_way { IsUnderWay problem.now progress.old.turn budget (A.leaves propagator.old)
-        (A.spent propagator.old) progress.old }
+    requires under_way { IsUnderWay problem.now progress.old.turn progress.old.goal budget
+        (A.leaves propagator.old) (A.spent propagator.old) progress.old }
     requires part { progress.old.walk.whole ≡ false }
     requires room { length progress.old.lines.items < budget }
     requires serves { A.serves propagator.old problem.now }
     requires tracks { A.tracks propagator.old progress.old.walk.store }
     requires plain { HasPlainLeaves problem.now (A.leaves propagator.old) }
-    requires guide { G.serves guide.old problem.now }
+    requires unweighed { AreUnweighedFor progress.old.goal (A.leaves propagator.old) }
+    requires guide { G.serves guide.old problem.now progress.old.goal }
     ensures under_way { IfOk result (λ found.
-        found ≡ None → IsUnderWay problem.now progress.old.turn budget (A.leaves propagator.old)
-        (A.spent propagator.old) progress.new) }
+        found ≡ None → IsUnderWay problem.now progress.old.turn progress.old.goal budget
+        (A.leaves propagator.old) (A.spent propagator.old) progress.new) }
     ensures longer { IfOk result (λ found.
         found ≡ None → length progress.old.lines.items < length progress.new.lines.items) }
     ensures tracks { IfOk result (λ found. found ≡ None → A.tracks propagator.new progress.new.walk.store) }
     ensures roster { IfOk result (λ found.
-        IfSome found (λ s. (s.days ≡ problem.now.days) × MeetsAll problem.now s.cells)) }
+        IfSome found (λ s.
+        (s.days ≡ problem.now.days) × MeetsAll problem.now s.cells × HasGoal progress.old.goal s.cells)) }
     ensures serves { (P : Instance) → A.serves propagator.old P ↔ A.serves propagator.new P }
     ensures leaves { (S : Store) (line : Line) → A.leaves propagator.old S line ↔ A.leaves propagator.new S line }
     ensures spent { (S : Store) (p : ℕ) (x : Symbol) → A.spent propagator.old S p x ↔ A.spent propagator.new S p x }
-    ensures guide { (P : Instance) → G.serves guide.old P ↔ G.serves guide.new P }
+    ensures guide { (P : Instance) (goal : Option ℕ) → G.serves guide.old P goal ↔ G.serves guide.new P goal }
 {
     problem.prove_limits();
     progress.prove_domains();
-    match see(alloc, propagator, guide, *arrival, progress.walk.domains())? {
+    let goal = progress.goal;
+    let doms = progress.walk.domains();
+    match see(alloc, problem, goal, propagator, guide, *arrival, doms)? {
         Sight::Roster(roster) => Ok(Some(roster)),
         Sight::Leaf(line) => {
             progress.close(problem, line)?;
@@ -76,7 +81,7 @@ pub fn step<A: Propagator, G: Guide>(
                 *arrival = Arrival::NewCase;
                 Ok(None)
             }
-            None => Ok(Some(met_roster(problem, progress.walk.domains())?)),
+            None => Ok(Some(met_roster(problem, goal, progress.walk.domains())?)),
         },
     }
 }
@@ -84,9 +89,9 @@ pub fn step<A: Propagator, G: Guide>(
 // The guide's split, or else the search's own; None where each position has one symbol.
 fn next_split<G: Guide>(problem: &Problem, guide: &mut G, doms: &Domains) -> Option<NextSplit>
     requires belongs { BelongsTo problem.now doms.now }
-    requires serves { G.serves guide.old problem.now }
+    requires serves { (goal : Option ℕ) × G.serves guide.old problem.now goal }
     ensures split { MatchOption result (IsDecided doms.now) (IsSplitIn doms.now) }
-    ensures serves { (P : Instance) → G.serves guide.old P ↔ G.serves guide.new P }
+    ensures serves { (P : Instance) (goal : Option ℕ) → G.serves guide.old P goal ↔ G.serves guide.new P goal }
 {
     match guide.split(doms) {
         Some(split) => Some(split),

@@ -1,17 +1,21 @@
 // What is seen before a line is written.
-ghost use Rattle.std.specs.Prelude.{ℕ, ◌↔◌, IfOk};
+ghost use Rattle.std.specs.Prelude.{ℕ, ◌↔◌, Option, IsTrue, IfOk};
 ghost use Rattle.std.specs.Option.{IfSome};
 ghost use Rattle.rwsp_terms.specs.declared.data.Symbol.{Symbol};
 ghost use Rattle.rwsp_terms.specs.Instance.{Instance};
 ghost use Rattle.refutation_terms.specs.declared.lines.Line.{Line};
-ghost use Rattle.domain_store.specs.Store.{Store, BelongsTo};
-ghost use Rattle.roster_search.specs.Guides.{IsLeafGiven, IsGiven, IsSight};
+ghost use Rattle.refutation_terms.specs.declared.lines.Line.TheVariants.{Few};
+ghost use Rattle.refutation_terms.specs.declared.lines.Turn.{Turn};
+ghost use Rattle.refutation_terms.specs.Log.{GoalFits, HoldsFor};
+ghost use Rattle.domain_store.specs.Store.{Store, BelongsTo, has_domain};
+ghost use Rattle.roster_search.specs.Guides.{IsLeafGiven, IsGiven, IsSight, AreUnweighedFor};
 
 use crate::Guide;
 use domain_store::Domains;
+use plain_leaves::few_holds;
 use propagators::{Look, Propagator};
 use refutation_terms::Line;
-use rwsp_model::Roster;
+use rwsp_model::{Problem, Roster};
 use rwsp_terms::Symbol;
 use std::alloc::{AllocError, Global};
 
@@ -55,26 +59,34 @@ pub enum Sight {
     Quiet,
 }
 
-/// What the propagator and the guide see under the domains. The propagator's leaf comes first; then what the guide
-/// gives, where it is due; then a spent symbol.
+/// What is seen under the domains. With a goal the leaf of few weeks comes first; then the propagator's leaf; then what
+/// the guide gives, where it is due; then a spent symbol.
 pub fn see<A: Propagator, G: Guide>(
     alloc: Global,
+    problem: &Problem,
+    goal: Option<u32>,
     propagator: &mut A,
     guide: &mut G,
     arrival: Arrival,
     doms: &Domains,
 ) -> Result<Sight, AllocError>
-    requires problem { (P : Instance) × A.serves propagator.old P × G.serves guide.old P × BelongsTo P doms.now }
+    requires serves { A.serves propagator.old problem.now }
+    requires guide { G.serves guide.old problem.now goal }
+    requires belongs { BelongsTo problem.now doms.now }
+    requires goal { (turn : Option Turn) × GoalFits problem.now turn goal }
     requires tracked { A.tracks propagator.old doms.now }
+    requires unweighed { AreUnweighedFor goal (A.leaves propagator.old) }
     ensures sight { IfOk result (λ sight.
-        (P : Instance) → A.serves propagator.old P → G.serves guide.old P
-        → IsSight P (A.leaves propagator.old doms.now) (A.spent propagator.old doms.now) doms.now sight) }
+        IsSight problem.now goal (A.leaves propagator.old doms.now) (A.spent propagator.old doms.now) doms.now sight) }
     ensures tracks { A.tracks propagator.new doms.now }
     ensures serves { (P : Instance) → A.serves propagator.old P ↔ A.serves propagator.new P }
     ensures leaves { (S : Store) (line : Line) → A.leaves propagator.old S line ↔ A.leaves propagator.new S line }
     ensures spent { (S : Store) (p : ℕ) (x : Symbol) → A.spent propagator.old S p x ↔ A.spent propagator.new S p x }
-    ensures guide { (P : Instance) → G.serves guide.old P ↔ G.serves guide.new P }
+    ensures guide { (P : Instance) (g : Option ℕ) → G.serves guide.old P g ↔ G.serves guide.new P g }
 {
+    if is_short_of(problem, goal, doms) {
+        return Ok(Sight::Leaf(Line::Few));
+    }
     match propagator.look(alloc, doms)? {
         Look::Closed(line) => Ok(Sight::Leaf(line)),
         Look::Cut { p, x, line } => match given(alloc, guide, arrival, false, doms)? {
@@ -88,6 +100,18 @@ pub fn see<A: Propagator, G: Guide>(
     }
 }
 
+// Whether fewer weeks than the goal, where there is one, can still have a free weekend.
+fn is_short_of(problem: &Problem, goal: Option<u32>, doms: &Domains) -> bool
+    requires belongs { BelongsTo problem.now doms.now }
+    requires goal { (turn : Option Turn) × GoalFits problem.now turn goal }
+    ensures { IsTrue result ↔ HoldsFor problem.now goal (has_domain doms.now) Few }
+{
+    match goal {
+        Some(goal) => few_holds(problem, doms, goal),
+        None => false,
+    }
+}
+
 // What the guide gives where the propagator has no leaf.
 fn given<G: Guide>(
     alloc: Global,
@@ -96,9 +120,10 @@ fn given<G: Guide>(
     is_quiet: bool,
     doms: &Domains,
 ) -> Result<Option<Sight>, AllocError>
-    requires problem { (P : Instance) × G.serves guide.old P × BelongsTo P doms.now }
-    ensures given { IfOk result (λ given. (P : Instance) → G.serves guide.old P → IfSome given (IsGiven P doms.now)) }
-    ensures serves { (P : Instance) → G.serves guide.old P ↔ G.serves guide.new P }
+    requires problem { (P : Instance) × (goal : Option ℕ) × G.serves guide.old P goal × BelongsTo P doms.now }
+    ensures given { IfOk result (λ given.
+        (P : Instance) (goal : Option ℕ) → G.serves guide.old P goal → IfSome given (IsGiven P goal doms.now)) }
+    ensures serves { (P : Instance) (goal : Option ℕ) → G.serves guide.old P goal ↔ G.serves guide.new P goal }
 {
     if let Some(line) = leaf_if_due(alloc, guide, arrival, is_quiet, doms)? {
         return Ok(Some(Sight::Leaf(line)));
@@ -119,9 +144,10 @@ fn leaf_if_due<G: Guide>(
     is_quiet: bool,
     doms: &Domains,
 ) -> Result<Option<Line>, AllocError>
-    requires problem { (P : Instance) × G.serves guide.old P × BelongsTo P doms.now }
-    ensures leaf { IfOk result (λ line. (P : Instance) → G.serves guide.old P → IsLeafGiven P doms.now line) }
-    ensures serves { (P : Instance) → G.serves guide.old P ↔ G.serves guide.new P }
+    requires problem { (P : Instance) × (goal : Option ℕ) × G.serves guide.old P goal × BelongsTo P doms.now }
+    ensures leaf { IfOk result (λ line.
+        (P : Instance) (goal : Option ℕ) → G.serves guide.old P goal → IsLeafGiven P goal doms.now line) }
+    ensures serves { (P : Instance) (goal : Option ℕ) → G.serves guide.old P goal ↔ G.serves guide.new P goal }
 {
     if arrival.is_leaf_due(is_quiet) {
         guide.leaf(alloc, doms)

@@ -1,5 +1,5 @@
 // Searches for rosters of small problems, worked by hand.
-ghost use Rattle.std.specs.Prelude.{◌≡◌, IfOk, ℕ};
+ghost use Rattle.std.specs.Prelude.{◌≡◌, IfOk, ℕ, None};
 ghost use Rattle.rwsp_terms.specs.Instance.{Instance};
 ghost use Rattle.propagators.specs.Looks.{HasPlainLeaves};
 
@@ -107,7 +107,7 @@ struct ByLook<A> {
 }
 
 impl<A: Propagator> Guide for ByLook<A> {
-    ghost serves = { λ g P. A.serves g.propagator P };
+    ghost serves = { λ g P goal. A.serves g.propagator P × (goal ≡ None) };
 
     fn leaf(&mut self, alloc: Global, doms: &Domains) -> Result<Option<Line>, AllocError> {
         self.propagator.undone(doms);
@@ -133,7 +133,7 @@ struct BySearch {
 }
 
 impl Guide for BySearch {
-    ghost serves = { λ g P. g.problem ≡ P };
+    ghost serves = { λ g P goal. (g.problem ≡ P) × (goal ≡ None) };
 
     fn leaf(&mut self, _alloc: Global, _doms: &Domains) -> Result<Option<Line>, AllocError> {
         Ok(None)
@@ -160,7 +160,7 @@ struct InOrder {
 }
 
 impl Guide for InOrder {
-    ghost serves = { λ g P. g.problem ≡ P };
+    ghost serves = { λ g P goal. (g.problem ≡ P) × (goal ≡ None) };
 
     fn leaf(&mut self, _alloc: Global, _doms: &Domains) -> Result<Option<Line>, AllocError> {
         Ok(None)
@@ -203,10 +203,10 @@ struct Run {
 }
 
 fn guided<G: Guide>(alloc: Global, problem: &Problem, guide: &mut G) -> Result<Run, AllocError>
-    requires { G.serves guide.old problem.now }
+    requires { G.serves guide.old problem.now None }
 {
     let mut told = reasons(alloc, problem)?;
-    let found = guided_search(alloc, problem, None, &mut told, guide, 100)?;
+    let found = guided_search(alloc, problem, None, None, &mut told, guide, 100)?;
     Ok(Run {
         end: end_of(&found),
         looks: told.looks,

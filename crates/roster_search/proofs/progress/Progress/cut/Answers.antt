@@ -1,16 +1,16 @@
 -- A split and the leaf of its first side.
-use Rattle.std.proofs.Common.{◌≡◌, List, [], ◌∷◌, ◌++◌, refl, sym, subst, ap, ◌∙◌, length, arith, inr, append_assoc, Option}
+use Rattle.std.proofs.Common.{◌≡◌, ℕ, List, [], ◌∷◌, ◌++◌, refl, sym, subst, ap, ◌∙◌, length, arith, inr, append_assoc, Option}
 use Rattle.rwsp_terms.specs.Instance.{cells}
 use Rattle.refutation_terms.specs.declared.lines.Line.{Line}
 use Rattle.refutation_terms.specs.declared.lines.Line.TheVariants.{Split}
 use Rattle.refutation_terms.specs.declared.lines.Turn.{Turn}
 use Rattle.refutation_terms.specs.Tree.{domains_at, narrowed, First}
-use Rattle.refutation_terms.specs.Log.{Holds}
-use Rattle.refutation_terms.proofs.SameDomains.{same_holds}
+use Rattle.refutation_terms.specs.Log.{HoldsFor}
 use Rattle.domain_store.specs.Store.{has_domain}
 use Rattle.tree_walk.proofs.Idle.{positions_of, idle_in_store}
 use Rattle.roster_search.specs.Written.{IsSplitWithLeaf}
 use Rattle.roster_search.proofs.Narrowing.{HasDomainsBehind, narrowed_at, first_side}
+use Rattle.roster_search.proofs.Reaching.{same_holds_for}
 use Rattle.roster_search.proofs.progress.Progress.cut.Goals as goal
 use Rattle.rwsp_model.proofs.Limits.{some_cells}
 
@@ -30,12 +30,13 @@ close-requires-clause-holds c =
     let x = c.args.x in
     let S = a.walk.store in
     let all : List Line = a.lines.items ++ Split c.args.p x ∷ [] in
-    let there : Holds P (domains_at P a.turn all (length all)) c.args.line =
-    same_holds P (narrowed (has_domain S) (Split c.args.p x) First) (domains_at P a.turn all (length all)) c.args.line (some_cells P c.prove_limits.ensures) c.requires.leaf.fits
+    let there : HoldsFor P a.goal (domains_at P a.turn all (length all)) c.args.line =
+    same_holds_for P a.turn a.goal (narrowed (has_domain S) (Split c.args.p x) First) (domains_at P a.turn all (length all)) c.args.line (some_cells P c.prove_limits.ensures) c.requires.written.goal_fits c.requires.leaf.fits
     (first_side P a.turn a.lines.items (has_domain S) c.args.p x (c.prove_domains.ensures.same P c.requires.written))
     c.requires.holds in
-    subst (λ (t : Option Turn). Holds P (domains_at P t b.lines.items (length b.lines.items)) c.args.line) (sym c.in_ok-split.ensures.turn)
-    (subst (λ (ls : List Line). Holds P (domains_at P a.turn ls (length ls)) c.args.line) (sym c.in_ok-split.ensures.lines) there)
+    subst (λ (g : Option ℕ). HoldsFor P g (domains_at P b.turn b.lines.items (length b.lines.items)) c.args.line) (sym c.in_ok-split.ensures.goal)
+    (subst (λ (t : Option Turn). HoldsFor P a.goal (domains_at P t b.lines.items (length b.lines.items)) c.args.line) (sym c.in_ok-split.ensures.turn)
+    (subst (λ (ls : List Line). HoldsFor P a.goal (domains_at P a.turn ls (length ls)) c.args.line) (sym c.in_ok-split.ensures.lines) there))
 
 pub returns-in_ok-close-clause-off : goal.returns-in_ok-close-clause-off
 returns-in_ok-close-clause-off c =
@@ -54,6 +55,7 @@ returns-in_ok-close-clause-off c =
     record {
       written = w;
       same_turn = turn;
+      same_goal = c.close.ensures.goal ∙ c.in_ok-split.ensures.goal;
       added = added;
       split = kind;
       lines = lines;

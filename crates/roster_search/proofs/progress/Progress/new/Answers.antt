@@ -14,7 +14,8 @@ returns-clause-written c =
     let few : open_trees c.in_ok-walk.walk ≤ 1 = one_open P c.args.turn c.in_ok-walk.walk c.in_ok-walk.ensures.part c.in_ok-walk.ensures.starts in
     record {
       state = subst (λ (ls : List Line). IsStateOf P c.args.turn ls c.in_ok-walk.walk) (sym none) c.in_ok-walk.ensures.starts;
-      turn_fits = c.requires;
+      turn_fits = c.requires.turn;
+      goal_fits = c.requires.goal;
       stand = λ k line e. (let got : slice_get [] k ≡ Some line = ap (λ (ls : List Line). slice_get ls k) (sym none) ∙ e in absurd (cc));
       cited = λ r. (
         λ n. inl ((c.in_ok-named.ensures.cited r).0 n),

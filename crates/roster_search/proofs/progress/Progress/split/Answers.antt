@@ -9,6 +9,7 @@ use Rattle.tree_walk.specs.Splits.{is_idle_in}
 use Rattle.tree_walk.proofs.Idle.{positions_of, held_where_useful, idle_in_store}
 use Rattle.roster_search.specs.Written.{IsProgress}
 use Rattle.roster_search.proofs.Cited.{written_next}
+use Rattle.roster_search.proofs.Reaching.{plain_holds, split_fits}
 use Rattle.roster_search.proofs.Narrowing.{HasDomainsBehind, narrowed_at}
 use Rattle.roster_search.proofs.progress.Progress.split.Goals as goal
 
@@ -29,9 +30,10 @@ returns-clause-off c P w =
     let written : IsProgress P (record a { lines = c.push.new.self; walk = c.read_split.new.self }) =
     written_next P a _ (Split p x) w (record {
       turn = refl;
+      goal = refl;
       lines = c.in_ok-push.ensures.items;
       state = next;
-      stands = record { holds = sym idle ∙ c.requires.useful; fits = (inside, omega (arith, held.1, state.belongs.shifts)); short = tt };
+      stands = record { holds = plain_holds P a.goal (domains_at P a.turn a.lines.items (length a.lines.items)) (Split p x) (sym idle ∙ c.requires.useful); fits = split_fits P a.goal p x (inside, omega (arith, held.1, state.belongs.shifts)); short = tt };
       named = λ r. (λ n. inl n, λ h. elim h as (λ (o : Names P a.named r ⊎ ⊥). Names P a.named r) [ inl n ↦ n | inr none ↦ absurd none ]);
       numbers = w.numbers;
       opened = omega (arith, c.in_ok-read_split.ensures.one_more);
@@ -41,6 +43,7 @@ returns-clause-off c P w =
     record {
       written = written;
       same_turn = refl;
+      same_goal = refl;
       added = Split p x ∷ [];
       split = inl refl;
       lines = c.in_ok-push.ensures.items;
