@@ -2,9 +2,10 @@
 mod all_words;
 mod cases;
 
-use crate::{Gate, NoGate, Weights, first_plain, heaviest, search_weights, total};
+use crate::{Gate, NoGate, Weights, first_plain, heaviest, heaviest_free, search_weights, total};
 use cases::{
-    Case, DAY, OFF, all_rules, list_of, problem_of, range, single_days, two_of_four, twos_in_six,
+    Case, DAY, OFF, all_rules, list_of, long_blocks, problem_of, range, single_days, two_of_four,
+    twos_in_six,
 };
 use domain_store::Domains;
 use rwsp_terms::{Symbol, Weight};
@@ -34,6 +35,24 @@ fn the_heaviest_word_of_two_turns(rt: HostRuntime) -> Result<(), Fail> {
             [OFF, DAY, OFF, OFF, DAY, OFF, OFF, DAY].as_slice()
         );
         assert_eq!(rt; total(&problem, &weights), least);
+    }
+    Ok(())
+}
+
+#[test]
+fn free_weekends_are_rewarded(rt: HostRuntime) -> Result<(), Fail> {
+    let alloc = rt.alloc();
+    let weights = Weights::new(alloc);
+    let problem = problem_of(&rt, alloc, &long_blocks())?;
+    let doms = Domains::new(alloc, &problem)?;
+    assert!(rt; problem.days() == 7);
+    assert!(rt; problem.cells() == 21);
+    let rules: [&[u32]; 2] = [&[3, 5, 6], &[3, 6]];
+    for (listed, weight) in [(rules[0], 1), (rules[1], 2)] {
+        let list = list_of(alloc, &problem, listed)?;
+        let tails = TailRules::of(alloc, &problem, &list)?;
+        let found = heaviest_free(alloc, &problem, &tails, &doms, 1, &weights, 1)?;
+        assert_eq!(rt; found.ok_or("a word")?.weight, weight);
     }
     Ok(())
 }
