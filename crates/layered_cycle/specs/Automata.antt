@@ -45,7 +45,8 @@ pub record IsAutomaton (T : Listed) (a : Automaton) : Type 0 where
   pub rows : (k : ℕ) → k < length a.moves.items → length (slice_index_or a.moves.items k []) ≡ MOST_SYMBOLS
   pub moves :
       (k : ℕ) (x : Symbol)
-      → k < length a.tails.items → x.number < MOST_SYMBOLS → IsMove T a.tails.items k x (move_at a.moves.items k x.number)
+      → k < length a.tails.items → x.number < MOST_SYMBOLS
+      → IsMove T a.tails.items k x (move_at a.moves.items k x.number)
   pub places : length a.places.items ≡ length a.tails.items
 
 -- the states of the nodes of a layer, whose places were noted

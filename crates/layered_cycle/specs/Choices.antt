@@ -1,4 +1,5 @@
--- The choices by which the heaviest words are found: for each node of a layer the greatest weight from there to the end, and the step that comes first.
+-- The choices by which the heaviest words are found: for each node of a layer the greatest weight from there to the
+-- end, and the step that comes first.
 use Rattle.std.specs.Prelude.{◌≡◌, ℕ, ◌+◌, ◌<◌, List, [], ◌∷◌, ◌==◌, Option, Some, None, ℤ, pos, neg_ℤ, ◌+ℤ◌, ◌≤ℤ◌, int_lt, length, slice_index_or, All, AllPairs, if◌then◌else◌}
 use Rattle.std.specs.Option.{option_map}
 use Rattle.rwsp_terms.specs.declared.data.Symbol.{Symbol}
@@ -33,7 +34,8 @@ choice_by gain next s =
 abbrev pub chosen : (Step → ℤ) → Row → ℕ → List Step → Option Choice
 chosen gain next node [] = None
 chosen gain next node (s ∷ steps) =
-    if s.from == node then preferred (choice_by gain next s) (chosen gain next node steps) else chosen gain next node steps
+    if s.from == node then preferred (choice_by gain next s)
+    (chosen gain next node steps) else chosen gain next node steps
 
 -- what steps gain on a day by their symbols alone
 abbrev pub gain_on : (ℕ → Symbol → ℤ) → ℕ → Step → ℤ

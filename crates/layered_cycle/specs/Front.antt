@@ -70,24 +70,28 @@ pub record IsFront (C : Course) (day : ℕ) (tails : List Tail) (row : Row) : Ty
   pub ordered : (j k : ℕ) → j < k → k < length tails → ComesBefore (word j) (word k)
   pub light : AreWithin ((GREATEST_WEIGHT + GREATEST_REWARD) * day) row
 
--- the choice of a later tail names an earlier one and a symbol: the best word to the one, with the symbol, is the best to the other
+-- the choice of a later tail names an earlier one and a symbol: the best word to the one, with the symbol, is the best
+-- to the other
 abbrev pub AreLinked : Course → ℕ → List Tail → List Tail → Row → Type 0
 AreLinked C day tails later row =
     (k : ℕ) → k < length later → (c : Choice) × (choice_at row k ≡ Some c) × (c.to < length tails)
-    × ((u : List Symbol) → IsBestTo C day (tail_at tails c.to) u → IsBestTo C (day + 1) (tail_at later k) (u ++ c.symbol ∷ []))
+    × ((u : List Symbol) → IsBestTo C day (tail_at tails c.to) u
+    → IsBestTo C (day + 1) (tail_at later k) (u ++ c.symbol ∷ []))
 
 -- the fronts of day 0 and of each further day that is kept, of those before this one
 abbrev pub AreKept : Course → ℕ → List Front → Type 0
 AreKept C day fronts =
     (length fronts ≡ (day + (STRIDE - 1)) / STRIDE)
-    × ((i : ℕ) (d : Front) → i < length fronts → IsFront C (i * STRIDE) (slice_index_or fronts i d).tails.items (slice_index_or fronts i d).row)
+    × ((i : ℕ) (d : Front) → i < length fronts
+    → IsFront C (i * STRIDE) (slice_index_or fronts i d).tails.items (slice_index_or fronts i d).row)
 
 -- where the heaviest words end, of the first so many ends; the first of these ends
 abbrev pub IsHeaviestEnd : Row → ℕ → Option End → Type 0
 IsHeaviestEnd row count None = (k : ℕ) → k < count → choice_at row k ≡ None
 IsHeaviestEnd row count (Some e) =
     (e.node < count) × ((c : Choice) × (choice_at row e.node ≡ Some c) × (c.weight ≡ e.weight))
-    × ((k : ℕ) (c : Choice) → k < count → choice_at row k ≡ Some c → (c.weight <ℤ e.weight) ⊎ ((c.weight ≡ e.weight) × (e.node ≤ k)))
+    × ((k : ℕ) (c : Choice) → k < count → choice_at row k ≡ Some c → (c.weight <ℤ e.weight)
+    ⊎ ((c.weight ≡ e.weight) × (e.node ≤ k)))
 
 -- what steps that were turned round gain on a day, each behind the last symbol of the tail where it begins
 abbrev pub gain_behind : (ℕ → Option Symbol → Symbol → ℤ) → ℕ → List Tail → Step → ℤ
@@ -110,12 +114,16 @@ front_at fronts d i = slice_index_or fronts i d
 
 -- fronts of days that follow each other
 pub record IsChain (C : Course) (day : ℕ) (fronts : List Front) : Type 0 where
-  pub each : (i : ℕ) (d : Front) → i < length fronts → IsFront C (day + i) (front_at fronts d i).tails.items (front_at fronts d i).row
-  pub linked : (i : ℕ) (d : Front) → i + 1 < length fronts → AreLinked C (day + i) (front_at fronts d i).tails.items (front_at fronts d (i + 1)).tails.items (front_at fronts d (i + 1)).row
+  pub each : (i : ℕ) (d : Front) → i < length fronts
+      → IsFront C (day + i) (front_at fronts d i).tails.items (front_at fronts d i).row
+  pub linked : (i : ℕ) (d : Front) → i + 1 < length fronts
+      → AreLinked C (day + i) (front_at fronts d i).tails.items (front_at fronts d (i + 1)).tails.items
+      (front_at fronts d (i + 1)).row
 
 -- the best word to the one tail goes on by the symbols, the last of them first, to the best word to the other
 abbrev pub Completes : Course → ℕ → Tail → ℕ → Tail → List Symbol → Type 0
-Completes C len last day tail symbols = (u : List Symbol) → IsBestTo C day tail u → IsBestTo C len last (u ++ reverse symbols)
+Completes C len last day tail symbols = (u : List Symbol) → IsBestTo C day tail u
+    → IsBestTo C len last (u ++ reverse symbols)
 
 -- the same of a node of a front
 abbrev pub GoesOn : Course → ℕ → Tail → ℕ → List Tail → ℕ → List Symbol → Type 0

@@ -8,7 +8,8 @@ abbrev pub Leads : List (List Step) → ℕ → List Symbol → Type 0
 Leads [] node [] = Unit {0}
 Leads [] node (x ∷ u) = ⊥
 Leads (layer ∷ layers) node [] = ⊥
-Leads (layer ∷ layers) node (x ∷ u) = (to : ℕ) × Contains layer (record { from = node; symbol = x; to = to }) × Leads layers to u
+Leads (layer ∷ layers) node (x ∷ u) = (to : ℕ) × Contains layer (record { from = node; symbol = x; to = to })
+    × Leads layers to u
 
 -- the one node is earlier, or it is the same and the one symbol is lower
 abbrev pub StepPrecedes : ℕ → ℕ → ℕ → ℕ → Type 0
@@ -28,4 +29,5 @@ pub record IsLayer (from_count to_count : ℕ) (layer : List Step) : Type 0 wher
 pub record AreLayers (counts : List ℕ) (layers : List (List Step)) : Type 0 where
   pub long : length counts ≡ length layers + 1
   pub first : slice_index counts 0 ≡ 1
-  pub each : (i : ℕ) → i < length layers → IsLayer (slice_index counts i) (slice_index counts (i + 1)) (slice_index_or layers i [])
+  pub each : (i : ℕ) → i < length layers
+      → IsLayer (slice_index counts i) (slice_index counts (i + 1)) (slice_index_or layers i [])

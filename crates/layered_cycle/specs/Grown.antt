@@ -20,23 +20,29 @@ Extends {X} xs ys = (rest : List X) × (ys ≡ xs ++ rest)
 abbrev pub AreDistinct : {X : Type 0} → List X → Type 0
 AreDistinct {X} xs = (j k : ℕ) (x : X) → StandsAt xs j x → StandsAt xs k x → j ≡ k
 
--- the symbol is in the domain, and makes of each clean word that has the tail of the one node a clean word that has the tail of the other
+-- the symbol is in the domain, and makes of each clean word that has the tail of the one node a clean word that has the
+-- tail of the other
 pub record IsStep (T : Listed) (D : Domains) (q : ℕ) (nodes next : List Tail) (s : Step) : Type 0 where
   pub from : s.from < length nodes
   pub to : s.to < length next
   pub inside : IsTrue (D q s.symbol.number)
-  pub leads : (w : List Symbol) → Clean T.problem T.rules w → StandsAt nodes s.from (tail_of w) → Clean T.problem T.rules (w ++ s.symbol ∷ []) × StandsAt next s.to (tail_of (w ++ s.symbol ∷ []))
+  pub leads : (w : List Symbol) → Clean T.problem T.rules w → StandsAt nodes s.from (tail_of w)
+      → Clean T.problem T.rules (w ++ s.symbol ∷ []) × StandsAt next s.to (tail_of (w ++ s.symbol ∷ []))
 
 -- a step leads to the node
 abbrev pub IsReached : List Step → ℕ → Type 0
 IsReached steps to = (s : Step) × Contains steps s × (s.to ≡ to)
 
--- the layer has all steps that there are before this node and this symbol, in order, and they lead to all nodes behind it
-pub record Grown (T : Listed) (D : Domains) (q : ℕ) (nodes : List Tail) (steps : List Step) (next : List Tail) (node number : ℕ) : Type 0 where
+-- the layer has all steps that there are before this node and this symbol, in order, and they lead to all nodes behind
+-- it
+pub record Grown (T : Listed) (D : Domains) (q : ℕ) (nodes : List Tail) (steps : List Step) (next : List Tail)
+    (node number : ℕ) : Type 0 where
   pub few : length next < 2 ^ 32
   pub distinct : AreDistinct next
   pub ordered : AllPairs StepBefore steps
   pub before : (s : Step) → Contains steps s → StepPrecedes s.from s.symbol.number node number
   pub sound : (s : Step) → Contains steps s → IsStep T D q nodes next s
   pub reached : (k : ℕ) → k < length next → IsReached steps k
-  pub complete : (k : ℕ) (x : Symbol) (w : List Symbol) → StepPrecedes k x.number node number → IsTrue (D q x.number) → Clean T.problem T.rules w → StandsAt nodes k (tail_of w) → Clean T.problem T.rules (w ++ x ∷ []) → (to : ℕ) × Contains steps (record { from = k; symbol = x; to = to })
+  pub complete : (k : ℕ) (x : Symbol) (w : List Symbol) → StepPrecedes k x.number node number → IsTrue (D q x.number)
+      → Clean T.problem T.rules w → StandsAt nodes k (tail_of w) → Clean T.problem T.rules (w ++ x ∷ []) → (to : ℕ)
+      × Contains steps (record { from = k; symbol = x; to = to })

@@ -24,4 +24,5 @@ HasCode tails place code = (place < length tails) × ((t : Tail) → StandsAt ta
 
 -- for each tail of the list, there is at its code a place where a tail of this code stands
 abbrev pub Indexed : List ℕ → List Tail → Type 0
-Indexed places tails = (k : ℕ) (t : Tail) → StandsAt tails k t → tail_code t < length places → HasCode tails (slice_index places (tail_code t)) (tail_code t)
+Indexed places tails = (k : ℕ) (t : Tail) → StandsAt tails k t → tail_code t < length places
+    → HasCode tails (slice_index places (tail_code t)) (tail_code t)

@@ -31,4 +31,5 @@ pub record IsWordGraph (g : WordGraph) : Type 0 where
   pub long : length g.layers ≡ g.len
   pub layers : AreLayers g.node_counts g.layers
   -- the clean words over the domains are those that lead to the end
-  pub words : (u : List Symbol) → IsCleanOver g.problem (has_domain g.store) g.position g.len g.rules u ↔ Leads g.layers 0 u
+  pub words : (u : List Symbol) → IsCleanOver g.problem (has_domain g.store) g.position g.len g.rules u
+      ↔ Leads g.layers 0 u

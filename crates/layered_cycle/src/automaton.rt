@@ -23,8 +23,8 @@ pub enum Move {
     To(u32),
 }
 
-// The tails that were met so far, and the moves that were asked for (rules on sequences as automata: Pesant 2004). A move
-// is judged by the rules once and is a look-up from then on, so one automaton serves all layers of a leaf.
+// The tails that were met so far, and the moves that were asked for (rules on sequences as automata: Pesant 2004). A
+// move is judged by the rules once and is a look-up from then on, so one automaton serves all layers of a leaf.
 #[derive(Debug, Drop)]
 pub struct Automaton {
     // The tail of each state.
@@ -56,7 +56,8 @@ impl Automaton {
         requires automaton { IsAutomaton rules.now self.old }
         ensures automaton { OnOk result (IsAutomaton rules.now self.new) }
         ensures grows { OnOk result (Extends self.old.tails.items self.new.tails.items) }
-        ensures laid { OnOk result ((nodes : List Tail) (states : List ℕ) → IsLaid self.old nodes states → IsLaid self.new nodes states) }
+        ensures laid { OnOk result ((nodes : List Tail) (states : List ℕ) → IsLaid self.old nodes states
+            → IsLaid self.new nodes states) }
         ensures state { IfOk result (λ state. StandsAt self.new.tails.items state tail) }
     {
         if let Some(state) = self.index.find(&self.tails, tail) {
@@ -95,8 +96,10 @@ impl Automaton {
         requires symbol { x.number < MOST_SYMBOLS }
         ensures automaton { OnOk result (IsAutomaton rules.now self.new) }
         ensures grows { OnOk result (Extends self.old.tails.items self.new.tails.items) }
-        ensures laid { OnOk result ((nodes : List Tail) (states : List ℕ) → IsLaid self.old nodes states → IsLaid self.new nodes states) }
-        ensures follows { IfOk result (λ found. MatchOption found (Refuses rules.now self.new.tails.items state x) (λ to. GoesTo rules.now self.new.tails.items state x to)) }
+        ensures laid { OnOk result ((nodes : List Tail) (states : List ℕ) → IsLaid self.old nodes states
+            → IsLaid self.new nodes states) }
+        ensures follows { IfOk result (λ found. MatchOption found (Refuses rules.now self.new.tails.items state x)
+            (λ to. GoesTo rules.now self.new.tails.items state x to)) }
     {
         let Some(tail) = rules.follow(self.tails[state as usize], x) else {
             self.note_move(rules, state, x, Move::Nowhere);
@@ -119,8 +122,10 @@ impl Automaton {
         requires symbol { x.number < MOST_SYMBOLS }
         ensures automaton { OnOk result (IsAutomaton rules.now self.new) }
         ensures grows { OnOk result (Extends self.old.tails.items self.new.tails.items) }
-        ensures laid { OnOk result ((nodes : List Tail) (states : List ℕ) → IsLaid self.old nodes states → IsLaid self.new nodes states) }
-        ensures follows { IfOk result (λ found. MatchOption found (Refuses rules.now self.new.tails.items state x) (λ to. GoesTo rules.now self.new.tails.items state x to)) }
+        ensures laid { OnOk result ((nodes : List Tail) (states : List ℕ) → IsLaid self.old nodes states
+            → IsLaid self.new nodes states) }
+        ensures follows { IfOk result (λ found. MatchOption found (Refuses rules.now self.new.tails.items state x)
+            (λ to. GoesTo rules.now self.new.tails.items state x to)) }
     {
         match self.moves[state as usize][x.number as usize] {
             Move::Unknown => self.judge(rules, state, x),

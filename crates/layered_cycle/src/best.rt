@@ -18,8 +18,8 @@ pub struct HeavyWord {
     pub word: Word,
 }
 
-/// The heaviest word that leads through the layers, and the least of that weight; None exactly where no word leads through them.
-/// So many nodes stand before each layer, and behind the last.
+/// The heaviest word that leads through the layers, and the least of that weight; None exactly where no word leads
+/// through them. So many nodes stand before each layer, and behind the last.
 pub fn best_word<G: Gain>(
     alloc: Global,
     layers: &[Layer],
@@ -28,7 +28,8 @@ pub fn best_word<G: Gain>(
 ) -> Result<Option<HeavyWord>, AllocError>
     requires few { length layers.now ≤ LONGEST_WORD }
     requires layers { AreLayers node_counts.now layers.now }
-    ensures { IfOk result (λ found. MatchOption found (NoneLeads layers.now) (λ h. IsBest (G.gain_of gain.now) layers.now h.weight h.word)) }
+    ensures { IfOk result (λ found. MatchOption found (NoneLeads layers.now)
+        (λ h. IsBest (G.gain_of gain.now) layers.now h.weight h.word)) }
 {
     let rows = rows_of(alloc, layers, node_counts, gain)?;
     match rows.first().at(0) {
@@ -88,7 +89,8 @@ fn row_before<G: Gain>(
     requires light { AreWithin ((GREATEST_WEIGHT + GREATEST_REWARD) * (LONGEST_WORD - 1)) next.now }
     ensures long { IfOk result (λ row. length row ≡ count) }
     ensures row { IfOk result (λ row. IsRowOf (gain_on (G.gain_of gain.now) day) steps.now next.now row) }
-    ensures light { IfOk result (λ row. (n : ℕ) → AreWithin n next.now → AreWithin (n + (GREATEST_WEIGHT + GREATEST_REWARD)) row) }
+    ensures light { IfOk result (λ row. (n : ℕ) → AreWithin n next.now
+        → AreWithin (n + (GREATEST_WEIGHT + GREATEST_REWARD)) row) }
 {
     let mut row = ChoiceRow::of(alloc, count, None)?;
     let alone = Alone { gain };

@@ -8,7 +8,8 @@ use std::alloc::{AllocError, Global};
 use std::marker::Model;
 use std::mem;
 
-/// What is chosen at a node: the weight from there to the end, and the step that comes first. At the end there is no step.
+/// What is chosen at a node: the weight from there to the end, and the step that comes first. At the end there is no
+/// step.
 #[derive(Clone, Copy)]
 pub struct Choice {
     pub weight: i32,
@@ -128,7 +129,8 @@ impl Rows {
 
     /// Takes the first row off, unless it is the only one, and says whether it did.
     pub fn pop(&mut self) -> bool
-        ensures { MatchBool result ((self.old ≡ first_row self.old ∷ self.new) × (0 < length self.new)) (self.old ≡ first_row self.old ∷ []) }
+        ensures { MatchBool result ((self.old ≡ first_row self.old ∷ self.new)
+            × (0 < length self.new)) (self.old ≡ first_row self.old ∷ []) }
     {
         match self.rest.pop() {
             Some(second) => {

@@ -26,7 +26,8 @@ pub fn heaviest_end(row: &ChoiceRow) -> Option<End>
 
 // The end with a node more to compare.
 fn heavier(best: Option<End>, node: u32, choice: Option<Choice>) -> Option<End>
-    ensures { (row : Row) → choice ≡ choice_at row node → IsHeaviestEnd row node best → IsHeaviestEnd row (node + 1) result }
+    ensures { (row : Row) → choice ≡ choice_at row node → IsHeaviestEnd row node best
+        → IsHeaviestEnd row (node + 1) result }
 {
     let Some(choice) = choice else {
         return best;

@@ -53,10 +53,14 @@ impl Front {
         requires belongs { BelongsTo rules.now.problem doms.now }
         requires position { p < cells rules.now.problem }
         requires day { day < LONGEST_WORD }
-        requires front { IsFront (course rules.now doms.now p (G.gain_after_of gain.now)) day self.now.tails.items self.now.row }
+        requires front { IsFront (course rules.now doms.now p (G.gain_after_of gain.now)) day self.now.tails.items
+            self.now.row }
         ensures automaton { OnOk result (IsAutomaton rules.now automaton.new) }
-        ensures front { IfOk result (λ f. IsFront (course rules.now doms.now p (G.gain_after_of gain.now)) (day + 1) f.tails.items f.row) }
-        ensures linked { IfOk result (λ f. AreLinked (course rules.now doms.now p (G.gain_after_of gain.now)) day self.now.tails.items f.tails.items f.row) }
+        ensures front { IfOk result
+            (λ f. IsFront (course rules.now doms.now p (G.gain_after_of gain.now)) (day + 1) f.tails.items f.row) }
+        ensures linked { IfOk result
+            (λ f. AreLinked
+            (course rules.now doms.now p (G.gain_after_of gain.now)) day self.now.tails.items f.tails.items f.row) }
     {
         let growth = layer_of_day(alloc, automaton, rules, doms, p, day, &self.tails)?;
         let count = growth.nodes.len() as u32;
@@ -91,8 +95,10 @@ fn row_behind<G: GainAfter>(
     requires light { AreWithin ((GREATEST_WEIGHT + GREATEST_REWARD) * (LONGEST_WORD - 1)) row.now }
     ensures long { IfOk result (λ next. length next ≡ count) }
     ensures each { IfOk result (λ next. (n : ℕ) → n < count →
-        choice_at next n ≡ chosen (gain_behind (G.gain_after_of gain.now) day tails.now) row.now n (map turned steps.now)) }
-    ensures light { IfOk result (λ next. (n : ℕ) → AreWithin n row.now → AreWithin (n + (GREATEST_WEIGHT + GREATEST_REWARD)) next) }
+        choice_at next n ≡ chosen (gain_behind (G.gain_after_of gain.now) day tails.now) row.now n
+        (map turned steps.now)) }
+    ensures light { IfOk result (λ next. (n : ℕ) → AreWithin n row.now
+        → AreWithin (n + (GREATEST_WEIGHT + GREATEST_REWARD)) next) }
 {
     let mut next = ChoiceRow::of(alloc, count, None)?;
     let mut k = steps.len();

@@ -54,7 +54,8 @@ fn chain_from<G: GainAfter>(
 fn walk_back(fronts: &[Front], node: u32, symbols: &mut Vec<Symbol>) -> Result<u32, AllocError>
     requires { 0 < length fronts.now }
     ensures { IfOk result (λ first. (C : Course) (day len : ℕ) (last : Tail) (d : Front) → IsChain C day fronts.now →
-        GoesOn C len last (day + (length fronts.now - 1)) (front_at fronts.now d (length fronts.now - 1)).tails.items node symbols.old.items →
+        GoesOn C len last (day + (length fronts.now - 1)) (front_at fronts.now d
+        (length fronts.now - 1)).tails.items node symbols.old.items →
         GoesOn C len last day (front_at fronts.now d 0).tails.items first symbols.new.items) }
 {
     let mut at = node;
@@ -87,10 +88,12 @@ fn back_to<G: GainAfter>(
     requires position { p < cells rules.now.problem }
     requires few { day + days ≤ LONGEST_WORD }
     requires front { IsFront (course rules.now doms.now p (G.gain_after_of gain.now)) day front.tails.items front.row }
-    requires some { (u : List Symbol) × IsBestTo (course rules.now doms.now p (G.gain_after_of gain.now)) (day + days) tail u }
+    requires some { (u : List Symbol)
+        × IsBestTo (course rules.now doms.now p (G.gain_after_of gain.now)) (day + days) tail u }
     ensures automaton { OnOk result (IsAutomaton rules.now automaton.new) }
     ensures back { IfOk result (λ t. (len : ℕ) (last : Tail) →
-        Completes (course rules.now doms.now p (G.gain_after_of gain.now)) len last (day + days) tail symbols.old.items →
+        Completes (course rules.now doms.now p (G.gain_after_of gain.now)) len last
+        (day + days) tail symbols.old.items →
         ((u : List Symbol) × IsBestTo (course rules.now doms.now p (G.gain_after_of gain.now)) day t u)
         × Completes (course rules.now doms.now p (G.gain_after_of gain.now)) len last day t symbols.new.items) }
 {
@@ -119,7 +122,8 @@ pub fn best_word_to<G: GainAfter>(
     requires kept { AreKept (course rules.now doms.now p (G.gain_after_of gain.now)) len kept.items }
     requires some { (u : List Symbol) × IsBestTo (course rules.now doms.now p (G.gain_after_of gain.now)) len last u }
     ensures automaton { OnOk result (IsAutomaton rules.now automaton.new) }
-    ensures best { IfOk result (λ word. IsBestTo (course rules.now doms.now p (G.gain_after_of gain.now)) len last word) }
+    ensures best { IfOk result
+        (λ word. IsBestTo (course rules.now doms.now p (G.gain_after_of gain.now)) len last word) }
 {
     let mut symbols = Vec::new(alloc);
     let mut tail = last;

@@ -32,7 +32,8 @@ pub fn graph_of(
     requires belongs { BelongsTo tails.now.problem doms.now }
     requires position { p < cells tails.now.problem }
     requires few { len ≤ LONGEST_WORD }
-    ensures words { IfOk result (λ g. (u : List Symbol) → IsCleanOver tails.now.problem (has_domain doms.now) p len tails.now.rules u ↔ Leads g.layers.items 0 u) }
+    ensures words { IfOk result (λ g. (u : List Symbol)
+        → IsCleanOver tails.now.problem (has_domain doms.now) p len tails.now.rules u ↔ Leads g.layers.items 0 u) }
     ensures long { IfOk result (λ g. length g.layers.items ≡ len) }
     ensures layers { IfOk result (λ g. AreLayers g.node_counts.items g.layers.items) }
 {

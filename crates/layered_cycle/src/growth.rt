@@ -42,8 +42,10 @@ fn node_of(
     ensures grows { Extends nodes.old.items nodes.new.items }
     ensures laid { OnOk result (IsLaid automaton.new nodes.new.items states.new.items) }
     ensures distinct { AreDistinct nodes.old.items → AreDistinct nodes.new.items }
-    ensures node { IfOk result (λ node. (t : Tail) → StandsAt automaton.new.tails.items state t → StandsAt nodes.new.items node t) }
-    ensures others { IfOk result (λ node. (k : ℕ) → length nodes.old.items ≤ k → k < length nodes.new.items → k ≡ node) }
+    ensures node { IfOk result (λ node. (t : Tail) → StandsAt automaton.new.tails.items state t
+        → StandsAt nodes.new.items node t) }
+    ensures others { IfOk result (λ node. (k : ℕ) → length nodes.old.items ≤ k → k < length nodes.new.items
+        → k ≡ node) }
 {
     let _ = rules;
     let noted = automaton.places[state as usize];
@@ -80,11 +82,13 @@ impl Growth {
         requires automaton { IsAutomaton rules.now automaton.old }
         requires laid { IsLaid automaton.old self.old.nodes.items self.old.states.items }
         requires state { StandsAt automaton.old.tails.items state (tail_at nodes.now from) }
-        requires grown { Grown rules.now (has_domain doms.now) q nodes.now self.old.steps.items self.old.nodes.items from x.number }
+        requires grown { Grown rules.now (has_domain doms.now) q nodes.now self.old.steps.items self.old.nodes.items
+            from x.number }
         ensures automaton { OnOk result (IsAutomaton rules.now automaton.new) }
         ensures laid { OnOk result (IsLaid automaton.new self.new.nodes.items self.new.states.items) }
         ensures state { OnOk result (StandsAt automaton.new.tails.items state (tail_at nodes.now from)) }
-        ensures grown { OnOk result (Grown rules.now (has_domain doms.now) q nodes.now self.new.steps.items self.new.nodes.items from (x.number + 1)) }
+        ensures grown { OnOk result (Grown rules.now (has_domain doms.now) q nodes.now self.new.steps.items
+            self.new.nodes.items from (x.number + 1)) }
     {
         let _ = nodes;
         if !doms.has(q, x) {
@@ -117,10 +121,12 @@ impl Growth {
         requires from { from < length nodes.now }
         requires automaton { IsAutomaton rules.now automaton.old }
         requires laid { IsLaid automaton.old self.old.nodes.items self.old.states.items }
-        requires grown { Grown rules.now (has_domain doms.now) q nodes.now self.old.steps.items self.old.nodes.items from 0 }
+        requires grown { Grown rules.now (has_domain doms.now) q nodes.now self.old.steps.items self.old.nodes.items
+            from 0 }
         ensures automaton { OnOk result (IsAutomaton rules.now automaton.new) }
         ensures laid { OnOk result (IsLaid automaton.new self.new.nodes.items self.new.states.items) }
-        ensures grown { OnOk result (Grown rules.now (has_domain doms.now) q nodes.now self.new.steps.items self.new.nodes.items (from + 1) 0) }
+        ensures grown { OnOk result (Grown rules.now (has_domain doms.now) q nodes.now self.new.steps.items
+            self.new.nodes.items (from + 1) 0) }
     {
         doms.prove_facts();
         let state = automaton.state_of(rules, nodes[from as usize])?;
@@ -153,7 +159,8 @@ fn next_layer(
     requires few { length nodes.now < 2 ^ 32 }
     requires automaton { IsAutomaton rules.now automaton.old }
     ensures automaton { OnOk result (IsAutomaton rules.now automaton.new) }
-    ensures grown { IfOk result (λ g. Grown rules.now (has_domain doms.now) q nodes.now g.steps.items g.nodes.items (length nodes.now) 0) }
+    ensures grown { IfOk result
+        (λ g. Grown rules.now (has_domain doms.now) q nodes.now g.steps.items g.nodes.items (length nodes.now) 0) }
 {
     let mut growth = Growth {
         steps: Vec::new(alloc),
@@ -182,7 +189,9 @@ pub fn layer_of_day(
     requires few { length nodes.now < 2 ^ 32 }
     requires automaton { IsAutomaton rules.now automaton.old }
     ensures automaton { OnOk result (IsAutomaton rules.now automaton.new) }
-    ensures grown { IfOk result (λ g. Grown rules.now (has_domain doms.now) ((p + i) % cells rules.now.problem) nodes.now g.steps.items g.nodes.items (length nodes.now) 0) }
+    ensures grown { IfOk result
+        (λ g. Grown rules.now (has_domain doms.now)
+        ((p + i) % cells rules.now.problem) nodes.now g.steps.items g.nodes.items (length nodes.now) 0) }
 {
     doms.prove_facts();
     let q = (p + i) % doms.cells();

@@ -17,8 +17,9 @@ use domain_store::Domains;
 use std::alloc::{AllocError, Global};
 use word_tail::TailRules;
 
-/// The heaviest clean word of this length over the domains, from a position on, and the least of its weight; None exactly
-/// where there is no clean word. Its memory grows with the tails of each 128th day, its time with the steps of all days.
+/// The heaviest clean word of this length over the domains, from a position on, and the least of its weight; None
+/// exactly where there is no clean word. Its memory grows with the tails of each 128th day, its time with the steps of
+/// all days.
 pub fn heaviest_clean<G: GainAfter>(
     alloc: Global,
     rules: &TailRules,
@@ -55,8 +56,8 @@ pub fn heaviest_clean<G: GainAfter>(
     }
 }
 
-/// The heaviest clean word of this length over the domains, from a position on, and the least of its weight, if it weighs
-/// so much at least; None exactly where every clean word weighs less. No word is sought then.
+/// The heaviest clean word of this length over the domains, from a position on, and the least of its weight, if it
+/// weighs so much at least; None exactly where every clean word weighs less. No word is sought then.
 pub fn heaviest_reaching<G: GainAfter>(
     alloc: Global,
     rules: &TailRules,
@@ -71,7 +72,8 @@ pub fn heaviest_reaching<G: GainAfter>(
     requires few { len ≤ LONGEST_WORD }
     ensures { IfOk result (λ found. MatchOption found
         (AreBelow (course rules.now doms.now p (G.gain_after_of gain.now)) len least)
-        (λ h. IsBestOf (course rules.now doms.now p (G.gain_after_of gain.now)) len h.weight h.word × (least ≤ℤ h.weight))) }
+        (λ h. IsBestOf (course rules.now doms.now p (G.gain_after_of gain.now)) len h.weight h.word
+        × (least ≤ℤ h.weight))) }
 {
     let mut automaton = Automaton::new(alloc)?;
     let fronts = fronts_of(alloc, &mut automaton, rules, doms, p, len, gain)?;
@@ -119,10 +121,12 @@ fn best_of<G: GainAfter>(
     requires position { p < cells rules.now.problem }
     requires few { len ≤ LONGEST_WORD }
     requires kept { AreKept (course rules.now doms.now p (G.gain_after_of gain.now)) len fronts.kept.items }
-    requires last { IsFront (course rules.now doms.now p (G.gain_after_of gain.now)) len fronts.last.tails.items fronts.last.row }
+    requires last { IsFront (course rules.now doms.now p (G.gain_after_of gain.now)) len fronts.last.tails.items
+        fronts.last.row }
     requires end { IsHeaviestEnd fronts.last.row (length fronts.last.row) (Some end) }
     ensures automaton { OnOk result (IsAutomaton rules.now automaton.new) }
-    ensures best { IfOk result (λ h. IsBestOf (course rules.now doms.now p (G.gain_after_of gain.now)) len h.weight h.word) }
+    ensures best { IfOk result
+        (λ h. IsBestOf (course rules.now doms.now p (G.gain_after_of gain.now)) len h.weight h.word) }
     ensures weight { IfOk result (λ h. h.weight ≡ end.weight) }
 {
     let last = tail_at(&fronts.last.tails, end.node);

@@ -27,7 +27,8 @@ pub struct KeptFronts {
 // Keeps the front of a day, if it is one to be kept.
 fn keep(kept: &mut Vec<Front>, front: Front, day: u32) -> Result<(), AllocError>
     requires { day < LONGEST_WORD }
-    ensures { OnOk result ((C : Course) → IsFront C day front.tails.items front.row → AreKept C day kept.old.items → AreKept C (day + 1) kept.new.items) }
+    ensures { OnOk result ((C : Course) → IsFront C day front.tails.items front.row → AreKept C day kept.old.items
+        → AreKept C (day + 1) kept.new.items) }
 {
     if day % STRIDE == 0 {
         kept.push(front)?;
@@ -35,8 +36,8 @@ fn keep(kept: &mut Vec<Front>, front: Front, day: u32) -> Result<(), AllocError>
     Ok(())
 }
 
-// The fronts of the words of this length. Their time grows with the steps of all days, their memory with the tails of every
-// 128th day.
+// The fronts of the words of this length. Their time grows with the steps of all days, their memory with the tails of
+// every 128th day.
 pub fn fronts_of<G: GainAfter>(
     alloc: Global,
     automaton: &mut Automaton,
@@ -51,8 +52,10 @@ pub fn fronts_of<G: GainAfter>(
     requires position { p < cells rules.now.problem }
     requires few { len ≤ LONGEST_WORD }
     ensures automaton { OnOk result (IsAutomaton rules.now automaton.new) }
-    ensures kept { IfOk result (λ f. AreKept (course rules.now doms.now p (G.gain_after_of gain.now)) len f.kept.items) }
-    ensures last { IfOk result (λ f. IsFront (course rules.now doms.now p (G.gain_after_of gain.now)) len f.last.tails.items f.last.row) }
+    ensures kept { IfOk result
+        (λ f. AreKept (course rules.now doms.now p (G.gain_after_of gain.now)) len f.kept.items) }
+    ensures last { IfOk result
+        (λ f. IsFront (course rules.now doms.now p (G.gain_after_of gain.now)) len f.last.tails.items f.last.row) }
 {
     let mut kept = Vec::new(alloc);
     let mut last = Front::start(alloc)?;

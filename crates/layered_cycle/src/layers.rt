@@ -34,16 +34,33 @@ impl Model for Layers {
 
     ghost Value = { WordGraph };
 
-    ghost view = { λ g. record { problem = g.problem; rules = g.rules; store = g.domains; position = g.position; len = g.len; layers = g.graph.layers.items; node_counts = g.graph.node_counts.items } };
+    ghost view = { λ g. record {
+      problem = g.problem;
+      rules = g.rules;
+      store = g.domains;
+      position = g.position;
+      len = g.len;
+      layers = g.graph.layers.items;
+      node_counts = g.graph.node_counts.items;
+    } };
 
-    ghost invariant = { λ g. IsWordGraph (record { problem = g.problem; rules = g.rules; store = g.domains; position = g.position; len = g.len; layers = g.graph.layers.items; node_counts = g.graph.node_counts.items }) };
+    ghost invariant = { λ g. IsWordGraph
+        (record {
+          problem = g.problem;
+          rules = g.rules;
+          store = g.domains;
+          position = g.position;
+          len = g.len;
+          layers = g.graph.layers.items;
+          node_counts = g.graph.node_counts.items;
+        }) };
 }
 
 impl Layers {
     ghost use Rattle.layered_cycle.specs.WordGraph.{WordGraph, IsWordGraph};
 
-    /// The layers for the words of this length from a position on, with copies of the problem, the rules and the domains.
-    /// There may be nodes from which no word goes on.
+    /// The layers for the words of this length from a position on, with copies of the problem, the rules and the
+    /// domains. There may be nodes from which no word goes on.
     pub fn of(
         alloc: Global,
         tails: &TailRules,
@@ -59,7 +76,8 @@ impl Layers {
         ensures domains { IfOk result (λ g. g.store ≡ doms.now) }
         ensures days { IfOk result (λ g. (g.position ≡ p) × (g.len ≡ len)) }
         ensures graph { IfOk result IsWordGraph }
-        ensures words { IfOk result (λ g. (u : List Symbol) → IsCleanOver tails.now.problem (has_domain doms.now) p len tails.now.rules u ↔ Leads g.layers 0 u) }
+        ensures words { IfOk result (λ g. (u : List Symbol)
+            → IsCleanOver tails.now.problem (has_domain doms.now) p len tails.now.rules u ↔ Leads g.layers 0 u) }
     {
         let graph = graph_of(alloc, tails, doms, p, len)?;
         let problem = tails.problem().copy()?;

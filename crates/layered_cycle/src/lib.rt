@@ -1,4 +1,5 @@
-//! Layers of a word's tails: the clean words over domains as ways through a graph, and cuts that decide whether there is one.
+//! Layers of a word's tails: the clean words over domains as ways through a graph, and cuts that decide whether there
+//! is one.
 #![tactic(auto)]
 
 mod automaton;

@@ -20,8 +20,8 @@ const RUNS: usize = ENDS + LENGTHS;
 const CODES: usize = ENDS * RUNS * LENGTHS * 4;
 
 // The place where each tail was last put into a list, by the tail's code. What stands there is looked at again, so one
-// index serves one list after another and is never cleared (the sparse sets of Briggs and Torczon, 1993). Each tail of a
-// word has a code of its own, so a look-up reads one place; where two tails had one code, it would go along the list.
+// index serves one list after another and is never cleared (the sparse sets of Briggs and Torczon, 1993). Each tail of
+// a word has a code of its own, so a look-up reads one place; where two tails had one code, it would go along the list.
 #[derive(Debug, Drop)]
 pub struct TailIndex {
     places: Vec<u32>,
@@ -60,7 +60,8 @@ impl TailIndex {
 
     // Notes that the tail stands behind all others.
     pub fn note(&mut self, tail: Tail, place: u32)
-        ensures { (tails : List Tail) → length tails ≡ place → Indexed self.old.places.items tails → Indexed self.new.places.items (tails ++ tail ∷ []) }
+        ensures { (tails : List Tail) → length tails ≡ place → Indexed self.old.places.items tails
+            → Indexed self.new.places.items (tails ++ tail ∷ []) }
     {
         let code = code_of(tail);
         if code < self.places.len() {

@@ -14,7 +14,8 @@ NoneHolds P D R rounds = (k : ℕ) (y : List Weight) → k < rounds → IsSearch
 -- the weights of the first of so many rounds whose bound holds, or none where these rounds have no such weights
 abbrev pub IsFirstSearched : Instance → Domains → List ℕ → ℕ → Option (List Weight) → Type 0
 IsFirstSearched P D R rounds None = NoneHolds P D R rounds
-IsFirstSearched P D R rounds (Some y) = (k : ℕ) × (k < rounds) × IsSearched P D R k y × HoldsAtTop P D R y × NoneHolds P D R k
+IsFirstSearched P D R rounds (Some y) = (k : ℕ) × (k < rounds) × IsSearched P D R k y × HoldsAtTop P D R y
+    × NoneHolds P D R k
 
 -- the weights that follow where the bound doesn't hold, or none where it holds
 abbrev pub IsFollowing : Instance → Domains → List ℕ → List Weight → Option (List Weight) → Type 0
@@ -26,7 +27,8 @@ abbrev pub AreWithin : ℕ → List Weight → Type 0
 AreWithin n y = (j x : ℕ) → (neg_ℤ (pos n) ≤ℤ weight_at y j x) × (weight_at y j x ≤ℤ pos n)
 
 -- on one day each weight went by one step, and on other days nothing changed
-pub record AreSteppedOn (P : Instance) (y : List Weight) (word : List Symbol) (day : ℕ) (old new : List Weight) : Type 0 where
+pub record AreSteppedOn (P : Instance) (y : List Weight) (word : List Symbol) (day : ℕ)
+    (old new : List Weight) : Type 0 where
   pub here : (x : ℕ) → x ≤ shift_count P → weight_at new day x ≡ step P y word day x
   pub above : (x : ℕ) → shift_count P < x → weight_at new day x ≡ weight_at old day x
   pub elsewhere : (j x : ℕ) → (j ≡ day → ⊥) → weight_at new j x ≡ weight_at old j x

@@ -18,8 +18,9 @@ use std::thread;
 use std::thread::Threads;
 use word_tail::TailRules;
 
-/// The index of the first plain bound that holds with the rules of the tails, for one turn from position 0; none exactly where none does.
-/// The bounds are cut into chunks of equal length, one for each worker, and each worker passes the gate once.
+/// The index of the first plain bound that holds with the rules of the tails, for one turn from position 0; none
+/// exactly where none does. The bounds are cut into chunks of equal length, one for each worker, and each worker passes
+/// the gate once.
 pub fn first_plain<R: Threads + Sync, G: Gate>(
     rt: &R,
     alloc: Global,
@@ -32,7 +33,9 @@ pub fn first_plain<R: Threads + Sync, G: Gate>(
     requires same { tails.now.problem ≡ problem.now }
     requires belongs { BelongsTo problem.now doms.now }
     requires workers { (1 ≤ workers) × (workers ≤ 64) }
-    ensures { IfOk result (λ found. IsFirst (HoldsAtTop problem.now (has_domain doms.now) tails.now.rules) 0 (plain_bounds problem.now) found) }
+    ensures { IfOk result
+        (λ found. IsFirst (HoldsAtTop problem.now (has_domain doms.now) tails.now.rules) 0
+        (plain_bounds problem.now) found) }
 {
     problem.prove_limits();
     let bounds = plain_bounds(alloc, problem)?;
@@ -53,7 +56,9 @@ fn first_holding<R: Threads + Sync, G: Gate>(
     requires some { 0 < length bounds.now }
     requires few { length bounds.now ≤ 18 }
     requires workers { (1 ≤ workers) × (workers ≤ 64) }
-    ensures { IfOk result (λ found. IsFirst (HoldsAtTop layers.now.problem (has_domain layers.now.store) layers.now.rules) 0 bounds.now found) }
+    ensures { IfOk result
+        (λ found. IsFirst
+        (HoldsAtTop layers.now.problem (has_domain layers.now.store) layers.now.rules) 0 bounds.now found) }
 {
     let size = bounds.len().div_ceil(workers as usize);
     let answers = thread::map_chunks(
@@ -63,7 +68,9 @@ fn first_holding<R: Threads + Sync, G: Gate>(
         size,
         &|start: usize, chunk: &[Weights]| -> Result<Option<usize>, AllocError>
             requires { (0 < size) × (start + length chunk.now < 2 ^ 31) × IsOneTurn layers.now }
-            ensures { IfOk result (λ found. IsFirst (HoldsAtTop layers.entry.now.problem (has_domain layers.entry.now.store) layers.entry.now.rules) start chunk.entry.now found) }
+            ensures { IfOk result
+                (λ found. IsFirst (HoldsAtTop layers.entry.now.problem
+                (has_domain layers.entry.now.store) layers.entry.now.rules) start chunk.entry.now found) }
         { first_of_chunk(alloc, layers, gate, (start / size) as u32 + 1, start, chunk) },
     )?;
     first_answer(&answers)
@@ -80,7 +87,9 @@ fn first_of_chunk<G: Gate>(
 ) -> Result<Option<usize>, AllocError>
     requires turn { IsOneTurn layers.now }
     requires few { start + length bounds.now < 2 ^ 31 }
-    ensures { IfOk result (λ found. IsFirst (HoldsAtTop layers.now.problem (has_domain layers.now.store) layers.now.rules) start bounds.now found) }
+    ensures { IfOk result
+        (λ found. IsFirst
+        (HoldsAtTop layers.now.problem (has_domain layers.now.store) layers.now.rules) start bounds.now found) }
 {
     gate.enter(chunk);
     for (i, weights) in bounds.iter().enumerate() {

@@ -17,8 +17,8 @@ use rwsp_terms::{Symbol, Weights};
 use std::alloc::{AllocError, Global};
 use word_tail::TailRules;
 
-/// The heaviest clean words of so many turns over the domains from day 1 on, where each free weekend has a reward: their
-/// weight, with the least of them. None exactly where there is no clean word.
+/// The heaviest clean words of so many turns over the domains from day 1 on, where each free weekend has a reward:
+/// their weight, with the least of them. None exactly where there is no clean word.
 pub fn heaviest_free(
     alloc: Global,
     problem: &Problem,
@@ -52,9 +52,9 @@ pub fn heaviest_free(
     heaviest_clean(alloc, tails, doms, 0, turns * problem.cells(), &gain)
 }
 
-/// The heaviest clean words of so many turns over the domains from day 1 on, where each free weekend has a reward, if they
-/// weigh so much at least: their weight, with the least of them. None exactly where every clean word weighs less; no word
-/// is sought then.
+/// The heaviest clean words of so many turns over the domains from day 1 on, where each free weekend has a reward, if
+/// they weigh so much at least: their weight, with the least of them. None exactly where every clean word weighs less;
+/// no word is sought then.
 pub fn heaviest_free_reaching(
     alloc: Global,
     problem: &Problem,
@@ -72,8 +72,10 @@ pub fn heaviest_free_reaching(
     requires few { turns * cells problem.now ≤ LONGEST_WORD }
     requires small { reward ≤ GREATEST_REWARD }
     ensures { IfOk result (λ found. MatchOption found
-        (AreLighterFree problem.now (has_domain doms.now) (turns * cells problem.now) tails.now.rules weights.now reward least)
-        (λ h. IsHeaviestFreeFound problem.now (has_domain doms.now) (turns * cells problem.now) tails.now.rules weights.now
+        (AreLighterFree problem.now (has_domain doms.now) (turns * cells problem.now) tails.now.rules weights.now reward
+        least)
+        (λ h. IsHeaviestFreeFound problem.now (has_domain doms.now)
+        (turns * cells problem.now) tails.now.rules weights.now
         reward (Some h) × (least ≤ℤ h.weight))) }
 {
     problem.prove_limits();
@@ -109,7 +111,8 @@ struct FreeGain<'a> {
 }
 
 impl<'a> GainAfter for FreeGain<'a> {
-    ghost gain_after_of = { λ g day before x. free_gain g.gain.weights.now g.gain.position g.gain.days g.reward day before x };
+    ghost gain_after_of = { λ g day before x. free_gain g.gain.weights.now g.gain.position g.gain.days g.reward day
+        before x };
 
     fn gain_after(&self, day: u32, before: Option<Symbol>, symbol: Symbol) -> i32 {
         self.gain.gain(day, symbol) + reward_behind(self.reward, day, before, symbol)

@@ -33,7 +33,9 @@ pub fn heaviest(
     requires position { p < cells problem.now }
     requires some { 1 ≤ turns }
     requires few { turns * cells problem.now ≤ LONGEST_WORD }
-    ensures { IfOk result (λ found. IsHeaviestFound problem.now (has_domain doms.now) p (turns * cells problem.now) tails.now.rules weights.now found) }
+    ensures { IfOk result
+        (λ found. IsHeaviestFound problem.now (has_domain doms.now) p
+        (turns * cells problem.now) tails.now.rules weights.now found) }
 {
     problem.prove_limits();
     let week = problem.days();
@@ -67,7 +69,8 @@ pub fn heaviest_reaching(
     requires few { turns * cells problem.now ≤ LONGEST_WORD }
     ensures { IfOk result (λ found. MatchOption found
         (AreLighter problem.now (has_domain doms.now) p (turns * cells problem.now) tails.now.rules weights.now least)
-        (λ h. IsHeaviestFound problem.now (has_domain doms.now) p (turns * cells problem.now) tails.now.rules weights.now (Some h) × (least ≤ℤ h.weight))) }
+        (λ h. IsHeaviestFound problem.now (has_domain doms.now) p
+        (turns * cells problem.now) tails.now.rules weights.now (Some h) × (least ≤ℤ h.weight))) }
 {
     problem.prove_limits();
     let week = problem.days();
@@ -90,13 +93,16 @@ pub fn heaviest_reaching(
     )
 }
 
-/// The weight of the heaviest words of the layers, with the least of them. None exactly where no word leads through them.
+/// The weight of the heaviest words of the layers, with the least of them. None exactly where no word leads through
+/// them.
 pub fn heaviest_in(
     alloc: Global,
     layers: &Layers,
     weights: &Weights,
 ) -> Result<Option<HeavyWord>, AllocError>
-    ensures { IfOk result (λ found. IsHeaviestFound layers.now.problem (has_domain layers.now.store) layers.now.position layers.now.len layers.now.rules weights.now found) }
+    ensures { IfOk result
+        (λ found. IsHeaviestFound layers.now.problem
+        (has_domain layers.now.store) layers.now.position layers.now.len layers.now.rules weights.now found) }
 {
     layers.prove_facts();
     let instance = layers.problem();
@@ -133,7 +139,8 @@ pub fn one_turn(
 /// Whether the bound of one turn from position 0 on holds: whether every word of the layers weighs less than the total.
 pub fn holds_at_top(alloc: Global, layers: &Layers, weights: &Weights) -> Result<bool, AllocError>
     requires { IsOneTurn layers.now }
-    ensures { IfOk result (λ holds. IsTrue holds ↔ HoldsAtTop layers.now.problem (has_domain layers.now.store) layers.now.rules weights.now) }
+    ensures { IfOk result (λ holds. IsTrue holds
+        ↔ HoldsAtTop layers.now.problem (has_domain layers.now.store) layers.now.rules weights.now) }
 {
     match heaviest_in(alloc, layers, weights)? {
         Some(heavy) => Ok(is_light(layers, weights, &heavy)),
@@ -144,7 +151,8 @@ pub fn holds_at_top(alloc: Global, layers: &Layers, weights: &Weights) -> Result
 // Whether the bound of one turn from position 0 on holds, by the heaviest word of the layers.
 pub fn is_light(layers: &Layers, weights: &Weights, heavy: &HeavyWord) -> bool
     requires turn { IsOneTurn layers.now }
-    requires heavy { IsHeaviestFound layers.now.problem (has_domain layers.now.store) layers.now.position layers.now.len layers.now.rules weights.now (Some heavy.now) }
+    requires heavy { IsHeaviestFound layers.now.problem (has_domain layers.now.store) layers.now.position layers.now.len
+        layers.now.rules weights.now (Some heavy.now) }
     ensures { IsTrue result ↔ HoldsAtTop layers.now.problem (has_domain layers.now.store) layers.now.rules weights.now }
 {
     heavy.weight < total(layers.problem(), weights)

@@ -16,12 +16,12 @@ use rwsp_terms::{Symbol, Weights};
 use std::alloc::{AllocError, Global};
 use word_tail::TailRules;
 
-/// The first of the weights of so many rounds whose bound of one turn from position 0 holds with the rules of the tails;
-/// None exactly where none of these bounds holds.
+/// The first of the weights of so many rounds whose bound of one turn from position 0 holds with the rules of the
+/// tails; None exactly where none of these bounds holds.
 ///
-/// The weights of the first round are 0 everywhere. Those of the next follow from the least of the heaviest clean words:
-/// where it has a symbol on a day in more weeks than are demanded at most, the weight goes down by one, and where in
-/// fewer than are demanded at least, up by one.
+/// The weights of the first round are 0 everywhere. Those of the next follow from the least of the heaviest clean
+/// words: where it has a symbol on a day in more weeks than are demanded at most, the weight goes down by one, and
+/// where in fewer than are demanded at least, up by one.
 pub fn search_weights(
     alloc: Global,
     problem: &Problem,
@@ -42,7 +42,8 @@ pub fn search_weights(
 fn search_in(alloc: Global, layers: &Layers, rounds: u32) -> Result<Option<Weights>, AllocError>
     requires turn { IsOneTurn layers.now }
     requires few { rounds ≤ GREATEST_WEIGHT }
-    ensures { IfOk result (λ found. IsFirstSearched layers.now.problem (has_domain layers.now.store) layers.now.rules rounds found) }
+    ensures { IfOk result
+        (λ found. IsFirstSearched layers.now.problem (has_domain layers.now.store) layers.now.rules rounds found) }
 {
     let mut weights = Weights::new(alloc);
     for round in 0..rounds {
@@ -62,7 +63,8 @@ fn following(
 ) -> Result<Option<Weights>, AllocError>
     requires turn { IsOneTurn layers.now }
     requires within { AreWithin (GREATEST_WEIGHT - 1) weights.now }
-    ensures { IfOk result (λ next. IsFollowing layers.now.problem (has_domain layers.now.store) layers.now.rules weights.now next) }
+    ensures { IfOk result
+        (λ next. IsFollowing layers.now.problem (has_domain layers.now.store) layers.now.rules weights.now next) }
 {
     let Some(heavy) = heaviest_in(alloc, layers, weights)? else {
         return Ok(None);

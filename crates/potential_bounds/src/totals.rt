@@ -12,7 +12,8 @@ use rwsp_terms::{Symbol, Weights};
 /// The least that a roster can weigh which meets the demand: the sum over all days and symbols.
 pub fn total(problem: &Problem, weights: &Weights) -> i64
     ensures value { result ≡ total problem.now weights.now }
-    ensures above { neg_ℤ (pos (MOST_DAYS * (MOST_SYMBOLS * (GREATEST_WEIGHT * (MOST_SHIFTS * MOST_WEEKS))))) ≤ℤ result }
+    ensures above { neg_ℤ (pos (MOST_DAYS * (MOST_SYMBOLS * (GREATEST_WEIGHT * (MOST_SHIFTS * MOST_WEEKS))))) ≤ℤ
+        result }
     ensures below { result ≤ℤ pos (MOST_DAYS * (MOST_SYMBOLS * (GREATEST_WEIGHT * (MOST_SHIFTS * MOST_WEEKS)))) }
 {
     let mut sum = 0;
@@ -25,7 +26,8 @@ pub fn total(problem: &Problem, weights: &Weights) -> i64
 // The sum over the symbols of one day.
 fn day_total(problem: &Problem, weights: &Weights, day: u32) -> i64
     requires { IsDay problem.now day }
-    ensures value { result ≡ int_sum_by (λ x. least_weight problem.now weights.now day x) (range_with_len 0 (shift_count problem.now + 1)) }
+    ensures value { result ≡ int_sum_by
+        (λ x. least_weight problem.now weights.now day x) (range_with_len 0 (shift_count problem.now + 1)) }
     ensures above { neg_ℤ (pos (MOST_SYMBOLS * (GREATEST_WEIGHT * (MOST_SHIFTS * MOST_WEEKS)))) ≤ℤ result }
     ensures below { result ≤ℤ pos (MOST_SYMBOLS * (GREATEST_WEIGHT * (MOST_SHIFTS * MOST_WEEKS))) }
 {

@@ -8,7 +8,8 @@ use rwsp_terms::limits::MOST_SYMBOLS;
 use rwsp_terms::{Symbol, Weights};
 use std::alloc::{AllocError, Global};
 
-// The table of the first so many days. It is made once for a leaf, in time that grows with its entries times the weights.
+// The table of the first so many days. It is made once for a leaf, in time that grows with its entries times the
+// weights.
 pub fn weight_table(alloc: Global, weights: &Weights, days: u32) -> Result<Vec<i32>, AllocError>
     requires { days ≤ MOST_DAYS }
     ensures { IfOk result (λ table. HoldsWeights weights.now table.items (days * MOST_SYMBOLS)) }

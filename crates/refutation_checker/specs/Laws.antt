@@ -7,4 +7,5 @@ use Rattle.refutation_terms.specs.Verdict.{IsVerdict}
 
 -- no text is without a verdict: it is that of a log that passes, or is refused for a cause
 abbrev pub TextsHaveAVerdict : Type 0
-TextsHaveAVerdict = (P : Instance) (text : List ℕ) → ((verdict : Result Log LogRefusal) → IsVerdict P text verdict → ⊥) → ⊥
+TextsHaveAVerdict = (P : Instance) (text : List ℕ) → ((verdict : Result Log LogRefusal) → IsVerdict P text verdict → ⊥)
+    → ⊥

@@ -22,13 +22,15 @@ pub record Judging : Type 0 where
   pub named : List ℕ
 
 -- the line behind these is refused for no cause
-pub record IsSoundNext (P : Instance) (named : List ℕ) (turn : Option Turn) (lines : List Line) (line : Line) : Type 0 where
+pub record IsSoundNext (P : Instance) (named : List ℕ) (turn : Option Turn) (lines : List Line)
+    (line : Line) : Type 0 where
   pub in_tree : IsTree lines → ⊥
   pub fits : LineFits P line
   pub sound : IsSound P named (domains_at P turn lines (length lines)) line
 
 -- the bytes are the text of such a line, and the walk has read it
-pub record IsLineRead (P : Instance) (named : List ℕ) (turn : Option Turn) (lines : List Line) (bytes : List ℕ) (w : State) : Type 0 where
+pub record IsLineRead (P : Instance) (named : List ℕ) (turn : Option Turn) (lines : List Line) (bytes : List ℕ)
+    (w : State) : Type 0 where
   pub line : Line
   pub spelled : bytes ≡ line_text P (raw P line)
   pub sound : IsSoundNext P named turn lines line

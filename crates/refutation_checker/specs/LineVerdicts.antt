@@ -33,7 +33,8 @@ abbrev pub PlainCause : Instance → List ℕ → Domains → ℕ → Line → L
 PlainCause P named D n line (Refusals.Unnamed i k) = (i ≡ n) × IsLeast (IsUnnamed P named (Cites P line)) k
 PlainCause P named D n line (Refusals.Idle i) = (i ≡ n) × IsIdleSplit P D line
 PlainCause P named D n line (Refusals.Long i k) = (i ≡ n) × CitesOnlyNamed P named line × IsLeast (ListsLong P line) k
-PlainCause P named D n line (Refusals.Fails i) = (i ≡ n) × CitesOnlyNamed P named line × IsPlainLeaf line × (Holds P D line → ⊥)
+PlainCause P named D n line (Refusals.Fails i) = (i ≡ n) × CitesOnlyNamed P named line × IsPlainLeaf line
+    × (Holds P D line → ⊥)
 PlainCause P named D n line (Refusals.Unfinished i) = (i ≡ n) × (line ≡ Unfinished)
 PlainCause P named D n line why = ⊥
 
@@ -57,5 +58,6 @@ pub record IsSound (P : Instance) (named : List ℕ) (D : Domains) (line : Line)
 
 -- the lowest cause to refuse the line as text line n
 abbrev pub LineCause : Instance → List ℕ → Domains → ℕ → Line → LogRefusal → Type 0
-LineCause P named D n line (Refusals.Escape i w) = (i ≡ n) × CitesOnlyNamed P named line × ListsShortOnly P line × Escapes P D line w
+LineCause P named D n line (Refusals.Escape i w) = (i ≡ n) × CitesOnlyNamed P named line × ListsShortOnly P line
+    × Escapes P D line w
 LineCause P named D n line why = PlainCause P named D n line why

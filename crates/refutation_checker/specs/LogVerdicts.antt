@@ -11,7 +11,8 @@ use Rattle.refutation_checker.specs.LineVerdicts.{IsSound, LineCause}
 
 -- none of the first i lines has a cause
 abbrev pub AreSound : Instance → Log → ℕ → Type 0
-AreSound P g i = (k : ℕ) (line : Line) → k < i → slice_get g.lines k ≡ Some line → IsSound P g.named (domains_at P g.turn g.lines k) line
+AreSound P g i = (k : ℕ) (line : Line) → k < i → slice_get g.lines k ≡ Some line
+    → IsSound P g.named (domains_at P g.turn g.lines k) line
 
 -- and the walk has read them
 pub record IsPassed (P : Instance) (g : Log) (i : ℕ) (w : State) : Type 0 where

@@ -18,7 +18,8 @@ pub record IsSoundTurn (P : Instance) (named : List ℕ) (turn : Option Turn) : 
 -- the lowest cause to refuse a turn, whose line is the third
 abbrev pub TurnFault : Instance → List ℕ → Turn → LogRefusal → Type 0
 TurnFault P named t (Refusals.Unnamed i k) = (i ≡ 3) × IsLeast (IsUnnamed P named (λ r. r ≡ TheRules.Day t.day)) k
-TurnFault P named t (Refusals.Turn i) = (i ≡ 3) × Names P named (TheRules.Day t.day) × (least P t.x.number t.day <ℤ pos 1)
+TurnFault P named t (Refusals.Turn i) = (i ≡ 3) × Names P named (TheRules.Day t.day)
+    × (least P t.x.number t.day <ℤ pos 1)
 TurnFault P named t why = ⊥
 
 -- the same where there may be no turn

@@ -27,7 +27,8 @@ abbrev pub LeadInto : Instance → (List Line → Type 0) → List UnreadSplit �
 LeadInto P Q [] lines = Q lines
 LeadInto P Q (u ∷ splits) lines =
     (p : ℕ) × (x : Symbol) × (first : List Line) × (rest : List Line)
-    × (lines ≡ Split p x ∷ (first ++ rest)) × IsTextOf P u.line (Split p x) × IsFirstSide u.in_second first × LeadInto P Q splits rest
+    × (lines ≡ Split p x ∷ (first ++ rest)) × IsTextOf P u.line (Split p x) × IsFirstSide u.in_second first
+    × LeadInto P Q splits rest
 
 -- they end there, where the next tree begins
 abbrev pub EndInside : Instance → List UnreadSplit → List Line → Type 0
@@ -50,21 +51,29 @@ pub record HasIdleSplit (P : Instance) (turn : Option Turn) (lines : List Line) 
 abbrev pub IsEnded : Instance → Option Turn → List Line → Type 0
 IsEnded P turn lines = HasTree lines ⊎ HasIdleSplit P turn lines
 
--- some lines end inside these splits, and a walk started in front of the first of them: then either one is an idle split, or this walk stands behind them
+-- some lines end inside these splits, and a walk started in front of the first of them: then either one is an idle
+-- split, or this walk stands behind them
 abbrev pub IsInto : Instance → State → List UnreadSplit → Option State → Type 0
-IsInto P start splits None = (turn : Option Turn) (lines : List Line) → IsStateOf P turn [] start → EndInside P splits lines → HasIdleSplit P turn lines
-IsInto P start splits (Some w) = (turn : Option Turn) (lines : List Line) → IsStateOf P turn [] start → EndInside P splits lines → IsStateOf P turn lines w
+IsInto P start splits None = (turn : Option Turn) (lines : List Line) → IsStateOf P turn [] start
+    → EndInside P splits lines → HasIdleSplit P turn lines
+IsInto P start splits (Some w) = (turn : Option Turn) (lines : List Line) → IsStateOf P turn [] start
+    → EndInside P splits lines → IsStateOf P turn lines w
 
--- the bytes were passed behind lines that end inside splits. If they are the text of lines that fit, then either no line behind them is the first that is refused, or they are so many
--- lines, and end inside other splits
+-- the bytes were passed behind lines that end inside splits. If they are the text of lines that fit, then either no
+-- line behind them is the first that is refused, or they are so many lines, and end inside other splits
 abbrev pub ArePassed : Instance → State → List UnreadSplit → List UnreadSplit → List ℕ → Option ℕ → Type 0
 ArePassed P start before after bytes None =
-    (turn : Option Turn) (done lines : List Line) → IsStateOf P turn [] start → EndInside P before done → EachFits P lines → bytes ≡ lines_text P lines → IsEnded P turn (done ++ lines)
+    (turn : Option Turn) (done lines : List Line) → IsStateOf P turn [] start → EndInside P before done
+    → EachFits P lines → bytes ≡ lines_text P lines → IsEnded P turn (done ++ lines)
 ArePassed P start before after bytes (Some count) =
-    (done lines : List Line) → EndInside P before done → EachFits P lines → bytes ≡ lines_text P lines → (count ≡ length lines) × EndInside P after (done ++ lines)
+    (done lines : List Line) → EndInside P before done → EachFits P lines → bytes ≡ lines_text P lines
+    → (count ≡ length lines) × EndInside P after (done ++ lines)
 
--- a walk goes by the line of a split, if it is spelled, and by its first side if that was passed too; or it is an idle split
+-- a walk goes by the line of a split, if it is spelled, and by its first side if that was passed too; or it is an idle
+-- split
 abbrev pub IsEntered : Instance → UnreadSplit → State → State → Bool → Type 0
 IsEntered P u old new entered =
-    (turn : Option Turn) (lines first : List Line) (p : ℕ) (x : Symbol) → IsStateOf P turn lines old → IsTextOf P u.line (Split p x) → IsFirstSide u.in_second first
-    → MatchBool entered (IsStateOf P turn (lines ++ Split p x ∷ first) new) (is_idle P (domains_at P turn lines (length lines)) p x.number ≡ true)
+    (turn : Option Turn) (lines first : List Line) (p : ℕ) (x : Symbol) → IsStateOf P turn lines old
+    → IsTextOf P u.line (Split p x) → IsFirstSide u.in_second first
+    → MatchBool entered (IsStateOf P turn (lines
+    ++ Split p x ∷ first) new) (is_idle P (domains_at P turn lines (length lines)) p x.number ≡ true)

@@ -34,8 +34,8 @@ impl<'a> Model for Chunk<'a> {
     ghost view = { λ c. record { walk = c.walk; bytes = c.bytes.now; first = c.first } };
 }
 
-/// Whether the tree is whole behind the lines of the chunk, where none of them is refused, or why its first line that is
-/// refused is.
+/// Whether the tree is whole behind the lines of the chunk, where none of them is refused, or why its first line that
+/// is refused is.
 pub fn judge_chunk(
     alloc: Global,
     problem: &Problem,

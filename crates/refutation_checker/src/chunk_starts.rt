@@ -1,8 +1,8 @@
 // Where the chunks of a log's lines start, and the walk there.
 //
 // The lines in front of a chunk are passed without being read: it only counts which of them are splits, and so which
-// splits are open at its start. These alone are read then. A line that isn't spelled is refused by its own chunk, and so the
-// answers to later chunks, whose walks may be wrong, count for nothing.
+// splits are open at its start. These alone are read then. A line that isn't spelled is refused by its own chunk, and
+// so the answers to later chunks, whose walks may be wrong, count for nothing.
 ghost use Rattle.std.specs.Prelude.{◌≡◌, ◌≢◌, ◌+◌, ◌^◌, ◌<◌, ◌≤◌, ◌++◌, ◌∷◌, ℕ, List, [], length, Option, None, Some, All, IfOk, IfSome, MatchBool, MatchOption, true, false};
 ghost use Rattle.std.specs.Int.{div_ceil};
 ghost use Rattle.rwsp_terms.specs.Instance.{Instance};
@@ -65,7 +65,8 @@ fn split_of(line: &Line) -> Option<(u32, Symbol)>
     }
 }
 
-// The walk reads the line of a split, if it is spelled, and goes past its first side if that was passed. Whether it did.
+// The walk reads the line of a split, if it is spelled, and goes past its first side if that was passed. Whether it
+// did.
 fn enter(
     alloc: Global,
     problem: &Problem,
@@ -92,8 +93,8 @@ fn enter(
     }
 }
 
-// The walk that a walk becomes by the lines that lead into these splits. None where one of the splits isn't spelled, or is
-// idle. Costs the reading of these lines.
+// The walk that a walk becomes by the lines that lead into these splits. None where one of the splits isn't spelled, or
+// is idle. Costs the reading of these lines.
 fn walk_into(
     alloc: Global,
     problem: &Problem,
@@ -133,8 +134,8 @@ fn are_too_many(
     Ok(found.is_none())
 }
 
-// Passes lines, and counts them. None where the line behind them isn't the first that is refused: the whole tree ends in
-// them, or one is an idle split.
+// Passes lines, and counts them. None where the line behind them isn't the first that is refused: the whole tree ends
+// in them, or one is an idle split.
 fn pass_lines<'a>(
     alloc: Global,
     problem: &Problem,
@@ -163,8 +164,8 @@ fn pass_lines<'a>(
     Ok(Some(count))
 }
 
-// Passes lines, and gives their number and the walk behind them. None where the line behind them isn't the first that is
-// refused.
+// Passes lines, and gives their number and the walk behind them. None where the line behind them isn't the first that
+// is refused.
 fn walk_behind<'a>(
     alloc: Global,
     problem: &Problem,
@@ -192,8 +193,8 @@ fn walk_behind<'a>(
     }
 }
 
-// Cuts a chunk of so many lines off the front, and gives what is left; None where no further chunk is needed, and then the
-// chunk has all lines.
+// Cuts a chunk of so many lines off the front, and gives what is left; None where no further chunk is needed, and then
+// the chunk has all lines.
 fn cut_off<'a>(
     alloc: Global,
     problem: &Problem,
@@ -207,7 +208,8 @@ fn cut_off<'a>(
     requires few { all.first + length all.bytes < 2 ^ 31 }
     requires some { all.bytes ≢ [] }
     requires size { 1 ≤ size }
-    ensures { IfOk result (λ cut. IsCutOff problem.now size start.now splits.old.items splits.new.items all.entry cut.0 cut.1) }
+    ensures { IfOk result
+        (λ cut. IsCutOff problem.now size start.now splits.old.items splits.new.items all.entry cut.0 cut.1) }
 {
     let bytes = all.bytes;
     let end = lines_end(bytes, size);
@@ -247,8 +249,8 @@ fn numbered(chunk: Chunk, number: u32) -> Chunk
     }
 }
 
-// Chunks of so many lines each. Where a line is seen to be refused, the chunk that holds it has all further lines, and is
-// the last.
+// Chunks of so many lines each. Where a line is seen to be refused, the chunk that holds it has all further lines, and
+// is the last.
 fn chunks_of<'a>(
     alloc: Global,
     problem: &Problem,

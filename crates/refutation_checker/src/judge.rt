@@ -75,10 +75,12 @@ impl<'a> Judge<'a> {
     ) -> Result<Option<LogRefusal>, AllocError>
         requires state { (turn : Option Turn) × (lines : List Line) × IsStateOf self.old.problem turn lines walk.old }
         ensures same { self.new ≡ self.old }
-        ensures read { IfOk result (λ found. (turn : Option Turn) (lines : List Line) → IsStateOf self.old.problem turn lines walk.old → number ≡ header_lines turn + length lines + 1 →
+        ensures read { IfOk result (λ found. (turn : Option Turn) (lines : List Line)
+            → IsStateOf self.old.problem turn lines walk.old → number ≡ header_lines turn + length lines + 1 →
             MatchOption found
             (IsLineRead self.old.problem self.old.named turn lines bytes.now walk.new)
-            (λ why. Cause self.old.problem (Reading (record { named = self.old.named; turn = turn; goal = None; lines = lines })) bytes.now why)) }
+            (λ why. Cause self.old.problem
+            (Reading (record { named = self.old.named; turn = turn; goal = None; lines = lines })) bytes.now why)) }
         ensures walks { IfOk result (StillWalks self.old.problem walk.new) }
     {
         if walk.is_whole() {
@@ -104,10 +106,13 @@ impl<'a> Judge<'a> {
         requires part { walk.old.whole ≡ false }
         requires line { LineFits self.old.problem line.now }
         ensures same { self.new ≡ self.old }
-        ensures passed { IfOk result (λ found. (turn : Option Turn) (lines : List Line) → IsStateOf self.old.problem turn lines walk.old →
+        ensures passed { IfOk result (λ found. (turn : Option Turn) (lines : List Line)
+            → IsStateOf self.old.problem turn lines walk.old →
             MatchOption found
-            (IsSound self.old.problem self.old.named (domains_at self.old.problem turn lines (length lines)) line.now × IsStateOf self.old.problem turn (lines ++ line.now ∷ []) walk.new)
-            (LineCause self.old.problem self.old.named (domains_at self.old.problem turn lines (length lines)) number line.now)) }
+            (IsSound self.old.problem self.old.named (domains_at self.old.problem turn lines (length lines)) line.now
+            × IsStateOf self.old.problem turn (lines ++ line.now ∷ []) walk.new)
+            (LineCause self.old.problem self.old.named (domains_at self.old.problem turn lines (length lines)) number
+            line.now)) }
     {
         self.problem.prove_limits();
         walk.domains().prove_facts();

@@ -1,8 +1,8 @@
 // A law of verdicts. The function's contract is the law.
 ghost use Rattle.refutation_checker.specs.Laws.{TextsHaveAVerdict};
 
-/// No text is without a verdict: it is that of a log that passes, or it is refused for a cause. That it has one at most is
-/// `texts_have_one_verdict` of `refutation_log`.
+/// No text is without a verdict: it is that of a log that passes, or it is refused for a cause. That it has one at most
+/// is `texts_have_one_verdict` of `refutation_log`.
 #[tactic(auto, using(crate::proofs::SomeVerdict::some_verdict))]
 pub fn texts_have_a_verdict()
     ensures { TextsHaveAVerdict }

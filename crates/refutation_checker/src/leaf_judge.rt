@@ -41,14 +41,15 @@ impl<'a> LeafJudge<'a> {
         }
     }
 
-    /// Whether the leaf holds as the next line behind those that the walk has read. Of lines that are neither a dead nor
-    /// a bound leaf this says nothing.
+    /// Whether the leaf holds as the next line behind those that the walk has read. Of lines that are neither a dead
+    /// nor a bound leaf this says nothing.
     pub fn holds(&mut self, alloc: Global, walk: &Walk, leaf: &Line) -> Result<bool, AllocError>
         requires state { (turn : Option Turn) × (lines : List Line) × IsStateOf self.old turn lines walk.now }
         requires fits { LineFits self.old leaf.now }
         requires short { ListsShortOnly self.old leaf.now }
         ensures same { self.new ≡ self.old }
-        ensures holds { IfOk result (λ yes. (turn : Option Turn) (lines : List Line) → IsStateOf self.old turn lines walk.now →
+        ensures holds { IfOk result (λ yes. (turn : Option Turn) (lines : List Line)
+            → IsStateOf self.old turn lines walk.now →
             IsTrue yes ↔ HoldsByWords self.old (domains_at self.old turn lines (length lines)) leaf.now) }
     {
         if let Some(_word) = self.judge.leaf_escape(alloc, walk.domains(), leaf)? {

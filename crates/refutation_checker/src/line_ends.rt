@@ -5,8 +5,8 @@ ghost use Rattle.refutation_checker.specs.Chunks.{EndsLines, line_count, feeds};
 // The bytes of a block, whose LF are few enough to be counted in a byte; so many bytes are counted at once.
 const BLOCK: usize = 240;
 
-/// Where the first so many lines end, behind the LF of the last one; at the end where there are fewer. Blocks in front of
-/// the one with that LF are only counted.
+/// Where the first so many lines end, behind the LF of the last one; at the end where there are fewer. Blocks in front
+/// of the one with that LF are only counted.
 #[tactic(auto, using(crate::proofs::Feeds::fed_in_all))]
 pub fn lines_end(bytes: &[u8], size: usize) -> usize
     requires some { 1 ≤ size }

@@ -18,7 +18,8 @@ use tree_walk::Walk;
 /// The verdict on the text of a log, without its text.
 pub fn check_log(alloc: Global, problem: &Problem, log: &Log) -> Result<(), Fail<LogRefusal>>
     requires { Fits problem.now log.now }
-    ensures { MatchAnswer result (λ _. Passes problem.now log.now) (IsRefused problem.now (log_text problem.now log.now)) }
+    ensures { MatchAnswer result
+        (λ _. Passes problem.now log.now) (IsRefused problem.now (log_text problem.now log.now)) }
 {
     match log_refusal(alloc, problem, log) {
         Ok(None) => Ok(()),
@@ -34,7 +35,9 @@ fn log_refusal(
     log: &Log,
 ) -> Result<Option<LogRefusal>, AllocError>
     requires { Fits problem.now log.now }
-    ensures { IfOk result (λ found. MatchOption found (Passes problem.now log.now) (IsRefused problem.now (log_text problem.now log.now))) }
+    ensures { IfOk result
+        (λ found. MatchOption found (Passes problem.now log.now) (IsRefused problem.now
+        (log_text problem.now log.now))) }
 {
     problem.prove_limits();
     if let Some(why) = turn_refusal(problem, log.named(), log.turn()) {

@@ -33,8 +33,8 @@ fn least_long(problem: &Problem, list: &RuleList) -> Option<u32>
     None
 }
 
-/// The number of the least rule in the list of a dead or a bound leaf that isn't short; None where all are short, and for
-/// lines without a list. Goes along the list once.
+/// The number of the least rule in the list of a dead or a bound leaf that isn't short; None where all are short, and
+/// for lines without a list. Goes along the list once.
 pub fn long_rule(problem: &Problem, line: &Line) -> Option<u32>
     requires { LineFits problem.now line.now }
     ensures { MatchOption result

@@ -55,9 +55,9 @@ fn plain_failure(line: &Line, number: u32) -> LogRefusal
     }
 }
 
-/// The lowest cause to refuse a line as text line `number`, but for a word that escapes a dead or a bound leaf; None exactly
-/// where there is no other cause. It goes by a rule that isn't named, an idle split, a rule of a list that isn't short, a
-/// window or a day leaf that doesn't hold, and a case that wasn't worked out.
+/// The lowest cause to refuse a line as text line `number`, but for a word that escapes a dead or a bound leaf; None
+/// exactly where there is no other cause. It goes by a rule that isn't named, an idle split, a rule of a list that
+/// isn't short, a window or a day leaf that doesn't hold, and a case that wasn't worked out.
 pub fn plain_refusal(
     problem: &Problem,
     named: &RuleList,

@@ -11,7 +11,8 @@ use rwsp_terms::{Rule, RuleList};
 // symbol then.
 fn turn_fault(problem: &Problem, named: &RuleList, turn: Turn) -> Option<LogRefusal>
     requires { TurnFits problem.now (Some turn) }
-    ensures { MatchOption result (IsSoundTurn problem.now named.now (Some turn)) (TurnFault problem.now named.now turn) }
+    ensures { MatchOption result (IsSoundTurn problem.now named.now (Some turn))
+        (TurnFault problem.now named.now turn) }
 {
     let day = number_of(problem, Rule::Day(turn.day));
     if !named.holds(day) {

@@ -17,8 +17,8 @@ use std::alloc::{AllocError, Global};
 use std::thread::Threads;
 use tree_walk::Walk;
 
-/// The verdict on a text: the rules that its header names where it is the text of a log that passes, else the first line
-/// with a cause to refuse it, and on that line the lowest cause.
+/// The verdict on a text: the rules that its header names where it is the text of a log that passes, else the first
+/// line with a cause to refuse it, and on that line the lowest cause.
 pub fn check(alloc: Global, problem: &Problem, bytes: &[u8]) -> Result<RuleList, Fail<LogRefusal>>
     requires { length bytes.now ≤ 536870912 }
     ensures { MatchAnswer result

@@ -15,8 +15,8 @@ use std::alloc::Global;
 use std::thread;
 use std::thread::Threads;
 
-/// What `judge_chunk` answers to all lines, which are cut into chunks of equal length: at most one for each worker. The gate
-/// is passed once for each chunk, before its first line. One worker has all lines, and they needn't be counted.
+/// What `judge_chunk` answers to all lines, which are cut into chunks of equal length: at most one for each worker. The
+/// gate is passed once for each chunk, before its first line. One worker has all lines, and they needn't be counted.
 pub fn judge_by_workers<R: Threads + Sync, G: Gate>(
     rt: &R,
     alloc: Global,
@@ -44,7 +44,8 @@ pub fn judge_by_workers<R: Threads + Sync, G: Gate>(
         chunks,
         &|chunk: Chunk| -> Result<bool, Fail<LogRefusal>>
             requires { IsJudgeable problem.now chunk }
-            ensures { (turn : Option Turn) (earlier : List Line) → StandsBehind problem.entry.now turn earlier chunk.entry →
+            ensures { (turn : Option Turn) (earlier : List Line)
+                → StandsBehind problem.entry.now turn earlier chunk.entry →
                 IsJudged problem.entry.now named.entry.now turn earlier chunk.entry.bytes result }
         { judge_behind_gate(alloc, problem, named, gate, chunk) },
     );

@@ -16,17 +16,21 @@ LogsHaveOneText = (P : Instance) (g h : Log) → KeepsLimits P → Fits P g → 
 -- a free log that fits a problem shares its text with no other log that fits it
 abbrev pub FreeLogsHaveOneText : Type 0
 FreeLogsHaveOneText =
-    (P : Instance) (goal : ℕ) (other : Option ℕ) (g h : Log) → KeepsLimits P → FitsFor P (Some goal) g → FitsFor P other h
+    (P : Instance) (goal : ℕ) (other : Option ℕ) (g h : Log) → KeepsLimits P → FitsFor P (Some goal) g
+    → FitsFor P other h
     → free_log_text P goal g ≡ log_text_for P other h → g ≡ h
 
 -- the text of a whole log that fits is not refused by reading
 abbrev pub TextsOfLogsAreRead : Type 0
-TextsOfLogsAreRead = (P : Instance) (g : Log) (why : LogRefusal) → KeepsLimits P → Fits P g → IsTree g.lines → IsUnread P (log_text P g) why → ⊥
+TextsOfLogsAreRead = (P : Instance) (g : Log) (why : LogRefusal) → KeepsLimits P → Fits P g → IsTree g.lines
+    → IsUnread P (log_text P g) why → ⊥
 
 -- a text has one verdict at most
 abbrev pub TextsHaveOneVerdict : Type 0
-TextsHaveOneVerdict = (P : Instance) (text : List ℕ) (verdict other : Result Log LogRefusal) → KeepsLimits P → IsVerdict P text verdict → IsVerdict P text other → verdict ≡ other
+TextsHaveOneVerdict = (P : Instance) (text : List ℕ) (verdict other : Result Log LogRefusal) → KeepsLimits P
+    → IsVerdict P text verdict → IsVerdict P text other → verdict ≡ other
 
 -- a text that is refused by reading has one cause
 abbrev pub UnreadTextsHaveOneCause : Type 0
-UnreadTextsHaveOneCause = (P : Instance) (text : List ℕ) (why other : LogRefusal) → KeepsLimits P → IsUnread P text why → IsUnread P text other → why ≡ other
+UnreadTextsHaveOneCause = (P : Instance) (text : List ℕ) (why other : LogRefusal) → KeepsLimits P → IsUnread P text why
+    → IsUnread P text other → why ≡ other

@@ -1,4 +1,5 @@
--- Why a text is refused by reading alone: its lines are spelled, its names known, and it is one whole tree. What the lines say isn't looked at.
+-- Why a text is refused by reading alone: its lines are spelled, its names known, and it is one whole tree. What the
+-- lines say isn't looked at.
 use Rattle.std.specs.Prelude.{◌≡◌, ℕ, ◌+◌, ◌-◌, ◌<◌, ◌≤◌, List, [], ◌++◌, length, take, Option, None}
 use Rattle.rwsp_terms.specs.Instance.{Instance}
 use Rattle.refutation_terms.specs.declared.lines.Line.{Line}
@@ -71,7 +72,8 @@ BeginsWithFreeHeader P text named goal body =
     AreRules P named × (goal ≤ P.weeks + 1) × (text ≡ free_header_text named goal ++ body)
 
 -- the text begins with a header that fits the problem, and the rest is its body
-pub record BeginsWithHeader (P : Instance) (text : List ℕ) (named : List ℕ) (turn : Option Turn) (body : List ℕ) : Type 0 where
+pub record BeginsWithHeader (P : Instance) (text : List ℕ) (named : List ℕ) (turn : Option Turn)
+    (body : List ℕ) : Type 0 where
   pub rules : AreRules P named
   pub fits : TurnFits P turn
   pub whole : text ≡ header_text P named turn ++ body

@@ -28,14 +28,16 @@ day_at P ws = read (day_kind P).fields (day_kind P).make ws
 
 -- a position, a number, and the word that begins a list of rules
 unfoldable pub head_at : Instance → ℕ → Words → Option ((ℕ × ℕ) × Words)
-head_at P high ws = place_at P.weeks P.days ws >>= (λ p. number_at 1 high p.1 >>= (λ n. word_at (codes "rules") n.1 >>= (λ rest. Some ((p.0, n.0), rest))))
+head_at P high ws = place_at P.weeks P.days ws >>=
+    (λ p. number_at 1 high p.1 >>= (λ n. word_at (codes "rules") n.1 >>= (λ rest. Some ((p.0, n.0), rest))))
 
 -- the numbers of rules in front
 abbrev pub rules_in : Instance → Words → List ℕ × Words
 rules_in P ws = rules_at (length (rules P)) ws
 
 unfoldable pub dead_at : Instance → Words → Option RawLine
-dead_at P ws = head_at P LONGEST_WORD ws >>= (λ head. done_at (RawDead head.0.0 head.0.1 (rules_in P head.1).0) (rules_in P head.1).1)
+dead_at P ws = head_at P LONGEST_WORD ws >>=
+    (λ head. done_at (RawDead head.0.0 head.0.1 (rules_in P head.1).0) (rules_in P head.1).1)
 
 abbrev pub weight_at : Instance → Words → Option (NamedWeight × Words)
 weight_at P ws = weight_in P.days GREATEST_WEIGHT ws
@@ -83,7 +85,8 @@ goal_at P ws =
 
 -- the name and the day of a turn
 unfoldable pub turn_at : Instance → Words → Option (List ℕ × ℕ)
-turn_at P ws = word_at (codes "turn") ws >>= (λ rest. name_at rest >>= (λ name. number_at 1 P.days name.1 >>= (λ day. done_at {X = List ℕ × ℕ} (name.0, day.0) day.1)))
+turn_at P ws = word_at (codes "turn") ws >>= (λ rest. name_at rest >>=
+    (λ name. number_at 1 P.days name.1 >>= (λ day. done_at {X = List ℕ × ℕ} (name.0, day.0) day.1)))
 
 -- a line by its first word, of a kind that only a log without a goal has, or an unfinished one
 unfoldable pub without_goal_at : Instance → List ℕ → Words → Option RawLine
@@ -113,7 +116,8 @@ raw_at P goal (w ∷ ws) =
     (cond (bytes_eq w (codes "dead")) (dead_at P ws) (own_at P goal w ws))))
 
 -- the answer to rules and weights that were read so: they are of known symbols and ascend, or why they are refused
-abbrev pub IsWeighedAnswer : Instance → Option (List ℕ × List NamedWeight) → Result (List ℕ × List Weight) LineRefusal → Type 0
+abbrev pub IsWeighedAnswer : Instance → Option (List ℕ × List NamedWeight) → Result (List ℕ × List Weight) LineRefusal
+    → Type 0
 IsWeighedAnswer P None (Ok v) = ⊥
 IsWeighedAnswer P None (Err Form) = Unit {0}
 IsWeighedAnswer P None (Err Name) = ⊥
@@ -122,7 +126,8 @@ IsWeighedAnswer P (Some u) (Err Form) = (z : List Weight) × (weights_of P u.1 �
 IsWeighedAnswer P (Some u) (Err Name) = weights_of P u.1 ≡ None
 
 -- the same where memory may run out
-abbrev pub AnswersWeighed : Instance → Option (List ℕ × List NamedWeight) → Result (List ℕ × List Weight) (Fail LineRefusal) → Type 0
+abbrev pub AnswersWeighed : Instance → Option (List ℕ × List NamedWeight)
+    → Result (List ℕ × List Weight) (Fail LineRefusal) → Type 0
 AnswersWeighed P read (Ok v) = IsWeighedAnswer P read (Ok v)
 AnswersWeighed P read (Err Memory) = Unit {0}
 AnswersWeighed P read (Err (Refused why)) = IsWeighedAnswer P read (Err why)

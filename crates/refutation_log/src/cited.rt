@@ -16,7 +16,8 @@ use std::alloc::AllocError;
 pub fn put_cited(rules: &mut RuleList, problem: &Problem, line: &Line) -> Result<(), AllocError>
     requires { LineFits problem.now line.now }
     ensures ok { OnOk result (Adds rules.old rules.new (IsCited problem.now (Cites problem.now line.now))) }
-    ensures names { OnOk result ((r : Rule) → Names problem.now rules.new r ↔ (Names problem.now rules.old r ⊎ Cites problem.now line.now r)) }
+    ensures names { OnOk result ((r : Rule) → Names problem.now rules.new r
+        ↔ (Names problem.now rules.old r ⊎ Cites problem.now line.now r)) }
     ensures err { OnErr result (AddsSome rules.old rules.new (IsCited problem.now (Cites problem.now line.now))) }
 {
     put_line_cited(rules, problem, line)
@@ -27,7 +28,8 @@ pub fn put_cited(rules: &mut RuleList, problem: &Problem, line: &Line) -> Result
 pub fn put_cited_for(rules: &mut RuleList, problem: &Problem, line: &Line) -> Result<(), AllocError>
     requires { (goal : Option ℕ) × LineFitsFor problem.now goal line.now }
     ensures ok { OnOk result (Adds rules.old rules.new (IsCited problem.now (Cites problem.now line.now))) }
-    ensures names { OnOk result ((r : Rule) → Names problem.now rules.new r ↔ (Names problem.now rules.old r ⊎ Cites problem.now line.now r)) }
+    ensures names { OnOk result ((r : Rule) → Names problem.now rules.new r
+        ↔ (Names problem.now rules.old r ⊎ Cites problem.now line.now r)) }
     ensures err { OnErr result (AddsSome rules.old rules.new (IsCited problem.now (Cites problem.now line.now))) }
 {
     put_line_cited(rules, problem, line)
@@ -60,7 +62,8 @@ fn put_line_cited(rules: &mut RuleList, problem: &Problem, line: &Line) -> Resul
 pub fn put_turn_cited(rules: &mut RuleList, problem: &Problem, turn: Turn) -> Result<(), AllocError>
     requires { IsDay problem.now turn.day }
     ensures ok { OnOk result (Adds rules.old rules.new (IsCited problem.now (TurnCites (Some turn)))) }
-    ensures names { OnOk result ((r : Rule) → Names problem.now rules.new r ↔ (Names problem.now rules.old r ⊎ TurnCites (Some turn) r)) }
+    ensures names { OnOk result ((r : Rule) → Names problem.now rules.new r
+        ↔ (Names problem.now rules.old r ⊎ TurnCites (Some turn) r)) }
     ensures err { OnErr result (rules.new ≡ rules.old) }
 {
     put_day_rule(rules, problem, turn.day)
@@ -102,8 +105,10 @@ fn put_cited_of_bound(
     weights: &Weights,
 ) -> Result<(), AllocError>
     requires { WeightsFit problem.now weights.now }
-    ensures ok { OnOk result (Adds rules.old rules.new (λ k. Contains cited.now k ⊎ IsWeighedDayRule problem.now weights.now k)) }
-    ensures err { OnErr result (AddsSome rules.old rules.new (λ k. Contains cited.now k ⊎ IsWeighedDayRule problem.now weights.now k)) }
+    ensures ok { OnOk result (Adds rules.old rules.new
+        (λ k. Contains cited.now k ⊎ IsWeighedDayRule problem.now weights.now k)) }
+    ensures err { OnErr result (AddsSome rules.old rules.new
+        (λ k. Contains cited.now k ⊎ IsWeighedDayRule problem.now weights.now k)) }
 {
     put_all(rules, cited)?;
     put_days(rules, problem, weights)

@@ -38,8 +38,8 @@ pub struct Header<'a> {
     pub body: &'a [u8],
 }
 
-/// The header of a text. Refused are a line that isn't spelled as it should be, a turn to a name that is no symbol's, and
-/// a text that ends before its header does; what the turn says isn't looked at.
+/// The header of a text. Refused are a line that isn't spelled as it should be, a turn to a name that is no symbol's,
+/// and a text that ends before its header does; what the turn says isn't looked at.
 pub fn read_header<'a>(
     alloc: Global,
     problem: &Problem,
@@ -114,7 +114,8 @@ pub fn read_free_header<'a>(
 
 // The first line of a free log.
 fn free_version_line(reader: &mut LineReader) -> Result<(), LogRefusal>
-    ensures { MatchResult result (λ v. reader.old ≡ free_version_text ++ reader.new) (StopsFor FreeVersionCause reader.old) }
+    ensures { MatchResult result (λ v. reader.old ≡ free_version_text
+        ++ reader.new) (StopsFor FreeVersionCause reader.old) }
 {
     let Some(bytes) = reader.next() else {
         return Err(LogRefusal::Ends);
@@ -143,7 +144,8 @@ fn goal_line(problem: &Problem, reader: &mut LineReader) -> Result<u32, LogRefus
 
 // Whether the first line says that there is a turn.
 fn version_line(reader: &mut LineReader) -> Result<bool, LogRefusal>
-    ensures { (P : Instance) → MatchResult result (λ v. reader.old ≡ version_text v ++ reader.new) (IsHeaderRefused P reader.old) }
+    ensures { (P : Instance) → MatchResult result (λ v. reader.old ≡ version_text v
+        ++ reader.new) (IsHeaderRefused P reader.old) }
 {
     let Some(bytes) = reader.next() else {
         return Err(LogRefusal::Ends);
@@ -280,7 +282,8 @@ fn read_turn(problem: &Problem, bytes: &[u8]) -> Result<Turn, LineRefusal>
 
 #[tactic(auto, unfolding(crate::specs::Reading::turn_at))]
 fn turn_parts<'a>(problem: &Problem, body: &'a [u8]) -> Option<(&'a [u8], u32)>
-    ensures { MatchOption result (turn_at problem.now (words_of body.now) ≡ None) (λ r. turn_at problem.now (words_of body.now) ≡ Some (r.0.now, r.1)) }
+    ensures { MatchOption result (turn_at problem.now (words_of body.now) ≡ None)
+        (λ r. turn_at problem.now (words_of body.now) ≡ Some (r.0.now, r.1)) }
 {
     let mut fields = Fields::of(body);
     fields.word(b"turn")?;

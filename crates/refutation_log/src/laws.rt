@@ -11,7 +11,8 @@ pub fn free_logs_have_one_text()
     ensures { FreeLogsHaveOneText }
 {}
 
-/// The text of a whole log that fits is not refused by reading. So it is read, and as this log, unless there is no memory.
+/// The text of a whole log that fits is not refused by reading. So it is read, and as this log, unless there is no
+/// memory.
 pub fn texts_of_logs_are_read()
     ensures { TextsOfLogsAreRead }
 {}

@@ -52,7 +52,8 @@ pub fn read_line_for(
 
 /// A line of text without its LF.
 pub fn body_of(bytes: &[u8]) -> Option<&[u8]>
-    ensures { MatchOption result ((body : List ℕ) → bytes.now ≢ body ++ 10 ∷ []) (λ body. bytes.now ≡ body.now ++ 10 ∷ []) }
+    ensures { MatchOption result ((body : List ℕ) → bytes.now ≢ body ++ 10 ∷ [])
+        (λ body. bytes.now ≡ body.now ++ 10 ∷ []) }
 {
     let (last, body) = bytes.split_last()?;
     if *last == b'\n' { Some(body) } else { None }
@@ -133,7 +134,8 @@ fn read_with_goal(
 
 #[tactic(auto, unfolding(crate::specs::Reading::split_at))]
 fn split_parts<'a>(problem: &Problem, fields: &mut Fields<'a>) -> Option<(u32, &'a [u8])>
-    ensures { MatchOption result (split_at problem.now fields.old ≡ None) (λ r. split_at problem.now fields.old ≡ Some (RawSplit r.0 r.1.now)) }
+    ensures { MatchOption result (split_at problem.now fields.old ≡ None)
+        (λ r. split_at problem.now fields.old ≡ Some (RawSplit r.0 r.1.now)) }
 {
     let p = fields.place(problem.weeks(), problem.days())?;
     let name = fields.name()?;
@@ -158,7 +160,8 @@ fn read_split(problem: &Problem, fields: &mut Fields) -> Result<Line, Fail<LineR
 
 #[tactic(auto, unfolding(crate::specs::Reading::window_at))]
 fn window_parts(problem: &Problem, fields: &mut Fields) -> Option<(u32, u32, u32)>
-    ensures { MatchOption result (window_at problem.now fields.old ≡ None) (λ r. window_at problem.now fields.old ≡ Some (RawWindow r.0 r.1 r.2)) }
+    ensures { MatchOption result (window_at problem.now fields.old ≡ None)
+        (λ r. window_at problem.now fields.old ≡ Some (RawWindow r.0 r.1 r.2)) }
 {
     let rule = fields.number(1, rule_count(problem))?;
     let p = fields.place(problem.weeks(), problem.days())?;
@@ -181,7 +184,8 @@ fn read_window(problem: &Problem, fields: &mut Fields) -> Result<Line, Fail<Line
 
 #[tactic(auto, unfolding(crate::specs::Reading::day_at))]
 fn day_parts<'a>(problem: &Problem, fields: &mut Fields<'a>) -> Option<(u32, &'a [u8], bool)>
-    ensures { MatchOption result (day_at problem.now fields.old ≡ None) (λ r. day_at problem.now fields.old ≡ Some (RawDay r.0 r.1.now r.2)) }
+    ensures { MatchOption result (day_at problem.now fields.old ≡ None)
+        (λ r. day_at problem.now fields.old ≡ Some (RawDay r.0 r.1.now r.2)) }
 {
     let day = fields.number(1, problem.days())?;
     let name = fields.name()?;
@@ -269,7 +273,8 @@ fn read_dead(
 
 #[tactic(auto, unfolding(rwsp_text::specs::Fields::weight_in))]
 fn weight<'a>(problem: &Problem, fields: &mut Fields<'a>) -> Option<(u32, &'a [u8], i32)>
-    ensures value { MatchOption result (weight_at problem.now fields.old ≡ None) (λ r. weight_at problem.now fields.old ≡ Some (record { day = r.0; name = r.1.now; value = r.2 }, fields.new)) }
+    ensures value { MatchOption result (weight_at problem.now fields.old ≡ None)
+        (λ r. weight_at problem.now fields.old ≡ Some (record { day = r.0; name = r.1.now; value = r.2 }, fields.new)) }
     ensures range { IfSome result (λ r. IsValue GREATEST_WEIGHT r.2) }
 {
     let day = fields.number(1, problem.days())?;

@@ -150,7 +150,8 @@ fn put_turn(out: &mut Vec<u8>, problem: &Problem, turn: Turn) -> Result<(), Allo
 // The fields of a line, with a blank between each two.
 fn put_fields(out: &mut Vec<u8>, problem: &Problem, line: &Line) -> Result<(), AllocError>
     requires { FitsSomeLog problem.now line.now }
-    ensures { OnOk result (out.new.items ≡ out.old.items ++ join_with_byte 32 (raw_fields problem.now (raw problem.now line.now))) }
+    ensures { OnOk result (out.new.items ≡ out.old.items
+        ++ join_with_byte 32 (raw_fields problem.now (raw problem.now line.now))) }
 {
     match line {
         Line::Split { p, x } => put_split(out, problem, *p, *x),
@@ -185,7 +186,8 @@ fn put_fields(out: &mut Vec<u8>, problem: &Problem, line: &Line) -> Result<(), A
 fn put_split(out: &mut Vec<u8>, problem: &Problem, p: u32, x: Symbol) -> Result<(), AllocError>
     requires place { p < cells problem.now }
     requires symbol { IsSymbol problem.now x }
-    ensures { OnOk result (out.new.items ≡ out.old.items ++ join_with_byte 32 (raw_fields problem.now (RawSplit p (name_of problem.now x)))) }
+    ensures { OnOk result (out.new.items ≡ out.old.items
+        ++ join_with_byte 32 (raw_fields problem.now (RawSplit p (name_of problem.now x)))) }
 {
     out.extend_from_slice(b"split")?;
     put_place(out, problem, p)?;
@@ -201,7 +203,8 @@ fn put_window(
     len: u32,
 ) -> Result<(), AllocError>
     requires { p < cells problem.now }
-    ensures { OnOk result (out.new.items ≡ out.old.items ++ join_with_byte 32 (raw_fields problem.now (RawWindow rule p len))) }
+    ensures { OnOk result (out.new.items ≡ out.old.items
+        ++ join_with_byte 32 (raw_fields problem.now (RawWindow rule p len))) }
 {
     out.extend_from_slice(b"window")?;
     put_count(out, rule)?;
@@ -218,7 +221,8 @@ fn put_day(
     over: bool,
 ) -> Result<(), AllocError>
     requires { IsSymbol problem.now x }
-    ensures { OnOk result (out.new.items ≡ out.old.items ++ join_with_byte 32 (raw_fields problem.now (RawDay day (name_of problem.now x) over))) }
+    ensures { OnOk result (out.new.items ≡ out.old.items
+        ++ join_with_byte 32 (raw_fields problem.now (RawDay day (name_of problem.now x) over))) }
 {
     out.extend_from_slice(b"day")?;
     put_count(out, day)?;
@@ -235,7 +239,8 @@ fn put_dead(
     rules: &[u32],
 ) -> Result<(), AllocError>
     requires { p < cells problem.now }
-    ensures { OnOk result (out.new.items ≡ out.old.items ++ join_with_byte 32 (raw_fields problem.now (RawDead p len rules.now))) }
+    ensures { OnOk result (out.new.items ≡ out.old.items
+        ++ join_with_byte 32 (raw_fields problem.now (RawDead p len rules.now))) }
 {
     out.extend_from_slice(b"dead")?;
     put_place(out, problem, p)?;
@@ -255,7 +260,9 @@ fn put_bound(
 ) -> Result<(), AllocError>
     requires place { p < cells problem.now }
     requires symbols { WeightsFit problem.now weights.now }
-    ensures { OnOk result (out.new.items ≡ out.old.items ++ join_with_byte 32 (raw_fields problem.now (RawBound p turns rules.now (map (named_weight problem.now) weights.now)))) }
+    ensures { OnOk result (out.new.items ≡ out.old.items
+        ++ join_with_byte 32 (raw_fields problem.now
+        (RawBound p turns rules.now (map (named_weight problem.now) weights.now)))) }
 {
     out.extend_from_slice(b"bound")?;
     put_place(out, problem, p)?;
@@ -276,7 +283,9 @@ fn put_free(
     weights: &[Weight],
 ) -> Result<(), AllocError>
     requires { WeightsFit problem.now weights.now }
-    ensures { OnOk result (out.new.items ≡ out.old.items ++ join_with_byte 32 (raw_fields problem.now (RawFree turns reward rules.now (map (named_weight problem.now) weights.now)))) }
+    ensures { OnOk result (out.new.items ≡ out.old.items
+        ++ join_with_byte 32 (raw_fields problem.now
+        (RawFree turns reward rules.now (map (named_weight problem.now) weights.now)))) }
 {
     out.extend_from_slice(b"free")?;
     put_count(out, turns)?;
@@ -346,7 +355,8 @@ fn put_weights(out: &mut Vec<u8>, problem: &Problem, entries: &[Weight]) -> Resu
 
 fn put_weight(out: &mut Vec<u8>, problem: &Problem, entry: &Weight) -> Result<(), AllocError>
     requires { IsSymbol problem.now entry.now.symbol }
-    ensures { OnOk result (out.new.items ≡ out.old.items ++ spaced (weight_fields (named_weight problem.now entry.now))) }
+    ensures { OnOk result (out.new.items ≡ out.old.items
+        ++ spaced (weight_fields (named_weight problem.now entry.now))) }
 {
     put_count(out, entry.day)?;
     put_word(out, problem.name(entry.symbol))?;

@@ -27,8 +27,8 @@ pub trait Guide {
             (P : Instance) (goal : Option ℕ) → serves self.old P goal → IsLeafGiven P goal doms.now line) }
         ensures serves { (P : Instance) (goal : Option ℕ) → serves self.old P goal ↔ serves self.new P goal };
 
-    /// A roster that meets every rule and has as many free weekends as the goal, if it has one. It is asked once, where the search begins with these domains
-    /// and no leaf closes them.
+    /// A roster that meets every rule and has as many free weekends as the goal, if it has one. It is asked once, where
+    /// the search begins with these domains and no leaf closes them.
     fn roster(&mut self, alloc: Global, doms: &Domains) -> Result<Option<Roster>, AllocError>
         requires problem { (P : Instance) × (goal : Option ℕ) × serves self.old P goal × BelongsTo P doms.now }
         ensures days { IfOk result (λ found.

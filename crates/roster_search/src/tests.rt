@@ -88,7 +88,8 @@ impl<A: Propagator> Propagator for Told<A> {
 // The windows and the days of the problem, told of nothing yet.
 fn reasons(alloc: Global, problem: &Problem) -> Result<Told<Pair<WindowProp, DayProp>>, AllocError>
     ensures serves { IfOk result (λ t. ⟦<Told<Pair<WindowProp, DayProp>> as Propagator>⟧.serves t problem.now) }
-    ensures plain { IfOk result (λ t. HasPlainLeaves problem.now (⟦<Told<Pair<WindowProp, DayProp>> as Propagator>⟧.leaves t)) }
+    ensures plain { IfOk result
+        (λ t. HasPlainLeaves problem.now (⟦<Told<Pair<WindowProp, DayProp>> as Propagator>⟧.leaves t)) }
 {
     let doms = Domains::new(alloc, problem)?;
     let windows = WindowProp::new(alloc, problem, &doms)?;

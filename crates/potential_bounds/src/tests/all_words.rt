@@ -1,5 +1,5 @@
-// A trial of the definitions: `escape` and `heaviest` against a look at all words, where what is bad for a rule and what a
-// word weighs are written anew.
+// A trial of the definitions: `escape` and `heaviest` against a look at all words, where what is bad for a rule and
+// what a word weighs are written anew.
 ghost use Rattle.std.specs.Prelude.{◌≤ℤ◌, negsuc, pos};
 
 use super::cases::{

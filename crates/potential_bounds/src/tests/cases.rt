@@ -84,8 +84,8 @@ pub fn twos_in_six() -> Case {
     one_shift(1, 6, range(3, 3), [range(2, 2); 3])
 }
 
-// Three weeks with two D on each day: six or seven days of work, and two to four off. One weekend can be free at most; with
-// more days of work in a row two can.
+// Three weeks with two D on each day: six or seven days of work, and two to four off. One weekend can be free at most;
+// with more days of work in a row two can.
 pub fn long_blocks() -> Case {
     one_shift(7, 3, range(2, 2), [range(6, 7), range(2, 4), range(6, 7)])
 }

@@ -1,6 +1,6 @@
 // Trials: what is printed for a number and a count of weeks.
 use super::plans::printed;
-use super::{ends, shelf_of, words_of};
+use super::{Meeting, ends, shelf_of, words_of};
 use crate::answer::{Answer, Outcome};
 use crate::run::run;
 use potential_bounds::NoGate;
@@ -70,5 +70,19 @@ fn a_trial_is_answered(rt: HostRuntime) -> Result<(), Fail> {
         }
         _ => assert!(rt; false),
     }
+    Ok(())
+}
+
+// The bounds at the top are tried by several workers, as for `plan`.
+#[test]
+fn bounds_of_a_trial_are_shared_out(rt: HostRuntime) -> Result<(), Fail> {
+    let alloc = rt.alloc();
+    let gate = Meeting::new();
+    let words = words_of(alloc, &["trial", "0", "1"])?;
+    let mut shelf = shelf_of(alloc, &[], 50, &[])?;
+    let mut sink = MemorySink::new(alloc, 1000, 100, Vec::new(alloc))?;
+    let outcome = run(&rt, alloc, &words, &mut shelf, &mut sink, &gate);
+    assert_eq!(rt; outcome.status(), 0);
+    assert!(rt; gate.is_over());
     Ok(())
 }
