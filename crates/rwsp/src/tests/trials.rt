@@ -1,6 +1,7 @@
 // Trials: what is printed for a number and a count of weeks.
+use super::logs::Meeting;
 use super::plans::printed;
-use super::{Meeting, ends, shelf_of, words_of};
+use super::{ends, shelf_of, words_of};
 use crate::answer::{Answer, Outcome};
 use crate::run::run;
 use potential_bounds::NoGate;
