@@ -11,7 +11,7 @@ use Rattle.refutation_terms.specs.Log.{LineFits}
 use Rattle.refutation_terms.specs.Verdict.{Escapes}
 use Rattle.refutation_terms.proofs.Causes.{escaped_not_holding}
 use Rattle.refutation_terms.proofs.SameDomains.{same_holds, turned_round}
-use Rattle.refutation_checker.specs.LineVerdicts.{HoldsByWords}
+use Rattle.refutation_checker.specs.LineVerdicts.{HoldsByWords, HoldsByWordsFor}
 
 pub same_by_words : (P : Instance) (D E : Domains) (line : Line) → LineFits P line → AreSame P D E → HoldsByWords P D line → HoldsByWords P E line
 same_by_words P D E (Split p x) fits same h = tt
@@ -32,6 +32,11 @@ escaped_by_words P D (Bound p turns R y) w e h = escaped_not_holding P D (Bound 
 escaped_by_words P D Unfinished w e h = absurd e
 escaped_by_words P D Few w e h = absurd e
 escaped_by_words P D (Free turns reward R y) w e h = absurd e
+
+-- a line of a log without a goal
+pub by_words : (P : Instance) (D : Domains) (line : Line) → LineFits P line → HoldsByWordsFor P None D line → HoldsByWords P D line
+by_words P D (Free turns reward R y) fits h = absurd fits
+by_words P D line fits h = h
 
 -- what the words tell under the domains of a walk, told under those of its lines
 pub holds_there : (P : Instance) (D E : Domains) (line : Line) → LineFits P line → AreSame P D E → HoldsByWords P D line → IsTrue true ↔ HoldsByWords P E line

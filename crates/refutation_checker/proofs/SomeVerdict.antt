@@ -121,7 +121,7 @@ lines_on P text R body turn h none (suc n) lines (b ∷ left) few sound e =
       cause = c;
     })))
     (λ l takes.
-    lines_on P text R body turn h none n (lines ++ l ∷ []) next.rest (let less = next.shorter in omega (arith, few, less)) (sound_joined P R turn [] lines (l ∷ []) sound (takes.1, tt))
+    lines_on P text R body turn h none n (lines ++ l ∷ []) next.rest (let less = next.shorter in omega (arith, few, less)) (sound_joined P None R turn [] lines (l ∷ []) sound (takes.1, tt))
     (text_on P body (b ∷ left) next.line next.rest lines l e next.whole takes.0))
 
 body_on : (P : Instance) (text R body : List ℕ) (turn : Option Turn) → HasHeader P text R turn body → HasNoVerdict P text → ⊥

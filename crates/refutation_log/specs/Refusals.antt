@@ -3,9 +3,14 @@ use Rattle.std.specs.Prelude.{◌≡◌, ◌≢◌, ℕ, List, Option, None, Som
 use Rattle.rwsp_terms.specs.Instance.{Instance}
 use Rattle.refutation_terms.specs.LogText.{rules_text, version_text}
 use Rattle.refutation_terms.specs.Log.{AreRules}
-use Rattle.refutation_terms.specs.Verdict.{SpellsNothing, SpellsUnknown, SpellsNoTurn, TurnsToUnknown}
+use Rattle.refutation_terms.specs.Verdict.{SpellsNothing, SpellsUnknown, SpellsNothingFor, SpellsUnknownFor, SpellsNoTurn, TurnsToUnknown}
 use Rattle.refutation_log.specs.declared.refusal.LineRefusal.{LineRefusal}
 use Rattle.refutation_log.specs.declared.refusal.LineRefusal.TheVariants.{Form, Name}
+
+-- no written line of a log with this goal or none is spelled, or one with a name that is no symbol's
+abbrev pub IsLineRefusedFor : Instance → Option ℕ → List ℕ → LineRefusal → Type 0
+IsLineRefusedFor P goal bytes Form = SpellsNothingFor P goal bytes
+IsLineRefusedFor P goal bytes Name = SpellsUnknownFor P goal bytes
 
 -- no written line is spelled, or one with a name that is no symbol's
 abbrev pub IsLineRefused : Instance → List ℕ → LineRefusal → Type 0

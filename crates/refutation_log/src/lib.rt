@@ -2,6 +2,7 @@
 #![tactic(auto)]
 
 mod cited;
+mod free;
 mod gather;
 mod header;
 mod laws;
@@ -15,6 +16,7 @@ mod tests;
 mod turn;
 
 pub use cited::{put_cited, put_turn_cited};
+pub use free::{FreeHeader, read_free_header, read_line_for};
 pub use header::{Header, lines_of_header, read_header};
 pub use laws::{
     logs_have_one_text, texts_have_one_verdict, texts_of_logs_are_read, unread_texts_have_one_cause,
