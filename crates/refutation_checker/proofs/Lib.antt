@@ -1,4 +1,5 @@
 pub mod Lists
+pub mod GoalLines
 pub mod Lines
 pub mod Bounds
 pub mod Judging
