@@ -48,7 +48,7 @@ pub fn bound_escape(
 fn times(turns: u32, total: i64) -> i64
     requires few { turns ≤ LONGEST_WORD }
     requires above { neg_ℤ (pos (GREATEST_WEIGHT * MOST_SHIFTS * MOST_WEEKS * MOST_SYMBOLS * MOST_DAYS)) ≤ℤ total }
-    requires below { total ≤ℤ pos (GREATEST_WEIGHT * MOST_SHIFTS * MOST_WEEKS * MOST_SYMBOLS * MOST_DAYS) }
+    requires below { total ≤ℤ pos (GREATEST_WEIGHT * MOST_SHIFTS * MOST_WEEKS * MOST_SYMBOLS * MOST_DAYS + GREATEST_REWARD * (MOST_WEEKS + 1)) }
     ensures { result ≡ pos turns *ℤ total }
 {
     i64::from(turns) * total
@@ -79,19 +79,20 @@ pub fn free_escape(
         (EscapesFree problem.now goal (has_domain doms.now) (Free turns reward tails.now.rules weights.now))) }
 {
     problem.prove_limits();
-    let least = free_times(problem, weights, goal, turns, reward);
+    let least = times(turns, rewarded_total(problem, weights, goal, reward));
     match heaviest_free_reaching(alloc, problem, tails, doms, turns, weights, reward, least)? {
         Some(heavy) => Ok(Some(heavy.word)),
         None => Ok(None),
     }
 }
 
-// So many times the total with the reward for as many free weekends as the goal.
-fn free_times(problem: &Problem, weights: &Weights, goal: u32, turns: u32, reward: u32) -> i64
+// The total with the reward for as many free weekends as the goal.
+fn rewarded_total(problem: &Problem, weights: &Weights, goal: u32, reward: u32) -> i64
     requires goal { goal ≤ MOST_WEEKS + 1 }
-    requires few { turns ≤ LONGEST_WORD }
     requires reward { reward ≤ GREATEST_REWARD }
-    ensures { result ≡ pos turns *ℤ free_total problem.now weights.now reward goal }
+    ensures value { result ≡ free_total problem.now weights.now reward goal }
+    ensures above { neg_ℤ (pos (GREATEST_WEIGHT * MOST_SHIFTS * MOST_WEEKS * MOST_SYMBOLS * MOST_DAYS)) ≤ℤ result }
+    ensures below { result ≤ℤ pos (GREATEST_WEIGHT * MOST_SHIFTS * MOST_WEEKS * MOST_SYMBOLS * MOST_DAYS + GREATEST_REWARD * (MOST_WEEKS + 1)) }
 {
-    times(turns, total(problem, weights)) + i64::from(turns) * i64::from(reward * goal)
+    total(problem, weights) + i64::from(reward * goal)
 }
