@@ -1,6 +1,7 @@
 -- Dead and bound leaves, judged apart from their log.
 use Rattle.std.proofs.Common.{◌≡◌, ℕ, ◌<◌, Option, Some, None, Bool, IsTrue, true, false, refl, arith}
-use Rattle.std.specs.Prelude.{◌↔◌, MatchOption}
+use Rattle.std.specs.Prelude.{◌↔◌, MatchOption, IfOk, Result, Ok, Err}
+use Rattle.std.specs.declared.alloc.AllocError.{AllocError}
 use Rattle.rwsp_terms.specs.declared.data.Symbol.{Symbol}
 use Rattle.std.proofs.Common.{List}
 use Rattle.rwsp_terms.specs.Instance.{Instance, cells}
@@ -8,7 +9,7 @@ use Rattle.refutation_terms.specs.declared.lines.Line.{Line}
 use Rattle.refutation_terms.specs.declared.lines.Line.TheVariants.{Split, Window, Day, Dead, Bound, Few, Free, Unfinished}
 use Rattle.refutation_terms.specs.Word.{Domains, AreSame}
 use Rattle.refutation_terms.specs.Log.{LineFits}
-use Rattle.refutation_terms.specs.Verdict.{Escapes}
+use Rattle.refutation_terms.specs.Verdict.{Escapes, EscapesFor}
 use Rattle.refutation_terms.proofs.Causes.{escaped_not_holding}
 use Rattle.refutation_terms.proofs.SameDomains.{same_holds, turned_round}
 use Rattle.refutation_checker.specs.LineVerdicts.{HoldsByWords, HoldsByWordsFor}
@@ -32,6 +33,19 @@ escaped_by_words P D (Bound p turns R y) w e h = escaped_not_holding P D (Bound 
 escaped_by_words P D Unfinished w e h = absurd e
 escaped_by_words P D Few w e h = absurd e
 escaped_by_words P D (Free turns reward R y) w e h = absurd e
+
+-- a word that escapes a line of a log without a goal escapes it in each log
+escapes_for : (P : Instance) (goal : Option ℕ) (D : Domains) (line : Line) (w : List Symbol) → Escapes P D line w → EscapesFor P goal D line w
+escapes_for P None D line w e = e
+escapes_for P (Some goal) D (Free turns reward R y) w e = absurd e
+escapes_for P (Some goal) D line w e = e
+
+pub answer_for : (P : Instance) (goal : Option ℕ) (D : Domains) (line : Line) (answer : Result (Option (List Symbol)) AllocError)
+    → IfOk answer (λ found. MatchOption found (HoldsByWordsFor P goal D line) (Escapes P D line))
+    → IfOk answer (λ found. MatchOption found (HoldsByWordsFor P goal D line) (EscapesFor P goal D line))
+answer_for P goal D line (Ok None) h = h
+answer_for P goal D line (Ok (Some w)) h = escapes_for P goal D line w h
+answer_for P goal D line (Err e) h = tt
 
 -- a line of a log without a goal
 pub by_words : (P : Instance) (D : Domains) (line : Line) → LineFits P line → HoldsByWordsFor P None D line → HoldsByWords P D line
