@@ -15,3 +15,4 @@ pub mod Feeds
 pub mod Deciding
 pub mod SomeVerdict
 pub mod LeafJudging
+pub mod FreeReading
