@@ -1,6 +1,10 @@
 -- Reading the lines of a free log one after another.
 use Rattle.std.proofs.Common.{◌≡◌, ◌≢◌, ℕ, ◌+◌, ◌≤◌, List, [], ◌∷◌, ◌++◌, length, ap, sym, ◌∙◌, append_assoc, length-append, subst, arith, Option, Some, None, inl, inr, refl}
 use Rattle.std.proofs.lemmas.List.{append-nil}
+use Rattle.std.specs.Prelude.{Err}
+use Rattle.rwsp_model.specs.Refusals.{MatchAnswer}
+use Rattle.rwsp_model.specs.declared.fail.Fail.{Fail}
+use Rattle.rwsp_model.specs.declared.fail.Fail.TheVariants.{Refused, Memory}
 use Rattle.rwsp_terms.specs.Instance.{Instance}
 use Rattle.refutation_terms.specs.declared.lines.Line.{Line}
 use Rattle.refutation_terms.specs.declared.lines.Turn.{Turn}
@@ -119,3 +123,8 @@ read_ends P R goal body left w lines rules fits so e part = record {
   whole = ap (λ t. free_header_text R goal ++ t) (so.text ∙ ap (λ t. lines_text P lines ++ t) e ∙ append-nil (lines_text P lines));
   not_whole = part;
 }
+
+pub fail_read : {S : Type 0} (P : Instance) (R : List ℕ) (goal : ℕ) (J : Judging) (body left bytes rest : List ℕ) (w w' : State) (lines : List Line) (number : ℕ) (fail : Fail LogRefusal) (B : S → Type 0) → AreRules P R → GoalFits P None (Some goal) → J ≡ record { problem = P; named = R; goal = Some goal } → ReadSoFar P R goal body left w lines → left ≡ bytes ++ rest → IsNextLine bytes rest → number ≡ length lines + 4 → MatchAnswer (Err fail) (ReadsAs J w w' bytes) (RefusesAs J w bytes number) → MatchAnswer (Err fail) B (IsFreeRefused P (free_header_text R goal ++ body))
+fail_read P R goal J body left bytes rest w w' lines number Memory B rules fits is so e next at h = tt
+fail_read P R goal J body left bytes rest w w' lines number (Refused why) B rules fits is so e next at h =
+    read_refused P R goal J body left bytes rest w lines number why rules fits is so e next at h

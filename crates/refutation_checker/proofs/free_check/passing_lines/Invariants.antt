@@ -4,8 +4,8 @@ use Rattle.refutation_checker.proofs.free_check.passing_lines.Given as goal
 
 abbrev pub invariant-loop-bytes : goal.invariant-loop-bytes
 invariant-loop-bytes l = record {
-  judge : l.judge ≡ record { problem = l.problem; named = l.header.now.named; goal = Some l.header.now.goal };
-  read : ReadSoFar l.problem l.header.now.named l.header.now.goal l.header.now.body.now l.reader l.walk l.lines.items;
+  judge : l.judge ≡ record { problem = l.problem; named = l.header.named; goal = Some l.header.goal };
+  read : ReadSoFar l.problem l.header.named l.header.goal l.header.body.now l.reader l.walk l.lines.items;
 }
 
 abbrev pub decreases-loop-bytes : goal.decreases-loop-bytes
