@@ -91,7 +91,7 @@ spelled_stands P R turn lines line written none goes part w (Some l) e =
     let D = domains_at P turn lines (length lines) in
     let spells : Spells P line l = (written, w, e) in
     let fits = spelled_lines_fit P line l spells in
-    line_stands P R D n l fits.0 (λ why c. none why (inr (part, cause_of_text P R D n line l why spells c)))
+    line_stands P R D n l fits.0 (λ why c. none why (inr (part, cause_of_text P None R D n line l why spells c)))
     (λ sound. goes l (fits.1, record { in_tree = part; fits = fits.0; sound = sound }))
 
 line_read : (P : Instance) (R : List ℕ) (turn : Option Turn) (lines : List Line) (line : List ℕ) → RefusesNone P R turn lines line → ((l : Line) → Takes P R turn lines line l → ⊥) → ⊥
