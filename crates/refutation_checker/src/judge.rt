@@ -113,11 +113,11 @@ impl<'a> Judge<'a> {
         ensures same { self.new ≡ self.old }
         ensures read { MatchAnswer result
             (λ line. (turn : Option Turn) (lines : List Line) → IsStateOf self.old.problem turn lines walk.old →
-                IsLineReadAs self.old.problem self.old.goal self.old.named turn lines bytes.now walk.new line)
+            IsLineReadAs self.old.problem self.old.goal self.old.named turn lines bytes.now walk.new line)
             (λ why. (turn : Option Turn) (lines : List Line) → IsStateOf self.old.problem turn lines walk.old →
-                number ≡ header_lines_for self.old.goal turn + length lines + 1 →
-                CauseBehindFor self.old.problem self.old.goal
-                (record { named = self.old.named; turn = turn; goal = self.old.goal; lines = lines }) bytes.now why) }
+            number ≡ header_lines_for self.old.goal turn + length lines + 1 →
+            CauseBehindFor self.old.problem self.old.goal
+            (record { named = self.old.named; turn = turn; goal = self.old.goal; lines = lines }) bytes.now why) }
     {
         if walk.is_whole() {
             return Err(Fail::Refused(LogRefusal::Extra(number)));
@@ -300,7 +300,16 @@ impl<'a> Judge<'a> {
             (EscapesFree self.old.problem goal (has_domain doms.now) (Free turns reward rules.now weights.now))) }
     {
         let tails = tails_of(alloc, self.problem, self.tails.take(), rules)?;
-        let found = free_escape(alloc, self.problem, &tails, doms, goal, turns, reward, weights)?;
+        let found = free_escape(
+            alloc,
+            self.problem,
+            &tails,
+            doms,
+            goal,
+            turns,
+            reward,
+            weights,
+        )?;
         self.tails = Some(tails);
         Ok(found)
     }

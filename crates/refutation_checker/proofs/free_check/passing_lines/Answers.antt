@@ -16,7 +16,7 @@ loop-bytes-preserved c =
     let P = c.args.problem.now in
     let h = c.args.header.now in
     let more = read_more P h.named h.goal c.loop-bytes.judge h.body.now c.loop-bytes.reader c.in-Some.bytes.now c.next.new.self c.loop-bytes.walk c.read_line.new.walk c.loop-bytes.lines.items c.in-Ok-read_line.line
-        c.loop-bytes.invariant.judge c.loop-bytes.invariant.read c.in-Some.ensures.line.0 c.in-Some.ensures.line.1 c.in-Ok-read_line.ensures.read in
+    c.loop-bytes.invariant.judge c.loop-bytes.invariant.read c.in-Some.ensures.line.0 c.in-Some.ensures.line.1 c.in-Ok-read_line.ensures.read in
     record {
       judge = c.read_line.ensures.same ∙ c.loop-bytes.invariant.judge;
       read = subst (λ (ls : List Line). ReadSoFar P h.named h.goal h.body.now c.next.new.self c.read_line.new.walk ls) (sym c.in_default-push.ensures.items) more;
