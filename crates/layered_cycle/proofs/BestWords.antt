@@ -7,7 +7,7 @@ use Rattle.refutation_terms.specs.Escape.{ComesFirst}
 use Rattle.layered_cycle.specs.declared.step.Step.{Step}
 use Rattle.layered_cycle.specs.declared.choice.Choice.{Choice}
 use Rattle.layered_cycle.specs.Graph.{Leads, StepBefore}
-use Rattle.layered_cycle.specs.Choices.{Row, choice_at, choice_by, chosen, choice_or_end, end_choice, word_by, AreRows, first_row}
+use Rattle.layered_cycle.specs.Choices.{Row, choice_at, choice_by, chosen, choice_or_end, end_choice, word_by, AreRows, first_row, gain_on}
 use Rattle.layered_cycle.specs.Best.{gained, IsBest, NoneLeads}
 use Rattle.layered_cycle.proofs.Chosen.{symbol_before, Contains-In, In-Contains, Offers, offers, choice_by-some, IsFirstHeaviest, IsChosen, chosen_is}
 
@@ -32,14 +32,14 @@ target_in : (layer : List Step) (n : ℕ) (s : Step) → All (λ z. z.to < n) la
 target_in layer n s all h = let P : Step → Type 0 = λ z. z.to < n in subst P h.2 (all h.0 s h.1)
 
 -- no step from the node leads to where something is chosen
-no_way : (gain : ℕ → Symbol → ℤ) (day : ℕ) (layers : List (List Step)) (next : Row) (rest : List Row) (s : Step) (u : List Symbol) → s.to < length next → After gain day layers next rest → choice_by gain day next s ≡ None → Leads layers s.to u → ⊥
+no_way : (gain : ℕ → Symbol → ℤ) (day : ℕ) (layers : List (List Step)) (next : Row) (rest : List Row) (s : Step) (u : List Symbol) → s.to < length next → After gain day layers next rest → choice_by (gain_on gain day) next s ≡ None → Leads layers s.to u → ⊥
 no_way gain day layers next rest s u lt after none leads = at (choice_at next s.to) refl
   where
     at : (o : Option Choice) → choice_at next s.to ≡ o → ⊥
     at None e = let P : Option Choice → Type 0 = BestFrom gain (day + 1) layers s.to (word_by s.to (next ∷ rest)) in subst P e (after s.to lt) u leads
-    at (Some c) e = let some : choice_by gain day next s ≡ Some (record { weight = gain day s.symbol +ℤ c.weight; symbol = s.symbol; to = s.to }) = choice_by-some gain day next s c e in absurd (cc)
+    at (Some c) e = let some : choice_by (gain_on gain day) next s ≡ Some (record { weight = gain day s.symbol +ℤ c.weight; symbol = s.symbol; to = s.to }) = choice_by-some (gain_on gain day) next s c e in absurd (cc)
 
-none_leads : (gain : ℕ → Symbol → ℤ) (day : ℕ) (layer : List Step) (layers : List (List Step)) (next : Row) (rest : List Row) (node : ℕ) → All (λ s. s.to < length next) layer → After gain day layers next rest → IsChosen StepBefore gain day next node layer None → (u : List Symbol) → Leads (layer ∷ layers) node u → ⊥
+none_leads : (gain : ℕ → Symbol → ℤ) (day : ℕ) (layer : List Step) (layers : List (List Step)) (next : Row) (rest : List Row) (node : ℕ) → All (λ s. s.to < length next) layer → After gain day layers next rest → IsChosen StepBefore (gain_on gain day) next node layer None → (u : List Symbol) → Leads (layer ∷ layers) node u → ⊥
 none_leads gain day layer layers next rest node targets after h [] leads = leads
 none_leads gain day layer layers next rest node targets after h (x ∷ u) leads =
     let s : Step = Step_at node x leads.0 in
@@ -76,9 +76,9 @@ other_word gain day layers next rest s best d c e u from here weight symbol afte
         inr (omega (arith, ints, same.0, w.0, weight), elim w.1 [ inl lt ↦ inl (lower lt) | inr is ↦ later is same.1 ])
 
 -- the word by the step that is chosen
-some_leads : (gain : ℕ → Symbol → ℤ) (day : ℕ) (layer : List Step) (layers : List (List Step)) (next : Row) (rest : List Row) (node : ℕ) (c : Choice) → All (λ s. s.to < length next) layer → After gain day layers next rest → (h : IsFirstHeaviest StepBefore gain day next node layer c) → IsBestFrom gain day (layer ∷ layers) node c.weight (h.step.symbol ∷ word_by h.step.to (next ∷ rest))
+some_leads : (gain : ℕ → Symbol → ℤ) (day : ℕ) (layer : List Step) (layers : List (List Step)) (next : Row) (rest : List Row) (node : ℕ) (c : Choice) → All (λ s. s.to < length next) layer → After gain day layers next rest → (h : IsFirstHeaviest StepBefore (gain_on gain day) next node layer c) → IsBestFrom gain day (layer ∷ layers) node c.weight (h.step.symbol ∷ word_by h.step.to (next ∷ rest))
 some_leads gain day layer layers next rest node c targets after h =
-    let o : Offers gain day next h.step c = offers gain day next h.step c h.is in
+    let o : Offers (gain_on gain day) next h.step c = offers (gain_on gain day) next h.step c h.is in
     let within : Contains layer h.step = In-Contains layer h.step h.within in
     let b : IsBestFrom gain (day + 1) layers h.step.to o.after.weight (word_by h.step.to (next ∷ rest)) = behind gain day layers next rest h.step o.after (target_in layer (length next) h.step targets within) after o.is in
     let P : ℕ → Type 0 = λ n. Contains layer (Step_at n h.step.symbol h.step.to) in
@@ -90,28 +90,28 @@ some_leads gain day layer layers next rest node c targets after h =
   where
     by_symbol : (s : Step) (d : Choice) → s.from ≡ node → (d.weight <ℤ c.weight) ⊎ ((d.weight ≡ c.weight) × (StepBefore h.step s ⊎ (s ≡ h.step))) → (d.weight <ℤ c.weight) ⊎ ((d.weight ≡ c.weight) × ((c.symbol.number < s.symbol.number) ⊎ (s ≡ h.step)))
     by_symbol s d here (inl lt) = inl lt
-    by_symbol s d here (inr (same, inl before)) = inr (same, inl (symbol_before gain day next node h.step s c h.from here h.is before))
+    by_symbol s d here (inr (same, inl before)) = inr (same, inl (symbol_before (gain_on gain day) next node h.step s c h.from here h.is before))
     by_symbol s d here (inr (same, inr is)) = inr (same, inr is)
 
-    by_choice : (x : Symbol) (u : List Symbol) (to : ℕ) → Contains layer (Step_at node x to) → Leads layers to u → (r : Option Choice) → choice_by gain day next (Step_at node x to) ≡ r →
+    by_choice : (x : Symbol) (u : List Symbol) (to : ℕ) → Contains layer (Step_at node x to) → Leads layers to u → (r : Option Choice) → choice_by (gain_on gain day) next (Step_at node x to) ≡ r →
         (gained gain day (x ∷ u) <ℤ c.weight) ⊎ ((gained gain day (x ∷ u) ≡ c.weight) × ComesFirst (h.step.symbol ∷ word_by h.step.to (next ∷ rest)) (x ∷ u))
     by_choice x u to within leads None none =
         absurd (no_way gain day layers next rest (Step_at node x to) u (target_in layer (length next) (Step_at node x to) targets within) after none leads)
     by_choice x u to within leads (Some d) some =
         let s : Step = Step_at node x to in
-        let o : Offers gain day next s d = offers gain day next s d some in
-        let p : Offers gain day next h.step c = offers gain day next h.step c h.is in
+        let o : Offers (gain_on gain day) next s d = offers (gain_on gain day) next s d some in
+        let p : Offers (gain_on gain day) next h.step c = offers (gain_on gain day) next h.step c h.is in
         let lt : to < length next = target_in layer (length next) s targets within in
         other_word gain day layers next rest s h.step d c o.after u (sym h.from) o.is o.weight p.symbol (behind gain day layers next rest s o.after lt after o.is) (by_symbol s d refl (h.others s d (Contains-In layer s within) refl some)) leads
 
     others : (u : List Symbol) → Leads (layer ∷ layers) node u → (gained gain day u <ℤ c.weight) ⊎ ((gained gain day u ≡ c.weight) × ComesFirst (h.step.symbol ∷ word_by h.step.to (next ∷ rest)) u)
     others [] leads = absurd leads
-    others (x ∷ u) leads = by_choice x u leads.0 leads.1 leads.2 (choice_by gain day next (Step_at node x leads.0)) refl
+    others (x ∷ u) leads = by_choice x u leads.0 leads.1 leads.2 (choice_by (gain_on gain day) next (Step_at node x leads.0)) refl
 
-joined : (gain : ℕ → Symbol → ℤ) (day : ℕ) (layer : List Step) (layers : List (List Step)) (row next : Row) (rest : List Row) (node : ℕ) → All (λ s. s.to < length next) layer → After gain day layers next rest → (r : Option Choice) → choice_at row node ≡ r → IsChosen StepBefore gain day next node layer r → BestFrom gain day (layer ∷ layers) node (word_by node (row ∷ next ∷ rest)) r
+joined : (gain : ℕ → Symbol → ℤ) (day : ℕ) (layer : List Step) (layers : List (List Step)) (row next : Row) (rest : List Row) (node : ℕ) → All (λ s. s.to < length next) layer → After gain day layers next rest → (r : Option Choice) → choice_at row node ≡ r → IsChosen StepBefore (gain_on gain day) next node layer r → BestFrom gain day (layer ∷ layers) node (word_by node (row ∷ next ∷ rest)) r
 joined gain day layer layers row next rest node targets after None e h = none_leads gain day layer layers next rest node targets after h
 joined gain day layer layers row next rest node targets after (Some c) e h =
-    let o : Offers gain day next h.step c = offers gain day next h.step c h.is in
+    let o : Offers (gain_on gain day) next h.step c = offers (gain_on gain day) next h.step c h.is in
     let word : word_by node (row ∷ next ∷ rest) ≡ h.step.symbol ∷ word_by h.step.to (next ∷ rest) =
     ap (λ r. (choice_or_end r).symbol ∷ word_by (choice_or_end r).to (next ∷ rest)) e ∙ ap (λ x. x ∷ word_by c.to (next ∷ rest)) o.symbol ∙ ap (λ t. h.step.symbol ∷ word_by t (next ∷ rest)) o.to in
     let P : List Symbol → Type 0 = λ w. IsBestFrom gain day (layer ∷ layers) node c.weight w in
@@ -138,9 +138,9 @@ rows_best gain [] day (row ∷ rows) h node lt =
 rows_best gain (layer ∷ layers) day [] h node lt = absurd h
 rows_best gain (layer ∷ layers) day (row ∷ []) h node lt = absurd (no_rows gain (day + 1) layers h.1)
 rows_best gain (layer ∷ layers) day (row ∷ next ∷ rest) h node lt =
-    let is : choice_at row node ≡ chosen gain day next node layer = h.0.each node lt in
-    let P : Option Choice → Type 0 = IsChosen StepBefore gain day next node layer in
-    joined gain day layer layers row next rest node h.0.targets (λ to less. rows_best gain layers (day + 1) (next ∷ rest) h.1 to less) (choice_at row node) refl (subst P (sym is) (chosen_is StepBefore gain day next node layer h.0.ordered))
+    let is : choice_at row node ≡ chosen (gain_on gain day) next node layer = h.0.each node lt in
+    let P : Option Choice → Type 0 = IsChosen StepBefore (gain_on gain day) next node layer in
+    joined gain day layer layers row next rest node h.0.targets (λ to less. rows_best gain layers (day + 1) (next ∷ rest) h.1 to less) (choice_at row node) refl (subst P (sym is) (chosen_is StepBefore (gain_on gain day) next node layer h.0.ordered))
 
 -- what is chosen at the one node of the first row
 none_at_first : (gain : ℕ → Symbol → ℤ) (layers : List (List Step)) (rows : List Row) → AreRows gain 0 layers rows → length (first_row rows) ≡ 1 → choice_at (first_row rows) 0 ≡ None → NoneLeads layers

@@ -19,11 +19,10 @@ use Rattle.layered_cycle.specs.declared.choice.Choice.{Choice}
 use Rattle.layered_cycle.specs.Graph.{StepBefore}
 use Rattle.layered_cycle.specs.Grown.{StandsAt, Grown}
 use Rattle.layered_cycle.specs.Choices.{Row, choice_at, end_choice, choice_by, chosen, AreWithin, IsWithin}
-use Rattle.layered_cycle.specs.Best.{gained}
-use Rattle.layered_cycle.specs.Front.{Course, IsOf, IsNoWorse, IsBestTo, ComesBefore, tail_at, IsFront, AreLinked, turned, is_by, is_picked}
+use Rattle.layered_cycle.specs.Front.{Course, IsOf, word_gain, gain_behind, IsNoWorse, IsBestTo, ComesBefore, tail_at, IsFront, AreLinked, turned, is_by, is_picked}
 use Rattle.layered_cycle.proofs.Chosen.{In, Contains-In, In-Contains, Offers, offers, choice_by-some, IsFirstHeaviest, IsChosen, chosen_is}
 use Rattle.layered_cycle.proofs.Reached.{over_longer, over_front, over_last, clean_front}
-use Rattle.layered_cycle.proofs.Orders.{gained_push, before_push, first_push_lower, first_push_same, first_itself, first_from_before, before_then, first_once}
+use Rattle.layered_cycle.proofs.Orders.{word_gain_push, before_push, first_push_lower, first_push_same, first_itself, first_from_before, before_then, first_once}
 
 -- the best word to a tail is one only
 pub best_once : (C : Course) (day : ℕ) (tail : Tail) (u v : List Symbol) → IsBestTo C day tail u → IsBestTo C day tail v → u ≡ v
@@ -40,7 +39,7 @@ pub record Moves (C : Course) (day : ℕ) (tails nodes : List Tail) (row next : 
   pub front : IsFront C day tails row
   pub grown : Grown C.listed C.domains ((C.position + day) % cells C.listed.problem) tails steps nodes (length tails) 0
   pub long : length next ≡ length nodes
-  pub each : (n : ℕ) → n < length nodes → choice_at next n ≡ chosen C.gain day row n (map turned steps)
+  pub each : (n : ℕ) → n < length nodes → choice_at next n ≡ chosen (gain_behind C.gain day tails) row n (map turned steps)
 
 stands_of : (tails : List Tail) (k : ℕ) (t : Tail) → k < length tails → tail_at tails k ≡ t → StandsAt tails k t
 stands_of tails k t lt e = (lt, get_or_default tails k t (tail_of []) lt ∙ e)
@@ -53,20 +52,20 @@ abbrev word_by_step : (ℕ → List Symbol) → Step → List Symbol
 word_by_step word s = word s.from ++ s.symbol ∷ []
 
 -- what a step offers where it leads
-record Value (C : Course) (day : ℕ) (row : Row) (word : ℕ → List Symbol) (s : Step) : Type 0 where
+record Value (C : Course) (day : ℕ) (tails : List Tail) (row : Row) (word : ℕ → List Symbol) (s : Step) : Type 0 where
   choice : Choice
-  is : choice_by C.gain day row (turned s) ≡ Some choice
-  weight : choice.weight ≡ gained C.gain 0 (word_by_step word s)
+  is : choice_by (gain_behind C.gain day tails) row (turned s) ≡ Some choice
+  weight : choice.weight ≡ word_gain C (word_by_step word s)
 
-value : (C : Course) (day : ℕ) (tails : List Tail) (row : Row) (f : IsFront C day tails row) (s : Step) → s.from < length tails → Value C day row f.word s
+value : (C : Course) (day : ℕ) (tails : List Tail) (row : Row) (f : IsFront C day tails row) (s : Step) → s.from < length tails → Value C day tails row f.word s
 value C day tails row f s lt =
     let w = f.weighs s.from lt in
-    let long : 0 + length (f.word s.from) ≡ day = omega (arith, (f.best s.from lt).clean.long) in
-    let more : gained C.gain 0 (word_by_step f.word s) ≡ gained C.gain 0 (f.word s.from) +ℤ C.gain (0 + length (f.word s.from)) s.symbol = gained_push C.gain 0 (f.word s.from) s.symbol in
+    let b = f.best s.from lt in
+    let more : word_gain C (word_by_step f.word s) ≡ word_gain C (f.word s.from) +ℤ C.gain day (tail_at tails s.from).last s.symbol = word_gain_push C (f.word s.from) s.symbol day (tail_at tails s.from) b.clean.long b.ends in
     record {
-      choice = record { weight = C.gain day s.symbol +ℤ w.0.weight; symbol = s.symbol; to = s.from };
-      is = choice_by-some C.gain day row (turned s) w.0 w.1;
-      weight = omega (arith, ints, w.2, more, ap (λ (n : ℕ). C.gain n s.symbol) long);
+      choice = record { weight = C.gain day (tail_at tails s.from).last s.symbol +ℤ w.0.weight; symbol = s.symbol; to = s.from };
+      is = choice_by-some (gain_behind C.gain day tails) row (turned s) w.0 w.1;
+      weight = omega (arith, ints, w.2, more);
     }
 
 in_turned : (steps : List Step) (s : Step) → In steps s → In (map turned steps) (turned s)
@@ -101,35 +100,35 @@ record Pick (C : Course) (word : ℕ → List Symbol) (steps : List Step) (next 
   is : choice_at next n ≡ Some choice
   from : choice.to ≡ step.from
   symbol : choice.symbol ≡ step.symbol
-  weight : choice.weight ≡ gained C.gain 0 (word_by_step word step)
-  others : (s : Step) → Contains steps s → s.to ≡ n → (gained C.gain 0 (word_by_step word s) <ℤ gained C.gain 0 (word_by_step word step)) ⊎ ((gained C.gain 0 (word_by_step word s) ≡ gained C.gain 0 (word_by_step word step)) × (StepBefore step s ⊎ (s ≡ step)))
+  weight : choice.weight ≡ word_gain C (word_by_step word step)
+  others : (s : Step) → Contains steps s → s.to ≡ n → (word_gain C (word_by_step word s) <ℤ word_gain C (word_by_step word step)) ⊎ ((word_gain C (word_by_step word s) ≡ word_gain C (word_by_step word step)) × (StepBefore step s ⊎ (s ≡ step)))
 
 pick : (C : Course) (day : ℕ) (tails nodes : List Tail) (row next : Row) (steps : List Step) (m : Moves C day tails nodes row next steps) (n : ℕ) → n < length nodes → Pick C m.front.word steps next n
 pick C day tails nodes row next steps m n lt =
-    by_choice (chosen C.gain day row n (map turned steps)) (m.each n lt) (chosen_is TurnedBefore C.gain day row n (map turned steps) (turned_ordered steps m.grown.ordered))
+    by_choice (chosen (gain_behind C.gain day tails) row n (map turned steps)) (m.each n lt) (chosen_is TurnedBefore (gain_behind C.gain day tails) row n (map turned steps) (turned_ordered steps m.grown.ordered))
   where
     word : ℕ → List Symbol
     word = m.front.word
 
-    value_of : (s : Step) → Contains steps s → Value C day row m.front.word s
+    value_of : (s : Step) → Contains steps s → Value C day tails row m.front.word s
     value_of s inside = value C day tails row m.front s (m.grown.sound s inside).from
 
-    by_choice : (r : Option Choice) → choice_at next n ≡ r → IsChosen TurnedBefore C.gain day row n (map turned steps) r → Pick C m.front.word steps next n
+    by_choice : (r : Option Choice) → choice_at next n ≡ r → IsChosen TurnedBefore (gain_behind C.gain day tails) row n (map turned steps) r → Pick C m.front.word steps next n
     by_choice None e h =
         let reached = m.grown.reached n lt in
         let s : Step = reached.0 in
-        let v : Value C day row m.front.word s = value_of s reached.1 in
-        let none : choice_by C.gain day row (turned s) ≡ None = h (turned s) (in_turned steps s (Contains-In steps s reached.1)) reached.2 in
-        let some : choice_by C.gain day row (turned s) ≡ Some v.choice = v.is in
+        let v : Value C day tails row m.front.word s = value_of s reached.1 in
+        let none : choice_by (gain_behind C.gain day tails) row (turned s) ≡ None = h (turned s) (in_turned steps s (Contains-In steps s reached.1)) reached.2 in
+        let some : choice_by (gain_behind C.gain day tails) row (turned s) ≡ Some v.choice = v.is in
         absurd (cc)
     by_choice (Some c) e h =
-        let o : Offers C.gain day row h.step c = offers C.gain day row h.step c h.is in
+        let o : Offers (gain_behind C.gain day tails) row h.step c = offers (gain_behind C.gain day tails) row h.step c h.is in
         let inside : Contains steps (turned h.step) = In-Contains steps (turned h.step) (turned_in steps h.step h.within) in
-        let v : Value C day row m.front.word (turned h.step) = value_of (turned h.step) inside in
-        let some : choice_by C.gain day row h.step ≡ Some v.choice = v.is in
-        let here : choice_by C.gain day row h.step ≡ Some c = h.is in
+        let v : Value C day tails row m.front.word (turned h.step) = value_of (turned h.step) inside in
+        let some : choice_by (gain_behind C.gain day tails) row h.step ≡ Some v.choice = v.is in
+        let here : choice_by (gain_behind C.gain day tails) row h.step ≡ Some c = h.is in
         let same : v.choice ≡ c = cc in
-        let weight : c.weight ≡ gained C.gain 0 (word_by_step m.front.word (turned h.step)) = ap (λ (x : Choice). x.weight) (sym same) ∙ v.weight in
+        let weight : c.weight ≡ word_gain C (word_by_step m.front.word (turned h.step)) = ap (λ (x : Choice). x.weight) (sym same) ∙ v.weight in
         record {
           step = turned h.step;
           inside = inside;
@@ -140,31 +139,32 @@ pick C day tails nodes row next steps m n lt =
           symbol = o.symbol;
           weight = weight;
           others = λ s within to.
-              let w : Value C day row m.front.word s = value_of s within in
+              let w : Value C day tails row m.front.word s = value_of s within in
               compared s c w.choice w.weight h.step weight (h.others (turned s) w.choice (in_turned steps s (Contains-In steps s within)) to w.is);
         }
       where
-        compared : (s : Step) (c d : Choice) → d.weight ≡ gained C.gain 0 (word_by_step m.front.word s) → (step : Step) → c.weight ≡ gained C.gain 0 (word_by_step m.front.word (turned step)) →
+        compared : (s : Step) (c d : Choice) → d.weight ≡ word_gain C (word_by_step m.front.word s) → (step : Step) → c.weight ≡ word_gain C (word_by_step m.front.word (turned step)) →
             (d.weight <ℤ c.weight) ⊎ ((d.weight ≡ c.weight) × (TurnedBefore step (turned s) ⊎ (turned s ≡ step))) →
-            (gained C.gain 0 (word_by_step m.front.word s) <ℤ gained C.gain 0 (word_by_step m.front.word (turned step))) ⊎ ((gained C.gain 0 (word_by_step m.front.word s) ≡ gained C.gain 0 (word_by_step m.front.word (turned step))) × (StepBefore (turned step) s ⊎ (s ≡ turned step)))
+            (word_gain C (word_by_step m.front.word s) <ℤ word_gain C (word_by_step m.front.word (turned step))) ⊎ ((word_gain C (word_by_step m.front.word s) ≡ word_gain C (word_by_step m.front.word (turned step))) × (StepBefore (turned step) s ⊎ (s ≡ turned step)))
         compared s c d dw step cw (inl lt) = inl (omega (arith, ints, lt, dw, cw))
         compared s c d dw step cw (inr (same, inl before)) = inr (sym dw ∙ same ∙ cw, inl before)
         compared s c d dw step cw (inr (same, inr is)) = inr (sym dw ∙ same ∙ cw, inr (ap turned is))
 
 -- a word of one day more, by its last step
-record LastStep (C : Course) (day : ℕ) (nodes : List Tail) (steps : List Step) (word : ℕ → List Symbol) (v : List Symbol) : Type 0 where
+record LastStep (C : Course) (day : ℕ) (tails nodes : List Tail) (steps : List Step) (word : ℕ → List Symbol) (v : List Symbol) : Type 0 where
   front : List Symbol
   step : Step
   whole : v ≡ front ++ step.symbol ∷ []
   days : length front ≡ day
+  ends_at : tail_of front ≡ tail_at tails step.from
   lighter : IsNoWorse C (word step.from) front
   inside : Contains steps step
   stands : StandsAt nodes step.to (tail_of v)
 
-last_step : (C : Course) (day : ℕ) (tails nodes : List Tail) (row next : Row) (steps : List Step) (m : Moves C day tails nodes row next steps) (v : List Symbol) → IsOf C (day + 1) v → LastStep C day nodes steps m.front.word v
+last_step : (C : Course) (day : ℕ) (tails nodes : List Tail) (row next : Row) (steps : List Step) (m : Moves C day tails nodes row next steps) (v : List Symbol) → IsOf C (day + 1) v → LastStep C day tails nodes steps m.front.word v
 last_step C day tails nodes row next steps m v of = by_end (ends v)
   where
-    longer : (w : List Symbol) (y : Symbol) → IsOf C (day + 1) (w ++ y ∷ []) → LastStep C day nodes steps m.front.word (w ++ y ∷ [])
+    longer : (w : List Symbol) (y : Symbol) → IsOf C (day + 1) (w ++ y ∷ []) → LastStep C day tails nodes steps m.front.word (w ++ y ∷ [])
     longer w y h =
         let long : length w ≡ day = omega (arith, h.long, length-append w (y ∷ [])) in
         let before : IsOf C day w = record { long = long; over = over_front C.listed.problem C.domains C.position w y h.over; clean = clean_front C.listed.problem C.listed.rules w y h.clean } in
@@ -179,20 +179,21 @@ last_step C day tails nodes row next steps m v of = by_end (ends v)
           step = s;
           whole = refl;
           days = long;
+          ends_at = sym at.2;
           lighter = (m.front.best at.0 at.1).best w before (sym at.2);
           inside = to.1;
           stands = l.1;
         }
 
-    by_end : (v ≡ []) ⊎ ((w : List Symbol) × (y : Symbol) × (v ≡ w ++ y ∷ [])) → LastStep C day nodes steps m.front.word v
+    by_end : (v ≡ []) ⊎ ((w : List Symbol) × (y : Symbol) × (v ≡ w ++ y ∷ [])) → LastStep C day tails nodes steps m.front.word v
     by_end (inl none) = absurd (omega (arith, of.long, ap length none))
-    by_end (inr (w, y, whole)) = subst (λ (u : List Symbol). LastStep C day nodes steps m.front.word u) (sym whole) (longer w y (subst (λ (u : List Symbol). IsOf C (day + 1) u) whole of))
+    by_end (inr (w, y, whole)) = subst (λ (u : List Symbol). LastStep C day tails nodes steps m.front.word u) (sym whole) (longer w y (subst (λ (u : List Symbol). IsOf C (day + 1) u) whole of))
 
 -- the word by the pick is better than another by another step
-no_worse : (C : Course) (day : ℕ) (tails : List Tail) (row : Row) (f : IsFront C day tails row) (step s : Step) (w : List Symbol) → step.from < length tails → s.from < length tails → length w ≡ day → IsNoWorse C (f.word s.from) w →
-    (gained C.gain 0 (word_by_step f.word s) <ℤ gained C.gain 0 (word_by_step f.word step)) ⊎ ((gained C.gain 0 (word_by_step f.word s) ≡ gained C.gain 0 (word_by_step f.word step)) × (StepBefore step s ⊎ (s ≡ step))) →
+no_worse : (C : Course) (day : ℕ) (tails : List Tail) (row : Row) (f : IsFront C day tails row) (step s : Step) (w : List Symbol) → step.from < length tails → s.from < length tails → length w ≡ day → tail_of w ≡ tail_at tails s.from → IsNoWorse C (f.word s.from) w →
+    (word_gain C (word_by_step f.word s) <ℤ word_gain C (word_by_step f.word step)) ⊎ ((word_gain C (word_by_step f.word s) ≡ word_gain C (word_by_step f.word step)) × (StepBefore step s ⊎ (s ≡ step))) →
     IsNoWorse C (word_by_step f.word step) (w ++ s.symbol ∷ [])
-no_worse C day tails row f step s w lt less days lighter others = by_both lighter others
+no_worse C day tails row f step s w lt less days ending lighter others = by_both lighter others
   where
     word : ℕ → List Symbol
     word = f.word
@@ -201,17 +202,13 @@ no_worse C day tails row f step s w lt less days lighter others = by_both lighte
     long k h = (f.best k h).clean.long
 
     G : ℤ
-    G = C.gain day s.symbol
+    G = C.gain day (tail_at tails s.from).last s.symbol
 
-    of_word : gained C.gain 0 (word_by_step f.word s) ≡ gained C.gain 0 (f.word s.from) +ℤ C.gain day s.symbol
-    of_word =
-        let e : 0 + length (f.word s.from) ≡ day = omega (arith, long s.from less) in
-        gained_push C.gain 0 (f.word s.from) s.symbol ∙ ap (λ (n : ℕ). gained C.gain 0 (f.word s.from) +ℤ C.gain n s.symbol) e
+    of_word : word_gain C (word_by_step f.word s) ≡ word_gain C (f.word s.from) +ℤ C.gain day (tail_at tails s.from).last s.symbol
+    of_word = word_gain_push C (f.word s.from) s.symbol day (tail_at tails s.from) (long s.from less) (f.best s.from less).ends
 
-    of_other : gained C.gain 0 (w ++ s.symbol ∷ []) ≡ gained C.gain 0 w +ℤ C.gain day s.symbol
-    of_other =
-        let e : 0 + length w ≡ day = omega (arith, days) in
-        gained_push C.gain 0 w s.symbol ∙ ap (λ (n : ℕ). gained C.gain 0 w +ℤ C.gain n s.symbol) e
+    of_other : word_gain C (w ++ s.symbol ∷ []) ≡ word_gain C w +ℤ C.gain day (tail_at tails s.from).last s.symbol
+    of_other = word_gain_push C w s.symbol day (tail_at tails s.from) days ending
 
     by_order : ComesFirst (f.word s.from) w → StepBefore step s ⊎ (s ≡ step) → ComesFirst (word_by_step f.word step) (w ++ s.symbol ∷ [])
     by_order first (inl (inl earlier)) =
@@ -224,7 +221,7 @@ no_worse C day tails row f step s w lt less days lighter others = by_both lighte
         subst P is (first_push_same (f.word s.from) w s.symbol (long s.from less ∙ sym days) first)
 
     by_both : IsNoWorse C (f.word s.from) w →
-        (gained C.gain 0 (word_by_step f.word s) <ℤ gained C.gain 0 (word_by_step f.word step)) ⊎ ((gained C.gain 0 (word_by_step f.word s) ≡ gained C.gain 0 (word_by_step f.word step)) × (StepBefore step s ⊎ (s ≡ step))) →
+        (word_gain C (word_by_step f.word s) <ℤ word_gain C (word_by_step f.word step)) ⊎ ((word_gain C (word_by_step f.word s) ≡ word_gain C (word_by_step f.word step)) × (StepBefore step s ⊎ (s ≡ step))) →
         IsNoWorse C (word_by_step f.word step) (w ++ s.symbol ∷ [])
     by_both (inl a) (inl b) = inl (omega (arith, ints, a, b, of_word, of_other))
     by_both (inl a) (inr b) = inl (omega (arith, ints, a, b.0, of_word, of_other))
@@ -261,11 +258,11 @@ best_by_pick C day tails nodes row next steps m n lt p = record { clean = clean;
 
     best : (v : List Symbol) → IsOf C (day + 1) v → tail_of v ≡ tail_at nodes n → IsNoWorse C (word_by_step m.front.word p.step) v
     best v of at =
-        let l : LastStep C day nodes steps m.front.word v = last_step C day tails nodes row next steps m v of in
+        let l : LastStep C day tails nodes steps m.front.word v = last_step C day tails nodes row next steps m v of in
         let here : StandsAt nodes n (tail_of v) = stands_of nodes n (tail_of v) lt (sym at) in
         let to : l.step.to ≡ n = m.grown.distinct l.step.to n (tail_of v) l.stands here in
         let P : List Symbol → Type 0 = λ u. IsNoWorse C (word_by_step m.front.word p.step) u in
-        subst P (sym l.whole) (no_worse C day tails row m.front p.step l.step l.front from (m.grown.sound l.step l.inside).from l.days l.lighter (p.others l.step l.inside to))
+        subst P (sym l.whole) (no_worse C day tails row m.front p.step l.step l.front from (m.grown.sound l.step l.inside).from l.days l.ends_at l.lighter (p.others l.step l.inside to))
 
 -- both tests of a step that is picked
 both_true : (a b c d : ℕ) → a ≡ b → c ≡ d → ((a == b) && (c == d)) ≡ true
@@ -346,7 +343,7 @@ light_by n m next ps e light k = by_place (cases_lt k (length ps))
         let P : Option Choice → Type 0 = IsWithin m in
         subst P (sym (get_or_past (row_by next ps) k None (omega (arith, past, length-map ps (λ s. choice_at next s.to))))) tt
 
-pub front_next : (C : Course) (day : ℕ) (tails nodes : List Tail) (row next : Row) (steps : List Step) → Moves C day tails nodes row next steps → AreWithin (1000 * day + 1000) next → length (picks next steps) < 2 ^ 32 → IsFront C (day + 1) (tails_by nodes (picks next steps)) (row_by next (picks next steps))
+pub front_next : (C : Course) (day : ℕ) (tails nodes : List Tail) (row next : Row) (steps : List Step) → Moves C day tails nodes row next steps → AreWithin (2000 * day + 2000) next → length (picks next steps) < 2 ^ 32 → IsFront C (day + 1) (tails_by nodes (picks next steps)) (row_by next (picks next steps))
 front_next C day tails nodes row next steps m light few = record {
   few = omega (arith, few, length-map (picks next steps) (λ s. tail_at nodes s.to));
   long = length-map (picks next steps) (λ s. choice_at next s.to) ∙ sym (length-map (picks next steps) (λ s. tail_at nodes s.to));
@@ -355,7 +352,7 @@ front_next C day tails nodes row next steps m light few = record {
   weighs = λ k lt. weighs k (omega (arith, lt, length-map (picks next steps) (λ s. tail_at nodes s.to)));
   all = all;
   ordered = λ j k lt less. ordered j k lt (omega (arith, less, length-map (picks next steps) (λ s. tail_at nodes s.to)));
-  light = light_by (1000 * day + 1000) (1000 * (day + 1)) next (picks next steps) (omega arith) light;
+  light = light_by (2000 * day + 2000) (2000 * (day + 1)) next (picks next steps) (omega arith) light;
 }
   where
     ps : List Step
@@ -373,15 +370,15 @@ front_next C day tails nodes row next steps m light few = record {
         let Q : Tail → Type 0 = λ t. IsBestTo C (day + 1) t (word_by_step m.front.word s) in
         subst Q (sym (tail_read nodes (picks next steps) k lt)) (subst P p.same b)
 
-    weighs : (k : ℕ) → k < length (picks next steps) → (c : Choice) × (choice_at (row_by next (picks next steps)) k ≡ Some c) × (c.weight ≡ gained C.gain 0 (word_by_step m.front.word (get_or (picks next steps) k no_step)))
+    weighs : (k : ℕ) → k < length (picks next steps) → (c : Choice) × (choice_at (row_by next (picks next steps)) k ≡ Some c) × (c.weight ≡ word_gain C (word_by_step m.front.word (get_or (picks next steps) k no_step)))
     weighs k lt =
         let s : Step = get_or (picks next steps) k no_step in
         let p : Picked C m.front.word steps next s = picked C day tails nodes row next steps m k lt in
-        (p.pick.choice, choice_read next (picks next steps) k lt ∙ p.pick.is, p.pick.weight ∙ ap (λ (z : Step). gained C.gain 0 (word_by_step m.front.word z)) p.same)
+        (p.pick.choice, choice_read next (picks next steps) k lt ∙ p.pick.is, p.pick.weight ∙ ap (λ (z : Step). word_gain C (word_by_step m.front.word z)) p.same)
 
     all : (u : List Symbol) → IsOf C (day + 1) u → (k : ℕ) × (k < length (tails_by nodes (picks next steps))) × (tail_at (tails_by nodes (picks next steps)) k ≡ tail_of u)
     all u of =
-        let l : LastStep C day nodes steps m.front.word u = last_step C day tails nodes row next steps m u of in
+        let l : LastStep C day tails nodes steps m.front.word u = last_step C day tails nodes row next steps m u of in
         let p : Pick C m.front.word steps next l.step.to = pick C day tails nodes row next steps m l.step.to l.stands.0 in
         let inside : Contains (picks next steps) p.step = pick_is_picked C m.front.word steps next l.step.to p in
         let here : get_or (picks next steps) inside.0 no_step ≡ p.step = get_or_default (picks next steps) inside.0 no_step p.step inside.1 ∙ inside.2 in (
@@ -423,7 +420,7 @@ linked_next C day tails nodes row next steps m k lt =
     )
 
 -- the front that is made of the steps that are picked
-pub front_made : (C : Course) (day : ℕ) (tails nodes : List Tail) (row next : Row) (steps : List Step) → Moves C day tails nodes row next steps → AreWithin (1000 * day + 1000) next → (ps : List Step) → ps ≡ filter (is_picked next) steps → length ps < 2 ^ 32 → (later : List Tail) (late : Row) → later ≡ map (λ s. tail_at nodes s.to) ps → late ≡ map (λ s. choice_at next s.to) ps → IsFront C (day + 1) later late × AreLinked C day tails later late
+pub front_made : (C : Course) (day : ℕ) (tails nodes : List Tail) (row next : Row) (steps : List Step) → Moves C day tails nodes row next steps → AreWithin (2000 * day + 2000) next → (ps : List Step) → ps ≡ filter (is_picked next) steps → length ps < 2 ^ 32 → (later : List Tail) (late : Row) → later ≡ map (λ s. tail_at nodes s.to) ps → late ≡ map (λ s. choice_at next s.to) ps → IsFront C (day + 1) later late × AreLinked C day tails later late
 front_made C day tails nodes row next steps m light ps are few later late is_later is_late =
     let P : List Tail → Type 0 = λ t. IsFront C (day + 1) t late × AreLinked C day tails t late in
     let Q : Row → Type 0 = λ r. IsFront C (day + 1) (tails_by nodes ps) r × AreLinked C day tails (tails_by nodes ps) r in
@@ -456,7 +453,7 @@ front_none C clean row is = record {
         let P : ℕ → Type 0 = λ n. IsBestTo C 0 (tail_at (tail_of [] ∷ []) n) [] in
         subst P (sym e) (record { clean = record { long = refl; over = tt; clean = clean }; ends = refl; best = λ u h t. others u h })
 
-    weighs : (k : ℕ) → k ≡ 0 → (c : Choice) × (choice_at row k ≡ Some c) × (c.weight ≡ gained C.gain 0 [])
+    weighs : (k : ℕ) → k ≡ 0 → (c : Choice) × (choice_at row k ≡ Some c) × (c.weight ≡ word_gain C [])
     weighs k e = (end_choice, ap (λ (r : Row). choice_at r k) is ∙ ap (choice_at (Some end_choice ∷ [])) e, refl)
 
     all : (u : List Symbol) → IsOf C 0 u → (k : ℕ) × (k < length (tail_of [] ∷ [])) × (tail_at (tail_of [] ∷ []) k ≡ tail_of u)
@@ -467,6 +464,6 @@ front_none C clean row is = record {
     light_at zero = (omega (arith, ints), omega (arith, ints))
     light_at (suc k) = tt
 
-    light : AreWithin (1000 * 0) row
+    light : AreWithin (2000 * 0) row
     light k =
         let P : Row → Type 0 = λ r. IsWithin 0 (choice_at r k) in subst P (sym is) (light_at k)

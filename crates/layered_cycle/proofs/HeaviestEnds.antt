@@ -10,8 +10,7 @@ use Rattle.word_tail.specs.declared.tail.Tail.{Tail}
 use Rattle.layered_cycle.specs.declared.choice.Choice.{Choice}
 use Rattle.layered_cycle.specs.declared.ends.End.{End}
 use Rattle.layered_cycle.specs.Choices.{Row, choice_at}
-use Rattle.layered_cycle.specs.Best.{gained}
-use Rattle.layered_cycle.specs.Front.{Course, IsOf, IsNoWorse, IsBestTo, tail_at, IsFront, IsHeaviestEnd, IsBestOf, AreBelow}
+use Rattle.layered_cycle.specs.Front.{Course, IsOf, word_gain, IsNoWorse, IsBestTo, tail_at, IsFront, IsHeaviestEnd, IsBestOf, AreBelow}
 use Rattle.layered_cycle.proofs.Orders.{first_itself, first_from_before, first_then}
 use Rattle.layered_cycle.proofs.Fronts.{best_once}
 
@@ -27,7 +26,7 @@ end_inside C len tails row f e h = omega (arith, h.0, f.long)
 best_end : (C : Course) (len : ℕ) (tails : List Tail) (row : Row) (f : IsFront C len tails row) (e : End) → IsHeaviestEnd row (length row) (Some e) → IsBestOf C len e.weight (f.word e.node)
 best_end C len tails row f e h = record { clean = (f.best e.node (end_inside C len tails row f e h)).clean; gains = gains; best = best }
   where
-    gains : gained C.gain 0 (f.word e.node) ≡ e.weight
+    gains : word_gain C (f.word e.node) ≡ e.weight
     gains =
         let w = f.weighs e.node (end_inside C len tails row f e h) in
         let one : choice_at row e.node ≡ Some w.0 = w.1 in
@@ -39,7 +38,7 @@ best_end C len tails row f e h = record { clean = (f.best e.node (end_inside C l
     earlier k lt (inl same) = let P : ℕ → Type 0 = λ n. ComesFirst (f.word e.node) (f.word n) in subst P same (first_itself (f.word e.node))
     earlier k lt (inr less) = first_from_before (f.word e.node) (f.word k) (f.ordered e.node k less lt)
 
-    compared : (k : ℕ) (c : Choice) → k < length tails → c.weight ≡ gained C.gain 0 (f.word k) → (c.weight <ℤ e.weight) ⊎ ((c.weight ≡ e.weight) × (e.node ≤ k)) → IsNoWorse C (f.word e.node) (f.word k)
+    compared : (k : ℕ) (c : Choice) → k < length tails → c.weight ≡ word_gain C (f.word k) → (c.weight <ℤ e.weight) ⊎ ((c.weight ≡ e.weight) × (e.node ≤ k)) → IsNoWorse C (f.word e.node) (f.word k)
     compared k c lt weight (inl less) = inl (omega (arith, ints, less, weight, gains))
     compared k c lt weight (inr same) = inr (sym weight ∙ same.0 ∙ sym gains, earlier k lt (eq-or-lt_of_le {n = e.node} {m = k} same.1))
 
@@ -73,9 +72,9 @@ none_of_all C len tails row f h u of =
 pub below_end : (C : Course) (len : ℕ) (tails : List Tail) (row : Row) (f : IsFront C len tails row) (e : End) (least : ℤ) → IsHeaviestEnd row (length row) (Some e) → e.weight <ℤ least → AreBelow C len least
 below_end C len tails row f e least h less u of = by_best ((best_end C len tails row f e h).best u of)
   where
-    weight : gained C.gain 0 (f.word e.node) ≡ e.weight
+    weight : word_gain C (f.word e.node) ≡ e.weight
     weight = (best_end C len tails row f e h).gains
 
-    by_best : IsNoWorse C (f.word e.node) u → gained C.gain 0 u <ℤ least
+    by_best : IsNoWorse C (f.word e.node) u → word_gain C u <ℤ least
     by_best (inl lt) = omega (arith, ints, lt, weight, less)
     by_best (inr same) = omega (arith, ints, same.0, weight, less)

@@ -1,20 +1,47 @@
 -- The order of words, and words with one symbol more.
 use Rattle.std.proofs.Common.{◌≡◌, ◌⊎◌, ℕ, ◌+◌, ◌<◌, List, [], ◌∷◌, ◌++◌, length, refl, ap, sym, ◌∙◌, subst, inl, inr, arith}
-use Rattle.std.specs.Prelude.{ℤ, ◌+ℤ◌}
+use Rattle.std.specs.Prelude.{ℤ, ◌+ℤ◌, Option, Some, None, slice_get}
 use Rattle.std.proofs.lemmas.Int.{ints}
 use Rattle.rwsp_terms.specs.declared.data.Symbol.{Symbol}
 use Rattle.refutation_terms.specs.Escape.{ComesFirst}
-use Rattle.layered_cycle.specs.Best.{gained}
-use Rattle.layered_cycle.specs.Front.{ComesBefore}
+use Rattle.word_tail.specs.Tails.{last_of, tail_of}
+use Rattle.word_tail.specs.declared.tail.Tail.{Tail}
+use Rattle.word_tail.proofs.Lists.{ends, reverse_longer}
+use Rattle.layered_cycle.specs.Front.{Course, gained_after, word_gain, ComesBefore}
 
-pub gained_push : (gain : ℕ → Symbol → ℤ) (day : ℕ) (u : List Symbol) (x : Symbol) → gained gain day (u ++ x ∷ []) ≡ gained gain day u +ℤ gain (day + length u) x
-gained_push gain day [] x =
+-- the last symbol, or the one before a word that has none
+abbrev last_behind : Option Symbol → List Symbol → Option Symbol
+last_behind before [] = before
+last_behind before (x ∷ u) = last_behind (Some x) u
+
+last_behind-push : (before : Option Symbol) (u : List Symbol) (x : Symbol) → last_behind before (u ++ x ∷ []) ≡ Some x
+last_behind-push before [] x = refl
+last_behind-push before (y ∷ u) x = last_behind-push (Some y) u x
+
+last_is : (u : List Symbol) → last_behind None u ≡ last_of u
+last_is u = by_end (ends u)
+  where
+    by_end : (u ≡ []) ⊎ ((w : List Symbol) × (y : Symbol) × (u ≡ w ++ y ∷ [])) → last_behind None u ≡ last_of u
+    by_end (inl none) = ap (last_behind None) none ∙ ap last_of (sym none)
+    by_end (inr (w, y, whole)) = ap (last_behind None) whole ∙ last_behind-push None w y ∙ ap (λ (v : List Symbol). slice_get v 0) (sym (reverse_longer w y)) ∙ ap last_of (sym whole)
+
+gained_push : (gain : ℕ → Option Symbol → Symbol → ℤ) (day : ℕ) (before : Option Symbol) (u : List Symbol) (x : Symbol) → gained_after gain day before (u ++ x ∷ []) ≡ gained_after gain day before u +ℤ gain (day + length u) (last_behind before u) x
+gained_push gain day before [] x =
     let e : day + 0 ≡ day = omega arith in
-    omega (arith, ints, ap (λ (n : ℕ). gain n x) e)
-gained_push gain day (y ∷ u) x =
+    omega (arith, ints, ap (λ (n : ℕ). gain n before x) e)
+gained_push gain day before (y ∷ u) x =
     let e : day + 1 + length u ≡ day + length (y ∷ u) = omega arith in
-    let rest : gained gain (day + 1) (u ++ x ∷ []) ≡ gained gain (day + 1) u +ℤ gain (day + 1 + length u) x = gained_push gain (day + 1) u x in
-    omega (arith, ints, rest, ap (λ (n : ℕ). gain n x) e)
+    let rest : gained_after gain (day + 1) (Some y) (u ++ x ∷ []) ≡ gained_after gain (day + 1) (Some y) u +ℤ gain (day + 1 + length u) (last_behind (Some y) u) x = gained_push gain (day + 1) (Some y) u x in
+    omega (arith, ints, rest, ap (λ (n : ℕ). gain n (last_behind (Some y) u) x) e)
+
+-- what a word gains with one symbol more
+pub word_gain_push : (C : Course) (u : List Symbol) (x : Symbol) (day : ℕ) (tail : Tail) → length u ≡ day → tail_of u ≡ tail → word_gain C (u ++ x ∷ []) ≡ word_gain C u +ℤ C.gain day tail.last x
+word_gain_push C u x day tail long ending =
+    let last : last_behind None u ≡ tail.last = last_is u ∙ ap (λ (t : Tail). t.last) ending in
+    let days : 0 + length u ≡ day = omega (arith, long) in
+    gained_push C.gain 0 None u x
+    ∙ ap (λ (b : Option Symbol). word_gain C u +ℤ C.gain (0 + length u) b x) last
+    ∙ ap (λ (n : ℕ). word_gain C u +ℤ C.gain n tail.last x) days
 
 pub before_push : (u v : List Symbol) (x y : Symbol) → ComesBefore u v → ComesBefore (u ++ x ∷ []) (v ++ y ∷ [])
 before_push [] v x y h = absurd h

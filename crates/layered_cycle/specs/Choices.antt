@@ -24,21 +24,26 @@ preferred None b = b
 preferred (Some a) None = Some a
 preferred (Some a) (Some b) = if int_lt a.weight b.weight then Some b else Some a
 
--- to take the step, and then what is chosen where it leads
-abbrev pub choice_by : (ℕ → Symbol → ℤ) → ℕ → Row → Step → Option Choice
-choice_by gain day next s = option_map (λ c. record { weight = gain day s.symbol +ℤ c.weight; symbol = s.symbol; to = s.to }) (choice_at next s.to)
+-- to take the step, which gains so much, and then what is chosen where it leads
+abbrev pub choice_by : (Step → ℤ) → Row → Step → Option Choice
+choice_by gain next s =
+    option_map (λ c. record { weight = gain s +ℤ c.weight; symbol = s.symbol; to = s.to }) (choice_at next s.to)
 
 -- the heaviest choice among the steps from the node, the first of these
-abbrev pub chosen : (ℕ → Symbol → ℤ) → ℕ → Row → ℕ → List Step → Option Choice
-chosen gain day next node [] = None
-chosen gain day next node (s ∷ steps) =
-    if s.from == node then preferred (choice_by gain day next s) (chosen gain day next node steps) else chosen gain day next node steps
+abbrev pub chosen : (Step → ℤ) → Row → ℕ → List Step → Option Choice
+chosen gain next node [] = None
+chosen gain next node (s ∷ steps) =
+    if s.from == node then preferred (choice_by gain next s) (chosen gain next node steps) else chosen gain next node steps
+
+-- what steps gain on a day by their symbols alone
+abbrev pub gain_on : (ℕ → Symbol → ℤ) → ℕ → Step → ℤ
+gain_on gain day s = gain day s.symbol
 
 -- the row of a layer, before the row of the next
-pub record IsRowOf (gain : ℕ → Symbol → ℤ) (day : ℕ) (layer : List Step) (next row : Row) : Type 0 where
+pub record IsRowOf (gain : Step → ℤ) (layer : List Step) (next row : Row) : Type 0 where
   pub ordered : AllPairs StepBefore layer
   pub targets : All (λ s. s.to < length next) layer
-  pub each : (node : ℕ) → node < length row → choice_at row node ≡ chosen gain day next node layer
+  pub each : (node : ℕ) → node < length row → choice_at row node ≡ chosen gain next node layer
 
 -- the first row of some
 abbrev pub first_row : List Row → Row
@@ -50,7 +55,8 @@ abbrev pub AreRows : (ℕ → Symbol → ℤ) → ℕ → List (List Step) → L
 AreRows gain day [] [] = ⊥
 AreRows gain day [] (row ∷ rows) = (rows ≡ []) × All (λ c. c ≡ Some end_choice) row
 AreRows gain day (layer ∷ layers) [] = ⊥
-AreRows gain day (layer ∷ layers) (row ∷ rows) = IsRowOf gain day layer (first_row rows) row × AreRows gain (day + 1) layers rows
+AreRows gain day (layer ∷ layers) (row ∷ rows) =
+    IsRowOf (gain_on gain day) layer (first_row rows) row × AreRows gain (day + 1) layers rows
 
 abbrev pub choice_or_end : Option Choice → Choice
 choice_or_end None = end_choice

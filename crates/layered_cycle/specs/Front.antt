@@ -1,7 +1,7 @@
 -- Where the clean words of so many days end: their tails, each with the best of the words that have it.
-use Rattle.std.specs.Prelude.{◌≡◌, ◌⊎◌, ℕ, ◌+◌, ◌-◌, ◌*◌, ◌/◌, ◌<◌, ◌≤◌, ◌^◌, List, [], ◌∷◌, ◌++◌, length, Option, Some, None, Bool, false, ◌&&◌, ◌==◌, slice_index_or, reverse, ℤ, ◌<ℤ◌}
+use Rattle.std.specs.Prelude.{◌≡◌, ◌⊎◌, ℕ, ◌+◌, ◌-◌, ◌*◌, ◌/◌, ◌<◌, ◌≤◌, ◌^◌, List, [], ◌∷◌, ◌++◌, length, Option, Some, None, Bool, false, ◌&&◌, ◌==◌, slice_index_or, reverse, ℤ, pos, ◌+ℤ◌, ◌<ℤ◌}
 use Rattle.rwsp_terms.specs.declared.data.Symbol.{Symbol}
-use Rattle.rwsp_terms.specs.declared.limits.TheConstants.{GREATEST_WEIGHT}
+use Rattle.rwsp_terms.specs.declared.limits.TheConstants.{GREATEST_REWARD, GREATEST_WEIGHT}
 use Rattle.layered_cycle.specs.declared.kept_fronts.TheConstants.{STRIDE}
 use Rattle.refutation_terms.specs.Word.{Domains}
 use Rattle.refutation_terms.specs.Escape.{ComesFirst, IsCleanOver}
@@ -14,25 +14,34 @@ use Rattle.layered_cycle.specs.declared.choice.Choice.{Choice}
 use Rattle.layered_cycle.specs.declared.front.Front.{Front}
 use Rattle.layered_cycle.specs.declared.ends.End.{End}
 use Rattle.layered_cycle.specs.Choices.{Row, choice_at, AreWithin}
-use Rattle.layered_cycle.specs.Best.{gained}
+
+-- what the symbols of a word gain, the first on this day and behind this symbol
+abbrev pub gained_after : (ℕ → Option Symbol → Symbol → ℤ) → ℕ → Option Symbol → List Symbol → ℤ
+gained_after gain day before [] = pos 0
+gained_after gain day before (x ∷ u) = gain day before x +ℤ gained_after gain (day + 1) (Some x) u
 
 -- the words over domains, from a position on, that are clean for the rules, and what their symbols gain
 pub record Course : Type 0 where
   pub listed : Listed
   pub domains : Domains
   pub position : ℕ
-  pub gain : ℕ → Symbol → ℤ
+  pub gain : ℕ → Option Symbol → Symbol → ℤ
 
-abbrev pub course : Listed → Store → ℕ → (ℕ → Symbol → ℤ) → Course
+abbrev pub course : Listed → Store → ℕ → (ℕ → Option Symbol → Symbol → ℤ) → Course
 course T S p gain = record { listed = T; domains = has_domain S; position = p; gain = gain }
 
 -- one of these words, of so many days
 abbrev pub IsOf : Course → ℕ → List Symbol → Type 0
 IsOf C day u = IsCleanOver C.listed.problem C.domains C.position day C.listed.rules u
 
+-- what such a word gains
+abbrev pub word_gain : Course → List Symbol → ℤ
+word_gain C u = gained_after C.gain 0 None u
+
 -- the other word gains less, or as much and doesn't come before
 abbrev pub IsNoWorse : Course → List Symbol → List Symbol → Type 0
-IsNoWorse C word other = (gained C.gain 0 other <ℤ gained C.gain 0 word) ⊎ ((gained C.gain 0 other ≡ gained C.gain 0 word) × ComesFirst word other)
+IsNoWorse C word other =
+    (word_gain C other <ℤ word_gain C word) ⊎ ((word_gain C other ≡ word_gain C word) × ComesFirst word other)
 
 -- the best of the words of so many days that have the tail
 pub record IsBestTo (C : Course) (day : ℕ) (tail : Tail) (word : List Symbol) : Type 0 where
@@ -55,10 +64,11 @@ pub record IsFront (C : Course) (day : ℕ) (tails : List Tail) (row : Row) : Ty
   pub long : length row ≡ length tails
   pub word : ℕ → List Symbol
   pub best : (k : ℕ) → k < length tails → IsBestTo C day (tail_at tails k) (word k)
-  pub weighs : (k : ℕ) → k < length tails → (c : Choice) × (choice_at row k ≡ Some c) × (c.weight ≡ gained C.gain 0 (word k))
+  pub weighs :
+      (k : ℕ) → k < length tails → (c : Choice) × (choice_at row k ≡ Some c) × (c.weight ≡ word_gain C (word k))
   pub all : (u : List Symbol) → IsOf C day u → (k : ℕ) × (k < length tails) × (tail_at tails k ≡ tail_of u)
   pub ordered : (j k : ℕ) → j < k → k < length tails → ComesBefore (word j) (word k)
-  pub light : AreWithin (GREATEST_WEIGHT * day) row
+  pub light : AreWithin ((GREATEST_WEIGHT + GREATEST_REWARD) * day) row
 
 -- the choice of a later tail names an earlier one and a symbol: the best word to the one, with the symbol, is the best to the other
 abbrev pub AreLinked : Course → ℕ → List Tail → List Tail → Row → Type 0
@@ -78,6 +88,10 @@ IsHeaviestEnd row count None = (k : ℕ) → k < count → choice_at row k ≡ N
 IsHeaviestEnd row count (Some e) =
     (e.node < count) × ((c : Choice) × (choice_at row e.node ≡ Some c) × (c.weight ≡ e.weight))
     × ((k : ℕ) (c : Choice) → k < count → choice_at row k ≡ Some c → (c.weight <ℤ e.weight) ⊎ ((c.weight ≡ e.weight) × (e.node ≤ k)))
+
+-- what steps that were turned round gain on a day, each behind the last symbol of the tail where it begins
+abbrev pub gain_behind : (ℕ → Option Symbol → Symbol → ℤ) → ℕ → List Tail → Step → ℤ
+gain_behind gain day tails s = gain day (tail_at tails s.to).last s.symbol
 
 -- the step the other way round
 abbrev pub turned : Step → Step
@@ -110,9 +124,9 @@ GoesOn C len last day tails node symbols = (node < length tails) × Completes C 
 -- the best of all words of so many days
 pub record IsBestOf (C : Course) (len : ℕ) (weight : ℤ) (word : List Symbol) : Type 0 where
   pub clean : IsOf C len word
-  pub gains : gained C.gain 0 word ≡ weight
+  pub gains : word_gain C word ≡ weight
   pub best : (u : List Symbol) → IsOf C len u → IsNoWorse C word u
 
 -- all words of so many days gain less
 abbrev pub AreBelow : Course → ℕ → ℤ → Type 0
-AreBelow C len least = (u : List Symbol) → IsOf C len u → gained C.gain 0 u <ℤ least
+AreBelow C len least = (u : List Symbol) → IsOf C len u → word_gain C u <ℤ least

@@ -1,26 +1,15 @@
 // The best word of layers: the heaviest, and among those of its weight the least.
 ghost use Rattle.std.specs.Prelude.{◌≡◌, ℕ, ◌+◌, ◌<◌, ◌≤◌, List, [], ◌∷◌, ◌++◌, length, slice_index, slice_index_or, All, AllPairs, IfOk, MatchOption, ℤ, pos, negsuc, ◌≤ℤ◌, ◌*◌, ◌-◌, neg_ℤ};
-ghost use Rattle.rwsp_terms.specs.declared.limits.TheConstants.{GREATEST_WEIGHT, LONGEST_WORD};
+ghost use Rattle.rwsp_terms.specs.declared.limits.TheConstants.{GREATEST_REWARD, GREATEST_WEIGHT, LONGEST_WORD};
 ghost use Rattle.rwsp_terms.specs.declared.data.Symbol.{Symbol};
 ghost use Rattle.layered_cycle.specs.Graph.{AreLayers, StepBefore};
-ghost use Rattle.layered_cycle.specs.Choices.{first_row, AreRows, IsRowOf, AreWithin, IsWithin, choice_by, word_by};
+ghost use Rattle.layered_cycle.specs.Choices.{first_row, AreRows, IsRowOf, AreWithin, IsWithin, choice_by, gain_on, word_by};
 ghost use Rattle.layered_cycle.specs.Best.{IsBest, NoneLeads};
 
 use crate::choice::{Choice, ChoiceRow, END, Rows, choice_or_end};
-use crate::{Layer, Step};
+use crate::{Alone, Gain, GainAfter, Layer, Step};
 use rwsp_terms::{Symbol, Word};
 use std::alloc::{AllocError, Global};
-
-/// What the symbols of a word gain, from -1,000 to 1,000 each.
-pub trait Gain {
-    ghost gain_of: { Self → ℕ → Symbol → ℤ };
-
-    /// What the symbol gains on a day of the word, counted from 0.
-    fn gain(&self, day: u32, symbol: Symbol) -> i32
-        ensures value { result ≡ gain_of self.now day symbol }
-        ensures low { neg_ℤ (pos GREATEST_WEIGHT) ≤ℤ result }
-        ensures high { result ≤ℤ pos GREATEST_WEIGHT };
-}
 
 /// A word with its weight.
 #[derive(Debug, Drop)]
@@ -96,31 +85,38 @@ fn row_before<G: Gain>(
     requires ordered { AllPairs StepBefore steps.now }
     requires from { All (λ s. s.from < count) steps.now }
     requires to { All (λ s. s.to < length next.now) steps.now }
-    requires light { AreWithin (GREATEST_WEIGHT * (LONGEST_WORD - 1)) next.now }
+    requires light { AreWithin ((GREATEST_WEIGHT + GREATEST_REWARD) * (LONGEST_WORD - 1)) next.now }
     ensures long { IfOk result (λ row. length row ≡ count) }
-    ensures row { IfOk result (λ row. IsRowOf (G.gain_of gain.now) day steps.now next.now row) }
-    ensures light { IfOk result (λ row. (n : ℕ) → AreWithin n next.now → AreWithin (n + GREATEST_WEIGHT) row) }
+    ensures row { IfOk result (λ row. IsRowOf (gain_on (G.gain_of gain.now) day) steps.now next.now row) }
+    ensures light { IfOk result (λ row. (n : ℕ) → AreWithin n next.now → AreWithin (n + (GREATEST_WEIGHT + GREATEST_REWARD)) row) }
 {
     let mut row = ChoiceRow::of(alloc, count, None)?;
+    let alone = Alone { gain };
     let mut k = steps.len();
     while 0 < k {
         k -= 1;
         let step = steps[k];
-        let choice = choice_by(gain, day, step, next);
+        let choice = choice_by(&alone, day, None, step, next);
         row.offer(step.from, choice);
     }
     Ok(row)
 }
 
-// To take the step, and then what is chosen where it leads.
-pub fn choice_by<G: Gain>(gain: &G, day: u32, step: Step, next: &ChoiceRow) -> Option<Choice>
-    requires { AreWithin (GREATEST_WEIGHT * (LONGEST_WORD - 1)) next.now }
-    ensures value { result ≡ choice_by (G.gain_of gain.now) day next.now step }
-    ensures light { (n : ℕ) → AreWithin n next.now → IsWithin (n + GREATEST_WEIGHT) result }
+// To take the step, which gains what its symbol does behind the one before, and then what is chosen where it leads.
+pub fn choice_by<G: GainAfter>(
+    gain: &G,
+    day: u32,
+    before: Option<Symbol>,
+    step: Step,
+    next: &ChoiceRow,
+) -> Option<Choice>
+    requires { AreWithin ((GREATEST_WEIGHT + GREATEST_REWARD) * (LONGEST_WORD - 1)) next.now }
+    ensures value { result ≡ choice_by (λ s. G.gain_after_of gain.now day before s.symbol) next.now step }
+    ensures light { (n : ℕ) → AreWithin n next.now → IsWithin (n + (GREATEST_WEIGHT + GREATEST_REWARD)) result }
 {
     let after = next.at(step.to)?;
     Some(Choice {
-        weight: gain.gain(day, step.symbol) + after.weight,
+        weight: gain.gain_after(day, before, step.symbol) + after.weight,
         symbol: step.symbol,
         to: step.to,
     })

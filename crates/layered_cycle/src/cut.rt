@@ -9,7 +9,7 @@ ghost use Rattle.domain_store.specs.Store.{has_domain, BelongsTo};
 
 use crate::automaton::Automaton;
 use crate::growth::{Growth, layer_of_day};
-use crate::{Gain, HeavyWord, heaviest_clean};
+use crate::{GainAfter, HeavyWord, heaviest_clean};
 use domain_store::Domains;
 use rwsp_terms::{Symbol, Word};
 use std::alloc::{AllocError, Global};
@@ -78,10 +78,10 @@ pub fn escape(
 // No symbol gains anything.
 struct NoGain;
 
-impl Gain for NoGain {
-    ghost gain_of = { λ g day x. pos 0 };
+impl GainAfter for NoGain {
+    ghost gain_after_of = { λ g day before x. pos 0 };
 
-    fn gain(&self, _day: u32, _symbol: Symbol) -> i32 {
+    fn gain_after(&self, _day: u32, _before: Option<Symbol>, _symbol: Symbol) -> i32 {
         0
     }
 }

@@ -1,18 +1,18 @@
 // Fronts: where the clean words of so many days end.
 ghost use Rattle.std.specs.Prelude.{◌≡◌, ℕ, ◌+◌, ◌<◌, ◌^◌, length, map, All, IfOk, OnOk, ◌*◌, ◌-◌};
-ghost use Rattle.rwsp_terms.specs.declared.limits.TheConstants.{GREATEST_WEIGHT, LONGEST_WORD};
+ghost use Rattle.rwsp_terms.specs.declared.limits.TheConstants.{GREATEST_REWARD, GREATEST_WEIGHT, LONGEST_WORD};
 ghost use Rattle.std.specs.List.{filter};
 ghost use Rattle.rwsp_terms.specs.Instance.{cells};
 ghost use Rattle.domain_store.specs.Store.{BelongsTo};
 ghost use Rattle.layered_cycle.specs.Choices.{AreWithin, choice_at, chosen};
 ghost use Rattle.layered_cycle.specs.Automata.{IsAutomaton};
-ghost use Rattle.layered_cycle.specs.Front.{Course, course, IsFront, AreLinked, tail_at, turned, is_picked};
+ghost use Rattle.layered_cycle.specs.Front.{Course, course, IsFront, AreLinked, gain_behind, tail_at, turned, is_picked};
 
 use crate::automaton::Automaton;
 use crate::best::choice_by;
 use crate::choice::{ChoiceRow, END};
 use crate::growth::layer_of_day;
-use crate::{Gain, Step};
+use crate::{GainAfter, Step};
 use domain_store::Domains;
 use std::alloc::{AllocError, Global};
 use word_tail::{Tail, TailRules, empty_word_is_clean};
@@ -39,7 +39,7 @@ impl Front {
 
     // The front of the day after (the longest path through layers by dynamic programming, Bellman 1957). Its time grows
     // with the steps.
-    pub fn next<G: Gain>(
+    pub fn next<G: GainAfter>(
         &self,
         alloc: Global,
         automaton: &mut Automaton,
@@ -53,14 +53,22 @@ impl Front {
         requires belongs { BelongsTo rules.now.problem doms.now }
         requires position { p < cells rules.now.problem }
         requires day { day < LONGEST_WORD }
-        requires front { IsFront (course rules.now doms.now p (G.gain_of gain.now)) day self.now.tails.items self.now.row }
+        requires front { IsFront (course rules.now doms.now p (G.gain_after_of gain.now)) day self.now.tails.items self.now.row }
         ensures automaton { OnOk result (IsAutomaton rules.now automaton.new) }
-        ensures front { IfOk result (λ f. IsFront (course rules.now doms.now p (G.gain_of gain.now)) (day + 1) f.tails.items f.row) }
-        ensures linked { IfOk result (λ f. AreLinked (course rules.now doms.now p (G.gain_of gain.now)) day self.now.tails.items f.tails.items f.row) }
+        ensures front { IfOk result (λ f. IsFront (course rules.now doms.now p (G.gain_after_of gain.now)) (day + 1) f.tails.items f.row) }
+        ensures linked { IfOk result (λ f. AreLinked (course rules.now doms.now p (G.gain_after_of gain.now)) day self.now.tails.items f.tails.items f.row) }
     {
         let growth = layer_of_day(alloc, automaton, rules, doms, p, day, &self.tails)?;
         let count = growth.nodes.len() as u32;
-        let row = row_behind(alloc, count, &growth.steps, &self.row, day, gain)?;
+        let row = row_behind(
+            alloc,
+            count,
+            &growth.steps,
+            &self.tails,
+            &self.row,
+            day,
+            gain,
+        )?;
         let picks = picks(alloc, &row, &growth.steps)?;
         Ok(Front {
             tails: tails_behind(alloc, &growth.nodes, &picks)?,
@@ -70,19 +78,21 @@ impl Front {
 }
 
 // What is chosen at each node of the next day: the heaviest step there, the first of these.
-fn row_behind<G: Gain>(
+fn row_behind<G: GainAfter>(
     alloc: Global,
     count: u32,
     steps: &[Step],
+    tails: &[Tail],
     row: &ChoiceRow,
     day: u32,
     gain: &G,
 ) -> Result<ChoiceRow, AllocError>
     requires to { All (λ s. s.to < count) steps.now }
-    requires light { AreWithin (GREATEST_WEIGHT * (LONGEST_WORD - 1)) row.now }
+    requires light { AreWithin ((GREATEST_WEIGHT + GREATEST_REWARD) * (LONGEST_WORD - 1)) row.now }
     ensures long { IfOk result (λ next. length next ≡ count) }
-    ensures each { IfOk result (λ next. (n : ℕ) → n < count → choice_at next n ≡ chosen (G.gain_of gain.now) day row.now n (map turned steps.now)) }
-    ensures light { IfOk result (λ next. (n : ℕ) → AreWithin n row.now → AreWithin (n + GREATEST_WEIGHT) next) }
+    ensures each { IfOk result (λ next. (n : ℕ) → n < count →
+        choice_at next n ≡ chosen (gain_behind (G.gain_after_of gain.now) day tails.now) row.now n (map turned steps.now)) }
+    ensures light { IfOk result (λ next. (n : ℕ) → AreWithin n row.now → AreWithin (n + (GREATEST_WEIGHT + GREATEST_REWARD)) next) }
 {
     let mut next = ChoiceRow::of(alloc, count, None)?;
     let mut k = steps.len();
@@ -94,7 +104,8 @@ fn row_behind<G: Gain>(
             symbol: step.symbol,
             to: step.from,
         };
-        let choice = choice_by(gain, day, back, row);
+        let before = tail_at(tails, step.from).last;
+        let choice = choice_by(gain, day, before, back, row);
         next.offer(back.from, choice);
     }
     Ok(next)

@@ -9,7 +9,7 @@ ghost use Rattle.layered_cycle.specs.declared.front.Front.{Front};
 ghost use Rattle.layered_cycle.specs.Automata.{IsAutomaton};
 ghost use Rattle.layered_cycle.specs.Front.{Course, course, IsFront, IsChain, IsBestTo, Completes, GoesOn, AreKept, front_at, tail_at};
 
-use crate::Gain;
+use crate::GainAfter;
 use crate::automaton::Automaton;
 use crate::choice::choice_or_end;
 use crate::front::{Front, tail_at};
@@ -21,7 +21,7 @@ use std::alloc::{AllocError, Global};
 use word_tail::{Tail, TailRules};
 
 // The front, and those of so many days behind it.
-fn chain_from<G: Gain>(
+fn chain_from<G: GainAfter>(
     alloc: Global,
     automaton: &mut Automaton,
     rules: &TailRules,
@@ -36,9 +36,9 @@ fn chain_from<G: Gain>(
     requires belongs { BelongsTo rules.now.problem doms.now }
     requires position { p < cells rules.now.problem }
     requires few { day + days ≤ LONGEST_WORD }
-    requires front { IsFront (course rules.now doms.now p (G.gain_of gain.now)) day front.tails.items front.row }
+    requires front { IsFront (course rules.now doms.now p (G.gain_after_of gain.now)) day front.tails.items front.row }
     ensures automaton { OnOk result (IsAutomaton rules.now automaton.new) }
-    ensures chain { IfOk result (λ fs. IsChain (course rules.now doms.now p (G.gain_of gain.now)) day fs.items) }
+    ensures chain { IfOk result (λ fs. IsChain (course rules.now doms.now p (G.gain_after_of gain.now)) day fs.items) }
     ensures long { IfOk result (λ fs. length fs.items ≡ days + 1) }
 {
     let mut fronts = Vec::new(alloc);
@@ -69,7 +69,7 @@ fn walk_back(fronts: &[Front], node: u32, symbols: &mut Vec<Symbol>) -> Result<u
 }
 
 // Goes back from a tail to the front, so many days before it, by the best word to the tail.
-fn back_to<G: Gain>(
+fn back_to<G: GainAfter>(
     alloc: Global,
     automaton: &mut Automaton,
     rules: &TailRules,
@@ -86,13 +86,13 @@ fn back_to<G: Gain>(
     requires belongs { BelongsTo rules.now.problem doms.now }
     requires position { p < cells rules.now.problem }
     requires few { day + days ≤ LONGEST_WORD }
-    requires front { IsFront (course rules.now doms.now p (G.gain_of gain.now)) day front.tails.items front.row }
-    requires some { (u : List Symbol) × IsBestTo (course rules.now doms.now p (G.gain_of gain.now)) (day + days) tail u }
+    requires front { IsFront (course rules.now doms.now p (G.gain_after_of gain.now)) day front.tails.items front.row }
+    requires some { (u : List Symbol) × IsBestTo (course rules.now doms.now p (G.gain_after_of gain.now)) (day + days) tail u }
     ensures automaton { OnOk result (IsAutomaton rules.now automaton.new) }
     ensures back { IfOk result (λ t. (len : ℕ) (last : Tail) →
-        Completes (course rules.now doms.now p (G.gain_of gain.now)) len last (day + days) tail symbols.old.items →
-        ((u : List Symbol) × IsBestTo (course rules.now doms.now p (G.gain_of gain.now)) day t u)
-        × Completes (course rules.now doms.now p (G.gain_of gain.now)) len last day t symbols.new.items) }
+        Completes (course rules.now doms.now p (G.gain_after_of gain.now)) len last (day + days) tail symbols.old.items →
+        ((u : List Symbol) × IsBestTo (course rules.now doms.now p (G.gain_after_of gain.now)) day t u)
+        × Completes (course rules.now doms.now p (G.gain_after_of gain.now)) len last day t symbols.new.items) }
 {
     let fronts = chain_from(alloc, automaton, rules, doms, p, day, days, front, gain)?;
     let node = place_of(&fronts[days as usize].tails, tail);
@@ -101,7 +101,7 @@ fn back_to<G: Gain>(
 }
 
 // The best word to a tail, by the fronts that were kept. The days between two of them are gone along again.
-pub fn best_word_to<G: Gain>(
+pub fn best_word_to<G: GainAfter>(
     alloc: Global,
     automaton: &mut Automaton,
     rules: &TailRules,
@@ -116,10 +116,10 @@ pub fn best_word_to<G: Gain>(
     requires belongs { BelongsTo rules.now.problem doms.now }
     requires position { p < cells rules.now.problem }
     requires few { len ≤ LONGEST_WORD }
-    requires kept { AreKept (course rules.now doms.now p (G.gain_of gain.now)) len kept.items }
-    requires some { (u : List Symbol) × IsBestTo (course rules.now doms.now p (G.gain_of gain.now)) len last u }
+    requires kept { AreKept (course rules.now doms.now p (G.gain_after_of gain.now)) len kept.items }
+    requires some { (u : List Symbol) × IsBestTo (course rules.now doms.now p (G.gain_after_of gain.now)) len last u }
     ensures automaton { OnOk result (IsAutomaton rules.now automaton.new) }
-    ensures best { IfOk result (λ word. IsBestTo (course rules.now doms.now p (G.gain_of gain.now)) len last word) }
+    ensures best { IfOk result (λ word. IsBestTo (course rules.now doms.now p (G.gain_after_of gain.now)) len last word) }
 {
     let mut symbols = Vec::new(alloc);
     let mut tail = last;

@@ -12,14 +12,14 @@ use crate::ends::{End, heaviest_end};
 use crate::front::tail_at;
 use crate::going_back::best_word_to;
 use crate::kept_fronts::{KeptFronts, fronts_of};
-use crate::{Gain, HeavyWord};
+use crate::{GainAfter, HeavyWord};
 use domain_store::Domains;
 use std::alloc::{AllocError, Global};
 use word_tail::TailRules;
 
 /// The heaviest clean word of this length over the domains, from a position on, and the least of its weight; None exactly
 /// where there is no clean word. Its memory grows with the tails of each 128th day, its time with the steps of all days.
-pub fn heaviest_clean<G: Gain>(
+pub fn heaviest_clean<G: GainAfter>(
     alloc: Global,
     rules: &TailRules,
     doms: &Domains,
@@ -32,7 +32,7 @@ pub fn heaviest_clean<G: Gain>(
     requires few { len ≤ LONGEST_WORD }
     ensures { IfOk result (λ found. MatchOption found
         (IsDead rules.now.problem (has_domain doms.now) p len rules.now.rules)
-        (λ h. IsBestOf (course rules.now doms.now p (G.gain_of gain.now)) len h.weight h.word)) }
+        (λ h. IsBestOf (course rules.now doms.now p (G.gain_after_of gain.now)) len h.weight h.word)) }
 {
     let mut automaton = Automaton::new(alloc)?;
     let fronts = fronts_of(alloc, &mut automaton, rules, doms, p, len, gain)?;
@@ -57,7 +57,7 @@ pub fn heaviest_clean<G: Gain>(
 
 /// The heaviest clean word of this length over the domains, from a position on, and the least of its weight, if it weighs
 /// so much at least; None exactly where every clean word weighs less. No word is sought then.
-pub fn heaviest_reaching<G: Gain>(
+pub fn heaviest_reaching<G: GainAfter>(
     alloc: Global,
     rules: &TailRules,
     doms: &Domains,
@@ -70,8 +70,8 @@ pub fn heaviest_reaching<G: Gain>(
     requires position { p < cells rules.now.problem }
     requires few { len ≤ LONGEST_WORD }
     ensures { IfOk result (λ found. MatchOption found
-        (AreBelow (course rules.now doms.now p (G.gain_of gain.now)) len least)
-        (λ h. IsBestOf (course rules.now doms.now p (G.gain_of gain.now)) len h.weight h.word × (least ≤ℤ h.weight))) }
+        (AreBelow (course rules.now doms.now p (G.gain_after_of gain.now)) len least)
+        (λ h. IsBestOf (course rules.now doms.now p (G.gain_after_of gain.now)) len h.weight h.word × (least ≤ℤ h.weight))) }
 {
     let mut automaton = Automaton::new(alloc)?;
     let fronts = fronts_of(alloc, &mut automaton, rules, doms, p, len, gain)?;
@@ -103,7 +103,7 @@ fn is_below(end: End, least: i64) -> bool
 }
 
 // The best word, by where it ends.
-fn best_of<G: Gain>(
+fn best_of<G: GainAfter>(
     alloc: Global,
     automaton: &mut Automaton,
     rules: &TailRules,
@@ -118,11 +118,11 @@ fn best_of<G: Gain>(
     requires belongs { BelongsTo rules.now.problem doms.now }
     requires position { p < cells rules.now.problem }
     requires few { len ≤ LONGEST_WORD }
-    requires kept { AreKept (course rules.now doms.now p (G.gain_of gain.now)) len fronts.kept.items }
-    requires last { IsFront (course rules.now doms.now p (G.gain_of gain.now)) len fronts.last.tails.items fronts.last.row }
+    requires kept { AreKept (course rules.now doms.now p (G.gain_after_of gain.now)) len fronts.kept.items }
+    requires last { IsFront (course rules.now doms.now p (G.gain_after_of gain.now)) len fronts.last.tails.items fronts.last.row }
     requires end { IsHeaviestEnd fronts.last.row (length fronts.last.row) (Some end) }
     ensures automaton { OnOk result (IsAutomaton rules.now automaton.new) }
-    ensures best { IfOk result (λ h. IsBestOf (course rules.now doms.now p (G.gain_of gain.now)) len h.weight h.word) }
+    ensures best { IfOk result (λ h. IsBestOf (course rules.now doms.now p (G.gain_after_of gain.now)) len h.weight h.word) }
     ensures weight { IfOk result (λ h. h.weight ≡ end.weight) }
 {
     let last = tail_at(&fronts.last.tails, end.node);

@@ -6,7 +6,7 @@ ghost use Rattle.domain_store.specs.Store.{BelongsTo};
 ghost use Rattle.layered_cycle.specs.Automata.{IsAutomaton};
 ghost use Rattle.layered_cycle.specs.Front.{Course, course, IsFront, AreKept};
 
-use crate::Gain;
+use crate::GainAfter;
 use crate::automaton::Automaton;
 use crate::front::Front;
 use domain_store::Domains;
@@ -37,7 +37,7 @@ fn keep(kept: &mut Vec<Front>, front: Front, day: u32) -> Result<(), AllocError>
 
 // The fronts of the words of this length. Their time grows with the steps of all days, their memory with the tails of every
 // 128th day.
-pub fn fronts_of<G: Gain>(
+pub fn fronts_of<G: GainAfter>(
     alloc: Global,
     automaton: &mut Automaton,
     rules: &TailRules,
@@ -51,8 +51,8 @@ pub fn fronts_of<G: Gain>(
     requires position { p < cells rules.now.problem }
     requires few { len ≤ LONGEST_WORD }
     ensures automaton { OnOk result (IsAutomaton rules.now automaton.new) }
-    ensures kept { IfOk result (λ f. AreKept (course rules.now doms.now p (G.gain_of gain.now)) len f.kept.items) }
-    ensures last { IfOk result (λ f. IsFront (course rules.now doms.now p (G.gain_of gain.now)) len f.last.tails.items f.last.row) }
+    ensures kept { IfOk result (λ f. AreKept (course rules.now doms.now p (G.gain_after_of gain.now)) len f.kept.items) }
+    ensures last { IfOk result (λ f. IsFront (course rules.now doms.now p (G.gain_after_of gain.now)) len f.last.tails.items f.last.row) }
 {
     let mut kept = Vec::new(alloc);
     let mut last = Front::start(alloc)?;

@@ -7,6 +7,7 @@ mod choice;
 mod cut;
 mod ends;
 mod front;
+mod gain;
 mod going_back;
 mod graph;
 mod growth;
@@ -19,8 +20,9 @@ mod tail_index;
 #[cfg(test)]
 mod tests;
 
-pub use best::{Gain, HeavyWord, best_word};
+pub use best::{HeavyWord, best_word};
 pub use cut::{Cut, escape};
+pub use gain::{Alone, Gain, GainAfter};
 pub use heaviest::{heaviest_clean, heaviest_reaching};
 pub use layers::Layers;
 pub use step::{Layer, Step};

@@ -11,15 +11,15 @@ use Rattle.rwsp_terms.specs.Weights.{weight_at}
 use Rattle.refutation_terms.specs.Word.{Domains, Over, weight, total}
 use Rattle.refutation_terms.specs.Leaf.{IsDead}
 use Rattle.refutation_terms.specs.Sharp.{HoldsAtTop}
-use Rattle.refutation_terms.specs.Escape.{ComesFirst, IsCleanOver, IsHeaviest, IsLeastHeaviest}
+use Rattle.refutation_terms.specs.Escape.{ComesFirst, IsCleanOver, IsHeaviestBy, IsLeastHeaviest}
 use Rattle.domain_store.specs.Store.{Store, has_domain}
 use Rattle.word_tail.specs.Listed.{Listed}
 use Rattle.layered_cycle.specs.Graph.{Leads}
 use Rattle.layered_cycle.specs.Best.{gained, IsBest, NoneLeads}
-use Rattle.layered_cycle.specs.Front.{course, IsNoWorse, IsBestOf, AreBelow}
+use Rattle.layered_cycle.specs.Front.{gained_after, course, IsNoWorse, IsBestOf, AreBelow}
 use Rattle.layered_cycle.specs.WordGraph.{WordGraph, IsWordGraph}
 use Rattle.layered_cycle.specs.declared.best.HeavyWord.{HeavyWord}
-use Rattle.potential_bounds.specs.Heaviest.{AreLighter, IsHeaviestFound, IsOneTurn}
+use Rattle.potential_bounds.specs.Heaviest.{AreLighterBy, IsHeaviestFoundBy, IsHeaviestFound, IsOneTurn}
 
 -- what a symbol weighs on a day of a word from a position on
 abbrev pub gain_from : List Weight → ℕ → ℕ → ℕ → Symbol → ℤ
@@ -101,51 +101,69 @@ light_decides g y found h P t a b turn is some same sum left right =
     let both : (a <ℤ total g.problem y) ↔ HoldsAtTop g.problem (has_domain g.store) g.rules y = holds_if_light g y a h.word turn best.0 (left ∙ best.1) in
     (λ lt. both.0 (omega (arith, ints, lt_true a b lt, bound)), λ holds. true_lt a b (omega (arith, ints, both.1 holds, bound)))
 
--- the best of the words of a course are the heaviest clean words
-heaviest_by_best : (T : Listed) (S : Store) (p len days : ℕ) (y : List Weight) (h : HeavyWord) → days ≡ T.problem.days → IsBestOf (course T S p (gain_from y p days)) len h.weight h.word → IsHeaviestFound T.problem (has_domain S) p len T.rules y (Some h)
-heaviest_by_best T S p len days y h same b = (record { heavy = record { clean = b.clean; heaviest = λ v over. heaviest v (b.best v over) }; least = λ v heavy. least v heavy (b.best v heavy.clean) }, sym b.gains ∙ gained-word T.problem y p days h.word same)
-  where
-    heaviest : (v : List Symbol) → IsNoWorse (course T S p (gain_from y p days)) h.word v → weight T.problem y p v ≤ℤ weight T.problem y p h.word
-    heaviest v (inl lt) = omega (arith, ints, lt, gained-word T.problem y p days v same, gained-word T.problem y p days h.word same)
-    heaviest v (inr e) = omega (arith, ints, e.0, gained-word T.problem y p days v same, gained-word T.problem y p days h.word same)
+-- what a symbol weighs, whichever is before it
+abbrev pub alone_from : List Weight → ℕ → ℕ → ℕ → Option Symbol → Symbol → ℤ
+alone_from y p days day before x = gain_from y p days day x
 
-    least : (v : List Symbol) → IsHeaviest T.problem (has_domain S) p len T.rules y v → IsNoWorse (course T S p (gain_from y p days)) h.word v → ComesFirst h.word v
-    least v heavy (inl lt) = absurd (omega (arith, ints, lt, gained-word T.problem y p days v same, gained-word T.problem y p days h.word same, heavy.heaviest h.word b.clean))
+gained_alone : (y : List Weight) (p days day : ℕ) (before : Option Symbol) (u : List Symbol) → gained_after (alone_from y p days) day before u ≡ gained (gain_from y p days) day u
+gained_alone y p days day before [] = refl
+gained_alone y p days day before (x ∷ u) = ap (λ z. gain_from y p days day x +ℤ z) (gained_alone y p days (day + 1) (Some x) u)
+
+alone-word : (P : Instance) (y : List Weight) (p days : ℕ) (u : List Symbol) → days ≡ P.days → gained_after (alone_from y p days) 0 None u ≡ weight P y p u
+alone-word P y p days u same = gained_alone y p days 0 None u ∙ gained-word P y p days u same
+
+-- a gain by which words weigh this
+abbrev pub Weighs : (ℕ → Option Symbol → Symbol → ℤ) → (List Symbol → ℤ) → Type 0
+Weighs gain weighs = (u : List Symbol) → gained_after gain 0 None u ≡ weighs u
+
+pub alone_weighs : (P : Instance) (y : List Weight) (p days : ℕ) → days ≡ P.days → Weighs (alone_from y p days) (weight P y p)
+alone_weighs P y p days same u = alone-word P y p days u same
+
+-- the best of the words of a course are the heaviest clean words
+heaviest_by_best : (T : Listed) (S : Store) (p len : ℕ) (gain : ℕ → Option Symbol → Symbol → ℤ) (weighs : List Symbol → ℤ) (h : HeavyWord) → Weighs gain weighs → IsBestOf (course T S p gain) len h.weight h.word → IsHeaviestFoundBy T.problem (has_domain S) p len T.rules weighs (Some h)
+heaviest_by_best T S p len gain weighs h is b = (record { heavy = record { clean = b.clean; heaviest = λ v over. heaviest v (b.best v over) }; least = λ v heavy. least v heavy (b.best v heavy.clean) }, sym b.gains ∙ is h.word)
+  where
+    heaviest : (v : List Symbol) → IsNoWorse (course T S p gain) h.word v → weighs v ≤ℤ weighs h.word
+    heaviest v (inl lt) = omega (arith, ints, lt, is v, is h.word)
+    heaviest v (inr e) = omega (arith, ints, e.0, is v, is h.word)
+
+    least : (v : List Symbol) → IsHeaviestBy T.problem (has_domain S) p len T.rules weighs v → IsNoWorse (course T S p gain) h.word v → ComesFirst h.word v
+    least v heavy (inl lt) = absurd (omega (arith, ints, lt, is v, is h.word, heavy.heaviest h.word b.clean))
     least v heavy (inr e) = e.1
 
-lighter_by_below : (T : Listed) (S : Store) (p len days : ℕ) (y : List Weight) (least : ℤ) → days ≡ T.problem.days → AreBelow (course T S p (gain_from y p days)) len least → AreLighter T.problem (has_domain S) p len T.rules y least
-lighter_by_below T S p len days y least same below u clean = omega (arith, ints, below u clean, gained-word T.problem y p days u same)
+lighter_by_below : (T : Listed) (S : Store) (p len : ℕ) (gain : ℕ → Option Symbol → Symbol → ℤ) (weighs : List Symbol → ℤ) (least : ℤ) → Weighs gain weighs → AreBelow (course T S p gain) len least → AreLighterBy T.problem (has_domain S) p len T.rules weighs least
+lighter_by_below T S p len gain weighs least is below u clean = omega (arith, ints, below u clean, is u)
 
 -- by a problem that is that of the tails, and its length
-pub heaviest_of_course : (T : Listed) (S : Store) (P : Instance) (p len size days : ℕ) (y : List Weight) (r : Result (Option HeavyWord) AllocError) → T.problem ≡ P → days ≡ P.days → len ≡ size →
-    IfOk r (λ found. MatchOption found (IsDead T.problem (has_domain S) p len T.rules) (λ h. IsBestOf (course T S p (gain_from y p days)) len h.weight h.word)) → IfOk r (λ found. IsHeaviestFound P (has_domain S) p size T.rules y found)
-heaviest_of_course T S P p len size days y (Ok None) is week long dead =
+pub heaviest_of_course : (T : Listed) (S : Store) (P : Instance) (p len size : ℕ) (gain : ℕ → Option Symbol → Symbol → ℤ) (weighs : List Symbol → ℤ) (r : Result (Option HeavyWord) AllocError) → Weighs gain weighs → T.problem ≡ P → len ≡ size →
+    IfOk r (λ found. MatchOption found (IsDead T.problem (has_domain S) p len T.rules) (λ h. IsBestOf (course T S p gain) len h.weight h.word)) → IfOk r (λ found. IsHeaviestFoundBy P (has_domain S) p size T.rules weighs found)
+heaviest_of_course T S P p len size gain weighs (Ok None) weighed is long dead =
     let A : Instance → Type 0 = λ Q. IsDead Q (has_domain S) p size T.rules in
     let B : ℕ → Type 0 = λ n. IsDead T.problem (has_domain S) p n T.rules in
     subst A is (subst B long dead)
-heaviest_of_course T S P p len size days y (Ok (Some h)) is week long best =
-    let A : Instance → Type 0 = λ Q. IsHeaviestFound Q (has_domain S) p size T.rules y (Some h) in
-    let B : ℕ → Type 0 = λ n. IsHeaviestFound T.problem (has_domain S) p n T.rules y (Some h) in
-    subst A is (subst B long (heaviest_by_best T S p len days y h (week ∙ ap (λ (Q : Instance). Q.days) (sym is)) best))
-heaviest_of_course T S P p len size days y (Err e) is week long h = h
+heaviest_of_course T S P p len size gain weighs (Ok (Some h)) weighed is long best =
+    let A : Instance → Type 0 = λ Q. IsHeaviestFoundBy Q (has_domain S) p size T.rules weighs (Some h) in
+    let B : ℕ → Type 0 = λ n. IsHeaviestFoundBy T.problem (has_domain S) p n T.rules weighs (Some h) in
+    subst A is (subst B long (heaviest_by_best T S p len gain weighs h weighed best))
+heaviest_of_course T S P p len size gain weighs (Err e) weighed is long h = h
 
-reaching_by_course : (T : Listed) (S : Store) (P : Instance) (p len size days : ℕ) (y : List Weight) (least : ℤ) (r : Result (Option HeavyWord) AllocError) → T.problem ≡ P → days ≡ P.days → len ≡ size →
-    IfOk r (λ found. MatchOption found (AreBelow (course T S p (gain_from y p days)) len least) (λ h. IsBestOf (course T S p (gain_from y p days)) len h.weight h.word × (least ≤ℤ h.weight))) →
-    IfOk r (λ found. MatchOption found (AreLighter P (has_domain S) p size T.rules y least) (λ h. IsHeaviestFound P (has_domain S) p size T.rules y (Some h) × (least ≤ℤ h.weight)))
-reaching_by_course T S P p len size days y least (Ok None) is week long below =
-    let A : Instance → Type 0 = λ Q. AreLighter Q (has_domain S) p size T.rules y least in
-    let B : ℕ → Type 0 = λ n. AreLighter T.problem (has_domain S) p n T.rules y least in
-    subst A is (subst B long (lighter_by_below T S p len days y least (week ∙ ap (λ (Q : Instance). Q.days) (sym is)) below))
-reaching_by_course T S P p len size days y least (Ok (Some h)) is week long best =
-    let A : Instance → Type 0 = λ Q. IsHeaviestFound Q (has_domain S) p size T.rules y (Some h) in
-    let B : ℕ → Type 0 = λ n. IsHeaviestFound T.problem (has_domain S) p n T.rules y (Some h) in
-    (subst A is (subst B long (heaviest_by_best T S p len days y h (week ∙ ap (λ (Q : Instance). Q.days) (sym is)) best.0)), best.1)
-reaching_by_course T S P p len size days y least (Err e) is week long h = h
+reaching_by_course : (T : Listed) (S : Store) (P : Instance) (p len size : ℕ) (gain : ℕ → Option Symbol → Symbol → ℤ) (weighs : List Symbol → ℤ) (least : ℤ) (r : Result (Option HeavyWord) AllocError) → Weighs gain weighs → T.problem ≡ P → len ≡ size →
+    IfOk r (λ found. MatchOption found (AreBelow (course T S p gain) len least) (λ h. IsBestOf (course T S p gain) len h.weight h.word × (least ≤ℤ h.weight))) →
+    IfOk r (λ found. MatchOption found (AreLighterBy P (has_domain S) p size T.rules weighs least) (λ h. IsHeaviestFoundBy P (has_domain S) p size T.rules weighs (Some h) × (least ≤ℤ h.weight)))
+reaching_by_course T S P p len size gain weighs least (Ok None) weighed is long below =
+    let A : Instance → Type 0 = λ Q. AreLighterBy Q (has_domain S) p size T.rules weighs least in
+    let B : ℕ → Type 0 = λ n. AreLighterBy T.problem (has_domain S) p n T.rules weighs least in
+    subst A is (subst B long (lighter_by_below T S p len gain weighs least weighed below))
+reaching_by_course T S P p len size gain weighs least (Ok (Some h)) weighed is long best =
+    let A : Instance → Type 0 = λ Q. IsHeaviestFoundBy Q (has_domain S) p size T.rules weighs (Some h) in
+    let B : ℕ → Type 0 = λ n. IsHeaviestFoundBy T.problem (has_domain S) p n T.rules weighs (Some h) in
+    (subst A is (subst B long (heaviest_by_best T S p len gain weighs h weighed best.0)), best.1)
+reaching_by_course T S P p len size gain weighs least (Err e) weighed is long h = h
 
 -- the same where the number that was asked is read back
-pub reaching_of_course : (T : Listed) (S : Store) (P : Instance) (p len size days : ℕ) (y : List Weight) (least asked : ℤ) (r : Result (Option HeavyWord) AllocError) → asked ≡ least → T.problem ≡ P → days ≡ P.days → len ≡ size →
-    IfOk r (λ found. MatchOption found (AreBelow (course T S p (gain_from y p days)) len asked) (λ h. IsBestOf (course T S p (gain_from y p days)) len h.weight h.word × (asked ≤ℤ h.weight))) →
-    IfOk r (λ found. MatchOption found (AreLighter P (has_domain S) p size T.rules y least) (λ h. IsHeaviestFound P (has_domain S) p size T.rules y (Some h) × (least ≤ℤ h.weight)))
-reaching_of_course T S P p len size days y least asked r read is week long h =
-    let A : ℤ → Type 0 = λ z. IfOk r (λ found. MatchOption found (AreBelow (course T S p (gain_from y p days)) len z) (λ h. IsBestOf (course T S p (gain_from y p days)) len h.weight h.word × (z ≤ℤ h.weight))) in
-    reaching_by_course T S P p len size days y least r is week long (subst A read h)
+pub reaching_of_course : (T : Listed) (S : Store) (P : Instance) (p len size : ℕ) (gain : ℕ → Option Symbol → Symbol → ℤ) (weighs : List Symbol → ℤ) (least asked : ℤ) (r : Result (Option HeavyWord) AllocError) → Weighs gain weighs → asked ≡ least → T.problem ≡ P → len ≡ size →
+    IfOk r (λ found. MatchOption found (AreBelow (course T S p gain) len asked) (λ h. IsBestOf (course T S p gain) len h.weight h.word × (asked ≤ℤ h.weight))) →
+    IfOk r (λ found. MatchOption found (AreLighterBy P (has_domain S) p size T.rules weighs least) (λ h. IsHeaviestFoundBy P (has_domain S) p size T.rules weighs (Some h) × (least ≤ℤ h.weight)))
+reaching_of_course T S P p len size gain weighs least asked r weighed read is long h =
+    let A : ℤ → Type 0 = λ z. IfOk r (λ found. MatchOption found (AreBelow (course T S p gain) len z) (λ h. IsBestOf (course T S p gain) len h.weight h.word × (z ≤ℤ h.weight))) in
+    reaching_by_course T S P p len size gain weighs least r weighed is long (subst A read h)

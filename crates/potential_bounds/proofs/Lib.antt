@@ -5,3 +5,4 @@ pub mod Chunks
 pub mod Stepping
 pub mod Searching
 pub mod WeightRows
+pub mod FreeWords

@@ -11,7 +11,7 @@ ghost use Rattle.potential_bounds.specs.Heaviest.{AreLighter, IsHeaviestFound, I
 use crate::total;
 use crate::weight_table::{weight_in, weight_table};
 use domain_store::Domains;
-use layered_cycle::{Gain, HeavyWord, Layers, best_word, heaviest_clean};
+use layered_cycle::{Alone, Gain, HeavyWord, Layers, best_word, heaviest_clean};
 use rwsp_model::Problem;
 use rwsp_terms::{Symbol, Weights};
 use std::alloc::{AllocError, Global};
@@ -44,7 +44,8 @@ pub fn heaviest(
         position: p,
         days: week,
     };
-    heaviest_clean(alloc, tails, doms, p, turns * problem.cells(), &gain)
+    let alone = Alone { gain: &gain };
+    heaviest_clean(alloc, tails, doms, p, turns * problem.cells(), &alone)
 }
 
 /// The heaviest clean words of so many turns over the domains from a position on, if they weigh so much at least: their
@@ -77,7 +78,16 @@ pub fn heaviest_reaching(
         position: p,
         days: week,
     };
-    layered_cycle::heaviest_reaching(alloc, tails, doms, p, turns * problem.cells(), &gain, least)
+    let alone = Alone { gain: &gain };
+    layered_cycle::heaviest_reaching(
+        alloc,
+        tails,
+        doms,
+        p,
+        turns * problem.cells(),
+        &alone,
+        least,
+    )
 }
 
 /// The weight of the heaviest words of the layers, with the least of them. None exactly where no word leads through them.
@@ -142,11 +152,11 @@ pub fn is_light(layers: &Layers, weights: &Weights, heavy: &HeavyWord) -> bool
 
 // What the symbols of a word weigh that begins at a position.
 #[derive(Clone, Copy)]
-struct WeightGain<'a> {
-    weights: &'a Weights,
-    table: &'a [i32],
-    position: u32,
-    days: u32,
+pub struct WeightGain<'a> {
+    pub weights: &'a Weights,
+    pub table: &'a [i32],
+    pub position: u32,
+    pub days: u32,
     ghost some: { 1 ≤ days },
     ghost laid: { HoldsWeights weights.now table.now (days * MOST_SYMBOLS) },
 }

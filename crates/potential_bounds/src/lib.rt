@@ -2,6 +2,7 @@
 #![tactic(auto)]
 
 mod first;
+mod free;
 mod gate;
 mod heavy;
 mod plain;
@@ -12,6 +13,7 @@ mod totals;
 mod weight_table;
 
 pub use first::first_plain;
+pub use free::{free_total, heaviest_free, heaviest_free_reaching};
 pub use gate::{Gate, NoGate};
 pub use heavy::{heaviest, heaviest_in, heaviest_reaching, holds_at_top};
 pub use layered_cycle::HeavyWord;

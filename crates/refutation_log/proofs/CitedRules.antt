@@ -18,7 +18,8 @@ use Rattle.rwsp_model.specs.RuleNumbers.{place_of}
 use Rattle.refutation_terms.specs.declared.lines.Line.{Line}
 use Rattle.refutation_terms.specs.declared.lines.Line.TheVariants.{Split, Window, Day as DayLeaf, Dead, Bound, Few, Free, Unfinished}
 use Rattle.refutation_terms.specs.declared.lines.Turn.{Turn}
-use Rattle.refutation_terms.specs.Log.{LineFits, Cites, TurnCites, HasWeight, AreRules}
+use Rattle.refutation_terms.specs.Log.{LineFits, Cites, TurnCites, HasWeight, AreRules, WeightsFit}
+use Rattle.refutation_log.specs.Printing.{FitsSomeLog}
 use Rattle.refutation_log.specs.Cited.{Adds, IsCited, IsDayRule, IsWeighedDayRule}
 
 pub rule_there : (P : Instance) (k : ℕ) → 0 < k → k ≤ length (rules P) → (r : Rule) × (rule_of P k ≡ Some r)
@@ -109,11 +110,15 @@ has_weight P y m e are is =
     let small : IsWeight e = subst IsWeight at.1 (are.small m e at.0) in
     (e.symbol.number, λ z. small.2 (sym w ∙ z))
 
-pub bound_cited : (P : Instance) (p turns : ℕ) (R : List ℕ) (y : List Weight) → LineFits P (Bound p turns R y) → TellsCited P (Bound p turns R y) (λ k. Contains R k ⊎ IsWeighedDayRule P y k)
-bound_cited P p turns R y fits k = (
+-- rules and weights make the rules of a list, and of the days of the weights
+abbrev ListsOrWeighs : Instance → List ℕ → List Weight → Rule → Type 0
+ListsOrWeighs P R y r = Names P R r ⊎ ((j : ℕ) × HasWeight y j × (r ≡ Day j))
+
+weighed_cited : (P : Instance) (R : List ℕ) (y : List Weight) → AreRules P R → AreWeights y → (k : ℕ) → (Contains R k ⊎ IsWeighedDayRule P y k) ↔ IsCited P (ListsOrWeighs P R y) k
+weighed_cited P R y are small k = (
   λ h. ⊎_elim
-      (λ (c : Contains R k). let q = named_cited P R k fits.2 c in (q.0, q.1, inl q.2))
-      (λ (q : IsWeighedDayRule P y k). (Day q.1.day, q.4, inr (q.1.day, has_weight P y q.0 q.1 fits.3.0 q.3, refl)))
+      (λ (c : Contains R k). let q = named_cited P R k are c in (q.0, q.1, inl q.2))
+      (λ (q : IsWeighedDayRule P y k). (Day q.1.day, q.4, inr (q.1.day, has_weight P y q.0 q.1 small q.3, refl)))
       h,
   λ q. ⊎_elim
       (λ (named : Names P R q.0). inl (cited_named P R k q.0 q.1 named))
@@ -122,6 +127,17 @@ bound_cited P p turns R y fits k = (
       inr (e.0, e.1, e.2, e.3, q.1 ∙ ap (λ (r : Rule). Some r) day.2 ∙ ap (λ j. Some (Day j)) (sym e.4)))
       q.2,
 )
+
+pub bound_cited : (P : Instance) (p turns : ℕ) (R : List ℕ) (y : List Weight) → LineFits P (Bound p turns R y) → TellsCited P (Bound p turns R y) (λ k. Contains R k ⊎ IsWeighedDayRule P y k)
+bound_cited P p turns R y fits k = weighed_cited P R y fits.2 fits.3.0 k
+
+pub free_cited : (P : Instance) (turns reward : ℕ) (R : List ℕ) (y : List Weight) → FitsSomeLog P (Free turns reward R y) → TellsCited P (Free turns reward R y) (λ k. Contains R k ⊎ IsWeighedDayRule P y k)
+free_cited P turns reward R y fits k = weighed_cited P R y fits.2 fits.3.0 k
+
+-- the same of a line of a log with a goal or without
+pub cited_in_some : (P : Instance) (line base : Line) (A : ℕ → Type 0) → line ≡ base → (FitsSomeLog P base → TellsCited P base A) → FitsSomeLog P line → TellsCited P line A
+cited_in_some P line base A e f fits =
+    subst (λ (l : Line). TellsCited P l A) (sym e) (f (subst (FitsSomeLog P) e fits))
 
 -- names
 
@@ -141,22 +157,31 @@ day_numbered : (P : Instance) (j : ℕ) (r : Rule) → IsDay P j → r ≡ Day j
 day_numbered P j r is e =
     (place_of P (Day j) + 1, number_at_place P (Day j) (place_of P (Day j) + 1) is refl ∙ ap (λ (z : Rule). Some z) (sym e))
 
+weighed_numbered : (P : Instance) (R : List ℕ) (y : List Weight) → WeightsFit P y → (r : Rule) → ListsOrWeighs P R y r → (k : ℕ) × (rule_of P k ≡ Some r)
+weighed_numbered P R y fit r c =
+    ⊎_elim (λ (n : Names P R r). (n.0, n.2))
+    (λ (d : (j : ℕ) × HasWeight y j × (r ≡ Day j)).
+    let e = entry_of_weight y d.0 d.1.0 d.1.1 in
+    let at = read_at y e.0 e.1 e.3 in
+    let day : IsDay P e.1.day = subst (λ (w : Weight). IsDay P w.day) at.1 (fit e.0 e.1 at.0).0 in
+    day_numbered P d.0 r (subst (IsDay P) e.4 day) d.2)
+    c
+
 pub line_numbered : (P : Instance) (line : Line) → LineFits P line → (r : Rule) → Cites P line r → (k : ℕ) × (rule_of P k ≡ Some r)
 line_numbered P (Split p x) fits r c = absurd c
 line_numbered P (Window number p len) fits r c = (c.0, c.2)
 line_numbered P (DayLeaf j x over) fits r c = day_numbered P j r fits.0 c
 line_numbered P (Dead p len R) fits r c = (c.0, c.2)
 line_numbered P (Bound p turns R y) fits r c =
-    ⊎_elim (λ (n : Names P R r). (n.0, n.2))
-    (λ (d : (j : ℕ) × HasWeight y j × (r ≡ Day j)).
-    let e = entry_of_weight y d.0 d.1.0 d.1.1 in
-    let at = read_at y e.0 e.1 e.3 in
-    let day : IsDay P e.1.day = subst (λ (w : Weight). IsDay P w.day) at.1 (fits.3.1 e.0 e.1 at.0).0 in
-    day_numbered P d.0 r (subst (IsDay P) e.4 day) d.2)
-    c
+    weighed_numbered P R y fits.3.1 r c
 line_numbered P Unfinished fits r c = absurd c
 line_numbered P Few fits r c = absurd c
 line_numbered P (Free turns reward R y) fits r c = absurd fits
+
+pub some_numbered : (P : Instance) (line : Line) → FitsSomeLog P line → (r : Rule) → Cites P line r → (k : ℕ) × (rule_of P k ≡ Some r)
+some_numbered P Few fits r c = absurd c
+some_numbered P (Free turns reward R y) fits r c = weighed_numbered P R y fits.3.1 r c
+some_numbered P line fits r c = line_numbered P line fits r c
 
 pub turn_numbered : (P : Instance) (t : Turn) → IsDay P t.day → (r : Rule) → TurnCites (Some t) r → (k : ℕ) × (rule_of P k ≡ Some r)
 turn_numbered P t is r c = day_numbered P t.day r is c

@@ -7,11 +7,11 @@ use Rattle.refutation_terms.specs.declared.lines.LogRefusal.{LogRefusal}
 use Rattle.refutation_terms.specs.declared.lines.LogRefusal.TheVariants as Refusals
 use Rattle.refutation_terms.specs.Log.{AreRules, TurnFits}
 use Rattle.refutation_terms.specs.LogText.{version_text, rules_text, turn_text}
-use Rattle.refutation_terms.specs.Verdict.{Front, Start, Versioned, BeforeTurn, front_text, HasNoCause, IsWhole, IsRefusedLine, IsNextLine, Cause, TurnsTo}
+use Rattle.refutation_terms.specs.Verdict.{RulesCause, Front, Start, Versioned, BeforeTurn, front_text, HasNoCause, IsWhole, IsRefusedLine, IsNextLine, Cause, TurnsTo}
 use Rattle.refutation_terms.proofs.Spelled.{symbol_of-name}
 use Rattle.refutation_log.specs.Refusals.{SpellsVersion, SpellsRules, IsTurnRefused}
 use Rattle.refutation_log.specs.declared.refusal.LineRefusal.TheVariants.{Form, Name}
-use Rattle.refutation_log.specs.ReadLog.{IsReadCause, IsRead, IsUnreadLine, IsHeaderRefused, BeginsWithHeader}
+use Rattle.refutation_log.specs.ReadLog.{IsReadCause, IsRead, IsUnreadLine, IsHeaderRefused, BeginsWithHeader, StopsFor}
 
 -- a text that ends in its header is refused by reading, and as the verdict is
 ends_both : (P : Instance) (text : List ℕ) (front : Front) → IsRead P front → HasNoCause P front → text ≡ front_text P front → (IsWhole front → ⊥) → IsHeaderRefused P text Refusals.Ends
@@ -40,13 +40,24 @@ ends_at_start P old e = ends_both P old Start tt tt e (λ h. h)
 pub version_unread : (P : Instance) (old line rest : List ℕ) → old ≡ line ++ rest → IsNextLine line rest → SpellsVersion line None → IsHeaderRefused P old (Refusals.Form 1)
 version_unread P old line rest e next h = line_both P old (Refusals.Form 1) Start line rest tt tt e next (refl, h) tt
 
-pub ends_versioned : (P : Instance) (has_turn : Bool) (old : List ℕ) → old ≡ [] → IsHeaderRefused P (version_text has_turn ++ old) Refusals.Ends
-ends_versioned P has_turn old e =
-    ends_both P (version_text has_turn ++ old) (Versioned has_turn) tt tt (ended (version_text has_turn) old e) (λ h. h)
+-- what is left ends, or its line has a cause
+pub rules_unread : (P : Instance) (old line rest : List ℕ) → old ≡ line ++ rest → IsNextLine line rest → SpellsRules P line None → StopsFor (RulesCause P) old (Refusals.Form 2)
+rules_unread P old line rest e next h = (line, rest, e, next, (refl, h))
 
-pub rules_unread : (P : Instance) (has_turn : Bool) (old line rest : List ℕ) → old ≡ line ++ rest → IsNextLine line rest → SpellsRules P line None → IsHeaderRefused P (version_text has_turn ++ old) (Refusals.Form 2)
-rules_unread P has_turn old line rest e next h =
-    line_both P (version_text has_turn ++ old) (Refusals.Form 2) (Versioned has_turn) line rest tt tt (goes_on (version_text has_turn) old line rest e) next (refl, h) tt
+pub rules_stop : (P : Instance) (has_turn : Bool) (old : List ℕ) (why : LogRefusal) → StopsFor (RulesCause P) old why → IsHeaderRefused P (version_text has_turn ++ old) why
+rules_stop P has_turn old Refusals.Ends e =
+    ends_both P (version_text has_turn ++ old) (Versioned has_turn) tt tt (ended (version_text has_turn) old e) (λ h. h)
+rules_stop P has_turn old (Refusals.Form i) s =
+    line_both P (version_text has_turn ++ old) (Refusals.Form i) (Versioned has_turn) s.0 s.1 tt tt (goes_on (version_text has_turn) old s.0 s.1 s.2) s.3 s.4 tt
+rules_stop P has_turn old (Refusals.Name i) s = absurd s.4
+rules_stop P has_turn old (Refusals.Unnamed i k) s = absurd s.4
+rules_stop P has_turn old (Refusals.Idle i) s = absurd s.4
+rules_stop P has_turn old (Refusals.Long i k) s = absurd s.4
+rules_stop P has_turn old (Refusals.Fails i) s = absurd s.4
+rules_stop P has_turn old (Refusals.Escape i w) s = absurd s.4
+rules_stop P has_turn old (Refusals.Unfinished i) s = absurd s.4
+rules_stop P has_turn old (Refusals.Extra i) s = absurd s.4
+rules_stop P has_turn old (Refusals.Turn i) s = absurd s.4
 
 pub ends_before_turn : (P : Instance) (R old : List ℕ) → AreRules P R → old ≡ [] → IsHeaderRefused P (version_text true ++ rules_text R ++ old) Refusals.Ends
 ends_before_turn P R old are e =

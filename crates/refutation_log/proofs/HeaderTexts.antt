@@ -1,23 +1,23 @@
 -- The lines of a header are read where they spell one, and as what they spell.
-use Rattle.std.proofs.Common.{◌≡◌, ◌≢◌, ℕ, List, [], ◌∷◌, ◌++◌, refl, ap, sym, ◌∙◌, subst, Option, Some, None}
+use Rattle.std.proofs.Common.{◌≡◌, ◌≢◌, ℕ, ◌+◌, ◌≤◌, List, [], ◌∷◌, ◌++◌, ap, sym, ◌∙◌, subst, inl, inr, Option, Some, None}
 use Rattle.std.specs.Prelude.{codes}
 use Rattle.std.specs.List.{join_with_byte}
 use Rattle.std.specs.Fmt.{decimal}
 use Rattle.rwsp_text.specs.Fields.{Words, IsName}
-use Rattle.rwsp_text.specs.Kinds.{AreBlankless, read_line}
+use Rattle.rwsp_text.specs.Kinds.{AreBlankless, IsLine, read_line}
 use Rattle.rwsp_text.specs.Lines.{words_of}
-use Rattle.rwsp_text.proofs.KindLaws.{line_found, line_only, one_kind}
+use Rattle.rwsp_text.proofs.KindLaws.{line_found, line_only, one_kind, no_words}
 use Rattle.rwsp_text.proofs.LineLaws.{text_words, words_text}
 use Rattle.rwsp_terms.specs.Instance.{Instance, IsDay}
 use Rattle.rwsp_model.specs.Validity.{KeepsLimits}
 use Rattle.refutation_terms.specs.Log.{AreRules}
-use Rattle.refutation_terms.specs.LogText.{rules_text}
-use Rattle.refutation_terms.specs.LineKinds.{rules_kind, rules_kinds, turn_kind, turn_kinds}
+use Rattle.refutation_terms.specs.LogText.{rules_text, goal_text}
+use Rattle.refutation_terms.specs.LineKinds.{rules_kind, rules_kinds, turn_kind, turn_kinds, goal_kind, goal_kinds}
 use Rattle.refutation_terms.specs.Verdict.{SpellsTurn}
 use Rattle.refutation_terms.specs.TextLaws.{IsWritable}
-use Rattle.refutation_terms.proofs.LineTables.{rules_fields, turn_fields, rules_line, turn_line, rules_found, turn_found as turn_line_found, rules_readable, turn_readable, rules_words, turn_words}
-use Rattle.refutation_log.specs.Refusals.{SpellsRules}
-use Rattle.refutation_log.specs.Reading.{named_at, turn_at}
+use Rattle.refutation_terms.proofs.LineTables.{rules_fields, turn_fields, rules_line, turn_line, rules_found, turn_found as turn_line_found, rules_readable, turn_readable, rules_words, turn_words, goal_fields, goal_line, goal_readable, goal_words}
+use Rattle.refutation_log.specs.Refusals.{SpellsRules, SpellsGoal}
+use Rattle.refutation_log.specs.Reading.{named_at, goal_at, turn_at}
 use Rattle.refutation_log.proofs.LineTexts.{is_writable}
 
 pub turn_visible : (P : Instance) (name : List ℕ) (day : ℕ) → IsWritable P → IsName name → IsDay P day → AreBlankless (turn_fields name day)
@@ -39,6 +39,33 @@ rules_answered P bytes body None k e h = λ R are f. let w = rules_spelled P byt
 rules_answered P bytes body (Some R) k e h =
     let f = rules_found P (words_of body) R (line_found (rules_kinds P) (words_of body) R (sym (named_is P (words_of body)) ∙ h)) in
     (f.1, words_text bytes body (rules_fields R) e f.0)
+
+-- goals
+
+goal_is : (P : Instance) (ws : Words) → goal_at P ws ≡ read_line (goal_kinds P) ws
+unfolding goal_at
+goal_is P ws = sym (one_kind (goal_kind P) ws)
+
+pub goal_found : (P : Instance) (ws : Words) (goal : ℕ) → IsLine (goal_kinds P) ws goal → (ws ≡ goal_fields goal) × (goal ≤ P.weeks + 1)
+goal_found P [] goal l = absurd (no_words (goal_kinds P) goal l)
+goal_found P (w ∷ ws) goal (inl l) =
+    let s = l.1 in
+    subst (λ n. (w ∷ ws ≡ goal_fields n) × (n ≤ P.weeks + 1)) s.made (ap (λ z. z ∷ ws) l.0 ∙ ap (λ us. codes "goal" ∷ us) s.spelled, s.keeps.0.1)
+goal_found P (w ∷ ws) goal (inr l) = absurd l
+
+goal_spelled : (P : Instance) (bytes body : List ℕ) (goal : ℕ) → IsWritable P → bytes ≡ body ++ 10 ∷ [] → goal ≤ P.weeks + 1 → bytes ≡ goal_text goal → goal_at P (words_of body) ≡ Some goal
+goal_spelled P bytes body goal w e le f =
+    goal_is P (words_of body) ∙ ap (read_line (goal_kinds P)) (text_words bytes body (goal_fields goal) (goal_words P goal w le) e f)
+    ∙ line_only (goal_kinds P) (goal_fields goal) goal (goal_readable P w) (goal_line P goal le)
+
+pub goal_answered : (P : Instance) (bytes body : List ℕ) (o : Option ℕ) → KeepsLimits P → bytes ≡ body ++ 10 ∷ [] → goal_at P (words_of body) ≡ o → SpellsGoal P bytes o
+goal_answered P bytes body None k e h = λ goal le f. let w = goal_spelled P bytes body goal (is_writable P k) e le f in absurd (cc)
+goal_answered P bytes body (Some goal) k e h =
+    let f = goal_found P (words_of body) goal (line_found (goal_kinds P) (words_of body) goal (sym (goal_is P (words_of body)) ∙ h)) in
+    (f.1, words_text bytes body (goal_fields goal) e f.0)
+
+pub goal_no_feed : (P : Instance) (bytes : List ℕ) → ((body : List ℕ) → bytes ≢ body ++ 10 ∷ []) → SpellsGoal P bytes None
+goal_no_feed P bytes none goal le f = none (join_with_byte 32 (goal_fields goal)) f
 
 -- turns
 

@@ -1,6 +1,6 @@
 pub mod Adding
 pub mod Behind
-pub mod BoundAnswer
+pub mod WeighedAnswer
 pub mod CitedRules
 pub mod PrintedTexts
 pub mod RulesFront
@@ -10,6 +10,7 @@ pub mod HeaderTexts
 pub mod LogLines
 pub mod Named
 pub mod HeaderLines
+pub mod FreeHeaders
 pub mod OneText
 pub mod OneCause
 pub mod NotRefused

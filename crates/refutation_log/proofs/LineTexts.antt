@@ -1,14 +1,14 @@
 -- The words of a text line, and the answer to it.
-use Rattle.std.proofs.Common.{◌≡◌, ◌≢◌, ℕ, ◌^◌, ◌<◌, ◌≤◌, List, [], ◌∷◌, ◌++◌, length, refl, ap, sym, ◌∙◌, subst, arith, Option, Some, None, Result, Ok, Err}
+use Rattle.std.proofs.Common.{◌≡◌, ◌≢◌, ℕ, ◌^◌, ◌<◌, List, [], ◌∷◌, ◌++◌, refl, ap, sym, ◌∙◌, subst, arith, Option, Some, None, Result, Ok, Err}
 use Rattle.std.specs.Prelude.{codes, cond, IfSome}
 use Rattle.std.specs.Str.{bytes_eq}
 use Rattle.std.specs.List.{join_with_byte}
-use Rattle.rwsp_text.specs.Fields.{Words, ◌>>=◌, read, number_at, place_at, word_at, done_at}
+use Rattle.rwsp_text.specs.Fields.{Words, NamedWeight, ◌>>=◌, read, number_at, place_at, word_at, done_at}
 use Rattle.rwsp_text.specs.Kinds.{read_line}
 use Rattle.rwsp_text.specs.Lines.{words_of}
 use Rattle.rwsp_text.proofs.KindLaws.{line_found, line_only}
 use Rattle.rwsp_text.proofs.LineLaws.{text_words, words_text}
-use Rattle.rwsp_terms.specs.declared.limits.TheConstants.{LONGEST_WORD}
+use Rattle.rwsp_terms.specs.declared.limits.TheConstants.{GREATEST_REWARD, LONGEST_WORD}
 use Rattle.std.proofs.Math.Nat.{div-le_self}
 use Rattle.rwsp_terms.specs.Instance.{Instance, cells}
 use Rattle.rwsp_model.specs.Validity.{KeepsLimits}
@@ -17,15 +17,15 @@ use Rattle.rwsp_model.specs.declared.fail.Fail.{Fail}
 use Rattle.rwsp_model.specs.declared.fail.Fail.TheVariants.{Refused, Memory}
 use Rattle.rwsp_model.proofs.Numbering.{rules_are_many}
 use Rattle.refutation_terms.specs.declared.lines.Line.{Line}
-use Rattle.refutation_terms.specs.LogText.{RawLine, RawDead, RawBound, RawUnfinished, IsWritten, raw_fields, line_of, Ascends}
-use Rattle.refutation_terms.specs.LineKinds.{most_turns, split_kind, window_kind, day_kind, dead_kind, bound_kind, tree_kinds}
-use Rattle.refutation_terms.specs.Verdict.{Spells}
+use Rattle.refutation_terms.specs.LogText.{RawLine, RawDead, RawBound, RawFew, RawFree, RawUnfinished, IsWrittenFor, raw_fields, line_of, Ascends}
+use Rattle.refutation_terms.specs.LineKinds.{most_turns, split_kind, window_kind, day_kind, dead_kind, bound_kind, free_kind}
+use Rattle.refutation_terms.specs.Verdict.{SpellsFor}
 use Rattle.refutation_terms.specs.TextLaws.{IsWritable}
-use Rattle.refutation_terms.proofs.LineTables.{tree_readable, tree_line, tree_found, tree_words}
-use Rattle.refutation_log.specs.Refusals.{IsLineRefused}
+use Rattle.refutation_terms.proofs.LineTables.{kinds_for, readable_for, line_for, found_for, line_words_for}
+use Rattle.refutation_log.specs.Refusals.{IsLineRefusedFor}
 use Rattle.refutation_log.specs.declared.refusal.LineRefusal.{LineRefusal}
 use Rattle.refutation_log.specs.declared.refusal.LineRefusal.TheVariants.{Form, Name}
-use Rattle.refutation_log.specs.Reading.{head_at, rules_in, all_weights_at, split_at, window_at, day_at, dead_at, bound_at, raw_at, Answers}
+use Rattle.refutation_log.specs.Reading.{head_at, free_head_at, rules_in, all_weights_at, weighed_at, split_at, window_at, day_at, dead_at, bound_at, free_at, without_goal_at, with_goal_at, raw_at, Answers}
 
 pub is_writable : (P : Instance) → KeepsLimits P → IsWritable P
 is_writable P limits =
@@ -59,62 +59,86 @@ pub dead_is : (P : Instance) (ws : Words) → dead_at P ws ≡ read (dead_kind P
 unfolding dead_at
 dead_is P ws = head_then P LONGEST_WORD ws (λ head. done_at (RawDead head.0.0 head.0.1 (rules_in P head.1).0) (rules_in P head.1).1)
 
+-- rules and weights, read at once or one by one
+weighed_then : (P : Instance) (ws : Words) (k : List ℕ → List NamedWeight → RawLine) → (weighed_at P ws >>= (λ v. Some (k v.0 v.1))) ≡ (word_at (codes "weights") (rules_in P ws).1 >>= (λ rest. all_weights_at P rest >>= (λ y. Some (k (rules_in P ws).0 y))))
+unfolding weighed_at
+weighed_then P ws k = then_two (word_at (codes "weights") (rules_in P ws).1) (λ rest. all_weights_at P rest) (λ rest y. ((rules_in P ws).0, y)) (λ v. Some (k v.0 v.1))
+
+then_same : {A X : Type 0} (o : Option A) (f g : A → Option X) → ((a : A) → f a ≡ g a) → (o >>= f) ≡ (o >>= g)
+then_same None f g h = refl
+then_same (Some a) f g h = h a
+
 pub bound_is : (P : Instance) (ws : Words) → bound_at P ws ≡ read (bound_kind P).fields (bound_kind P).make ws
 unfolding bound_at
-bound_is P ws = head_then P (most_turns P) ws (λ head. word_at (codes "weights") (rules_in P head.1).1 >>= (λ rest. all_weights_at P rest >>= (λ y. Some (RawBound head.0.0 head.0.1 (rules_in P head.1).0 y))))
+bound_is P ws =
+    then_same (head_at P (most_turns P) ws) (λ head. weighed_at P head.1 >>= (λ v. Some (RawBound head.0.0 head.0.1 v.0 v.1)))
+    (λ head. word_at (codes "weights") (rules_in P head.1).1 >>= (λ rest. all_weights_at P rest >>= (λ y. Some (RawBound head.0.0 head.0.1 (rules_in P head.1).0 y))))
+    (λ head. weighed_then P head.1 (RawBound head.0.0 head.0.1))
+    ∙ head_then P (most_turns P) ws (λ head. word_at (codes "weights") (rules_in P head.1).1 >>= (λ rest. all_weights_at P rest >>= (λ y. Some (RawBound head.0.0 head.0.1 (rules_in P head.1).0 y))))
 
-pub raw_is : (P : Instance) (ws : Words) → raw_at P ws ≡ read_line (tree_kinds P) ws
-unfolding raw_at read_line split_at window_at day_at
-raw_is P [] = refl
-raw_is P (w ∷ ws) =
-    ap (λ d. cond (bytes_eq w (codes "split")) (read (split_kind P).fields (split_kind P).make ws)
+pub free_is : (P : Instance) (ws : Words) → free_at P ws ≡ read (free_kind P).fields (free_kind P).make ws
+unfolding free_at free_head_at
+free_is P ws =
+    then_same (free_head_at P ws) (λ head. weighed_at P head.1 >>= (λ v. Some (RawFree head.0.0 head.0.1 v.0 v.1)))
+    (λ head. word_at (codes "weights") (rules_in P head.1).1 >>= (λ rest. all_weights_at P rest >>= (λ y. Some (RawFree head.0.0 head.0.1 (rules_in P head.1).0 y))))
+    (λ head. weighed_then P head.1 (RawFree head.0.0 head.0.1))
+    ∙ then_three (number_at 1 (most_turns P) ws) (λ turns. number_at 0 GREATEST_REWARD turns.1) (λ reward. word_at (codes "rules") reward.1) (λ turns reward rest. ((turns.0, reward.0), rest))
+    (λ head. word_at (codes "weights") (rules_in P head.1).1 >>= (λ rest. all_weights_at P rest >>= (λ y. Some (RawFree head.0.0 head.0.1 (rules_in P head.1).0 y))))
+
+-- the kinds that logs with a goal, or without one, have alone
+abbrev with_dead : Instance → List ℕ → Words → Option RawLine → Option RawLine → Option RawLine
+with_dead P w ws dead own =
+    cond (bytes_eq w (codes "split")) (read (split_kind P).fields (split_kind P).make ws)
     (cond (bytes_eq w (codes "window")) (read (window_kind P).fields (window_kind P).make ws)
     (cond (bytes_eq w (codes "day")) (read (day_kind P).fields (day_kind P).make ws)
-    (cond (bytes_eq w (codes "dead")) d
-    (cond (bytes_eq w (codes "bound")) (bound_at P ws)
-    (cond (bytes_eq w (codes "open")) (done_at RawUnfinished ws) None)))))) (dead_is P ws)
-    ∙ ap (λ b. cond (bytes_eq w (codes "split")) (read (split_kind P).fields (split_kind P).make ws)
-    (cond (bytes_eq w (codes "window")) (read (window_kind P).fields (window_kind P).make ws)
-    (cond (bytes_eq w (codes "day")) (read (day_kind P).fields (day_kind P).make ws)
-    (cond (bytes_eq w (codes "dead")) (read (dead_kind P).fields (dead_kind P).make ws)
-    (cond (bytes_eq w (codes "bound")) b
-    (cond (bytes_eq w (codes "open")) (done_at RawUnfinished ws) None)))))) (bound_is P ws)
+    (cond (bytes_eq w (codes "dead")) dead own)))
+
+pub raw_is : (P : Instance) (goal : Option ℕ) (ws : Words) → raw_at P goal ws ≡ read_line (kinds_for P goal) ws
+unfolding raw_at without_goal_at with_goal_at read_line split_at window_at day_at
+raw_is P None [] = refl
+raw_is P (Some goal) [] = refl
+raw_is P None (w ∷ ws) =
+    ap (λ d. with_dead P w ws d (cond (bytes_eq w (codes "bound")) (bound_at P ws) (cond (bytes_eq w (codes "open")) (done_at RawUnfinished ws) None))) (dead_is P ws)
+    ∙ ap (λ b. with_dead P w ws (read (dead_kind P).fields (dead_kind P).make ws) (cond (bytes_eq w (codes "bound")) b (cond (bytes_eq w (codes "open")) (done_at RawUnfinished ws) None))) (bound_is P ws)
+raw_is P (Some goal) (w ∷ ws) =
+    ap (λ d. with_dead P w ws d (cond (bytes_eq w (codes "few")) (done_at RawFew ws) (cond (bytes_eq w (codes "free")) (free_at P ws) (cond (bytes_eq w (codes "open")) (done_at RawUnfinished ws) None)))) (dead_is P ws)
+    ∙ ap (λ f. with_dead P w ws (read (dead_kind P).fields (dead_kind P).make ws) (cond (bytes_eq w (codes "few")) (done_at RawFew ws) (cond (bytes_eq w (codes "free")) f (cond (bytes_eq w (codes "open")) (done_at RawUnfinished ws) None)))) (free_is P ws)
 
 -- what is written is read
-pub written_read : (P : Instance) (bytes body : List ℕ) (raw : RawLine) → IsWritable P → bytes ≡ body ++ 10 ∷ [] → IsWritten P bytes raw → read_line (tree_kinds P) (words_of body) ≡ Some raw
-written_read P bytes body raw s e h =
-    ap (read_line (tree_kinds P)) (text_words bytes body (raw_fields P raw) (tree_words P raw s h.in_range) e h.spelled)
-    ∙ line_only (tree_kinds P) (raw_fields P raw) raw (tree_readable P s) (tree_line P raw h.in_range)
+pub written_read : (P : Instance) (goal : Option ℕ) (bytes body : List ℕ) (raw : RawLine) → IsWritable P → bytes ≡ body ++ 10 ∷ [] → IsWrittenFor P goal bytes raw → read_line (kinds_for P goal) (words_of body) ≡ Some raw
+written_read P goal bytes body raw s e h =
+    ap (read_line (kinds_for P goal)) (text_words bytes body (raw_fields P raw) (line_words_for P goal raw s h.in_range) e h.spelled)
+    ∙ line_only (kinds_for P goal) (raw_fields P raw) raw (readable_for P goal s) (line_for P goal raw h.in_range)
 
-pub read_written : (P : Instance) (bytes body : List ℕ) (raw : RawLine) → bytes ≡ body ++ 10 ∷ [] → read_line (tree_kinds P) (words_of body) ≡ Some raw → IfSome (line_of P raw) Ascends → IsWritten P bytes raw
-read_written P bytes body raw e h up =
-    let f = tree_found P (words_of body) raw (line_found (tree_kinds P) (words_of body) raw h) in
+pub read_written : (P : Instance) (goal : Option ℕ) (bytes body : List ℕ) (raw : RawLine) → bytes ≡ body ++ 10 ∷ [] → read_line (kinds_for P goal) (words_of body) ≡ Some raw → IfSome (line_of P raw) Ascends → IsWrittenFor P goal bytes raw
+read_written P goal bytes body raw e h up =
+    let f = found_for P goal (words_of body) raw (line_found (kinds_for P goal) (words_of body) raw h) in
     record { spelled = words_text bytes body (raw_fields P raw) e f.0; in_range = f.1; ascends = up }
 
-answer_by : (P : Instance) (bytes body : List ℕ) (o : Option RawLine) (result : Result Line (Fail LineRefusal)) → IsWritable P → bytes ≡ body ++ 10 ∷ [] → read_line (tree_kinds P) (words_of body) ≡ o → Answers P o result → MatchAnswer result (Spells P bytes) (IsLineRefused P bytes)
-answer_by P bytes body None (Ok line) s e r a = absurd a
-answer_by P bytes body (Some raw) (Ok line) s e r a =
-    (raw, read_written P bytes body raw e r (subst (λ o. IfSome o Ascends) (sym a.0) a.1), a.0)
-answer_by P bytes body o (Err Memory) s e r a = tt
-answer_by P bytes body None (Err (Refused Form)) s e r a =
-    λ raw h. let w : read_line (tree_kinds P) (words_of body) ≡ Some raw = written_read P bytes body raw s e h in absurd (cc)
-answer_by P bytes body (Some raw) (Err (Refused Form)) s e r a =
+answer_by : (P : Instance) (goal : Option ℕ) (bytes body : List ℕ) (o : Option RawLine) (result : Result Line (Fail LineRefusal)) → IsWritable P → bytes ≡ body ++ 10 ∷ [] → read_line (kinds_for P goal) (words_of body) ≡ o → Answers P o result → MatchAnswer result (SpellsFor P goal bytes) (IsLineRefusedFor P goal bytes)
+answer_by P goal bytes body None (Ok line) s e r a = absurd a
+answer_by P goal bytes body (Some raw) (Ok line) s e r a =
+    (raw, read_written P goal bytes body raw e r (subst (λ o. IfSome o Ascends) (sym a.0) a.1), a.0)
+answer_by P goal bytes body o (Err Memory) s e r a = tt
+answer_by P goal bytes body None (Err (Refused Form)) s e r a =
+    λ raw h. let w : read_line (kinds_for P goal) (words_of body) ≡ Some raw = written_read P goal bytes body raw s e h in absurd (cc)
+answer_by P goal bytes body (Some raw) (Err (Refused Form)) s e r a =
     λ other h.
-    let w : read_line (tree_kinds P) (words_of body) ≡ Some other = written_read P bytes body other s e h in
+    let w : read_line (kinds_for P goal) (words_of body) ≡ Some other = written_read P goal bytes body other s e h in
     let same : other ≡ raw = let z : Some other ≡ Some raw = sym w ∙ r in cc in
     let up : IfSome (line_of P raw) Ascends = subst (λ q. IfSome (line_of P q) Ascends) same h.ascends in
     let up' : IfSome (Some a.0) Ascends = subst (λ o. IfSome o Ascends) a.1 up in
     a.2 up'
-answer_by P bytes body None (Err (Refused Name)) s e r a = absurd a
-answer_by P bytes body (Some raw) (Err (Refused Name)) s e r a =
-    (raw, read_written P bytes body raw e r (subst (λ o. IfSome o Ascends) (sym a) tt), a)
+answer_by P goal bytes body None (Err (Refused Name)) s e r a = absurd a
+answer_by P goal bytes body (Some raw) (Err (Refused Name)) s e r a =
+    (raw, read_written P goal bytes body raw e r (subst (λ o. IfSome o Ascends) (sym a) tt), a)
 
-pub line_answered : (P : Instance) (bytes body : List ℕ) (result : Result Line (Fail LineRefusal)) → KeepsLimits P → bytes ≡ body ++ 10 ∷ [] → Answers P (raw_at P (words_of body)) result → MatchAnswer result (Spells P bytes) (IsLineRefused P bytes)
-line_answered P bytes body result k e a =
-    answer_by P bytes body (read_line (tree_kinds P) (words_of body)) result (is_writable P k) e refl (subst (λ o. Answers P o result) (raw_is P (words_of body)) a)
+pub line_answered : (P : Instance) (goal : Option ℕ) (bytes body : List ℕ) (result : Result Line (Fail LineRefusal)) → KeepsLimits P → bytes ≡ body ++ 10 ∷ [] → Answers P (raw_at P goal (words_of body)) result → MatchAnswer result (SpellsFor P goal bytes) (IsLineRefusedFor P goal bytes)
+line_answered P goal bytes body result k e a =
+    answer_by P goal bytes body (read_line (kinds_for P goal) (words_of body)) result (is_writable P k) e refl (subst (λ o. Answers P o result) (raw_is P goal (words_of body)) a)
 
-pub no_feed_no_line : (P : Instance) (bytes : List ℕ) → ((body : List ℕ) → bytes ≢ body ++ 10 ∷ []) → IsLineRefused P bytes Form
-no_feed_no_line P bytes none = λ raw h. none (join_with_byte 32 (raw_fields P raw)) h.spelled
+pub no_feed_no_line : (P : Instance) (goal : Option ℕ) (bytes : List ℕ) → ((body : List ℕ) → bytes ≢ body ++ 10 ∷ []) → IsLineRefusedFor P goal bytes Form
+no_feed_no_line P goal bytes none = λ raw h. none (join_with_byte 32 (raw_fields P raw)) h.spelled
 
 pub small_from : (P : Instance) → KeepsLimits P → IsWritable P
 small_from P limits = is_writable P limits

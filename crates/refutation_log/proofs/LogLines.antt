@@ -10,7 +10,7 @@ use Rattle.rwsp_model.specs.Refusals.{MatchAnswer}
 use Rattle.rwsp_model.specs.declared.fail.Fail.{Fail}
 use Rattle.rwsp_model.specs.declared.fail.Fail.TheVariants.{Refused, Memory}
 use Rattle.refutation_terms.specs.declared.lines.Line.{Line}
-use Rattle.refutation_terms.specs.declared.lines.Line.TheVariants.{Split, Window, Day, Dead, Bound, Unfinished}
+use Rattle.refutation_terms.specs.declared.lines.Line.TheVariants.{Split}
 use Rattle.refutation_terms.specs.declared.lines.Turn.{Turn}
 use Rattle.refutation_terms.specs.declared.lines.LogRefusal.{LogRefusal}
 use Rattle.refutation_terms.specs.declared.lines.LogRefusal.TheVariants as Refusals

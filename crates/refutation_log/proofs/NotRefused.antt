@@ -1,5 +1,4 @@
 -- The text of a log is not refused by reading.
-use Rattle.std.proofs.Common.{ℕ}
 use Rattle.refutation_log.specs.Laws.{TextsOfLogsAreRead}
 use Rattle.refutation_log.proofs.OneCause.{texts_read}
 

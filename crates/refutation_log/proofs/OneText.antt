@@ -1,22 +1,15 @@
 -- Symbols have names, and no two logs have one text.
-use Rattle.std.proofs.Common.{◌≡◌, ◌≢◌, ℕ, zero, suc, ◌+◌, ◌<◌, ◌≤◌, List, [], ◌∷◌, ◌++◌, length, get_or, refl, ap, sym, ◌∙◌, subst, arith, append-nil, Some, None, Option, Bool, true, false}
-use Rattle.std.specs.Prelude.{position, nat_lt}
-use Rattle.std.specs.Option.{option_map}
-use Rattle.std.specs.Str.{bytes_eq}
-use Rattle.std.specs.List.{position_or_len, join_with_byte}
-use Rattle.std.proofs.lemmas.Bool.{lt-ltb, false_from_ne_true}
-use Rattle.std.proofs.lemmas.List.Sums.{position_or_len_is}
+use Rattle.std.proofs.Common.{◌≡◌, ◌≢◌, ℕ, zero, suc, ◌<◌, ◌≤◌, List, [], ◌∷◌, ◌++◌, length, get_or, refl, ap, sym, ◌∙◌, subst, arith, append-nil, Some, None, false}
+use Rattle.std.specs.List.{join_with_byte}
 use Rattle.std.proofs.lemmas.List.Elements.{All-nil, All-cons, All-weaker}
 use Rattle.std.proofs.lemmas.Option.{slice_get-get_or}
 use Rattle.rwsp_text.specs.Fields.{Words, IsName}
 use Rattle.rwsp_text.specs.Kinds.{AreBlankless}
 use Rattle.rwsp_text.specs.Lines.{HasNoFeed, text_of_lines}
-use Rattle.rwsp_text.proofs.Numerals.{if_true, if_false}
-use Rattle.rwsp_text.proofs.Words.{same_bytes, bytes_same, seen_found}
+use Rattle.rwsp_text.proofs.Words.{seen_found}
 use Rattle.rwsp_text.proofs.LineLaws.{join_no_feed, same_lines}
 use Rattle.rwsp_terms.specs.declared.data.Symbol.{Symbol}
-use Rattle.rwsp_terms.specs.declared.data.ShiftRow.{ShiftRow}
-use Rattle.rwsp_terms.specs.Instance.{Instance, IsSymbol, off_name, symbol_numbered, symbol_of, name_of, name_numbered, name_in, no_bounds}
+use Rattle.rwsp_terms.specs.Instance.{Instance, IsSymbol, symbol_of, name_of, name_numbered, name_in}
 use Rattle.rwsp_terms.proofs.SymbolNames.{no_row, symbol_only}
 use Rattle.rwsp_model.specs.Validity.{KeepsLimits, IsShiftName, breaks_name}
 use Rattle.refutation_terms.specs.declared.lines.Line.{Line}

@@ -8,7 +8,7 @@ use Rattle.std.proofs.lemmas.List.Concat.{flat_map-append}
 use Rattle.rwsp_terms.specs.declared.data.Weight.{Weight}
 use Rattle.rwsp_terms.specs.Instance.{Instance}
 use Rattle.refutation_terms.specs.declared.lines.Line.{Line}
-use Rattle.refutation_terms.specs.LogText.{RawSplit, RawWindow, RawDay, RawDead, RawBound, RawFree, raw, raw_fields, line_text, place, way, named_weight, rules_text, turn_text}
+use Rattle.refutation_terms.specs.LogText.{RawSplit, RawWindow, RawDay, RawDead, RawBound, RawFree, raw, raw_fields, line_text, place, way, named_weight, rules_text, goal_text, turn_text}
 use Rattle.rwsp_text.specs.Fields.{numbers, weight_fields}
 use Rattle.refutation_log.specs.Printing.{spaced, lines_text, words_of}
 
@@ -124,6 +124,11 @@ turn_line name day a b c d e q r s t =
     let w = codes "turn" in
     close a (join_with_byte 32 (w ∷ name ∷ decimal day ∷ [])) d e
     (finish a w (name ∷ decimal day ∷ []) d (word a w (name ∷ []) (decimal day) c d (word a w [] name b c (begin a w b q) r) s)) t
+
+pub goal_line : (goal : ℕ) (a b c d : List ℕ) → b ≡ a ++ codes "goal" → c ≡ b ++ 32 ∷ decimal goal → d ≡ c ++ 10 ∷ [] → d ≡ a ++ goal_text goal
+goal_line goal a b c d q r s =
+    let w = codes "goal" in
+    close a (join_with_byte 32 (w ∷ decimal goal ∷ [])) c d (finish a w (decimal goal ∷ []) c (word a w [] (decimal goal) b c (begin a w b q) r)) s
 
 -- all pieces
 pub pieces_all : {X : Type 0} (f : X → List ℕ) (out all : List ℕ) (xs : List X) (i : ℕ) → length xs ≤ i → out ≡ all ++ flat_map f (take i xs) → out ≡ all ++ flat_map f xs

@@ -8,7 +8,7 @@ use Rattle.rwsp_terms.specs.declared.data.Weight.{Weight}
 use Rattle.rwsp_terms.specs.Instance.{Instance, symbol_of}
 use Rattle.rwsp_terms.specs.Weights.{ComesBefore}
 use Rattle.refutation_terms.specs.LogText.{with_weight, weights_of}
-use Rattle.rwsp_text.specs.Fields.{NamedWeight, ◌>>=◌, number_in, value_in, is_name, number_at, name_at, value_at, weight_in, weight_from, weight_of_words, weights_at}
+use Rattle.rwsp_text.specs.Fields.{NamedWeight, ◌>>=◌, number_in, value_in, is_name, number_at, name_at, value_at, weight_in, weight_from, weight_of_words}
 use Rattle.rwsp_terms.specs.declared.limits.TheConstants.{GREATEST_WEIGHT}
 use Rattle.refutation_log.specs.declared.gather.Gathered.{Gathered}
 use Rattle.refutation_log.specs.declared.gather.Gathered.TheVariants.{Rising, Falling, Unknown}

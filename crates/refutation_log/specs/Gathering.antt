@@ -6,8 +6,6 @@ use Rattle.rwsp_terms.specs.Instance.{Instance}
 use Rattle.rwsp_terms.specs.Weights.{ComesBefore}
 use Rattle.rwsp_model.specs.declared.fail.Fail.{Fail}
 use Rattle.rwsp_model.specs.declared.fail.Fail.TheVariants.{Refused}
-use Rattle.refutation_terms.specs.declared.lines.Line.{Line}
-use Rattle.refutation_terms.specs.declared.lines.Line.TheVariants.{Bound}
 use Rattle.refutation_terms.specs.LogText.{weights_of}
 use Rattle.rwsp_text.specs.Fields.{NamedWeight}
 use Rattle.refutation_log.specs.declared.refusal.LineRefusal.{LineRefusal}
@@ -15,11 +13,11 @@ use Rattle.refutation_log.specs.declared.refusal.LineRefusal.TheVariants.{Form, 
 use Rattle.refutation_log.specs.declared.gather.Gathered.{Gathered}
 use Rattle.refutation_log.specs.declared.gather.Gathered.TheVariants.{Rising, Falling, Unknown}
 
--- the answer to the gathered weights of a bound
-abbrev pub IsBound : ℕ → ℕ → List ℕ → Gathered → Result Line (Fail LineRefusal) → Type 0
-IsBound p turns R (Rising z) r = r ≡ Ok (Bound p turns R z)
-IsBound p turns R Falling r = r ≡ Err (Refused Form)
-IsBound p turns R Unknown r = r ≡ Err (Refused Name)
+-- the answer to rules and gathered weights
+abbrev pub IsWeighed : List ℕ → Gathered → Result (List ℕ × List Weight) (Fail LineRefusal) → Type 0
+IsWeighed R (Rising z) r = r ≡ Ok (R, z)
+IsWeighed R Falling r = r ≡ Err (Refused Form)
+IsWeighed R Unknown r = r ≡ Err (Refused Name)
 
 -- weights that were read: all names known and ascending, all known, or not all known
 abbrev pub Gives : Instance → List NamedWeight → Gathered → Type 0

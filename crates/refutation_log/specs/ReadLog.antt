@@ -1,5 +1,5 @@
 -- Why a text is refused by reading alone: its lines are spelled, its names known, and it is one whole tree. What the lines say isn't looked at.
-use Rattle.std.specs.Prelude.{◌≡◌, ℕ, ◌+◌, ◌-◌, ◌<◌, List, ◌++◌, length, take, Option, None}
+use Rattle.std.specs.Prelude.{◌≡◌, ℕ, ◌+◌, ◌-◌, ◌<◌, ◌≤◌, List, [], ◌++◌, length, take, Option, None}
 use Rattle.rwsp_terms.specs.Instance.{Instance}
 use Rattle.refutation_terms.specs.declared.lines.Line.{Line}
 use Rattle.refutation_terms.specs.declared.lines.Line.TheVariants.{Split}
@@ -8,7 +8,7 @@ use Rattle.refutation_terms.specs.declared.lines.LogRefusal.{LogRefusal}
 use Rattle.refutation_terms.specs.declared.lines.LogRefusal.TheVariants as Refusals
 use Rattle.refutation_terms.specs.Tree.{IsTree}
 use Rattle.refutation_terms.specs.Log.{Log, Fits, AreRules, TurnFits}
-use Rattle.refutation_terms.specs.LogText.{header_text}
+use Rattle.refutation_terms.specs.LogText.{header_text, free_header_text}
 use Rattle.refutation_terms.specs.Verdict.{Front, Start, Versioned, BeforeTurn, Reading, front_text, IsWhole, IsNextLine, Cause, IsRefused}
 use Rattle.refutation_log.specs.Refusals.{IsLineRefused}
 use Rattle.refutation_log.specs.declared.refusal.LineRefusal.TheVariants as Lines
@@ -58,6 +58,17 @@ IsUnread P text why = IsUnreadLine P text why
 -- the text is refused at its header, by reading and as the verdict is
 abbrev pub IsHeaderRefused : Instance → List ℕ → LogRefusal → Type 0
 IsHeaderRefused P text why = IsUnread P text why × IsRefused P text why
+
+-- what is left of a text ends, or goes on with a line that has such a cause
+abbrev pub StopsFor : (List ℕ → LogRefusal → Type 0) → List ℕ → LogRefusal → Type 0
+StopsFor HasCause left Refusals.Ends = left ≡ []
+StopsFor HasCause left why =
+    (line : List ℕ) × (rest : List ℕ) × (left ≡ line ++ rest) × IsNextLine line rest × HasCause line why
+
+-- the text begins with the header of a free log that fits the problem, and the rest is its body
+abbrev pub BeginsWithFreeHeader : Instance → List ℕ → List ℕ → ℕ → List ℕ → Type 0
+BeginsWithFreeHeader P text named goal body =
+    AreRules P named × (goal ≤ P.weeks + 1) × (text ≡ free_header_text named goal ++ body)
 
 -- the text begins with a header that fits the problem, and the rest is its body
 pub record BeginsWithHeader (P : Instance) (text : List ℕ) (named : List ℕ) (turn : Option Turn) (body : List ℕ) : Type 0 where

@@ -1,14 +1,16 @@
 -- Reading a line of a log from its words, and the answer to it.
-use Rattle.std.specs.Prelude.{◌≡◌, ℕ, List, [], ◌∷◌, length, cond, Option, Some, None, codes, Result, Ok, Err}
+use Rattle.std.specs.Prelude.{◌≡◌, ℕ, ◌+◌, List, [], ◌∷◌, length, cond, Option, Some, None, AllPairs, codes, Result, Ok, Err}
 use Rattle.std.specs.Str.{bytes_eq}
 use Rattle.rwsp_text.specs.Fields.{Words, NamedWeight, ◌>>=◌, number_at, name_at, word_at, place_at, rules_at, weight_in, weights_at, done_at, read}
-use Rattle.rwsp_terms.specs.declared.limits.TheConstants.{GREATEST_WEIGHT, LONGEST_WORD}
+use Rattle.rwsp_terms.specs.declared.limits.TheConstants.{GREATEST_WEIGHT, GREATEST_REWARD, LONGEST_WORD}
+use Rattle.rwsp_terms.specs.declared.data.Weight.{Weight}
+use Rattle.rwsp_terms.specs.Weights.{ComesBefore}
 use Rattle.rwsp_terms.specs.Instance.{Instance}
 use Rattle.rwsp_terms.specs.Rules.{rules}
 use Rattle.rwsp_model.specs.declared.fail.Fail.{Fail}
 use Rattle.rwsp_model.specs.declared.fail.Fail.TheVariants.{Refused, Memory}
 use Rattle.refutation_terms.specs.declared.lines.Line.{Line}
-use Rattle.refutation_terms.specs.LogText.{RawLine, RawDead, RawBound, RawUnfinished, line_of, Ascends}
+use Rattle.refutation_terms.specs.LogText.{RawLine, RawDead, RawBound, RawFew, RawFree, RawUnfinished, weights_of, line_of, Ascends}
 use Rattle.refutation_terms.specs.LineKinds.{most_turns, split_kind, window_kind, day_kind}
 use Rattle.refutation_log.specs.declared.refusal.LineRefusal.{LineRefusal}
 use Rattle.refutation_log.specs.declared.refusal.LineRefusal.TheVariants.{Form, Name}
@@ -41,27 +43,89 @@ weight_at P ws = weight_in P.days GREATEST_WEIGHT ws
 abbrev pub all_weights_at : Instance → Words → Option (List NamedWeight)
 all_weights_at P ws = weights_at P.days GREATEST_WEIGHT ws
 
+-- the rules and the weights with which a bound or a free leaf ends
+unfoldable pub weighed_at : Instance → Words → Option (List ℕ × List NamedWeight)
+weighed_at P ws =
+    word_at (codes "weights") (rules_in P ws).1 >>= (λ rest.
+    all_weights_at P rest >>= (λ y.
+    Some ((rules_in P ws).0, y)))
+
 unfoldable pub bound_at : Instance → Words → Option RawLine
-bound_at P ws = head_at P (most_turns P) ws >>= (λ head. word_at (codes "weights") (rules_in P head.1).1 >>= (λ rest. all_weights_at P rest >>= (λ y. Some (RawBound head.0.0 head.0.1 (rules_in P head.1).0 y))))
+bound_at P ws =
+    head_at P (most_turns P) ws >>= (λ head.
+    weighed_at P head.1 >>= (λ v.
+    Some (RawBound head.0.0 head.0.1 v.0 v.1)))
+
+-- the turns, the reward, and the word that begins a list of rules
+unfoldable pub free_head_at : Instance → Words → Option ((ℕ × ℕ) × Words)
+free_head_at P ws =
+    number_at 1 (most_turns P) ws >>= (λ turns.
+    number_at 0 GREATEST_REWARD turns.1 >>= (λ reward.
+    word_at (codes "rules") reward.1 >>= (λ rest.
+    Some ((turns.0, reward.0), rest))))
+
+unfoldable pub free_at : Instance → Words → Option RawLine
+free_at P ws =
+    free_head_at P ws >>= (λ head.
+    weighed_at P head.1 >>= (λ v.
+    Some (RawFree head.0.0 head.0.1 v.0 v.1)))
 
 -- the header's list of rules
 unfoldable pub named_at : Instance → Words → Option (List ℕ)
 named_at P ws = word_at (codes "rules") ws >>= (λ rest. done_at (rules_in P rest).0 (rules_in P rest).1)
 
+-- the goal of a free log
+unfoldable pub goal_at : Instance → Words → Option ℕ
+goal_at P ws =
+    word_at (codes "goal") ws >>= (λ rest.
+    number_at 0 (P.weeks + 1) rest >>= (λ goal.
+    done_at goal.0 goal.1))
+
 -- the name and the day of a turn
 unfoldable pub turn_at : Instance → Words → Option (List ℕ × ℕ)
 turn_at P ws = word_at (codes "turn") ws >>= (λ rest. name_at rest >>= (λ name. number_at 1 P.days name.1 >>= (λ day. done_at {X = List ℕ × ℕ} (name.0, day.0) day.1)))
 
+-- a line by its first word, of a kind that only a log without a goal has, or an unfinished one
+unfoldable pub without_goal_at : Instance → List ℕ → Words → Option RawLine
+without_goal_at P w ws =
+    cond (bytes_eq w (codes "bound")) (bound_at P ws)
+    (cond (bytes_eq w (codes "open")) (done_at RawUnfinished ws) None)
+
+-- and of a kind that only a free log has
+unfoldable pub with_goal_at : Instance → List ℕ → Words → Option RawLine
+with_goal_at P w ws =
+    cond (bytes_eq w (codes "few")) (done_at RawFew ws)
+    (cond (bytes_eq w (codes "free")) (free_at P ws)
+    (cond (bytes_eq w (codes "open")) (done_at RawUnfinished ws) None))
+
+-- by the goal of the log
+abbrev pub own_at : Instance → Option ℕ → List ℕ → Words → Option RawLine
+own_at P None w ws = without_goal_at P w ws
+own_at P (Some goal) w ws = with_goal_at P w ws
+
 -- a line by its first word
-unfoldable pub raw_at : Instance → Words → Option RawLine
-raw_at P [] = None
-raw_at P (w ∷ ws) =
+unfoldable pub raw_at : Instance → Option ℕ → Words → Option RawLine
+raw_at P goal [] = None
+raw_at P goal (w ∷ ws) =
     cond (bytes_eq w (codes "split")) (split_at P ws)
     (cond (bytes_eq w (codes "window")) (window_at P ws)
     (cond (bytes_eq w (codes "day")) (day_at P ws)
-    (cond (bytes_eq w (codes "dead")) (dead_at P ws)
-    (cond (bytes_eq w (codes "bound")) (bound_at P ws)
-    (cond (bytes_eq w (codes "open")) (done_at RawUnfinished ws) None)))))
+    (cond (bytes_eq w (codes "dead")) (dead_at P ws) (own_at P goal w ws))))
+
+-- the answer to rules and weights that were read so: they are of known symbols and ascend, or why they are refused
+abbrev pub IsWeighedAnswer : Instance → Option (List ℕ × List NamedWeight) → Result (List ℕ × List Weight) LineRefusal → Type 0
+IsWeighedAnswer P None (Ok v) = ⊥
+IsWeighedAnswer P None (Err Form) = Unit {0}
+IsWeighedAnswer P None (Err Name) = ⊥
+IsWeighedAnswer P (Some u) (Ok v) = (u.0 ≡ v.0) × (weights_of P u.1 ≡ Some v.1) × AllPairs ComesBefore v.1
+IsWeighedAnswer P (Some u) (Err Form) = (z : List Weight) × (weights_of P u.1 ≡ Some z) × (AllPairs ComesBefore z → ⊥)
+IsWeighedAnswer P (Some u) (Err Name) = weights_of P u.1 ≡ None
+
+-- the same where memory may run out
+abbrev pub AnswersWeighed : Instance → Option (List ℕ × List NamedWeight) → Result (List ℕ × List Weight) (Fail LineRefusal) → Type 0
+AnswersWeighed P read (Ok v) = IsWeighedAnswer P read (Ok v)
+AnswersWeighed P read (Err Memory) = Unit {0}
+AnswersWeighed P read (Err (Refused why)) = IsWeighedAnswer P read (Err why)
 
 -- the answer to a line that was read so: the line, or why it is refused
 abbrev pub IsLineAnswer : Instance → Option RawLine → Result Line LineRefusal → Type 0

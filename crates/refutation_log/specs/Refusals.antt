@@ -1,16 +1,20 @@
 -- Why a line of text is no line of a log.
-use Rattle.std.specs.Prelude.{◌≡◌, ◌≢◌, ℕ, List, Option, None, Some, Bool}
+use Rattle.std.specs.Prelude.{◌≡◌, ◌≢◌, ℕ, ◌+◌, ◌≤◌, List, Option, None, Some, Bool}
 use Rattle.rwsp_terms.specs.Instance.{Instance}
-use Rattle.refutation_terms.specs.LogText.{rules_text, version_text}
+use Rattle.refutation_terms.specs.LogText.{rules_text, version_text, goal_text}
 use Rattle.refutation_terms.specs.Log.{AreRules}
-use Rattle.refutation_terms.specs.Verdict.{SpellsNothing, SpellsUnknown, SpellsNoTurn, TurnsToUnknown}
+use Rattle.refutation_terms.specs.Verdict.{SpellsNothingFor, SpellsUnknownFor, SpellsNoTurn, TurnsToUnknown}
 use Rattle.refutation_log.specs.declared.refusal.LineRefusal.{LineRefusal}
 use Rattle.refutation_log.specs.declared.refusal.LineRefusal.TheVariants.{Form, Name}
 
--- no written line is spelled, or one with a name that is no symbol's
+-- no written line of a log with this goal or none is spelled, or one with a name that is no symbol's
+abbrev pub IsLineRefusedFor : Instance → Option ℕ → List ℕ → LineRefusal → Type 0
+IsLineRefusedFor P goal bytes Form = SpellsNothingFor P goal bytes
+IsLineRefusedFor P goal bytes Name = SpellsUnknownFor P goal bytes
+
+-- of a log without a goal
 abbrev pub IsLineRefused : Instance → List ℕ → LineRefusal → Type 0
-IsLineRefused P bytes Form = SpellsNothing P bytes
-IsLineRefused P bytes Name = SpellsUnknown P bytes
+IsLineRefused P bytes why = IsLineRefusedFor P None bytes why
 
 -- no turn is spelled, or one to a name that is no symbol's
 abbrev pub IsTurnRefused : Instance → List ℕ → LineRefusal → Type 0
@@ -26,3 +30,8 @@ SpellsRules P bytes (Some R) = AreRules P R × (bytes ≡ rules_text R)
 abbrev pub SpellsVersion : List ℕ → Option Bool → Type 0
 SpellsVersion bytes None = (has_turn : Bool) → bytes ≢ version_text has_turn
 SpellsVersion bytes (Some has_turn) = bytes ≡ version_text has_turn
+
+-- the bytes spell this goal, or none
+abbrev pub SpellsGoal : Instance → List ℕ → Option ℕ → Type 0
+SpellsGoal P bytes None = (goal : ℕ) → goal ≤ P.weeks + 1 → bytes ≢ goal_text goal
+SpellsGoal P bytes (Some goal) = (goal ≤ P.weeks + 1) × (bytes ≡ goal_text goal)

@@ -1,14 +1,15 @@
 // The header of a log's text: its version, the rules that it names, and its turn.
-ghost use Rattle.std.specs.Prelude.{◌≡◌, ◌≤◌, ◌++◌, Option, Some, None, IfOk, MatchOption, MatchResult, true};
+ghost use Rattle.std.specs.Prelude.{◌≡◌, ◌≤◌, ◌+◌, ◌++◌, Option, Some, None, IfOk, MatchOption, MatchResult, true};
 ghost use Rattle.rwsp_terms.specs.Instance.{Instance, name_of};
 ghost use Rattle.rwsp_model.specs.Refusals.{MatchAnswer};
 ghost use Rattle.refutation_terms.specs.Log.{AreRules, TurnFits};
-ghost use Rattle.refutation_terms.specs.LogText.{version_text, rules_text, turn_text};
-ghost use Rattle.refutation_terms.specs.Verdict.{header_lines, TurnsTo};
+ghost use Rattle.refutation_terms.specs.LogText.{version_text, free_version_text, rules_text, goal_text, turn_text};
+ghost use Rattle.refutation_terms.specs.Verdict.{header_lines, TurnsTo, RulesCause};
+ghost use Rattle.refutation_terms.specs.FreeVerdict.{IsFreeRefused, FreeVersionCause, GoalCause};
 ghost use Rattle.rwsp_text.specs.Lines.{words_of};
-ghost use Rattle.refutation_log.specs.Refusals.{SpellsVersion, SpellsRules, IsTurnRefused};
-ghost use Rattle.refutation_log.specs.Reading.{named_at, turn_at};
-ghost use Rattle.refutation_log.specs.ReadLog.{IsHeaderRefused, BeginsWithHeader};
+ghost use Rattle.refutation_log.specs.Refusals.{SpellsVersion, SpellsRules, SpellsGoal, IsTurnRefused};
+ghost use Rattle.refutation_log.specs.Reading.{named_at, goal_at, turn_at};
+ghost use Rattle.refutation_log.specs.ReadLog.{IsHeaderRefused, BeginsWithHeader, BeginsWithFreeHeader, StopsFor};
 
 use crate::LineRefusal;
 use crate::line::{body_of, rule_numbers};
@@ -53,7 +54,7 @@ pub fn read_header<'a>(
         Ok(has_turn) => has_turn,
         Err(why) => return Err(Fail::Refused(why)),
     };
-    let named = match rules_line(alloc, problem, &mut reader, has_turn) {
+    let named = match rules_line(alloc, problem, &mut reader) {
         Ok(named) => named,
         Err(fail) => return Err(fail),
     };
@@ -71,6 +72,72 @@ pub fn read_header<'a>(
             body: reader.rest(),
         }),
         Err(why) => Err(Fail::Refused(why)),
+    }
+}
+
+/// What stands in front of a free log's lines, and the bytes of these lines.
+#[derive(Debug, Drop)]
+pub struct FreeHeader<'a> {
+    pub named: RuleList,
+    pub goal: u32,
+    pub body: &'a [u8],
+}
+
+/// The header of a free log's text, which has three lines. Refused are a line that isn't spelled as it should be, and a
+/// text that ends before its header does.
+pub fn read_free_header<'a>(
+    alloc: Global,
+    problem: &Problem,
+    bytes: &'a [u8],
+) -> Result<FreeHeader<'a>, Fail<LogRefusal>>
+    ensures { MatchAnswer result
+        (λ h. BeginsWithFreeHeader problem.now bytes.now h.named h.goal h.body.now)
+        (IsFreeRefused problem.now bytes.now) }
+{
+    let mut reader = LineReader::new(bytes);
+    if let Err(why) = free_version_line(&mut reader) {
+        return Err(Fail::Refused(why));
+    }
+    let named = match rules_line(alloc, problem, &mut reader) {
+        Ok(named) => named,
+        Err(fail) => return Err(fail),
+    };
+    match goal_line(problem, &mut reader) {
+        Ok(goal) => Ok(FreeHeader {
+            named,
+            goal,
+            body: reader.rest(),
+        }),
+        Err(why) => Err(Fail::Refused(why)),
+    }
+}
+
+// The first line of a free log.
+fn free_version_line(reader: &mut LineReader) -> Result<(), LogRefusal>
+    ensures { MatchResult result (λ v. reader.old ≡ free_version_text ++ reader.new) (StopsFor FreeVersionCause reader.old) }
+{
+    let Some(bytes) = reader.next() else {
+        return Err(LogRefusal::Ends);
+    };
+    if bytes == b"rwsp-free 1\n".as_slice() {
+        Ok(())
+    } else {
+        Err(LogRefusal::Form(1))
+    }
+}
+
+// The goal of the third line of a free log.
+fn goal_line(problem: &Problem, reader: &mut LineReader) -> Result<u32, LogRefusal>
+    ensures { MatchResult result
+        (λ goal. (goal ≤ problem.now.weeks + 1) × (reader.old ≡ goal_text goal ++ reader.new))
+        (StopsFor (GoalCause problem.now) reader.old) }
+{
+    let Some(bytes) = reader.next() else {
+        return Err(LogRefusal::Ends);
+    };
+    match read_goal(problem, bytes) {
+        None => Err(LogRefusal::Form(3)),
+        Some(goal) => Ok(goal),
     }
 }
 
@@ -92,11 +159,10 @@ fn rules_line(
     alloc: Global,
     problem: &Problem,
     reader: &mut LineReader,
-    has_turn: bool,
 ) -> Result<RuleList, Fail<LogRefusal>>
     ensures { MatchAnswer result
         (λ R. AreRules problem.now R × (reader.old ≡ rules_text R ++ reader.new))
-        (IsHeaderRefused problem.now (version_text has_turn ++ reader.old)) }
+        (StopsFor (RulesCause problem.now) reader.old) }
 {
     let Some(bytes) = reader.next() else {
         return Err(Fail::Refused(LogRefusal::Ends));
@@ -172,6 +238,27 @@ fn rules_of(alloc: Global, problem: &Problem, body: &[u8]) -> Result<Option<Rule
     } else {
         Ok(None)
     }
+}
+
+// The goal that the third line spells.
+fn read_goal(problem: &Problem, bytes: &[u8]) -> Option<u32>
+    ensures { SpellsGoal problem.now bytes.now result }
+{
+    problem.prove_limits();
+    match body_of(bytes) {
+        None => None,
+        Some(body) => goal_of(problem, body),
+    }
+}
+
+#[tactic(auto, unfolding(crate::specs::Reading::goal_at))]
+fn goal_of(problem: &Problem, body: &[u8]) -> Option<u32>
+    ensures { goal_at problem.now (words_of body.now) ≡ result }
+{
+    let mut fields = Fields::of(body);
+    fields.word(b"goal")?;
+    let goal = fields.number(0, problem.weeks() + 1)?;
+    if fields.is_done() { Some(goal) } else { None }
 }
 
 // The turn that the third line spells.

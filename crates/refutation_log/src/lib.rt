@@ -14,14 +14,15 @@ mod refusal;
 mod tests;
 mod turn;
 
-pub use cited::{put_cited, put_turn_cited};
-pub use header::{Header, lines_of_header, read_header};
+pub use cited::{put_cited, put_cited_for, put_turn_cited};
+pub use header::{FreeHeader, Header, lines_of_header, read_free_header, read_header};
 pub use laws::{
-    logs_have_one_text, texts_have_one_verdict, texts_of_logs_are_read, unread_texts_have_one_cause,
+    free_logs_have_one_text, logs_have_one_text, texts_have_one_verdict, texts_of_logs_are_read,
+    unread_texts_have_one_cause,
 };
-pub use line::read_line;
+pub use line::{read_line, read_line_for};
 pub use log::{Log, copy_line};
-pub use print::print_log;
+pub use print::{print_free, print_log};
 pub use read::read_log;
 pub use refusal::LineRefusal;
 pub use refutation_terms::{Line, LogRefusal, Turn};

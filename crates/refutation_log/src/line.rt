@@ -4,21 +4,21 @@ ghost use Rattle.std.specs.List.Sorted.{IsStrictlyIncreasing};
 ghost use Rattle.rwsp_terms.specs.Rules.{rules};
 ghost use Rattle.rwsp_model.specs.Refusals.{MatchAnswer};
 ghost use Rattle.refutation_terms.specs.LogText.{RawSplit, RawWindow, RawDay};
-ghost use Rattle.refutation_terms.specs.Verdict.{Spells};
+ghost use Rattle.refutation_terms.specs.Verdict.{Spells, SpellsFor};
 ghost use Rattle.rwsp_text.specs.Lines.{words_of};
-ghost use Rattle.refutation_log.specs.Refusals.{IsLineRefused};
+ghost use Rattle.refutation_log.specs.Refusals.{IsLineRefused, IsLineRefusedFor};
 ghost use Rattle.rwsp_text.specs.Fields.{IsValue};
 ghost use Rattle.rwsp_text.specs.Reads.{Reads};
 ghost use Rattle.rwsp_terms.specs.declared.limits.TheConstants.{GREATEST_WEIGHT};
 ghost use Rattle.refutation_terms.specs.LineKinds.{most_turns};
-ghost use Rattle.refutation_log.specs.Reading.{split_at, window_at, day_at, head_at, rules_in, dead_at, weight_at, all_weights_at, bound_at, raw_at, Answers};
-ghost use Rattle.refutation_log.specs.Gathering.{GivesAll, IsBound};
+ghost use Rattle.refutation_log.specs.Reading.{split_at, window_at, day_at, head_at, rules_in, dead_at, weight_at, all_weights_at, weighed_at, bound_at, free_head_at, free_at, without_goal_at, with_goal_at, raw_at, Answers, AnswersWeighed};
+ghost use Rattle.refutation_log.specs.Gathering.{GivesAll, IsWeighed};
 
 use crate::LineRefusal;
 use crate::gather::{Gathered, add};
 use refutation_terms::Line;
 use rwsp_model::{Fail, Problem, rule_count};
-use rwsp_terms::limits::{GREATEST_WEIGHT, LONGEST_WORD};
+use rwsp_terms::limits::{GREATEST_REWARD, GREATEST_WEIGHT, LONGEST_WORD};
 use rwsp_terms::{RuleList, Weights};
 use rwsp_text::Fields;
 use std::alloc::{AllocError, Global};
@@ -27,14 +27,26 @@ const FORM: Fail<LineRefusal> = Fail::Refused(LineRefusal::Form);
 
 const NAME: Fail<LineRefusal> = Fail::Refused(LineRefusal::Name);
 
-/// The line of a log that a line of text spells. It needs its LF.
+/// The line of a log without a goal that a line of text spells. It needs its LF.
 pub fn read_line(alloc: Global, problem: &Problem, bytes: &[u8]) -> Result<Line, Fail<LineRefusal>>
     ensures { MatchAnswer result (Spells problem.now bytes.now) (IsLineRefused problem.now bytes.now) }
+{
+    read_line_for(alloc, problem, None, bytes)
+}
+
+/// The line of a log with this goal, or without one, that a line of text spells. It needs its LF.
+pub fn read_line_for(
+    alloc: Global,
+    problem: &Problem,
+    goal: Option<u32>,
+    bytes: &[u8],
+) -> Result<Line, Fail<LineRefusal>>
+    ensures { MatchAnswer result (SpellsFor problem.now goal bytes.now) (IsLineRefusedFor problem.now goal bytes.now) }
 {
     problem.prove_limits();
     match body_of(bytes) {
         None => Err(FORM),
-        Some(body) => read_body(alloc, problem, body),
+        Some(body) => read_body(alloc, problem, goal, body),
     }
 }
 
@@ -47,8 +59,13 @@ pub fn body_of(bytes: &[u8]) -> Option<&[u8]>
 }
 
 #[tactic(auto, unfolding(crate::specs::Reading::raw_at))]
-fn read_body(alloc: Global, problem: &Problem, body: &[u8]) -> Result<Line, Fail<LineRefusal>>
-    ensures { Answers problem.now (raw_at problem.now (words_of body.now)) result }
+fn read_body(
+    alloc: Global,
+    problem: &Problem,
+    goal: Option<u32>,
+    body: &[u8],
+) -> Result<Line, Fail<LineRefusal>>
+    ensures { Answers problem.now (raw_at problem.now goal (words_of body.now)) result }
 {
     let mut fields = Fields::of(body);
     let Some(word) = fields.next() else {
@@ -62,8 +79,51 @@ fn read_body(alloc: Global, problem: &Problem, body: &[u8]) -> Result<Line, Fail
         read_day(problem, &mut fields)
     } else if word == b"dead".as_slice() {
         read_dead(alloc, problem, &mut fields)
-    } else if word == b"bound".as_slice() {
-        read_bound(alloc, problem, &mut fields)
+    } else {
+        match goal {
+            None => read_without_goal(alloc, problem, word, &mut fields),
+            Some(_) => read_with_goal(alloc, problem, word, &mut fields),
+        }
+    }
+}
+
+// A line of a kind that only a log without a goal has, or an unfinished one.
+#[tactic(auto, unfolding(crate::specs::Reading::without_goal_at))]
+fn read_without_goal(
+    alloc: Global,
+    problem: &Problem,
+    word: &[u8],
+    fields: &mut Fields,
+) -> Result<Line, Fail<LineRefusal>>
+    ensures { Answers problem.now (without_goal_at problem.now word.now fields.old) result }
+{
+    if word == b"bound".as_slice() {
+        read_bound(alloc, problem, fields)
+    } else if word == b"open".as_slice() && fields.is_done() {
+        Ok(Line::Unfinished)
+    } else {
+        Err(FORM)
+    }
+}
+
+// A line of a kind that only a free log has, or an unfinished one.
+#[tactic(auto, unfolding(crate::specs::Reading::with_goal_at))]
+fn read_with_goal(
+    alloc: Global,
+    problem: &Problem,
+    word: &[u8],
+    fields: &mut Fields,
+) -> Result<Line, Fail<LineRefusal>>
+    ensures { Answers problem.now (with_goal_at problem.now word.now fields.old) result }
+{
+    if word == b"few".as_slice() {
+        if fields.is_done() {
+            Ok(Line::Few)
+        } else {
+            Err(FORM)
+        }
+    } else if word == b"free".as_slice() {
+        read_free(alloc, problem, fields)
     } else if word == b"open".as_slice() && fields.is_done() {
         Ok(Line::Unfinished)
     } else {
@@ -236,6 +296,38 @@ fn weights(
     Ok(Some(state))
 }
 
+// The rules and the weights with which a bound or a free leaf ends.
+#[tactic(auto, unfolding(crate::specs::Reading::weighed_at))]
+fn weighed(
+    alloc: Global,
+    problem: &Problem,
+    fields: &mut Fields,
+) -> Result<(RuleList, Weights), Fail<LineRefusal>>
+    ensures { AnswersWeighed problem.now (weighed_at problem.now fields.old) result }
+{
+    let Ok(rules) = rule_numbers(alloc, problem, fields) else {
+        return Err(Fail::Memory);
+    };
+    let Some(()) = fields.word(b"weights") else {
+        return Err(FORM);
+    };
+    match weights(alloc, problem, fields) {
+        Err(_) => Err(Fail::Memory),
+        Ok(None) => Err(FORM),
+        Ok(Some(state)) => with_rules(rules, state),
+    }
+}
+
+fn with_rules(rules: RuleList, state: Gathered) -> Result<(RuleList, Weights), Fail<LineRefusal>>
+    ensures { IsWeighed rules state result }
+{
+    match state {
+        Gathered::Rising(weights) => Ok((rules, weights)),
+        Gathered::Falling => Err(FORM),
+        Gathered::Unknown => Err(NAME),
+    }
+}
+
 #[tactic(auto, unfolding(crate::specs::Reading::bound_at), using(crate::proofs::LineTexts::few_turns))]
 fn read_bound(
     alloc: Global,
@@ -247,16 +339,47 @@ fn read_bound(
     let Some((p, turns)) = head(problem, fields, most_turns(problem)) else {
         return Err(FORM);
     };
-    let Ok(rules) = rule_numbers(alloc, problem, fields) else {
-        return Err(Fail::Memory);
-    };
-    let Some(()) = fields.word(b"weights") else {
+    match weighed(alloc, problem, fields) {
+        Err(fail) => Err(fail),
+        Ok((rules, weights)) => Ok(Line::Bound {
+            p,
+            turns,
+            rules,
+            weights,
+        }),
+    }
+}
+
+// The turns, the reward, and the word that begins a list of rules.
+#[tactic(auto, unfolding(crate::specs::Reading::free_head_at), using(crate::proofs::LineTexts::few_turns))]
+fn free_head(problem: &Problem, fields: &mut Fields) -> Option<(u32, u32)>
+    ensures { Reads (free_head_at problem.now fields.old) result fields.new }
+{
+    let turns = fields.number(1, most_turns(problem))?;
+    let reward = fields.number(0, GREATEST_REWARD)?;
+    fields.word(b"rules")?;
+    Some((turns, reward))
+}
+
+#[tactic(auto, unfolding(crate::specs::Reading::free_at))]
+fn read_free(
+    alloc: Global,
+    problem: &Problem,
+    fields: &mut Fields,
+) -> Result<Line, Fail<LineRefusal>>
+    ensures { Answers problem.now (free_at problem.now fields.old) result }
+{
+    let Some((turns, reward)) = free_head(problem, fields) else {
         return Err(FORM);
     };
-    match weights(alloc, problem, fields) {
-        Err(_) => Err(Fail::Memory),
-        Ok(None) => Err(FORM),
-        Ok(Some(state)) => bound_of(p, turns, rules, state),
+    match weighed(alloc, problem, fields) {
+        Err(fail) => Err(fail),
+        Ok((rules, weights)) => Ok(Line::Free {
+            turns,
+            reward,
+            rules,
+            weights,
+        }),
     }
 }
 
@@ -266,19 +389,4 @@ fn most_turns(problem: &Problem) -> u32
 {
     problem.prove_limits();
     LONGEST_WORD / problem.cells()
-}
-
-fn bound_of(p: u32, turns: u32, rules: RuleList, state: Gathered) -> Result<Line, Fail<LineRefusal>>
-    ensures { IsBound p turns rules state result }
-{
-    match state {
-        Gathered::Rising(weights) => Ok(Line::Bound {
-            p,
-            turns,
-            rules,
-            weights,
-        }),
-        Gathered::Falling => Err(FORM),
-        Gathered::Unknown => Err(NAME),
-    }
 }

@@ -96,14 +96,15 @@ impl Log {
         &self.lines
     }
 
-    /// Its rules, its turn and its lines, by themselves.
-    pub fn into_parts(self) -> (RuleList, Option<Turn>, Vec<Line>)
+    /// Its rules, its turn, its goal and its lines, by themselves.
+    pub fn into_parts(self) -> (RuleList, Option<Turn>, Option<u32>, Vec<Line>)
         ensures named { result.0 ≡ self.named }
         ensures turn { result.1 ≡ self.turn }
-        ensures lines { result.2.items ≡ self.lines }
-        ensures few { length result.2.items ≤ 4000000000 }
+        ensures goal { result.2 ≡ self.goal }
+        ensures lines { result.3.items ≡ self.lines }
+        ensures few { length result.3.items ≤ 4000000000 }
     {
-        (self.named, self.turn, self.lines)
+        (self.named, self.turn, self.goal, self.lines)
     }
 
     /// The same log once more.

@@ -6,10 +6,10 @@ ghost use Rattle.rwsp_terms.specs.Instance.{cells, IsSymbol, name_of};
 ghost use Rattle.rwsp_terms.specs.declared.data.Symbol.{Symbol};
 ghost use Rattle.rwsp_terms.specs.declared.data.Weight.{Weight};
 ghost use Rattle.refutation_terms.specs.declared.lines.Line.{Line};
-ghost use Rattle.refutation_terms.specs.Log.{Fits, LineFits, TurnFits, WeightsFit};
-ghost use Rattle.refutation_terms.specs.LogText.{RawSplit, RawWindow, RawDay, RawDead, RawBound, RawFree, raw, raw_fields, line_text, log_text, header_text, rules_text, turn_text, place, named_weight, way};
+ghost use Rattle.refutation_terms.specs.Log.{Fits, FitsFor, TurnFits, WeightsFit};
+ghost use Rattle.refutation_terms.specs.LogText.{RawSplit, RawWindow, RawDay, RawDead, RawBound, RawFree, raw, raw_fields, line_text, log_text, log_text_for, header_text, free_header_text, rules_text, goal_text, turn_text, place, named_weight, way};
 ghost use Rattle.rwsp_text.specs.Fields.{numbers, weight_fields};
-ghost use Rattle.refutation_log.specs.Printing.{spaced, lines_text, words_of};
+ghost use Rattle.refutation_log.specs.Printing.{spaced, lines_text, words_of, header_text_for, FitsSomeLog};
 
 use crate::Log;
 use refutation_terms::{Line, Turn};
@@ -18,7 +18,7 @@ use rwsp_terms::{Symbol, Weight};
 use rwsp_text::{put_number, put_signed};
 use std::alloc::{AllocError, Global};
 
-/// The text of the log.
+/// The text of the log, which has no goal.
 pub fn print_log(alloc: Global, problem: &Problem, log: &Log) -> Result<Vec<u8>, AllocError>
     requires { Fits problem.now log.now }
     ensures { IfOk result (λ v. v.items ≡ log_text problem.now log.now) }
@@ -29,9 +29,26 @@ pub fn print_log(alloc: Global, problem: &Problem, log: &Log) -> Result<Vec<u8>,
     Ok(out)
 }
 
-// Appends the text of the line, with its LF.
-fn put_line(out: &mut Vec<u8>, problem: &Problem, line: &Line) -> Result<(), AllocError>
-    requires { LineFits problem.now line.now }
+/// The text of the free log.
+pub fn print_free(alloc: Global, problem: &Problem, log: &Log) -> Result<Vec<u8>, AllocError>
+    requires { (goal : ℕ) × FitsFor problem.now (Some goal) log.now }
+    ensures { IfOk result (λ v. v.items ≡ log_text_for problem.now log.now.goal log.now) }
+{
+    let mut out = Vec::new(alloc);
+    put_header_for(
+        &mut out,
+        problem,
+        log.named().numbers(),
+        log.turn(),
+        log.goal(),
+    )?;
+    put_lines(&mut out, problem, log.lines())?;
+    Ok(out)
+}
+
+/// Appends the text of the line, with its LF.
+pub fn put_line(out: &mut Vec<u8>, problem: &Problem, line: &Line) -> Result<(), AllocError>
+    requires { FitsSomeLog problem.now line.now }
     ensures { OnOk result (out.new.items ≡ out.old.items ++ line_text problem.now (raw problem.now line.now)) }
 {
     put_fields(out, problem, line)?;
@@ -41,12 +58,48 @@ fn put_line(out: &mut Vec<u8>, problem: &Problem, line: &Line) -> Result<(), All
 
 #[tactic(auto, using(crate::proofs::PrintedTexts::pieces_more, crate::proofs::PrintedTexts::joined_lines))]
 fn put_lines(out: &mut Vec<u8>, problem: &Problem, lines: &[Line]) -> Result<(), AllocError>
-    requires { (k : ℕ) (line : Line) → slice_get lines.now k ≡ Some line → LineFits problem.now line }
+    requires { (k : ℕ) (line : Line) → slice_get lines.now k ≡ Some line → FitsSomeLog problem.now line }
     ensures { OnOk result (out.new.items ≡ out.old.items ++ lines_text problem.now lines.now) }
 {
     for line in lines {
         put_line(out, problem, line)?;
     }
+    Ok(())
+}
+
+// The header of a log, by its goal.
+fn put_header_for(
+    out: &mut Vec<u8>,
+    problem: &Problem,
+    named: &[u32],
+    turn: Option<Turn>,
+    goal: Option<u32>,
+) -> Result<(), AllocError>
+    requires { TurnFits problem.now turn }
+    ensures { OnOk result (out.new.items ≡ out.old.items ++ header_text_for problem.now named.now turn goal) }
+{
+    match goal {
+        None => put_header(out, problem, named, turn),
+        Some(goal) => put_free_header(out, named, goal),
+    }
+}
+
+/// Appends the header of a free log.
+pub fn put_free_header(out: &mut Vec<u8>, named: &[u32], goal: u32) -> Result<(), AllocError>
+    ensures { OnOk result (out.new.items ≡ out.old.items ++ free_header_text named.now goal) }
+{
+    out.extend_from_slice(b"rwsp-free 1\n")?;
+    put_named(out, named)?;
+    put_goal(out, goal)
+}
+
+#[tactic(auto, using(crate::proofs::PrintedTexts::goal_line))]
+fn put_goal(out: &mut Vec<u8>, goal: u32) -> Result<(), AllocError>
+    ensures { OnOk result (out.new.items ≡ out.old.items ++ goal_text goal) }
+{
+    out.extend_from_slice(b"goal")?;
+    put_count(out, goal)?;
+    out.push(b'\n')?;
     Ok(())
 }
 
@@ -96,7 +149,7 @@ fn put_turn(out: &mut Vec<u8>, problem: &Problem, turn: Turn) -> Result<(), Allo
 
 // The fields of a line, with a blank between each two.
 fn put_fields(out: &mut Vec<u8>, problem: &Problem, line: &Line) -> Result<(), AllocError>
-    requires { LineFits problem.now line.now }
+    requires { FitsSomeLog problem.now line.now }
     ensures { OnOk result (out.new.items ≡ out.old.items ++ join_with_byte 32 (raw_fields problem.now (raw problem.now line.now))) }
 {
     match line {

@@ -1,6 +1,7 @@
 ghost use Rattle.refutation_terms.specs.Log.{Fits};
 
 use super::*;
+use crate::print::{put_free_header, put_line};
 use rwsp_model::{Fail as Failure, Parts, Problem};
 use rwsp_terms::{Bounds, DemandRow, Name, RuleList, ShiftRow, Symbol};
 use std::alloc::{AllocError, Global};
@@ -280,11 +281,89 @@ fn other_texts_are_refused(rt: HostRuntime) -> Result<(), Fail> {
             b"rwsp-log 1\nrules\nopened\n".as_slice(),
             LogRefusal::Form(3),
         ),
+        (b"rwsp-log 1\nrules\nfew\n".as_slice(), LogRefusal::Form(3)),
+        (
+            b"rwsp-log 1\nrules\nfree 1 1 rules weights\n".as_slice(),
+            LogRefusal::Form(3),
+        ),
     ] {
         let Some(why) = refusal(alloc, &six, text) else {
             return Err(Fail::from(AllocError));
         };
         assert!(rt; is_cause(&why, &wanted));
+    }
+    Ok(())
+}
+
+// Whether the text is read as that of a free log of one line, and header and line are printed back to the byte.
+fn free_comes_back(alloc: Global, problem: &Problem, text: &[u8]) -> Result<bool, AllocError> {
+    let Ok(header) = read_free_header(alloc, problem, text) else {
+        return Ok(false);
+    };
+    let Ok(line) = read_line_for(alloc, problem, Some(header.goal), header.body) else {
+        return Ok(false);
+    };
+    let mut out = Vec::new(alloc);
+    put_free_header(&mut out, header.named.numbers(), header.goal)?;
+    put_line(&mut out, problem, &line)?;
+    Ok(out.as_slice() == text)
+}
+
+#[test]
+fn free_logs_of_one_line(rt: HostRuntime) -> Result<(), Fail> {
+    let alloc = rt.alloc();
+    // Two D on each day of three weeks.
+    let problem = Problem::of(one_shift(
+        alloc,
+        7,
+        3,
+        2,
+        from_to(6, 7),
+        from_to(2, 4),
+        from_to(6, 7),
+    )?)?;
+    for (text, comes_back) in [
+        (
+            b"rwsp-free 1\nrules 3 5 6\ngoal 2\nfree 1 1 rules 3 5 6 weights\n".as_slice(),
+            true,
+        ),
+        (
+            b"rwsp-free 1\nrules 7\ngoal 0\nfree 800 1000 rules weights 1 - -1000 1 D 1000\n".as_slice(),
+            true,
+        ),
+        (b"rwsp-free 1\nrules\ngoal 4\nfew\n".as_slice(), true),
+        (
+            b"rwsp-free 1\nrules\ngoal 1\nwindow 1 3 7 2\n".as_slice(),
+            true,
+        ),
+        (
+            b"rwsp-free 1\nrules\ngoal 1\nday 7 D short\n".as_slice(),
+            true,
+        ),
+        (
+            b"rwsp-free 1\nrules 1 2\ngoal 1\ndead 1 1 7 rules 1 2\n".as_slice(),
+            true,
+        ),
+        (b"rwsp-free 1\nrules\ngoal 1\nopen\n".as_slice(), true),
+        (b"rwsp-free 1\nrules\ngoal 5\nfew\n".as_slice(), false),
+        (b"rwsp-free 1\nrules\ngoal 01\nfew\n".as_slice(), false),
+        (b"rwsp-free 2\nrules\ngoal 1\nfew\n".as_slice(), false),
+        (b"rwsp-free 1\nrules\nfew\n".as_slice(), false),
+        (b"rwsp-free 1\nrules\ngoal 1\nfew 1\n".as_slice(), false),
+        (
+            b"rwsp-free 1\nrules\ngoal 1\nfree 801 1 rules weights\n".as_slice(),
+            false,
+        ),
+        (
+            b"rwsp-free 1\nrules\ngoal 1\nfree 1 1001 rules weights\n".as_slice(),
+            false,
+        ),
+        (
+            b"rwsp-free 1\nrules\ngoal 1\nbound 1 1 1 rules weights\n".as_slice(),
+            false,
+        ),
+    ] {
+        assert_eq!(rt; free_comes_back(alloc, &problem, text)?, comes_back);
     }
     Ok(())
 }

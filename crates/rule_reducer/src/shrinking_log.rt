@@ -39,7 +39,7 @@ impl ShrinkingLog {
         requires { log.goal ≡ None }
         ensures { result ≡ log }
     {
-        let (named, turn, lines) = log.into_parts();
+        let (named, turn, _, lines) = log.into_parts();
         ShrinkingLog { named, turn, lines }
     }
 

@@ -7,14 +7,14 @@ use Rattle.layered_cycle.proofs.going_back.best_word_to.Goals as goal
 
 pub back_to-requires-clause-front : goal.back_to-requires-clause-front
 back_to-requires-clause-front g c =
-    let C : Course = course c.args.rules.now c.args.doms.now c.args.p (g.G.Gain.gain_of c.args.gain.now) in
+    let C : Course = course c.args.rules.now c.args.doms.now c.args.p (g.G.GainAfter.gain_after_of c.args.gain.now) in
     let n : c.len.result ≡ length c.pop.new.self.items = search rules in
     let P : List Front → Type 0 = λ xs. AreKept C c.loop-front.end xs in
     (taken_off C c.loop-front.end (c.len.result * 128) c.pop.new.self.items c.in-Some.front (subst P c.in-Some.ensures.items c.loop-front.invariant.kept) (ap (λ (k : ℕ). k * 128) n)).is_front
 
 pub back_to-requires-clause-some : goal.back_to-requires-clause-some
 back_to-requires-clause-some g c =
-    let C : Course = course c.args.rules.now c.args.doms.now c.args.p (g.G.Gain.gain_of c.args.gain.now) in
+    let C : Course = course c.args.rules.now c.args.doms.now c.args.p (g.G.GainAfter.gain_after_of c.args.gain.now) in
     let n : c.len.result ≡ length c.pop.new.self.items = search rules in
     let P : List Front → Type 0 = λ xs. AreKept C c.loop-front.end xs in
     let taken : IsTaken C c.loop-front.end (c.len.result * 128) c.pop.new.self.items c.in-Some.front = taken_off C c.loop-front.end (c.len.result * 128) c.pop.new.self.items c.in-Some.front (subst P c.in-Some.ensures.items c.loop-front.invariant.kept) (ap (λ (k : ℕ). k * 128) n) in
@@ -23,7 +23,7 @@ back_to-requires-clause-some g c =
 
 pub loop-front-preserved : goal.loop-front-preserved
 loop-front-preserved g c =
-    let C : Course = course c.args.rules.now c.args.doms.now c.args.p (g.G.Gain.gain_of c.args.gain.now) in
+    let C : Course = course c.args.rules.now c.args.doms.now c.args.p (g.G.GainAfter.gain_after_of c.args.gain.now) in
     let n : c.len.result ≡ length c.pop.new.self.items = search rules in
     let P : List Front → Type 0 = λ xs. AreKept C c.loop-front.end xs in
     let taken : IsTaken C c.loop-front.end (c.len.result * 128) c.pop.new.self.items c.in-Some.front = taken_off C c.loop-front.end (c.len.result * 128) c.pop.new.self.items c.in-Some.front (subst P c.in-Some.ensures.items c.loop-front.invariant.kept) (ap (λ (k : ℕ). k * 128) n) in

@@ -8,9 +8,9 @@ abbrev pub invariant-loop-front : goal.invariant-loop-front
 invariant-loop-front g l = record {
   automaton : IsAutomaton l.rules l.automaton;
   before : l.end ≤ l.len;
-  kept : AreKept (course l.rules l.doms l.p (g.G.Gain.gain_of l.gain)) l.end l.kept.items;
-  some : (u : List Symbol) × IsBestTo (course l.rules l.doms l.p (g.G.Gain.gain_of l.gain)) l.end l.tail u;
-  back : Completes (course l.rules l.doms l.p (g.G.Gain.gain_of l.gain)) l.len l.fn.last l.end l.tail l.symbols.items;
+  kept : AreKept (course l.rules l.doms l.p (g.G.GainAfter.gain_after_of l.gain)) l.end l.kept.items;
+  some : (u : List Symbol) × IsBestTo (course l.rules l.doms l.p (g.G.GainAfter.gain_after_of l.gain)) l.end l.tail u;
+  back : Completes (course l.rules l.doms l.p (g.G.GainAfter.gain_after_of l.gain)) l.len l.fn.last l.end l.tail l.symbols.items;
 }
 
 abbrev pub decreases-loop-front : goal.decreases-loop-front

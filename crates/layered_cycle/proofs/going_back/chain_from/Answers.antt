@@ -6,7 +6,7 @@ use Rattle.layered_cycle.proofs.going_back.chain_from.Goals as goal
 
 pub loop-i-preserved : goal.loop-i-preserved
 loop-i-preserved g c =
-    let C : Course = course c.args.rules.now c.args.doms.now c.args.p (g.G.Gain.gain_of c.args.gain.now) in
+    let C : Course = course c.args.rules.now c.args.doms.now c.args.p (g.G.GainAfter.gain_after_of c.args.gain.now) in
     let P : List Front → Type 0 = λ xs. IsChain C c.args.day xs in
     record {
       automaton = c.in_ok-next.ensures.automaton;

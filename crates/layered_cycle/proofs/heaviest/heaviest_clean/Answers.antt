@@ -7,5 +7,5 @@ use Rattle.layered_cycle.proofs.heaviest.heaviest_clean.Goals as goal
 
 pub returns : goal.returns
 returns g c = λ u long over clean.
-    let C : Course = course c.args.rules.now c.args.doms.now c.args.p (g.G.Gain.gain_of c.args.gain.now) in
+    let C : Course = course c.args.rules.now c.args.doms.now c.args.p (g.G.GainAfter.gain_after_of c.args.gain.now) in
     none_of_all C c.args.len c.in_ok-fronts.fronts.last.tails.items c.in_ok-fronts.fronts.last.row c.in_ok-fronts.ensures.last c.in-None.ensures u (record { long = long; over = over; clean = clean })

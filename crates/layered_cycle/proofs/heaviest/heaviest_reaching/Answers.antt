@@ -7,12 +7,12 @@ use Rattle.layered_cycle.proofs.heaviest.heaviest_reaching.Goals as goal
 
 pub returns-in_default : goal.returns-in_default
 returns-in_default g c = λ u of.
-    let C : Course = course c.args.rules.now c.args.doms.now c.args.p (g.G.Gain.gain_of c.args.gain.now) in
+    let C : Course = course c.args.rules.now c.args.doms.now c.args.p (g.G.GainAfter.gain_after_of c.args.gain.now) in
     absurd (none_of_all C c.args.len c.in_ok-fronts.fronts.last.tails.items c.in_ok-fronts.fronts.last.row c.in_ok-fronts.ensures.last c.in_default.ensures u of)
 
 pub returns-then-is_below : goal.returns-then-is_below
 returns-then-is_below g c =
-    let C : Course = course c.args.rules.now c.args.doms.now c.args.p (g.G.Gain.gain_of c.args.gain.now) in
+    let C : Course = course c.args.rules.now c.args.doms.now c.args.p (g.G.GainAfter.gain_after_of c.args.gain.now) in
     let narrow : SFits w64 c.args.least = search rules in
     let same : to_z w64 (of_z w64 c.args.least) ≡ c.args.least = omega (arith, ints, narrow) in
     let less : c.in-Some.end.weight <ℤ c.args.least = omega (arith, ints, same, c.is_below.ensures.yes (subst (λ b. IsTrue b) (sym c.if-is_below.true) refl)) in

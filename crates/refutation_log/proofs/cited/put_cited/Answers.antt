@@ -1,7 +1,12 @@
+use Rattle.std.proofs.Common.{None}
 use Rattle.refutation_terms.specs.Log.{Cites}
 use Rattle.refutation_log.proofs.Adding.{on_ok}
 use Rattle.refutation_log.proofs.CitedRules.{names_added, line_numbered}
+use Rattle.refutation_log.proofs.Named.{fits_some}
 use Rattle.refutation_log.proofs.cited.put_cited.Goals as goal
+
+pub put_line_cited-requires : goal.put_line_cited-requires
+put_line_cited-requires c = fits_some c.args.problem.now None c.args.line.now c.requires
 
 pub returns-clause-names : goal.returns-clause-names
 returns-clause-names c =

@@ -1,8 +1,8 @@
-use Rattle.std.proofs.Common.{sym, ◌∙◌, ◌++◌, subst}
-use Rattle.refutation_terms.specs.LogText.{version_text}
-use Rattle.refutation_log.specs.ReadLog.{IsHeaderRefused}
+use Rattle.std.proofs.Common.{sym, ◌∙◌, subst}
+use Rattle.refutation_terms.specs.Verdict.{RulesCause}
+use Rattle.refutation_log.specs.ReadLog.{IsHeaderRefused, StopsFor}
 use Rattle.refutation_log.proofs.LogLines.{fail_along}
-use Rattle.refutation_log.proofs.HeaderLines.{header_without_turn, header_with_turn, refused_before_turn}
+use Rattle.refutation_log.proofs.HeaderLines.{header_without_turn, header_with_turn, refused_before_turn, rules_stop}
 use Rattle.refutation_log.proofs.header.read_header.Goals as goal
 
 pub returns-in-Err : goal.returns-in-Err
@@ -11,8 +11,8 @@ returns-in-Err c = subst (λ text. IsHeaderRefused c.args.problem.now text c.in-
 pub returns-in-Err-rules_line : goal.returns-in-Err-rules_line
 returns-in-Err-rules_line c =
     let P = c.args.problem.now in
-    fail_along c.in-Err-rules_line.fail _ _ (IsHeaderRefused P (version_text c.in-Ok.has_turn ++ c.version_line.new.reader)) (IsHeaderRefused P c.args.bytes.now)
-    (λ why. subst (λ text. IsHeaderRefused P text why) (sym (c.in-Ok.ensures P) ∙ c.new-reader.ensures))
+    fail_along c.in-Err-rules_line.fail _ _ (StopsFor (RulesCause P) c.version_line.new.reader) (IsHeaderRefused P c.args.bytes.now)
+    (λ why h. subst (λ text. IsHeaderRefused P text why) (sym (c.in-Ok.ensures P) ∙ c.new-reader.ensures) (rules_stop P c.in-Ok.has_turn c.version_line.new.reader why h))
     c.in-Err-rules_line.ensures
 
 pub returns-then-not-has_turn : goal.returns-then-not-has_turn

@@ -7,7 +7,7 @@ use Rattle.word_tail.specs.declared.tail.Tail.{Tail}
 use Rattle.layered_cycle.specs.declared.step.Step.{Step}
 use Rattle.layered_cycle.specs.Choices.{choice_at, chosen}
 use Rattle.layered_cycle.specs.Grown.{Grown}
-use Rattle.layered_cycle.specs.Front.{Course, course, turned, IsFront, AreLinked}
+use Rattle.layered_cycle.specs.Front.{Course, course, gain_behind, turned, IsFront, AreLinked}
 use Rattle.layered_cycle.proofs.Fronts.{Moves, front_made}
 use Rattle.layered_cycle.proofs.front.Front.next.Goals as goal
 
@@ -22,7 +22,7 @@ row_behind-requires-clause-to g c =
 
 pub returns-clause-front : goal.returns-clause-front
 returns-clause-front g c =
-    let C : Course = course c.args.rules.now c.args.doms.now c.args.p (g.G.Gain.gain_of c.args.gain.now) in
+    let C : Course = course c.args.rules.now c.args.doms.now c.args.p (g.G.GainAfter.gain_after_of c.args.gain.now) in
     let grown : Grown c.args.rules.now (has_domain c.args.doms.now) ((c.args.p + c.args.day) % cells c.args.rules.now.problem) c.args.self.now.tails.items c.in_ok-growth.growth.steps.items c.in_ok-growth.growth.nodes.items (length c.args.self.now.tails.items) 0 =
     subst (λ (xs : List Tail). Grown c.args.rules.now (has_domain c.args.doms.now) ((c.args.p + c.args.day) % cells c.args.rules.now.problem) xs c.in_ok-growth.growth.steps.items c.in_ok-growth.growth.nodes.items (length xs) 0) c.deref.ensures.value c.in_ok-growth.ensures.grown in
     let len : c.len-count.result ≡ length c.in_ok-growth.growth.nodes.items = search rules in
@@ -30,13 +30,15 @@ returns-clause-front g c =
       front = c.requires.front;
       grown = grown;
       long = c.in_ok-row.ensures.long ∙ len;
-      each = λ n lt. subst (λ (xs : List Step). choice_at c.in_ok-row.row n ≡ chosen C.gain c.args.day c.args.self.now.row n (map turned xs)) c.deref-2.ensures.value (c.in_ok-row.ensures.each n (omega (arith, lt, len)));
+      each = λ n lt.
+          subst (λ (ts : List Tail). choice_at c.in_ok-row.row n ≡ chosen (gain_behind C.gain c.args.day ts) c.args.self.now.row n (map turned c.in_ok-growth.growth.steps.items)) c.deref-3.ensures.value
+          (subst (λ (xs : List Step). choice_at c.in_ok-row.row n ≡ chosen (gain_behind C.gain c.args.day c.deref-3.result.now) c.args.self.now.row n (map turned xs)) c.deref-2.ensures.value (c.in_ok-row.ensures.each n (omega (arith, lt, len))));
     } in
-    (front_made C c.args.day _ _ _ _ _ m (c.in_ok-row.ensures.light _ c.requires.front.light) _ (rw (← c.deref-3.ensures.value) c.in_ok-picks.ensures.picks) c.in_ok-picks.ensures.few _ _ (rw (← c.deref-4.ensures.value, ← c.deref-5.ensures.value) c.in_ok-tails_behind.ensures) (rw (← c.deref-6.ensures.value) c.in_ok-behind.ensures)).0
+    (front_made C c.args.day _ _ _ _ _ m (c.in_ok-row.ensures.light _ c.requires.front.light) _ (rw (← c.deref-4.ensures.value) c.in_ok-picks.ensures.picks) c.in_ok-picks.ensures.few _ _ (rw (← c.deref-5.ensures.value, ← c.deref-6.ensures.value) c.in_ok-tails_behind.ensures) (rw (← c.deref-7.ensures.value) c.in_ok-behind.ensures)).0
 
 pub returns-clause-linked : goal.returns-clause-linked
 returns-clause-linked g c =
-    let C : Course = course c.args.rules.now c.args.doms.now c.args.p (g.G.Gain.gain_of c.args.gain.now) in
+    let C : Course = course c.args.rules.now c.args.doms.now c.args.p (g.G.GainAfter.gain_after_of c.args.gain.now) in
     let grown : Grown c.args.rules.now (has_domain c.args.doms.now) ((c.args.p + c.args.day) % cells c.args.rules.now.problem) c.args.self.now.tails.items c.in_ok-growth.growth.steps.items c.in_ok-growth.growth.nodes.items (length c.args.self.now.tails.items) 0 =
     subst (λ (xs : List Tail). Grown c.args.rules.now (has_domain c.args.doms.now) ((c.args.p + c.args.day) % cells c.args.rules.now.problem) xs c.in_ok-growth.growth.steps.items c.in_ok-growth.growth.nodes.items (length xs) 0) c.deref.ensures.value c.in_ok-growth.ensures.grown in
     let len : c.len-count.result ≡ length c.in_ok-growth.growth.nodes.items = search rules in
@@ -44,6 +46,8 @@ returns-clause-linked g c =
       front = c.requires.front;
       grown = grown;
       long = c.in_ok-row.ensures.long ∙ len;
-      each = λ n lt. subst (λ (xs : List Step). choice_at c.in_ok-row.row n ≡ chosen C.gain c.args.day c.args.self.now.row n (map turned xs)) c.deref-2.ensures.value (c.in_ok-row.ensures.each n (omega (arith, lt, len)));
+      each = λ n lt.
+          subst (λ (ts : List Tail). choice_at c.in_ok-row.row n ≡ chosen (gain_behind C.gain c.args.day ts) c.args.self.now.row n (map turned c.in_ok-growth.growth.steps.items)) c.deref-3.ensures.value
+          (subst (λ (xs : List Step). choice_at c.in_ok-row.row n ≡ chosen (gain_behind C.gain c.args.day c.deref-3.result.now) c.args.self.now.row n (map turned xs)) c.deref-2.ensures.value (c.in_ok-row.ensures.each n (omega (arith, lt, len))));
     } in
-    (front_made C c.args.day _ _ _ _ _ m (c.in_ok-row.ensures.light _ c.requires.front.light) _ (rw (← c.deref-3.ensures.value) c.in_ok-picks.ensures.picks) c.in_ok-picks.ensures.few _ _ (rw (← c.deref-4.ensures.value, ← c.deref-5.ensures.value) c.in_ok-tails_behind.ensures) (rw (← c.deref-6.ensures.value) c.in_ok-behind.ensures)).1
+    (front_made C c.args.day _ _ _ _ _ m (c.in_ok-row.ensures.light _ c.requires.front.light) _ (rw (← c.deref-4.ensures.value) c.in_ok-picks.ensures.picks) c.in_ok-picks.ensures.few _ _ (rw (← c.deref-5.ensures.value, ← c.deref-6.ensures.value) c.in_ok-tails_behind.ensures) (rw (← c.deref-7.ensures.value) c.in_ok-behind.ensures)).1

@@ -1,0 +1,107 @@
+-- The answer to a bound or a free leaf, from what its parts were read as.
+use Rattle.std.proofs.Common.{◌≡◌, ℕ, List, refl, ap, sym, ◌∙◌, subst, Option, Some, None, Result, Ok, Err}
+use Rattle.std.specs.Prelude.{codes}
+use Rattle.std.specs.Option.{option_map}
+use Rattle.rwsp_terms.specs.Instance.{Instance}
+use Rattle.rwsp_terms.specs.declared.data.Weight.{Weight}
+use Rattle.rwsp_model.specs.declared.fail.Fail.{Fail}
+use Rattle.rwsp_model.specs.declared.fail.Fail.TheVariants.{Refused, Memory}
+use Rattle.refutation_terms.specs.declared.lines.Line.{Line}
+use Rattle.refutation_terms.specs.declared.lines.Line.TheVariants.{Bound, Free}
+use Rattle.refutation_terms.specs.LogText.{RawLine, RawBound, RawFree}
+use Rattle.rwsp_text.specs.Fields.{NamedWeight, word_at}
+use Rattle.refutation_terms.specs.LineKinds.{most_turns}
+use Rattle.refutation_log.specs.declared.refusal.LineRefusal.{LineRefusal}
+use Rattle.refutation_log.specs.declared.refusal.LineRefusal.TheVariants.{Form, Name}
+use Rattle.refutation_log.specs.declared.gather.Gathered.{Gathered}
+use Rattle.refutation_log.specs.declared.gather.Gathered.TheVariants.{Rising, Falling, Unknown}
+use Rattle.refutation_log.specs.Reading.{head_at, free_head_at, rules_in, all_weights_at, weighed_at, bound_at, free_at, Answers, AnswersWeighed, IsWeighedAnswer}
+use Rattle.refutation_log.specs.Gathering.{IsWeighed, Gives, GivesAll}
+
+abbrev Read : Type 0
+Read = List ℕ × List NamedWeight
+
+abbrev Weighed : Type 0
+Weighed = Result (List ℕ × List Weight) (Fail LineRefusal)
+
+read_weighed : (P : Instance) (h r u : List (List ℕ)) (R : List ℕ) (y : List NamedWeight) → rules_in P h ≡ (R, r) → word_at (codes "weights") r ≡ Some u → all_weights_at P u ≡ Some y → weighed_at P h ≡ Some (R, y)
+unfolding weighed_at
+read_weighed P h r u R y b c d = rw (b, c, d) refl
+
+answer_by : (P : Instance) (R : List ℕ) (y : List NamedWeight) (s : Gathered) → Gives P y s → (result : Weighed) → IsWeighed R s result → AnswersWeighed P (Some (R, y)) result
+answer_by P R y (Rising z) g result b = subst (AnswersWeighed P (Some (R, y))) (sym b) (refl, g.0, g.1)
+answer_by P R y Falling g result b = subst (AnswersWeighed P (Some (R, y))) (sym b) (g.0, g.1, g.2)
+answer_by P R y Unknown g result b = subst (AnswersWeighed P (Some (R, y))) (sym b) g
+
+weighed_by : (P : Instance) (h r u : List (List ℕ)) (R : List ℕ) (s : Gathered) (result : Weighed) (o : Option (List NamedWeight)) → rules_in P h ≡ (R, r) → word_at (codes "weights") r ≡ Some u → all_weights_at P u ≡ o → GivesAll P o (Some s) → IsWeighed R s result → AnswersWeighed P (weighed_at P h) result
+weighed_by P h r u R s result None b c d g k = absurd g
+weighed_by P h r u R s result (Some y) b c d g k =
+    subst (λ o. AnswersWeighed P o result) (sym (read_weighed P h r u R y b c d)) (answer_by P R y s g result k)
+
+pub weighed_answered : (P : Instance) (h r u : List (List ℕ)) (R : List ℕ) (s : Gathered) (result : Weighed) → rules_in P h ≡ (R, r) → word_at (codes "weights") r ≡ Some u → GivesAll P (all_weights_at P u) (Some s) → IsWeighed R s result → AnswersWeighed P (weighed_at P h) result
+weighed_answered P h r u R s result b c g k = weighed_by P h r u R s result (all_weights_at P u) b c refl g k
+
+missed_by : (P : Instance) (h r u : List (List ℕ)) (R : List ℕ) (o : Option (List NamedWeight)) → rules_in P h ≡ (R, r) → word_at (codes "weights") r ≡ Some u → all_weights_at P u ≡ o → GivesAll P o None → weighed_at P h ≡ None
+unfolding weighed_at
+missed_by P h r u R None b c d g = rw (b, c, d) refl
+missed_by P h r u R (Some y) b c d g = absurd g
+
+-- weights that aren't read
+pub weighed_missed : (P : Instance) (h r u : List (List ℕ)) (R : List ℕ) → rules_in P h ≡ (R, r) → word_at (codes "weights") r ≡ Some u → GivesAll P (all_weights_at P u) None → IsWeighedAnswer P (weighed_at P h) (Err Form)
+weighed_missed P h r u R b c g =
+    subst (λ o. IsWeighedAnswer P o (Err Form)) (sym (missed_by P h r u R (all_weights_at P u) b c refl g)) tt
+
+-- the answer with a line made of the rules and the weights
+abbrev pub made_of : (List ℕ → List Weight → Line) → Weighed → Result Line (Fail LineRefusal)
+made_of make (Ok v) = Ok (make v.0 v.1)
+made_of make (Err fail) = Err fail
+
+-- a bound, by what was read behind its head
+abbrev raw_bound : ℕ → ℕ → Option Read → Option RawLine
+raw_bound p turns o = option_map (λ (v : Read). RawBound p turns v.0 v.1) o
+
+bound_by : (P : Instance) (p turns : ℕ) (o : Option Read) (result : Weighed) → AnswersWeighed P o result → Answers P (raw_bound p turns o) (made_of (Bound p turns) result)
+bound_by P p turns None (Ok v) a = absurd a
+bound_by P p turns (Some v) (Ok w) a =
+    (ap (λ o. option_map (λ (z : List Weight). Bound p turns v.0 z) o) a.1 ∙ ap (λ R. Some (Bound p turns R w.1)) a.0, a.2)
+bound_by P p turns o (Err Memory) a = tt
+bound_by P p turns None (Err (Refused Form)) a = tt
+bound_by P p turns None (Err (Refused Name)) a = absurd a
+bound_by P p turns (Some v) (Err (Refused Form)) a =
+    (Bound p turns v.0 a.0, ap (λ o. option_map (λ (z : List Weight). Bound p turns v.0 z) o) a.1, a.2)
+bound_by P p turns (Some v) (Err (Refused Name)) a = ap (λ o. option_map (λ (z : List Weight). Bound p turns v.0 z) o) a
+
+behind_bound : (P : Instance) (ws h : List (List ℕ)) (p turns : ℕ) (o : Option Read) → head_at P (most_turns P) ws ≡ Some ((p, turns), h) → weighed_at P h ≡ o → bound_at P ws ≡ raw_bound p turns o
+unfolding bound_at
+behind_bound P ws h p turns None a b = rw (a, b) refl
+behind_bound P ws h p turns (Some v) a b = rw (a, b) refl
+
+pub bound_answered : (P : Instance) (high : ℕ) (ws h : List (List ℕ)) (p turns : ℕ) (result : Weighed) → high ≡ most_turns P → head_at P high ws ≡ Some ((p, turns), h) → AnswersWeighed P (weighed_at P h) result → Answers P (bound_at P ws) (made_of (Bound p turns) result)
+bound_answered P high ws h p turns result e a w =
+    subst (λ o. Answers P o (made_of (Bound p turns) result)) (sym (behind_bound P ws h p turns (weighed_at P h) (ap (λ n. head_at P n ws) (sym e) ∙ a) refl))
+    (bound_by P p turns (weighed_at P h) result w)
+
+-- and a free leaf
+abbrev raw_free : ℕ → ℕ → Option Read → Option RawLine
+raw_free turns reward o = option_map (λ (v : Read). RawFree turns reward v.0 v.1) o
+
+free_by : (P : Instance) (turns reward : ℕ) (o : Option Read) (result : Weighed) → AnswersWeighed P o result → Answers P (raw_free turns reward o) (made_of (Free turns reward) result)
+free_by P turns reward None (Ok v) a = absurd a
+free_by P turns reward (Some v) (Ok w) a =
+    (ap (λ o. option_map (λ (z : List Weight). Free turns reward v.0 z) o) a.1 ∙ ap (λ R. Some (Free turns reward R w.1)) a.0, a.2)
+free_by P turns reward o (Err Memory) a = tt
+free_by P turns reward None (Err (Refused Form)) a = tt
+free_by P turns reward None (Err (Refused Name)) a = absurd a
+free_by P turns reward (Some v) (Err (Refused Form)) a =
+    (Free turns reward v.0 a.0, ap (λ o. option_map (λ (z : List Weight). Free turns reward v.0 z) o) a.1, a.2)
+free_by P turns reward (Some v) (Err (Refused Name)) a = ap (λ o. option_map (λ (z : List Weight). Free turns reward v.0 z) o) a
+
+behind_free : (P : Instance) (ws h : List (List ℕ)) (turns reward : ℕ) (o : Option Read) → free_head_at P ws ≡ Some ((turns, reward), h) → weighed_at P h ≡ o → free_at P ws ≡ raw_free turns reward o
+unfolding free_at
+behind_free P ws h turns reward None a b = rw (a, b) refl
+behind_free P ws h turns reward (Some v) a b = rw (a, b) refl
+
+pub free_answered : (P : Instance) (ws h : List (List ℕ)) (turns reward : ℕ) (result : Weighed) → free_head_at P ws ≡ Some ((turns, reward), h) → AnswersWeighed P (weighed_at P h) result → Answers P (free_at P ws) (made_of (Free turns reward) result)
+free_answered P ws h turns reward result a w =
+    subst (λ o. Answers P o (made_of (Free turns reward) result)) (sym (behind_free P ws h turns reward (weighed_at P h) a refl))
+    (free_by P turns reward (weighed_at P h) result w)
