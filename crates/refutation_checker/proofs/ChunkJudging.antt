@@ -1,5 +1,5 @@
 -- Judging the lines of a chunk one after another.
-use Rattle.std.proofs.Common.{◌≡◌, ◌≢◌, ℕ, ◌+◌, ◌≤◌, List, [], ◌∷◌, ◌++◌, length, ap, sym, ◌∙◌, append_assoc, length-append, subst, arith, Option, Bool, IsTrue}
+use Rattle.std.proofs.Common.{◌≡◌, ◌≢◌, ℕ, ◌+◌, ◌≤◌, List, [], ◌∷◌, ◌++◌, length, ap, sym, ◌∙◌, append_assoc, length-append, subst, arith, Option, None, Bool, IsTrue}
 use Rattle.std.specs.Prelude.{◌↔◌}
 use Rattle.std.proofs.lemmas.List.{append-nil}
 use Rattle.rwsp_terms.specs.Instance.{Instance}
@@ -51,7 +51,7 @@ Refuses J w bytes number why =
     (turn : Option Turn) (lines : List Line) → IsStateOf J.problem turn lines w → number ≡ header_lines turn + length lines + 1 → Cause J.problem (Reading (log_with J.named turn lines)) bytes why
 
 judge_of : Instance → List ℕ → Judging
-judge_of P R = record { problem = P; named = R }
+judge_of P R = record { problem = P; named = R; goal = None }
 
 read_on : (P : Instance) (R : List ℕ) (turn : Option Turn) (earlier : List Line) (all left bytes rest : List ℕ) (w w' : State) (number : ℕ) → JudgedUpTo P R turn earlier all left w number → left ≡ bytes ++ rest → Reads (judge_of P R) w w' bytes number → JudgedUpTo P R turn earlier all rest w' (number + 1)
 unfolding judge_of
@@ -62,7 +62,7 @@ read_on P R turn earlier all left bytes rest w w' number so e reads =
     let count : length ((earlier ++ so.lines) ++ read.line ∷ []) ≡ length (earlier ++ so.lines) + 1 = length-append (earlier ++ so.lines) (read.line ∷ []) in
     record {
       lines = so.lines ++ read.line ∷ [];
-      sound = sound_joined P R turn earlier so.lines (read.line ∷ []) so.sound (read.sound, tt);
+      sound = sound_joined P None R turn earlier so.lines (read.line ∷ []) so.sound (read.sound, tt);
       text =
           so.text ∙ ap (λ t. lines_text P so.lines ++ t) (e ∙ ap (λ t. t ++ rest) (sym one))
           ∙ sym (append_assoc (lines_text P so.lines) (lines_text P (read.line ∷ [])) rest)
@@ -71,7 +71,7 @@ read_on P R turn earlier all left bytes rest w w' number so e reads =
       counted = omega (arith, so.counted, count, ap length longer);
     }
 
-pub judged_more : (P : Instance) (R : List ℕ) (J : Judging) (s : Start) (left bytes rest : List ℕ) (w w' : State) (number : ℕ) → J ≡ record { problem = P; named = R } → JudgedSoFar P R s left w number → bytes ≢ [] → left ≡ bytes ++ rest → Reads J w w' bytes number → JudgedSoFar P R s rest w' (number + 1)
+pub judged_more : (P : Instance) (R : List ℕ) (J : Judging) (s : Start) (left bytes rest : List ℕ) (w w' : State) (number : ℕ) → J ≡ record { problem = P; named = R; goal = None } → JudgedSoFar P R s left w number → bytes ≢ [] → left ≡ bytes ++ rest → Reads J w w' bytes number → JudgedSoFar P R s rest w' (number + 1)
 unfolding judge_of
 judged_more P R J s left bytes rest w w' number is so some e reads =
     let size : length left ≡ length bytes + length rest = ap length e ∙ length-append bytes rest in
@@ -81,7 +81,7 @@ judged_more P R J s left bytes rest w w' number is so some e reads =
       each = λ turn earlier h. read_on P R turn earlier s.bytes left bytes rest w w' number (so.each turn earlier h) e (subst (λ (K : Judging). Reads K w w' bytes number) is reads);
     }
 
-pub judged_refused : (P : Instance) (R : List ℕ) (J : Judging) (s : Start) (left bytes rest : List ℕ) (w : State) (number : ℕ) (why : LogRefusal) → J ≡ record { problem = P; named = R } → JudgedSoFar P R s left w number → left ≡ bytes ++ rest → IsNextLine bytes rest → Refuses J w bytes number why → (turn : Option Turn) (earlier : List Line) → StandsBehind P turn earlier s → IsChunkRefused P R turn earlier s.bytes why
+pub judged_refused : (P : Instance) (R : List ℕ) (J : Judging) (s : Start) (left bytes rest : List ℕ) (w : State) (number : ℕ) (why : LogRefusal) → J ≡ record { problem = P; named = R; goal = None } → JudgedSoFar P R s left w number → left ≡ bytes ++ rest → IsNextLine bytes rest → Refuses J w bytes number why → (turn : Option Turn) (earlier : List Line) → StandsBehind P turn earlier s → IsChunkRefused P R turn earlier s.bytes why
 judged_refused P R J s left bytes rest w number why is so e next refuses turn earlier h =
     let up = so.each turn earlier h in
     let here = subst (λ (K : Judging). Refuses K w bytes number why) is refuses in
@@ -105,5 +105,5 @@ judged_all P R s left w number whole so e tree turn earlier h =
       tree = tree turn (earlier ++ up.lines) up.state;
     }
 
-pub judge_is : (P : Instance) (R : List ℕ) (J : Judging) → J.problem ≡ P → J.named ≡ R → J ≡ record { problem = P; named = R }
-judge_is P R J e f = ap (λ p. record { problem = p; named = J.named }) e ∙ ap (λ r. record { problem = P; named = r }) f
+pub judge_is : (P : Instance) (R : List ℕ) (J : Judging) → J.problem ≡ P → J.named ≡ R → J.goal ≡ None → J ≡ record { problem = P; named = R; goal = None }
+judge_is P R J e f g = ap (λ p. record { problem = p; named = J.named; goal = J.goal }) e ∙ ap (λ r. record { problem = P; named = r; goal = J.goal }) f ∙ ap (λ o. record { problem = P; named = R; goal = o }) g

@@ -1,5 +1,5 @@
 -- The answers of chunks, put together.
-use Rattle.std.proofs.Common.{◌≡◌, ◌≢◌, ◌⊎◌, ℕ, suc, ◌+◌, ◌<◌, List, [], ◌∷◌, ◌++◌, length, get_or, refl, ap, sym, ◌∙◌, append_assoc, length-append, subst, arith, Option, inl, inr, Bool, IsTrue}
+use Rattle.std.proofs.Common.{◌≡◌, ◌≢◌, ◌⊎◌, ℕ, suc, ◌+◌, ◌<◌, List, [], ◌∷◌, ◌++◌, length, get_or, refl, ap, sym, ◌∙◌, append_assoc, length-append, subst, arith, Option, None, inl, inr, Bool, IsTrue}
 use Rattle.std.specs.Prelude.{Result, Ok, Err, ◌↔◌}
 use Rattle.std.specs.List.{join_with_byte}
 use Rattle.std.proofs.lemmas.List.{append-nil}
@@ -111,7 +111,7 @@ text_through P front more bytes here below left e f g =
 judged_through : (P : Instance) (R : List ℕ) (turn : Option Turn) (earlier front : List Line) (bytes here below : List ℕ) (a : Answer) → AreSoundBehind P R turn earlier front → here ≡ lines_text P front → bytes ≡ here ++ below → IsJudged P R turn (earlier ++ front) below a → IsJudged P R turn earlier bytes a
 judged_through P R turn earlier front bytes here below (Ok whole) sound f e k = record {
   lines = front ++ k.lines;
-  sound = sound_joined P R turn earlier front k.lines sound k.sound;
+  sound = sound_joined P None R turn earlier front k.lines sound k.sound;
   text = e ∙ ap (λ t. t ++ below) f ∙ ap (λ t. lines_text P front ++ t) k.text ∙ sym (lines_joined P front k.lines);
   tree = subst (λ ls. IsTrue whole ↔ IsTree ls) (append_assoc earlier front k.lines) k.tree;
 }
@@ -120,7 +120,7 @@ judged_through P R turn earlier front bytes here below (Err (Refused why)) sound
   lines = front ++ k.lines;
   line = k.line;
   rest = k.rest;
-  sound = sound_joined P R turn earlier front k.lines sound k.sound;
+  sound = sound_joined P None R turn earlier front k.lines sound k.sound;
   text =
       text_through P front k.lines bytes here below (k.line ++ k.rest) e f (k.text ∙ append_assoc (lines_text P k.lines) k.line k.rest)
       ∙ sym (append_assoc (lines_text P (front ++ k.lines)) k.line k.rest);

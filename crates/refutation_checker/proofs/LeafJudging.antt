@@ -1,6 +1,7 @@
 -- Dead and bound leaves, judged apart from their log.
 use Rattle.std.proofs.Common.{◌≡◌, ℕ, ◌<◌, Option, Some, None, Bool, IsTrue, true, false, refl, arith}
-use Rattle.std.specs.Prelude.{◌↔◌, MatchOption}
+use Rattle.std.specs.Prelude.{◌↔◌, MatchOption, IfOk, Result, Ok, Err}
+use Rattle.std.specs.declared.alloc.AllocError.{AllocError}
 use Rattle.rwsp_terms.specs.declared.data.Symbol.{Symbol}
 use Rattle.std.proofs.Common.{List}
 use Rattle.rwsp_terms.specs.Instance.{Instance, cells}
@@ -8,10 +9,10 @@ use Rattle.refutation_terms.specs.declared.lines.Line.{Line}
 use Rattle.refutation_terms.specs.declared.lines.Line.TheVariants.{Split, Window, Day, Dead, Bound, Few, Free, Unfinished}
 use Rattle.refutation_terms.specs.Word.{Domains, AreSame}
 use Rattle.refutation_terms.specs.Log.{LineFits}
-use Rattle.refutation_terms.specs.Verdict.{Escapes}
+use Rattle.refutation_terms.specs.Verdict.{Escapes, EscapesFor}
 use Rattle.refutation_terms.proofs.Causes.{escaped_not_holding}
 use Rattle.refutation_terms.proofs.SameDomains.{same_holds, turned_round}
-use Rattle.refutation_checker.specs.LineVerdicts.{HoldsByWords}
+use Rattle.refutation_checker.specs.LineVerdicts.{HoldsByWords, HoldsByWordsFor}
 
 pub same_by_words : (P : Instance) (D E : Domains) (line : Line) → LineFits P line → AreSame P D E → HoldsByWords P D line → HoldsByWords P E line
 same_by_words P D E (Split p x) fits same h = tt
@@ -32,6 +33,24 @@ escaped_by_words P D (Bound p turns R y) w e h = escaped_not_holding P D (Bound 
 escaped_by_words P D Unfinished w e h = absurd e
 escaped_by_words P D Few w e h = absurd e
 escaped_by_words P D (Free turns reward R y) w e h = absurd e
+
+-- a word that escapes a line of a log without a goal escapes it in each log
+escapes_for : (P : Instance) (goal : Option ℕ) (D : Domains) (line : Line) (w : List Symbol) → Escapes P D line w → EscapesFor P goal D line w
+escapes_for P None D line w e = e
+escapes_for P (Some goal) D (Free turns reward R y) w e = absurd e
+escapes_for P (Some goal) D line w e = e
+
+pub answer_for : (P : Instance) (goal : Option ℕ) (D : Domains) (line : Line) (answer : Result (Option (List Symbol)) AllocError)
+    → IfOk answer (λ found. MatchOption found (HoldsByWordsFor P goal D line) (Escapes P D line))
+    → IfOk answer (λ found. MatchOption found (HoldsByWordsFor P goal D line) (EscapesFor P goal D line))
+answer_for P goal D line (Ok None) h = h
+answer_for P goal D line (Ok (Some w)) h = escapes_for P goal D line w h
+answer_for P goal D line (Err e) h = tt
+
+-- a line of a log without a goal
+pub by_words : (P : Instance) (D : Domains) (line : Line) → LineFits P line → HoldsByWordsFor P None D line → HoldsByWords P D line
+by_words P D (Free turns reward R y) fits h = absurd fits
+by_words P D line fits h = h
 
 -- what the words tell under the domains of a walk, told under those of its lines
 pub holds_there : (P : Instance) (D E : Domains) (line : Line) → LineFits P line → AreSame P D E → HoldsByWords P D line → IsTrue true ↔ HoldsByWords P E line

@@ -1,4 +1,5 @@
 pub mod Lists
+pub mod GoalLines
 pub mod Lines
 pub mod Bounds
 pub mod Judging
@@ -14,3 +15,4 @@ pub mod Feeds
 pub mod Deciding
 pub mod SomeVerdict
 pub mod LeafJudging
+pub mod FreeReading

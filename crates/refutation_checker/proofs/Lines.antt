@@ -1,5 +1,5 @@
 -- Lines by their kinds.
-use Rattle.std.proofs.Common.{◌≡◌, ℕ, ◌≤◌, length, Bool, false, IsTrue, sym, subst, arith, inl, inr}
+use Rattle.std.proofs.Common.{◌≡◌, ℕ, ◌≤◌, length, Option, Bool, false, IsTrue, sym, subst, arith, inl, inr}
 use Rattle.std.proofs.lemmas.Bool.{cases_lt}
 use Rattle.std.specs.Prelude.{◌↔◌}
 use Rattle.rwsp_terms.specs.Instance.{Instance}
@@ -30,5 +30,5 @@ split_of_many P S p x n h is some idle =
     ]
 
 -- a day leaf
-pub day_stands : (P : Instance) (D : Domains) (line : Line) (j : ℕ) (x : Symbol) (over b : Bool) → line ≡ Day j x over → (IsTrue b ↔ Holds P D (Day j x over)) → IsTrue b ↔ StandsPlainly P D line
-day_stands P D line j x over b is test = subst (λ (l : Line). IsTrue b ↔ StandsPlainly P D l) (sym is) test
+pub day_stands : (P : Instance) (goal : Option ℕ) (D : Domains) (line : Line) (j : ℕ) (x : Symbol) (over b : Bool) → line ≡ Day j x over → (IsTrue b ↔ Holds P D (Day j x over)) → IsTrue b ↔ StandsPlainly P goal D line
+day_stands P goal D line j x over b is test = subst (λ (l : Line). IsTrue b ↔ StandsPlainly P goal D l) (sym is) test

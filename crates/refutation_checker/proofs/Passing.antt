@@ -170,7 +170,7 @@ refused_line P g i why limits fits tree turn at =
     let fit : LineFits P at.line = fits.lines i at.line at.here in
     let long : length (take i g.lines) ≡ i = length-take-le i g.lines (omega (arith, less)) in
     let cause : TreeCause P g.named (domains_at P g.turn g.lines i) (header_lines g.turn + i + 1) bytes why =
-    cause_of_text P g.named (domains_at P g.turn g.lines i) (header_lines g.turn + i + 1) bytes at.line why (fitting_lines_are_spelled P at.line (has_names P limits) fit) at.cause in
+    cause_of_text P None g.named (domains_at P g.turn g.lines i) (header_lines g.turn + i + 1) bytes at.line why (fitting_lines_are_spelled P at.line (has_names P limits) fit) at.cause in
     record {
       front = Reading front;
       line = bytes;

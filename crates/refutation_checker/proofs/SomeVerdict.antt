@@ -91,7 +91,7 @@ spelled_stands P R turn lines line written none goes part w (Some l) e =
     let D = domains_at P turn lines (length lines) in
     let spells : Spells P line l = (written, w, e) in
     let fits = spelled_lines_fit P line l spells in
-    line_stands P R D n l fits.0 (λ why c. none why (inr (part, cause_of_text P R D n line l why spells c)))
+    line_stands P R D n l fits.0 (λ why c. none why (inr (part, cause_of_text P None R D n line l why spells c)))
     (λ sound. goes l (fits.1, record { in_tree = part; fits = fits.0; sound = sound }))
 
 line_read : (P : Instance) (R : List ℕ) (turn : Option Turn) (lines : List Line) (line : List ℕ) → RefusesNone P R turn lines line → ((l : Line) → Takes P R turn lines line l → ⊥) → ⊥
@@ -121,7 +121,7 @@ lines_on P text R body turn h none (suc n) lines (b ∷ left) few sound e =
       cause = c;
     })))
     (λ l takes.
-    lines_on P text R body turn h none n (lines ++ l ∷ []) next.rest (let less = next.shorter in omega (arith, few, less)) (sound_joined P R turn [] lines (l ∷ []) sound (takes.1, tt))
+    lines_on P text R body turn h none n (lines ++ l ∷ []) next.rest (let less = next.shorter in omega (arith, few, less)) (sound_joined P None R turn [] lines (l ∷ []) sound (takes.1, tt))
     (text_on P body (b ∷ left) next.line next.rest lines l e next.whole takes.0))
 
 body_on : (P : Instance) (text R body : List ℕ) (turn : Option Turn) → HasHeader P text R turn body → HasNoVerdict P text → ⊥

@@ -1,5 +1,5 @@
 -- Lines that are judged behind other lines, and the answer to the bytes of such lines.
-use Rattle.std.specs.Prelude.{◌≡◌, ◌↔◌, ℕ, ◌+◌, List, [], ◌∷◌, ◌++◌, length, Option, Bool, IsTrue, Result}
+use Rattle.std.specs.Prelude.{◌≡◌, ◌↔◌, ℕ, ◌+◌, List, [], ◌∷◌, ◌++◌, length, Option, None, Bool, IsTrue, Result}
 use Rattle.rwsp_terms.specs.Instance.{Instance}
 use Rattle.rwsp_model.specs.Refusals.{MatchAnswer}
 use Rattle.rwsp_model.specs.declared.fail.Fail.{Fail}
@@ -11,25 +11,27 @@ use Rattle.refutation_terms.specs.Verdict.{Cause, Reading, IsNextLine, header_li
 use Rattle.refutation_log.specs.Printing.{lines_text}
 use Rattle.refutation_log.specs.ReadLog.{log_with}
 use Rattle.tree_walk.specs.States.{State, IsStateOf}
-use Rattle.refutation_checker.specs.LineTexts.{IsSoundNext}
+use Rattle.refutation_checker.specs.LineTexts.{IsSoundNextFor}
 
--- behind the earlier lines, none of the further lines is refused
+-- behind the earlier lines of a log with this goal or none, none of the further lines is refused
+abbrev pub AreSoundBehindFor : Instance → Option ℕ → List ℕ → Option Turn → List Line → List Line → Type 0
+AreSoundBehindFor P goal named turn earlier [] = Unit {0}
+AreSoundBehindFor P goal named turn earlier (line ∷ lines) =
+    IsSoundNextFor P goal named turn earlier line × AreSoundBehindFor P goal named turn (earlier ++ line ∷ []) lines
+
+-- the same of a log without a goal
 abbrev pub AreSoundBehind : Instance → List ℕ → Option Turn → List Line → List Line → Type 0
-AreSoundBehind P named turn earlier [] = Unit {0}
-AreSoundBehind P named turn earlier (line ∷ lines) = IsSoundNext P named turn earlier line
-    × AreSoundBehind P named turn (earlier ++ line ∷ []) lines
+AreSoundBehind P named turn earlier lines = AreSoundBehindFor P None named turn earlier lines
 
 -- the bytes are the text of such lines, and it is said whether the tree is whole with them
-pub record AreAllSound (P : Instance) (named : List ℕ) (turn : Option Turn) (earlier : List Line) (bytes : List ℕ)
-    (whole : Bool) : Type 0 where
+pub record AreAllSound (P : Instance) (named : List ℕ) (turn : Option Turn) (earlier : List Line) (bytes : List ℕ) (whole : Bool) : Type 0 where
   pub lines : List Line
   pub sound : AreSoundBehind P named turn earlier lines
   pub text : bytes ≡ lines_text P lines
   pub tree : IsTrue whole ↔ IsTree (earlier ++ lines)
 
 -- the bytes go on behind the text of such lines with a line that has this cause
-pub record IsChunkRefused (P : Instance) (named : List ℕ) (turn : Option Turn) (earlier : List Line) (bytes : List ℕ)
-    (why : LogRefusal) : Type 0 where
+pub record IsChunkRefused (P : Instance) (named : List ℕ) (turn : Option Turn) (earlier : List Line) (bytes : List ℕ) (why : LogRefusal) : Type 0 where
   pub lines : List Line
   pub line : List ℕ
   pub rest : List ℕ
@@ -40,8 +42,7 @@ pub record IsChunkRefused (P : Instance) (named : List ℕ) (turn : Option Turn)
 
 -- the answer to the bytes behind the earlier lines: whether the tree is whole with them, or why one is refused
 abbrev pub IsJudged : Instance → List ℕ → Option Turn → List Line → List ℕ → Result Bool (Fail LogRefusal) → Type 0
-IsJudged P named turn earlier bytes judged = MatchAnswer judged (AreAllSound P named turn earlier bytes)
-    (IsChunkRefused P named turn earlier bytes)
+IsJudged P named turn earlier bytes judged = MatchAnswer judged (AreAllSound P named turn earlier bytes) (IsChunkRefused P named turn earlier bytes)
 
 -- the bytes of some lines of a text, the number of the first of them, and the walk in front of it
 pub record Start : Type 0 where

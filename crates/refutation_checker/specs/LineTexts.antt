@@ -4,7 +4,7 @@ use Rattle.rwsp_terms.specs.Instance.{Instance}
 use Rattle.refutation_terms.specs.declared.lines.Line.{Line}
 use Rattle.refutation_terms.specs.declared.lines.Turn.{Turn}
 use Rattle.refutation_terms.specs.Tree.{IsTree, domains_at}
-use Rattle.refutation_terms.specs.Log.{LineFits}
+use Rattle.refutation_terms.specs.Log.{LineFitsFor}
 use Rattle.refutation_terms.specs.LogText.{raw, line_text}
 use Rattle.refutation_terms.specs.declared.lines.Line.TheVariants.{Split}
 use Rattle.refutation_terms.specs.declared.lines.LogRefusal.{LogRefusal}
@@ -14,23 +14,34 @@ use Rattle.refutation_log.specs.declared.refusal.LineRefusal.TheVariants as Line
 use Rattle.domain_store.specs.Store.{Store}
 use Rattle.tree_walk.specs.Splits.{is_idle_in}
 use Rattle.tree_walk.specs.States.{State, IsStateOf}
-use Rattle.refutation_checker.specs.LineVerdicts.{IsSound}
+use Rattle.refutation_checker.specs.LineVerdicts.{IsSoundFor}
 
--- the problem of a judge, and the rules that the header names
+-- the problem of a judge, the rules that the header names, and the goal of the log if it has one
 pub record Judging : Type 0 where
   pub problem : Instance
   pub named : List ℕ
+  pub goal : Option ℕ
 
--- the line behind these is refused for no cause
-pub record IsSoundNext (P : Instance) (named : List ℕ) (turn : Option Turn) (lines : List Line)
+-- the line behind these, in a log with this goal or none, is refused for no cause
+pub record IsSoundNextFor (P : Instance) (goal : Option ℕ) (named : List ℕ) (turn : Option Turn) (lines : List Line)
     (line : Line) : Type 0 where
   pub in_tree : IsTree lines → ⊥
-  pub fits : LineFits P line
-  pub sound : IsSound P named (domains_at P turn lines (length lines)) line
+  pub fits : LineFitsFor P goal line
+  pub sound : IsSoundFor P goal named (domains_at P turn lines (length lines)) line
 
--- the bytes are the text of such a line, and the walk has read it
-pub record IsLineRead (P : Instance) (named : List ℕ) (turn : Option Turn) (lines : List Line) (bytes : List ℕ)
-    (w : State) : Type 0 where
+-- the same in a log without a goal
+abbrev pub IsSoundNext : Instance → List ℕ → Option Turn → List Line → Line → Type 0
+IsSoundNext P named turn lines line = IsSoundNextFor P None named turn lines line
+
+-- the bytes are the text of such a line, which is this one, and the walk has read it
+pub record IsLineReadAs (P : Instance) (goal : Option ℕ) (named : List ℕ) (turn : Option Turn) (lines : List Line)
+    (bytes : List ℕ) (w : State) (line : Line) : Type 0 where
+  pub spelled : bytes ≡ line_text P (raw P line)
+  pub sound : IsSoundNextFor P goal named turn lines line
+  pub walked : IsStateOf P turn (lines ++ line ∷ []) w
+
+-- the bytes are the text of such a line in a log without a goal, and the walk has read it
+pub record IsLineRead (P : Instance) (named : List ℕ) (turn : Option Turn) (lines : List Line) (bytes : List ℕ) (w : State) : Type 0 where
   pub line : Line
   pub spelled : bytes ≡ line_text P (raw P line)
   pub sound : IsSoundNext P named turn lines line

@@ -1,27 +1,30 @@
 -- What can be judged of a line without searching for a word.
-use Rattle.std.specs.Prelude.{◌≡◌, ℕ, List, true}
+use Rattle.std.specs.Prelude.{◌≡◌, ℕ, List, true, Option, None}
 use Rattle.rwsp_terms.specs.Instance.{Instance}
 use Rattle.refutation_terms.specs.declared.lines.Line.{Line}
-use Rattle.refutation_terms.specs.declared.lines.Line.TheVariants.{Split, Dead, Bound, Unfinished}
+use Rattle.refutation_terms.specs.declared.lines.Line.TheVariants.{Split, Dead, Bound, Few, Free, Unfinished}
 use Rattle.refutation_terms.specs.declared.lines.LogRefusal.{LogRefusal}
 use Rattle.refutation_terms.specs.declared.lines.LogRefusal.TheVariants as Refusals
 use Rattle.refutation_terms.specs.Word.{Domains}
 use Rattle.refutation_terms.specs.Leaf.{IsDead, IsTooLight}
 use Rattle.refutation_terms.specs.Tree.{is_idle}
-use Rattle.refutation_terms.specs.Log.{Cites, Holds, ListsShortOnly, CitesOnlyNamed}
-use Rattle.refutation_terms.specs.Verdict.{IsLeast, IsUnnamed, ListsLong, IsPlainLeaf, Escapes}
+use Rattle.refutation_terms.specs.Log.{Cites, Holds, HoldsFor, ListsShortOnly, CitesOnlyNamed}
+use Rattle.refutation_terms.specs.Verdict.{IsLeast, IsUnnamed, ListsLong, IsPlainLeaf, EscapesFor}
 
--- a split that isn't idle, or a window or a day leaf that holds. Nothing is said of dead and bound leaves
-abbrev pub StandsPlainly : Instance → Domains → Line → Type 0
-StandsPlainly P D (Dead p len R) = Unit {0}
-StandsPlainly P D (Bound p turns R y) = Unit {0}
-StandsPlainly P D line = Holds P D line
+-- a split that isn't idle, or a window, a day or a few leaf that holds in a log with this goal or none. Nothing is said of
+-- leaves that are judged by words
+abbrev pub StandsPlainly : Instance → Option ℕ → Domains → Line → Type 0
+StandsPlainly P goal D (Dead p len R) = Unit {0}
+StandsPlainly P goal D (Bound p turns R y) = Unit {0}
+StandsPlainly P goal D (Free turns reward R y) = Unit {0}
+StandsPlainly P goal D Few = HoldsFor P goal D Few
+StandsPlainly P goal D line = Holds P D line
 
 -- the line has no cause but a word that escapes it
-pub record IsPlainlySound (P : Instance) (named : List ℕ) (D : Domains) (line : Line) : Type 0 where
+pub record IsPlainlySound (P : Instance) (goal : Option ℕ) (named : List ℕ) (D : Domains) (line : Line) : Type 0 where
   pub named_all : CitesOnlyNamed P named line
   pub short : ListsShortOnly P line
-  pub stands : StandsPlainly P D line
+  pub stands : StandsPlainly P goal D line
 
 -- an idle split
 abbrev pub IsIdleSplit : Instance → Domains → Line → Type 0
@@ -29,14 +32,13 @@ IsIdleSplit P D (Split p x) = is_idle P D p x.number ≡ true
 IsIdleSplit P D leaf = ⊥
 
 -- the lowest cause to refuse the line as text line n, but for a word that escapes it
-abbrev pub PlainCause : Instance → List ℕ → Domains → ℕ → Line → LogRefusal → Type 0
-PlainCause P named D n line (Refusals.Unnamed i k) = (i ≡ n) × IsLeast (IsUnnamed P named (Cites P line)) k
-PlainCause P named D n line (Refusals.Idle i) = (i ≡ n) × IsIdleSplit P D line
-PlainCause P named D n line (Refusals.Long i k) = (i ≡ n) × CitesOnlyNamed P named line × IsLeast (ListsLong P line) k
-PlainCause P named D n line (Refusals.Fails i) = (i ≡ n) × CitesOnlyNamed P named line × IsPlainLeaf line
-    × (Holds P D line → ⊥)
-PlainCause P named D n line (Refusals.Unfinished i) = (i ≡ n) × (line ≡ Unfinished)
-PlainCause P named D n line why = ⊥
+abbrev pub PlainCause : Instance → Option ℕ → List ℕ → Domains → ℕ → Line → LogRefusal → Type 0
+PlainCause P goal named D n line (Refusals.Unnamed i k) = (i ≡ n) × IsLeast (IsUnnamed P named (Cites P line)) k
+PlainCause P goal named D n line (Refusals.Idle i) = (i ≡ n) × IsIdleSplit P D line
+PlainCause P goal named D n line (Refusals.Long i k) = (i ≡ n) × CitesOnlyNamed P named line × IsLeast (ListsLong P line) k
+PlainCause P goal named D n line (Refusals.Fails i) = (i ≡ n) × CitesOnlyNamed P named line × IsPlainLeaf line × (HoldsFor P goal D line → ⊥)
+PlainCause P goal named D n line (Refusals.Unfinished i) = (i ≡ n) × (line ≡ Unfinished)
+PlainCause P goal named D n line why = ⊥
 
 -- which cause a line of its kind has where it doesn't stand
 abbrev pub IsPlainFailure : ℕ → Line → LogRefusal → Type 0
@@ -50,14 +52,26 @@ HoldsByWords P D (Dead p len R) = IsDead P D p len R
 HoldsByWords P D (Bound p turns R y) = IsTooLight P D p turns R y
 HoldsByWords P D line = Unit {0}
 
--- the line has no cause
-pub record IsSound (P : Instance) (named : List ℕ) (D : Domains) (line : Line) : Type 0 where
+-- the same of a log with this goal or none, where a free leaf is judged by words too
+abbrev pub HoldsByWordsFor : Instance → Option ℕ → Domains → Line → Type 0
+HoldsByWordsFor P goal D (Free turns reward R y) = HoldsFor P goal D (Free turns reward R y)
+HoldsByWordsFor P goal D line = HoldsByWords P D line
+
+-- the line has no cause in a log with this goal or none
+pub record IsSoundFor (P : Instance) (goal : Option ℕ) (named : List ℕ) (D : Domains) (line : Line) : Type 0 where
   pub named_all : CitesOnlyNamed P named line
   pub short : ListsShortOnly P line
-  pub holds : Holds P D line
+  pub holds : HoldsFor P goal D line
 
 -- the lowest cause to refuse the line as text line n
+abbrev pub LineCauseFor : Instance → Option ℕ → List ℕ → Domains → ℕ → Line → LogRefusal → Type 0
+LineCauseFor P goal named D n line (Refusals.Escape i w) =
+    (i ≡ n) × CitesOnlyNamed P named line × ListsShortOnly P line × EscapesFor P goal D line w
+LineCauseFor P goal named D n line why = PlainCause P goal named D n line why
+
+-- the same without a goal
+abbrev pub IsSound : Instance → List ℕ → Domains → Line → Type 0
+IsSound P named D line = IsSoundFor P None named D line
+
 abbrev pub LineCause : Instance → List ℕ → Domains → ℕ → Line → LogRefusal → Type 0
-LineCause P named D n line (Refusals.Escape i w) = (i ≡ n) × CitesOnlyNamed P named line × ListsShortOnly P line
-    × Escapes P D line w
-LineCause P named D n line why = PlainCause P named D n line why
+LineCause P named D n line why = LineCauseFor P None named D n line why

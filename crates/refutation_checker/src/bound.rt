@@ -1,14 +1,15 @@
 // The word that escapes a bound leaf.
-ghost use Rattle.std.specs.Prelude.{◌≡◌, ◌*◌, ◌<◌, ◌≤◌, IfOk, MatchOption, pos, neg_ℤ, ◌*ℤ◌, ◌≤ℤ◌};
+ghost use Rattle.std.specs.Prelude.{◌≡◌, ◌+◌, ◌*◌, ◌<◌, ◌≤◌, IfOk, MatchOption, pos, neg_ℤ, ◌*ℤ◌, ◌≤ℤ◌};
 ghost use Rattle.rwsp_terms.specs.Instance.{cells};
-ghost use Rattle.rwsp_terms.specs.declared.limits.TheConstants.{GREATEST_WEIGHT, LONGEST_WORD, MOST_DAYS, MOST_SHIFTS, MOST_SYMBOLS, MOST_WEEKS};
-ghost use Rattle.refutation_terms.specs.declared.lines.Line.TheVariants.{Bound};
+ghost use Rattle.rwsp_terms.specs.declared.limits.TheConstants.{GREATEST_REWARD, GREATEST_WEIGHT, LONGEST_WORD, MOST_DAYS, MOST_SHIFTS, MOST_SYMBOLS, MOST_WEEKS};
+ghost use Rattle.refutation_terms.specs.declared.lines.Line.TheVariants.{Bound, Free};
 ghost use Rattle.refutation_terms.specs.Leaf.{IsTooLight};
-ghost use Rattle.refutation_terms.specs.Verdict.{Escapes};
+ghost use Rattle.refutation_terms.specs.FreeLeaves.{IsTooLightFree, free_total};
+ghost use Rattle.refutation_terms.specs.Verdict.{Escapes, EscapesFree};
 ghost use Rattle.domain_store.specs.Store.{BelongsTo, has_domain};
 
 use domain_store::Domains;
-use potential_bounds::{heaviest_reaching, total};
+use potential_bounds::{heaviest_free_reaching, heaviest_reaching, total};
 use rwsp_model::Problem;
 use rwsp_terms::{Weights, Word};
 use std::alloc::{AllocError, Global};
@@ -47,8 +48,51 @@ pub fn bound_escape(
 fn times(turns: u32, total: i64) -> i64
     requires few { turns ≤ LONGEST_WORD }
     requires above { neg_ℤ (pos (GREATEST_WEIGHT * MOST_SHIFTS * MOST_WEEKS * MOST_SYMBOLS * MOST_DAYS)) ≤ℤ total }
-    requires below { total ≤ℤ pos (GREATEST_WEIGHT * MOST_SHIFTS * MOST_WEEKS * MOST_SYMBOLS * MOST_DAYS) }
+    requires below { total ≤ℤ pos (GREATEST_WEIGHT * MOST_SHIFTS * MOST_WEEKS * MOST_SYMBOLS * MOST_DAYS + GREATEST_REWARD * (MOST_WEEKS + 1)) }
     ensures { result ≡ pos turns *ℤ total }
 {
     i64::from(turns) * total
+}
+
+/// The least of the heaviest words of so many turns over the domains from the first day on that are
+/// clean for the rules, with the reward for each free weekend, where it weighs at least so many
+/// times the total with the reward for as many as the goal; None exactly where a free leaf holds.
+pub fn free_escape(
+    alloc: Global,
+    problem: &Problem,
+    tails: &TailRules,
+    doms: &Domains,
+    goal: u32,
+    turns: u32,
+    reward: u32,
+    weights: &Weights,
+) -> Result<Option<Word>, AllocError>
+    requires same { tails.now.problem ≡ problem.now }
+    requires belongs { BelongsTo problem.now doms.now }
+    requires days { problem.now.days ≡ 7 }
+    requires goal { goal ≤ problem.now.weeks + 1 }
+    requires some { 1 ≤ turns }
+    requires few { turns * cells problem.now ≤ LONGEST_WORD }
+    requires reward { reward ≤ GREATEST_REWARD }
+    ensures { IfOk result (λ found. MatchOption found
+        (IsTooLightFree problem.now goal (has_domain doms.now) turns reward tails.now.rules weights.now)
+        (EscapesFree problem.now goal (has_domain doms.now) (Free turns reward tails.now.rules weights.now))) }
+{
+    problem.prove_limits();
+    let least = times(turns, rewarded_total(problem, weights, goal, reward));
+    match heaviest_free_reaching(alloc, problem, tails, doms, turns, weights, reward, least)? {
+        Some(heavy) => Ok(Some(heavy.word)),
+        None => Ok(None),
+    }
+}
+
+// The total with the reward for as many free weekends as the goal.
+fn rewarded_total(problem: &Problem, weights: &Weights, goal: u32, reward: u32) -> i64
+    requires goal { goal ≤ MOST_WEEKS + 1 }
+    requires reward { reward ≤ GREATEST_REWARD }
+    ensures value { result ≡ free_total problem.now weights.now reward goal }
+    ensures above { neg_ℤ (pos (GREATEST_WEIGHT * MOST_SHIFTS * MOST_WEEKS * MOST_SYMBOLS * MOST_DAYS)) ≤ℤ result }
+    ensures below { result ≤ℤ pos (GREATEST_WEIGHT * MOST_SHIFTS * MOST_WEEKS * MOST_SYMBOLS * MOST_DAYS + GREATEST_REWARD * (MOST_WEEKS + 1)) }
+{
+    total(problem, weights) + i64::from(reward * goal)
 }

@@ -48,7 +48,7 @@ pub fn judge_chunk(
         IsJudged problem.now named.now turn earlier chunk.entry.bytes result }
 {
     let mut walk = chunk.walk;
-    let mut judge = Judge::new(problem, named);
+    let mut judge = Judge::new(problem, named, None);
     let mut reader = LineReader::new(chunk.bytes);
     let mut number = chunk.first;
     while let Some(bytes) = reader.next() {

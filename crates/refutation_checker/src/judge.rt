@@ -1,27 +1,30 @@
 // The lines of a log's tree, judged one after the other.
-ghost use Rattle.std.specs.Prelude.{◌≡◌, ◌+◌, ◌*◌, ◌<◌, ◌≤◌, List, [], ◌∷◌, ◌++◌, length, Option, IfOk, MatchOption, None, false};
+ghost use Rattle.std.specs.Prelude.{◌≡◌, ◌+◌, ◌*◌, ◌<◌, ◌≤◌, Some, List, [], ◌∷◌, ◌++◌, length, Option, IfOk, MatchOption, None, false};
 ghost use Rattle.rwsp_terms.specs.Instance.{cells};
+ghost use Rattle.rwsp_terms.specs.declared.limits.TheConstants.{GREATEST_REWARD, LONGEST_WORD};
 ghost use Rattle.rwsp_terms.specs.Rules.{NamesShortOnly};
 ghost use Rattle.refutation_terms.specs.declared.lines.Line.{Line};
-ghost use Rattle.refutation_terms.specs.declared.lines.Line.TheVariants.{Bound};
+ghost use Rattle.refutation_terms.specs.declared.lines.Line.TheVariants.{Bound, Free};
 ghost use Rattle.refutation_terms.specs.declared.lines.Turn.{Turn};
 ghost use Rattle.refutation_terms.specs.Tree.{domains_at};
 ghost use Rattle.refutation_terms.specs.Leaf.{IsDead, IsTooLight};
+ghost use Rattle.refutation_terms.specs.FreeLeaves.{IsTooLightFree};
 ghost use Rattle.refutation_terms.specs.Escape.{IsLeastClean};
-ghost use Rattle.refutation_terms.specs.Log.{LineFits, ListsShortOnly};
-ghost use Rattle.refutation_terms.specs.Verdict.{Cause, Reading, Escapes, header_lines};
+ghost use Rattle.refutation_terms.specs.Log.{GoalFits, LineFitsFor, ListsShortOnly};
+ghost use Rattle.refutation_terms.specs.Verdict.{Cause, CauseBehindFor, Reading, Escapes, EscapesFor, EscapesFree, header_lines, header_lines_for};
+ghost use Rattle.rwsp_model.specs.Refusals.{MatchAnswer};
 ghost use Rattle.domain_store.specs.Store.{BelongsTo, has_domain};
 ghost use Rattle.tree_walk.specs.States.{IsStateOf};
-ghost use Rattle.refutation_checker.specs.LineVerdicts.{HoldsByWords, IsSound, LineCause};
-ghost use Rattle.refutation_checker.specs.LineTexts.{IsLineRead, IsSpellingRefusal, StillWalks};
+ghost use Rattle.refutation_checker.specs.LineVerdicts.{HoldsByWordsFor, IsSoundFor, LineCauseFor};
+ghost use Rattle.refutation_checker.specs.LineTexts.{IsLineRead, IsLineReadAs, IsSpellingRefusal, StillWalks};
 
-use crate::bound::bound_escape;
+use crate::bound::{bound_escape, free_escape};
 use crate::kept_tails::tails_of;
 use crate::line_walk::step;
 use crate::plain_causes::plain_refusal;
 use domain_store::Domains;
 use layered_cycle::escape;
-use refutation_log::{LineRefusal, read_line};
+use refutation_log::{LineRefusal, read_line, read_line_for};
 use refutation_terms::{Line, LogRefusal};
 use rwsp_model::{Fail, Problem};
 use rwsp_terms::{RuleList, Weights, Word};
@@ -30,40 +33,45 @@ use std::marker::Model;
 use tree_walk::Walk;
 use word_tail::TailRules;
 
-/// Judges lines under the rules that a header names. Tail rules that were made for a line serve the
+/// Judges lines of a log with a goal or none, under the rules that its header names. Tail rules that were made for a line serve the
 /// next lines with the same list.
 #[derive(Debug, Drop)]
 pub struct Judge<'a> {
     problem: &'a Problem,
     named: &'a RuleList,
+    goal: Option<u32>,
     tails: Option<TailRules>,
 }
 
 impl<'a> Model for Judge<'a> {
-    ghost use Rattle.std.specs.Prelude.{◌≡◌, IfSome};
+    ghost use Rattle.std.specs.Prelude.{◌≡◌, IfSome, None};
+    ghost use Rattle.refutation_terms.specs.Log.{GoalFits};
     ghost use Rattle.refutation_checker.specs.LineTexts.{Judging};
 
     ghost Value = { Judging };
 
-    ghost view = { λ j. record { problem = j.problem.now; named = j.named.now } };
+    ghost view = { λ j. record { problem = j.problem.now; named = j.named.now; goal = j.goal } };
 
-    ghost invariant = { λ j. IfSome j.tails (λ tails. tails.problem ≡ j.problem.now) };
+    ghost invariant = { λ j. IfSome j.tails (λ tails. tails.problem ≡ j.problem.now) × GoalFits j.problem.now None j.goal };
 }
 
 impl<'a> Judge<'a> {
-    /// A judge of lines of this problem, under these rules.
-    pub fn new(problem: &'a Problem, named: &'a RuleList) -> Judge<'a>
+    /// A judge of lines of this problem, under these rules, in a log with this goal or none.
+    pub fn new(problem: &'a Problem, named: &'a RuleList, goal: Option<u32>) -> Judge<'a>
+        requires { GoalFits problem.now None goal }
         ensures problem { result.problem ≡ problem.now }
         ensures named { result.named ≡ named.now }
+        ensures goal { result.goal ≡ goal }
     {
         Judge {
             problem,
             named,
+            goal,
             tails: None,
         }
     }
 
-    /// Reads the next line of a log's tree from its text, line `number` of all, and judges it under
+    /// Reads the next line of the tree of a log without a goal from its text, line `number` of all, and judges it under
     /// the domains there: None where it is refused for no cause, and then the walk has read it.
     /// After a refusal or want of memory the walk is of no use.
     pub fn read(
@@ -73,14 +81,13 @@ impl<'a> Judge<'a> {
         bytes: &[u8],
         number: u32,
     ) -> Result<Option<LogRefusal>, AllocError>
+        requires plain { self.old.goal ≡ None }
         requires state { (turn : Option Turn) × (lines : List Line) × IsStateOf self.old.problem turn lines walk.old }
         ensures same { self.new ≡ self.old }
-        ensures read { IfOk result (λ found. (turn : Option Turn) (lines : List Line)
-            → IsStateOf self.old.problem turn lines walk.old → number ≡ header_lines turn + length lines + 1 →
+        ensures read { IfOk result (λ found. (turn : Option Turn) (lines : List Line) → IsStateOf self.old.problem turn lines walk.old → number ≡ header_lines turn + length lines + 1 →
             MatchOption found
             (IsLineRead self.old.problem self.old.named turn lines bytes.now walk.new)
-            (λ why. Cause self.old.problem
-            (Reading (record { named = self.old.named; turn = turn; goal = None; lines = lines })) bytes.now why)) }
+            (λ why. Cause self.old.problem (Reading (record { named = self.old.named; turn = turn; goal = None; lines = lines })) bytes.now why)) }
         ensures walks { IfOk result (StillWalks self.old.problem walk.new) }
     {
         if walk.is_whole() {
@@ -90,6 +97,40 @@ impl<'a> Judge<'a> {
             Ok(line) => self.pass(alloc, walk, &line, number),
             Err(Fail::Memory) => Err(AllocError),
             Err(Fail::Refused(why)) => Ok(Some(spelling_refusal(why, number))),
+        }
+    }
+
+    /// Reads the next line of a log's tree from its text, line `number` of all, and judges it under the domains there. The
+    /// walk has read the line where it is refused for no cause; after a refusal or want of memory it is of no use.
+    pub fn read_line(
+        &mut self,
+        alloc: Global,
+        walk: &mut Walk,
+        bytes: &[u8],
+        number: u32,
+    ) -> Result<Line, Fail<LogRefusal>>
+        requires state { (turn : Option Turn) × (lines : List Line) × IsStateOf self.old.problem turn lines walk.old }
+        ensures same { self.new ≡ self.old }
+        ensures read { MatchAnswer result
+            (λ line. (turn : Option Turn) (lines : List Line) → IsStateOf self.old.problem turn lines walk.old →
+            IsLineReadAs self.old.problem self.old.goal self.old.named turn lines bytes.now walk.new line)
+            (λ why. (turn : Option Turn) (lines : List Line) → IsStateOf self.old.problem turn lines walk.old →
+            number ≡ header_lines_for self.old.goal turn + length lines + 1 →
+            CauseBehindFor self.old.problem self.old.goal
+            (record { named = self.old.named; turn = turn; goal = self.old.goal; lines = lines }) bytes.now why) }
+    {
+        if walk.is_whole() {
+            return Err(Fail::Refused(LogRefusal::Extra(number)));
+        }
+        let line = match read_line_for(alloc, self.problem, self.goal, bytes) {
+            Ok(line) => line,
+            Err(Fail::Memory) => return Err(Fail::Memory),
+            Err(Fail::Refused(why)) => return Err(Fail::Refused(spelling_refusal(why, number))),
+        };
+        match self.pass(alloc, walk, &line, number) {
+            Ok(None) => Ok(line),
+            Ok(Some(why)) => Err(Fail::Refused(why)),
+            Err(_) => Err(Fail::Memory),
         }
     }
 
@@ -104,15 +145,12 @@ impl<'a> Judge<'a> {
     ) -> Result<Option<LogRefusal>, AllocError>
         requires state { (turn : Option Turn) × (lines : List Line) × IsStateOf self.old.problem turn lines walk.old }
         requires part { walk.old.whole ≡ false }
-        requires line { LineFits self.old.problem line.now }
+        requires line { LineFitsFor self.old.problem self.old.goal line.now }
         ensures same { self.new ≡ self.old }
-        ensures passed { IfOk result (λ found. (turn : Option Turn) (lines : List Line)
-            → IsStateOf self.old.problem turn lines walk.old →
+        ensures passed { IfOk result (λ found. (turn : Option Turn) (lines : List Line) → IsStateOf self.old.problem turn lines walk.old →
             MatchOption found
-            (IsSound self.old.problem self.old.named (domains_at self.old.problem turn lines (length lines)) line.now
-            × IsStateOf self.old.problem turn (lines ++ line.now ∷ []) walk.new)
-            (LineCause self.old.problem self.old.named (domains_at self.old.problem turn lines (length lines)) number
-            line.now)) }
+            (IsSoundFor self.old.problem self.old.goal self.old.named (domains_at self.old.problem turn lines (length lines)) line.now × IsStateOf self.old.problem turn (lines ++ line.now ∷ []) walk.new)
+            (LineCauseFor self.old.problem self.old.goal self.old.named (domains_at self.old.problem turn lines (length lines)) number line.now)) }
     {
         self.problem.prove_limits();
         walk.domains().prove_facts();
@@ -132,13 +170,13 @@ impl<'a> Judge<'a> {
         number: u32,
     ) -> Result<Option<LogRefusal>, AllocError>
         requires domains { BelongsTo self.old.problem doms.now }
-        requires line { LineFits self.old.problem line.now }
+        requires line { LineFitsFor self.old.problem self.old.goal line.now }
         ensures same { self.new ≡ self.old }
         ensures cause { IfOk result (λ found. MatchOption found
-            (IsSound self.old.problem self.old.named (has_domain doms.now) line.now)
-            (LineCause self.old.problem self.old.named (has_domain doms.now) number line.now)) }
+            (IsSoundFor self.old.problem self.old.goal self.old.named (has_domain doms.now) line.now)
+            (LineCauseFor self.old.problem self.old.goal self.old.named (has_domain doms.now) number line.now)) }
     {
-        if let Some(why) = plain_refusal(self.problem, self.named, doms, line, number) {
+        if let Some(why) = plain_refusal(self.problem, self.named, self.goal, doms, line, number) {
             return Ok(Some(why));
         }
         match self.leaf_escape(alloc, doms, line)? {
@@ -147,7 +185,7 @@ impl<'a> Judge<'a> {
         }
     }
 
-    // The word that escapes a dead or a bound leaf; None exactly where the leaf holds, and for
+    // The word that escapes a dead, a bound or a free leaf; None exactly where the leaf holds, and for
     // other lines.
     pub fn leaf_escape(
         &mut self,
@@ -156,12 +194,12 @@ impl<'a> Judge<'a> {
         line: &Line,
     ) -> Result<Option<Word>, AllocError>
         requires domains { BelongsTo self.old.problem doms.now }
-        requires line { LineFits self.old.problem line.now }
+        requires line { LineFitsFor self.old.problem self.old.goal line.now }
         requires short { ListsShortOnly self.old.problem line.now }
         ensures same { self.new ≡ self.old }
         ensures escape { IfOk result (λ found. MatchOption found
-            (HoldsByWords self.old.problem (has_domain doms.now) line.now)
-            (Escapes self.old.problem (has_domain doms.now) line.now)) }
+            (HoldsByWordsFor self.old.problem self.old.goal (has_domain doms.now) line.now)
+            (EscapesFor self.old.problem self.old.goal (has_domain doms.now) line.now)) }
     {
         match line {
             Line::Dead { p, len, rules } => self.dead_escape(alloc, doms, *p, *len, rules),
@@ -171,6 +209,17 @@ impl<'a> Judge<'a> {
                 rules,
                 weights,
             } => self.bound_escape(alloc, doms, *p, *turns, rules, weights),
+            Line::Free {
+                turns,
+                reward,
+                rules,
+                weights,
+            } => match self.goal {
+                Some(goal) => {
+                    self.free_escape(alloc, doms, goal, *turns, *reward, rules, weights)
+                }
+                None => Ok(None),
+            },
             _ => Ok(None),
         }
     }
@@ -187,7 +236,7 @@ impl<'a> Judge<'a> {
     ) -> Result<Option<Word>, AllocError>
         requires domains { BelongsTo self.old.problem doms.now }
         requires position { p < cells self.old.problem }
-        requires long { (1 ≤ len) × (len ≤ 16800) }
+        requires long { (1 ≤ len) × (len ≤ LONGEST_WORD) }
         requires short { NamesShortOnly self.old.problem rules.now }
         ensures same { self.new ≡ self.old }
         ensures escape { IfOk result (λ found. MatchOption found
@@ -214,7 +263,7 @@ impl<'a> Judge<'a> {
         requires domains { BelongsTo self.old.problem doms.now }
         requires position { p < cells self.old.problem }
         requires some { 1 ≤ turns }
-        requires few { turns * cells self.old.problem ≤ 16800 }
+        requires few { turns * cells self.old.problem ≤ LONGEST_WORD }
         requires short { NamesShortOnly self.old.problem rules.now }
         ensures same { self.new ≡ self.old }
         ensures escape { IfOk result (λ found. MatchOption found
@@ -223,6 +272,44 @@ impl<'a> Judge<'a> {
     {
         let tails = tails_of(alloc, self.problem, self.tails.take(), rules)?;
         let found = bound_escape(alloc, self.problem, &tails, doms, p, turns, weights)?;
+        self.tails = Some(tails);
+        Ok(found)
+    }
+
+    // The least of the heaviest words of so many turns that are clean for the rules, with a reward
+    // for each free weekend, where it weighs enough.
+    fn free_escape(
+        &mut self,
+        alloc: Global,
+        doms: &Domains,
+        goal: u32,
+        turns: u32,
+        reward: u32,
+        rules: &RuleList,
+        weights: &Weights,
+    ) -> Result<Option<Word>, AllocError>
+        requires domains { BelongsTo self.old.problem doms.now }
+        requires goal { GoalFits self.old.problem None (Some goal) }
+        requires some { 1 ≤ turns }
+        requires few { turns * cells self.old.problem ≤ LONGEST_WORD }
+        requires reward { reward ≤ GREATEST_REWARD }
+        requires short { NamesShortOnly self.old.problem rules.now }
+        ensures same { self.new ≡ self.old }
+        ensures escape { IfOk result (λ found. MatchOption found
+            (IsTooLightFree self.old.problem goal (has_domain doms.now) turns reward rules.now weights.now)
+            (EscapesFree self.old.problem goal (has_domain doms.now) (Free turns reward rules.now weights.now))) }
+    {
+        let tails = tails_of(alloc, self.problem, self.tails.take(), rules)?;
+        let found = free_escape(
+            alloc,
+            self.problem,
+            &tails,
+            doms,
+            goal,
+            turns,
+            reward,
+            weights,
+        )?;
         self.tails = Some(tails);
         Ok(found)
     }

@@ -24,11 +24,14 @@ pub struct LeafJudge<'a> {
 }
 
 impl<'a> Model for LeafJudge<'a> {
+    ghost use Rattle.std.specs.Prelude.{◌≡◌, None};
     ghost use Rattle.rwsp_terms.specs.Instance.{Instance};
 
     ghost Value = { Instance };
 
     ghost view = { λ j. j.judge.problem };
+
+    ghost invariant = { λ j. j.judge.goal ≡ None };
 }
 
 impl<'a> LeafJudge<'a> {
@@ -37,7 +40,7 @@ impl<'a> LeafJudge<'a> {
         ensures { result ≡ problem.now }
     {
         LeafJudge {
-            judge: Judge::new(problem, named),
+            judge: Judge::new(problem, named, None),
         }
     }
 

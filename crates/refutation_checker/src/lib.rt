@@ -4,6 +4,7 @@
 mod bound;
 mod chunk;
 mod chunk_starts;
+mod free_check;
 mod header;
 mod judge;
 mod kept_tails;
@@ -22,6 +23,7 @@ mod unread_splits;
 mod verdict;
 mod workers;
 
+pub use free_check::check_free;
 pub use laws::texts_have_a_verdict;
 pub use leaf_judge::{LeafJudge, go_past};
 pub use log_check::check_log;

@@ -1,5 +1,5 @@
 // The verdict on a log without its text.
-ghost use Rattle.std.specs.Prelude.{◌≡◌, ℕ, ◌+◌, ◌<◌, length, IfOk, MatchOption};
+ghost use Rattle.std.specs.Prelude.{◌≡◌, ℕ, ◌+◌, ◌<◌, length, None, IfOk, MatchOption};
 ghost use Rattle.rwsp_model.specs.Refusals.{MatchAnswer};
 ghost use Rattle.refutation_terms.specs.Tree.{IsTree};
 ghost use Rattle.refutation_terms.specs.Log.{Fits, Passes};
@@ -60,7 +60,7 @@ fn tree_refusal(
 {
     let lines = log.lines();
     let mut walk = Walk::new(alloc, problem, log.turn())?;
-    let mut judge = Judge::new(problem, log.named());
+    let mut judge = Judge::new(problem, log.named(), None);
     for i in 0..lines.len() {
         if let Some(why) = pass_at(alloc, &mut judge, &mut walk, log, i)? {
             return Ok(Some(why));
@@ -80,6 +80,7 @@ fn pass_at(
     requires place { i < length log.now.lines }
     requires fits { Fits judge.old.problem log.now }
     requires named { judge.old.named ≡ log.now.named }
+    requires plain { judge.old.goal ≡ None }
     requires before { IsPassed judge.old.problem log.now i walk.old }
     ensures same { judge.new ≡ judge.old }
     ensures passed { IfOk result (λ found. MatchOption found

@@ -1,8 +1,8 @@
 // The rules of a line's list whose windows are too long for layers.
-ghost use Rattle.std.specs.Prelude.{◌≡◌, ◌≤◌, ◌<◌, ◌↔◌, length, IsTrue, MatchOption};
+ghost use Rattle.std.specs.Prelude.{◌≡◌, ◌≤◌, ◌<◌, ◌↔◌, ℕ, length, Option, IsTrue, MatchOption};
 ghost use Rattle.rwsp_terms.specs.Rules.{rules, NamesShortOnly};
 ghost use Rattle.rwsp_model.specs.RuleNumbers.{IsShortNumber};
-ghost use Rattle.refutation_terms.specs.Log.{AreRules, LineFits, ListsShortOnly};
+ghost use Rattle.refutation_terms.specs.Log.{AreRules, LineFitsFor, ListsShortOnly};
 ghost use Rattle.refutation_terms.specs.Verdict.{IsLeast, IsLongIn, ListsLong};
 
 use refutation_terms::Line;
@@ -33,10 +33,10 @@ fn least_long(problem: &Problem, list: &RuleList) -> Option<u32>
     None
 }
 
-/// The number of the least rule in the list of a dead or a bound leaf that isn't short; None where all are short, and
-/// for lines without a list. Goes along the list once.
+/// The number of the least rule in the list of a leaf that isn't short; None where all are short, and for
+/// lines without a list. Goes along the list once.
 pub fn long_rule(problem: &Problem, line: &Line) -> Option<u32>
-    requires { LineFits problem.now line.now }
+    requires { (goal : Option ℕ) × LineFitsFor problem.now goal line.now }
     ensures { MatchOption result
         (ListsShortOnly problem.now line.now)
         (λ k. IsLeast (ListsLong problem.now line.now) k) }

@@ -1,6 +1,7 @@
 // Whether a line stands by itself: what can be judged without searching for a word.
-ghost use Rattle.std.specs.Prelude.{◌≡◌, ◌<◌, ◌↔◌, length, IsTrue, false, MatchOption};
-ghost use Rattle.refutation_terms.specs.Log.{LineFits};
+ghost use Rattle.std.specs.Prelude.{◌≡◌, ◌<◌, ◌↔◌, length, IsTrue, false, None, MatchOption};
+ghost use Rattle.refutation_terms.specs.Log.{GoalFits, HoldsFor, LineFitsFor};
+ghost use Rattle.refutation_terms.specs.declared.lines.Line.TheVariants.{Few};
 ghost use Rattle.refutation_terms.specs.Tree.{is_idle};
 ghost use Rattle.domain_store.specs.Store.{BelongsTo, has_domain};
 ghost use Rattle.refutation_checker.specs.LineVerdicts.{StandsPlainly, IsPlainlySound, IsPlainFailure, PlainCause};
@@ -8,7 +9,7 @@ ghost use Rattle.refutation_checker.specs.LineVerdicts.{StandsPlainly, IsPlainly
 use crate::long_rules::long_rule;
 use crate::unnamed_rules::unnamed_rule;
 use domain_store::Domains;
-use plain_leaves::{day_holds, window_holds};
+use plain_leaves::{day_holds, few_holds, window_holds};
 use refutation_terms::{Line, LogRefusal};
 use rwsp_model::Problem;
 use rwsp_terms::{RuleList, Symbol};
@@ -27,11 +28,12 @@ fn can_split(problem: &Problem, doms: &Domains, p: u32, x: Symbol) -> bool
     doms.has(p, x)
 }
 
-// Whether a split isn't idle, or a window or a day leaf holds. A dead or a bound leaf isn't judged here.
-fn stands_plainly(problem: &Problem, doms: &Domains, line: &Line) -> bool
+// Whether a split isn't idle, or a window, a day or a few leaf holds. Leaves that are judged by words aren't judged here.
+fn stands_plainly(problem: &Problem, goal: Option<u32>, doms: &Domains, line: &Line) -> bool
+    requires goal { GoalFits problem.now None goal }
     requires domains { BelongsTo problem.now doms.now }
-    requires line { LineFits problem.now line.now }
-    ensures { IsTrue result ↔ StandsPlainly problem.now (has_domain doms.now) line.now }
+    requires line { LineFitsFor problem.now goal line.now }
+    ensures { IsTrue result ↔ StandsPlainly problem.now goal (has_domain doms.now) line.now }
 {
     doms.prove_facts();
     match line {
@@ -40,7 +42,21 @@ fn stands_plainly(problem: &Problem, doms: &Domains, line: &Line) -> bool
         Line::Day { day, x, over } => day_holds(problem, doms, *day, *x, *over),
         Line::Dead { .. } => true,
         Line::Bound { .. } => true,
-        Line::Few | Line::Free { .. } | Line::Unfinished => false,
+        Line::Free { .. } => true,
+        Line::Few => few_stands(problem, goal, doms),
+        Line::Unfinished => false,
+    }
+}
+
+// Whether fewer weeks than the goal can be free; not without a goal.
+fn few_stands(problem: &Problem, goal: Option<u32>, doms: &Domains) -> bool
+    requires goal { GoalFits problem.now None goal }
+    requires domains { BelongsTo problem.now doms.now }
+    ensures { IsTrue result ↔ HoldsFor problem.now goal (has_domain doms.now) Few }
+{
+    match goal {
+        Some(goal) => few_holds(problem, doms, goal),
+        None => false,
     }
 }
 
@@ -55,21 +71,23 @@ fn plain_failure(line: &Line, number: u32) -> LogRefusal
     }
 }
 
-/// The lowest cause to refuse a line as text line `number`, but for a word that escapes a dead or a bound leaf; None
-/// exactly where there is no other cause. It goes by a rule that isn't named, an idle split, a rule of a list that
-/// isn't short, a window or a day leaf that doesn't hold, and a case that wasn't worked out.
+/// The lowest cause to refuse a line as text line `number`, but for a word that escapes a leaf; None exactly
+/// where there is no other cause. It goes by a rule that isn't named, an idle split, a rule of a list that isn't short, a
+/// window, a day or a few leaf that doesn't hold, and a case that wasn't worked out.
 pub fn plain_refusal(
     problem: &Problem,
     named: &RuleList,
+    goal: Option<u32>,
     doms: &Domains,
     line: &Line,
     number: u32,
 ) -> Option<LogRefusal>
+    requires goal { GoalFits problem.now None goal }
     requires domains { BelongsTo problem.now doms.now }
-    requires line { LineFits problem.now line.now }
+    requires line { LineFitsFor problem.now goal line.now }
     ensures { MatchOption result
-        (IsPlainlySound problem.now named.now (has_domain doms.now) line.now)
-        (λ why. PlainCause problem.now named.now (has_domain doms.now) number line.now why) }
+        (IsPlainlySound problem.now goal named.now (has_domain doms.now) line.now)
+        (λ why. PlainCause problem.now goal named.now (has_domain doms.now) number line.now why) }
 {
     if let Some(rule) = unnamed_rule(problem, named, line) {
         return Some(LogRefusal::Unnamed(number, rule));
@@ -77,7 +95,7 @@ pub fn plain_refusal(
     if let Some(rule) = long_rule(problem, line) {
         return Some(LogRefusal::Long(number, rule));
     }
-    if stands_plainly(problem, doms, line) {
+    if stands_plainly(problem, goal, doms, line) {
         return None;
     }
     Some(plain_failure(line, number))

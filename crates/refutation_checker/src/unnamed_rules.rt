@@ -1,7 +1,7 @@
 // The least rule that a line cites and the header doesn't name.
-ghost use Rattle.std.specs.Prelude.{◌≡◌, Contains, MatchOption};
+ghost use Rattle.std.specs.Prelude.{◌≡◌, ◌⊎◌, ℕ, Contains, Option, MatchOption};
 ghost use Rattle.rwsp_terms.specs.Instance.{IsDay};
-ghost use Rattle.refutation_terms.specs.Log.{Cites, CitesOnlyNamed, LineFits, WeightsFit};
+ghost use Rattle.refutation_terms.specs.Log.{Cites, CitesOnlyNamed, LineFitsFor, WeightsFit};
 ghost use Rattle.refutation_terms.specs.Verdict.{IsLeast, IsUnnamed};
 ghost use Rattle.refutation_log.specs.Cited.{IsDayRule, IsWeighedDayRule};
 ghost use Rattle.refutation_checker.specs.Outside.{IsLeastOutside, lesser};
@@ -65,23 +65,37 @@ fn least_day_outside(problem: &Problem, weights: &Weights, named: &RuleList) -> 
     least
 }
 
+// The least rule of the list or of a day with a weight that isn't named.
+fn least_of_words(
+    problem: &Problem,
+    rules: &RuleList,
+    weights: &Weights,
+    named: &RuleList,
+) -> Option<u32>
+    requires { WeightsFit problem.now weights.now }
+    ensures { IsLeastOutside (λ k. Contains rules.now k ⊎ IsWeighedDayRule problem.now weights.now k) named.now result }
+{
+    lesser(
+        least_outside(rules, named),
+        least_day_outside(problem, weights, named),
+    )
+}
+
 /// The number of the least rule that the line cites and the list doesn't name; None where it names them all.
 ///
 /// Each number that the line cites is looked up in the list, which costs the logarithm of the list's length.
 pub fn unnamed_rule(problem: &Problem, named: &RuleList, line: &Line) -> Option<u32>
-    requires { LineFits problem.now line.now }
+    requires { (goal : Option ℕ) × LineFitsFor problem.now goal line.now }
     ensures { MatchOption result
         (CitesOnlyNamed problem.now named.now line.now)
         (λ k. IsLeast (IsUnnamed problem.now named.now (Cites problem.now line.now)) k) }
 {
     match line {
-        Line::Split { .. } | Line::Few | Line::Free { .. } | Line::Unfinished => None,
+        Line::Split { .. } | Line::Few | Line::Unfinished => None,
         Line::Window { rule, .. } => outside(*rule, named),
         Line::Day { day, .. } => day_outside(problem, *day, named),
         Line::Dead { rules, .. } => least_outside(rules, named),
-        Line::Bound { rules, weights, .. } => lesser(
-            least_outside(rules, named),
-            least_day_outside(problem, weights, named),
-        ),
+        Line::Bound { rules, weights, .. } => least_of_words(problem, rules, weights, named),
+        Line::Free { rules, weights, .. } => least_of_words(problem, rules, weights, named),
     }
 }

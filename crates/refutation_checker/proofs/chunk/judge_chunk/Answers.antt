@@ -13,7 +13,7 @@ loop-bytes-init c =
     let st = c.requires.state in
     record {
       state = (st.0, st.1, subst (IsStateOf P st.0 st.1) (sym (ap (λ (t : Start). t.walk) c.chunk.view_is)) st.2);
-      judge = judge_is P R c.new-judge.result c.new-judge.ensures.problem c.new-judge.ensures.named;
+      judge = judge_is P R c.new-judge.result c.new-judge.ensures.problem c.new-judge.ensures.named c.new-judge.ensures.goal;
       judged = judged_none P R s c.new-reader.result c.chunk.inside.walk c.chunk.inside.first
           (c.new-reader.ensures ∙ ap (λ (t : Start). t.bytes) c.chunk.view_is)
           (ap (λ (t : Start). t.walk) c.chunk.view_is)
@@ -21,7 +21,7 @@ loop-bytes-init c =
     }
 
 pub read-requires : goal.read-requires
-read-requires c = record { state = subst (λ (J : Judging). StillWalks J.problem c.loop-bytes.walk None) (sym c.loop-bytes.invariant.judge) c.loop-bytes.invariant.state }
+read-requires c = record { plain = ap (λ (J : Judging). J.goal) c.loop-bytes.invariant.judge; state = subst (λ (J : Judging). StillWalks J.problem c.loop-bytes.walk None) (sym c.loop-bytes.invariant.judge) c.loop-bytes.invariant.state }
 
 pub returns-in-Ok-Some : goal.returns-in-Ok-Some
 returns-in-Ok-Some c =

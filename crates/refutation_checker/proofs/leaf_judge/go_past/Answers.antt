@@ -1,5 +1,5 @@
 -- A line that holds is no idle split.
-use Rattle.std.proofs.Common.{length, subst}
+use Rattle.std.proofs.Common.{length, None, subst}
 use Rattle.rwsp_model.proofs.Limits.{some_cells}
 use Rattle.refutation_terms.specs.Tree.{domains_at}
 use Rattle.refutation_terms.specs.Log.{Holds}
@@ -24,5 +24,5 @@ step-requires-clause-useful c =
     let D = has_domain c.domains.result.now in
     let same = c.domains.ensures.has P turn lines state in
     let holds : Holds P D line = same_holds P E D line (some_cells P c.prove_limits.ensures) c.requires.fits (turned_round P D E same) c.requires.holds.3 in
-    may_step P S line now tests state.belongs (positions_of P S now state.belongs) c.requires.fits
+    may_step P None S line now tests state.belongs (positions_of P S now state.belongs) c.requires.fits
     (subst (λ T. Holds P (has_domain T) line) here holds)

@@ -2,8 +2,9 @@
 use Rattle.std.proofs.Common.{sym, subst}
 use Rattle.std.specs.Prelude.{MatchOption}
 use Rattle.refutation_terms.specs.declared.lines.Line.{Line}
-use Rattle.refutation_terms.specs.Log.{ListsShortOnly}
+use Rattle.refutation_terms.specs.Log.{ListsShortOnly, LineFits}
 use Rattle.refutation_terms.specs.Verdict.{IsLeast, ListsLong}
+use Rattle.refutation_checker.proofs.GoalLines.{shared_fits, free_bound}
 use Rattle.refutation_checker.proofs.long_rules.long_rule.Goals as goal
 
 pub returns-in-Dead : goal.returns-in-Dead
@@ -15,3 +16,8 @@ pub returns-in-Bound : goal.returns-in-Bound
 returns-in-Bound c =
     let P = c.args.problem.now in
     subst (λ (line : Line). MatchOption c.least_long-in-Bound.result (ListsShortOnly P line) (λ k. IsLeast (ListsLong P line) k)) (sym c.in-Bound.is) c.least_long-in-Bound.ensures
+
+pub returns-in-Free : goal.returns-in-Free
+returns-in-Free c =
+    let P = c.args.problem.now in
+    subst (λ (line : Line). MatchOption c.least_long-in-Free.result (ListsShortOnly P line) (λ k. IsLeast (ListsLong P line) k)) (sym c.in-Free.is) c.least_long-in-Free.ensures

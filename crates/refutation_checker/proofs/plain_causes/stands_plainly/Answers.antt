@@ -4,4 +4,4 @@ use Rattle.refutation_checker.proofs.plain_causes.stands_plainly.Goals as goal
 
 pub returns-in-Day : goal.returns-in-Day
 returns-in-Day c =
-    day_stands c.args.problem.now (has_domain c.args.doms.now) c.args.line.now c.in-Day.day c.in-Day.x c.in-Day.over c.day_holds.result c.in-Day.is c.day_holds.ensures
+    day_stands c.args.problem.now c.args.goal (has_domain c.args.doms.now) c.args.line.now c.in-Day.day c.in-Day.x c.in-Day.over c.day_holds.result c.in-Day.is c.day_holds.ensures

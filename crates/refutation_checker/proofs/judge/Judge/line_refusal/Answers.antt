@@ -10,5 +10,5 @@ returns-in-Some-clause-cause c =
     let D = has_domain c.args.doms.now in
     let line = c.args.line.now in
     let why = c.in-Some.why in
-    plain_is_cause c.args.self.now.problem c.args.self.now.named D c.args.number line why
-    (subst (λ (j : Judging). PlainCause j.problem j.named D c.args.number line why) c.self.view_is (rw c.in-Some.is at c.plain_refusal.ensures))
+    plain_is_cause c.args.self.now.problem c.args.self.now.goal c.args.self.now.named D c.args.number line why
+    (subst (λ (j : Judging). PlainCause j.problem j.goal j.named D c.args.number line why) c.self.view_is (rw c.in-Some.is at c.plain_refusal.ensures))

@@ -1,4 +1,5 @@
-use Rattle.std.proofs.Common.{subst, IsTrue}
+use Rattle.std.proofs.Common.{ℕ, Option, None, subst, sym, IsTrue}
+use Rattle.refutation_terms.specs.Log.{LineFitsFor}
 use Rattle.refutation_terms.specs.Verdict.{Spells}
 use Rattle.refutation_terms.proofs.Spelled.{spelled_lines_fit}
 use Rattle.refutation_checker.specs.LineTexts.{Judging}
@@ -7,7 +8,9 @@ use Rattle.refutation_checker.proofs.judge.Judge.read.Goals as goal
 
 pub pass-requires-clause-line : goal.pass-requires-clause-line
 pass-requires-clause-line c =
-    (spelled_lines_fit c.args.self.now.problem c.args.bytes.now c.in-Ok.line (subst (λ (j : Judging). Spells j.problem c.args.bytes.now c.in-Ok.line) c.self.view_is c.in-Ok.ensures)).0
+    let P = c.args.self.now.problem in
+    let spelled : Spells P c.args.bytes.now c.in-Ok.line = subst (λ (j : Judging). Spells j.problem c.args.bytes.now c.in-Ok.line) c.self.view_is c.in-Ok.ensures in
+    subst (λ (o : Option ℕ). LineFitsFor P o c.in-Ok.line) (sym c.requires.plain) (spelled_lines_fit P c.args.bytes.now c.in-Ok.line spelled).0
 
 pub returns-in-Ok-clause-read : goal.returns-in-Ok-clause-read
 returns-in-Ok-clause-read c =
@@ -16,8 +19,8 @@ returns-in-Ok-clause-read c =
     passed_reads P c.args.self.now.named c.args.walk.now bytes c.in-Ok.line c.args.number c.pass.new.walk c.pass.result
     (subst (λ (j : Judging). Spells j.problem bytes c.in-Ok.line) c.self.view_is c.in-Ok.ensures)
     (λ turn lines state tree. let whole : IsTrue c.is_whole.result = (c.is_whole.ensures.tree P turn lines state).1 tree in absurd (cc))
-    c.pass.ensures.passed
+    (rw c.requires.plain at c.pass.ensures.passed)
 
 pub returns-in-Ok-clause-walks : goal.returns-in-Ok-clause-walks
 returns-in-Ok-clause-walks c =
-    passed_walks c.args.self.now.problem c.args.self.now.named c.args.walk.now c.pass.new.walk c.in-Ok.line c.args.number c.pass.result c.requires.state c.pass.ensures.passed
+    passed_walks c.args.self.now.problem c.args.self.now.named c.args.walk.now c.pass.new.walk c.in-Ok.line c.args.number c.pass.result c.requires.state (rw c.requires.plain at c.pass.ensures.passed)

@@ -1,12 +1,19 @@
--- The domains of the walk are those at the line.
-use Rattle.std.proofs.Common.{length, subst}
+-- The domains of the walk are those at the line, and the log has no goal.
+use Rattle.std.proofs.Common.{ℕ, Option, None, length, subst, sym}
 use Rattle.rwsp_terms.specs.Instance.{Instance}
 use Rattle.refutation_terms.specs.Tree.{domains_at}
-use Rattle.refutation_terms.specs.Verdict.{Escapes}
+use Rattle.refutation_terms.specs.Log.{LineFits, LineFitsFor}
+use Rattle.refutation_terms.specs.Verdict.{Escapes, EscapesFor}
 use Rattle.domain_store.specs.Store.{has_domain}
-use Rattle.refutation_checker.specs.LineVerdicts.{HoldsByWords}
-use Rattle.refutation_checker.proofs.LeafJudging.{holds_there, fails_there}
+use Rattle.refutation_checker.specs.LineVerdicts.{HoldsByWordsFor}
+use Rattle.refutation_checker.proofs.LeafJudging.{by_words, holds_there, fails_there}
 use Rattle.refutation_checker.proofs.leaf_judge.LeafJudge.holds.Goals as goal
+
+pub leaf_escape-requires-clause-line : goal.leaf_escape-requires-clause-line
+leaf_escape-requires-clause-line c =
+    let leaf = c.args.leaf.now in
+    subst (λ (o : Option ℕ). LineFitsFor c.self.inside.judge.problem o leaf) (sym c.self.invariant)
+    (subst (λ (Q : Instance). LineFits Q leaf) (sym c.self.view_is) c.requires.fits)
 
 pub returns-in-Some-clause-holds : goal.returns-in-Some-clause-holds
 returns-in-Some-clause-holds c =
@@ -16,7 +23,8 @@ returns-in-Some-clause-holds c =
     let leaf = c.args.leaf.now in
     let word = c.in-Some._word in
     fails_there P D (domains_at P turn lines (length lines)) leaf word c.requires.fits (c.domains.ensures.has P turn lines state)
-    (subst (λ (Q : Instance). Escapes Q D leaf word) c.self.view_is (rw c.in-Some.is at c.in_ok-_word.ensures.escape))
+    (subst (λ (Q : Instance). Escapes Q D leaf word) c.self.view_is
+    (subst (λ (o : Option ℕ). EscapesFor c.self.inside.judge.problem o D leaf word) c.self.invariant (rw c.in-Some.is at c.in_ok-_word.ensures.escape)))
 
 pub returns-clause-holds : goal.returns-clause-holds
 returns-clause-holds c =
@@ -25,4 +33,6 @@ returns-clause-holds c =
     let D = has_domain c.domains.result.now in
     let leaf = c.args.leaf.now in
     holds_there P D (domains_at P turn lines (length lines)) leaf c.requires.fits (c.domains.ensures.has P turn lines state)
-    (subst (λ (Q : Instance). HoldsByWords Q D leaf) c.self.view_is (rw c.in_default.is at c.in_ok-_word.ensures.escape))
+    (by_words P D leaf c.requires.fits
+    (subst (λ (Q : Instance). HoldsByWordsFor Q None D leaf) c.self.view_is
+    (subst (λ (o : Option ℕ). HoldsByWordsFor c.self.inside.judge.problem o D leaf) c.self.invariant (rw c.in_default.is at c.in_ok-_word.ensures.escape))))

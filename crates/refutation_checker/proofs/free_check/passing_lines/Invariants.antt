@@ -1,0 +1,12 @@
+use Rattle.std.proofs.Common.{◌≡◌, length, Some}
+use Rattle.refutation_checker.proofs.FreeReading.{ReadSoFar}
+use Rattle.refutation_checker.proofs.free_check.passing_lines.Given as goal
+
+abbrev pub invariant-loop-bytes : goal.invariant-loop-bytes
+invariant-loop-bytes l = record {
+  judge : l.judge ≡ record { problem = l.problem; named = l.header.named; goal = Some l.header.goal };
+  read : ReadSoFar l.problem l.header.named l.header.goal l.header.body.now l.reader l.walk l.lines.items;
+}
+
+abbrev pub decreases-loop-bytes : goal.decreases-loop-bytes
+decreases-loop-bytes l = length l.reader

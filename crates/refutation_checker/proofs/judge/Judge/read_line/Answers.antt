@@ -1,0 +1,38 @@
+use Rattle.std.proofs.Common.{List, subst, IsTrue, refl}
+use Rattle.refutation_terms.specs.declared.lines.Line.{Line}
+use Rattle.refutation_terms.specs.Verdict.{SpellsFor}
+use Rattle.refutation_terms.proofs.Spelled.{spelled_lines_fit_for}
+use Rattle.refutation_checker.specs.LineTexts.{Judging}
+use Rattle.refutation_checker.proofs.Judging.{read_as, refused_as}
+use Rattle.refutation_checker.proofs.judge.Judge.read_line.Goals as goal
+
+pub pass-requires-clause-line : goal.pass-requires-clause-line
+pass-requires-clause-line c =
+    let j = c.args.self.now in
+    let bytes = c.args.bytes.now in
+    let line = c.in-Ok.line in
+    let spelled : SpellsFor j.problem j.goal bytes line = subst (λ (j : Judging). SpellsFor j.problem j.goal bytes line) c.self.view_is c.in-Ok.ensures in
+    (spelled_lines_fit_for j.problem j.goal bytes line spelled).0
+
+pub returns-in-Ok-None-clause-read : goal.returns-in-Ok-None-clause-read
+returns-in-Ok-None-clause-read c =
+    λ turn lines state.
+    let j = c.args.self.now in
+    let bytes = c.args.bytes.now in
+    let line = c.in-Ok.line in
+    let spelled : SpellsFor j.problem j.goal bytes line = subst (λ (j : Judging). SpellsFor j.problem j.goal bytes line) c.self.view_is c.in-Ok.ensures in
+    read_as j.problem j.goal j.named turn lines bytes line c.pass.new.walk spelled
+    (λ tree. let whole : IsTrue c.is_whole.result = (c.is_whole.ensures.tree j.problem turn lines state).1 tree in absurd (cc))
+    ((rw c.in-Ok-None.field-0-is at c.in-Ok-None.ensures.passed) turn lines state)
+
+pub returns-in-Ok-Some-clause-read : goal.returns-in-Ok-Some-clause-read
+returns-in-Ok-Some-clause-read c =
+    λ turn lines state is.
+    let j = c.args.self.now in
+    let bytes = c.args.bytes.now in
+    let line = c.in-Ok.line in
+    let spelled : SpellsFor j.problem j.goal bytes line = subst (λ (j : Judging). SpellsFor j.problem j.goal bytes line) c.self.view_is c.in-Ok.ensures in
+    refused_as j.problem j.goal j.named turn lines bytes line c.args.number c.in-Ok-Some.why spelled
+    (λ tree. let whole : IsTrue c.is_whole.result = (c.is_whole.ensures.tree j.problem turn lines state).1 tree in absurd (cc))
+    is
+    ((rw c.in-Ok-Some.field-0-is at c.in-Ok-Some.ensures.passed) turn lines state)

@@ -1,0 +1,69 @@
+// The verdict on the text of a free log.
+ghost use Rattle.std.specs.Prelude.{◌≡◌, ◌≤◌, ◌+◌, ◌++◌, length, None, Some};
+ghost use Rattle.rwsp_terms.specs.declared.limits.TheConstants.{LONGEST_LOG};
+ghost use Rattle.rwsp_model.specs.Refusals.{MatchAnswer};
+ghost use Rattle.refutation_terms.specs.Log.{AreRules, GoalFits};
+ghost use Rattle.refutation_terms.specs.LogText.{free_header_text};
+ghost use Rattle.refutation_terms.specs.FreeVerdict.{IsFreeAccepted, IsFreeRefused};
+ghost use Rattle.refutation_checker.specs.FreeLines.{ArePassingLines};
+
+use crate::judge::Judge;
+use refutation_log::{FreeHeader, LineReader, Log, read_free_header};
+use refutation_terms::{Line, LogRefusal};
+use rwsp_model::{Fail, Problem};
+use std::alloc::Global;
+use tree_walk::Walk;
+
+/// The verdict on a text: the free log where it is the text of one that passes, else the first line with a cause to
+/// refuse it, and on that line the lowest cause. Only for weeks of seven days.
+pub fn check_free(alloc: Global, problem: &Problem, bytes: &[u8]) -> Result<Log, Fail<LogRefusal>>
+    requires days { problem.now.days ≡ 7 }
+    requires long { length bytes.now ≤ LONGEST_LOG }
+    ensures { MatchAnswer result (IsFreeAccepted problem.now bytes.now) (IsFreeRefused problem.now bytes.now) }
+{
+    let header = match read_free_header(alloc, problem, bytes) {
+        Ok(header) => header,
+        Err(fail) => return Err(fail),
+    };
+    match passing_lines(alloc, problem, &header) {
+        Ok(lines) => Ok(Log::with_goal(header.named, header.goal, lines)),
+        Err(fail) => Err(fail),
+    }
+}
+
+// The lines below a header, where they are one whole tree and none of them is refused.
+fn passing_lines(
+    alloc: Global,
+    problem: &Problem,
+    header: &FreeHeader,
+) -> Result<Vec<Line>, Fail<LogRefusal>>
+    requires rules { AreRules problem.now header.now.named }
+    requires goal { GoalFits problem.now None (Some header.now.goal) }
+    requires long { length header.now.body.now ≤ LONGEST_LOG }
+    ensures { MatchAnswer result
+        (λ lines. ArePassingLines problem.now header.now.named header.now.goal header.now.body.now lines.items)
+        (IsFreeRefused problem.now (free_header_text header.now.named header.now.goal ++ header.now.body.now)) }
+{
+    let mut walk = match Walk::new(alloc, problem, None) {
+        Ok(walk) => walk,
+        Err(_) => return Err(Fail::Memory),
+    };
+    let mut judge = Judge::new(problem, &header.named, Some(header.goal));
+    let mut reader = LineReader::new(header.body);
+    let mut lines = Vec::new(alloc);
+    while let Some(bytes) = reader.next() {
+        let number = lines.len() as u32 + 4;
+        let line = match judge.read_line(alloc, &mut walk, bytes, number) {
+            Ok(line) => line,
+            Err(fail) => return Err(fail),
+        };
+        if let Err(_) = lines.push(line) {
+            return Err(Fail::Memory);
+        }
+    }
+    if walk.is_whole() {
+        Ok(lines)
+    } else {
+        Err(Fail::Refused(LogRefusal::Ends))
+    }
+}
