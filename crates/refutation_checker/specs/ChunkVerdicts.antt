@@ -24,14 +24,16 @@ abbrev pub AreSoundBehind : Instance → List ℕ → Option Turn → List Line 
 AreSoundBehind P named turn earlier lines = AreSoundBehindFor P None named turn earlier lines
 
 -- the bytes are the text of such lines, and it is said whether the tree is whole with them
-pub record AreAllSound (P : Instance) (named : List ℕ) (turn : Option Turn) (earlier : List Line) (bytes : List ℕ) (whole : Bool) : Type 0 where
+pub record AreAllSound (P : Instance) (named : List ℕ) (turn : Option Turn) (earlier : List Line) (bytes : List ℕ)
+    (whole : Bool) : Type 0 where
   pub lines : List Line
   pub sound : AreSoundBehind P named turn earlier lines
   pub text : bytes ≡ lines_text P lines
   pub tree : IsTrue whole ↔ IsTree (earlier ++ lines)
 
 -- the bytes go on behind the text of such lines with a line that has this cause
-pub record IsChunkRefused (P : Instance) (named : List ℕ) (turn : Option Turn) (earlier : List Line) (bytes : List ℕ) (why : LogRefusal) : Type 0 where
+pub record IsChunkRefused (P : Instance) (named : List ℕ) (turn : Option Turn) (earlier : List Line) (bytes : List ℕ)
+    (why : LogRefusal) : Type 0 where
   pub lines : List Line
   pub line : List ℕ
   pub rest : List ℕ
@@ -42,7 +44,8 @@ pub record IsChunkRefused (P : Instance) (named : List ℕ) (turn : Option Turn)
 
 -- the answer to the bytes behind the earlier lines: whether the tree is whole with them, or why one is refused
 abbrev pub IsJudged : Instance → List ℕ → Option Turn → List Line → List ℕ → Result Bool (Fail LogRefusal) → Type 0
-IsJudged P named turn earlier bytes judged = MatchAnswer judged (AreAllSound P named turn earlier bytes) (IsChunkRefused P named turn earlier bytes)
+IsJudged P named turn earlier bytes judged = MatchAnswer judged (AreAllSound P named turn earlier bytes)
+    (IsChunkRefused P named turn earlier bytes)
 
 -- the bytes of some lines of a text, the number of the first of them, and the walk in front of it
 pub record Start : Type 0 where

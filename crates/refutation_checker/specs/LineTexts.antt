@@ -41,7 +41,8 @@ pub record IsLineReadAs (P : Instance) (goal : Option ℕ) (named : List ℕ) (t
   pub walked : IsStateOf P turn (lines ++ line ∷ []) w
 
 -- the bytes are the text of such a line in a log without a goal, and the walk has read it
-pub record IsLineRead (P : Instance) (named : List ℕ) (turn : Option Turn) (lines : List Line) (bytes : List ℕ) (w : State) : Type 0 where
+pub record IsLineRead (P : Instance) (named : List ℕ) (turn : Option Turn) (lines : List Line) (bytes : List ℕ)
+    (w : State) : Type 0 where
   pub line : Line
   pub spelled : bytes ≡ line_text P (raw P line)
   pub sound : IsSoundNext P named turn lines line

@@ -11,8 +11,8 @@ use Rattle.refutation_terms.specs.Tree.{is_idle}
 use Rattle.refutation_terms.specs.Log.{Cites, Holds, HoldsFor, ListsShortOnly, CitesOnlyNamed}
 use Rattle.refutation_terms.specs.Verdict.{IsLeast, IsUnnamed, ListsLong, IsPlainLeaf, EscapesFor}
 
--- a split that isn't idle, or a window, a day or a few leaf that holds in a log with this goal or none. Nothing is said of
--- leaves that are judged by words
+-- a split that isn't idle, or a window, a day or a few leaf that holds in a log with this goal or none. Nothing is said
+-- of leaves that are judged by words
 abbrev pub StandsPlainly : Instance → Option ℕ → Domains → Line → Type 0
 StandsPlainly P goal D (Dead p len R) = Unit {0}
 StandsPlainly P goal D (Bound p turns R y) = Unit {0}
@@ -35,8 +35,10 @@ IsIdleSplit P D leaf = ⊥
 abbrev pub PlainCause : Instance → Option ℕ → List ℕ → Domains → ℕ → Line → LogRefusal → Type 0
 PlainCause P goal named D n line (Refusals.Unnamed i k) = (i ≡ n) × IsLeast (IsUnnamed P named (Cites P line)) k
 PlainCause P goal named D n line (Refusals.Idle i) = (i ≡ n) × IsIdleSplit P D line
-PlainCause P goal named D n line (Refusals.Long i k) = (i ≡ n) × CitesOnlyNamed P named line × IsLeast (ListsLong P line) k
-PlainCause P goal named D n line (Refusals.Fails i) = (i ≡ n) × CitesOnlyNamed P named line × IsPlainLeaf line × (HoldsFor P goal D line → ⊥)
+PlainCause P goal named D n line (Refusals.Long i k) = (i ≡ n) × CitesOnlyNamed P named line
+    × IsLeast (ListsLong P line) k
+PlainCause P goal named D n line (Refusals.Fails i) = (i ≡ n) × CitesOnlyNamed P named line × IsPlainLeaf line
+    × (HoldsFor P goal D line → ⊥)
 PlainCause P goal named D n line (Refusals.Unfinished i) = (i ≡ n) × (line ≡ Unfinished)
 PlainCause P goal named D n line why = ⊥
 

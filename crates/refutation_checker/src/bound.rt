@@ -48,7 +48,8 @@ pub fn bound_escape(
 fn times(turns: u32, total: i64) -> i64
     requires few { turns ≤ LONGEST_WORD }
     requires above { neg_ℤ (pos (GREATEST_WEIGHT * MOST_SHIFTS * MOST_WEEKS * MOST_SYMBOLS * MOST_DAYS)) ≤ℤ total }
-    requires below { total ≤ℤ pos (GREATEST_WEIGHT * MOST_SHIFTS * MOST_WEEKS * MOST_SYMBOLS * MOST_DAYS + GREATEST_REWARD * (MOST_WEEKS + 1)) }
+    requires below { total ≤ℤ pos (GREATEST_WEIGHT * MOST_SHIFTS * MOST_WEEKS * MOST_SYMBOLS * MOST_DAYS +
+        GREATEST_REWARD * (MOST_WEEKS + 1)) }
     ensures { result ≡ pos turns *ℤ total }
 {
     i64::from(turns) * total
@@ -92,7 +93,8 @@ fn rewarded_total(problem: &Problem, weights: &Weights, goal: u32, reward: u32) 
     requires reward { reward ≤ GREATEST_REWARD }
     ensures value { result ≡ free_total problem.now weights.now reward goal }
     ensures above { neg_ℤ (pos (GREATEST_WEIGHT * MOST_SHIFTS * MOST_WEEKS * MOST_SYMBOLS * MOST_DAYS)) ≤ℤ result }
-    ensures below { result ≤ℤ pos (GREATEST_WEIGHT * MOST_SHIFTS * MOST_WEEKS * MOST_SYMBOLS * MOST_DAYS + GREATEST_REWARD * (MOST_WEEKS + 1)) }
+    ensures below { result ≤ℤ pos (GREATEST_WEIGHT * MOST_SHIFTS * MOST_WEEKS * MOST_SYMBOLS * MOST_DAYS +
+        GREATEST_REWARD * (MOST_WEEKS + 1)) }
 {
     total(problem, weights) + i64::from(reward * goal)
 }

@@ -33,8 +33,8 @@ use std::marker::Model;
 use tree_walk::Walk;
 use word_tail::TailRules;
 
-/// Judges lines of a log with a goal or none, under the rules that its header names. Tail rules that were made for a line serve the
-/// next lines with the same list.
+/// Judges lines of a log with a goal or none, under the rules that its header names. Tail rules that were made for a
+/// line serve the next lines with the same list.
 #[derive(Debug, Drop)]
 pub struct Judge<'a> {
     problem: &'a Problem,
@@ -52,7 +52,8 @@ impl<'a> Model for Judge<'a> {
 
     ghost view = { λ j. record { problem = j.problem.now; named = j.named.now; goal = j.goal } };
 
-    ghost invariant = { λ j. IfSome j.tails (λ tails. tails.problem ≡ j.problem.now) × GoalFits j.problem.now None j.goal };
+    ghost invariant = { λ j. IfSome j.tails (λ tails. tails.problem ≡ j.problem.now)
+        × GoalFits j.problem.now None j.goal };
 }
 
 impl<'a> Judge<'a> {
@@ -84,10 +85,12 @@ impl<'a> Judge<'a> {
         requires plain { self.old.goal ≡ None }
         requires state { (turn : Option Turn) × (lines : List Line) × IsStateOf self.old.problem turn lines walk.old }
         ensures same { self.new ≡ self.old }
-        ensures read { IfOk result (λ found. (turn : Option Turn) (lines : List Line) → IsStateOf self.old.problem turn lines walk.old → number ≡ header_lines turn + length lines + 1 →
+        ensures read { IfOk result (λ found. (turn : Option Turn) (lines : List Line)
+            → IsStateOf self.old.problem turn lines walk.old → number ≡ header_lines turn + length lines + 1 →
             MatchOption found
             (IsLineRead self.old.problem self.old.named turn lines bytes.now walk.new)
-            (λ why. Cause self.old.problem (Reading (record { named = self.old.named; turn = turn; goal = None; lines = lines })) bytes.now why)) }
+            (λ why. Cause self.old.problem
+            (Reading (record { named = self.old.named; turn = turn; goal = None; lines = lines })) bytes.now why)) }
         ensures walks { IfOk result (StillWalks self.old.problem walk.new) }
     {
         if walk.is_whole() {
@@ -100,8 +103,8 @@ impl<'a> Judge<'a> {
         }
     }
 
-    /// Reads the next line of a log's tree from its text, line `number` of all, and judges it under the domains there. The
-    /// walk has read the line where it is refused for no cause; after a refusal or want of memory it is of no use.
+    /// Reads the next line of a log's tree from its text, line `number` of all, and judges it under the domains there.
+    /// The walk has read the line where it is refused for no cause; after a refusal or want of memory it is of no use.
     pub fn read_line(
         &mut self,
         alloc: Global,
@@ -147,10 +150,13 @@ impl<'a> Judge<'a> {
         requires part { walk.old.whole ≡ false }
         requires line { LineFitsFor self.old.problem self.old.goal line.now }
         ensures same { self.new ≡ self.old }
-        ensures passed { IfOk result (λ found. (turn : Option Turn) (lines : List Line) → IsStateOf self.old.problem turn lines walk.old →
+        ensures passed { IfOk result (λ found. (turn : Option Turn) (lines : List Line)
+            → IsStateOf self.old.problem turn lines walk.old →
             MatchOption found
-            (IsSoundFor self.old.problem self.old.goal self.old.named (domains_at self.old.problem turn lines (length lines)) line.now × IsStateOf self.old.problem turn (lines ++ line.now ∷ []) walk.new)
-            (LineCauseFor self.old.problem self.old.goal self.old.named (domains_at self.old.problem turn lines (length lines)) number line.now)) }
+            (IsSoundFor self.old.problem self.old.goal self.old.named (domains_at self.old.problem turn lines
+            (length lines)) line.now × IsStateOf self.old.problem turn (lines ++ line.now ∷ []) walk.new)
+            (LineCauseFor self.old.problem self.old.goal self.old.named
+            (domains_at self.old.problem turn lines (length lines)) number line.now)) }
     {
         self.problem.prove_limits();
         walk.domains().prove_facts();

@@ -28,7 +28,8 @@ fn can_split(problem: &Problem, doms: &Domains, p: u32, x: Symbol) -> bool
     doms.has(p, x)
 }
 
-// Whether a split isn't idle, or a window, a day or a few leaf holds. Leaves that are judged by words aren't judged here.
+// Whether a split isn't idle, or a window, a day or a few leaf holds. Leaves that are judged by words aren't judged
+// here.
 fn stands_plainly(problem: &Problem, goal: Option<u32>, doms: &Domains, line: &Line) -> bool
     requires goal { GoalFits problem.now None goal }
     requires domains { BelongsTo problem.now doms.now }
@@ -72,8 +73,8 @@ fn plain_failure(line: &Line, number: u32) -> LogRefusal
 }
 
 /// The lowest cause to refuse a line as text line `number`, but for a word that escapes a leaf; None exactly
-/// where there is no other cause. It goes by a rule that isn't named, an idle split, a rule of a list that isn't short, a
-/// window, a day or a few leaf that doesn't hold, and a case that wasn't worked out.
+/// where there is no other cause. It goes by a rule that isn't named, an idle split, a rule of a list that isn't short,
+/// a window, a day or a few leaf that doesn't hold, and a case that wasn't worked out.
 pub fn plain_refusal(
     problem: &Problem,
     named: &RuleList,
