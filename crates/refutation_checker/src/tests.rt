@@ -3,6 +3,8 @@
 use super::*;
 use potential_bounds::Gate;
 use refutation_log::read_log;
+use refutation_terms::LogRefusal;
+use rwsp_model::Fail::Refused;
 use rwsp_model::{Parts, Problem};
 use rwsp_terms::{Bounds, DemandRow, Name, ShiftRow};
 use std::alloc::{AllocError, Global};
@@ -13,20 +15,22 @@ fn from_to(least: u32, greatest: u32) -> Bounds {
     Bounds { least, greatest }
 }
 
-// One shift D on one day, demanded so often. Rules 1 and 2 bound the blocks of D, 3 and 4 the days
-// off, 5 and 6 the work; rule 7 is the day.
+// One shift D, demanded so often on each day. Rules 1 and 2 bound the blocks of D, 3 and 4 the days
+// off, 5 and 6 the work; the next rules are the days.
 fn one_shift(
     alloc: Global,
+    days: u32,
     weeks: u32,
     demand: u32,
     block: Bounds,
     off: Bounds,
     work: Bounds,
 ) -> Result<Parts, AllocError> {
+    let row = DemandRow::of(vec![in alloc; from_to(demand, demand); days as usize]?);
     Ok(Parts {
-        days: 1,
+        days,
         weeks,
-        demand: vec![in alloc; DemandRow::of(vec![in alloc; from_to(demand, demand)]?)]?,
+        demand: vec![in alloc; row]?,
         shifts: vec![in alloc;
             ShiftRow {
                 name: Name::of(b"D".to_vec(alloc)?),
@@ -44,17 +48,17 @@ fn one_shift(
 
 // Two D in four cells.
 fn four_cells(alloc: Global) -> Result<Parts, AllocError> {
-    one_shift(alloc, 4, 2, from_to(1, 1), from_to(2, 2), from_to(1, 4))
+    one_shift(alloc, 1, 4, 2, from_to(1, 1), from_to(2, 2), from_to(1, 4))
 }
 
 // Three D in six cells.
 fn six_cells(alloc: Global) -> Result<Parts, AllocError> {
-    one_shift(alloc, 6, 3, from_to(2, 2), from_to(2, 2), from_to(2, 2))
+    one_shift(alloc, 1, 6, 3, from_to(2, 2), from_to(2, 2), from_to(2, 2))
 }
 
 // One cell, whose run has no end.
 fn one_cell(alloc: Global) -> Result<Parts, AllocError> {
-    one_shift(alloc, 1, 1, from_to(1, 7), from_to(1, 1), from_to(1, 7))
+    one_shift(alloc, 1, 1, 1, from_to(1, 7), from_to(1, 1), from_to(1, 7))
 }
 
 // Whether the text passes, and its log.
@@ -142,5 +146,33 @@ fn two_workers_judge_at_once(rt: HostRuntime) -> Result<(), Fail> {
     let [first, second] = &gate.met;
     assert!(rt; first.load(Ordering::SeqCst));
     assert!(rt; second.load(Ordering::SeqCst));
+    Ok(())
+}
+
+// At most one weekend of three can be free, and two where work may be longer.
+#[test]
+fn free_logs_are_judged(rt: HostRuntime) -> Result<(), Fail> {
+    let alloc = rt.alloc();
+    let parts = one_shift(alloc, 7, 3, 2, from_to(6, 7), from_to(2, 4), from_to(6, 7))?;
+    let problem = Problem::of(parts)?;
+    assert!(rt; problem.days() == 7);
+    let passing = b"rwsp-free 1\nrules 3 5 6\ngoal 2\nfree 1 1 rules 3 5 6 weights\n";
+    let log = check_free(alloc, &problem, passing.as_slice())?;
+    assert_eq!(rt; log.goal(), Some(2));
+    assert_eq!(rt; log.named().numbers(), [3, 5, 6].as_slice());
+    let escaped = b"rwsp-free 1\nrules 3 6\ngoal 2\nfree 1 1 rules 3 6 weights\n";
+    let Err(Refused(LogRefusal::Escape(line, word))) = check_free(
+        alloc,
+        &problem,
+        escaped.as_slice(),
+    ) else {
+        return Err(Fail::from("no escape"));
+    };
+    assert_eq!(rt; line, 4);
+    let mut shown = Vec::new(alloc);
+    for symbol in word.symbols() {
+        shown.push(if symbol.number == 0 { b'-' } else { b'D' })?;
+    }
+    assert_eq!(rt; shown.as_slice(), b"DDD----DDDDDDDDDD----".as_slice());
     Ok(())
 }
