@@ -1,2 +1,4 @@
 mod Given
+mod SharpSplits
+mod Unweighed
 mod Sharpness

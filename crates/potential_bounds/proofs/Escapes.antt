@@ -1,4 +1,4 @@
--- What the heaviest clean words say of a bound leaf.
+-- What the heaviest clean words say of a bound leaf and of a free leaf.
 use Rattle.std.proofs.Common.{◌≡◌, ℕ, ◌*◌, ◌+◌, List, subst, arith}
 use Rattle.std.specs.Prelude.{ℤ, pos, ◌+ℤ◌, ◌*ℤ◌, ◌≤ℤ◌, ◌<ℤ◌, Some}
 use Rattle.rwsp_terms.specs.declared.data.Symbol.{Symbol}

@@ -1,23 +1,23 @@
-// The word that escapes a bound leaf.
+// The words that escape a bound leaf and a free leaf.
 ghost use Rattle.std.specs.Prelude.{◌≡◌, ◌+◌, ◌*◌, ◌<◌, ◌≤◌, IfOk, MatchOption, pos, neg_ℤ, ◌*ℤ◌, ◌≤ℤ◌};
 ghost use Rattle.rwsp_terms.specs.Instance.{cells};
 ghost use Rattle.rwsp_terms.specs.declared.limits.TheConstants.{GREATEST_REWARD, GREATEST_WEIGHT, LONGEST_WORD, MOST_DAYS, MOST_SHIFTS, MOST_SYMBOLS, MOST_WEEKS};
 ghost use Rattle.refutation_terms.specs.declared.lines.Line.TheVariants.{Bound, Free};
 ghost use Rattle.refutation_terms.specs.Leaf.{IsTooLight};
-ghost use Rattle.refutation_terms.specs.FreeLeaves.{IsTooLightFree, free_total};
+ghost use Rattle.refutation_terms.specs.FreeLeaves.{IsTooLightFree};
 ghost use Rattle.refutation_terms.specs.Verdict.{Escapes, EscapesFree};
 ghost use Rattle.domain_store.specs.Store.{BelongsTo, has_domain};
 
+use crate::{free_total, heaviest_free_reaching, heaviest_reaching, total};
 use domain_store::Domains;
-use potential_bounds::{heaviest_free_reaching, heaviest_reaching, total};
 use rwsp_model::Problem;
 use rwsp_terms::{Weights, Word};
 use std::alloc::{AllocError, Global};
 use word_tail::TailRules;
 
-/// The least of the heaviest words of so many turns over the domains from position `p` on that are
-/// clean for the rules, where it weighs at least so many times the total; None exactly where it
-/// weighs less or there is no clean word, and a bound leaf of these rules holds.
+/// The least of the heaviest words of `turns` turns over the domains from position `p` on that are clean for the rules,
+/// where it weighs at least `turns` times the total; None exactly where it weighs less or there is no clean word: the
+/// bound leaf of these rules holds.
 pub fn bound_escape(
     alloc: Global,
     problem: &Problem,
@@ -44,20 +44,20 @@ pub fn bound_escape(
     }
 }
 
-// So many times the total.
+// `turns` times the total.
 fn times(turns: u32, total: i64) -> i64
     requires few { turns ≤ LONGEST_WORD }
-    requires above { neg_ℤ (pos (GREATEST_WEIGHT * MOST_SHIFTS * MOST_WEEKS * MOST_SYMBOLS * MOST_DAYS)) ≤ℤ total }
-    requires below { total ≤ℤ pos (GREATEST_WEIGHT * MOST_SHIFTS * MOST_WEEKS * MOST_SYMBOLS * MOST_DAYS +
-        GREATEST_REWARD * (MOST_WEEKS + 1)) }
+    requires above { neg_ℤ (pos (MOST_DAYS * (MOST_SYMBOLS * (GREATEST_WEIGHT * (MOST_SHIFTS * MOST_WEEKS))))) ≤ℤ total }
+    requires below { total ≤ℤ pos (MOST_DAYS * (MOST_SYMBOLS * (GREATEST_WEIGHT * (MOST_SHIFTS * MOST_WEEKS)))
+        + GREATEST_REWARD * (MOST_WEEKS + 1)) }
     ensures { result ≡ pos turns *ℤ total }
 {
     i64::from(turns) * total
 }
 
-/// The least of the heaviest words of so many turns over the domains from the first day on that are
-/// clean for the rules, with the reward for each free weekend, where it weighs at least so many
-/// times the total with the reward for as many as the goal; None exactly where a free leaf holds.
+/// The least of the heaviest words of `turns` turns over the domains from day 1 on that are clean for the rules, with
+/// the reward for each free weekend, where it weighs at least `turns` times the total with the reward for as many as
+/// the goal; None exactly where the free leaf of these rules holds.
 pub fn free_escape(
     alloc: Global,
     problem: &Problem,
@@ -80,21 +80,9 @@ pub fn free_escape(
         (EscapesFree problem.now goal (has_domain doms.now) (Free turns reward tails.now.rules weights.now))) }
 {
     problem.prove_limits();
-    let least = times(turns, rewarded_total(problem, weights, goal, reward));
+    let least = times(turns, free_total(problem, weights, reward, goal));
     match heaviest_free_reaching(alloc, problem, tails, doms, turns, weights, reward, least)? {
         Some(heavy) => Ok(Some(heavy.word)),
         None => Ok(None),
     }
-}
-
-// The total with the reward for as many free weekends as the goal.
-fn rewarded_total(problem: &Problem, weights: &Weights, goal: u32, reward: u32) -> i64
-    requires goal { goal ≤ MOST_WEEKS + 1 }
-    requires reward { reward ≤ GREATEST_REWARD }
-    ensures value { result ≡ free_total problem.now weights.now reward goal }
-    ensures above { neg_ℤ (pos (GREATEST_WEIGHT * MOST_SHIFTS * MOST_WEEKS * MOST_SYMBOLS * MOST_DAYS)) ≤ℤ result }
-    ensures below { result ≤ℤ pos (GREATEST_WEIGHT * MOST_SHIFTS * MOST_WEEKS * MOST_SYMBOLS * MOST_DAYS +
-        GREATEST_REWARD * (MOST_WEEKS + 1)) }
-{
-    total(problem, weights) + i64::from(reward * goal)
 }
