@@ -35,9 +35,9 @@ pub fn case_reasons(
         AreCaseReasons problem.now (⟦<CaseReasons as Propagator>⟧.leaves r) (⟦<CaseReasons as Propagator>⟧.spent r)) }
     ensures unweighed { IfOk result (λ r. WeighNoWords (⟦<CaseReasons as Propagator>⟧.leaves r)) }
 {
+    let cycle = CycleProp::new(alloc, problem, doms)?;
     let windows = WindowProp::new(alloc, problem, doms)?;
     let days = DayProp::new(alloc, problem, doms)?;
-    let cycle = CycleProp::new(alloc, problem, doms)?;
     Ok(Pair::new(Pair::new(windows, days), cycle))
 }
 

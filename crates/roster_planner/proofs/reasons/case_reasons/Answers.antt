@@ -7,13 +7,13 @@ use Rattle.roster_planner.proofs.Unweighed.{window_unweighed, day_unweighed, cyc
 use Rattle.roster_planner.proofs.reasons.case_reasons.Goals as goal
 
 pub returns-clause-serves : goal.returns-clause-serves
-returns-clause-serves g c =
+returns-clause-serves c =
     let P = c.args.problem.now in
     let plain = (c.new-4.ensures.serves P).1 (c.in_ok-windows.ensures.serves, c.in_ok-days.ensures.serves) in
     (c.new-5.ensures.serves P).1 (plain, c.in_ok-cycle.ensures.serves)
 
 pub returns-clause-reasons : goal.returns-clause-reasons
-returns-clause-reasons g c =
+returns-clause-reasons c =
     -- the rules of the cycle
     let kept : c.cycle.inside.cycle ≡ c.in_ok-cycle.cycle = c.cycle.view_is in
     let Kept : KnownCycle → Type 0 = λ k. AreShortRules k.problem k.rules in
@@ -42,7 +42,7 @@ returns-clause-reasons g c =
     }
 
 pub returns-clause-unweighed : goal.returns-clause-unweighed
-returns-clause-unweighed g c =
+returns-clause-unweighed c =
     let P = c.args.problem.now in
     λ S line h. elim ((c.new-5.ensures.leaves S line).0 h) [
       | inl plain ↦ elim ((c.new-4.ensures.leaves S line).0 plain) [
