@@ -1,4 +1,4 @@
 mod Given
-mod SharpSplits
+pub mod SharpSplits
 mod Unweighed
 mod Sharpness

@@ -24,6 +24,7 @@ pub fn best(alloc: Global, problem: &Problem, budget: u32) -> Result<BestFound, 
     ensures complete { IfOk result (λ found.
         IsUndecided found → budget + 1 < 2 * (shift_count problem.now + 1) ^ cells problem.now) }
 {
+    problem.prove_limits();
     let mut kept = None;
     let mut goal = 0;
     loop {
@@ -45,7 +46,8 @@ pub fn best(alloc: Global, problem: &Problem, budget: u32) -> Result<BestFound, 
 
 // What is found where no roster has more free weekends than the one that is kept.
 fn ended(kept: Option<Roster>, proof: Log) -> BestFound
-    ensures { (P : Instance) (budget : ℕ) → IfSome kept (IsMeeting P) → IsFreeProof P budget (goal_above kept) proof
+    ensures decided { IsUndecided result → ⊥ }
+    ensures found { (P : Instance) (budget : ℕ) → IfSome kept (IsMeeting P) → IsFreeProof P budget (goal_above kept) proof
         → IsBestFound P budget result }
 {
     match kept {

@@ -1,6 +1,6 @@
 // The free leaf of one turn at the top: each free weekend weighs 1, and nothing else weighs.
 ghost use Rattle.std.specs.Prelude.{◌≡◌, ◌↔◌, ◌+◌, ◌≤◌, IfOk, IsTrue, MatchOption};
-ghost use Rattle.rwsp_terms.specs.Rules.{NamesShortOnly, NamesShortRules};
+ghost use Rattle.rwsp_terms.specs.Rules.{NamesShortRules};
 ghost use Rattle.refutation_terms.specs.Log.{AreRules};
 ghost use Rattle.weekend_best.specs.Bests.{IsFreeProof};
 ghost use Rattle.weekend_best.specs.FreeSharp.{HoldsFreeAtTop, FailsFreeAtTop};
@@ -39,15 +39,18 @@ fn holds_at_top(
 ) -> Result<bool, AllocError>
     requires week { problem.now.days ≡ 7 }
     requires goal { goal ≤ problem.now.weeks + 1 }
-    requires short { NamesShortOnly problem.now rules.now }
+    requires rules { AreRules problem.now rules.now }
+    requires short { NamesShortRules problem.now rules.now }
     ensures { IfOk result (λ holds. IsTrue holds ↔ HoldsFreeAtTop problem.now goal rules.now) }
 {
     problem.prove_limits();
     let tails = TailRules::of(alloc, problem, rules)?;
     let doms = Domains::new(alloc, problem)?;
     let weights = Weights::new(alloc);
-    let escape = free_escape(alloc, problem, &tails, &doms, goal, 1, 1, &weights)?;
-    Ok(escape.is_none())
+    match free_escape(alloc, problem, &tails, &doms, goal, 1, 1, &weights)? {
+        Some(_) => Ok(false),
+        None => Ok(true),
+    }
 }
 
 // The log of this leaf, where it holds.
@@ -64,6 +67,7 @@ fn log_of_top(
     requires holds { HoldsFreeAtTop problem.now goal rules }
     ensures { IfOk result (IsFreeProof problem.now 1 goal) }
 {
+    problem.prove_limits();
     let named = rules.copy()?;
     let weights = Weights::new(alloc);
     let lines = vec![in alloc;
