@@ -1,0 +1,8 @@
+//! The most free weekends that a roster can have: a roster with them, and a free log of why there are no more.
+#![tactic(auto)]
+
+mod found;
+mod raising;
+
+pub use found::BestFound;
+pub use raising::best;
