@@ -4,8 +4,7 @@ ghost use Rattle.refutation_terms.specs.LogText.{log_text_for};
 ghost use Rattle.rwsp.specs.Texts.{counted_text, found_text, IsWeeklyRoster, IsRosterFound, FitsFree};
 
 use crate::log_text::put_labelled;
-use free_stubs::print_free;
-use refutation_log::Log;
+use refutation_log::{Log, print_free};
 use roster_checker::free_weekends;
 use roster_print::print_roster;
 use rwsp_model::{Problem, Roster};

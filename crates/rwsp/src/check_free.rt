@@ -7,7 +7,7 @@ ghost use Rattle.rwsp.specs.Texts.{IsPrintable};
 ghost use Rattle.rwsp.specs.declared.answer.InputKind.TheVariants as Kinds;
 
 use crate::answer::Answer;
-use free_stubs::check_free;
+use refutation_checker::check_free;
 use refutation_log::Log;
 use rwsp_model::{Fail, Problem};
 use std::alloc::{AllocError, Global};
@@ -39,6 +39,6 @@ fn accepted(problem: &Problem, bytes: &[u8], log: Log) -> Answer
     let Some(goal) = log.goal() else {
         unreachable!()
     };
-    let (rules, _, _) = log.into_parts();
+    let (rules, _, _, _) = log.into_parts();
     Answer::FreeAccepted { goal, rules }
 }

@@ -12,8 +12,7 @@ use crate::log_text::{
 };
 use crate::staff_text::{staff_refusal_line, staffed_line};
 use crew_size::print_staff;
-use free_stubs::print_free;
-use refutation_log::print_log;
+use refutation_log::{print_free, print_log};
 use roster_checker::Broken;
 use roster_print::{RosterRefusal, print_roster, put_rule};
 use rwsp_file::{FileRefusal, print_problem};
