@@ -76,7 +76,10 @@ pub enum Answer {
     /// The problem's week has this number of days, and the command is for weeks of seven.
     NotWeekly(u32),
     /// The free log passes: no roster meets these rules, which it names, with so many free weekends.
-    FreeAccepted { goal: u32, rules: RuleList },
+    FreeAccepted {
+        goal: u32,
+        rules: RuleList,
+    },
     /// A roster that meets every rule, and a free log that passes: none has more free weekends.
     Best {
         roster: Roster,

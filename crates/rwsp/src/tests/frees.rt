@@ -97,11 +97,13 @@ fn has_one_free<R: Threads + Sync>(
     let at = rest.find("rwsp-free 1\n").ok_or("a free log")?;
     let (roster, log) = rest.split_at(at);
     let free = roster.lines().filter(|line| line.ends_with(" - -")).count();
-    Ok(free == 1
-        && verifies(rt, alloc, problem, roster, 0, "meets\n")?
-        && log.contains("\ngoal 2\n")
-        && log.lines().count() == 4
-        && is_accepted(rt, alloc, problem, log, "accepted: goal 2 rules ")?)
+    Ok(
+        free == 1
+            && verifies(rt, alloc, problem, roster, 0, "meets\n")?
+            && log.contains("\ngoal 2\n")
+            && log.lines().count() == 4
+            && is_accepted(rt, alloc, problem, log, "accepted: goal 2 rules ")?,
+    )
 }
 
 // One weekend of one or of three can be free.
@@ -112,6 +114,9 @@ fn the_most_free_weekends(rt: HostRuntime) -> Result<(), Fail> {
     assert!(rt; has_one_free(&rt, alloc, THREE_WEEKS, "200000")?);
     let words = ["best", "F", "--budget", "32767"];
     let text = printed(&rt, alloc, &words, ONE_WEEK, 0)?;
-    assert!(rt; text.as_str().starts_with("free 1\nD D A A A - -\nrwsp-free 1\n"));
+    assert!(rt;
+        text.as_str()
+            .starts_with("free 1\nD D A A A - -\nrwsp-free 1\n")
+    );
     Ok(())
 }
