@@ -1,5 +1,5 @@
 -- What is said of the most free weekends.
-use Rattle.std.proofs.Common.{◌≡◌, ℕ, ◌+◌, ◌<◌, ◌≤◌, List, Option, Some, None, arith, sym, subst, inl, inr, refl}
+use Rattle.std.proofs.Common.{◌≡◌, ℕ, ◌+◌, ◌<◌, ◌≤◌, List, Option, Some, None, arith, subst, refl}
 use Rattle.std.specs.Prelude.{◌*◌, ◌^◌}
 use Rattle.rwsp_terms.specs.Instance.{Instance, cells, shift_count}
 use Rattle.rwsp_terms.specs.Roster.{MeetsAll}
@@ -15,12 +15,12 @@ use Rattle.weekend_best.specs.declared.found.BestFound.TheVariants as Founds
 use Rattle.rwsp.specs.Answers.{IsOfBest}
 use Rattle.rwsp.specs.Bests.{IsBestAnswer, best_answer_of}
 use Rattle.rwsp.specs.Laws.{best_roster, StaysBelow, Bounds, AgreeInBest}
-use Rattle.rwsp.specs.Texts.{IsPrintable, IsRosterFound}
+use Rattle.rwsp.specs.Texts.{IsPrintable}
 use Rattle.rwsp.specs.declared.answer.Answer.{Answer}
 use Rattle.rwsp.specs.declared.answer.Answer.TheVariants.{Best, NoBest, BestUndecided}
 
 below : (goal n : ℕ) → (goal ≤ n → ⊥) → n < goal
-below goal n no = omega (arith, no)
+below goal n h = omega (arith, h)
 
 -- a roster that meets every rule has fewer free weekends than the goal of a free log that passes
 pub below_goal : (P : Instance) (goal : ℕ) (g : Log) (t : List Symbol) → FreePasses P goal g → MeetsAll P t → free_weekends t < goal

@@ -1,6 +1,5 @@
 use Rattle.std.proofs.Common.{subst, sym}
 use Rattle.rwsp.specs.Bests.{IsBestAnswer}
-use Rattle.rwsp.specs.Texts.{IsPrintable}
 use Rattle.rwsp.proofs.Bests.{best_as_found, best_printable}
 use Rattle.rwsp.proofs.best.best_found.Goals as goal
 
