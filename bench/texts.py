@@ -35,10 +35,14 @@ ONE_WEEK = of_lines(
     "D 360 480 2 7", "A 840 480 2 6", "N 1320 480 2 5", "2 4", "4 7", "3 0", "N D", "N A", "A D",
 )
 
+# At most one weekend can be free.
+THREE_LONG_WEEKS = of_lines("7", "3", "1", "2 2 2 2 2 2 2", "D 360 480 6 7", "2 4", "6 7", "0 0")
+EMPTY_WEEK = of_lines("7", "2", "1", "0 0 0 0 0 0 0", "D 360 480 1 7", "1 14", "1 7", "0 0")
+
 # Small problems, on which every command is quick.
 SMALL = [
     TWO_DAYS, BOTH_DAYS, TOO_MANY, TWO_OF_FOUR, RANGES, TWOS, THREE_OF_FIVE, ONE_CELL, NO_DAY, THREE_WEEKS, ENDLESS,
-    LONG_BLOCKS, COMMENTED, ONE_WEEK, EIGHT_DAYS,
+    LONG_BLOCKS, COMMENTED, ONE_WEEK, EIGHT_DAYS, THREE_LONG_WEEKS, EMPTY_WEEK,
 ]
 
 # Problems with a roster of each.
@@ -48,6 +52,7 @@ ROSTERS = [
     (THREE_WEEKS, "D -\n- -\n- D\n"),
     (NO_DAY, "D -\n"),
     (ONE_WEEK, "D D A A A - -\n"),
+    (THREE_LONG_WEEKS, "D D D D D D D\n- - - D D D D\nD D D - - - -\n"),
     (example("nine_weeks"), example("nine_weeks_roster")),
     (example("nine_weeks"), example("broken_roster")),
     (example("control_room"), example("control_room_roster")),
@@ -72,6 +77,18 @@ LOGS = [
     (NO_DAY, of_lines("rwsp-log 2", "rules 7", "turn D 1", "open")),
     (example("clinic"), example("clinic_log")),
     (example("clinic"), example("clinic_all_rules_log")),
+]
+
+NO_SECOND_WEEKEND = of_lines("rwsp-free 1", "rules 3 5 6", "goal 2", "free 1 1 rules 3 5 6 weights")
+
+# Problems with a free log of each.
+FREES = [
+    (THREE_LONG_WEEKS, NO_SECOND_WEEKEND),
+    (THREE_LONG_WEEKS, of_lines("rwsp-free 1", "rules", "goal 4", "few")),
+    (THREE_LONG_WEEKS, of_lines("rwsp-free 1", "rules 12", "goal 2", "split 1 6 -", "open", "day 6 - short")),
+    (EMPTY_WEEK, of_lines("rwsp-free 1", "rules", "goal 3", "few")),
+    (ONE_WEEK, of_lines("rwsp-free 1", "rules 19", "goal 1", "split 1 6 D", "few", "free 1 1 rules 1 2 weights 7 - 1")),
+    (TWO_DAYS, of_lines("rwsp-free 1", "rules 7", "goal 0", "day 1 - over")),
 ]
 
 NONE_TO_THREE = of_lines(
@@ -100,4 +117,5 @@ LINES = [
     "show F", "plan F", "plan F --budget 5", "check F ABSENT", "check F ABSENT --workers 3", "verify F ABSENT", "reduce F ABSENT",
     "trial 7 3", "trial 999999999 5", "crew F ABSENT 2024-02-28 3", "crew F ABSENT 9999-12-31 1", "crew F ABSENT 2024-02-28 3 1",
     "staff F 1 3", "staff F 1 3 --budget 5", "check-staff F ABSENT", "check-staff ABSENT T",
+    "best F", "best F --budget 5", "check-free F ABSENT", "check-free ABSENT G",
 ]

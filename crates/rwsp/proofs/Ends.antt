@@ -19,21 +19,22 @@ use Rattle.roster_checker.proofs.FirstBroken.{first_broken-not_met, first_broken
 use Rattle.refutation_terms.specs.declared.lines.LogRefusal.{LogRefusal}
 use Rattle.refutation_terms.specs.Log.{Log as LogValue}
 use Rattle.refutation_terms.specs.Strip.{IsReduced}
-use Rattle.refutation_terms.specs.Verdict.{IsAccepted, IsRefused}
+use Rattle.refutation_terms.specs.Verdict.{IsVerdict}
+use Rattle.refutation_terms.specs.FreeVerdict.{IsFreeVerdict}
 use Rattle.rwsp.specs.Inputs.{IsWithinLimit, IsTooLong}
-use Rattle.rwsp.specs.Answers.{IsFileAnswer, IsRosterAnswer, IsLogAnswer, IsReduction, IsSecondAnswer, IsCrewAnswer, HasEmployee}
+use Rattle.rwsp.specs.Answers.{IsFileAnswer, IsRosterAnswer, IsLogAnswer, IsFreeAnswer, IsReduction, IsSecondAnswer, IsCrewAnswer, HasEmployee}
 use Rattle.rwsp.specs.declared.command.Command.{Command}
-use Rattle.rwsp.specs.declared.command.Command.TheVariants.{Plan, Check, Verify, Reduce, Show, Trial, Crew as CrewCommand, Staff as StaffCommand, CheckStaff}
+use Rattle.rwsp.specs.declared.command.Command.TheVariants.{Plan, Check, Verify, Reduce, Show, Trial, Crew as CrewCommand, Staff as StaffCommand, CheckStaff, CheckFree, Best as BestCommand}
 use Rattle.rwsp.specs.declared.answer.InputKind.{InputKind}
 use Rattle.rwsp.specs.declared.answer.InputKind.TheVariants as Kinds
 use Rattle.rwsp.specs.declared.answer.Answer.{Answer}
-use Rattle.rwsp.specs.declared.answer.Answer.TheVariants.{Roster, NoRoster, Undecided, Accepted, LogRefused, Reduced, Meets, Shown, Breaks, RosterRefused, Trial as TrialOf, Usage, FileRefused, TooLong, Crew, Horizon, NoEmployee, StaffAccepted, StaffRefused}
+use Rattle.rwsp.specs.declared.answer.Answer.TheVariants.{Accepted, LogRefused, Reduced, Meets, Breaks, RosterRefused, FileRefused, TooLong, Crew, NoEmployee, StaffAccepted, StaffRefused, FreeAccepted}
 use Rattle.crew_size.specs.declared.verdict.Staffed.{Staffed}
 use Rattle.crew_size.specs.declared.verdict.StaffRefusal.{StaffRefusal}
 use Rattle.crew_size.specs.Verdict.{IsStaffVerdict}
 use Rattle.crew_size.proofs.OneVerdict.{one_verdict as one_staff_verdict}
 use Rattle.rwsp.specs.Staffs.{IsStaffVerdictOf}
-use Rattle.rwsp.proofs.Logs.{one_verdict}
+use Rattle.rwsp.proofs.Logs.{one_verdict, one_free_verdict}
 use Rattle.rwsp.proofs.Reductions.{one_reduced}
 
 not_both : (kind : InputKind) (bytes : List ℕ) → IsTooLong kind bytes → IsWithinLimit kind bytes → ⊥
@@ -90,48 +91,69 @@ one_roster_end P bytes a b (broken t k u q m e) (broken t' k' u' q' m' f) =
     let first : k ≡ k' = first_broken-same P t' k k' (subst (λ (v : List Symbol). IsFirstBroken P v k) same m) m' in
     e ∙ ap Breaks first ∙ sym f
 
--- how a log's bytes end a job for an instance, where a log that passes says this of the answer
-data LogEnd (P : Instance) (Says : LogValue → Answer → Type 0) (bytes : List ℕ) (answer : Answer) : Type 0 where
-  long_log : IsTooLong Kinds.Log bytes → answer ≡ TooLong Kinds.Log → LogEnd P Says bytes answer
-  refused_log : (why : LogRefusal) → IsWithinLimit Kinds.Log bytes → IsRefused P bytes why → answer ≡ LogRefused why → LogEnd P Says bytes answer
-  passing_log : (g : LogValue) → IsWithinLimit Kinds.Log bytes → IsAccepted P bytes g → Says g answer → LogEnd P Says bytes answer
+-- how the bytes of a log end a job, where they are judged so and a log that passes says this of the answer
+data LogEnd (Judged : Result LogValue LogRefusal → Type 0) (Says : LogValue → Answer → Type 0) (bytes : List ℕ) (answer : Answer) : Type 0 where
+  long_log : IsTooLong Kinds.Log bytes → answer ≡ TooLong Kinds.Log → LogEnd Judged Says bytes answer
+  refused_log : (why : LogRefusal) → IsWithinLimit Kinds.Log bytes → Judged (Err why) → answer ≡ LogRefused why → LogEnd Judged Says bytes answer
+  passing_log : (g : LogValue) → IsWithinLimit Kinds.Log bytes → Judged (Ok g) → Says g answer → LogEnd Judged Says bytes answer
 
-same_refusal : (P : Instance) (bytes : List ℕ) (why other : LogRefusal) → KeepsLimits P → IsRefused P bytes why → IsRefused P bytes other → why ≡ other
-same_refusal P bytes why other limits h k =
-    let both : Err why ≡ Err other = one_verdict P bytes (Err why) (Err other) limits h k in
+-- bytes are judged in one way
+abbrev IsJudgedOnce : (Result LogValue LogRefusal → Type 0) → Type 0
+IsJudgedOnce Judged = (v w : Result LogValue LogRefusal) → Judged v → Judged w → v ≡ w
+
+same_refusal : (Judged : Result LogValue LogRefusal → Type 0) (why other : LogRefusal) → IsJudgedOnce Judged → Judged (Err why) → Judged (Err other) → why ≡ other
+same_refusal Judged why other once h k =
+    let both : Err why ≡ Err other = once (Err why) (Err other) h k in
     cc
 
-same_log : (P : Instance) (bytes : List ℕ) (g h : LogValue) → KeepsLimits P → IsAccepted P bytes g → IsAccepted P bytes h → g ≡ h
-same_log P bytes g h limits a b =
-    let both : Ok g ≡ Ok h = one_verdict P bytes (Ok g) (Ok h) limits a b in
+same_log : (Judged : Result LogValue LogRefusal → Type 0) (g h : LogValue) → IsJudgedOnce Judged → Judged (Ok g) → Judged (Ok h) → g ≡ h
+same_log Judged g h once a b =
+    let both : Ok g ≡ Ok h = once (Ok g) (Ok h) a b in
     cc
 
-not_both_ways : (P : Instance) (bytes : List ℕ) (g : LogValue) (why : LogRefusal) → KeepsLimits P → IsAccepted P bytes g → IsRefused P bytes why → ⊥
-not_both_ways P bytes g why limits a r =
-    let both : Ok g ≡ Err why = one_verdict P bytes (Ok g) (Err why) limits a r in
+not_both_ways : (Judged : Result LogValue LogRefusal → Type 0) (g : LogValue) (why : LogRefusal) → IsJudgedOnce Judged → Judged (Ok g) → Judged (Err why) → ⊥
+not_both_ways Judged g why once a r =
+    let both : Ok g ≡ Err why = once (Ok g) (Err why) a r in
     absurd (cc)
 
-one_log_end : (P : Instance) (Says : LogValue → Answer → Type 0) (bytes : List ℕ) (a b : Answer) → KeepsLimits P → ((g : LogValue) → Says g a → Says g b → a ≡ b) → LogEnd P Says bytes a → LogEnd P Says bytes b → a ≡ b
-one_log_end P Says bytes a b limits one (long_log l e) (long_log m f) = e ∙ sym f
-one_log_end P Says bytes a b limits one (long_log l e) (refused_log why s r f) = absurd (not_both Kinds.Log bytes l s)
-one_log_end P Says bytes a b limits one (long_log l e) (passing_log g s r f) = absurd (not_both Kinds.Log bytes l s)
-one_log_end P Says bytes a b limits one (refused_log why s r e) (long_log l f) = absurd (not_both Kinds.Log bytes l s)
-one_log_end P Says bytes a b limits one (refused_log why s r e) (refused_log other t q f) = e ∙ ap LogRefused (same_refusal P bytes why other limits r q) ∙ sym f
-one_log_end P Says bytes a b limits one (refused_log why s r e) (passing_log g t q f) = absurd (not_both_ways P bytes g why limits q r)
-one_log_end P Says bytes a b limits one (passing_log g s r e) (long_log l f) = absurd (not_both Kinds.Log bytes l s)
-one_log_end P Says bytes a b limits one (passing_log g s r e) (refused_log why t q f) = absurd (not_both_ways P bytes g why limits r q)
-one_log_end P Says bytes a b limits one (passing_log g s r e) (passing_log h t q f) = one g e (subst (λ (k : LogValue). Says k b) (same_log P bytes h g limits q r) f)
+one_log_end : (Judged : Result LogValue LogRefusal → Type 0) (Says : LogValue → Answer → Type 0) (bytes : List ℕ) (a b : Answer) → IsJudgedOnce Judged → ((g : LogValue) → Says g a → Says g b → a ≡ b) → LogEnd Judged Says bytes a → LogEnd Judged Says bytes b → a ≡ b
+one_log_end Judged Says bytes a b once one (long_log l e) (long_log m f) = e ∙ sym f
+one_log_end Judged Says bytes a b once one (long_log l e) (refused_log why s r f) = absurd (not_both Kinds.Log bytes l s)
+one_log_end Judged Says bytes a b once one (long_log l e) (passing_log g s r f) = absurd (not_both Kinds.Log bytes l s)
+one_log_end Judged Says bytes a b once one (refused_log why s r e) (long_log l f) = absurd (not_both Kinds.Log bytes l s)
+one_log_end Judged Says bytes a b once one (refused_log why s r e) (refused_log other t q f) = e ∙ ap LogRefused (same_refusal Judged why other once r q) ∙ sym f
+one_log_end Judged Says bytes a b once one (refused_log why s r e) (passing_log g t q f) = absurd (not_both_ways Judged g why once q r)
+one_log_end Judged Says bytes a b once one (passing_log g s r e) (long_log l f) = absurd (not_both Kinds.Log bytes l s)
+one_log_end Judged Says bytes a b once one (passing_log g s r e) (refused_log why t q f) = absurd (not_both_ways Judged g why once r q)
+one_log_end Judged Says bytes a b once one (passing_log g s r e) (passing_log h t q f) = one g e (subst (λ (k : LogValue). Says k b) (same_log Judged h g once q r) f)
 
 -- what `check` says of a log that passes
 
 abbrev IsAcceptance : LogValue → Answer → Type 0
 IsAcceptance g answer = answer ≡ Accepted g.named
 
-acceptance_end : (P : Instance) (bytes : List ℕ) (answer : Answer) → IsLogAnswer answer P bytes → LogEnd P IsAcceptance bytes answer
+acceptance_end : (P : Instance) (bytes : List ℕ) (answer : Answer) → IsLogAnswer answer P bytes → LogEnd (IsVerdict P bytes) IsAcceptance bytes answer
 acceptance_end P bytes (TooLong Kinds.Log) h = long_log h refl
 acceptance_end P bytes (LogRefused why) h = refused_log why h.0 h.1 refl
 acceptance_end P bytes (Accepted R) h = passing_log h.1.0 h.0 h.1.1 (ap Accepted (sym h.1.2))
 acceptance_end P bytes answer h = absurd h
+
+-- what `check-free` says of a free log that passes
+
+abbrev IsFreeAcceptance : LogValue → Answer → Type 0
+IsFreeAcceptance g answer = (goal : ℕ) × (g.goal ≡ Some goal) × (answer ≡ FreeAccepted goal g.named)
+
+same_acceptance : (a b : Answer) (g : LogValue) → IsFreeAcceptance g a → IsFreeAcceptance g b → a ≡ b
+same_acceptance a b g h k =
+    let both : Some h.0 ≡ Some k.0 = sym h.1 ∙ k.1 in
+    let same : h.0 ≡ k.0 = cc in
+    h.2 ∙ ap (λ goal. FreeAccepted goal g.named) same ∙ sym k.2
+
+free_end : (P : Instance) (bytes : List ℕ) (answer : Answer) → IsFreeAnswer answer P bytes → LogEnd (IsFreeVerdict P bytes) IsFreeAcceptance bytes answer
+free_end P bytes (TooLong Kinds.Log) h = long_log h refl
+free_end P bytes (LogRefused why) h = refused_log why h.0 h.1 refl
+free_end P bytes (FreeAccepted goal R) h = passing_log h.1.0 h.0 h.1.1 (goal, h.1.2, ap (FreeAccepted goal) (sym h.1.3))
+free_end P bytes answer h = absurd h
 
 -- what `reduce` says of a log that passes
 
@@ -141,7 +163,7 @@ IsReducedTo P g answer = (h : LogValue) × IsReduced P g h × (answer ≡ Reduce
 same_reduction : (P : Instance) (g : LogValue) (a b : Answer) → IsReducedTo P g a → IsReducedTo P g b → a ≡ b
 same_reduction P g a b h k = h.2 ∙ ap Reduced (one_reduced P g h.0 k.0 h.1 k.1) ∙ sym k.2
 
-reduction_end : (P : Instance) (bytes : List ℕ) (answer : Answer) → IsReduction answer P bytes → LogEnd P (IsReducedTo P) bytes answer
+reduction_end : (P : Instance) (bytes : List ℕ) (answer : Answer) → IsReduction answer P bytes → LogEnd (IsVerdict P bytes) (IsReducedTo P) bytes answer
 reduction_end P bytes (TooLong Kinds.Log) h = long_log h refl
 reduction_end P bytes (LogRefused why) h = refused_log why h.0 h.1 refl
 reduction_end P bytes (Reduced k) h = passing_log h.1.0 h.0 h.1.1 (k, h.1.2, refl)
@@ -205,13 +227,15 @@ one_staff_text_end P bytes a b limits (judged_text v s j e) (judged_text w t k f
 -- two answers to a command over the bytes of its second file
 pub one_second : (command : Command) (P : Instance) (bytes : List ℕ) (a b : Answer) → KeepsLimits P → IsSecondAnswer command a P bytes → IsSecondAnswer command b P bytes → a ≡ b
 one_second Verify P bytes a b limits h k = one_roster_end P bytes a b (roster_end P bytes a h) (roster_end P bytes b k)
-one_second (Check workers) P bytes a b limits h k = one_log_end P IsAcceptance bytes a b limits (λ g e f. e ∙ sym f) (acceptance_end P bytes a h) (acceptance_end P bytes b k)
-one_second Reduce P bytes a b limits h k = one_log_end P (IsReducedTo P) bytes a b limits (λ g e f. same_reduction P g a b e f) (reduction_end P bytes a h) (reduction_end P bytes b k)
+one_second (Check workers) P bytes a b limits h k = one_log_end (IsVerdict P bytes) IsAcceptance bytes a b (λ v w. one_verdict P bytes v w limits) (λ g e f. e ∙ sym f) (acceptance_end P bytes a h) (acceptance_end P bytes b k)
+one_second Reduce P bytes a b limits h k = one_log_end (IsVerdict P bytes) (IsReducedTo P) bytes a b (λ v w. one_verdict P bytes v w limits) (λ g e f. same_reduction P g a b e f) (reduction_end P bytes a h) (reduction_end P bytes b k)
 one_second (Plan budget) P bytes a b limits h k = absurd h
 one_second Show P bytes a b limits h k = absurd h
 one_second (Trial number weeks) P bytes a b limits h k = absurd h
 one_second (StaffCommand low high budget) P bytes a b limits h k = absurd h
+one_second (BestCommand budget) P bytes a b limits h k = absurd h
 one_second CheckStaff P bytes a b limits h k = one_staff_text_end P bytes a b limits (staff_text_end P bytes a h) (staff_text_end P bytes b k)
+one_second CheckFree P bytes a b limits h k = one_log_end (IsFreeVerdict P bytes) IsFreeAcceptance bytes a b (λ v w. one_free_verdict P bytes v w limits) (same_acceptance a b) (free_end P bytes a h) (free_end P bytes b k)
 one_second (CrewCommand date days employee) P bytes a b limits h k = one_crew_end P bytes employee a b (crew_end P bytes employee a h) (crew_end P bytes employee b k)
 
 -- two answers of the problem's file

@@ -1,19 +1,20 @@
 -- The words of a command line have one form at most.
-use Rattle.std.proofs.Common.{◌≡◌, ℕ, List, Option, Some, None, ap, sym, ◌∙◌, refl, subst, true, false, Bool, inl, inr, ◌<◌, ◌+◌, ◌≤◌}
-use Rattle.std.specs.Prelude.{[], ◌∷◌, codes, String, if◌then◌else◌, ◌⊎◌}
+use Rattle.std.proofs.Common.{◌≡◌, ℕ, List, Option, Some, None, ap, sym, ◌∙◌, refl, subst, true, false}
+use Rattle.std.specs.Prelude.{[], ◌∷◌, codes, String, if◌then◌else◌}
 use Rattle.std.specs.Option.{option_map}
 use Rattle.std.specs.String.{string_bytes}
 use Rattle.std.specs.declared.alloc.Global.{Global}
 use Rattle.std.specs.Str.{bytes_eq}
 use Rattle.rwsp_text.specs.Numbers.{number_of}
 use Rattle.rwsp_terms.specs.declared.limits.TheConstants.{MOST_WEEKS, USUAL_BUDGET, USUAL_STAFF_BUDGET, USUAL_WORKERS}
+use Rattle.rwsp.specs.declared.command.TheConstants.{USUAL_BEST_BUDGET}
 use Rattle.rwsp_text.proofs.Words.{bytes_same}
 use Rattle.jiff.specs.Types.{Date}
 use Rattle.crew_calendar.specs.Calendar.{IsDateWord}
 use Rattle.crew_calendar.proofs.OneText.{one_date}
-use Rattle.rwsp.specs.Commands.{Words, IsForm, IsCount, IsCrewForm, IsStaffForm, HasNoForm, word_bytes}
+use Rattle.rwsp.specs.Commands.{Words, IsForm, IsCount, IsCrewForm, HasNoForm}
 use Rattle.rwsp.specs.declared.command.Command.{Command}
-use Rattle.rwsp.specs.declared.command.Command.TheVariants.{Plan, Check, Verify, Reduce, Show, Trial, Crew, Staff, CheckStaff}
+use Rattle.rwsp.specs.declared.command.Command.TheVariants.{Plan, Check, Verify, Reduce, Show, Trial, Crew, Staff, CheckStaff, CheckFree, Best}
 
 -- a command without its date
 data Undated : Type 0 where
@@ -27,6 +28,8 @@ data Undated : Type 0 where
   crew_of : ℕ → ℕ → Undated
   staff : ℕ → ℕ → ℕ → Undated
   check_staff : Undated
+  check_free : Undated
+  best : ℕ → Undated
 
 abbrev undated : Command → Undated
 undated Show = show
@@ -39,6 +42,8 @@ undated (Crew first n None) = crew n
 undated (Crew first n (Some e)) = crew_of n e
 undated (Staff low high budget) = staff low high budget
 undated CheckStaff = check_staff
+undated CheckFree = check_free
+undated (Best budget) = best budget
 
 -- the date of a command that has one
 abbrev dated : Command → Option Date
@@ -51,6 +56,8 @@ dated Reduce = None
 dated (Trial number weeks) = None
 dated (Staff low high budget) = None
 dated CheckStaff = None
+dated CheckFree = None
+dated (Best budget) = None
 
 -- the command again
 abbrev back : Option Date → Undated → Option Command
@@ -64,6 +71,8 @@ back d (crew n) = option_map (λ first. Crew first n None) d
 back d (crew_of n e) = option_map (λ first. Crew first n (Some e)) d
 back d (staff low high budget) = Some (Staff low high budget)
 back d check_staff = Some CheckStaff
+back d check_free = Some CheckFree
+back d (best budget) = Some (Best budget)
 
 back_is : (c : Command) → back (dated c) (undated c) ≡ Some c
 back_is Show = refl
@@ -76,6 +85,8 @@ back_is (Crew first n None) = refl
 back_is (Crew first n (Some e)) = refl
 back_is (Staff low high budget) = refl
 back_is CheckStaff = refl
+back_is CheckFree = refl
+back_is (Best budget) = refl
 
 -- what the words behind the command's name tell
 
@@ -88,6 +99,11 @@ abbrev plan_told : Words → Option Undated
 plan_told (file ∷ []) = Some (plan USUAL_BUDGET)
 plan_told (file ∷ option ∷ number ∷ []) = option_map plan (number_of (string_bytes number))
 plan_told args = None
+
+abbrev best_told : Words → Option Undated
+best_told (file ∷ []) = Some (best USUAL_BEST_BUDGET)
+best_told (file ∷ option ∷ number ∷ []) = option_map best (number_of (string_bytes number))
+best_told args = None
 
 abbrev check_told : Words → Option Undated
 check_told (file ∷ second ∷ []) = Some (check USUAL_WORKERS)
@@ -123,7 +139,9 @@ told name args =
     else if bytes_eq name (codes "trial") then trial_told args
     else if bytes_eq name (codes "crew") then crew_told args
     else if bytes_eq name (codes "staff") then staff_told args
-    else Some check_staff
+    else if bytes_eq name (codes "check-staff") then Some check_staff
+    else if bytes_eq name (codes "check-free") then Some check_free
+    else best_told args
 
 begins : (name : List ℕ) (args : Words) (other : List ℕ) → name ≡ other → told name args ≡ told other args
 begins name args other e = ap (λ n. told n args) e
@@ -139,12 +157,15 @@ told_in (v ∷ args) = told (string_bytes v) args
 tells : (words : Words) (c : Command) → IsForm words c → told_in words ≡ Some (undated c)
 tells (v ∷ w ∷ []) Show h = begins (string_bytes v) (w ∷ []) (codes "show") h.0
 tells (v ∷ w ∷ []) (Plan m) h = begins (string_bytes v) (w ∷ []) (codes "plan") h.0 ∙ ap (λ k. Some (plan k)) (sym h.2)
+tells (v ∷ w ∷ []) (Best m) h = begins (string_bytes v) (w ∷ []) (codes "best") h.0 ∙ ap (λ k. Some (best k)) (sym h.2)
 tells (v ∷ w ∷ x ∷ []) (Check m) h = begins (string_bytes v) (w ∷ x ∷ []) (codes "check") h.0 ∙ ap (λ k. Some (check k)) (sym h.3)
 tells (v ∷ w ∷ x ∷ []) Verify h = begins (string_bytes v) (w ∷ x ∷ []) (codes "verify") h.0
 tells (v ∷ w ∷ x ∷ []) Reduce h = begins (string_bytes v) (w ∷ x ∷ []) (codes "reduce") h.0
 tells (v ∷ w ∷ x ∷ []) (Trial m n) h = begins (string_bytes v) (w ∷ x ∷ []) (codes "trial") h.0 ∙ both_told trial h.1 h.2.0
 tells (v ∷ w ∷ x ∷ []) CheckStaff h = begins (string_bytes v) (w ∷ x ∷ []) (codes "check-staff") h.0
+tells (v ∷ w ∷ x ∷ []) CheckFree h = begins (string_bytes v) (w ∷ x ∷ []) (codes "check-free") h.0
 tells (v ∷ w ∷ x ∷ y ∷ []) (Plan m) h = begins (string_bytes v) (w ∷ x ∷ y ∷ []) (codes "plan") h.0 ∙ ap (option_map plan) h.3.0
+tells (v ∷ w ∷ x ∷ y ∷ []) (Best m) h = begins (string_bytes v) (w ∷ x ∷ y ∷ []) (codes "best") h.0 ∙ ap (option_map best) h.3.0
 tells (v ∷ w ∷ x ∷ y ∷ []) (Staff l m n) h = begins (string_bytes v) (w ∷ x ∷ y ∷ []) (codes "staff") h.0.0 ∙ both_told (λ a b. staff a b USUAL_STAFF_BUDGET) h.0.2.0 h.0.3.0 ∙ ap (λ k. Some (staff l m k)) (sym h.1)
 tells (v ∷ w ∷ x ∷ y ∷ z ∷ []) (Check m) h = begins (string_bytes v) (w ∷ x ∷ y ∷ z ∷ []) (codes "check") h.0 ∙ ap (option_map check) h.4.0
 tells (v ∷ w ∷ x ∷ y ∷ z ∷ []) (Crew d m None) h = begins (string_bytes v) (w ∷ x ∷ y ∷ z ∷ []) (codes "crew") h.0.0 ∙ ap (option_map crew) h.0.4.0

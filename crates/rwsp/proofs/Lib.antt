@@ -3,6 +3,7 @@ pub mod Replies
 pub mod Logs
 pub mod StaffTexts
 pub mod Plans
+pub mod Bests
 pub mod Trials
 pub mod Reductions
 pub mod Forms

@@ -1,5 +1,5 @@
 -- Two answers over the same files, compared part by part.
-use Rattle.std.proofs.Common.{◌≡◌, ℕ, List, ap, sym, ◌∙◌, refl, subst, inl, inr, arith}
+use Rattle.std.proofs.Common.{◌≡◌, ℕ, ◌+◌, ◌<◌, ◌≤◌, List, ap, sym, ◌∙◌, refl, subst, inl, inr, arith}
 use Rattle.std.specs.Prelude.{◌≢◌, ◌⊎◌, [], Some, None}
 use Rattle.rwsp_terms.specs.declared.limits.TheConstants.{USUAL_WORKERS}
 use Rattle.rwsp_io.specs.Told.{Told, Silent, Missing, Bytes}
@@ -9,30 +9,34 @@ use Rattle.rwsp_model.proofs.Limits.{valid_keeps}
 use Rattle.rwsp_file.specs.Spelling.{SpellsProblem}
 use Rattle.rwsp_file.specs.Laws.{TextsSpellOne, TextsSpellOrFail}
 use Rattle.refutation_terms.specs.LogText.{log_text}
-use Rattle.rwsp.specs.Commands.{Words, IsForm, ReadsProblem, ReadsSecond, IsWithinHorizon, problem_name, second_name}
+use Rattle.rwsp.specs.Commands.{Words, ReadsProblem, ReadsSecond, IsWithinHorizon, problem_name, second_name}
 use Rattle.rwsp.specs.Inputs.{WhereTold, IsWithinLimit, IsProblemOf}
-use Rattle.rwsp.specs.Answers.{IsAnswerOn, IsAnswerTo, IsFileAnswer, IsSecondAnswer}
+use Rattle.rwsp.specs.Answers.{IsAnswerOn, IsAnswerTo, IsFileAnswer, IsSecondAnswer, IsWeekly}
 use Rattle.rwsp.specs.Texts.{answer_text, HasFixedText, IsPrintable, IsCalendarOf, IsCalendarText, IsReplyText}
 use Rattle.rwsp.specs.Trials.{IsTrialAnswer, IsProblemOfTrial}
 use Rattle.problem_generator.proofs.OneProblem.{same_generated}
-use Rattle.rwsp.specs.Laws.{AnswersAreOne, TextsAreOne, ProblemsAreAnswered, RefutationsAreAccepted, AgreeInSearch, RostersMeet, ReductionsAreAccepted, WorkersMakeNoDifference, StaffTextsAreAccepted}
+use Rattle.rwsp.specs.Laws.{AnswersAreOne, TextsAreOne, ProblemsAreAnswered, RefutationsAreAccepted, AgreeInSearch, RostersMeet, ReductionsAreAccepted, WorkersMakeNoDifference, StaffTextsAreAccepted, BestRostersAreBest, BestProofsAreAccepted, IsProofOf, AgreeInBest}
 use Rattle.rwsp.specs.declared.command.Command.{Command}
-use Rattle.rwsp.specs.declared.command.Command.TheVariants.{Plan, Check, Verify, Reduce, Show, Trial, Crew as CrewCommand, Staff as StaffCommand, CheckStaff}
+use Rattle.rwsp.specs.declared.command.Command.TheVariants.{Plan, Check, Verify, Reduce, Show, Trial, Crew as CrewCommand, Staff as StaffCommand, CheckStaff, CheckFree, Best as BestCommand}
 use Rattle.rwsp.specs.declared.answer.InputKind.TheVariants as Kinds
 use Rattle.rwsp.specs.declared.answer.Answer.{Answer}
-use Rattle.rwsp.specs.declared.answer.Answer.TheVariants.{Roster, NoRoster, Undecided, Accepted, LogRefused, Reduced, Meets, Shown, Breaks, RosterRefused, Trial as TrialOf, Usage, FileRefused, TooLong, Crew, Horizon, NoEmployee, Staff, StaffRange, StaffAccepted, StaffRefused}
+use Rattle.rwsp.specs.declared.answer.Answer.TheVariants.{Roster, NoRoster, Undecided, Accepted, Meets, Trial as TrialOf, Crew, Staff, StaffRange, StaffAccepted, FreeAccepted, Best, NoBest, BestUndecided}
 use Rattle.rwsp.specs.Staffs.{IsStaffAnswer}
 use Rattle.crew_size.proofs.Decided.{searches_agree, printed_accepted, accepted_decide}
 use Rattle.crew_size.specs.Sizes.{IsSize}
-use Rattle.rwsp.proofs.Logs.{accepted}
+use Rattle.rwsp.proofs.Logs.{accepted, free_accepted}
+use Rattle.rwsp.proofs.Bests.{bests_agree, below_goal}
+use Rattle.rwsp.specs.Bests.{IsBestAnswer}
+use Rattle.refutation_terms.specs.LogText.{free_log_text}
 use Rattle.rwsp.specs.Plans.{IsPlanAnswer}
 use Rattle.rwsp_terms.specs.Roster.{MeetsAll}
 use Rattle.rwsp_terms.specs.declared.data.Symbol.{Symbol}
-use Rattle.refutation_terms.specs.Log.{Log as LogValue, Passes}
+use Rattle.refutation_terms.specs.Log.{Log as LogValue, Passes, FreePasses}
+use Rattle.refutation_terms.specs.FreeWeekends.{free_weekends}
 use Rattle.refutation_terms.proofs.Sound.{passing_leaves_none}
 use Rattle.refutation_terms.proofs.Named.{named-IsRule}
 use Rattle.roster_print.proofs.Printed.{printed_is_short, printed_is_spelled}
-use Rattle.roster_print.specs.RosterText.{SpellsRoster}
+use Rattle.roster_print.specs.RosterText.{SpellsRoster, roster_text}
 use Rattle.roster_print.proofs.Spelling.{one_roster}
 use Rattle.crew_calendar.proofs.OneText.{one_table, one_duties}
 use Rattle.rwsp.proofs.Forms.{one_form}
@@ -59,19 +63,26 @@ pub exclusive : (P : Instance) (s : List Symbol) (g : LogValue) → MeetsAll P s
 exclusive P s g h k = passing_leaves_none P g s k (record { is_roster = h.is_roster; rules = λ r n. h.rules r (named-IsRule P g.named r n) })
 
 planned_agree : (P : Instance) (budget : ℕ) (a b : Answer) → IsPlanAnswer P budget a → IsPlanAnswer P budget b → AgreeInSearch a b
-planned_agree P budget (Roster s) (Roster t) h k = (tt, tt)
+planned_agree P budget (Roster s) (Roster t) h k = inl (tt, tt)
 planned_agree P budget (Roster s) (NoRoster e) h k = exclusive P s.cells e h.1 k.0
-planned_agree P budget (Roster s) (Undecided e) h k = (tt, tt)
+planned_agree P budget (Roster s) (Undecided e) h k = inl (tt, tt)
 planned_agree P budget (NoRoster g) (Roster t) h k = exclusive P t.cells g k.1 h.0
-planned_agree P budget (NoRoster g) (NoRoster e) h k = (tt, tt)
-planned_agree P budget (NoRoster g) (Undecided e) h k = (tt, tt)
-planned_agree P budget (Undecided g) (Roster t) h k = (tt, tt)
-planned_agree P budget (Undecided g) (NoRoster e) h k = (tt, tt)
-planned_agree P budget (Undecided g) (Undecided e) h k = (tt, tt)
+planned_agree P budget (NoRoster g) (NoRoster e) h k = inl (tt, tt)
+planned_agree P budget (NoRoster g) (Undecided e) h k = inl (tt, tt)
+planned_agree P budget (Undecided g) (Roster t) h k = inl (tt, tt)
+planned_agree P budget (Undecided g) (NoRoster e) h k = inl (tt, tt)
+planned_agree P budget (Undecided g) (Undecided e) h k = inl (tt, tt)
 planned_agree P budget (Roster s) b h k = absurd k
 planned_agree P budget (NoRoster g) b h k = absurd k
 planned_agree P budget (Undecided g) b h k = absurd k
 planned_agree P budget a b h k = absurd h
+
+-- two searches for the most free weekends
+best_in_search : (a b : Answer) → AgreeInBest a b → AgreeInSearch a b
+best_in_search (Best s g) b h = inr h
+best_in_search (NoBest g) b h = inr h
+best_in_search (BestUndecided s g) b h = inr h
+best_in_search a b h = absurd h.0
 
 -- two searches for the least crew
 staffs_agree : (P : Instance) (low high budget : ℕ) (a b : Answer) → IsStaffAnswer P low high budget a → IsStaffAnswer P low high budget b → (a ≡ b) ⊎ AgreeInSearch a b
@@ -89,6 +100,13 @@ told_second : (command : Command) (P : Instance) (told : Told) (a b : Answer) �
 told_second command P told a b limits (inl e) h k = absurd (at_missing told (IsSecondAnswer command a P) e h)
 told_second command P told a b limits (inr r) h k = one_second command P r.0 a b limits (at_bytes told r.0 (IsSecondAnswer command a P) r.1 h) (at_bytes told r.0 (IsSecondAnswer command b P) r.1 k)
 
+-- two answers to a command for weeks of seven days
+one_weekly : (P : Instance) (a b : Answer) (Says Other : Type 0) (Same : Type 0) → (a ≡ b → Same) → (Says → Other → Same) → IsWeekly P a Says → IsWeekly P b Other → Same
+one_weekly P a b Says Other Same equal one (inl h) (inl k) = equal (h.1 ∙ sym k.1)
+one_weekly P a b Says Other Same equal one (inl h) (inr k) = absurd (h.0 k.0)
+one_weekly P a b Says Other Same equal one (inr h) (inl k) = absurd (k.0 h.0)
+one_weekly P a b Says Other Same equal one (inr h) (inr k) = one h.1 k.1
+
 one_on : (command : Command) (P : Instance) (told : Told) (a b : Answer) → KeepsLimits P → (ReadsSecond command → IsThere told) → IsAnswerOn command told P a → IsAnswerOn command told P b → (a ≡ b) ⊎ AgreeInSearch a b
 one_on Show P told a b limits there h k = inl (h ∙ sym k)
 one_on Verify P told a b limits there h k = inl (told_second Verify P told a b limits (there tt) h.1 k.1)
@@ -99,6 +117,8 @@ one_on (Plan budget) P told a b limits there h k = inr (planned_agree P budget a
 one_on (Trial number weeks) P told a b limits there h k = absurd h.0
 one_on (StaffCommand low high budget) P told a b limits there h k = staffs_agree P low high budget a b h k
 one_on CheckStaff P told a b limits there h k = inl (told_second CheckStaff P told a b limits (there tt) h.1 k.1)
+one_on (BestCommand budget) P told a b limits there h k = one_weekly P a b _ _ _ inl (λ x y. inr (best_in_search a b (bests_agree P budget a b x y))) h k
+one_on CheckFree P told a b limits there h k = one_weekly P a b _ _ _ inl (λ x y. inl (told_second CheckFree P told a b limits (there tt) x.1 y.1)) h k
 
 -- two answers to a command over a file that is there
 
@@ -204,6 +224,31 @@ staff_taken file P low high budget run staffed a spells sizes answer decides sho
 pub kept : ReductionsAreAccepted
 kept file P bytes h a spells reduced short answer =
     one_second (Check USUAL_WORKERS) P (log_text P h) a (Accepted h.named) (valid_keeps P spells.valid) answer (accepted P (log_text P h) h.named short (h, (refl, reduced.2.passes), refl))
+
+at_most : (m n : ℕ) → m < n + 1 → m ≤ n
+at_most m n h = omega (arith, h)
+
+-- a best roster meets every rule, and none has more free weekends
+pub best_is_best : BestRostersAreBest
+best_is_best file P budget s g a spells best h =
+    let roster = best.0.1.is_roster in
+    let meets = one_second Verify P (roster_text P s.cells) a Meets (valid_keeps P spells.valid) h (printed_is_short P s.cells spells.valid roster, (s.cells, printed_is_spelled P s.cells spells.valid roster, best.0.1)) in
+    (meets, λ t met. at_most (free_weekends t) (free_weekends s.cells) (below_goal P (free_weekends s.cells + 1) g t best.1.0 met))
+
+-- the proof of a search for the most free weekends is accepted
+
+proof_passes : (P : Instance) (budget goal : ℕ) (found : Answer) (g : LogValue) → IsBestAnswer P budget found → IsProofOf found goal g → FreePasses P goal g
+proof_passes P budget goal (Best s g) h found proof =
+    subst (λ (n : ℕ). FreePasses P n h) (sym proof.0) (subst (λ (k : LogValue). FreePasses P (free_weekends s.cells + 1) k) (sym proof.1) found.1.0)
+proof_passes P budget goal (NoBest g) h found proof =
+    subst (λ (n : ℕ). FreePasses P n h) (sym proof.0) (subst (λ (k : LogValue). FreePasses P 0 k) (sym proof.1) found.0)
+proof_passes P budget goal found g h proof = absurd proof
+
+pub best_taken : BestProofsAreAccepted
+best_taken file P budget goal found g a spells best proof short h =
+    let passes = proof_passes P budget goal found g best proof in
+    let text = free_log_text P goal g in
+    one_second CheckFree P text a (FreeAccepted goal g.named) (valid_keeps P spells.valid) h (free_accepted P text g goal short (goal, refl, passes) passes.grounded.fits.is_goal)
 
 pub same_for_workers : WorkersMakeNoDifference
 same_for_workers m n told P a h = h

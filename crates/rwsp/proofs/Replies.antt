@@ -1,21 +1,22 @@
 -- From what the parts of a run found to what its answer says.
-use Rattle.std.proofs.Common.{◌≡◌, ℕ, ◌≤◌, List, subst, arith, refl, inl, inr}
+use Rattle.std.proofs.Common.{◌≡◌, ◌⊎◌, ℕ, ◌≤◌, List, subst, sym, arith, refl, inl, inr}
 use Rattle.rwsp_io.specs.Told.{Told, Silent, Missing, Bytes, Rose}
 use Rattle.rwsp_terms.specs.Instance.{Instance}
 use Rattle.rwsp_file.specs.Spelling.{SpellsProblem}
-use Rattle.rwsp.specs.Commands.{Words, IsForm, ReadsProblem, ReadsSecond, IsWithinHorizon, problem_name, second_name}
+use Rattle.rwsp.specs.Commands.{Words, IsForm, ReadsProblem, ReadsSecond, IsWithinHorizon, HasDaysFor, problem_name, second_name}
 use Rattle.rwsp.specs.Inputs.{WhereTold, IsWithinLimit, OfProblem, IsProblemOf}
-use Rattle.rwsp.specs.Answers.{IsAnswer, IsAnswerOn, IsReadFault, IsOfCommand, IsOfStaff}
+use Rattle.rwsp.specs.Answers.{IsAnswer, IsAnswerOn, IsReadFault, IsOfCommand, IsOfStaff, IsNotWeekly, IsWeekly}
 use Rattle.rwsp.specs.Staffs.{IsStaffAnswer}
 use Rattle.rwsp.specs.Texts.{IsTextOf, IsTextOfTrial, IsReplyText}
 use Rattle.rwsp.specs.Trials.{IsTrial, IsTrialAnswer}
 use Rattle.rwsp.specs.declared.answer.TrialResult.{TrialResult}
 use Rattle.rwsp.specs.declared.command.Command.{Command}
-use Rattle.rwsp.specs.declared.command.Command.TheVariants.{Plan, Check, Verify, Reduce, Show, Trial, Crew as CrewCommand, Staff as StaffCommand, CheckStaff}
+use Rattle.rwsp.specs.declared.command.Command.TheVariants.{Plan, Check, Verify, Reduce, Show, Trial, Crew as CrewCommand, Staff as StaffCommand, CheckStaff, CheckFree, Best as BestCommand}
 use Rattle.rwsp.specs.declared.answer.InputKind.TheVariants as Kinds
 use Rattle.rwsp.specs.declared.answer.Answer.{Answer}
-use Rattle.rwsp.specs.declared.answer.Answer.TheVariants.{Trial as TrialOf, Staff, StaffRange}
+use Rattle.rwsp.specs.declared.answer.Answer.TheVariants.{Trial as TrialOf, Staff, StaffRange, NotWeekly}
 use Rattle.rwsp.proofs.Logs.{planned_is}
+use Rattle.rwsp.proofs.Bests.{of_best}
 
 told_weaker : (told : Told) (Q R : List ℕ → Type 0) → ((bytes : List ℕ) → Q bytes → R bytes) → WhereTold told Q → WhereTold told R
 told_weaker Silent Q R f h = tt
@@ -37,6 +38,11 @@ staff_kind P low high budget (Staff run) h = tt
 staff_kind P low high budget (StaffRange weeks) h = tt
 staff_kind P low high budget answer h = absurd h
 
+-- an answer to a command for weeks of seven days
+weekly_kind : (P : Instance) (answer : Answer) (Says Kind : Type 0) → (Says → Kind) → IsWeekly P answer Says → IsNotWeekly answer ⊎ Kind
+weekly_kind P answer Says Kind of (inl h) = inl (subst IsNotWeekly (sym h.1) tt)
+weekly_kind P answer Says Kind of (inr h) = inr (of h.1)
+
 -- an answer that is right on a problem is one of the command's
 answer_kind : (command : Command) (told : Told) (P : Instance) (answer : Answer) → IsAnswerOn command told P answer → IsOfCommand command answer
 answer_kind Show told P answer h = h
@@ -48,6 +54,14 @@ answer_kind (Trial number weeks) told P answer h = h.0
 answer_kind (CrewCommand date days employee) told P answer h = h.0
 answer_kind (StaffCommand low high budget) told P answer h = staff_kind P low high budget answer h
 answer_kind CheckStaff told P answer h = h.0
+answer_kind (BestCommand budget) told P answer h = weekly_kind P answer _ _ (of_best P budget answer) h
+answer_kind CheckFree told P answer h = weekly_kind P answer _ _ (λ k. k.0) h
+
+-- a problem whose week has other days than the command asks for
+pub not_weekly : (command : Command) (told : Told) (P : Instance) → (HasDaysFor command P → ⊥) → IsAnswerOn command told P (NotWeekly P.days)
+not_weekly CheckFree told P other = inl (other, refl)
+not_weekly (BestCommand budget) told P other = inl (other, refl)
+not_weekly command told P other = absurd (other tt)
 
 -- an answer on a problem that was read
 pub job_answer : (held : List ℕ → Told) (words : Words) (command : Command) (P : Instance) (answer : Answer) (told : Told) → IsForm words command → IsWithinHorizon command → ReadsProblem command → IsRead held words P → told ≡ held (second_name words) → IsAnswerOn command told P answer → IsAnswer held words answer
@@ -62,9 +76,9 @@ job_text held words command P answer text told form read same h =
 rose_since : (before later now : ℕ) → before ≤ later → Rose later now → Rose before now
 rose_since before later now h rose = omega arith
 
-pub second_fault : (held : List ℕ → Told) (before later now : List ℕ → ℕ) (words : Words) (command : Command) (P : Instance) → IsForm words command → ReadsProblem command → ReadsSecond command → IsRead held words P → before (second_name words) ≤ later (second_name words) → Rose (later (second_name words)) (now (second_name words)) → IsReadFault held before now words
-second_fault held before later now words command P form file reads read le rose =
-    (command, form, file, inr (reads, rose_since _ _ _ le rose, of_problem held words P (λ _. Unit {0}) read tt))
+pub second_fault : (held : List ℕ → Told) (before later now : List ℕ → ℕ) (words : Words) (command : Command) (P : Instance) → IsForm words command → ReadsProblem command → ReadsSecond command → HasDaysFor command P → IsRead held words P → before (second_name words) ≤ later (second_name words) → Rose (later (second_name words)) (now (second_name words)) → IsReadFault held before now words
+second_fault held before later now words command P form file reads days read le rose =
+    (command, form, file, inr (reads, rose_since _ _ _ le rose, of_problem held words P (HasDaysFor command) read days))
 
 -- the reply of a trial
 

@@ -1,5 +1,5 @@
 -- What a search finds for a generated problem, and what is demanded there.
-use Rattle.std.proofs.Common.{◌≡◌, ℕ, ◌+◌, ◌≤◌, [], ◌∷◌, ◌++◌, refl, ap, sym, subst, ◌∙◌, pos, add-one, arith}
+use Rattle.std.proofs.Common.{◌≡◌, ℕ, ◌+◌, ◌≤◌, [], ◌∷◌, refl, ap, sym, subst, ◌∙◌, pos, add-one, arith}
 use Rattle.std.proofs.Common.{ℤ, ◌≤ℤ◌, nat_abs, to_z, of_z, w32}
 use Rattle.std.proofs.lemmas.Int.{ints, to_z-of_z}
 use Rattle.std.specs.List.{range_with_len, sum_by}

@@ -1,5 +1,5 @@
 -- What each answer says.
-use Rattle.std.specs.Prelude.{◌≡◌, ◌⊎◌, ℕ, ◌<◌, ◌≤◌, List, Option, Some, None}
+use Rattle.std.specs.Prelude.{◌≡◌, ◌≢◌, ◌⊎◌, ℕ, ◌<◌, ◌≤◌, List, Option, Some, None}
 use Rattle.rwsp_io.specs.Told.{Told, Rose}
 use Rattle.rwsp_terms.specs.Instance.{Instance}
 use Rattle.rwsp_terms.specs.Roster.{MeetsAll}
@@ -10,6 +10,8 @@ use Rattle.roster_print.specs.RosterText.{SpellsRoster}
 use Rattle.roster_print.specs.Refusal.{refusal_of_roster}
 use Rattle.roster_checker.specs.FirstBroken.{IsFirstBroken}
 use Rattle.refutation_terms.specs.Log.{Log as LogValue, Passes}
+use Rattle.refutation_terms.specs.FreeVerdict.{IsFreeAccepted, IsFreeRefused}
+use Rattle.refutation_terms.specs.FreeWeekends.{free_weekends}
 use Rattle.refutation_terms.specs.Strip.{IsReduced}
 use Rattle.refutation_terms.specs.Verdict.{IsAccepted, IsRefused}
 use Rattle.rule_reducer.specs.Needs.{NeedsEach, NeedsTogether}
@@ -18,11 +20,12 @@ use Rattle.rwsp.specs.Inputs.{WhereTold, IsWithinLimit, IsTooLong, OfProblem, Ha
 use Rattle.rwsp.specs.Plans.{IsPlanAnswer}
 use Rattle.rwsp.specs.Trials.{IsTrialAnswer}
 use Rattle.rwsp.specs.Staffs.{IsStaffAnswer, IsStaffVerdictOf}
+use Rattle.rwsp.specs.Bests.{IsBestAnswer}
 use Rattle.rwsp.specs.declared.command.Command.{Command}
-use Rattle.rwsp.specs.declared.command.Command.TheVariants.{Plan, Check, Verify, Reduce, Show, Trial, Crew as CrewCommand, Staff as StaffCommand, CheckStaff}
+use Rattle.rwsp.specs.declared.command.Command.TheVariants.{Plan, Check, Verify, Reduce, Show, Trial, Crew as CrewCommand, Staff as StaffCommand, CheckStaff, CheckFree, Best as BestCommand}
 use Rattle.rwsp.specs.declared.answer.InputKind.TheVariants.{Problem, Roster, Log}
 use Rattle.rwsp.specs.declared.answer.Answer.{Answer}
-use Rattle.rwsp.specs.declared.answer.Answer.TheVariants.{Roster as Found, NoRoster, Undecided, Meets, Breaks, RosterRefused, Accepted, LogRefused, Reduced, Shown, Usage, FileRefused, TooLong, Crew, Horizon, NoEmployee, Staff, StaffRange, StaffAccepted, StaffRefused}
+use Rattle.rwsp.specs.declared.answer.Answer.TheVariants.{Roster as Found, NoRoster, Undecided, Meets, Breaks, RosterRefused, Accepted, LogRefused, Reduced, Shown, Usage, FileRefused, TooLong, Crew, Horizon, NoEmployee, Staff, StaffRange, StaffAccepted, StaffRefused, NotWeekly, FreeAccepted, Best, NoBest, BestUndecided}
 
 -- what an answer says of the bytes of a problem file
 abbrev pub IsFileAnswer : Answer → List ℕ → Type 0
@@ -51,6 +54,21 @@ IsLogAnswer (LogRefused why) P bytes = IsWithinLimit Log bytes × IsRefused P by
 IsLogAnswer (Accepted R) P bytes =
     IsWithinLimit Log bytes × ((g : LogValue) × IsAccepted P bytes g × (g.named ≡ R)) × LeavesNoRoster P R
 IsLogAnswer answer P bytes = ⊥
+
+-- no roster meets the rules and has so many free weekends
+abbrev pub LeavesFewerFree : Instance → ℕ → List ℕ → Type 0
+LeavesFewerFree P goal R = (s : List Symbol) → MeetsRules P R s → goal ≤ free_weekends s → ⊥
+
+-- what an answer says of an instance and the bytes of a free log: accepted are the goal and the rules that the header
+-- of one names which passes, and no roster meets these with so many free weekends
+abbrev pub IsFreeAnswer : Answer → Instance → List ℕ → Type 0
+IsFreeAnswer (TooLong Log) P bytes = IsTooLong Log bytes
+IsFreeAnswer (LogRefused why) P bytes = IsWithinLimit Log bytes × IsFreeRefused P bytes why
+IsFreeAnswer (FreeAccepted goal R) P bytes =
+    IsWithinLimit Log bytes
+    × ((g : LogValue) × IsFreeAccepted P bytes g × (g.goal ≡ Some goal) × (g.named ≡ R))
+    × LeavesFewerFree P goal R
+IsFreeAnswer answer P bytes = ⊥
 
 -- a log that passes, and can't do without any rule that it names, nor without several window rules
 pub record IsSparing (P : Instance) (g : LogValue) : Type 0 where
@@ -110,6 +128,13 @@ IsOfLog (LogRefused why) = Unit {0}
 IsOfLog (Accepted R) = Unit {0}
 IsOfLog answer = ⊥
 
+-- an answer that a free log has
+abbrev pub IsOfFreeLog : Answer → Type 0
+IsOfFreeLog (TooLong Log) = Unit {0}
+IsOfFreeLog (LogRefused why) = Unit {0}
+IsOfFreeLog (FreeAccepted goal R) = Unit {0}
+IsOfFreeLog answer = ⊥
+
 -- an answer that a reduction has
 abbrev pub IsOfReduction : Answer → Type 0
 IsOfReduction (TooLong Log) = Unit {0}
@@ -123,6 +148,13 @@ IsOfSearch (Found s) = Unit {0}
 IsOfSearch (NoRoster g) = Unit {0}
 IsOfSearch (Undecided g) = Unit {0}
 IsOfSearch answer = ⊥
+
+-- an answer that a search for the most free weekends has
+abbrev pub IsOfBest : Answer → Type 0
+IsOfBest (Best s g) = Unit {0}
+IsOfBest (NoBest g) = Unit {0}
+IsOfBest (BestUndecided s g) = Unit {0}
+IsOfBest answer = ⊥
 
 -- an answer that a search for the least crew has
 abbrev pub IsOfStaff : Answer → Type 0
@@ -144,13 +176,21 @@ IsOfSecond (Check workers) answer = IsOfLog answer
 IsOfSecond Reduce answer = IsOfReduction answer
 IsOfSecond (CrewCommand date days employee) answer = IsOfCrew answer
 IsOfSecond CheckStaff answer = IsOfStaffText answer
+IsOfSecond CheckFree answer = IsOfFreeLog answer
 IsOfSecond command answer = ⊥
+
+-- the problem's week has not the days that the command asks for
+abbrev pub IsNotWeekly : Answer → Type 0
+IsNotWeekly (NotWeekly days) = Unit {0}
+IsNotWeekly answer = ⊥
 
 -- an answer that a command has on a problem, whatever the files hold
 abbrev pub IsOfCommand : Command → Answer → Type 0
 IsOfCommand Show answer = answer ≡ Shown
 IsOfCommand (Plan budget) answer = IsOfSearch answer
 IsOfCommand (StaffCommand low high budget) answer = IsOfStaff answer
+IsOfCommand (BestCommand budget) answer = IsNotWeekly answer ⊎ IsOfBest answer
+IsOfCommand CheckFree answer = IsNotWeekly answer ⊎ IsOfSecond CheckFree answer
 IsOfCommand command answer = IsOfSecond command answer
 
 -- what the answer to a command says of an instance and the bytes of the second file
@@ -160,13 +200,21 @@ IsSecondAnswer (Check workers) answer P bytes = IsLogAnswer answer P bytes
 IsSecondAnswer Reduce answer P bytes = IsReduction answer P bytes
 IsSecondAnswer (CrewCommand date days employee) answer P bytes = IsCrewAnswer employee answer P bytes
 IsSecondAnswer CheckStaff answer P bytes = IsStaffVerdictOf answer P bytes
+IsSecondAnswer CheckFree answer P bytes = IsFreeAnswer answer P bytes
 IsSecondAnswer command answer P bytes = ⊥
+
+-- what an answer says to a command for weeks of seven days: the instance has others, or it has these and this is said
+abbrev pub IsWeekly : Instance → Answer → Type 0 → Type 0
+IsWeekly P answer Says = ((P.days ≢ 7) × (answer ≡ NotWeekly P.days)) ⊎ ((P.days ≡ 7) × Says)
 
 -- what the answer to a command says of the instance that the first file spells, and of what the second file tells
 abbrev pub IsAnswerOn : Command → Told → Instance → Answer → Type 0
 IsAnswerOn Show told P answer = answer ≡ Shown
 IsAnswerOn (Plan budget) told P answer = IsPlanAnswer P budget answer
 IsAnswerOn (StaffCommand low high budget) told P answer = IsStaffAnswer P low high budget answer
+IsAnswerOn (BestCommand budget) told P answer = IsWeekly P answer (IsBestAnswer P budget answer)
+IsAnswerOn CheckFree told P answer =
+    IsWeekly P answer (IsOfSecond CheckFree answer × WhereTold told (IsSecondAnswer CheckFree answer P))
 IsAnswerOn command told P answer = IsOfSecond command answer × WhereTold told (IsSecondAnswer command answer P)
 
 -- the problem's file ends the job, or the answer is one of the command's, and the file spells an instance where the
@@ -186,9 +234,9 @@ IsAnswer held words answer =
     × IsAnswerTo command held words answer)))
 
 -- a file could not be read: the count of the problem's file has risen, or that of the second file, and then the first
--- spells an instance
+-- spells an instance for the command
 abbrev pub IsReadFault : (List ℕ → Told) → (before now : List ℕ → ℕ) → Words → Type 0
 IsReadFault held before now words =
     (command : Command) × IsForm words command × ReadsProblem command
     × (Rose (before (problem_name words)) (now (problem_name words))
-    ⊎ (ReadsSecond command × Rose (before (second_name words)) (now (second_name words)) × HasProblem held words))
+    ⊎ (ReadsSecond command × Rose (before (second_name words)) (now (second_name words)) × HasProblem held words command))

@@ -3,11 +3,13 @@ use Rattle.std.specs.Prelude.{◌≡◌, ◌≢◌, ℕ, ◌+◌, ◌<◌, ◌�
 use Rattle.std.specs.String.{string_bytes}
 use Rattle.std.specs.declared.alloc.Global.{Global}
 use Rattle.rwsp_terms.specs.declared.limits.TheConstants.{MOST_WEEKS, USUAL_BUDGET, GREATEST_BUDGET, LONGEST_CALENDAR, USUAL_WORKERS, MOST_WORKERS, MOST_SIZES, USUAL_STAFF_BUDGET, GREATEST_STAFF_BUDGET}
+use Rattle.rwsp.specs.declared.command.TheConstants.{USUAL_BEST_BUDGET}
 use Rattle.rwsp_text.specs.Numbers.{number_of}
+use Rattle.rwsp_terms.specs.Instance.{Instance}
 use Rattle.crew_calendar.specs.Calendar.{IsDateWord, FitsDates}
 use Rattle.jiff.specs.Types.{Date}
 use Rattle.rwsp.specs.declared.command.Command.{Command}
-use Rattle.rwsp.specs.declared.command.Command.TheVariants.{Plan, Check, Verify, Reduce, Show, Trial, Crew, Staff, CheckStaff}
+use Rattle.rwsp.specs.declared.command.Command.TheVariants.{Plan, Check, Verify, Reduce, Show, Trial, Crew, Staff, CheckStaff, CheckFree, Best}
 
 -- the words behind the program's name
 abbrev pub Words : Type 0
@@ -77,6 +79,13 @@ IsForm (word ∷ file ∷ low ∷ high ∷ option ∷ number ∷ []) (Staff firs
     × (string_bytes option ≡ codes "--budget") × IsCount (string_bytes number) GREATEST_STAFF_BUDGET budget
 IsForm (word ∷ file ∷ second ∷ []) CheckStaff =
     (string_bytes word ≡ codes "check-staff") × IsFileWord (string_bytes file) × IsFileWord (string_bytes second)
+IsForm (word ∷ file ∷ second ∷ []) CheckFree =
+    (string_bytes word ≡ codes "check-free") × IsFileWord (string_bytes file) × IsFileWord (string_bytes second)
+IsForm (word ∷ file ∷ []) (Best budget) =
+    (string_bytes word ≡ codes "best") × IsFileWord (string_bytes file) × (budget ≡ USUAL_BEST_BUDGET)
+IsForm (word ∷ file ∷ option ∷ number ∷ []) (Best budget) =
+    (string_bytes word ≡ codes "best") × IsFileWord (string_bytes file) × (string_bytes option ≡ codes "--budget")
+    × IsCount (string_bytes number) GREATEST_BUDGET budget
 IsForm words command = ⊥
 
 -- the words are a form of no command
@@ -114,6 +123,7 @@ ReadsSecond Reduce = Unit {0}
 ReadsSecond (Check workers) = Unit {0}
 ReadsSecond (Crew date days employee) = Unit {0}
 ReadsSecond CheckStaff = Unit {0}
+ReadsSecond CheckFree = Unit {0}
 ReadsSecond command = ⊥
 
 -- the workers of the command, where it has some, are from one to the most that may be
@@ -139,6 +149,12 @@ HasFewDays command = Unit {0}
 abbrev pub AsksNoCalendar : Command → Type 0
 AsksNoCalendar (Crew date days employee) = ⊥
 AsksNoCalendar command = Unit {0}
+
+-- the week of the instance has as many days as the command asks for
+abbrev pub HasDaysFor : Command → Instance → Type 0
+HasDaysFor CheckFree P = P.days ≡ 7
+HasDaysFor (Best budget) P = P.days ≡ 7
+HasDaysFor command P = Unit {0}
 
 -- the bytes of a word, where there is one
 abbrev pub word_bytes : Option (String Global) → List ℕ

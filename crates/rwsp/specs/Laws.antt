@@ -1,5 +1,5 @@
 -- What answers fit a command line over files that are told.
-use Rattle.std.specs.Prelude.{◌≡◌, ◌≢◌, ◌⊎◌, ℕ, ◌≤◌, List, Some}
+use Rattle.std.specs.Prelude.{◌≡◌, ◌≢◌, ◌⊎◌, ℕ, ◌+◌, ◌<◌, ◌≤◌, List, Option, Some, None}
 use Rattle.rwsp_io.specs.Told.{Told, Silent, Bytes}
 use Rattle.rwsp_terms.specs.Instance.{Instance}
 use Rattle.rwsp_file.specs.Spelling.{SpellsProblem}
@@ -7,13 +7,20 @@ use Rattle.refutation_terms.specs.Log.{Log}
 use Rattle.rwsp.specs.Commands.{Words, IsForm, ReadsProblem, ReadsSecond, IsWithinHorizon, problem_name, second_name}
 use Rattle.rwsp.specs.Inputs.{IsWithinLimit}
 use Rattle.rwsp.specs.Plans.{IsPlanAnswer}
-use Rattle.rwsp.specs.Answers.{IsAnswer, IsAnswerOn, IsOfSearch, IsOfLog, IsLogAnswer, IsRosterAnswer, IsReduction}
+use Rattle.rwsp.specs.Bests.{IsBestAnswer}
+use Rattle.rwsp_model.specs.declared.roster.Roster.{Roster as RosterValue}
+use Rattle.rwsp_terms.specs.Roster.{MeetsAll}
+use Rattle.rwsp_terms.specs.declared.data.Symbol.{Symbol}
+use Rattle.refutation_terms.specs.FreeWeekends.{free_weekends}
+use Rattle.refutation_terms.specs.LogText.{free_log_text}
+use Rattle.roster_print.specs.RosterText.{roster_text}
+use Rattle.rwsp.specs.Answers.{IsAnswer, IsAnswerOn, IsOfSearch, IsOfBest, IsFreeAnswer, IsOfLog, IsLogAnswer, IsRosterAnswer, IsReduction}
 use Rattle.rwsp.specs.Texts.{IsTextOf, answer_text}
 use Rattle.rwsp.specs.declared.command.Command.{Command}
 use Rattle.rwsp.specs.declared.command.Command.TheVariants.{Check}
 use Rattle.rwsp.specs.declared.answer.InputKind.TheVariants as Kinds
 use Rattle.rwsp.specs.declared.answer.Answer.{Answer}
-use Rattle.rwsp.specs.declared.answer.Answer.TheVariants.{Roster, NoRoster, Accepted, Reduced, Meets, Trial, Crew, Staff, StaffAccepted}
+use Rattle.rwsp.specs.declared.answer.Answer.TheVariants.{Roster, NoRoster, Accepted, Reduced, Meets, Trial, Crew, Staff, StaffAccepted, Best, NoBest, BestUndecided, FreeAccepted}
 use Rattle.crew_size.specs.Texts.{Staff as StaffRun}
 use Rattle.rwsp.specs.Staffs.{IsStaffAnswer, IsStaffVerdictOf}
 use Rattle.rwsp_terms.specs.declared.limits.TheConstants.{MOST_WEEKS}
@@ -27,6 +34,29 @@ AreTold held words =
     ((command : Command) → IsForm words command → ReadsProblem command → held (problem_name words) ≢ Silent)
     × ((command : Command) → IsForm words command → ReadsSecond command → held (second_name words) ≢ Silent)
 
+-- the roster of a search for the most free weekends, where it has one
+abbrev pub best_roster : Answer → Option RosterValue
+best_roster (Best s g) = Some s
+best_roster (BestUndecided s g) = s
+best_roster answer = None
+
+-- a roster, where there is one, has fewer free weekends
+abbrev pub StaysBelow : Option RosterValue → ℕ → Type 0
+StaysBelow None goal = Unit {0}
+StaysBelow (Some s) goal = free_weekends s.cells < goal
+
+-- what such a search proves bounds what another has found
+abbrev pub Bounds : Answer → Answer → Type 0
+Bounds (Best s g) b = StaysBelow (best_roster b) (free_weekends s.cells + 1)
+Bounds (NoBest g) b = StaysBelow (best_roster b) 0
+Bounds a b = Unit {0}
+
+-- two answers of such a search that may both fit: never a roster beside a proof that there is none, and two best
+-- rosters have equally many free weekends
+abbrev pub AgreeInBest : Answer → Answer → Type 0
+AgreeInBest (Best s g) (Best t h) = free_weekends s.cells ≡ free_weekends t.cells
+AgreeInBest a b = IsOfBest a × IsOfBest b × Bounds a b × Bounds b a
+
 -- two answers of a search that may both fit: a roster and a refutation never do, trials are of one problem, and two
 -- searches of sizes that decide say the same
 abbrev pub AgreeInSearch : Answer → Answer → Type 0
@@ -34,7 +64,7 @@ AgreeInSearch (Roster s) (NoRoster g) = ⊥
 AgreeInSearch (NoRoster g) (Roster s) = ⊥
 AgreeInSearch (Trial a) (Trial b) = (a.number ≡ b.number) × (a.weeks ≡ b.weeks)
 AgreeInSearch (Staff a) (Staff b) = (x y : Staffed) → decision_of a ≡ Some x → decision_of b ≡ Some y → x ≡ y
-AgreeInSearch a b = IsOfSearch a × IsOfSearch b
+AgreeInSearch a b = (IsOfSearch a × IsOfSearch b) ⊎ AgreeInBest a b
 
 -- two answers to the same words over the same files are equal, or both are what a search gives, and not a roster
 -- beside a refutation
@@ -101,6 +131,28 @@ StaffTextsAreAccepted =
     → IsStaffAnswer P low high budget (Staff run) → decision_of run ≡ Some staffed
     → IsWithinLimit Kinds.Log (answer_text P (Staff run)) → IsStaffVerdictOf a P (answer_text P (Staff run))
     → a ≡ StaffAccepted staffed
+
+-- the roster that `best` finds meets every rule by `verify`, and no roster that does has more free weekends
+abbrev pub BestRostersAreBest : Type 0
+BestRostersAreBest =
+    (file : List ℕ) (P : Instance) (budget : ℕ) (s : RosterValue) (g : Log) (a : Answer)
+    → SpellsProblem file P → IsBestAnswer P budget (Best s g)
+    → IsRosterAnswer a P (roster_text P s.cells)
+    → (a ≡ Meets) × ((t : List Symbol) → MeetsAll P t → free_weekends t ≤ free_weekends s.cells)
+
+-- the goal and the log of what `best` proves
+abbrev pub IsProofOf : Answer → ℕ → Log → Type 0
+IsProofOf (Best s g) goal h = (goal ≡ free_weekends s.cells + 1) × (h ≡ g)
+IsProofOf (NoBest g) goal h = (goal ≡ 0) × (h ≡ g)
+IsProofOf answer goal h = ⊥
+
+-- the log that `best` writes as a proof is accepted by `check-free`, with its goal and the rules that it names
+abbrev pub BestProofsAreAccepted : Type 0
+BestProofsAreAccepted =
+    (file : List ℕ) (P : Instance) (budget goal : ℕ) (found : Answer) (g : Log) (a : Answer)
+    → SpellsProblem file P → IsBestAnswer P budget found → IsProofOf found goal g
+    → IsWithinLimit Kinds.Log (free_log_text P goal g) → IsFreeAnswer a P (free_log_text P goal g)
+    → a ≡ FreeAccepted goal g.named
 
 -- the number of workers makes no difference to what is said of an answer
 abbrev pub WorkersMakeNoDifference : Type 0

@@ -3,6 +3,7 @@ pub mod Inputs
 pub mod Plans
 pub mod Trials
 pub mod Staffs
+pub mod Bests
 pub mod Answers
 pub mod Exits
 pub mod Texts

@@ -1,7 +1,7 @@
 -- The status of each outcome.
 use Rattle.std.specs.Prelude.{ℕ}
 use Rattle.rwsp.specs.declared.answer.Answer.{Answer}
-use Rattle.rwsp.specs.declared.answer.Answer.TheVariants.{Roster, NoRoster, Undecided, Accepted, LogRefused, Reduced, Meets, Shown, Breaks, RosterRefused, Trial, Usage, FileRefused, TooLong, Crew, Horizon, NoEmployee, Staff, StaffRange, StaffAccepted, StaffRefused}
+use Rattle.rwsp.specs.declared.answer.Answer.TheVariants.{Roster, NoRoster, Undecided, Accepted, LogRefused, Reduced, Meets, Shown, Breaks, RosterRefused, Trial, Usage, FileRefused, TooLong, Crew, Horizon, NoEmployee, Staff, StaffRange, StaffAccepted, StaffRefused, NotWeekly, FreeAccepted, Best, NoBest, BestUndecided}
 use Rattle.crew_size.specs.declared.run.StaffEnd.{StaffEnd}
 use Rattle.crew_size.specs.declared.run.StaffEnd.TheVariants as Ends
 use Rattle.rwsp.specs.declared.answer.Outcome.{Outcome}
@@ -35,6 +35,11 @@ status_of_answer (Staff run) = end_status run.end
 status_of_answer (StaffRange weeks) = 3
 status_of_answer (StaffAccepted staffed) = 0
 status_of_answer (StaffRefused why) = 5
+status_of_answer (NotWeekly days) = 3
+status_of_answer (FreeAccepted goal R) = 0
+status_of_answer (Best s g) = 0
+status_of_answer (NoBest g) = 1
+status_of_answer (BestUndecided s g) = 4
 
 -- what the program ends with
 abbrev pub status_of : Outcome → ℕ

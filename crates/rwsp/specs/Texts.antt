@@ -18,8 +18,10 @@ use Rattle.roster_print.specs.declared.refusal.RosterRefusal.TheVariants.{Unknow
 use Rattle.roster_checker.specs.declared.broken.Broken.{Broken}
 use Rattle.refutation_terms.specs.declared.lines.LogRefusal.{LogRefusal}
 use Rattle.refutation_terms.specs.declared.lines.LogRefusal.TheVariants as Refusals
-use Rattle.refutation_terms.specs.Log.{Fits}
-use Rattle.refutation_terms.specs.LogText.{log_text}
+use Rattle.refutation_terms.specs.Log.{Log, Fits, FitsFor}
+use Rattle.refutation_terms.specs.LogText.{log_text, log_text_for}
+use Rattle.refutation_terms.specs.FreeWeekends.{free_weekends}
+use Rattle.rwsp_model.specs.declared.roster.Roster.{Roster as RosterValue}
 use Rattle.roster_print.specs.RosterText.{roster_text, SpellsRoster}
 use Rattle.problem_generator.specs.Generated.{IsGenerated}
 use Rattle.roster_search.specs.declared.found.Found.{Found}
@@ -40,7 +42,7 @@ use Rattle.rwsp.specs.declared.answer.InputKind.{InputKind}
 use Rattle.rwsp.specs.declared.answer.InputKind.TheVariants as Kinds
 use Rattle.rwsp.specs.declared.answer.TrialResult.{TrialResult}
 use Rattle.rwsp.specs.declared.answer.Answer.{Answer}
-use Rattle.rwsp.specs.declared.answer.Answer.TheVariants.{Roster, NoRoster, Undecided, Accepted, LogRefused, Reduced, Meets, Shown, Breaks, RosterRefused, Trial, Usage, FileRefused, TooLong, Crew, Horizon, NoEmployee, Staff, StaffRange, StaffAccepted, StaffRefused}
+use Rattle.rwsp.specs.declared.answer.Answer.TheVariants.{Roster, NoRoster, Undecided, Accepted, LogRefused, Reduced, Meets, Shown, Breaks, RosterRefused, Trial, Usage, FileRefused, TooLong, Crew, Horizon, NoEmployee, Staff, StaffRange, StaffAccepted, StaffRefused, NotWeekly, FreeAccepted, Best, NoBest, BestUndecided}
 
 -- the text and a line feed
 abbrev pub line : List ℕ → List ℕ
@@ -86,6 +88,11 @@ log_refusal_text P (Refusals.Turn number) = at_line (codes "log refused: turn") 
 abbrev pub accepted_text : List ℕ → List ℕ
 accepted_text R = codes "accepted: rules" ++ flat_map (λ k. 32 ∷ decimal k) R
 
+-- the goal, and the numbers of the rules
+abbrev pub free_accepted_text : ℕ → List ℕ → List ℕ
+free_accepted_text goal R =
+    (codes "accepted: goal " ++ decimal goal) ++ codes " rules" ++ flat_map (λ k. 32 ∷ decimal k) R
+
 -- where a window begins and how long it is; the rule of a day has no such place
 abbrev pub place_text : Rule → Broken → List ℕ
 place_text (Day day) broken = []
@@ -120,7 +127,7 @@ staff_refusal_text P Failures.Ends = codes "staff refused: ends"
 
 abbrev pub usage_text : List ℕ
 usage_text =
-    codes "usage: rwsp plan FILE [--budget B] | check FILE LOG [--workers N] | verify FILE ROSTER | reduce FILE LOG | show FILE | trial NUMBER WEEKS | crew FILE ROSTER DATE DAYS [EMPLOYEE] | staff FILE LOW HIGH [--budget B] | check-staff FILE TEXT"
+    codes "usage: rwsp plan FILE [--budget B] | check FILE LOG [--workers N] | verify FILE ROSTER | reduce FILE LOG | show FILE | trial NUMBER WEEKS | crew FILE ROSTER DATE DAYS [EMPLOYEE] | staff FILE LOW HIGH [--budget B] | check-staff FILE TEXT | best FILE [--budget B] | check-free FILE LOG"
 
 abbrev pub kind_text : InputKind → List ℕ
 kind_text Kinds.Problem = codes "too long: problem"
@@ -156,6 +163,15 @@ trial_text P trial = line (trial_line P trial) ++ line (found_line P trial.found
 abbrev pub IsTrialText : TrialResult → List ℕ → Type 0
 IsTrialText trial text = (P : Instance) × IsGenerated trial.number trial.weeks P × (text ≡ trial_text P trial)
 
+-- how many free weekends a roster has, and the roster
+abbrev pub counted_text : Instance → RosterValue → List ℕ
+counted_text P s = line (codes "free " ++ decimal (free_weekends s.cells)) ++ roster_text P s.cells
+
+-- the same where there is one
+abbrev pub found_text : Instance → Option RosterValue → List ℕ
+found_text P None = []
+found_text P (Some s) = counted_text P s
+
 -- an answer whose text is the same for every instance
 abbrev pub HasFixedText : Answer → Type 0
 HasFixedText (Roster s) = ⊥
@@ -169,6 +185,9 @@ HasFixedText (Trial trial) = ⊥
 HasFixedText Crew = ⊥
 HasFixedText (Staff run) = ⊥
 HasFixedText (StaffRefused why) = ⊥
+HasFixedText (Best s g) = ⊥
+HasFixedText (NoBest g) = ⊥
+HasFixedText (BestUndecided s g) = ⊥
 HasFixedText answer = Unit {0}
 
 -- the same, and it lists nothing
@@ -176,6 +195,7 @@ abbrev pub HasFixedLine : Answer → Type 0
 HasFixedLine (Accepted R) = ⊥
 HasFixedLine (RosterRefused why) = ⊥
 HasFixedLine (StaffAccepted staffed) = ⊥
+HasFixedLine (FreeAccepted goal R) = ⊥
 HasFixedLine answer = HasFixedText answer
 
 -- the text of an answer, for the instance that the problem's file spells, or that of a trial. A calendar's text is of
@@ -202,6 +222,11 @@ answer_text P (StaffRange weeks) = line (codes "staff range: weeks " ++ decimal 
 answer_text P (StaffAccepted staffed) = line (staffed_text staffed)
 answer_text P (StaffRefused why) = line (staff_refusal_text P why)
 answer_text P Crew = []
+answer_text P (NotWeekly days) = line (codes "not weekly: days " ++ decimal days)
+answer_text P (FreeAccepted goal R) = line (free_accepted_text goal R)
+answer_text P (Best s g) = counted_text P s ++ log_text_for P g.goal g
+answer_text P (NoBest g) = log_text_for P g.goal g
+answer_text P (BestUndecided s g) = found_text P s ++ log_text_for P g.goal g
 
 -- a word that escapes has symbols of the instance
 abbrev pub HasSymbols : Instance → LogRefusal → Type 0
@@ -218,6 +243,19 @@ NamesItsOwn P (Failures.Log m why) = HasSymbols P why
 NamesItsOwn P (Failures.Breaks m broken) = HasBroken P broken
 NamesItsOwn P why = Unit {0}
 
+-- a roster is one of the instance, whose week has seven days
+abbrev pub IsWeeklyRoster : Instance → RosterValue → Type 0
+IsWeeklyRoster P s = (P.days ≡ 7) × (s.days ≡ P.days) × IsRoster P s.cells
+
+-- the same where there is one
+abbrev pub IsRosterFound : Instance → Option RosterValue → Type 0
+IsRosterFound P None = Unit {0}
+IsRosterFound P (Some s) = IsWeeklyRoster P s
+
+-- a free log of the instance
+abbrev pub FitsFree : Instance → Log → Type 0
+FitsFree P g = (goal : ℕ) × FitsFor P (Some goal) g
+
 -- what an answer names is the instance's. A calendar is of more than the instance, and a trial of no file's instance
 abbrev pub IsPrintable : Instance → Answer → Type 0
 IsPrintable P (Roster s) = (s.days ≡ P.days) × IsRoster P s.cells
@@ -228,6 +266,9 @@ IsPrintable P (Reduced g) = Fits P g
 IsPrintable P (Breaks broken) = HasBroken P broken
 IsPrintable P (Staff run) = FitsSizes P run
 IsPrintable P (StaffRefused why) = NamesItsOwn P why
+IsPrintable P (Best s g) = IsWeeklyRoster P s × FitsFree P g
+IsPrintable P (NoBest g) = FitsFree P g
+IsPrintable P (BestUndecided s g) = IsRosterFound P s × FitsFree P g
 IsPrintable P (Trial trial) = ⊥
 IsPrintable P Crew = ⊥
 IsPrintable P answer = Unit {0}

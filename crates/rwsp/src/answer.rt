@@ -73,6 +73,26 @@ pub enum Answer {
     StaffAccepted(Staffed),
     /// The second file is no such text: its first failure.
     StaffRefused(StaffRefusal),
+    /// The problem's week has this number of days, and the command is for weeks of seven.
+    NotWeekly(u32),
+    /// The free log passes: no roster meets these rules, which it names, with so many free weekends.
+    FreeAccepted {
+        goal: u32,
+        rules: RuleList,
+    },
+    /// A roster that meets every rule, and a free log that passes: none has more free weekends.
+    Best {
+        roster: Roster,
+        proof: Log,
+    },
+    /// There is no roster, as this free log of goal 0 shows, which passes.
+    NoBest(Log),
+    /// The whole budget was spent on the lines of this free log, for one free weekend more than the roster has that was
+    /// found, or for any roster where none was.
+    BestUndecided {
+        roster: Option<Roster>,
+        partial: Log,
+    },
 }
 
 /// Why there is no answer.
@@ -137,9 +157,13 @@ impl Answer {
             Answer::Usage => 2,
             Answer::FileRefused(_) | Answer::RosterRefused(_) | Answer::TooLong(_) => 3,
             Answer::Horizon | Answer::NoEmployee(_) | Answer::StaffRange(_) => 3,
+            Answer::NotWeekly(_) => 3,
+            Answer::Best { .. } => 0,
+            Answer::NoBest(_) => 1,
+            Answer::BestUndecided { .. } => 4,
             Answer::Undecided(_) => 4,
             Answer::LogRefused(_) | Answer::Breaks(_) | Answer::StaffRefused(_) => 5,
-            Answer::StaffAccepted(_) => 0,
+            Answer::StaffAccepted(_) | Answer::FreeAccepted { .. } => 0,
             Answer::Staff(run) => end_status(run.end()),
         }
     }

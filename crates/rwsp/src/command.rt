@@ -2,15 +2,22 @@
 ghost use Rattle.std.specs.Prelude.{◌≡◌, ◌≢◌, codes, ℕ, ◌<◌, ◌↔◌, [], ◌∷◌, length, IsTrue, MatchOption, slice_get};
 ghost use Rattle.std.specs.String.{string_bytes};
 ghost use Rattle.jiff.specs.Types.{Date as PlainDate};
-ghost use Rattle.rwsp.specs.Commands.{IsFileWord, IsCount, IsCommandOf, AreDatesOf, AreSizesOf, HasFewDays, IsWithinHorizon, word_bytes};
+ghost use Rattle.rwsp.specs.Commands.{IsFileWord, IsCount, IsCommandOf, AreDatesOf, AreSizesOf, HasFewDays, IsWithinHorizon, HasDaysFor, word_bytes};
 
 use crew_calendar::{date_of, fits};
 use jiff::civil::Date;
+use rwsp_model::Problem;
 use rwsp_terms::limits::{
     GREATEST_BUDGET, GREATEST_STAFF_BUDGET, LONGEST_CALENDAR, MOST_SIZES, MOST_WEEKS, MOST_WORKERS,
     USUAL_BUDGET, USUAL_STAFF_BUDGET, USUAL_WORKERS,
 };
 use rwsp_text::number;
+
+/// The days of a week that has a weekend.
+const DAYS_OF_WEEK: u32 = 7;
+
+/// The lines for each goal of a `best` without a budget.
+pub const USUAL_BEST_BUDGET: u32 = 2_000;
 
 /// What is to be done. The names of files are words of their own.
 #[derive(Clone, Copy, Debug, PartialEq, Eq)]
@@ -49,6 +56,12 @@ pub enum Command {
     },
     /// Whether what `staff` wrote is right.
     CheckStaff,
+    /// Whether a free log passes.
+    CheckFree,
+    /// A roster with the most free weekends, and a free log for one more; for each goal at most `budget` lines.
+    Best {
+        budget: u32,
+    },
 }
 
 fn is_file_word(word: &str) -> bool
@@ -94,6 +107,10 @@ fn on_one_file(word: &String, file: &String) -> Option<Command>
     } else if word.as_str() == "plan" {
         Some(Command::Plan {
             budget: USUAL_BUDGET,
+        })
+    } else if word.as_str() == "best" {
+        Some(Command::Best {
+            budget: USUAL_BEST_BUDGET,
         })
     } else {
         None
@@ -142,19 +159,21 @@ fn on_two_files(word: &String, file: &String, second: &String) -> Option<Command
         })
     } else if word.as_str() == "check-staff" {
         Some(Command::CheckStaff)
+    } else if word.as_str() == "check-free" {
+        Some(Command::CheckFree)
     } else {
         None
     }
 }
 
-// `plan` with a budget, or `staff` without one.
+// `plan` or `best` with a budget, or `staff` without one.
 fn on_four_words(word: &String, file: &String, third: &String, fourth: &String) -> Option<Command>
     ensures { IsCommandOf (word.now ∷ file.now ∷ third.now ∷ fourth.now ∷ []) result }
 {
     if word.as_str() == "staff" {
         return staff_of(word, file, third, fourth);
     }
-    plan_by_option(word, file, third, fourth)
+    by_budget(word, file, third, fourth)
 }
 
 // The first and the last number of weeks of a `staff`.
@@ -188,14 +207,11 @@ fn staff_of(word: &String, file: &String, low: &String, high: &String) -> Option
     })
 }
 
-// `plan` with a budget.
-fn plan_by_option(word: &String, file: &String, option: &String, number: &String) -> Option<Command>
+// `plan` or `best` with a budget.
+fn by_budget(word: &String, file: &String, option: &String, number: &String) -> Option<Command>
     requires { string_bytes word.now ≢ codes "staff" }
     ensures { IsCommandOf (word.now ∷ file.now ∷ option.now ∷ number.now ∷ []) result }
 {
-    if word.as_str() != "plan" {
-        return None;
-    }
     if !is_file_word(file.as_str()) {
         return None;
     }
@@ -203,7 +219,13 @@ fn plan_by_option(word: &String, file: &String, option: &String, number: &String
         return None;
     }
     let budget = count_in(number.as_str(), GREATEST_BUDGET)?;
-    Some(Command::Plan { budget })
+    if word.as_str() == "plan" {
+        Some(Command::Plan { budget })
+    } else if word.as_str() == "best" {
+        Some(Command::Best { budget })
+    } else {
+        None
+    }
 }
 
 // `check` with a number of workers, or `crew` for all employees.
@@ -330,6 +352,16 @@ pub fn is_within_horizon(command: &Command) -> bool
 {
     match command {
         Command::Crew { date, days, .. } => fits(*date, *days),
+        _ => true,
+    }
+}
+
+/// Whether the week of the problem has as many days as the command asks for.
+pub fn has_days_for(command: &Command, problem: &Problem) -> bool
+    ensures { IsTrue result ↔ HasDaysFor command.now problem.now }
+{
+    match command {
+        Command::CheckFree | Command::Best { .. } => problem.days() == DAYS_OF_WEEK,
         _ => true,
     }
 }

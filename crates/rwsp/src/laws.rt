@@ -1,5 +1,5 @@
 // Laws of the definitions. Each function's contract is the law.
-ghost use Rattle.rwsp.specs.Laws.{AnswersAreOne, TextsAreOne, ProblemsAreAnswered, RefutationsAreAccepted, RostersMeet, ReductionsAreAccepted, StaffTextsAreAccepted, WorkersMakeNoDifference};
+ghost use Rattle.rwsp.specs.Laws.{AnswersAreOne, TextsAreOne, ProblemsAreAnswered, RefutationsAreAccepted, RostersMeet, ReductionsAreAccepted, StaffTextsAreAccepted, BestRostersAreBest, BestProofsAreAccepted, WorkersMakeNoDifference};
 
 /// What is said of each answer fits no other answer, except those that a search is free to choose. So an answer
 /// comes exactly where what is said of it is true: no other can come but want of memory, and a fault that the counts
@@ -38,6 +38,16 @@ pub fn reductions_are_accepted()
 /// file.
 pub fn staff_texts_are_accepted()
     ensures { StaffTextsAreAccepted }
+{}
+
+/// What `best` writes as a roster meets every rule by `verify` over the same file, and no other has more free weekends.
+pub fn best_rosters_are_best()
+    ensures { BestRostersAreBest }
+{}
+
+/// What `best` writes as a proof is accepted by `check-free` over the same file.
+pub fn best_proofs_are_accepted()
+    ensures { BestProofsAreAccepted }
 {}
 
 /// The answer of `check` is the same for every number of workers.

@@ -4,7 +4,7 @@ ghost use Rattle.std.specs.List.{flat_map};
 ghost use Rattle.std.specs.String.{string_bytes};
 ghost use Rattle.std.specs.Fmt.{decimal};
 ghost use Rattle.rwsp_terms.specs.Instance.{Instance, IsSymbol};
-ghost use Rattle.rwsp.specs.Texts.{line, at_line, accepted_text, log_refusal_text, word_text, HasSymbols};
+ghost use Rattle.rwsp.specs.Texts.{line, at_line, accepted_text, free_accepted_text, log_refusal_text, word_text, HasSymbols};
 
 use refutation_log::LogRefusal;
 use roster_print::put_after_blanks;
@@ -38,6 +38,18 @@ pub fn accepted_line(alloc: Global, rules: &RuleList) -> Result<Vec<u8>, AllocEr
 {
     let mut out = Vec::new(alloc);
     out.extend_from_slice(b"accepted: rules".as_slice())?;
+    put_numbers(&mut out, rules.numbers())?;
+    out.push(b'\n')?;
+    Ok(out)
+}
+
+/// The line that names the goal and the rules which an accepted free log names.
+pub fn free_accepted_line(alloc: Global, goal: u32, rules: &RuleList) -> Result<Vec<u8>, AllocError>
+    ensures { IfOk result (λ v. v.items ≡ line (free_accepted_text goal rules.now)) }
+{
+    let mut out = Vec::new(alloc);
+    put_labelled(&mut out, b"accepted: goal ".as_slice(), goal)?;
+    out.extend_from_slice(b" rules".as_slice())?;
     put_numbers(&mut out, rules.numbers())?;
     out.push(b'\n')?;
     Ok(out)

@@ -2,7 +2,10 @@
 #![tactic(auto)]
 
 mod answer;
+mod best;
+mod best_text;
 mod check;
+mod check_free;
 mod command;
 mod crew;
 mod input;

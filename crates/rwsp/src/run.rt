@@ -4,14 +4,15 @@ ghost use Rattle.std.specs.Io.KnownBytes.{Appends, Keeps};
 ghost use Rattle.rwsp_io.specs.Told.{Rose, NeverFall, Missing};
 ghost use Rattle.rwsp_terms.specs.Instance.{Instance};
 ghost use Rattle.rwsp.specs.Answers.{IsAnswer, IsAnswerOn, IsReadFault};
-ghost use Rattle.rwsp.specs.Commands.{IsForm, ReadsProblem, ReadsSecond, IsWithinHorizon, AsksNoCalendar, problem_name, second_name};
+ghost use Rattle.rwsp.specs.Commands.{IsForm, ReadsProblem, ReadsSecond, IsWithinHorizon, HasDaysFor, AsksNoCalendar, problem_name, second_name};
 ghost use Rattle.rwsp.specs.Plans.{IsPlanAnswer};
 ghost use Rattle.rwsp.specs.Trials.{IsTrialAnswer};
 ghost use Rattle.rwsp.specs.Texts.{IsTextOf, IsReplyText, IsTextOfTrial, HasFixedText, IsPrintable, answer_text};
 ghost use Rattle.rwsp.specs.declared.answer.Answer.{Answer};
 
 use crate::answer::{Answer, Outcome, Stop};
-use crate::command::{Command, command_of, is_within_horizon, word_at};
+use crate::best::best_found;
+use crate::command::{Command, command_of, has_days_for, is_within_horizon, word_at};
 use crate::crew::crew_reply;
 use crate::input::{Exit, problem_in};
 use crate::plan::planned;
@@ -152,6 +153,7 @@ fn on_problem<R: Threads + Sync, S: Shelf, G: Gate>(
     ensures text { IfOk result (λ r.
         IsReplyText command (S.held shelf.old (second_name words.now.items)) problem.now r.answer r.text.items) }
     ensures second { IsErrOf result Stop.ReadFault → ReadsSecond command }
+    ensures days { IsErrOf result Stop.ReadFault → HasDaysFor command problem.now }
     ensures fault { IsErrOf result Stop.ReadFault
         → Rose (S.faults shelf.old (second_name words.now.items)) (S.faults shelf.new (second_name words.now.items)) }
     ensures faults { NeverFall (S.faults shelf.old) (S.faults shelf.new) }
@@ -192,16 +194,21 @@ fn answer_on<R: Threads + Sync, S: Shelf, G: Gate>(
     ensures answer { IfOk result (IsAnswerOn command (S.held shelf.old (second_name words.now.items)) problem.now) }
     ensures printable { IfOk result (IsPrintable problem.now) }
     ensures second { IsErrOf result Stop.ReadFault → ReadsSecond command }
+    ensures days { IsErrOf result Stop.ReadFault → HasDaysFor command problem.now }
     ensures fault { IsErrOf result Stop.ReadFault
         → Rose (S.faults shelf.old (second_name words.now.items)) (S.faults shelf.new (second_name words.now.items)) }
     ensures faults { NeverFall (S.faults shelf.old) (S.faults shelf.new) }
 {
+    if !has_days_for(&command, problem) {
+        return Ok(Answer::NotWeekly(problem.days()));
+    }
     match command {
         Command::Plan { budget } => plan(rt, alloc, problem, budget, gate),
         Command::Show => Ok(Answer::Shown),
         Command::Staff { low, high, budget } => {
             Ok(staffed(rt, alloc, problem, low, high, budget, gate)?)
         }
+        Command::Best { budget } => Ok(best_found(alloc, problem, budget)?),
         _ => second_answer(rt, alloc, shelf, problem, word_at(words, 2), command, gate),
     }
 }

@@ -1,7 +1,7 @@
 // The answers to a second file.
 ghost use Rattle.std.specs.Prelude.{◌≡◌, IfOk, IfErr};
 ghost use Rattle.rwsp_io.specs.Told.{NeverFall, Rose};
-ghost use Rattle.rwsp.specs.Commands.{ReadsSecond, HasFewWorkers, AsksNoCalendar};
+ghost use Rattle.rwsp.specs.Commands.{ReadsSecond, HasFewWorkers, HasDaysFor, AsksNoCalendar};
 ghost use Rattle.rwsp.specs.Inputs.{WhereTold, IsWithinLimit, second_kind};
 ghost use Rattle.rwsp.specs.Answers.{IsOfSecond, IsSecondAnswer};
 ghost use Rattle.rwsp.specs.Exits.{IsStop};
@@ -9,6 +9,7 @@ ghost use Rattle.rwsp.specs.Texts.{IsPrintable};
 
 use crate::answer::{Answer, InputKind, Stop};
 use crate::check::log_verdict;
+use crate::check_free::free_verdict;
 use crate::command::Command;
 use crate::input::{Exit, bytes_in};
 use crate::reduce::reduction;
@@ -33,6 +34,7 @@ pub fn second_answer<R: Threads + Sync, S: Shelf, G: Gate>(
     requires reads { ReadsSecond command }
     requires other { AsksNoCalendar command }
     requires workers { HasFewWorkers command }
+    requires days { HasDaysFor command problem.now }
     ensures answer { IfOk result (λ a. WhereTold (S.held shelf.old name.now) (IsSecondAnswer command a problem.now)) }
     ensures kind { IfOk result (IsOfSecond command) }
     ensures printable { IfOk result (IsPrintable problem.now) }
@@ -69,6 +71,7 @@ fn verdict<R: Threads + Sync, G: Gate>(
     requires reads { ReadsSecond command }
     requires other { AsksNoCalendar command }
     requires workers { HasFewWorkers command }
+    requires days { HasDaysFor command problem.now }
     requires short { IsWithinLimit (second_kind command) bytes.items }
     ensures answer { IfOk result (λ a. IsSecondAnswer command a problem.now bytes.items) }
     ensures kind { IfOk result (IsOfSecond command) }
@@ -78,6 +81,7 @@ fn verdict<R: Threads + Sync, G: Gate>(
         Command::Verify => roster_verdict(alloc, problem, &bytes),
         Command::Check { workers } => log_verdict(rt, alloc, problem, &bytes, workers, gate),
         Command::Reduce => reduction(rt, alloc, problem, bytes, gate),
+        Command::CheckFree => free_verdict(alloc, problem, &bytes),
         Command::CheckStaff => staff_verdict(rt, alloc, problem, &bytes, gate),
         _ => unreachable!(),
     }

@@ -1,6 +1,7 @@
 // Command lines over files in memory: what is printed, to the byte, and the status.
 mod crews;
 mod faults;
+mod frees;
 mod limits;
 mod logs;
 mod plans;
@@ -251,7 +252,7 @@ fn refused_problems(rt: HostRuntime) -> Result<(), Fail> {
 }
 
 const USAGE: &str =
-    "usage: rwsp plan FILE [--budget B] | check FILE LOG [--workers N] | verify FILE ROSTER | reduce FILE LOG | show FILE | trial NUMBER WEEKS | crew FILE ROSTER DATE DAYS [EMPLOYEE] | staff FILE LOW HIGH [--budget B] | check-staff FILE TEXT\n";
+    "usage: rwsp plan FILE [--budget B] | check FILE LOG [--workers N] | verify FILE ROSTER | reduce FILE LOG | show FILE | trial NUMBER WEEKS | crew FILE ROSTER DATE DAYS [EMPLOYEE] | staff FILE LOW HIGH [--budget B] | check-staff FILE TEXT | best FILE [--budget B] | check-free FILE LOG\n";
 
 // A file that isn't held can't be read; behind a refused problem it isn't looked for.
 #[test]

@@ -6,10 +6,13 @@ ghost use Rattle.rwsp_terms.specs.Instance.{Instance};
 ghost use Rattle.rwsp.specs.Texts.{answer_text, place_text, line, file_refusal_text, roster_refusal_text, breaks_text, HasBroken, HasFixedText, HasFixedLine, IsPrintable};
 
 use crate::answer::{Answer, InputKind};
-use crate::log_text::{accepted_line, log_refusal_line, put_labelled, put_line_number};
+use crate::best_text::{best_text, undecided_text};
+use crate::log_text::{
+    accepted_line, free_accepted_line, log_refusal_line, put_labelled, put_line_number,
+};
 use crate::staff_text::{staff_refusal_line, staffed_line};
 use crew_size::print_staff;
-use refutation_log::print_log;
+use refutation_log::{print_free, print_log};
 use roster_checker::Broken;
 use roster_print::{RosterRefusal, print_roster, put_rule};
 use rwsp_file::{FileRefusal, print_problem};
@@ -18,7 +21,7 @@ use rwsp_terms::Rule;
 use std::alloc::{AllocError, Global};
 
 const USAGE: &str =
-    "usage: rwsp plan FILE [--budget B] | check FILE LOG [--workers N] | verify FILE ROSTER | reduce FILE LOG | show FILE | trial NUMBER WEEKS | crew FILE ROSTER DATE DAYS [EMPLOYEE] | staff FILE LOW HIGH [--budget B] | check-staff FILE TEXT\n";
+    "usage: rwsp plan FILE [--budget B] | check FILE LOG [--workers N] | verify FILE ROSTER | reduce FILE LOG | show FILE | trial NUMBER WEEKS | crew FILE ROSTER DATE DAYS [EMPLOYEE] | staff FILE LOW HIGH [--budget B] | check-staff FILE TEXT | best FILE [--budget B] | check-free FILE LOG\n";
 
 #[tactic(auto, using(crate::proofs::Appends::regroup))]
 fn range_line(alloc: Global, number: u32, limit: u32) -> Result<String, AllocError>
@@ -76,6 +79,9 @@ pub fn fixed_text(alloc: Global, answer: &Answer) -> Result<Vec<u8>, AllocError>
     if let Answer::Accepted(rules) = answer {
         return accepted_line(alloc, rules);
     }
+    if let Answer::FreeAccepted { goal, rules } = answer {
+        return free_accepted_line(alloc, *goal, rules);
+    }
     if let Answer::RosterRefused(refusal) = answer {
         return roster_refusal_line(alloc, *refusal);
     }
@@ -99,6 +105,7 @@ fn fixed_line(alloc: Global, answer: &Answer) -> Result<String, AllocError>
         Answer::Horizon => String::from_str(alloc, "horizon refused\n"),
         Answer::NoEmployee(employee) => format!(in alloc; "no employee {employee}\n"),
         Answer::StaffRange(weeks) => format!(in alloc; "staff range: weeks {weeks}\n"),
+        Answer::NotWeekly(days) => format!(in alloc; "not weekly: days {days}\n"),
         Answer::FileRefused(refusal) => file_refusal_line(alloc, *refusal),
         _ => unreachable!(),
     }
@@ -155,6 +162,11 @@ pub fn text_on(alloc: Global, problem: &Problem, answer: &Answer) -> Result<Vec<
         Answer::Shown => print_problem(alloc, problem),
         Answer::Staff(run) => print_staff(alloc, problem, run),
         Answer::StaffRefused(why) => staff_refusal_line(alloc, problem, why),
+        Answer::Best { roster, proof } => best_text(alloc, problem, roster, proof),
+        Answer::NoBest(log) => print_free(alloc, problem, log),
+        Answer::BestUndecided { roster, partial } => {
+            undecided_text(alloc, problem, roster, partial)
+        }
         _ => fixed_text(alloc, answer),
     }
 }

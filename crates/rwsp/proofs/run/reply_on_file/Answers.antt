@@ -30,4 +30,4 @@ returns-clause-fault g c stopped =
     let P = c.in-Ok.problem in
     let read : IsRead held words P = subst (λ (name : List ℕ). WhereTold (held name) (λ file. IsWithinLimit Kinds.Problem file × SpellsProblem file P)) c.word_at.ensures c.in-Ok.ensures.problem in
     let said = c.on_problem.ensures in
-    second_fault held (g.S.Shelf.faults c.args.shelf.now) (g.S.Shelf.faults c.problem_in.new.shelf) (g.S.Shelf.faults c.on_problem.new.shelf) words c.args.command P c.requires.form c.requires.reads (said.second stopped) read (c.problem_in.ensures.faults (second_name words)) (said.fault stopped)
+    second_fault held (g.S.Shelf.faults c.args.shelf.now) (g.S.Shelf.faults c.problem_in.new.shelf) (g.S.Shelf.faults c.on_problem.new.shelf) words c.args.command P c.requires.form c.requires.reads (said.second stopped) (said.days stopped) read (c.problem_in.ensures.faults (second_name words)) (said.fault stopped)
