@@ -16,7 +16,8 @@ use std::alloc::{AllocError, Global};
 use std::marker::Model;
 use std::mem;
 
-/// The symbols that each position may still have, with a trail of the changes.
+/// The symbols that each position may still have, with a trail of the changes (the trail of D. Warren's abstract
+/// machine, 1983).
 ///
 /// Positions count from 0, week after week. Each change takes a symbol or more from one domain, and leaves one at
 /// least.

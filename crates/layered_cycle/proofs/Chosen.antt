@@ -6,11 +6,16 @@ use Rattle.std.proofs.lemmas.Int.{ints}
 use Rattle.std.proofs.lemmas.List.{get_or-replicate, length-replicate}
 use Rattle.std.proofs.Math.Seq.{drop-cons, drop-length}
 use Rattle.std.proofs.Common.{length-set}
+use Rattle.rwsp_terms.specs.declared.limits.TheConstants.{GREATEST_REWARD, GREATEST_WEIGHT}
 use Rattle.rwsp_terms.specs.declared.data.Symbol.{Symbol}
 use Rattle.layered_cycle.specs.declared.step.Step.{Step}
 use Rattle.layered_cycle.specs.declared.choice.Choice.{Choice}
 use Rattle.layered_cycle.specs.Graph.{StepBefore}
 use Rattle.layered_cycle.specs.Choices.{Row, choice_at, choice_by, chosen, preferred, IsWithin, AreWithin, IsRowOf}
+
+-- the most that a step gains, above 0 or below
+abbrev pub most_gain : ℕ
+most_gain = GREATEST_WEIGHT + GREATEST_REWARD
 
 -- one of the elements
 abbrev pub In : List Step → Step → Type 0
@@ -232,7 +237,7 @@ pub record HasChosen (gain : Step → ℤ) (count k : ℕ) (next row : Row) (ste
   pub within : k ≤ length steps
   pub long : length row ≡ count
   pub each : (node : ℕ) → node < count → choice_at row node ≡ chosen gain next node (drop k steps)
-  pub light : (n : ℕ) → AreWithin n next → AreWithin (n + 2000) row
+  pub light : (n : ℕ) → AreWithin n next → AreWithin (n + most_gain) row
 
 pub row_started : (gain : Step → ℤ) (count : ℕ) (next row : Row) (steps : List Step) → row ≡ replicate count None → HasChosen gain count (length steps) next row steps
 row_started gain count next row steps e =
@@ -240,11 +245,11 @@ row_started gain count next row steps e =
       within = omega arith;
       long = ap length e ∙ length-replicate count None;
       each = λ node lt. ap (λ r. choice_at r node) e ∙ get_or-replicate count node None None lt ∙ ap (chosen gain next node) (sym (drop-length steps));
-      light = λ n all. let P : Row → Type 0 = AreWithin (n + 2000) in subst P (sym e) (within_replicate (n + 2000) count None tt);
+      light = λ n all. let P : Row → Type 0 = AreWithin (n + most_gain) in subst P (sym e) (within_replicate (n + most_gain) count None tt);
     }
 
 pub row_offered : (gain : Step → ℤ) (count k j : ℕ) (next row new : Row) (steps : List Step) (s d : Step) (v : Option Choice) → HasChosen gain count k next row steps → k ≡ suc j →
-    get_or steps j d ≡ s → s.from < count → v ≡ choice_by gain next s → ((n : ℕ) → AreWithin n next → IsWithin (n + 2000) v) → new ≡ set row s.from (preferred v (choice_at row s.from)) → HasChosen gain count j next new steps
+    get_or steps j d ≡ s → s.from < count → v ≡ choice_by gain next s → ((n : ℕ) → AreWithin n next → IsWithin (n + most_gain) v) → new ≡ set row s.from (preferred v (choice_at row s.from)) → HasChosen gain count j next new steps
 row_offered gain count k j next row new steps s d v h back here lt is light e =
     let inside : s.from < length row = omega (arith, lt, h.long) in
     let front : drop j steps ≡ s ∷ drop k steps = drop-cons steps j d (omega (arith, h.within, back)) ∙ ap (λ x. x ∷ drop (suc j) steps) here ∙ ap (λ n. s ∷ drop n steps) (sym back) in
@@ -255,7 +260,7 @@ row_offered gain count k j next row new steps s d v h back here lt is light e =
           ap (λ r. choice_at r node) e
           ∙ offered gain next row s (drop k steps) v inside (λ n f. h.each n (omega (arith, f, h.long))) is node (omega (arith, less, h.long))
           ∙ ap (chosen gain next node) (sym front);
-      light = λ n all. let P : Row → Type 0 = AreWithin (n + 2000) in subst P (sym e) (within_set (n + 2000) row s.from v inside (h.light n all) (light n all));
+      light = λ n all. let P : Row → Type 0 = AreWithin (n + most_gain) in subst P (sym e) (within_set (n + most_gain) row s.from v inside (h.light n all) (light n all));
     }
 
 pub row_ended : (gain : Step → ℤ) (count k : ℕ) (next row : Row) (steps : List Step) → HasChosen gain count k next row steps → k ≤ 0 → AllPairs StepBefore steps → All (λ s. s.to < length next) steps → IsRowOf gain steps next row

@@ -20,7 +20,7 @@ use Rattle.layered_cycle.specs.Graph.{StepBefore}
 use Rattle.layered_cycle.specs.Grown.{StandsAt, Grown}
 use Rattle.layered_cycle.specs.Choices.{Row, choice_at, end_choice, choice_by, chosen, AreWithin, IsWithin}
 use Rattle.layered_cycle.specs.Front.{Course, IsOf, word_gain, gain_behind, IsNoWorse, IsBestTo, ComesBefore, tail_at, IsFront, AreLinked, turned, is_by, is_picked}
-use Rattle.layered_cycle.proofs.Chosen.{In, Contains-In, In-Contains, Offers, offers, choice_by-some, IsFirstHeaviest, IsChosen, chosen_is}
+use Rattle.layered_cycle.proofs.Chosen.{most_gain, In, Contains-In, In-Contains, Offers, offers, choice_by-some, IsFirstHeaviest, IsChosen, chosen_is}
 use Rattle.layered_cycle.proofs.Reached.{over_longer, over_front, over_last, clean_front}
 use Rattle.layered_cycle.proofs.Orders.{word_gain_push, before_push, first_push_lower, first_push_same, first_itself, first_from_before, before_then, first_once}
 
@@ -343,7 +343,7 @@ light_by n m next ps e light k = by_place (cases_lt k (length ps))
         let P : Option Choice → Type 0 = IsWithin m in
         subst P (sym (get_or_past (row_by next ps) k None (omega (arith, past, length-map ps (λ s. choice_at next s.to))))) tt
 
-pub front_next : (C : Course) (day : ℕ) (tails nodes : List Tail) (row next : Row) (steps : List Step) → Moves C day tails nodes row next steps → AreWithin (2000 * day + 2000) next → length (picks next steps) < 2 ^ 32 → IsFront C (day + 1) (tails_by nodes (picks next steps)) (row_by next (picks next steps))
+pub front_next : (C : Course) (day : ℕ) (tails nodes : List Tail) (row next : Row) (steps : List Step) → Moves C day tails nodes row next steps → AreWithin (most_gain * day + most_gain) next → length (picks next steps) < 2 ^ 32 → IsFront C (day + 1) (tails_by nodes (picks next steps)) (row_by next (picks next steps))
 front_next C day tails nodes row next steps m light few = record {
   few = omega (arith, few, length-map (picks next steps) (λ s. tail_at nodes s.to));
   long = length-map (picks next steps) (λ s. choice_at next s.to) ∙ sym (length-map (picks next steps) (λ s. tail_at nodes s.to));
@@ -352,7 +352,7 @@ front_next C day tails nodes row next steps m light few = record {
   weighs = λ k lt. weighs k (omega (arith, lt, length-map (picks next steps) (λ s. tail_at nodes s.to)));
   all = all;
   ordered = λ j k lt less. ordered j k lt (omega (arith, less, length-map (picks next steps) (λ s. tail_at nodes s.to)));
-  light = light_by (2000 * day + 2000) (2000 * (day + 1)) next (picks next steps) (omega arith) light;
+  light = light_by (most_gain * day + most_gain) (most_gain * (day + 1)) next (picks next steps) (omega arith) light;
 }
   where
     ps : List Step
@@ -420,7 +420,7 @@ linked_next C day tails nodes row next steps m k lt =
     )
 
 -- the front that is made of the steps that are picked
-pub front_made : (C : Course) (day : ℕ) (tails nodes : List Tail) (row next : Row) (steps : List Step) → Moves C day tails nodes row next steps → AreWithin (2000 * day + 2000) next → (ps : List Step) → ps ≡ filter (is_picked next) steps → length ps < 2 ^ 32 → (later : List Tail) (late : Row) → later ≡ map (λ s. tail_at nodes s.to) ps → late ≡ map (λ s. choice_at next s.to) ps → IsFront C (day + 1) later late × AreLinked C day tails later late
+pub front_made : (C : Course) (day : ℕ) (tails nodes : List Tail) (row next : Row) (steps : List Step) → Moves C day tails nodes row next steps → AreWithin (most_gain * day + most_gain) next → (ps : List Step) → ps ≡ filter (is_picked next) steps → length ps < 2 ^ 32 → (later : List Tail) (late : Row) → later ≡ map (λ s. tail_at nodes s.to) ps → late ≡ map (λ s. choice_at next s.to) ps → IsFront C (day + 1) later late × AreLinked C day tails later late
 front_made C day tails nodes row next steps m light ps are few later late is_later is_late =
     let P : List Tail → Type 0 = λ t. IsFront C (day + 1) t late × AreLinked C day tails t late in
     let Q : Row → Type 0 = λ r. IsFront C (day + 1) (tails_by nodes ps) r × AreLinked C day tails (tails_by nodes ps) r in
@@ -464,6 +464,6 @@ front_none C clean row is = record {
     light_at zero = (omega (arith, ints), omega (arith, ints))
     light_at (suc k) = tt
 
-    light : AreWithin (2000 * 0) row
+    light : AreWithin (most_gain * 0) row
     light k =
         let P : Row → Type 0 = λ r. IsWithin 0 (choice_at r k) in subst P (sym is) (light_at k)

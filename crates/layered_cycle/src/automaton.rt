@@ -23,8 +23,8 @@ pub enum Move {
     To(u32),
 }
 
-// The tails that were met so far, and the moves that were asked for (rules on sequences as automata: Pesant 2004). A
-// move is judged by the rules once and is a look-up from then on, so one automaton serves all layers of a leaf.
+// The tails that were met so far, and the moves that were asked for (rules on sequences as automata: G. Pesant, 2004).
+// A move is judged by the rules once and is a look-up from then on, so one automaton serves all layers of a leaf.
 #[derive(Debug, Drop)]
 pub struct Automaton {
     // The tail of each state.

@@ -44,7 +44,7 @@ pub fn best_word<G: Gain>(
     }
 }
 
-// The rows of all layers, by one pass from the last to the first.
+// The rows of all layers, by one pass from the last to the first (dynamic programming: R. Bellman, 1957).
 fn rows_of<G: Gain>(
     alloc: Global,
     layers: &[Layer],

@@ -37,8 +37,8 @@ impl Front {
         Ok(Front { tails, row })
     }
 
-    // The front of the day after (the longest path through layers by dynamic programming, Bellman 1957). Its time grows
-    // with the steps.
+    // The front of the day after (the longest path through layers by dynamic programming: R. Bellman, 1957). Its time
+    // grows with the steps.
     pub fn next<G: GainAfter>(
         &self,
         alloc: Global,

@@ -17,7 +17,8 @@ use word_tail::TailRules;
 // The days from a front that is kept to the next.
 pub const STRIDE: u32 = 128;
 
-// The fronts of every 128th day before the last, and the last one.
+// The fronts of every 128th day before the last, and the last one (rows of dynamic programming kept as checkpoints:
+// J. Grice, R. Hughey and D. Speck, 1997).
 #[derive(Drop)]
 pub struct KeptFronts {
     pub kept: Vec<Front>,

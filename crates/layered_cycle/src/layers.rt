@@ -18,7 +18,8 @@ use word_tail::TailRules;
 
 /// The clean words of a length over domains, from a position on, as the ways through layers of steps.
 ///
-/// A node of a layer is the tail of a clean word that leads to it, so that words with one tail go on together.
+/// A node of a layer is the tail of a clean word that leads to it, so that words with one tail go on together (the
+/// layered graph of a regular language: G. Pesant, 2004).
 #[derive(Debug, Drop)]
 pub struct Layers {
     problem: Problem,

@@ -100,7 +100,8 @@ impl Sweep {
         })
     }
 
-    // What the heaviest word of `days` days weighs. None where there is no word.
+    // What the heaviest word of `days` days weighs, by dynamic programming (R. Bellman, 1957). None where there is no
+    // word.
     // Cost: a step each for each step of each day.
     pub fn heaviest(
         &mut self,

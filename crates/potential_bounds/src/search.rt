@@ -21,7 +21,8 @@ use word_tail::TailRules;
 ///
 /// The weights of the first round are 0 everywhere. Those of the next follow from the least of the heaviest clean
 /// words: where it has a symbol on a day in more weeks than are demanded at most, the weight goes down by one, and
-/// where in fewer than are demanded at least, up by one.
+/// where in fewer than are demanded at least, up by one (a step by the signs of a subgradient: N. Shor, 1962; for
+/// bounds M. Held and R. Karp, 1971).
 pub fn search_weights(
     alloc: Global,
     problem: &Problem,

@@ -1,5 +1,6 @@
 // The verdict on a whole log.
 ghost use Rattle.std.specs.Prelude.{◌≡◌, ◌≤◌, length, [], IfOk, false};
+ghost use Rattle.rwsp_terms.specs.declared.limits.TheConstants.{LONGEST_LOG, MOST_WORKERS};
 ghost use Rattle.rwsp_model.specs.Refusals.{MatchAnswer};
 ghost use Rattle.refutation_terms.specs.Log.{Log as LogValue, TurnFits};
 ghost use Rattle.refutation_terms.specs.Verdict.{IsAccepted, IsRefused};
@@ -20,7 +21,7 @@ use tree_walk::Walk;
 /// The verdict on a text: the rules that its header names where it is the text of a log that passes, else the first
 /// line with a cause to refuse it, and on that line the lowest cause.
 pub fn check(alloc: Global, problem: &Problem, bytes: &[u8]) -> Result<RuleList, Fail<LogRefusal>>
-    requires { length bytes.now ≤ 536870912 }
+    requires { length bytes.now ≤ LONGEST_LOG }
     ensures { MatchAnswer result
         (λ named. (g : LogValue) × IsAccepted problem.now bytes.now g × (g.named ≡ named))
         (IsRefused problem.now bytes.now) }
@@ -39,7 +40,7 @@ pub fn check(alloc: Global, problem: &Problem, bytes: &[u8]) -> Result<RuleList,
 // Whether the lines below a header are those of one whole tree, where none of them is refused.
 fn judge_body(alloc: Global, problem: &Problem, header: &Header) -> Result<bool, Fail<LogRefusal>>
     requires fits { TurnFits problem.now header.now.turn }
-    requires few { length header.now.body.now ≤ 536870912 }
+    requires few { length header.now.body.now ≤ LONGEST_LOG }
     ensures { IsJudged problem.now header.now.named header.now.turn [] header.now.body.now result }
 {
     match body_of(alloc, problem, header) {
@@ -80,8 +81,8 @@ pub fn check_with<R: Threads + Sync, G: Gate>(
     workers: u32,
     gate: &G,
 ) -> Result<RuleList, Fail<LogRefusal>>
-    requires long { length bytes.now ≤ 536870912 }
-    requires workers { (1 ≤ workers) × (workers ≤ 64) }
+    requires long { length bytes.now ≤ LONGEST_LOG }
+    requires workers { (1 ≤ workers) × (workers ≤ MOST_WORKERS) }
     ensures { MatchAnswer result
         (λ named. (g : LogValue) × IsAccepted problem.now bytes.now g × (g.named ≡ named))
         (IsRefused problem.now bytes.now) }
@@ -107,8 +108,8 @@ fn judge_body_with<R: Threads + Sync, G: Gate>(
     gate: &G,
 ) -> Result<bool, Fail<LogRefusal>>
     requires fits { TurnFits problem.now header.now.turn }
-    requires few { length header.now.body.now ≤ 536870912 }
-    requires workers { (1 ≤ workers) × (workers ≤ 64) }
+    requires few { length header.now.body.now ≤ LONGEST_LOG }
+    requires workers { (1 ≤ workers) × (workers ≤ MOST_WORKERS) }
     ensures { IsJudged problem.now header.now.named header.now.turn [] header.now.body.now result }
 {
     if header.body.is_empty() {

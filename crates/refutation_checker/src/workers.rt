@@ -1,5 +1,6 @@
 // The lines of a log, judged by several workers.
 ghost use Rattle.std.specs.Prelude.{◌≡◌, ◌≢◌, ◌≤◌, List, [], Option, false};
+ghost use Rattle.rwsp_terms.specs.declared.limits.TheConstants.{MOST_WORKERS};
 ghost use Rattle.refutation_terms.specs.declared.lines.Line.{Line};
 ghost use Rattle.refutation_terms.specs.declared.lines.Turn.{Turn};
 ghost use Rattle.refutation_checker.specs.ChunkVerdicts.{StandsBehind, IsJudged};
@@ -29,7 +30,7 @@ pub fn judge_by_workers<R: Threads + Sync, G: Gate>(
     requires start { IsJudgeable problem.now all }
     requires part { all.walk.whole ≡ false }
     requires some { all.bytes ≢ [] }
-    requires workers { (1 ≤ workers) × (workers ≤ 64) }
+    requires workers { (1 ≤ workers) × (workers ≤ MOST_WORKERS) }
     ensures { (turn : Option Turn) → StandsBehind problem.now turn [] all.entry →
         IsJudged problem.now named.now turn [] all.entry.bytes result }
 {

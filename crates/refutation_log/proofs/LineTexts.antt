@@ -33,7 +33,7 @@ is_writable P limits =
     (omega (arith, limits.few_days), omega (arith, limits.few_weeks), omega (arith, many, limits.few_shifts, limits.few_days, limits.few_pairs, limits.few_triples))
 
 pub few_turns : (P : Instance) (n : ℕ) → n ≡ most_turns P → n < 10 ^ 9
-few_turns P n e = let le = div-le_self 16800 (cells P) in omega (arith, e, le)
+few_turns P n e = let le = div-le_self LONGEST_WORD (cells P) in omega (arith, e, le)
 
 -- a position, a number and a word, read at once or one by one
 then_two : {B C D X : Type 0} (o : Option B) (g : B → Option C) (m : B → C → D) (k : D → Option X) → ((o >>= (λ b. g b >>= (λ c. Some (m b c)))) >>= k) ≡ (o >>= (λ b. g b >>= (λ c. k (m b c))))

@@ -1,5 +1,6 @@
 // Logs, and copies of them.
 ghost use Rattle.std.specs.Prelude.{◌≡◌, ◌≤◌, length, Option, Some, None, IfOk};
+ghost use Rattle.rwsp_terms.specs.declared.limits.TheConstants.{MOST_LINES};
 ghost use Rattle.refutation_terms.specs.Tree.{IsTree};
 
 use refutation_terms::{Line, Turn};
@@ -19,6 +20,7 @@ pub struct Log {
 
 impl Model for Log {
     ghost use Rattle.std.specs.Prelude.{◌≡◌, ◌≤◌, length, Some, []};
+    ghost use Rattle.rwsp_terms.specs.declared.limits.TheConstants.{MOST_LINES};
     ghost use Rattle.refutation_terms.specs.Log.{Log as LogValue};
     ghost use Rattle.refutation_terms.specs.Tree.{after_trees};
 
@@ -26,7 +28,7 @@ impl Model for Log {
 
     ghost view = { λ g. record { named = g.named; turn = g.turn; goal = g.goal; lines = g.lines.items } };
 
-    ghost invariant = { λ g. (after_trees 1 g.lines.items ≡ Some []) × (length g.lines.items ≤ 4000000000) };
+    ghost invariant = { λ g. (after_trees 1 g.lines.items ≡ Some []) × (length g.lines.items ≤ MOST_LINES) };
 }
 
 impl Log {
@@ -35,7 +37,7 @@ impl Log {
     /// The log of these rules, this turn and these lines, without a goal.
     pub fn of(named: RuleList, turn: Option<Turn>, lines: Vec<Line>) -> Log
         requires tree { IsTree lines.items }
-        requires few { length lines.items ≤ 4000000000 }
+        requires few { length lines.items ≤ MOST_LINES }
         ensures named { result.named ≡ named }
         ensures turn { result.turn ≡ turn }
         ensures goal { result.goal ≡ None }
@@ -52,7 +54,7 @@ impl Log {
     /// The free log of these rules, this goal and these lines. It has no turn.
     pub fn with_goal(named: RuleList, goal: u32, lines: Vec<Line>) -> Log
         requires tree { IsTree lines.items }
-        requires few { length lines.items ≤ 4000000000 }
+        requires few { length lines.items ≤ MOST_LINES }
         ensures named { result.named ≡ named }
         ensures turn { result.turn ≡ None }
         ensures goal { result.goal ≡ Some goal }
@@ -91,7 +93,7 @@ impl Log {
     pub fn lines(&self) -> &[Line]
         ensures value { result.now ≡ self.now.lines }
         ensures tree { IsTree self.now.lines }
-        ensures few { length result.now ≤ 4000000000 }
+        ensures few { length result.now ≤ MOST_LINES }
     {
         &self.lines
     }
@@ -102,7 +104,7 @@ impl Log {
         ensures turn { result.1 ≡ self.turn }
         ensures goal { result.2 ≡ self.goal }
         ensures lines { result.3.items ≡ self.lines }
-        ensures few { length result.3.items ≤ 4000000000 }
+        ensures few { length result.3.items ≤ MOST_LINES }
     {
         (self.named, self.turn, self.goal, self.lines)
     }

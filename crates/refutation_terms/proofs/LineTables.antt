@@ -9,6 +9,7 @@ use Rattle.rwsp_text.specs.Fields.{chosen, Words, IsName, numbers, weight_fields
 use Rattle.rwsp_text.specs.Kinds.{Kind, IsLine, IsReadable, read_line}
 use Rattle.rwsp_text.specs.Lines.{AreWords}
 use Rattle.rwsp_text.proofs.KindLaws.{no_words, lines_are_words, lines_say_one}
+use Rattle.rwsp_terms.specs.declared.limits.TheConstants.{GREATEST_REWARD, LONGEST_WORD}
 use Rattle.rwsp_terms.specs.Instance.{Instance, cells, IsDay}
 use Rattle.rwsp_terms.specs.Rules.{rules}
 use Rattle.refutation_terms.specs.Log.{AreRules}
@@ -16,8 +17,11 @@ use Rattle.refutation_terms.specs.LogText.{RawLine, RawSplit, RawWindow, RawDay,
 use Rattle.refutation_terms.specs.LineKinds.{most_turns, split_kind, window_kind, day_kind, dead_kind, bound_kind, open_kind, tree_kinds, free_kinds, version_kinds, free_version_kinds, rules_kinds, turn_kinds, goal_kinds}
 use Rattle.refutation_terms.specs.TextLaws.{IsWritable}
 
+word_fits : LONGEST_WORD < 10 ^ 19
+word_fits = omega arith
+
 few_turns : (P : Instance) → most_turns P < 10 ^ 19
-few_turns P = let le = div-le_self 16800 (cells P) in omega (arith, le)
+few_turns P = let le = div-le_self LONGEST_WORD (cells P) in omega (arith, le, word_fits)
 
 -- the tables can be read
 
@@ -26,7 +30,7 @@ tree_readable P w =
     let days : P.days < 10 ^ 19 = omega (arith, w.0) in
     let weeks : P.weeks < 10 ^ 19 = omega (arith, w.1) in
     let many : length (rules P) < 10 ^ 19 = omega (arith, w.2) in
-    let word : 16800 < 10 ^ 19 = omega arith in (
+    let word : LONGEST_WORD < 10 ^ 19 = word_fits in (
       (((weeks, days), tt), refl, (refl, (refl, (refl, (refl, (refl, tt)))))),
       (
         ((many, ((weeks, days), (word, tt))), refl, (refl, (refl, (refl, (refl, tt))))),
@@ -48,8 +52,8 @@ free_readable P w =
     let days : P.days < 10 ^ 19 = omega (arith, w.0) in
     let weeks : P.weeks < 10 ^ 19 = omega (arith, w.1) in
     let many : length (rules P) < 10 ^ 19 = omega (arith, w.2) in
-    let word : 16800 < 10 ^ 19 = omega arith in
-    let reward : 1000 < 10 ^ 19 = omega arith in (
+    let word : LONGEST_WORD < 10 ^ 19 = word_fits in
+    let reward : GREATEST_REWARD < 10 ^ 19 = omega arith in (
       (((weeks, days), tt), refl, (refl, (refl, (refl, (refl, (refl, (refl, tt))))))),
       (
         ((many, ((weeks, days), (word, tt))), refl, (refl, (refl, (refl, (refl, (refl, tt)))))),
@@ -121,7 +125,7 @@ tree_line P (RawBound p turns R y) h =
       refl,
       record {
         values = (p, (turns, (R, (y, tt))));
-        keeps = (h.0, ((some_turns turns (cells P) h.1.0, (le-div_iff_mul-le {k = cells P} {x = turns} {y = 16800} some).1 h.1.1), (h.2, (h.3, tt))));
+        keeps = (h.0, ((some_turns turns (cells P) h.1.0, (le-div_iff_mul-le {k = cells P} {x = turns} {y = LONGEST_WORD} some).1 h.1.1), (h.2, (h.3, tt))));
         spelled = ap (λ us. place P p ++ (decimal turns ∷ codes "rules" ∷ numbers R ++ (codes "weights" ∷ us))) (sym (append-nil (flat_map weight_fields y)));
         made = refl;
       },
@@ -130,8 +134,8 @@ tree_line P RawUnfinished h = inr (inr (inr (inr (inr (inl (refl, record { value
 tree_line P RawFew h = absurd h
 tree_line P (RawFree turns reward R y) h = absurd h
 
-no_turns_of_none : (c turns : ℕ) → 1 ≤ turns → turns ≤ 16800 / c → 0 < c
-no_turns_of_none zero turns some few = let none : 16800 / zero ≡ 0 = refl in absurd (omega (arith, some, few, none))
+no_turns_of_none : (c turns : ℕ) → 1 ≤ turns → turns ≤ LONGEST_WORD / c → 0 < c
+no_turns_of_none zero turns some few = let none : LONGEST_WORD / zero ≡ 0 = refl in absurd (omega (arith, some, few, none))
 no_turns_of_none (suc c) turns some few = omega arith
 
 some_cells : (n m : ℕ) → 0 < n * m → 0 < m
@@ -162,7 +166,7 @@ free_line P (RawFree turns reward R y) h =
       refl,
       record {
         values = (turns, (reward, (R, (y, tt))));
-        keeps = ((some_turns turns (cells P) h.0.0, (le-div_iff_mul-le {k = cells P} {x = turns} {y = 16800} some).1 h.0.1), ((omega arith, h.1), (h.2, (h.3, tt))));
+        keeps = ((some_turns turns (cells P) h.0.0, (le-div_iff_mul-le {k = cells P} {x = turns} {y = LONGEST_WORD} some).1 h.0.1), ((omega arith, h.1), (h.2, (h.3, tt))));
         spelled = ap (λ us. decimal turns ∷ decimal reward ∷ codes "rules" ∷ numbers R ++ (codes "weights" ∷ us)) (sym (append-nil (flat_map weight_fields y)));
         made = refl;
       },
@@ -201,7 +205,7 @@ tree_found P (w ∷ ws) raw (inr (inr (inr (inr (inl l))))) =
     let s = l.1 in
     let some : 0 < cells P = omega (arith, s.keeps.0) in
     let turns = s.values.1.0 in
-    let long : turns * cells P ≤ 16800 = (le-div_iff_mul-le {k = cells P} {x = turns} {y = 16800} some).0 s.keeps.1.0.1 in
+    let long : turns * cells P ≤ LONGEST_WORD = (le-div_iff_mul-le {k = cells P} {x = turns} {y = LONGEST_WORD} some).0 s.keeps.1.0.1 in
     let full : 0 < turns * cells P = full_turns turns (cells P) s.keeps.1.0.0 some in
     subst (Found P (w ∷ ws)) s.made (
       ap (λ z. z ∷ ws) l.0 ∙ ap (λ us. codes "bound" ∷ us) s.spelled ∙ ap (λ us. codes "bound" ∷ place P s.values.0 ++ (decimal turns ∷ codes "rules" ∷ numbers s.values.1.1.0 ++ (codes "weights" ∷ us))) (append-nil (flat_map weight_fields s.values.1.1.1.0)),
@@ -237,7 +241,7 @@ free_found P (w ∷ ws) raw (inr (inr (inr (inr (inr (inl l)))))) =
     let s = l.1 in
     let turns = s.values.0 in
     let some : 0 < cells P = no_turns_of_none (cells P) turns s.keeps.0.0 s.keeps.0.1 in
-    let long : turns * cells P ≤ 16800 = (le-div_iff_mul-le {k = cells P} {x = turns} {y = 16800} some).0 s.keeps.0.1 in
+    let long : turns * cells P ≤ LONGEST_WORD = (le-div_iff_mul-le {k = cells P} {x = turns} {y = LONGEST_WORD} some).0 s.keeps.0.1 in
     let full : 0 < turns * cells P = full_turns turns (cells P) s.keeps.0.0 some in
     subst (FreeFound P (w ∷ ws)) s.made (
       ap (λ z. z ∷ ws) l.0 ∙ ap (λ us. codes "free" ∷ us) s.spelled ∙ ap (λ us. codes "free" ∷ decimal turns ∷ decimal s.values.1.0 ∷ codes "rules" ∷ numbers s.values.1.1.0 ++ (codes "weights" ∷ us)) (append-nil (flat_map weight_fields s.values.1.1.1.0)),

@@ -138,9 +138,10 @@ fn whole_flow(used: &[Used]) -> i64 {
     sum
 }
 
-/// Adds cuts round the parts that hold and leave days enough and are left by less than three quarters of a use. Nodes
-/// are joined to parts by the steps of the greatest shares first. Whether there are new cuts. Costs for each step
-/// with a share a look at all of them and at each node on each weekday.
+/// Adds cuts round the parts that hold and leave days enough and are left by less than three quarters of a use
+/// (subtours: G. Dantzig, R. Fulkerson and S. Johnson, 1954). Nodes are joined to parts by the steps of the greatest
+/// shares first. Whether there are new cuts. Costs for each step with a share a look at all of them and at each node on
+/// each weekday.
 pub(crate) fn add_cuts(
     alloc: Global,
     setting: &Setting,

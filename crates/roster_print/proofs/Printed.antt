@@ -16,6 +16,7 @@ use Rattle.std.proofs.lemmas.List.FromFn.{length-range_with_len}
 use Rattle.rwsp_text.specs.Lexemes.{lines_of, words_of_line, has_some, is_space}
 use Rattle.rwsp_text.proofs.Steps.{IsWordByte}
 use Rattle.rwsp_text.proofs.JoinedWords.{IsPrinted, printed_word, words_printed, line_printed, length_of_line, length_of_lines}
+use Rattle.rwsp_terms.specs.declared.limits.TheConstants.{MOST_CELLS, MOST_WEEKS}
 use Rattle.rwsp_terms.specs.Instance.{Instance, symbol_of, name_of, name_in, name_numbered, shift_count, symbol_numbered, off_name, IsSymbol, no_bounds}
 use Rattle.rwsp_terms.specs.Roster.{IsRoster}
 use Rattle.rwsp_terms.specs.declared.data.Symbol.{Symbol}
@@ -174,6 +175,6 @@ printed_is_short P s valid h =
     let count : length ks ≡ P.weeks = length-range_with_len 0 P.weeks in
     let size : length ks * (33 * P.days + 1) ≡ P.weeks * (33 * P.days + 1) = ap (λ n. n * (33 * P.days + 1)) count in
     let spread : P.weeks * (33 * P.days + 1) ≡ 33 * (P.weeks * P.days) + P.weeks = omega arith in
-    let cells : P.weeks * P.days ≤ 4200 = limits.few_cells in
-    let weeks : P.weeks ≤ 600 = limits.few_weeks in
+    let cells : P.weeks * P.days ≤ MOST_CELLS = limits.few_cells in
+    let weeks : P.weeks ≤ MOST_WEEKS = limits.few_weeks in
     omega arith

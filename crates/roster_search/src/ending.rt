@@ -1,6 +1,7 @@
 // The logs that a search ends with.
 ghost use Rattle.std.specs.Prelude.{◌≡◌, ℕ, ◌+◌, ◌<◌, ◌≤◌, ◌++◌, length, replicate, false, IfOk};
 ghost use Rattle.rwsp_terms.specs.Instance.{Instance};
+ghost use Rattle.rwsp_terms.specs.declared.limits.TheConstants.{MOST_LINES};
 ghost use Rattle.refutation_terms.specs.declared.lines.Line.TheVariants.{Unfinished};
 ghost use Rattle.refutation_terms.specs.Tree.{IsTree};
 ghost use Rattle.refutation_terms.specs.Log.{IsAllowed, GoalFits};
@@ -45,7 +46,7 @@ pub fn end(problem: &Problem, budget: u32, progress: Progress) -> Result<Found, 
 fn log_of(named: RuleList, turn: Option<Turn>, goal: Option<u32>, lines: Vec<Line>) -> Log
     requires goal { (P : Instance) × GoalFits P turn goal }
     requires tree { IsTree lines.items }
-    requires few { length lines.items ≤ 4000000000 }
+    requires few { length lines.items ≤ MOST_LINES }
     ensures named { result.named ≡ named }
     ensures turn { result.turn ≡ turn }
     ensures goal { result.goal ≡ goal }

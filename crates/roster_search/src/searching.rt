@@ -21,7 +21,8 @@ use rwsp_terms::limits::GREATEST_BUDGET;
 use std::alloc::{AllocError, Global};
 
 /// Looks for a roster by splitting cases, and writes the cases down as the lines of a log, of at most `budget` splits
-/// and leaves that hold. With a turn, its symbol is alone on its day of the first week.
+/// and leaves that hold (backtracking: S. Golomb and L. Baumert, 1965). With a turn, its symbol is alone on its day of
+/// the first week.
 pub fn search<A: Propagator>(
     alloc: Global,
     problem: &Problem,

@@ -97,8 +97,8 @@ fn drop_rule(
     Ok(())
 }
 
-/// One descent: from the highest number down, each rule that the log names at the start is dropped
-/// exactly where the log then passes.
+/// One descent: from the highest number down, each rule that the log names at the start is dropped exactly where the
+/// log then passes (the deletion filter of J. Chinneck and E. Dravnieks, 1991).
 pub fn descend(
     alloc: Global,
     problem: &Problem,

@@ -24,13 +24,14 @@ pub struct ShrinkingLog {
 
 impl Model for ShrinkingLog {
     ghost use Rattle.std.specs.Prelude.{◌≤◌, length, None};
+    ghost use Rattle.rwsp_terms.specs.declared.limits.TheConstants.{MOST_LINES};
     ghost use Rattle.refutation_terms.specs.Log.{Log as LogValue};
 
     ghost Value = { LogValue };
 
     ghost view = { λ g. record { named = g.named; turn = g.turn; goal = None; lines = g.lines.items } };
 
-    ghost invariant = { λ g. length g.lines.items ≤ 4000000000 };
+    ghost invariant = { λ g. length g.lines.items ≤ MOST_LINES };
 }
 
 impl ShrinkingLog {

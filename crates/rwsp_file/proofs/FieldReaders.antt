@@ -8,6 +8,7 @@ use Rattle.std.proofs.lemmas.List.Sums.{split_at_first, prefix_len_stops}
 use Rattle.std.proofs.lemmas.Bool.Decides.{nat_tests}
 use Rattle.rwsp_text.specs.Lexemes.{Lexeme}
 use Rattle.rwsp_text.specs.Numbers.{number_of, value_of}
+use Rattle.rwsp_terms.specs.declared.limits.TheConstants.{MOST_CELLS, MOST_WEEKS}
 use Rattle.rwsp_terms.specs.declared.data.Bounds.{Bounds}
 use Rattle.rwsp_model.specs.Validity.{is_between, is_small_range}
 use Rattle.rwsp_file.specs.Spelling.{IsDemand, IsRange}
@@ -50,21 +51,21 @@ number_reader limit least greatest =
 
 -- weeks that keep both limits
 abbrev pub AreWeeks : ℕ → ℕ → Type 0
-AreWeeks days n = (is_between 1 600 n ≡ true) × (nat_le (n * days) 4200 ≡ true)
+AreWeeks days n = (is_between 1 MOST_WEEKS n ≡ true) × (nat_le (n * days) MOST_CELLS ≡ true)
 
 weeks_found : (days : ℕ) (w : Lexeme) (n : ℕ) → limited_weeks days w ≡ Ok n → AreWeeks days n × (number_of w.text ≡ Some n)
 unfolding limited_weeks
 weeks_found days w n e =
-    let a : (m : ℕ) × (limited 2 1 600 w ≡ Ok m) × ((if nat_le (m * days) 4200 then Ok m else Err (Range w.line 3)) ≡ Ok n) =
-    bind_ok (limited 2 1 600 w) (λ m. if nat_le (m * days) 4200 then Ok m else Err (Range w.line 3)) n e in
-    let b : (nat_le (a.0 * days) 4200 ≡ true) × (a.0 ≡ n) = test_ok (nat_le (a.0 * days) 4200) a.0 n (Range w.line 3) a.2 in
-    let f : (is_between 1 600 n ≡ true) × (number_of w.text ≡ Some n) = limited_found 2 1 600 w n (a.1 ∙ ap Ok b.1) in
-    ((f.0, ap (λ m. nat_le (m * days) 4200) (sym b.1) ∙ b.0), f.1)
+    let a : (m : ℕ) × (limited 2 1 MOST_WEEKS w ≡ Ok m) × ((if nat_le (m * days) MOST_CELLS then Ok m else Err (Range w.line 3)) ≡ Ok n) =
+    bind_ok (limited 2 1 MOST_WEEKS w) (λ m. if nat_le (m * days) MOST_CELLS then Ok m else Err (Range w.line 3)) n e in
+    let b : (nat_le (a.0 * days) MOST_CELLS ≡ true) × (a.0 ≡ n) = test_ok (nat_le (a.0 * days) MOST_CELLS) a.0 n (Range w.line 3) a.2 in
+    let f : (is_between 1 MOST_WEEKS n ≡ true) × (number_of w.text ≡ Some n) = limited_found 2 1 MOST_WEEKS w n (a.1 ∙ ap Ok b.1) in
+    ((f.0, ap (λ m. nat_le (m * days) MOST_CELLS) (sym b.1) ∙ b.0), f.1)
 
 weeks_only : (days : ℕ) (w : Lexeme) (n : ℕ) → AreWeeks days n → number_of w.text ≡ Some n → limited_weeks days w ≡ Ok n
 unfolding limited_weeks
 weeks_only days w n valid e =
-    then_ok (limited 2 1 600 w) (λ m. if nat_le (m * days) 4200 then Ok m else Err (Range w.line 3)) n n (limited_only 2 1 600 w n valid.0 e)
+    then_ok (limited 2 1 MOST_WEEKS w) (λ m. if nat_le (m * days) MOST_CELLS then Ok m else Err (Range w.line 3)) n n (limited_only 2 1 MOST_WEEKS w n valid.0 e)
     (ap (λ b. if b then Ok n else Err (Range w.line 3)) valid.1)
 
 pub weeks_reader : (days : ℕ) → IsReader (AreWeeks days) (λ n. NumberField n ∷ []) (weeks_at days)

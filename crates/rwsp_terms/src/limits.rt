@@ -51,6 +51,10 @@ pub const LONGEST_FILE: u32 = 1_048_576;
 /// The most bytes of a log's file.
 pub const LONGEST_LOG: u32 = 536_870_912;
 
+/// The most lines of a log, so that each has a number of 32 bits. A log that is read from a file has fewer, one for
+/// each of its bytes at most.
+pub const MOST_LINES: u32 = 4_000_000_000;
+
 /// The lines of a plan's log where no budget is given.
 pub const USUAL_BUDGET: u32 = 20_000;
 
