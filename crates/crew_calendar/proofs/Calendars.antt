@@ -54,7 +54,7 @@ next d more =
       | inr (inr past) ↦ absurd (omega (arith, d.day_in.1, past))
     ]
 
--- the date so many days later
+-- the date t days later
 later : (d : Date) (t : ℕ) → (epoch_day d +ℤ pos t) ≤ℤ pos 2_932_896 → (n : Date) × (epoch_day n ≡ epoch_day d +ℤ pos t)
 later d zero h = (d, omega (arith, signed_arith))
 later d (suc t) h =

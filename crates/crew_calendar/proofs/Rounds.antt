@@ -22,7 +22,8 @@ count_up f a zero = refl
 count_up f a (suc n) =
     count_next f (a + 1) n ∙ ap (λ c. cond (f (a + 1)) 1 0 + c) (count_up f (a + 1) n) ∙ sym (count_next (λ i. f (i + 1)) a n)
 
--- the employee who starts in week i + 1 has on day t what the roster, turned by the whole weeks until then, has in that week
+-- the employee who starts in week i + 1 has on day t what the roster, turned by the whole weeks until then, has in that
+-- week
 symbol-turned : (P : Instance) (s : List Symbol) (i t : ℕ) → 0 < cells P → 0 < P.days → length s ≡ cells P → i < P.weeks → symbol_on P s (i + 1) t ≡ get_or (turned P (t / P.days) s) (i * P.days + (weekday P t - 1)) off_symbol
 symbol-turned P s i t some days long less =
     let r : t % P.days < P.days = mod_below t P.days days in

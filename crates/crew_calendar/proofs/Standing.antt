@@ -1,4 +1,4 @@
--- Where an employee stands round the cycle.
+-- The position of an employee in the cycle.
 use Rattle.std.proofs.Common.{◌≡◌, ℕ, zero, suc, ◌+◌, ◌-◌, ◌*◌, ◌/◌, ◌%◌, ◌<◌, ◌≤◌, inl, inr, List, length, get_or, refl, ap, sym, subst, ◌∙◌, arith, mul-le-mul_right}
 use Rattle.std.proofs.lemmas.Nat.{mod_below}
 use Rattle.std.proofs.lemmas.Bool.{cases_order}
@@ -32,7 +32,7 @@ is_clean P s some meets e t days r is bad =
     no_bad_met P r s positive (meets.rules r is) ((e - 1) * P.days + t) days
     (subst (Bad P r) (stretch-window P s e t days meets.is_roster.long) bad)
 
--- two days of one round that stand at one place are one
+-- two days of one round with the same position are one
 same_day : (n a k m p : ℕ) → 0 < n → k < n → m < n → (a + k) % n ≡ p → (a + m) % n ≡ p → m ≡ k
 same_day n a k m p some less other here there =
     elim (cases_order ((a + k) / n) ((a + m) / n)) [
