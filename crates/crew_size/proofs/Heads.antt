@@ -1,4 +1,4 @@
--- What stands at a heading's place has one verdict at most.
+-- What is at a heading's place has one verdict at most.
 use Rattle.std.proofs.Common.{◌≡◌, ◌≢◌, ℕ, ◌+◌, ◌^◌, ◌<◌, ◌≤◌, List, [], ◌∷◌, ◌++◌, length, get_or, true, false, not, ◌==◌, Option, Some, None, refl, ap, sym, ◌∙◌, subst, arith, inl, inr, length-append}
 use Rattle.std.specs.Prelude.{◌⊎◌, codes, All, Result, Ok, Err, MatchOption}
 use Rattle.std.specs.List.{list_all}
@@ -211,7 +211,7 @@ headings_once (NoneTo m) (Refuted k) t u w v e = let z : 110 ≡ 119 = ap (λ l.
 headings_once (NoneTo m) (Found k) t u w v e = let z : 110 ≡ 119 = ap (λ l. get_or l 0 0) e in absurd (omega (arith, z))
 headings_once (NoneTo m) (NoneTo k) t u w v e = ap (λ (n : ℕ). NoneTo n) (none_once m k t u w.1 v.1 e).0
 
--- a line that is one heading, which may not stand there, is no other that may
+-- a line that is one heading, which may not be there, is no other that may
 pub no_other : (P : Instance) (sizes : Option (ℕ × ℕ)) (line : List ℕ) (h : Heading) → IsWritten h → line ≡ heading_line h → (MayStand P sizes h → ⊥) → (k : Heading) → IsWritten k → MayStand P sizes k → line ≢ heading_line k
 no_other P sizes line h w e never k v may f =
     let same : h ≡ k = headings_once h k [] [] w v (ap (λ l. l ++ []) (sym e ∙ f)) in

@@ -37,7 +37,7 @@ record IsPlainLine (line : List ℕ) : Type 0 where
   ends : line ≡ body ++ 10 ∷ []
   other : IsOther line
 
--- lines as they stand in a text
+-- whole lines of a text
 
 whole_tail : (line more : List ℕ) → AreWholeLines (line ++ more) → AreWholeLines more
 whole_tail [] more h = h

@@ -239,7 +239,7 @@ tail_place : (g : Log) (logs : List Log) (rest : List ℕ) → IsHeadingsPlace (
 tail_place g [] rest h = tt
 tail_place g (h ∷ logs) rest place = place
 
--- what stands behind the first section begins as a heading does
+-- what is behind the first section begins as a heading does
 rest_place : (P : Instance) (m : ℕ) (g : Log) (logs : List Log) (rest : List ℕ) → IsHeadingsPlace (g ∷ logs) rest → (sections_text P m logs ++ rest ≡ []) ⊎ BeginsAsHeading (sections_text P m logs ++ rest)
 rest_place P m g [] rest h = h
 rest_place P m g (h ∷ logs) rest place =

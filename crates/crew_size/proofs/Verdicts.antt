@@ -35,7 +35,7 @@ at_start P text place a b c = record {
   line = c;
 }
 
--- the text stands so with the same rest
+-- the same with an equal rest
 along : (P : Instance) (text : List ℕ) (low : ℕ) (logs : List Log) (rest other : List ℕ) → rest ≡ other → StandsBehindLogs P text low logs rest → StandsBehindLogs P text low logs other
 along P text low logs rest other e h = subst (StandsBehindLogs P text low logs) e h
 
@@ -55,7 +55,7 @@ at_heading P text place line bytes h e = record {
   number = h.line;
 }
 
--- a line that is no heading that may stand there
+-- a line that is no heading that may be there
 
 pub last_is_written : (P : Instance) (low : ℕ) (logs : List Log) (last : ℕ) → ArePassing P low logs → IsLastSize low logs last → (1 ≤ last) × (last < 10 ^ 9)
 last_is_written P low [] last are h = absurd (omega (arith, h.0))
