@@ -39,7 +39,7 @@ one_day_more P C n before here i y day less symbol =
       | inr other ↦ before i y day (omega (arith, less, other)) symbol
     ]
 
--- what is so of the kept domains is so of the store's
+-- what holds of the kept domains holds of the store's
 pub answer_of_store : (P : Instance) (C : Counted) (S : Store) (r : Option (ℕ × Symbol × Bool)) → StandsFor C S → IsOverrunAnswer P (has_counted C) r → IsOverrunAnswer P (has_domain S) r
 answer_of_store P C S r stands answer =
     let A : List (List ℕ) → Type 0 = λ sets. IsOverrunAnswer P (λ p x. has_symbol (get_or sets p []) x) r in

@@ -1,4 +1,4 @@
--- What follows from the domains for which counts stand: for callers.
+-- What follows from the domains that are counted: for callers.
 use Rattle.std.proofs.Common.{◌≡◌, ◌∙◌, ℕ, List, [], get_or, ap, sym, subst, get_or-set_other, Bool, true, false}
 use Rattle.rwsp_terms.specs.declared.data.Symbol.{Symbol}
 use Rattle.rwsp_terms.specs.Instance.{Instance}

@@ -62,7 +62,7 @@ column_small test days weeks sets k =
     let most : column_count test days weeks sets k ≤ length (range_with_len 0 weeks) = count_by-le-length (λ i. test (get_or sets (i * days + k) [])) (range_with_len 0 weeks) in
     omega (arith, length-range_with_len 0 weeks)
 
--- a position stands in one column, once
+-- a position is in one column, once
 in_column : (p days i k : ℕ) → k < days → i * days + k ≡ p → k ≡ p % days
 in_column p days i k lt e = sym (mod-mul-add i days k lt) ∙ ap (λ n. n % days) e
 

@@ -1,4 +1,4 @@
--- The domains for which counts stand.
+-- The domains that are counted.
 use Rattle.std.specs.Prelude.{◌≡◌, ◌≢◌, ℕ, List, [], Bool, slice_index_or, slice_set}
 use Rattle.rwsp_terms.specs.Instance.{Instance, shift_count}
 use Rattle.domain_store.specs.Sets.{has_symbol}

@@ -5,12 +5,12 @@ use Rattle.rwsp_terms.specs.Instance.{Instance, shift_count, IsDay}
 use Rattle.refutation_terms.specs.Word.{Domains}
 use Rattle.refutation_terms.specs.Leaf.{HasTooMany, HasTooFew}
 
--- the symbol isn't on the day too often for sure, and can be there often enough
+-- the symbol isn't certain to be on the day too often, and can be there often enough
 pub record IsWithinDemand (P : Instance) (D : Domains) (j x : ℕ) : Type 0 where
   pub not_over : HasTooMany P D j x → ⊥
   pub not_short : HasTooFew P D j x → ⊥
 
--- how the symbol misses its demand. Over (true): too many hold it for sure. Short (false): too few can hold it, and
+-- how the symbol misses its demand. Over (true): too many certainly hold it. Short (false): too few can hold it, and
 -- it isn't over
 abbrev pub Misses : Instance → Domains → ℕ → ℕ → Bool → Type 0
 Misses P D j x true = HasTooMany P D j x

@@ -13,7 +13,7 @@ use std::alloc::{AllocError, Global};
 use std::marker::Model;
 use std::mem;
 
-/// For each day and symbol the number of weeks that hold the symbol on the day for sure, since it is alone in the
+/// For each day and symbol the number of weeks that certainly hold the symbol on the day, since it is alone in the
 /// domain there, and the number of those that can hold it, since it is in the domain there. They are kept with the
 /// domains that they count.
 ///
@@ -48,7 +48,7 @@ impl Counts {
     ghost use Rattle.demand_counts.specs.Counted.{Counted, StandsFor, HasShapeOf, DiffersAtMostAt, with_set};
     ghost use Rattle.demand_counts.specs.Tallies.{is_held, is_alone, column_count};
 
-    /// Counts that stand for the domains.
+    /// The counts of the domains.
     pub fn new(alloc: Global, problem: &Problem, doms: &Domains) -> Result<Counts, AllocError>
         requires { BelongsTo problem.now doms.now }
         ensures { IfOk result (λ C. StandsFor C doms.now) }
@@ -58,7 +58,7 @@ impl Counts {
         Ok(counts)
     }
 
-    /// Stands for the present domains, which differ at one position at most. Takes a time that doesn't grow with the
+    /// Counts the present domains, which differ at one position at most. Takes a time that doesn't grow with the
     /// problem.
     pub fn narrowed(&mut self, doms: &Domains, p: u32)
         requires position { p < length doms.now.sets }
@@ -70,7 +70,7 @@ impl Counts {
         self.take_over(doms, p);
     }
 
-    /// Stands for the present domains, whichever domains of the same problem it stood for before.
+    /// Counts the present domains, whichever domains of the same problem it counted before.
     pub fn undo_to(&mut self, doms: &Domains)
         requires { HasShapeOf self.old doms.now }
         ensures { StandsFor self.new doms.now }
@@ -82,7 +82,7 @@ impl Counts {
         }
     }
 
-    /// How many weeks hold the symbol on the day for sure: it is alone in the domain there.
+    /// How many weeks certainly hold the symbol on the day: it is alone in the domain there.
     pub fn fixed(&self, x: Symbol, day: u32) -> u32
         requires day { (0 < day) × (day ≤ self.now.days) }
         requires symbol { x.number ≤ self.now.shifts }

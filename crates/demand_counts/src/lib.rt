@@ -1,4 +1,4 @@
-//! Counts: how many weeks of a roster hold a symbol on a day for sure, and how many can hold it, kept as domains
+//! Counts: how many weeks of a roster certainly hold a symbol on a day, and how many can hold it, kept as domains
 //! change.
 #![tactic(auto)]
 

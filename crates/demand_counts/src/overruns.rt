@@ -11,8 +11,8 @@ use rwsp_model::Problem;
 use rwsp_terms::Symbol;
 
 impl Counts {
-    /// The first overrun by day, then symbol, then over (true) before short (false). Over: more weeks hold the symbol
-    /// on the day for sure than may hold it. Short: fewer can hold it than must.
+    /// The first overrun by day, then symbol, then over (true) before short (false). Over: more weeks certainly hold
+    /// the symbol on the day than may hold it. Short: fewer can hold it than must.
     pub fn overrun(&self, problem: &Problem) -> Option<(u32, Symbol, bool)>
         requires { CountsFor problem.now self.now }
         ensures { (S : Store) → StandsFor self.now S → IsOverrunAnswer problem.now (has_domain S) result }
@@ -64,7 +64,7 @@ impl Counts {
         None
     }
 
-    // Whether more weeks hold the symbol on the day for sure than may hold it.
+    // Whether more weeks certainly hold the symbol on the day than may hold it.
     fn is_over(&self, problem: &Problem, day: u32, x: Symbol) -> bool
         requires problem { CountsFor problem.now self.now }
         requires day { IsDay problem.now day }
