@@ -41,7 +41,7 @@ store_at_end S len h =
     same-store S (undone (drop len S.trail) S.sets) S.sets (take len S.trail) S.trail
     (ap (λ t. undone t S.sets) (drop_all len S.trail h)) (take_all len S.trail h)
 
--- a change leaves what stood before
+-- a change leaves the earlier stores as they were
 pub store_at_changed : (S : Store) (p : ℕ) (domain : List ℕ) (len : ℕ) → len ≤ length S.trail → store_at (changed S p domain) len ≡ store_at S len
 store_at_changed S p domain len h =
     let c : Change = record { position = p; before = domain_at S p } in
@@ -53,7 +53,7 @@ store_at_changed S p domain len h =
     ∙ ap (undone front) (set-set S.sets p domain (domain_at S p) ∙ set-get_or S.sets p []))
     (take-append-le len S.trail (c ∷ []) h)
 
--- what stood at an earlier mark stands there still from a later one
+-- the store at an earlier mark is the same, seen from a later one
 pub store_at_earlier : (S : Store) (n len : ℕ) → n ≤ length S.trail → len ≤ n → store_at (store_at S n) len ≡ store_at S len
 store_at_earlier S n len h l =
     let t = S.trail in
@@ -81,7 +81,7 @@ IsStore_changed S p domain s within d smaller =
       room = omega (arith, length_push S.trail c);
     }
 
--- of every store that is one throughout, what is so now
+-- what holds of a store throughout holds of it now
 pub store_now : (S : Store) → IsStoreThroughout S → IsStore S
 store_now S all = subst IsStore (store_at_end S (length S.trail) (omega arith)) (all (length S.trail) (omega arith))
 
@@ -128,7 +128,7 @@ pub kept_by_change : (S : Store) (count capacity p : ℕ) (domain before dest : 
 kept_by_change S count capacity p domain before dest trail size size' capacity' kept within d smaller before_is dest_is trail_is size_is size'_is wider =
     rw (size'_is, size_is, dest_is, trail_is, before_is) (kept_changed S count capacity p domain capacity' kept within d smaller wider)
 
--- what stood before the last change
+-- the store before the last change
 pub store_before_last : (S : Store) (front : List Change) (c : Change) → S.trail ≡ front ++ c ∷ [] → store_at S (length front) ≡ record S { sets = set S.sets c.position c.before; trail = front }
 store_before_last S front c e =
     same-store S (undone (drop (length front) S.trail) S.sets) (set S.sets c.position c.before) (take (length front) S.trail) front

@@ -13,7 +13,7 @@ pub record Store : Type 0 where
   pub shifts : ℕ
   -- for each position the ascending numbers of the symbols of its domain
   pub sets : List (List ℕ)
-  -- the changes, the oldest first: each with its position and the domain that stood there before
+  -- the changes, the oldest first: each with its position and the domain that was there before
   pub trail : List Change
 
 -- the domain of a position
@@ -56,7 +56,7 @@ abbrev pub undone : List Change → List (List ℕ) → List (List ℕ)
 undone [] sets = sets
 undone (c ∷ changes) sets = slice_set (undone changes sets) c.position c.before
 
--- the store as it stood when its trail was this long
+-- the store as it was when its trail was this long
 abbrev pub store_at : Store → ℕ → Store
 store_at S len = record S { sets = undone (drop len S.trail) S.sets; trail = take len S.trail }
 
@@ -90,6 +90,6 @@ pub record HasDomains (S : Store) : Type 0 where
   pub alone : (p x y : ℕ) → length (domain_at S p) ≡ 1 → IsTrue (has_domain S p x) → IsTrue (has_domain S p y) → x ≡ y
   pub others : (p x : ℕ) → 2 ≤ length (domain_at S p) → (y : ℕ) × (y ≢ x) × IsTrue (has_domain S p y)
 
--- it is a store now, and as it stood with each shorter trail
+-- it is a store now, and as it was with each shorter trail
 abbrev pub IsStoreThroughout : Store → Type 0
 IsStoreThroughout S = (len : ℕ) → len ≤ length S.trail → IsStore (store_at S len)

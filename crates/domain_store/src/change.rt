@@ -1,6 +1,6 @@
 use crate::symbol_set::SymbolSet;
 
-/// A change of a domain: its position, and the domain that stood there before.
+/// A change of a domain: its position, and the domain that was there before.
 #[derive(Clone, Copy, Debug)]
 pub struct Change {
     pub position: u32,

@@ -252,7 +252,7 @@ impl Domains {
         }
     }
 
-    /// Puts back what stood at the mark, the last change first, and cuts the trail there.
+    /// Puts back the domains at the mark, the last change first, and cuts the trail there.
     pub fn undo_to(&mut self, mark: Mark)
         requires { mark.len ≤ length self.old.trail }
         ensures undone { self.new ≡ store_at self.old mark.len }
@@ -301,7 +301,7 @@ impl Domains {
         );
     }
 
-    // Puts back what stood before the last change.
+    // Puts back the domain from before the last change.
     fn undo_last(&mut self)
         requires { 0 < length self.old.trail }
         ensures { self.new ≡ store_at self.old (length self.old.trail - 1) }

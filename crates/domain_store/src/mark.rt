@@ -1,5 +1,5 @@
-/// A place in the trail: how many changes had been made. What stood there comes back as long as nothing before it is
-/// undone.
+/// A place in the trail: how many changes had been made. The domains at that time come back as long as nothing before
+/// it is undone.
 #[derive(Clone, Copy, Debug, PartialEq, Eq)]
 pub struct Mark {
     pub len: usize,

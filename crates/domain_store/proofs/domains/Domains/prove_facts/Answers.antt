@@ -1,4 +1,4 @@
--- What is so throughout is so now.
+-- What holds throughout holds now.
 use Rattle.domain_store.proofs.StoreLemmas.{store_now, store_has_domains}
 use Rattle.domain_store.proofs.domains.Domains.prove_facts.Goals as goal
 
