@@ -16,7 +16,7 @@ use Rattle.kept_cycle.specs.CycleCuts.{IsUnsupported}
 use Rattle.kept_cycle.proofs.Turning.{supported_by, nowhere_by}
 use Rattle.kept_cycle.proofs.CutSymbols.{none_beside, beside_another, nowhere_in_store, nowhere_known}
 
--- the rows of a position on both sides are those that stood before, wherever no flag was raised
+-- the rows of a position on both sides are those from before, wherever no flag was raised
 pub record KeepsRows (n p : ℕ) (front front2 back back2 : List (List Bool)) (q : ℕ) : Type 0 where
   pub apart : q ≢ p
   pub before : row_at front2 q ≡ row_at front q

@@ -166,7 +166,7 @@ came H layers front back width p (suc i) t le =
     one_more : ((k : ℕ) → IsTrue (is_marked (row_at front i) k) ↔ CameTo H layers i k) → IsTrue (is_marked (row_at front (suc i)) t) ↔ CameTo H layers (suc i) t
     one_more before = (λ h. there before ((pass t).0 h), λ c. (pass t).1 (again before c))
 
--- where the words go on from nodes that there are
+-- the marked nodes are those from which words continue
 abbrev pub OnFrom : (ℕ → ℕ → Bool) → List (List Step) → List (List Bool) → ℕ → ℕ → Type 0
 OnFrom H layers back width i = (k : ℕ) → k < width → IsTrue (is_marked (row_at back i) k) ↔ GoesOn H layers i k
 

@@ -8,13 +8,13 @@ use Rattle.domain_store.specs.Store.{Store, has_domain}
 use Rattle.propagators.specs.Cycles.{AreShortRules}
 use Rattle.kept_cycle.specs.Known.{KnownCycle, KnowsDomains}
 
--- the symbol stands beside another in the domain of the position, and no clean word of two turns has it there
+-- the symbol is beside another in the domain of the position, and no clean word of two turns has it there
 pub record IsUnsupported (C : KnownCycle) (S : Store) (p : ℕ) (x : Symbol) : Type 0 where
   pub position : p < cells C.problem
   pub useful : is_idle C.problem (has_domain S) p x.number ≡ false
   pub nowhere : NoWordHas C.problem (has_domain S) C.rules p x
 
--- a cycle for all short rules that stands for the domains
+-- a cycle of the domains, for all short rules
 pub record IsShortCycle (C : KnownCycle) (S : Store) : Type 0 where
   pub short : AreShortRules C.problem C.rules
   pub stands : KnowsDomains C S

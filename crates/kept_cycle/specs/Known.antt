@@ -1,4 +1,4 @@
--- The domains for which a cycle stands.
+-- The domains that a cycle is made for.
 use Rattle.std.specs.Prelude.{◌≡◌, ◌≢◌, ℕ, ◌≤◌, List, [], length, IsTrue, slice_index_or}
 use Rattle.rwsp_terms.specs.declared.data.Symbol.{Symbol}
 use Rattle.rwsp_terms.specs.Instance.{Instance}

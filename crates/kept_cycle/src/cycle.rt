@@ -66,7 +66,7 @@ impl Model for Cycle {
 impl Cycle {
     ghost use Rattle.kept_cycle.specs.Known.{KnowsDomains, KnowsAllBut, has_known, IsSupportedAt};
 
-    /// A cycle that stands for the domains. Takes all memory that it will ever need; there is too little where the
+    /// A cycle of the domains. Takes all memory that it will ever need; there is too little where the
     /// layers would pass the limit of their room.
     pub fn new(alloc: Global, tails: TailRules, doms: &Domains) -> Result<Cycle, AllocError>
         requires { BelongsTo tails.problem doms.now }
@@ -141,7 +141,7 @@ impl Cycle {
         self.pending[p as usize] = false;
     }
 
-    /// Stands for the present domains, which differ at one position at most. Takes no memory.
+    /// Takes in the present domains, which differ at one position at most. Takes no memory.
     pub fn narrowed(&mut self, doms: &Domains, p: u32)
         requires position { p < length doms.now.sets }
         requires differs { KnowsAllBut self.old doms.now p }
@@ -154,7 +154,7 @@ impl Cycle {
         self.take_over(doms, p);
     }
 
-    /// Stands for the present domains, whichever domains of the same problem it stood for before. Takes no memory.
+    /// Takes in the present domains, whichever domains of the same problem it was for before. Takes no memory.
     /// Compares the domains of all positions, and mends the days of those that differ.
     pub fn undo_to(&mut self, doms: &Domains)
         requires { BelongsTo self.old.problem doms.now }

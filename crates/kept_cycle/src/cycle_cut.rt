@@ -8,7 +8,7 @@ use crate::Cycle;
 use domain_store::Domains;
 use rwsp_terms::Symbol;
 
-/// The first symbol, by position and then by number, that stands beside another in its domain while no clean word of
+/// The first symbol, by position and then by number, that is beside another in its domain while no clean word of
 /// two turns has it there. Asks for the symbols of the pending positions, and settles those where each is supported;
 /// at all others it takes a step.
 pub fn first_unsupported(cycle: &mut Cycle, doms: &Domains) -> Option<(u32, Symbol)>
@@ -64,7 +64,7 @@ fn unsupported_symbol(cycle: &Cycle, doms: &Domains, p: u32) -> Option<Symbol>
     None
 }
 
-// Whether the symbol stands beside another there, while no word has it.
+// Whether the symbol is beside another there, while no word has it.
 fn is_unsupported(cycle: &Cycle, doms: &Domains, p: u32, x: Symbol) -> bool
     requires stands { KnowsDomains cycle.now doms.now }
     requires position { p < length doms.now.sets }

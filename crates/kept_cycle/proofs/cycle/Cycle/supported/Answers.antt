@@ -14,7 +14,7 @@ use Rattle.kept_cycle.proofs.Turning.{unsupported_by}
 use Rattle.kept_cycle.proofs.Marking.{unlike}
 use Rattle.kept_cycle.proofs.cycle.Cycle.supported.Goals as goal
 
--- what stands at a place of a list
+-- what a list has at a place
 stands : {X : Type 0} (xs : List X) (i : ℕ) (e x : X) → i < length xs → x ≡ get_or xs i x → x ≡ get_or xs i e
 stands xs i e x less is = is ∙ get_or_default xs i x e less
 
