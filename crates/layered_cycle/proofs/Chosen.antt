@@ -232,7 +232,8 @@ within_replicate n zero c h node = tt
 within_replicate n (suc count) c h zero = h
 within_replicate n (suc count) c h (suc node) = within_replicate n count c h node
 
--- the loop over the steps of a layer, from the last to the first: the choices at each node among the steps from the k-th on
+-- the loop over the steps of a layer, from the last to the first: the choices at each node among the steps from the
+-- k-th on
 pub record HasChosen (gain : Step → ℤ) (count k : ℕ) (next row : Row) (steps : List Step) : Type 0 where
   pub within : k ≤ length steps
   pub long : length row ≡ count

@@ -12,13 +12,13 @@ use Rattle.layered_cycle.specs.declared.automaton.Automaton.{Automaton}
 use Rattle.layered_cycle.specs.Grown.{StandsAt, AreDistinct}
 use Rattle.layered_cycle.specs.Indexed.{Indexed}
 
--- no clean word that has the tail of the state goes on by the symbol
+-- no clean word that has the tail of the state continues with the symbol
 abbrev pub Refuses : Listed → List Tail → ℕ → Symbol → Type 0
 Refuses T tails state x =
     (w : List Symbol)
     → Clean T.problem T.rules w → StandsAt tails state (tail_of w) → Clean T.problem T.rules (w ++ x ∷ []) → ⊥
 
--- each clean word that has the tail of the state goes on by the symbol, and has the tail of the other then
+-- each clean word that has the tail of the state continues with the symbol, and then has the tail of the other
 abbrev pub GoesTo : Listed → List Tail → ℕ → Symbol → ℕ → Type 0
 GoesTo T tails state x to =
     (to < length tails)

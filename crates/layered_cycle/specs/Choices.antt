@@ -25,7 +25,7 @@ preferred None b = b
 preferred (Some a) None = Some a
 preferred (Some a) (Some b) = if int_lt a.weight b.weight then Some b else Some a
 
--- to take the step, which gains so much, and then what is chosen where it leads
+-- to take the step, with what it gains, and then what is chosen where it leads
 abbrev pub choice_by : (Step → ℤ) → Row → Step → Option Choice
 choice_by gain next s =
     option_map (λ c. record { weight = gain s +ℤ c.weight; symbol = s.symbol; to = s.to }) (choice_at next s.to)

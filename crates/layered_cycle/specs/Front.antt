@@ -1,4 +1,4 @@
--- Where the clean words of so many days end: their tails, each with the best of the words that have it.
+-- Where the clean words of a number of days end: their tails, each with the best of the words that have it.
 use Rattle.std.specs.Prelude.{◌≡◌, ◌⊎◌, ℕ, ◌+◌, ◌-◌, ◌*◌, ◌/◌, ◌<◌, ◌≤◌, ◌^◌, List, [], ◌∷◌, ◌++◌, length, Option, Some, None, Bool, false, ◌&&◌, ◌==◌, slice_index_or, reverse, ℤ, pos, ◌+ℤ◌, ◌<ℤ◌}
 use Rattle.rwsp_terms.specs.declared.data.Symbol.{Symbol}
 use Rattle.rwsp_terms.specs.declared.limits.TheConstants.{GREATEST_REWARD, GREATEST_WEIGHT}
@@ -30,7 +30,7 @@ pub record Course : Type 0 where
 abbrev pub course : Listed → Store → ℕ → (ℕ → Option Symbol → Symbol → ℤ) → Course
 course T S p gain = record { listed = T; domains = has_domain S; position = p; gain = gain }
 
--- one of these words, of so many days
+-- one of these words, of `day` days
 abbrev pub IsOf : Course → ℕ → List Symbol → Type 0
 IsOf C day u = IsCleanOver C.listed.problem C.domains C.position day C.listed.rules u
 
@@ -43,7 +43,7 @@ abbrev pub IsNoWorse : Course → List Symbol → List Symbol → Type 0
 IsNoWorse C word other =
     (word_gain C other <ℤ word_gain C word) ⊎ ((word_gain C other ≡ word_gain C word) × ComesFirst word other)
 
--- the best of the words of so many days that have the tail
+-- the best of the words of `day` days that have the tail
 pub record IsBestTo (C : Course) (day : ℕ) (tail : Tail) (word : List Symbol) : Type 0 where
   pub clean : IsOf C day word
   pub ends : tail_of word ≡ tail
@@ -58,7 +58,7 @@ ComesBefore (x ∷ u) (y ∷ v) = (x.number < y.number) ⊎ ((x ≡ y) × ComesB
 abbrev pub tail_at : List Tail → ℕ → Tail
 tail_at tails k = slice_index_or tails k (tail_of [])
 
--- the tails of all words of so many days, in the order of the best words, with what these gain
+-- the tails of all words of `day` days, in the order of the best words, with what these gain
 pub record IsFront (C : Course) (day : ℕ) (tails : List Tail) (row : Row) : Type 0 where
   pub few : length tails < 2 ^ 32
   pub long : length row ≡ length tails
@@ -85,7 +85,7 @@ AreKept C day fronts =
     × ((i : ℕ) (d : Front) → i < length fronts
     → IsFront C (i * STRIDE) (slice_index_or fronts i d).tails.items (slice_index_or fronts i d).row)
 
--- where the heaviest words end, of the first so many ends; the first of these ends
+-- where the heaviest words end, of the first `count` ends; the first of these ends
 abbrev pub IsHeaviestEnd : Row → ℕ → Option End → Type 0
 IsHeaviestEnd row count None = (k : ℕ) → k < count → choice_at row k ≡ None
 IsHeaviestEnd row count (Some e) =
@@ -120,7 +120,8 @@ pub record IsChain (C : Course) (day : ℕ) (fronts : List Front) : Type 0 where
       → AreLinked C (day + i) (front_at fronts d i).tails.items (front_at fronts d (i + 1)).tails.items
       (front_at fronts d (i + 1)).row
 
--- the best word to the one tail goes on by the symbols, the last of them first, to the best word to the other
+-- the best word to the one tail, continued by the symbols (the last of them is listed first), is the best word to the
+-- other
 abbrev pub Completes : Course → ℕ → Tail → ℕ → Tail → List Symbol → Type 0
 Completes C len last day tail symbols = (u : List Symbol) → IsBestTo C day tail u
     → IsBestTo C len last (u ++ reverse symbols)
@@ -129,12 +130,12 @@ Completes C len last day tail symbols = (u : List Symbol) → IsBestTo C day tai
 abbrev pub GoesOn : Course → ℕ → Tail → ℕ → List Tail → ℕ → List Symbol → Type 0
 GoesOn C len last day tails node symbols = (node < length tails) × Completes C len last day (tail_at tails node) symbols
 
--- the best of all words of so many days
+-- the best of all words of `len` days
 pub record IsBestOf (C : Course) (len : ℕ) (weight : ℤ) (word : List Symbol) : Type 0 where
   pub clean : IsOf C len word
   pub gains : word_gain C word ≡ weight
   pub best : (u : List Symbol) → IsOf C len u → IsNoWorse C word u
 
--- all words of so many days gain less
+-- all words of `len` days gain less than `least`
 abbrev pub AreBelow : Course → ℕ → ℤ → Type 0
 AreBelow C len least = (u : List Symbol) → IsOf C len u → word_gain C u <ℤ least

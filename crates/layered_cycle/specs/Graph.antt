@@ -19,7 +19,7 @@ StepPrecedes node number other_node other_number = (node < other_node) ⊎ ((nod
 abbrev pub StepBefore : Step → Step → Type 0
 StepBefore a b = StepPrecedes a.from a.symbol.number b.from b.symbol.number
 
--- the steps ascend, from so many nodes to so many
+-- the steps ascend, from `from_count` nodes to `to_count`
 pub record IsLayer (from_count to_count : ℕ) (layer : List Step) : Type 0 where
   pub ordered : AllPairs StepBefore layer
   pub from : All (λ s. s.from < from_count) layer

@@ -8,7 +8,7 @@ use Rattle.word_tail.specs.declared.tail.Tail.{Tail}
 use Rattle.layered_cycle.specs.declared.step.Step.{Step}
 use Rattle.layered_cycle.specs.Graph.{StepPrecedes, StepBefore}
 
--- the element stands at the place
+-- the element is at the place
 abbrev pub StandsAt : {X : Type 0} → List X → ℕ → X → Type 0
 StandsAt xs k x = (k < length xs) × (slice_index_or xs k x ≡ x)
 
@@ -16,7 +16,7 @@ StandsAt xs k x = (k < length xs) × (slice_index_or xs k x ≡ x)
 abbrev pub Extends : {X : Type 0} → List X → List X → Type 0
 Extends {X} xs ys = (rest : List X) × (ys ≡ xs ++ rest)
 
--- no element stands at two places
+-- no element is at two places
 abbrev pub AreDistinct : {X : Type 0} → List X → Type 0
 AreDistinct {X} xs = (j k : ℕ) (x : X) → StandsAt xs j x → StandsAt xs k x → j ≡ k
 

@@ -19,10 +19,10 @@ pub record WordGraph : Type 0 where
   pub len : ℕ
   -- the steps of each day
   pub layers : List (List Step)
-  -- how many nodes stand before each day, and behind the last
+  -- how many nodes there are before each day, and behind the last
   pub node_counts : List ℕ
 
--- what is so of each word graph
+-- what holds of each word graph
 pub record IsWordGraph (g : WordGraph) : Type 0 where
   pub belongs : BelongsTo g.problem g.store
   pub position : g.position < cells g.problem

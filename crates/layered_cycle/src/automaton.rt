@@ -17,7 +17,7 @@ use word_tail::{Tail, TailRules};
 pub enum Move {
     // It wasn't asked for yet.
     Unknown,
-    // No clean word goes on by the symbol.
+    // No clean word continues with the symbol.
     Nowhere,
     // To this state.
     To(u32),
@@ -29,12 +29,12 @@ pub enum Move {
 pub struct Automaton {
     // The tail of each state.
     pub tails: Vec<Tail>,
-    // Where each tail stands among them.
+    // Where each tail is among them.
     pub index: TailIndex,
     // The moves of each state, by the number of the symbol.
     pub moves: Vec<[Move; MOST_SYMBOLS as usize]>,
-    // Where each state was last put into a layer. What stands there is looked at again, so that nothing is ever cleared
-    // (the sparse sets of Briggs and Torczon, 1993).
+    // Where each state was last put into a layer. What is noted there is looked at again, so that nothing is ever
+    // cleared (the sparse sets of Briggs and Torczon, 1993).
     pub places: Vec<u32>,
 }
 
@@ -89,7 +89,7 @@ impl Automaton {
         self.moves[state as usize][x.number as usize] = to;
     }
 
-    // The state that follows by the symbol, by the rules; None where no clean word goes on by it.
+    // The state that follows by the symbol, by the rules; None where no clean word continues with it.
     fn judge(&mut self, rules: &TailRules, state: u32, x: Symbol) -> Result<Option<u32>, AllocError>
         requires automaton { IsAutomaton rules.now self.old }
         requires state { state < length self.old.tails.items }
@@ -110,7 +110,7 @@ impl Automaton {
         Ok(Some(to))
     }
 
-    // The state that follows by the symbol; None where no clean word goes on by it.
+    // The state that follows by the symbol; None where no clean word continues with it.
     pub fn follow(
         &mut self,
         rules: &TailRules,

@@ -19,7 +19,7 @@ pub struct HeavyWord {
 }
 
 /// The heaviest word that leads through the layers, and the least of that weight; None exactly where no word leads
-/// through them. So many nodes stand before each layer, and behind the last.
+/// through them. `node_counts` says how many nodes there are before each layer, and behind the last.
 pub fn best_word<G: Gain>(
     alloc: Global,
     layers: &[Layer],

@@ -39,7 +39,7 @@ impl Model for ChoiceRow {
 }
 
 impl ChoiceRow {
-    /// A row that has the same choice for so many nodes.
+    /// A row that has the same choice for `count` nodes.
     pub fn of(alloc: Global, count: u32, choice: Option<Choice>) -> Result<ChoiceRow, AllocError>
         ensures { IfOk result (λ r. r ≡ replicate count choice) }
     {

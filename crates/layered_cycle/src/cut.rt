@@ -15,7 +15,7 @@ use rwsp_terms::{Symbol, Word};
 use std::alloc::{AllocError, Global};
 use word_tail::{Tail, TailRules, empty_word_is_clean};
 
-/// A cut between the days of the cycle: whether clean words go on from there.
+/// A cut between the days of the cycle: whether clean words continue from there.
 pub struct Cut;
 
 impl Cut {

@@ -1,4 +1,4 @@
-// Fronts: where the clean words of so many days end.
+// Fronts: where the clean words of a number of days end.
 ghost use Rattle.std.specs.Prelude.{◌≡◌, ℕ, ◌+◌, ◌<◌, ◌^◌, length, map, All, IfOk, OnOk, ◌*◌, ◌-◌};
 ghost use Rattle.rwsp_terms.specs.declared.limits.TheConstants.{GREATEST_REWARD, GREATEST_WEIGHT, LONGEST_WORD};
 ghost use Rattle.std.specs.List.{filter};
@@ -17,8 +17,8 @@ use domain_store::Domains;
 use std::alloc::{AllocError, Global};
 use word_tail::{Tail, TailRules, empty_word_is_clean};
 
-// The tails of the clean words of so many days, in the order of the best word to each, and the row of these words: what
-// each gains, its last symbol, and the place in the front of the day before where the best word without it ends.
+// The tails of the clean words of a number of days, in the order of the best word to each, and the row of these words:
+// what each gains, its last symbol, and the place in the front of the day before where the best word without it ends.
 #[derive(Drop)]
 pub struct Front {
     pub tails: Vec<Tail>,

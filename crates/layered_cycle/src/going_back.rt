@@ -20,7 +20,7 @@ use rwsp_terms::{Symbol, Word};
 use std::alloc::{AllocError, Global};
 use word_tail::{Tail, TailRules};
 
-// The front, and those of so many days behind it.
+// The front, and those of the `days` days behind it.
 fn chain_from<G: GainAfter>(
     alloc: Global,
     automaton: &mut Automaton,
@@ -69,7 +69,7 @@ fn walk_back(fronts: &[Front], node: u32, symbols: &mut Vec<Symbol>) -> Result<u
     Ok(at)
 }
 
-// Goes back from a tail to the front, so many days before it, by the best word to the tail.
+// Goes back from a tail to the front, which is `days` days before it, by the best word to the tail.
 fn back_to<G: GainAfter>(
     alloc: Global,
     automaton: &mut Automaton,

@@ -14,7 +14,7 @@ use domain_store::Domains;
 use std::alloc::{AllocError, Global};
 use word_tail::{Tail, TailRules, empty_word_is_clean};
 
-// The layers, and how many nodes stand before each and behind the last.
+// The layers, and how many nodes there are before each and behind the last.
 #[derive(Debug, Drop)]
 pub struct LayeredGraph {
     pub layers: Vec<Layer>,

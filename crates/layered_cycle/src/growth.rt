@@ -173,7 +173,7 @@ fn next_layer(
     Ok(growth)
 }
 
-// The layer of the day that comes so many days behind the position, round the cycle.
+// The layer of the day that comes `i` days behind the position, round the cycle.
 pub fn layer_of_day(
     alloc: Global,
     automaton: &mut Automaton,

@@ -57,7 +57,7 @@ pub fn heaviest_clean<G: GainAfter>(
 }
 
 /// The heaviest clean word of this length over the domains, from a position on, and the least of its weight, if it
-/// weighs so much at least; None exactly where every clean word weighs less. No word is sought then.
+/// weighs `least` at least; None exactly where every clean word weighs less. No word is sought then.
 pub fn heaviest_reaching<G: GainAfter>(
     alloc: Global,
     rules: &TailRules,

@@ -1,4 +1,4 @@
-// Fronts that are kept, one for each so many days, to go back along.
+// Fronts that are kept, one for every `STRIDE` days, to go back along.
 ghost use Rattle.std.specs.Prelude.{◌≡◌, ℕ, ◌+◌, ◌<◌, ◌≤◌, IfOk, OnOk};
 ghost use Rattle.rwsp_terms.specs.declared.limits.TheConstants.{LONGEST_WORD};
 ghost use Rattle.rwsp_terms.specs.Instance.{cells};

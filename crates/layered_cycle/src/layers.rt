@@ -18,7 +18,7 @@ use word_tail::TailRules;
 
 /// The clean words of a length over domains, from a position on, as the ways through layers of steps.
 ///
-/// A node of a layer is the tail of a clean word that leads to it, so that words with one tail go on together (the
+/// A node of a layer is the tail of a clean word that leads to it, so that words with one tail continue together (the
 /// layered graph of a regular language: G. Pesant, 2004).
 #[derive(Debug, Drop)]
 pub struct Layers {
@@ -61,7 +61,7 @@ impl Layers {
     ghost use Rattle.layered_cycle.specs.WordGraph.{WordGraph, IsWordGraph};
 
     /// The layers for the words of this length from a position on, with copies of the problem, the rules and the
-    /// domains. There may be nodes from which no word goes on.
+    /// domains. There may be nodes from which no word continues.
     pub fn of(
         alloc: Global,
         tails: &TailRules,
@@ -94,7 +94,7 @@ impl Layers {
         })
     }
 
-    /// What is so of all layers.
+    /// What holds of all layers.
     pub fn prove_facts(&self)
         ensures { IsWordGraph self.now }
     {
@@ -143,7 +143,7 @@ impl Layers {
         &self.graph.layers
     }
 
-    /// How many nodes stand before each layer, and behind the last.
+    /// How many nodes there are before each layer, and behind the last.
     pub fn node_counts(&self) -> &[u32]
         ensures { result.now ≡ self.now.node_counts }
     {

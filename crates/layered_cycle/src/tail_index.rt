@@ -1,4 +1,4 @@
-// Where tails stand in a list.
+// Where tails are in a list.
 ghost use Rattle.std.specs.Prelude.{◌≡◌, ℕ, ◌+◌, ◌<◌, ◌≤◌, ◌^◌, List, [], ◌∷◌, ◌++◌, length, MatchOption};
 ghost use Rattle.word_tail.specs.declared.tail.Tail.{Tail};
 ghost use Rattle.layered_cycle.specs.Grown.{StandsAt};
@@ -14,21 +14,22 @@ const ENDS: usize = 10;
 // The numbers of days that a tail counts, from 0 to 31.
 const LENGTHS: usize = 32;
 
-// What stands before the last symbol: another end, or a run of so many days.
+// What is before the last symbol: another end, or a run, by its number of days.
 const RUNS: usize = ENDS + LENGTHS;
 
 const CODES: usize = ENDS * RUNS * LENGTHS * 4;
 
-// The place where each tail was last put into a list, by the tail's code. What stands there is looked at again, so one
-// index serves one list after another and is never cleared (the sparse sets of Briggs and Torczon, 1993). Each tail of
-// a word has a code of its own, so a look-up reads one place; where two tails had one code, it would go along the list.
+// The place where each tail was last put into a list, by the tail's code. What is noted there is looked at again, so
+// one index serves one list after another and is never cleared (the sparse sets of Briggs and Torczon, 1993). Each tail
+// of a word has a code of its own, so a look-up reads one place; where two tails had one code, it would go along the
+// list.
 #[derive(Debug, Drop)]
 pub struct TailIndex {
     places: Vec<u32>,
 }
 
 impl TailIndex {
-    // An index for lists in which nothing stands yet. It has 215 KB, so one is made for all layers of a graph.
+    // An index for lists that are empty yet. It has 215 KB, so one is made for all layers of a graph.
     pub fn new(alloc: Global) -> Result<TailIndex, AllocError> {
         let places = vec![in alloc; 0; CODES]?;
         Ok(TailIndex { places })
@@ -58,7 +59,7 @@ impl TailIndex {
         }
     }
 
-    // Notes that the tail stands behind all others.
+    // Notes that the tail is behind all others.
     pub fn note(&mut self, tail: Tail, place: u32)
         ensures { (tails : List Tail) → length tails ≡ place → Indexed self.old.places.items tails
             → Indexed self.new.places.items (tails ++ tail ∷ []) }
