@@ -78,8 +78,8 @@ pub fn furthest(pulls: &[i64]) -> Option<usize>
     best
 }
 
-// How much a move of all that is of use takes off the square of the distance to the box, about, and how much that is,
-// where the one vector pulls so much more than the other and lies so far from it.
+// About how much the best move from one vector to another takes off the square of the distance to the box, and the size
+// of that move. The one pulls by `more` more than the other, and `square` is the square of the distance between them.
 fn gain(more: u64, square: u64) -> (u128, u64) {
     if square == 0 {
         return (0, 0);

@@ -163,7 +163,7 @@ impl Hull {
         true
     }
 
-    /// Takes out the first vector that has no part of the mix, and answers where it stood. None where each has a part.
+    /// Takes out the first vector that has no part of the mix, and answers where it was. None where each has a part.
     pub fn drop_unused(&mut self) -> Option<usize>
         ensures unused { IfSome result (λ k. (k < length self.old.parts) × (slice_index self.old.parts k ≡ 0)) }
         ensures vectors { IfSome result (λ k. self.new.vectors ≡ remove self.old.vectors k) }
@@ -195,7 +195,7 @@ fn are_same(a: &[i64], b: &[i64]) -> bool
     a == b
 }
 
-// Where the first part of 0 stands.
+// Where the first part of 0 is.
 fn first_unused(parts: &[u32]) -> Option<usize>
     ensures { IfSome result (λ k. (k < length parts.now) × (slice_index parts.now k ≡ 0)) }
 {

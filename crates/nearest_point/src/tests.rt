@@ -2,7 +2,8 @@
 use crate::{Hull, SCALE};
 use std::test::Fail;
 
-// A triangle and a box that is a point, below, inside and far above; the parts of the nearest point, and what leads to the box.
+// A triangle and a box that is a point, below, inside and far above; the parts of the nearest point, and what leads to
+// the box.
 #[test]
 fn nearest_points_of_a_triangle(rt: HostRuntime) -> Result<(), Fail> {
     let alloc = rt.alloc();
