@@ -106,7 +106,8 @@ impl NearestWeights {
         Ok(line)
     }
 
-    /// A free leaf of a log with this goal at the top of a tree, where one is found, as `leaf_at_top` finds a bound leaf.
+    /// A free leaf of a log with this goal at the top of a tree, where one is found, as `leaf_at_top` finds a bound
+    /// leaf.
     pub fn free_leaf_at_top(
         &mut self,
         alloc: Global,
@@ -178,8 +179,8 @@ impl NearestWeights {
         self.within(alloc, doms, None, &self.demand, &self.top, start)
     }
 
-    /// A free leaf of a log with this goal within a tree, where one is found, as `leaf_within` finds a bound leaf, but for
-    /// words from position 0 on.
+    /// A free leaf of a log with this goal within a tree, where one is found, as `leaf_within` finds a bound leaf, here
+    /// for words from position 0 on.
     pub fn free_leaf_within(
         &mut self,
         alloc: Global,

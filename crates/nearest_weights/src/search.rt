@@ -57,9 +57,9 @@ impl<'a> Field<'a> {
     }
 }
 
-// Looks for weights whose bound holds for `turns.first` turns or more, beginning with these weights: the turns for
-// which it does, as it seems, with the weights that are left there. Each round finds the heaviest word by the
-// weights, and the next weights lead from the nearest mix of the words so far to the demand (C. Holloway, 1974).
+// Looks for weights whose bound holds for `turns.first` turns or more, beginning with these weights. Answers how many
+// turns it is, and leaves the weights there; no proof says that the bound holds. Each round finds the heaviest word by
+// the weights, and the next weights lead from the nearest mix of the words so far to the demand (C. Holloway, 1974).
 pub fn search(
     alloc: Global,
     field: Field<'_>,
@@ -102,7 +102,7 @@ pub fn search(
     Ok(None)
 }
 
-// So many rounds as look at no more steps than `MOST_LOOKS`.
+// As many rounds as look at no more than `MOST_LOOKS` steps.
 fn rounds_within(field: Field<'_>, days: u32, effort: Effort) -> u32 {
     let looks = field.words.steps_within(days).max(1);
     u64::from(effort.rounds).min(MOST_LOOKS / looks) as u32

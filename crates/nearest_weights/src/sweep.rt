@@ -132,7 +132,7 @@ impl Sweep {
         self.next.first().copied().flatten()
     }
 
-    // How often each symbol stands on each day of the week in the heaviest word, after a pass, and how many free weekends
+    // How often each symbol is on each day of the week in the heaviest word, after a pass, and how many free weekends
     // it has.
     pub fn counts(
         &self,

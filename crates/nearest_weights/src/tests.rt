@@ -1,4 +1,4 @@
-// Single days of the shift D with single days off between them: D can stand on half of the days, and on no more.
+// Single days of the shift D with single days off between them: D can be on half of the days, and on no more.
 ghost use Rattle.std.specs.Prelude.{IfOk};
 ghost use Rattle.domain_store.specs.Store.{BelongsTo};
 

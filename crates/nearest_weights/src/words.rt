@@ -13,7 +13,7 @@ const MOST_STEPS: usize = 1_000_000;
 
 // The clean words over all symbols as ways through layers of steps, which are the same from each position on.
 // The order of a layer's nodes is that of the least words to them, which come again after some days; where layers have
-// come again for long, it is taken that they go on so.
+// come again for long, it is assumed that they always will.
 #[derive(Debug, Drop)]
 pub struct Words {
     layers: Layers,
