@@ -1,4 +1,4 @@
--- A window leaf is one whose every word that may stand is bad.
+-- A window leaf is one whose every possible word is bad.
 use Rattle.std.proofs.Common.{◌≡◌, ℕ, ◌+◌, ◌%◌, List, [], ◌∷◌, length, IsTrue, Some, sym, ◌∙◌, subst}
 use Rattle.std.proofs.lemmas.Option.{same_Some}
 use Rattle.rwsp_terms.specs.declared.data.Symbol.{Symbol}

@@ -1,4 +1,4 @@
-// Day leaves: too many weeks hold a symbol on a day for sure, or too few can.
+// Day leaves: too many weeks certainly hold a symbol on a day, or too few can.
 ghost use Rattle.std.specs.Prelude.{◌≡◌, ◌+◌, ◌-◌, ◌*◌, ◌<◌, ◌≤◌, ◌↔◌, length, IsTrue};
 ghost use Rattle.rwsp_terms.specs.Instance.{IsDay, IsSymbol};
 ghost use Rattle.rwsp_terms.specs.declared.limits.TheConstants.{MOST_WEEKS};
@@ -25,7 +25,7 @@ fn is_only(problem: &Problem, doms: &Domains, p: u32, x: Symbol) -> bool
     doms.has(p, x)
 }
 
-// How many weeks hold the symbol on the day for sure.
+// How many weeks certainly hold the symbol on the day.
 #[tactic(auto, using(rwsp_terms::proofs::Counting::count_then, rwsp_terms::proofs::Counting::count_else))]
 fn count_fixed(problem: &Problem, doms: &Domains, day: u32, x: Symbol) -> u32
     requires domains { BelongsTo problem.now doms.now }
@@ -72,7 +72,7 @@ pub fn position_of(problem: &Problem, doms: &Domains, week: u32, day: u32) -> u3
     week * problem.days() + (day - 1)
 }
 
-/// Whether more weeks hold the symbol on the day for sure than may hold it, where `over` is set, and otherwise
+/// Whether more weeks certainly hold the symbol on the day than may hold it, where `over` is set, and otherwise
 /// whether fewer can hold it than must. Days count from 1. Takes no memory.
 pub fn day_holds(problem: &Problem, doms: &Domains, day: u32, x: Symbol, over: bool) -> bool
     requires domains { BelongsTo problem.now doms.now }
