@@ -55,7 +55,7 @@ lt_suc a b = grind (arith, nat_tests)
 week_ends : (day : ℕ) → ((day + 0) % 7 == 5) ≡ ((day + 1) % 7 == 6)
 week_ends day = grind (arith, nat_tests)
 
--- the same day, told from the day after the first
+-- the same day, counted from the day after the first
 shifted : (day : ℕ) (x : Symbol) (u : List Symbol) (k : ℕ) → begins day (x ∷ u) (1 + k) ≡ begins (day + 1) u k
 shifted day x u k =
     let same : day + (1 + k) ≡ day + 1 + k = omega arith in

@@ -42,7 +42,7 @@ all_push P y e all last = All-append P y (e ∷ []) all (All-cons P e [] last (A
 longer : (y : List Weight) (e : Weight) → AreWeights y → IsWeight e → All (λ a. ComesBefore a e) y → AreWeights (y ++ e ∷ [])
 longer y e h small all = record { ascends = all_pairs_push ComesBefore y e h.ascends (λ k d lt. all k d lt); small = all_push IsWeight y e h.small small }
 
--- a weight that is set behind all others stands at the end
+-- a weight that is set behind all others is at the end
 pub set_last : (y new : List Weight) (e : Weight) → AreWeights y → IsWeight e → All (λ a. ComesBefore a e) y → SetsWeight y new e.day e.symbol.number e.value → new ≡ y ++ e ∷ []
 set_last y new e h small all sets = same_weights new (y ++ e ∷ []) sets.weights (longer y e h small all) same
   where

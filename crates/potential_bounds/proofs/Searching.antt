@@ -1,4 +1,4 @@
--- The weights of a round are one, and the search goes on from round to round.
+-- The weights of a round are one, and the search continues from round to round.
 use Rattle.std.proofs.Common.{◌≡◌, ℕ, zero, suc, ◌+◌, List, [], ap, sym, ◌∙◌, subst, arith, ⊎_elim, below_more, Option, Some, Bool, false}
 use Rattle.std.specs.Prelude.{◌↔◌, IsTrue}
 use Rattle.std.proofs.lemmas.Int.{ints}

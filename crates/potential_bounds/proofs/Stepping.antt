@@ -31,7 +31,7 @@ inside_or_not P j x =
     (λ (none : j ≤ 0). inr (λ (h : IsInside P j x). omega (arith, none, h.0.0)))
     (cases_lt 0 j)
 
--- an entry stands for its own place
+-- an entry for another day or symbol changes nothing
 not_its : (e : Weight) (j x : ℕ) → ((e.day ≡ j) × (e.symbol.number ≡ x) → ⊥) → (b : Bool) → ((e.day == j) && (e.symbol.number == x)) ≡ b → (v : ℤ) → (if b then e.value else v) ≡ v
 not_its e j x ne true is v = absurd (ne (grind arith, grind arith))
 not_its e j x ne false is v = refl

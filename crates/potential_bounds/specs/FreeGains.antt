@@ -17,7 +17,7 @@ ends_free day before x = (day % 7 == 6) && (is_off before && (x.number == 0))
 abbrev pub reward_behind : ℕ → ℕ → Option Symbol → Symbol → ℕ
 reward_behind reward day before x = if ends_free day before x then reward else 0
 
--- what a symbol weighs on a day of a word from a position on, in weeks of so many days, with the reward
+-- what a symbol weighs on a day of a word from a position on, in weeks of `days` days, with the reward
 abbrev pub free_gain : List Weight → ℕ → ℕ → ℕ → ℕ → Option Symbol → Symbol → ℤ
 free_gain y p days reward day before x =
     weight_at y ((p + day) % days + 1) x.number +ℤ pos (reward_behind reward day before x)

@@ -7,11 +7,11 @@ use Rattle.rwsp_terms.specs.Weights.{weight_at}
 use Rattle.refutation_terms.specs.Word.{Domains}
 use Rattle.refutation_terms.specs.Sharp.{step, IsNext, IsSearched, HoldsAtTop}
 
--- none of the first so many rounds has weights whose bound holds
+-- none of the first `rounds` rounds has weights whose bound holds
 abbrev pub NoneHolds : Instance → Domains → List ℕ → ℕ → Type 0
 NoneHolds P D R rounds = (k : ℕ) (y : List Weight) → k < rounds → IsSearched P D R k y → HoldsAtTop P D R y → ⊥
 
--- the weights of the first of so many rounds whose bound holds, or none where these rounds have no such weights
+-- the weights of the first of `rounds` rounds whose bound holds, or none where these rounds have no such weights
 abbrev pub IsFirstSearched : Instance → Domains → List ℕ → ℕ → Option (List Weight) → Type 0
 IsFirstSearched P D R rounds None = NoneHolds P D R rounds
 IsFirstSearched P D R rounds (Some y) = (k : ℕ) × (k < rounds) × IsSearched P D R k y × HoldsAtTop P D R y

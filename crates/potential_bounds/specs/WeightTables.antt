@@ -4,7 +4,7 @@ use Rattle.rwsp_terms.specs.declared.data.Weight.{Weight}
 use Rattle.rwsp_terms.specs.declared.limits.TheConstants.{MOST_SYMBOLS}
 use Rattle.rwsp_terms.specs.Weights.{weight_at}
 
--- the first so many entries of the table: what each symbol weighs on day 1, then on day 2, and so on
+-- the first `count` entries of the table: what each symbol weighs on day 1, then on day 2, and so on
 abbrev pub HoldsWeights : List Weight → List ℤ → ℕ → Type 0
 HoldsWeights y table count =
     (length table ≡ count)

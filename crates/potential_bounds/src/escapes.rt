@@ -47,7 +47,8 @@ pub fn bound_escape(
 // `turns` times the total.
 fn times(turns: u32, total: i64) -> i64
     requires few { turns ≤ LONGEST_WORD }
-    requires above { neg_ℤ (pos (MOST_DAYS * (MOST_SYMBOLS * (GREATEST_WEIGHT * (MOST_SHIFTS * MOST_WEEKS))))) ≤ℤ total }
+    requires above { neg_ℤ (pos (MOST_DAYS * (MOST_SYMBOLS * (GREATEST_WEIGHT * (MOST_SHIFTS * MOST_WEEKS)))))
+        ≤ℤ total }
     requires below { total ≤ℤ pos (MOST_DAYS * (MOST_SYMBOLS * (GREATEST_WEIGHT * (MOST_SHIFTS * MOST_WEEKS)))
         + GREATEST_REWARD * (MOST_WEEKS + 1)) }
     ensures { result ≡ pos turns *ℤ total }

@@ -17,7 +17,7 @@ use rwsp_terms::{Symbol, Weights};
 use std::alloc::{AllocError, Global};
 use word_tail::TailRules;
 
-/// The heaviest clean words of so many turns over the domains from day 1 on, where each free weekend has a reward:
+/// The heaviest clean words of `turns` turns over the domains from day 1 on, where each free weekend has a reward:
 /// their weight, with the least of them. None exactly where there is no clean word.
 pub fn heaviest_free(
     alloc: Global,
@@ -52,8 +52,8 @@ pub fn heaviest_free(
     heaviest_clean(alloc, tails, doms, 0, turns * problem.cells(), &gain)
 }
 
-/// The heaviest clean words of so many turns over the domains from day 1 on, where each free weekend has a reward, if
-/// they weigh so much at least: their weight, with the least of them. None exactly where every clean word weighs less;
+/// The heaviest clean words of `turns` turns over the domains from day 1 on, where each free weekend has a reward, if
+/// they weigh `least` at least: their weight, with the least of them. None exactly where every clean word weighs less;
 /// no word is sought then.
 pub fn heaviest_free_reaching(
     alloc: Global,

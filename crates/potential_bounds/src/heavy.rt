@@ -17,7 +17,7 @@ use rwsp_terms::{Symbol, Weights};
 use std::alloc::{AllocError, Global};
 use word_tail::TailRules;
 
-/// The heaviest clean words of so many turns over the domains from a position on: their weight, with the least of them.
+/// The heaviest clean words of `turns` turns over the domains from a position on: their weight, with the least of them.
 /// None exactly where there is no clean word.
 pub fn heaviest(
     alloc: Global,
@@ -50,7 +50,7 @@ pub fn heaviest(
     heaviest_clean(alloc, tails, doms, p, turns * problem.cells(), &alone)
 }
 
-/// The heaviest clean words of so many turns over the domains from a position on, if they weigh so much at least: their
+/// The heaviest clean words of `turns` turns over the domains from a position on, if they weigh `least` at least: their
 /// weight, with the least of them. None exactly where every clean word weighs less; no word is sought then.
 pub fn heaviest_reaching(
     alloc: Global,

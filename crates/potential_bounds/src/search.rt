@@ -16,7 +16,7 @@ use rwsp_terms::{Symbol, Weights};
 use std::alloc::{AllocError, Global};
 use word_tail::TailRules;
 
-/// The first of the weights of so many rounds whose bound of one turn from position 0 holds with the rules of the
+/// The first of the weights of `rounds` rounds whose bound of one turn from position 0 holds with the rules of the
 /// tails; None exactly where none of these bounds holds.
 ///
 /// The weights of the first round are 0 everywhere. Those of the next follow from the least of the heaviest clean
@@ -39,7 +39,7 @@ pub fn search_weights(
     search_in(alloc, &layers, rounds)
 }
 
-// The first of the weights of so many rounds whose bound of one turn holds, by the words of the layers.
+// The first of the weights of `rounds` rounds whose bound of one turn holds, by the words of the layers.
 fn search_in(alloc: Global, layers: &Layers, rounds: u32) -> Result<Option<Weights>, AllocError>
     requires turn { IsOneTurn layers.now }
     requires few { rounds ≤ GREATEST_WEIGHT }

@@ -52,7 +52,7 @@ fn least_weight(problem: &Problem, weights: &Weights, day: u32, x: Symbol) -> i6
     at_least.min(at_most)
 }
 
-// What so many weeks weigh.
+// What `weeks` weeks weigh.
 fn weeks_weight(weight: i64, weeks: i32) -> i64
     requires weight { (neg_ℤ (pos GREATEST_WEIGHT) ≤ℤ weight) × (weight ≤ℤ pos GREATEST_WEIGHT) }
     requires weeks { (neg_ℤ (pos (MOST_SHIFTS * MOST_WEEKS)) ≤ℤ weeks) × (weeks ≤ℤ pos MOST_WEEKS) }

@@ -8,7 +8,7 @@ use rwsp_terms::limits::MOST_SYMBOLS;
 use rwsp_terms::{Symbol, Weights};
 use std::alloc::{AllocError, Global};
 
-// The table of the first so many days. It is made once for a leaf, in time that grows with its entries times the
+// The table of the first `days` days. It is made once for a leaf, in time that grows with its entries times the
 // weights.
 pub fn weight_table(alloc: Global, weights: &Weights, days: u32) -> Result<Vec<i32>, AllocError>
     requires { days ≤ MOST_DAYS }
@@ -24,7 +24,7 @@ pub fn weight_table(alloc: Global, weights: &Weights, days: u32) -> Result<Vec<i
     Ok(table)
 }
 
-// What a symbol weighs on the day that comes so many days behind day 1.
+// What a symbol weighs on the day that comes `behind` days after day 1.
 pub fn weight_in(weights: &Weights, table: &[i32], days: u32, behind: u32, symbol: Symbol) -> i32
     requires table { HoldsWeights weights.now table.now (days * MOST_SYMBOLS) }
     requires day { behind < days }

@@ -51,7 +51,7 @@ fn weight_from(case: &Case, p: u32, word: &[Symbol]) -> i64 {
     sum
 }
 
-// The word of a number whose highest digit is the first symbol: so words stand in order.
+// The word of a number whose highest digit is the first symbol: so words are in order.
 fn word_numbered(
     alloc: Global,
     number: u32,
@@ -177,7 +177,7 @@ fn is_clean(case: &Case, word: &[Symbol]) -> bool {
     true
 }
 
-// The first of the heaviest clean words, where all weights are so many times the value.
+// The first of the heaviest clean words, where all weights are `times` times the value.
 fn heaviest_of_all(
     alloc: Global,
     case: &Case,
@@ -234,7 +234,7 @@ fn compare_least(rt: &impl Abort, alloc: Global, case: &Case, p: u32) -> Result<
     Ok(())
 }
 
-// The heaviest clean words of so many turns.
+// The heaviest clean words of `turns` turns.
 fn compare_heaviest(
     rt: &impl Abort,
     alloc: Global,
