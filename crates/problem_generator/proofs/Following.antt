@@ -43,7 +43,7 @@ follow_each x left (t ∷ ts) h (suc i) d less =
 pub stints_follow : (number days : ℕ) (ts : List Stint) → Follow number days ts → AreStints number days ts
 stints_follow number days ts h = record { whole = total_follows number days ts h; each = follow_each number days ts h }
 
--- what is drawn so far, and may go on from a state where some days are left
+-- what is drawn so far, and may continue from a state where some days are left
 abbrev pub FollowsOn : (number days x left : ℕ) → List Stint → Type 0
 FollowsOn number days x left ts = (more : List Stint) → Follow x left more → Follow number days (ts ++ more)
 

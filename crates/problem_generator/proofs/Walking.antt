@@ -283,7 +283,7 @@ never_too_short c e u w bad =
     let few = bad.few in
     omega arith
 
--- what stands behind a symbol
+-- what comes behind a symbol
 pub second_follows : (e : Stand) (x y : Symbol) → walks e (x ∷ y ∷ []) ≡ true → Follows (step e x.number) y.number
 second_follows e x y w =
     let p = and_parts (may_follow e x.number) (walks (step e x.number) (y ∷ [])) w in
