@@ -76,7 +76,7 @@ only_by P D p x here alone =
 pub idle_alone : (P : Instance) (D : Domains) (p x : ℕ) → D p x ≡ true → ((z : ℕ) → D p z ≡ true → z ≡ x) → is_idle P D p x ≡ true
 idle_alone P D p x here alone = ap (λ b. not b || is_only P D p x) here ∙ only_by P D p x here alone
 
--- a symbol that stands beside another on its day has more weeks that can hold it than weeks that do for sure
+-- a symbol that is beside another on its day has more weeks that can hold it than weeks that certainly do
 pub fewer_fixed : (P : Instance) (D : Domains) (i j x : ℕ) → i < P.weeks → is_idle P D (place P i j) x ≡ false → fixed P D j x < possible P D j x
 fewer_fixed P D i j x lt h =
     fewer (λ k. is_only P D (place P k j) x) (λ k. D (place P k j) x) 0 P.weeks i (omega arith) (omega (arith, lt))

@@ -76,7 +76,7 @@ was_within [] p h = absurd (cc)
 was_within (b ∷ pending) zero h = omega arith
 was_within (b ∷ pending) (suc p) h = omega (arith, was_within pending p h)
 
--- what is so of each window that holds once the position has this domain
+-- what holds of each window that holds once the position has this domain
 abbrev IsAwaited : Instance → List Bool → ℕ → ℕ → Type 0
 IsAwaited P pending p len = (q : ℕ) × (get_or pending q false ≡ true) × LiesOver P p len q
 
@@ -152,7 +152,7 @@ looked_at P S sets pending p w same none = record {
       ];
 }
 
--- all positions have still to be looked at
+-- all positions must yet be looked at
 pub all_awaited : (P : Instance) (S : Store) (sets : List (List ℕ)) (pending : List Bool) (n : ℕ) → BelongsTo P S → IsStore S → HasDomains S → sets ≡ S.sets → n ≡ cells P → pending ≡ replicate n true
     → IsWatch (record { problem = P; sets = sets; pending = pending })
 all_awaited P S sets pending n belongs store tests same n_is all = record {
@@ -198,7 +198,7 @@ same_once_taken sets S p long lt others =
 pub same_all_taken : (a b : List (List ℕ)) → length a ≡ length b → ((q : ℕ) → q < length b → get_or a q [] ≡ get_or b q []) → a ≡ b
 same_all_taken a b long done = ext_get_or [] a b long (λ q less. done q (omega (arith, less, long)))
 
--- where the positions lie that have still to be looked at
+-- where the positions lie that must yet be looked at
 
 false_unless : (b : Bool) → (b ≡ true → b ≡ false) → b ≡ false
 false_unless true f = f refl

@@ -20,7 +20,7 @@ abbrev pub IsCycleLeaf : Instance → Line → Type 0
 IsCycleLeaf P (Dead p len R) = (p ≡ 0) × (len ≡ 2 * cells P) × AreShortRules P R
 IsCycleLeaf P line = ⊥
 
--- the symbol stands beside another in the domain of the position, and no word of two turns that is clean for the
+-- the symbol is beside another in the domain of the position, and no word of two turns that is clean for the
 -- short rules has it there
 pub record IsCycleSpent (P : Instance) (D : Domains) (p : ℕ) (x : Symbol) : Type 0 where
   pub position : p < cells P

@@ -17,7 +17,7 @@ abbrev pub IsDayLeaf : Instance → Line → Type 0
 IsDayLeaf P (Day j x over) = LineFits P (Day j x over)
 IsDayLeaf P line = ⊥
 
--- the symbol stands beside another in the domain of the position, and a day leaf holds once it is alone there
+-- the symbol is beside another in the domain of the position, and a day leaf holds once it is alone there
 pub record IsDaySpent (P : Instance) (D : Domains) (p : ℕ) (x : Symbol) : Type 0 where
   pub position : p < cells P
   pub useful : is_idle P D p x.number ≡ false
@@ -33,7 +33,7 @@ pub record AreCountsOf (P : Instance) (S : Store) (C : Counted) : Type 0 where
   pub belongs : BelongsTo P S
   pub stands : StandsFor C S
 
--- with one week more for sure the symbol is there too often (over), with one week fewer too rarely
+-- if one week more certainly held the symbol, it would be there too often (over), and if one fewer could, too rarely
 abbrev pub Saturates : Instance → Domains → ℕ → ℕ → Bool → Type 0
 Saturates P D j x true = greatest P x j ≤ℤ pos (fixed P D j x)
 Saturates P D j x false = pos (possible P D j x) ≤ℤ least P x j
@@ -42,12 +42,12 @@ Saturates P D j x false = pos (possible P D j x) ≤ℤ least P x j
 abbrev pub place : Instance → ℕ → ℕ → ℕ
 place P i j = i * P.days + (j - 1)
 
--- where the symbol saturates its day, it stands beside no other on the day
+-- where the symbol saturates its day, it is beside no other on the day
 abbrev pub TakesNone : Instance → Domains → ℕ → ℕ → Type 0
 TakesNone P D j x = (i : ℕ) (over : Bool) → i < P.weeks → is_idle P D (place P i j) x ≡ false
     → Saturates P D j x over → ⊥
 
--- whether the symbol saturates its day while it stands beside another there
+-- whether the symbol saturates its day while it is beside another there
 abbrev pub IsSaturation : Instance → Domains → ℕ → ℕ → Option Bool → Type 0
 IsSaturation P D j x None = TakesNone P D j x
 IsSaturation P D j x (Some over) = Saturates P D j x over
@@ -59,12 +59,12 @@ pub record IsBeside (P : Instance) (D : Domains) (p x : ℕ) (z : Symbol) : Type
   pub held : D p z.number ≡ true
   pub useful : is_idle P D p x ≡ false
 
--- the symbol isn't in the domain or is alone there, or another stands beside it
+-- the symbol isn't in the domain or is alone there, or another is beside it
 abbrev pub IsNeighbour : Instance → Domains → ℕ → ℕ → Option Symbol → Type 0
 IsNeighbour P D p x None = is_idle P D p x ≡ true
 IsNeighbour P D p x (Some z) = IsBeside P D p x z
 
--- a week in which the symbol stands beside another on the day, or none
+-- a week in which the symbol is beside another on the day, or none
 pub record IsPlaceBeside (P : Instance) (D : Domains) (j x p : ℕ) (z : Symbol) : Type 0 where
   pub week : ℕ
   pub within : week < P.weeks

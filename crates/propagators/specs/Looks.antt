@@ -60,7 +60,7 @@ pub record IsBesideAnother (P : Instance) (S : Store) (p : ℕ) (x : Symbol) : T
   pub position : p < cells P
   pub useful : is_idle P (has_domain S) p x.number ≡ false
 
--- under all domains of a problem that is served, a spent symbol stands beside another
+-- under all domains of a problem that is served, a spent symbol is beside another
 abbrev pub AreSpentBesideAnother : (Instance → Type 0) → (Store → ℕ → Symbol → Type 0) → Type 0
 AreSpentBesideAnother serves spent = (P : Instance) (S : Store) (p : ℕ) (x : Symbol) → serves P
     → BelongsTo P S → spent S p x → IsBesideAnother P S p x

@@ -1,4 +1,4 @@
--- The leaves of windows, and which of them a propagator has still to look at.
+-- The leaves of windows, and which of them a propagator must yet look at.
 use Rattle.std.specs.Prelude.{◌≡◌, ℕ, ◌+◌, ◌%◌, ◌<◌, ◌≤◌, List, [], length, Bool, true, false, slice_index_or}
 use Rattle.rwsp_terms.specs.declared.limits.TheConstants.{MOST_SHIFTS}
 use Rattle.rwsp_terms.specs.Instance.{Instance, cells}
@@ -16,7 +16,7 @@ IsWindowLeaf P (Window number p len) = LineFits P (Window number p len)
 IsWindowLeaf P line = ⊥
 
 -- what a propagator of windows is made of: its problem, the domain that it knows for each position, and whether the
--- position has still to be looked at
+-- position must yet be looked at
 pub record WindowWatch : Type 0 where
   pub problem : Instance
   pub sets : List (List ℕ)
@@ -30,7 +30,7 @@ has_known sets p x = has_symbol (slice_index_or sets p []) x
 abbrev pub LiesOver : Instance → ℕ → ℕ → ℕ → Type 0
 LiesOver P p len q = (i : ℕ) × (i < len) × ((p + i) % cells P ≡ q)
 
--- a window that holds lies over a position which has still to be looked at
+-- a window that holds lies over a position which must yet be looked at
 pub record IsWatch (w : WindowWatch) : Type 0 where
   pub long : length w.sets ≡ cells w.problem
   pub flags : length w.pending ≡ cells w.problem
@@ -39,7 +39,7 @@ pub record IsWatch (w : WindowWatch) : Type 0 where
       → IsBlocked w.problem (has_known w.sets) number p len
       → (q : ℕ) × (slice_index_or w.pending q false ≡ true) × LiesOver w.problem p len q
 
--- the positions that have still to be looked at come from the first on and before the end
+-- the positions that must yet be looked at come from the first on and before the end
 pub record IsSpan (pending : List Bool) (first end : ℕ) : Type 0 where
   pub inside : end ≤ length pending
   pub has_all : (q : ℕ) → slice_index_or pending q false ≡ true → (first ≤ q) × (q < end)

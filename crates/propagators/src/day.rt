@@ -19,7 +19,7 @@ use rwsp_terms::Symbol;
 use std::alloc::{AllocError, Global};
 use std::marker::Model;
 
-/// Closes where more weeks hold a symbol on a day for sure than may hold it, or fewer can hold it than must, and
+/// Closes where more weeks certainly hold a symbol on a day than may hold it, or fewer can hold it than must, and
 /// takes away what would lead there at once. It keeps counts of the domains that it tracks: a look takes a step for
 /// each day and symbol, and one for each week where a symbol is taken away.
 #[derive(Debug, Drop)]
@@ -88,7 +88,8 @@ impl Propagator for DayProp {
 // What the counts say.
 fn seen(problem: &Problem, counts: &Counts, doms: &Domains) -> Look
     requires { AreCountsOf problem.now doms.now counts.now }
-    ensures { IsLook problem.now (IsDayLeaf problem.now) (IsDaySpent problem.now (has_domain doms.now)) doms.now result }
+    ensures { IsLook problem.now (IsDayLeaf problem.now) (IsDaySpent problem.now (has_domain doms.now)) doms.now
+        result }
 {
     problem.prove_limits();
     doms.prove_facts();

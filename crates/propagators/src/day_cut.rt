@@ -106,8 +106,8 @@ fn cut_by(
     })
 }
 
-// Whether one week more for sure would be too many (true), or one fewer too few, where the symbol stands beside
-// another on the day at all.
+// Whether one week more that certainly holds the symbol would be too many (true), or one fewer that can hold it too
+// few, where it is beside another on the day at all.
 fn saturation(
     problem: &Problem,
     counts: &Counts,
@@ -134,7 +134,7 @@ fn saturation(
     None
 }
 
-// The first position of the day that has the symbol beside another, which is told too.
+// The first position of the day that has the symbol beside another, and that other.
 fn place_beside(problem: &Problem, doms: &Domains, day: u32, x: Symbol) -> Option<(u32, Symbol)>
     requires domains { BelongsTo problem.now doms.now }
     requires day { IsDay problem.now day }
@@ -149,7 +149,7 @@ fn place_beside(problem: &Problem, doms: &Domains, day: u32, x: Symbol) -> Optio
     None
 }
 
-// A symbol that stands beside this one in the domain of the position.
+// A symbol that is beside this one in the domain of the position.
 fn neighbour(problem: &Problem, doms: &Domains, p: u32, x: Symbol) -> Option<Symbol>
     requires domains { BelongsTo problem.now doms.now }
     requires position { p < length doms.now.sets }

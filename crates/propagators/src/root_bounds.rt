@@ -80,7 +80,7 @@ impl RootBounds {
         })
     }
 
-    // What is so of each.
+    // What holds of each.
     fn prove_facts(&self)
         ensures { IsTopWatch self.now }
     {

@@ -18,7 +18,7 @@ fn bounds(least: u32, greatest: u32) -> Bounds {
     Bounds { least, greatest }
 }
 
-// So many weeks of one day that ask for the shift D so many times, in blocks of D and of work of at most seven days.
+// `weeks` weeks of one day that ask for the shift D `demand` times, in blocks of D and of work of at most seven days.
 fn one_day(rt: &impl Abort, alloc: Global, weeks: u32, demand: u32) -> Result<Problem, AllocError> {
     let row = ShiftRow {
         name: Name::of(vec![in alloc; b'D']?),

@@ -21,7 +21,7 @@ use std::marker::Model;
 
 /// Closes where every word over the domains of a window is bad for a rule. It takes no symbol away.
 ///
-/// It keeps the domains that it tracks, and which positions it has still to look at: those that lost a symbol since a
+/// It keeps the domains that it tracks, and which positions it must yet look at: those that lost a symbol since a
 /// look found nothing there. A look goes over the windows of these positions alone, at a cost of a few steps for each
 /// rule and each day of its bound, and of one for each position between two of them; what an undoing gives back costs
 /// nothing at the next look.
@@ -76,14 +76,14 @@ impl WindowProp {
         })
     }
 
-    // What is so of each.
+    // What holds of each.
     fn prove_facts(&self)
         ensures { IsWatch self.now }
     {
         let _ = &self.sets;
     }
 
-    // Where the positions are that have still to be looked at: from the first number on, and before the second.
+    // Where the positions are that must yet be looked at: from the first number on, and before the second.
     fn span(&self) -> (u32, u32)
         ensures { IsSpan self.now.pending result.0 result.1 }
     {
@@ -98,7 +98,7 @@ impl WindowProp {
         self.first = self.end;
     }
 
-    // A window leaf that holds, if one of these positions has still to be looked at; otherwise none has any longer.
+    // A window leaf that holds, if one of these positions must yet be looked at; otherwise they needn't be any longer.
     fn look_within(&mut self, doms: &Domains, first: u32, end: u32) -> Option<WindowLeaf>
         requires domains { BelongsTo self.old.problem doms.now }
         requires tracked { self.old.sets ≡ doms.now.sets }
@@ -117,7 +117,7 @@ impl WindowProp {
         None
     }
 
-    // A window leaf that holds, if the position has still to be looked at; otherwise it has no longer.
+    // A window leaf that holds, if the position must yet be looked at; otherwise it needn't be any longer.
     fn look_at(&mut self, doms: &Domains, p: u32) -> Option<WindowLeaf>
         requires domains { BelongsTo self.old.problem doms.now }
         requires tracked { self.old.sets ≡ doms.now.sets }

@@ -1,4 +1,4 @@
--- Where as many weeks hold the symbol for sure as can hold it, it stands beside no other.
+-- Where as many weeks certainly hold the symbol as can hold it, it is beside no other.
 use Rattle.std.proofs.Common.{◌≡◌, rules, arith}
 use Rattle.refutation_terms.specs.Leaf.{fixed, possible}
 use Rattle.domain_store.specs.Store.{has_domain}

@@ -1,4 +1,4 @@
--- A symbol that is spent for one of the two stands beside another, as that one says.
+-- A symbol that is spent for one of the two is beside another, as that one says.
 use Rattle.std.proofs.Common.{inl, inr}
 use Rattle.propagators.proofs.pair.PairPropagator.prove_spent.Goals as goal
 

@@ -1,4 +1,4 @@
--- All positions have still to be looked at.
+-- All positions must yet be looked at.
 use Rattle.std.proofs.Common.{◌≡◌, ◌∙◌, Bool, true, length, ap, sym, subst}
 use Rattle.std.proofs.lemmas.List.{length-replicate}
 use Rattle.rwsp_terms.specs.Instance.{Instance}

@@ -1,4 +1,4 @@
--- No position has still to be looked at.
+-- No position must yet be looked at.
 use Rattle.std.proofs.Common.{◌≡◌, ◌∙◌, ap, subst, get_or, false}
 use Rattle.rwsp_terms.specs.Instance.{Instance}
 use Rattle.propagators.specs.Looks.{Closes}
