@@ -53,7 +53,7 @@ last_lines P (d ∷ chunks) c lines are =
       text = last.text;
     }
 
--- the chunks so far, and the splits that are open behind them, where the rest stands
+-- the chunks so far, and the splits that are open behind them, where the rest begins
 pub record IsOpen (P : Instance) (size : ℕ) (turn : Option Turn) (bytes : List ℕ) (before : List UnreadSplit) (chunks : List Start) (rest : Start) : Type 0 where
   pub inside : (lines : List Line) → AreLinesOf P chunks lines → EndInside P before lines × StandsBehind P turn lines rest
   pub goes_on : (more : List Start) → ((lines : List Line) → AreLinesOf P chunks lines → AreChunks P turn size lines rest.bytes more) → AreChunks P turn size [] bytes (chunks ++ more)
@@ -94,7 +94,7 @@ cut_none P size all before chunks h some none empty =
       };
     }))
 
--- a chunk stands where what it was cut off stood
+-- a chunk begins where what it was cut off began
 same_place : (P : Instance) (turn : Option Turn) (earlier : List Line) (old chunk : Start) → chunk.walk ≡ old.walk → chunk.first ≡ old.first → StandsBehind P turn earlier old → StandsBehind P turn earlier chunk
 same_place P turn earlier old chunk e f h = record { state = subst (IsStateOf P turn earlier) (sym e) h.state; counted = f ∙ h.counted }
 
@@ -139,7 +139,7 @@ all_of_both a b bytes e f some =
     let one = some_bytes b some in
     omega (arith, long, same, one)
 
--- a chunk that isn't the last has so many LF
+-- a chunk that isn't the last has `size` LF
 full : (size end : ℕ) (old chunk rest : List ℕ) → old ≡ chunk ++ rest → rest ≢ [] → EndsLines old size end → chunk ≡ take end old → feeds chunk ≡ size
 full size end old chunk rest e some ends is =
     elim ends [

@@ -1,4 +1,4 @@
--- A line that fits the problem stands, or has a cause: it can't be without both.
+-- A line that fits the problem holds, or has a cause: it can't be without both.
 use Rattle.std.proofs.Common.{◌≡◌, ◌≢◌, ◌⊎◌, ◌==◌, ◌&&◌, ℕ, zero, suc, ◌+◌, ◌*◌, ◌%◌, ◌<◌, ◌≤◌, List, [], ◌∷◌, length, refl, ap, sym, ◌∙◌, subst, arith, inl, inr, Some, pos, negsuc, ℤ}
 use Rattle.std.specs.Prelude.{Contains, ◌≤ℤ◌, ◌<ℤ◌, ◌+ℤ◌, ◌*ℤ◌}
 use Rattle.std.specs.List.{AllByRecursion}
@@ -171,7 +171,7 @@ through t u v a b = omega (arith, ints)
 before : (t u v : ℤ) → t ≤ℤ u → u <ℤ v → t ≤ℤ v
 before t u v a b = omega (arith, ints)
 
--- no word weighs so much where no least of the heaviest does
+-- no word weighs t or more where no least of the heaviest does
 abbrev NoneWeighs : Instance → Domains → ℕ → ℕ → List ℕ → List Weight → ℤ → Type 0
 NoneWeighs P D p len R y t = (w : List Symbol) → IsLeastHeaviest P D p len R y w → t ≤ℤ weight P y p w → ⊥
 
@@ -203,7 +203,7 @@ too_light P D p turns R y small none u long over clean =
           absurd (none_weighs P D p (turns * cells P) R y (pos turns *ℤ total P y) small none far.0 u (record { long = long; over = over; clean = clean }) heavy far.1))
     ]
 
--- a line without a cause stands
+-- a line without a cause holds
 
 abbrev HasNoCause : Instance → List ℕ → Domains → ℕ → Line → Type 0
 HasNoCause P named D n line = (why : LogRefusal) → LineCause P named D n line why → ⊥

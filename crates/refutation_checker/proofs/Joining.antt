@@ -23,7 +23,7 @@ use Rattle.refutation_log.proofs.LogLines.{some_bytes}
 abbrev pub Answer : Type 0
 Answer = Result Bool (Fail LogRefusal)
 
--- the answer is right behind any lines behind which the chunk stands
+-- the answer is right behind any lines behind which the chunk begins
 abbrev pub IsAnswerTo : Instance → List ℕ → Start → Answer → Type 0
 IsAnswerTo P R c a = (turn : Option Turn) (earlier : List Line) → StandsBehind P turn earlier c → IsJudged P R turn earlier c.bytes a
 
@@ -132,7 +132,7 @@ nothing_below : (P : Instance) (R : List ℕ) (turn : Option Turn) (size : ℕ) 
 nothing_below P R turn size earlier c below whole followed all =
     elim followed [ inl none ↦ none.0 | inr goes ↦ goes.1 all.lines (fit_from_sound P R turn earlier all.lines all.sound) all.text ]
 
--- the next chunk stands behind the lines that were judged
+-- the next chunk begins behind the lines that were judged
 goes_below : (P : Instance) (R : List ℕ) (turn : Option Turn) (size : ℕ) (earlier : List Line) (c d : Start) (below : List ℕ) (chunks : List Start) (whole : Bool) → IsFollowed P turn size earlier c below (d ∷ chunks) → (all : AreAllSound P R turn earlier c.bytes whole) → AreChunks P turn size (earlier ++ all.lines) below (d ∷ chunks)
 goes_below P R turn size earlier c d below chunks whole followed all =
     elim followed [

@@ -52,7 +52,7 @@ pub by_words : (P : Instance) (D : Domains) (line : Line) → LineFits P line �
 by_words P D (Free turns reward R y) fits h = absurd fits
 by_words P D line fits h = h
 
--- what the words tell under the domains of a walk, told under those of its lines
+-- what the words say under the domains of a walk, they say under those of its lines
 pub holds_there : (P : Instance) (D E : Domains) (line : Line) → LineFits P line → AreSame P D E → HoldsByWords P D line → IsTrue true ↔ HoldsByWords P E line
 holds_there P D E line fits same h = (λ yes. same_by_words P D E line fits same h, λ there. refl)
 

@@ -53,7 +53,7 @@ lesser_outside A B list (Some m) (Some n) f g =
           (subst (IsOutside (λ k. A k ⊎ B k) list) e (inr g.0.0, g.0.1), least)
     ]
 
--- the list holds what stands in another below a place
+-- the list holds what another has below a place
 abbrev pub HoldsBelow : List ℕ → List ℕ → ℕ → Type 0
 HoldsBelow list cited i = (m : ℕ) → m < i → Contains list (get_or cited m 0)
 
@@ -130,7 +130,7 @@ short_number P k r is h = subst (IsShort P) (same_Some h.0 r (sym h.1 ∙ is)) h
 abbrev pub AreShortBelow : Instance → List ℕ → ℕ → Type 0
 AreShortBelow P R i = (m : ℕ) → m < i → IsShortNumber P (get_or R m 0)
 
--- the rule of a number in the list is short, if the number stands below
+-- the rule of a number in the list is short, if the number's place is below
 short_below : (P : Instance) (R : List ℕ) (i k : ℕ) (r : Rule) → AreShortBelow P R i → (c : Contains R k) → c.0 < i → rule_of P k ≡ Some r → IsShort P r
 short_below P R i k r below c less is =
     short_number P k r is (subst (IsShortNumber P) (get_or_default R c.0 0 k c.1 ∙ c.2) (below c.0 less))

@@ -83,7 +83,7 @@ RefusesNone P R turn lines line = (why : LogRefusal) → Cause P (Reading (log_w
 abbrev Takes : Instance → List ℕ → Option Turn → List Line → List ℕ → Line → Type 0
 Takes P R turn lines line l = (line ≡ line_text P (raw P l)) × IsSoundNext P R turn lines l
 
--- a line that is refused for no cause is one that stands
+-- a line that is refused for no cause is a sound next line
 spelled_stands : (P : Instance) (R : List ℕ) (turn : Option Turn) (lines : List Line) (line : List ℕ) (written : RawLine) → RefusesNone P R turn lines line → ((l : Line) → Takes P R turn lines line l → ⊥) → (IsTree lines → ⊥) → IsWritten P line written → (o : Option Line) → line_of P written ≡ o → ⊥
 spelled_stands P R turn lines line written none goes part w None e = none (Refusals.Name (header_lines turn + length lines + 1)) (inr (part, (refl, (written, w, e))))
 spelled_stands P R turn lines line written none goes part w (Some l) e =

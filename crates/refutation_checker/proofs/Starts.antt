@@ -91,7 +91,7 @@ pub entered_not : (b : Bool) (A B : Type 0) → b ≡ false → MatchBool b A B 
 entered_not true A B e h = absurd (cc)
 entered_not false A B e h = h
 
--- some lines may stand for a side
+-- there are lines for either kind of side
 some_side : (b : Bool) → (first : List Line) × IsFirstSide b first
 some_side true = (Unfinished ∷ [], leaf_is_tree Unfinished tt)
 some_side false = ([], refl)

@@ -173,7 +173,7 @@ passed_none P splits bytes left e = record {
   };
 }
 
--- a line is passed that goes on inside the splits
+-- a line is passed that continues inside the splits
 pass_on : (P : Instance) (splits after : List UnreadSplit) (earlier lines : List Line) (left bytes rest : List ℕ) (count : ℕ) → KeepsLimits P → PassedUpTo P splits earlier lines left count → bytes ≢ [] → left ≡ bytes ++ rest → IsNextLine bytes rest
     → ((earlier : List Line) (l : Line) → EndInside P splits earlier → IsTextOf P bytes l → EndInside P after (earlier ++ l ∷ [])) → PassedUpTo P after earlier lines rest (count + 1)
 pass_on P splits after earlier lines left bytes rest count limits so some e next passes =

@@ -31,7 +31,7 @@ pub record AreAllSound (P : Instance) (named : List ℕ) (turn : Option Turn) (e
   pub text : bytes ≡ lines_text P lines
   pub tree : IsTrue whole ↔ IsTree (earlier ++ lines)
 
--- the bytes go on behind the text of such lines with a line that has this cause
+-- the bytes continue behind the text of such lines with a line that has this cause
 pub record IsChunkRefused (P : Instance) (named : List ℕ) (turn : Option Turn) (earlier : List Line) (bytes : List ℕ)
     (why : LogRefusal) : Type 0 where
   pub lines : List Line
@@ -53,7 +53,7 @@ pub record Start : Type 0 where
   pub bytes : List ℕ
   pub first : ℕ
 
--- they stand behind these lines
+-- the walk and the number are those behind these lines
 pub record StandsBehind (P : Instance) (turn : Option Turn) (earlier : List Line) (s : Start) : Type 0 where
   pub state : IsStateOf P turn earlier s.walk
   pub counted : s.first ≡ header_lines turn + length earlier + 1

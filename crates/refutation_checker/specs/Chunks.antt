@@ -18,7 +18,7 @@ feeds bytes = count_by (λ b. b == 10) bytes
 abbrev pub line_count : List ℕ → ℕ
 line_count bytes = feeds bytes + cond (slice_index bytes (length bytes - 1) == 10) 0 1
 
--- the first n bytes are so many lines, or all bytes, which hold fewer LF
+-- the first n bytes are `size` lines, or all bytes, which hold fewer LF
 abbrev pub EndsLines : List ℕ → ℕ → ℕ → Type 0
 EndsLines bytes size n = ((feeds (take n bytes) ≡ size) × (slice_index bytes (n - 1) ≡ 10))
     ⊎ ((n ≡ length bytes) × (feeds bytes < size))
@@ -30,7 +30,7 @@ IsLast P turn earlier bytes n =
     (n ≡ length bytes) ⊎ ((lines : List Line) → EachFits P lines → take n bytes ≡ lines_text P lines
     → IsEnded P turn (earlier ++ lines))
 
--- the chunk has the first lines of the bytes, so many, or all bytes where no further chunk is needed
+-- the chunk has the first `size` lines of the bytes, or all bytes where no further chunk is needed
 pub record HasFirstLines (P : Instance) (turn : Option Turn) (earlier : List Line) (size : ℕ) (bytes : List ℕ)
     (chunk : Start) : Type 0 where
   pub end : ℕ
@@ -46,14 +46,14 @@ abbrev pub IsJudgeable : Instance → Start → Type 0
 IsJudgeable P s = ((turn : Option Turn) × (earlier : List Line) × IsStateOf P turn earlier s.walk)
     × (s.first + length s.bytes < 2 ^ 31)
 
--- behind the lines of the chunk, whatever they are, so many lines more were counted and other splits are open, and the
--- walk of the rest stands there
+-- behind the lines of the chunk, whatever they are, as many lines more were counted and other splits are open, and the
+-- walk of the rest is the one there
 pub record LeadsTo (P : Instance) (start : State) (before after : List UnreadSplit) (chunk rest : Start) : Type 0 where
   pub passed : (done lines : List Line) → EndInside P before done → EachFits P lines → chunk.bytes ≡ lines_text P lines
       → (rest.first ≡ chunk.first + length lines) × EndInside P after (done ++ lines)
   pub walk : IsInto P start after (Some rest.walk)
 
--- the chunk is cut off the front of the bytes: it has so many lines, and the rest has what is left; or it has all
+-- the chunk is cut off the front of the bytes: it has `size` lines, and the rest has what is left; or it has all
 -- bytes, and no further chunk is needed
 abbrev pub IsCutOff : Instance → ℕ → State → List UnreadSplit → List UnreadSplit → Start → Start → Option Start → Type 0
 IsCutOff P size start before after all chunk None =
@@ -66,7 +66,7 @@ IsCutOff P size start before after all chunk (Some rest) =
     × ((end : ℕ) × EndsLines all.bytes size end × (chunk.bytes ≡ take end all.bytes)) × IsJudgeable P rest
     × LeadsTo P start before after chunk rest
 
--- the chunks, of so many lines each, hold the bytes behind the earlier lines, one after another. Each stands behind the
+-- the chunks, of `size` lines each, hold the bytes behind the earlier lines, one after another. Each begins behind the
 -- lines of those before it, whatever these are: where they are none, nothing is said of it
 abbrev pub AreChunks : Instance → Option Turn → ℕ → List Line → List ℕ → List Start → Type 0
 AreChunks P turn size earlier bytes [] = bytes ≡ []
@@ -84,6 +84,6 @@ joined_from whole [] = Ok whole
 joined_from whole (Ok last ∷ answers) = joined_from last answers
 joined_from whole (Err fail ∷ answers) = Err fail
 
--- so many chunks of so many lines each, of which the last may have fewer, are needed for the bytes at most
+-- no more chunks than the bytes need at `size` lines each, where the last chunk may have fewer
 abbrev pub IsFew : ℕ → ℕ → List ℕ → Type 0
 IsFew chunks size bytes = chunks * size < line_count bytes + size

@@ -31,7 +31,7 @@ abbrev pub IsIdleSplit : Instance → Domains → Line → Type 0
 IsIdleSplit P D (Split p x) = is_idle P D p x.number ≡ true
 IsIdleSplit P D leaf = ⊥
 
--- the lowest cause to refuse the line as text line n, but for a word that escapes it
+-- the lowest cause to refuse the line as text line n, other than a word that escapes it
 abbrev pub PlainCause : Instance → Option ℕ → List ℕ → Domains → ℕ → Line → LogRefusal → Type 0
 PlainCause P goal named D n line (Refusals.Unnamed i k) = (i ≡ n) × IsLeast (IsUnnamed P named (Cites P line)) k
 PlainCause P goal named D n line (Refusals.Idle i) = (i ≡ n) × IsIdleSplit P D line
@@ -42,7 +42,7 @@ PlainCause P goal named D n line (Refusals.Fails i) = (i ≡ n) × CitesOnlyName
 PlainCause P goal named D n line (Refusals.Unfinished i) = (i ≡ n) × (line ≡ Unfinished)
 PlainCause P goal named D n line why = ⊥
 
--- which cause a line of its kind has where it doesn't stand
+-- which cause a line of its kind has where it doesn't hold
 abbrev pub IsPlainFailure : ℕ → Line → LogRefusal → Type 0
 IsPlainFailure n (Split p x) why = why ≡ Refusals.Idle n
 IsPlainFailure n Unfinished why = why ≡ Refusals.Unfinished n

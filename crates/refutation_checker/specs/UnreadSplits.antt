@@ -52,7 +52,7 @@ abbrev pub IsEnded : Instance → Option Turn → List Line → Type 0
 IsEnded P turn lines = HasTree lines ⊎ HasIdleSplit P turn lines
 
 -- some lines end inside these splits, and a walk started in front of the first of them: then either one is an idle
--- split, or this walk stands behind them
+-- split, or this walk is behind them
 abbrev pub IsInto : Instance → State → List UnreadSplit → Option State → Type 0
 IsInto P start splits None = (turn : Option Turn) (lines : List Line) → IsStateOf P turn [] start
     → EndInside P splits lines → HasIdleSplit P turn lines
@@ -60,7 +60,7 @@ IsInto P start splits (Some w) = (turn : Option Turn) (lines : List Line) → Is
     → EndInside P splits lines → IsStateOf P turn lines w
 
 -- the bytes were passed behind lines that end inside splits. If they are the text of lines that fit, then either no
--- line behind them is the first that is refused, or they are so many lines, and end inside other splits
+-- line behind them is the first that is refused, or they are `count` lines, and end inside other splits
 abbrev pub ArePassed : Instance → State → List UnreadSplit → List UnreadSplit → List ℕ → Option ℕ → Type 0
 ArePassed P start before after bytes None =
     (turn : Option Turn) (done lines : List Line) → IsStateOf P turn [] start → EndInside P before done

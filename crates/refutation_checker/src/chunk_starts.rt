@@ -193,7 +193,7 @@ fn walk_behind<'a>(
     }
 }
 
-// Cuts a chunk of so many lines off the front, and gives what is left; None where no further chunk is needed, and then
+// Cuts a chunk of `size` lines off the front, and gives what is left; None where no further chunk is needed, and then
 // the chunk has all lines.
 fn cut_off<'a>(
     alloc: Global,
@@ -249,7 +249,7 @@ fn numbered(chunk: Chunk, number: u32) -> Chunk
     }
 }
 
-// Chunks of so many lines each. Where a line is seen to be refused, the chunk that holds it has all further lines, and
+// Chunks of `size` lines each. Where a line is seen to be refused, the chunk that holds it has all further lines, and
 // is the last.
 fn chunks_of<'a>(
     alloc: Global,

@@ -74,7 +74,7 @@ impl<'a> Judge<'a> {
 
     /// Reads the next line of the tree of a log without a goal from its text, line `number` of all, and judges it under
     /// the domains there: None where it is refused for no cause, and then the walk has read it.
-    /// After a refusal or want of memory the walk is of no use.
+    /// After a refusal or want of memory the walk can't be used any longer.
     pub fn read(
         &mut self,
         alloc: Global,
@@ -104,7 +104,8 @@ impl<'a> Judge<'a> {
     }
 
     /// Reads the next line of a log's tree from its text, line `number` of all, and judges it under the domains there.
-    /// The walk has read the line where it is refused for no cause; after a refusal or want of memory it is of no use.
+    /// The walk has read the line where it is refused for no cause; after a refusal or want of memory it can't be used
+    /// any longer.
     pub fn read_line(
         &mut self,
         alloc: Global,
@@ -255,7 +256,7 @@ impl<'a> Judge<'a> {
         Ok(found)
     }
 
-    // The least of the heaviest words of so many turns that are clean for the rules, where it
+    // The least of the heaviest words of `turns` turns that are clean for the rules, where it
     // weighs enough.
     fn bound_escape(
         &mut self,
@@ -282,7 +283,7 @@ impl<'a> Judge<'a> {
         Ok(found)
     }
 
-    // The least of the heaviest words of so many turns that are clean for the rules, with a reward
+    // The least of the heaviest words of `turns` turns that are clean for the rules, with a reward
     // for each free weekend, where it weighs enough.
     fn free_escape(
         &mut self,

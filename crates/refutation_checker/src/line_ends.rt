@@ -2,10 +2,10 @@
 ghost use Rattle.std.specs.Prelude.{◌≡◌, ◌+◌, ◌-◌, ◌<◌, ◌≤◌, length, take, slice_index};
 ghost use Rattle.refutation_checker.specs.Chunks.{EndsLines, line_count, feeds};
 
-// The bytes of a block, whose LF are few enough to be counted in a byte; so many bytes are counted at once.
+// The bytes of a block, which are counted at once: few enough for the number of their LF to fit a byte.
 const BLOCK: usize = 240;
 
-/// Where the first so many lines end, behind the LF of the last one; at the end where there are fewer. Blocks in front
+/// Where the first `size` lines end, behind the LF of the last one; at the end where there are fewer. Blocks in front
 /// of the one with that LF are only counted.
 #[tactic(auto, using(crate::proofs::Feeds::fed_in_all))]
 pub fn lines_end(bytes: &[u8], size: usize) -> usize
@@ -29,7 +29,7 @@ pub fn lines_end(bytes: &[u8], size: usize) -> usize
     bytes.len()
 }
 
-// Where the first so many lines of a block end, which has as many LF.
+// Where the first `size` lines of a block end, which has `size` LF at least.
 #[tactic(auto, using(crate::proofs::Feeds::fed, crate::proofs::Feeds::not_fed, crate::proofs::Feeds::fed_in_all))]
 fn lines_end_in(block: &[u8], size: usize) -> usize
     requires some { 1 ≤ size }

@@ -1,4 +1,4 @@
-// Whether a line stands by itself: what can be judged without searching for a word.
+// Whether a line holds by itself: what can be judged without searching for a word.
 ghost use Rattle.std.specs.Prelude.{◌≡◌, ◌<◌, ◌↔◌, length, IsTrue, false, None, MatchOption};
 ghost use Rattle.refutation_terms.specs.Log.{GoalFits, HoldsFor, LineFitsFor};
 ghost use Rattle.refutation_terms.specs.declared.lines.Line.TheVariants.{Few};
@@ -61,7 +61,7 @@ fn few_stands(problem: &Problem, goal: Option<u32>, doms: &Domains) -> bool
     }
 }
 
-// The cause of a line that doesn't stand by itself.
+// The cause of a line that doesn't hold by itself.
 fn plain_failure(line: &Line, number: u32) -> LogRefusal
     ensures { IsPlainFailure number line.now result }
 {
@@ -72,7 +72,7 @@ fn plain_failure(line: &Line, number: u32) -> LogRefusal
     }
 }
 
-/// The lowest cause to refuse a line as text line `number`, but for a word that escapes a leaf; None exactly
+/// The lowest cause to refuse a line as text line `number`, other than a word that escapes a leaf; None exactly
 /// where there is no other cause. It goes by a rule that isn't named, an idle split, a rule of a list that isn't short,
 /// a window, a day or a few leaf that doesn't hold, and a case that wasn't worked out.
 pub fn plain_refusal(

@@ -63,7 +63,7 @@ fn pass_leaf(splits: &mut Vec<UnreadSplit>) -> bool
     false
 }
 
-/// Passes a line: a split is opened, and any other line is taken for a leaf. Whether the tree goes on behind it.
+/// Passes a line: a split is opened, and any other line is taken for a leaf. Whether the tree continues behind it.
 pub fn pass_line<'a>(splits: &mut Vec<UnreadSplit<'a>>, line: &'a [u8]) -> Result<bool, AllocError>
     requires { 0 < length line.now }
     ensures { IfOk result (λ more. (P : Instance) (earlier : List Line) (l : Line) →
