@@ -27,7 +27,7 @@ line_both P text why front line rest read none whole next cause by_reading = (
   record { front = front; line = line; rest = rest; no_cause = none; whole = whole; is_line = next; cause = cause },
 )
 
--- what is left behind a front ends, or goes on with a line
+-- what is left behind a front ends, or continues with a line
 ended : (front old : List ℕ) → old ≡ [] → front ++ old ≡ front
 ended front old e = ap (λ t. front ++ t) e ∙ append-nil front
 

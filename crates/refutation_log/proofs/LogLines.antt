@@ -51,7 +51,7 @@ pub open_few : (count : ℕ) (line : Line) → open_after count line ≤ count +
 open_few count (Split p x) = omega arith
 open_few count leaf = omega arith
 
--- so many trees are open behind the lines
+-- `count` trees are open behind the lines
 abbrev pub Walks : List Line → ℕ → Type 0
 Walks lines count = (more : List Line) → after_trees 1 (lines ++ more) ≡ after_trees count more
 

@@ -1,4 +1,4 @@
--- Lines that are spelled, or stand in a log, fit the problem.
+-- Lines that are spelled, or are in a log, fit the problem.
 use Rattle.std.proofs.Common.{◌≡◌, ℕ, List, Option, Some, None}
 use Rattle.std.specs.Prelude.{slice_get}
 use Rattle.rwsp_terms.specs.Instance.{Instance}

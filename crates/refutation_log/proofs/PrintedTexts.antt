@@ -45,7 +45,7 @@ pub joined_lines : (P : Instance) (lines : List Line) → flat_map (line_piece P
 joined_lines P [] = refl
 joined_lines P (line ∷ lines) = ap (λ t. line_piece P line ++ t) (joined_lines P lines)
 
--- a text that begins with a word, and goes on with words that have a blank in front
+-- a text that begins with a word, and continues with words that have a blank in front
 begin : (a w b : List ℕ) → b ≡ a ++ w → b ≡ a ++ (w ++ spaced [])
 begin a w b e = e ∙ ap (λ t. a ++ t) (sym (append-nil w))
 

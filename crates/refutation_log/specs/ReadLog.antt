@@ -21,7 +21,7 @@ IsReadCause (Refusals.Name i) = Unit {0}
 IsReadCause (Refusals.Extra i) = Unit {0}
 IsReadCause why = ⊥
 
--- lines that fit the problem, of which none stands behind a whole tree
+-- lines that fit the problem, of which none is behind a whole tree
 pub record IsReadSoFar (P : Instance) (g : Log) : Type 0 where
   pub fits : Fits P g
   pub in_tree : (k : ℕ) → k < length g.lines → IsTree (take k g.lines) → ⊥
@@ -33,7 +33,7 @@ IsRead P (Versioned has_turn) = Unit {0}
 IsRead P (BeforeTurn named) = AreRules P named
 IsRead P (Reading g) = IsReadSoFar P g
 
--- the text goes on behind such a front with a line that has this cause
+-- the text continues behind such a front with a line that has this cause
 pub record IsUnreadLine (P : Instance) (text : List ℕ) (why : LogRefusal) : Type 0 where
   pub front : Front
   pub line : List ℕ
@@ -60,7 +60,7 @@ IsUnread P text why = IsUnreadLine P text why
 abbrev pub IsHeaderRefused : Instance → List ℕ → LogRefusal → Type 0
 IsHeaderRefused P text why = IsUnread P text why × IsRefused P text why
 
--- what is left of a text ends, or goes on with a line that has such a cause
+-- what is left of a text ends, or continues with a line that has such a cause
 abbrev pub StopsFor : (List ℕ → LogRefusal → Type 0) → List ℕ → LogRefusal → Type 0
 StopsFor HasCause left Refusals.Ends = left ≡ []
 StopsFor HasCause left why =
@@ -84,7 +84,7 @@ IsTreeLineRefused P bytes n (Refusals.Form i) = (i ≡ n) × IsLineRefused P byt
 IsTreeLineRefused P bytes n (Refusals.Name i) = (i ≡ n) × IsLineRefused P bytes Lines.Name
 IsTreeLineRefused P bytes n why = ⊥
 
--- how many trees are open behind a line before which so many are
+-- how many trees are open behind a line, before which n are
 abbrev pub open_after : ℕ → Line → ℕ
 open_after n (Split p x) = n + 1
 open_after n leaf = n - 1

@@ -15,7 +15,7 @@ use Rattle.refutation_terms.specs.LineKinds.{most_turns, split_kind, window_kind
 use Rattle.refutation_log.specs.declared.refusal.LineRefusal.{LineRefusal}
 use Rattle.refutation_log.specs.declared.refusal.LineRefusal.TheVariants.{Form, Name}
 
--- what stands behind the first word
+-- what is behind the first word
 
 unfoldable pub split_at : Instance → Words → Option RawLine
 split_at P ws = read (split_kind P).fields (split_kind P).make ws

@@ -30,7 +30,7 @@ pub fn lines_of_header(turn: Option<Turn>) -> u32
     }
 }
 
-/// What stands in front of a log's lines, and the bytes of these lines.
+/// What is in front of a log's lines, and the bytes of these lines.
 #[derive(Debug, Drop)]
 pub struct Header<'a> {
     pub named: RuleList,
@@ -75,7 +75,7 @@ pub fn read_header<'a>(
     }
 }
 
-/// What stands in front of a free log's lines, and the bytes of these lines.
+/// What is in front of a free log's lines, and the bytes of these lines.
 #[derive(Debug, Drop)]
 pub struct FreeHeader<'a> {
     pub named: RuleList,

@@ -209,7 +209,7 @@ fn read_day(problem: &Problem, fields: &mut Fields) -> Result<Line, Fail<LineRef
     }
 }
 
-// A position, a number of at most so much, and the word that begins a list of rules.
+// A position, a number of at most `high`, and the word that begins a list of rules.
 #[tactic(auto, unfolding(crate::specs::Reading::head_at))]
 fn head(problem: &Problem, fields: &mut Fields, high: u32) -> Option<(u32, u32)>
     requires { high < 10 ^ 9 }

@@ -9,7 +9,7 @@ use std::alloc::{AllocError, Global};
 use std::marker::Model;
 
 /// The rules that a refutation names, its turn if it has one, its goal if it has one, and its lines, which are one
-/// whole tree. A log with a goal says that no roster has so many free weekends.
+/// whole tree. A log with a goal says that no roster has as many free weekends as the goal.
 #[derive(Debug, Drop)]
 pub struct Log {
     named: RuleList,
@@ -109,7 +109,7 @@ impl Log {
         (self.named, self.turn, self.goal, self.lines)
     }
 
-    /// The same log once more.
+    /// A copy of the log.
     pub fn copy(&self) -> Result<Log, AllocError>
         ensures { IfOk result (λ same. same ≡ self.now) }
     {
@@ -124,7 +124,7 @@ impl Log {
     }
 }
 
-/// The same line once more.
+/// A copy of the line.
 pub fn copy_line(line: &Line) -> Result<Line, AllocError>
     ensures { IfOk result (λ same. same ≡ line.now) }
 {
@@ -183,7 +183,7 @@ pub fn copy_line(line: &Line) -> Result<Line, AllocError>
     }
 }
 
-// The same lines once more.
+// A copy of the lines.
 fn copy_lines(alloc: Global, lines: &[Line]) -> Result<Vec<Line>, AllocError>
     ensures { IfOk result (λ same. same.items ≡ lines.now) }
 {
