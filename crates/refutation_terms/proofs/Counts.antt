@@ -47,7 +47,7 @@ in_column P i j lt day =
     let less : j - 1 < P.days = let a : 0 < j = day.0 in let b : j ≤ P.days = day.1 in omega (arith, a, b) in
     omega (arith, rows, less)
 
--- what holds the symbol for sure holds it, and what holds it can hold it
+-- what certainly holds the symbol holds it, and what holds it can hold it
 pub fixed-weeks_with : (P : Instance) (D : Domains) (s : List Symbol) (j x : ℕ) → IsDay P j → Within P D s → fixed P D j x ≤ weeks_with P s x j
 fixed-weeks_with P D s j x day w =
     count_mono (λ i. is_only P D (i * P.days + (j - 1)) x) (λ i. (get_or s (i * P.days + (j - 1)) off_symbol).number == x) 0 P.weeks

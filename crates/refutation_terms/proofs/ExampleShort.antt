@@ -40,7 +40,7 @@ block_rules_are_short days weeks demand block off work a b c r =
       λ h. six_are_short days weeks demand block off work r h.0 h.1,
     )
 
--- what is clean for all short rules is so for some of them, and for another list of all
+-- what is clean for all short rules is clean for some of them, and for another list of all
 pub clean_for_some : (P : Instance) (short R : List ℕ) (u : List Symbol) → NamesShortRules P short → NamesShortOnly P R → Clean P short u → Clean P R u
 clean_for_some P short R u all only clean before part after e r named bad =
     clean before part after e r ((all r).1 (named-IsRule P R r named, only r named)) bad

@@ -1,4 +1,5 @@
--- The free weekends of rosters and of words that go through one some times, and why leaves of free logs leave no roster.
+-- The free weekends of rosters and of words that go through one some times, and why leaves of free logs leave no
+-- roster.
 use Rattle.std.proofs.Common.{◌≡◌, ◌⊎◌, ℕ, zero, suc, ◌+◌, ◌*◌, ◌%◌, ◌<◌, ◌≤◌, List, length, get_or, refl, ap, sym, ◌∙◌, subst, arith, inl, inr, Bool, true, false, cond, IsTrue, ◌&&◌, ◌==◌, count_by, pos, ℤ, mul-le-mul_left}
 use Rattle.std.specs.Prelude.{nat_lt, ◌+ℤ◌, ◌*ℤ◌, ◌≤ℤ◌}
 use Rattle.std.specs.List.{range_with_len}
@@ -43,7 +44,7 @@ count_range f a (suc m) n =
     let front : count_by f (range_with_len a (suc m)) ≡ cond (f a) 1 0 + count_by f (range_with_len (a + 1) m) = count_next f a m in
     omega arith
 
--- so many periods of a periodic count
+-- a count over c periods is c times that over one
 count_periods : (f : ℕ → Bool) (m : ℕ) → ((i : ℕ) → f (i + m) ≡ f i) → (c : ℕ) → count_by f (range_with_len 0 (c * m)) ≡ c * count_by f (range_with_len 0 m)
 count_periods f m h zero =
     let e : zero * m ≡ 0 = omega arith in
@@ -182,7 +183,7 @@ few_leaves_none P goal D s week has w few =
     apart goal (count_by free (range_with_len 0 P.weeks)) (count_by (may_be_free D) (range_with_len 0 P.weeks))
     (subst (λ n. goal ≤ n) (free_weekends_weeks P s week w.is_roster) has) fewer few
 
--- so many times a sum
+-- c times a sum
 times_sum : (c : ℕ) (t : ℤ) (n : ℕ) → pos c *ℤ (t +ℤ pos n) ≡ (pos c *ℤ t) +ℤ pos (c * n)
 times_sum zero t n =
     let a : pos 0 *ℤ (t +ℤ pos n) ≡ pos 0 = zero-*ℤ (t +ℤ pos n) in
@@ -204,8 +205,8 @@ rewarded turns reward goal free le =
 enough : (a b : ℤ) (m n : ℕ) → a ≤ℤ b → m ≤ n → (a +ℤ pos m) ≤ℤ (b +ℤ pos n)
 enough a b m n x y = omega (arith, ints)
 
--- where a roster has the goal and meets the day rules that the weights bear on, a word that goes through it some times
--- weighs at least so many times what the demand and the goal ask for
+-- where a roster has the goal and meets the day rules that the weights bear on, a word that goes through it `turns`
+-- times weighs at least `turns` times what the demand and the goal ask for
 pub window_is_free_enough : (P : Instance) (y : List Weight) (s : List Symbol) (turns reward goal : ℕ) → P.days ≡ 7 → IsRoster P s → MeetsWeighedDays P y s → goal ≤ free_weekends s → (pos turns *ℤ free_total P y reward goal) ≤ℤ free_weight P y reward 0 (window s 0 (turns * cells P))
 window_is_free_enough P y s turns reward goal week roster met has =
     let u = window s 0 (turns * cells P) in

@@ -80,7 +80,7 @@ goes_fine P goal f z zs (l ∷ ls) why w n e h c =
     let first : z ≡ raw_fields P (raw P l) = cc in
     next_line_fine P (Some goal) f l ls why w n h (subst (λ ws. FreeCause P (ReadingFree goal f) (text_of ws) why) first c)
 
--- no front goes on with a line that has a cause
+-- no front continues with a line that has a cause
 fine : (P : Instance) → IsWritable P → HasNames P → (F G : FreeFront) (z : Words) (zs : List Words) (why : LogRefusal) → HasNoFreeCause P F → HasNoFreeCause P G → free_front_fields P G ≡ free_front_fields P F ++ z ∷ zs → FreeCause P F (text_of z) why → ⊥
 fine P w n FreeStart FreeStart z zs why hf hg e c = cc
 fine P w n FreeStart FreeVersioned z zs why hf hg e c = let first : z ≡ free_version_fields = cc in version_fine why (subst (λ ws. FreeVersionCause (text_of ws) why) first c)

@@ -1,4 +1,4 @@
--- A text begins with one front of so many lines, and the line behind it is one of the same text's other fronts.
+-- A text begins with one front of a number of lines, and the line behind it is one of the same text's other fronts.
 use Rattle.std.proofs.Common.{◌≡◌, ◌≢◌, ◌⊎◌, ℕ, ◌+◌, ◌<◌, List, [], ◌∷◌, ◌++◌, length, get_or, map, refl, ap, sym, ◌∙◌, subst, append_assoc, append-nil, arith, inl, inr, Bool, true, false, Option, Some, None}
 use Rattle.std.specs.Prelude.{codes}
 use Rattle.std.specs.List.{AllByRecursion}
@@ -19,7 +19,7 @@ use Rattle.refutation_terms.proofs.Texts.{header_fields, lines_fields, log_field
 versions_differ : version_fields true ≡ version_fields false → ⊥
 versions_differ e = let clash : true ≡ false = version_same true false e in cc
 
--- a log that goes on where another ends
+-- a log that continues where another ends
 record GoesOn (P : Instance) (named : List ℕ) (turn : Option Turn) (lines : List Line) (named' : List ℕ) (turn' : Option Turn) (lines' : List Line) (zs : List Words) : Type 0 where
   more : List Line
   same_named : named ≡ named'
@@ -64,7 +64,7 @@ log_same P g h w n hg hh e =
     let lines : g.lines ++ s.0 ≡ g.lines = ap (λ m. g.lines ++ m) none ∙ append-nil g.lines in
     sym (s.1 ∙ ap (λ i. record { named = g.named; turn = g.turn; goal = g.goal; lines = i }) lines)
 
--- a free log that goes on where another ends
+-- a free log that continues where another ends
 pub record FreeGoesOn (P : Instance) (goal other : ℕ) (g h : Log) (zs : List Words) : Type 0 where
   pub more : List Line
   pub same_goal : goal ≡ other
@@ -159,7 +159,7 @@ turn_next : (P : Instance) (named R : List ℕ) (turn : Option Turn) (lines : Li
 turn_next P named R None lines zs e = let clash : version_fields false ≡ version_fields true = cc in absurd (versions_differ (sym clash))
 turn_next P named R (Some t) lines zs e = let rest : turn_fields (name_of P t.x) t.day ∷ lines_fields P lines ≡ zs = cc in record { turned = t; is_turn = refl; whole = sym rest }
 
--- no front of two lines goes on behind a log
+-- no front of two lines continues behind a log
 too_long : (P : Instance) (named R : List ℕ) (turn : Option Turn) (lines : List Line) (z : Words) (zs : List Words) → version_fields true ∷ rules_fields R ∷ [] ≡ header_fields P named turn ++ lines_fields P lines ++ z ∷ zs → ⊥
 too_long P named R None lines z zs e = let clash : version_fields true ≡ version_fields false = cc in versions_differ clash
 too_long P named R (Some t) lines z zs e = cc
@@ -191,7 +191,7 @@ module _ (P : Instance) (w : IsWritable P) (n : HasNames P) (Good : Front → Ty
   same_front (Reading f) (BeforeTurn R) hf hg e = let t = turn_next P f.named R f.turn f.lines [] (sym e) in let clash : [] ≡ turn_fields (name_of P t.turned.x) t.turned.day ∷ lines_fields P f.lines = t.whole in absurd (cc)
   same_front (Reading f) (Reading g) hf hg e = ap Reading (log_same P f g w n (fits f hf) (fits g hg) e)
 
-  -- where the lines that stand in a good front have no cause there, no front goes on with a line that has one
+  -- where the lines of a good front have no cause there, no front continues with a line that has one
   module _ (C : Front → List ℕ → LogRefusal → Type 0)
       (version_fine : (b : Bool) (why : LogRefusal) → C Start (version_text b) why → ⊥)
       (rules_fine : (b : Bool) (R : List ℕ) (why : LogRefusal) → AreRules P R → C (Versioned b) (rules_text R) why → ⊥)

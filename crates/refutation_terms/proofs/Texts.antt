@@ -94,7 +94,7 @@ same_tree_line P goal a b w n ha hb e =
     let both : Some a ≡ Some b = sym (spell_for P goal a n ha).1 ∙ ap (line_of P) same ∙ (spell_for P goal b n hb).1 in
     let whole : a ≡ b = cc in whole
 
--- lines that go on where others end
+-- lines that continue where others end
 pub lines_longer : (P : Instance) (goal : Option ℕ) (a b : List Line) (zs : List Words) → IsWritable P → HasNames P → AllByRecursion (LineFitsFor P goal) a → AllByRecursion (LineFitsFor P goal) b → lines_fields P b ≡ lines_fields P a ++ zs → (more : List Line) × (b ≡ a ++ more) × (zs ≡ lines_fields P more)
 lines_longer P goal [] b zs w n ha hb e = (b, refl, sym e)
 lines_longer P goal (x ∷ a) [] zs w n ha hb e = absurd (cc)

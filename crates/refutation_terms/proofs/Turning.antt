@@ -85,7 +85,7 @@ holds_in-period P s x j i long =
     let around : (i * P.days + (j - 1) + cells P) % length s ≡ (i * P.days + (j - 1)) % length s = ap (λ m. (i * P.days + (j - 1) + m) % length s) (sym long) ∙ add-mod_right (i * P.days + (j - 1)) (length s) in
     ap (λ q. (cell s q).number == x) e ∙ ap (λ r. (get_or s r off_symbol).number == x) around
 
--- within the weeks of the roster a cell is where it stands
+-- within the weeks of the roster a cell is the symbol at its position
 pub cell-within : (s : List Symbol) (q : ℕ) → q < length s → cell s q ≡ get_or s q off_symbol
 cell-within s q lt = ap (λ r. get_or s r off_symbol) (mod-eq_of_lt lt)
 

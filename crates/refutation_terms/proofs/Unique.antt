@@ -48,7 +48,7 @@ got_seam (x ∷ xs) ys line = got_seam xs ys line
 take_all : (xs : List Line) → take (length xs) xs ≡ xs
 take_all xs = ap (take (length xs)) (sym (append-nil xs)) ∙ take-append_seam xs []
 
--- a line that holds behind a log, in which it stands without a cause, is refused for none
+-- a line of a log that is sound so far is refused for no cause behind the lines before it
 tree_line_fine : (P : Instance) (goal : Option ℕ) (f : Log) (line : Line) (more : List Line) (n : ℕ) (why : LogRefusal) → IsWritable P → HasNames P → IsSoundSoFarFor P goal (record { named = f.named; turn = f.turn; goal = f.goal; lines = f.lines ++ line ∷ more }) → TreeCauseFor P goal f.named (domains_at P f.turn f.lines (length f.lines)) n (line_text P (raw P line)) why → ⊥
 tree_line_fine P goal f line more n why w m h c =
     let k = length f.lines in
@@ -59,7 +59,7 @@ tree_line_fine P goal f line more n why w m h c =
     subst (λ ls. HoldsFor P goal (λ p z. opening P f.turn p z && lines_leave ls p z) line) before (h.holds k line here) in
     no_level P goal f.named D n line why w m (h.grounded.fits.lines k line here) holds (λ r cites. h.grounded.named k line r here cites) (h.grounded.short k line here) (level_of_for P goal f.named D n (line_text P (raw P line)) why c)
 
--- and a whole tree isn't behind which it stands
+-- and the lines before it aren't a whole tree
 tree_not_before : (P : Instance) (goal : Option ℕ) (f : Log) (line : Line) (more : List Line) → IsSoundSoFarFor P goal (record { named = f.named; turn = f.turn; goal = f.goal; lines = f.lines ++ line ∷ more }) → IsTree f.lines → ⊥
 tree_not_before P goal f line more h t =
     let short : length f.lines < length (f.lines ++ line ∷ more) = omega (arith, length-append f.lines (line ∷ more)) in

@@ -75,7 +75,7 @@ turn_weight P y s roster =
     ∙ sum_same (λ k. int_sum_by (λ i. cell_weight P y s (i * P.days + k)) (range_with_len 0 P.weeks)) (λ k. day_weight P y s (1 + k)) 0 P.days (λ k le lt. column_weight P y s k roster (omega (arith, lt)))
     ∙ sym (sum_shift (day_weight P y s) 1 0 P.days)
 
--- a window of whole turns weighs so many times what the days weigh
+-- a window of whole turns weighs `turns` times what the days weigh
 pub turns_weight : (P : Instance) (y : List Weight) (s : List Symbol) (p turns : ℕ) → IsRoster P s → weight P y p (window s p (turns * cells P)) ≡ pos turns *ℤ int_sum_by (day_weight P y s) (range_with_len 1 P.days)
 turns_weight P y s p turns roster =
     weight-window P y s p (turns * cells P)
@@ -110,7 +110,7 @@ days_weigh_enough P y s met =
     (λ j le lt. sum_le (λ x. least_weight P y j x) (λ x. weeks_weight P y s j x) 0 (shift_count P + 1)
     (λ x low high. weeks_weigh_enough P y s j x met (omega (arith, le), omega (arith, lt)) (omega (arith, high)) (weighs_or_not (weight_at y j x))))
 
--- where the day rules are met that the weights bear on, a window of whole turns weighs at least so many times the total
+-- where the day rules are met that the weights bear on, a window of whole turns weighs at least `turns` times the total
 pub window_weighs_enough : (P : Instance) (y : List Weight) (s : List Symbol) (p turns : ℕ) → IsRoster P s → MeetsWeighedDays P y s → (pos turns *ℤ total P y) ≤ℤ weight P y p (window s p (turns * cells P))
 window_weighs_enough P y s p turns roster met =
     subst (λ z. (pos turns *ℤ total P y) ≤ℤ z) (sym (turns_weight P y s p turns roster))

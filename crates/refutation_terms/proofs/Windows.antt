@@ -13,7 +13,7 @@ use Rattle.rwsp_terms.specs.Rules.{Meets}
 use Rattle.rwsp_terms.proofs.Windows.{length-window, window-add}
 use Rattle.refutation_terms.specs.Word.{Domains, Within, Over, Clean}
 
--- equal places round the cycle go on equally
+-- positions that are equal round the cycle are equal k days later, too
 mod-more : (p q k m : ℕ) → p % m ≡ q % m → (p + k) % m ≡ (q + k) % m
 mod-more p q k m e = sym (mod-add-mod p m k) ∙ ap (λ r. (r + k) % m) e ∙ mod-add-mod q m k
 

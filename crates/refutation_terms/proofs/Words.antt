@@ -77,7 +77,7 @@ clean_front P R u v clean h =
     let b = has_bad_end-true P R u h in
     clean b.0 b.1 v (ap (λ w. w ++ v) b.2) b.3.0 b.3.1 b.3.2
 
--- a test of every word of n days behind a front, from position p on, but for those with a bad end on the way
+-- a test of every word of n days behind a front, from position p on, except those with a bad end on the way
 abbrev pub every : Instance → Domains → List ℕ → (List Symbol → Bool) → ℕ → ℕ → List Symbol → Bool
 every P D R test p zero front = test front
 every P D R test p (suc n) front =

@@ -164,7 +164,7 @@ abbrev pub searched_weights : List Weight
 searched_weights =
     weight_on 1 0 (negsuc 0) ∷ weight_on 1 1 (pos 1) ∷ weight_on 2 0 (negsuc 0) ∷ weight_on 2 1 (pos 1) ∷ []
 
--- D weighs so much on each of two days
+-- D weighs `value` on each of two days
 abbrev pub on_both_days : ℤ → List Weight
 on_both_days value = weight_on 1 1 value ∷ weight_on 2 1 value ∷ []
 
@@ -276,7 +276,7 @@ late_bound_log =
       lines = Split 1 shift_D ∷ Window 1 0 2 ∷ Day 2 shift_D false ∷ [];
     }
 
--- two cells in which no D may stand, with blocks of any length
+-- two cells in which no D may be, with blocks of any length
 abbrev pub none_wanted : Instance
 none_wanted = one_shift 1 2 (from_to 0 0 ∷ []) (from_to 1 9) (from_to 1 9) (from_to 1 9)
 

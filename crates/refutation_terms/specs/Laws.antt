@@ -165,7 +165,7 @@ PassingLeavesNoRoster =
     (P : Instance) (goal : Option ℕ) (g : Log) (s : List Symbol)
     → PassesFor P goal g → Meets P g.named s → HasGoal goal s → ⊥
 
--- a roster of weeks of seven days has so many free weekends as weeks with days 6 and 7 off
+-- a roster of weeks of seven days has as many free weekends as weeks with days 6 and 7 off
 abbrev pub FreeWeekendsAreWeeks : Type 0
 FreeWeekendsAreWeeks =
     (P : Instance) (s : List Symbol) → P.days ≡ 7 → IsRoster P s

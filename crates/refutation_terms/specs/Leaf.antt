@@ -13,7 +13,7 @@ use Rattle.refutation_terms.specs.Word.{Domains, Over, Clean, weight, total}
 abbrev pub is_only : Instance → Domains → ℕ → ℕ → Bool
 is_only P D p x = D p x && list_all (λ z. (z == x) || not (D p z)) (range_with_len 0 (shift_count P + 1))
 
--- how many positions of a day's column hold the symbol for sure: it is alone there
+-- how many positions of a day's column certainly hold the symbol: it is alone there
 abbrev pub fixed : Instance → Domains → ℕ → ℕ → ℕ
 fixed P D j x = count_by (λ i. is_only P D (i * P.days + (j - 1)) x) (range_with_len 0 P.weeks)
 
@@ -21,7 +21,7 @@ fixed P D j x = count_by (λ i. is_only P D (i * P.days + (j - 1)) x) (range_wit
 abbrev pub possible : Instance → Domains → ℕ → ℕ → ℕ
 possible P D j x = count_by (λ i. D (i * P.days + (j - 1)) x) (range_with_len 0 P.weeks)
 
--- more positions of the day hold the symbol for sure than it may have
+-- more positions of the day certainly hold the symbol than it may have
 abbrev pub HasTooMany : Instance → Domains → ℕ → ℕ → Type 0
 HasTooMany P D j x = greatest P x j <ℤ pos (fixed P D j x)
 

@@ -12,7 +12,11 @@ abbrev pub most_turns : Instance → ℕ
 most_turns P = LONGEST_WORD / cells P
 
 abbrev pub split_kind : Instance → Kind RawLine
-split_kind P = record { word = codes "split"; fields = Place P.weeks P.days ∷ Name ∷ []; make = λ v. RawSplit v.0 v.1.0 }
+split_kind P = record {
+  word = codes "split";
+  fields = Place P.weeks P.days ∷ Name ∷ [];
+  make = λ v. RawSplit v.0 v.1.0;
+}
 
 abbrev pub window_kind : Instance → Kind RawLine
 window_kind P = record {

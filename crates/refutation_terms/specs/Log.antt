@@ -17,7 +17,7 @@ use Rattle.refutation_terms.specs.FreeLeaves.{HasTooFewFree, IsTooLightFree}
 use Rattle.refutation_terms.specs.Tree.{IsTree, domains_at, is_idle}
 
 -- the rules that the log names, its turn if it has one, its goal if it has one, and its lines. A log with a goal, which
--- is a free log, says that no roster has so many free weekends
+-- is a free log, says that no roster has as many free weekends as the goal
 pub record Log : Type 0 where
   pub named : List ℕ
   pub turn : Option Turn

@@ -200,7 +200,7 @@ header_lines None = 2
 header_lines (Some t) = 3
 
 -- lines of a log, with this goal or none, that are refused for no cause: all is named, allowed and holds, and none
--- stands behind a whole tree
+-- is behind a whole tree
 pub record IsSoundSoFarFor (P : Instance) (goal : Option ℕ) (g : Log) : Type 0 where
   pub grounded : IsGroundedFor P goal g
   pub holds : (k : ℕ) (line : Line) → slice_get g.lines k ≡ Some line → HoldsAtFor P goal g k line

@@ -16,7 +16,7 @@ pub enum Line {
         p: u32,
         len: u32,
     },
-    /// Too many cells of a day hold `x` for sure, or too few still can.
+    /// Too many cells of a day certainly hold `x`, or too few still can.
     Day {
         day: u32,
         x: Symbol,
@@ -78,7 +78,7 @@ pub enum LogRefusal {
     Unfinished(u32),
     /// The text ends before the tree does.
     Ends,
-    /// The line stands behind the whole tree.
+    /// The line is behind the whole tree.
     Extra(u32),
     /// The symbol of the turn need not be there in any week.
     Turn(u32),
