@@ -1,4 +1,4 @@
--- What may stand by the cells is the window of the roster.
+-- What is possible by the cells is the window of the roster.
 use Rattle.std.proofs.Common.{◌≡◌, ℕ, zero, suc, ◌+◌, ◌<◌, List, [], ◌∷◌, length, refl, ap, sym, ◌∙◌, subst, arith, Some, None}
 use Rattle.std.specs.Prelude.{Option, MatchOption}
 use Rattle.rwsp_terms.specs.declared.data.Symbol.{Symbol}

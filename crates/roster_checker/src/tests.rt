@@ -27,8 +27,8 @@ fn shift(alloc: Global, name: &[u8], bounds: Bounds) -> Result<ShiftRow, AllocEr
     })
 }
 
-// Weeks of `days` days. On each day at most `weeks` weeks hold D, and as many N; all blocks have at most seven days, and
-// those of D at least that many. The sequences are forbidden.
+// Weeks of `days` days. On each day at most `weeks` weeks hold D, and as many N; all blocks have at most seven days,
+// and those of D at least that many. The sequences are forbidden.
 fn problem(
     alloc: Global,
     days: u32,

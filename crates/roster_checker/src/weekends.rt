@@ -24,7 +24,8 @@ fn has_weekend_off(cells: &[Symbol], week: u32) -> bool
 fn count_weekends(cells: &[Symbol], weeks: u32) -> u32
     requires few { weeks ≤ MOST_WEEKS }
     requires cells { length cells.now ≡ weeks * 7 }
-    ensures value { result ≡ count_by (λ i. is_off_at cells.now (i * 7 + 5) && is_off_at cells.now (i * 7 + 6)) (range_with_len 0 weeks) }
+    ensures value { result
+        ≡ count_by (λ i. is_off_at cells.now (i * 7 + 5) && is_off_at cells.now (i * 7 + 6)) (range_with_len 0 weeks) }
     ensures few { result ≤ weeks }
 {
     let mut count = 0;

@@ -1,4 +1,4 @@
--- What may stand by the cells is the roster's window.
+-- What is possible by the cells is the roster's window.
 use Rattle.std.proofs.Common.{sym, ◌∙◌}
 use Rattle.roster_checker.proofs.ByCells.{no_window, first_window}
 use Rattle.roster_checker.proofs.rules.first_window.Goals as goal
