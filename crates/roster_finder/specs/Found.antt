@@ -5,6 +5,6 @@ use Rattle.rwsp_terms.specs.Roster.{MeetsAll}
 use Rattle.refutation_terms.specs.FreeWeekends.{free_weekends}
 use Rattle.rwsp_model.specs.declared.roster.Roster.{Roster}
 
--- a roster of the problem's days that meets every rule and has so many free weekends at least
+-- a roster of the problem's days that meets every rule and has `free` free weekends at least
 abbrev pub IsRosterWith : Instance → ℕ → Roster → Type 0
 IsRosterWith P free s = (s.days ≡ P.days) × MeetsAll P s.cells × (free ≤ free_weekends s.cells)

@@ -95,7 +95,8 @@ impl Parts {
         flow
     }
 
-    // The steps that leave a part. A roster that has days in the part and days outside of it takes one of them at least.
+    // The steps that leave a part. A roster that has days in the part and days outside of it takes one of them at
+    // least.
     fn cut(&self, alloc: Global, layer: &SteadyLayer, part: usize) -> Result<Quota, AllocError> {
         let mut steps = Vec::new(alloc);
         for weekday in 0..self.weekdays {

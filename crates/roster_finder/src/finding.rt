@@ -46,7 +46,7 @@ const STARTS: usize = 16;
 /// The first start word is led also by random numbers below this.
 const FIRST_NOISE: usize = 300;
 
-/// Each further one is led by numbers below so much more.
+/// By how much this bound grows with each further start word.
 const MORE_NOISE: usize = 200;
 
 /// What a block too many or too few counts in the choice of start words, where a cell counts 1.
@@ -243,7 +243,7 @@ impl Finder {
         affordable.unwrap_or(0).min(most)
     }
 
-    // Rewrites windows until the word is a roster that meets every rule and has so many free weekends.
+    // Rewrites windows until the word is a roster that meets every rule and has `free` free weekends at least.
     fn search(
         &mut self,
         alloc: Global,
@@ -278,7 +278,7 @@ fn set_block_ranges(draft: &mut Draft, shares: &Shares) {
     }
 }
 
-// The roster of these symbols, where it meets every rule and has so many free weekends.
+// The roster of these symbols, where it meets every rule and has `free` free weekends at least.
 fn met_roster(
     alloc: Global,
     problem: &Problem,
@@ -300,7 +300,7 @@ fn met_roster(
     }
 }
 
-// Whether the roster has so many free weekends.
+// Whether the roster has `free` free weekends at least.
 fn has_free(problem: &Problem, roster: &Roster, free: u32) -> bool
     requires roster { IsRoster problem.now roster.now.cells }
     requires week { 0 < free → problem.now.days ≡ 7 }

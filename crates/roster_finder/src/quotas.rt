@@ -1,4 +1,4 @@
-// Steps of which a roster takes so many at least.
+// Steps of which a roster takes a least number.
 use crate::grid::{Grid, whole};
 use crate::setting::Setting;
 use std::alloc::{AllocError, Global};

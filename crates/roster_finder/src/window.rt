@@ -100,7 +100,7 @@ impl Mover {
         }
     }
 
-    // The node behind the window that costs least among those from which the word can go on as it is.
+    // The node behind the window that costs least among those from which the word can continue as it is.
     fn best_end(&self, setting: &Setting, walk: &Walk, window: Window) -> Option<usize> {
         let behind = walk.later(window.start, window.len);
         let kept = walk.cells().saturating_sub(window.len);
