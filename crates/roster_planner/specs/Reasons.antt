@@ -12,8 +12,8 @@ use Rattle.propagators.specs.Days.{IsDaySpent}
 use Rattle.propagators.specs.Cycles.{AreShortRules, IsCycleLeaf, IsCycleSpent}
 use Rattle.propagators.specs.TopBounds.{IsTopBound}
 
--- all window and day leaves of the problem, and the dead leaf of two turns; the symbols are spent that a day leaf or the
--- words of two turns take away
+-- all window and day leaves of the problem, and the dead leaf of two turns; the symbols are spent that a day leaf or
+-- the words of two turns take away
 pub record AreCaseReasons (P : Instance) (leaves : Store → Line → Type 0) (spent : Store → ℕ → Symbol → Type 0)
     : Type 0 where
   -- the list of all short rules

@@ -12,7 +12,7 @@ use rwsp_terms::limits::GREATEST_BUDGET;
 use std::alloc::{AllocError, Global};
 use std::thread::Threads;
 
-/// What a search finds within the budget. Where a shift is demanded, the first one on the first such day stands there
+/// What a search finds within the budget. Where a shift is demanded, the first one on the first such day is there
 /// in week 1.
 ///
 /// Each case is looked at for reasons: windows, days, and the words of two turns. Bounds by weights are tried at the
