@@ -29,7 +29,8 @@ abbrev pub IsCitedIn : Instance → Option Turn → List Line → Rule → Type 
 IsCitedIn P turn lines r =
     TurnCites turn r ⊎ ((k : ℕ) × (line : Line) × (slice_get lines k ≡ Some line) × Cites P line r)
 
--- the lines stand under the domains at them, the walk is behind them, and what they and the turn cite is named
+-- the lines hold and fit under the domains at them (`Stands`), the walk is behind them, and what they and the turn cite
+-- is named
 pub record IsProgress (P : Instance) (s : Progress) : Type 0 where
   pub state : IsStateOf P s.turn s.lines.items s.walk
   pub turn_fits : TurnFits P s.turn

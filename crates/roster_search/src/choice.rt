@@ -74,7 +74,7 @@ fn off_needed(problem: &Problem) -> i64
     total
 }
 
-// How many positions before this one are off for sure.
+// How many positions before this one are certainly off.
 fn off_before(domains: &Domains, p: u32) -> u32
     requires { p < length domains.now.sets }
     ensures { result ≤ p }
@@ -88,7 +88,7 @@ fn off_before(domains: &Domains, p: u32) -> u32
     count
 }
 
-// The symbol of the day before, where its block is shorter than the least length and may go on.
+// The symbol of the day before, where its block is shorter than the least length and may continue.
 fn unfinished(problem: &Problem, domains: &Domains, p: u32) -> Option<Symbol>
     requires belongs { BelongsTo problem.now domains.now }
     requires position { p < length domains.now.sets }

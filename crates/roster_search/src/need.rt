@@ -70,7 +70,7 @@ fn need_of(problem: &Problem, domains: &Domains, p: u32, x: Symbol) -> Wanted
     }
 }
 
-// How many positions of a day hold a symbol for sure, and how many can hold it.
+// How many positions of a day certainly hold a symbol, and how many can hold it.
 #[derive(Clone, Copy)]
 struct Column {
     fixed: u32,

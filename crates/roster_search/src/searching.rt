@@ -47,7 +47,8 @@ pub fn search<A: Propagator>(
 }
 
 /// The same with a guide: it may give a leaf where a case begins, a roster at the start, and a place to split. With a
-/// goal the roster must have so many free weekends, and the log is a free log, which has no turn and no bounds.
+/// goal the roster must have at least as many free weekends, and the log is a free log, which has no turn and no
+/// bounds.
 pub fn guided_search<A: Propagator, G: Guide>(
     alloc: Global,
     problem: &Problem,

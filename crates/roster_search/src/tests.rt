@@ -48,7 +48,7 @@ fn one_shift(
     Ok(Problem::of(parts).expect(rt, "a problem"))
 }
 
-// A propagator that counts how often it looks, and how often it is told of a change.
+// A propagator that counts how often it looks, and how often it hears of a change.
 #[derive(Drop)]
 struct Told<A> {
     inner: A,
@@ -85,7 +85,7 @@ impl<A: Propagator> Propagator for Told<A> {
     }
 }
 
-// The windows and the days of the problem, told of nothing yet.
+// The windows and the days of the problem, which have heard of no change yet.
 fn reasons(alloc: Global, problem: &Problem) -> Result<Told<Pair<WindowProp, DayProp>>, AllocError>
     ensures serves { IfOk result (λ t. ⟦<Told<Pair<WindowProp, DayProp>> as Propagator>⟧.serves t problem.now) }
     ensures plain { IfOk result
