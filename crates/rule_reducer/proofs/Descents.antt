@@ -10,7 +10,7 @@ use Rattle.refutation_terms.specs.Log.{Log, Passes}
 use Rattle.refutation_terms.specs.Strip.{strip, StripsTo, DescendsTo, IsReduced}
 use Rattle.rule_reducer.proofs.Needs.{descent_drops}
 
--- the log after so many steps of a descent
+-- the log after `done` steps of a descent
 pub record DescentSoFar (P : Instance) (g h : Log) (done : ℕ) : Type 0 where
   pub passes : Passes P h
   pub strips : StripsTo P (reverse (drop (length g.named - done) g.named)) g h

@@ -6,7 +6,7 @@ use Rattle.refutation_terms.specs.Tree.{domains_at}
 use Rattle.refutation_terms.specs.Log.{Log, Holds}
 use Rattle.refutation_terms.specs.Strip.{strip_line}
 
--- each line of the log still holds where it stands with the rule of this number taken out
+-- each line of the log still holds where it is with the rule of this number taken out
 abbrev pub HoldsWithout : Instance → ℕ → Log → Type 0
 HoldsWithout P number g =
     (k : ℕ) (line : Line) → slice_get g.lines k ≡ Some line →

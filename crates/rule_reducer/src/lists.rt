@@ -8,7 +8,7 @@ ghost use Rattle.refutation_terms.specs.Strip.{without_rule, without_day};
 use rwsp_terms::{Rule, RuleList, Weight, Weights};
 use std::alloc::{AllocError, Global};
 
-// Puts a number behind the others, but for the one that is left out.
+// Puts a number behind the others, except the one that is left out.
 fn put_other(kept: &mut RuleList, listed: u32, left_out: u32) -> Result<(), AllocError>
     requires ascends { IsStrictlyIncreasing kept.old }
     requires last { All (λ k. k < listed) kept.old }
@@ -31,7 +31,7 @@ pub fn without(alloc: Global, list: &RuleList, number: u32) -> Result<RuleList, 
     Ok(kept)
 }
 
-// Puts a weight behind the others, but for one on the day that is left out.
+// Puts a weight behind the others, except one on the day that is left out.
 fn put_weight_elsewhere(kept: &mut Weights, entry: Weight, day: u32) -> Result<(), AllocError>
     requires weights { AreWeights kept.old }
     requires last { All (λ e. ComesBefore e entry) kept.old }
@@ -55,7 +55,7 @@ fn weights_elsewhere(alloc: Global, weights: &Weights, day: u32) -> Result<Weigh
     Ok(kept)
 }
 
-/// The weights but for those on a day whose rule this is.
+/// The weights except those on a day whose rule this is.
 pub fn weights_without(alloc: Global, weights: &Weights, rule: Rule) -> Result<Weights, AllocError>
     ensures { IfOk result (λ kept. kept ≡ without_day (Some rule) weights.now) }
 {
