@@ -55,12 +55,12 @@ IsLogAnswer (Accepted R) P bytes =
     IsWithinLimit Log bytes × ((g : LogValue) × IsAccepted P bytes g × (g.named ≡ R)) × LeavesNoRoster P R
 IsLogAnswer answer P bytes = ⊥
 
--- no roster meets the rules and has so many free weekends
+-- no roster meets the rules and has `goal` free weekends or more
 abbrev pub LeavesFewerFree : Instance → ℕ → List ℕ → Type 0
 LeavesFewerFree P goal R = (s : List Symbol) → MeetsRules P R s → goal ≤ free_weekends s → ⊥
 
 -- what an answer says of an instance and the bytes of a free log: accepted are the goal and the rules that the header
--- of one names which passes, and no roster meets these with so many free weekends
+-- of one names which passes, and no roster meets these with as many free weekends
 abbrev pub IsFreeAnswer : Answer → Instance → List ℕ → Type 0
 IsFreeAnswer (TooLong Log) P bytes = IsTooLong Log bytes
 IsFreeAnswer (LogRefused why) P bytes = IsWithinLimit Log bytes × IsFreeRefused P bytes why
@@ -239,4 +239,5 @@ abbrev pub IsReadFault : (List ℕ → Told) → (before now : List ℕ → ℕ)
 IsReadFault held before now words =
     (command : Command) × IsForm words command × ReadsProblem command
     × (Rose (before (problem_name words)) (now (problem_name words))
-    ⊎ (ReadsSecond command × Rose (before (second_name words)) (now (second_name words)) × HasProblem held words command))
+    ⊎ (ReadsSecond command × Rose (before (second_name words)) (now (second_name words))
+    × HasProblem held words command))

@@ -10,7 +10,7 @@ use Rattle.rwsp.specs.declared.command.Command.TheVariants.{Verify, Crew}
 use Rattle.rwsp.specs.declared.answer.InputKind.{InputKind}
 use Rattle.rwsp.specs.declared.answer.InputKind.TheVariants.{Problem, Roster, Log}
 
--- a fact about the bytes that are told; nothing holds of a file that isn't there
+-- a fact about the bytes that are known; nothing holds of a file that isn't there
 abbrev pub WhereTold : Told → (List ℕ → Type 0) → Type 0
 WhereTold Silent Q = Unit {0}
 WhereTold Missing Q = ⊥

@@ -75,7 +75,7 @@ pub enum Answer {
     StaffRefused(StaffRefusal),
     /// The problem's week has this number of days, and the command is for weeks of seven.
     NotWeekly(u32),
-    /// The free log passes: no roster meets these rules, which it names, with so many free weekends.
+    /// The free log passes: no roster meets these rules, which it names, with as many free weekends as the goal.
     FreeAccepted {
         goal: u32,
         rules: RuleList,

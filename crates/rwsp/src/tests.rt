@@ -90,8 +90,8 @@ fn ended_by(alloc: Global, status: u8, sink: &MemorySink) -> Result<Ending, Fail
     Ok(Ending { status, text })
 }
 
-// A run of a command line over these files. The call of the shelf and the call of the sink with these numbers fail; none
-// has the number 0.
+// A run of a command line over these files. The call of the shelf and the call of the sink with these numbers fail;
+// none has the number 0.
 fn ran<R: Threads + Sync>(
     rt: &R,
     alloc: Global,

@@ -1,13 +1,13 @@
-// Each call of the shelf and of the sink refused in turn, for every command: the fault's status, and nothing written or a
-// part of the text.
+// Each call of the shelf and of the sink refused in turn, for every command: the fault's status, and nothing written or
+// a part of the text.
 use super::logs::{SPLIT, TURN, TWOS};
 use super::plans::THREE_OF_FIVE;
 use super::staffs::{NONE_TO_THREE, TWO_OF_FOUR};
 use super::{TWO_DAYS, ran};
 use std::test::Fail;
 
-// Command lines, with the texts of the files that they read: F, and G where there is a second one. A file without a text
-// isn't there, and isn't looked for.
+// Command lines, with the texts of the files that they read: F, and G where there is a second one. A file without a
+// text isn't there, and isn't looked for.
 const RUNS: [(&str, &str, &str, u8); 18] = [
     ("show F", TWO_DAYS, "", 0),
     ("plan F", TWO_DAYS, "", 0),
@@ -29,8 +29,8 @@ const RUNS: [(&str, &str, &str, u8); 18] = [
     ("show", "", "", 2),
 ];
 
-// How many calls a shelf that gives seven bytes at a time takes for a file: one that chooses it, one for each seven bytes
-// or fewer, and one at its end.
+// How many calls a shelf that gives seven bytes at a time takes for a file: one that chooses it, one for each seven
+// bytes or fewer, and one at its end.
 fn calls_for(text: &str) -> u64 {
     if text.is_empty() {
         0

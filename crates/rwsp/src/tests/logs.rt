@@ -200,7 +200,7 @@ fn logs_with_a_turn_that_are_refused(rt: HostRuntime) -> Result<(), Fail> {
     Ok(())
 }
 
-// A log that is cut after some of its lines, or before its last byte, or goes on behind its tree.
+// A log that is cut after some of its lines, or before its last byte, or continues behind its tree.
 #[test]
 fn logs_that_are_cut(rt: HostRuntime) -> Result<(), Fail> {
     let ends = "log refused: ends\n";

@@ -5,9 +5,9 @@ use std::alloc::Global;
 use std::test::Fail;
 use std::thread::Threads;
 
-// Problems; the texts of their rosters, with a blank line below each; some cells; and what `verify` says of these. The rows
-// are what `bench/tiny_problems --every 4001 --first 57 --table` prints, which goes through all words by the rules as
-// docs/FORMATS.md tells them.
+// Problems; the texts of their rosters, with a blank line below each; some cells; and what `verify` says of these. The
+// rows are what `bench/tiny_problems --every 4001 --first 57 --table` prints, which goes through all words by the rules
+// as docs/FORMATS.md tells them.
 const TINY: [(&str, &str, &str, &str); 36] = [
     (
         "1\n4\n1\n0..1\nA 360 480 1 5\n2 3\n1 5\n0 0\n",
@@ -259,8 +259,8 @@ fn words_are_judged(rt: HostRuntime) -> Result<(), Fail> {
     Ok(())
 }
 
-// A plan is a roster of the listing, or a refutation where that is empty. The refutation of the problem before is none where
-// there are rosters.
+// A plan is a roster of the listing, or a refutation where that is empty. The refutation of the problem before is none
+// where there are rosters.
 #[test]
 fn plans_are_as_listed(rt: HostRuntime) -> Result<(), Fail> {
     let alloc = rt.alloc();
