@@ -112,7 +112,7 @@ place_of_dot (b ∷ bs) rest e =
     let parts : (is_ascii_digit b ≡ true) × (list_all is_ascii_digit bs ≡ true) = and_parts (is_ascii_digit b) (list_all is_ascii_digit bs) e in
     place_step (is_dot b) (position_or_len is_dot (bs ++ 46 ∷ rest)) (length bs) (digit_no_dot b parts.0) (place_of_dot bs rest parts.1)
 
--- what stands round the first dot
+-- what is in front of the first dot, and behind it
 dot_behind_digits : (least rest : List ℕ) → list_all is_ascii_digit least ≡ true → (before_first is_dot (least ++ 46 ∷ rest) ≡ least) × (after_first is_dot (least ++ 46 ∷ rest) ≡ rest)
 dot_behind_digits least rest e =
     let place : position_or_len is_dot (least ++ 46 ∷ rest) ≡ length least = place_of_dot least rest e in (

@@ -60,7 +60,7 @@ AllByRecursion-take P zero xs all = tt
 AllByRecursion-take P (suc n) [] all = tt
 AllByRecursion-take P (suc n) (x ∷ xs) all = (all.0, AllByRecursion-take P n xs all.1)
 
--- what images stand in front, and behind
+-- the images of what is in front, and of what is behind
 pub take-prefix-map : {X Y : Type 0} (f : X → Y) (p : Y → Bool) (xs : List X) → map f (take (prefix_len (λ x. p (f x)) xs) xs) ≡ take (prefix_len p (map f xs)) (map f xs)
 take-prefix-map f p xs = sym (take-map f (prefix_len (λ x. p (f x)) xs) xs) ∙ ap (λ n. take n (map f xs)) (sym (prefix_len-map f p xs))
 

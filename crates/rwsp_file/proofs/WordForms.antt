@@ -11,7 +11,7 @@ use Rattle.rwsp_file.specs.Spelling.{FileField, Spell, IsRow, on_line, past_line
 use Rattle.rwsp_file.specs.Spelling.FileField.{NumberField, DemandField, ShiftField, NameField}
 use Rattle.rwsp_file.proofs.Lines.{AllByRecursion-drop}
 
--- a word as it stands in a text
+-- a word as it is written in a text
 pub record IsWord (text : List ℕ) : Type 0 where
   pub some : 1 ≤ length text
   pub unbroken : All (λ b. breaks_name b ≡ false) text

@@ -3,7 +3,7 @@ use rwsp_model::Fail as Failure;
 use std::alloc::{AllocError, Global};
 use std::test::Fail;
 
-// The first failure that read_problem tells of.
+// The first failure that read_problem reports.
 fn failure(alloc: Global, bytes: &[u8]) -> Result<Option<FileRefusal>, AllocError> {
     if bytes.len() > 1_048_576 {
         return Err(AllocError);
