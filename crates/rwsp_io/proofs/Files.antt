@@ -27,7 +27,7 @@ took (Some file) from count rest piece is h end =
       λ none room. sym later ∙ ap (drop count) (end none room) ∙ drop_all count [] (omega arith),
     )
 
--- a number that is told of some bytes is told of the bytes that they equal
+-- what a number says of some bytes it says of the bytes that they equal
 pub counted : (known : Option (List ℕ)) (rest : List ℕ) (n room step : ℕ) → IfSome known (λ bytes. rest ≡ bytes) → n ≡ min (min (length rest) room) step → IfSome known (λ bytes. n ≡ min (min (length bytes) room) step)
 counted None rest n room step is h = tt
 counted (Some bytes) rest n room step is h = h ∙ ap (λ w. min (min (length w) room) step) is

@@ -13,13 +13,13 @@ is_missing Silent = false
 is_missing Missing = true
 is_missing (Bytes bytes) = false
 
--- the bytes, where they are told
+-- the bytes, where they are known
 abbrev pub told_bytes : Told → Option (List ℕ)
 told_bytes Silent = None
 told_bytes Missing = None
 told_bytes (Bytes bytes) = Some bytes
 
--- the count has risen, or stands at its last value
+-- the count has risen, or is at its last value
 abbrev pub Rose : ℕ → ℕ → Type 0
 Rose before now = min (before + 1) (2 ^ 64 - 1) ≤ now
 

@@ -47,7 +47,7 @@ impl MemoryShelf {
     }
 }
 
-// Where the file with the name stands.
+// Where the file with the name is.
 fn place_of(files: &[(String, Vec<u8>)], name: &str) -> Option<usize>
     ensures { MatchOption result (file_of files.now name.now ≡ Missing) (IsFileAt files.now name.now) }
 {

@@ -36,15 +36,15 @@ impl From<AllocError> for ReadFail {
 /// Named files that are read a piece at a time, one after another.
 ///
 /// No call changes what is held under a name. For each name the shelf counts its faults in a `u64`, and a count that
-/// stands at its last value, 2^64 - 1, counts as risen by every fault.
+/// is at its last value, 2^64 - 1, counts as risen by every fault.
 pub trait Shelf {
-    /// What is told of a name: nothing, that no file is held under it, or the bytes of its file.
+    /// What is known of a name: nothing, that no file is held under it, or the bytes of its file.
     ghost held: { Self → List ℕ → Told };
 
     /// Whether a name is chosen.
     ghost chosen: { Self → Bool };
 
-    /// The bytes that are left of the chosen name, where they are told.
+    /// The bytes that are left of the chosen name, where they are known.
     ghost left: { Self → Option (List ℕ) };
 
     /// How often a name has failed.

@@ -14,10 +14,10 @@ pub struct WriteFault;
 
 /// Takes bytes a piece at a time.
 ///
-/// It counts its faults in a `u64`, and a count that stands at its last value, 2^64 - 1, counts as risen by every
+/// It counts its faults in a `u64`, and a count that is at its last value, 2^64 - 1, counts as risen by every
 /// fault.
 pub trait Sink {
-    /// The bytes that it got, where they are told.
+    /// The bytes that it got, where they are known.
     ghost got: { Self → Option (List ℕ) };
 
     /// How often it has failed.

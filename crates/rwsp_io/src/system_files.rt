@@ -1,4 +1,4 @@
-// The system's files and standard output. What they give and take is not told.
+// The system's files and standard output. Nothing is known of what they give and take.
 ghost use Rattle.std.specs.Prelude.{◌≡◌, ℕ, List, None, is_some, false};
 ghost use Rattle.rwsp_io.specs.Told.{Silent};
 
@@ -7,8 +7,8 @@ use crate::{Shelf, ShelfFault, Sink, SinkFault};
 use std::rt::Files;
 use std::{fs, io};
 
-/// Files of the system, named by their paths. All names are counted together. A read that a signal interrupts is made again, and so
-/// is an opening.
+/// Files of the system, named by their paths. All names are counted together. A read that a signal interrupts is made
+/// again, and so is an opening.
 #[derive(Drop)]
 pub struct RealShelf<'a, R: Files> {
     rt: &'a R,
