@@ -109,7 +109,7 @@ triple_list P = map Triple (range_with_len 0 (length P.triples))
 abbrev day_list : Instance → List Rule
 day_list P = map Day (range_with_len 1 P.days)
 
--- a rule stands at its place
+-- a rule is at its place
 standing : (P : Instance) (r : Rule) → IsRule P r → get_or (rules P) (place_of P r) MaxOff ≡ r
 standing P (MaxShift x) h =
     let s = length-shifts 1 (shift_count P) in
