@@ -16,7 +16,7 @@ use Rattle.rwsp_terms.specs.Weights.{ComesBefore, IsWeight, AreWeights, weight_a
 use Rattle.rwsp_terms.specs.Places.{NumberBelongs, is_at, Precedes, Follows, EntryStands, EntryBelongs, SetsWeight}
 use Rattle.rwsp_terms.specs.declared.data.Weight.{Weight}
 
--- where an element of a list with one more stood
+-- where an element of a list with one more was before
 abbrev Spot : {X : Type 0} (xs : List X) (i : ℕ) (y d : X) (k : ℕ) → Type 0
 Spot xs i y d k =
     ((k < i) × (get_or (insert xs i y) k d ≡ get_or xs k d))
