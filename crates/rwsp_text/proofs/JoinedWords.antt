@@ -79,7 +79,7 @@ line_printed words rest h =
     ap lines_of (append_assoc (join_with_byte 32 words) (10 ∷ []) rest)
     ∙ slice_split_at (λ b. b == 10) (join_with_byte 32 words) 10 rest (All-from_recursion (λ b. (b == 10) ≡ false) (join_with_byte 32 words) (no_end_joined words h)) refl
 
--- ---- at most so many bytes
+-- ---- how many bytes a line has at most
 -- words of at most m bytes on a line
 length-joined : (m : ℕ) (words : List (List ℕ)) → AllByRecursion (λ word. length word ≤ m) words → length (join_with_byte 32 words) ≤ (m + 1) * length words
 length-joined m [] h = omega arith

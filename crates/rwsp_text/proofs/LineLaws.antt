@@ -1,4 +1,5 @@
--- The words of a line and the lines of a text, found again in their bytes; and the first line of a text that has a cause.
+-- The words of a line and the lines of a text, found again in their bytes; and the first line of a text that has a
+-- cause.
 use Rattle.std.proofs.Common.{◌≡◌, ◌≢◌, ◌⊎◌, ℕ, ◌+◌, ◌<◌, List, [], ◌∷◌, ◌++◌, length, refl, ap, sym, ◌∙◌, subst, append_assoc, arith, inl, inr, length-append, true, false}
 use Rattle.std.specs.Prelude.{All}
 use Rattle.std.specs.List.{AllByRecursion, join_with_byte}
@@ -114,7 +115,7 @@ lines_after (x ∷ xs) zs h = lines_after xs zs h.1
 abbrev pub Longer : List Words → List ℕ → List Words → List ℕ → Type 0
 Longer xs r ys q = (zs : List Words) × (ys ≡ xs ++ zs) × (r ≡ text_of_lines zs ++ q)
 
--- of two beginnings of a text one goes on where the other ends
+-- of two beginnings of a text one continues where the other ends
 pub one_is_longer : (xs ys : List Words) (r q : List ℕ) → AreLines xs → AreLines ys → text_of_lines xs ++ r ≡ text_of_lines ys ++ q → Longer xs r ys q ⊎ Longer ys q xs r
 one_is_longer [] ys r q fx fy e = inl (ys, refl, e)
 one_is_longer (ws ∷ xs) [] r q fx fy e = inr (ws ∷ xs, refl, sym e)
@@ -146,7 +147,7 @@ same_lines xs ys fx fy e =
 -- the first line that has a cause
 
 module _ {F R : Type 0} (lines : F → List Words) (Good : F → Type 0) (Cause : F → List ℕ → R → Type 0) (fronts : AreFronts lines Good Cause) where
-  -- a line that goes on where another front of the text has further lines has no cause
+  -- a line that continues where another front of the text has further lines has no cause
   not_within : (f g : F) (line rest r : List ℕ) (z : Words) (zs : List Words) (why : R) → Good f → Good g → IsNextLine line rest → lines g ≡ lines f ++ z ∷ zs → line ++ rest ≡ (text_of z ++ text_of_lines zs) ++ r → Cause f line why → ⊥
   not_within f g line rest r z zs why hf hg next e same cause =
       let words : AreLines (z ∷ zs) = lines_after (lines f) (z ∷ zs) (subst AreLines e (fronts.written g hg)) in

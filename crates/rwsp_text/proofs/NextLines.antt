@@ -1,4 +1,4 @@
--- The first line of a text, by where its first LF stands.
+-- The first line of a text, by where its first LF is.
 use Rattle.std.proofs.Common.{◌≡◌, ◌≢◌, ℕ, ◌+◌, ◌<◌, ◌≤◌, List, [], ◌∷◌, ◌++◌, length, take, drop, get_or, ap, sym, ◌∙◌, subst, arith, inl, inr}
 use Rattle.std.proofs.lemmas.List.{take_more, take_all, drop_all, get_or-take, length-take-le}
 use Rattle.std.proofs.lemmas.List.Elements.{All-from_get_or}

@@ -1,4 +1,4 @@
--- The first word of a line, by where its first blank stands.
+-- The first word of a line, by where its first blank is.
 use Rattle.std.proofs.Common.{◌≡◌, ◌≢◌, ℕ, suc, ◌+◌, ◌<◌, List, [], ◌∷◌, ◌++◌, length, take, drop, get_or, Bool, true, false, refl, ap, sym, ◌∙◌, arith, cond, ◌==◌, drop-cons, add-one, take-append-drop}
 use Rattle.std.specs.Prelude.{All}
 use Rattle.std.specs.List.{onto_first}
