@@ -24,7 +24,7 @@ under_all Q n S limit tail under (o ∷ outer) D from lines h =
     let order : from ≤ o.mark.len = h.0.order in
     omega arith
 
--- the store stands at the mark of a split as it did
+-- the store at the mark of a split is as it was
 pub split_kept : (n : ℕ) (S T : Store) (D : Domains) (from : ℕ) (o : OpenSplit) → IsSplitAt n S D from o → store_at T o.mark.len ≡ store_at S o.mark.len → o.mark.len ≤ length T.trail → IsSplitAt n T D from o
 split_kept n S T D from o h e within = record {
   order = h.order;

@@ -11,7 +11,7 @@ use Rattle.tree_walk.specs.declared.open_split.OpenSplit.{OpenSplit}
 abbrev pub Agrees : ℕ → Store → Domains → Type 0
 Agrees n S D = (p z : ℕ) → p < n → has_domain S p z ≡ D p z
 
--- a split at one of n positions, under domains that stood at its mark, which isn't before `from`
+-- a split at one of n positions, under the domains at its mark, which isn't before `from`
 pub record IsSplitAt (n : ℕ) (S : Store) (D : Domains) (from : ℕ) (o : OpenSplit) : Type 0 where
   pub order : from ≤ o.mark.len
   pub within : o.mark.len ≤ length S.trail

@@ -1,7 +1,7 @@
 use domain_store::Mark;
 use rwsp_terms::Symbol;
 
-/// A split whose sides haven't all been read: its position and symbol, where the domains stood before it, and whether
+/// A split whose sides haven't all been read: its position and symbol, the mark of the domains before it, and whether
 /// its first side has been read.
 #[derive(Clone, Copy, Debug, PartialEq, Eq)]
 pub struct OpenSplit {

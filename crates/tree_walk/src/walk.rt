@@ -95,7 +95,7 @@ impl Walk {
         &self.domains
     }
 
-    /// Whether the lines are those of one whole tree, behind which no line stands.
+    /// Whether the lines are those of one whole tree, with no line behind it.
     pub fn is_whole(&self) -> bool
         ensures value { result ≡ self.now.whole }
         ensures tree { (P : Instance) (turn : Option TheTurn) (lines : List Line) → IsStateOf P turn lines self.now
@@ -153,8 +153,8 @@ impl Walk {
         Ok(())
     }
 
-    /// Reads a leaf, by which the second side of a split may begin, or the whole tree end. A whole tree leaves the same walk as
-    /// a leaf in its place: so this also goes past the lines of one that nobody looks at.
+    /// Reads a leaf, by which the second side of a split may begin, or the whole tree end. A whole tree leaves the same
+    /// walk as a leaf in its place: so this also goes past the lines of one that nobody looks at.
     pub fn read_leaf(&mut self)
         requires { self.old.whole ≡ false }
         ensures ends { (P : Instance) (turn : Option TheTurn) (lines : List Line) (leaf : Line)
