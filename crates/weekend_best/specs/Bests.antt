@@ -33,8 +33,8 @@ IsBestFound P budget (NoRoster g) = IsFreeProof P budget 0 g
 IsBestFound P budget (Undecided s g) =
     IfSome s (IsMeeting P) × IsSpentFor P (Some (goal_above s)) g budget × IsFreeSharp P (goal_above s) g
 
--- what a search with one goal finds: a roster that meets every rule and has as many free weekends, or a proof that there
--- is none, or a sharp log that has spent the budget
+-- what a search with one goal finds: a roster that meets every rule and has as many free weekends, or a proof that
+-- there is none, or a sharp log that has spent the budget
 abbrev pub IsFoundWith : Instance → ℕ → ℕ → Found → Type 0
 IsFoundWith P budget goal (Roster s) = IsMeeting P s × (goal ≤ free_weekends s.cells)
 IsFoundWith P budget goal (NoRosterFound g) = IsFreeProof P budget goal g

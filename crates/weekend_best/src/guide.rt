@@ -1,4 +1,4 @@
-// What guides a search for a roster with so many free weekends.
+// What guides a search for a roster with a goal of free weekends.
 ghost use Rattle.std.specs.Prelude.{◌≡◌, ◌+◌, ◌≤◌, Some, IfOk};
 ghost use Rattle.domain_store.specs.Store.{BelongsTo};
 ghost use Rattle.roster_search.specs.Guides.{IsLeafGiven};

@@ -47,8 +47,8 @@ pub fn best(alloc: Global, problem: &Problem, budget: u32) -> Result<BestFound, 
 // What is found where no roster has more free weekends than the one that is kept.
 fn ended(kept: Option<Roster>, proof: Log) -> BestFound
     ensures decided { IsUndecided result → ⊥ }
-    ensures found { (P : Instance) (budget : ℕ) → IfSome kept (IsMeeting P) → IsFreeProof P budget (goal_above kept) proof
-        → IsBestFound P budget result }
+    ensures found { (P : Instance) (budget : ℕ) → IfSome kept (IsMeeting P)
+        → IsFreeProof P budget (goal_above kept) proof → IsBestFound P budget result }
 {
     match kept {
         Some(roster) => BestFound::Best { roster, proof },
