@@ -1,4 +1,4 @@
--- Where every word that may stand has a pattern, and what of each day makes it so.
+-- Where every possible word has a pattern, and what of each day makes it so.
 use Rattle.std.proofs.Common.{◌≡◌, ℕ, zero, suc, ◌+◌, ◌<◌, List, [], ◌∷◌, length, get_or, refl, ap, sym, ◌∙◌, arith, subst, Some, None}
 use Rattle.std.specs.Prelude.{Option}
 use Rattle.rwsp_terms.specs.declared.data.Symbol.{Symbol}
@@ -11,11 +11,11 @@ use Rattle.window_rules.specs.declared.pattern.Side.TheVariants.{In, Outside}
 use Rattle.window_rules.specs.Views.{MayStand, AreAllBad}
 use Rattle.window_rules.specs.Patterns.{IsOn, IsLast, days_of, IsShaped, Keeps, KeepsLast, IsPlaced, IsPlacedFor, IsPatternOf}
 
--- some symbol may stand at each position
+-- some symbol is possible at each position
 abbrev pub HasSome : (ℕ → Symbol → Type 0) → Type 0
 HasSome A = (p : ℕ) → (x : Symbol) × A p x
 
--- a word of len days that may stand from p on
+-- a possible word of len days from p on
 record WordFrom (A : ℕ → Symbol → Type 0) (p len : ℕ) : Type 0 where
   word : List Symbol
   long : length word ≡ len
