@@ -73,7 +73,8 @@ ends_max P c w (before, part, whole, bad) =
     let same : suffix_len (in_class c) w ≡ suffix_len (in_class c) (before ++ part) = ap (suffix_len (in_class c)) whole in
     omega (arith, long, same, b.long)
 
--- a word ends in a block that is too short and a symbol outside it where the word before has a last block that is too short and doesn't begin the word
+-- a word ends in a block that is too short and a symbol outside it where the word before has a last block that is too
+-- short and doesn't begin the word
 pub min_ends : (P : Instance) (c : Class) (w : List Symbol) (x : Symbol) → in_class c x ≡ false → 0 < suffix_len (in_class c) w → suffix_len (in_class c) w < (bounds P c).least → list_all (in_class c) w ≡ false → EndsBadly P (min_rule c) (w ++ x ∷ [])
 min_ends P c w x out some few part =
     let s = end_split (in_class c) w part in
