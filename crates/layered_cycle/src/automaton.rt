@@ -64,7 +64,7 @@ impl Automaton {
             return Ok(state);
         }
         let state = self.tails.len();
-        // Never so: the tails differ, and words of nine symbols have fewer than a million.
+        // This never happens: the tails differ, and words of nine symbols have fewer than a million.
         if state >= u32::MAX as usize {
             return Err(AllocError);
         }

@@ -127,7 +127,7 @@ fn picks(alloc: Global, row: &ChoiceRow, steps: &[Step]) -> Result<Vec<Step>, Al
         .filter(|s| is_picked(row, **s))
         .copied()
         .collect(alloc)?;
-    // Never so: each node has one.
+    // This never happens: each node has one.
     if picks.len() > u32::MAX as usize {
         return Err(AllocError);
     }

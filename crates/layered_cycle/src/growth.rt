@@ -53,7 +53,7 @@ fn node_of(
         return Ok(noted);
     }
     let place = nodes.len();
-    // Never so: the nodes differ, and words of nine symbols have fewer than a million tails.
+    // This never happens: the nodes differ, and words of nine symbols have fewer than a million tails.
     if place >= u32::MAX as usize {
         return Err(AllocError);
     }
