@@ -216,7 +216,7 @@ impl Propagator for WindowProp {
     }
 }
 
-// The span from `first` to `end`, so far as it has to go to take in the position.
+// The span from `first` to `end`, widened to take in the position where it must.
 fn widened(first: u32, end: u32, p: u32, takes_in: bool) -> (u32, u32)
     requires { p < MOST_CELLS }
     ensures position { takes_in ≡ true → (result.0 ≤ p) × (p < result.1) }
