@@ -55,7 +55,7 @@ some_line bytes some = by_last (get_or bytes (length bytes - 1) 0 == 10) refl
     by_last true e = let fed = fed_at_end bytes (some_bytes bytes some) (eqb-true (get_or bytes (length bytes - 1) 0) 10 e) in omega (arith, fed)
     by_last false e = let one : ◌≡◌ {A = ℕ} (cond (get_or bytes (length bytes - 1) 0 == 10) 0 1) 1 = ap (λ b. cond b 0 1) e in omega (arith, one)
 
--- so few chunks are one for each worker at most
+-- so few chunks (`IsFew`) are at most one for each worker
 pub one_for_each : (k size workers : ℕ) (bytes : List ℕ) → IsFew k size bytes → size ≡ line_count bytes / workers + min 1 (line_count bytes % workers) → 0 < workers → k ≤ workers
 one_for_each k size workers bytes few is some =
     elim (cases_lt workers k) [

@@ -15,7 +15,7 @@ fn from_to(least: u32, greatest: u32) -> Bounds {
     Bounds { least, greatest }
 }
 
-// One shift D, demanded so often on each day. Rules 1 and 2 bound the blocks of D, 3 and 4 the days
+// One shift D, demanded in `demand` weeks on each day. Rules 1 and 2 bound the blocks of D, 3 and 4 the days
 // off, 5 and 6 the work; the next rules are the days.
 fn one_shift(
     alloc: Global,
