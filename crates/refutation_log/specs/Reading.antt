@@ -115,7 +115,8 @@ raw_at P goal (w ∷ ws) =
     (cond (bytes_eq w (codes "day")) (day_at P ws)
     (cond (bytes_eq w (codes "dead")) (dead_at P ws) (own_at P goal w ws))))
 
--- the answer to rules and weights that were read so: they are of known symbols and ascend, or why they are refused
+-- the answer to rules and weights that were read in this way: they are of known symbols and ascend, or why they are
+-- refused
 abbrev pub IsWeighedAnswer : Instance → Option (List ℕ × List NamedWeight) → Result (List ℕ × List Weight) LineRefusal
     → Type 0
 IsWeighedAnswer P None (Ok v) = ⊥
@@ -132,7 +133,7 @@ AnswersWeighed P read (Ok v) = IsWeighedAnswer P read (Ok v)
 AnswersWeighed P read (Err Memory) = Unit {0}
 AnswersWeighed P read (Err (Refused why)) = IsWeighedAnswer P read (Err why)
 
--- the answer to a line that was read so: the line, or why it is refused
+-- the answer to a line that was read in this way: the line, or why it is refused
 abbrev pub IsLineAnswer : Instance → Option RawLine → Result Line LineRefusal → Type 0
 IsLineAnswer P None (Ok line) = ⊥
 IsLineAnswer P None (Err Form) = Unit {0}

@@ -11,7 +11,7 @@ fn from_to(least: u32, greatest: u32) -> Bounds {
     Bounds { least, greatest }
 }
 
-// One shift D, demanded so often on each day.
+// One shift D, demanded in `demand` weeks on each day.
 fn one_shift(
     alloc: Global,
     days: u32,
