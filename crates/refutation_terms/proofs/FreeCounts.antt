@@ -1,4 +1,4 @@
--- The free weekends of rosters and of words that go through one some times, and why leaves of free logs leave no
+-- The free weekends of rosters and of words that go through one a number of times, and why leaves of free logs leave no
 -- roster.
 use Rattle.std.proofs.Common.{◌≡◌, ◌⊎◌, ℕ, zero, suc, ◌+◌, ◌*◌, ◌%◌, ◌<◌, ◌≤◌, List, length, get_or, refl, ap, sym, ◌∙◌, subst, arith, inl, inr, Bool, true, false, cond, IsTrue, ◌&&◌, ◌==◌, count_by, pos, ℤ, mul-le-mul_left}
 use Rattle.std.specs.Prelude.{nat_lt, ◌+ℤ◌, ◌*ℤ◌, ◌≤ℤ◌}

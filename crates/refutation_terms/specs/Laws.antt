@@ -171,7 +171,7 @@ FreeWeekendsAreWeeks =
     (P : Instance) (s : List Symbol) → P.days ≡ 7 → IsRoster P s
     → free_weekends s ≡ count_by (λ i. is_off_at s (i * 7 + 5) && is_off_at s (i * 7 + 6)) (range_with_len 0 P.weeks)
 
--- the word that goes through a whole roster of such weeks some times has its free weekends as often
+-- the word that goes through a whole roster of such weeks `turns` times has its free weekends `turns` times
 abbrev pub TurnsHaveFreeWeekends : Type 0
 TurnsHaveFreeWeekends =
     (P : Instance) (s : List Symbol) (turns : ℕ) → P.days ≡ 7 → IsRoster P s

@@ -9,7 +9,7 @@ pub fn passing_leaves_no_roster()
 {}
 
 /// In weeks of seven days the free weekends of a roster are the weeks with days 6 and 7 off, and a word that goes
-/// through the whole roster some times has them as often.
+/// through the whole roster a number of times has them that many times.
 pub fn free_weekends_are_weeks()
     ensures weeks { FreeWeekendsAreWeeks }
     ensures turns { TurnsHaveFreeWeekends }
