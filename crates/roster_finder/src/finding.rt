@@ -34,7 +34,7 @@ const MOST_LOOSE_MOVES: usize = 32_000;
 /// After this many moves new shares are made.
 const SHARES_FOR: usize = 16_000;
 
-/// All shares but the first ones are blurred by random numbers below this.
+/// All shares except the first ones are blurred by random numbers below this.
 const SHARES_NOISE: usize = 3_000;
 
 /// After this many moves a new word is begun.
