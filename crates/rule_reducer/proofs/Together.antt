@@ -33,7 +33,7 @@ ListsAreNamed P named (Dead p len R) = ListIsNamed P named R
 ListsAreNamed P named (Bound p turns R y) = ListIsNamed P named R
 ListsAreNamed P named line = Unit {0}
 
--- a log with all that passing asks for but what strips may change
+-- a log with all that passing asks for, except what strips may change
 pub record IsLaidOut (P : Instance) (g : Log) : Type 0 where
   pub fits : Fits P g
   pub tree : IsTree g.lines

@@ -14,7 +14,7 @@ fn from_to(least: u32, greatest: u32) -> Bounds {
     Bounds { least, greatest }
 }
 
-// One shift D, demanded so often on the days of a week.
+// One shift D, demanded as often as `demand` says on the days of a week.
 fn one_shift(
     alloc: Global,
     weeks: u32,
