@@ -42,7 +42,7 @@ use Rattle.crew_calendar.proofs.OneText.{one_table, one_duties}
 use Rattle.rwsp.proofs.Forms.{one_form}
 use Rattle.rwsp.proofs.Ends.{one_second, one_file_answer, not_by_itself}
 
--- what a told file holds
+-- the shelf says whether the file is there, and what it holds
 
 abbrev IsThere : Told → Type 0
 IsThere told = (told ≡ Missing) ⊎ ((bytes : List ℕ) × (told ≡ Bytes bytes))

@@ -169,7 +169,7 @@ impl Answer {
     }
 }
 
-// The status where the sizes of a crew ended so.
+// The status where the sizes of a crew ended in this way.
 fn end_status(end: &StaffEnd) -> u8
     ensures { result ≡ end_status end.now }
 {

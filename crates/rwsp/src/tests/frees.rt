@@ -71,7 +71,7 @@ fn weeks_of_other_days(rt: HostRuntime) -> Result<(), Fail> {
 const ONE_WEEK: &str =
     "7\n1\n3\n1 1 0 0 0 0 0\n0 0 1 1 1 0 0\n0 0 0 0 0 0 0\nD 360 480 2 7\nA 840 480 2 6\nN 1320 480 2 5\n2 4\n4 7\n3 0\nN D\nN A\nA D\n";
 
-// Whether `check-free` accepts the log for this problem, and the answer begins so.
+// Whether `check-free` accepts the log for this problem, and the answer begins with `answer`.
 fn is_accepted<R: Threads + Sync>(
     rt: &R,
     alloc: Global,

@@ -518,8 +518,8 @@ fn sizes_of_a_crew(rt: HostRuntime) -> Result<(), Fail> {
     Ok(())
 }
 
-// Files that begin so and are as long as they may be, by a comment, or a byte longer. A roster behind a heading may be
-// as long as one by itself.
+// Files that begin with a text and are as long as they may be, by a comment, or a byte longer. A roster behind a
+// heading may be as long as one by itself.
 const LENGTHS: [(&str, &str, usize, u8, &str); 8] = [
     ("show L", TWO_DAYS, 1_048_576, 0, TWO_DAYS),
     ("show L", TWO_DAYS, 1_048_577, 3, "too long: problem\n"),

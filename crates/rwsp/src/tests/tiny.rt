@@ -7,7 +7,7 @@ use std::thread::Threads;
 
 // Problems; the texts of their rosters, with a blank line below each; some cells; and what `verify` says of these. The
 // rows are what `bench/tiny_problems --every 4001 --first 57 --table` prints, which goes through all words by the rules
-// as docs/FORMATS.md tells them.
+// as docs/FORMATS.md gives them.
 const TINY: [(&str, &str, &str, &str); 36] = [
     (
         "1\n4\n1\n0..1\nA 360 480 1 5\n2 3\n1 5\n0 0\n",
