@@ -127,7 +127,7 @@ fn standard_output_takes_a_text(rt: HostRuntime) -> Result<(), Fail> {
     Ok(())
 }
 
-// Fails so often in this way; then it is at its end, and takes whatever is written.
+// Fails `times` times with this kind of error; then it is at its end, and takes whatever is written.
 #[derive(Drop)]
 struct Failing {
     kind: ErrorKind,
