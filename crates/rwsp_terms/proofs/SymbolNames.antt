@@ -13,7 +13,7 @@ use Rattle.rwsp_terms.specs.Instance.{Instance, IsSymbol, shift_count, off_name,
 use Rattle.rwsp_terms.specs.declared.data.ShiftRow.{ShiftRow}
 use Rattle.rwsp_terms.specs.declared.data.Symbol.{Symbol}
 
--- names by which shifts can be told from each other, and from the day off
+-- names by which shifts can be told apart from each other, and from the day off
 pub record HasNames (P : Instance) : Type 0 where
   pub no_dash : All (λ (row : ShiftRow). row.name ≢ off_name) P.shifts
   pub distinct : AllPairs (λ (a b : ShiftRow). a.name ≢ b.name) P.shifts

@@ -33,7 +33,7 @@ pub const LONGEST_NAME: u32 = 32;
 pub const GREATEST_SHORT_BOUND: u32 = 30;
 
 /// The most days of a block that a tail counts: one more than the greatest short bound, so that a block that is too
-/// long is told from one that isn't.
+/// long is told apart from one that isn't.
 pub const LONGEST_RUN: u32 = GREATEST_SHORT_BOUND + 1;
 
 /// The most days of a window or a word that a refutation speaks of.
