@@ -12,19 +12,27 @@ use rwsp_model::{Problem, Roster};
 use std::alloc::{AllocError, Global};
 
 /// The guide of a search with a goal. It closes cases by weights with a reward for each free weekend, looks for a
-/// roster by other means before the first split, and splits in the order of the days.
+/// roster by other means before the first split, first for one with more free weekends, and splits in the order of the
+/// days.
 #[derive(Debug, Drop)]
 pub struct BestGuide {
     problem: Problem,
     weights: NearestWeights,
     goal: u32,
+    // More free weekends, which are asked for first.
+    wish: u32,
     // Whether a leaf was asked for at the top, where words of many turns may be weighed.
     has_begun: bool,
 }
 
 impl BestGuide {
-    /// A guide for searches with this goal.
-    pub fn new(alloc: Global, problem: &Problem, goal: u32) -> Result<BestGuide, AllocError>
+    /// A guide for searches with this goal, which asks first for a roster with `wish` free weekends, where these are more.
+    pub fn new(
+        alloc: Global,
+        problem: &Problem,
+        goal: u32,
+        wish: u32,
+    ) -> Result<BestGuide, AllocError>
         requires week { problem.now.days ≡ 7 }
         requires goal { goal ≤ problem.now.weeks + 1 }
         ensures { IfOk result (λ g. ⟦<BestGuide as Guide>⟧.serves g problem.now (Some goal)) }
@@ -34,6 +42,7 @@ impl BestGuide {
             problem: problem.copy()?,
             weights,
             goal,
+            wish,
             has_begun: false,
         })
     }
@@ -50,6 +59,12 @@ impl Guide for BestGuide {
     }
 
     fn roster(&mut self, alloc: Global, _doms: &Domains) -> Result<Option<Roster>, AllocError> {
+        if self.goal < self.wish {
+            let found = find_roster_with(alloc, &self.problem, self.wish)?;
+            if found.is_some() {
+                return Ok(found);
+            }
+        }
         find_roster_with(alloc, &self.problem, self.goal)
     }
 

@@ -3,6 +3,7 @@
 
 mod found;
 mod guide;
+mod likely_most;
 mod one_goal;
 mod raising;
 mod top_leaf;

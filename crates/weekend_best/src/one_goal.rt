@@ -15,11 +15,12 @@ use rwsp_terms::limits::GREATEST_BUDGET;
 use std::alloc::{AllocError, Global};
 
 /// A roster with at least as many free weekends as the goal, or a free log of why there is none, or one that has spent
-/// the budget.
+/// the budget. Where the wish is greater, a roster with as many is looked for first.
 pub fn search_with(
     alloc: Global,
     problem: &Problem,
     goal: u32,
+    wish: u32,
     budget: u32,
 ) -> Result<Found, AllocError>
     requires week { problem.now.days ≡ 7 }
@@ -31,7 +32,7 @@ pub fn search_with(
 {
     match proof_at_top(alloc, problem, goal)? {
         Some(proof) => Ok(Found::NoRoster(proof)),
-        None => split_cases(alloc, problem, goal, budget),
+        None => split_cases(alloc, problem, goal, wish, budget),
     }
 }
 
@@ -40,6 +41,7 @@ fn split_cases(
     alloc: Global,
     problem: &Problem,
     goal: u32,
+    wish: u32,
     budget: u32,
 ) -> Result<Found, AllocError>
     requires week { problem.now.days ≡ 7 }
@@ -53,7 +55,7 @@ fn split_cases(
     problem.prove_limits();
     let doms = Domains::new(alloc, problem)?;
     let mut reasons = case_reasons(alloc, problem, &doms)?;
-    let mut guide = BestGuide::new(alloc, problem, goal)?;
+    let mut guide = BestGuide::new(alloc, problem, goal, wish)?;
     guided_search(
         alloc,
         problem,

@@ -5,6 +5,7 @@ ghost use Rattle.rwsp_terms.specs.Instance.{Instance, cells, shift_count};
 ghost use Rattle.weekend_best.specs.Bests.{IsMeeting, IsFreeProof, IsBestFound, IsUndecided, goal_above};
 
 use crate::BestFound;
+use crate::likely_most::likely_most;
 use crate::one_goal::search_with;
 use refutation_log::Log;
 use roster_checker::free_weekends;
@@ -15,8 +16,8 @@ use std::alloc::{AllocError, Global};
 
 /// The most free weekends that a roster of the problem can have: a roster with them, and the free log for one more.
 ///
-/// The goal is 0 at first, and one above the free weekends of each roster that is found. The budget is for the lines of
-/// each log.
+/// The goal is 0 at first, and one above the free weekends of each roster that is found. With each goal, a roster with as
+/// many as seem likely is looked for first. The budget is for the lines of each log.
 pub fn best(alloc: Global, problem: &Problem, budget: u32) -> Result<BestFound, AllocError>
     requires week { problem.now.days ≡ 7 }
     requires budget { (1 ≤ budget) × (budget ≤ GREATEST_BUDGET) }
@@ -27,11 +28,18 @@ pub fn best(alloc: Global, problem: &Problem, budget: u32) -> Result<BestFound, 
     problem.prove_limits();
     let mut kept = None;
     let mut goal = 0;
+    let mut wish = likely_most(alloc, problem)?;
+    let mut too_many = wish + 1;
     loop {
-        match search_with(alloc, problem, goal, budget)? {
+        match search_with(alloc, problem, goal, wish, budget)? {
             Found::Roster(roster) => {
                 goal = free_weekends(problem, &roster) + 1;
                 kept = Some(roster);
+                // Where the wish wasn't met, half of what is between is wished for next.
+                if goal <= wish {
+                    too_many = wish;
+                }
+                wish = halfway(goal, too_many);
             }
             Found::NoRoster(proof) => return Ok(ended(kept, proof)),
             Found::Undecided(partial) => {
@@ -41,6 +49,15 @@ pub fn best(alloc: Global, problem: &Problem, budget: u32) -> Result<BestFound, 
                 });
             }
         }
+    }
+}
+
+// A number halfway between these, or the lower one where the other isn't above it.
+fn halfway(low: u32, high: u32) -> u32 {
+    if low < high {
+        low + (high - low) / 2
+    } else {
+        low
     }
 }
 
