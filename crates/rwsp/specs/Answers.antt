@@ -239,4 +239,5 @@ abbrev pub IsReadFault : (List ℕ → Told) → (before now : List ℕ → ℕ)
 IsReadFault held before now words =
     (command : Command) × IsForm words command × ReadsProblem command
     × (Rose (before (problem_name words)) (now (problem_name words))
-    ⊎ (ReadsSecond command × Rose (before (second_name words)) (now (second_name words)) × HasProblem held words command))
+    ⊎ (ReadsSecond command × Rose (before (second_name words)) (now (second_name words))
+    × HasProblem held words command))

@@ -84,7 +84,7 @@ fn is_accepted<R: Threads + Sync>(
     Ok(ending.status == 0 && ending.text.as_str().starts_with(answer))
 }
 
-// Whether `best` prints a roster with one free weekend that meets every rule, and a reason of one line why none has two.
+// Whether `best` prints a roster with one free weekend that meets every rule, and one line of reason why none has two.
 fn has_one_free<R: Threads + Sync>(
     rt: &R,
     alloc: Global,
