@@ -1,34 +1,14 @@
--- The list of all short rules, and what the heaviest words say of a bound leaf.
+-- The list of all short rules is a list of rules.
 use Rattle.std.proofs.Common.{◌≡◌, ◌≢◌, ℕ, zero, suc, ◌+◌, ◌*◌, ◌<◌, ◌≤◌, List, length, get_or, arith, refl, subst, sym}
-use Rattle.std.specs.Prelude.{◌↔◌, All, Bool, Contains, IsTrue, slice_get, Result, Ok, Err, IfOk, Some, None, ℤ, pos, ◌*ℤ◌, ◌<ℤ◌}
+use Rattle.std.specs.Prelude.{◌↔◌, All, Contains, slice_get, Result, Ok, Err, IfOk, Some, None}
 use Rattle.std.specs.List.Sorted.{IsStrictlyIncreasing}
-use Rattle.std.proofs.lemmas.Int.{ints}
 use Rattle.std.proofs.lemmas.List.{get_or_default}
 use Rattle.std.proofs.lemmas.Option.{slice_get_within}
 use Rattle.rwsp_terms.specs.declared.data.Rule.{Rule}
-use Rattle.rwsp_terms.specs.declared.data.Symbol.{Symbol}
-use Rattle.rwsp_terms.specs.declared.data.Weight.{Weight}
-use Rattle.rwsp_terms.specs.Instance.{Instance, cells}
+use Rattle.rwsp_terms.specs.Instance.{Instance}
 use Rattle.rwsp_terms.specs.Rules.{rules, rule_of, IsShort}
 use Rattle.rwsp_model.specs.RuleNumbers.{IsShortNumber}
-use Rattle.refutation_terms.specs.Word.{Domains, weight, total}
-use Rattle.refutation_terms.specs.FreeWeekends.{free_weight}
-use Rattle.refutation_terms.specs.FreeLeaves.{free_total, IsTooLightFree}
-use Rattle.refutation_terms.specs.Leaf.{IsTooLight}
-use Rattle.potential_bounds.specs.Heaviest.{AreLighterFree}
-use Rattle.refutation_terms.specs.Escape.{IsLeastHeaviest}
 use Rattle.refutation_terms.specs.Log.{AreRules}
-
--- no clean word weighs enough where a heaviest one doesn't
-pub too_light : (P : Instance) (D : Domains) (p turns : ℕ) (R : List ℕ) (y : List Weight) (u : List Symbol) → IsLeastHeaviest P D p (turns * cells P) R y u → weight P y p u <ℤ (pos turns *ℤ total P y) → IsTooLight P D p turns R y
-too_light P D p turns R y u heavy light v long over clean =
-    let less = heavy.heavy.heaviest v (record { long = long; over = over; clean = clean }) in
-    omega (arith, ints, less, light)
-
--- nor with the reward for each free weekend, where they weigh less than this number of times the total
-pub too_light_free : {E : Type 0} (P : Instance) (goal : ℕ) (D : Domains) (turns reward : ℕ) (R : List ℕ) (y : List Weight) (least : ℤ) → least ≡ (pos turns *ℤ free_total P y reward goal) → (r : Result Bool E) → IfOk r (λ light. IsTrue light → AreLighterFree P D (turns * cells P) R y reward least) → IfOk r (λ light. IsTrue light → IsTooLightFree P goal D turns reward R y)
-too_light_free P goal D turns reward R y least is (Ok light) h = λ yes u long over clean. subst (λ (t : ℤ). free_weight P y reward 0 u <ℤ t) is (h yes u (record { long = long; over = over; clean = clean }))
-too_light_free P goal D turns reward R y least is (Err e) h = h
 
 -- the number of a short rule is one of the problem's
 number_within : (P : Instance) (k : ℕ) → IsShortNumber P k → (0 < k) × (k ≤ length (rules P))

@@ -1,29 +1,24 @@
 // A bound leaf or a free leaf, after an exact test.
-ghost use Rattle.std.specs.Prelude.{◌≡◌, ◌*◌, ◌<◌, ◌≤◌, ◌+◌, ℕ, IfOk, IfSome, OnOk, IsTrue, MatchOption, None, pos, neg_ℤ, ◌*ℤ◌, ◌<ℤ◌, ◌≤ℤ◌};
+ghost use Rattle.std.specs.Prelude.{◌≡◌, ◌*◌, ◌<◌, ◌≤◌, ◌+◌, IfOk, IfSome, OnOk, None, pos, neg_ℤ, ◌≤ℤ◌};
 ghost use Rattle.rwsp_terms.specs.Instance.{cells, IsDay};
 ghost use Rattle.rwsp_terms.specs.Rules.{NamesShortOnly};
-ghost use Rattle.refutation_terms.specs.Leaf.{IsTooLight};
 ghost use Rattle.rwsp_terms.specs.declared.limits.TheConstants.{GREATEST_REWARD};
-ghost use Rattle.refutation_terms.specs.FreeLeaves.{IsTooLightFree};
 ghost use Rattle.refutation_terms.specs.Log.{AreRules, AreWeightsOf, GoalFits};
 ghost use Rattle.domain_store.specs.Store.{BelongsTo, has_domain};
-ghost use Rattle.potential_bounds.specs.Heaviest.{AreLighterFree};
 ghost use Rattle.nearest_weights.specs.Found.{IsHoldingFreeLeaf, IsHoldingLeaf, IsHoldingLeafFor};
 
 use crate::demand::Shape;
 use domain_store::Domains;
-use potential_bounds::{free_total, heaviest, heaviest_free_reaching, total};
+use potential_bounds::{bound_escape, free_escape};
 use refutation_terms::Line;
 use rwsp_model::Problem;
-use rwsp_terms::limits::{
-    GREATEST_REWARD, GREATEST_WEIGHT, LONGEST_WORD, MOST_DAYS, MOST_SHIFTS, MOST_SYMBOLS,
-    MOST_WEEKS,
-};
+use rwsp_terms::limits::{GREATEST_REWARD, GREATEST_WEIGHT, LONGEST_WORD};
 use rwsp_terms::{Symbol, Weights};
 use std::alloc::{AllocError, Global};
 use word_tail::TailRules;
 
-// The leaf of these weights, one for each coordinate, where it holds: a bound leaf, or a free leaf of a log with this goal.
+// The leaf of these weights, one for each coordinate, where it holds: a bound leaf, or a free leaf of a log with this
+// goal.
 pub fn leaf_of(
     alloc: Global,
     problem: &Problem,
@@ -73,7 +68,7 @@ fn free_leaf_of(
     problem.prove_limits();
     let reward = reward_of(problem, weights);
     let weights = weights_of(alloc, problem, weights)?;
-    if !is_too_light_free(alloc, problem, tails, doms, goal, turns, reward, &weights)? {
+    if let Some(_) = free_escape(alloc, problem, tails, doms, goal, turns, reward, &weights)? {
         return Ok(None);
     }
     let rules = tails.rules().copy()?;
@@ -83,61 +78,6 @@ fn free_leaf_of(
         rules,
         weights,
     }))
-}
-
-// Whether each clean word of `turns` turns, from position 0 on, weighs less than `turns` times the total, with the reward
-// for each free weekend.
-fn is_too_light_free(
-    alloc: Global,
-    problem: &Problem,
-    tails: &TailRules,
-    doms: &Domains,
-    goal: u32,
-    turns: u32,
-    reward: u32,
-    weights: &Weights,
-) -> Result<bool, AllocError>
-    requires same { tails.now.problem ≡ problem.now }
-    requires belongs { BelongsTo problem.now doms.now }
-    requires week { problem.now.days ≡ 7 }
-    requires goal { goal ≤ problem.now.weeks + 1 }
-    requires some { 1 ≤ turns }
-    requires few { turns * cells problem.now ≤ LONGEST_WORD }
-    requires reward { reward ≤ GREATEST_REWARD }
-    ensures { IfOk result (λ light. IsTrue light
-        → IsTooLightFree problem.now goal (has_domain doms.now) turns reward tails.now.rules weights.now) }
-{
-    problem.prove_limits();
-    let total = free_total(problem, weights, reward, goal);
-    match i64::from(turns).checked_mul(total) {
-        Some(least) => are_lighter(alloc, problem, tails, doms, turns, reward, weights, least),
-        None => Ok(false),
-    }
-}
-
-// Whether each clean word of `turns` turns, from position 0 on, weighs less than this, with the reward for each free
-// weekend.
-fn are_lighter(
-    alloc: Global,
-    problem: &Problem,
-    tails: &TailRules,
-    doms: &Domains,
-    turns: u32,
-    reward: u32,
-    weights: &Weights,
-    least: i64,
-) -> Result<bool, AllocError>
-    requires same { tails.now.problem ≡ problem.now }
-    requires belongs { BelongsTo problem.now doms.now }
-    requires week { problem.now.days ≡ 7 }
-    requires some { 1 ≤ turns }
-    requires few { turns * cells problem.now ≤ LONGEST_WORD }
-    requires reward { reward ≤ GREATEST_REWARD }
-    ensures { IfOk result (λ light. IsTrue light → AreLighterFree problem.now
-        (has_domain doms.now) (turns * cells problem.now) tails.now.rules weights.now reward least) }
-{
-    let found = heaviest_free_reaching(alloc, problem, tails, doms, turns, weights, reward, least)?;
-    Ok(found.is_none())
 }
 
 // The reward among the weights of all coordinates.
@@ -171,7 +111,7 @@ fn bound_leaf_of(
 {
     problem.prove_limits();
     let weights = weights_of(alloc, problem, weights)?;
-    if !is_too_light(alloc, problem, tails, doms, p, turns, &weights)? {
+    if let Some(_) = bound_escape(alloc, problem, tails, doms, p, turns, &weights)? {
         return Ok(None);
     }
     let rules = tails.rules().copy()?;
@@ -181,45 +121,6 @@ fn bound_leaf_of(
         rules,
         weights,
     }))
-}
-
-// Whether each clean word of `turns` turns, from position `p` on, weighs less than `turns` times the total.
-fn is_too_light(
-    alloc: Global,
-    problem: &Problem,
-    tails: &TailRules,
-    doms: &Domains,
-    p: u32,
-    turns: u32,
-    weights: &Weights,
-) -> Result<bool, AllocError>
-    requires same { tails.now.problem ≡ problem.now }
-    requires belongs { BelongsTo problem.now doms.now }
-    requires position { p < cells problem.now }
-    requires some { 1 ≤ turns }
-    requires few { turns * cells problem.now ≤ LONGEST_WORD }
-    ensures { IfOk result (λ light.
-        IsTrue light → IsTooLight problem.now (has_domain doms.now) p turns tails.now.rules weights.now) }
-{
-    problem.prove_limits();
-    let Some(heavy) = heaviest(alloc, problem, tails, doms, p, turns, weights)? else {
-        return Ok(true);
-    };
-    if is_less(heavy.weight, turns, total(problem, weights)) {
-        Ok(true)
-    } else {
-        Ok(false)
-    }
-}
-
-// Whether the weight is less than `turns` times the total.
-fn is_less(weight: i64, turns: u32, total: i64) -> bool
-    requires few { turns ≤ LONGEST_WORD }
-    requires above { neg_ℤ (pos (GREATEST_WEIGHT * MOST_WEEKS * MOST_SHIFTS * MOST_SYMBOLS * MOST_DAYS)) ≤ℤ total }
-    requires below { total ≤ℤ pos (GREATEST_WEIGHT * MOST_WEEKS * MOST_SHIFTS * MOST_SYMBOLS * MOST_DAYS) }
-    ensures { IsTrue result → weight <ℤ (pos turns *ℤ total) }
-{
-    weight < i64::from(turns) * total
 }
 
 // The weights by day and symbol.

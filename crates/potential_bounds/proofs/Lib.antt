@@ -6,3 +6,4 @@ pub mod Stepping
 pub mod Searching
 pub mod WeightRows
 pub mod FreeWords
+pub mod LeafWords

@@ -1,7 +1,7 @@
 // The heaviest clean words of free logs, which have a reward for each free weekend.
-ghost use Rattle.std.specs.Prelude.{◌≡◌, ℕ, ◌+◌, ◌*◌, ◌≤◌, Option, Some, IfOk, MatchOption, ℤ, pos, ◌+ℤ◌, ◌≤ℤ◌};
+ghost use Rattle.std.specs.Prelude.{◌≡◌, ℕ, ◌+◌, ◌*◌, ◌≤◌, Option, Some, IfOk, MatchOption, ℤ, pos, neg_ℤ, ◌+ℤ◌, ◌≤ℤ◌};
 ghost use Rattle.rwsp_terms.specs.Instance.{cells};
-ghost use Rattle.rwsp_terms.specs.declared.limits.TheConstants.{GREATEST_REWARD, LONGEST_WORD, MOST_WEEKS};
+ghost use Rattle.rwsp_terms.specs.declared.limits.TheConstants.{GREATEST_REWARD, GREATEST_WEIGHT, LONGEST_WORD, MOST_DAYS, MOST_SHIFTS, MOST_SYMBOLS, MOST_WEEKS};
 ghost use Rattle.refutation_terms.specs.FreeLeaves.{free_total};
 ghost use Rattle.domain_store.specs.Store.{has_domain, BelongsTo};
 ghost use Rattle.potential_bounds.specs.FreeGains.{free_gain, is_off, reward_behind};
@@ -97,7 +97,11 @@ pub fn heaviest_free_reaching(
 pub fn free_total(problem: &Problem, weights: &Weights, reward: u32, goal: u32) -> i64
     requires reward { reward ≤ GREATEST_REWARD }
     requires goal { goal ≤ MOST_WEEKS + 1 }
-    ensures { result ≡ free_total problem.now weights.now reward goal }
+    ensures value { result ≡ free_total problem.now weights.now reward goal }
+    ensures above { neg_ℤ (pos (MOST_DAYS * (MOST_SYMBOLS * (GREATEST_WEIGHT * (MOST_SHIFTS * MOST_WEEKS))))) ≤ℤ
+        result }
+    ensures below { result ≤ℤ pos (MOST_DAYS * (MOST_SYMBOLS * (GREATEST_WEIGHT * (MOST_SHIFTS * MOST_WEEKS)))
+        + GREATEST_REWARD * (MOST_WEEKS + 1)) }
 {
     total(problem, weights) + i64::from(reward) * i64::from(goal)
 }

@@ -1,6 +1,7 @@
 //! Bounds by weights: what rosters weigh at least, the heaviest clean words, and the search for a bound that holds.
 #![tactic(auto)]
 
+mod escapes;
 mod first;
 mod free;
 mod gate;
@@ -12,6 +13,7 @@ mod tests;
 mod totals;
 mod weight_table;
 
+pub use escapes::{bound_escape, free_escape};
 pub use first::first_plain;
 pub use free::{free_total, heaviest_free, heaviest_free_reaching};
 pub use gate::{Gate, NoGate};

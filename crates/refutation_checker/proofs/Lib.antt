@@ -1,7 +1,6 @@
 pub mod Lists
 pub mod GoalLines
 pub mod Lines
-pub mod Bounds
 pub mod Judging
 pub mod Passing
 pub mod HeaderFaults

@@ -18,12 +18,12 @@ ghost use Rattle.tree_walk.specs.States.{IsStateOf};
 ghost use Rattle.refutation_checker.specs.LineVerdicts.{HoldsByWordsFor, IsSoundFor, LineCauseFor};
 ghost use Rattle.refutation_checker.specs.LineTexts.{IsLineRead, IsLineReadAs, IsSpellingRefusal, StillWalks};
 
-use crate::bound::{bound_escape, free_escape};
 use crate::kept_tails::tails_of;
 use crate::line_walk::step;
 use crate::plain_causes::plain_refusal;
 use domain_store::Domains;
 use layered_cycle::escape;
+use potential_bounds::{bound_escape, free_escape};
 use refutation_log::{LineRefusal, read_line, read_line_for};
 use refutation_terms::{Line, LogRefusal};
 use rwsp_model::{Fail, Problem};

@@ -1,7 +1,6 @@
 //! The verdict on a refutation's log: that it passes, or its first line that is refused, with the cause.
 #![tactic(auto)]
 
-mod bound;
 mod chunk;
 mod chunk_starts;
 mod free_check;

@@ -1,2 +1,4 @@
 mod Given
+pub mod SharpSplits
+mod Unweighed
 mod Sharpness

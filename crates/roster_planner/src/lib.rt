@@ -6,3 +6,4 @@ mod planning;
 mod reasons;
 
 pub use planning::plan_roster;
+pub use reasons::{CaseReasons, case_reasons};

@@ -1,8 +1,10 @@
-// The reasons by which a plan closes cases.
+// The reasons by which a search closes cases.
 ghost use Rattle.std.specs.Prelude.{IfOk};
 ghost use Rattle.refutation_terms.specs.Log.{TurnFits};
-ghost use Rattle.roster_planner.specs.Reasons.{AreReasons};
+ghost use Rattle.domain_store.specs.Store.{BelongsTo};
+ghost use Rattle.roster_planner.specs.Reasons.{AreCaseReasons, AreReasons, WeighNoWords};
 
+use domain_store::Domains;
 use kept_cycle::CycleProp;
 use potential_bounds::Gate;
 use propagators::{DayProp, Pair, Propagator, RootBounds, WindowProp};
@@ -15,10 +17,31 @@ use tree_walk::Walk;
 // The workers among whom the plain bounds are shared out.
 const WORKERS: u32 = 4;
 
-/// Windows, days, words of two turns, and bounds at the top, asked in this order.
-pub type Reasons = Pair<Pair<WindowProp, DayProp>, Pair<CycleProp, RootBounds>>;
+/// Windows, days and words of two turns, asked in this order.
+pub type CaseReasons = Pair<Pair<WindowProp, DayProp>, CycleProp>;
 
-/// The reasons of a problem, for a search that begins with the turn. The workers pass the gate.
+/// These, and bounds at the top.
+pub type Reasons = Pair<CaseReasons, RootBounds>;
+
+/// The reasons of a problem that weigh no words, for any search.
+pub fn case_reasons(
+    alloc: Global,
+    problem: &Problem,
+    doms: &Domains,
+) -> Result<CaseReasons, AllocError>
+    requires { BelongsTo problem.now doms.now }
+    ensures serves { IfOk result (λ r. ⟦<CaseReasons as Propagator>⟧.serves r problem.now) }
+    ensures reasons { IfOk result (λ r.
+        AreCaseReasons problem.now (⟦<CaseReasons as Propagator>⟧.leaves r) (⟦<CaseReasons as Propagator>⟧.spent r)) }
+    ensures unweighed { IfOk result (λ r. WeighNoWords (⟦<CaseReasons as Propagator>⟧.leaves r)) }
+{
+    let cycle = CycleProp::new(alloc, problem, doms)?;
+    let windows = WindowProp::new(alloc, problem, doms)?;
+    let days = DayProp::new(alloc, problem, doms)?;
+    Ok(Pair::new(Pair::new(windows, days), cycle))
+}
+
+/// The reasons of a plan, whose search begins with the turn. The workers pass the gate.
 pub fn reasons_of<R: Threads + Sync, G: Gate>(
     rt: &R,
     alloc: Global,
@@ -34,9 +57,7 @@ pub fn reasons_of<R: Threads + Sync, G: Gate>(
     problem.prove_limits();
     let walk = Walk::new(alloc, problem, turn)?;
     let doms = walk.domains();
-    let windows = WindowProp::new(alloc, problem, doms)?;
-    let days = DayProp::new(alloc, problem, doms)?;
-    let cycle = CycleProp::new(alloc, problem, doms)?;
+    let cases = case_reasons(alloc, problem, doms)?;
     let bounds = RootBounds::new(rt, alloc, problem, doms, WORKERS, gate)?;
-    Ok(Pair::new(Pair::new(windows, days), Pair::new(cycle, bounds)))
+    Ok(Pair::new(cases, bounds))
 }

@@ -6,6 +6,8 @@ use Rattle.rwsp_terms.specs.Roster.{MeetsAll}
 use Rattle.rwsp_model.specs.Schedule.{Schedule}
 use Rattle.refutation_terms.specs.FreeWeekends.{free_weekends}
 use Rattle.refutation_terms.specs.Log.{Log, FreePasses, IsSpentFor, size}
+use Rattle.roster_search.specs.declared.found.Found.{Found}
+use Rattle.roster_search.specs.declared.found.Found.TheVariants.{Roster, NoRoster as NoRosterFound, Undecided as UndecidedFound}
 use Rattle.weekend_best.specs.FreeSharp.{IsFreeSharp}
 use Rattle.weekend_best.specs.declared.found.BestFound.{BestFound}
 use Rattle.weekend_best.specs.declared.found.BestFound.TheVariants.{Best, NoRoster, Undecided}
@@ -30,6 +32,13 @@ IsBestFound P budget (Best s g) = IsMeeting P s × IsFreeProof P budget (free_we
 IsBestFound P budget (NoRoster g) = IsFreeProof P budget 0 g
 IsBestFound P budget (Undecided s g) =
     IfSome s (IsMeeting P) × IsSpentFor P (Some (goal_above s)) g budget × IsFreeSharp P (goal_above s) g
+
+-- what a search with one goal finds: a roster that meets every rule and has as many free weekends, or a proof that there
+-- is none, or a sharp log that has spent the budget
+abbrev pub IsFoundWith : Instance → ℕ → ℕ → Found → Type 0
+IsFoundWith P budget goal (Roster s) = IsMeeting P s × (goal ≤ free_weekends s.cells)
+IsFoundWith P budget goal (NoRosterFound g) = IsFreeProof P budget goal g
+IsFoundWith P budget goal (UndecidedFound g) = IsSpentFor P (Some goal) g budget × IsFreeSharp P goal g
 
 -- the budget was spent
 abbrev pub IsUndecided : BestFound → Type 0

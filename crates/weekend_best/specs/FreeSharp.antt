@@ -20,6 +20,12 @@ pub record IsFreeSharpSplit (P : Instance) (goal : ℕ) (D : Domains) (R : List 
 abbrev pub HoldsFreeAtTop : Instance → ℕ → List ℕ → Type 0
 HoldsFreeAtTop P goal R = IsTooLightFree P goal (full P) 1 1 R []
 
+-- it doesn't hold for the list of all short rules
+pub record FailsFreeAtTop (P : Instance) (goal : ℕ) : Type 0 where
+  pub short : List ℕ
+  pub all_short : NamesShortRules P short
+  pub fails : HoldsFreeAtTop P goal short → ⊥
+
 -- a sharp free log with this goal, by the list of all short rules: its header names what it cites and no more, and it
 -- is split or left open at the top only where that leaf doesn't hold
 pub record IsFreeSharp (P : Instance) (goal : ℕ) (g : Log) : Type 0 where

@@ -2,7 +2,10 @@
 #![tactic(auto)]
 
 mod found;
+mod guide;
+mod one_goal;
 mod raising;
+mod top_leaf;
 
 pub use found::BestFound;
 pub use raising::best;

@@ -1,16 +1,22 @@
 // A roster with the most free weekends, and why none has more.
 ghost use Rattle.std.specs.Prelude.{◌≡◌, ℕ, ◌+◌, ◌*◌, ◌^◌, ◌<◌, ◌≤◌, IfOk};
-ghost use Rattle.rwsp_terms.specs.Instance.{cells, shift_count};
-ghost use Rattle.weekend_best.specs.Bests.{IsBestFound, IsUndecided};
+ghost use Rattle.std.specs.Option.{IfSome};
+ghost use Rattle.rwsp_terms.specs.Instance.{Instance, cells, shift_count};
+ghost use Rattle.weekend_best.specs.Bests.{IsMeeting, IsFreeProof, IsBestFound, IsUndecided, goal_above};
 
 use crate::BestFound;
-use rwsp_model::Problem;
+use crate::one_goal::search_with;
+use refutation_log::Log;
+use roster_checker::free_weekends;
+use roster_search::Found;
+use rwsp_model::{Problem, Roster};
 use rwsp_terms::limits::GREATEST_BUDGET;
 use std::alloc::{AllocError, Global};
 
 /// The most free weekends that a roster of the problem can have: a roster with them, and the free log for one more.
 ///
-/// The budget is for the lines of each log.
+/// The goal is 0 at first, and one above the free weekends of each roster that is found. The budget is for the lines of
+/// each log.
 pub fn best(alloc: Global, problem: &Problem, budget: u32) -> Result<BestFound, AllocError>
     requires week { problem.now.days ≡ 7 }
     requires budget { (1 ≤ budget) × (budget ≤ GREATEST_BUDGET) }
@@ -18,5 +24,34 @@ pub fn best(alloc: Global, problem: &Problem, budget: u32) -> Result<BestFound, 
     ensures complete { IfOk result (λ found.
         IsUndecided found → budget + 1 < 2 * (shift_count problem.now + 1) ^ cells problem.now) }
 {
-    Err(AllocError)
+    problem.prove_limits();
+    let mut kept = None;
+    let mut goal = 0;
+    loop {
+        match search_with(alloc, problem, goal, budget)? {
+            Found::Roster(roster) => {
+                goal = free_weekends(problem, &roster) + 1;
+                kept = Some(roster);
+            }
+            Found::NoRoster(proof) => return Ok(ended(kept, proof)),
+            Found::Undecided(partial) => {
+                return Ok(BestFound::Undecided {
+                    roster: kept,
+                    partial,
+                });
+            }
+        }
+    }
+}
+
+// What is found where no roster has more free weekends than the one that is kept.
+fn ended(kept: Option<Roster>, proof: Log) -> BestFound
+    ensures decided { IsUndecided result → ⊥ }
+    ensures found { (P : Instance) (budget : ℕ) → IfSome kept (IsMeeting P) → IsFreeProof P budget (goal_above kept) proof
+        → IsBestFound P budget result }
+{
+    match kept {
+        Some(roster) => BestFound::Best { roster, proof },
+        None => BestFound::NoRoster(proof),
+    }
 }
