@@ -5,7 +5,5 @@
 mod counts;
 mod overruns;
 mod recount;
-#[cfg(test)]
-mod tests;
 
 pub use counts::Counts;

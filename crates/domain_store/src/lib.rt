@@ -5,8 +5,6 @@ mod change;
 mod domains;
 mod mark;
 mod symbol_set;
-#[cfg(test)]
-mod tests;
 
 pub use domains::Domains;
 pub use mark::Mark;

@@ -18,8 +18,6 @@ mod layers;
 mod sharing;
 mod step;
 mod tail_index;
-#[cfg(test)]
-mod tests;
 
 pub use best::{HeavyWord, best_word};
 pub use cut::{Cut, escape};

@@ -3,8 +3,6 @@
 
 mod ending;
 mod open_split;
-#[cfg(test)]
-mod tests;
 mod walk;
 
 pub use walk::Walk;
