@@ -71,6 +71,10 @@ fn weeks_of_other_days(rt: HostRuntime) -> Result<(), Fail> {
 const ONE_WEEK: &str =
     "7\n1\n3\n1 1 0 0 0 0 0\n0 0 1 1 1 0 0\n0 0 0 0 0 0 0\nD 360 480 2 7\nA 840 480 2 6\nN 1320 480 2 5\n2 4\n4 7\n3 0\nN D\nN A\nA D\n";
 
+// One week with two employees on its first day.
+const TWO_IN_ONE_WEEK: &str =
+    "7\n1\n3\n2 1 0 0 0 0 0\n0 0 1 1 1 0 0\n0 0 0 0 0 0 0\nD 360 480 2 7\nA 840 480 2 6\nN 1320 480 2 5\n2 4\n4 7\n3 0\nN D\nN A\nA D\n";
+
 // Whether `check-free` accepts the log for this problem, and the answer begins with `answer`.
 fn is_accepted<R: Threads + Sync>(
     rt: &R,
@@ -119,5 +123,22 @@ fn the_most_free_weekends(rt: HostRuntime) -> Result<(), Fail> {
         text.as_str()
             .starts_with("free 1\nD D A A A - -\nrwsp-free 1\n")
     );
+    Ok(())
+}
+
+// Where there is no roster, and where the budget is spent before one is found, a log of goal 0 is all that is printed.
+#[test]
+fn no_roster_to_be_best(rt: HostRuntime) -> Result<(), Fail> {
+    let alloc = rt.alloc();
+    let none = printed(&rt, alloc, &["best", "F"], TWO_IN_ONE_WEEK, 1)?;
+    let answer = "accepted: goal 0 rules ";
+    assert!(rt; is_accepted(&rt, alloc, TWO_IN_ONE_WEEK, none.as_str(), answer)?);
+    let words = ["best", "F", "--budget", "1"];
+    let spent = printed(&rt, alloc, &words, ONE_WEEK, 4)?;
+    assert!(rt; spent.as_str().contains("\ngoal 0\n"));
+    let files = [("F", ONE_WEEK), ("G", spent.as_str())];
+    let refused = ran(&rt, alloc, "check-free F G", &files, 0, 0)?;
+    assert_eq!(rt; refused.status, 5);
+    assert!(rt; refused.text.as_str() == "log refused: open line 5\n");
     Ok(())
 }
