@@ -1,5 +1,6 @@
 // Each call of the shelf and of the sink refused in turn, for every command: the fault's status, and nothing written or
 // a part of the text.
+use super::frees::{ONE_OF_THREE, ONE_WEEK, THREE_WEEKS};
 use super::logs::{SPLIT, TURN, TWOS};
 use super::plans::THREE_OF_FIVE;
 use super::staffs::{NONE_TO_THREE, TWO_OF_FOUR};
@@ -8,7 +9,7 @@ use std::test::Fail;
 
 // Command lines, with the texts of the files that they read: F, and G where there is a second one. A file without a
 // text isn't there, and isn't looked for.
-const RUNS: [(&str, &str, &str, u8); 18] = [
+const RUNS: [(&str, &str, &str, u8); 22] = [
     ("show F", TWO_DAYS, "", 0),
     ("plan F", TWO_DAYS, "", 0),
     ("plan F", TWOS, "", 1),
@@ -26,6 +27,10 @@ const RUNS: [(&str, &str, &str, u8); 18] = [
     ("staff F 6 6", TWO_OF_FOUR, "", 0),
     ("check-staff F G", TWOS, NONE_TO_THREE, 0),
     ("check-staff F G", "2\n", "", 3),
+    ("best F", ONE_WEEK, "", 0),
+    ("best F", TWO_DAYS, "", 3),
+    ("check-free F G", THREE_WEEKS, ONE_OF_THREE, 0),
+    ("check-free F G", TWO_DAYS, "", 3),
     ("show", "", "", 2),
 ];
 

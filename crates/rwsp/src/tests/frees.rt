@@ -9,12 +9,29 @@ use std::thread::Threads;
 pub const THREE_WEEKS: &str = "7\n3\n1\n2 2 2 2 2 2 2\nD 360 480 6 7\n2 4\n6 7\n0 0\n";
 
 // At most four days off in a row, and blocks of six or seven days of work: two of three weekends can't be free.
-const ONE_OF_THREE: &str = "rwsp-free 1\nrules 3 5 6\ngoal 2\nfree 1 1 rules 3 5 6 weights\n";
+pub const ONE_OF_THREE: &str = "rwsp-free 1\nrules 3 5 6\ngoal 2\nfree 1 1 rules 3 5 6 weights\n";
 
 const WITHOUT_THE_GREATEST_WORK: &str =
     "rwsp-free 1\nrules 3 6\ngoal 2\nfree 1 1 rules 3 6 weights\n";
 
 const MORE_THAN_WEEKS: &str = "rwsp-free 1\nrules\ngoal 4\nfew\n";
+
+const GREATEST_REWARD: &str = "rwsp-free 1\nrules 3 5 6\ngoal 2\nfree 1 1000 rules 3 5 6 weights\n";
+
+const TOO_GREAT_A_REWARD: &str =
+    "rwsp-free 1\nrules 3 5 6\ngoal 2\nfree 1 1001 rules 3 5 6 weights\n";
+
+// 16,800 days.
+const MOST_TURNS: &str = "rwsp-free 1\nrules 3 5 6\ngoal 2\nfree 800 1 rules 3 5 6 weights\n";
+
+const TOO_MANY_TURNS: &str = "rwsp-free 1\nrules 3 5 6\ngoal 2\nfree 801 1 rules 3 5 6 weights\n";
+
+const NO_TURN: &str = "rwsp-free 1\nrules 3 5 6\ngoal 2\nfree 0 1 rules 3 5 6 weights\n";
+
+// A bound leaf is none of a free log.
+const BOUND: &str = "rwsp-free 1\nrules 3 5 6\ngoal 2\nbound 1 1 1 rules 3 5 6 weights\n";
+
+const FORM_OF_LEAF: &str = "log refused: form line 4\n";
 
 const TOO_GREAT_A_GOAL: &str = "rwsp-free 1\nrules\ngoal 5\nfew\n";
 
@@ -29,6 +46,12 @@ fn free_logs(rt: HostRuntime) -> Result<(), Fail> {
             "log refused: escape line 4: D D D - - - - D D D D D D D D D D - - - -\n",
         ),
         (TOO_GREAT_A_GOAL, 5, "log refused: form line 3\n"),
+        (GREATEST_REWARD, 0, "accepted: goal 2 rules 3 5 6\n"),
+        (TOO_GREAT_A_REWARD, 5, FORM_OF_LEAF),
+        (MOST_TURNS, 0, "accepted: goal 2 rules 3 5 6\n"),
+        (TOO_MANY_TURNS, 5, FORM_OF_LEAF),
+        (NO_TURN, 5, FORM_OF_LEAF),
+        (BOUND, 5, FORM_OF_LEAF),
         ("", 5, "log refused: ends\n"),
     ];
     for (log, status, text) in cases {
@@ -68,7 +91,7 @@ fn weeks_of_other_days(rt: HostRuntime) -> Result<(), Fail> {
 }
 
 // One week with one roster.
-const ONE_WEEK: &str =
+pub const ONE_WEEK: &str =
     "7\n1\n3\n1 1 0 0 0 0 0\n0 0 1 1 1 0 0\n0 0 0 0 0 0 0\nD 360 480 2 7\nA 840 480 2 6\nN 1320 480 2 5\n2 4\n4 7\n3 0\nN D\nN A\nA D\n";
 
 // One week with two employees on its first day.

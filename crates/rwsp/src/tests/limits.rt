@@ -7,7 +7,7 @@ use rwsp_io::MemorySink;
 use std::test::Fail;
 
 // What is a command line finds no file; what isn't is answered by the usage.
-const LINES: [(&str, u8, &str); 58] = [
+const LINES: [(&str, u8, &str); 66] = [
     ("", 2, USAGE),
     ("show", 2, USAGE),
     ("show ", 2, USAGE),
@@ -66,6 +66,14 @@ const LINES: [(&str, u8, &str); 58] = [
     ("staff F 1 2 --budget 10001", 2, USAGE),
     ("check-staff F G", 6, ""),
     ("check-staff F", 2, USAGE),
+    ("best F", 6, ""),
+    ("best", 2, USAGE),
+    ("best F --budget 0", 2, USAGE),
+    ("best F --budget 1", 6, ""),
+    ("best F --budget 200000", 6, ""),
+    ("best F --budget 200001", 2, USAGE),
+    ("check-free F G", 6, ""),
+    ("check-free F", 2, USAGE),
 ];
 
 #[test]
