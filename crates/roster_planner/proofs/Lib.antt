@@ -1,4 +1,4 @@
-mod Given
+pub mod Given
 pub mod SharpSplits
 mod Unweighed
 mod Sharpness
