@@ -13,7 +13,7 @@ use Rattle.refutation_terms.specs.Word.{turned}
 use Rattle.refutation_terms.proofs.Turning.{length-turned, cell-turned, cell-within, weeks_with-turned}
 use Rattle.refutation_terms.proofs.Counts.{in_column}
 use Rattle.crew_calendar.specs.Crew.{symbol_on}
-use Rattle.crew_calendar.specs.Facts.{crew_with, weekday, IsStaffed}
+use Rattle.crew_calendar.specs.Facts.{crew_with, weekday, MeetsDemandDaily}
 use Rattle.crew_calendar.proofs.Standing.{symbol-cell}
 
 -- a count over numbers from a + 1 on is one over numbers from a on
@@ -49,7 +49,7 @@ crew-weeks P s t x some days long =
     (λ i le lt. ap (λ (z : Symbol). z.number == x) (symbol-turned P s i t some days long (omega (arith, lt))))
     ∙ weeks_with-turned P (t / P.days) s x (weekday P t) some day long
 
-pub is_staffed : (P : Instance) (s : List Symbol) → 0 < cells P → 0 < P.days → MeetsAll P s → IsStaffed P s
+pub is_staffed : (P : Instance) (s : List Symbol) → 0 < cells P → 0 < P.days → MeetsAll P s → MeetsDemandDaily P s
 is_staffed P s some days meets t x known =
     let r : t % P.days < P.days = mod_below t P.days days in
     let day : IsDay P (weekday P t) = (omega arith, omega (arith, r)) in

@@ -8,7 +8,7 @@ use Rattle.rwsp_terms.specs.Instance.{Instance, cells, off_symbol}
 use Rattle.rwsp_terms.specs.Window.{Bad, cell, window}
 use Rattle.rwsp_terms.specs.Roster.{IsRoster, MeetsAll}
 use Rattle.refutation_terms.proofs.Windows.{no_bad_met}
-use Rattle.crew_calendar.specs.Crew.{position_of, symbol_on}
+use Rattle.crew_calendar.specs.Crew.{position_on, symbol_on}
 use Rattle.crew_calendar.specs.Facts.{stretch, FollowsCycle, IsClean, GoesRound}
 
 -- an employee has the symbols of the endless cycle, from his week on
@@ -57,7 +57,7 @@ goes_round P some e t p less =
     let n = cells P in
     let a = (e - 1) * P.days + t in
     let found = reached n a p some less in
-    let at : (k : ℕ) → position_of P e (t + k) ≡ (a + k) % n = λ k. let e : (e - 1) * P.days + (t + k) ≡ a + k = omega arith in ap (λ q. q % n) e in (
+    let at : (k : ℕ) → position_on P e (t + k) ≡ (a + k) % n = λ k. let e : (e - 1) * P.days + (t + k) ≡ a + k = omega arith in ap (λ q. q % n) e in (
       found.0,
       record {
         within = found.1;

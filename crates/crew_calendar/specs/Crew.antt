@@ -13,9 +13,9 @@ employees P = range_with_len 1 P.weeks
 
 -- the position of an employee on a day, where days count from 0: each starts in the week of his number, and all move
 -- round the cycle
-abbrev pub position_of : Instance → ℕ → ℕ → ℕ
-position_of P e t = ((e - 1) * P.days + t) % cells P
+abbrev pub position_on : Instance → ℕ → ℕ → ℕ
+position_on P e t = ((e - 1) * P.days + t) % cells P
 
 -- the symbol of an employee on a day
 abbrev pub symbol_on : Instance → List Symbol → ℕ → ℕ → Symbol
-symbol_on P s e t = slice_index_or s (position_of P e t) off_symbol
+symbol_on P s e t = slice_index_or s (position_on P e t) off_symbol

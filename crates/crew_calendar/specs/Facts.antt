@@ -6,7 +6,7 @@ use Rattle.rwsp_terms.specs.Window.{Bad, window}
 use Rattle.rwsp_terms.specs.Roster.{IsRoster, IsRule, MeetsAll}
 use Rattle.rwsp_terms.specs.declared.data.Symbol.{Symbol}
 use Rattle.rwsp_terms.specs.declared.data.Rule.{Rule}
-use Rattle.crew_calendar.specs.Crew.{employees, position_of, symbol_on}
+use Rattle.crew_calendar.specs.Crew.{employees, position_on, symbol_on}
 
 -- how many employees have a symbol on a day
 abbrev pub crew_with : Instance → List Symbol → ℕ → ℕ → ℕ
@@ -18,8 +18,8 @@ weekday P t = t % P.days + 1
 
 -- on each day each symbol, the day off too, has at least as many employees as the least demand and at most as many as
 -- the greatest
-abbrev pub IsStaffed : Instance → List Symbol → Type 0
-IsStaffed P s =
+abbrev pub MeetsDemandDaily : Instance → List Symbol → Type 0
+MeetsDemandDaily P s =
     (t x : ℕ) → x ≤ shift_count P
     → (least P x (weekday P t) ≤ℤ pos (crew_with P s t x)) × (pos (crew_with P s t x) ≤ℤ greatest P x (weekday P t))
 
@@ -38,8 +38,8 @@ IsClean P s = (e t days : ℕ) (r : Rule) → IsRule P r → Bad P r (stretch P 
 -- the employee is at the position on this one of the days of a round that begins on day t, and on no other
 pub record StandsOnce (P : Instance) (e t p day : ℕ) : Type 0 where
   pub within : day < cells P
-  pub here : position_of P e (t + day) ≡ p
-  pub only : (other : ℕ) → other < cells P → position_of P e (t + other) ≡ p → other ≡ day
+  pub here : position_on P e (t + day) ≡ p
+  pub only : (other : ℕ) → other < cells P → position_on P e (t + other) ≡ p → other ≡ day
 
 -- in as many days as the cycle has, an employee is once at each position
 abbrev pub GoesRound : Instance → Type 0
@@ -47,7 +47,7 @@ GoesRound P = (e t p : ℕ) → p < cells P → (day : ℕ) × StandsOnce P e t 
 
 -- the same for every instance that has a day
 abbrev pub DemandIsMetDaily : Type 0
-DemandIsMetDaily = (P : Instance) (s : List Symbol) → 0 < cells P → MeetsAll P s → IsStaffed P s
+DemandIsMetDaily = (P : Instance) (s : List Symbol) → 0 < cells P → MeetsAll P s → MeetsDemandDaily P s
 
 abbrev pub EmployeesFollowTheCycle : Type 0
 EmployeesFollowTheCycle = (P : Instance) (s : List Symbol) → IsRoster P s → FollowsCycle P s

@@ -5,7 +5,7 @@ ghost use Rattle.rwsp_terms.specs.Roster.{IsRoster, MeetsAll};
 ghost use Rattle.jiff.specs.Words.{date_text};
 ghost use Rattle.crew_calendar.specs.Calendar.{FitsDates};
 ghost use Rattle.crew_calendar.specs.Texts.{crew_text, IsTable};
-ghost use Rattle.crew_calendar.specs.Facts.{IsStaffed, FollowsCycle, IsClean, GoesRound};
+ghost use Rattle.crew_calendar.specs.Facts.{MeetsDemandDaily, FollowsCycle, IsClean, GoesRound};
 
 use crate::calendar::date_after;
 use crate::places::symbol_on;
@@ -103,7 +103,7 @@ pub fn crew_table(
     ensures table { IfOk result (λ text. IsTable problem.now roster.now.cells date days text.items) }
 
     // What a planner may rely on.
-    ensures staffed { MeetsAll problem.now roster.now.cells → IsStaffed problem.now roster.now.cells }
+    ensures staffed { MeetsAll problem.now roster.now.cells → MeetsDemandDaily problem.now roster.now.cells }
     ensures cycle { FollowsCycle problem.now roster.now.cells }
     ensures clean { MeetsAll problem.now roster.now.cells → IsClean problem.now roster.now.cells }
     ensures round { GoesRound problem.now }

@@ -2,7 +2,7 @@
 ghost use Rattle.std.specs.Prelude.{◌≡◌, ◌+◌, ◌*◌, ◌<◌, ◌≤◌, length};
 ghost use Rattle.rwsp_terms.specs.Instance.{cells};
 ghost use Rattle.rwsp_terms.specs.Roster.{IsRoster};
-ghost use Rattle.crew_calendar.specs.Crew.{position_of, symbol_on, IsEmployee};
+ghost use Rattle.crew_calendar.specs.Crew.{position_on, symbol_on, IsEmployee};
 
 use rwsp_model::Problem;
 use rwsp_terms::Symbol;
@@ -12,7 +12,7 @@ use rwsp_terms::limits::LONGEST_CALENDAR;
 pub fn place(problem: &Problem, employee: u32, t: u32) -> u32
     requires employee { IsEmployee problem.now employee }
     requires day { t < LONGEST_CALENDAR }
-    ensures value { result ≡ position_of problem.now employee t }
+    ensures value { result ≡ position_on problem.now employee t }
     ensures within { result < cells problem.now }
 {
     problem.prove_limits();

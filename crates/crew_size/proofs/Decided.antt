@@ -20,7 +20,7 @@ use Rattle.crew_size.specs.Fitting.{EndFits, FitsSizes}
 use Rattle.crew_size.specs.Runs.{IsEnd, IsStaffed}
 use Rattle.crew_size.specs.Sections.{ArePassing, BeginsAsHeading, IsHeadingsPlace, IsNextSize}
 use Rattle.crew_size.specs.Verdict.{IsStaffAccepted}
-use Rattle.crew_size.specs.Laws.{HasNoRoster, IsDecided, decision_at, decision_of, AcceptedTextsDecide, SearchesDecide, SearchesAgree, EnoughBudgetDecides, PrintedRunsAreAccepted}
+use Rattle.crew_size.specs.Laws.{HasNoRoster, AreSizesDecided, decision_at, decision_of, AcceptedTextsDecide, SearchesDecide, SearchesAgree, EnoughBudgetDecides, PrintedRunsAreAccepted}
 use Rattle.crew_size.specs.declared.run.StaffEnd.{StaffEnd}
 use Rattle.crew_size.specs.declared.run.StaffEnd.TheVariants as Ends
 use Rattle.crew_size.specs.declared.verdict.Staffed.{Staffed}
@@ -60,10 +60,10 @@ accepted_decide P text (NoneTo low last) h = (
 
 -- what a search of these sizes decides
 abbrev IsDecidedWithin : Instance → ℕ → ℕ → Staffed → Type 0
-IsDecidedWithin P low high (Least a m) = (a ≡ low) × (m ≤ high) × IsDecided P (Least a m)
-IsDecidedWithin P low high (NoneTo a last) = (a ≡ low) × (last ≡ high) × IsDecided P (NoneTo a last)
+IsDecidedWithin P low high (Least a m) = (a ≡ low) × (m ≤ high) × AreSizesDecided P (Least a m)
+IsDecidedWithin P low high (NoneTo a last) = (a ≡ low) × (last ≡ high) × AreSizesDecided P (NoneTo a last)
 
-decided_of : (P : Instance) (low high : ℕ) (staffed : Staffed) → IsDecidedWithin P low high staffed → IsDecided P staffed
+decided_of : (P : Instance) (low high : ℕ) (staffed : Staffed) → IsDecidedWithin P low high staffed → AreSizesDecided P staffed
 decided_of P low high (Least a m) h = h.2
 decided_of P low high (NoneTo a last) h = h.2
 

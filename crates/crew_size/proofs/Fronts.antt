@@ -14,7 +14,7 @@ use Rattle.refutation_terms.specs.LogText.{log_text}
 use Rattle.crew_size.specs.Sizes.{with_weeks, IsSize}
 use Rattle.crew_size.specs.Texts.{heading, refuted_line, section_text, sections_text}
 use Rattle.crew_size.specs.Sections.{ArePassing, StandsBehindLogs, IsHeadingsPlace, BeginsAsHeading, AreUpToHeading, IsNextSize, IsLastSize, line_behind}
-use Rattle.crew_size.specs.Places.{AreSizes, IsNext, IsLast}
+use Rattle.crew_size.specs.Places.{AreSizes, IsNextOf, IsLastOf}
 use Rattle.crew_size.proofs.Cuts.{rest_of_cut}
 
 -- a list with one more at its end
@@ -123,21 +123,21 @@ sizes_one_more low m (h ∷ logs) g e =
 
 -- sizes of sections, and those that may come next
 
-pub next_of : (P : Instance) (low : ℕ) (logs : List Log) (sizes : Option (ℕ × ℕ)) (m : ℕ) → AreSizes low logs sizes → IsNext P sizes m → IsNextSize P low logs m
-next_of P low [] sizes m e h = subst (λ (s : Option (ℕ × ℕ)). IsNext P s m) e h
-next_of P low (g ∷ logs) sizes m e h = subst (λ (s : Option (ℕ × ℕ)). IsNext P s m) e h
+pub next_of : (P : Instance) (low : ℕ) (logs : List Log) (sizes : Option (ℕ × ℕ)) (m : ℕ) → AreSizes low logs sizes → IsNextOf P sizes m → IsNextSize P low logs m
+next_of P low [] sizes m e h = subst (λ (s : Option (ℕ × ℕ)). IsNextOf P s m) e h
+next_of P low (g ∷ logs) sizes m e h = subst (λ (s : Option (ℕ × ℕ)). IsNextOf P s m) e h
 
-pub is_next : (P : Instance) (low : ℕ) (logs : List Log) (sizes : Option (ℕ × ℕ)) (m : ℕ) → AreSizes low logs sizes → IsNextSize P low logs m → IsNext P sizes m
-is_next P low [] sizes m e h = subst (λ (s : Option (ℕ × ℕ)). IsNext P s m) (sym e) h
-is_next P low (g ∷ logs) sizes m e h = subst (λ (s : Option (ℕ × ℕ)). IsNext P s m) (sym e) h
+pub is_next : (P : Instance) (low : ℕ) (logs : List Log) (sizes : Option (ℕ × ℕ)) (m : ℕ) → AreSizes low logs sizes → IsNextSize P low logs m → IsNextOf P sizes m
+is_next P low [] sizes m e h = subst (λ (s : Option (ℕ × ℕ)). IsNextOf P s m) (sym e) h
+is_next P low (g ∷ logs) sizes m e h = subst (λ (s : Option (ℕ × ℕ)). IsNextOf P s m) (sym e) h
 
-pub last_of : (low : ℕ) (logs : List Log) (sizes : Option (ℕ × ℕ)) (last : ℕ) → AreSizes low logs sizes → IsLast sizes last → IsLastSize low logs last
-last_of low [] sizes last e h = absurd (subst (λ (s : Option (ℕ × ℕ)). IsLast s last) e h)
-last_of low (g ∷ logs) sizes last e h = (omega arith, subst (λ (s : Option (ℕ × ℕ)). IsLast s last) e h)
+pub last_of : (low : ℕ) (logs : List Log) (sizes : Option (ℕ × ℕ)) (last : ℕ) → AreSizes low logs sizes → IsLastOf sizes last → IsLastSize low logs last
+last_of low [] sizes last e h = absurd (subst (λ (s : Option (ℕ × ℕ)). IsLastOf s last) e h)
+last_of low (g ∷ logs) sizes last e h = (omega arith, subst (λ (s : Option (ℕ × ℕ)). IsLastOf s last) e h)
 
-pub is_last : (low : ℕ) (logs : List Log) (sizes : Option (ℕ × ℕ)) (last : ℕ) → AreSizes low logs sizes → IsLastSize low logs last → IsLast sizes last
+pub is_last : (low : ℕ) (logs : List Log) (sizes : Option (ℕ × ℕ)) (last : ℕ) → AreSizes low logs sizes → IsLastSize low logs last → IsLastOf sizes last
 is_last low [] sizes last e h = absurd (omega (arith, h.0))
-is_last low (g ∷ logs) sizes last e h = subst (λ (s : Option (ℕ × ℕ)). IsLast s last) (sym e) h.1
+is_last low (g ∷ logs) sizes last e h = subst (λ (s : Option (ℕ × ℕ)). IsLastOf s last) (sym e) h.1
 
 -- the size is that behind the sections, or there is none
 pub size_behind : (P : Instance) (low : ℕ) (logs : List Log) (m : ℕ) → IsNextSize P low logs m → IsSize P m

@@ -11,7 +11,7 @@ use Rattle.std.proofs.lemmas.Str.Parse.{digits_value_short}
 use Rattle.rwsp_text.specs.Numbers.{number_of, value_of}
 use Rattle.rwsp_text.proofs.Printed.{ascii_digits_model, printed_is_read}
 use Rattle.crew_size.specs.Sections.{BeginsAsHeading}
-use Rattle.crew_size.specs.Places.{heading_line, IsWritten, HasNumber, HasNoNumber}
+use Rattle.crew_size.specs.Places.{heading_line, IsHeadingNumber, HasNumber, HasNoNumber}
 use Rattle.crew_size.specs.declared.heading.Heading.{Heading}
 use Rattle.crew_size.specs.declared.heading.Heading.TheVariants.{Refuted, Found, NoneTo}
 
@@ -64,7 +64,7 @@ between line word close rest digits (Some n) e f h =
     (h.0, h.1, e ∙ ap (λ t. word ++ t) (f ∙ ap (λ t. t ++ close) (h.2 ∙ append-nil (decimal n))))
 
 -- a line that is none of the three is no heading
-pub no_heading : (line : List ℕ) → HasNoNumber line (codes "weeks ") (codes " none" ++ 10 ∷ []) → HasNoNumber line (codes "weeks ") (codes " roster" ++ 10 ∷ []) → HasNoNumber line (codes "none to ") (10 ∷ []) → (h : Heading) → IsWritten h → line ≢ heading_line h
+pub no_heading : (line : List ℕ) → HasNoNumber line (codes "weeks ") (codes " none" ++ 10 ∷ []) → HasNoNumber line (codes "weeks ") (codes " roster" ++ 10 ∷ []) → HasNoNumber line (codes "none to ") (10 ∷ []) → (h : Heading) → IsHeadingNumber h → line ≢ heading_line h
 no_heading line a b c (Refuted m) w = a m w.0 w.1
 no_heading line a b c (Found m) w = b m w.0 w.1
 no_heading line a b c (NoneTo m) w = c m w.0 w.1

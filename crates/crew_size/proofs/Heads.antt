@@ -23,13 +23,14 @@ use Rattle.roster_checker.specs.declared.broken.Broken.{Broken}
 use Rattle.roster_checker.proofs.FirstBroken.{first_broken-same, first_broken-not_met}
 use Rattle.refutation_terms.specs.declared.lines.LogRefusal.{LogRefusal}
 use Rattle.refutation_terms.specs.Log.{Log}
-use Rattle.refutation_terms.specs.Verdict.{IsNextLine, IsRefused, IsAccepted}
+use Rattle.rwsp_text.specs.Lines.{IsNextLine}
+use Rattle.refutation_terms.specs.Verdict.{IsRefused, IsAccepted}
 use Rattle.refutation_terms.proofs.Unique.{verdict_unique}
 use Rattle.refutation_log.proofs.OneText.{is_writable, has_names}
 use Rattle.crew_size.specs.Sizes.{with_weeks, IsSize}
 use Rattle.crew_size.specs.Texts.{heading, refuted_line, roster_line, none_line}
 use Rattle.crew_size.specs.Sections.{AreUpToHeading}
-use Rattle.crew_size.specs.Places.{MayStand, IsNext, IsWritten, heading_line, first_size}
+use Rattle.crew_size.specs.Places.{MayFollow, IsNextOf, IsHeadingNumber, heading_line, first_size}
 use Rattle.crew_size.specs.declared.heading.Heading.{Heading}
 use Rattle.crew_size.specs.declared.heading.Heading.TheVariants.{Refuted, Found, NoneTo}
 use Rattle.crew_size.specs.declared.verdict.Staffed.{Staffed}
@@ -75,16 +76,16 @@ OfEnd first last n bytes o =
 
 -- what follows a heading on line n behind sections of these sizes
 abbrev pub OfHeading : Instance → Option (ℕ × ℕ) → ℕ → Heading → List ℕ → Outcome → Type 0
-OfHeading P sizes n (Refuted m) bytes o = IsNext P sizes m × OfLog P m bytes o
-OfHeading P sizes n (Found m) bytes o = IsNext P sizes m × OfRoster P (first_size sizes m) m n bytes o
+OfHeading P sizes n (Refuted m) bytes o = IsNextOf P sizes m × OfLog P m bytes o
+OfHeading P sizes n (Found m) bytes o = IsNextOf P sizes m × OfRoster P (first_size sizes m) m n bytes o
 OfHeading P sizes n (NoneTo last) bytes o = OfEnd (first_size sizes last) last n bytes o
 
 -- what is left of a text behind sections of these sizes, from line n on
 abbrev pub OfRest : Instance → Option (ℕ × ℕ) → ℕ → List ℕ → Outcome → Type 0
 OfRest P sizes n rest o =
     ((rest ≡ []) × (o ≡ refused Refusals.Ends))
-    ⊎ (((line : List ℕ) × (more : List ℕ) × (rest ≡ line ++ more) × IsNextLine line more × ((h : Heading) → IsWritten h → MayStand P sizes h → line ≢ heading_line h) × (o ≡ refused (Refusals.Form n)))
-    ⊎ ((h : Heading) × (more : List ℕ) × (rest ≡ heading_line h ++ more) × IsWritten h × MayStand P sizes h × OfHeading P sizes n h more o))
+    ⊎ (((line : List ℕ) × (more : List ℕ) × (rest ≡ line ++ more) × IsNextLine line more × ((h : Heading) → IsHeadingNumber h → MayFollow P sizes h → line ≢ heading_line h) × (o ≡ refused (Refusals.Form n)))
+    ⊎ ((h : Heading) × (more : List ℕ) × (rest ≡ heading_line h ++ more) × IsHeadingNumber h × MayFollow P sizes h × OfHeading P sizes n h more o))
 
 -- headings are lines
 
@@ -138,12 +139,12 @@ word_feedless (b ∷ w) h =
     let p = and_parts (not (b == 10)) (list_all (λ b. not (b == 10)) w) h in
     All-cons (λ b. b ≢ 10) b w (λ e. let no : not (10 == 10) ≡ true = subst (λ c. not (c == 10) ≡ true) e p.0 in absurd (cc)) (word_feedless w p.1)
 
-body_feedless : (h : Heading) → IsWritten h → All (λ b. b ≢ 10) (heading_body h)
+body_feedless : (h : Heading) → IsHeadingNumber h → All (λ b. b ≢ 10) (heading_body h)
 body_feedless (Refuted m) w = both_feedless (codes "weeks ") (decimal m ++ codes " none") (word_feedless (codes "weeks ") refl) (both_feedless (decimal m) (codes " none") (digits_feedless (decimal m) (digits_printed m w.1)) (word_feedless (codes " none") refl))
 body_feedless (Found m) w = both_feedless (codes "weeks ") (decimal m ++ codes " roster") (word_feedless (codes "weeks ") refl) (both_feedless (decimal m) (codes " roster") (digits_feedless (decimal m) (digits_printed m w.1)) (word_feedless (codes " roster") refl))
 body_feedless (NoneTo m) w = both_feedless (codes "none to ") (decimal m) (word_feedless (codes "none to ") refl) (digits_feedless (decimal m) (digits_printed m w.1))
 
-pub heading_is_first : (h : Heading) (t line rest : List ℕ) → IsWritten h → heading_line h ++ t ≡ line ++ rest → IsNextLine line rest → line ≡ heading_line h
+pub heading_is_first : (h : Heading) (t line rest : List ℕ) → IsHeadingNumber h → heading_line h ++ t ≡ line ++ rest → IsNextLine line rest → line ≡ heading_line h
 heading_is_first h t line rest w e next =
     first_line (heading_body h) t line rest (body_feedless h w) (ap (λ b. b ++ t) (sym (body_line h)) ∙ e) next ∙ sym (body_line h)
 
@@ -200,7 +201,7 @@ refuted_or_found m k t u a b e =
     let once = numbers_once m k 32 32 (codes "none" ++ 10 ∷ t) (codes "roster" ++ 10 ∷ u) a b refl refl (same_word (codes "weeks ") m k (codes " none") (codes " roster") t u e) in
     let other = once.1 in cc
 
-pub headings_once : (h k : Heading) (t u : List ℕ) → IsWritten h → IsWritten k → heading_line h ++ t ≡ heading_line k ++ u → h ≡ k
+pub headings_once : (h k : Heading) (t u : List ℕ) → IsHeadingNumber h → IsHeadingNumber k → heading_line h ++ t ≡ heading_line k ++ u → h ≡ k
 headings_once (Refuted m) (Refuted k) t u w v e = ap (λ (n : ℕ). Refuted n) (refuted_once m k t u w.1 v.1 e).0
 headings_once (Refuted m) (Found k) t u w v e = absurd (refuted_or_found m k t u w.1 v.1 e)
 headings_once (Refuted m) (NoneTo k) t u w v e = let z : 119 ≡ 110 = ap (λ l. get_or l 0 0) e in absurd (omega (arith, z))
@@ -212,10 +213,10 @@ headings_once (NoneTo m) (Found k) t u w v e = let z : 110 ≡ 119 = ap (λ l. g
 headings_once (NoneTo m) (NoneTo k) t u w v e = ap (λ (n : ℕ). NoneTo n) (none_once m k t u w.1 v.1 e).0
 
 -- a line that is one heading, which may not be there, is no other that may
-pub no_other : (P : Instance) (sizes : Option (ℕ × ℕ)) (line : List ℕ) (h : Heading) → IsWritten h → line ≡ heading_line h → (MayStand P sizes h → ⊥) → (k : Heading) → IsWritten k → MayStand P sizes k → line ≢ heading_line k
+pub no_other : (P : Instance) (sizes : Option (ℕ × ℕ)) (line : List ℕ) (h : Heading) → IsHeadingNumber h → line ≡ heading_line h → (MayFollow P sizes h → ⊥) → (k : Heading) → IsHeadingNumber k → MayFollow P sizes k → line ≢ heading_line k
 no_other P sizes line h w e never k v may f =
     let same : h ≡ k = headings_once h k [] [] w v (ap (λ l. l ++ []) (sym e ∙ f)) in
-    never (subst (MayStand P sizes) (sym same) may)
+    never (subst (MayFollow P sizes) (sym same) may)
 
 -- one outcome for each heading
 
@@ -287,11 +288,11 @@ end_once first last n bytes o p (inl (none, e)) (inr (more, f)) = absurd (more n
 end_once first last n bytes o p (inr (more, f)) (inl (none, e)) = absurd (more none)
 end_once first last n bytes o p (inr (more, e)) (inr (more', f)) = e ∙ sym f
 
-size_of_next : (P : Instance) (sizes : Option (ℕ × ℕ)) (m : ℕ) → IsNext P sizes m → IsSize P m
+size_of_next : (P : Instance) (sizes : Option (ℕ × ℕ)) (m : ℕ) → IsNextOf P sizes m → IsSize P m
 size_of_next P None m h = h
 size_of_next P (Some sizes) m h = h.0
 
-heading_once : (P : Instance) (sizes : Option (ℕ × ℕ)) (n : ℕ) (h k : Heading) (t u : List ℕ) (o p : Outcome) → KeepsLimits P → IsWritten h → IsWritten k → heading_line h ++ t ≡ heading_line k ++ u → OfHeading P sizes n h t o → OfHeading P sizes n k u p → o ≡ p
+heading_once : (P : Instance) (sizes : Option (ℕ × ℕ)) (n : ℕ) (h k : Heading) (t u : List ℕ) (o p : Outcome) → KeepsLimits P → IsHeadingNumber h → IsHeadingNumber k → heading_line h ++ t ≡ heading_line k ++ u → OfHeading P sizes n h t o → OfHeading P sizes n k u p → o ≡ p
 heading_once P sizes n (Refuted m) (Refuted k) t u o p limits w v e a b =
     let once = refuted_once m k t u w.1 v.1 e in
     let other : OfLog P m t p = subst (λ (l : ℕ). OfLog P l t p) (sym once.0) (subst (λ (l : List ℕ). OfLog P k l p) (sym once.1) b.1) in

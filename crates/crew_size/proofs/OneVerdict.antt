@@ -11,7 +11,7 @@ use Rattle.crew_size.specs.Sizes.{with_weeks, IsSize}
 use Rattle.crew_size.specs.Texts.{refuted_line, roster_line, none_line, section_text, sections_text}
 use Rattle.crew_size.specs.Sections.{BeginsAsHeading, AreUpToHeading, ArePassing, StandsBehindLogs, IsHeadingsPlace, IsNextSize, IsLastSize, IsHeading, line_behind}
 use Rattle.crew_size.specs.Verdict.{IsStaffVerdict}
-use Rattle.crew_size.specs.Places.{AreSizes, IsNext, MayStand, heading_line, first_size}
+use Rattle.crew_size.specs.Places.{AreSizes, IsNextOf, MayFollow, heading_line, first_size}
 use Rattle.crew_size.specs.Laws.{StaffTextsHaveOneVerdict}
 use Rattle.crew_size.specs.declared.heading.Heading.{Heading}
 use Rattle.crew_size.specs.declared.heading.Heading.TheVariants.{Refuted, Found, NoneTo}
@@ -46,12 +46,12 @@ record IsSaid (P : Instance) (text : List ℕ) (o : Outcome) : Type 0 where
   stands : StandsBehindLogs P text low logs rest
   said : OfRest P (sizes_of low logs) (line_of P low logs) rest o
 
-stands_as : (P : Instance) (low : ℕ) (logs : List Log) (h : Heading) (line : List ℕ) → MayStand P (sizes_of low logs) h → line ≡ heading_line h → IsHeading P low logs line
+stands_as : (P : Instance) (low : ℕ) (logs : List Log) (h : Heading) (line : List ℕ) → MayFollow P (sizes_of low logs) h → line ≡ heading_line h → IsHeading P low logs line
 stands_as P low logs (Refuted m) line may e = inl (m, next_of P low logs (sizes_of low logs) m (are_sizes low logs) may, inl e)
 stands_as P low logs (Found m) line may e = inl (m, next_of P low logs (sizes_of low logs) m (are_sizes low logs) may, inr e)
 stands_as P low logs (NoneTo m) line may e = inr (m, last_of low logs (sizes_of low logs) m (are_sizes low logs) may, e)
 
-next_is : (P : Instance) (low : ℕ) (logs : List Log) (m : ℕ) → IsNextSize P low logs m → IsNext P (sizes_of low logs) m
+next_is : (P : Instance) (low : ℕ) (logs : List Log) (m : ℕ) → IsNextSize P low logs m → IsNextOf P (sizes_of low logs) m
 next_is P low logs m next = is_next P low logs (sizes_of low logs) m (are_sizes low logs) next
 
 written_next : (P : Instance) (low : ℕ) (logs : List Log) (m : ℕ) → IsNextSize P low logs m → (1 ≤ m) × (m < 10 ^ 9)
@@ -210,7 +210,7 @@ log_cut : (P : Instance) (m : ℕ) (g : Log) (rest : List ℕ) → KeepsLimits P
 log_cut P m g rest limits size passes place = logs_are_cut_whole (with_weeks P m) g rest (sized_keeps P m limits size) passes.grounded.fits place
 
 -- where one follows nothing else is said
-follows_said : (P : Instance) (sizes : Option (ℕ × ℕ)) (m n : ℕ) (rest : List ℕ) → KeepsLimits P → IsNext P sizes m → Follows P m rest → OfRest P sizes n rest None
+follows_said : (P : Instance) (sizes : Option (ℕ × ℕ)) (m n : ℕ) (rest : List ℕ) → KeepsLimits P → IsNextOf P sizes m → Follows P m rest → OfRest P sizes n rest None
 follows_said P sizes m n rest limits next f = inr (inr (
   Refuted m,
   log_text (with_weeks P m) f.log ++ f.behind,
@@ -306,7 +306,7 @@ some_or_none v o e f = cc
 abbrev SaidOf : Instance → ℕ → List Log → List ℕ → Result Staffed StaffRefusal → Type 0
 SaidOf P low logs rest v = OfRest P (sizes_of low logs) (line_of P low logs) rest (Some v)
 
-not_said : (P : Instance) (low : ℕ) (logs : List Log) (m : ℕ) (rest : List ℕ) (v : Result Staffed StaffRefusal) → KeepsLimits P → IsNext P (sizes_of low logs) m → Follows P m rest → SaidOf P low logs rest v → ⊥
+not_said : (P : Instance) (low : ℕ) (logs : List Log) (m : ℕ) (rest : List ℕ) (v : Result Staffed StaffRefusal) → KeepsLimits P → IsNextOf P (sizes_of low logs) m → Follows P m rest → SaidOf P low logs rest v → ⊥
 not_said P low logs m rest v limits next f said =
     some_or_none v (Some v) refl (rest_once P (sizes_of low logs) (line_of P low logs) rest (Some v) None limits said (follows_said P (sizes_of low logs) m (line_of P low logs) rest limits next f))
 
@@ -323,7 +323,7 @@ at_one_place P low g h logs others rest other v w limits same said said' =
     (subst (λ (t : List ℕ). OfRest P (Some (low, low + length (h ∷ others))) (line_of P low (h ∷ others)) t (Some w)) (sym same.2) said')) in
     some_once v w (Some v) (Some w) refl refl (rest_once P sizes n rest (Some v) (Some w) limits said here)
 
-next_behind : (P : Instance) (low : ℕ) (g : Log) (logs : List Log) (rest : List ℕ) → Follows P (low + length (g ∷ logs)) rest → IsNext P (sizes_of low (g ∷ logs)) (low + length (g ∷ logs))
+next_behind : (P : Instance) (low : ℕ) (g : Log) (logs : List Log) (rest : List ℕ) → Follows P (low + length (g ∷ logs)) rest → IsNextOf P (sizes_of low (g ∷ logs)) (low + length (g ∷ logs))
 next_behind P low g logs rest f = (f.size, refl)
 
 one_low : (P : Instance) (low : ℕ) (g h : Log) (logs others : List Log) (rest other : List ℕ) (v w : Result Staffed StaffRefusal) → KeepsLimits P → ArePassing P low (g ∷ logs) → ArePassing P low (h ∷ others) → IsHeadingsPlace (g ∷ logs) rest → IsHeadingsPlace (h ∷ others) other → sections_text P low (g ∷ logs) ++ rest ≡ sections_text P low (h ∷ others) ++ other → SaidOf P low (g ∷ logs) rest v → SaidOf P low (h ∷ others) other w → v ≡ w

@@ -14,12 +14,13 @@ use Rattle.roster_checker.specs.FirstBroken.{IsFirstBroken}
 use Rattle.roster_checker.specs.declared.broken.Broken.{Broken}
 use Rattle.refutation_terms.specs.declared.lines.LogRefusal.{LogRefusal}
 use Rattle.refutation_terms.specs.Log.{Log}
-use Rattle.refutation_terms.specs.Verdict.{IsNextLine, IsRefused, IsAccepted}
+use Rattle.rwsp_text.specs.Lines.{IsNextLine}
+use Rattle.refutation_terms.specs.Verdict.{IsRefused, IsAccepted}
 use Rattle.crew_size.specs.Sizes.{with_weeks, IsSize}
 use Rattle.crew_size.specs.Texts.{refuted_line, roster_line, none_line, sections_text}
 use Rattle.crew_size.specs.Sections.{ArePassing, StandsBehindLogs, AreUpToHeading, IsNextSize, IsLastSize, IsHeading, line_behind}
-use Rattle.crew_size.specs.Verdict.{EndsWithRoster, EndsWithRight, EndsWithNone, SpellsRight, HasNoHeadingAt, GoesOnAt, HasLongRosterAt, HasRefusedLog, HasRefusedRoster, HasBrokenRoster, EndsTooEarly}
-use Rattle.crew_size.specs.Places.{Place, IsPlace, IsAt, AreSizes, IsNext, IsLast, MayStand, IsWritten, heading_line, first_size}
+use Rattle.crew_size.specs.Verdict.{EndsWithRoster, EndsWithRight, EndsWithNone, SpellsRightFor, HasNoHeadingAt, GoesOnAt, HasLongRosterAt, HasRefusedLog, HasRefusedRoster, HasBrokenRoster, EndsTooEarly}
+use Rattle.crew_size.specs.Places.{Place, IsPlace, IsAt, AreSizes, IsNextOf, IsLastOf, MayFollow, IsHeadingNumber, heading_line, first_size}
 use Rattle.crew_size.specs.declared.heading.Heading.{Heading}
 use Rattle.crew_size.specs.declared.heading.Heading.TheVariants.{Refuted, Found, NoneTo}
 use Rattle.crew_size.proofs.Fronts.{feeds, feeds_append, feeds_of_heading, size_is_short, none_passing, one_more_stands, line_behind_one_more, sizes_one_more, next_of, is_next, last_of, is_last, size_behind}
@@ -66,7 +67,7 @@ last_is_written P low (g ∷ logs) last are h =
     let same : last ≡ low + i = omega (arith, h.1) in
     (omega (arith, same, size.some), omega (arith, same, size.few))
 
-no_heading_by : (P : Instance) (low : ℕ) (logs : List Log) (sizes : Option (ℕ × ℕ)) (line : List ℕ) → ArePassing P low logs → AreSizes low logs sizes → ((h : Heading) → IsWritten h → MayStand P sizes h → line ≢ heading_line h) → IsHeading P low logs line → ⊥
+no_heading_by : (P : Instance) (low : ℕ) (logs : List Log) (sizes : Option (ℕ × ℕ)) (line : List ℕ) → ArePassing P low logs → AreSizes low logs sizes → ((h : Heading) → IsHeadingNumber h → MayFollow P sizes h → line ≢ heading_line h) → IsHeading P low logs line → ⊥
 no_heading_by P low logs sizes line are e none (inl (m, next, inl same)) =
     let size = size_behind P low logs m next in
     none (Refuted m) (size.some, size_is_short P m size) (is_next P low logs sizes m e next) same
@@ -76,7 +77,7 @@ no_heading_by P low logs sizes line are e none (inl (m, next, inr same)) =
 no_heading_by P low logs sizes line are e none (inr (last, is, same)) =
     none (NoneTo last) (last_is_written P low logs last are is) (is_last low logs sizes last e is) same
 
-pub no_heading_here : (P : Instance) (text : List ℕ) (place : Place) (line more : List ℕ) → IsPlace P text place → place.rest ≡ line ++ more → IsNextLine line more → ((h : Heading) → IsWritten h → MayStand P place.sizes h → line ≢ heading_line h) → HasNoHeadingAt P text place.line
+pub no_heading_here : (P : Instance) (text : List ℕ) (place : Place) (line more : List ℕ) → IsPlace P text place → place.rest ≡ line ++ more → IsNextLine line more → ((h : Heading) → IsHeadingNumber h → MayFollow P place.sizes h → line ≢ heading_line h) → HasNoHeadingAt P text place.line
 no_heading_here P text place line more h e next none = record {
   low = h.low;
   logs = h.logs;
@@ -90,7 +91,7 @@ no_heading_here P text place line more h e next none = record {
 
 -- the log of a section
 
-log_passed_by : (P : Instance) (text : List ℕ) (sizes : Option (ℕ × ℕ)) (line m : ℕ) (bytes log rest : List ℕ) (place : Place) (low : ℕ) (logs : List Log) (g : Log) → IsAccepted (with_weeks P m) log g → IsNext P sizes m → bytes ≡ log ++ rest → AreUpToHeading log rest → place.sizes ≡ Some (first_size sizes m, m + 1) → place.rest ≡ rest → place.line ≡ line + (1 + feeds log) → StandsBehindLogs P text low logs (refuted_line m ++ bytes) → AreSizes low logs sizes → line ≡ line_behind (sections_text P low logs) → IsPlace P text place
+log_passed_by : (P : Instance) (text : List ℕ) (sizes : Option (ℕ × ℕ)) (line m : ℕ) (bytes log rest : List ℕ) (place : Place) (low : ℕ) (logs : List Log) (g : Log) → IsAccepted (with_weeks P m) log g → IsNextOf P sizes m → bytes ≡ log ++ rest → AreUpToHeading log rest → place.sizes ≡ Some (first_size sizes m, m + 1) → place.rest ≡ rest → place.line ≡ line + (1 + feeds log) → StandsBehindLogs P text low logs (refuted_line m ++ bytes) → AreSizes low logs sizes → line ≡ line_behind (sections_text P low logs) → IsPlace P text place
 log_passed_by P text sizes line m bytes log rest place low [] g accepted next e cut a b c stands are number =
     let size : IsSize P m = next_of P low [] sizes m are next in
     let here : m ≡ m + 0 = omega arith in
@@ -113,11 +114,11 @@ log_passed_by P text sizes line m bytes log rest place low (h ∷ logs) g accept
       line = c ∙ ap (λ n. n + (1 + feeds log)) number ∙ sym (line_behind_one_more P low m (h ∷ logs) g log is.1 is.0 accepted.0);
     }
 
-pub log_passed : (P : Instance) (text : List ℕ) (sizes : Option (ℕ × ℕ)) (line m : ℕ) (bytes log rest : List ℕ) (place : Place) (g : Log) → IsAccepted (with_weeks P m) log g → IsNext P sizes m → bytes ≡ log ++ rest → AreUpToHeading log rest → place.sizes ≡ Some (first_size sizes m, m + 1) → place.rest ≡ rest → place.line ≡ line + (1 + feeds log) → IsAt P text sizes line (refuted_line m) bytes → IsPlace P text place
+pub log_passed : (P : Instance) (text : List ℕ) (sizes : Option (ℕ × ℕ)) (line m : ℕ) (bytes log rest : List ℕ) (place : Place) (g : Log) → IsAccepted (with_weeks P m) log g → IsNextOf P sizes m → bytes ≡ log ++ rest → AreUpToHeading log rest → place.sizes ≡ Some (first_size sizes m, m + 1) → place.rest ≡ rest → place.line ≡ line + (1 + feeds log) → IsAt P text sizes line (refuted_line m) bytes → IsPlace P text place
 log_passed P text sizes line m bytes log rest place g accepted next e cut a b c at =
     log_passed_by P text sizes line m bytes log rest place at.low at.logs g accepted next e cut a b c at.stands at.known at.number
 
-pub log_refused : (P : Instance) (text : List ℕ) (sizes : Option (ℕ × ℕ)) (line m : ℕ) (bytes log rest : List ℕ) (why : LogRefusal) → IsRefused (with_weeks P m) log why → IsNext P sizes m → bytes ≡ log ++ rest → AreUpToHeading log rest → IsAt P text sizes line (refuted_line m) bytes → HasRefusedLog P text m why
+pub log_refused : (P : Instance) (text : List ℕ) (sizes : Option (ℕ × ℕ)) (line m : ℕ) (bytes log rest : List ℕ) (why : LogRefusal) → IsRefused (with_weeks P m) log why → IsNextOf P sizes m → bytes ≡ log ++ rest → AreUpToHeading log rest → IsAt P text sizes line (refuted_line m) bytes → HasRefusedLog P text m why
 log_refused P text sizes line m bytes log rest why refused next e cut at = record {
   low = at.low;
   logs = at.logs;
@@ -131,7 +132,7 @@ log_refused P text sizes line m bytes log rest why refused next e cut at = recor
 
 -- the roster at the end
 
-pub long_roster : (P : Instance) (text : List ℕ) (sizes : Option (ℕ × ℕ)) (line m : ℕ) (bytes : List ℕ) → LONGEST_FILE < length bytes → IsNext P sizes m → IsAt P text sizes line (roster_line m) bytes → HasLongRosterAt P text line
+pub long_roster : (P : Instance) (text : List ℕ) (sizes : Option (ℕ × ℕ)) (line m : ℕ) (bytes : List ℕ) → LONGEST_FILE < length bytes → IsNextOf P sizes m → IsAt P text sizes line (roster_line m) bytes → HasLongRosterAt P text line
 long_roster P text sizes line m bytes long next at = record {
   low = at.low;
   logs = at.logs;
@@ -143,14 +144,14 @@ long_roster P text sizes line m bytes long next at = record {
   number = at.number;
 }
 
-ends_with : (P : Instance) (text : List ℕ) (sizes : Option (ℕ × ℕ)) (line m : ℕ) (bytes : List ℕ) → length bytes ≤ LONGEST_FILE → IsNext P sizes m → (at : IsAt P text sizes line (roster_line m) bytes) → EndsWithRoster P text at.low at.logs m bytes
+ends_with : (P : Instance) (text : List ℕ) (sizes : Option (ℕ × ℕ)) (line m : ℕ) (bytes : List ℕ) → length bytes ≤ LONGEST_FILE → IsNextOf P sizes m → (at : IsAt P text sizes line (roster_line m) bytes) → EndsWithRoster P text at.low at.logs m bytes
 ends_with P text sizes line m bytes short next at = record {
   stands = at.stands;
   next = next_of P at.low at.logs sizes m at.known next;
   short = short;
 }
 
-pub roster_refused : (P : Instance) (text : List ℕ) (sizes : Option (ℕ × ℕ)) (line m : ℕ) (bytes : List ℕ) (why : RosterRefusal) → length bytes ≤ LONGEST_FILE → IsNext P sizes m → refusal_of_roster (with_weeks P m) bytes ≡ Some why → IsAt P text sizes line (roster_line m) bytes → HasRefusedRoster P text m why
+pub roster_refused : (P : Instance) (text : List ℕ) (sizes : Option (ℕ × ℕ)) (line m : ℕ) (bytes : List ℕ) (why : RosterRefusal) → length bytes ≤ LONGEST_FILE → IsNextOf P sizes m → refusal_of_roster (with_weeks P m) bytes ≡ Some why → IsAt P text sizes line (roster_line m) bytes → HasRefusedRoster P text m why
 roster_refused P text sizes line m bytes why short next refused at = record {
   low = at.low;
   logs = at.logs;
@@ -159,7 +160,7 @@ roster_refused P text sizes line m bytes why short next refused at = record {
   refused = refused;
 }
 
-pub roster_broken : (P : Instance) (text : List ℕ) (sizes : Option (ℕ × ℕ)) (line m : ℕ) (bytes : List ℕ) (cells : List Symbol) (broken : Broken) → length bytes ≤ LONGEST_FILE → IsNext P sizes m → SpellsRoster (with_weeks P m) bytes cells → IsFirstBroken (with_weeks P m) cells broken → IsAt P text sizes line (roster_line m) bytes → HasBrokenRoster P text m broken
+pub roster_broken : (P : Instance) (text : List ℕ) (sizes : Option (ℕ × ℕ)) (line m : ℕ) (bytes : List ℕ) (cells : List Symbol) (broken : Broken) → length bytes ≤ LONGEST_FILE → IsNextOf P sizes m → SpellsRoster (with_weeks P m) bytes cells → IsFirstBroken (with_weeks P m) cells broken → IsAt P text sizes line (roster_line m) bytes → HasBrokenRoster P text m broken
 roster_broken P text sizes line m bytes cells broken short next spelled breaks at = record {
   low = at.low;
   logs = at.logs;
@@ -170,7 +171,7 @@ roster_broken P text sizes line m bytes cells broken short next spelled breaks a
   breaks = breaks;
 }
 
-right_by : (P : Instance) (text : List ℕ) (sizes : Option (ℕ × ℕ)) (m : ℕ) (bytes : List ℕ) (low : ℕ) (logs : List Log) → length bytes ≤ LONGEST_FILE → IsNext P sizes m → SpellsRight P m bytes → StandsBehindLogs P text low logs (roster_line m ++ bytes) → AreSizes low logs sizes → EndsWithRight P text (first_size sizes m) m
+right_by : (P : Instance) (text : List ℕ) (sizes : Option (ℕ × ℕ)) (m : ℕ) (bytes : List ℕ) (low : ℕ) (logs : List Log) → length bytes ≤ LONGEST_FILE → IsNextOf P sizes m → SpellsRightFor P m bytes → StandsBehindLogs P text low logs (roster_line m ++ bytes) → AreSizes low logs sizes → EndsWithRight P text (first_size sizes m) m
 right_by P text sizes m bytes low [] short next right stands are =
     subst (λ (s : Option (ℕ × ℕ)). EndsWithRight P text (first_size s m) m) (sym are)
     (record {
@@ -195,13 +196,13 @@ right_by P text sizes m bytes low (h ∷ logs) short next right stands are =
       right = right;
     })
 
-pub roster_right : (P : Instance) (text : List ℕ) (sizes : Option (ℕ × ℕ)) (line m : ℕ) (bytes : List ℕ) (cells : List Symbol) → length bytes ≤ LONGEST_FILE → IsNext P sizes m → SpellsRoster (with_weeks P m) bytes cells → MeetsAll (with_weeks P m) cells → IsAt P text sizes line (roster_line m) bytes → EndsWithRight P text (first_size sizes m) m
+pub roster_right : (P : Instance) (text : List ℕ) (sizes : Option (ℕ × ℕ)) (line m : ℕ) (bytes : List ℕ) (cells : List Symbol) → length bytes ≤ LONGEST_FILE → IsNextOf P sizes m → SpellsRoster (with_weeks P m) bytes cells → MeetsAll (with_weeks P m) cells → IsAt P text sizes line (roster_line m) bytes → EndsWithRight P text (first_size sizes m) m
 roster_right P text sizes line m bytes cells short next spelled meets at =
     right_by P text sizes m bytes at.low at.logs short next (cells, spelled, meets) at.stands at.known
 
 -- an end without a roster
 
-pub goes_on : (P : Instance) (text : List ℕ) (sizes : Option (ℕ × ℕ)) (line last : ℕ) (bytes : List ℕ) → bytes ≢ [] → IsLast sizes last → IsAt P text sizes line (none_line last) bytes → GoesOnAt P text (line + 1)
+pub goes_on : (P : Instance) (text : List ℕ) (sizes : Option (ℕ × ℕ)) (line last : ℕ) (bytes : List ℕ) → bytes ≢ [] → IsLastOf sizes last → IsAt P text sizes line (none_line last) bytes → GoesOnAt P text (line + 1)
 goes_on P text sizes line last bytes more is at =
     let last_is = last_of at.low at.logs sizes last at.known is in
     let written = last_is_written P at.low at.logs last at.stands.passing last_is in
@@ -225,7 +226,7 @@ none_by P text sizes last low (h ∷ logs) is stands are =
     subst (λ (s : Option (ℕ × ℕ)). EndsWithNone P text (first_size s last) last) (sym are)
     (record { logs = h ∷ logs; last_size = is; stands = stands })
 
-pub none_right : (P : Instance) (text : List ℕ) (sizes : Option (ℕ × ℕ)) (line last : ℕ) (bytes : List ℕ) → bytes ≡ [] → IsLast sizes last → IsAt P text sizes line (none_line last) bytes → EndsWithNone P text (first_size sizes last) last
+pub none_right : (P : Instance) (text : List ℕ) (sizes : Option (ℕ × ℕ)) (line last : ℕ) (bytes : List ℕ) → bytes ≡ [] → IsLastOf sizes last → IsAt P text sizes line (none_line last) bytes → EndsWithNone P text (first_size sizes last) last
 none_right P text sizes line last bytes none is at =
     none_by P text sizes last at.low at.logs (last_of at.low at.logs sizes last at.known is)
     (along P text at.low at.logs (none_line last ++ bytes) (none_line last) (ap (λ t. none_line last ++ t) none ∙ append-nil (none_line last)) at.stands) at.known

@@ -27,9 +27,9 @@ HasNoRoster P m = (s : List Symbol) → MeetsAll (with_weeks P m) s → ⊥
 
 -- what the sizes say: the last one has a roster, and none from the first on that is smaller has one; or none from the
 -- first to the last has one
-abbrev pub IsDecided : Instance → Staffed → Type 0
-IsDecided P (Least low m) = (low ≤ m) × HasRoster P m × ((k : ℕ) → low ≤ k → k < m → HasNoRoster P k)
-IsDecided P (NoneTo low last) = (low ≤ last) × ((k : ℕ) → low ≤ k → k ≤ last → HasNoRoster P k)
+abbrev pub AreSizesDecided : Instance → Staffed → Type 0
+AreSizesDecided P (Least low m) = (low ≤ m) × HasRoster P m × ((k : ℕ) → low ≤ k → k < m → HasNoRoster P k)
+AreSizesDecided P (NoneTo low last) = (low ≤ last) × ((k : ℕ) → low ≤ k → k ≤ last → HasNoRoster P k)
 
 -- the sizes that a run decides, where its next size is m
 abbrev pub decision_at : (low m : ℕ) → StaffEnd → Option Staffed
@@ -44,13 +44,13 @@ decision_of run = decision_at run.low (next_size run) run.end
 -- what an accepted text says is true
 abbrev pub AcceptedTextsDecide : Type 0
 AcceptedTextsDecide =
-    (P : Instance) (text : List ℕ) (staffed : Staffed) → IsStaffAccepted P text staffed → IsDecided P staffed
+    (P : Instance) (text : List ℕ) (staffed : Staffed) → IsStaffAccepted P text staffed → AreSizesDecided P staffed
 
 -- and so is what a search gives
 abbrev pub SearchesDecide : Type 0
 SearchesDecide =
     (P : Instance) (low high budget : ℕ) (run : Staff) (staffed : Staffed) → low ≤ high
-    → IsStaffed P low high budget run → decision_of run ≡ Some staffed → IsDecided P staffed
+    → IsStaffed P low high budget run → decision_of run ≡ Some staffed → AreSizesDecided P staffed
 
 -- a text has one verdict at most
 abbrev pub StaffTextsHaveOneVerdict : Type 0

@@ -47,24 +47,24 @@ heading_number (Found m) = m
 heading_number (NoneTo last) = last
 
 -- the number has up to nine digits and isn't 0
-abbrev pub IsWritten : Heading → Type 0
-IsWritten h = (1 ≤ heading_number h) × (heading_number h < 10 ^ 9)
+abbrev pub IsHeadingNumber : Heading → Type 0
+IsHeadingNumber h = (1 ≤ heading_number h) × (heading_number h < 10 ^ 9)
 
 -- a size in its place
-abbrev pub IsNext : Instance → Option (ℕ × ℕ) → ℕ → Type 0
-IsNext P None m = IsSize P m
-IsNext P (Some sizes) m = IsSize P m × (m ≡ sizes.1)
+abbrev pub IsNextOf : Instance → Option (ℕ × ℕ) → ℕ → Type 0
+IsNextOf P None m = IsSize P m
+IsNextOf P (Some sizes) m = IsSize P m × (m ≡ sizes.1)
 
 -- the last size in its place
-abbrev pub IsLast : Option (ℕ × ℕ) → ℕ → Type 0
-IsLast None last = ⊥
-IsLast (Some sizes) last = last + 1 ≡ sizes.1
+abbrev pub IsLastOf : Option (ℕ × ℕ) → ℕ → Type 0
+IsLastOf None last = ⊥
+IsLastOf (Some sizes) last = last + 1 ≡ sizes.1
 
 -- the heading may follow sections of these sizes
-abbrev pub MayStand : Instance → Option (ℕ × ℕ) → Heading → Type 0
-MayStand P sizes (Refuted m) = IsNext P sizes m
-MayStand P sizes (Found m) = IsNext P sizes m
-MayStand P sizes (NoneTo last) = IsLast sizes last
+abbrev pub MayFollow : Instance → Option (ℕ × ℕ) → Heading → Type 0
+MayFollow P sizes (Refuted m) = IsNextOf P sizes m
+MayFollow P sizes (Found m) = IsNextOf P sizes m
+MayFollow P sizes (NoneTo last) = IsLastOf sizes last
 
 -- behind sections of these sizes line n of the text is this one, and the bytes follow it
 pub record IsAt (P : Instance) (text : List ℕ) (sizes : Option (ℕ × ℕ)) (n : ℕ) (line bytes : List ℕ) : Type 0 where
@@ -88,16 +88,16 @@ first_size None m = m
 first_size (Some sizes) m = sizes.0
 
 -- the place has a line number, and no more is left than a text may have behind it
-abbrev pub IsShort : Place → Type 0
-IsShort place = (1 ≤ place.line) × (place.line + length place.rest ≤ LONGEST_LOG + 1)
+abbrev pub IsShortPlace : Place → Type 0
+IsShortPlace place = (1 ≤ place.line) × (place.line + length place.rest ≤ LONGEST_LOG + 1)
 
 -- further on the one place is than the other
 abbrev pub IsFurther : Place → Place → Type 0
-IsFurther place before = IsShort place × (length place.rest < length before.rest)
+IsFurther place before = IsShortPlace place × (length place.rest < length before.rest)
 
 -- what was answered at a heading: the text has been read up to a further place, or this is the verdict on it
-abbrev pub Answers : Instance → List ℕ → Place → Result (Option Staffed) (Fail StaffRefusal) → Type 0
-Answers P text place result =
+abbrev pub IsHeadingAnswer : Instance → List ℕ → Place → Result (Option Staffed) (Fail StaffRefusal) → Type 0
+IsHeadingAnswer P text place result =
     MatchAnswer result
     (λ found. MatchOption found (IsPlace P text place) (IsStaffAccepted P text))
     (IsStaffRefused P text)

@@ -11,7 +11,8 @@ use Rattle.roster_checker.specs.FirstBroken.{IsFirstBroken}
 use Rattle.roster_checker.specs.declared.broken.Broken.{Broken}
 use Rattle.refutation_terms.specs.declared.lines.LogRefusal.{LogRefusal}
 use Rattle.refutation_terms.specs.Log.{Log}
-use Rattle.refutation_terms.specs.Verdict.{IsNextLine, IsRefused}
+use Rattle.rwsp_text.specs.Lines.{IsNextLine}
+use Rattle.refutation_terms.specs.Verdict.{IsRefused}
 use Rattle.crew_size.specs.Sizes.{with_weeks}
 use Rattle.crew_size.specs.Texts.{refuted_line, roster_line, none_line, sections_text}
 use Rattle.crew_size.specs.Sections.{StandsBehindLogs, AreUpToHeading, IsNextSize, IsLastSize, IsHeading, line_behind}
@@ -28,8 +29,8 @@ pub record EndsWithRoster
   pub short : length bytes ≤ LONGEST_FILE
 
 -- the bytes spell a roster that meets every rule of the problem with m weeks
-abbrev pub SpellsRight : Instance → ℕ → List ℕ → Type 0
-SpellsRight P m bytes = (s : List Symbol) × SpellsRoster (with_weeks P m) bytes s × MeetsAll (with_weeks P m) s
+abbrev pub SpellsRightFor : Instance → ℕ → List ℕ → Type 0
+SpellsRightFor P m bytes = (s : List Symbol) × SpellsRoster (with_weeks P m) bytes s × MeetsAll (with_weeks P m) s
 
 -- the text ends with a roster that meets every rule. The first size is that of the first section, or that of the roster
 -- where there is none
@@ -38,7 +39,7 @@ pub record EndsWithRight (P : Instance) (text : List ℕ) (low m : ℕ) : Type 0
   pub bytes : List ℕ
   pub size : m ≡ low + length logs
   pub ends : EndsWithRoster P text low logs m bytes
-  pub right : SpellsRight P m bytes
+  pub right : SpellsRightFor P m bytes
 
 -- the text ends behind the section of the last size, and says so
 pub record EndsWithNone (P : Instance) (text : List ℕ) (low last : ℕ) : Type 0 where

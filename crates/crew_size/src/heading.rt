@@ -1,7 +1,7 @@
 // The headings of a staff text.
 ghost use Rattle.std.specs.Prelude.{◌≡◌, ◌≢◌, ℕ, ◌++◌, ◌<◌, ◌^◌, List, [], MatchBool, MatchOption};
 ghost use Rattle.crew_size.specs.Sections.{BeginsAsHeading};
-ghost use Rattle.crew_size.specs.Places.{heading_line, IsWritten, MayStand, IsNext, IsLast, HasNumber, HasNoNumber};
+ghost use Rattle.crew_size.specs.Places.{heading_line, IsHeadingNumber, MayFollow, IsNextOf, IsLastOf, HasNumber, HasNoNumber};
 ghost use Rattle.crew_size.specs.declared.heading.Heading.{Heading};
 
 use crate::sizes::is_size;
@@ -23,8 +23,8 @@ pub enum Heading {
 #[tactic(auto, using(crate::proofs::Headings::no_heading))]
 pub fn heading_of(line: &[u8]) -> Option<Heading>
     ensures { MatchOption result
-        ((h : Heading) → IsWritten h → line.now ≢ heading_line h)
-        (λ h. IsWritten h × (line.now ≡ heading_line h)) }
+        ((h : Heading) → IsHeadingNumber h → line.now ≢ heading_line h)
+        (λ h. IsHeadingNumber h × (line.now ≡ heading_line h)) }
 {
     if let Some(weeks) = number_between(line, b"weeks ", b" none\n") {
         return Some(Heading::Refuted(weeks));
@@ -40,8 +40,8 @@ pub fn heading_of(line: &[u8]) -> Option<Heading>
 
 /// Whether the heading may follow sections of these sizes, the first and the next one.
 pub fn may_stand(problem: &Problem, sizes: Option<(u32, u32)>, heading: Heading) -> bool
-    requires { IsWritten heading }
-    ensures { MatchBool result (MayStand problem.now sizes heading) (MayStand problem.now sizes heading → ⊥) }
+    requires { IsHeadingNumber heading }
+    ensures { MatchBool result (MayFollow problem.now sizes heading) (MayFollow problem.now sizes heading → ⊥) }
 {
     match heading {
         Heading::Refuted(weeks) => is_next(problem, sizes, weeks),
@@ -64,7 +64,7 @@ pub fn begins_as_heading(bytes: &[u8]) -> bool
 }
 
 fn is_next(problem: &Problem, sizes: Option<(u32, u32)>, weeks: u32) -> bool
-    ensures { MatchBool result (IsNext problem.now sizes weeks) (IsNext problem.now sizes weeks → ⊥) }
+    ensures { MatchBool result (IsNextOf problem.now sizes weeks) (IsNextOf problem.now sizes weeks → ⊥) }
 {
     if !is_size(problem, weeks) {
         return false;
@@ -77,7 +77,7 @@ fn is_next(problem: &Problem, sizes: Option<(u32, u32)>, weeks: u32) -> bool
 
 fn is_last(sizes: Option<(u32, u32)>, last: u32) -> bool
     requires { last < 10 ^ 9 }
-    ensures { MatchBool result (IsLast sizes last) (IsLast sizes last → ⊥) }
+    ensures { MatchBool result (IsLastOf sizes last) (IsLastOf sizes last → ⊥) }
 {
     match sizes {
         None => false,

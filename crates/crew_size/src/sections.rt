@@ -3,7 +3,7 @@ ghost use Rattle.std.specs.Prelude.{◌≡◌, ◌≢◌, ℕ, ◌<◌, ◌≤�
 ghost use Rattle.rwsp_terms.specs.declared.limits.TheConstants.{MOST_WORKERS};
 ghost use Rattle.rwsp_terms.specs.Instance.{Instance};
 ghost use Rattle.crew_size.specs.Texts.{refuted_line, roster_line, none_line};
-ghost use Rattle.crew_size.specs.Places.{Place, IsPlace, IsAt, IsNext, IsLast, IsWritten, MayStand, heading_line, IsShort, IsFurther, Answers, first_size};
+ghost use Rattle.crew_size.specs.Places.{Place, IsPlace, IsAt, IsNextOf, IsLastOf, IsHeadingNumber, MayFollow, heading_line, IsShortPlace, IsFurther, IsHeadingAnswer, first_size};
 ghost use Rattle.crew_size.specs.declared.heading.Heading.{Heading};
 
 use crate::heading::{Heading, heading_of, may_stand};
@@ -62,10 +62,10 @@ impl<'a> Sections<'a> {
         workers: u32,
         gate: &G,
     ) -> Result<Option<Staffed>, Fail<StaffRefusal>>
-        requires short { IsShort self.old }
+        requires short { IsShortPlace self.old }
         requires workers { (1 ≤ workers) × (workers ≤ MOST_WORKERS) }
         ensures verdict { (text : List ℕ)
-            → IsPlace problem.now text self.old → Answers problem.now text self.new result }
+            → IsPlace problem.now text self.old → IsHeadingAnswer problem.now text self.new result }
         ensures further { IfOk result (λ found. MatchOption found (IsFurther self.new self.old) (λ _. Unit {0})) }
     {
         let mut reader = LineReader::new(self.rest);
@@ -98,13 +98,13 @@ impl<'a> Sections<'a> {
         workers: u32,
         gate: &G,
     ) -> Result<Option<Staffed>, Fail<StaffRefusal>>
-        requires short { IsShort self.old }
+        requires short { IsShortPlace self.old }
         requires behind { length bytes.now < length self.old.rest }
-        requires next { IsNext problem.now self.old.sizes weeks }
+        requires next { IsNextOf problem.now self.old.sizes weeks }
         requires workers { (1 ≤ workers) × (workers ≤ MOST_WORKERS) }
         ensures verdict { (text : List ℕ)
             → IsAt problem.now text self.old.sizes self.old.line (refuted_line weeks) bytes.now →
-            Answers problem.now text self.new result }
+            IsHeadingAnswer problem.now text self.new result }
         ensures further { IfOk result (λ found. MatchOption found (IsFurther self.new self.old) (λ _. Unit {0})) }
     {
         let Ok(sized) = with_weeks(problem, weeks) else {
@@ -127,8 +127,8 @@ impl<'a> Sections<'a> {
 // The heading that the line is, where it may follow sections of these sizes.
 fn heading_in_place(problem: &Problem, sizes: Option<(u32, u32)>, line: &[u8]) -> Option<Heading>
     ensures { MatchOption result
-        ((h : Heading) → IsWritten h → MayStand problem.now sizes h → line.now ≢ heading_line h)
-        (λ h. MayStand problem.now sizes h × (line.now ≡ heading_line h)) }
+        ((h : Heading) → IsHeadingNumber h → MayFollow problem.now sizes h → line.now ≢ heading_line h)
+        (λ h. MayFollow problem.now sizes h × (line.now ≡ heading_line h)) }
 {
     let heading = heading_of(line)?;
     if may_stand(problem, sizes, heading) {
@@ -147,9 +147,9 @@ fn roster_end(
     weeks: u32,
     bytes: &[u8],
 ) -> Result<Option<Staffed>, Fail<StaffRefusal>>
-    requires next { IsNext problem.now sizes weeks }
+    requires next { IsNextOf problem.now sizes weeks }
     ensures verdict { (text : List ℕ) (place : Place) → IsAt problem.now text sizes line (roster_line weeks) bytes.now →
-        Answers problem.now text place result }
+        IsHeadingAnswer problem.now text place result }
     ensures some { IfOk result IsSome }
 {
     if bytes.len() > LONGEST_FILE as usize {
@@ -175,11 +175,11 @@ fn none_end(
     last: u32,
     bytes: &[u8],
 ) -> Result<Option<Staffed>, Fail<StaffRefusal>>
-    requires last { IsLast sizes last }
+    requires last { IsLastOf sizes last }
     requires few { line < 2 ^ 31 }
     ensures verdict { (P : Instance) (text : List ℕ) (place : Place)
         → IsAt P text sizes line (none_line last) bytes.now →
-        Answers P text place result }
+        IsHeadingAnswer P text place result }
     ensures some { IfOk result IsSome }
 {
     if !bytes.is_empty() {

@@ -20,7 +20,7 @@ use Rattle.domain_store.specs.Sets.{has_symbol}
 use Rattle.domain_store.specs.Store.{Store, BelongsTo, domain_at, has_domain, HasDomains}
 use Rattle.propagators.specs.Looks.{Closes, IsClosing, IsCut, IsLeafOf}
 use Rattle.propagators.specs.Cycles.{AreShortRules, IsCycleLeaf, IsCycleSpent}
-use Rattle.kept_cycle.specs.Known.{KnownCycle, has_known, KnowsDomains}
+use Rattle.kept_cycle.specs.Known.{KnownCycle, knows_symbol, KnowsDomains}
 use Rattle.kept_cycle.specs.CycleCuts.{IsUnsupported, IsShortCycle}
 
 -- the known domains are the store's
@@ -31,22 +31,22 @@ cells_of_store P S b = ap (λ w. w * S.days) b.weeks ∙ ap (λ d. P.weeks * d) 
 pub some_cells : (P : Instance) → KeepsLimits P → 0 < cells P
 some_cells P limits = mul-pos (omega (arith, limits.some_weeks)) (omega (arith, limits.some_days))
 
-pub nowhere_in_store : (C : KnownCycle) (S : Store) (p : ℕ) (x : Symbol) → C.sets ≡ S.sets → NoWordHas C.problem (has_known C) C.rules p x → NoWordHas C.problem (has_domain S) C.rules p x
+pub nowhere_in_store : (C : KnownCycle) (S : Store) (p : ℕ) (x : Symbol) → C.sets ≡ S.sets → NoWordHas C.problem (knows_symbol C) C.rules p x → NoWordHas C.problem (has_domain S) C.rules p x
 nowhere_in_store C S p x e h =
     let F : List (List ℕ) → Type 0 = λ sets. NoWordHas C.problem (λ q y. has_symbol (get_or sets q []) y) C.rules p x in
     subst F e h
 
-pub nowhere_known : (C : KnownCycle) (S : Store) (p : ℕ) (x : Symbol) → C.sets ≡ S.sets → NoWordHas C.problem (has_domain S) C.rules p x → NoWordHas C.problem (has_known C) C.rules p x
+pub nowhere_known : (C : KnownCycle) (S : Store) (p : ℕ) (x : Symbol) → C.sets ≡ S.sets → NoWordHas C.problem (has_domain S) C.rules p x → NoWordHas C.problem (knows_symbol C) C.rules p x
 nowhere_known C S p x e h =
     let F : List (List ℕ) → Type 0 = λ sets. NoWordHas C.problem (λ q y. has_symbol (get_or sets q []) y) C.rules p x in
     subst F (sym e) h
 
-pub dead_in_store : (C : KnownCycle) (S : Store) (len : ℕ) → C.sets ≡ S.sets → IsDead C.problem (has_known C) 0 len C.rules → IsDead C.problem (has_domain S) 0 len C.rules
+pub dead_in_store : (C : KnownCycle) (S : Store) (len : ℕ) → C.sets ≡ S.sets → IsDead C.problem (knows_symbol C) 0 len C.rules → IsDead C.problem (has_domain S) 0 len C.rules
 dead_in_store C S len e h =
     let F : List (List ℕ) → Type 0 = λ sets. IsDead C.problem (λ q y. has_symbol (get_or sets q []) y) 0 len C.rules in
     subst F e h
 
-pub dead_known : (C : KnownCycle) (S : Store) (len : ℕ) → C.sets ≡ S.sets → IsDead C.problem (has_domain S) 0 len C.rules → IsDead C.problem (has_known C) 0 len C.rules
+pub dead_known : (C : KnownCycle) (S : Store) (len : ℕ) → C.sets ≡ S.sets → IsDead C.problem (has_domain S) 0 len C.rules → IsDead C.problem (knows_symbol C) 0 len C.rules
 dead_known C S len e h =
     let F : List (List ℕ) → Type 0 = λ sets. IsDead C.problem (λ q y. has_symbol (get_or sets q []) y) 0 len C.rules in
     subst F (sym e) h
@@ -81,7 +81,7 @@ of_not true e = absurd (cc)
 of_not false e = refl
 
 pub unsupported_if : (C : KnownCycle) (S : Store) (p n : ℕ) (x : Symbol) (supported : Bool) → KnowsDomains C S → HasDomains S → p < cells C.problem → n ≡ length (domain_at S p) → 2 ≤ n → IsTrue (has_domain S p x.number)
-    → (supported ≡ false) ↔ NoWordHas C.problem (has_known C) C.rules p x → IsTrue (not supported) ↔ IsUnsupported C S p x
+    → (supported ≡ false) ↔ NoWordHas C.problem (knows_symbol C) C.rules p x → IsTrue (not supported) ↔ IsUnsupported C S p x
 unsupported_if C S p n x supported stands h within is many has test = (
   λ none. record {
     position = within;
@@ -164,7 +164,7 @@ cycle_leaf C some few short = record {
   short = all_are_short C.problem C.rules short.all_short;
 }
 
-pub closed_cycle : (C : KnownCycle) (S : Store) (line : Line) → line ≡ Dead 0 (2 * cells C.problem) C.rules → IsShortCycle C S → 0 < cells C.problem → cells C.problem ≤ MOST_CELLS → IsDead C.problem (has_known C) 0 (2 * cells C.problem) C.rules
+pub closed_cycle : (C : KnownCycle) (S : Store) (line : Line) → line ≡ Dead 0 (2 * cells C.problem) C.rules → IsShortCycle C S → 0 < cells C.problem → cells C.problem ≤ MOST_CELLS → IsDead C.problem (knows_symbol C) 0 (2 * cells C.problem) C.rules
     → IsClosing C.problem (IsCycleLeaf C.problem) S line
 closed_cycle C S line is h some few dead = subst (λ (l : Line). IsClosing C.problem (IsCycleLeaf C.problem) S l) (sym is) (record {
   is_leaf = cycle_leaf C some few h.short;
@@ -172,14 +172,14 @@ closed_cycle C S line is h some few dead = subst (λ (l : Line). IsClosing C.pro
   holds = dead_in_store C S (2 * cells C.problem) h.stands.sets dead;
 })
 
-same_dead : (C : KnownCycle) (S : Store) (p len : ℕ) (R : List ℕ) → IsShortCycle C S → p ≡ 0 → len ≡ 2 * cells C.problem → AreShortRules C.problem R → IsDead C.problem (has_domain S) p len R → IsDead C.problem (has_known C) 0 (2 * cells C.problem) C.rules
+same_dead : (C : KnownCycle) (S : Store) (p len : ℕ) (R : List ℕ) → IsShortCycle C S → p ≡ 0 → len ≡ 2 * cells C.problem → AreShortRules C.problem R → IsDead C.problem (has_domain S) p len R → IsDead C.problem (knows_symbol C) 0 (2 * cells C.problem) C.rules
 same_dead C S p len R h start turns short dead =
     let P : ℕ → Type 0 = λ q. IsDead C.problem (has_domain S) q len R in
     let Q : ℕ → Type 0 = λ n. IsDead C.problem (has_domain S) 0 n R in
     dead_known C S (2 * cells C.problem) h.stands.sets
     (dead_for_all C.problem (has_domain S) 0 (2 * cells C.problem) C.rules R h.short.all_short (all_are_short C.problem R short.all_short) (subst Q turns (subst P start dead)))
 
-pub none_closes : (C : KnownCycle) (S : Store) → IsShortCycle C S → (IsDead C.problem (has_known C) 0 (2 * cells C.problem) C.rules → ⊥) → Closes C.problem (IsCycleLeaf C.problem) S → ⊥
+pub none_closes : (C : KnownCycle) (S : Store) → IsShortCycle C S → (IsDead C.problem (knows_symbol C) 0 (2 * cells C.problem) C.rules → ⊥) → Closes C.problem (IsCycleLeaf C.problem) S → ⊥
 none_closes C S h alive (Split p x, among, holds) = among
 none_closes C S h alive (Window number p len, among, holds) = among
 none_closes C S h alive (Day j x over, among, holds) = among

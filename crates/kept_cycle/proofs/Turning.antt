@@ -16,7 +16,7 @@ use Rattle.domain_store.specs.Store.{Store, BelongsTo, IsStore, has_domain, doma
 use Rattle.word_tail.specs.Listed.{Listed}
 use Rattle.layered_cycle.specs.declared.step.Step.{Step}
 use Rattle.layered_cycle.specs.Graph.{Leads, AreLayers}
-use Rattle.kept_cycle.specs.Known.{KnownCycle, has_known, KnowsDomains, KnowsAllBut}
+use Rattle.kept_cycle.specs.Known.{KnownCycle, knows_symbol, KnowsDomains, KnowsAllBut}
 use Rattle.kept_cycle.specs.Marks.{is_marked, row_at, layer_at, has_on, from_of, to_of, IsPass, IsFrontStep, IsBackStep, MendsFront, MendsBack, IsWide, AllFitInto}
 use Rattle.kept_cycle.specs.KeptCycle.{HasSymbolsOf, HasLayers, IsCycle, HasJoiningStep}
 use Rattle.kept_cycle.proofs.Marking.{unlike}
@@ -26,13 +26,13 @@ abbrev known : Listed → List (List ℕ) → KnownCycle
 known T sets = record { problem = T.problem; rules = T.rules; sets = sets }
 
 -- words over the known domains, by the days
-held_of_over : (T : Listed) (sets : List (List ℕ)) (p : ℕ) (u : List Symbol) → length sets ≡ cells T.problem → Over T.problem (has_known (known T sets)) p u → Held (has_on sets) p u
+held_of_over : (T : Listed) (sets : List (List ℕ)) (p : ℕ) (u : List Symbol) → length sets ≡ cells T.problem → Over T.problem (knows_symbol (known T sets)) p u → Held (has_on sets) p u
 held_of_over T sets p [] long over = tt
 held_of_over T sets p (x ∷ u) long over =
     let P : ℕ → Type 0 = λ n. IsTrue (has_symbol (get_or sets (p % n) []) x.number) in
     (subst P (sym long) over.0, held_of_over T sets (p + 1) u long over.1)
 
-over_of_held : (T : Listed) (sets : List (List ℕ)) (p : ℕ) (u : List Symbol) → length sets ≡ cells T.problem → Held (has_on sets) p u → Over T.problem (has_known (known T sets)) p u
+over_of_held : (T : Listed) (sets : List (List ℕ)) (p : ℕ) (u : List Symbol) → length sets ≡ cells T.problem → Held (has_on sets) p u → Over T.problem (knows_symbol (known T sets)) p u
 over_of_held T sets p [] long held = tt
 over_of_held T sets p (x ∷ u) long held =
     let P : ℕ → Type 0 = λ n. IsTrue (has_symbol (get_or sets (p % n) []) x.number) in
@@ -56,7 +56,7 @@ passes_of T layers sets front back width c = record {
 
 -- two turns are dead where the first node leads nowhere
 pub dead_by : (T : Listed) (layers : List (List Step)) (sets : List (List ℕ)) (front back : List (List Bool)) (width : ℕ) (mark : Bool) → IsCycle T layers sets front back width → mark ≡ is_marked (row_at back 0) 0
-    → IsTrue (not mark) ↔ IsDead T.problem (has_known (known T sets)) 0 (2 * cells T.problem) T.rules
+    → IsTrue (not mark) ↔ IsDead T.problem (knows_symbol (known T sets)) 0 (2 * cells T.problem) T.rules
 dead_by T layers sets front back width mark c is =
     let goes = goes_on (has_on sets) layers front back width (passes_of T layers sets front back width c) (length layers) 0 (omega arith) 0 c.layered.nodes in (
       λ dead u long over clean.
@@ -89,7 +89,7 @@ on_place sets p x less = ap (λ q. has_symbol (get_or sets q []) x) (small_mod p
 -- no word has the symbol where no step joins by it
 pub unsupported_by : (T : Listed) (layers : List (List Step)) (sets : List (List ℕ)) (front back : List (List Bool)) (width p : ℕ) (x : Symbol) (held joins : Bool) → IsCycle T layers sets front back width → p < cells T.problem
     → held ≡ has_symbol (get_or sets p []) x.number → (held ≡ true → IsTrue joins ↔ HasJoiningStep (layer_at layers p) x (row_at front p) (row_at back (p + 1))) → (held ≡ false → joins ≡ false)
-    → (joins ≡ false) ↔ NoWordHas T.problem (has_known (known T sets)) T.rules p x
+    → (joins ≡ false) ↔ NoWordHas T.problem (knows_symbol (known T sets)) T.rules p x
 unsupported_by T layers sets front back width p x held joins c within is by_step unheld = (there, back_again joins refl)
   where
     H : ℕ → ℕ → Bool
@@ -111,14 +111,14 @@ unsupported_by T layers sets front back width p x held joins c within is by_step
             word_has (has_on sets) layers front back width (passes_of T layers sets front back width c) p x less
             (record { step = s.0; is_step = s.1; symbol = s.2; held = at ∙ e; before = s.3; behind = s.4 })
 
-    there : joins ≡ false → NoWordHas T.problem (has_known (known T sets)) T.rules p x
+    there : joins ≡ false → NoWordHas T.problem (knows_symbol (known T sets)) T.rules p x
     there none u long over clean has =
         let h = held_of_over T sets 0 u c.long over in
         let leads = c.layered.leads u long (symbols_of_held T.problem sets 0 u c.small h) clean in
         let s = has_support (has_on sets) layers front back width (passes_of T layers sets front back width c) p x less (record { word = u; leads = leads; held = h; has = has }) in
         unlike joins none ((by_step (sym at ∙ s.held)).1 (s.step, s.is_step, s.symbol, s.before, s.behind))
 
-    back_again : (b : Bool) → joins ≡ b → NoWordHas T.problem (has_known (known T sets)) T.rules p x → joins ≡ false
+    back_again : (b : Bool) → joins ≡ b → NoWordHas T.problem (knows_symbol (known T sets)) T.rules p x → joins ≡ false
     back_again false e none = e
     back_again true e none =
         let w = word_of e in
@@ -127,7 +127,7 @@ unsupported_by T layers sets front back width p x held joins c within is by_step
 
 -- a word has the symbol where a step joins by it
 pub supported_by : (T : Listed) (layers : List (List Step)) (sets : List (List ℕ)) (front back : List (List Bool)) (width p : ℕ) (x : Symbol) → IsCycle T layers sets front back width → p < cells T.problem
-    → IsTrue (has_symbol (get_or sets p []) x.number) → HasJoiningStep (layer_at layers p) x (row_at front p) (row_at back (p + 1)) → NoWordHas T.problem (has_known (known T sets)) T.rules p x → ⊥
+    → IsTrue (has_symbol (get_or sets p []) x.number) → HasJoiningStep (layer_at layers p) x (row_at front p) (row_at back (p + 1)) → NoWordHas T.problem (knows_symbol (known T sets)) T.rules p x → ⊥
 supported_by T layers sets front back width p x c within held s none =
     let less : p < length layers = omega (arith, within, c.layered.days) in
     let w = word_has (has_on sets) layers front back width (passes_of T layers sets front back width c) p x less
@@ -137,7 +137,7 @@ supported_by T layers sets front back width p x c within held s none =
 
 -- no word has it where none joins
 pub nowhere_by : (T : Listed) (layers : List (List Step)) (sets : List (List ℕ)) (front back : List (List Bool)) (width p : ℕ) (x : Symbol) → IsCycle T layers sets front back width → p < cells T.problem
-    → (HasJoiningStep (layer_at layers p) x (row_at front p) (row_at back (p + 1)) → ⊥) → NoWordHas T.problem (has_known (known T sets)) T.rules p x
+    → (HasJoiningStep (layer_at layers p) x (row_at front p) (row_at back (p + 1)) → ⊥) → NoWordHas T.problem (knows_symbol (known T sets)) T.rules p x
 nowhere_by T layers sets front back width p x c within none u long over clean has =
     let less : p < length layers = omega (arith, within, c.layered.days) in
     let h = held_of_over T sets 0 u c.long over in

@@ -15,8 +15,8 @@ pub record KnownCycle : Type 0 where
   pub sets : List (List ℕ)
 
 -- whether the known domain of the position has the symbol
-abbrev pub has_known : KnownCycle → Domains
-has_known C p x = has_symbol (slice_index_or C.sets p []) x
+abbrev pub knows_symbol : KnownCycle → Domains
+knows_symbol C p x = has_symbol (slice_index_or C.sets p []) x
 
 -- the known domains are the store's
 pub record KnowsDomains (C : KnownCycle) (S : Store) : Type 0 where
@@ -31,5 +31,5 @@ pub record KnowsAllBut (C : KnownCycle) (S : Store) (p : ℕ) : Type 0 where
 -- where the known domain of the position has two symbols or more, some clean word of two turns has each of them there
 abbrev pub IsSupportedAt : KnownCycle → ℕ → Type 0
 IsSupportedAt C p =
-    (x : Symbol) → 2 ≤ length (slice_index_or C.sets p []) → IsTrue (has_known C p x.number)
-    → NoWordHas C.problem (has_known C) C.rules p x → ⊥
+    (x : Symbol) → 2 ≤ length (slice_index_or C.sets p []) → IsTrue (knows_symbol C p x.number)
+    → NoWordHas C.problem (knows_symbol C) C.rules p x → ⊥

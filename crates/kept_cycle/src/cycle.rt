@@ -64,7 +64,7 @@ impl Model for Cycle {
 }
 
 impl Cycle {
-    ghost use Rattle.kept_cycle.specs.Known.{KnowsDomains, KnowsAllBut, has_known, IsSupportedAt};
+    ghost use Rattle.kept_cycle.specs.Known.{KnowsDomains, KnowsAllBut, knows_symbol, IsSupportedAt};
 
     /// A cycle of the domains. Takes all memory that it will ever need; there is too little where the
     /// layers would pass the limit of their room.
@@ -107,7 +107,7 @@ impl Cycle {
     /// Whether no word of two turns over the domains is clean.
     pub fn is_dead(&self) -> bool
         ensures { IsTrue result
-            ↔ IsDead self.now.problem (has_known self.now) 0 (2 * cells self.now.problem) self.now.rules }
+            ↔ IsDead self.now.problem (knows_symbol self.now) 0 (2 * cells self.now.problem) self.now.rules }
     {
         !self.back.row(0).has(0)
     }
@@ -115,7 +115,7 @@ impl Cycle {
     /// Whether some clean word of two turns over the domains has the symbol at the position, in its first turn.
     pub fn supported(&self, p: u32, x: Symbol) -> bool
         requires { p < cells self.now.problem }
-        ensures { (result ≡ false) ↔ NoWordHas self.now.problem (has_known self.now) self.now.rules p x }
+        ensures { (result ≡ false) ↔ NoWordHas self.now.problem (knows_symbol self.now) self.now.rules p x }
     {
         let steps = self.layers.layers()[p as usize].steps();
         let before = self.front.row(p as usize);

@@ -15,7 +15,7 @@ use Rattle.layered_cycle.specs.declared.automaton.Move.TheVariants.{Unknown, Now
 use Rattle.layered_cycle.specs.Grown.{StandsAt, Extends, AreDistinct, Grown}
 use Rattle.layered_cycle.specs.Front.{tail_at}
 use Rattle.layered_cycle.specs.declared.step.Step.{Step}
-use Rattle.layered_cycle.specs.Indexed.{Misses}
+use Rattle.layered_cycle.specs.Indexed.{IsNowhere}
 use Rattle.layered_cycle.specs.Automata.{IsMove, Refuses, GoesTo, move_at}
 use Rattle.layered_cycle.proofs.Growing.{stands_once, stands_here, grown_with, grown_without}
 
@@ -172,10 +172,10 @@ places_put nodes states places t s place long lt is absent old k less = by_place
         ∙ get_or-set_other places s (get_or states k 0) place 0 (absent k earlier) ∙ old k earlier
 
 -- a tail whose state has no node has none itself
-pub misses_by : (all nodes : List Tail) (states : List ℕ) (t : Tail) (s : ℕ) → AreDistinct all → StandsAt all s t → HasTails all nodes states → ((k : ℕ) → k < length nodes → get_or states k 0 ≡ s → ⊥) → Misses nodes t
+pub misses_by : (all nodes : List Tail) (states : List ℕ) (t : Tail) (s : ℕ) → AreDistinct all → StandsAt all s t → HasTails all nodes states → ((k : ℕ) → k < length nodes → get_or states k 0 ≡ s → ⊥) → IsNowhere nodes t
 misses_by all nodes states t s distinct here tails absent k at = absent k at.0 (distinct (get_or states k 0) s t (tails k t at) here)
 
-pub distinct_put : (xs : List Tail) (t : Tail) → AreDistinct xs → Misses xs t → AreDistinct (xs ++ t ∷ [])
+pub distinct_put : (xs : List Tail) (t : Tail) → AreDistinct xs → IsNowhere xs t → AreDistinct (xs ++ t ∷ [])
 distinct_put xs t distinct misses j k u a b = by_places (place j a.0) (place k b.0)
   where
     place : (i : ℕ) → i < length (xs ++ t ∷ []) → (i ≡ length xs) ⊎ (i < length xs)

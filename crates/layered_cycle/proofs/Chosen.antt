@@ -11,7 +11,7 @@ use Rattle.rwsp_terms.specs.declared.data.Symbol.{Symbol}
 use Rattle.layered_cycle.specs.declared.step.Step.{Step}
 use Rattle.layered_cycle.specs.declared.choice.Choice.{Choice}
 use Rattle.layered_cycle.specs.Graph.{StepBefore}
-use Rattle.layered_cycle.specs.Choices.{Row, choice_at, choice_by, chosen, preferred, IsWithin, AreWithin, IsRowOf}
+use Rattle.layered_cycle.specs.Choices.{Row, choice_at, choice_by, chosen, preferred, IsChoiceWithin, AreChoicesWithin, IsRowOf}
 
 -- the most that a step gains, above 0 or below
 abbrev pub most_gain : ℕ
@@ -194,40 +194,40 @@ offered gain next row s steps v lt each is node less = offered_at (s.from == nod
         let read : choice_at (set row s.from (preferred v (choice_at row s.from))) node ≡ choice_at row node = get_or-set_other row s.from node (preferred v (choice_at row s.from)) None ne in
         read ∙ each node less
 
-pub within_preferred : (n : ℕ) (a b : Option Choice) → IsWithin n a → IsWithin n b → IsWithin n (preferred a b)
+pub within_preferred : (n : ℕ) (a b : Option Choice) → IsChoiceWithin n a → IsChoiceWithin n b → IsChoiceWithin n (preferred a b)
 within_preferred n None b h k = k
 within_preferred n (Some a) None h k = h
 within_preferred n (Some a) (Some b) h k = by_test (int_lt a.weight b.weight)
   where
-    by_test : (t : Bool) → IsWithin n (if t then Some b else Some a)
+    by_test : (t : Bool) → IsChoiceWithin n (if t then Some b else Some a)
     by_test true = k
     by_test false = h
 
-pub within_set : (n : ℕ) (row : Row) (i : ℕ) (v : Option Choice) → i < length row → AreWithin n row → IsWithin n v → AreWithin n (set row i (preferred v (choice_at row i)))
+pub within_set : (n : ℕ) (row : Row) (i : ℕ) (v : Option Choice) → i < length row → AreChoicesWithin n row → IsChoiceWithin n v → AreChoicesWithin n (set row i (preferred v (choice_at row i)))
 within_set n row i v lt all h node = at (node == i) refl
   where
-    at : (b : Bool) → (node == i) ≡ b → IsWithin n (choice_at (set row i (preferred v (choice_at row i))) node)
+    at : (b : Bool) → (node == i) ≡ b → IsChoiceWithin n (choice_at (set row i (preferred v (choice_at row i))) node)
     at true same =
         let here : i ≡ node = grind arith in
-        let P : ℕ → Type 0 = λ m. IsWithin n (choice_at (set row i (preferred v (choice_at row i))) m) in
-        let Q : Option Choice → Type 0 = IsWithin n in
+        let P : ℕ → Type 0 = λ m. IsChoiceWithin n (choice_at (set row i (preferred v (choice_at row i))) m) in
+        let Q : Option Choice → Type 0 = IsChoiceWithin n in
         let read : choice_at (set row i (preferred v (choice_at row i))) i ≡ preferred v (choice_at row i) = get_or-set_same row i (preferred v (choice_at row i)) None lt in
         subst P here (subst Q (sym read) (within_preferred n v (choice_at row i) h (all i)))
     at false other =
         let ne : node ≢ i = λ q. grind arith in
-        let Q : Option Choice → Type 0 = IsWithin n in
+        let Q : Option Choice → Type 0 = IsChoiceWithin n in
         let read : choice_at (set row i (preferred v (choice_at row i))) node ≡ choice_at row node = get_or-set_other row i node (preferred v (choice_at row i)) None ne in
         subst Q (sym read) (all node)
 
-within_more : (m n : ℕ) (c : Option Choice) → m ≤ n → IsWithin m c → IsWithin n c
+within_more : (m n : ℕ) (c : Option Choice) → m ≤ n → IsChoiceWithin m c → IsChoiceWithin n c
 within_more m n None le h = tt
 within_more m n (Some c) le h = (omega (arith, ints, le, h.0), omega (arith, ints, le, h.1))
 
-pub rows_within_more : (m n : ℕ) (row : Row) → m ≤ n → AreWithin m row → AreWithin n row
+pub rows_within_more : (m n : ℕ) (row : Row) → m ≤ n → AreChoicesWithin m row → AreChoicesWithin n row
 rows_within_more m n row le all node = within_more m n (choice_at row node) le (all node)
 
 -- a row of the same choice everywhere
-pub within_replicate : (n count : ℕ) (c : Option Choice) → IsWithin n c → AreWithin n (replicate count c)
+pub within_replicate : (n count : ℕ) (c : Option Choice) → IsChoiceWithin n c → AreChoicesWithin n (replicate count c)
 within_replicate n zero c h node = tt
 within_replicate n (suc count) c h zero = h
 within_replicate n (suc count) c h (suc node) = within_replicate n count c h node
@@ -238,7 +238,7 @@ pub record HasChosen (gain : Step → ℤ) (count k : ℕ) (next row : Row) (ste
   pub within : k ≤ length steps
   pub long : length row ≡ count
   pub each : (node : ℕ) → node < count → choice_at row node ≡ chosen gain next node (drop k steps)
-  pub light : (n : ℕ) → AreWithin n next → AreWithin (n + most_gain) row
+  pub light : (n : ℕ) → AreChoicesWithin n next → AreChoicesWithin (n + most_gain) row
 
 pub row_started : (gain : Step → ℤ) (count : ℕ) (next row : Row) (steps : List Step) → row ≡ replicate count None → HasChosen gain count (length steps) next row steps
 row_started gain count next row steps e =
@@ -246,11 +246,11 @@ row_started gain count next row steps e =
       within = omega arith;
       long = ap length e ∙ length-replicate count None;
       each = λ node lt. ap (λ r. choice_at r node) e ∙ get_or-replicate count node None None lt ∙ ap (chosen gain next node) (sym (drop-length steps));
-      light = λ n all. let P : Row → Type 0 = AreWithin (n + most_gain) in subst P (sym e) (within_replicate (n + most_gain) count None tt);
+      light = λ n all. let P : Row → Type 0 = AreChoicesWithin (n + most_gain) in subst P (sym e) (within_replicate (n + most_gain) count None tt);
     }
 
 pub row_offered : (gain : Step → ℤ) (count k j : ℕ) (next row new : Row) (steps : List Step) (s d : Step) (v : Option Choice) → HasChosen gain count k next row steps → k ≡ suc j →
-    get_or steps j d ≡ s → s.from < count → v ≡ choice_by gain next s → ((n : ℕ) → AreWithin n next → IsWithin (n + most_gain) v) → new ≡ set row s.from (preferred v (choice_at row s.from)) → HasChosen gain count j next new steps
+    get_or steps j d ≡ s → s.from < count → v ≡ choice_by gain next s → ((n : ℕ) → AreChoicesWithin n next → IsChoiceWithin (n + most_gain) v) → new ≡ set row s.from (preferred v (choice_at row s.from)) → HasChosen gain count j next new steps
 row_offered gain count k j next row new steps s d v h back here lt is light e =
     let inside : s.from < length row = omega (arith, lt, h.long) in
     let front : drop j steps ≡ s ∷ drop k steps = drop-cons steps j d (omega (arith, h.within, back)) ∙ ap (λ x. x ∷ drop (suc j) steps) here ∙ ap (λ n. s ∷ drop n steps) (sym back) in
@@ -261,7 +261,7 @@ row_offered gain count k j next row new steps s d v h back here lt is light e =
           ap (λ r. choice_at r node) e
           ∙ offered gain next row s (drop k steps) v inside (λ n f. h.each n (omega (arith, f, h.long))) is node (omega (arith, less, h.long))
           ∙ ap (chosen gain next node) (sym front);
-      light = λ n all. let P : Row → Type 0 = AreWithin (n + most_gain) in subst P (sym e) (within_set (n + most_gain) row s.from v inside (h.light n all) (light n all));
+      light = λ n all. let P : Row → Type 0 = AreChoicesWithin (n + most_gain) in subst P (sym e) (within_set (n + most_gain) row s.from v inside (h.light n all) (light n all));
     }
 
 pub row_ended : (gain : Step → ℤ) (count k : ℕ) (next row : Row) (steps : List Step) → HasChosen gain count k next row steps → k ≤ 0 → AllPairs StepBefore steps → All (λ s. s.to < length next) steps → IsRowOf gain steps next row

@@ -18,8 +18,8 @@ use Rattle.layered_cycle.specs.declared.step.Step.{Step}
 use Rattle.layered_cycle.specs.declared.choice.Choice.{Choice}
 use Rattle.layered_cycle.specs.Graph.{StepBefore}
 use Rattle.layered_cycle.specs.Grown.{StandsAt, Grown}
-use Rattle.layered_cycle.specs.Choices.{Row, choice_at, end_choice, choice_by, chosen, AreWithin, IsWithin}
-use Rattle.layered_cycle.specs.Front.{Course, IsOf, word_gain, gain_behind, IsNoWorse, IsBestTo, ComesBefore, tail_at, IsFront, AreLinked, turned, is_by, is_picked}
+use Rattle.layered_cycle.specs.Choices.{Row, choice_at, end_choice, choice_by, chosen, AreChoicesWithin, IsChoiceWithin}
+use Rattle.layered_cycle.specs.Front.{Course, IsOf, word_gain, gain_behind, IsNoWorse, IsBestTo, IsLowerWord, tail_at, IsFront, AreLinked, reversed, is_by, is_picked}
 use Rattle.layered_cycle.proofs.Chosen.{most_gain, In, Contains-In, In-Contains, Offers, offers, choice_by-some, IsFirstHeaviest, IsChosen, chosen_is}
 use Rattle.layered_cycle.proofs.Reached.{over_longer, over_front, over_last, clean_front}
 use Rattle.layered_cycle.proofs.Orders.{word_gain_push, before_push, first_push_lower, first_push_same, first_itself, first_from_before, before_then, first_once}
@@ -39,7 +39,7 @@ pub record Moves (C : Course) (day : ℕ) (tails nodes : List Tail) (row next : 
   pub front : IsFront C day tails row
   pub grown : Grown C.listed C.domains ((C.position + day) % cells C.listed.problem) tails steps nodes (length tails) 0
   pub long : length next ≡ length nodes
-  pub each : (n : ℕ) → n < length nodes → choice_at next n ≡ chosen (gain_behind C.gain day tails) row n (map turned steps)
+  pub each : (n : ℕ) → n < length nodes → choice_at next n ≡ chosen (gain_behind C.gain day tails) row n (map reversed steps)
 
 stands_of : (tails : List Tail) (k : ℕ) (t : Tail) → k < length tails → tail_at tails k ≡ t → StandsAt tails k t
 stands_of tails k t lt e = (lt, get_or_default tails k t (tail_of []) lt ∙ e)
@@ -54,7 +54,7 @@ word_by_step word s = word s.from ++ s.symbol ∷ []
 -- what a step offers where it leads
 record Value (C : Course) (day : ℕ) (tails : List Tail) (row : Row) (word : ℕ → List Symbol) (s : Step) : Type 0 where
   choice : Choice
-  is : choice_by (gain_behind C.gain day tails) row (turned s) ≡ Some choice
+  is : choice_by (gain_behind C.gain day tails) row (reversed s) ≡ Some choice
   weight : choice.weight ≡ word_gain C (word_by_step word s)
 
 value : (C : Course) (day : ℕ) (tails : List Tail) (row : Row) (f : IsFront C day tails row) (s : Step) → s.from < length tails → Value C day tails row f.word s
@@ -64,32 +64,32 @@ value C day tails row f s lt =
     let more : word_gain C (word_by_step f.word s) ≡ word_gain C (f.word s.from) +ℤ C.gain day (tail_at tails s.from).last s.symbol = word_gain_push C (f.word s.from) s.symbol day (tail_at tails s.from) b.clean.long b.ends in
     record {
       choice = record { weight = C.gain day (tail_at tails s.from).last s.symbol +ℤ w.0.weight; symbol = s.symbol; to = s.from };
-      is = choice_by-some (gain_behind C.gain day tails) row (turned s) w.0 w.1;
+      is = choice_by-some (gain_behind C.gain day tails) row (reversed s) w.0 w.1;
       weight = omega (arith, ints, w.2, more);
     }
 
-in_turned : (steps : List Step) (s : Step) → In steps s → In (map turned steps) (turned s)
+in_turned : (steps : List Step) (s : Step) → In steps s → In (map reversed steps) (reversed s)
 in_turned [] s h = absurd h
-in_turned (x ∷ xs) s (inl e) = inl (ap turned e)
+in_turned (x ∷ xs) s (inl e) = inl (ap reversed e)
 in_turned (x ∷ xs) s (inr h) = inr (in_turned xs s h)
 
-turned_in : (steps : List Step) (t : Step) → In (map turned steps) t → In steps (turned t)
+turned_in : (steps : List Step) (t : Step) → In (map reversed steps) t → In steps (reversed t)
 turned_in [] t h = absurd h
-turned_in (x ∷ xs) t (inl e) = inl (ap turned e)
+turned_in (x ∷ xs) t (inl e) = inl (ap reversed e)
 turned_in (x ∷ xs) t (inr h) = inr (turned_in xs t h)
 
 -- the order of the steps, seen the other way round
 abbrev TurnedBefore : Step → Step → Type 0
-TurnedBefore a b = StepBefore (turned a) (turned b)
+TurnedBefore a b = StepBefore (reversed a) (reversed b)
 
-turned_ordered : (steps : List Step) → AllPairs StepBefore steps → AllPairs TurnedBefore (map turned steps)
+turned_ordered : (steps : List Step) → AllPairs StepBefore steps → AllPairs TurnedBefore (map reversed steps)
 turned_ordered steps ordered i j d lt less =
-    let inside : j < length steps = omega (arith, less, length-map steps turned) in
-    let ei : get_or (map turned steps) i d ≡ turned (get_or steps i (turned d)) = get_or-map turned steps i (turned d) d (omega (arith, lt, inside)) in
-    let ej : get_or (map turned steps) j d ≡ turned (get_or steps j (turned d)) = get_or-map turned steps j (turned d) d inside in
-    let P : Step → Type 0 = λ a. TurnedBefore a (get_or (map turned steps) j d) in
-    let Q : Step → Type 0 = λ b. TurnedBefore (turned (get_or steps i (turned d))) b in
-    subst P (sym ei) (subst Q (sym ej) (ordered i j (turned d) lt inside))
+    let inside : j < length steps = omega (arith, less, length-map steps reversed) in
+    let ei : get_or (map reversed steps) i d ≡ reversed (get_or steps i (reversed d)) = get_or-map reversed steps i (reversed d) d (omega (arith, lt, inside)) in
+    let ej : get_or (map reversed steps) j d ≡ reversed (get_or steps j (reversed d)) = get_or-map reversed steps j (reversed d) d inside in
+    let P : Step → Type 0 = λ a. TurnedBefore a (get_or (map reversed steps) j d) in
+    let Q : Step → Type 0 = λ b. TurnedBefore (reversed (get_or steps i (reversed d))) b in
+    subst P (sym ei) (subst Q (sym ej) (ordered i j (reversed d) lt inside))
 
 -- the first of the heaviest steps to a node
 record Pick (C : Course) (word : ℕ → List Symbol) (steps : List Step) (next : Row) (n : ℕ) : Type 0 where
@@ -105,7 +105,7 @@ record Pick (C : Course) (word : ℕ → List Symbol) (steps : List Step) (next 
 
 pick : (C : Course) (day : ℕ) (tails nodes : List Tail) (row next : Row) (steps : List Step) (m : Moves C day tails nodes row next steps) (n : ℕ) → n < length nodes → Pick C m.front.word steps next n
 pick C day tails nodes row next steps m n lt =
-    by_choice (chosen (gain_behind C.gain day tails) row n (map turned steps)) (m.each n lt) (chosen_is TurnedBefore (gain_behind C.gain day tails) row n (map turned steps) (turned_ordered steps m.grown.ordered))
+    by_choice (chosen (gain_behind C.gain day tails) row n (map reversed steps)) (m.each n lt) (chosen_is TurnedBefore (gain_behind C.gain day tails) row n (map reversed steps) (turned_ordered steps m.grown.ordered))
   where
     word : ℕ → List Symbol
     word = m.front.word
@@ -113,24 +113,24 @@ pick C day tails nodes row next steps m n lt =
     value_of : (s : Step) → Contains steps s → Value C day tails row m.front.word s
     value_of s inside = value C day tails row m.front s (m.grown.sound s inside).from
 
-    by_choice : (r : Option Choice) → choice_at next n ≡ r → IsChosen TurnedBefore (gain_behind C.gain day tails) row n (map turned steps) r → Pick C m.front.word steps next n
+    by_choice : (r : Option Choice) → choice_at next n ≡ r → IsChosen TurnedBefore (gain_behind C.gain day tails) row n (map reversed steps) r → Pick C m.front.word steps next n
     by_choice None e h =
         let reached = m.grown.reached n lt in
         let s : Step = reached.0 in
         let v : Value C day tails row m.front.word s = value_of s reached.1 in
-        let none : choice_by (gain_behind C.gain day tails) row (turned s) ≡ None = h (turned s) (in_turned steps s (Contains-In steps s reached.1)) reached.2 in
-        let some : choice_by (gain_behind C.gain day tails) row (turned s) ≡ Some v.choice = v.is in
+        let none : choice_by (gain_behind C.gain day tails) row (reversed s) ≡ None = h (reversed s) (in_turned steps s (Contains-In steps s reached.1)) reached.2 in
+        let some : choice_by (gain_behind C.gain day tails) row (reversed s) ≡ Some v.choice = v.is in
         absurd (cc)
     by_choice (Some c) e h =
         let o : Offers (gain_behind C.gain day tails) row h.step c = offers (gain_behind C.gain day tails) row h.step c h.is in
-        let inside : Contains steps (turned h.step) = In-Contains steps (turned h.step) (turned_in steps h.step h.within) in
-        let v : Value C day tails row m.front.word (turned h.step) = value_of (turned h.step) inside in
+        let inside : Contains steps (reversed h.step) = In-Contains steps (reversed h.step) (turned_in steps h.step h.within) in
+        let v : Value C day tails row m.front.word (reversed h.step) = value_of (reversed h.step) inside in
         let some : choice_by (gain_behind C.gain day tails) row h.step ≡ Some v.choice = v.is in
         let here : choice_by (gain_behind C.gain day tails) row h.step ≡ Some c = h.is in
         let same : v.choice ≡ c = cc in
-        let weight : c.weight ≡ word_gain C (word_by_step m.front.word (turned h.step)) = ap (λ (x : Choice). x.weight) (sym same) ∙ v.weight in
+        let weight : c.weight ≡ word_gain C (word_by_step m.front.word (reversed h.step)) = ap (λ (x : Choice). x.weight) (sym same) ∙ v.weight in
         record {
-          step = turned h.step;
+          step = reversed h.step;
           inside = inside;
           leads = h.from;
           choice = c;
@@ -140,15 +140,15 @@ pick C day tails nodes row next steps m n lt =
           weight = weight;
           others = λ s within to.
               let w : Value C day tails row m.front.word s = value_of s within in
-              compared s c w.choice w.weight h.step weight (h.others (turned s) w.choice (in_turned steps s (Contains-In steps s within)) to w.is);
+              compared s c w.choice w.weight h.step weight (h.others (reversed s) w.choice (in_turned steps s (Contains-In steps s within)) to w.is);
         }
       where
-        compared : (s : Step) (c d : Choice) → d.weight ≡ word_gain C (word_by_step m.front.word s) → (step : Step) → c.weight ≡ word_gain C (word_by_step m.front.word (turned step)) →
-            (d.weight <ℤ c.weight) ⊎ ((d.weight ≡ c.weight) × (TurnedBefore step (turned s) ⊎ (turned s ≡ step))) →
-            (word_gain C (word_by_step m.front.word s) <ℤ word_gain C (word_by_step m.front.word (turned step))) ⊎ ((word_gain C (word_by_step m.front.word s) ≡ word_gain C (word_by_step m.front.word (turned step))) × (StepBefore (turned step) s ⊎ (s ≡ turned step)))
+        compared : (s : Step) (c d : Choice) → d.weight ≡ word_gain C (word_by_step m.front.word s) → (step : Step) → c.weight ≡ word_gain C (word_by_step m.front.word (reversed step)) →
+            (d.weight <ℤ c.weight) ⊎ ((d.weight ≡ c.weight) × (TurnedBefore step (reversed s) ⊎ (reversed s ≡ step))) →
+            (word_gain C (word_by_step m.front.word s) <ℤ word_gain C (word_by_step m.front.word (reversed step))) ⊎ ((word_gain C (word_by_step m.front.word s) ≡ word_gain C (word_by_step m.front.word (reversed step))) × (StepBefore (reversed step) s ⊎ (s ≡ reversed step)))
         compared s c d dw step cw (inl lt) = inl (omega (arith, ints, lt, dw, cw))
         compared s c d dw step cw (inr (same, inl before)) = inr (sym dw ∙ same ∙ cw, inl before)
-        compared s c d dw step cw (inr (same, inr is)) = inr (sym dw ∙ same ∙ cw, inr (ap turned is))
+        compared s c d dw step cw (inr (same, inr is)) = inr (sym dw ∙ same ∙ cw, inr (ap reversed is))
 
 -- a word of one day more, by its last step
 record LastStep (C : Course) (day : ℕ) (tails nodes : List Tail) (steps : List Step) (word : ℕ → List Symbol) (v : List Symbol) : Type 0 where
@@ -331,19 +331,19 @@ tail_read nodes ps k lt = get_or-map (λ s. tail_at nodes s.to) ps k no_step (ta
 choice_read : (next : Row) (ps : List Step) (k : ℕ) → k < length ps → choice_at (row_by next ps) k ≡ choice_at next (get_or ps k no_step).to
 choice_read next ps k lt = get_or-map (λ s. choice_at next s.to) ps k no_step None lt
 
-light_by : (n m : ℕ) (next : Row) (ps : List Step) → n ≡ m → AreWithin n next → AreWithin m (row_by next ps)
+light_by : (n m : ℕ) (next : Row) (ps : List Step) → n ≡ m → AreChoicesWithin n next → AreChoicesWithin m (row_by next ps)
 light_by n m next ps e light k = by_place (cases_lt k (length ps))
   where
-    by_place : (k < length ps) ⊎ (length ps ≤ k) → IsWithin m (choice_at (row_by next ps) k)
+    by_place : (k < length ps) ⊎ (length ps ≤ k) → IsChoiceWithin m (choice_at (row_by next ps) k)
     by_place (inl lt) =
-        let P : Option Choice → Type 0 = IsWithin m in
-        let Q : ℕ → Type 0 = λ x. IsWithin x (choice_at next (get_or ps k no_step).to) in
+        let P : Option Choice → Type 0 = IsChoiceWithin m in
+        let Q : ℕ → Type 0 = λ x. IsChoiceWithin x (choice_at next (get_or ps k no_step).to) in
         subst P (sym (choice_read next ps k lt)) (subst Q e (light (get_or ps k no_step).to))
     by_place (inr past) =
-        let P : Option Choice → Type 0 = IsWithin m in
+        let P : Option Choice → Type 0 = IsChoiceWithin m in
         subst P (sym (get_or_past (row_by next ps) k None (omega (arith, past, length-map ps (λ s. choice_at next s.to))))) tt
 
-pub front_next : (C : Course) (day : ℕ) (tails nodes : List Tail) (row next : Row) (steps : List Step) → Moves C day tails nodes row next steps → AreWithin (most_gain * day + most_gain) next → length (picks next steps) < 2 ^ 32 → IsFront C (day + 1) (tails_by nodes (picks next steps)) (row_by next (picks next steps))
+pub front_next : (C : Course) (day : ℕ) (tails nodes : List Tail) (row next : Row) (steps : List Step) → Moves C day tails nodes row next steps → AreChoicesWithin (most_gain * day + most_gain) next → length (picks next steps) < 2 ^ 32 → IsFront C (day + 1) (tails_by nodes (picks next steps)) (row_by next (picks next steps))
 front_next C day tails nodes row next steps m light few = record {
   few = omega (arith, few, length-map (picks next steps) (λ s. tail_at nodes s.to));
   long = length-map (picks next steps) (λ s. choice_at next s.to) ∙ sym (length-map (picks next steps) (λ s. tail_at nodes s.to));
@@ -387,13 +387,13 @@ front_next C day tails nodes row next steps m light few = record {
           tail_read nodes (picks next steps) inside.0 inside.1 ∙ ap (λ (z : Step). tail_at nodes z.to) here ∙ ap (tail_at nodes) p.leads ∙ tail_of_stands nodes l.step.to (tail_of u) l.stands,
         )
 
-    by_order : (a b : Step) → a.from < length tails → b.from < length tails → StepBefore a b → ComesBefore (word_by_step m.front.word a) (word_by_step m.front.word b)
+    by_order : (a b : Step) → a.from < length tails → b.from < length tails → StepBefore a b → IsLowerWord (word_by_step m.front.word a) (word_by_step m.front.word b)
     by_order a b la lb (inl earlier) = before_push (m.front.word a.from) (m.front.word b.from) a.symbol b.symbol (m.front.ordered a.from b.from earlier lb)
     by_order a b la lb (inr (same, lower)) =
         let P : ℕ → Type 0 = λ n. ComesFirst (m.front.word a.from) (m.front.word n) in
         first_push_lower (m.front.word a.from) (m.front.word b.from) a.symbol b.symbol (ap (λ (n : ℕ). length (m.front.word n)) same) (subst P same (first_itself (m.front.word a.from))) lower
 
-    ordered : (j k : ℕ) → j < k → k < length (picks next steps) → ComesBefore (word_by_step m.front.word (get_or (picks next steps) j no_step)) (word_by_step m.front.word (get_or (picks next steps) k no_step))
+    ordered : (j k : ℕ) → j < k → k < length (picks next steps) → IsLowerWord (word_by_step m.front.word (get_or (picks next steps) j no_step)) (word_by_step m.front.word (get_or (picks next steps) k no_step))
     ordered j k lt less =
         let p : Picked C m.front.word steps next (get_or (picks next steps) j no_step) = picked C day tails nodes row next steps m j (omega (arith, lt, less)) in
         let q : Picked C m.front.word steps next (get_or (picks next steps) k no_step) = picked C day tails nodes row next steps m k less in
@@ -420,7 +420,7 @@ linked_next C day tails nodes row next steps m k lt =
     )
 
 -- the front that is made of the steps that are picked
-pub front_made : (C : Course) (day : ℕ) (tails nodes : List Tail) (row next : Row) (steps : List Step) → Moves C day tails nodes row next steps → AreWithin (most_gain * day + most_gain) next → (ps : List Step) → ps ≡ filter (is_picked next) steps → length ps < 2 ^ 32 → (later : List Tail) (late : Row) → later ≡ map (λ s. tail_at nodes s.to) ps → late ≡ map (λ s. choice_at next s.to) ps → IsFront C (day + 1) later late × AreLinked C day tails later late
+pub front_made : (C : Course) (day : ℕ) (tails nodes : List Tail) (row next : Row) (steps : List Step) → Moves C day tails nodes row next steps → AreChoicesWithin (most_gain * day + most_gain) next → (ps : List Step) → ps ≡ filter (is_picked next) steps → length ps < 2 ^ 32 → (later : List Tail) (late : Row) → later ≡ map (λ s. tail_at nodes s.to) ps → late ≡ map (λ s. choice_at next s.to) ps → IsFront C (day + 1) later late × AreLinked C day tails later late
 front_made C day tails nodes row next steps m light ps are few later late is_later is_late =
     let P : List Tail → Type 0 = λ t. IsFront C (day + 1) t late × AreLinked C day tails t late in
     let Q : Row → Type 0 = λ r. IsFront C (day + 1) (tails_by nodes ps) r × AreLinked C day tails (tails_by nodes ps) r in
@@ -460,10 +460,10 @@ front_none C clean row is = record {
     all [] h = (0, omega arith, refl)
     all (x ∷ u) h = absurd (omega (arith, h.long))
 
-    light_at : (k : ℕ) → IsWithin 0 (choice_at (Some end_choice ∷ []) k)
+    light_at : (k : ℕ) → IsChoiceWithin 0 (choice_at (Some end_choice ∷ []) k)
     light_at zero = (omega (arith, ints), omega (arith, ints))
     light_at (suc k) = tt
 
-    light : AreWithin (most_gain * 0) row
+    light : AreChoicesWithin (most_gain * 0) row
     light k =
-        let P : Row → Type 0 = λ r. IsWithin 0 (choice_at r k) in subst P (sym is) (light_at k)
+        let P : Row → Type 0 = λ r. IsChoiceWithin 0 (choice_at r k) in subst P (sym is) (light_at k)

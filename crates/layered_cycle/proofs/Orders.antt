@@ -7,7 +7,7 @@ use Rattle.refutation_terms.specs.Escape.{ComesFirst}
 use Rattle.word_tail.specs.Tails.{last_of, tail_of}
 use Rattle.word_tail.specs.declared.tail.Tail.{Tail}
 use Rattle.word_tail.proofs.Lists.{ends, reverse_longer}
-use Rattle.layered_cycle.specs.Front.{Course, gained_after, word_gain, ComesBefore}
+use Rattle.layered_cycle.specs.Front.{Course, gained_after, word_gain, IsLowerWord}
 
 -- the last symbol, or the one before a word that has none
 abbrev last_behind : Option Symbol → List Symbol → Option Symbol
@@ -43,13 +43,13 @@ word_gain_push C u x day tail long ending =
     ∙ ap (λ (b : Option Symbol). word_gain C u +ℤ C.gain (0 + length u) b x) last
     ∙ ap (λ (n : ℕ). word_gain C u +ℤ C.gain n tail.last x) days
 
-pub before_push : (u v : List Symbol) (x y : Symbol) → ComesBefore u v → ComesBefore (u ++ x ∷ []) (v ++ y ∷ [])
+pub before_push : (u v : List Symbol) (x y : Symbol) → IsLowerWord u v → IsLowerWord (u ++ x ∷ []) (v ++ y ∷ [])
 before_push [] v x y h = absurd h
 before_push (a ∷ u) [] x y h = absurd h
 before_push (a ∷ u) (b ∷ v) x y (inl lt) = inl lt
 before_push (a ∷ u) (b ∷ v) x y (inr (e, h)) = inr (e, before_push u v x y h)
 
-pub first_push_lower : (u v : List Symbol) (x y : Symbol) → length u ≡ length v → ComesFirst u v → x.number < y.number → ComesBefore (u ++ x ∷ []) (v ++ y ∷ [])
+pub first_push_lower : (u v : List Symbol) (x y : Symbol) → length u ≡ length v → ComesFirst u v → x.number < y.number → IsLowerWord (u ++ x ∷ []) (v ++ y ∷ [])
 first_push_lower [] [] x y long h lt = inl lt
 first_push_lower [] (b ∷ v) x y long h lt = absurd (omega (arith, long))
 first_push_lower (a ∷ u) [] x y long h lt = absurd h
@@ -67,13 +67,13 @@ pub first_itself : (u : List Symbol) → ComesFirst u u
 first_itself [] = tt
 first_itself (x ∷ u) = inr (refl, first_itself u)
 
-pub first_from_before : (u v : List Symbol) → ComesBefore u v → ComesFirst u v
+pub first_from_before : (u v : List Symbol) → IsLowerWord u v → ComesFirst u v
 first_from_before [] v h = absurd h
 first_from_before (a ∷ u) [] h = absurd h
 first_from_before (a ∷ u) (b ∷ v) (inl lt) = inl lt
 first_from_before (a ∷ u) (b ∷ v) (inr (e, h)) = inr (e, first_from_before u v h)
 
-pub before_then : (u v w : List Symbol) → ComesBefore u v → ComesFirst v w → ComesBefore u w
+pub before_then : (u v w : List Symbol) → IsLowerWord u v → ComesFirst v w → IsLowerWord u w
 before_then [] v w h g = absurd h
 before_then (a ∷ u) [] w h g = absurd h
 before_then (a ∷ u) (b ∷ v) [] h g = absurd g

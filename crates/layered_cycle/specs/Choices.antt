@@ -72,9 +72,9 @@ word_by node (row ∷ next ∷ rows) =
     let c : Choice = choice_or_end (choice_at row node) in c.symbol ∷ word_by c.to (next ∷ rows)
 
 -- a choice that weighs at most n, above 0 or below
-abbrev pub IsWithin : ℕ → Option Choice → Type 0
-IsWithin n None = Unit {0}
-IsWithin n (Some c) = (neg_ℤ (pos n) ≤ℤ c.weight) × (c.weight ≤ℤ pos n)
+abbrev pub IsChoiceWithin : ℕ → Option Choice → Type 0
+IsChoiceWithin n None = Unit {0}
+IsChoiceWithin n (Some c) = (neg_ℤ (pos n) ≤ℤ c.weight) × (c.weight ≤ℤ pos n)
 
-abbrev pub AreWithin : ℕ → Row → Type 0
-AreWithin n row = (node : ℕ) → IsWithin n (choice_at row node)
+abbrev pub AreChoicesWithin : ℕ → Row → Type 0
+AreChoicesWithin n row = (node : ℕ) → IsChoiceWithin n (choice_at row node)

@@ -13,7 +13,7 @@ use Rattle.layered_cycle.specs.declared.step.Step.{Step}
 use Rattle.layered_cycle.specs.declared.choice.Choice.{Choice}
 use Rattle.layered_cycle.specs.declared.front.Front.{Front}
 use Rattle.layered_cycle.specs.declared.ends.End.{End}
-use Rattle.layered_cycle.specs.Choices.{Row, choice_at, AreWithin}
+use Rattle.layered_cycle.specs.Choices.{Row, choice_at, AreChoicesWithin}
 
 -- what the symbols of a word gain, the first on this day and behind this symbol
 abbrev pub gained_after : (ℕ → Option Symbol → Symbol → ℤ) → ℕ → Option Symbol → List Symbol → ℤ
@@ -50,10 +50,10 @@ pub record IsBestTo (C : Course) (day : ℕ) (tail : Tail) (word : List Symbol) 
   pub best : (u : List Symbol) → IsOf C day u → tail_of u ≡ tail → IsNoWorse C word u
 
 -- the first word has the lower symbol where the two first differ
-abbrev pub ComesBefore : List Symbol → List Symbol → Type 0
-ComesBefore [] v = ⊥
-ComesBefore (x ∷ u) [] = ⊥
-ComesBefore (x ∷ u) (y ∷ v) = (x.number < y.number) ⊎ ((x ≡ y) × ComesBefore u v)
+abbrev pub IsLowerWord : List Symbol → List Symbol → Type 0
+IsLowerWord [] v = ⊥
+IsLowerWord (x ∷ u) [] = ⊥
+IsLowerWord (x ∷ u) (y ∷ v) = (x.number < y.number) ⊎ ((x ≡ y) × IsLowerWord u v)
 
 abbrev pub tail_at : List Tail → ℕ → Tail
 tail_at tails k = slice_index_or tails k (tail_of [])
@@ -67,8 +67,8 @@ pub record IsFront (C : Course) (day : ℕ) (tails : List Tail) (row : Row) : Ty
   pub weighs :
       (k : ℕ) → k < length tails → (c : Choice) × (choice_at row k ≡ Some c) × (c.weight ≡ word_gain C (word k))
   pub all : (u : List Symbol) → IsOf C day u → (k : ℕ) × (k < length tails) × (tail_at tails k ≡ tail_of u)
-  pub ordered : (j k : ℕ) → j < k → k < length tails → ComesBefore (word j) (word k)
-  pub light : AreWithin ((GREATEST_WEIGHT + GREATEST_REWARD) * day) row
+  pub ordered : (j k : ℕ) → j < k → k < length tails → IsLowerWord (word j) (word k)
+  pub light : AreChoicesWithin ((GREATEST_WEIGHT + GREATEST_REWARD) * day) row
 
 -- the choice of a later tail names an earlier one and a symbol: the best word to the one, with the symbol, is the best
 -- to the other
@@ -98,8 +98,8 @@ abbrev pub gain_behind : (ℕ → Option Symbol → Symbol → ℤ) → ℕ → 
 gain_behind gain day tails s = gain day (tail_at tails s.to).last s.symbol
 
 -- the step the other way round
-abbrev pub turned : Step → Step
-turned s = record { from = s.to; symbol = s.symbol; to = s.from }
+abbrev pub reversed : Step → Step
+reversed s = record { from = s.to; symbol = s.symbol; to = s.from }
 
 abbrev pub is_by : Option Choice → Step → Bool
 is_by None s = false

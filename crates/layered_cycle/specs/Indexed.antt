@@ -15,8 +15,8 @@ tail_code t =
     + (if t.all_one then 2 else 0) + (if t.all_work then 1 else 0)
 
 -- the tail is nowhere in the list
-abbrev pub Misses : List Tail → Tail → Type 0
-Misses tails tail = (k : ℕ) → StandsAt tails k tail → ⊥
+abbrev pub IsNowhere : List Tail → Tail → Type 0
+IsNowhere tails tail = (k : ℕ) → StandsAt tails k tail → ⊥
 
 -- a tail of this code is at the place
 abbrev pub HasCode : List Tail → ℕ → ℕ → Type 0

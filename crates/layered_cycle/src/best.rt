@@ -3,7 +3,7 @@ ghost use Rattle.std.specs.Prelude.{◌≡◌, ℕ, ◌+◌, ◌<◌, ◌≤◌,
 ghost use Rattle.rwsp_terms.specs.declared.limits.TheConstants.{GREATEST_REWARD, GREATEST_WEIGHT, LONGEST_WORD};
 ghost use Rattle.rwsp_terms.specs.declared.data.Symbol.{Symbol};
 ghost use Rattle.layered_cycle.specs.Graph.{AreLayers, StepBefore};
-ghost use Rattle.layered_cycle.specs.Choices.{first_row, AreRows, IsRowOf, AreWithin, IsWithin, choice_by, gain_on, word_by};
+ghost use Rattle.layered_cycle.specs.Choices.{first_row, AreRows, IsRowOf, AreChoicesWithin, IsChoiceWithin, choice_by, gain_on, word_by};
 ghost use Rattle.layered_cycle.specs.Best.{IsBest, NoneLeads};
 
 use crate::choice::{Choice, ChoiceRow, END, Rows, choice_or_end};
@@ -86,11 +86,11 @@ fn row_before<G: Gain>(
     requires ordered { AllPairs StepBefore steps.now }
     requires from { All (λ s. s.from < count) steps.now }
     requires to { All (λ s. s.to < length next.now) steps.now }
-    requires light { AreWithin ((GREATEST_WEIGHT + GREATEST_REWARD) * (LONGEST_WORD - 1)) next.now }
+    requires light { AreChoicesWithin ((GREATEST_WEIGHT + GREATEST_REWARD) * (LONGEST_WORD - 1)) next.now }
     ensures long { IfOk result (λ row. length row ≡ count) }
     ensures row { IfOk result (λ row. IsRowOf (gain_on (G.gain_of gain.now) day) steps.now next.now row) }
-    ensures light { IfOk result (λ row. (n : ℕ) → AreWithin n next.now
-        → AreWithin (n + (GREATEST_WEIGHT + GREATEST_REWARD)) row) }
+    ensures light { IfOk result (λ row. (n : ℕ) → AreChoicesWithin n next.now
+        → AreChoicesWithin (n + (GREATEST_WEIGHT + GREATEST_REWARD)) row) }
 {
     let mut row = ChoiceRow::of(alloc, count, None)?;
     let alone = Alone { gain };
@@ -112,9 +112,10 @@ pub fn choice_by<G: GainAfter>(
     step: Step,
     next: &ChoiceRow,
 ) -> Option<Choice>
-    requires { AreWithin ((GREATEST_WEIGHT + GREATEST_REWARD) * (LONGEST_WORD - 1)) next.now }
+    requires { AreChoicesWithin ((GREATEST_WEIGHT + GREATEST_REWARD) * (LONGEST_WORD - 1)) next.now }
     ensures value { result ≡ choice_by (λ s. G.gain_after_of gain.now day before s.symbol) next.now step }
-    ensures light { (n : ℕ) → AreWithin n next.now → IsWithin (n + (GREATEST_WEIGHT + GREATEST_REWARD)) result }
+    ensures light { (n : ℕ) → AreChoicesWithin n next.now
+        → IsChoiceWithin (n + (GREATEST_WEIGHT + GREATEST_REWARD)) result }
 {
     let after = next.at(step.to)?;
     Some(Choice {

@@ -4,9 +4,9 @@ ghost use Rattle.rwsp_terms.specs.declared.limits.TheConstants.{GREATEST_REWARD,
 ghost use Rattle.std.specs.List.{filter};
 ghost use Rattle.rwsp_terms.specs.Instance.{cells};
 ghost use Rattle.domain_store.specs.Store.{BelongsTo};
-ghost use Rattle.layered_cycle.specs.Choices.{AreWithin, choice_at, chosen};
+ghost use Rattle.layered_cycle.specs.Choices.{AreChoicesWithin, choice_at, chosen};
 ghost use Rattle.layered_cycle.specs.Automata.{IsAutomaton};
-ghost use Rattle.layered_cycle.specs.Front.{Course, course, IsFront, AreLinked, gain_behind, tail_at, turned, is_picked};
+ghost use Rattle.layered_cycle.specs.Front.{Course, course, IsFront, AreLinked, gain_behind, tail_at, reversed, is_picked};
 
 use crate::automaton::Automaton;
 use crate::best::choice_by;
@@ -92,13 +92,13 @@ fn row_behind<G: GainAfter>(
     gain: &G,
 ) -> Result<ChoiceRow, AllocError>
     requires to { All (λ s. s.to < count) steps.now }
-    requires light { AreWithin ((GREATEST_WEIGHT + GREATEST_REWARD) * (LONGEST_WORD - 1)) row.now }
+    requires light { AreChoicesWithin ((GREATEST_WEIGHT + GREATEST_REWARD) * (LONGEST_WORD - 1)) row.now }
     ensures long { IfOk result (λ next. length next ≡ count) }
     ensures each { IfOk result (λ next. (n : ℕ) → n < count →
         choice_at next n ≡ chosen (gain_behind (G.gain_after_of gain.now) day tails.now) row.now n
-        (map turned steps.now)) }
-    ensures light { IfOk result (λ next. (n : ℕ) → AreWithin n row.now
-        → AreWithin (n + (GREATEST_WEIGHT + GREATEST_REWARD)) next) }
+        (map reversed steps.now)) }
+    ensures light { IfOk result (λ next. (n : ℕ) → AreChoicesWithin n row.now
+        → AreChoicesWithin (n + (GREATEST_WEIGHT + GREATEST_REWARD)) next) }
 {
     let mut next = ChoiceRow::of(alloc, count, None)?;
     let mut k = steps.len();

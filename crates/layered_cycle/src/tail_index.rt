@@ -2,7 +2,7 @@
 ghost use Rattle.std.specs.Prelude.{◌≡◌, ℕ, ◌+◌, ◌<◌, ◌≤◌, ◌^◌, List, [], ◌∷◌, ◌++◌, length, MatchOption};
 ghost use Rattle.word_tail.specs.declared.tail.Tail.{Tail};
 ghost use Rattle.layered_cycle.specs.Grown.{StandsAt};
-ghost use Rattle.layered_cycle.specs.Indexed.{Indexed, Misses, end_number, tail_code};
+ghost use Rattle.layered_cycle.specs.Indexed.{Indexed, IsNowhere, end_number, tail_code};
 
 use rwsp_terms::Symbol;
 use std::alloc::{AllocError, Global};
@@ -39,7 +39,7 @@ impl TailIndex {
     pub fn find(&self, tails: &[Tail], tail: Tail) -> Option<u32>
         requires few { length tails.now < 2 ^ 32 }
         requires indexed { Indexed self.now.places.items tails.now }
-        ensures { MatchOption result (Misses tails.now tail) (λ k. StandsAt tails.now k tail) }
+        ensures { MatchOption result (IsNowhere tails.now tail) (λ k. StandsAt tails.now k tail) }
     {
         let code = code_of(tail);
         if code >= self.places.len() {
@@ -83,7 +83,7 @@ pub fn place_of(tails: &[Tail], tail: Tail) -> u32
 // The place of the tail in the list. Its time grows with the list.
 fn place_along(tails: &[Tail], tail: Tail) -> Option<u32>
     requires { length tails.now < 2 ^ 32 }
-    ensures { MatchOption result (Misses tails.now tail) (λ k. StandsAt tails.now k tail) }
+    ensures { MatchOption result (IsNowhere tails.now tail) (λ k. StandsAt tails.now k tail) }
 {
     for (k, other) in tails.iter().enumerate() {
         if *other == tail {

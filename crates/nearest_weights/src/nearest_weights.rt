@@ -1,8 +1,6 @@
 // Bound leaves by nearest points.
 ghost use Rattle.std.specs.Prelude.{◌≡◌, ◌*◌, ◌≤◌, ◌<◌, length, IfOk, IfSome, None};
 ghost use Rattle.rwsp_terms.specs.Instance.{cells};
-ghost use Rattle.rwsp_terms.specs.Rules.{NamesShortOnly};
-ghost use Rattle.refutation_terms.specs.Log.{AreRules};
 ghost use Rattle.domain_store.specs.Store.{BelongsTo, has_domain};
 ghost use Rattle.nearest_weights.specs.Found.{HasRules};
 
@@ -14,7 +12,6 @@ use crate::words::Words;
 use domain_store::Domains;
 use refutation_terms::Line;
 use rwsp_model::{Problem, short_rules};
-use rwsp_terms::RuleList;
 use rwsp_terms::limits::LONGEST_WORD;
 use std::alloc::{AllocError, Global};
 use std::marker::Model;
@@ -245,15 +242,8 @@ impl NearestWeights {
 fn tails_of(alloc: Global, problem: &Problem) -> Result<TailRules, AllocError>
     ensures { IfOk result (HasRules problem.now) }
 {
-    let rules = rules_of(alloc, problem)?;
+    let rules = short_rules(alloc, problem)?;
     TailRules::of(alloc, problem, &rules)
-}
-
-fn rules_of(alloc: Global, problem: &Problem) -> Result<RuleList, AllocError>
-    ensures rules { IfOk result (AreRules problem.now) }
-    ensures short { IfOk result (NamesShortOnly problem.now) }
-{
-    short_rules(alloc, problem)
 }
 
 // How many turns there are layers and room for.

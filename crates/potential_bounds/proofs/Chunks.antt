@@ -8,7 +8,7 @@ use Rattle.std.proofs.Common.{◌/◌, ◌%◌}
 use Rattle.std.proofs.Math.Nat.{div-add-mod, mod-lt}
 use Rattle.std.proofs.lemmas.Bool.{cases_lt}
 use Rattle.rwsp_terms.specs.declared.data.Weight.{Weight}
-use Rattle.potential_bounds.specs.First.{IsFirst, IsFirstAt, first_answer}
+use Rattle.potential_bounds.specs.First.{IsFirstHolding, IsFirstAt, first_answer}
 
 abbrev Bounds : Type 0
 Bounds = List (List Weight)
@@ -34,7 +34,7 @@ chunk_length : (bounds : Bounds) (size start : ℕ) → length (take size (drop 
 chunk_length bounds size start = length-take size (drop start bounds) ∙ ap (min size) (length-drop start bounds)
 
 -- none in the chunk that begins at the start
-none_in_chunk : (H : List Weight → Type 0) (bounds : Bounds) (size start : ℕ) → ((i : ℕ) → i < start → i < length bounds → H (get_or bounds i []) → ⊥) → IsFirst H start (take size (drop start bounds)) None → (i : ℕ) → i < start + size → i < length bounds → H (get_or bounds i []) → ⊥
+none_in_chunk : (H : List Weight → Type 0) (bounds : Bounds) (size start : ℕ) → ((i : ℕ) → i < start → i < length bounds → H (get_or bounds i []) → ⊥) → IsFirstHolding H start (take size (drop start bounds)) None → (i : ℕ) → i < start + size → i < length bounds → H (get_or bounds i []) → ⊥
 none_in_chunk H bounds size start none chunk i near lt h =
     ⊎_elim (λ (low : i < start). none i low lt h)
     (λ (high : start ≤ i).
@@ -65,18 +65,18 @@ some_in_chunk H bounds size start k none first =
     }
 
 -- the answers of the chunks from the m-th on
-joined : (H : List Weight → Type 0) (bounds : Bounds) (size : ℕ) (rs : List (Result (Option ℕ) AllocError)) (m : ℕ) → ((n : ℕ) → n < length rs → IfOk (get_or rs n (Ok None)) (IsFirst H ((m + n) * size) (slice_chunk bounds size (m + n)))) → ((i : ℕ) → i < m * size → i < length bounds → H (get_or bounds i []) → ⊥) → length bounds ≤ (m + length rs) * size → IfOk (first_answer rs) (IsFirst H 0 bounds)
+joined : (H : List Weight → Type 0) (bounds : Bounds) (size : ℕ) (rs : List (Result (Option ℕ) AllocError)) (m : ℕ) → ((n : ℕ) → n < length rs → IfOk (get_or rs n (Ok None)) (IsFirstHolding H ((m + n) * size) (slice_chunk bounds size (m + n)))) → ((i : ℕ) → i < m * size → i < length bounds → H (get_or bounds i []) → ⊥) → length bounds ≤ (m + length rs) * size → IfOk (first_answer rs) (IsFirstHolding H 0 bounds)
 joined H bounds size [] m each none long = λ i lt h. none i (omega (arith, lt, long)) lt h
 joined H bounds size (Ok None ∷ rs) m each none long =
-    let P : ℕ → Type 0 = λ n. IsFirst H (n * size) (slice_chunk bounds size n) None in
+    let P : ℕ → Type 0 = λ n. IsFirstHolding H (n * size) (slice_chunk bounds size n) None in
     let here : m + 0 ≡ m = omega arith in
-    let first : IsFirst H (m * size) (take size (drop (m * size) bounds)) None = subst P here (each 0 (omega arith)) in
+    let first : IsFirstHolding H (m * size) (take size (drop (m * size) bounds)) None = subst P here (each 0 (omega arith)) in
     joined H bounds size rs (suc m)
-    (λ n lt. let Q : ℕ → Type 0 = λ k. IfOk (get_or rs n (Ok None)) (IsFirst H (k * size) (slice_chunk bounds size k)) in let next : m + suc n ≡ suc m + n = omega arith in subst Q next (each (suc n) (omega (arith, lt))))
+    (λ n lt. let Q : ℕ → Type 0 = λ k. IfOk (get_or rs n (Ok None)) (IsFirstHolding H (k * size) (slice_chunk bounds size k)) in let next : m + suc n ≡ suc m + n = omega arith in subst Q next (each (suc n) (omega (arith, lt))))
     (λ i lt. none_in_chunk H bounds size (m * size) none first i (omega (arith, lt)))
     (omega (arith, long))
 joined H bounds size (Ok (Some k) ∷ rs) m each none long =
-    let P : ℕ → Type 0 = λ n. IsFirst H (n * size) (slice_chunk bounds size n) (Some k) in
+    let P : ℕ → Type 0 = λ n. IsFirstHolding H (n * size) (slice_chunk bounds size n) (Some k) in
     let here : m + 0 ≡ m = omega arith in
     some_in_chunk H bounds size (m * size) k none (subst P here (each 0 (omega arith)))
 joined H bounds size (Err e ∷ rs) m each none long = tt
@@ -99,18 +99,18 @@ enough len size count some is =
 pub record Answers (H : List Weight → Type 0) (bounds : Bounds) (size n : ℕ) (r : Result (Option ℕ) AllocError) : Type 0 where
   pub chunk : Bounds
   pub is : chunk ≡ slice_chunk bounds size n
-  pub first : IfOk r (IsFirst H (n * size) chunk)
+  pub first : IfOk r (IsFirstHolding H (n * size) chunk)
 
-pub joined_chunks : (H : List Weight → Type 0) (bounds all : Bounds) (size : ℕ) (rs : List (Result (Option ℕ) AllocError)) (r : Result (Option ℕ) AllocError) → 0 < size → length rs ≡ length bounds / size + min 1 (length bounds % size) → ((n : ℕ) → n < length rs → Answers H bounds size n (get_or rs n (Ok None))) → r ≡ first_answer rs → bounds ≡ all → IfOk r (IsFirst H 0 all)
+pub joined_chunks : (H : List Weight → Type 0) (bounds all : Bounds) (size : ℕ) (rs : List (Result (Option ℕ) AllocError)) (r : Result (Option ℕ) AllocError) → 0 < size → length rs ≡ length bounds / size + min 1 (length bounds % size) → ((n : ℕ) → n < length rs → Answers H bounds size n (get_or rs n (Ok None))) → r ≡ first_answer rs → bounds ≡ all → IfOk r (IsFirstHolding H 0 all)
 joined_chunks H bounds all size rs r some count each is same =
-    let P : Result (Option ℕ) AllocError → Type 0 = λ a. IfOk a (IsFirst H 0 all) in
-    let Q : Bounds → Type 0 = λ b. IfOk (first_answer rs) (IsFirst H 0 b) in
+    let P : Result (Option ℕ) AllocError → Type 0 = λ a. IfOk a (IsFirstHolding H 0 all) in
+    let Q : Bounds → Type 0 = λ b. IfOk (first_answer rs) (IsFirstHolding H 0 b) in
     subst P (sym is) (subst Q same (joined H bounds size rs 0 here (λ i lt. absurd (omega (arith, lt))) (omega (arith, enough (length bounds) size (length rs) some count))))
   where
-    here : (n : ℕ) → n < length rs → IfOk (get_or rs n (Ok None)) (IsFirst H ((0 + n) * size) (slice_chunk bounds size (0 + n)))
+    here : (n : ℕ) → n < length rs → IfOk (get_or rs n (Ok None)) (IsFirstHolding H ((0 + n) * size) (slice_chunk bounds size (0 + n)))
     here n lt =
         let a : Answers H bounds size n (get_or rs n (Ok None)) = each n lt in
-        let R : Bounds → Type 0 = λ b. IfOk (get_or rs n (Ok None)) (IsFirst H (n * size) b) in
-        let S : ℕ → Type 0 = λ k. IfOk (get_or rs n (Ok None)) (IsFirst H (k * size) (slice_chunk bounds size k)) in
+        let R : Bounds → Type 0 = λ b. IfOk (get_or rs n (Ok None)) (IsFirstHolding H (n * size) b) in
+        let S : ℕ → Type 0 = λ k. IfOk (get_or rs n (Ok None)) (IsFirstHolding H (k * size) (slice_chunk bounds size k)) in
         let zero_more : n ≡ 0 + n = omega arith in
         subst S zero_more (subst R a.is a.first)

@@ -15,7 +15,7 @@ use Rattle.domain_store.specs.Store.{has_domain}
 use Rattle.layered_cycle.specs.declared.best.HeavyWord.{HeavyWord}
 use Rattle.layered_cycle.specs.WordGraph.{WordGraph}
 use Rattle.potential_bounds.specs.Heaviest.{IsHeaviestFound, IsOneTurn}
-use Rattle.potential_bounds.specs.Searched.{NoneHolds, IsFollowing, AreWithin}
+use Rattle.potential_bounds.specs.Searched.{NoneHolds, IsFollowing, AreValuesWithin}
 use Rattle.potential_bounds.proofs.Stepping.{IsInside, inside_or_not, zero_outside, stepped_within}
 
 next_same : (P : Instance) (D : Domains) (R : List ℕ) (y a b : List Weight) → IsNext P D R y a → IsNext P D R y b → a ≡ b
@@ -40,19 +40,19 @@ searched_same P D R (suc k) y z h i =
 -- the search has come to the weights of a round, and no bound before held
 pub record IsReached (P : Instance) (D : Domains) (R : List ℕ) (k : ℕ) (y : List Weight) : Type 0 where
   pub searched : IsSearched P D R k y
-  pub within : AreWithin k y
+  pub within : AreValuesWithin k y
   pub none : NoneHolds P D R k
 
 pub reached_start : (P : Instance) (D : Domains) (R : List ℕ) (y : List Weight) → y ≡ [] → IsReached P D R 0 y
 reached_start P D R y is =
-    let Q : List Weight → Type 0 = AreWithin 0 in
+    let Q : List Weight → Type 0 = AreValuesWithin 0 in
     record {
       searched = is;
       within = subst Q (sym is) (λ j x. (omega (arith, ints), omega (arith, ints)));
       none = λ k z lt. absurd (omega (arith, lt));
     }
 
-next_within : (P : Instance) (D : Domains) (R : List ℕ) (n : ℕ) (y next : List Weight) → AreWithin n y → IsNext P D R y next → AreWithin (n + 1) next
+next_within : (P : Instance) (D : Domains) (R : List ℕ) (n : ℕ) (y next : List Weight) → AreValuesWithin n y → IsNext P D R y next → AreValuesWithin (n + 1) next
 next_within P D R n y next h is = stepped_within P y next is.word n h is.stepped
 
 pub reached_more : (P : Instance) (D : Domains) (R : List ℕ) (k : ℕ) (y next : List Weight) → IsReached P D R k y → IsFollowing P D R y (Some next) → IsReached P D R (k + 1) next

@@ -11,7 +11,7 @@ use Rattle.rwsp_terms.specs.Weights.{IsWeight, AreWeights, ComesBefore, weight_a
 use Rattle.rwsp_terms.specs.Places.{SetsWeight}
 use Rattle.refutation_terms.specs.Log.{AreWeightsOf}
 use Rattle.refutation_terms.specs.Sharp.{step, AreStepped}
-use Rattle.potential_bounds.specs.Searched.{AreWithin, AreSteppedOn}
+use Rattle.potential_bounds.specs.Searched.{AreValuesWithin, AreSteppedOn}
 use Rattle.potential_bounds.proofs.Products.{IsBetween}
 
 -- a day and a symbol of the problem
@@ -85,10 +85,10 @@ by_one n v true under h = (omega (arith, ints, h.0), omega (arith, ints, h.1))
 by_one n v false true h = (omega (arith, ints, h.0), omega (arith, ints, h.1))
 by_one n v false false h = (omega (arith, ints, h.0), omega (arith, ints, h.1))
 
-pub step_within : (P : Instance) (y : List Weight) (word : List Symbol) (n j x : ℕ) → AreWithin n y → IsBetween (n + 1) (step P y word j x)
+pub step_within : (P : Instance) (y : List Weight) (word : List Symbol) (n j x : ℕ) → AreValuesWithin n y → IsBetween (n + 1) (step P y word j x)
 step_within P y word n j x h = by_one n (weight_at y j x) (int_lt (greatest P x j) (pos (weeks_with P word x j))) (int_lt (pos (weeks_with P word x j)) (least P x j)) (h j x)
 
-pub stepped_within : (P : Instance) (y next : List Weight) (word : List Symbol) (n : ℕ) → AreWithin n y → AreStepped P y word next → AreWithin (n + 1) next
+pub stepped_within : (P : Instance) (y next : List Weight) (word : List Symbol) (n : ℕ) → AreValuesWithin n y → AreStepped P y word next → AreValuesWithin (n + 1) next
 stepped_within P y next word n h stepped j x =
     let B : ℤ → Type 0 = IsBetween (n + 1) in
     ⊎_elim (λ (inside : IsInside P j x). subst B (sym (stepped.values j x inside.0 inside.1)) (step_within P y word n j x h))

@@ -12,9 +12,9 @@ pub record IsFirstAt (H : List Weight → Type 0) (start : ℕ) (bounds : List (
   pub before : (i : ℕ) → i < place → H (slice_index_or bounds i []) → ⊥
 
 -- the first place where it holds, or none where it holds nowhere
-abbrev pub IsFirst : (List Weight → Type 0) → ℕ → List (List Weight) → Option ℕ → Type 0
-IsFirst H start bounds None = (i : ℕ) → i < length bounds → H (slice_index_or bounds i []) → ⊥
-IsFirst H start bounds (Some k) = IsFirstAt H start bounds k
+abbrev pub IsFirstHolding : (List Weight → Type 0) → ℕ → List (List Weight) → Option ℕ → Type 0
+IsFirstHolding H start bounds None = (i : ℕ) → i < length bounds → H (slice_index_or bounds i []) → ⊥
+IsFirstHolding H start bounds (Some k) = IsFirstAt H start bounds k
 
 -- the first answer that isn't none
 abbrev pub first_answer : List (Result (Option ℕ) AllocError) → Result (Option ℕ) AllocError

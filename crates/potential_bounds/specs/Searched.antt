@@ -23,8 +23,8 @@ IsFollowing P D R y None = HoldsAtTop P D R y
 IsFollowing P D R y (Some next) = (HoldsAtTop P D R y → ⊥) × IsNext P D R y next
 
 -- each value is one from -n to n
-abbrev pub AreWithin : ℕ → List Weight → Type 0
-AreWithin n y = (j x : ℕ) → (neg_ℤ (pos n) ≤ℤ weight_at y j x) × (weight_at y j x ≤ℤ pos n)
+abbrev pub AreValuesWithin : ℕ → List Weight → Type 0
+AreValuesWithin n y = (j x : ℕ) → (neg_ℤ (pos n) ≤ℤ weight_at y j x) × (weight_at y j x ≤ℤ pos n)
 
 -- on one day each weight went by one step, and on other days nothing changed
 pub record AreSteppedOn (P : Instance) (y : List Weight) (word : List Symbol) (day : ℕ)

@@ -4,7 +4,7 @@ ghost use Rattle.rwsp_terms.specs.Instance.{cells};
 ghost use Rattle.refutation_terms.specs.Sharp.{HoldsAtTop, plain_bounds};
 ghost use Rattle.domain_store.specs.Store.{has_domain, BelongsTo};
 ghost use Rattle.potential_bounds.specs.Heaviest.{IsOneTurn};
-ghost use Rattle.potential_bounds.specs.First.{IsFirst, first_answer};
+ghost use Rattle.potential_bounds.specs.First.{IsFirstHolding, first_answer};
 
 use crate::gate::Gate;
 use crate::heavy::{holds_at_top, one_turn};
@@ -34,7 +34,7 @@ pub fn first_plain<R: Threads + Sync, G: Gate>(
     requires belongs { BelongsTo problem.now doms.now }
     requires workers { (1 ≤ workers) × (workers ≤ 64) }
     ensures { IfOk result
-        (λ found. IsFirst (HoldsAtTop problem.now (has_domain doms.now) tails.now.rules) 0
+        (λ found. IsFirstHolding (HoldsAtTop problem.now (has_domain doms.now) tails.now.rules) 0
         (plain_bounds problem.now) found) }
 {
     problem.prove_limits();
@@ -57,7 +57,7 @@ fn first_holding<R: Threads + Sync, G: Gate>(
     requires few { length bounds.now ≤ 18 }
     requires workers { (1 ≤ workers) × (workers ≤ 64) }
     ensures { IfOk result
-        (λ found. IsFirst
+        (λ found. IsFirstHolding
         (HoldsAtTop layers.now.problem (has_domain layers.now.store) layers.now.rules) 0 bounds.now found) }
 {
     let size = bounds.len().div_ceil(workers as usize);
@@ -69,7 +69,7 @@ fn first_holding<R: Threads + Sync, G: Gate>(
         &|start: usize, chunk: &[Weights]| -> Result<Option<usize>, AllocError>
             requires { (0 < size) × (start + length chunk.now < 2 ^ 31) × IsOneTurn layers.now }
             ensures { IfOk result
-                (λ found. IsFirst (HoldsAtTop layers.entry.now.problem
+                (λ found. IsFirstHolding (HoldsAtTop layers.entry.now.problem
                 (has_domain layers.entry.now.store) layers.entry.now.rules) start chunk.entry.now found) }
         { first_of_chunk(alloc, layers, gate, (start / size) as u32 + 1, start, chunk) },
     )?;
@@ -88,7 +88,7 @@ fn first_of_chunk<G: Gate>(
     requires turn { IsOneTurn layers.now }
     requires few { start + length bounds.now < 2 ^ 31 }
     ensures { IfOk result
-        (λ found. IsFirst
+        (λ found. IsFirstHolding
         (HoldsAtTop layers.now.problem (has_domain layers.now.store) layers.now.rules) start bounds.now found) }
 {
     gate.enter(chunk);

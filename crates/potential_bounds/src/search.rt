@@ -6,7 +6,7 @@ ghost use Rattle.rwsp_terms.specs.Weights.{weight_at};
 ghost use Rattle.refutation_terms.specs.Sharp.{step, AreStepped};
 ghost use Rattle.domain_store.specs.Store.{has_domain, BelongsTo};
 ghost use Rattle.potential_bounds.specs.Heaviest.{IsOneTurn};
-ghost use Rattle.potential_bounds.specs.Searched.{IsFirstSearched, IsFollowing, AreWithin, AreSteppedOn};
+ghost use Rattle.potential_bounds.specs.Searched.{IsFirstSearched, IsFollowing, AreValuesWithin, AreSteppedOn};
 
 use crate::heavy::{heaviest_in, is_light, one_turn};
 use domain_store::Domains;
@@ -63,7 +63,7 @@ fn following(
     weights: &Weights,
 ) -> Result<Option<Weights>, AllocError>
     requires turn { IsOneTurn layers.now }
-    requires within { AreWithin (GREATEST_WEIGHT - 1) weights.now }
+    requires within { AreValuesWithin (GREATEST_WEIGHT - 1) weights.now }
     ensures { IfOk result
         (λ next. IsFollowing layers.now.problem (has_domain layers.now.store) layers.now.rules weights.now next) }
 {
@@ -85,7 +85,7 @@ fn next_weights(
     word: &[Symbol],
 ) -> Result<Weights, AllocError>
     requires word { length word.now ≡ cells problem.now }
-    requires within { AreWithin (GREATEST_WEIGHT - 1) weights.now }
+    requires within { AreValuesWithin (GREATEST_WEIGHT - 1) weights.now }
     ensures { IfOk result (λ next. AreStepped problem.now weights.now word.now next) }
 {
     let mut next = Weights::new(alloc);
@@ -105,7 +105,7 @@ fn put_day(
     day: u32,
 ) -> Result<(), AllocError>
     requires word { length word.now ≡ cells problem.now }
-    requires within { AreWithin (GREATEST_WEIGHT - 1) weights.now }
+    requires within { AreValuesWithin (GREATEST_WEIGHT - 1) weights.now }
     requires day { IsDay problem.now day }
     ensures { OnOk result (AreSteppedOn problem.now weights.now word.now day next.old next.new) }
 {
@@ -119,7 +119,7 @@ fn put_day(
 // A weight one step on.
 fn step(problem: &Problem, weights: &Weights, word: &[Symbol], day: u32, x: Symbol) -> i32
     requires word { length word.now ≡ cells problem.now }
-    requires within { AreWithin (GREATEST_WEIGHT - 1) weights.now }
+    requires within { AreValuesWithin (GREATEST_WEIGHT - 1) weights.now }
     requires day { IsDay problem.now day }
     requires symbol { IsSymbol problem.now x }
     ensures value { result ≡ step problem.now weights.now word.now day x.number }

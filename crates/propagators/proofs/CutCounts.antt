@@ -18,7 +18,7 @@ use Rattle.refutation_terms.proofs.Tests.{left_of, passes_by}
 use Rattle.refutation_terms.proofs.Alone.{not_only}
 use Rattle.demand_counts.specs.Tallies.{one_if}
 use Rattle.demand_counts.proofs.TallyLemmas.{count_apart}
-use Rattle.propagators.specs.Days.{place}
+use Rattle.propagators.specs.Days.{position_in_week}
 
 -- tests
 
@@ -77,11 +77,11 @@ pub idle_alone : (P : Instance) (D : Domains) (p x : ℕ) → D p x ≡ true →
 idle_alone P D p x here alone = ap (λ b. not b || is_only P D p x) here ∙ only_by P D p x here alone
 
 -- a symbol that is beside another on its day has more weeks that can hold it than weeks that certainly do
-pub fewer_fixed : (P : Instance) (D : Domains) (i j x : ℕ) → i < P.weeks → is_idle P D (place P i j) x ≡ false → fixed P D j x < possible P D j x
+pub fewer_fixed : (P : Instance) (D : Domains) (i j x : ℕ) → i < P.weeks → is_idle P D (position_in_week P i j) x ≡ false → fixed P D j x < possible P D j x
 fewer_fixed P D i j x lt h =
-    fewer (λ k. is_only P D (place P k j) x) (λ k. D (place P k j) x) 0 P.weeks i (omega arith) (omega (arith, lt))
-    (λ k only. left_of (D (place P k j) x) (list_all (λ z. (z == x) || not (D (place P k j) z)) (range_with_len 0 (shift_count P + 1))) only)
-    (not_alone P D (place P i j) x h) (held P D (place P i j) x h)
+    fewer (λ k. is_only P D (position_in_week P k j) x) (λ k. D (position_in_week P k j) x) 0 P.weeks i (omega arith) (omega (arith, lt))
+    (λ k only. left_of (D (position_in_week P k j) x) (list_all (λ z. (z == x) || not (D (position_in_week P k j) z)) (range_with_len 0 (shift_count P + 1))) only)
+    (not_alone P D (position_in_week P i j) x h) (held P D (position_in_week P i j) x h)
 
 -- domains of which one is cut
 
@@ -123,73 +123,73 @@ only_other_cut P D p z x other =
 small_day : (P : Instance) (j : ℕ) → IsDay P j → j - 1 < P.days
 small_day P j day = omega (arith, day.0, day.1)
 
-same_week : (P : Instance) (i k j : ℕ) → IsDay P j → place P i j ≡ place P k j → i ≡ k
+same_week : (P : Instance) (i k j : ℕ) → IsDay P j → position_in_week P i j ≡ position_in_week P k j → i ≡ k
 same_week P i k j day e =
     sym (div-mul-add i P.days (j - 1) (small_day P j day)) ∙ ap (λ n. n / P.days) e ∙ div-mul-add k P.days (j - 1) (small_day P j day)
 
-same_day : (P : Instance) (i k j l : ℕ) → IsDay P j → IsDay P l → place P i j ≡ place P k l → j ≡ l
+same_day : (P : Instance) (i k j l : ℕ) → IsDay P j → IsDay P l → position_in_week P i j ≡ position_in_week P k l → j ≡ l
 same_day P i k j l day other e =
     let same : j - 1 ≡ l - 1 = sym (mod-mul-add i P.days (j - 1) (small_day P j day)) ∙ ap (λ n. n % P.days) e ∙ mod-mul-add k P.days (l - 1) (small_day P l other) in
     omega (arith, same, day.0, other.0)
 
-pub place_within : (P : Instance) (i j : ℕ) → i < P.weeks → IsDay P j → place P i j < cells P
+pub place_within : (P : Instance) (i j : ℕ) → i < P.weeks → IsDay P j → position_in_week P i j < cells P
 place_within P i j lt day =
     let rows : suc i * P.days ≤ P.weeks * P.days = mul-le-mul_right P.days (let le : suc i ≤ P.weeks = omega (arith, lt) in le) in
     omega (arith, rows, small_day P j day)
 
 -- the counts of the other days
 
-pub fixed_elsewhere : (P : Instance) (D : Domains) (i j l z : ℕ) (x : Symbol) → IsDay P j → IsDay P l → l ≢ j → fixed P (narrowed D (Split (place P i j) x) First) l z ≡ fixed P D l z
+pub fixed_elsewhere : (P : Instance) (D : Domains) (i j l z : ℕ) (x : Symbol) → IsDay P j → IsDay P l → l ≢ j → fixed P (narrowed D (Split (position_in_week P i j) x) First) l z ≡ fixed P D l z
 fixed_elsewhere P D i j l z x day other apart =
-    count_same (λ k. is_only P (narrowed D (Split (place P i j) x) First) (place P k l) z) (λ k. is_only P D (place P k l) z) 0 P.weeks
-    (λ k le lt. only_elsewhere P D (place P i j) (place P k l) z x (λ e. apart (same_day P k i l j other day e)))
+    count_same (λ k. is_only P (narrowed D (Split (position_in_week P i j) x) First) (position_in_week P k l) z) (λ k. is_only P D (position_in_week P k l) z) 0 P.weeks
+    (λ k le lt. only_elsewhere P D (position_in_week P i j) (position_in_week P k l) z x (λ e. apart (same_day P k i l j other day e)))
 
-pub possible_elsewhere : (P : Instance) (D : Domains) (i j l z : ℕ) (x : Symbol) → IsDay P j → IsDay P l → l ≢ j → possible P (narrowed D (Split (place P i j) x) First) l z ≡ possible P D l z
+pub possible_elsewhere : (P : Instance) (D : Domains) (i j l z : ℕ) (x : Symbol) → IsDay P j → IsDay P l → l ≢ j → possible P (narrowed D (Split (position_in_week P i j) x) First) l z ≡ possible P D l z
 possible_elsewhere P D i j l z x day other apart =
-    count_same (λ k. narrowed D (Split (place P i j) x) First (place P k l) z) (λ k. D (place P k l) z) 0 P.weeks
-    (λ k le lt. ap (λ f. f z) (cut_other D (place P i j) (place P k l) x (λ e. apart (same_day P k i l j other day e))))
+    count_same (λ k. narrowed D (Split (position_in_week P i j) x) First (position_in_week P k l) z) (λ k. D (position_in_week P k l) z) 0 P.weeks
+    (λ k le lt. ap (λ f. f z) (cut_other D (position_in_week P i j) (position_in_week P k l) x (λ e. apart (same_day P k i l j other day e))))
 
 -- and of its own
 
 fixed_own : (P : Instance) (D : Domains) (i j z : ℕ) (x : Symbol) → i < P.weeks → IsDay P j
-    → fixed P (narrowed D (Split (place P i j) x) First) j z + one_if (is_only P D (place P i j) z) ≡ fixed P D j z + one_if (is_only P (narrowed D (Split (place P i j) x) First) (place P i j) z)
+    → fixed P (narrowed D (Split (position_in_week P i j) x) First) j z + one_if (is_only P D (position_in_week P i j) z) ≡ fixed P D j z + one_if (is_only P (narrowed D (Split (position_in_week P i j) x) First) (position_in_week P i j) z)
 fixed_own P D i j z x lt day =
-    count_apart (λ k. is_only P (narrowed D (Split (place P i j) x) First) (place P k j) z) (λ k. is_only P D (place P k j) z) 0 P.weeks i (omega arith) (omega (arith, lt))
-    (λ k other. only_elsewhere P D (place P i j) (place P k j) z x (λ e. other (same_week P k i j day e)))
+    count_apart (λ k. is_only P (narrowed D (Split (position_in_week P i j) x) First) (position_in_week P k j) z) (λ k. is_only P D (position_in_week P k j) z) 0 P.weeks i (omega arith) (omega (arith, lt))
+    (λ k other. only_elsewhere P D (position_in_week P i j) (position_in_week P k j) z x (λ e. other (same_week P k i j day e)))
 
 possible_own : (P : Instance) (D : Domains) (i j z : ℕ) (x : Symbol) → i < P.weeks → IsDay P j
-    → possible P (narrowed D (Split (place P i j) x) First) j z + one_if (D (place P i j) z) ≡ possible P D j z + one_if (narrowed D (Split (place P i j) x) First (place P i j) z)
+    → possible P (narrowed D (Split (position_in_week P i j) x) First) j z + one_if (D (position_in_week P i j) z) ≡ possible P D j z + one_if (narrowed D (Split (position_in_week P i j) x) First (position_in_week P i j) z)
 possible_own P D i j z x lt day =
-    count_apart (λ k. narrowed D (Split (place P i j) x) First (place P k j) z) (λ k. D (place P k j) z) 0 P.weeks i (omega arith) (omega (arith, lt))
-    (λ k other. ap (λ f. f z) (cut_other D (place P i j) (place P k j) x (λ e. other (same_week P k i j day e))))
+    count_apart (λ k. narrowed D (Split (position_in_week P i j) x) First (position_in_week P k j) z) (λ k. D (position_in_week P k j) z) 0 P.weeks i (omega arith) (omega (arith, lt))
+    (λ k other. ap (λ f. f z) (cut_other D (position_in_week P i j) (position_in_week P k j) x (λ e. other (same_week P k i j day e))))
 
-pub fixed_of_symbol : (P : Instance) (D : Domains) (i j : ℕ) (x : Symbol) → i < P.weeks → IsDay P j → is_idle P D (place P i j) x.number ≡ false
-    → fixed P (narrowed D (Split (place P i j) x) First) j x.number ≡ fixed P D j x.number + 1
+pub fixed_of_symbol : (P : Instance) (D : Domains) (i j : ℕ) (x : Symbol) → i < P.weeks → IsDay P j → is_idle P D (position_in_week P i j) x.number ≡ false
+    → fixed P (narrowed D (Split (position_in_week P i j) x) First) j x.number ≡ fixed P D j x.number + 1
 fixed_of_symbol P D i j x lt day h =
     let own = fixed_own P D i j x.number x lt day in
-    let was : one_if (is_only P D (place P i j) x.number) ≡ 0 = ap one_if (not_alone P D (place P i j) x.number h) in
-    let is : one_if (is_only P (narrowed D (Split (place P i j) x) First) (place P i j) x.number) ≡ 1 = ap one_if (only_cut P D (place P i j) x (held P D (place P i j) x.number h)) in
+    let was : one_if (is_only P D (position_in_week P i j) x.number) ≡ 0 = ap one_if (not_alone P D (position_in_week P i j) x.number h) in
+    let is : one_if (is_only P (narrowed D (Split (position_in_week P i j) x) First) (position_in_week P i j) x.number) ≡ 1 = ap one_if (only_cut P D (position_in_week P i j) x (held P D (position_in_week P i j) x.number h)) in
     omega (arith, own, was, is)
 
 pub fixed_of_other : (P : Instance) (D : Domains) (i j z : ℕ) (x : Symbol) → i < P.weeks → IsDay P j → z ≢ x.number
-    → fixed P (narrowed D (Split (place P i j) x) First) j z ≤ fixed P D j z
+    → fixed P (narrowed D (Split (position_in_week P i j) x) First) j z ≤ fixed P D j z
 fixed_of_other P D i j z x lt day other =
     let own = fixed_own P D i j z x lt day in
-    let is : one_if (is_only P (narrowed D (Split (place P i j) x) First) (place P i j) z) ≡ 0 = ap one_if (only_other_cut P D (place P i j) z x other) in
+    let is : one_if (is_only P (narrowed D (Split (position_in_week P i j) x) First) (position_in_week P i j) z) ≡ 0 = ap one_if (only_other_cut P D (position_in_week P i j) z x other) in
     omega (arith, own, is)
 
-pub possible_of_symbol : (P : Instance) (D : Domains) (i j : ℕ) (x : Symbol) → i < P.weeks → IsDay P j → D (place P i j) x.number ≡ true
-    → possible P (narrowed D (Split (place P i j) x) First) j x.number ≡ possible P D j x.number
+pub possible_of_symbol : (P : Instance) (D : Domains) (i j : ℕ) (x : Symbol) → i < P.weeks → IsDay P j → D (position_in_week P i j) x.number ≡ true
+    → possible P (narrowed D (Split (position_in_week P i j) x) First) j x.number ≡ possible P D j x.number
 possible_of_symbol P D i j x lt day has =
     let own = possible_own P D i j x.number x lt day in
-    let was : one_if (D (place P i j) x.number) ≡ 1 = ap one_if has in
-    let is : one_if (narrowed D (Split (place P i j) x) First (place P i j) x.number) ≡ 1 = ap one_if (cut_symbol D (place P i j) x has) in
+    let was : one_if (D (position_in_week P i j) x.number) ≡ 1 = ap one_if has in
+    let is : one_if (narrowed D (Split (position_in_week P i j) x) First (position_in_week P i j) x.number) ≡ 1 = ap one_if (cut_symbol D (position_in_week P i j) x has) in
     omega (arith, own, was, is)
 
-pub possible_of_other : (P : Instance) (D : Domains) (i j z : ℕ) (x : Symbol) (held : Bool) → i < P.weeks → IsDay P j → z ≢ x.number → D (place P i j) z ≡ held
-    → possible P (narrowed D (Split (place P i j) x) First) j z + one_if held ≡ possible P D j z
+pub possible_of_other : (P : Instance) (D : Domains) (i j z : ℕ) (x : Symbol) (held : Bool) → i < P.weeks → IsDay P j → z ≢ x.number → D (position_in_week P i j) z ≡ held
+    → possible P (narrowed D (Split (position_in_week P i j) x) First) j z + one_if held ≡ possible P D j z
 possible_of_other P D i j z x held lt day other has =
     let own = possible_own P D i j z x lt day in
-    let was : one_if (D (place P i j) z) ≡ one_if held = ap one_if has in
-    let is : one_if (narrowed D (Split (place P i j) x) First (place P i j) z) ≡ 0 = ap one_if (cut_away D (place P i j) z x other) in
+    let was : one_if (D (position_in_week P i j) z) ≡ one_if held = ap one_if has in
+    let is : one_if (narrowed D (Split (position_in_week P i j) x) First (position_in_week P i j) z) ≡ 0 = ap one_if (cut_away D (position_in_week P i j) z x other) in
     omega (arith, own, was, is)

@@ -15,7 +15,7 @@ use Rattle.domain_store.specs.Store.{Store, has_domain}
 use Rattle.demand_counts.specs.Overruns.{IsWithinDemand, IsFirstOverrun}
 use Rattle.demand_counts.proofs.Standing.{holds_where_overrun, holds_nowhere}
 use Rattle.propagators.specs.Looks.{Closes, IsClosing, IsCut}
-use Rattle.propagators.specs.Days.{IsDayLeaf, IsDaySpent, Saturates, place, TakesNone, IsPlaceBeside, IsDayCut}
+use Rattle.propagators.specs.Days.{IsDayLeaf, IsDaySpent, Saturates, position_in_week, TakesNone, IsPlaceBeside, IsDayCut}
 use Rattle.propagators.proofs.CutCounts.{held, useful, place_within, fixed_elsewhere, possible_elsewhere, fixed_of_symbol, fixed_of_other, possible_of_symbol, possible_of_other}
 
 -- numbers against the demand
@@ -40,27 +40,27 @@ was_tight l c n h e = omega (arith, ints)
 
 -- a saturated symbol makes its own leaf hold where it is alone, and where it is gone
 
-pub over_once_alone : (P : Instance) (D : Domains) (i j : ℕ) (x : Symbol) → i < P.weeks → IsDay P j → is_idle P D (place P i j) x.number ≡ false → Saturates P D j x.number true
-    → HasTooMany P (narrowed D (Split (place P i j) x) First) j x.number
+pub over_once_alone : (P : Instance) (D : Domains) (i j : ℕ) (x : Symbol) → i < P.weeks → IsDay P j → is_idle P D (position_in_week P i j) x.number ≡ false → Saturates P D j x.number true
+    → HasTooMany P (narrowed D (Split (position_in_week P i j) x) First) j x.number
 over_once_alone P D i j x lt day h full =
-    more_is_over (greatest P x.number j) (fixed P D j x.number) (fixed P (narrowed D (Split (place P i j) x) First) j x.number) full (fixed_of_symbol P D i j x lt day h)
+    more_is_over (greatest P x.number j) (fixed P D j x.number) (fixed P (narrowed D (Split (position_in_week P i j) x) First) j x.number) full (fixed_of_symbol P D i j x lt day h)
 
-pub short_once_gone : (P : Instance) (D : Domains) (i j z : ℕ) (x : Symbol) → i < P.weeks → IsDay P j → z ≢ x.number → D (place P i j) z ≡ true → Saturates P D j z false
-    → HasTooFew P (narrowed D (Split (place P i j) x) First) j z
+pub short_once_gone : (P : Instance) (D : Domains) (i j z : ℕ) (x : Symbol) → i < P.weeks → IsDay P j → z ≢ x.number → D (position_in_week P i j) z ≡ true → Saturates P D j z false
+    → HasTooFew P (narrowed D (Split (position_in_week P i j) x) First) j z
 short_once_gone P D i j z x lt day other has tight =
-    fewer_is_short (least P z j) (possible P D j z) (possible P (narrowed D (Split (place P i j) x) First) j z) tight (possible_of_other P D i j z x true lt day other has)
+    fewer_is_short (least P z j) (possible P D j z) (possible P (narrowed D (Split (position_in_week P i j) x) First) j z) tight (possible_of_other P D i j z x true lt day other has)
 
 -- and no other leaf holds
 
-over_only_so : (P : Instance) (D : Domains) (i j l z : ℕ) (x : Symbol) → i < P.weeks → IsDay P j → IsDay P l → is_idle P D (place P i j) x.number ≡ false
-    → TakesNone P D j x.number → IsWithinDemand P D l z → HasTooMany P (narrowed D (Split (place P i j) x) First) l z → ⊥
+over_only_so : (P : Instance) (D : Domains) (i j l z : ℕ) (x : Symbol) → i < P.weeks → IsDay P j → IsDay P l → is_idle P D (position_in_week P i j) x.number ≡ false
+    → TakesNone P D j x.number → IsWithinDemand P D l z → HasTooMany P (narrowed D (Split (position_in_week P i j) x) First) l z → ⊥
 over_only_so P D i j l z x lt day other h none within over =
     elim (cases_eq l j) [
       | inr apart ↦
-          let same : fixed P (narrowed D (Split (place P i j) x) First) l z ≡ fixed P D l z = fixed_elsewhere P D i j l z x day other apart in
-          within.not_over (still_over (greatest P z l) (fixed P D l z) (fixed P (narrowed D (Split (place P i j) x) First) l z) over (omega (arith, same)))
+          let same : fixed P (narrowed D (Split (position_in_week P i j) x) First) l z ≡ fixed P D l z = fixed_elsewhere P D i j l z x day other apart in
+          within.not_over (still_over (greatest P z l) (fixed P D l z) (fixed P (narrowed D (Split (position_in_week P i j) x) First) l z) over (omega (arith, same)))
       | inl same ↦
-          let N = narrowed D (Split (place P i j) x) First in
+          let N = narrowed D (Split (position_in_week P i j) x) First in
           let here : HasTooMany P N j z = subst (λ k. HasTooMany P N k z) same over in
           let inside : IsWithinDemand P D j z = subst (λ k. IsWithinDemand P D k z) same within in
           elim (cases_eq z x.number) [
@@ -71,32 +71,32 @@ over_only_so P D i j l z x lt day other h none within over =
           ]
     ]
 
-short_beside : (P : Instance) (D : Domains) (i j z : ℕ) (x : Symbol) (held : Bool) → D (place P i j) z ≡ held → i < P.weeks → IsDay P j → x.number ≤ shift_count P → z ≢ x.number → D (place P i j) x.number ≡ true
-    → TakesNone P D j z → IsWithinDemand P D j z → HasTooFew P (narrowed D (Split (place P i j) x) First) j z → ⊥
+short_beside : (P : Instance) (D : Domains) (i j z : ℕ) (x : Symbol) (held : Bool) → D (position_in_week P i j) z ≡ held → i < P.weeks → IsDay P j → x.number ≤ shift_count P → z ≢ x.number → D (position_in_week P i j) x.number ≡ true
+    → TakesNone P D j z → IsWithinDemand P D j z → HasTooFew P (narrowed D (Split (position_in_week P i j) x) First) j z → ⊥
 short_beside P D i j z x true has lt day small other here none within short =
-    let N = narrowed D (Split (place P i j) x) First in
-    none i false lt (useful P D (place P i j) z x.number small (λ e. other (sym e)) here has)
+    let N = narrowed D (Split (position_in_week P i j) x) First in
+    none i false lt (useful P D (position_in_week P i j) z x.number small (λ e. other (sym e)) here has)
     (was_tight (least P z j) (possible P D j z) (possible P N j z) short (possible_of_other P D i j z x true lt day other has))
 short_beside P D i j z x false has lt day small other here none within short =
-    let N = narrowed D (Split (place P i j) x) First in
+    let N = narrowed D (Split (position_in_week P i j) x) First in
     let same : possible P N j z + 0 ≡ possible P D j z = possible_of_other P D i j z x false lt day other has in
     within.not_short (still_short (least P z j) (possible P D j z) (possible P N j z) short (omega (arith, same)))
 
-short_only_so : (P : Instance) (D : Domains) (i j l z : ℕ) (x : Symbol) → i < P.weeks → IsDay P j → IsDay P l → x.number ≤ shift_count P → is_idle P D (place P i j) x.number ≡ false
-    → TakesNone P D l z → IsWithinDemand P D l z → HasTooFew P (narrowed D (Split (place P i j) x) First) l z → ⊥
+short_only_so : (P : Instance) (D : Domains) (i j l z : ℕ) (x : Symbol) → i < P.weeks → IsDay P j → IsDay P l → x.number ≤ shift_count P → is_idle P D (position_in_week P i j) x.number ≡ false
+    → TakesNone P D l z → IsWithinDemand P D l z → HasTooFew P (narrowed D (Split (position_in_week P i j) x) First) l z → ⊥
 short_only_so P D i j l z x lt day other small h none within short =
     elim (cases_eq l j) [
       | inr apart ↦
-          let same : possible P (narrowed D (Split (place P i j) x) First) l z ≡ possible P D l z = possible_elsewhere P D i j l z x day other apart in
-          within.not_short (still_short (least P z l) (possible P D l z) (possible P (narrowed D (Split (place P i j) x) First) l z) short (omega (arith, same)))
+          let same : possible P (narrowed D (Split (position_in_week P i j) x) First) l z ≡ possible P D l z = possible_elsewhere P D i j l z x day other apart in
+          within.not_short (still_short (least P z l) (possible P D l z) (possible P (narrowed D (Split (position_in_week P i j) x) First) l z) short (omega (arith, same)))
       | inl same ↦
-          let N = narrowed D (Split (place P i j) x) First in
-          let has : D (place P i j) x.number ≡ true = held P D (place P i j) x.number h in
+          let N = narrowed D (Split (position_in_week P i j) x) First in
+          let has : D (position_in_week P i j) x.number ≡ true = held P D (position_in_week P i j) x.number h in
           let here : HasTooFew P N j z = subst (λ k. HasTooFew P N k z) same short in
           let inside : IsWithinDemand P D j z = subst (λ k. IsWithinDemand P D k z) same within in
           let takes : TakesNone P D j z = subst (λ k. TakesNone P D k z) same none in
           elim (cases_eq z x.number) [
-            | inr beside ↦ short_beside P D i j z x (D (place P i j) z) refl lt day small beside has takes inside here
+            | inr beside ↦ short_beside P D i j z x (D (position_in_week P i j) z) refl lt day small beside has takes inside here
             | inl itself ↦
                 let own : HasTooFew P N j x.number = subst (HasTooFew P N j) itself here in
                 let kept : possible P N j x.number ≡ possible P D j x.number = possible_of_symbol P D i j x lt day has in
@@ -105,14 +105,14 @@ short_only_so P D i j l z x lt day other small h none within short =
           ]
     ]
 
-closes_nowhere : (P : Instance) (D : Domains) (i j l z : ℕ) (x : Symbol) (over : Bool) → i < P.weeks → IsDay P j → x.number ≤ shift_count P → is_idle P D (place P i j) x.number ≡ false
-    → IsDay P l → IsWithinDemand P D l z → TakesNone P D j x.number → TakesNone P D l z → Holds P (narrowed D (Split (place P i j) x) First) (Day l (symbol_numbered z) over) → ⊥
+closes_nowhere : (P : Instance) (D : Domains) (i j l z : ℕ) (x : Symbol) (over : Bool) → i < P.weeks → IsDay P j → x.number ≤ shift_count P → is_idle P D (position_in_week P i j) x.number ≡ false
+    → IsDay P l → IsWithinDemand P D l z → TakesNone P D j x.number → TakesNone P D l z → Holds P (narrowed D (Split (position_in_week P i j) x) First) (Day l (symbol_numbered z) over) → ⊥
 closes_nowhere P D i j l z x true lt day small h other within own none holds = over_only_so P D i j l z x lt day other h own within holds
 closes_nowhere P D i j l z x false lt day small h other within own none holds = short_only_so P D i j l z x lt day other small h none within holds
 
 spent_at_place : (P : Instance) (D : Domains) (i j : ℕ) (x : Symbol) → i < P.weeks → IsDay P j → x.number ≤ shift_count P
     → ((l z : ℕ) → IsDay P l → z ≤ shift_count P → IsWithinDemand P D l z) → ((l z : ℕ) → IsDay P l → z ≤ shift_count P → TakesNone P D l z)
-    → IsDaySpent P D (place P i j) x → ⊥
+    → IsDaySpent P D (position_in_week P i j) x → ⊥
 spent_at_place P D i j x lt day small within none spent =
     let l = spent.closes.0 in
     let z = spent.closes.1.number in
@@ -126,7 +126,7 @@ none_spent P D p x some small within none spent =
     let lt : p / P.days < P.weeks = div_below p P.days P.weeks some spent.position in
     let less : p % P.days < P.days = mod_below p P.days some in
     let day : IsDay P (p % P.days + 1) = (omega arith, omega arith) in
-    let at : p ≡ place P (p / P.days) (p % P.days + 1) = sym (div-add-mod' p P.days) ∙ (let e : p % P.days ≡ p % P.days + 1 - 1 = omega arith in ap (λ r. p / P.days * P.days + r) e) in
+    let at : p ≡ position_in_week P (p / P.days) (p % P.days + 1) = sym (div-add-mod' p P.days) ∙ (let e : p % P.days ≡ p % P.days + 1 - 1 = omega arith in ap (λ r. p / P.days * P.days + r) e) in
     spent_at_place P D (p / P.days) (p % P.days + 1) x lt day small within none (subst (λ q. IsDaySpent P D q x) at spent)
 
 -- cuts by a place
@@ -135,7 +135,7 @@ pub over_cut : (P : Instance) (D : Domains) (j p : ℕ) (x z : Symbol) (over : B
     → IsDayCut P D p x j x over
 over_cut P D j p x z false is day small full beside = absurd (cc)
 over_cut P D j p x z true is day small full beside =
-    let at : is_idle P D (place P beside.week j) x.number ≡ false = subst (λ q. is_idle P D q x.number ≡ false) beside.position beside.beside.useful in
+    let at : is_idle P D (position_in_week P beside.week j) x.number ≡ false = subst (λ q. is_idle P D q x.number ≡ false) beside.position beside.beside.useful in
     record {
       position = subst (λ q. q < cells P) (sym beside.position) (place_within P beside.week j beside.within day);
       useful = beside.beside.useful;
@@ -150,7 +150,7 @@ short_cut P D j p x z false is day small tight beside =
     let b = beside.beside in
     let other : x.number ≢ z.number = λ e. b.other (sym e) in
     let has : D p x.number ≡ true = held P D p x.number b.useful in
-    let at : D (place P beside.week j) x.number ≡ true = subst (λ q. D q x.number ≡ true) beside.position has in
+    let at : D (position_in_week P beside.week j) x.number ≡ true = subst (λ q. D q x.number ≡ true) beside.position has in
     record {
       position = subst (λ q. q < cells P) (sym beside.position) (place_within P beside.week j beside.within day);
       useful = useful P D p z.number x.number small other has b.held;

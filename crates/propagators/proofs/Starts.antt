@@ -2,10 +2,9 @@
 use Rattle.std.proofs.Common.{◌≡◌, ℕ, zero, suc, ◌+◌, ◌<◌, ◌≤◌, List, [], ◌∷◌, length, get_or, refl, sym, ◌∙◌, subst, arith, inl, inr, Option, Some, None, true, eqb}
 use Rattle.std.specs.Prelude.{All, Contains, ◌↔◌, slice_get, map, pos, negsuc, ℤ}
 use Rattle.std.specs.List.{range_with_len, flat_map}
-use Rattle.std.specs.List.Sorted.{IsStrictlyIncreasing}
 use Rattle.std.proofs.lemmas.Bool.{eqb-true, eq-eqb}
 use Rattle.std.proofs.lemmas.List.Folds.{Any-from_list_any, list_any_at}
-use Rattle.std.proofs.lemmas.List.Elements.{All-nil, All-cons, All-append, All-map, All-weaker, All-get_or, All-contains, All-from_get_or, Contains-get_or}
+use Rattle.std.proofs.lemmas.List.Elements.{All-nil, All-cons, All-append, All-map, All-weaker, All-get_or, All-contains, All-from_get_or}
 use Rattle.std.proofs.lemmas.List.FromFn.{length-range_with_len, get_or-range_with_len}
 use Rattle.std.proofs.lemmas.Option.{slice_get_within, get_or_from_slice_get}
 use Rattle.rwsp_terms.specs.declared.data.Weight.{Weight}
@@ -16,9 +15,8 @@ use Rattle.rwsp_terms.specs.Weights.{AreWeights, IsWeight}
 use Rattle.rwsp_terms.specs.declared.limits.TheConstants.{MOST_CELLS}
 use Rattle.rwsp_terms.proofs.SameLists.{same_rule_lists, HoldSame}
 use Rattle.rwsp_model.specs.Validity.{KeepsLimits}
-use Rattle.rwsp_model.specs.RuleNumbers.{IsShortNumber}
 use Rattle.rwsp_model.proofs.Limits.{some_cells}
-use Rattle.rwsp_model.proofs.Numbering.{one_number, rule_in_range}
+use Rattle.rwsp_model.proofs.Numbering.{one_number}
 use Rattle.refutation_terms.specs.declared.lines.Line.{Line}
 use Rattle.refutation_terms.specs.declared.lines.Line.TheVariants.{Bound}
 use Rattle.refutation_terms.specs.Word.{Domains, AreSame}
@@ -28,7 +26,7 @@ use Rattle.refutation_terms.specs.Sharp.{plain_bounds, weights_on, both_signs, I
 use Rattle.refutation_terms.proofs.SameDomains.{turned_round}
 use Rattle.domain_store.specs.Sets.{has_symbol, IsDomain}
 use Rattle.domain_store.specs.Store.{Store, IsStore, domain_at, has_domain}
-use Rattle.potential_bounds.specs.First.{IsFirst}
+use Rattle.potential_bounds.specs.First.{IsFirstHolding}
 use Rattle.potential_bounds.specs.Searched.{IsFirstSearched}
 use Rattle.propagators.specs.Cycles.{AreShortRules}
 use Rattle.propagators.proofs.SameWords.{same_searched, same_at_top}
@@ -83,10 +81,6 @@ among P R S k are short_r short_s c =
 pub one_short_list : (P : Instance) (R S : List ℕ) → AreRules P R → AreRules P S → NamesShortRules P R → NamesShortRules P S → R ≡ S
 one_short_list P R S a b r s = same_rule_lists R S a.0 b.0 (λ k. (among P R S k a r s, among P S R k b s r))
 
--- the list of all short rules has numbers of rules
-pub short_are_rules : (P : Instance) (R : List ℕ) → IsStrictlyIncreasing R → ((k : ℕ) → Contains R k ↔ IsShortNumber P k) → AreRules P R
-short_are_rules P R up short = (up, λ i d less. let one = (short (get_or R i d)).0 (Contains-get_or R i d less) in rule_in_range P (get_or R i d) one.0 one.1)
-
 -- plain bounds weigh the problem's shifts on its days
 
 abbrev AreShifts : Instance → List ℕ → Type 0
@@ -127,7 +121,7 @@ plain_fit P =
     (All-weaker (λ x. x ≤ K) (λ x. All (WeightsFit P) (both_signs P (x ∷ []))) (λ x h. fit_both P (x ∷ []) (All-cons (λ z. z ≤ K) x [] h (All-nil (λ z. z ≤ K)))) (range_with_len 1 K) shifts))
 
 -- the first plain bound that holds
-pub plain_holds : (P : Instance) (D : Domains) (R : List ℕ) (k : ℕ) (y : List Weight) → IsFirst (HoldsAtTop P D R) 0 (plain_bounds P) (Some k) → slice_get (plain_bounds P) k ≡ Some y → AreWeights y → IsTopAnswer P D R (Some y)
+pub plain_holds : (P : Instance) (D : Domains) (R : List ℕ) (k : ℕ) (y : List Weight) → IsFirstHolding (HoldsAtTop P D R) 0 (plain_bounds P) (Some k) → slice_get (plain_bounds P) k ≡ Some y → AreWeights y → IsTopAnswer P D R (Some y)
 plain_holds P D R k y first is are =
     let here : first.place ≡ k = omega (arith, first.counted) in
     let at : get_or (plain_bounds P) k [] ≡ y = get_or_from_slice_get (plain_bounds P) k y [] is in
@@ -144,7 +138,7 @@ searched_fit P D R zero y is = subst (AreWeightsOf P) (sym is) (no_weights P)
 searched_fit P D R (suc k) y is = is.2.stepped.are_weights
 
 -- where no plain bound holds: what the search finds
-pub searched_answer : (P : Instance) (D : Domains) (R : List ℕ) (y : Option (List Weight)) → IsFirst (HoldsAtTop P D R) 0 (plain_bounds P) None → IsFirstSearched P D R 32 y → IsTopAnswer P D R y
+pub searched_answer : (P : Instance) (D : Domains) (R : List ℕ) (y : Option (List Weight)) → IsFirstHolding (HoldsAtTop P D R) 0 (plain_bounds P) None → IsFirstSearched P D R 32 y → IsTopAnswer P D R y
 searched_answer P D R None none searched = record {
   plain = λ k y is.
       let H : List Weight → Type 0 = λ z. HoldsAtTop P D R z → ⊥ in

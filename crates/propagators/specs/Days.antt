@@ -39,12 +39,12 @@ Saturates P D j x true = greatest P x j ≤ℤ pos (fixed P D j x)
 Saturates P D j x false = pos (possible P D j x) ≤ℤ least P x j
 
 -- the position of the day in a week
-abbrev pub place : Instance → ℕ → ℕ → ℕ
-place P i j = i * P.days + (j - 1)
+abbrev pub position_in_week : Instance → ℕ → ℕ → ℕ
+position_in_week P i j = i * P.days + (j - 1)
 
 -- where the symbol saturates its day, it is beside no other on the day
 abbrev pub TakesNone : Instance → Domains → ℕ → ℕ → Type 0
-TakesNone P D j x = (i : ℕ) (over : Bool) → i < P.weeks → is_idle P D (place P i j) x ≡ false
+TakesNone P D j x = (i : ℕ) (over : Bool) → i < P.weeks → is_idle P D (position_in_week P i j) x ≡ false
     → Saturates P D j x over → ⊥
 
 -- whether the symbol saturates its day while it is beside another there
@@ -68,11 +68,11 @@ IsNeighbour P D p x (Some z) = IsBeside P D p x z
 pub record IsPlaceBeside (P : Instance) (D : Domains) (j x p : ℕ) (z : Symbol) : Type 0 where
   pub week : ℕ
   pub within : week < P.weeks
-  pub position : p ≡ place P week j
+  pub position : p ≡ position_in_week P week j
   pub beside : IsBeside P D p x z
 
 abbrev pub IsPlaceAnswer : Instance → Domains → ℕ → ℕ → Option (ℕ × Symbol) → Type 0
-IsPlaceAnswer P D j x None = (i : ℕ) → i < P.weeks → is_idle P D (place P i j) x ≡ true
+IsPlaceAnswer P D j x None = (i : ℕ) → i < P.weeks → is_idle P D (position_in_week P i j) x ≡ true
 IsPlaceAnswer P D j x (Some r) = IsPlaceBeside P D j x r.0 r.1
 
 -- a symbol that the leaf takes away

@@ -13,7 +13,8 @@ use Rattle.refutation_terms.specs.declared.lines.LogRefusal.TheVariants as Refus
 use Rattle.refutation_terms.specs.Tree.{IsTree}
 use Rattle.refutation_terms.specs.Log.{AreRules, GoalFits}
 use Rattle.refutation_terms.specs.LogText.{raw, line_text, free_header_text}
-use Rattle.refutation_terms.specs.Verdict.{IsSoundSoFarFor, CauseBehindFor, IsNextLine, header_lines_for}
+use Rattle.rwsp_text.specs.Lines.{IsNextLine}
+use Rattle.refutation_terms.specs.Verdict.{IsSoundSoFarFor, CauseBehindFor, header_lines_for}
 use Rattle.refutation_terms.specs.FreeVerdict.{FreeFront, FreeStart, FreeVersioned, BeforeGoal, ReadingFree, FreeCause, IsRefusedFreeLine, IsFreeRefused}
 use Rattle.refutation_log.specs.Printing.{lines_text}
 use Rattle.refutation_log.proofs.LogLines.{some_bytes}

@@ -12,7 +12,8 @@ use Rattle.refutation_terms.specs.declared.lines.Turn.{Turn}
 use Rattle.refutation_terms.specs.declared.lines.LogRefusal.{LogRefusal}
 use Rattle.refutation_terms.specs.Tree.{IsTree}
 use Rattle.refutation_terms.specs.LogText.{raw, line_text, raw_fields}
-use Rattle.refutation_terms.specs.Verdict.{HasNoFeed, IsNextLine, Cause, Reading}
+use Rattle.rwsp_text.specs.Lines.{HasNoFeed, IsNextLine}
+use Rattle.refutation_terms.specs.Verdict.{Cause, Reading}
 use Rattle.refutation_log.specs.Printing.{lines_text, EachFits}
 use Rattle.refutation_log.specs.ReadLog.{log_with}
 use Rattle.refutation_checker.specs.ChunkVerdicts.{AreSoundBehind, AreAllSound, IsChunkRefused, IsJudged, Start, StandsBehind}

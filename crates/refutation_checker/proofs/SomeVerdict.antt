@@ -16,7 +16,8 @@ use Rattle.refutation_terms.specs.declared.lines.LogRefusal.TheVariants as Refus
 use Rattle.refutation_terms.specs.Tree.{IsTree, domains_at}
 use Rattle.refutation_terms.specs.Log.{Log, AreRules}
 use Rattle.refutation_terms.specs.LogText.{RawLine, IsWritten, line_of, raw, line_text, version_text, rules_text, turn_text}
-use Rattle.refutation_terms.specs.Verdict.{Start, Versioned, BeforeTurn, Reading, header_lines, Cause, Spells, SpellsTurn, IsUnnamed, IsNextLine, IsVerdict}
+use Rattle.rwsp_text.specs.Lines.{IsNextLine}
+use Rattle.refutation_terms.specs.Verdict.{Start, Versioned, BeforeTurn, Reading, header_lines, Cause, Spells, SpellsTurn, IsUnnamed, IsVerdict}
 use Rattle.refutation_terms.proofs.Spelled.{spelled_lines_fit, symbol_of-name}
 use Rattle.refutation_log.specs.Printing.{lines_text}
 use Rattle.refutation_log.specs.ReadLog.{log_with}

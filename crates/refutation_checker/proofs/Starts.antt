@@ -11,8 +11,9 @@ use Rattle.refutation_terms.specs.declared.lines.Line.TheVariants.{Split, Unfini
 use Rattle.refutation_terms.specs.declared.lines.Turn.{Turn}
 use Rattle.refutation_terms.specs.Tree.{IsTree, domains_at, is_idle}
 use Rattle.refutation_terms.specs.LogText.{raw, line_text}
-use Rattle.refutation_terms.specs.Verdict.{Spells, IsNextLine}
-use Rattle.refutation_terms.specs.LogText.{Ascends}
+use Rattle.rwsp_text.specs.Lines.{IsNextLine}
+use Rattle.refutation_terms.specs.Verdict.{Spells}
+use Rattle.refutation_terms.specs.LogText.{WeightsAscend}
 use Rattle.refutation_terms.proofs.Causes.{not_unknown}
 use Rattle.refutation_log.specs.Refusals.{IsLineRefused}
 use Rattle.refutation_log.specs.declared.refusal.LineRefusal.{LineRefusal}
@@ -29,27 +30,27 @@ use Rattle.tree_walk.proofs.Idle.{positions_of}
 use Rattle.tree_walk.proofs.Moves.{leaf_is_tree}
 use Rattle.refutation_checker.specs.ChunkVerdicts.{Start}
 use Rattle.refutation_checker.specs.Chunks.{EndsLines, IsCutOff}
-use Rattle.refutation_checker.specs.UnreadSplits.{UnreadSplit, IsTextOf, EndInside, HasIdleSplit, IsEntered, IsInto, ArePassed}
+use Rattle.refutation_checker.specs.UnreadSplits.{UnreadSplit, IsLineText, EndInside, HasIdleSplit, IsEntered, IsInto, ArePassed}
 use Rattle.refutation_checker.proofs.Unread.{PassedSoFar, tree_passed}
 
 -- lines that are spelled
 
-pub spelled : (P : Instance) (bytes : List ℕ) (l : Line) → KeepsLimits P → IsTextOf P bytes l → Spells P bytes l
+pub spelled : (P : Instance) (bytes : List ℕ) (l : Line) → KeepsLimits P → IsLineText P bytes l → Spells P bytes l
 spelled P bytes l limits h =
     let t = spell P l (has_names P limits) h.fits in
-    (raw P l, record { spelled = h.text; in_range = t.0; ascends = subst (λ o. IfSome o Ascends) (sym t.1) t.2 }, t.1)
+    (raw P l, record { spelled = h.text; in_range = t.0; ascends = subst (λ o. IfSome o WeightsAscend) (sym t.1) t.2 }, t.1)
 
-pub text_spelled : (P : Instance) (bytes : List ℕ) (l : Line) → Spells P bytes l → IsTextOf P bytes l
+pub text_spelled : (P : Instance) (bytes : List ℕ) (l : Line) → Spells P bytes l → IsLineText P bytes l
 text_spelled P bytes l h = let s = spelled_fits P bytes l h in record { fits = s.1; text = s.0 }
 
-pub same_text : (P : Instance) (bytes : List ℕ) (a b : Line) → KeepsLimits P → IsTextOf P bytes a → IsTextOf P bytes b → a ≡ b
+pub same_text : (P : Instance) (bytes : List ℕ) (a b : Line) → KeepsLimits P → IsLineText P bytes a → IsLineText P bytes b → a ≡ b
 same_text P bytes a b limits f g =
     let one : lines_text P (a ∷ []) ≡ lines_text P (b ∷ []) =
     append-nil (line_text P (raw P a)) ∙ sym f.text ∙ g.text ∙ sym (append-nil (line_text P (raw P b))) in
     let same : a ∷ [] ≡ b ∷ [] = one_list P (a ∷ []) (b ∷ []) limits (f.fits, tt) (g.fits, tt) one in
     cc
 
-pub not_refused : (P : Instance) (bytes : List ℕ) (l : Line) (why : LineRefusal) → KeepsLimits P → IsTextOf P bytes l → IsLineRefused P bytes why → ⊥
+pub not_refused : (P : Instance) (bytes : List ℕ) (l : Line) (why : LineRefusal) → KeepsLimits P → IsLineText P bytes l → IsLineRefused P bytes why → ⊥
 not_refused P bytes l Form limits h refused = let s = spelled P bytes l limits h in refused s.0 s.1
 not_refused P bytes l Name limits h refused = not_unknown P bytes l (is_writable P limits) (spelled P bytes l limits h) refused
 
@@ -64,11 +65,11 @@ split_within P w S bytes line p x is store h spells split =
 
 pub refused_entry : (P : Instance) (u : UnreadSplit) (old new : State) (bytes : List ℕ) (why : LineRefusal) → KeepsLimits P → bytes ≡ u.line → IsLineRefused P bytes why → IsEntered P u old new false
 refused_entry P u old new bytes why limits is refused turn lines first p x state text side =
-    absurd (not_refused P bytes (Split p x) why limits (subst (λ b. IsTextOf P b (Split p x)) (sym is) text) refused)
+    absurd (not_refused P bytes (Split p x) why limits (subst (λ b. IsLineText P b (Split p x)) (sym is) text) refused)
 
 pub no_entry : (P : Instance) (u : UnreadSplit) (old new : State) (bytes : List ℕ) (line : Line) → KeepsLimits P → bytes ≡ u.line → Spells P bytes line → ((p : ℕ) (x : Symbol) → line ≡ Split p x → ⊥) → IsEntered P u old new false
 no_entry P u old new bytes line limits is spells other turn lines first p x state text side =
-    absurd (other p x (same_text P bytes line (Split p x) limits (text_spelled P bytes line spells) (subst (λ b. IsTextOf P b (Split p x)) (sym is) text)))
+    absurd (other p x (same_text P bytes line (Split p x) limits (text_spelled P bytes line spells) (subst (λ b. IsLineText P b (Split p x)) (sym is) text)))
 
 same_split : (p q : ℕ) (x y : Symbol) → Split p x ≡ Split q y → (p ≡ q) × (x ≡ y)
 same_split p q x y e = (let f : p ≡ q = cc in f, let g : x ≡ y = cc in g)
@@ -77,7 +78,7 @@ pub entry : (P : Instance) (u : UnreadSplit) (old new : State) (bytes : List ℕ
     → ((R : Instance) (turn : Option Turn) (lines first : List Line) → IsStateOf R turn lines old → IsFirstSide in_second first → MatchBool entered (IsStateOf R turn (lines ++ Split q y ∷ first) new) (is_idle R (domains_at R turn lines (length lines)) q y.number ≡ true))
     → IsEntered P u old new entered
 entry P u old new bytes line q y in_second entered limits is side_is spells split goes turn lines first p x state text side =
-    let same : line ≡ Split p x = same_text P bytes line (Split p x) limits (text_spelled P bytes line spells) (subst (λ b. IsTextOf P b (Split p x)) (sym is) text) in
+    let same : line ≡ Split p x = same_text P bytes line (Split p x) limits (text_spelled P bytes line spells) (subst (λ b. IsLineText P b (Split p x)) (sym is) text) in
     let parts = same_split q p y x (sym split ∙ same) in
     subst (λ r. MatchBool entered (IsStateOf P turn (lines ++ Split r x ∷ first) new) (is_idle P (domains_at P turn lines (length lines)) r x.number ≡ true)) parts.0
     (subst (λ (z : Symbol). MatchBool entered (IsStateOf P turn (lines ++ Split q z ∷ first) new) (is_idle P (domains_at P turn lines (length lines)) q z.number ≡ true)) parts.1
@@ -187,7 +188,7 @@ idle_in_all P turn a b h = record {
 }
 
 pub passed_tree : (P : Instance) (start : State) (before splits after : List UnreadSplit) (all left bytes rest : List ℕ) (count : ℕ) → KeepsLimits P → PassedSoFar P before splits all left count → bytes ≢ [] → left ≡ bytes ++ rest → IsNextLine bytes rest
-    → ((earlier : List Line) (l : Line) → EndInside P splits earlier → IsTextOf P bytes l → IsTree (earlier ++ l ∷ [])) → ArePassed P start before after all None
+    → ((earlier : List Line) (l : Line) → EndInside P splits earlier → IsLineText P bytes l → IsTree (earlier ++ l ∷ [])) → ArePassed P start before after all None
 passed_tree P start before splits after all left bytes rest count limits so some e next ends turn done lines st h fit text =
     inl (tree_passed P before splits all left bytes rest count limits so some e next ends done lines h fit text)
 

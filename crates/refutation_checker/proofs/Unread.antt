@@ -9,13 +9,13 @@ use Rattle.refutation_terms.specs.declared.lines.Line.{Line}
 use Rattle.refutation_terms.specs.declared.lines.Line.TheVariants.{Split, Window, Day, Dead, Bound, Few, Free, Unfinished}
 use Rattle.refutation_terms.specs.Tree.{IsLeaf, IsTree, Node, lines_in}
 use Rattle.refutation_terms.specs.LogText.{raw, line_text}
-use Rattle.refutation_terms.specs.Verdict.{IsNextLine}
+use Rattle.rwsp_text.specs.Lines.{IsNextLine}
 use Rattle.refutation_log.specs.Printing.{lines_text, EachFits}
 use Rattle.rwsp_text.proofs.LineLaws.{cut}
 use Rattle.refutation_log.proofs.OneText.{body, body_feedless}
 use Rattle.tree_walk.specs.Splits.{IsFirstSide, NoLines}
 use Rattle.tree_walk.proofs.Moves.{leaf_is_tree}
-use Rattle.refutation_checker.specs.UnreadSplits.{UnreadSplit, IsTextOf, LeadInto, EndInside, HasTree}
+use Rattle.refutation_checker.specs.UnreadSplits.{UnreadSplit, IsLineText, LeadInto, EndInside, HasTree}
 use Rattle.refutation_checker.proofs.Joining.{not_at_end}
 use Rattle.refutation_log.proofs.LogLines.{some_bytes}
 
@@ -99,22 +99,22 @@ by_letter P Few false e = tt
 by_letter P (Free turns reward R y) true e = absurd (cc)
 by_letter P (Free turns reward R y) false e = tt
 
-kind_of : (P : Instance) (bytes : List ℕ) (l : Line) (t : Bool) → t ≡ (get_or bytes 0 0 == 115) → IsTextOf P bytes l → MatchBool t ((p : ℕ) × (x : Symbol) × (l ≡ Split p x)) (IsLeaf l)
+kind_of : (P : Instance) (bytes : List ℕ) (l : Line) (t : Bool) → t ≡ (get_or bytes 0 0 == 115) → IsLineText P bytes l → MatchBool t ((p : ℕ) × (x : Symbol) × (l ≡ Split p x)) (IsLeaf l)
 kind_of P bytes l t e h = by_letter P l t (ap (λ b. get_or b 0 0 == 115) (sym h.text) ∙ sym e)
 
-opened : (P : Instance) (bytes : List ℕ) (p : ℕ) (x : Symbol) (l : Line) (splits : List UnreadSplit) (earlier : List Line) → l ≡ Split p x → IsTextOf P bytes l → EndInside P splits earlier → EndInside P (splits ++ (record { line = bytes; in_second = false }) ∷ []) (earlier ++ l ∷ [])
+opened : (P : Instance) (bytes : List ℕ) (p : ℕ) (x : Symbol) (l : Line) (splits : List UnreadSplit) (earlier : List Line) → l ≡ Split p x → IsLineText P bytes l → EndInside P splits earlier → EndInside P (splits ++ (record { line = bytes; in_second = false }) ∷ []) (earlier ++ l ∷ [])
 opened P bytes p x l splits earlier e text h =
     let u : UnreadSplit = record { line = bytes; in_second = false } in
     nested P NoLines (u ∷ []) splits (earlier ++ l ∷ [])
     (grows P NoLines (LeadInto P NoLines (u ∷ [])) (l ∷ [])
-    (λ ls none. (p, x, [], [], ap (λ k. k ++ l ∷ []) none ∙ ap (λ k. k ∷ []) e, subst (IsTextOf P bytes) e text, refl, refl)) splits earlier h)
+    (λ ls none. (p, x, [], [], ap (λ k. k ++ l ∷ []) none ∙ ap (λ k. k ∷ []) e, subst (IsLineText P bytes) e text, refl, refl)) splits earlier h)
 
-pub split_opened : (P : Instance) (bytes : List ℕ) (t : Bool) (splits after : List UnreadSplit) (earlier : List Line) (l : Line) → t ≡ (get_or bytes 0 0 == 115) → t ≡ true → after ≡ splits ++ (record { line = bytes; in_second = false }) ∷ [] → EndInside P splits earlier → IsTextOf P bytes l → EndInside P after (earlier ++ l ∷ [])
+pub split_opened : (P : Instance) (bytes : List ℕ) (t : Bool) (splits after : List UnreadSplit) (earlier : List Line) (l : Line) → t ≡ (get_or bytes 0 0 == 115) → t ≡ true → after ≡ splits ++ (record { line = bytes; in_second = false }) ∷ [] → EndInside P splits earlier → IsLineText P bytes l → EndInside P after (earlier ++ l ∷ [])
 split_opened P bytes t splits after earlier l e is_split is h text =
     let k : (p : ℕ) × (x : Symbol) × (l ≡ Split p x) = subst (λ b. MatchBool b ((p : ℕ) × (x : Symbol) × (l ≡ Split p x)) (IsLeaf l)) is_split (kind_of P bytes l t e text) in
     subst (λ s. EndInside P s (earlier ++ l ∷ [])) (sym is) (opened P bytes k.0 k.1 l splits earlier k.2 text h)
 
-pub leaf_passed : (P : Instance) (bytes : List ℕ) (t : Bool) (splits : List UnreadSplit) (earlier : List Line) (l : Line) → t ≡ (get_or bytes 0 0 == 115) → t ≡ false → EndInside P splits earlier → IsTextOf P bytes l → LeadInto P IsTree splits (earlier ++ l ∷ [])
+pub leaf_passed : (P : Instance) (bytes : List ℕ) (t : Bool) (splits : List UnreadSplit) (earlier : List Line) (l : Line) → t ≡ (get_or bytes 0 0 == 115) → t ≡ false → EndInside P splits earlier → IsLineText P bytes l → LeadInto P IsTree splits (earlier ++ l ∷ [])
 leaf_passed P bytes t splits earlier l e is_leaf h text =
     let leaf : IsLeaf l = subst (λ b. MatchBool b ((p : ℕ) × (x : Symbol) × (l ≡ Split p x)) (IsLeaf l)) is_leaf (kind_of P bytes l t e text) in
     grows P NoLines IsTree (l ∷ []) (λ ls none. subst (λ k. IsTree (k ++ l ∷ [])) (sym none) (leaf_is_tree l leaf)) splits earlier h
@@ -125,7 +125,7 @@ pub record HasFirst (P : Instance) (lines : List Line) (bytes left : List ℕ) :
   pub line : Line
   pub rest : List Line
   pub here : lines ≡ line ∷ rest
-  pub text : IsTextOf P bytes line
+  pub text : IsLineText P bytes line
   pub fit : EachFits P rest
   pub below : left ≡ lines_text P rest
 
@@ -175,7 +175,7 @@ passed_none P splits bytes left e = record {
 
 -- a line is passed that continues inside the splits
 pass_on : (P : Instance) (splits after : List UnreadSplit) (earlier lines : List Line) (left bytes rest : List ℕ) (count : ℕ) → KeepsLimits P → PassedUpTo P splits earlier lines left count → bytes ≢ [] → left ≡ bytes ++ rest → IsNextLine bytes rest
-    → ((earlier : List Line) (l : Line) → EndInside P splits earlier → IsTextOf P bytes l → EndInside P after (earlier ++ l ∷ [])) → PassedUpTo P after earlier lines rest (count + 1)
+    → ((earlier : List Line) (l : Line) → EndInside P splits earlier → IsLineText P bytes l → EndInside P after (earlier ++ l ∷ [])) → PassedUpTo P after earlier lines rest (count + 1)
 pass_on P splits after earlier lines left bytes rest count limits so some e next passes =
     let f = first_line P so.rest bytes rest limits so.fit some (sym e ∙ so.below) next in
     let size : length (so.done ++ f.line ∷ []) ≡ length so.done + 1 = length-append so.done (f.line ∷ []) in
@@ -190,7 +190,7 @@ pass_on P splits after earlier lines left bytes rest count limits so some e next
     }
 
 pub passed_more : (P : Instance) (old splits after : List UnreadSplit) (all left bytes rest : List ℕ) (count : ℕ) → KeepsLimits P → PassedSoFar P old splits all left count → bytes ≢ [] → left ≡ bytes ++ rest → IsNextLine bytes rest
-    → ((earlier : List Line) (l : Line) → EndInside P splits earlier → IsTextOf P bytes l → EndInside P after (earlier ++ l ∷ [])) → PassedSoFar P old after all rest (count + 1)
+    → ((earlier : List Line) (l : Line) → EndInside P splits earlier → IsLineText P bytes l → EndInside P after (earlier ++ l ∷ [])) → PassedSoFar P old after all rest (count + 1)
 passed_more P old splits after all left bytes rest count limits so some e next passes =
     let size : length left ≡ length bytes + length rest = ap length e ∙ length-append bytes rest in
     let one = some_bytes bytes some in
@@ -201,7 +201,7 @@ passed_more P old splits after all left bytes rest count limits so some e next p
 
 -- the tree ends with a line
 pub tree_passed : (P : Instance) (old splits : List UnreadSplit) (all left bytes rest : List ℕ) (count : ℕ) → KeepsLimits P → PassedSoFar P old splits all left count → bytes ≢ [] → left ≡ bytes ++ rest → IsNextLine bytes rest
-    → ((earlier : List Line) (l : Line) → EndInside P splits earlier → IsTextOf P bytes l → IsTree (earlier ++ l ∷ []))
+    → ((earlier : List Line) (l : Line) → EndInside P splits earlier → IsLineText P bytes l → IsTree (earlier ++ l ∷ []))
     → (earlier lines : List Line) → EndInside P old earlier → EachFits P lines → all ≡ lines_text P lines → HasTree (earlier ++ lines)
 tree_passed P old splits all left bytes rest count limits so some e next ends earlier lines h fit text =
     let up = so.each earlier lines h fit text in

@@ -8,7 +8,7 @@ use Rattle.refutation_terms.specs.declared.lines.LogRefusal.{LogRefusal}
 use Rattle.refutation_log.specs.Printing.{lines_text, EachFits}
 use Rattle.tree_walk.specs.States.{State, IsStateOf}
 use Rattle.refutation_checker.specs.ChunkVerdicts.{Start, StandsBehind}
-use Rattle.refutation_checker.specs.UnreadSplits.{UnreadSplit, EndInside, IsEnded, IsInto}
+use Rattle.refutation_checker.specs.UnreadSplits.{UnreadSplit, EndInside, IsEndedOrIdle, IsInto}
 
 -- how many LF the bytes hold
 abbrev pub feeds : List ℕ → ℕ
@@ -25,17 +25,17 @@ EndsLines bytes size n = ((feeds (take n bytes) ≡ size) × (slice_index bytes 
 
 -- no chunk is needed behind the first n bytes: they are all bytes, or whatever lines they are the text of, a line
 -- behind these isn't the first that is refused
-abbrev pub IsLast : Instance → Option Turn → List Line → List ℕ → ℕ → Type 0
-IsLast P turn earlier bytes n =
+abbrev pub IsLastChunkEnd : Instance → Option Turn → List Line → List ℕ → ℕ → Type 0
+IsLastChunkEnd P turn earlier bytes n =
     (n ≡ length bytes) ⊎ ((lines : List Line) → EachFits P lines → take n bytes ≡ lines_text P lines
-    → IsEnded P turn (earlier ++ lines))
+    → IsEndedOrIdle P turn (earlier ++ lines))
 
 -- the chunk has the first `size` lines of the bytes, or all bytes where no further chunk is needed
 pub record HasFirstLines (P : Instance) (turn : Option Turn) (earlier : List Line) (size : ℕ) (bytes : List ℕ)
     (chunk : Start) : Type 0 where
   pub end : ℕ
   pub lines : EndsLines bytes size end
-  pub cut : (chunk.bytes ≡ take end bytes) ⊎ ((chunk.bytes ≡ bytes) × IsLast P turn earlier bytes end)
+  pub cut : (chunk.bytes ≡ take end bytes) ⊎ ((chunk.bytes ≡ bytes) × IsLastChunkEnd P turn earlier bytes end)
 
 -- the bytes end with LF
 abbrev pub EndWithFeed : List ℕ → Type 0
@@ -59,7 +59,7 @@ abbrev pub IsCutOff : Instance → ℕ → State → List UnreadSplit → List U
 IsCutOff P size start before after all chunk None =
     (chunk ≡ all)
     × ((end : ℕ) × EndsLines all.bytes size end × ((turn : Option Turn) (done : List Line) → IsStateOf P turn [] start
-    → EndInside P before done → IsLast P turn done all.bytes end))
+    → EndInside P before done → IsLastChunkEnd P turn done all.bytes end))
 IsCutOff P size start before after all chunk (Some rest) =
     (chunk.walk ≡ all.walk) × (chunk.first ≡ all.first) × (all.bytes ≡ chunk.bytes ++ rest.bytes) × (chunk.bytes ≢ [])
     × (rest.bytes ≢ []) × EndWithFeed chunk.bytes

@@ -18,7 +18,7 @@ pub record UnreadSplit : Type 0 where
   pub in_second : Bool
 
 -- the bytes are the text of this line, which fits the problem
-pub record IsTextOf (P : Instance) (bytes : List ℕ) (line : Line) : Type 0 where
+pub record IsLineText (P : Instance) (bytes : List ℕ) (line : Line) : Type 0 where
   pub fits : LineFits P line
   pub text : bytes ≡ line_text P (raw P line)
 
@@ -27,7 +27,7 @@ abbrev pub LeadInto : Instance → (List Line → Type 0) → List UnreadSplit �
 LeadInto P Q [] lines = Q lines
 LeadInto P Q (u ∷ splits) lines =
     (p : ℕ) × (x : Symbol) × (first : List Line) × (rest : List Line)
-    × (lines ≡ Split p x ∷ (first ++ rest)) × IsTextOf P u.line (Split p x) × IsFirstSide u.in_second first
+    × (lines ≡ Split p x ∷ (first ++ rest)) × IsLineText P u.line (Split p x) × IsFirstSide u.in_second first
     × LeadInto P Q splits rest
 
 -- they end there, where the next tree begins
@@ -48,8 +48,8 @@ pub record HasIdleSplit (P : Instance) (turn : Option Turn) (lines : List Line) 
   pub idle : is_idle P (domains_at P turn front (length front)) p x.number ≡ true
 
 -- a line that follows these lines is none that is refused first
-abbrev pub IsEnded : Instance → Option Turn → List Line → Type 0
-IsEnded P turn lines = HasTree lines ⊎ HasIdleSplit P turn lines
+abbrev pub IsEndedOrIdle : Instance → Option Turn → List Line → Type 0
+IsEndedOrIdle P turn lines = HasTree lines ⊎ HasIdleSplit P turn lines
 
 -- some lines end inside these splits, and a walk started in front of the first of them: then either one is an idle
 -- split, or this walk is behind them
@@ -64,7 +64,7 @@ IsInto P start splits (Some w) = (turn : Option Turn) (lines : List Line) → Is
 abbrev pub ArePassed : Instance → State → List UnreadSplit → List UnreadSplit → List ℕ → Option ℕ → Type 0
 ArePassed P start before after bytes None =
     (turn : Option Turn) (done lines : List Line) → IsStateOf P turn [] start → EndInside P before done
-    → EachFits P lines → bytes ≡ lines_text P lines → IsEnded P turn (done ++ lines)
+    → EachFits P lines → bytes ≡ lines_text P lines → IsEndedOrIdle P turn (done ++ lines)
 ArePassed P start before after bytes (Some count) =
     (done lines : List Line) → EndInside P before done → EachFits P lines → bytes ≡ lines_text P lines
     → (count ≡ length lines) × EndInside P after (done ++ lines)
@@ -74,6 +74,6 @@ ArePassed P start before after bytes (Some count) =
 abbrev pub IsEntered : Instance → UnreadSplit → State → State → Bool → Type 0
 IsEntered P u old new entered =
     (turn : Option Turn) (lines first : List Line) (p : ℕ) (x : Symbol) → IsStateOf P turn lines old
-    → IsTextOf P u.line (Split p x) → IsFirstSide u.in_second first
+    → IsLineText P u.line (Split p x) → IsFirstSide u.in_second first
     → MatchBool entered (IsStateOf P turn (lines
     ++ Split p x ∷ first) new) (is_idle P (domains_at P turn lines (length lines)) p x.number ≡ true)

@@ -5,7 +5,7 @@ ghost use Rattle.rwsp_model.specs.Validity.{KeepsLimits};
 ghost use Rattle.refutation_terms.specs.declared.lines.Line.{Line};
 ghost use Rattle.refutation_terms.specs.Tree.{IsTree};
 ghost use Rattle.refutation_log.specs.Printing.{lines_text, EachFits};
-ghost use Rattle.refutation_checker.specs.UnreadSplits.{IsTextOf, LeadInto, EndInside, HasTree};
+ghost use Rattle.refutation_checker.specs.UnreadSplits.{IsLineText, LeadInto, EndInside, HasTree};
 
 use refutation_log::LineReader;
 use std::alloc::AllocError;
@@ -67,7 +67,7 @@ fn pass_leaf(splits: &mut Vec<UnreadSplit>) -> bool
 pub fn pass_line<'a>(splits: &mut Vec<UnreadSplit<'a>>, line: &'a [u8]) -> Result<bool, AllocError>
     requires { 0 < length line.now }
     ensures { IfOk result (λ more. (P : Instance) (earlier : List Line) (l : Line) →
-        EndInside P splits.old.items earlier → IsTextOf P line.now l →
+        EndInside P splits.old.items earlier → IsLineText P line.now l →
         MatchBool more (EndInside P splits.new.items (earlier ++ l ∷ [])) (IsTree (earlier ++ l ∷ []))) }
 {
     if !begins_as_split(line) {

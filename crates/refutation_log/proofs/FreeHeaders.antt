@@ -6,7 +6,7 @@ use Rattle.refutation_terms.specs.declared.lines.LogRefusal.{LogRefusal}
 use Rattle.refutation_terms.specs.declared.lines.LogRefusal.TheVariants as Refusals
 use Rattle.refutation_terms.specs.Log.{AreRules}
 use Rattle.refutation_terms.specs.LogText.{free_version_text, rules_text, goal_text}
-use Rattle.refutation_terms.specs.Verdict.{IsNextLine}
+use Rattle.rwsp_text.specs.Lines.{IsNextLine}
 use Rattle.refutation_terms.specs.FreeVerdict.{FreeFront, free_front_text, HasNoFreeCause, IsWholeFree, FreeCause, GoalCause, IsRefusedFreeLine, IsFreeRefused}
 use Rattle.refutation_log.specs.Refusals.{SpellsGoal}
 use Rattle.refutation_log.specs.ReadLog.{StopsFor, BeginsWithFreeHeader}

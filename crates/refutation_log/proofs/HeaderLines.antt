@@ -7,7 +7,8 @@ use Rattle.refutation_terms.specs.declared.lines.LogRefusal.{LogRefusal}
 use Rattle.refutation_terms.specs.declared.lines.LogRefusal.TheVariants as Refusals
 use Rattle.refutation_terms.specs.Log.{AreRules, TurnFits}
 use Rattle.refutation_terms.specs.LogText.{version_text, rules_text, turn_text}
-use Rattle.refutation_terms.specs.Verdict.{RulesCause, Front, Start, Versioned, BeforeTurn, front_text, HasNoCause, IsWhole, IsRefusedLine, IsNextLine, Cause, TurnsTo}
+use Rattle.rwsp_text.specs.Lines.{IsNextLine}
+use Rattle.refutation_terms.specs.Verdict.{RulesCause, Front, Start, Versioned, BeforeTurn, front_text, HasNoCause, IsWhole, IsRefusedLine, Cause, TurnsTo}
 use Rattle.refutation_terms.proofs.Spelled.{symbol_of-name}
 use Rattle.refutation_log.specs.Refusals.{SpellsVersion, SpellsRules, IsTurnRefused}
 use Rattle.refutation_log.specs.declared.refusal.LineRefusal.TheVariants.{Form, Name}

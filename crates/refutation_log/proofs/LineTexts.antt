@@ -17,7 +17,7 @@ use Rattle.rwsp_model.specs.declared.fail.Fail.{Fail}
 use Rattle.rwsp_model.specs.declared.fail.Fail.TheVariants.{Refused, Memory}
 use Rattle.rwsp_model.proofs.Numbering.{rules_are_many}
 use Rattle.refutation_terms.specs.declared.lines.Line.{Line}
-use Rattle.refutation_terms.specs.LogText.{RawLine, RawDead, RawBound, RawFew, RawFree, RawUnfinished, IsWrittenFor, raw_fields, line_of, Ascends}
+use Rattle.refutation_terms.specs.LogText.{RawLine, RawDead, RawBound, RawFew, RawFree, RawUnfinished, IsWrittenFor, raw_fields, line_of, WeightsAscend}
 use Rattle.refutation_terms.specs.LineKinds.{most_turns, split_kind, window_kind, day_kind, dead_kind, bound_kind, free_kind}
 use Rattle.refutation_terms.specs.Verdict.{SpellsFor}
 use Rattle.refutation_terms.specs.TextLaws.{IsWritable}
@@ -110,7 +110,7 @@ written_read P goal bytes body raw s e h =
     ap (read_line (kinds_for P goal)) (text_words bytes body (raw_fields P raw) (line_words_for P goal raw s h.in_range) e h.spelled)
     ∙ line_only (kinds_for P goal) (raw_fields P raw) raw (readable_for P goal s) (line_for P goal raw h.in_range)
 
-pub read_written : (P : Instance) (goal : Option ℕ) (bytes body : List ℕ) (raw : RawLine) → bytes ≡ body ++ 10 ∷ [] → read_line (kinds_for P goal) (words_of body) ≡ Some raw → IfSome (line_of P raw) Ascends → IsWrittenFor P goal bytes raw
+pub read_written : (P : Instance) (goal : Option ℕ) (bytes body : List ℕ) (raw : RawLine) → bytes ≡ body ++ 10 ∷ [] → read_line (kinds_for P goal) (words_of body) ≡ Some raw → IfSome (line_of P raw) WeightsAscend → IsWrittenFor P goal bytes raw
 read_written P goal bytes body raw e h up =
     let f = found_for P goal (words_of body) raw (line_found (kinds_for P goal) (words_of body) raw h) in
     record { spelled = words_text bytes body (raw_fields P raw) e f.0; in_range = f.1; ascends = up }
@@ -118,7 +118,7 @@ read_written P goal bytes body raw e h up =
 answer_by : (P : Instance) (goal : Option ℕ) (bytes body : List ℕ) (o : Option RawLine) (result : Result Line (Fail LineRefusal)) → IsWritable P → bytes ≡ body ++ 10 ∷ [] → read_line (kinds_for P goal) (words_of body) ≡ o → Answers P o result → MatchAnswer result (SpellsFor P goal bytes) (IsLineRefusedFor P goal bytes)
 answer_by P goal bytes body None (Ok line) s e r a = absurd a
 answer_by P goal bytes body (Some raw) (Ok line) s e r a =
-    (raw, read_written P goal bytes body raw e r (subst (λ o. IfSome o Ascends) (sym a.0) a.1), a.0)
+    (raw, read_written P goal bytes body raw e r (subst (λ o. IfSome o WeightsAscend) (sym a.0) a.1), a.0)
 answer_by P goal bytes body o (Err Memory) s e r a = tt
 answer_by P goal bytes body None (Err (Refused Form)) s e r a =
     λ raw h. let w : read_line (kinds_for P goal) (words_of body) ≡ Some raw = written_read P goal bytes body raw s e h in absurd (cc)
@@ -126,12 +126,12 @@ answer_by P goal bytes body (Some raw) (Err (Refused Form)) s e r a =
     λ other h.
     let w : read_line (kinds_for P goal) (words_of body) ≡ Some other = written_read P goal bytes body other s e h in
     let same : other ≡ raw = let z : Some other ≡ Some raw = sym w ∙ r in cc in
-    let up : IfSome (line_of P raw) Ascends = subst (λ q. IfSome (line_of P q) Ascends) same h.ascends in
-    let up' : IfSome (Some a.0) Ascends = subst (λ o. IfSome o Ascends) a.1 up in
+    let up : IfSome (line_of P raw) WeightsAscend = subst (λ q. IfSome (line_of P q) WeightsAscend) same h.ascends in
+    let up' : IfSome (Some a.0) WeightsAscend = subst (λ o. IfSome o WeightsAscend) a.1 up in
     a.2 up'
 answer_by P goal bytes body None (Err (Refused Name)) s e r a = absurd a
 answer_by P goal bytes body (Some raw) (Err (Refused Name)) s e r a =
-    (raw, read_written P goal bytes body raw e r (subst (λ o. IfSome o Ascends) (sym a) tt), a)
+    (raw, read_written P goal bytes body raw e r (subst (λ o. IfSome o WeightsAscend) (sym a) tt), a)
 
 pub line_answered : (P : Instance) (goal : Option ℕ) (bytes body : List ℕ) (result : Result Line (Fail LineRefusal)) → KeepsLimits P → bytes ≡ body ++ 10 ∷ [] → Answers P (raw_at P goal (words_of body)) result → MatchAnswer result (SpellsFor P goal bytes) (IsLineRefusedFor P goal bytes)
 line_answered P goal bytes body result k e a =

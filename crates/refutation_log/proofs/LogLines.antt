@@ -17,7 +17,8 @@ use Rattle.refutation_terms.specs.declared.lines.LogRefusal.TheVariants as Refus
 use Rattle.refutation_terms.specs.Tree.{IsTree, after_trees}
 use Rattle.refutation_terms.specs.Log.{LineFits, AreRules, TurnFits}
 use Rattle.refutation_terms.specs.LogText.{raw, line_text, log_text, header_text}
-use Rattle.refutation_terms.specs.Verdict.{Spells, Reading, IsNextLine, header_lines}
+use Rattle.rwsp_text.specs.Lines.{IsNextLine}
+use Rattle.refutation_terms.specs.Verdict.{Spells, Reading, header_lines}
 use Rattle.refutation_terms.proofs.Trees.{tree_is_whole, whole_is_tree}
 use Rattle.refutation_log.specs.Printing.{lines_text, EachFits}
 use Rattle.refutation_log.specs.ReadLog.{IsReadSoFar, IsUnread, EndsUnread, IsTreeLineRefused, open_after, log_with}

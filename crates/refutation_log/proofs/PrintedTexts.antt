@@ -8,9 +8,9 @@ use Rattle.std.proofs.lemmas.List.Concat.{flat_map-append}
 use Rattle.rwsp_terms.specs.declared.data.Weight.{Weight}
 use Rattle.rwsp_terms.specs.Instance.{Instance}
 use Rattle.refutation_terms.specs.declared.lines.Line.{Line}
-use Rattle.refutation_terms.specs.LogText.{RawSplit, RawWindow, RawDay, RawDead, RawBound, RawFree, raw, raw_fields, line_text, place, way, named_weight, rules_text, goal_text, turn_text}
+use Rattle.refutation_terms.specs.LogText.{RawSplit, RawWindow, RawDay, RawDead, RawBound, RawFree, raw, raw_fields, line_text, place_words, way, named_weight, rules_text, goal_text, turn_text}
 use Rattle.rwsp_text.specs.Fields.{numbers, weight_fields}
-use Rattle.refutation_log.specs.Printing.{spaced, lines_text, words_of}
+use Rattle.refutation_log.specs.Printing.{spaced, lines_text, weight_words}
 
 pub join_spaced : (w : List ℕ) (ws : List (List ℕ)) → join_with_byte 32 (w ∷ ws) ≡ w ++ spaced ws
 join_spaced w [] = sym (append-nil w)
@@ -33,10 +33,10 @@ spaced_numbers (n ∷ all) = ap (λ t. 32 ∷ (decimal n ++ t)) (spaced_numbers 
 abbrev pub weight_piece : Instance → Weight → List ℕ
 weight_piece P e = spaced (weight_fields (named_weight P e))
 
-pub spaced_weights : (P : Instance) (y : List Weight) → flat_map (weight_piece P) y ≡ spaced (words_of P y)
+pub spaced_weights : (P : Instance) (y : List Weight) → flat_map (weight_piece P) y ≡ spaced (weight_words P y)
 spaced_weights P [] = refl
 spaced_weights P (e ∷ y) =
-    ap (λ t. weight_piece P e ++ t) (spaced_weights P y) ∙ sym (spaced-append (weight_fields (named_weight P e)) (words_of P y))
+    ap (λ t. weight_piece P e ++ t) (spaced_weights P y) ∙ sym (spaced-append (weight_fields (named_weight P e)) (weight_words P y))
 
 abbrev pub line_piece : Instance → Line → List ℕ
 line_piece P line = line_text P (raw P line)
@@ -62,17 +62,17 @@ finish a w ws b e = e ∙ ap (λ t. a ++ t) (sym (join_spaced w ws))
 close : (a t b c : List ℕ) → b ≡ a ++ t → c ≡ b ++ 10 ∷ [] → c ≡ a ++ (t ++ 10 ∷ [])
 close a t b c e f = f ∙ ap (λ z. z ++ 10 ∷ []) e ∙ append_assoc a t (10 ∷ [])
 
-pub split_text : (P : Instance) (p : ℕ) (name a b c d : List ℕ) → b ≡ a ++ codes "split" → c ≡ b ++ spaced (place P p) → d ≡ c ++ 32 ∷ name → d ≡ a ++ join_with_byte 32 (raw_fields P (RawSplit p name))
+pub split_text : (P : Instance) (p : ℕ) (name a b c d : List ℕ) → b ≡ a ++ codes "split" → c ≡ b ++ spaced (place_words P p) → d ≡ c ++ 32 ∷ name → d ≡ a ++ join_with_byte 32 (raw_fields P (RawSplit p name))
 split_text P p name a b c d e f g =
     let w = codes "split" in
-    finish a w (place P p ++ (name ∷ [])) d (word a w (place P p) name c d (more a w [] (place P p) b c (begin a w b e) f) g)
+    finish a w (place_words P p ++ (name ∷ [])) d (word a w (place_words P p) name c d (more a w [] (place_words P p) b c (begin a w b e) f) g)
 
-pub window_text : (P : Instance) (rule p len : ℕ) (a b c d e : List ℕ) → b ≡ a ++ codes "window" → c ≡ b ++ 32 ∷ decimal rule → d ≡ c ++ spaced (place P p) → e ≡ d ++ 32 ∷ decimal len → e ≡ a ++ join_with_byte 32 (raw_fields P (RawWindow rule p len))
+pub window_text : (P : Instance) (rule p len : ℕ) (a b c d e : List ℕ) → b ≡ a ++ codes "window" → c ≡ b ++ 32 ∷ decimal rule → d ≡ c ++ spaced (place_words P p) → e ≡ d ++ 32 ∷ decimal len → e ≡ a ++ join_with_byte 32 (raw_fields P (RawWindow rule p len))
 window_text P rule p len a b c d e q r s t =
     let w = codes "window" in
     let ws : List (List ℕ) = decimal rule ∷ [] in
-    finish a w (ws ++ place P p ++ (decimal len ∷ [])) e
-    (word a w (ws ++ place P p) (decimal len) d e (more a w ws (place P p) c d (word a w [] (decimal rule) b c (begin a w b q) r) s) t)
+    finish a w (ws ++ place_words P p ++ (decimal len ∷ [])) e
+    (word a w (ws ++ place_words P p) (decimal len) d e (more a w ws (place_words P p) c d (word a w [] (decimal rule) b c (begin a w b q) r) s) t)
 
 pub day_text : (P : Instance) (day : ℕ) (name : List ℕ) (over : Bool) (a b c d e : List ℕ) → b ≡ a ++ codes "day" → c ≡ b ++ 32 ∷ decimal day → d ≡ c ++ 32 ∷ name → e ≡ d ++ 32 ∷ way over → e ≡ a ++ join_with_byte 32 (raw_fields P (RawDay day name over))
 day_text P day name over a b c d e q r s t =
@@ -80,39 +80,39 @@ day_text P day name over a b c d e q r s t =
     finish a w (decimal day ∷ name ∷ way over ∷ []) e
     (word a w (decimal day ∷ name ∷ []) (way over) d e (word a w (decimal day ∷ []) name c d (word a w [] (decimal day) b c (begin a w b q) r) s) t)
 
-pub dead_text : (P : Instance) (p len : ℕ) (R a b c d e f : List ℕ) → b ≡ a ++ codes "dead" → c ≡ b ++ spaced (place P p) → d ≡ c ++ 32 ∷ decimal len → e ≡ d ++ 32 ∷ codes "rules" → f ≡ e ++ spaced (numbers R) → f ≡ a ++ join_with_byte 32 (raw_fields P (RawDead p len R))
+pub dead_text : (P : Instance) (p len : ℕ) (R a b c d e f : List ℕ) → b ≡ a ++ codes "dead" → c ≡ b ++ spaced (place_words P p) → d ≡ c ++ 32 ∷ decimal len → e ≡ d ++ 32 ∷ codes "rules" → f ≡ e ++ spaced (numbers R) → f ≡ a ++ join_with_byte 32 (raw_fields P (RawDead p len R))
 dead_text P p len R a b c d e f q r s t u =
     let w = codes "dead" in
-    let ws : List (List ℕ) = place P p ++ (decimal len ∷ []) in
+    let ws : List (List ℕ) = place_words P p ++ (decimal len ∷ []) in
     let vs : List (List ℕ) = ws ++ (codes "rules" ∷ []) in
     finish a w (vs ++ numbers R) f
-    (more a w vs (numbers R) e f (word a w ws (codes "rules") d e (word a w (place P p) (decimal len) c d (more a w [] (place P p) b c (begin a w b q) r) s) t) u)
+    (more a w vs (numbers R) e f (word a w ws (codes "rules") d e (word a w (place_words P p) (decimal len) c d (more a w [] (place_words P p) b c (begin a w b q) r) s) t) u)
 
-pub bound_text : (P : Instance) (p turns : ℕ) (R : List ℕ) (y : List Weight) (a b c d e f g h : List ℕ) → b ≡ a ++ codes "bound" → c ≡ b ++ spaced (place P p) → d ≡ c ++ 32 ∷ decimal turns → e ≡ d ++ 32 ∷ codes "rules" → f ≡ e ++ spaced (numbers R) → g ≡ f ++ 32 ∷ codes "weights" → h ≡ g ++ spaced (words_of P y) → h ≡ a ++ join_with_byte 32 (raw_fields P (RawBound p turns R (map (named_weight P) y)))
+pub bound_text : (P : Instance) (p turns : ℕ) (R : List ℕ) (y : List Weight) (a b c d e f g h : List ℕ) → b ≡ a ++ codes "bound" → c ≡ b ++ spaced (place_words P p) → d ≡ c ++ 32 ∷ decimal turns → e ≡ d ++ 32 ∷ codes "rules" → f ≡ e ++ spaced (numbers R) → g ≡ f ++ 32 ∷ codes "weights" → h ≡ g ++ spaced (weight_words P y) → h ≡ a ++ join_with_byte 32 (raw_fields P (RawBound p turns R (map (named_weight P) y)))
 bound_text P p turns R y a b c d e f g h q r s t u v x =
     let w = codes "bound" in
-    let ws : List (List ℕ) = place P p ++ (decimal turns ∷ []) in
+    let ws : List (List ℕ) = place_words P p ++ (decimal turns ∷ []) in
     let vs : List (List ℕ) = ws ++ (codes "rules" ∷ []) in
     let us : List (List ℕ) = vs ++ numbers R in
     let ts : List (List ℕ) = us ++ (codes "weights" ∷ []) in
-    finish a w (ts ++ words_of P y) h
-    (more a w ts (words_of P y) g h
-    (word a w us (codes "weights") f g (more a w vs (numbers R) e f (word a w ws (codes "rules") d e (word a w (place P p) (decimal turns) c d (more a w [] (place P p) b c (begin a w b q) r) s) t) u) v)
+    finish a w (ts ++ weight_words P y) h
+    (more a w ts (weight_words P y) g h
+    (word a w us (codes "weights") f g (more a w vs (numbers R) e f (word a w ws (codes "rules") d e (word a w (place_words P p) (decimal turns) c d (more a w [] (place_words P p) b c (begin a w b q) r) s) t) u) v)
     x)
-    ∙ ap (λ t. a ++ join_with_byte 32 (w ∷ t)) (append_assoc us (codes "weights" ∷ []) (words_of P y))
+    ∙ ap (λ t. a ++ join_with_byte 32 (w ∷ t)) (append_assoc us (codes "weights" ∷ []) (weight_words P y))
 
-pub free_text : (P : Instance) (turns reward : ℕ) (R : List ℕ) (y : List Weight) (a b c d e f g h : List ℕ) → b ≡ a ++ codes "free" → c ≡ b ++ 32 ∷ decimal turns → d ≡ c ++ 32 ∷ decimal reward → e ≡ d ++ 32 ∷ codes "rules" → f ≡ e ++ spaced (numbers R) → g ≡ f ++ 32 ∷ codes "weights" → h ≡ g ++ spaced (words_of P y) → h ≡ a ++ join_with_byte 32 (raw_fields P (RawFree turns reward R (map (named_weight P) y)))
+pub free_text : (P : Instance) (turns reward : ℕ) (R : List ℕ) (y : List Weight) (a b c d e f g h : List ℕ) → b ≡ a ++ codes "free" → c ≡ b ++ 32 ∷ decimal turns → d ≡ c ++ 32 ∷ decimal reward → e ≡ d ++ 32 ∷ codes "rules" → f ≡ e ++ spaced (numbers R) → g ≡ f ++ 32 ∷ codes "weights" → h ≡ g ++ spaced (weight_words P y) → h ≡ a ++ join_with_byte 32 (raw_fields P (RawFree turns reward R (map (named_weight P) y)))
 free_text P turns reward R y a b c d e f g h q r s t u v x =
     let w = codes "free" in
     let ws : List (List ℕ) = decimal turns ∷ decimal reward ∷ [] in
     let vs : List (List ℕ) = ws ++ (codes "rules" ∷ []) in
     let us : List (List ℕ) = vs ++ numbers R in
     let ts : List (List ℕ) = us ++ (codes "weights" ∷ []) in
-    finish a w (ts ++ words_of P y) h
-    (more a w ts (words_of P y) g h
+    finish a w (ts ++ weight_words P y) h
+    (more a w ts (weight_words P y) g h
     (word a w us (codes "weights") f g (more a w vs (numbers R) e f (word a w ws (codes "rules") d e (word a w (decimal turns ∷ []) (decimal reward) c d (word a w [] (decimal turns) b c (begin a w b q) r) s) t) u) v)
     x)
-    ∙ ap (λ t. a ++ join_with_byte 32 (w ∷ t)) (append_assoc us (codes "weights" ∷ []) (words_of P y))
+    ∙ ap (λ t. a ++ join_with_byte 32 (w ∷ t)) (append_assoc us (codes "weights" ∷ []) (weight_words P y))
 
 pub named_text : (R a b c d : List ℕ) → b ≡ a ++ codes "rules" → c ≡ b ++ spaced (numbers R) → d ≡ c ++ 10 ∷ [] → d ≡ a ++ rules_text R
 named_text R a b c d e f g =

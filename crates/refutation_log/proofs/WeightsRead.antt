@@ -12,7 +12,7 @@ use Rattle.rwsp_text.specs.Fields.{NamedWeight, ◌>>=◌, number_in, value_in, 
 use Rattle.rwsp_terms.specs.declared.limits.TheConstants.{GREATEST_WEIGHT}
 use Rattle.refutation_log.specs.declared.gather.Gathered.{Gathered}
 use Rattle.refutation_log.specs.declared.gather.Gathered.TheVariants.{Rising, Falling, Unknown}
-use Rattle.refutation_log.specs.Reading.{weight_at, all_weights_at}
+use Rattle.refutation_log.specs.Reading.{named_weight_at, all_weights_at}
 use Rattle.refutation_log.specs.Gathering.{Gives, GivesAll, IsAdded, entry_of}
 use Rattle.rwsp_text.proofs.Words.{same_pairs}
 
@@ -22,28 +22,28 @@ Left = NamedWeight × List (List ℕ)
 abbrev left_with : List (List ℕ) → NamedWeight → Left
 left_with ws e = (e, ws)
 
-by_three : (P : Instance) (o : Option ℕ) (b : Bool) (u : Option ℤ) (d n v : List ℕ) (ws : List (List ℕ)) → number_in 1 P.days d ≡ o → is_name n ≡ b → value_in GREATEST_WEIGHT v ≡ u → weight_at P (d ∷ n ∷ v ∷ ws) ≡ option_map (left_with ws) (weight_from o n b u)
+by_three : (P : Instance) (o : Option ℕ) (b : Bool) (u : Option ℤ) (d n v : List ℕ) (ws : List (List ℕ)) → number_in 1 P.days d ≡ o → is_name n ≡ b → value_in GREATEST_WEIGHT v ≡ u → named_weight_at P (d ∷ n ∷ v ∷ ws) ≡ option_map (left_with ws) (weight_from o n b u)
 unfolding weight_in number_at name_at value_at
 by_three P None b u d n v ws e f g = rw e refl
 by_three P (Some j) false u d n v ws e f g = rw (e, f) refl
 by_three P (Some j) true None d n v ws e f g = rw (e, f, g) refl
 by_three P (Some j) true (Some z) d n v ws e f g = rw (e, f, g) refl
 
-pub weight_is : (P : Instance) (d n v : List ℕ) (ws : List (List ℕ)) → weight_at P (d ∷ n ∷ v ∷ ws) ≡ option_map (left_with ws) (weight_of_words P.days GREATEST_WEIGHT d n v)
+pub weight_is : (P : Instance) (d n v : List ℕ) (ws : List (List ℕ)) → named_weight_at P (d ∷ n ∷ v ∷ ws) ≡ option_map (left_with ws) (weight_of_words P.days GREATEST_WEIGHT d n v)
 weight_is P d n v ws = by_three P (number_in 1 P.days d) (is_name n) (value_in GREATEST_WEIGHT v) d n v ws refl refl refl
 
-by_one : (P : Instance) (o : Option ℕ) (d : List ℕ) → number_in 1 P.days d ≡ o → weight_at P (d ∷ []) ≡ None
+by_one : (P : Instance) (o : Option ℕ) (d : List ℕ) → number_in 1 P.days d ≡ o → named_weight_at P (d ∷ []) ≡ None
 unfolding weight_in number_at name_at value_at
 by_one P None d e = rw e refl
 by_one P (Some j) d e = rw e refl
 
-by_two : (P : Instance) (o : Option ℕ) (b : Bool) (d n : List ℕ) → number_in 1 P.days d ≡ o → is_name n ≡ b → weight_at P (d ∷ n ∷ []) ≡ None
+by_two : (P : Instance) (o : Option ℕ) (b : Bool) (d n : List ℕ) → number_in 1 P.days d ≡ o → is_name n ≡ b → named_weight_at P (d ∷ n ∷ []) ≡ None
 unfolding weight_in number_at name_at value_at
 by_two P None b d n e f = rw e refl
 by_two P (Some j) false d n e f = rw (e, f) refl
 by_two P (Some j) true d n e f = rw (e, f) refl
 
-by_none : (P : Instance) → weight_at P [] ≡ None
+by_none : (P : Instance) → named_weight_at P [] ≡ None
 unfolding weight_in number_at
 by_none P = refl
 
@@ -58,7 +58,7 @@ taken_by P d n v ws (Some a) e rest t h =
     let left : ws ≡ rest = (same_pairs a e ws rest h).1 in
     (d, n, v, ap (λ us. d ∷ n ∷ v ∷ us) left, t ∙ ap (λ z. Some z) same)
 
-pub weight_taken : (P : Instance) (ws : List (List ℕ)) (e : NamedWeight) (rest : List (List ℕ)) → weight_at P ws ≡ Some (e, rest) → TakesWeight P ws e rest
+pub weight_taken : (P : Instance) (ws : List (List ℕ)) (e : NamedWeight) (rest : List (List ℕ)) → named_weight_at P ws ≡ Some (e, rest) → TakesWeight P ws e rest
 weight_taken P [] e rest h = let no = by_none P in absurd (cc)
 weight_taken P (d ∷ []) e rest h = let no = by_one P (number_in 1 P.days d) d refl in absurd (cc)
 weight_taken P (d ∷ n ∷ []) e rest h = let no = by_two P (number_in 1 P.days d) (is_name n) d n refl refl in absurd (cc)
@@ -68,13 +68,13 @@ missed_by : (P : Instance) (d n v : List ℕ) (ws : List (List ℕ)) (o : Option
 missed_by P d n v ws None t h = ap (λ o. o >>= (λ e. all_weights_at P ws >>= (λ y. Some (e ∷ y)))) t
 missed_by P d n v ws (Some a) t h = absurd (cc)
 
-pub weight_missed : (P : Instance) (ws : List (List ℕ)) → ws ≢ [] → weight_at P ws ≡ None → all_weights_at P ws ≡ None
+pub weight_missed : (P : Instance) (ws : List (List ℕ)) → ws ≢ [] → named_weight_at P ws ≡ None → all_weights_at P ws ≡ None
 weight_missed P [] some h = absurd (some refl)
 weight_missed P (d ∷ []) some h = refl
 weight_missed P (d ∷ n ∷ []) some h = refl
 weight_missed P (d ∷ n ∷ v ∷ ws) some h = missed_by P d n v ws (weight_of_words P.days GREATEST_WEIGHT d n v) refl (sym (weight_is P d n v ws) ∙ h)
 
-pub weight_shortens : (P : Instance) (ws : List (List ℕ)) (e : NamedWeight) (rest : List (List ℕ)) → weight_at P ws ≡ Some (e, rest) → length rest < length ws
+pub weight_shortens : (P : Instance) (ws : List (List ℕ)) (e : NamedWeight) (rest : List (List ℕ)) → named_weight_at P ws ≡ Some (e, rest) → length rest < length ws
 weight_shortens P ws e rest h = let t = weight_taken P ws e rest h in omega (arith, ap length t.3)
 
 -- weights with symbols for their names
@@ -148,7 +148,7 @@ one_more : (P : Instance) (ws : List (List ℕ)) (e : NamedWeight) (rest : List 
 one_more P ws e rest t =
     ap (all_weights_at P) t.3 ∙ ap (λ o. o >>= (λ a. all_weights_at P rest >>= (λ y. Some (a ∷ y)))) t.4
 
-pub so_far_more : (P : Instance) (first ws rest : List (List ℕ)) (e : NamedWeight) (s new : Gathered) → SoFar P first ws s → weight_at P ws ≡ Some (e, rest) → IsAdded s (symbol_of P e.name) e.day e.value new → SoFar P first rest new
+pub so_far_more : (P : Instance) (first ws rest : List (List ℕ)) (e : NamedWeight) (s new : Gathered) → SoFar P first ws s → named_weight_at P ws ≡ Some (e, rest) → IsAdded s (symbol_of P e.name) e.day e.value new → SoFar P first rest new
 so_far_more P first ws rest e s new h t added = (
   h.0 ++ e ∷ [],
   gives_more P h.0 e s new h.1 added,
@@ -160,7 +160,7 @@ so_far_all P first ws s h e =
     let all : all_weights_at P first ≡ Some h.0 = h.2 ∙ ap (λ us. all_weights_at P us >>= (λ y. Some (h.0 ++ y))) e ∙ ap (λ y. Some y) (append-nil h.0) in
     subst (λ o. GivesAll P o (Some s)) (sym all) h.1
 
-pub so_far_missed : (P : Instance) (first ws : List (List ℕ)) (s : Gathered) → SoFar P first ws s → ws ≢ [] → weight_at P ws ≡ None → GivesAll P (all_weights_at P first) None
+pub so_far_missed : (P : Instance) (first ws : List (List ℕ)) (s : Gathered) → SoFar P first ws s → ws ≢ [] → named_weight_at P ws ≡ None → GivesAll P (all_weights_at P first) None
 so_far_missed P first ws s h some t =
     let none : all_weights_at P first ≡ None = h.2 ∙ ap (λ o. o >>= (λ y. Some (h.0 ++ y))) (weight_missed P ws some t) in
     subst (λ o. GivesAll P o None) (sym none) tt

@@ -34,5 +34,5 @@ abbrev pub EachFits : Instance → List Line → Type 0
 EachFits P lines = AllByRecursion (LineFits P) lines
 
 -- the fields of weights
-abbrev pub words_of : Instance → List Weight → List (List ℕ)
-words_of P y = flat_map weight_fields (map (named_weight P) y)
+abbrev pub weight_words : Instance → List Weight → List (List ℕ)
+weight_words P y = flat_map weight_fields (map (named_weight P) y)

@@ -10,7 +10,8 @@ use Rattle.refutation_terms.specs.declared.lines.LogRefusal.TheVariants as Refus
 use Rattle.refutation_terms.specs.Tree.{IsTree}
 use Rattle.refutation_terms.specs.Log.{Log, Fits, AreRules, TurnFits}
 use Rattle.refutation_terms.specs.LogText.{header_text, free_header_text}
-use Rattle.refutation_terms.specs.Verdict.{Front, Start, Versioned, BeforeTurn, Reading, front_text, IsWhole, IsNextLine, Cause, IsRefused}
+use Rattle.rwsp_text.specs.Lines.{IsNextLine}
+use Rattle.refutation_terms.specs.Verdict.{Front, Start, Versioned, BeforeTurn, Reading, front_text, IsWhole, Cause, IsRefused}
 use Rattle.refutation_log.specs.Refusals.{IsLineRefused}
 use Rattle.refutation_log.specs.declared.refusal.LineRefusal.TheVariants as Lines
 

@@ -10,7 +10,7 @@ use Rattle.rwsp_terms.specs.Rules.{rules}
 use Rattle.rwsp_model.specs.declared.fail.Fail.{Fail}
 use Rattle.rwsp_model.specs.declared.fail.Fail.TheVariants.{Refused, Memory}
 use Rattle.refutation_terms.specs.declared.lines.Line.{Line}
-use Rattle.refutation_terms.specs.LogText.{RawLine, RawDead, RawBound, RawFew, RawFree, RawUnfinished, weights_of, line_of, Ascends}
+use Rattle.refutation_terms.specs.LogText.{RawLine, RawDead, RawBound, RawFew, RawFree, RawUnfinished, weights_of, line_of, WeightsAscend}
 use Rattle.refutation_terms.specs.LineKinds.{most_turns, split_kind, window_kind, day_kind}
 use Rattle.refutation_log.specs.declared.refusal.LineRefusal.{LineRefusal}
 use Rattle.refutation_log.specs.declared.refusal.LineRefusal.TheVariants.{Form, Name}
@@ -39,8 +39,8 @@ unfoldable pub dead_at : Instance → Words → Option RawLine
 dead_at P ws = head_at P LONGEST_WORD ws >>=
     (λ head. done_at (RawDead head.0.0 head.0.1 (rules_in P head.1).0) (rules_in P head.1).1)
 
-abbrev pub weight_at : Instance → Words → Option (NamedWeight × Words)
-weight_at P ws = weight_in P.days GREATEST_WEIGHT ws
+abbrev pub named_weight_at : Instance → Words → Option (NamedWeight × Words)
+named_weight_at P ws = weight_in P.days GREATEST_WEIGHT ws
 
 abbrev pub all_weights_at : Instance → Words → Option (List NamedWeight)
 all_weights_at P ws = weights_at P.days GREATEST_WEIGHT ws
@@ -138,8 +138,8 @@ abbrev pub IsLineAnswer : Instance → Option RawLine → Result Line LineRefusa
 IsLineAnswer P None (Ok line) = ⊥
 IsLineAnswer P None (Err Form) = Unit {0}
 IsLineAnswer P None (Err Name) = ⊥
-IsLineAnswer P (Some raw) (Ok line) = (line_of P raw ≡ Some line) × Ascends line
-IsLineAnswer P (Some raw) (Err Form) = (line : Line) × (line_of P raw ≡ Some line) × (Ascends line → ⊥)
+IsLineAnswer P (Some raw) (Ok line) = (line_of P raw ≡ Some line) × WeightsAscend line
+IsLineAnswer P (Some raw) (Err Form) = (line : Line) × (line_of P raw ≡ Some line) × (WeightsAscend line → ⊥)
 IsLineAnswer P (Some raw) (Err Name) = line_of P raw ≡ None
 
 -- the same where memory may run out

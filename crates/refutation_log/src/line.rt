@@ -11,7 +11,7 @@ ghost use Rattle.rwsp_text.specs.Fields.{IsValue};
 ghost use Rattle.rwsp_text.specs.Reads.{Reads};
 ghost use Rattle.rwsp_terms.specs.declared.limits.TheConstants.{GREATEST_WEIGHT};
 ghost use Rattle.refutation_terms.specs.LineKinds.{most_turns};
-ghost use Rattle.refutation_log.specs.Reading.{split_at, window_at, day_at, head_at, rules_in, dead_at, weight_at, all_weights_at, weighed_at, bound_at, free_head_at, free_at, without_goal_at, with_goal_at, raw_at, Answers, AnswersWeighed};
+ghost use Rattle.refutation_log.specs.Reading.{split_at, window_at, day_at, head_at, rules_in, dead_at, named_weight_at, all_weights_at, weighed_at, bound_at, free_head_at, free_at, without_goal_at, with_goal_at, raw_at, Answers, AnswersWeighed};
 ghost use Rattle.refutation_log.specs.Gathering.{GivesAll, IsWeighed};
 
 use crate::LineRefusal;
@@ -273,8 +273,9 @@ fn read_dead(
 
 #[tactic(auto, unfolding(rwsp_text::specs::Fields::weight_in))]
 fn weight<'a>(problem: &Problem, fields: &mut Fields<'a>) -> Option<(u32, &'a [u8], i32)>
-    ensures value { MatchOption result (weight_at problem.now fields.old ≡ None)
-        (λ r. weight_at problem.now fields.old ≡ Some (record { day = r.0; name = r.1.now; value = r.2 }, fields.new)) }
+    ensures value { MatchOption result (named_weight_at problem.now fields.old ≡ None)
+        (λ r. named_weight_at problem.now fields.old
+        ≡ Some (record { day = r.0; name = r.1.now; value = r.2 }, fields.new)) }
     ensures range { IfSome result (λ r. IsValue GREATEST_WEIGHT r.2) }
 {
     let day = fields.number(1, problem.days())?;

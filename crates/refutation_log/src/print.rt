@@ -7,9 +7,9 @@ ghost use Rattle.rwsp_terms.specs.declared.data.Symbol.{Symbol};
 ghost use Rattle.rwsp_terms.specs.declared.data.Weight.{Weight};
 ghost use Rattle.refutation_terms.specs.declared.lines.Line.{Line};
 ghost use Rattle.refutation_terms.specs.Log.{Fits, FitsFor, TurnFits, WeightsFit};
-ghost use Rattle.refutation_terms.specs.LogText.{RawSplit, RawWindow, RawDay, RawDead, RawBound, RawFree, raw, raw_fields, line_text, log_text, log_text_for, header_text, free_header_text, rules_text, goal_text, turn_text, place, named_weight, way};
+ghost use Rattle.refutation_terms.specs.LogText.{RawSplit, RawWindow, RawDay, RawDead, RawBound, RawFree, raw, raw_fields, line_text, log_text, log_text_for, header_text, free_header_text, rules_text, goal_text, turn_text, place_words, named_weight, way};
 ghost use Rattle.rwsp_text.specs.Fields.{numbers, weight_fields};
-ghost use Rattle.refutation_log.specs.Printing.{spaced, lines_text, words_of, header_text_for, FitsSomeLog};
+ghost use Rattle.refutation_log.specs.Printing.{spaced, lines_text, weight_words, header_text_for, FitsSomeLog};
 
 use crate::Log;
 use refutation_terms::{Line, Turn};
@@ -324,7 +324,7 @@ fn put_way(out: &mut Vec<u8>, over: bool) -> Result<(), AllocError>
 
 fn put_place(out: &mut Vec<u8>, problem: &Problem, p: u32) -> Result<(), AllocError>
     requires { p < cells problem.now }
-    ensures { OnOk result (out.new.items ≡ out.old.items ++ spaced (place problem.now p)) }
+    ensures { OnOk result (out.new.items ≡ out.old.items ++ spaced (place_words problem.now p)) }
 {
     problem.prove_limits();
     let days = problem.days();
@@ -345,7 +345,7 @@ fn put_numbers(out: &mut Vec<u8>, all: &[u32]) -> Result<(), AllocError>
 #[tactic(auto, using(crate::proofs::PrintedTexts::pieces_more, crate::proofs::PrintedTexts::spaced_weights))]
 fn put_weights(out: &mut Vec<u8>, problem: &Problem, entries: &[Weight]) -> Result<(), AllocError>
     requires { WeightsFit problem.now entries.now }
-    ensures { OnOk result (out.new.items ≡ out.old.items ++ spaced (words_of problem.now entries.now)) }
+    ensures { OnOk result (out.new.items ≡ out.old.items ++ spaced (weight_words problem.now entries.now)) }
 {
     for entry in entries {
         put_weight(out, problem, entry)?;

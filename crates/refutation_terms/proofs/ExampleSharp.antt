@@ -12,7 +12,7 @@ use Rattle.refutation_terms.specs.declared.lines.Line.TheVariants.{Split, Unfini
 use Rattle.refutation_terms.specs.Word.{full}
 use Rattle.refutation_terms.specs.Log.{IsSpent, HoldsAt, AreWeightsOf, LineFits, Cites, ListsShortOnly}
 use Rattle.refutation_terms.specs.Escape.{IsLeastHeaviest}
-use Rattle.refutation_terms.specs.Sharp.{IsDemanded, IsFirstTurn, IsUndecided, IsSharp, IsSearched, step}
+use Rattle.refutation_terms.specs.Sharp.{IsDemanded, IsFirstTurn, IsUnclosed, IsSharp, IsSearched, step}
 use Rattle.refutation_terms.specs.Examples.{three_of_six, turn_log, open_log, two_in_a_row, shift_D, blocks_dead, short_rules, searched_weights, weight_on, from_to}
 use Rattle.refutation_terms.proofs.Lists.{each_at, are_rules, pairs_of_two}
 use Rattle.refutation_terms.proofs.ExampleShort.{block_rules_are_short}
@@ -25,8 +25,8 @@ no_split : (k p : ℕ) (x : Symbol) → slice_get (blocks_dead ∷ []) k ≡ Som
 no_split zero p x e = cc
 no_split (suc k) p x e = cc
 
-decided : (line : Line) → slice_get (blocks_dead ∷ []) 0 ≡ Some line → IsUndecided line → ⊥
-decided line e h = let same : line ≡ blocks_dead = cc in subst IsUndecided same h
+decided : (line : Line) → slice_get (blocks_dead ∷ []) 0 ≡ Some line → IsUnclosed line → ⊥
+decided line e h = let same : line ≡ blocks_dead = cc in subst IsUnclosed same h
 
 first_turn : IsFirstTurn three_of_six turn_log.turn
 first_turn = (((lit< tt, lit≤ tt), (lit< tt, lit≤ tt), le_z_yes tt), first)

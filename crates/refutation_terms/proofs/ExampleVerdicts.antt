@@ -18,7 +18,8 @@ use Rattle.refutation_terms.specs.Log.{AreRules, HoldsAt, Cites}
 use Rattle.refutation_terms.specs.Escape.{IsCleanOver}
 use Rattle.refutation_terms.specs.LogText.{RawSplit, RawBound, RawUnfinished, IsWritten, WeightIsInRange, line_text, turn_text}
 use Rattle.rwsp_text.specs.Fields.{IsName}
-use Rattle.refutation_terms.specs.Verdict.{Reading, BeforeTurn, IsSoundSoFar, IsNextLine, IsVerdict, Spells}
+use Rattle.rwsp_text.specs.Lines.{IsNextLine}
+use Rattle.refutation_terms.specs.Verdict.{Reading, BeforeTurn, IsSoundSoFar, IsVerdict, Spells}
 use Rattle.refutation_terms.specs.Examples.{two_of_four, three_of_six, split_log, blocks_dead, shift_D, weighs, one_turn_text, open_text, cut_text, extra_text, idle_text, unnamed_turn_text, none_demanded, none_demanded_text, split_text, heavy_word}
 use Rattle.refutation_terms.proofs.Tests.{left_of, right_of, failed_by_not}
 use Rattle.refutation_terms.proofs.Trees.{tree_is_whole}

@@ -5,7 +5,7 @@ use Rattle.std.specs.List.{flat_map}
 use Rattle.std.specs.Fmt.{decimal}
 use Rattle.std.proofs.lemmas.List.{append-nil}
 use Rattle.std.proofs.Math.Nat.{le-div_iff_mul-le, div-le_self}
-use Rattle.rwsp_text.specs.Fields.{chosen, Words, IsName, numbers, weight_fields}
+use Rattle.rwsp_text.specs.Fields.{either_word, Words, IsName, numbers, weight_fields}
 use Rattle.rwsp_text.specs.Kinds.{Kind, IsLine, IsReadable, read_line}
 use Rattle.rwsp_text.specs.Lines.{AreWords}
 use Rattle.rwsp_text.proofs.KindLaws.{no_words, lines_are_words, lines_say_one}
@@ -13,7 +13,7 @@ use Rattle.rwsp_terms.specs.declared.limits.TheConstants.{GREATEST_REWARD, LONGE
 use Rattle.rwsp_terms.specs.Instance.{Instance, cells, IsDay}
 use Rattle.rwsp_terms.specs.Rules.{rules}
 use Rattle.refutation_terms.specs.Log.{AreRules}
-use Rattle.refutation_terms.specs.LogText.{RawLine, RawSplit, RawWindow, RawDay, RawDead, RawBound, RawFew, RawFree, RawUnfinished, place, way, raw_fields, IsInRange, IsInFreeRange, IsInRangeFor}
+use Rattle.refutation_terms.specs.LogText.{RawLine, RawSplit, RawWindow, RawDay, RawDead, RawBound, RawFew, RawFree, RawUnfinished, place_words, way, raw_fields, IsInRange, IsInFreeRange, IsInRangeFor}
 use Rattle.refutation_terms.specs.LineKinds.{most_turns, split_kind, window_kind, day_kind, dead_kind, bound_kind, open_kind, tree_kinds, free_kinds, version_kinds, free_version_kinds, rules_kinds, turn_kinds, goal_kinds}
 use Rattle.refutation_terms.specs.TextLaws.{IsWritable}
 
@@ -115,7 +115,7 @@ tree_line P (RawDead p len R) h =
       record {
         values = (p, (len, (R, tt)));
         keeps = (h.0, (h.1, (h.2, tt)));
-        spelled = ap (λ us. place P p ++ (decimal len ∷ codes "rules" ∷ us)) (sym (append-nil (numbers R)));
+        spelled = ap (λ us. place_words P p ++ (decimal len ∷ codes "rules" ∷ us)) (sym (append-nil (numbers R)));
         made = refl;
       },
     ))))
@@ -126,7 +126,7 @@ tree_line P (RawBound p turns R y) h =
       record {
         values = (p, (turns, (R, (y, tt))));
         keeps = (h.0, ((some_turns turns (cells P) h.1.0, (le-div_iff_mul-le {k = cells P} {x = turns} {y = LONGEST_WORD} some).1 h.1.1), (h.2, (h.3, tt))));
-        spelled = ap (λ us. place P p ++ (decimal turns ∷ codes "rules" ∷ numbers R ++ (codes "weights" ∷ us))) (sym (append-nil (flat_map weight_fields y)));
+        spelled = ap (λ us. place_words P p ++ (decimal turns ∷ codes "rules" ∷ numbers R ++ (codes "weights" ∷ us))) (sym (append-nil (flat_map weight_fields y)));
         made = refl;
       },
     )))))
@@ -154,7 +154,7 @@ free_line P (RawDead p len R) h =
       record {
         values = (p, (len, (R, tt)));
         keeps = (h.0, (h.1, (h.2, tt)));
-        spelled = ap (λ us. place P p ++ (decimal len ∷ codes "rules" ∷ us)) (sym (append-nil (numbers R)));
+        spelled = ap (λ us. place_words P p ++ (decimal len ∷ codes "rules" ∷ us)) (sym (append-nil (numbers R)));
         made = refl;
       },
     ))))
@@ -198,7 +198,7 @@ tree_found P (w ∷ ws) raw (inr (inr (inl l))) =
 tree_found P (w ∷ ws) raw (inr (inr (inr (inl l)))) =
     let s = l.1 in
     subst (Found P (w ∷ ws)) s.made (
-      ap (λ z. z ∷ ws) l.0 ∙ ap (λ us. codes "dead" ∷ us) s.spelled ∙ ap (λ us. codes "dead" ∷ place P s.values.0 ++ (decimal s.values.1.0 ∷ codes "rules" ∷ us)) (append-nil (numbers s.values.1.1.0)),
+      ap (λ z. z ∷ ws) l.0 ∙ ap (λ us. codes "dead" ∷ us) s.spelled ∙ ap (λ us. codes "dead" ∷ place_words P s.values.0 ++ (decimal s.values.1.0 ∷ codes "rules" ∷ us)) (append-nil (numbers s.values.1.1.0)),
       (s.keeps.0, s.keeps.1.0, s.keeps.1.1.0),
     )
 tree_found P (w ∷ ws) raw (inr (inr (inr (inr (inl l))))) =
@@ -208,7 +208,7 @@ tree_found P (w ∷ ws) raw (inr (inr (inr (inr (inl l))))) =
     let long : turns * cells P ≤ LONGEST_WORD = (le-div_iff_mul-le {k = cells P} {x = turns} {y = LONGEST_WORD} some).0 s.keeps.1.0.1 in
     let full : 0 < turns * cells P = full_turns turns (cells P) s.keeps.1.0.0 some in
     subst (Found P (w ∷ ws)) s.made (
-      ap (λ z. z ∷ ws) l.0 ∙ ap (λ us. codes "bound" ∷ us) s.spelled ∙ ap (λ us. codes "bound" ∷ place P s.values.0 ++ (decimal turns ∷ codes "rules" ∷ numbers s.values.1.1.0 ++ (codes "weights" ∷ us))) (append-nil (flat_map weight_fields s.values.1.1.1.0)),
+      ap (λ z. z ∷ ws) l.0 ∙ ap (λ us. codes "bound" ∷ us) s.spelled ∙ ap (λ us. codes "bound" ∷ place_words P s.values.0 ++ (decimal turns ∷ codes "rules" ∷ numbers s.values.1.1.0 ++ (codes "weights" ∷ us))) (append-nil (flat_map weight_fields s.values.1.1.1.0)),
       (s.keeps.0, (full, long), s.keeps.1.1.0, s.keeps.1.1.1.0),
     )
 tree_found P (w ∷ ws) raw (inr (inr (inr (inr (inr (inl l)))))) =
@@ -232,7 +232,7 @@ free_found P (w ∷ ws) raw (inr (inr (inl l))) =
 free_found P (w ∷ ws) raw (inr (inr (inr (inl l)))) =
     let s = l.1 in
     subst (FreeFound P (w ∷ ws)) s.made (
-      ap (λ z. z ∷ ws) l.0 ∙ ap (λ us. codes "dead" ∷ us) s.spelled ∙ ap (λ us. codes "dead" ∷ place P s.values.0 ++ (decimal s.values.1.0 ∷ codes "rules" ∷ us)) (append-nil (numbers s.values.1.1.0)),
+      ap (λ z. z ∷ ws) l.0 ∙ ap (λ us. codes "dead" ∷ us) s.spelled ∙ ap (λ us. codes "dead" ∷ place_words P s.values.0 ++ (decimal s.values.1.0 ∷ codes "rules" ∷ us)) (append-nil (numbers s.values.1.1.0)),
       (s.keeps.0, s.keeps.1.0, s.keeps.1.1.0),
     )
 free_found P (w ∷ ws) raw (inr (inr (inr (inr (inl l))))) =
@@ -259,7 +259,7 @@ found_for P (Some goal) ws raw l = free_found P ws raw l
 -- the lines of a header
 
 abbrev pub version_fields : Bool → Words
-version_fields has_turn = codes "rwsp-log" ∷ chosen (codes "2") (codes "1") has_turn ∷ []
+version_fields has_turn = codes "rwsp-log" ∷ either_word (codes "2") (codes "1") has_turn ∷ []
 
 abbrev pub rules_fields : List ℕ → Words
 rules_fields R = codes "rules" ∷ numbers R

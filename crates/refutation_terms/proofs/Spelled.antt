@@ -17,7 +17,7 @@ use Rattle.rwsp_terms.proofs.Elements.{all_from, all_to}
 use Rattle.refutation_terms.specs.declared.lines.Line.{Line}
 use Rattle.refutation_terms.specs.declared.lines.Line.TheVariants.{Split, Window, Day, Dead, Bound, Few, Free, Unfinished}
 use Rattle.refutation_terms.specs.Log.{LineFits, FreeLineFits, LineFitsFor}
-use Rattle.refutation_terms.specs.LogText.{RawLine, RawSplit, RawWindow, RawDay, RawDead, RawBound, RawFew, RawFree, RawUnfinished, named_weight, raw, line_text, WeightIsInRange, IsInRange, IsInFreeRange, IsInRangeFor, with_weight, weights_of, line_of, Ascends}
+use Rattle.refutation_terms.specs.LogText.{RawLine, RawSplit, RawWindow, RawDay, RawDead, RawBound, RawFew, RawFree, RawUnfinished, named_weight, raw, line_text, WeightIsInRange, IsInRange, IsInFreeRange, IsInRangeFor, with_weight, weights_of, line_of, WeightsAscend}
 use Rattle.rwsp_text.proofs.Numerals.{mapped}
 use Rattle.rwsp_text.specs.Fields.{NamedWeight}
 use Rattle.refutation_terms.specs.Verdict.{Spells}
@@ -58,7 +58,7 @@ weights_read P (e ∷ y) ys h is =
 abbrev FitsAs : Instance → RawLine → Line → Type 0
 FitsAs P written line = LineFits P line × (written ≡ raw P line)
 
-fits_as : (P : Instance) (written : RawLine) (line : Line) → IsInRange P written → IfSome (line_of P written) Ascends → line_of P written ≡ Some line → FitsAs P written line
+fits_as : (P : Instance) (written : RawLine) (line : Line) → IsInRange P written → IfSome (line_of P written) WeightsAscend → line_of P written ≡ Some line → FitsAs P written line
 fits_as P (RawSplit p name) line h a e =
     let m = mapped (λ x. Split p x) (symbol_of P name) line e in
     let named = symbol_of-name P name m.0 m.1 in
@@ -76,7 +76,7 @@ fits_as P (RawDead p len R) line h a e =
 fits_as P (RawBound p turns R y) line h a e =
     let m = mapped (λ ys. Bound p turns R ys) (weights_of P y) line e in
     let read = weights_read P y m.0 (all_to (WeightIsInRange P) y h.3) m.1 in
-    let ascends : AllPairs ComesBefore m.0 = subst (λ o. IfSome (option_map (λ ys. Bound p turns R ys) o) Ascends) m.1 a in
+    let ascends : AllPairs ComesBefore m.0 = subst (λ o. IfSome (option_map (λ ys. Bound p turns R ys) o) WeightsAscend) m.1 a in
     subst (FitsAs P (RawBound p turns R y)) m.2 (
       (h.0, h.1, h.2, (record { ascends = ascends; small = all_from IsWeight m.0 read.small }, all_from (IsOf P) m.0 read.of)),
       ap (RawBound p turns R) (sym read.same),
@@ -105,19 +105,19 @@ free_too P written (Free turns reward R y) other e h = absurd h
 abbrev FitsFreeAs : Instance → RawLine → Line → Type 0
 FitsFreeAs P written line = FreeLineFits P line × (written ≡ raw P line)
 
-shared_fits_as : (P : Instance) (written : RawLine) (line : Line) → IsNoBound written → IsInRange P written → IfSome (line_of P written) Ascends → line_of P written ≡ Some line → FitsFreeAs P written line
+shared_fits_as : (P : Instance) (written : RawLine) (line : Line) → IsNoBound written → IsInRange P written → IfSome (line_of P written) WeightsAscend → line_of P written ≡ Some line → FitsFreeAs P written line
 shared_fits_as P written line other h a e =
     let f = fits_as P written line h a e in
     (free_too P written line other f.1 f.0, f.1)
 
-free_fits_as : (P : Instance) (written : RawLine) (line : Line) → IsInFreeRange P written → IfSome (line_of P written) Ascends → line_of P written ≡ Some line → FitsFreeAs P written line
+free_fits_as : (P : Instance) (written : RawLine) (line : Line) → IsInFreeRange P written → IfSome (line_of P written) WeightsAscend → line_of P written ≡ Some line → FitsFreeAs P written line
 free_fits_as P RawFew line h a e =
     let same : Few ≡ line = cc in
     subst (FitsFreeAs P RawFew) same (tt, refl)
 free_fits_as P (RawFree turns reward R y) line h a e =
     let m = mapped (λ ys. Free turns reward R ys) (weights_of P y) line e in
     let read = weights_read P y m.0 (all_to (WeightIsInRange P) y h.3) m.1 in
-    let ascends : AllPairs ComesBefore m.0 = subst (λ o. IfSome (option_map (λ ys. Free turns reward R ys) o) Ascends) m.1 a in
+    let ascends : AllPairs ComesBefore m.0 = subst (λ o. IfSome (option_map (λ ys. Free turns reward R ys) o) WeightsAscend) m.1 a in
     subst (FitsFreeAs P (RawFree turns reward R y)) m.2 (
       (h.0, h.1, h.2, (record { ascends = ascends; small = all_from IsWeight m.0 read.small }, all_from (IsOf P) m.0 read.of)),
       ap (RawFree turns reward R) (sym read.same),
@@ -125,7 +125,7 @@ free_fits_as P (RawFree turns reward R y) line h a e =
 free_fits_as P (RawBound p turns R y) line h a e = absurd h
 free_fits_as P written line h a e = shared_fits_as P written line tt h a e
 
-fits_as_for : (P : Instance) (goal : Option ℕ) (written : RawLine) (line : Line) → IsInRangeFor P goal written → IfSome (line_of P written) Ascends → line_of P written ≡ Some line → LineFitsFor P goal line × (written ≡ raw P line)
+fits_as_for : (P : Instance) (goal : Option ℕ) (written : RawLine) (line : Line) → IsInRangeFor P goal written → IfSome (line_of P written) WeightsAscend → line_of P written ≡ Some line → LineFitsFor P goal line × (written ≡ raw P line)
 fits_as_for P None written line h a e = fits_as P written line h a e
 fits_as_for P (Some goal) written line h a e = free_fits_as P written line h a e
 
@@ -147,7 +147,7 @@ weights_back P (e ∷ ys) names small of =
       ap (λ o. with_weight (named_weight P e) o (weights_of P (map (named_weight P) ys))) name.1 ∙ ap (with_weight (named_weight P e) (Some e.symbol)) rest.1,
     )
 
-pub spell : (P : Instance) (line : Line) → HasNames P → LineFits P line → IsInRange P (raw P line) × (line_of P (raw P line) ≡ Some line) × Ascends line
+pub spell : (P : Instance) (line : Line) → HasNames P → LineFits P line → IsInRange P (raw P line) × (line_of P (raw P line) ≡ Some line) × WeightsAscend line
 spell P (Split p x) names h = let name = names x h.1 in ((h.0, name.0), ap (option_map (λ z. Split p z)) name.1, tt)
 spell P (Window rule p len) names h = (h, refl, tt)
 spell P (Day day x over) names h = let name = names x h.1 in ((h.0, name.0), ap (option_map (λ z. Day day z over)) name.1, tt)
@@ -159,7 +159,7 @@ spell P Unfinished names h = (tt, refl, tt)
 spell P Few names h = absurd h
 spell P (Free turns reward R y) names h = absurd h
 
-free_spell : (P : Instance) (line : Line) → HasNames P → FreeLineFits P line → IsInFreeRange P (raw P line) × (line_of P (raw P line) ≡ Some line) × Ascends line
+free_spell : (P : Instance) (line : Line) → HasNames P → FreeLineFits P line → IsInFreeRange P (raw P line) × (line_of P (raw P line) ≡ Some line) × WeightsAscend line
 free_spell P Few names h = (tt, refl, tt)
 free_spell P (Free turns reward R y) names h =
     let back = weights_back P y names (all_to IsWeight y h.3.0.small) (all_to (IsOf P) y h.3.1) in
@@ -167,14 +167,14 @@ free_spell P (Free turns reward R y) names h =
 free_spell P (Bound p turns R y) names h = absurd h
 free_spell P line names h = spell P line names h
 
-pub spell_for : (P : Instance) (goal : Option ℕ) (line : Line) → HasNames P → LineFitsFor P goal line → IsInRangeFor P goal (raw P line) × (line_of P (raw P line) ≡ Some line) × Ascends line
+pub spell_for : (P : Instance) (goal : Option ℕ) (line : Line) → HasNames P → LineFitsFor P goal line → IsInRangeFor P goal (raw P line) × (line_of P (raw P line) ≡ Some line) × WeightsAscend line
 spell_for P None line names h = spell P line names h
 spell_for P (Some goal) line names h = free_spell P line names h
 
 pub fitting_lines_are_spelled_for : FittingLinesAreSpelled
 fitting_lines_are_spelled_for P goal line names h =
     let s = spell_for P goal line names h in
-    (raw P line, record { spelled = refl; in_range = s.0; ascends = subst (λ o. IfSome o Ascends) (sym s.1) s.2 }, s.1)
+    (raw P line, record { spelled = refl; in_range = s.0; ascends = subst (λ o. IfSome o WeightsAscend) (sym s.1) s.2 }, s.1)
 
 pub fitting_lines_are_spelled : (P : Instance) (line : Line) → HasNames P → LineFits P line → Spells P (line_text P (raw P line)) line
 fitting_lines_are_spelled P line names h = fitting_lines_are_spelled_for P None line names h

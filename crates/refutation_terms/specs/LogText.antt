@@ -3,7 +3,7 @@ use Rattle.std.specs.Prelude.{◌≡◌, ◌≢◌, ℕ, ◌+◌, ◌*◌, ◌/�
 use Rattle.std.specs.List.{join_with_byte, concat, flat_map}
 use Rattle.std.specs.Fmt.{decimal, signed_decimal}
 use Rattle.std.specs.Option.{option_map}
-use Rattle.rwsp_text.specs.Fields.{chosen, IsName, NamedWeight, IsWeight, numbers, weight_fields, text_of}
+use Rattle.rwsp_text.specs.Fields.{either_word, IsName, NamedWeight, IsNamedWeight, numbers, weight_fields, text_of}
 use Rattle.rwsp_terms.specs.declared.limits.TheConstants.{GREATEST_WEIGHT, GREATEST_REWARD}
 use Rattle.rwsp_terms.specs.declared.data.Symbol.{Symbol}
 use Rattle.rwsp_terms.specs.declared.data.Weight.{Weight}
@@ -42,21 +42,21 @@ raw P (Free turns reward R y) = RawFree turns reward R (map (named_weight P) y)
 raw P Unfinished = RawUnfinished
 
 -- the week and the day of a position, both from 1 on
-abbrev pub place : Instance → ℕ → List (List ℕ)
-place P p = decimal (p / P.days + 1) ∷ decimal (p % P.days + 1) ∷ []
+abbrev pub place_words : Instance → ℕ → List (List ℕ)
+place_words P p = decimal (p / P.days + 1) ∷ decimal (p % P.days + 1) ∷ []
 
 -- whether a day leaf says that there are too many or too few
 abbrev pub way : Bool → List ℕ
-way over = chosen (codes "over") (codes "short") over
+way over = either_word (codes "over") (codes "short") over
 
 -- the fields of a line: words, names and numbers
 abbrev pub raw_fields : Instance → RawLine → List (List ℕ)
-raw_fields P (RawSplit p name) = codes "split" ∷ place P p ++ (name ∷ [])
-raw_fields P (RawWindow rule p len) = codes "window" ∷ decimal rule ∷ place P p ++ (decimal len ∷ [])
+raw_fields P (RawSplit p name) = codes "split" ∷ place_words P p ++ (name ∷ [])
+raw_fields P (RawWindow rule p len) = codes "window" ∷ decimal rule ∷ place_words P p ++ (decimal len ∷ [])
 raw_fields P (RawDay day name over) = codes "day" ∷ decimal day ∷ name ∷ way over ∷ []
-raw_fields P (RawDead p len R) = codes "dead" ∷ place P p ++ (decimal len ∷ codes "rules" ∷ numbers R)
+raw_fields P (RawDead p len R) = codes "dead" ∷ place_words P p ++ (decimal len ∷ codes "rules" ∷ numbers R)
 raw_fields P (RawBound p turns R y) =
-    codes "bound" ∷ place P p ++ (decimal turns ∷ codes "rules" ∷ numbers R)
+    codes "bound" ∷ place_words P p ++ (decimal turns ∷ codes "rules" ∷ numbers R)
     ++ (codes "weights" ∷ flat_map weight_fields y)
 raw_fields P RawFew = codes "few" ∷ []
 raw_fields P (RawFree turns reward R y) =
@@ -113,7 +113,7 @@ log_text_for P (Some goal) g = free_log_text P goal g
 
 -- a value that isn't 0, from the least weight to the greatest, on a day of the problem
 abbrev pub WeightIsInRange : Instance → NamedWeight → Type 0
-WeightIsInRange P e = IsWeight P.days GREATEST_WEIGHT e
+WeightIsInRange P e = IsNamedWeight P.days GREATEST_WEIGHT e
 
 -- the numbers of a written line of a log without a goal are in their ranges, its lists of rules ascend, and its names
 -- are names
@@ -163,17 +163,17 @@ line_of P (RawFree turns reward R y) = option_map (λ y. Free turns reward R y) 
 line_of P RawUnfinished = Some Unfinished
 
 -- weights ascend by day and then by symbol
-abbrev pub Ascends : Line → Type 0
-Ascends (Bound p turns R y) = AllPairs ComesBefore y
-Ascends (Free turns reward R y) = AllPairs ComesBefore y
-Ascends line = Unit {0}
+abbrev pub WeightsAscend : Line → Type 0
+WeightsAscend (Bound p turns R y) = AllPairs ComesBefore y
+WeightsAscend (Free turns reward R y) = AllPairs ComesBefore y
+WeightsAscend line = Unit {0}
 
 -- the bytes are a written line of a log with this goal or none, with its numbers in their ranges; where all its names
 -- are known, its weights ascend
 pub record IsWrittenFor (P : Instance) (goal : Option ℕ) (bytes : List ℕ) (line : RawLine) : Type 0 where
   pub spelled : bytes ≡ line_text P line
   pub in_range : IsInRangeFor P goal line
-  pub ascends : IfSome (line_of P line) Ascends
+  pub ascends : IfSome (line_of P line) WeightsAscend
 
 -- of a log without a goal
 abbrev pub IsWritten : Instance → List ℕ → RawLine → Type 0

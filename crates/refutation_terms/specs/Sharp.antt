@@ -85,10 +85,10 @@ pub record NoBoundHolds (P : Instance) (D : Domains) (R : List ℕ) : Type 0 whe
   pub searched : (k : ℕ) (y : List Weight) → k < 32 → IsSearched P D R k y → HoldsAtTop P D R y → ⊥
 
 -- a line that is a split or unfinished
-abbrev pub IsUndecided : Line → Type 0
-IsUndecided (Split p x) = Unit {0}
-IsUndecided Unfinished = Unit {0}
-IsUndecided line = ⊥
+abbrev pub IsUnclosed : Line → Type 0
+IsUnclosed (Split p x) = Unit {0}
+IsUnclosed Unfinished = Unit {0}
+IsUnclosed line = ⊥
 
 -- some week must hold the shift on the day
 abbrev pub IsDemanded : Instance → ℕ → Symbol → Type 0
@@ -115,5 +115,5 @@ pub record IsSharp (P : Instance) (g : Log) : Type 0 where
   pub all_short : NamesShortRules P short
   pub splits : (k p : ℕ) (x : Symbol) → slice_get g.lines k ≡ Some (Split p x)
       → IsSharpSplit P (domains_at P g.turn g.lines k) short p x
-  pub top : (line : Line) → slice_get g.lines 0 ≡ Some line → IsUndecided line → NoBoundHolds P (opening P g.turn) short
+  pub top : (line : Line) → slice_get g.lines 0 ≡ Some line → IsUnclosed line → NoBoundHolds P (opening P g.turn) short
   pub turn : IsFirstTurn P g.turn

@@ -1,6 +1,6 @@
 -- The verdict on a text: that it is a log that passes, or its first line with a cause to refuse it.
 use Rattle.std.specs.Prelude.{◌≡◌, ◌≢◌, ◌⊎◌, ℕ, ◌+◌, ◌*◌, ◌<◌, ◌≤◌, List, [], ◌∷◌, ◌++◌, length, slice_get, take, All, Contains, Bool, true, Option, Some, None, Result, Ok, Err, pos, ◌*ℤ◌, ◌<ℤ◌, ◌≤ℤ◌}
-use Rattle.rwsp_text.specs.Lines as Lines
+use Rattle.rwsp_text.specs.Lines.{IsNextLine}
 use Rattle.rwsp_text.specs.Fields.{IsName}
 use Rattle.rwsp_terms.specs.declared.data.Symbol.{Symbol}
 use Rattle.rwsp_terms.specs.declared.data.Rule.{Rule}
@@ -245,14 +245,6 @@ Cause P Start bytes why = VersionCause bytes why
 Cause P (Versioned has_turn) bytes why = RulesCause P bytes why
 Cause P (BeforeTurn named) bytes why = TurnCause P named bytes why
 Cause P (Reading g) bytes why = CauseBehindFor P None g bytes why
-
--- no byte is LF
-abbrev pub HasNoFeed : List ℕ → Type 0
-HasNoFeed bytes = Lines.HasNoFeed bytes
-
--- the bytes are a line of a text with its LF, or the end of a text without one
-abbrev pub IsNextLine : List ℕ → List ℕ → Type 0
-IsNextLine line rest = Lines.IsNextLine line rest
 
 -- a front of the text, of this kind, has no cause, and the line behind it has this one
 pub record IsRefusedBehindFront {F : Type 0}

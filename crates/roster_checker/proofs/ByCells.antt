@@ -11,7 +11,7 @@ use Rattle.rwsp_terms.proofs.Windows.{length-window}
 use Rattle.window_rules.specs.declared.bad_windows.BadWindow.{BadWindow}
 use Rattle.window_rules.specs.Views.{held_by, MayStand, AreAllBad}
 use Rattle.window_rules.specs.BadWindows.{HasNoneBefore, IsFirstBad}
-use Rattle.roster_checker.specs.FirstBroken.{IsFirst}
+use Rattle.roster_checker.specs.FirstBroken.{IsFirstWindow}
 use Rattle.roster_checker.specs.declared.place.Place.{Place}
 use Rattle.roster_checker.specs.Places.{IsFirstPlace}
 
@@ -32,7 +32,7 @@ all_bad P r s p len bad u long stands = subst (Bad P r) (ap (window s p) (sym lo
 pub no_window : (P : Instance) (r : Rule) (s : List Symbol) (n : ℕ) → n ≡ length s → HasNoneBefore P r (held_by s) n → HasNoWindow (Bad P r) s
 no_window P r s n is none p len lt bad = none p len (subst (λ m. p < m) (sym is) lt) (all_bad P r s p len bad)
 
-pub first_window : (P : Instance) (r : Rule) (s : List Symbol) (n : ℕ) (w : BadWindow) → n ≡ length s → IsFirstBad P r (held_by s) n w → IsFirst (Bad P r) s w.start w.length
+pub first_window : (P : Instance) (r : Rule) (s : List Symbol) (n : ℕ) (w : BadWindow) → n ≡ length s → IsFirstBad P r (held_by s) n w → IsFirstWindow (Bad P r) s w.start w.length
 first_window P r s n w is h = record {
   within = subst (λ m. w.start < m) is h.within;
   here = bad_window P r s w.start w.length h.length.0;
@@ -56,7 +56,7 @@ meets_windows P (Pair k) s other none = none
 meets_windows P (Triple k) s other none = none
 meets_windows P (Day j) s other none = absurd (other j refl)
 
-breaks_window : (P : Instance) (r : Rule) (s : List Symbol) (p n : ℕ) → ((j : ℕ) → r ≡ Day j → ⊥) → IsFirst (Bad P r) s p n → IsFirstPlace P r s p n
+breaks_window : (P : Instance) (r : Rule) (s : List Symbol) (p n : ℕ) → ((j : ℕ) → r ≡ Day j → ⊥) → IsFirstWindow (Bad P r) s p n → IsFirstPlace P r s p n
 breaks_window P (MaxShift x) s p n other first = first
 breaks_window P (MinShift x) s p n other first = first
 breaks_window P MaxOff s p n other first = first
@@ -68,7 +68,7 @@ breaks_window P (Triple k) s p n other first = first
 breaks_window P (Day j) s p n other first = absurd (other j refl)
 
 pub window_place : (P : Instance) (r : Rule) (s : List Symbol) (found : Option Place) → ((j : ℕ) → r ≡ Day j → ⊥)
-    → MatchOption found (HasNoWindow (Bad P r) s) (λ w. IsFirst (Bad P r) s w.position w.length)
+    → MatchOption found (HasNoWindow (Bad P r) s) (λ w. IsFirstWindow (Bad P r) s w.position w.length)
     → MatchOption found (MeetsRule P r s) (λ w. IsFirstPlace P r s w.position w.length)
 window_place P r s None other none = meets_windows P r s other none
 window_place P r s (Some w) other first = breaks_window P r s w.position w.length other first

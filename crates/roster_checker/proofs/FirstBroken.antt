@@ -12,8 +12,8 @@ use Rattle.rwsp_terms.specs.Rules.{rule_of}
 use Rattle.rwsp_terms.specs.declared.data.Symbol.{Symbol}
 use Rattle.rwsp_terms.specs.declared.data.Rule.{Rule}
 use Rattle.rwsp_terms.specs.declared.data.Rule.TheVariants.{MaxShift, MinShift, MaxOff, MinOff, MaxWork, MinWork, Pair, Triple, Day}
-use Rattle.roster_checker.specs.FirstBroken.{BeginsFirstBadWindow, BreaksFirst, FailsDay, IsFirst, IsFirstBroken, position_of}
-use Rattle.roster_checker.specs.Places.{IsFirstPlace, StandsAt}
+use Rattle.roster_checker.specs.FirstBroken.{BeginsFirstBadWindow, BreaksFirst, FailsDay, IsFirstWindow, IsFirstBroken, position_of}
+use Rattle.roster_checker.specs.Places.{IsFirstPlace, IsBrokenAt}
 use Rattle.roster_checker.specs.declared.broken.Broken.{Broken}
 use Rattle.rwsp_model.proofs.Numbering.{rule_numbered}
 
@@ -34,14 +34,14 @@ first_broken-not_met P s b f all = breaks-not_met P f.rule s b f.breaks (all.rul
 
 -- the first window of a kind is one
 
-same_position : (IsKind : List Symbol → Type 0) (s : List Symbol) (p m q n : ℕ) → IsFirst IsKind s p m → IsFirst IsKind s q n → p ≡ q
+same_position : (IsKind : List Symbol → Type 0) (s : List Symbol) (p m q n : ℕ) → IsFirstWindow IsKind s p m → IsFirstWindow IsKind s q n → p ≡ q
 same_position IsKind s p m q n a b =
     elim (cases_order p q) [
       | inl same ↦ same
       | inr other ↦ elim other [ inl less ↦ absurd (b.earliest p m less a.here) | inr more ↦ absurd (a.earliest q n more b.here) ]
     ]
 
-same_length : (IsKind : List Symbol → Type 0) (s : List Symbol) (p m n : ℕ) → IsFirst IsKind s p m → IsFirst IsKind s p n → m ≡ n
+same_length : (IsKind : List Symbol → Type 0) (s : List Symbol) (p m n : ℕ) → IsFirstWindow IsKind s p m → IsFirstWindow IsKind s p n → m ≡ n
 same_length IsKind s p m n a b =
     elim (cases_order m n) [
       | inl same ↦ same
@@ -68,7 +68,7 @@ same_window P r s a b f g =
     let days : a.day - 1 ≡ b.day - 1 = same_day P.days (a.week - 1) (a.day - 1) (b.week - 1) (b.day - 1) a_in b_in at in (
       omega (arith, f.week.0, g.week.0, weeks),
       omega (arith, f.day.0, g.day.0, days),
-      same_length (Bad P r) s (position_of P b.week b.day) a.length b.length (subst (λ p. IsFirst (Bad P r) s p a.length) at f.first) g.first,
+      same_length (Bad P r) s (position_of P b.week b.day) a.length b.length (subst (λ p. IsFirstWindow (Bad P r) s p a.length) at f.first) g.first,
     )
 
 same_place : (P : Instance) (r : Rule) (s : List Symbol) (a b : Broken) → BreaksFirst P r s a → BreaksFirst P r s b → SamePlace a b
@@ -116,10 +116,10 @@ week_within weeks days w d less =
       | inr past ↦ let more : weeks * days ≤ w * days = mul-le-mul_right days past in absurd (omega arith)
     ]
 
-window_begins : (P : Instance) (r : Rule) (s : List Symbol) (b : Broken) (p n : ℕ) → length s ≡ P.weeks * P.days → StandsAt P b p n → IsFirst (Bad P r) s p n → BeginsFirstBadWindow P r s b
+window_begins : (P : Instance) (r : Rule) (s : List Symbol) (b : Broken) (p n : ℕ) → length s ≡ P.weeks * P.days → IsBrokenAt P b p n → IsFirstWindow (Bad P r) s p n → BeginsFirstBadWindow P r s b
 window_begins P r s b p n long at first =
-    let here : IsFirst (Bad P r) s (position_of P b.week b.day) b.length =
-    subst (λ q. IsFirst (Bad P r) s q b.length) (sym at.position) (subst (λ m. IsFirst (Bad P r) s p m) (sym at.length) first) in
+    let here : IsFirstWindow (Bad P r) s (position_of P b.week b.day) b.length =
+    subst (λ q. IsFirstWindow (Bad P r) s q b.length) (sym at.position) (subst (λ m. IsFirstWindow (Bad P r) s p m) (sym at.length) first) in
     let before : b.week - 1 < P.weeks = week_within P.weeks P.days (b.week - 1) (b.day - 1) (omega (arith, here.within, long)) in
     record {
       week = (at.week, omega (arith, at.week, before));
@@ -127,7 +127,7 @@ window_begins P r s b p n long at first =
       first = here;
     }
 
-day_fails : (P : Instance) (j : ℕ) (s : List Symbol) (b : Broken) (p n : ℕ) → IsRule P (Day j) → StandsAt P b p n → IsFirstPlace P (Day j) s p n → FailsDay P j s b
+day_fails : (P : Instance) (j : ℕ) (s : List Symbol) (b : Broken) (p n : ℕ) → IsRule P (Day j) → IsBrokenAt P b p n → IsFirstPlace P (Day j) s p n → FailsDay P j s b
 day_fails P j s b p n is at first =
     let b_in : b.day - 1 < P.days = omega (arith, at.day.0, at.day.1) in
     let j_in : j - 1 < P.days = omega (arith, is.0, is.1) in
@@ -141,7 +141,7 @@ day_fails P j s b p n is at first =
       length = at.length ∙ first.2;
     }
 
-pub place_breaks : (P : Instance) (r : Rule) (s : List Symbol) (b : Broken) (p n : ℕ) → length s ≡ P.weeks * P.days → IsRule P r → StandsAt P b p n → IsFirstPlace P r s p n → BreaksFirst P r s b
+pub place_breaks : (P : Instance) (r : Rule) (s : List Symbol) (b : Broken) (p n : ℕ) → length s ≡ P.weeks * P.days → IsRule P r → IsBrokenAt P b p n → IsFirstPlace P r s p n → BreaksFirst P r s b
 place_breaks P (MaxShift x) s b p n long is at first = window_begins P (MaxShift x) s b p n long at first
 place_breaks P (MinShift x) s b p n long is at first = window_begins P (MinShift x) s b p n long at first
 place_breaks P MaxOff s b p n long is at first = window_begins P MaxOff s b p n long at first

@@ -11,7 +11,7 @@ use Rattle.roster_checker.specs.declared.broken.Broken.{Broken}
 
 -- the window of this length from p on is of the kind, none that begins earlier is, and none that begins there and
 -- is shorter
-pub record IsFirst (IsKind : List Symbol → Type 0) (s : List Symbol) (p days : ℕ) : Type 0 where
+pub record IsFirstWindow (IsKind : List Symbol → Type 0) (s : List Symbol) (p days : ℕ) : Type 0 where
   pub within : p < length s
   pub here : IsKind (window s p days)
   pub earliest : (q len : ℕ) → q < p → IsKind (window s q len) → ⊥
@@ -25,7 +25,7 @@ position_of P week day = (week - 1) * P.days + (day - 1)
 pub record BeginsFirstBadWindow (P : Instance) (r : Rule) (s : List Symbol) (b : Broken) : Type 0 where
   pub week : (1 ≤ b.week) × (b.week ≤ P.weeks)
   pub day : (1 ≤ b.day) × (b.day ≤ P.days)
-  pub first : IsFirst (Bad P r) s (position_of P b.week b.day) b.length
+  pub first : IsFirstWindow (Bad P r) s (position_of P b.week b.day) b.length
 
 -- the demand of the day isn't met. The place that is named is the day in the first week, without a length
 pub record FailsDay (P : Instance) (j : ℕ) (s : List Symbol) (b : Broken) : Type 0 where

@@ -4,7 +4,7 @@ ghost use Rattle.rwsp_terms.specs.Roster.{IsRoster, MeetsAll};
 ghost use Rattle.rwsp_terms.specs.Rules.{rules};
 ghost use Rattle.rwsp_terms.specs.declared.limits.TheConstants.{MOST_CELLS};
 ghost use Rattle.roster_checker.specs.FirstBroken.{IsFirstBroken, MeetsBelow};
-ghost use Rattle.roster_checker.specs.Places.{StandsAt};
+ghost use Rattle.roster_checker.specs.Places.{IsBrokenAt};
 
 use crate::place::Place;
 use crate::rules::first_place;
@@ -25,7 +25,7 @@ pub struct Broken {
 fn broken_at(problem: &Problem, rule: u32, place: Place) -> Broken
     requires { place.position < MOST_CELLS }
     ensures rule { result.rule ≡ rule }
-    ensures place { StandsAt problem.now result place.position place.length }
+    ensures place { IsBrokenAt problem.now result place.position place.length }
 {
     let days = problem.days();
     Broken {

@@ -4,7 +4,7 @@ ghost use Rattle.rwsp_terms.specs.Instance.{IsDay};
 ghost use Rattle.rwsp_terms.specs.Window.{Bad};
 ghost use Rattle.rwsp_terms.specs.Roster.{HasNoWindow, IsRoster, IsRule, MeetsDay, MeetsRule};
 ghost use Rattle.rwsp_terms.specs.declared.data.Rule.TheVariants.{Day};
-ghost use Rattle.roster_checker.specs.FirstBroken.{IsFirst};
+ghost use Rattle.roster_checker.specs.FirstBroken.{IsFirstWindow};
 ghost use Rattle.roster_checker.specs.Places.{IsFirstPlace};
 
 use crate::days::day_is_met;
@@ -19,7 +19,7 @@ fn first_window(problem: &Problem, roster: &Roster, rule: Rule) -> Option<Place>
     requires rule { IsRule problem.now rule }
     ensures { MatchOption result
         (HasNoWindow (Bad problem.now rule) roster.now.cells)
-        (λ w. IsFirst (Bad problem.now rule) roster.now.cells w.position w.length) }
+        (λ w. IsFirstWindow (Bad problem.now rule) roster.now.cells w.position w.length) }
 {
     problem.prove_limits();
     match first_bad_window(roster, problem, rule, problem.cells()) {

@@ -16,7 +16,7 @@ use Rattle.refutation_terms.specs.Word.{Domains, AreSame}
 use Rattle.refutation_terms.specs.Leaf.{IsDead}
 use Rattle.refutation_terms.specs.Tree.{First, narrowed, line_leaves, opening, domains_at}
 use Rattle.refutation_terms.specs.Log.{Log, LineFits}
-use Rattle.refutation_terms.specs.Sharp.{SomeWindowHolds, SomeDayHolds, NoWordHas, IsSpentAt, IsSharpSplit, IsFirstTurn, NoBoundHolds, IsUndecided, HoldsAtTop}
+use Rattle.refutation_terms.specs.Sharp.{SomeWindowHolds, SomeDayHolds, NoWordHas, IsSpentAt, IsSharpSplit, IsFirstTurn, NoBoundHolds, IsUnclosed, HoldsAtTop}
 use Rattle.refutation_terms.proofs.SameDomains.{turned_round, same_idle, same_holds}
 use Rattle.domain_store.specs.Store.{Store, has_domain}
 use Rattle.propagators.specs.Looks.{Closes}
@@ -59,7 +59,7 @@ pub at_first : (P : Instance) (turn : Option Turn) (lines : List Line) (D : Doma
 at_first P turn lines D same = λ p x inside. same p x inside ∙ and_true (opening P turn p x)
 
 -- the first line may be undecided only where no bound holds
-top_line : (P : Instance) (turn : Option Turn) (leaves : Leaves) (spent : Spent) (R : List ℕ) (lines : List Line) (line : Line) → KeepsLimits P → AreShortRules P R → AreReasons P turn leaves spent → ((p : ℕ) (x : Symbol) → slice_get lines 0 ≡ Some (Split p x) → IsForced P leaves spent (domains_at P turn lines 0) p x) → (slice_get lines 0 ≡ Some Unfinished → ⊥) → slice_get lines 0 ≡ Some line → IsUndecided line → NoBoundHolds P (opening P turn) R
+top_line : (P : Instance) (turn : Option Turn) (leaves : Leaves) (spent : Spent) (R : List ℕ) (lines : List Line) (line : Line) → KeepsLimits P → AreShortRules P R → AreReasons P turn leaves spent → ((p : ℕ) (x : Symbol) → slice_get lines 0 ≡ Some (Split p x) → IsForced P leaves spent (domains_at P turn lines 0) p x) → (slice_get lines 0 ≡ Some Unfinished → ⊥) → slice_get lines 0 ≡ Some line → IsUnclosed line → NoBoundHolds P (opening P turn) R
 top_line P turn leaves spent R lines (Split p x) limits short reasons forced never at undecided =
     let h = forced p x at in
     no_bound P turn leaves spent h.store R (some_cells P limits) short reasons (at_first P turn lines (has_domain h.store) h.agrees) h.not_closed

@@ -12,8 +12,8 @@ use rwsp_terms::limits::GREATEST_BUDGET;
 use std::alloc::{AllocError, Global};
 use std::thread::Threads;
 
-/// What a search finds within the budget. Where a shift is demanded, it takes for granted that week 1 has the first such
-/// shift on the first such day, as some turned roster does.
+/// What a search finds within the budget. Where a shift is demanded, it takes for granted that week 1 has the first
+/// such shift on the first such day, as some turned roster does.
 ///
 /// Each case is looked at for reasons: windows, days, and the words of two turns. Bounds by weights are tried at the
 /// top, shared out among workers, who pass the gate.

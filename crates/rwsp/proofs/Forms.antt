@@ -6,13 +6,12 @@ use Rattle.std.specs.String.{string_bytes}
 use Rattle.std.specs.declared.alloc.Global.{Global}
 use Rattle.std.specs.Str.{bytes_eq}
 use Rattle.rwsp_text.specs.Numbers.{number_of}
-use Rattle.rwsp_terms.specs.declared.limits.TheConstants.{MOST_WEEKS, USUAL_BUDGET, USUAL_STAFF_BUDGET, USUAL_WORKERS}
-use Rattle.rwsp.specs.declared.command.TheConstants.{USUAL_BEST_BUDGET}
+use Rattle.rwsp_terms.specs.declared.limits.TheConstants.{MOST_WEEKS, USUAL_BUDGET, USUAL_STAFF_BUDGET, USUAL_WORKERS, USUAL_BEST_BUDGET}
 use Rattle.rwsp_text.proofs.Words.{bytes_same}
 use Rattle.jiff.specs.Types.{Date}
 use Rattle.crew_calendar.specs.Calendar.{IsDateWord}
 use Rattle.crew_calendar.proofs.OneText.{one_date}
-use Rattle.rwsp.specs.Commands.{Words, IsForm, IsCount, IsCrewForm, HasNoForm}
+use Rattle.rwsp.specs.Commands.{CommandWords, IsForm, IsCount, IsCrewForm, HasNoForm}
 use Rattle.rwsp.specs.declared.command.Command.{Command}
 use Rattle.rwsp.specs.declared.command.Command.TheVariants.{Plan, Check, Verify, Reduce, Show, Trial, Crew, Staff, CheckStaff, CheckFree, Best}
 
@@ -95,26 +94,26 @@ two (Some a) (Some b) f = Some (f a b)
 two (Some a) None f = None
 two None b f = None
 
-abbrev plan_told : Words → Option Undated
+abbrev plan_told : CommandWords → Option Undated
 plan_told (file ∷ []) = Some (plan USUAL_BUDGET)
 plan_told (file ∷ option ∷ number ∷ []) = option_map plan (number_of (string_bytes number))
 plan_told args = None
 
-abbrev best_told : Words → Option Undated
+abbrev best_told : CommandWords → Option Undated
 best_told (file ∷ []) = Some (best USUAL_BEST_BUDGET)
 best_told (file ∷ option ∷ number ∷ []) = option_map best (number_of (string_bytes number))
 best_told args = None
 
-abbrev check_told : Words → Option Undated
+abbrev check_told : CommandWords → Option Undated
 check_told (file ∷ second ∷ []) = Some (check USUAL_WORKERS)
 check_told (file ∷ second ∷ option ∷ number ∷ []) = option_map check (number_of (string_bytes number))
 check_told args = None
 
-abbrev trial_told : Words → Option Undated
+abbrev trial_told : CommandWords → Option Undated
 trial_told (number ∷ weeks ∷ []) = two (number_of (string_bytes number)) (number_of (string_bytes weeks)) trial
 trial_told args = None
 
-abbrev crew_told : Words → Option Undated
+abbrev crew_told : CommandWords → Option Undated
 crew_told (file ∷ second ∷ date ∷ days ∷ []) = option_map crew (number_of (string_bytes days))
 crew_told (file ∷ second ∷ date ∷ days ∷ number ∷ []) = two (number_of (string_bytes days)) (number_of (string_bytes number)) crew_of
 crew_told args = None
@@ -123,13 +122,13 @@ abbrev budgeted : Option ℕ → Option ℕ → Option ℕ → Option Undated
 budgeted None low high = None
 budgeted (Some budget) low high = two low high (λ l h. staff l h budget)
 
-abbrev staff_told : Words → Option Undated
+abbrev staff_told : CommandWords → Option Undated
 staff_told (file ∷ low ∷ high ∷ []) = two (number_of (string_bytes low)) (number_of (string_bytes high)) (λ l h. staff l h USUAL_STAFF_BUDGET)
 staff_told (file ∷ low ∷ high ∷ option ∷ number ∷ []) =
     budgeted (number_of (string_bytes number)) (number_of (string_bytes low)) (number_of (string_bytes high))
 staff_told args = None
 
-abbrev told : List ℕ → Words → Option Undated
+abbrev told : List ℕ → CommandWords → Option Undated
 told name args =
     if bytes_eq name (codes "show") then Some show
     else if bytes_eq name (codes "plan") then plan_told args
@@ -143,18 +142,18 @@ told name args =
     else if bytes_eq name (codes "check-free") then Some check_free
     else best_told args
 
-begins : (name : List ℕ) (args : Words) (other : List ℕ) → name ≡ other → told name args ≡ told other args
+begins : (name : List ℕ) (args : CommandWords) (other : List ℕ) → name ≡ other → told name args ≡ told other args
 begins name args other e = ap (λ n. told n args) e
 
 both_told : {a b : Option ℕ} {m n : ℕ} (f : ℕ → ℕ → Undated) → a ≡ Some m → b ≡ Some n → two a b f ≡ Some (f m n)
 both_told {a} {b} {m} {n} f e g = ap (λ c. two c b f) e ∙ ap (λ c. two (Some m) c f) g
 
-abbrev told_in : Words → Option Undated
+abbrev told_in : CommandWords → Option Undated
 told_in [] = None
 told_in (v ∷ args) = told (string_bytes v) args
 
 -- words that are a form of a command tell it
-tells : (words : Words) (c : Command) → IsForm words c → told_in words ≡ Some (undated c)
+tells : (words : CommandWords) (c : Command) → IsForm words c → told_in words ≡ Some (undated c)
 tells (v ∷ w ∷ []) Show h = begins (string_bytes v) (w ∷ []) (codes "show") h.0
 tells (v ∷ w ∷ []) (Plan m) h = begins (string_bytes v) (w ∷ []) (codes "plan") h.0 ∙ ap (λ k. Some (plan k)) (sym h.2)
 tells (v ∷ w ∷ []) (Best m) h = begins (string_bytes v) (w ∷ []) (codes "best") h.0 ∙ ap (λ k. Some (best k)) (sym h.2)
@@ -183,21 +182,21 @@ tells words c h = absurd h
 
 -- the date of the words is that of the command, where it has one
 
-abbrev fourth : Words → List ℕ
+abbrev fourth : CommandWords → List ℕ
 fourth (v ∷ w ∷ x ∷ y ∷ words) = string_bytes y
 fourth words = []
 
-abbrev HasDate : Words → Command → Type 0
+abbrev HasDate : CommandWords → Command → Type 0
 HasDate words (Crew first n e) = IsDateWord (fourth words) first
 HasDate words command = Unit {0}
 
-has_date : (words : Words) (c : Command) → IsForm words c → HasDate words c
+has_date : (words : CommandWords) (c : Command) → IsForm words c → HasDate words c
 has_date (v ∷ w ∷ x ∷ y ∷ z ∷ []) (Crew first n e) h = h.0.3
 has_date (v ∷ w ∷ x ∷ y ∷ z ∷ u ∷ []) (Crew first n e) h = h.0.3
 has_date words (Crew first n e) h = absurd h
 has_date words c h = tt
 
-one_dated : (words : Words) (a b : Command) → HasDate words a → HasDate words b → undated a ≡ undated b → dated a ≡ dated b
+one_dated : (words : CommandWords) (a b : Command) → HasDate words a → HasDate words b → undated a ≡ undated b → dated a ≡ dated b
 one_dated words (Crew d n e) (Crew f m g) h k same = ap Some (one_date (fourth words) d f h k)
 one_dated words (Crew d n None) b h k same = absurd (cc)
 one_dated words (Crew d n (Some e)) b h k same = absurd (cc)
@@ -205,7 +204,7 @@ one_dated words a (Crew d n None) h k same = absurd (cc)
 one_dated words a (Crew d n (Some e)) h k same = absurd (cc)
 one_dated words a b h k same = refl
 
-pub one_form : (words : Words) (a b : Command) → IsForm words a → IsForm words b → a ≡ b
+pub one_form : (words : CommandWords) (a b : Command) → IsForm words a → IsForm words b → a ≡ b
 one_form words a b h k =
     let told : Some (undated a) ≡ Some (undated b) = sym (tells words a h) ∙ tells words b k in
     let same : undated a ≡ undated b = cc in

@@ -9,7 +9,7 @@ use Rattle.rwsp_model.proofs.Limits.{valid_keeps}
 use Rattle.rwsp_file.specs.Spelling.{SpellsProblem}
 use Rattle.rwsp_file.specs.Laws.{TextsSpellOne, TextsSpellOrFail}
 use Rattle.refutation_terms.specs.LogText.{log_text}
-use Rattle.rwsp.specs.Commands.{Words, ReadsProblem, ReadsSecond, IsWithinHorizon, problem_name, second_name}
+use Rattle.rwsp.specs.Commands.{CommandWords, ReadsProblem, ReadsSecond, IsWithinHorizon, problem_name, second_name}
 use Rattle.rwsp.specs.Inputs.{WhereTold, IsWithinLimit, IsProblemOf}
 use Rattle.rwsp.specs.Answers.{IsAnswerOn, IsAnswerTo, IsFileAnswer, IsSecondAnswer, IsWeekly}
 use Rattle.rwsp.specs.Texts.{answer_text, HasFixedText, IsPrintable, IsCalendarOf, IsCalendarText, IsReplyText}
@@ -134,15 +134,15 @@ both_ends one decide command second file a b there (inr h) (inr k) =
     let same : k.1.0 ≡ P = one file k.1.0 P k.1.1 h.1.1 in
     one_on command P second a b (valid_keeps P h.1.1.valid) there h.1.2 (subst (λ (Q : Instance). IsAnswerOn command second Q b) same k.1.2)
 
-ends_at : (command : Command) (held : List ℕ → Told) (words : Words) (file : List ℕ) (a : Answer) → held (problem_name words) ≡ Bytes file → IsAnswerTo command held words a → IsFileAnswer a file ⊎ AtFile command (held (second_name words)) file a
+ends_at : (command : Command) (held : List ℕ → Told) (words : CommandWords) (file : List ℕ) (a : Answer) → held (problem_name words) ≡ Bytes file → IsAnswerTo command held words a → IsFileAnswer a file ⊎ AtFile command (held (second_name words)) file a
 ends_at command held words file a e (inl h) = inl (at_bytes (held (problem_name words)) file (IsFileAnswer a) e h.1)
 ends_at command held words file a e (inr h) = inr (at_bytes (held (problem_name words)) file (λ f. AtFile command (held (second_name words)) f a) e h.1)
 
-nothing_at : (command : Command) (held : List ℕ → Told) (words : Words) (a : Answer) → held (problem_name words) ≡ Missing → IsAnswerTo command held words a → ⊥
+nothing_at : (command : Command) (held : List ℕ → Told) (words : CommandWords) (a : Answer) → held (problem_name words) ≡ Missing → IsAnswerTo command held words a → ⊥
 nothing_at command held words a e (inl h) = at_missing (held (problem_name words)) (IsFileAnswer a) e h.1
 nothing_at command held words a e (inr h) = at_missing (held (problem_name words)) (λ f. AtFile command (held (second_name words)) f a) e h.1
 
-one_to : TextsSpellOne → TextsSpellOrFail → (command : Command) (held : List ℕ → Told) (words : Words) (a b : Answer) → IsThere (held (problem_name words)) → (ReadsSecond command → IsThere (held (second_name words))) → IsAnswerTo command held words a → IsAnswerTo command held words b → (a ≡ b) ⊎ AgreeInSearch a b
+one_to : TextsSpellOne → TextsSpellOrFail → (command : Command) (held : List ℕ → Told) (words : CommandWords) (a b : Answer) → IsThere (held (problem_name words)) → (ReadsSecond command → IsThere (held (second_name words))) → IsAnswerTo command held words a → IsAnswerTo command held words b → (a ≡ b) ⊎ AgreeInSearch a b
 one_to one decide command held words a b (inl e) there h k = absurd (nothing_at command held words a e h)
 one_to one decide command held words a b (inr f) there h k = both_ends one decide command (held (second_name words)) f.0 a b there (ends_at command held words f.0 a f.1 h) (ends_at command held words f.0 b f.1 k)
 
@@ -255,7 +255,7 @@ same_for_workers m n told P a h = h
 
 -- the text of an answer
 
-same_problem : TextsSpellOne → (held : List ℕ → Told) (words : Words) (P Q : Instance) → IsThere (held (problem_name words)) → IsProblemOf held words P → IsProblemOf held words Q → P ≡ Q
+same_problem : TextsSpellOne → (held : List ℕ → Told) (words : CommandWords) (P Q : Instance) → IsThere (held (problem_name words)) → IsProblemOf held words P → IsProblemOf held words Q → P ≡ Q
 same_problem one held words P Q (inl e) h k = absurd (at_missing (held (problem_name words)) (λ file. SpellsProblem file P) e h)
 same_problem one held words P Q (inr f) h k = one f.0 P Q (at_bytes (held (problem_name words)) f.0 (λ file. SpellsProblem file P) f.1 h) (at_bytes (held (problem_name words)) f.0 (λ file. SpellsProblem file Q) f.1 k)
 
@@ -294,7 +294,7 @@ fixed_reply : (command : Command) (P : Instance) (told : Told) (a : Answer) (tex
 fixed_reply command P told a text other fixed h (inl k) = h P ∙ sym k.1
 fixed_reply command P told a text other fixed h (inr k) = absurd (no_fixed a fixed k.0)
 
-keeps_of : (held : List ℕ → Told) (words : Words) (P : Instance) → IsThere (held (problem_name words)) → IsProblemOf held words P → KeepsLimits P
+keeps_of : (held : List ℕ → Told) (words : CommandWords) (P : Instance) → IsThere (held (problem_name words)) → IsProblemOf held words P → KeepsLimits P
 keeps_of held words P (inl e) h = absurd (at_missing (held (problem_name words)) (λ file. SpellsProblem file P) e h)
 keeps_of held words P (inr f) h =
     let spells = at_bytes (held (problem_name words)) f.0 (λ file. SpellsProblem file P) f.1 h in

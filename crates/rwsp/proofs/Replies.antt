@@ -3,7 +3,7 @@ use Rattle.std.proofs.Common.{◌≡◌, ◌⊎◌, ℕ, ◌≤◌, List, subst,
 use Rattle.rwsp_io.specs.Told.{Told, Silent, Missing, Bytes, Rose}
 use Rattle.rwsp_terms.specs.Instance.{Instance}
 use Rattle.rwsp_file.specs.Spelling.{SpellsProblem}
-use Rattle.rwsp.specs.Commands.{Words, IsForm, ReadsProblem, ReadsSecond, IsWithinHorizon, HasDaysFor, problem_name, second_name}
+use Rattle.rwsp.specs.Commands.{CommandWords, IsForm, ReadsProblem, ReadsSecond, IsWithinHorizon, HasDaysFor, problem_name, second_name}
 use Rattle.rwsp.specs.Inputs.{WhereTold, IsWithinLimit, OfProblem, IsProblemOf}
 use Rattle.rwsp.specs.Answers.{IsAnswer, IsAnswerOn, IsReadFault, IsOfCommand, IsOfStaff, IsNotWeekly, IsWeekly}
 use Rattle.rwsp.specs.Staffs.{IsStaffAnswer}
@@ -24,13 +24,13 @@ told_weaker Missing Q R f h = h
 told_weaker (Bytes bytes) Q R f h = f bytes h
 
 -- the problem's file was read and spells the problem
-abbrev pub IsRead : (List ℕ → Told) → Words → Instance → Type 0
+abbrev pub IsRead : (List ℕ → Told) → CommandWords → Instance → Type 0
 IsRead held words P = WhereTold (held (problem_name words)) (λ file. IsWithinLimit Kinds.Problem file × SpellsProblem file P)
 
-problem_of : (held : List ℕ → Told) (words : Words) (P : Instance) → IsRead held words P → IsProblemOf held words P
+problem_of : (held : List ℕ → Told) (words : CommandWords) (P : Instance) → IsRead held words P → IsProblemOf held words P
 problem_of held words P h = told_weaker (held (problem_name words)) (λ file. IsWithinLimit Kinds.Problem file × SpellsProblem file P) (λ file. SpellsProblem file P) (λ file k. k.1) h
 
-of_problem : (held : List ℕ → Told) (words : Words) (P : Instance) (Q : Instance → Type 0) → IsRead held words P → Q P → OfProblem held words Q
+of_problem : (held : List ℕ → Told) (words : CommandWords) (P : Instance) (Q : Instance → Type 0) → IsRead held words P → Q P → OfProblem held words Q
 of_problem held words P Q h q = told_weaker (held (problem_name words)) (λ file. IsWithinLimit Kinds.Problem file × SpellsProblem file P) (λ file. IsWithinLimit Kinds.Problem file × ((P : Instance) × SpellsProblem file P × Q P)) (λ file k. (k.0, (P, k.1, q))) h
 
 staff_kind : (P : Instance) (low high budget : ℕ) (answer : Answer) → IsStaffAnswer P low high budget answer → IsOfStaff answer
@@ -64,11 +64,11 @@ not_weekly (BestCommand budget) told P other = inl (other, refl)
 not_weekly command told P other = absurd (other tt)
 
 -- an answer on a problem that was read
-pub job_answer : (held : List ℕ → Told) (words : Words) (command : Command) (P : Instance) (answer : Answer) (told : Told) → IsForm words command → IsWithinHorizon command → ReadsProblem command → IsRead held words P → told ≡ held (second_name words) → IsAnswerOn command told P answer → IsAnswer held words answer
+pub job_answer : (held : List ℕ → Told) (words : CommandWords) (command : Command) (P : Instance) (answer : Answer) (told : Told) → IsForm words command → IsWithinHorizon command → ReadsProblem command → IsRead held words P → told ≡ held (second_name words) → IsAnswerOn command told P answer → IsAnswer held words answer
 job_answer held words command P answer told form within reads read same h =
     inr (inr (inr (command, form, within, reads, inr (answer_kind command told P answer h, of_problem held words P (λ Q. IsAnswerOn command (held (second_name words)) Q answer) read (subst (λ (t : Told). IsAnswerOn command t P answer) same h)))))
 
-pub job_text : (held : List ℕ → Told) (words : Words) (command : Command) (P : Instance) (answer : Answer) (text : List ℕ) (told : Told) → IsForm words command → IsRead held words P → told ≡ held (second_name words) → IsReplyText command told P answer text → IsTextOf held words answer text
+pub job_text : (held : List ℕ → Told) (words : CommandWords) (command : Command) (P : Instance) (answer : Answer) (text : List ℕ) (told : Told) → IsForm words command → IsRead held words P → told ≡ held (second_name words) → IsReplyText command told P answer text → IsTextOf held words answer text
 job_text held words command P answer text told form read same h =
     inr (inl (command, form, (P, problem_of held words P read, subst (λ (t : Told). IsReplyText command t P answer text) same h)))
 
@@ -76,16 +76,16 @@ job_text held words command P answer text told form read same h =
 rose_since : (before later now : ℕ) → before ≤ later → Rose later now → Rose before now
 rose_since before later now h rose = omega arith
 
-pub second_fault : (held : List ℕ → Told) (before later now : List ℕ → ℕ) (words : Words) (command : Command) (P : Instance) → IsForm words command → ReadsProblem command → ReadsSecond command → HasDaysFor command P → IsRead held words P → before (second_name words) ≤ later (second_name words) → Rose (later (second_name words)) (now (second_name words)) → IsReadFault held before now words
+pub second_fault : (held : List ℕ → Told) (before later now : List ℕ → ℕ) (words : CommandWords) (command : Command) (P : Instance) → IsForm words command → ReadsProblem command → ReadsSecond command → HasDaysFor command P → IsRead held words P → before (second_name words) ≤ later (second_name words) → Rose (later (second_name words)) (now (second_name words)) → IsReadFault held before now words
 second_fault held before later now words command P form file reads days read le rose =
     (command, form, file, inr (reads, rose_since _ _ _ le rose, of_problem held words P (HasDaysFor command) read days))
 
 -- the reply of a trial
 
-pub trial_answer : (held : List ℕ → Told) (words : Words) (number weeks : ℕ) (answer : Answer) → IsForm words (Trial number weeks) → IsTrialAnswer number weeks answer → IsAnswer held words answer
+pub trial_answer : (held : List ℕ → Told) (words : CommandWords) (number weeks : ℕ) (answer : Answer) → IsForm words (Trial number weeks) → IsTrialAnswer number weeks answer → IsAnswer held words answer
 trial_answer held words number weeks answer form h = inr (inr (inl (number, weeks, form, h)))
 
-pub trial_text : (held : List ℕ → Told) (words : Words) (answer : Answer) (text : List ℕ) → IsTextOfTrial answer text → IsTextOf held words answer text
+pub trial_text : (held : List ℕ → Told) (words : CommandWords) (answer : Answer) (text : List ℕ) → IsTextOfTrial answer text → IsTextOf held words answer text
 trial_text held words answer text h = inr (inr h)
 
 pub is_trial : (number weeks : ℕ) (trial : TrialResult) → IsTrial number weeks trial → IsTrialAnswer number weeks (TrialOf trial)

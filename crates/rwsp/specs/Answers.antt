@@ -15,7 +15,7 @@ use Rattle.refutation_terms.specs.FreeWeekends.{free_weekends}
 use Rattle.refutation_terms.specs.Strip.{IsReduced}
 use Rattle.refutation_terms.specs.Verdict.{IsAccepted, IsRefused}
 use Rattle.rule_reducer.specs.Needs.{NeedsEach, NeedsTogether}
-use Rattle.rwsp.specs.Commands.{Words, IsForm, HasNoForm, ReadsProblem, ReadsSecond, IsWithinHorizon, problem_name, second_name}
+use Rattle.rwsp.specs.Commands.{CommandWords, IsForm, HasNoForm, ReadsProblem, ReadsSecond, IsWithinHorizon, problem_name, second_name}
 use Rattle.rwsp.specs.Inputs.{WhereTold, IsWithinLimit, IsTooLong, OfProblem, HasProblem}
 use Rattle.rwsp.specs.Plans.{IsPlanAnswer}
 use Rattle.rwsp.specs.Trials.{IsTrialAnswer}
@@ -219,13 +219,13 @@ IsAnswerOn command told P answer = IsOfSecond command answer × WhereTold told (
 
 -- the problem's file ends the job, or the answer is one of the command's, and the file spells an instance where the
 -- command has it
-abbrev pub IsAnswerTo : Command → (List ℕ → Told) → Words → Answer → Type 0
+abbrev pub IsAnswerTo : Command → (List ℕ → Told) → CommandWords → Answer → Type 0
 IsAnswerTo command held words answer =
     (IsOfFile answer × WhereTold (held (problem_name words)) (IsFileAnswer answer))
     ⊎ (IsOfCommand command answer × OfProblem held words (λ P. IsAnswerOn command (held (second_name words)) P answer))
 
 -- what holds where an answer comes
-abbrev pub IsAnswer : (List ℕ → Told) → Words → Answer → Type 0
+abbrev pub IsAnswer : (List ℕ → Told) → CommandWords → Answer → Type 0
 IsAnswer held words answer =
     (HasNoForm words × (answer ≡ Usage))
     ⊎ (((command : Command) × IsForm words command × (IsWithinHorizon command → ⊥) × (answer ≡ Horizon))
@@ -235,7 +235,7 @@ IsAnswer held words answer =
 
 -- a file could not be read: the count of the problem's file has risen, or that of the second file, and then the first
 -- spells an instance for the command
-abbrev pub IsReadFault : (List ℕ → Told) → (before now : List ℕ → ℕ) → Words → Type 0
+abbrev pub IsReadFault : (List ℕ → Told) → (before now : List ℕ → ℕ) → CommandWords → Type 0
 IsReadFault held before now words =
     (command : Command) × IsForm words command × ReadsProblem command
     × (Rose (before (problem_name words)) (now (problem_name words))

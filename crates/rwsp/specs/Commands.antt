@@ -2,8 +2,7 @@
 use Rattle.std.specs.Prelude.{◌≡◌, ◌≢◌, ℕ, ◌+◌, ◌<◌, ◌≤◌, List, [], ◌∷◌, length, slice_index, slice_get, Option, Some, None, MatchOption, String, codes}
 use Rattle.std.specs.String.{string_bytes}
 use Rattle.std.specs.declared.alloc.Global.{Global}
-use Rattle.rwsp_terms.specs.declared.limits.TheConstants.{MOST_WEEKS, USUAL_BUDGET, GREATEST_BUDGET, LONGEST_CALENDAR, USUAL_WORKERS, MOST_WORKERS, MOST_SIZES, USUAL_STAFF_BUDGET, GREATEST_STAFF_BUDGET}
-use Rattle.rwsp.specs.declared.command.TheConstants.{USUAL_BEST_BUDGET}
+use Rattle.rwsp_terms.specs.declared.limits.TheConstants.{MOST_WEEKS, USUAL_BUDGET, GREATEST_BUDGET, LONGEST_CALENDAR, USUAL_WORKERS, MOST_WORKERS, MOST_SIZES, USUAL_STAFF_BUDGET, GREATEST_STAFF_BUDGET, USUAL_BEST_BUDGET}
 use Rattle.rwsp_text.specs.Numbers.{number_of}
 use Rattle.rwsp_terms.specs.Instance.{Instance}
 use Rattle.crew_calendar.specs.Calendar.{IsDateWord, FitsDates}
@@ -12,8 +11,8 @@ use Rattle.rwsp.specs.declared.command.Command.{Command}
 use Rattle.rwsp.specs.declared.command.Command.TheVariants.{Plan, Check, Verify, Reduce, Show, Trial, Crew, Staff, CheckStaff, CheckFree, Best}
 
 -- the words behind the program's name
-abbrev pub Words : Type 0
-Words = List (String Global)
+abbrev pub CommandWords : Type 0
+CommandWords = List (String Global)
 
 -- a word that names a file: it isn't empty and doesn't begin with `-`
 abbrev pub IsFileWord : List ℕ → Type 0
@@ -47,7 +46,7 @@ AreSizesForm word file low high first last =
     IsStaffForm (string_bytes word) (string_bytes file) (string_bytes low) (string_bytes high) first last
 
 -- the words are a form of the command
-abbrev pub IsForm : Words → Command → Type 0
+abbrev pub IsForm : CommandWords → Command → Type 0
 IsForm (word ∷ file ∷ []) Show = (string_bytes word ≡ codes "show") × IsFileWord (string_bytes file)
 IsForm (word ∷ file ∷ []) (Plan budget) =
     (string_bytes word ≡ codes "plan") × IsFileWord (string_bytes file) × (budget ≡ USUAL_BUDGET)
@@ -89,11 +88,11 @@ IsForm (word ∷ file ∷ option ∷ number ∷ []) (Best budget) =
 IsForm words command = ⊥
 
 -- the words are a form of no command
-abbrev pub HasNoForm : Words → Type 0
+abbrev pub HasNoForm : CommandWords → Type 0
 HasNoForm words = (command : Command) → IsForm words command → ⊥
 
 -- the command that the words are a form of, or none where they are a form of none
-abbrev pub IsCommandOf : Words → Option Command → Type 0
+abbrev pub IsCommandOf : CommandWords → Option Command → Type 0
 IsCommandOf words answer = MatchOption answer (HasNoForm words) (IsForm words)
 
 -- the first date and the number of days that the words of a calendar give, or none where they aren't such words
@@ -162,9 +161,9 @@ word_bytes None = []
 word_bytes (Some word) = string_bytes word
 
 -- the name of the problem's file
-abbrev pub problem_name : Words → List ℕ
+abbrev pub problem_name : CommandWords → List ℕ
 problem_name words = word_bytes (slice_get words 1)
 
 -- the name of the second file
-abbrev pub second_name : Words → List ℕ
+abbrev pub second_name : CommandWords → List ℕ
 second_name words = word_bytes (slice_get words 2)

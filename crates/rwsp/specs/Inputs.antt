@@ -4,7 +4,7 @@ use Rattle.rwsp_terms.specs.declared.limits.TheConstants.{LONGEST_FILE, LONGEST_
 use Rattle.rwsp_io.specs.Told.{Told, Silent, Missing, Bytes}
 use Rattle.rwsp_terms.specs.Instance.{Instance}
 use Rattle.rwsp_file.specs.Spelling.{SpellsProblem}
-use Rattle.rwsp.specs.Commands.{Words, HasDaysFor, problem_name}
+use Rattle.rwsp.specs.Commands.{CommandWords, HasDaysFor, problem_name}
 use Rattle.rwsp.specs.declared.command.Command.{Command}
 use Rattle.rwsp.specs.declared.command.Command.TheVariants.{Verify, Crew}
 use Rattle.rwsp.specs.declared.answer.InputKind.{InputKind}
@@ -37,15 +37,15 @@ abbrev pub IsTooLong : InputKind → List ℕ → Type 0
 IsTooLong kind bytes = longest kind < length bytes
 
 -- a fact about the instance that the first file spells
-abbrev pub OfProblem : (List ℕ → Told) → Words → (Instance → Type 0) → Type 0
+abbrev pub OfProblem : (List ℕ → Told) → CommandWords → (Instance → Type 0) → Type 0
 OfProblem held words Q =
     WhereTold (held (problem_name words))
     (λ file. IsWithinLimit Problem file × ((P : Instance) × SpellsProblem file P × Q P))
 
 -- the first file spells an instance for the command
-abbrev pub HasProblem : (List ℕ → Told) → Words → Command → Type 0
+abbrev pub HasProblem : (List ℕ → Told) → CommandWords → Command → Type 0
 HasProblem held words command = OfProblem held words (HasDaysFor command)
 
 -- the instance is the one that the first file spells
-abbrev pub IsProblemOf : (List ℕ → Told) → Words → Instance → Type 0
+abbrev pub IsProblemOf : (List ℕ → Told) → CommandWords → Instance → Type 0
 IsProblemOf held words P = WhereTold (held (problem_name words)) (λ file. SpellsProblem file P)

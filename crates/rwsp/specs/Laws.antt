@@ -4,7 +4,7 @@ use Rattle.rwsp_io.specs.Told.{Told, Silent, Bytes}
 use Rattle.rwsp_terms.specs.Instance.{Instance}
 use Rattle.rwsp_file.specs.Spelling.{SpellsProblem}
 use Rattle.refutation_terms.specs.Log.{Log}
-use Rattle.rwsp.specs.Commands.{Words, IsForm, ReadsProblem, ReadsSecond, IsWithinHorizon, problem_name, second_name}
+use Rattle.rwsp.specs.Commands.{CommandWords, IsForm, ReadsProblem, ReadsSecond, IsWithinHorizon, problem_name, second_name}
 use Rattle.rwsp.specs.Inputs.{IsWithinLimit}
 use Rattle.rwsp.specs.Plans.{IsPlanAnswer}
 use Rattle.rwsp.specs.Bests.{IsBestAnswer}
@@ -29,7 +29,7 @@ use Rattle.crew_size.specs.declared.verdict.Staffed.{Staffed}
 
 -- the shelf tells what the problem's file holds, or that it isn't there, where the words are a form of a command that
 -- reads one; and so for the second file
-abbrev pub AreTold : (List ℕ → Told) → Words → Type 0
+abbrev pub AreTold : (List ℕ → Told) → CommandWords → Type 0
 AreTold held words =
     ((command : Command) → IsForm words command → ReadsProblem command → held (problem_name words) ≢ Silent)
     × ((command : Command) → IsForm words command → ReadsSecond command → held (second_name words) ≢ Silent)
@@ -70,14 +70,14 @@ AgreeInSearch a b = (IsOfSearch a × IsOfSearch b) ⊎ AgreeInBest a b
 -- beside a refutation
 abbrev pub AnswersAreOne : Type 0
 AnswersAreOne =
-    (held : List ℕ → Told) (words : Words) (a b : Answer) → AreTold held words → IsAnswer held words a
+    (held : List ℕ → Told) (words : CommandWords) (a b : Answer) → AreTold held words → IsAnswer held words a
     → IsAnswer held words b
     → (a ≡ b) ⊎ AgreeInSearch a b
 
 -- an answer has one text
 abbrev pub TextsAreOne : Type 0
 TextsAreOne =
-    (held : List ℕ → Told) (words : Words) (a : Answer) (text other : List ℕ)
+    (held : List ℕ → Told) (words : CommandWords) (a : Answer) (text other : List ℕ)
     → held (problem_name words) ≢ Silent → (a ≡ Crew → held (second_name words) ≢ Silent) → IsTextOf held words a text
     → IsTextOf held words a other
     → text ≡ other
@@ -86,7 +86,7 @@ TextsAreOne =
 -- one of the command's there
 abbrev pub ProblemsAreAnswered : Type 0
 ProblemsAreAnswered =
-    (held : List ℕ → Told) (words : Words) (command : Command) (file : List ℕ) (P : Instance) (a : Answer)
+    (held : List ℕ → Told) (words : CommandWords) (command : Command) (file : List ℕ) (P : Instance) (a : Answer)
     → IsForm words command → IsWithinHorizon command → ReadsProblem command → held (problem_name words) ≡ Bytes file
     → IsWithinLimit Kinds.Problem file → SpellsProblem file P
     → IsAnswer held words a

@@ -3,7 +3,7 @@ use Rattle.std.specs.Prelude.{◌≡◌, ℕ, ◌*◌, ◌<◌, ◌≤◌, List}
 use Rattle.rwsp_terms.specs.Instance.{Instance}
 use Rattle.rwsp_terms.specs.declared.limits.TheConstants.{MOST_CELLS}
 use Rattle.crew_size.specs.Runs.{IsStaffed}
-use Rattle.crew_size.specs.Laws.{IsDecided}
+use Rattle.crew_size.specs.Laws.{AreSizesDecided}
 use Rattle.crew_size.specs.Verdict.{IsStaffAccepted, IsStaffRefused}
 use Rattle.rwsp.specs.Inputs.{IsWithinLimit, IsTooLong}
 use Rattle.rwsp.specs.declared.answer.InputKind.TheVariants.{Log}
@@ -22,6 +22,6 @@ IsStaffAnswer P low high budget answer = ⊥
 abbrev pub IsStaffVerdictOf : Answer → Instance → List ℕ → Type 0
 IsStaffVerdictOf (TooLong Log) P bytes = IsTooLong Log bytes
 IsStaffVerdictOf (StaffAccepted staffed) P bytes =
-    IsWithinLimit Log bytes × IsStaffAccepted P bytes staffed × IsDecided P staffed
+    IsWithinLimit Log bytes × IsStaffAccepted P bytes staffed × AreSizesDecided P staffed
 IsStaffVerdictOf (StaffRefused why) P bytes = IsWithinLimit Log bytes × IsStaffRefused P bytes why
 IsStaffVerdictOf answer P bytes = ⊥

@@ -33,7 +33,7 @@ use Rattle.crew_size.specs.declared.verdict.Staffed.{Staffed}
 use Rattle.crew_size.specs.declared.verdict.Staffed.TheVariants as Decided
 use Rattle.crew_size.specs.declared.verdict.StaffRefusal.{StaffRefusal}
 use Rattle.crew_size.specs.declared.verdict.StaffRefusal.TheVariants as Failures
-use Rattle.rwsp.specs.Commands.{Words, IsForm, second_name}
+use Rattle.rwsp.specs.Commands.{CommandWords, IsForm, second_name}
 use Rattle.rwsp.specs.Inputs.{WhereTold, IsProblemOf}
 use Rattle.rwsp.specs.Trials.{IsProblemOfTrial}
 use Rattle.rwsp.specs.declared.command.Command.{Command}
@@ -295,7 +295,7 @@ IsTextOfTrial answer text = (P : Instance) × IsProblemOfTrial answer P × (text
 
 -- the text is the answer's, which is the same for every instance, or is for the one that the problem's file spells,
 -- or for that of a trial
-abbrev pub IsTextOf : (List ℕ → Told) → Words → Answer → List ℕ → Type 0
+abbrev pub IsTextOf : (List ℕ → Told) → CommandWords → Answer → List ℕ → Type 0
 IsTextOf held words answer text =
     (HasFixedText answer × ((P : Instance) → text ≡ answer_text P answer))
     ⊎ (((command : Command) × IsForm words command

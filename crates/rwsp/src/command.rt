@@ -9,15 +9,12 @@ use jiff::civil::Date;
 use rwsp_model::Problem;
 use rwsp_terms::limits::{
     GREATEST_BUDGET, GREATEST_STAFF_BUDGET, LONGEST_CALENDAR, MOST_SIZES, MOST_WEEKS, MOST_WORKERS,
-    USUAL_BUDGET, USUAL_STAFF_BUDGET, USUAL_WORKERS,
+    USUAL_BEST_BUDGET, USUAL_BUDGET, USUAL_STAFF_BUDGET, USUAL_WORKERS,
 };
 use rwsp_text::number;
 
 /// The days of a week that has a weekend.
 const DAYS_OF_WEEK: u32 = 7;
-
-/// The lines for each goal of a `best` without a budget.
-pub const USUAL_BEST_BUDGET: u32 = 2_000;
 
 /// What is to be done. The names of files are words of their own.
 #[derive(Clone, Copy, Debug, PartialEq, Eq)]

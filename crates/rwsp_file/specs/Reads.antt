@@ -6,9 +6,9 @@ use Rattle.rwsp_file.specs.Reading.{Unread}
 use Rattle.rwsp_file.specs.declared.refusal.FileRefusal.{FileRefusal}
 
 -- what was returned and what is left are what reading gives. At a refusal nothing is said of what is left
-abbrev pub Reads : {X : Type 0} → Result (X × Unread) FileRefusal → Result X FileRefusal → Unread → Type 0
-Reads reading (Ok x) left = reading ≡ Ok (x, left)
-Reads reading (Err why) left = reading ≡ Err why
+abbrev pub ReadsTokens : {X : Type 0} → Result (X × Unread) FileRefusal → Result X FileRefusal → Unread → Type 0
+ReadsTokens reading (Ok x) left = reading ≡ Ok (x, left)
+ReadsTokens reading (Err why) left = reading ≡ Err why
 
 -- the same of a value that is seen by view, where memory may run out
 abbrev pub ReadsUnless : {X Y : Type 0} → (X → Y) → Result (Y × Unread) FileRefusal → Result X (Fail FileRefusal)

@@ -4,7 +4,7 @@ ghost use Rattle.std.specs.List.{prefix_len};
 ghost use Rattle.rwsp_text.specs.Places.{lexeme_at, AreWithin};
 ghost use Rattle.rwsp_file.specs.Spelling.{on_line, past_line};
 ghost use Rattle.rwsp_file.specs.Reading.{next_at, limited, number_at, bounds_at};
-ghost use Rattle.rwsp_file.specs.Reads.{Reads};
+ghost use Rattle.rwsp_file.specs.Reads.{ReadsTokens};
 
 use crate::FileRefusal;
 use crate::limits::{BLOCK, Limit};
@@ -90,7 +90,7 @@ impl<'a> Cursor<'a> {
     /// The next word.
     #[tactic(auto, unfolding(crate::specs::Reading::next_at))]
     pub fn next(&mut self) -> Result<Lexeme<'a>, FileRefusal>
-        ensures { Reads (next_at self.old) result self.new }
+        ensures { ReadsTokens (next_at self.old) result self.new }
     {
         self.pop().ok_or(FileRefusal::Ends(self.end))
     }
@@ -98,7 +98,7 @@ impl<'a> Cursor<'a> {
     /// The next word as a number that keeps the limit.
     #[tactic(auto, unfolding(crate::specs::Reading::number_at))]
     pub fn number(&mut self, limit: Limit) -> Result<u32, FileRefusal>
-        ensures value { Reads (number_at limit.number limit.least limit.greatest self.old) result self.new }
+        ensures value { ReadsTokens (number_at limit.number limit.least limit.greatest self.old) result self.new }
         ensures within { IfOk result (λ n. (limit.least ≤ n) × (n ≤ limit.greatest)) }
     {
         let word = self.next()?;
@@ -108,7 +108,7 @@ impl<'a> Cursor<'a> {
     /// The next two words as the bounds of blocks.
     #[tactic(auto, unfolding(crate::specs::Reading::bounds_at))]
     pub fn bounds(&mut self) -> Result<Bounds, FileRefusal>
-        ensures { Reads (bounds_at self.old) result self.new }
+        ensures { ReadsTokens (bounds_at self.old) result self.new }
     {
         let least = self.number(BLOCK)?;
         let greatest = self.number(BLOCK)?;

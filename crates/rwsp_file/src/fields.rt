@@ -2,7 +2,7 @@
 ghost use Rattle.std.specs.Prelude.{◌≡◌, IfOk, ◌≤◌};
 ghost use Rattle.rwsp_terms.specs.declared.limits.TheConstants.{MOST_DAYS, MOST_SHIFTS};
 ghost use Rattle.rwsp_file.specs.Reading.{limited_weeks, weeks_at, size_at, demand_at, demand_row_at, demand_rows_at, frame_at};
-ghost use Rattle.rwsp_file.specs.Reads.{Reads, ReadsUnless};
+ghost use Rattle.rwsp_file.specs.Reads.{ReadsTokens, ReadsUnless};
 
 use crate::FileRefusal;
 use crate::cursor::{Cursor, Lexeme};
@@ -44,7 +44,7 @@ fn limited_weeks(days: u32, word: &Lexeme) -> Result<u32, FileRefusal>
 #[tactic(auto, unfolding(crate::specs::Reading::weeks_at))]
 fn read_weeks(days: u32, cursor: &mut Cursor) -> Result<u32, FileRefusal>
     requires { days ≤ MOST_DAYS }
-    ensures { Reads (weeks_at days cursor.old) result cursor.new }
+    ensures { ReadsTokens (weeks_at days cursor.old) result cursor.new }
 {
     let word = cursor.next()?;
     limited_weeks(days, &word)
@@ -53,7 +53,7 @@ fn read_weeks(days: u32, cursor: &mut Cursor) -> Result<u32, FileRefusal>
 /// Reads the numbers of days, weeks and shifts.
 #[tactic(auto, unfolding(crate::specs::Reading::size_at))]
 pub fn read_size(cursor: &mut Cursor) -> Result<Size, FileRefusal>
-    ensures value { Reads (size_at cursor.old) result cursor.new }
+    ensures value { ReadsTokens (size_at cursor.old) result cursor.new }
     ensures few { IfOk result (λ size. size.shifts ≤ MOST_SHIFTS) }
 {
     let days = cursor.number(DAYS)?;
@@ -69,7 +69,7 @@ pub fn read_size(cursor: &mut Cursor) -> Result<Size, FileRefusal>
 /// Reads the bounds of the blocks of days off and of work, and the numbers of pairs and triples.
 #[tactic(auto, unfolding(crate::specs::Reading::frame_at))]
 pub fn read_frame(cursor: &mut Cursor) -> Result<Frame, FileRefusal>
-    ensures { Reads (frame_at cursor.old) result cursor.new }
+    ensures { ReadsTokens (frame_at cursor.old) result cursor.new }
 {
     let off = cursor.bounds()?;
     let work = cursor.bounds()?;
@@ -85,7 +85,7 @@ pub fn read_frame(cursor: &mut Cursor) -> Result<Frame, FileRefusal>
 
 #[tactic(auto, unfolding(crate::specs::Reading::demand_at, crate::specs::Reading::limited_demand))]
 fn read_demand_of_day(cursor: &mut Cursor) -> Result<Bounds, FileRefusal>
-    ensures { Reads (demand_at cursor.old) result cursor.new }
+    ensures { ReadsTokens (demand_at cursor.old) result cursor.new }
 {
     let word = cursor.next()?;
     let Some(range) = demand(word.text()) else {

@@ -3,7 +3,7 @@ ghost use Rattle.std.specs.Prelude.{◌≡◌, ◌∷◌, length, IfOk, MatchRes
 ghost use Rattle.std.specs.List.{list_any};
 ghost use Rattle.std.specs.Str.{bytes_eq};
 ghost use Rattle.rwsp_file.specs.Reading.{words_of_row, row_words_at, is_new_name, new_name, numbers_of_row, shift_of, shift_at, shift_rows_at};
-ghost use Rattle.rwsp_file.specs.Reads.{Reads, ReadsUnless, GivesUnless};
+ghost use Rattle.rwsp_file.specs.Reads.{ReadsTokens, ReadsUnless, GivesUnless};
 
 use crate::FileRefusal;
 use crate::cursor::{Cursor, Lexeme};
@@ -55,7 +55,7 @@ fn words_of_row<'a>(name: Lexeme<'a>, others: &mut Cursor<'a>) -> Option<RowWord
 
 #[tactic(auto, unfolding(crate::specs::Reading::row_words_at))]
 fn read_row_words<'a>(cursor: &mut Cursor<'a>) -> Result<RowWords<'a>, FileRefusal>
-    ensures { Reads (row_words_at cursor.old) result cursor.new }
+    ensures { ReadsTokens (row_words_at cursor.old) result cursor.new }
 {
     let first = cursor.next()?;
     let line = first.line();

@@ -3,7 +3,7 @@ ghost use Rattle.std.specs.Prelude.{◌≡◌, length, ◌≤◌};
 ghost use Rattle.rwsp_terms.specs.declared.limits.TheConstants.{MOST_SHIFTS};
 ghost use Rattle.rwsp_terms.specs.Instance.{symbol_among};
 ghost use Rattle.rwsp_file.specs.Reading.{symbol_at, pair_at, triple_at, pairs_at, triples_at, nothing_of, sequences_at};
-ghost use Rattle.rwsp_file.specs.Reads.{Reads, ReadsUnless, GivesUnless};
+ghost use Rattle.rwsp_file.specs.Reads.{ReadsTokens, ReadsUnless, GivesUnless};
 
 use crate::FileRefusal;
 use crate::cursor::Cursor;
@@ -29,7 +29,7 @@ fn symbol_in(shifts: &Shifts, name: &[u8]) -> Option<Symbol>
 #[tactic(auto, unfolding(crate::specs::Reading::symbol_at))]
 fn read_symbol(shifts: &Shifts, cursor: &mut Cursor) -> Result<Symbol, FileRefusal>
     requires { length shifts.now ≤ MOST_SHIFTS }
-    ensures { Reads (symbol_at shifts.now cursor.old) result cursor.new }
+    ensures { ReadsTokens (symbol_at shifts.now cursor.old) result cursor.new }
 {
     let word = cursor.next()?;
     symbol_in(shifts, word.text()).ok_or(FileRefusal::Unknown(word.line()))
@@ -38,7 +38,7 @@ fn read_symbol(shifts: &Shifts, cursor: &mut Cursor) -> Result<Symbol, FileRefus
 #[tactic(auto, unfolding(crate::specs::Reading::pair_at))]
 fn read_pair(shifts: &Shifts, cursor: &mut Cursor) -> Result<(Symbol, Symbol), FileRefusal>
     requires { length shifts.now ≤ MOST_SHIFTS }
-    ensures { Reads (pair_at shifts.now cursor.old) result cursor.new }
+    ensures { ReadsTokens (pair_at shifts.now cursor.old) result cursor.new }
 {
     let first = read_symbol(shifts, cursor)?;
     let second = read_symbol(shifts, cursor)?;
@@ -51,7 +51,7 @@ fn read_triple(
     cursor: &mut Cursor,
 ) -> Result<(Symbol, Symbol, Symbol), FileRefusal>
     requires { length shifts.now ≤ MOST_SHIFTS }
-    ensures { Reads (triple_at shifts.now cursor.old) result cursor.new }
+    ensures { ReadsTokens (triple_at shifts.now cursor.old) result cursor.new }
 {
     let first = read_symbol(shifts, cursor)?;
     let second = read_symbol(shifts, cursor)?;

@@ -1,14 +1,15 @@
 -- The list of all short rules, as far as it has come.
-use Rattle.std.proofs.Common.{◌≡◌, ◌≢◌, ℕ, zero, suc, ◌+◌, ◌≤◌, List, [], length, refl, ap, sym, ◌∙◌, subst, arith, Some, ◌⊎◌, inl, inr, ⊎_elim}
-use Rattle.std.specs.Prelude.{Contains, ◌↔◌}
+use Rattle.std.proofs.Common.{◌≡◌, ◌≢◌, ℕ, zero, suc, ◌+◌, ◌<◌, ◌≤◌, List, [], length, get_or, refl, ap, sym, ◌∙◌, subst, arith, Some, ◌⊎◌, inl, inr, ⊎_elim}
+use Rattle.std.specs.Prelude.{All, Contains, ◌↔◌}
 use Rattle.std.specs.List.Sorted.{IsStrictlyIncreasing}
 use Rattle.std.proofs.lemmas.Bool.{cases_eq}
+use Rattle.std.proofs.lemmas.List.Elements.{Contains-get_or}
 use Rattle.std.proofs.lemmas.Option.{slice_get_within, same_Some}
 use Rattle.rwsp_terms.specs.Instance.{Instance}
 use Rattle.rwsp_terms.specs.Rules.{rules, rule_of, IsShort, NamesShortRules}
 use Rattle.rwsp_terms.specs.declared.data.Rule.{Rule}
 use Rattle.rwsp_model.specs.RuleNumbers.{place_of, IsShortNumber}
-use Rattle.rwsp_model.proofs.Numbering.{rule_numbered, number_at_place}
+use Rattle.rwsp_model.proofs.Numbering.{rule_numbered, number_at_place, rule_in_range}
 
 -- a list with the number of a short rule more
 pub put_short : (P : Instance) (old new : List ℕ) (n : ℕ) (r : Rule) → rule_of P n ≡ Some r → IsShort P r → ((k : ℕ) → Contains new k ↔ (Contains old k ⊎ (k ≡ n))) → (k : ℕ) → Contains new k ↔ (Contains old k ⊎ ((k ≡ n) × IsShortNumber P k))
@@ -54,6 +55,9 @@ upto P (suc k) n all h = let within = slice_get_within (rules P) k h.0 h.1 in om
 
 pub lists_all : (P : Instance) (R : List ℕ) (n : ℕ) → n ≡ length (rules P) → ListsUpTo P R n → (k : ℕ) → Contains R k ↔ IsShortNumber P k
 lists_all P R n all lists k = (λ c. ((lists.numbers k).0 c).1, λ h. (lists.numbers k).1 (upto P k n all h, h))
+
+pub all_in_range : (P : Instance) (R : List ℕ) → ((k : ℕ) → Contains R k ↔ IsShortNumber P k) → All (λ k. (0 < k) × (k ≤ length (rules P))) R
+all_in_range P R numbers = λ i d less. let one = (numbers (get_or R i d)).0 (Contains-get_or R i d less) in rule_in_range P (get_or R i d) one.0 one.1
 
 pub names_all : (P : Instance) (R : List ℕ) → ((k : ℕ) → Contains R k ↔ IsShortNumber P k) → NamesShortRules P R
 names_all P R numbers r = (

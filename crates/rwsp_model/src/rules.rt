@@ -1,5 +1,5 @@
 // The rules of a problem and their numbers.
-ghost use Rattle.std.specs.Prelude.{◌≡◌, ◌↔◌, ◌⊎◌, ℕ, ◌+◌, ◌*◌, ◌<◌, ◌≤◌, length, Some, IsTrue, IfOk, OnOk, Contains};
+ghost use Rattle.std.specs.Prelude.{◌≡◌, ◌↔◌, ◌⊎◌, ℕ, ◌+◌, ◌*◌, ◌<◌, ◌≤◌, length, Some, IsTrue, IfOk, OnOk, All, Contains};
 ghost use Rattle.std.specs.List.Sorted.{IsStrictlyIncreasing};
 ghost use Rattle.rwsp_terms.specs.Instance.{Instance, shift_count};
 ghost use Rattle.rwsp_terms.specs.Roster.{IsRule};
@@ -164,6 +164,7 @@ fn put_if_short(list: &mut RuleList, problem: &Problem, number: u32) -> Result<(
 /// The list of all short rules.
 pub fn short_rules(alloc: Global, problem: &Problem) -> Result<RuleList, AllocError>
     ensures ascends { IfOk result (λ R. IsStrictlyIncreasing R) }
+    ensures in_range { IfOk result (All (λ k. (0 < k) × (k ≤ length (rules problem.now)))) }
     ensures numbers { IfOk result (λ R. (k : ℕ) → Contains R k ↔ IsShortNumber problem.now k) }
     ensures rules { IfOk result (λ R. NamesShortRules problem.now R) }
 {

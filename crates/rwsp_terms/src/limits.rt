@@ -73,6 +73,9 @@ pub const USUAL_WORKERS: u32 = 4;
 /// The most workers of a check.
 pub const MOST_WORKERS: u32 = 64;
 
+/// The lines of the log of each goal of a search for the most free weekends where no budget is given.
+pub const USUAL_BEST_BUDGET: u32 = 2_000;
+
 /// The most numbers of weeks that one run of a search for the least crew tries.
 pub const MOST_SIZES: u32 = 64;
 

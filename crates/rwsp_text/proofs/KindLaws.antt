@@ -10,7 +10,7 @@ use Rattle.std.proofs.lemmas.Int.{ints}
 use Rattle.std.proofs.lemmas.Bool.{and_parts}
 use Rattle.std.proofs.lemmas.List.{append-nil}
 use Rattle.std.proofs.lemmas.List.Elements.{All-nil, All-cons, All-head, All-tail, All-weaker}
-use Rattle.rwsp_text.specs.Fields.{Words, Field, Word, Number, Name, Choice, Place, Rules, Weights, Values, Keeps, spell, Says, read, ◌>>=◌, IsName, IsValue, NamedWeight, IsWeight, numbers, week_and_day, chosen, weight_fields, is_visible, is_name, number_at, name_at, word_at, choice_at, place_at, rules_at, weights_at}
+use Rattle.rwsp_text.specs.Fields.{Words, Field, Word, Number, Name, Choice, Place, Rules, Weights, Values, AreInRange, spell, Says, read, ◌>>=◌, IsName, IsValue, NamedWeight, IsNamedWeight, numbers, week_and_day, either_word, weight_fields, is_visible, is_name, number_at, name_at, word_at, choice_at, place_at, rules_at, weights_at}
 use Rattle.rwsp_text.specs.Kinds.{Kind, IsOfKind, IsLine, read_by, read_line, ClosesNumbers, ClosesWeights, AreReadable, IsFree, IsReadable, IsBlankless, AreBlankless, LinesAreRead, LinesSayOne, LinesAreBlankless}
 use Rattle.rwsp_text.specs.Lines.{AreWords}
 use Rattle.rwsp_text.proofs.Printed.{ascii_digits_model}
@@ -37,7 +37,7 @@ fields_found (Name ∷ fields) make ws x e =
 fields_found (Choice one other ∷ fields) make ws x e =
     let b = bind_found (choice_at one other ws) (λ n. read fields (λ v. make (n.0, v)) n.1) x e in
     let f = fields_found fields (λ v. make (b.0.0, v)) b.0.1 x b.2 in
-    record { values = (b.0.0, f.values); keeps = f.keeps; spelled = choice_found one other b.0.0 ws b.0.1 b.1 ∙ ap (λ us. chosen one other b.0.0 ∷ us) f.spelled; made = f.made }
+    record { values = (b.0.0, f.values); keeps = f.keeps; spelled = choice_found one other b.0.0 ws b.0.1 b.1 ∙ ap (λ us. either_word one other b.0.0 ∷ us) f.spelled; made = f.made }
 fields_found (Place weeks days ∷ fields) make ws x e =
     let b = bind_found (place_at weeks days ws) (λ n. read fields (λ v. make (n.0, v)) n.1) x e in
     let f = fields_found fields (λ v. make (b.0.0, v)) b.0.1 x b.2 in
@@ -68,7 +68,7 @@ closed [] v h = refl
 closed (f ∷ fields) v h = absurd h
 
 -- fields that are spelled are read
-pub fields_only : {X : Type 0} (fields : List Field) (make : Values fields → X) (v : Values fields) → AreReadable fields → Keeps fields v → read fields make (spell fields v) ≡ Some (make v)
+pub fields_only : {X : Type 0} (fields : List Field) (make : Values fields → X) (v : Values fields) → AreReadable fields → AreInRange fields v → read fields make (spell fields v) ≡ Some (make v)
 fields_only [] make v s k = refl
 fields_only (Word word ∷ fields) make v s k =
     bind_only (word_at word (word ∷ spell fields v)) (λ rest. read fields make rest) (spell fields v) (Some (make v)) (word_at_only word (spell fields v)) (fields_only fields make v s.1 k)
@@ -79,7 +79,7 @@ fields_only (Name ∷ fields) make v s k =
     bind_only (name_at (v.0 ∷ spell fields v.1)) (λ n. read fields (λ u. make (n.0, u)) n.1) (v.0, spell fields v.1) (Some (make v))
     (name_at_only v.0 (spell fields v.1) k.0) (fields_only fields (λ u. make (v.0, u)) v.1 s k.1)
 fields_only (Choice one other ∷ fields) make v s k =
-    bind_only (choice_at one other (chosen one other v.0 ∷ spell fields v.1)) (λ n. read fields (λ u. make (n.0, u)) n.1) (v.0, spell fields v.1) (Some (make v))
+    bind_only (choice_at one other (either_word one other v.0 ∷ spell fields v.1)) (λ n. read fields (λ u. make (n.0, u)) n.1) (v.0, spell fields v.1) (Some (make v))
     (choice_only one other v.0 (spell fields v.1) s.0.2) (fields_only fields (λ u. make (v.0, u)) v.1 s.1 k)
 fields_only (Place weeks days ∷ fields) make v s k =
     bind_only (place_at weeks days (week_and_day days v.0 ++ spell fields v.1)) (λ n. read fields (λ u. make (n.0, u)) n.1) (v.0, spell fields v.1) (Some (make v))
@@ -124,19 +124,19 @@ numbers_blankless : (last high : ℕ) (R : List ℕ) (ws : Words) → high < 10 
 numbers_blankless last high [] ws small a h = h
 numbers_blankless last high (n ∷ R) ws small a h = (decimal_blankless n (omega (arith, a.1, small)), numbers_blankless n high R ws small a.2 h)
 
-weights_blankless : (j g : ℕ) (y : List NamedWeight) (ws : Words) → j < 10 ^ 19 → (1 ≤ g) × (g < 10 ^ 19) → All (IsWeight j g) y → AreBlankless ws → AreBlankless (flat_map weight_fields y ++ ws)
+weights_blankless : (j g : ℕ) (y : List NamedWeight) (ws : Words) → j < 10 ^ 19 → (1 ≤ g) × (g < 10 ^ 19) → All (IsNamedWeight j g) y → AreBlankless ws → AreBlankless (flat_map weight_fields y ++ ws)
 weights_blankless j g [] ws few some h rest = rest
 weights_blankless j g (e ∷ y) ws few some h rest =
-    let here : IsWeight j g e = All-head (IsWeight j g) e y h in (
+    let here : IsNamedWeight j g e = All-head (IsNamedWeight j g) e y h in (
       decimal_blankless e.day (omega (arith, here.0.1, few)),
-      (name_blankless e.name here.1, (value_blankless g e.value some.0 some.1 here.2, weights_blankless j g y ws few some (All-tail (IsWeight j g) e y h) rest)),
+      (name_blankless e.name here.1, (value_blankless g e.value some.0 some.1 here.2, weights_blankless j g y ws few some (All-tail (IsNamedWeight j g) e y h) rest)),
     )
 
-chosen_blankless : (one other : List ℕ) (c : Bool) → is_name one ≡ true → is_name other ≡ true → IsBlankless (chosen one other c)
+chosen_blankless : (one other : List ℕ) (c : Bool) → is_name one ≡ true → is_name other ≡ true → IsBlankless (either_word one other c)
 chosen_blankless one other true a b = word_blankless one a
 chosen_blankless one other false a b = word_blankless other b
 
-pub fields_blankless : (fields : List Field) (v : Values fields) → AreReadable fields → Keeps fields v → AreBlankless (spell fields v)
+pub fields_blankless : (fields : List Field) (v : Values fields) → AreReadable fields → AreInRange fields v → AreBlankless (spell fields v)
 fields_blankless [] v s k = tt
 fields_blankless (Word word ∷ fields) v s k = (word_blankless word s.0, fields_blankless fields v s.1 k)
 fields_blankless (Number least greatest ∷ fields) v s k = (decimal_blankless v.0 (omega (arith, k.0.1, s.0)), fields_blankless fields v.1 s.1 k.1)

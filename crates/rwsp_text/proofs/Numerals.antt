@@ -11,7 +11,7 @@ use Rattle.std.proofs.lemmas.Bool.{leb-true, le-leb, eq-eqb, ne_eqb, eqb-true, a
 use Rattle.std.proofs.lemmas.Bool.Decides.{nat_tests}
 use Rattle.std.proofs.lemmas.Int.{ints}
 use Rattle.rwsp_text.specs.Numbers.{number_of, value_of}
-use Rattle.rwsp_text.specs.Fields.{◌>>=◌, is_plain, numeral, within, number_in, value_in, negated, IsValue}
+use Rattle.rwsp_text.specs.Fields.{◌>>=◌, is_plain_number, numeral, within, number_in, value_in, negated, IsValue}
 use Rattle.rwsp_text.proofs.Printed.{ascii_digits_model, printed_is_read}
 
 pub if_some : {A : Type 0} (b : Bool) (o : Option A) (a : A) → cond b o None ≡ Some a → (b ≡ true) × (o ≡ Some a)
@@ -35,7 +35,7 @@ pub mapped : {A B : Type 0} (f : A → B) (o : Option A) (y : B) → option_map 
 mapped f None y e = absurd (cc)
 mapped f (Some x) y e = (x, refl, let same : f x ≡ y = cc in same)
 
-plain_alone : (w : List ℕ) → 0 < length w → is_plain w ≡ true → get_or w 0 0 ≡ 48 → length w ≡ 1
+plain_alone : (w : List ℕ) → 0 < length w → is_plain_number w ≡ true → get_or w 0 0 ≡ 48 → length w ≡ 1
 plain_alone w some p e =
     ⊎_elim
     (λ (a : nat_le (length w) 1 ≡ true). let le = leb-true (length w) 1 a in omega (arith, some, le))
@@ -50,8 +50,8 @@ unfolding number_in
 number_found low high w n h =
     let q = bind_found (numeral w) (within low high) n h in
     let r = if_some (nat_le low q.0 && nat_le q.0 high) (Some q.0) n q.2 in
-    let p = if_some (is_plain w && digits_test w) (Some (value_of w)) q.0 q.1 in
-    let t = and_parts (is_plain w) (digits_test w) p.0 in
+    let p = if_some (is_plain_number w && digits_test w) (Some (value_of w)) q.0 q.1 in
+    let t = and_parts (is_plain_number w) (digits_test w) p.0 in
     let same : q.0 ≡ n = let e = r.1 in cc in
     let value : value_of w ≡ n = let e : Some (value_of w) ≡ Some q.0 = p.1 in cc in
     let bounds = and_parts (nat_le low q.0) (nat_le q.0 high) r.0 in
@@ -66,8 +66,8 @@ number_found low high w n h =
       sym text ∙ ap decimal value,
     )
 
-first_of_decimal : (n : ℕ) → n < 10 ^ 19 → (n ≡ 0) ⊎ (0 < n) → is_plain (decimal n) ≡ true
-first_of_decimal n small (inl e) = ap (λ m. is_plain (decimal m)) e ∙ ap is_plain (decimal_digit 0 (lit< tt))
+first_of_decimal : (n : ℕ) → n < 10 ^ 19 → (n ≡ 0) ⊎ (0 < n) → is_plain_number (decimal n) ≡ true
+first_of_decimal n small (inl e) = ap (λ m. is_plain_number (decimal m)) e ∙ ap is_plain_number (decimal_digit 0 (lit< tt))
 first_of_decimal n small (inr some) =
     let first : 48 < get_or (decimal n) 0 0 = first_decimal n some (omega (arith, small)) in
     or_right (nat_le (length (decimal n)) 1) (not (slice_index (decimal n) 0 == 48))
@@ -82,8 +82,8 @@ numeral_of_decimal n small =
     let big : n < 2 ^ 64 = omega (arith, small) in
     let some : 1 ≤ length (decimal n) = decimal_nonempty n big in
     let few : length (decimal n) ≤ 19 = length-decimal-le 19 n (omega arith) small big in
-    if_true (is_plain (decimal n) && digits_test (decimal n)) (Some (value_of (decimal n))) None
-    (and_from (is_plain (decimal n)) (digits_test (decimal n)) (first_of_decimal n small (zero_or_not n))
+    if_true (is_plain_number (decimal n) && digits_test (decimal n)) (Some (value_of (decimal n))) None
+    (and_from (is_plain_number (decimal n)) (digits_test (decimal n)) (first_of_decimal n small (zero_or_not n))
     (and_from (nat_le 1 (length (decimal n)) && nat_le (length (decimal n)) 19) (list_all is_ascii_digit (decimal n))
     (and_from (nat_le 1 (length (decimal n))) (nat_le (length (decimal n)) 19) (le-leb 1 (length (decimal n)) some) (le-leb (length (decimal n)) 19 few))
     (digits_decimal ascii_digits_model n big)))
@@ -100,8 +100,8 @@ unfolding number_in
 no_number low high w e = ap (λ o. o >>= within low high) e
 
 -- numbers below a thousand million are read by their nine digits at most
-pub not_plain : (low high : ℕ) (w : List ℕ) → is_plain w ≡ false → number_in low high w ≡ None
-not_plain low high w e = no_number low high w (if_false (is_plain w && digits_test w) (Some (value_of w)) None (ap (λ b. b && digits_test w) e))
+pub not_plain : (low high : ℕ) (w : List ℕ) → is_plain_number w ≡ false → number_in low high w ≡ None
+not_plain low high w e = no_number low high w (if_false (is_plain_number w && digits_test w) (Some (value_of w)) None (ap (λ b. b && digits_test w) e))
 
 too_long_by : (low high : ℕ) (w : List ℕ) (o : Option ℕ) → high < 10 ^ 9 → number_of w ≡ None → number_in low high w ≡ o → o ≡ None
 too_long_by low high w None few none e = refl
@@ -113,7 +113,7 @@ too_long_by low high w (Some n) few none e =
 pub too_long : (low high : ℕ) (w : List ℕ) → high < 10 ^ 9 → number_of w ≡ None → number_in low high w ≡ None
 too_long low high w few none = too_long_by low high w (number_in low high w) few none refl
 
-pub plain_number : (low high : ℕ) (w : List ℕ) (n : ℕ) → is_plain w ≡ true → number_of w ≡ Some n → number_in low high w ≡ within low high n
+pub plain_number : (low high : ℕ) (w : List ℕ) (n : ℕ) → is_plain_number w ≡ true → number_of w ≡ Some n → number_in low high w ≡ within low high n
 unfolding number_in
 plain_number low high w n plain e =
     let t = if_some (nat_le 1 (length w) && nat_le (length w) 9 && list_all is_ascii_digit w) (Some (value_of w)) n e in
@@ -121,8 +121,8 @@ plain_number low high w n plain e =
     let lens = and_parts (nat_le 1 (length w)) (nat_le (length w) 9) tests.0 in
     let nine = leb-true (length w) 9 lens.1 in
     let read : numeral w ≡ Some (value_of w) =
-    if_true (is_plain w && digits_test w) (Some (value_of w)) None
-    (and_from (is_plain w) (digits_test w) plain
+    if_true (is_plain_number w && digits_test w) (Some (value_of w)) None
+    (and_from (is_plain_number w) (digits_test w) plain
     (and_from (nat_le 1 (length w) && nat_le (length w) 19) (list_all is_ascii_digit w)
     (and_from (nat_le 1 (length w)) (nat_le (length w) 19) lens.0 (le-leb (length w) 19 (omega (arith, nine)))) tests.1)) in
     ap (λ o. o >>= within low high) (read ∙ t.1)
@@ -134,15 +134,15 @@ and_false : (b : Bool) → (b && false) ≡ false
 and_false true = refl
 and_false false = refl
 
-pub plain_within : (low high : ℕ) (w : List ℕ) (n : ℕ) → is_plain w ≡ true → number_of w ≡ Some n → low ≤ n → n ≤ high → number_in low high w ≡ Some n
+pub plain_within : (low high : ℕ) (w : List ℕ) (n : ℕ) → is_plain_number w ≡ true → number_of w ≡ Some n → low ≤ n → n ≤ high → number_in low high w ≡ Some n
 plain_within low high w n plain e a b =
     plain_number low high w n plain e ∙ if_true (nat_le low n && nat_le n high) (Some n) None (and_from (nat_le low n) (nat_le n high) (le-leb low n a) (le-leb n high b))
 
-pub plain_below : (low high : ℕ) (w : List ℕ) (n : ℕ) → is_plain w ≡ true → number_of w ≡ Some n → n < low → number_in low high w ≡ None
+pub plain_below : (low high : ℕ) (w : List ℕ) (n : ℕ) → is_plain_number w ≡ true → number_of w ≡ Some n → n < low → number_in low high w ≡ None
 plain_below low high w n plain e out =
     plain_number low high w n plain e ∙ if_false (nat_le low n && nat_le n high) (Some n) None (ap (λ b. b && nat_le n high) (above_leb low n out))
 
-pub plain_above : (low high : ℕ) (w : List ℕ) (n : ℕ) → is_plain w ≡ true → number_of w ≡ Some n → high < n → number_in low high w ≡ None
+pub plain_above : (low high : ℕ) (w : List ℕ) (n : ℕ) → is_plain_number w ≡ true → number_of w ≡ Some n → high < n → number_in low high w ≡ None
 plain_above low high w n plain e out =
     plain_number low high w n plain e ∙ if_false (nat_le low n && nat_le n high) (Some n) None (ap (λ b. nat_le low n && b) (above_leb n high out) ∙ and_false (nat_le low n))
 

@@ -11,7 +11,7 @@ use Rattle.std.proofs.lemmas.Nat.{mod-mul-add, div-mul-add, div-add-mod'}
 use Rattle.std.proofs.lemmas.Slice.Eq.{bytes_eq-Decides}
 use Rattle.std.proofs.lemmas.Bool.{ne_eqb, and_parts, and_from}
 use Rattle.std.proofs.lemmas.List.Elements.{All-nil, All-cons, All-head, All-tail}
-use Rattle.rwsp_text.specs.Fields.{Words, ◌>>=◌, IsName, NamedWeight, IsWeight, Ascends, numbers, week_and_day, chosen, weight_fields, numeral, number_in, value_in, is_name, is_visible, number_at, name_at, word_at, choice_at, done_at, place_at, front_onto, rules_front, rules_at, weight_from, weight_of_words, weights_at}
+use Rattle.rwsp_text.specs.Fields.{Words, ◌>>=◌, IsName, NamedWeight, IsNamedWeight, Ascends, numbers, week_and_day, either_word, weight_fields, numeral, number_in, value_in, is_name, is_visible, number_at, name_at, word_at, choice_at, done_at, place_at, front_onto, rules_front, rules_at, weight_from, weight_of_words, weights_at}
 use Rattle.rwsp_text.proofs.Numerals.{if_some, if_true, mapped, bind_found, bind_only, number_found, number_only, no_number, value_found, value_only}
 
 abbrev pub pair_of : {A B : Type 0} → A → B → A × B
@@ -106,21 +106,21 @@ pub word_at_only : (w : List ℕ) (rest : Words) → word_at w (w ∷ rest) ≡ 
 unfolding word_at
 word_at_only w rest = if_true (bytes_eq w w) (Some rest) None (bytes_same w)
 
-choice_by : (one other v : List ℕ) (ws : Words) (a b c : Bool) (rest : Words) → bytes_eq v one ≡ a → bytes_eq v other ≡ b → cond a (Some (pair_of true ws)) (cond b (Some (pair_of false ws)) None) ≡ Some (c, rest) → v ∷ ws ≡ chosen one other c ∷ rest
+choice_by : (one other v : List ℕ) (ws : Words) (a b c : Bool) (rest : Words) → bytes_eq v one ≡ a → bytes_eq v other ≡ b → cond a (Some (pair_of true ws)) (cond b (Some (pair_of false ws)) None) ≡ Some (c, rest) → v ∷ ws ≡ either_word one other c ∷ rest
 choice_by one other v ws true b c rest e f h =
     let same = same_pairs true c ws rest h in
-    ap (λ z. z ∷ ws) (same_bytes v one e ∙ ap (chosen one other) same.0) ∙ ap (λ us. chosen one other c ∷ us) same.1
+    ap (λ z. z ∷ ws) (same_bytes v one e ∙ ap (either_word one other) same.0) ∙ ap (λ us. either_word one other c ∷ us) same.1
 choice_by one other v ws false true c rest e f h =
     let same = same_pairs false c ws rest h in
-    ap (λ z. z ∷ ws) (same_bytes v other f ∙ ap (chosen one other) same.0) ∙ ap (λ us. chosen one other c ∷ us) same.1
+    ap (λ z. z ∷ ws) (same_bytes v other f ∙ ap (either_word one other) same.0) ∙ ap (λ us. either_word one other c ∷ us) same.1
 choice_by one other v ws false false c rest e f h = absurd (cc)
 
-pub choice_found : (one other : List ℕ) (c : Bool) (ws rest : Words) → choice_at one other ws ≡ Some (c, rest) → ws ≡ chosen one other c ∷ rest
+pub choice_found : (one other : List ℕ) (c : Bool) (ws rest : Words) → choice_at one other ws ≡ Some (c, rest) → ws ≡ either_word one other c ∷ rest
 unfolding choice_at
 choice_found one other c [] rest h = absurd (cc)
 choice_found one other c (v ∷ ws) rest h = choice_by one other v ws (bytes_eq v one) (bytes_eq v other) c rest refl refl h
 
-pub choice_only : (one other : List ℕ) (c : Bool) (rest : Words) → bytes_eq other one ≡ false → choice_at one other (chosen one other c ∷ rest) ≡ Some (c, rest)
+pub choice_only : (one other : List ℕ) (c : Bool) (rest : Words) → bytes_eq other one ≡ false → choice_at one other (either_word one other c ∷ rest) ≡ Some (c, rest)
 unfolding choice_at
 choice_only one other true rest d = if_true (bytes_eq one one) (Some (pair_of true rest)) (cond (bytes_eq one other) (Some (pair_of false rest)) None) (bytes_same one)
 choice_only one other false rest d =
@@ -258,7 +258,7 @@ unfolding rules_at
 rules_only high R rest small are stops = rules_only_by high 0 R rest small (ascend high R are) stops
 
 -- weights
-triple_by : (j g : ℕ) (d n v : List ℕ) (o : Option ℕ) (b : Bool) (u : Option ℤ) (e : NamedWeight) → number_in 1 j d ≡ o → is_name n ≡ b → value_in g v ≡ u → weight_from o n b u ≡ Some e → (d ∷ n ∷ v ∷ [] ≡ weight_fields e) × IsWeight j g e
+triple_by : (j g : ℕ) (d n v : List ℕ) (o : Option ℕ) (b : Bool) (u : Option ℤ) (e : NamedWeight) → number_in 1 j d ≡ o → is_name n ≡ b → value_in g v ≡ u → weight_from o n b u ≡ Some e → (d ∷ n ∷ v ∷ [] ≡ weight_fields e) × IsNamedWeight j g e
 triple_by j g d n v None b u e p q r h = absurd (cc)
 triple_by j g d n v (Some k) false u e p q r h = absurd (cc)
 triple_by j g d n v (Some k) true None e p q r h = absurd (cc)
@@ -268,20 +268,20 @@ triple_by j g d n v (Some k) true (Some z) e p q r h =
     let f = number_found 1 j d k p in
     let q' = value_found g v z r in
     let name = name_found n q in
-    let there : (d ∷ n ∷ v ∷ [] ≡ weight_fields made) × IsWeight j g made = (
+    let there : (d ∷ n ∷ v ∷ [] ≡ weight_fields made) × IsNamedWeight j g made = (
       ap (λ z. z ∷ n ∷ v ∷ []) f.2 ∙ ap (λ z. decimal k ∷ n ∷ z ∷ []) q'.0,
       ((f.0, f.1), name, q'.1),
     ) in
-    subst (λ (w : NamedWeight). (d ∷ n ∷ v ∷ [] ≡ weight_fields w) × IsWeight j g w) same there
+    subst (λ (w : NamedWeight). (d ∷ n ∷ v ∷ [] ≡ weight_fields w) × IsNamedWeight j g w) same there
 
-triple_only : (j g : ℕ) (e : NamedWeight) → j < 10 ^ 19 → (1 ≤ g) × (g < 10 ^ 19) → IsWeight j g e → weight_of_words j g (decimal e.day) e.name (signed_decimal e.value) ≡ Some e
+triple_only : (j g : ℕ) (e : NamedWeight) → j < 10 ^ 19 → (1 ≤ g) × (g < 10 ^ 19) → IsNamedWeight j g e → weight_of_words j g (decimal e.day) e.name (signed_decimal e.value) ≡ Some e
 triple_only j g e few some h =
     ap (λ o. weight_from o e.name (is_name e.name) (value_in g (signed_decimal e.value))) (number_only 1 j e.day h.0.0 h.0.1 few)
     ∙ ap (λ b. weight_from (Some e.day) e.name b (value_in g (signed_decimal e.value))) (name_only e.name h.1)
     ∙ ap (λ u. weight_from (Some e.day) e.name true u) (value_only g e.value some.0 some.1 h.2)
 
-pub weights_found : (j g : ℕ) (ws : Words) (y : List NamedWeight) → weights_at j g ws ≡ Some y → (ws ≡ flat_map weight_fields y) × All (IsWeight j g) y
-weights_found j g [] y h = let e : [] ≡ y = cc in subst (λ z. ([] ≡ flat_map weight_fields z) × All (IsWeight j g) z) e (refl, All-nil (IsWeight j g))
+pub weights_found : (j g : ℕ) (ws : Words) (y : List NamedWeight) → weights_at j g ws ≡ Some y → (ws ≡ flat_map weight_fields y) × All (IsNamedWeight j g) y
+weights_found j g [] y h = let e : [] ≡ y = cc in subst (λ z. ([] ≡ flat_map weight_fields z) × All (IsNamedWeight j g) z) e (refl, All-nil (IsNamedWeight j g))
 weights_found j g (d ∷ []) y h = absurd (cc)
 weights_found j g (d ∷ n ∷ []) y h = absurd (cc)
 weights_found j g (d ∷ n ∷ v ∷ ws) y h =
@@ -290,12 +290,12 @@ weights_found j g (d ∷ n ∷ v ∷ ws) y h =
     let t = triple_by j g d n v (number_in 1 j d) (is_name n) (value_in g v) e.0 refl refl refl e.1 in
     let r = weights_found j g ws z.0 z.1 in
     let same : e.0 ∷ z.0 ≡ y = let s = z.2 in cc in
-    subst (λ u. (d ∷ n ∷ v ∷ ws ≡ flat_map weight_fields u) × All (IsWeight j g) u) same
-    (ap (λ us. us ++ ws) t.0 ∙ ap (λ us. weight_fields e.0 ++ us) r.0, All-cons (IsWeight j g) e.0 z.0 t.1 r.1)
+    subst (λ u. (d ∷ n ∷ v ∷ ws ≡ flat_map weight_fields u) × All (IsNamedWeight j g) u) same
+    (ap (λ us. us ++ ws) t.0 ∙ ap (λ us. weight_fields e.0 ++ us) r.0, All-cons (IsNamedWeight j g) e.0 z.0 t.1 r.1)
 
-pub weights_only : (j g : ℕ) (y : List NamedWeight) → j < 10 ^ 19 → (1 ≤ g) × (g < 10 ^ 19) → All (IsWeight j g) y → weights_at j g (flat_map weight_fields y) ≡ Some y
+pub weights_only : (j g : ℕ) (y : List NamedWeight) → j < 10 ^ 19 → (1 ≤ g) × (g < 10 ^ 19) → All (IsNamedWeight j g) y → weights_at j g (flat_map weight_fields y) ≡ Some y
 weights_only j g [] few some h = refl
 weights_only j g (e ∷ y) few some h =
     bind_only (weight_of_words j g (decimal e.day) e.name (signed_decimal e.value)) (λ a. weights_at j g (flat_map weight_fields y) >>= (λ z. Some (a ∷ z))) e (Some (e ∷ y))
-    (triple_only j g e few some (All-head (IsWeight j g) e y h))
-    (bind_only (weights_at j g (flat_map weight_fields y)) (λ z. Some (e ∷ z)) y (Some (e ∷ y)) (weights_only j g y few some (All-tail (IsWeight j g) e y h)) refl)
+    (triple_only j g e few some (All-head (IsNamedWeight j g) e y h))
+    (bind_only (weights_at j g (flat_map weight_fields y)) (λ z. Some (e ∷ z)) y (Some (e ∷ y)) (weights_only j g y few some (All-tail (IsNamedWeight j g) e y h)) refl)

@@ -62,28 +62,28 @@ Values (Weights days greatest ∷ fields) = List NamedWeight × Values fields
 abbrev pub IsValue : ℕ → ℤ → Type 0
 IsValue greatest v = (negsuc (greatest - 1) ≤ℤ v) × (v ≤ℤ pos greatest) × (v ≢ pos 0)
 
-abbrev pub IsWeight : ℕ → ℕ → NamedWeight → Type 0
-IsWeight days greatest e = ((1 ≤ e.day) × (e.day ≤ days)) × IsName e.name × IsValue greatest e.value
+abbrev pub IsNamedWeight : ℕ → ℕ → NamedWeight → Type 0
+IsNamedWeight days greatest e = ((1 ≤ e.day) × (e.day ≤ days)) × IsName e.name × IsValue greatest e.value
 
 -- ascending numbers from 1 to the greatest
 abbrev pub Ascends : ℕ → List ℕ → Type 0
 Ascends greatest R = IsStrictlyIncreasing R × All (λ k. (0 < k) × (k ≤ greatest)) R
 
 -- each value is in its range
-abbrev pub Keeps : (fields : List Field) → Values fields → Type 0
-Keeps [] v = Unit {0}
-Keeps (Word word ∷ fields) v = Keeps fields v
-Keeps (Number least greatest ∷ fields) v = ((least ≤ v.0) × (v.0 ≤ greatest)) × Keeps fields v.1
-Keeps (Name ∷ fields) v = IsName v.0 × Keeps fields v.1
-Keeps (Choice one other ∷ fields) v = Keeps fields v.1
-Keeps (Place weeks days ∷ fields) v = (v.0 < weeks * days) × Keeps fields v.1
-Keeps (Rules greatest ∷ fields) v = Ascends greatest v.0 × Keeps fields v.1
-Keeps (Weights days greatest ∷ fields) v = All (IsWeight days greatest) v.0 × Keeps fields v.1
+abbrev pub AreInRange : (fields : List Field) → Values fields → Type 0
+AreInRange [] v = Unit {0}
+AreInRange (Word word ∷ fields) v = AreInRange fields v
+AreInRange (Number least greatest ∷ fields) v = ((least ≤ v.0) × (v.0 ≤ greatest)) × AreInRange fields v.1
+AreInRange (Name ∷ fields) v = IsName v.0 × AreInRange fields v.1
+AreInRange (Choice one other ∷ fields) v = AreInRange fields v.1
+AreInRange (Place weeks days ∷ fields) v = (v.0 < weeks * days) × AreInRange fields v.1
+AreInRange (Rules greatest ∷ fields) v = Ascends greatest v.0 × AreInRange fields v.1
+AreInRange (Weights days greatest ∷ fields) v = All (IsNamedWeight days greatest) v.0 × AreInRange fields v.1
 
 -- one of two words
-abbrev pub chosen : List ℕ → List ℕ → Bool → List ℕ
-chosen one other true = one
-chosen one other false = other
+abbrev pub either_word : List ℕ → List ℕ → Bool → List ℕ
+either_word one other true = one
+either_word one other false = other
 
 -- the week and the day of a position, both from 1 on
 abbrev pub week_and_day : ℕ → ℕ → Words
@@ -98,7 +98,7 @@ spell [] v = []
 spell (Word word ∷ fields) v = word ∷ spell fields v
 spell (Number least greatest ∷ fields) v = decimal v.0 ∷ spell fields v.1
 spell (Name ∷ fields) v = v.0 ∷ spell fields v.1
-spell (Choice one other ∷ fields) v = chosen one other v.0 ∷ spell fields v.1
+spell (Choice one other ∷ fields) v = either_word one other v.0 ∷ spell fields v.1
 spell (Place weeks days ∷ fields) v = week_and_day days v.0 ++ spell fields v.1
 spell (Rules greatest ∷ fields) v = numbers v.0 ++ spell fields v.1
 spell (Weights days greatest ∷ fields) v = flat_map weight_fields v.0 ++ spell fields v.1
@@ -111,13 +111,13 @@ None >>= f = None
 (Some x) >>= f = f x
 
 -- digits with no 0 in front of others
-abbrev pub is_plain : List ℕ → Bool
-is_plain text = nat_le (length text) 1 || not (slice_index text 0 == 48)
+abbrev pub is_plain_number : List ℕ → Bool
+is_plain_number text = nat_le (length text) 1 || not (slice_index text 0 == 48)
 
 -- the number that up to 19 digits spell with no 0 in front of others
 abbrev pub numeral : List ℕ → Option ℕ
 numeral text =
-    if is_plain text && (nat_le 1 (length text) && nat_le (length text) 19 && list_all is_ascii_digit text)
+    if is_plain_number text && (nat_le 1 (length text) && nat_le (length text) 19 && list_all is_ascii_digit text)
     then Some (value_of text)
     else None
 
@@ -228,6 +228,6 @@ read (Weights days greatest ∷ fields) make ws = weights_at days greatest ws >>
 -- the words write values in their ranges, and this is made of them
 pub record Says {X : Type 0} (fields : List Field) (make : Values fields → X) (ws : Words) (x : X) : Type 0 where
   pub values : Values fields
-  pub keeps : Keeps fields values
+  pub keeps : AreInRange fields values
   pub spelled : ws ≡ spell fields values
   pub made : make values ≡ x

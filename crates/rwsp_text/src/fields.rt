@@ -2,7 +2,7 @@
 ghost use Rattle.std.specs.Prelude.{◌≡◌, ◌≢◌, ◌<◌, ◌≤◌, ◌^◌, ℕ, List, [], ◌∷◌, length, take, Option, Some, None, MatchOption, IfSome, MatchBool};
 ghost use Rattle.std.specs.List.{list_all};
 ghost use Rattle.rwsp_text.specs.Lines.{words_of, words_after, rest_of};
-ghost use Rattle.rwsp_text.specs.Fields.{is_plain, number_in, value_in, IsValue, is_visible, is_name, number_at, name_at, value_at, word_at, choice_at, place_at};
+ghost use Rattle.rwsp_text.specs.Fields.{is_plain_number, number_in, value_in, IsValue, is_visible, is_name, number_at, name_at, value_at, word_at, choice_at, place_at};
 ghost use Rattle.rwsp_text.specs.Reads.{Reads, TakesNumber, ReadsRest};
 
 use crate::digits::number;
@@ -158,7 +158,7 @@ fn word_end(bytes: &[u8]) -> usize
 }
 
 fn is_plain(text: &[u8]) -> bool
-    ensures { result ≡ is_plain text.now }
+    ensures { result ≡ is_plain_number text.now }
 {
     text.len() <= 1 || text[0] != b'0'
 }

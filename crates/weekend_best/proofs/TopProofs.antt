@@ -17,7 +17,7 @@ use Rattle.refutation_terms.specs.Word.{Domains, AreSame, Clean, full}
 use Rattle.refutation_terms.specs.FreeLeaves.{IsTooLightFree}
 use Rattle.refutation_terms.specs.Tree.{Leaf, IsLeaf, opening, domains_at}
 use Rattle.refutation_terms.specs.Log.{Log, AreRules, GoalFits, LineFitsFor, HoldsFor, Cites, ListsShortOnly, FreePasses, size}
-use Rattle.refutation_terms.specs.Sharp.{IsUndecided}
+use Rattle.refutation_terms.specs.Sharp.{IsUnclosed}
 use Rattle.refutation_terms.specs.Verdict.{EscapesFree}
 use Rattle.refutation_terms.proofs.SameDomains.{turned_round, same_holds_for}
 use Rattle.weekend_best.specs.Bests.{IsFreeProof}
@@ -101,7 +101,7 @@ top_is_sharp P goal R short =
       short = R;
       all_short = short;
       splits = λ k p x at. absurd (at_only (λ i b. IsLeaf b) line tt k (Split p x) at);
-      top = λ b at undecided. absurd (at_only (λ i c. IsUndecided c → ⊥) line (λ h. h) 0 b at undecided);
+      top = λ b at undecided. absurd (at_only (λ i c. IsUnclosed c → ⊥) line (λ h. h) 0 b at undecided);
     }
 
 pub top_proof : (P : Instance) (goal : ℕ) (R : List ℕ) → KeepsLimits P → GoalFits P None (Some goal) → AreRules P R → NamesShortRules P R → HoldsFreeAtTop P goal R → IsFreeProof P 1 goal (top_log goal R)

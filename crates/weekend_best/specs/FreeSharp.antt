@@ -9,7 +9,7 @@ use Rattle.refutation_terms.specs.Word.{Domains, full}
 use Rattle.refutation_terms.specs.FreeLeaves.{HasTooFewFree, IsTooLightFree}
 use Rattle.refutation_terms.specs.Tree.{domains_at}
 use Rattle.refutation_terms.specs.Log.{Log, NamesOnlyCited}
-use Rattle.refutation_terms.specs.Sharp.{IsSharpSplit, IsUndecided}
+use Rattle.refutation_terms.specs.Sharp.{IsSharpSplit, IsUnclosed}
 
 -- what holds at each split of a sharp free log: what holds at one of a sharp log, and enough weeks can be free
 pub record IsFreeSharpSplit (P : Instance) (goal : ℕ) (D : Domains) (R : List ℕ) (p : ℕ) (x : Symbol) : Type 0 where
@@ -34,4 +34,4 @@ pub record IsFreeSharp (P : Instance) (goal : ℕ) (g : Log) : Type 0 where
   pub all_short : NamesShortRules P short
   pub splits : (k p : ℕ) (x : Symbol) → slice_get g.lines k ≡ Some (Split p x)
       → IsFreeSharpSplit P goal (domains_at P g.turn g.lines k) short p x
-  pub top : (line : Line) → slice_get g.lines 0 ≡ Some line → IsUndecided line → HoldsFreeAtTop P goal short → ⊥
+  pub top : (line : Line) → slice_get g.lines 0 ≡ Some line → IsUnclosed line → HoldsFreeAtTop P goal short → ⊥

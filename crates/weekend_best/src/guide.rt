@@ -26,7 +26,8 @@ pub struct BestGuide {
 }
 
 impl BestGuide {
-    /// A guide for searches with this goal, which asks first for a roster with `wish` free weekends, where these are more.
+    /// A guide for searches with this goal, which asks first for a roster with `wish` free weekends, where these are
+    /// more.
     pub fn new(
         alloc: Global,
         problem: &Problem,

@@ -16,8 +16,8 @@ use std::alloc::{AllocError, Global};
 
 /// The most free weekends that a roster of the problem can have: a roster with them, and the free log for one more.
 ///
-/// The goal is 0 at first, and one above the free weekends of each roster that is found. With each goal, a roster with as
-/// many as seem likely is looked for first. The budget is for the lines of each log.
+/// The goal is 0 at first, and one above the free weekends of each roster that is found. With each goal, a roster with
+/// as many as seem likely is looked for first. The budget is for the lines of each log.
 pub fn best(alloc: Global, problem: &Problem, budget: u32) -> Result<BestFound, AllocError>
     requires week { problem.now.days ≡ 7 }
     requires budget { (1 ≤ budget) × (budget ≤ GREATEST_BUDGET) }

@@ -3,21 +3,21 @@ use Rattle.std.proofs.lemmas.List.{get_or-map, length-map}
 use Rattle.word_tail.specs.declared.tail.Tail.{Tail}
 use Rattle.layered_cycle.specs.declared.step.Step.{Step}
 use Rattle.layered_cycle.specs.Choices.{choice_by}
-use Rattle.layered_cycle.specs.Front.{gain_behind, turned}
+use Rattle.layered_cycle.specs.Front.{gain_behind, reversed}
 use Rattle.layered_cycle.proofs.Chosen.{HasChosen, row_started, row_offered}
 use Rattle.layered_cycle.proofs.front.row_behind.Goals as goal
 
 pub loop-k-init : goal.loop-k-init
 loop-k-init g c =
-    let P : ℕ → Type 0 = λ n. HasChosen (gain_behind (g.G.GainAfter.gain_after_of c.args.gain.now) c.args.day c.args.tails.now) c.args.count n c.args.row.now c.in_ok-next.next (map turned c.args.steps.now) in
-    subst P (length-map c.args.steps.now turned) (row_started _ _ _ _ (map turned c.args.steps.now) c.in_ok-next.ensures)
+    let P : ℕ → Type 0 = λ n. HasChosen (gain_behind (g.G.GainAfter.gain_after_of c.args.gain.now) c.args.day c.args.tails.now) c.args.count n c.args.row.now c.in_ok-next.next (map reversed c.args.steps.now) in
+    subst P (length-map c.args.steps.now reversed) (row_started _ _ _ _ (map reversed c.args.steps.now) c.in_ok-next.ensures)
 
 pub loop-k-preserved : goal.loop-k-preserved
 loop-k-preserved g c =
     let back : c.loop-k.k ≡ suc (c.loop-k.k - 1) = omega (arith, c.loop-k-test.true) in
-    let within : c.loop-k.k - 1 < length c.args.steps.now = omega (arith, c.loop-k-test.true, c.loop-k.invariant.within, length-map c.args.steps.now turned) in
-    let step : Step = get_or c.args.steps.now (c.loop-k.k - 1) (turned (record { from = 0; symbol = record { number = 0 }; to = 0 })) in
-    let value : c.choice_by-choice.result ≡ choice_by (gain_behind (g.G.GainAfter.gain_after_of c.args.gain.now) c.args.day c.args.tails.now) c.args.row.now (turned step) =
+    let within : c.loop-k.k - 1 < length c.args.steps.now = omega (arith, c.loop-k-test.true, c.loop-k.invariant.within, length-map c.args.steps.now reversed) in
+    let step : Step = get_or c.args.steps.now (c.loop-k.k - 1) (reversed (record { from = 0; symbol = record { number = 0 }; to = 0 })) in
+    let value : c.choice_by-choice.result ≡ choice_by (gain_behind (g.G.GainAfter.gain_after_of c.args.gain.now) c.args.day c.args.tails.now) c.args.row.now (reversed step) =
     c.choice_by-choice.ensures.value
-    ∙ ap (λ (t : Tail). choice_by (λ s. g.G.GainAfter.gain_after_of c.args.gain.now c.args.day t.last s.symbol) c.args.row.now (turned step)) c.tail_at-before.ensures in
-    row_offered _ _ _ _ _ _ _ _ _ _ _ c.loop-k.invariant back (get_or-map turned c.args.steps.now (c.loop-k.k - 1) _ (turned (record { from = 0; symbol = record { number = 0 }; to = 0 })) within) (c.requires.to _ _ within) value c.choice_by-choice.ensures.light c.offer.ensures
+    ∙ ap (λ (t : Tail). choice_by (λ s. g.G.GainAfter.gain_after_of c.args.gain.now c.args.day t.last s.symbol) c.args.row.now (reversed step)) c.tail_at-before.ensures in
+    row_offered _ _ _ _ _ _ _ _ _ _ _ c.loop-k.invariant back (get_or-map reversed c.args.steps.now (c.loop-k.k - 1) _ (reversed (record { from = 0; symbol = record { number = 0 }; to = 0 })) within) (c.requires.to _ _ within) value c.choice_by-choice.ensures.light c.offer.ensures

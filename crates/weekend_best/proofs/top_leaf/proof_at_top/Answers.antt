@@ -1,11 +1,8 @@
 -- The list of all short rules is a list of rules.
-use Rattle.propagators.proofs.Starts.{short_are_rules}
 use Rattle.weekend_best.proofs.top_leaf.proof_at_top.Goals as goal
 
 pub holds_at_top-requires-clause-rules : goal.holds_at_top-requires-clause-rules
-holds_at_top-requires-clause-rules c =
-    short_are_rules c.args.problem.now c.in_ok-short.short c.in_ok-short.ensures.ascends c.in_ok-short.ensures.numbers
+holds_at_top-requires-clause-rules c = (c.in_ok-short.ensures.ascends, c.in_ok-short.ensures.in_range)
 
 pub log_of_top-requires-clause-rules : goal.log_of_top-requires-clause-rules
-log_of_top-requires-clause-rules c =
-    short_are_rules c.args.problem.now c.in_ok-short.short c.in_ok-short.ensures.ascends c.in_ok-short.ensures.numbers
+log_of_top-requires-clause-rules c = (c.in_ok-short.ensures.ascends, c.in_ok-short.ensures.in_range)

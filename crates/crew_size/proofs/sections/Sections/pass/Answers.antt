@@ -1,5 +1,5 @@
 use Rattle.std.proofs.Common.{◌≡◌, ℕ, ◌++◌, Option, ap, sym, ◌∙◌, subst, inl}
-use Rattle.crew_size.specs.Places.{Place, MayStand}
+use Rattle.crew_size.specs.Places.{Place, MayFollow}
 use Rattle.crew_size.specs.Verdict.{HasNoHeadingAt}
 use Rattle.crew_size.proofs.Verdicts.{no_heading_here}
 use Rattle.crew_size.proofs.sections.Sections.pass.Goals as goal
@@ -14,4 +14,4 @@ returns-in_default-heading_in_place-clause-verdict g c = λ text place.
     let whole : c.args.self.now.rest ≡ c.in-Some.line.now ++ c.next.new.self = sym left ∙ sym c.new-reader.ensures ∙ c.in-Some.ensures.line.1 in
     inl (subst (HasNoHeadingAt P text) (sym number)
     (no_heading_here P text c.args.self.now c.in-Some.line.now c.next.new.self place whole c.in-Some.ensures.end
-    (λ h w may. c.in_default-heading_in_place.ensures h w (subst (λ (s : Option (ℕ × ℕ)). MayStand P s h) (sym known) may))))
+    (λ h w may. c.in_default-heading_in_place.ensures h w (subst (λ (s : Option (ℕ × ℕ)). MayFollow P s h) (sym known) may))))

@@ -1,7 +1,7 @@
 use Rattle.std.proofs.Common.{◌≡◌, List, length, subst, arith, rules}
 use Rattle.rwsp_terms.specs.declared.limits.TheConstants.{MOST_SYMBOLS}
 use Rattle.word_tail.specs.declared.tail.Tail.{Tail}
-use Rattle.layered_cycle.specs.Indexed.{Misses}
+use Rattle.layered_cycle.specs.Indexed.{IsNowhere}
 use Rattle.layered_cycle.proofs.Automata.{longer_by_one, distinct_put, moves_made, rows_made, unknown_row, unknown_long}
 use Rattle.layered_cycle.proofs.automaton.Automaton.state_of.Goals as goal
 
@@ -9,7 +9,7 @@ pub returns-clause-automaton : goal.returns-clause-automaton
 returns-clause-automaton c =
     let a = c.requires.automaton in
     let len : c.len-state.result ≡ length c.args.self.now.tails.items = search rules in
-    let misses : Misses c.args.self.now.tails.items c.args.tail = subst (λ (xs : List Tail). Misses xs c.args.tail) c.deref.ensures.value c.in_default.ensures in
+    let misses : IsNowhere c.args.self.now.tails.items c.args.tail = subst (λ (xs : List Tail). IsNowhere xs c.args.tail) c.deref.ensures.value c.in_default.ensures in
     record {
       few = omega (arith, c.if-state.false, len, longer_by_one _ _ _ c.in_ok-push.ensures.items);
       distinct = rw c.in_ok-push.ensures.items (distinct_put c.args.self.now.tails.items c.args.tail a.distinct misses);

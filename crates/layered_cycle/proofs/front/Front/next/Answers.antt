@@ -7,7 +7,7 @@ use Rattle.word_tail.specs.declared.tail.Tail.{Tail}
 use Rattle.layered_cycle.specs.declared.step.Step.{Step}
 use Rattle.layered_cycle.specs.Choices.{choice_at, chosen}
 use Rattle.layered_cycle.specs.Grown.{Grown}
-use Rattle.layered_cycle.specs.Front.{Course, course, gain_behind, turned, IsFront, AreLinked}
+use Rattle.layered_cycle.specs.Front.{Course, course, gain_behind, reversed, IsFront, AreLinked}
 use Rattle.layered_cycle.proofs.Fronts.{Moves, front_made}
 use Rattle.layered_cycle.proofs.front.Front.next.Goals as goal
 
@@ -31,8 +31,8 @@ returns-clause-front g c =
       grown = grown;
       long = c.in_ok-row.ensures.long ∙ len;
       each = λ n lt.
-          subst (λ (ts : List Tail). choice_at c.in_ok-row.row n ≡ chosen (gain_behind C.gain c.args.day ts) c.args.self.now.row n (map turned c.in_ok-growth.growth.steps.items)) c.deref-3.ensures.value
-          (subst (λ (xs : List Step). choice_at c.in_ok-row.row n ≡ chosen (gain_behind C.gain c.args.day c.deref-3.result.now) c.args.self.now.row n (map turned xs)) c.deref-2.ensures.value (c.in_ok-row.ensures.each n (omega (arith, lt, len))));
+          subst (λ (ts : List Tail). choice_at c.in_ok-row.row n ≡ chosen (gain_behind C.gain c.args.day ts) c.args.self.now.row n (map reversed c.in_ok-growth.growth.steps.items)) c.deref-3.ensures.value
+          (subst (λ (xs : List Step). choice_at c.in_ok-row.row n ≡ chosen (gain_behind C.gain c.args.day c.deref-3.result.now) c.args.self.now.row n (map reversed xs)) c.deref-2.ensures.value (c.in_ok-row.ensures.each n (omega (arith, lt, len))));
     } in
     (front_made C c.args.day _ _ _ _ _ m (c.in_ok-row.ensures.light _ c.requires.front.light) _ (rw (← c.deref-4.ensures.value) c.in_ok-picks.ensures.picks) c.in_ok-picks.ensures.few _ _ (rw (← c.deref-5.ensures.value, ← c.deref-6.ensures.value) c.in_ok-tails_behind.ensures) (rw (← c.deref-7.ensures.value) c.in_ok-behind.ensures)).0
 
@@ -47,7 +47,7 @@ returns-clause-linked g c =
       grown = grown;
       long = c.in_ok-row.ensures.long ∙ len;
       each = λ n lt.
-          subst (λ (ts : List Tail). choice_at c.in_ok-row.row n ≡ chosen (gain_behind C.gain c.args.day ts) c.args.self.now.row n (map turned c.in_ok-growth.growth.steps.items)) c.deref-3.ensures.value
-          (subst (λ (xs : List Step). choice_at c.in_ok-row.row n ≡ chosen (gain_behind C.gain c.args.day c.deref-3.result.now) c.args.self.now.row n (map turned xs)) c.deref-2.ensures.value (c.in_ok-row.ensures.each n (omega (arith, lt, len))));
+          subst (λ (ts : List Tail). choice_at c.in_ok-row.row n ≡ chosen (gain_behind C.gain c.args.day ts) c.args.self.now.row n (map reversed c.in_ok-growth.growth.steps.items)) c.deref-3.ensures.value
+          (subst (λ (xs : List Step). choice_at c.in_ok-row.row n ≡ chosen (gain_behind C.gain c.args.day c.deref-3.result.now) c.args.self.now.row n (map reversed xs)) c.deref-2.ensures.value (c.in_ok-row.ensures.each n (omega (arith, lt, len))));
     } in
     (front_made C c.args.day _ _ _ _ _ m (c.in_ok-row.ensures.light _ c.requires.front.light) _ (rw (← c.deref-4.ensures.value) c.in_ok-picks.ensures.picks) c.in_ok-picks.ensures.few _ _ (rw (← c.deref-5.ensures.value, ← c.deref-6.ensures.value) c.in_ok-tails_behind.ensures) (rw (← c.deref-7.ensures.value) c.in_ok-behind.ensures)).1
