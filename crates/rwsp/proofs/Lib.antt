@@ -1,11 +1,4 @@
-pub mod Appends
+pub mod Printable
+pub mod Found
+pub mod Passing
 pub mod Replies
-pub mod Logs
-pub mod StaffTexts
-pub mod Plans
-pub mod Bests
-pub mod Trials
-pub mod Reductions
-pub mod Forms
-pub mod Ends
-pub mod OneAnswer

@@ -3,20 +3,20 @@ use Rattle.std.proofs.Common.{◌≡◌, ◌⊎◌, ℕ, ◌≤◌, List, subst,
 use Rattle.rwsp_io.specs.Told.{Told, Silent, Missing, Bytes, Rose}
 use Rattle.rwsp_terms.specs.Instance.{Instance}
 use Rattle.rwsp_file.specs.Spelling.{SpellsProblem}
-use Rattle.rwsp.specs.Commands.{CommandWords, IsForm, ReadsProblem, ReadsSecond, IsWithinHorizon, HasDaysFor, problem_name, second_name}
-use Rattle.rwsp.specs.Inputs.{WhereTold, IsWithinLimit, OfProblem, IsProblemOf}
-use Rattle.rwsp.specs.Answers.{IsAnswer, IsAnswerOn, IsReadFault, IsOfCommand, IsOfStaff, IsNotWeekly, IsWeekly}
-use Rattle.rwsp.specs.Staffs.{IsStaffAnswer}
-use Rattle.rwsp.specs.Texts.{IsTextOf, IsTextOfTrial, IsReplyText}
-use Rattle.rwsp.specs.Trials.{IsTrial, IsTrialAnswer}
-use Rattle.rwsp.specs.declared.answer.TrialResult.{TrialResult}
-use Rattle.rwsp.specs.declared.command.Command.{Command}
-use Rattle.rwsp.specs.declared.command.Command.TheVariants.{Plan, Check, Verify, Reduce, Show, Trial, Crew as CrewCommand, Staff as StaffCommand, CheckStaff, CheckFree, Best as BestCommand}
-use Rattle.rwsp.specs.declared.answer.InputKind.TheVariants as Kinds
-use Rattle.rwsp.specs.declared.answer.Answer.{Answer}
-use Rattle.rwsp.specs.declared.answer.Answer.TheVariants.{Trial as TrialOf, Staff, StaffRange, NotWeekly}
-use Rattle.rwsp.proofs.Logs.{planned_is}
-use Rattle.rwsp.proofs.Bests.{of_best}
+use Rattle.command_line.specs.Commands.{CommandWords, IsForm, ReadsProblem, ReadsSecond, IsWithinHorizon, HasDaysFor, problem_name, second_name}
+use Rattle.rwsp_answers.specs.Inputs.{WhereTold, IsWithinLimit, OfProblem, IsProblemOf}
+use Rattle.rwsp_answers.specs.Answers.{IsAnswer, IsAnswerOn, IsReadFault, IsOfCommand, IsOfStaff, IsNotWeekly, IsWeekly}
+use Rattle.rwsp_answers.specs.Staffs.{IsStaffAnswer}
+use Rattle.rwsp_answers.specs.Texts.{IsTextOf, IsTextOfTrial, IsReplyText}
+use Rattle.rwsp_answers.specs.Trials.{IsTrial, IsTrialAnswer}
+use Rattle.rwsp_answers.specs.declared.answer.TrialResult.{TrialResult}
+use Rattle.command_line.specs.declared.command.Command.{Command}
+use Rattle.command_line.specs.declared.command.Command.TheVariants.{Plan, Check, Verify, Reduce, Show, Trial, Crew as CrewCommand, Staff as StaffCommand, CheckStaff, CheckFree, Best as BestCommand}
+use Rattle.rwsp_answers.specs.declared.answer.InputKind.TheVariants as Kinds
+use Rattle.rwsp_answers.specs.declared.answer.Answer.{Answer}
+use Rattle.rwsp_answers.specs.declared.answer.Answer.TheVariants.{Trial as TrialOf, Staff, StaffRange, NotWeekly}
+use Rattle.rwsp_answers.proofs.Bests.{of_best}
+use Rattle.rwsp.proofs.Printable.{planned_is}
 
 told_weaker : (told : Told) (Q R : List ℕ → Type 0) → ((bytes : List ℕ) → Q bytes → R bytes) → WhereTold told Q → WhereTold told R
 told_weaker Silent Q R f h = tt

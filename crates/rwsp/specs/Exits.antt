@@ -1,12 +1,12 @@
 -- What holds where a run ends before its job is done.
 use Rattle.std.specs.Prelude.{◌≡◌}
 use Rattle.rwsp_io.specs.Told.{Told}
-use Rattle.rwsp.specs.Inputs.{WhereTold, IsTooLong}
-use Rattle.rwsp.specs.Answers.{IsFileAnswer, IsOfFile}
-use Rattle.rwsp.specs.declared.answer.InputKind.{InputKind}
-use Rattle.rwsp.specs.declared.answer.Answer.TheVariants.{TooLong}
-use Rattle.rwsp.specs.declared.answer.Stop.{Stop}
-use Rattle.rwsp.specs.declared.answer.Stop.TheVariants.{ReadFault, Memory}
+use Rattle.rwsp_answers.specs.Inputs.{WhereTold, IsTooLong}
+use Rattle.rwsp_answers.specs.Answers.{IsFileAnswer, IsOfFile}
+use Rattle.rwsp_answers.specs.declared.answer.InputKind.{InputKind}
+use Rattle.rwsp_answers.specs.declared.answer.Answer.TheVariants.{TooLong}
+use Rattle.rwsp_answers.specs.declared.answer.Stop.{Stop}
+use Rattle.rwsp_answers.specs.declared.answer.Stop.TheVariants.{ReadFault, Memory}
 use Rattle.rwsp.specs.declared.input.Exit.{Exit}
 use Rattle.rwsp.specs.declared.input.Exit.TheVariants.{Answer as Answers, Stop as Stops}
 

@@ -1,11 +1,1 @@
-pub mod Commands
-pub mod Inputs
-pub mod Plans
-pub mod Trials
-pub mod Staffs
-pub mod Bests
-pub mod Answers
 pub mod Exits
-pub mod Texts
-pub mod Status
-pub mod Laws

@@ -1,9 +1,9 @@
 // A roster with the most free weekends, and why none has more.
 ghost use Rattle.std.specs.Prelude.{◌≡◌, ◌≤◌, IfOk};
-ghost use Rattle.rwsp.specs.Bests.{IsBestAnswer, best_answer_of};
-ghost use Rattle.rwsp.specs.Texts.{IsPrintable};
+ghost use Rattle.rwsp_answers.specs.Bests.{IsBestAnswer, best_answer_of};
+ghost use Rattle.rwsp_answers.specs.Texts.{IsPrintable};
 
-use crate::answer::Answer;
+use rwsp_answers::Answer;
 use rwsp_model::Problem;
 use rwsp_terms::limits::GREATEST_BUDGET;
 use std::alloc::{AllocError, Global};

@@ -1,20 +1,20 @@
 // Whether a log passes.
 ghost use Rattle.std.specs.Prelude.{◌≤◌, IfOk};
-ghost use Rattle.rwsp.specs.Inputs.{IsWithinLimit};
-ghost use Rattle.rwsp.specs.Answers.{IsLogAnswer, IsOfLog};
-ghost use Rattle.rwsp.specs.Texts.{IsPrintable};
-ghost use Rattle.rwsp.specs.declared.answer.InputKind.TheVariants as Kinds;
+ghost use Rattle.rwsp_answers.specs.Inputs.{IsWithinLimit};
+ghost use Rattle.rwsp_answers.specs.Answers.{IsLogAnswer, IsOfLog};
+ghost use Rattle.rwsp_answers.specs.Texts.{IsPrintable};
+ghost use Rattle.rwsp_answers.specs.declared.answer.InputKind.TheVariants as Kinds;
 
-use crate::answer::Answer;
 use potential_bounds::Gate;
 use refutation_checker::check_with;
+use rwsp_answers::Answer;
 use rwsp_model::{Fail, Problem};
 use rwsp_terms::limits::MOST_WORKERS;
 use std::alloc::{AllocError, Global};
 use std::thread::Threads;
 
 /// The answer to the bytes of a log, worked out by `workers` threads at most.
-#[tactic(auto, using(crate::proofs::Logs::printable))]
+#[tactic(auto, using(crate::proofs::Printable::printable))]
 pub fn log_verdict<R: Threads + Sync, G: Gate>(
     rt: &R,
     alloc: Global,

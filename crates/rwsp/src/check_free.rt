@@ -1,19 +1,19 @@
 // Whether a free log passes.
 ghost use Rattle.std.specs.Prelude.{◌≡◌, IfOk};
 ghost use Rattle.refutation_terms.specs.FreeVerdict.{IsFreeAccepted};
-ghost use Rattle.rwsp.specs.Inputs.{IsWithinLimit};
-ghost use Rattle.rwsp.specs.Answers.{IsFreeAnswer, IsOfFreeLog};
-ghost use Rattle.rwsp.specs.Texts.{IsPrintable};
-ghost use Rattle.rwsp.specs.declared.answer.InputKind.TheVariants as Kinds;
+ghost use Rattle.rwsp_answers.specs.Inputs.{IsWithinLimit};
+ghost use Rattle.rwsp_answers.specs.Answers.{IsFreeAnswer, IsOfFreeLog};
+ghost use Rattle.rwsp_answers.specs.Texts.{IsPrintable};
+ghost use Rattle.rwsp_answers.specs.declared.answer.InputKind.TheVariants as Kinds;
 
-use crate::answer::Answer;
 use refutation_checker::check_free;
 use refutation_log::Log;
+use rwsp_answers::Answer;
 use rwsp_model::{Fail, Problem};
 use std::alloc::{AllocError, Global};
 
 /// The answer to the bytes of a free log.
-#[tactic(auto, using(crate::proofs::Logs::free_printable))]
+#[tactic(auto, using(crate::proofs::Printable::free_printable))]
 pub fn free_verdict(alloc: Global, problem: &Problem, bytes: &[u8]) -> Result<Answer, AllocError>
     requires weekly { problem.now.days ≡ 7 }
     requires short { IsWithinLimit Kinds.Log bytes.now }

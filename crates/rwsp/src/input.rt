@@ -2,11 +2,11 @@
 ghost use Rattle.std.specs.Prelude.{◌≡◌, ℕ, ◌≤◌, List, IfOk, IfErr, IsErrOf};
 ghost use Rattle.rwsp_io.specs.Told.{NeverFall, Rose, Missing};
 ghost use Rattle.rwsp_file.specs.Spelling.{SpellsProblem};
-ghost use Rattle.rwsp.specs.Inputs.{WhereTold, IsWithinLimit, longest};
+ghost use Rattle.rwsp_answers.specs.Inputs.{WhereTold, IsWithinLimit, longest};
 ghost use Rattle.rwsp.specs.Exits.{IsReadExit, IsProblemExit};
-ghost use Rattle.rwsp.specs.declared.answer.InputKind.TheVariants as Kinds;
+ghost use Rattle.rwsp_answers.specs.declared.answer.InputKind.TheVariants as Kinds;
 
-use crate::answer::{Answer, InputKind, Stop};
+use rwsp_answers::{Answer, InputKind, Stop};
 use rwsp_file::read_problem;
 use rwsp_io::{ReadFail, Shelf, read_all};
 use rwsp_model::{Fail, Problem};

@@ -1,30 +1,23 @@
 //! Plans, checks and proves rotating workforce schedules.
 #![tactic(auto)]
 
-mod answer;
 mod best;
-mod best_text;
 mod check;
 mod check_free;
-mod command;
 mod crew;
 mod input;
-mod laws;
-mod log_text;
 mod plan;
 mod reduce;
 mod run;
 mod second_file;
 mod staff;
-mod staff_text;
 #[cfg(test)]
 mod tests;
-mod text;
 mod trial;
 mod verify;
 
-use answer::Outcome;
 use potential_bounds::NoGate;
+use rwsp_answers::Outcome;
 use rwsp_io::{RealShelf, RealSink};
 use std::env;
 use std::io::ErrorKind;

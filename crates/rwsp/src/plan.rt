@@ -1,11 +1,11 @@
 // A roster for a problem, or a refutation.
 ghost use Rattle.std.specs.Prelude.{◌≡◌, ◌≤◌, IfOk};
-ghost use Rattle.rwsp.specs.Plans.{IsPlanAnswer, answer_of};
+ghost use Rattle.rwsp_answers.specs.Plans.{IsPlanAnswer, answer_of};
 
-use crate::answer::Answer;
 use potential_bounds::Gate;
 use roster_planner::plan_roster;
 use roster_search::Found;
+use rwsp_answers::Answer;
 use rwsp_model::Problem;
 use rwsp_terms::limits::GREATEST_BUDGET;
 use std::alloc::{AllocError, Global};

@@ -4,16 +4,16 @@ ghost use Rattle.refutation_terms.specs.Log.{Fits};
 ghost use Rattle.refutation_terms.specs.LogText.{log_text};
 ghost use Rattle.refutation_terms.specs.declared.lines.LogRefusal.{LogRefusal as Why};
 ghost use Rattle.refutation_log.specs.ReadLog.{IsUnread};
-ghost use Rattle.rwsp.specs.Inputs.{IsWithinLimit};
-ghost use Rattle.rwsp.specs.Answers.{IsReduction, IsOfReduction};
-ghost use Rattle.rwsp.specs.Texts.{IsPrintable};
-ghost use Rattle.rwsp.specs.declared.answer.InputKind.TheVariants as Kinds;
+ghost use Rattle.rwsp_answers.specs.Inputs.{IsWithinLimit};
+ghost use Rattle.rwsp_answers.specs.Answers.{IsReduction, IsOfReduction};
+ghost use Rattle.rwsp_answers.specs.Texts.{IsPrintable};
+ghost use Rattle.rwsp_answers.specs.declared.answer.InputKind.TheVariants as Kinds;
 
-use crate::answer::Answer;
 use potential_bounds::Gate;
 use refutation_checker::check_with;
 use refutation_log::{Log, read_log};
 use rule_reducer::reduce_in_place;
+use rwsp_answers::Answer;
 use rwsp_model::{Fail, Problem};
 use std::alloc::{AllocError, Global};
 use std::thread::Threads;
@@ -60,7 +60,7 @@ fn reduced(alloc: Global, problem: &Problem, log: Log) -> Result<Answer, AllocEr
 }
 
 // Why bytes are refused that spell no log: a line before the first that isn't spelled may have a cause too.
-#[tactic(auto, using(crate::proofs::Logs::printable))]
+#[tactic(auto, using(crate::proofs::Printable::printable))]
 fn first_refusal<R: Threads + Sync, G: Gate>(
     rt: &R,
     alloc: Global,

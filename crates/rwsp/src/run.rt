@@ -3,24 +3,23 @@ ghost use Rattle.std.specs.Prelude.{◌≡◌, ℕ, ◌≤◌, List, length, tak
 ghost use Rattle.std.specs.Io.KnownBytes.{Appends, Keeps};
 ghost use Rattle.rwsp_io.specs.Told.{Rose, NeverFall, Missing};
 ghost use Rattle.rwsp_terms.specs.Instance.{Instance};
-ghost use Rattle.rwsp.specs.Answers.{IsAnswer, IsAnswerOn, IsReadFault};
-ghost use Rattle.rwsp.specs.Commands.{IsForm, ReadsProblem, ReadsSecond, IsWithinHorizon, HasDaysFor, AsksNoCalendar, problem_name, second_name};
-ghost use Rattle.rwsp.specs.Plans.{IsPlanAnswer};
-ghost use Rattle.rwsp.specs.Trials.{IsTrialAnswer};
-ghost use Rattle.rwsp.specs.Texts.{IsTextOf, IsReplyText, IsTextOfTrial, HasFixedText, IsPrintable, answer_text};
-ghost use Rattle.rwsp.specs.declared.answer.Answer.{Answer};
+ghost use Rattle.rwsp_answers.specs.Answers.{IsAnswer, IsAnswerOn, IsReadFault};
+ghost use Rattle.command_line.specs.Commands.{IsForm, ReadsProblem, ReadsSecond, IsWithinHorizon, HasDaysFor, AsksNoCalendar, problem_name, second_name};
+ghost use Rattle.rwsp_answers.specs.Plans.{IsPlanAnswer};
+ghost use Rattle.rwsp_answers.specs.Trials.{IsTrialAnswer};
+ghost use Rattle.rwsp_answers.specs.Texts.{IsTextOf, IsReplyText, IsTextOfTrial, HasFixedText, IsPrintable, answer_text};
+ghost use Rattle.rwsp_answers.specs.declared.answer.Answer.{Answer};
 
-use crate::answer::{Answer, Outcome, Stop};
 use crate::best::best_found;
-use crate::command::{Command, command_of, has_days_for, is_within_horizon, word_at};
 use crate::crew::crew_reply;
 use crate::input::{Exit, problem_in};
 use crate::plan::planned;
 use crate::second_file::second_answer;
 use crate::staff::staffed;
-use crate::text::{fixed_text, text_on};
 use crate::trial::run_trial;
+use command_line::{Command, command_of, has_days_for, is_within_horizon, word_at};
 use potential_bounds::Gate;
+use rwsp_answers::{Answer, Outcome, Stop, fixed_text, text_on};
 use rwsp_io::{Shelf, Sink, write_all};
 use rwsp_model::Problem;
 use rwsp_terms::limits::{GREATEST_BUDGET, MOST_WEEKS};
@@ -259,7 +258,7 @@ pub fn printed(alloc: Global, problem: &Problem, answer: Answer) -> Result<Reply
 }
 
 // The answer to `plan`.
-#[tactic(auto, using(crate::proofs::Logs::planned_printable))]
+#[tactic(auto, using(crate::proofs::Printable::planned_printable))]
 fn plan<R: Threads + Sync, G: Gate>(
     rt: &R,
     alloc: Global,

@@ -1,21 +1,21 @@
 // The answers to a second file.
 ghost use Rattle.std.specs.Prelude.{◌≡◌, IfOk, IfErr};
 ghost use Rattle.rwsp_io.specs.Told.{NeverFall, Rose};
-ghost use Rattle.rwsp.specs.Commands.{ReadsSecond, HasFewWorkers, HasDaysFor, AsksNoCalendar};
-ghost use Rattle.rwsp.specs.Inputs.{WhereTold, IsWithinLimit, second_kind};
-ghost use Rattle.rwsp.specs.Answers.{IsOfSecond, IsSecondAnswer};
+ghost use Rattle.command_line.specs.Commands.{ReadsSecond, HasFewWorkers, HasDaysFor, AsksNoCalendar};
+ghost use Rattle.rwsp_answers.specs.Inputs.{WhereTold, IsWithinLimit, second_kind};
+ghost use Rattle.rwsp_answers.specs.Answers.{IsOfSecond, IsSecondAnswer};
 ghost use Rattle.rwsp.specs.Exits.{IsStop};
-ghost use Rattle.rwsp.specs.Texts.{IsPrintable};
+ghost use Rattle.rwsp_answers.specs.Texts.{IsPrintable};
 
-use crate::answer::{Answer, InputKind, Stop};
 use crate::check::log_verdict;
 use crate::check_free::free_verdict;
-use crate::command::Command;
 use crate::input::{Exit, bytes_in};
 use crate::reduce::reduction;
 use crate::staff::staff_verdict;
 use crate::verify::roster_verdict;
+use command_line::Command;
 use potential_bounds::Gate;
+use rwsp_answers::{Answer, InputKind, Stop};
 use rwsp_io::Shelf;
 use rwsp_model::Problem;
 use std::alloc::{AllocError, Global};

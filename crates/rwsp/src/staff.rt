@@ -1,15 +1,15 @@
 // The least crew, and whether a text that says so is right.
 ghost use Rattle.std.specs.Prelude.{◌<◌, ◌+◌, ◌≤◌, IfOk};
 ghost use Rattle.rwsp_terms.specs.declared.limits.TheConstants.{MOST_WEEKS, MOST_SIZES, GREATEST_STAFF_BUDGET};
-ghost use Rattle.rwsp.specs.Inputs.{IsWithinLimit};
-ghost use Rattle.rwsp.specs.Staffs.{IsStaffAnswer, IsStaffVerdictOf};
-ghost use Rattle.rwsp.specs.Answers.{IsOfStaffText};
-ghost use Rattle.rwsp.specs.Texts.{IsPrintable};
-ghost use Rattle.rwsp.specs.declared.answer.InputKind.TheVariants as Kinds;
+ghost use Rattle.rwsp_answers.specs.Inputs.{IsWithinLimit};
+ghost use Rattle.rwsp_answers.specs.Staffs.{IsStaffAnswer, IsStaffVerdictOf};
+ghost use Rattle.rwsp_answers.specs.Answers.{IsOfStaffText};
+ghost use Rattle.rwsp_answers.specs.Texts.{IsPrintable};
+ghost use Rattle.rwsp_answers.specs.declared.answer.InputKind.TheVariants as Kinds;
 
-use crate::answer::Answer;
 use crew_size::{check_staff, staff};
 use potential_bounds::Gate;
+use rwsp_answers::Answer;
 use rwsp_model::{Fail, Problem};
 use rwsp_terms::limits::{MOST_CELLS, USUAL_WORKERS};
 use std::alloc::{AllocError, Global};

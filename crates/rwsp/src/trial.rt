@@ -1,23 +1,16 @@
 // What a search finds for the problem of a number.
-ghost use Rattle.std.specs.Prelude.{◌≡◌, ◌++◌, ◌*◌, ◌≤◌, IfOk, OnOk, length};
-ghost use Rattle.std.specs.Fmt.{decimal};
-ghost use Rattle.rwsp_terms.specs.Instance.{IsDay};
+ghost use Rattle.std.specs.Prelude.{◌≤◌, IfOk};
 ghost use Rattle.problem_generator.specs.Generated.{IsGenerated};
-ghost use Rattle.rwsp.specs.Trials.{IsTried, IsTrial};
-ghost use Rattle.rwsp.specs.Texts.{demand_on, whole_demand, trial_line, found_line, trial_text, IsTrialText};
+ghost use Rattle.rwsp_answers.specs.Trials.{IsTried, IsTrial};
+ghost use Rattle.rwsp_answers.specs.Texts.{IsTrialText};
 
-use crate::answer::TrialResult;
-use crate::log_text::put_labelled;
 use potential_bounds::Gate;
 use problem_generator::{gen_problem, hidden_rosters_meet};
-use refutation_log::print_log;
 use roster_planner::plan_roster;
-use roster_print::print_roster;
 use roster_search::Found;
+use rwsp_answers::{TrialResult, text_of_trial};
 use rwsp_model::Problem;
-use rwsp_terms::Symbol;
-use rwsp_terms::limits::{MOST_SHIFTS, MOST_WEEKS, TRIAL_BUDGET};
-use rwsp_text::put_number;
+use rwsp_terms::limits::{MOST_WEEKS, TRIAL_BUDGET};
 use std::alloc::{AllocError, Global};
 use std::thread::Threads;
 
@@ -47,7 +40,7 @@ pub fn run_trial<R: Threads + Sync, G: Gate>(
         weeks,
         found,
     };
-    let text = trial_text(alloc, &problem, &result)?;
+    let text = text_of_trial(alloc, &problem, &result)?;
     Ok(Trial { result, text })
 }
 
@@ -66,83 +59,4 @@ fn tried<R: Threads + Sync, G: Gate>(
 {
     hidden_rosters_meet();
     plan_roster(rt, alloc, problem, TRIAL_BUDGET, gate)
-}
-
-fn demand_on(problem: &Problem, day: u32) -> u32
-    requires { IsDay problem.now day }
-    ensures value { result ≡ demand_on problem.now day }
-    ensures few { result ≤ MOST_WEEKS * MOST_SHIFTS }
-{
-    let mut demand = 0;
-    for x in 0..problem.shifts() {
-        demand += problem.demand_least(Symbol { number: x + 1 }, day) as u32;
-    }
-    demand
-}
-
-fn whole_demand(problem: &Problem) -> u32
-    ensures { result ≡ whole_demand problem.now }
-{
-    let mut demand = 0;
-    for day in 0..problem.days() {
-        demand += demand_on(problem, day + 1);
-    }
-    demand
-}
-
-fn trial_line(alloc: Global, problem: &Problem, trial: &TrialResult) -> Result<Vec<u8>, AllocError>
-    ensures { IfOk result (λ v. v.items ≡ trial_line problem.now trial.now) }
-{
-    let mut out = Vec::new(alloc);
-    put_labelled(&mut out, b"number ".as_slice(), trial.number)?;
-    put_labelled(&mut out, b" weeks ".as_slice(), trial.weeks)?;
-    put_labelled(&mut out, b" days ".as_slice(), problem.days())?;
-    put_labelled(
-        &mut out,
-        b" shifts ".as_slice(),
-        u32::from(problem.shifts()),
-    )?;
-    put_labelled(&mut out, b" demand ".as_slice(), whole_demand(problem))?;
-    Ok(out)
-}
-
-// Appends a label and the number of bytes of a text.
-fn put_bytes(out: &mut Vec<u8>, label: &[u8], text: &[u8]) -> Result<(), AllocError>
-    ensures { OnOk result (out.new.items ≡ out.old.items ++ label.now ++ decimal (length text.now)) }
-{
-    out.extend_from_slice(label)?;
-    put_number(out, text.len() as u64)
-}
-
-fn put_found_line(
-    out: &mut Vec<u8>,
-    alloc: Global,
-    problem: &Problem,
-    found: &Found,
-) -> Result<(), AllocError>
-    requires { IsTried problem.now found.now }
-    ensures { OnOk result (out.new.items ≡ out.old.items ++ found_line problem.now found.now) }
-{
-    match found {
-        Found::Roster(roster) => {
-            let text = print_roster(alloc, problem, roster)?;
-            put_bytes(out, b"answer roster bytes ".as_slice(), &text)
-        }
-        Found::Undecided(log) => {
-            let text = print_log(alloc, problem, log)?;
-            put_bytes(out, b"answer undecided bytes ".as_slice(), &text)
-        }
-        Found::NoRoster(_) => unreachable!(),
-    }
-}
-
-fn trial_text(alloc: Global, problem: &Problem, trial: &TrialResult) -> Result<Vec<u8>, AllocError>
-    requires { IsTried problem.now trial.now.found }
-    ensures { IfOk result (λ v. v.items ≡ trial_text problem.now trial.now) }
-{
-    let mut out = trial_line(alloc, problem, trial)?;
-    out.push(b'\n')?;
-    put_found_line(&mut out, alloc, problem, &trial.found)?;
-    out.push(b'\n')?;
-    Ok(out)
 }

@@ -2,14 +2,14 @@
 ghost use Rattle.std.specs.Prelude.{ℕ, List, IfOk};
 ghost use Rattle.rwsp_terms.specs.Roster.{IsRoster};
 ghost use Rattle.roster_print.specs.RosterText.{SpellsRoster};
-ghost use Rattle.rwsp.specs.Inputs.{IsWithinLimit};
-ghost use Rattle.rwsp.specs.Answers.{IsRosterAnswer, IsOfRoster};
-ghost use Rattle.rwsp.specs.Texts.{IsPrintable};
-ghost use Rattle.rwsp.specs.declared.answer.InputKind.TheVariants as Kinds;
+ghost use Rattle.rwsp_answers.specs.Inputs.{IsWithinLimit};
+ghost use Rattle.rwsp_answers.specs.Answers.{IsRosterAnswer, IsOfRoster};
+ghost use Rattle.rwsp_answers.specs.Texts.{IsPrintable};
+ghost use Rattle.rwsp_answers.specs.declared.answer.InputKind.TheVariants as Kinds;
 
-use crate::answer::Answer;
 use roster_checker::first_broken;
 use roster_print::read_roster;
+use rwsp_answers::Answer;
 use rwsp_model::{Fail, Problem, Roster};
 use std::alloc::{AllocError, Global};
 

@@ -2,11 +2,11 @@
 use super::logs::Meeting;
 use super::plans::printed;
 use super::{ends, shelf_of, words_of};
-use crate::answer::{Answer, Outcome};
 use crate::run::run;
 use potential_bounds::NoGate;
 use problem_generator::gen_problem;
 use roster_search::Found;
+use rwsp_answers::{Answer, Outcome};
 use rwsp_file::print_problem;
 use rwsp_io::MemorySink;
 use std::test::Fail;

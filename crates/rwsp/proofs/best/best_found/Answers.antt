@@ -1,6 +1,7 @@
 use Rattle.std.proofs.Common.{subst, sym}
-use Rattle.rwsp.specs.Bests.{IsBestAnswer}
-use Rattle.rwsp.proofs.Bests.{best_as_found, best_printable}
+use Rattle.rwsp_answers.specs.Bests.{IsBestAnswer}
+use Rattle.rwsp.proofs.Found.{best_as_found}
+use Rattle.rwsp.proofs.Printable.{best_printable}
 use Rattle.rwsp.proofs.best.best_found.Goals as goal
 
 pub returns-clause-answer : goal.returns-clause-answer

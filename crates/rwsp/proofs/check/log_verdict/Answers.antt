@@ -1,4 +1,4 @@
-use Rattle.rwsp.proofs.Logs.{accepted}
+use Rattle.rwsp_answers.proofs.Logs.{accepted}
 use Rattle.rwsp.proofs.check.log_verdict.Goals as goal
 
 pub returns-in-Ok-clause-answer : goal.returns-in-Ok-clause-answer

@@ -1,7 +1,7 @@
 use Rattle.std.proofs.Common.{ℕ, List, subst, sym}
-use Rattle.rwsp.specs.Answers.{IsFreeAnswer}
-use Rattle.rwsp.specs.declared.answer.Answer.TheVariants.{FreeAccepted}
-use Rattle.rwsp.proofs.Logs.{free_accepted}
+use Rattle.rwsp_answers.specs.Answers.{IsFreeAnswer}
+use Rattle.rwsp_answers.specs.declared.answer.Answer.TheVariants.{FreeAccepted}
+use Rattle.rwsp_answers.proofs.Logs.{free_accepted}
 use Rattle.rwsp.proofs.check_free.accepted.Goals as goal
 
 pub returns-clause-answer : goal.returns-clause-answer

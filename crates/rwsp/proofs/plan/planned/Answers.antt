@@ -1,6 +1,6 @@
 use Rattle.std.proofs.Common.{subst, sym}
-use Rattle.rwsp.specs.Plans.{IsPlanAnswer}
-use Rattle.rwsp.proofs.Plans.{planned_as_found}
+use Rattle.rwsp_answers.specs.Plans.{IsPlanAnswer}
+use Rattle.rwsp.proofs.Found.{planned_as_found}
 use Rattle.rwsp.proofs.plan.planned.Goals as goal
 
 pub returns : goal.returns

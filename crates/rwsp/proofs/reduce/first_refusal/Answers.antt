@@ -1,4 +1,4 @@
-use Rattle.rwsp.proofs.Reductions.{passes_and_is_unread}
+use Rattle.rwsp.proofs.Passing.{passes_and_is_unread}
 use Rattle.rwsp.proofs.reduce.first_refusal.Goals as goal
 
 pub unreachable-requires : goal.unreachable-requires

@@ -1,9 +1,9 @@
 use Rattle.std.proofs.Common.{List, ℕ, subst}
 use Rattle.std.proofs.lemmas.Result.{IfOk-weaker}
 use Rattle.rwsp_file.specs.Spelling.{SpellsProblem}
-use Rattle.rwsp.specs.Commands.{second_name}
-use Rattle.rwsp.specs.Inputs.{WhereTold, IsWithinLimit}
-use Rattle.rwsp.specs.declared.answer.InputKind.TheVariants as Kinds
+use Rattle.command_line.specs.Commands.{second_name}
+use Rattle.rwsp_answers.specs.Inputs.{WhereTold, IsWithinLimit}
+use Rattle.rwsp_answers.specs.declared.answer.InputKind.TheVariants as Kinds
 use Rattle.rwsp.proofs.Replies.{IsRead, job_answer, job_text, second_fault}
 use Rattle.rwsp.proofs.run.reply_on_file.Goals as goal
 

@@ -1,6 +1,6 @@
 use Rattle.std.proofs.Common.{◌≡◌, subst, true, false}
-use Rattle.rwsp.specs.Commands.{IsWithinHorizon}
-use Rattle.rwsp.proofs.Forms.{one_form}
+use Rattle.command_line.specs.Commands.{IsWithinHorizon}
+use Rattle.command_line.proofs.Forms.{one_form}
 use Rattle.rwsp.proofs.run.reply_to.Goals as goal
 
 pub returns-then-not-is_within_horizon-clause-missing : goal.returns-then-not-is_within_horizon-clause-missing

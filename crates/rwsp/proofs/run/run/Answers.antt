@@ -1,8 +1,8 @@
 use Rattle.std.proofs.Common.{◌≡◌, ◌≤◌, List, ℕ, length, take, subst}
 use Rattle.std.specs.Io.KnownBytes.{Appends}
-use Rattle.rwsp.specs.Answers.{IsAnswer}
-use Rattle.rwsp.specs.Texts.{IsTextOf}
-use Rattle.rwsp.specs.declared.answer.Answer.{Answer}
+use Rattle.rwsp_answers.specs.Answers.{IsAnswer}
+use Rattle.rwsp_answers.specs.Texts.{IsTextOf}
+use Rattle.rwsp_answers.specs.declared.answer.Answer.{Answer}
 use Rattle.rwsp.proofs.run.run.Goals as goal
 
 pub returns-in-Ok-written-clause-answer : goal.returns-in-Ok-written-clause-answer

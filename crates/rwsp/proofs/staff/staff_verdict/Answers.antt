@@ -1,5 +1,5 @@
 use Rattle.crew_size.proofs.Decided.{accepted_decide}
-use Rattle.rwsp.proofs.StaffTexts.{names_its_own}
+use Rattle.rwsp.proofs.Printable.{names_its_own}
 use Rattle.rwsp.proofs.staff.staff_verdict.Goals as goal
 
 pub returns-in-Ok-clause-answer : goal.returns-in-Ok-clause-answer

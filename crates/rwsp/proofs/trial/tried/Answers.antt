@@ -1,5 +1,5 @@
 use Rattle.std.proofs.lemmas.Result.{IfOk-weaker}
-use Rattle.rwsp.proofs.Trials.{tried_as_planned}
+use Rattle.rwsp.proofs.Found.{tried_as_planned}
 use Rattle.rwsp.proofs.trial.tried.Goals as goal
 
 pub returns : goal.returns

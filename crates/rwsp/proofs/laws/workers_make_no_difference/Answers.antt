@@ -1,5 +1,0 @@
-use Rattle.rwsp.proofs.OneAnswer.{same_for_workers}
-use Rattle.rwsp.proofs.laws.workers_make_no_difference.Goals as goal
-
-pub returns : goal.returns
-returns c = same_for_workers
