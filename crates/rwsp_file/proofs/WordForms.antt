@@ -1,21 +1,16 @@
 -- The forms of words: no blanks, no `#` in front, and at least one byte.
 use Rattle.std.proofs.Common.{◌≡◌, ◌≢◌, ℕ, suc, ◌+◌, ◌≤◌, List, [], ◌∷◌, ◌++◌, length, take, Bool, true, false, not, ◌==◌, cond, refl, subst, map, arith}
-use Rattle.std.specs.Prelude.{All, filter, take_while, slice_index}
+use Rattle.std.specs.Prelude.{filter, take_while, slice_index}
 use Rattle.std.specs.List.{flat_map, AllByRecursion, slice_split, onto_first, prefix_len, enumerate_from}
 use Rattle.std.proofs.lemmas.Bool.{eq-eqb, or_from}
 use Rattle.rwsp_text.specs.Lexemes.{Lexeme, is_space, has_some, lines_of, words_of_line, lexemes}
 use Rattle.rwsp_terms.specs.declared.data.ShiftRow.{ShiftRow}
 use Rattle.rwsp_terms.proofs.Elements.{all_from, all_joined}
 use Rattle.rwsp_model.specs.Validity.{breaks_name}
+use Rattle.rwsp_model.proofs.Names.{IsWord}
 use Rattle.rwsp_file.specs.Spelling.{FileField, Spell, IsRow, on_line, past_line, is_on_line}
 use Rattle.rwsp_file.specs.Spelling.FileField.{NumberField, DemandField, ShiftField, NameField}
 use Rattle.rwsp_file.proofs.Lines.{AllByRecursion-drop}
-
--- a word as it is written in a text
-pub record IsWord (text : List ℕ) : Type 0 where
-  pub some : 1 ≤ length text
-  pub unbroken : All (λ b. breaks_name b ≡ false) text
-  pub no_hash : slice_index text 0 ≢ 35
 
 abbrev pub IsWordField : FileField → Type 0
 IsWordField (ShiftField row) = IsWord row.name
