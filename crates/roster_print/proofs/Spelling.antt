@@ -1,18 +1,15 @@
 -- What texts that spell a roster have, and when they are refused.
-use Rattle.std.proofs.Common.{◌≡◌, ◌≢◌, ℕ, suc, ◌+◌, ◌*◌, ◌<◌, List, [], ◌∷◌, ◌++◌, length, Option, Some, None, Bool, true, false, cond, refl, ap, sym, ◌∙◌, arith, subst, length-append, eq-eqb, eqb-true}
-use Rattle.std.specs.Prelude.{map, filter, is_none, ◌==◌, position, MatchOption, All}
+use Rattle.std.proofs.Common.{◌≡◌, ◌≢◌, ℕ, suc, ◌+◌, ◌*◌, List, [], ◌∷◌, ◌++◌, length, Option, Some, None, Bool, true, false, cond, refl, ap, sym, ◌∙◌, arith, subst, length-append, eq-eqb, eqb-true}
+use Rattle.std.specs.Prelude.{map, filter, is_none, ◌==◌, MatchOption, All}
 use Rattle.std.specs.List.{list_any, flat_map, enumerate_from, AllByRecursion}
-use Rattle.std.specs.Option.{option_or, option_map}
-use Rattle.std.specs.Str.{bytes_eq}
+use Rattle.std.specs.Option.{option_or}
 use Rattle.std.proofs.lemmas.List.{map-append, length-map}
 use Rattle.std.proofs.lemmas.List.Elements.{All-from_recursion, All-head, All-tail}
-use Rattle.std.proofs.lemmas.List.Quantifiers.{position-Some}
 use Rattle.std.proofs.lemmas.Bool.{or_parts, or_from, ne_eqb, cond-true, cond-false}
 use Rattle.rwsp_text.specs.Lexemes.{lines_of, words_of_line, has_some}
 use Rattle.rwsp_terms.proofs.SymbolNames.{symbol_found}
-use Rattle.rwsp_terms.specs.Instance.{Instance, symbol_of, shift_count, symbol_numbered, off_name, IsSymbol, no_bounds}
+use Rattle.rwsp_terms.specs.Instance.{Instance, symbol_of, IsSymbol}
 use Rattle.rwsp_terms.specs.declared.data.Symbol.{Symbol}
-use Rattle.rwsp_terms.specs.declared.data.ShiftRow.{ShiftRow}
 use Rattle.roster_print.specs.RosterText.{weeks_of, SpellsRoster}
 use Rattle.roster_print.specs.Refusal.{numbered_weeks, week_refusal, first_refusal, count_refusal, refusal_of_roster}
 use Rattle.roster_print.specs.Laws.{TextSpellsOneRoster, RefusalsDecideSpelling, SpelledIsRoster}
