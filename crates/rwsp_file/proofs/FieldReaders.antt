@@ -1,14 +1,15 @@
 -- Readers of the single fields.
-use Rattle.std.proofs.Common.{◌≡◌, ℕ, suc, ◌+◌, ◌*◌, ◌<◌, ◌≤◌, List, [], ◌∷◌, ◌++◌, length, Bool, true, false, not, ◌&&◌, ◌==◌, cond, Option, Some, None, Ok, Err, refl, ap, sym, ◌∙◌, arith, take, drop, get_or, inl, inr, nat_le, length-drop}
+use Rattle.std.proofs.Common.{◌≡◌, ℕ, suc, ◌+◌, ◌*◌, ◌<◌, ◌≤◌, List, [], ◌∷◌, ◌++◌, length, Bool, true, false, not, ◌&&◌, ◌==◌, cond, Option, Some, None, Ok, Err, refl, ap, sym, ◌∙◌, arith, take, drop, inl, inr, nat_le, length-drop}
 use Rattle.std.specs.Prelude.{if◌then◌else◌}
 use Rattle.std.specs.Bool.{Decides}
 use Rattle.std.specs.Option.{option_map}
 use Rattle.std.specs.List.{list_all, before_first, after_first, position_or_len}
 use Rattle.std.specs.Char.{is_ascii_digit}
-use Rattle.std.proofs.lemmas.List.Sums.{split_at_first, prefix_len_stops}
+use Rattle.std.proofs.lemmas.List.Sums.{split_at_first, passes_at_first}
 use Rattle.std.proofs.lemmas.Bool.Decides.{nat_tests}
 use Rattle.rwsp_text.specs.Lexemes.{Lexeme}
 use Rattle.rwsp_text.specs.Numbers.{number_of, value_of}
+use Rattle.rwsp_text.proofs.Numerals.{if_some, if_false}
 use Rattle.rwsp_terms.specs.declared.limits.TheConstants.{MOST_CELLS, MOST_WEEKS}
 use Rattle.rwsp_terms.specs.declared.data.Bounds.{Bounds}
 use Rattle.rwsp_model.specs.Validity.{IsSmallRange, is_between, is_small_range}
@@ -20,7 +21,7 @@ use Rattle.rwsp_file.proofs.Readers.{IsReader, Gives, gives_like, gives_some, gi
 use Rattle.rwsp_file.specs.declared.refusal.FileRefusal.{FileRefusal}
 use Rattle.rwsp_file.specs.declared.refusal.FileRefusal.TheVariants.{Number, Range}
 use Rattle.std.proofs.lemmas.List.Folds.{list_all-append}
-use Rattle.std.proofs.lemmas.Bool.{eqb-true, and_parts, not-false}
+use Rattle.std.proofs.lemmas.Bool.{eqb-true, and_parts}
 use Rattle.std.proofs.Math.Seq.{take-append_seam, drop-append-add}
 use Rattle.std.proofs.Math.Bool.{and-false}
 use Rattle.std.proofs.lemmas.Option.{same_Some}
@@ -57,24 +58,17 @@ weeks_reader days = word_reader NumberField (weeks_gives days) (λ n w fs ws is 
 
 -- numbers have no dot
 
-all_digits : (a b c : Bool) (text : List ℕ) (n : ℕ) → (if a && b && c then Some (value_of text) else None) ≡ Some n → c ≡ true
-all_digits true true true text n e = refl
-all_digits true true false text n e = absurd (cc)
-all_digits true false c text n e = absurd (cc)
-all_digits false b c text n e = absurd (cc)
-
 number_digits : (text : List ℕ) (n : ℕ) → number_of text ≡ Some n → list_all is_ascii_digit text ≡ true
-number_digits text n e = all_digits (nat_le 1 (length text)) (nat_le (length text) 9) (list_all is_ascii_digit text) text n e
-
-no_number : (a b c : Bool) (text : List ℕ) → c ≡ false → (if a && b && c then Some (value_of text) else None) ≡ None
-no_number true true c text e = ap (λ d. if d then Some (value_of text) else None) e
-no_number true false c text e = refl
-no_number false b c text e = refl
+number_digits text n e =
+    let few = nat_le 1 (length text) && nat_le (length text) 9 in
+    (and_parts few (list_all is_ascii_digit text) (if_some (few && list_all is_ascii_digit text) (Some (value_of text)) n e).0).1
 
 dotted : (least rest : List ℕ) → number_of (least ++ 46 ∷ rest) ≡ None
 dotted least rest =
-    no_number (nat_le 1 (length (least ++ 46 ∷ rest))) (nat_le (length (least ++ 46 ∷ rest)) 9) (list_all is_ascii_digit (least ++ 46 ∷ rest)) (least ++ 46 ∷ rest)
-    (list_all-append is_ascii_digit least (46 ∷ rest) ∙ and-false (list_all is_ascii_digit least))
+    let text = least ++ 46 ∷ rest in
+    let few = nat_le 1 (length text) && nat_le (length text) 9 in
+    if_false (few && list_all is_ascii_digit text) (Some (value_of text)) None
+    (ap (λ c. few && c) (list_all-append is_ascii_digit least (46 ∷ rest) ∙ and-false (list_all is_ascii_digit least)) ∙ and-false few)
 
 dot_of : (b : ℕ) → is_dot b ≡ true → b ≡ 46
 dot_of b e = eqb-true b 46 e
@@ -104,9 +98,8 @@ cut_at_dot : (text : List ℕ) (c : ℕ) (cs : List ℕ) → after_first is_dot 
 cut_at_dot text c cs e =
     let k : ℕ = position_or_len is_dot text in
     let lt : position_or_len is_dot text < length text = omega (arith, ap length e, length-drop (position_or_len is_dot text + 1) text) in
-    let stop : not (is_dot (get_or text (position_or_len is_dot text) 0)) ≡ false = prefix_len_stops (λ x. not (is_dot x)) text 0 lt in
     split_at_first is_dot text 0 lt
-    ∙ ap (λ b. before_first is_dot text ++ b ∷ after_first is_dot text) (dot_of _ (not-false _ stop))
+    ∙ ap (λ b. before_first is_dot text ++ b ∷ after_first is_dot text) (dot_of _ (passes_at_first is_dot text 0 lt))
     ∙ ap (λ t. before_first is_dot text ++ 46 ∷ t) e
 
 abbrev pub range_between : ℕ → ℕ → Bounds

@@ -84,20 +84,10 @@ name_at P k less =
 pub row_of_place : (P : Instance) (k : ℕ) → k < length P.shifts → slice_get P.shifts (k + 1 - 1) ≡ Some (row_of_shift P k)
 row_of_place P k less = ap (slice_get P.shifts) (place_at k) ∙ slice_get-get_or P.shifts k no_shift less
 
--- two parts behind another are one
-behind : (xs ys : List (List (List ℕ))) (a b c : List ℕ) → b ≡ a ++ flat_map file_line xs → c ≡ b ++ flat_map file_line ys → c ≡ a ++ flat_map file_line (xs ++ ys)
-behind xs ys a b c hb hc =
-    hc ∙ ap (λ t. t ++ flat_map file_line ys) hb ∙ append_assoc a (flat_map file_line xs) (flat_map file_line ys)
-    ∙ ap (λ t. a ++ t) (sym (flat_map-append file_line xs ys))
-
 -- the parts of a text, one behind another
+parts : (A B C D E F : List (List (List ℕ))) (a b c d e f : List ℕ) → a ≡ flat_map file_line A → b ≡ a ++ flat_map file_line B → c ≡ b ++ flat_map file_line C → d ≡ c ++ flat_map file_line D → e ≡ d ++ flat_map file_line E → f ≡ e ++ flat_map file_line F → f ≡ flat_map file_line (A ++ (B ++ (C ++ (D ++ (E ++ F)))))
+parts A B C D E F a b c d e f ha hb hc hd he hf = rw (hf, he, hd, hc, hb, ha) (simp (flat_map-append, append_assoc) refl)
+
 pub whole_text : (P : Instance) (a b c d e f : List ℕ) → a ≡ flat_map file_line (size_lines P) → b ≡ a ++ flat_map file_line (map (map demand_text) P.demand) → c ≡ b ++ flat_map file_line (map shift_words P.shifts) →
     d ≡ c ++ flat_map file_line (frame_lines P) → e ≡ d ++ flat_map file_line (map (pair_words P) P.pairs) → f ≡ e ++ flat_map file_line (map (triple_words P) P.triples) → f ≡ problem_text P
-whole_text P a b c d e f ha hb hc hd he hf =
-    let s1 : f ≡ d ++ flat_map file_line (map (pair_words P) P.pairs ++ map (triple_words P) P.triples) = behind (map (pair_words P) P.pairs) (map (triple_words P) P.triples) d e f he hf in
-    let s2 : f ≡ c ++ flat_map file_line (frame_lines P ++ (map (pair_words P) P.pairs ++ map (triple_words P) P.triples)) = behind (frame_lines P) (map (pair_words P) P.pairs ++ map (triple_words P) P.triples) c d f hd s1 in
-    let s3 : f ≡ b ++ flat_map file_line (map shift_words P.shifts ++ (frame_lines P ++ (map (pair_words P) P.pairs ++ map (triple_words P) P.triples))) =
-    behind (map shift_words P.shifts) (frame_lines P ++ (map (pair_words P) P.pairs ++ map (triple_words P) P.triples)) b c f hc s2 in
-    let s4 : f ≡ a ++ flat_map file_line (map (map demand_text) P.demand ++ (map shift_words P.shifts ++ (frame_lines P ++ (map (pair_words P) P.pairs ++ map (triple_words P) P.triples)))) =
-    behind (map (map demand_text) P.demand) (map shift_words P.shifts ++ (frame_lines P ++ (map (pair_words P) P.pairs ++ map (triple_words P) P.triples))) a b f hb s3 in
-    behind (size_lines P) (map (map demand_text) P.demand ++ (map shift_words P.shifts ++ (frame_lines P ++ (map (pair_words P) P.pairs ++ map (triple_words P) P.triples)))) [] a f ha s4
+whole_text P = parts (size_lines P) (map (map demand_text) P.demand) (map shift_words P.shifts) (frame_lines P) (map (pair_words P) P.pairs) (map (triple_words P) P.triples)
