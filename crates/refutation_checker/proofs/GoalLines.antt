@@ -4,7 +4,7 @@ use Rattle.rwsp_terms.specs.declared.data.Weight.{Weight}
 use Rattle.rwsp_terms.specs.Instance.{Instance, cells}
 use Rattle.refutation_terms.specs.declared.lines.Line.{Line}
 use Rattle.refutation_terms.specs.declared.lines.Line.TheVariants.{Split, Window, Day, Dead, Bound, Few, Free, Unfinished}
-use Rattle.refutation_terms.specs.Log.{LineFits, FreeLineFits, LineFitsFor}
+use Rattle.refutation_terms.specs.Log.{LineFits, LineFitsFor}
 
 -- kinds that free logs have of their own
 abbrev pub IsShared : Line → Type 0
@@ -12,15 +12,15 @@ IsShared Few = ⊥
 IsShared (Free turns reward R y) = ⊥
 IsShared line = Unit {0}
 
-free_shared : (P : Instance) (line : Line) → IsShared line → FreeLineFits P line → LineFits P line
-free_shared P Few shared fits = absurd shared
-free_shared P (Free turns reward R y) shared fits = absurd shared
-free_shared P (Bound p turns R y) shared fits = absurd fits
-free_shared P line shared fits = fits
+free_shared : (P : Instance) (goal : ℕ) (line : Line) → IsShared line → LineFitsFor P (Some goal) line → LineFits P line
+free_shared P goal Few shared fits = absurd shared
+free_shared P goal (Free turns reward R y) shared fits = absurd shared
+free_shared P goal (Bound p turns R y) shared fits = absurd fits
+free_shared P goal line shared fits = fits
 
 pub shared_fits : (P : Instance) (line base : Line) → line ≡ base → IsShared base → (goal : Option ℕ) × LineFitsFor P goal line → LineFits P line
 shared_fits P line base e shared (None, fits) = fits
-shared_fits P line base e shared (Some goal, fits) = free_shared P line (subst IsShared (sym e) shared) fits
+shared_fits P line base e shared (Some goal, fits) = free_shared P goal line (subst IsShared (sym e) shared) fits
 
 positive : (a b : ℕ) → 0 < a * b → 0 < b
 positive a zero h = absurd (omega (arith, h))

@@ -28,7 +28,8 @@ use Rattle.refutation_terms.proofs.Trees.{part_is_not_whole, tree_is_whole}
 use Rattle.refutation_log.specs.Printing.{lines_text}
 use Rattle.refutation_log.proofs.HeaderTexts.{turn_visible}
 use Rattle.refutation_log.proofs.LineTexts.{small_from}
-use Rattle.refutation_log.proofs.OneText.{name_there, symbol_named, body_feedless, feedless_words, has_names}
+use Rattle.rwsp_model.proofs.Names.{symbol_named}
+use Rattle.refutation_log.proofs.OneText.{name_there, body_feedless, feedless_words, has_names}
 use Rattle.refutation_log.proofs.PrintedTexts.{line_piece, joined_lines}
 use Rattle.tree_walk.specs.States.{State, IsStateOf}
 use Rattle.tree_walk.proofs.Stack.{read_is_tree}

@@ -21,7 +21,7 @@ use Rattle.refutation_log.specs.declared.refusal.LineRefusal.TheVariants.{Form, 
 use Rattle.refutation_log.proofs.Named.{spelled_fits}
 use Rattle.refutation_log.proofs.LogLines.{some_bytes}
 use Rattle.refutation_log.proofs.OneText.{has_names, one_list, is_writable}
-use Rattle.refutation_terms.proofs.Spelled.{spell}
+use Rattle.refutation_terms.proofs.Spelled.{spell_for}
 use Rattle.refutation_log.specs.Printing.{lines_text}
 use Rattle.domain_store.specs.Store.{Store, IsStore}
 use Rattle.tree_walk.specs.Splits.{IsFirstSide}
@@ -37,7 +37,7 @@ use Rattle.refutation_checker.proofs.Unread.{PassedSoFar, tree_passed}
 
 pub spelled : (P : Instance) (bytes : List ℕ) (l : Line) → KeepsLimits P → IsLineText P bytes l → Spells P bytes l
 spelled P bytes l limits h =
-    let t = spell P l (has_names P limits) h.fits in
+    let t = spell_for P None l (has_names P limits) h.fits in
     (raw P l, record { spelled = h.text; in_range = t.0; ascends = subst (λ o. IfSome o WeightsAscend) (sym t.1) t.2 }, t.1)
 
 pub text_spelled : (P : Instance) (bytes : List ℕ) (l : Line) → Spells P bytes l → IsLineText P bytes l

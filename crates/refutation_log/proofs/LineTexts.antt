@@ -18,10 +18,10 @@ use Rattle.rwsp_model.specs.declared.fail.Fail.TheVariants.{Refused, Memory}
 use Rattle.rwsp_model.proofs.Numbering.{rules_are_many}
 use Rattle.refutation_terms.specs.declared.lines.Line.{Line}
 use Rattle.refutation_terms.specs.LogText.{RawLine, RawDead, RawBound, RawFew, RawFree, RawUnfinished, IsWrittenFor, raw_fields, line_of, WeightsAscend}
-use Rattle.refutation_terms.specs.LineKinds.{most_turns, split_kind, window_kind, day_kind, dead_kind, bound_kind, free_kind}
+use Rattle.refutation_terms.specs.LineKinds.{kinds_for, most_turns, split_kind, window_kind, day_kind, dead_kind, bound_kind, free_kind}
 use Rattle.refutation_terms.specs.Verdict.{SpellsFor}
 use Rattle.refutation_terms.specs.TextLaws.{IsWritable}
-use Rattle.refutation_terms.proofs.LineTables.{kinds_for, readable_for, line_for, found_for, line_words_for}
+use Rattle.refutation_terms.proofs.LineTables.{readable_for, line_for, found_for, line_words_for}
 use Rattle.refutation_log.specs.Refusals.{IsLineRefusedFor}
 use Rattle.refutation_log.specs.declared.refusal.LineRefusal.{LineRefusal}
 use Rattle.refutation_log.specs.declared.refusal.LineRefusal.TheVariants.{Form, Name}

@@ -15,22 +15,17 @@ spelled_fits P bytes line h = let s = spelled_lines_fit P bytes line h in (s.1, 
 
 -- a line that fits a log with this goal or none fits some log
 pub fits_some : (P : Instance) (goal : Option ℕ) (line : Line) → LineFitsFor P goal line → FitsSomeLog P line
-fits_some P None (Split p x) h = h
-fits_some P None (Window number p len) h = h
-fits_some P None (Day day x over) h = h
-fits_some P None (Dead p len R) h = h
+fits_some P goal (Split p x) h = h
+fits_some P goal (Window number p len) h = h
+fits_some P goal (Day day x over) h = h
+fits_some P goal (Dead p len R) h = h
+fits_some P goal Unfinished h = h
 fits_some P None (Bound p turns R y) h = h
 fits_some P None Few h = absurd h
 fits_some P None (Free turns reward R y) h = absurd h
-fits_some P None Unfinished h = h
-fits_some P (Some goal) (Split p x) h = h
-fits_some P (Some goal) (Window number p len) h = h
-fits_some P (Some goal) (Day day x over) h = h
-fits_some P (Some goal) (Dead p len R) h = h
 fits_some P (Some goal) (Bound p turns R y) h = absurd h
 fits_some P (Some goal) Few h = h
 fits_some P (Some goal) (Free turns reward R y) h = h
-fits_some P (Some goal) Unfinished h = h
 
 pub all_fit_some : (P : Instance) (goal : Option ℕ) (g : Log) → FitsFor P goal g → (k : ℕ) (line : Line) → slice_get g.lines k ≡ Some line → FitsSomeLog P line
 all_fit_some P goal g fits k line e = fits_some P goal line (fits.lines k line e)

@@ -1,17 +1,14 @@
 -- Symbols have names, and no two logs have one text.
-use Rattle.std.proofs.Common.{◌≡◌, ◌≢◌, ℕ, zero, suc, ◌<◌, ◌≤◌, List, [], ◌∷◌, ◌++◌, length, get_or, refl, ap, sym, ◌∙◌, subst, arith, append-nil, Some, None, false}
+use Rattle.std.proofs.Common.{◌≡◌, ◌≢◌, ℕ, ◌≤◌, List, [], ◌∷◌, ◌++◌, length, refl, ap, sym, ◌∙◌, subst, append-nil, None, false}
 use Rattle.std.specs.List.{join_with_byte}
-use Rattle.std.proofs.lemmas.List.Elements.{All-nil, All-cons, All-weaker}
-use Rattle.std.proofs.lemmas.Option.{slice_get-get_or}
+use Rattle.std.proofs.lemmas.List.Elements.{All-weaker}
 use Rattle.rwsp_text.specs.Fields.{Words, IsName}
 use Rattle.rwsp_text.specs.Kinds.{AreBlankless}
 use Rattle.rwsp_text.specs.Lines.{HasNoFeed, text_of_lines}
-use Rattle.rwsp_text.proofs.Words.{seen_found}
 use Rattle.rwsp_text.proofs.LineLaws.{join_no_feed, same_lines}
-use Rattle.rwsp_terms.specs.declared.data.Symbol.{Symbol}
-use Rattle.rwsp_terms.specs.Instance.{Instance, IsSymbol, symbol_of, name_of, name_numbered, name_in}
-use Rattle.rwsp_terms.proofs.SymbolNames.{no_row, symbol_only}
-use Rattle.rwsp_model.specs.Validity.{KeepsLimits, IsShiftName, breaks_name}
+use Rattle.rwsp_terms.specs.Instance.{Instance, name_numbered}
+use Rattle.rwsp_model.proofs.Names.{symbol_named, symbol_word}
+use Rattle.rwsp_model.specs.Validity.{KeepsLimits, breaks_name}
 use Rattle.refutation_terms.specs.declared.lines.Line.{Line}
 use Rattle.refutation_terms.specs.Log.{Log, Fits, LineFits}
 use Rattle.refutation_terms.specs.LogText.{raw, raw_fields, line_text, log_text}
@@ -23,19 +20,10 @@ use Rattle.refutation_log.proofs.LineTexts as LineTexts
 
 -- the symbol of a name
 
-pub symbol_named : (P : Instance) (x : Symbol) → KeepsLimits P → IsSymbol P x → symbol_of P (name_of P x) ≡ Some x
-symbol_named P x limits is = symbol_only P (record { no_dash = λ i d less. (limits.names i d less).no_dash; distinct = limits.distinct }) x.number is
-
 pub name_there : (P : Instance) (n : ℕ) → KeepsLimits P → n ≤ length P.shifts → IsName (name_numbered P n)
-name_there P zero limits le = record { some = omega arith; visible = All-cons (λ b. (b ≢ 32) × (b ≢ 9) × (b ≢ 13) × (b ≢ 10)) 45 [] (seen_found 45 refl) (All-nil (λ b. (b ≢ 32) × (b ≢ 9) × (b ≢ 13) × (b ≢ 10))) }
-name_there P (suc k) limits le =
-    let less : k < length P.shifts = omega (arith, le) in
-    let s : IsShiftName (get_or P.shifts k no_row).name = limits.names k no_row less in
-    let named : IsName (get_or P.shifts k no_row).name = record {
-      some = s.some;
-      visible = All-weaker (λ b. breaks_name b ≡ false) (λ b. (b ≢ 32) × (b ≢ 9) × (b ≢ 13) × (b ≢ 10)) seen (get_or P.shifts k no_row).name s.unbroken;
-    } in
-    subst (λ o. IsName (name_in o)) (sym (slice_get-get_or P.shifts k no_row less)) named
+name_there P n limits le =
+    let word = (symbol_word P n limits le).0 in
+    record { some = word.some; visible = All-weaker (λ b. breaks_name b ≡ false) (λ b. (b ≢ 32) × (b ≢ 9) × (b ≢ 13) × (b ≢ 10)) seen (name_numbered P n) word.unbroken }
   where
     seen : (b : ℕ) → breaks_name b ≡ false → (b ≢ 32) × (b ≢ 9) × (b ≢ 13) × (b ≢ 10)
     seen b h = (

@@ -10,11 +10,8 @@ use Rattle.rwsp_terms.specs.Instance.{Instance}
 use Rattle.refutation_terms.specs.declared.lines.Line.{Line}
 use Rattle.refutation_terms.specs.LogText.{RawSplit, RawWindow, RawDay, RawDead, RawBound, RawFree, raw, raw_fields, line_text, place_words, way, named_weight, rules_text, goal_text, turn_text}
 use Rattle.rwsp_text.specs.Fields.{numbers, weight_fields}
+use Rattle.rwsp_text.proofs.JoinedWords.{join_spaced}
 use Rattle.refutation_log.specs.Printing.{spaced, lines_text, weight_words}
-
-pub join_spaced : (w : List ℕ) (ws : List (List ℕ)) → join_with_byte 32 (w ∷ ws) ≡ w ++ spaced ws
-join_spaced w [] = sym (append-nil w)
-join_spaced w (x ∷ ws) = ap (λ t. w ++ 32 ∷ t) (join_spaced x ws)
 
 pub spaced-append : (ws vs : List (List ℕ)) → spaced (ws ++ vs) ≡ spaced ws ++ spaced vs
 spaced-append ws vs = flat_map-append (λ (w : List ℕ). 32 ∷ w) ws vs

@@ -6,7 +6,7 @@ use Rattle.rwsp_terms.specs.Instance.{Instance}
 use Rattle.refutation_terms.specs.declared.lines.Line.{Line}
 use Rattle.refutation_terms.specs.declared.lines.Line.TheVariants.{Few, Free}
 use Rattle.refutation_terms.specs.declared.lines.Turn.{Turn}
-use Rattle.refutation_terms.specs.Log.{LineFits, FreeLineFits}
+use Rattle.refutation_terms.specs.Log.{LineFits, LineFitsFor}
 use Rattle.refutation_terms.specs.LogText.{raw, line_text, named_weight, header_text, free_header_text}
 use Rattle.rwsp_text.specs.Fields.{weight_fields}
 
@@ -25,8 +25,8 @@ header_text_for P named turn (Some goal) = free_header_text named goal
 
 -- the line fits the problem in a log with a goal or without
 abbrev pub FitsSomeLog : Instance → Line → Type 0
-FitsSomeLog P Few = FreeLineFits P Few
-FitsSomeLog P (Free turns reward R y) = FreeLineFits P (Free turns reward R y)
+FitsSomeLog P Few = LineFitsFor P (Some 0) Few
+FitsSomeLog P (Free turns reward R y) = LineFitsFor P (Some 0) (Free turns reward R y)
 FitsSomeLog P line = LineFits P line
 
 -- each line fits the problem

@@ -3,7 +3,7 @@ use Rattle.std.proofs.Common.{◌≡◌, [], ◌∷◌, refl, Some, None, lit<, 
 use Rattle.refutation_terms.specs.declared.lines.Line.TheVariants.{Few}
 use Rattle.refutation_terms.specs.Tree.{Leaf, domains_at}
 use Rattle.refutation_terms.specs.FreeLeaves.{HasTooFewFree}
-use Rattle.refutation_terms.specs.Log.{FreeLineFits, Cites, ListsShortOnly, HoldsAtFor, FreePasses}
+use Rattle.refutation_terms.specs.Log.{LineFitsFor, Cites, ListsShortOnly, HoldsAtFor, FreePasses}
 use Rattle.refutation_terms.specs.LogText.{free_log_text}
 use Rattle.refutation_terms.specs.Examples.{one_week, few_log, few_text}
 use Rattle.refutation_terms.proofs.Lists.{each_at, are_rules}
@@ -20,7 +20,7 @@ few_log_passes = record {
       turn = tt;
       is_goal = refl;
       goal_fits = (refl, refl, lit≤ tt);
-      lines = each_at (λ k line. FreeLineFits one_week line) (Few ∷ []) (tt, tt);
+      lines = each_at (λ k line. LineFitsFor one_week (Some 2) line) (Few ∷ []) (tt, tt);
     };
     turn = tt;
     turn_named = λ r c. absurd c;

@@ -1,20 +1,20 @@
 -- The lines of a log's text are those of its tables.
-use Rattle.std.proofs.Common.{◌≡◌, ℕ, zero, suc, ◌+◌, ◌*◌, ◌/◌, ◌^◌, ◌<◌, ◌≤◌, List, [], ◌∷◌, ◌++◌, length, refl, ap, sym, ◌∙◌, subst, arith, inl, inr, Bool, true, false, Option, Some, None}
-use Rattle.std.specs.Prelude.{codes, cond}
+use Rattle.std.proofs.Common.{◌≡◌, ℕ, zero, suc, ◌+◌, ◌*◌, ◌/◌, ◌^◌, ◌<◌, ◌≤◌, List, [], ◌∷◌, ◌++◌, length, refl, ap, sym, ◌∙◌, subst, arith, inl, inr, Bool, Option, Some, None}
+use Rattle.std.specs.Prelude.{codes}
 use Rattle.std.specs.List.{flat_map}
 use Rattle.std.specs.Fmt.{decimal}
 use Rattle.std.proofs.lemmas.List.{append-nil}
 use Rattle.std.proofs.Math.Nat.{le-div_iff_mul-le, div-le_self}
-use Rattle.rwsp_text.specs.Fields.{either_word, Words, IsName, numbers, weight_fields}
-use Rattle.rwsp_text.specs.Kinds.{Kind, IsLine, IsReadable, read_line}
+use Rattle.rwsp_text.specs.Fields.{either_word, Words, IsName, NamedWeight, Values, AreInRange, spell, numbers, weight_fields}
+use Rattle.rwsp_text.specs.Kinds.{Kind, IsOfKind, IsLine, AreReadable, IsReadable}
 use Rattle.rwsp_text.specs.Lines.{AreWords}
 use Rattle.rwsp_text.proofs.KindLaws.{no_words, lines_are_words, lines_say_one}
 use Rattle.rwsp_terms.specs.declared.limits.TheConstants.{GREATEST_REWARD, LONGEST_WORD}
 use Rattle.rwsp_terms.specs.Instance.{Instance, cells, IsDay}
 use Rattle.rwsp_terms.specs.Rules.{rules}
-use Rattle.refutation_terms.specs.Log.{AreRules}
-use Rattle.refutation_terms.specs.LogText.{RawLine, RawSplit, RawWindow, RawDay, RawDead, RawBound, RawFew, RawFree, RawUnfinished, place_words, way, raw_fields, IsInRange, IsInFreeRange, IsInRangeFor}
-use Rattle.refutation_terms.specs.LineKinds.{most_turns, split_kind, window_kind, day_kind, dead_kind, bound_kind, open_kind, tree_kinds, free_kinds, version_kinds, free_version_kinds, rules_kinds, turn_kinds, goal_kinds}
+use Rattle.refutation_terms.specs.Log.{IsLength, AreRules}
+use Rattle.refutation_terms.specs.LogText.{RawLine, RawSplit, RawWindow, RawDay, RawDead, RawBound, RawFew, RawFree, RawUnfinished, place_words, raw_fields, IsInRangeFor}
+use Rattle.refutation_terms.specs.LineKinds.{most_turns, split_kind, window_kind, day_kind, dead_kind, bound_kind, open_kind, few_kind, free_kind, own_kinds, kinds_for, version_kinds, free_version_kinds, rules_kinds, turn_kinds, goal_kinds}
 use Rattle.refutation_terms.specs.TextLaws.{IsWritable}
 
 word_fits : LONGEST_WORD < 10 ^ 19
@@ -25,62 +25,35 @@ few_turns P = let le = div-le_self LONGEST_WORD (cells P) in omega (arith, le, w
 
 -- the tables can be read
 
-pub tree_readable : (P : Instance) → IsWritable P → IsReadable (tree_kinds P)
-tree_readable P w =
-    let days : P.days < 10 ^ 19 = omega (arith, w.0) in
-    let weeks : P.weeks < 10 ^ 19 = omega (arith, w.1) in
-    let many : length (rules P) < 10 ^ 19 = omega (arith, w.2) in
-    let word : LONGEST_WORD < 10 ^ 19 = word_fits in (
-      (((weeks, days), tt), refl, (refl, (refl, (refl, (refl, (refl, tt)))))),
-      (
-        ((many, ((weeks, days), (word, tt))), refl, (refl, (refl, (refl, (refl, tt))))),
-        (
-          ((days, ((refl, refl, refl), tt)), refl, (refl, (refl, (refl, tt)))),
-          (
-            (((weeks, days), (word, (refl, ((many, tt), tt)))), refl, (refl, (refl, tt))),
-            (
-              (((weeks, days), (few_turns P, (refl, ((many, refl), (refl, ((days, (omega arith, omega arith), tt), tt)))))), refl, (refl, tt)),
-              ((tt, refl, tt), tt),
-            ),
-          ),
-        ),
-      ),
-    )
+abbrev AreAllReadable : Instance → Type 0
+AreAllReadable P =
+    AreReadable (split_kind P).fields × AreReadable (window_kind P).fields × AreReadable (day_kind P).fields × AreReadable (dead_kind P).fields
+    × AreReadable (bound_kind P).fields × AreReadable (free_kind P).fields
 
-free_readable : (P : Instance) → IsWritable P → IsReadable (free_kinds P)
-free_readable P w =
+fields_readable : (P : Instance) → IsWritable P → AreAllReadable P
+fields_readable P w =
     let days : P.days < 10 ^ 19 = omega (arith, w.0) in
     let weeks : P.weeks < 10 ^ 19 = omega (arith, w.1) in
     let many : length (rules P) < 10 ^ 19 = omega (arith, w.2) in
     let word : LONGEST_WORD < 10 ^ 19 = word_fits in
     let reward : GREATEST_REWARD < 10 ^ 19 = omega arith in (
-      (((weeks, days), tt), refl, (refl, (refl, (refl, (refl, (refl, (refl, tt))))))),
-      (
-        ((many, ((weeks, days), (word, tt))), refl, (refl, (refl, (refl, (refl, (refl, tt)))))),
-        (
-          ((days, ((refl, refl, refl), tt)), refl, (refl, (refl, (refl, (refl, tt))))),
-          (
-            (((weeks, days), (word, (refl, ((many, tt), tt)))), refl, (refl, (refl, (refl, tt)))),
-            (
-              (tt, refl, (refl, (refl, tt))),
-              (
-                ((few_turns P, (reward, (refl, ((many, refl), (refl, ((days, (omega arith, omega arith), tt), tt)))))), refl, (refl, tt)),
-                ((tt, refl, tt), tt),
-              ),
-            ),
-          ),
-        ),
-      ),
+      ((weeks, days), tt),
+      (many, ((weeks, days), (word, tt))),
+      (days, ((refl, refl, refl), tt)),
+      ((weeks, days), (word, (refl, ((many, tt), tt)))),
+      ((weeks, days), (few_turns P, (refl, ((many, refl), (refl, ((days, (omega arith, omega arith), tt), tt)))))),
+      (few_turns P, (reward, (refl, ((many, refl), (refl, ((days, (omega arith, omega arith), tt), tt)))))),
     )
 
--- the lines of the tree of a log with this goal or none
-abbrev pub kinds_for : Instance → Option ℕ → List (Kind RawLine)
-kinds_for P None = tree_kinds P
-kinds_for P (Some goal) = free_kinds P
-
 pub readable_for : (P : Instance) (goal : Option ℕ) → IsWritable P → IsReadable (kinds_for P goal)
-readable_for P None w = tree_readable P w
-readable_for P (Some goal) w = free_readable P w
+readable_for P None w =
+    let r = fields_readable P w in
+    let own : IsReadable (own_kinds P None) = ((r.4, refl, (refl, tt)), ((tt, refl, tt), tt)) in
+    ((r.0, refl, (refl, (refl, (refl, (refl, (refl, tt)))))), ((r.1, refl, (refl, (refl, (refl, (refl, tt))))), ((r.2, refl, (refl, (refl, (refl, tt)))), ((r.3, refl, (refl, (refl, tt))), own))))
+readable_for P (Some goal) w =
+    let r = fields_readable P w in
+    let own : IsReadable (own_kinds P (Some goal)) = ((tt, refl, (refl, (refl, tt))), ((r.5, refl, (refl, tt)), ((tt, refl, tt), tt))) in
+    ((r.0, refl, (refl, (refl, (refl, (refl, (refl, (refl, tt))))))), ((r.1, refl, (refl, (refl, (refl, (refl, (refl, tt)))))), ((r.2, refl, (refl, (refl, (refl, (refl, tt))))), ((r.3, refl, (refl, (refl, (refl, tt)))), own))))
 
 pub free_version_readable : IsReadable free_version_kinds
 free_version_readable = (((refl, tt), refl, tt), tt)
@@ -103,158 +76,107 @@ some_turns : (n m : ℕ) → 0 < n * m → 1 ≤ n
 some_turns zero m h = absurd (omega (arith, h))
 some_turns (suc n) m h = omega arith
 
-pub tree_line : (P : Instance) (raw : RawLine) → IsInRange P raw → IsLine (tree_kinds P) (raw_fields P raw) raw
-tree_line P (RawSplit p name) h = inl (refl, record { values = (p, (name, tt)); keeps = (h.0, (h.1, tt)); spelled = refl; made = refl })
-tree_line P (RawWindow rule p len) h =
-    inr (inl (refl, record { values = (rule, (p, (len, tt))); keeps = ((h.0, h.1), (h.2, (h.3, tt))); spelled = refl; made = refl }))
-tree_line P (RawDay day name over) h =
-    inr (inr (inl (refl, record { values = (day, (name, (over, tt))); keeps = (h.0, (h.1, tt)); spelled = refl; made = refl })))
-tree_line P (RawDead p len R) h =
-    inr (inr (inr (inl (
-      refl,
-      record {
-        values = (p, (len, (R, tt)));
-        keeps = (h.0, (h.1, (h.2, tt)));
-        spelled = ap (λ us. place_words P p ++ (decimal len ∷ codes "rules" ∷ us)) (sym (append-nil (numbers R)));
-        made = refl;
-      },
-    ))))
-tree_line P (RawBound p turns R y) h =
-    let some : 0 < cells P = omega (arith, h.0) in
-    inr (inr (inr (inr (inl (
-      refl,
-      record {
-        values = (p, (turns, (R, (y, tt))));
-        keeps = (h.0, ((some_turns turns (cells P) h.1.0, (le-div_iff_mul-le {k = cells P} {x = turns} {y = LONGEST_WORD} some).1 h.1.1), (h.2, (h.3, tt))));
-        spelled = ap (λ us. place_words P p ++ (decimal turns ∷ codes "rules" ∷ numbers R ++ (codes "weights" ∷ us))) (sym (append-nil (flat_map weight_fields y)));
-        made = refl;
-      },
-    )))))
-tree_line P RawUnfinished h = inr (inr (inr (inr (inr (inl (refl, record { values = tt; keeps = tt; spelled = refl; made = refl }))))))
-tree_line P RawFew h = absurd h
-tree_line P (RawFree turns reward R y) h = absurd h
+some_cells : (n m : ℕ) → 0 < n * m → 0 < m
+some_cells n zero h = let e : n * zero ≡ 0 = omega arith in absurd (omega (arith, h, e))
+some_cells n (suc m) h = omega arith
+
+-- as many turns as there may be make a word of the right length, and the other way round
+
+turns_fit : (P : Instance) (turns : ℕ) → IsLength (turns * cells P) → (1 ≤ turns) × (turns ≤ most_turns P)
+turns_fit P turns h = (some_turns turns (cells P) h.0, (le-div_iff_mul-le {k = cells P} {x = turns} {y = LONGEST_WORD} (some_cells turns (cells P) h.0)).1 h.1)
 
 no_turns_of_none : (c turns : ℕ) → 1 ≤ turns → turns ≤ LONGEST_WORD / c → 0 < c
 no_turns_of_none zero turns some few = let none : LONGEST_WORD / zero ≡ 0 = refl in absurd (omega (arith, some, few, none))
 no_turns_of_none (suc c) turns some few = omega arith
 
-some_cells : (n m : ℕ) → 0 < n * m → 0 < m
-some_cells n zero h = let e : n * zero ≡ 0 = omega arith in absurd (omega (arith, h, e))
-some_cells n (suc m) h = omega arith
+full_turns : (n m : ℕ) → 1 ≤ n → 0 < m → 0 < n * m
+full_turns n m a b = grind (arith, a, b)
 
-free_line : (P : Instance) (raw : RawLine) → IsInFreeRange P raw → IsLine (free_kinds P) (raw_fields P raw) raw
-free_line P (RawSplit p name) h = inl (refl, record { values = (p, (name, tt)); keeps = (h.0, (h.1, tt)); spelled = refl; made = refl })
-free_line P (RawWindow rule p len) h =
-    inr (inl (refl, record { values = (rule, (p, (len, tt))); keeps = ((h.0, h.1), (h.2, (h.3, tt))); spelled = refl; made = refl }))
-free_line P (RawDay day name over) h =
-    inr (inr (inl (refl, record { values = (day, (name, (over, tt))); keeps = (h.0, (h.1, tt)); spelled = refl; made = refl })))
-free_line P (RawDead p len R) h =
-    inr (inr (inr (inl (
+turns_long : (P : Instance) (turns : ℕ) → (1 ≤ turns) × (turns ≤ most_turns P) → IsLength (turns * cells P)
+turns_long P turns h =
+    let some : 0 < cells P = no_turns_of_none (cells P) turns h.0 h.1 in
+    (full_turns turns (cells P) h.0 some, (le-div_iff_mul-le {k = cells P} {x = turns} {y = LONGEST_WORD} some).0 h.1)
+
+-- the words of weights and of rules, which end a line
+weights_end : (R : List ℕ) (y : List NamedWeight) → numbers R ++ (codes "weights" ∷ flat_map weight_fields y) ≡ numbers R ++ (codes "weights" ∷ (flat_map weight_fields y ++ []))
+weights_end R y = ap (λ us. numbers R ++ (codes "weights" ∷ us)) (sym (append-nil (flat_map weight_fields y)))
+
+rules_end : (R : List ℕ) → numbers R ≡ numbers R ++ []
+rules_end R = sym (append-nil (numbers R))
+
+pub line_for : (P : Instance) (goal : Option ℕ) (raw : RawLine) → IsInRangeFor P goal raw → IsLine (kinds_for P goal) (raw_fields P raw) raw
+line_for P goal (RawSplit p name) h = inl (refl, record { values = (p, (name, tt)); keeps = (h.0, (h.1, tt)); spelled = refl; made = refl })
+line_for P goal (RawWindow rule p len) h = inr (inl (refl, record { values = (rule, (p, (len, tt))); keeps = ((h.0, h.1), (h.2, (h.3, tt))); spelled = refl; made = refl }))
+line_for P goal (RawDay day name over) h = inr (inr (inl (refl, record { values = (day, (name, (over, tt))); keeps = (h.0, (h.1, tt)); spelled = refl; made = refl })))
+line_for P goal (RawDead p len R) h =
+    inr (inr (inr (inl (refl, record { values = (p, (len, (R, tt))); keeps = (h.0, (h.1, (h.2, tt))); spelled = ap (λ us. place_words P p ++ (decimal len ∷ codes "rules" ∷ us)) (rules_end R); made = refl }))))
+line_for P None (RawBound p turns R y) h =
+    inr (inr (inr (inr (inl (
       refl,
       record {
-        values = (p, (len, (R, tt)));
-        keeps = (h.0, (h.1, (h.2, tt)));
-        spelled = ap (λ us. place_words P p ++ (decimal len ∷ codes "rules" ∷ us)) (sym (append-nil (numbers R)));
+        values = (p, (turns, (R, (y, tt))));
+        keeps = (h.0, (turns_fit P turns h.1, (h.2, (h.3, tt))));
+        spelled = ap (λ us. place_words P p ++ (decimal turns ∷ codes "rules" ∷ us)) (weights_end R y);
         made = refl;
       },
-    ))))
-free_line P (RawBound p turns R y) h = absurd h
-free_line P RawFew h = inr (inr (inr (inr (inl (refl, record { values = tt; keeps = tt; spelled = refl; made = refl })))))
-free_line P (RawFree turns reward R y) h =
-    let some : 0 < cells P = some_cells turns (cells P) h.0.0 in
+    )))))
+line_for P None RawUnfinished h = inr (inr (inr (inr (inr (inl (refl, record { values = tt; keeps = tt; spelled = refl; made = refl }))))))
+line_for P None RawFew h = absurd h
+line_for P None (RawFree turns reward R y) h = absurd h
+line_for P (Some goal) RawFew h = inr (inr (inr (inr (inl (refl, record { values = tt; keeps = tt; spelled = refl; made = refl })))))
+line_for P (Some goal) (RawFree turns reward R y) h =
     inr (inr (inr (inr (inr (inl (
       refl,
       record {
         values = (turns, (reward, (R, (y, tt))));
-        keeps = ((some_turns turns (cells P) h.0.0, (le-div_iff_mul-le {k = cells P} {x = turns} {y = LONGEST_WORD} some).1 h.0.1), ((omega arith, h.1), (h.2, (h.3, tt))));
-        spelled = ap (λ us. decimal turns ∷ decimal reward ∷ codes "rules" ∷ numbers R ++ (codes "weights" ∷ us)) (sym (append-nil (flat_map weight_fields y)));
+        keeps = (turns_fit P turns h.0, ((omega arith, h.1), (h.2, (h.3, tt))));
+        spelled = ap (λ us. decimal turns ∷ decimal reward ∷ codes "rules" ∷ us) (weights_end R y);
         made = refl;
       },
     ))))))
-free_line P RawUnfinished h = inr (inr (inr (inr (inr (inr (inl (refl, record { values = tt; keeps = tt; spelled = refl; made = refl })))))))
+line_for P (Some goal) RawUnfinished h = inr (inr (inr (inr (inr (inr (inl (refl, record { values = tt; keeps = tt; spelled = refl; made = refl })))))))
+line_for P (Some goal) (RawBound p turns R y) h = absurd h
 
-pub line_for : (P : Instance) (goal : Option ℕ) (raw : RawLine) → IsInRangeFor P goal raw → IsLine (kinds_for P goal) (raw_fields P raw) raw
-line_for P None raw h = tree_line P raw h
-line_for P (Some goal) raw h = free_line P raw h
+abbrev Found : Instance → Option ℕ → Words → RawLine → Type 0
+Found P goal ws raw = (ws ≡ raw_fields P raw) × IsInRangeFor P goal raw
 
-full_turns : (n m : ℕ) → 1 ≤ n → 0 < m → 0 < n * m
-full_turns n m a b = grind (arith, a, b)
+-- a line of a kind is a written line, where each line with values in their ranges is one
+found_by : (P : Instance) (goal : Option ℕ) (kind : Kind RawLine) (w : List ℕ) (ws : Words) (raw : RawLine) → ((v : Values kind.fields) → AreInRange kind.fields v → Found P goal (kind.word ∷ spell kind.fields v) (kind.make v)) → IsOfKind kind (w ∷ ws) raw → Found P goal (w ∷ ws) raw
+found_by P goal kind w ws raw fine l =
+    let s = l.1 in
+    let f = fine s.values s.keeps in
+    subst (Found P goal (w ∷ ws)) s.made (ap (λ z. z ∷ ws) l.0 ∙ ap (λ us. kind.word ∷ us) s.spelled ∙ f.0, f.1)
 
-abbrev Found : Instance → Words → RawLine → Type 0
-Found P ws raw = (ws ≡ raw_fields P raw) × IsInRange P raw
+own_found : (P : Instance) (goal : Option ℕ) (w : List ℕ) (ws : Words) (raw : RawLine) → IsLine (own_kinds P goal) (w ∷ ws) raw → Found P goal (w ∷ ws) raw
+own_found P None w ws raw (inl l) =
+    found_by P None (bound_kind P) w ws raw
+    (λ v k. (
+      ap (λ us. codes "bound" ∷ place_words P v.0 ++ (decimal v.1.0 ∷ codes "rules" ∷ us)) (sym (weights_end v.1.1.0 v.1.1.1.0)),
+      (k.0, turns_long P v.1.0 k.1.0, k.1.1.0, k.1.1.1.0),
+    ))
+    l
+own_found P None w ws raw (inr (inl l)) = found_by P None open_kind w ws raw (λ v k. (refl, tt)) l
+own_found P None w ws raw (inr (inr l)) = absurd l
+own_found P (Some goal) w ws raw (inl l) = found_by P (Some goal) few_kind w ws raw (λ v k. (refl, tt)) l
+own_found P (Some goal) w ws raw (inr (inl l)) =
+    found_by P (Some goal) (free_kind P) w ws raw
+    (λ v k. (
+      ap (λ us. codes "free" ∷ decimal v.0 ∷ decimal v.1.0 ∷ codes "rules" ∷ us) (sym (weights_end v.1.1.0 v.1.1.1.0)),
+      (turns_long P v.0 k.0, k.1.0.1, k.1.1.0, k.1.1.1.0),
+    ))
+    l
+own_found P (Some goal) w ws raw (inr (inr (inl l))) = found_by P (Some goal) open_kind w ws raw (λ v k. (refl, tt)) l
+own_found P (Some goal) w ws raw (inr (inr (inr l))) = absurd l
 
 -- and a line of the table is a written line
-pub tree_found : (P : Instance) (ws : Words) (raw : RawLine) → IsLine (tree_kinds P) ws raw → Found P ws raw
-tree_found P [] raw l = absurd (no_words (tree_kinds P) raw l)
-tree_found P (w ∷ ws) raw (inl l) =
-    let s = l.1 in
-    subst (Found P (w ∷ ws)) s.made (ap (λ z. z ∷ ws) l.0 ∙ ap (λ us. codes "split" ∷ us) s.spelled, (s.keeps.0, s.keeps.1.0))
-tree_found P (w ∷ ws) raw (inr (inl l)) =
-    let s = l.1 in
-    subst (Found P (w ∷ ws)) s.made (ap (λ z. z ∷ ws) l.0 ∙ ap (λ us. codes "window" ∷ us) s.spelled, (s.keeps.0.0, s.keeps.0.1, s.keeps.1.0, s.keeps.1.1.0))
-tree_found P (w ∷ ws) raw (inr (inr (inl l))) =
-    let s = l.1 in
-    subst (Found P (w ∷ ws)) s.made (ap (λ z. z ∷ ws) l.0 ∙ ap (λ us. codes "day" ∷ us) s.spelled, (s.keeps.0, s.keeps.1.0))
-tree_found P (w ∷ ws) raw (inr (inr (inr (inl l)))) =
-    let s = l.1 in
-    subst (Found P (w ∷ ws)) s.made (
-      ap (λ z. z ∷ ws) l.0 ∙ ap (λ us. codes "dead" ∷ us) s.spelled ∙ ap (λ us. codes "dead" ∷ place_words P s.values.0 ++ (decimal s.values.1.0 ∷ codes "rules" ∷ us)) (append-nil (numbers s.values.1.1.0)),
-      (s.keeps.0, s.keeps.1.0, s.keeps.1.1.0),
-    )
-tree_found P (w ∷ ws) raw (inr (inr (inr (inr (inl l))))) =
-    let s = l.1 in
-    let some : 0 < cells P = omega (arith, s.keeps.0) in
-    let turns = s.values.1.0 in
-    let long : turns * cells P ≤ LONGEST_WORD = (le-div_iff_mul-le {k = cells P} {x = turns} {y = LONGEST_WORD} some).0 s.keeps.1.0.1 in
-    let full : 0 < turns * cells P = full_turns turns (cells P) s.keeps.1.0.0 some in
-    subst (Found P (w ∷ ws)) s.made (
-      ap (λ z. z ∷ ws) l.0 ∙ ap (λ us. codes "bound" ∷ us) s.spelled ∙ ap (λ us. codes "bound" ∷ place_words P s.values.0 ++ (decimal turns ∷ codes "rules" ∷ numbers s.values.1.1.0 ++ (codes "weights" ∷ us))) (append-nil (flat_map weight_fields s.values.1.1.1.0)),
-      (s.keeps.0, (full, long), s.keeps.1.1.0, s.keeps.1.1.1.0),
-    )
-tree_found P (w ∷ ws) raw (inr (inr (inr (inr (inr (inl l)))))) =
-    let s = l.1 in subst (Found P (w ∷ ws)) s.made (ap (λ z. z ∷ ws) l.0 ∙ ap (λ us. codes "open" ∷ us) s.spelled, tt)
-tree_found P (w ∷ ws) raw (inr (inr (inr (inr (inr (inr l)))))) = absurd l
-
-abbrev FreeFound : Instance → Words → RawLine → Type 0
-FreeFound P ws raw = (ws ≡ raw_fields P raw) × IsInFreeRange P raw
-
-free_found : (P : Instance) (ws : Words) (raw : RawLine) → IsLine (free_kinds P) ws raw → FreeFound P ws raw
-free_found P [] raw l = absurd (no_words (free_kinds P) raw l)
-free_found P (w ∷ ws) raw (inl l) =
-    let s = l.1 in
-    subst (FreeFound P (w ∷ ws)) s.made (ap (λ z. z ∷ ws) l.0 ∙ ap (λ us. codes "split" ∷ us) s.spelled, (s.keeps.0, s.keeps.1.0))
-free_found P (w ∷ ws) raw (inr (inl l)) =
-    let s = l.1 in
-    subst (FreeFound P (w ∷ ws)) s.made (ap (λ z. z ∷ ws) l.0 ∙ ap (λ us. codes "window" ∷ us) s.spelled, (s.keeps.0.0, s.keeps.0.1, s.keeps.1.0, s.keeps.1.1.0))
-free_found P (w ∷ ws) raw (inr (inr (inl l))) =
-    let s = l.1 in
-    subst (FreeFound P (w ∷ ws)) s.made (ap (λ z. z ∷ ws) l.0 ∙ ap (λ us. codes "day" ∷ us) s.spelled, (s.keeps.0, s.keeps.1.0))
-free_found P (w ∷ ws) raw (inr (inr (inr (inl l)))) =
-    let s = l.1 in
-    subst (FreeFound P (w ∷ ws)) s.made (
-      ap (λ z. z ∷ ws) l.0 ∙ ap (λ us. codes "dead" ∷ us) s.spelled ∙ ap (λ us. codes "dead" ∷ place_words P s.values.0 ++ (decimal s.values.1.0 ∷ codes "rules" ∷ us)) (append-nil (numbers s.values.1.1.0)),
-      (s.keeps.0, s.keeps.1.0, s.keeps.1.1.0),
-    )
-free_found P (w ∷ ws) raw (inr (inr (inr (inr (inl l))))) =
-    let s = l.1 in subst (FreeFound P (w ∷ ws)) s.made (ap (λ z. z ∷ ws) l.0 ∙ ap (λ us. codes "few" ∷ us) s.spelled, tt)
-free_found P (w ∷ ws) raw (inr (inr (inr (inr (inr (inl l)))))) =
-    let s = l.1 in
-    let turns = s.values.0 in
-    let some : 0 < cells P = no_turns_of_none (cells P) turns s.keeps.0.0 s.keeps.0.1 in
-    let long : turns * cells P ≤ LONGEST_WORD = (le-div_iff_mul-le {k = cells P} {x = turns} {y = LONGEST_WORD} some).0 s.keeps.0.1 in
-    let full : 0 < turns * cells P = full_turns turns (cells P) s.keeps.0.0 some in
-    subst (FreeFound P (w ∷ ws)) s.made (
-      ap (λ z. z ∷ ws) l.0 ∙ ap (λ us. codes "free" ∷ us) s.spelled ∙ ap (λ us. codes "free" ∷ decimal turns ∷ decimal s.values.1.0 ∷ codes "rules" ∷ numbers s.values.1.1.0 ++ (codes "weights" ∷ us)) (append-nil (flat_map weight_fields s.values.1.1.1.0)),
-      ((full, long), s.keeps.1.0.1, s.keeps.1.1.0, s.keeps.1.1.1.0),
-    )
-free_found P (w ∷ ws) raw (inr (inr (inr (inr (inr (inr (inl l))))))) =
-    let s = l.1 in subst (FreeFound P (w ∷ ws)) s.made (ap (λ z. z ∷ ws) l.0 ∙ ap (λ us. codes "open" ∷ us) s.spelled, tt)
-free_found P (w ∷ ws) raw (inr (inr (inr (inr (inr (inr (inr l))))))) = absurd l
-
--- a line of the table for a goal or none is a written line
 pub found_for : (P : Instance) (goal : Option ℕ) (ws : Words) (raw : RawLine) → IsLine (kinds_for P goal) ws raw → (ws ≡ raw_fields P raw) × IsInRangeFor P goal raw
-found_for P None ws raw l = tree_found P ws raw l
-found_for P (Some goal) ws raw l = free_found P ws raw l
+found_for P goal [] raw l = absurd (no_words (kinds_for P goal) raw l)
+found_for P goal (w ∷ ws) raw (inl l) = found_by P goal (split_kind P) w ws raw (λ v k. (refl, (k.0, k.1.0))) l
+found_for P goal (w ∷ ws) raw (inr (inl l)) = found_by P goal (window_kind P) w ws raw (λ v k. (refl, (k.0.0, k.0.1, k.1.0, k.1.1.0))) l
+found_for P goal (w ∷ ws) raw (inr (inr (inl l))) = found_by P goal (day_kind P) w ws raw (λ v k. (refl, (k.0, k.1.0))) l
+found_for P goal (w ∷ ws) raw (inr (inr (inr (inl l)))) =
+    found_by P goal (dead_kind P) w ws raw (λ v k. (ap (λ us. codes "dead" ∷ place_words P v.0 ++ (decimal v.1.0 ∷ codes "rules" ∷ us)) (sym (rules_end v.1.1.0)), (k.0, k.1.0, k.1.1.0))) l
+found_for P goal (w ∷ ws) raw (inr (inr (inr (inr l)))) = own_found P goal w ws raw l
 
 -- the lines of a header
 
@@ -325,9 +247,6 @@ goal_words P goal w h = lines_are_words (goal_kinds P) (goal_fields goal) goal (
 pub goal_same : (P : Instance) (a b : ℕ) → IsWritable P → a ≤ P.weeks + 1 → b ≤ P.weeks + 1 → goal_fields a ≡ goal_fields b → a ≡ b
 goal_same P a b w h k e = lines_say_one (goal_kinds P) (goal_fields a) a b (goal_readable P w) (goal_line P a h) (subst (λ ws. IsLine (goal_kinds P) ws b) (sym e) (goal_line P b k))
 
-pub tree_words : (P : Instance) (raw : RawLine) → IsWritable P → IsInRange P raw → AreWords (raw_fields P raw)
-tree_words P raw w h = lines_are_words (tree_kinds P) (raw_fields P raw) raw (tree_readable P w) (tree_line P raw h)
-
 pub version_same : (a b : Bool) → version_fields a ≡ version_fields b → a ≡ b
 version_same a b e = lines_say_one version_kinds (version_fields a) a b version_readable (version_line a) (subst (λ ws. IsLine version_kinds ws b) (sym e) (version_line b))
 
@@ -339,9 +258,6 @@ turn_same P name name' day day' w h k e =
     let both : (name, day) ≡ (name', day') =
     lines_say_one (turn_kinds P) (turn_fields name day) (name, day) (name', day') (turn_readable P w) (turn_line P name day h.0 h.1) (subst (λ ws. IsLine (turn_kinds P) ws (name', day')) (sym e) (turn_line P name' day' k.0 k.1)) in
     (ap (λ (t : List ℕ × ℕ). t.0) both, ap (λ (t : List ℕ × ℕ). t.1) both)
-
-pub tree_same : (P : Instance) (a b : RawLine) → IsWritable P → IsInRange P a → IsInRange P b → raw_fields P a ≡ raw_fields P b → a ≡ b
-tree_same P a b w h k e = lines_say_one (tree_kinds P) (raw_fields P a) a b (tree_readable P w) (tree_line P a h) (subst (λ ws. IsLine (tree_kinds P) ws b) (sym e) (tree_line P b k))
 
 pub line_same_for : (P : Instance) (goal : Option ℕ) (a b : RawLine) → IsWritable P → IsInRangeFor P goal a → IsInRangeFor P goal b → raw_fields P a ≡ raw_fields P b → a ≡ b
 line_same_for P goal a b w h k e = lines_say_one (kinds_for P goal) (raw_fields P a) a b (readable_for P goal w) (line_for P goal a h) (subst (λ ws. IsLine (kinds_for P goal) ws b) (sym e) (line_for P goal b k))

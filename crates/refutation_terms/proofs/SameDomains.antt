@@ -4,7 +4,6 @@ use Rattle.std.specs.Prelude.{ℤ, pos, ◌<ℤ◌}
 use Rattle.std.specs.List.{range_with_len, list_all}
 use Rattle.std.proofs.Math.Path.{fun_ext}
 use Rattle.rwsp_terms.specs.declared.data.Symbol.{Symbol}
-use Rattle.rwsp_terms.specs.declared.data.Weight.{Weight}
 use Rattle.rwsp_terms.specs.Instance.{Instance, cells, shift_count, IsDay, least, greatest}
 use Rattle.rwsp_terms.proofs.Counting.{count_same}
 use Rattle.refutation_terms.specs.declared.lines.Line.{Line}
@@ -15,7 +14,7 @@ use Rattle.refutation_terms.specs.FreeLeaves.{may_be_free, HasTooFewFree}
 use Rattle.refutation_terms.specs.Leaf.{is_only, fixed, possible}
 use Rattle.refutation_terms.specs.Escape.{IsCleanOver, IsHeaviestBy, IsLeastHeaviestBy}
 use Rattle.refutation_terms.specs.Tree.{is_idle}
-use Rattle.refutation_terms.specs.Log.{Holds, HoldsFree, HoldsFor, LineFits, FreeLineFits, LineFitsFor, GoalFits}
+use Rattle.refutation_terms.specs.Log.{Holds, HoldsFree, HoldsFor, LineFits, LineFitsFor, GoalFits}
 use Rattle.refutation_terms.specs.Verdict.{Escapes, EscapesFree, EscapesFor}
 use Rattle.refutation_terms.proofs.Counts.{in_column}
 
@@ -108,7 +107,7 @@ same_few : (P : Instance) (goal : ℕ) (D E : Domains) → P.days ≡ 7 → AreS
 same_few P goal D E days same h =
     subst (λ n. n < goal) (count_same (may_be_free D) (may_be_free E) 0 P.weeks (λ i le less. same_may_be_free P D E i days (omega (arith, less)) same)) h
 
-same_holds_free : (P : Instance) (goal : ℕ) (D E : Domains) (line : Line) → 0 < cells P → P.days ≡ 7 → FreeLineFits P line → AreSame P D E → HoldsFree P goal D line → HoldsFree P goal E line
+same_holds_free : (P : Instance) (goal : ℕ) (D E : Domains) (line : Line) → 0 < cells P → P.days ≡ 7 → LineFitsFor P (Some goal) line → AreSame P D E → HoldsFree P goal D line → HoldsFree P goal E line
 same_holds_free P goal D E Few some days fits same h = same_few P goal D E days same h
 same_holds_free P goal D E (Free turns reward R y) some days fits same h = λ u long over. h u long (same_over P E D 0 u some (turned_round P D E same) over)
 same_holds_free P goal D E (Bound p turns R y) some days fits same h = absurd fits

@@ -1,23 +1,18 @@
 -- Lines and their texts.
-use Rattle.std.proofs.Common.{◌≡◌, ℕ, suc, ◌+◌, ◌<◌, ◌≤◌, List, [], ◌∷◌, length, get_or, map, refl, ap, sym, ◌∙◌, subst, arith, Bool, true, false, cond, Option, Some, None}
-use Rattle.std.specs.Prelude.{AllPairs, position, IfSome}
+use Rattle.std.proofs.Common.{◌≡◌, ℕ, List, [], ◌∷◌, map, refl, ap, sym, ◌∙◌, subst, Option, Some, None}
+use Rattle.std.specs.Prelude.{All, AllPairs, IfSome}
 use Rattle.std.specs.List.{AllByRecursion}
 use Rattle.std.specs.Option.{option_map}
-use Rattle.std.specs.Str.{bytes_eq}
-use Rattle.std.proofs.lemmas.Slice.Eq.{bytes_eq-Decides}
-use Rattle.std.proofs.lemmas.List.Quantifiers.{position-Some}
-use Rattle.std.proofs.lemmas.Option.{slice_get-get_or}
 use Rattle.rwsp_terms.specs.declared.data.Symbol.{Symbol}
-use Rattle.rwsp_terms.specs.declared.data.ShiftRow.{ShiftRow}
 use Rattle.rwsp_terms.specs.declared.data.Weight.{Weight}
-use Rattle.rwsp_terms.specs.Instance.{Instance, IsDay, IsSymbol, no_bounds, off_name, symbol_numbered, symbol_of, name_in, name_numbered, name_of}
+use Rattle.rwsp_terms.specs.Instance.{Instance, IsDay, IsSymbol, symbol_of, name_of}
 use Rattle.rwsp_terms.specs.Weights.{ComesBefore, IsWeight}
 use Rattle.rwsp_terms.proofs.SymbolNames.{symbol_found}
 use Rattle.rwsp_terms.proofs.Elements.{all_from, all_to}
 use Rattle.refutation_terms.specs.declared.lines.Line.{Line}
 use Rattle.refutation_terms.specs.declared.lines.Line.TheVariants.{Split, Window, Day, Dead, Bound, Few, Free, Unfinished}
-use Rattle.refutation_terms.specs.Log.{LineFits, FreeLineFits, LineFitsFor}
-use Rattle.refutation_terms.specs.LogText.{RawLine, RawSplit, RawWindow, RawDay, RawDead, RawBound, RawFew, RawFree, RawUnfinished, named_weight, raw, line_text, WeightIsInRange, IsInRange, IsInFreeRange, IsInRangeFor, with_weight, weights_of, line_of, WeightsAscend}
+use Rattle.refutation_terms.specs.Log.{AreWeightsOf, LineFits, LineFitsFor}
+use Rattle.refutation_terms.specs.LogText.{RawLine, RawSplit, RawWindow, RawDay, RawDead, RawBound, RawFew, RawFree, RawUnfinished, named_weight, raw, line_text, WeightIsInRange, IsInRangeFor, with_weight, weights_of, line_of, WeightsAscend}
 use Rattle.rwsp_text.proofs.Numerals.{mapped}
 use Rattle.rwsp_text.specs.Fields.{NamedWeight}
 use Rattle.refutation_terms.specs.Verdict.{Spells}
@@ -54,84 +49,51 @@ weights_read P (e ∷ y) ys h is =
       of = ((h.0.0, named.0), rest.of);
     })
 
--- the line that a written line is
-abbrev FitsAs : Instance → RawLine → Line → Type 0
-FitsAs P written line = LineFits P line × (written ≡ raw P line)
+weights_fit : (P : Instance) (y : List NamedWeight) (ys : List Weight) → All (WeightIsInRange P) y → AllPairs ComesBefore ys → weights_of P y ≡ Some ys → AreWeightsOf P ys × (y ≡ map (named_weight P) ys)
+weights_fit P y ys h up e =
+    let read = weights_read P y ys (all_to (WeightIsInRange P) y h) e in
+    ((record { ascends = up; small = all_from IsWeight ys read.small }, all_from (IsOf P) ys read.of), sym read.same)
 
-fits_as : (P : Instance) (written : RawLine) (line : Line) → IsInRange P written → IfSome (line_of P written) WeightsAscend → line_of P written ≡ Some line → FitsAs P written line
-fits_as P (RawSplit p name) line h a e =
+-- the line that a written line is
+abbrev FitsAs : Instance → Option ℕ → RawLine → Line → Type 0
+FitsAs P goal written line = LineFitsFor P goal line × (written ≡ raw P line)
+
+fits_as : (P : Instance) (goal : Option ℕ) (written : RawLine) (line : Line) → IsInRangeFor P goal written → IfSome (line_of P written) WeightsAscend → line_of P written ≡ Some line → FitsAs P goal written line
+fits_as P goal (RawSplit p name) line h a e =
     let m = mapped (λ x. Split p x) (symbol_of P name) line e in
     let named = symbol_of-name P name m.0 m.1 in
-    subst (FitsAs P (RawSplit p name)) m.2 ((h.0, named.0), ap (RawSplit p) (sym named.1))
-fits_as P (RawWindow rule p len) line h a e =
+    subst (FitsAs P goal (RawSplit p name)) m.2 ((h.0, named.0), ap (RawSplit p) (sym named.1))
+fits_as P goal (RawWindow rule p len) line h a e =
     let same : Window rule p len ≡ line = cc in
-    subst (FitsAs P (RawWindow rule p len)) same (h, refl)
-fits_as P (RawDay day name over) line h a e =
+    subst (FitsAs P goal (RawWindow rule p len)) same (h, refl)
+fits_as P goal (RawDay day name over) line h a e =
     let m = mapped (λ x. Day day x over) (symbol_of P name) line e in
     let named = symbol_of-name P name m.0 m.1 in
-    subst (FitsAs P (RawDay day name over)) m.2 ((h.0, named.0), ap (λ n. RawDay day n over) (sym named.1))
-fits_as P (RawDead p len R) line h a e =
+    subst (FitsAs P goal (RawDay day name over)) m.2 ((h.0, named.0), ap (λ n. RawDay day n over) (sym named.1))
+fits_as P goal (RawDead p len R) line h a e =
     let same : Dead p len R ≡ line = cc in
-    subst (FitsAs P (RawDead p len R)) same (h, refl)
-fits_as P (RawBound p turns R y) line h a e =
-    let m = mapped (λ ys. Bound p turns R ys) (weights_of P y) line e in
-    let read = weights_read P y m.0 (all_to (WeightIsInRange P) y h.3) m.1 in
-    let ascends : AllPairs ComesBefore m.0 = subst (λ o. IfSome (option_map (λ ys. Bound p turns R ys) o) WeightsAscend) m.1 a in
-    subst (FitsAs P (RawBound p turns R y)) m.2 (
-      (h.0, h.1, h.2, (record { ascends = ascends; small = all_from IsWeight m.0 read.small }, all_from (IsOf P) m.0 read.of)),
-      ap (RawBound p turns R) (sym read.same),
-    )
-fits_as P RawUnfinished line h a e =
+    subst (FitsAs P goal (RawDead p len R)) same (h, refl)
+fits_as P goal RawUnfinished line h a e =
     let same : Unfinished ≡ line = cc in
-    subst (FitsAs P RawUnfinished) same (tt, refl)
-fits_as P RawFew line h a e = absurd h
-fits_as P (RawFree turns reward R y) line h a e = absurd h
-
--- the same of lines of free logs, which share all kinds but bounds with other logs
-abbrev IsNoBound : RawLine → Type 0
-IsNoBound (RawBound p turns R y) = ⊥
-IsNoBound line = Unit {0}
-
-free_too : (P : Instance) (written : RawLine) (line : Line) → IsNoBound written → written ≡ raw P line → LineFits P line → FreeLineFits P line
-free_too P written (Bound p turns R y) other e h = subst IsNoBound e other
-free_too P written (Split p x) other e h = h
-free_too P written (Window rule p len) other e h = h
-free_too P written (Day day x over) other e h = h
-free_too P written (Dead p len R) other e h = h
-free_too P written Unfinished other e h = h
-free_too P written Few other e h = absurd h
-free_too P written (Free turns reward R y) other e h = absurd h
-
-abbrev FitsFreeAs : Instance → RawLine → Line → Type 0
-FitsFreeAs P written line = FreeLineFits P line × (written ≡ raw P line)
-
-shared_fits_as : (P : Instance) (written : RawLine) (line : Line) → IsNoBound written → IsInRange P written → IfSome (line_of P written) WeightsAscend → line_of P written ≡ Some line → FitsFreeAs P written line
-shared_fits_as P written line other h a e =
-    let f = fits_as P written line h a e in
-    (free_too P written line other f.1 f.0, f.1)
-
-free_fits_as : (P : Instance) (written : RawLine) (line : Line) → IsInFreeRange P written → IfSome (line_of P written) WeightsAscend → line_of P written ≡ Some line → FitsFreeAs P written line
-free_fits_as P RawFew line h a e =
+    subst (FitsAs P goal RawUnfinished) same (tt, refl)
+fits_as P None (RawBound p turns R y) line h a e =
+    let m = mapped (λ ys. Bound p turns R ys) (weights_of P y) line e in
+    let read = weights_fit P y m.0 h.3 (subst (λ o. IfSome (option_map (λ ys. Bound p turns R ys) o) WeightsAscend) m.1 a) m.1 in
+    subst (FitsAs P None (RawBound p turns R y)) m.2 ((h.0, h.1, h.2, read.0), ap (RawBound p turns R) read.1)
+fits_as P None RawFew line h a e = absurd h
+fits_as P None (RawFree turns reward R y) line h a e = absurd h
+fits_as P (Some goal) RawFew line h a e =
     let same : Few ≡ line = cc in
-    subst (FitsFreeAs P RawFew) same (tt, refl)
-free_fits_as P (RawFree turns reward R y) line h a e =
+    subst (FitsAs P (Some goal) RawFew) same (tt, refl)
+fits_as P (Some goal) (RawFree turns reward R y) line h a e =
     let m = mapped (λ ys. Free turns reward R ys) (weights_of P y) line e in
-    let read = weights_read P y m.0 (all_to (WeightIsInRange P) y h.3) m.1 in
-    let ascends : AllPairs ComesBefore m.0 = subst (λ o. IfSome (option_map (λ ys. Free turns reward R ys) o) WeightsAscend) m.1 a in
-    subst (FitsFreeAs P (RawFree turns reward R y)) m.2 (
-      (h.0, h.1, h.2, (record { ascends = ascends; small = all_from IsWeight m.0 read.small }, all_from (IsOf P) m.0 read.of)),
-      ap (RawFree turns reward R) (sym read.same),
-    )
-free_fits_as P (RawBound p turns R y) line h a e = absurd h
-free_fits_as P written line h a e = shared_fits_as P written line tt h a e
-
-fits_as_for : (P : Instance) (goal : Option ℕ) (written : RawLine) (line : Line) → IsInRangeFor P goal written → IfSome (line_of P written) WeightsAscend → line_of P written ≡ Some line → LineFitsFor P goal line × (written ≡ raw P line)
-fits_as_for P None written line h a e = fits_as P written line h a e
-fits_as_for P (Some goal) written line h a e = free_fits_as P written line h a e
+    let read = weights_fit P y m.0 h.3 (subst (λ o. IfSome (option_map (λ ys. Free turns reward R ys) o) WeightsAscend) m.1 a) m.1 in
+    subst (FitsAs P (Some goal) (RawFree turns reward R y)) m.2 ((h.0, h.1, h.2, read.0), ap (RawFree turns reward R) read.1)
+fits_as P (Some goal) (RawBound p turns R y) line h a e = absurd h
 
 pub spelled_lines_fit_for : SpelledLinesFit
 spelled_lines_fit_for P goal bytes line spells =
-    let f = fits_as_for P goal spells.0 line spells.1.in_range spells.1.ascends spells.2 in
+    let f = fits_as P goal spells.0 line spells.1.in_range spells.1.ascends spells.2 in
     (f.0, spells.1.spelled ∙ ap (line_text P) f.1)
 
 pub spelled_lines_fit : (P : Instance) (bytes : List ℕ) (line : Line) → Spells P bytes line → LineFits P line × (bytes ≡ line_text P (raw P line))
@@ -147,29 +109,27 @@ weights_back P (e ∷ ys) names small of =
       ap (λ o. with_weight (named_weight P e) o (weights_of P (map (named_weight P) ys))) name.1 ∙ ap (with_weight (named_weight P e) (Some e.symbol)) rest.1,
     )
 
-pub spell : (P : Instance) (line : Line) → HasNames P → LineFits P line → IsInRange P (raw P line) × (line_of P (raw P line) ≡ Some line) × WeightsAscend line
-spell P (Split p x) names h = let name = names x h.1 in ((h.0, name.0), ap (option_map (λ z. Split p z)) name.1, tt)
-spell P (Window rule p len) names h = (h, refl, tt)
-spell P (Day day x over) names h = let name = names x h.1 in ((h.0, name.0), ap (option_map (λ z. Day day z over)) name.1, tt)
-spell P (Dead p len R) names h = (h, refl, tt)
-spell P (Bound p turns R y) names h =
-    let back = weights_back P y names (all_to IsWeight y h.3.0.small) (all_to (IsOf P) y h.3.1) in
-    ((h.0, h.1, h.2, all_from (WeightIsInRange P) (map (named_weight P) y) back.0), ap (option_map (λ ys. Bound p turns R ys)) back.1, h.3.0.ascends)
-spell P Unfinished names h = (tt, refl, tt)
-spell P Few names h = absurd h
-spell P (Free turns reward R y) names h = absurd h
-
-free_spell : (P : Instance) (line : Line) → HasNames P → FreeLineFits P line → IsInFreeRange P (raw P line) × (line_of P (raw P line) ≡ Some line) × WeightsAscend line
-free_spell P Few names h = (tt, refl, tt)
-free_spell P (Free turns reward R y) names h =
-    let back = weights_back P y names (all_to IsWeight y h.3.0.small) (all_to (IsOf P) y h.3.1) in
-    ((h.0, h.1, h.2, all_from (WeightIsInRange P) (map (named_weight P) y) back.0), ap (option_map (λ ys. Free turns reward R ys)) back.1, h.3.0.ascends)
-free_spell P (Bound p turns R y) names h = absurd h
-free_spell P line names h = spell P line names h
+weights_named : (P : Instance) (ys : List Weight) → HasNames P → AreWeightsOf P ys → All (WeightIsInRange P) (map (named_weight P) ys) × (weights_of P (map (named_weight P) ys) ≡ Some ys)
+weights_named P ys names h =
+    let back = weights_back P ys names (all_to IsWeight ys h.0.small) (all_to (IsOf P) ys h.1) in
+    (all_from (WeightIsInRange P) (map (named_weight P) ys) back.0, back.1)
 
 pub spell_for : (P : Instance) (goal : Option ℕ) (line : Line) → HasNames P → LineFitsFor P goal line → IsInRangeFor P goal (raw P line) × (line_of P (raw P line) ≡ Some line) × WeightsAscend line
-spell_for P None line names h = spell P line names h
-spell_for P (Some goal) line names h = free_spell P line names h
+spell_for P goal (Split p x) names h = let name = names x h.1 in ((h.0, name.0), ap (option_map (λ z. Split p z)) name.1, tt)
+spell_for P goal (Window rule p len) names h = (h, refl, tt)
+spell_for P goal (Day day x over) names h = let name = names x h.1 in ((h.0, name.0), ap (option_map (λ z. Day day z over)) name.1, tt)
+spell_for P goal (Dead p len R) names h = (h, refl, tt)
+spell_for P goal Unfinished names h = (tt, refl, tt)
+spell_for P None (Bound p turns R y) names h =
+    let back = weights_named P y names h.3 in
+    ((h.0, h.1, h.2, back.0), ap (option_map (λ ys. Bound p turns R ys)) back.1, h.3.0.ascends)
+spell_for P None Few names h = absurd h
+spell_for P None (Free turns reward R y) names h = absurd h
+spell_for P (Some goal) Few names h = (tt, refl, tt)
+spell_for P (Some goal) (Free turns reward R y) names h =
+    let back = weights_named P y names h.3 in
+    ((h.0, h.1, h.2, back.0), ap (option_map (λ ys. Free turns reward R ys)) back.1, h.3.0.ascends)
+spell_for P (Some goal) (Bound p turns R y) names h = absurd h
 
 pub fitting_lines_are_spelled_for : FittingLinesAreSpelled
 fitting_lines_are_spelled_for P goal line names h =

@@ -1,5 +1,5 @@
 -- The kinds of lines of a log's text, as tables.
-use Rattle.std.specs.Prelude.{ℕ, ◌+◌, ◌/◌, List, [], ◌∷◌, length, Bool, codes}
+use Rattle.std.specs.Prelude.{ℕ, ◌+◌, ◌/◌, List, [], ◌∷◌, length, Bool, Option, Some, None, codes}
 use Rattle.rwsp_text.specs.Fields.{Word, Number, Name, Choice, Place, Rules, Weights}
 use Rattle.rwsp_text.specs.Kinds.{Kind}
 use Rattle.rwsp_terms.specs.declared.limits.TheConstants.{GREATEST_WEIGHT, GREATEST_REWARD, LONGEST_WORD}
@@ -63,13 +63,14 @@ free_kind P = record {
   make = λ v. RawFree v.0 v.1.0 v.1.1.0 v.1.1.1.0;
 }
 
--- the lines of the tree of a free log
-abbrev pub free_kinds : Instance → List (Kind RawLine)
-free_kinds P = split_kind P ∷ window_kind P ∷ day_kind P ∷ dead_kind P ∷ few_kind ∷ free_kind P ∷ open_kind ∷ []
+-- the kinds that logs without a goal have alone, or those with one, and the last
+abbrev pub own_kinds : Instance → Option ℕ → List (Kind RawLine)
+own_kinds P None = bound_kind P ∷ open_kind ∷ []
+own_kinds P (Some goal) = few_kind ∷ free_kind P ∷ open_kind ∷ []
 
--- the lines of the tree of a log without a goal
-abbrev pub tree_kinds : Instance → List (Kind RawLine)
-tree_kinds P = split_kind P ∷ window_kind P ∷ day_kind P ∷ dead_kind P ∷ bound_kind P ∷ open_kind ∷ []
+-- the lines of the tree of a log with this goal or none
+abbrev pub kinds_for : Instance → Option ℕ → List (Kind RawLine)
+kinds_for P goal = split_kind P ∷ window_kind P ∷ day_kind P ∷ dead_kind P ∷ own_kinds P goal
 
 -- line 1, the version: whether there is a turn
 abbrev pub version_kind : Kind Bool

@@ -40,29 +40,24 @@ WeightsFit P y = All (λ e. IsDay P e.day × IsSymbol P e.symbol) y
 abbrev pub AreWeightsOf : Instance → List Weight → Type 0
 AreWeightsOf P y = AreWeights y × WeightsFit P y
 
--- the numbers of a line of a log without a goal are in their ranges, and its symbols are the problem's
-abbrev pub LineFits : Instance → Line → Type 0
-LineFits P (Split p x) = (p < cells P) × IsSymbol P x
-LineFits P (Window number p len) = (0 < number) × (number ≤ length (rules P)) × (p < cells P) × IsLength len
-LineFits P (Day j x over) = IsDay P j × IsSymbol P x
-LineFits P (Dead p len R) = (p < cells P) × IsLength len × AreRules P R
-LineFits P (Bound p turns R y) = (p < cells P) × IsLength (turns * cells P) × AreRules P R × AreWeightsOf P y
-LineFits P Unfinished = Unit {0}
-LineFits P Few = ⊥
-LineFits P (Free turns reward R y) = ⊥
-
--- and those of a line of a free log: it has no bound leaf, and two kinds of its own
-abbrev pub FreeLineFits : Instance → Line → Type 0
-FreeLineFits P Few = Unit {0}
-FreeLineFits P (Free turns reward R y) =
-    IsLength (turns * cells P) × (reward ≤ GREATEST_REWARD) × AreRules P R × AreWeightsOf P y
-FreeLineFits P (Bound p turns R y) = ⊥
-FreeLineFits P line = LineFits P line
-
--- by the goal of the log
+-- the numbers of a line of a log with this goal or none are in their ranges, and its symbols are the problem's. Only a
+-- log without a goal has bounds, and only one with a goal has the last two kinds
 abbrev pub LineFitsFor : Instance → Option ℕ → Line → Type 0
-LineFitsFor P None line = LineFits P line
-LineFitsFor P (Some goal) line = FreeLineFits P line
+LineFitsFor P goal (Split p x) = (p < cells P) × IsSymbol P x
+LineFitsFor P goal (Window number p len) = (0 < number) × (number ≤ length (rules P)) × (p < cells P) × IsLength len
+LineFitsFor P goal (Day j x over) = IsDay P j × IsSymbol P x
+LineFitsFor P goal (Dead p len R) = (p < cells P) × IsLength len × AreRules P R
+LineFitsFor P goal Unfinished = Unit {0}
+LineFitsFor P None (Bound p turns R y) =
+    (p < cells P) × IsLength (turns * cells P) × AreRules P R × AreWeightsOf P y
+LineFitsFor P (Some goal) Few = Unit {0}
+LineFitsFor P (Some goal) (Free turns reward R y) =
+    IsLength (turns * cells P) × (reward ≤ GREATEST_REWARD) × AreRules P R × AreWeightsOf P y
+LineFitsFor P goal line = ⊥
+
+-- of a log without a goal
+abbrev pub LineFits : Instance → Line → Type 0
+LineFits P line = LineFitsFor P None line
 
 -- and those of a turn
 abbrev pub TurnFits : Instance → Option Turn → Type 0

@@ -1,7 +1,7 @@
 -- The text of a log, and which line a text spells.
-use Rattle.std.specs.Prelude.{◌≡◌, ◌≢◌, ℕ, ◌+◌, ◌*◌, ◌/◌, ◌%◌, ◌<◌, ◌≤◌, List, [], ◌∷◌, ◌++◌, length, map, All, AllPairs, Bool, true, false, Option, Some, None, IfSome, ℤ, pos, neg_ℤ, ◌≤ℤ◌, codes}
-use Rattle.std.specs.List.{join_with_byte, concat, flat_map}
-use Rattle.std.specs.Fmt.{decimal, signed_decimal}
+use Rattle.std.specs.Prelude.{◌≡◌, ℕ, ◌+◌, ◌*◌, ◌/◌, ◌%◌, ◌<◌, ◌≤◌, List, [], ◌∷◌, ◌++◌, length, map, All, AllPairs, Bool, true, false, Option, Some, None, IfSome, codes}
+use Rattle.std.specs.List.{concat, flat_map}
+use Rattle.std.specs.Fmt.{decimal}
 use Rattle.std.specs.Option.{option_map}
 use Rattle.rwsp_text.specs.Fields.{either_word, IsName, NamedWeight, IsNamedWeight, numbers, weight_fields, text_of}
 use Rattle.rwsp_terms.specs.declared.limits.TheConstants.{GREATEST_WEIGHT, GREATEST_REWARD}
@@ -115,31 +115,20 @@ log_text_for P (Some goal) g = free_log_text P goal g
 abbrev pub WeightIsInRange : Instance → NamedWeight → Type 0
 WeightIsInRange P e = IsNamedWeight P.days GREATEST_WEIGHT e
 
--- the numbers of a written line of a log without a goal are in their ranges, its lists of rules ascend, and its names
--- are names
-abbrev pub IsInRange : Instance → RawLine → Type 0
-IsInRange P (RawSplit p name) = (p < cells P) × IsName name
-IsInRange P (RawWindow rule p len) = (0 < rule) × (rule ≤ length (rules P)) × (p < cells P) × IsLength len
-IsInRange P (RawDay day name over) = IsDay P day × IsName name
-IsInRange P (RawDead p len R) = (p < cells P) × IsLength len × AreRules P R
-IsInRange P (RawBound p turns R y) =
-    (p < cells P) × IsLength (turns * cells P) × AreRules P R × All (WeightIsInRange P) y
-IsInRange P RawUnfinished = Unit {0}
-IsInRange P RawFew = ⊥
-IsInRange P (RawFree turns reward R y) = ⊥
-
--- the same of a line of a free log
-abbrev pub IsInFreeRange : Instance → RawLine → Type 0
-IsInFreeRange P RawFew = Unit {0}
-IsInFreeRange P (RawFree turns reward R y) =
-    IsLength (turns * cells P) × (reward ≤ GREATEST_REWARD) × AreRules P R × All (WeightIsInRange P) y
-IsInFreeRange P (RawBound p turns R y) = ⊥
-IsInFreeRange P line = IsInRange P line
-
--- by the goal of the log
+-- the numbers of a written line of a log with this goal or none are in their ranges, its lists of rules ascend, and its
+-- names are names. Only a log without a goal has bounds, and only one with a goal has the last two kinds
 abbrev pub IsInRangeFor : Instance → Option ℕ → RawLine → Type 0
-IsInRangeFor P None line = IsInRange P line
-IsInRangeFor P (Some goal) line = IsInFreeRange P line
+IsInRangeFor P goal (RawSplit p name) = (p < cells P) × IsName name
+IsInRangeFor P goal (RawWindow rule p len) = (0 < rule) × (rule ≤ length (rules P)) × (p < cells P) × IsLength len
+IsInRangeFor P goal (RawDay day name over) = IsDay P day × IsName name
+IsInRangeFor P goal (RawDead p len R) = (p < cells P) × IsLength len × AreRules P R
+IsInRangeFor P goal RawUnfinished = Unit {0}
+IsInRangeFor P None (RawBound p turns R y) =
+    (p < cells P) × IsLength (turns * cells P) × AreRules P R × All (WeightIsInRange P) y
+IsInRangeFor P (Some goal) RawFew = Unit {0}
+IsInRangeFor P (Some goal) (RawFree turns reward R y) =
+    IsLength (turns * cells P) × (reward ≤ GREATEST_REWARD) × AreRules P R × All (WeightIsInRange P) y
+IsInRangeFor P goal line = ⊥
 
 -- a weight with a symbol for its name, before further weights
 abbrev pub with_weight : NamedWeight → Option Symbol → Option (List Weight) → Option (List Weight)

@@ -1,30 +1,21 @@
 -- That the printed text of a roster spells it.
-use Rattle.std.proofs.Common.{length-append, ◌≡◌, ℕ, zero, suc, ◌+◌, ◌-◌, ◌*◌, ◌<◌, ◌≤◌, List, [], ◌∷◌, ◌++◌, length, get_or, take, drop, Some, None, Bool, true, false, cond, refl, ap, sym, ◌∙◌, arith, subst, append_assoc, length-drop, mul-le-mul_right}
-use Rattle.std.specs.Prelude.{map, filter, take_while, not, nat_lt, slice_index, ◌==◌, position, All}
-use Rattle.std.specs.List.{flat_map, range_with_len, join_with_byte, slice_split, prefix_len, AllByRecursion, position_or_len}
-use Rattle.std.specs.Option.{option_map}
-use Rattle.std.specs.Str.{bytes_eq}
+use Rattle.std.proofs.Common.{◌≡◌, ℕ, zero, suc, ◌+◌, ◌-◌, ◌*◌, ◌<◌, ◌≤◌, List, [], ◌∷◌, ◌++◌, length, take, drop, Some, true, refl, ap, sym, ◌∙◌, arith, subst, length-drop, mul-le-mul_right}
+use Rattle.std.specs.Prelude.{map, filter, All}
+use Rattle.std.specs.List.{flat_map, range_with_len, join_with_byte, AllByRecursion}
 use Rattle.std.proofs.lemmas.List.{map-append, length-map, drop-drop, take_all, length-take-le}
-use Rattle.std.proofs.lemmas.List.Splits.{slice_split_none, slice_split_at}
 use Rattle.std.proofs.lemmas.List.Elements.{All-from_recursion, All-head, All-tail, All-take, All-drop}
-use Rattle.std.proofs.lemmas.List.Sums.{position_or_len_is}
-use Rattle.std.proofs.lemmas.Slice.Eq.{bytes_eq-Decides}
-use Rattle.std.proofs.lemmas.Option.{slice_get-get_or}
-use Rattle.std.proofs.lemmas.Bool.{cond-true, cond-false, lt-ltb, ne_eqb, false_from_ne_true, or_parts}
+use Rattle.std.proofs.lemmas.Bool.{cond-true}
 use Rattle.std.proofs.Math.Seq.{take-add}
 use Rattle.std.proofs.lemmas.List.FromFn.{length-range_with_len}
-use Rattle.rwsp_text.specs.Lexemes.{lines_of, words_of_line, has_some, is_space}
-use Rattle.rwsp_text.proofs.Steps.{IsWordByte}
+use Rattle.rwsp_text.specs.Lexemes.{lines_of, words_of_line, has_some}
 use Rattle.rwsp_text.proofs.JoinedWords.{IsPrinted, printed_word, words_printed, line_printed, length_of_line, length_of_lines}
 use Rattle.rwsp_terms.specs.declared.limits.TheConstants.{MOST_CELLS, MOST_WEEKS}
-use Rattle.rwsp_terms.specs.Instance.{Instance, symbol_of, name_of, name_in, name_numbered, shift_count, symbol_numbered, off_name, IsSymbol, no_bounds}
+use Rattle.rwsp_terms.specs.Instance.{Instance, symbol_of, name_of, IsSymbol}
 use Rattle.rwsp_terms.specs.Roster.{IsRoster}
 use Rattle.rwsp_terms.specs.declared.data.Symbol.{Symbol}
-use Rattle.rwsp_terms.specs.declared.data.ShiftRow.{ShiftRow}
-use Rattle.rwsp_terms.proofs.Elements.{all_joined}
-use Rattle.rwsp_terms.proofs.SymbolNames.{HasNames, no_row, symbol_only}
-use Rattle.rwsp_model.specs.Validity.{KeepsLimits, IsShiftName, breaks_name}
+use Rattle.rwsp_model.specs.Validity.{KeepsLimits}
 use Rattle.rwsp_model.proofs.Limits.{valid_keeps}
+use Rattle.rwsp_model.proofs.Names.{symbol_named, symbol_word}
 use Rattle.roster_print.specs.RosterText.{weeks_of, week_at, week_text, roster_text, SpellsRoster}
 use Rattle.roster_print.specs.Laws.{PrintedIsSpelled, PrintedIsShort}
 
@@ -58,34 +49,23 @@ weeks_joined d s a (suc n) =
 
 -- the names of a valid problem's symbols
 
-bytes_in : (name : List ℕ) → All (λ b. breaks_name b ≡ false) name → AllByRecursion IsWordByte name
-bytes_in [] h = tt
-bytes_in (b ∷ name) h = (or_parts (is_space b) (b == 10) (All-head (λ c. breaks_name c ≡ false) b name h), bytes_in name (All-tail (λ c. breaks_name c ≡ false) b name h))
-
-numbered_is_printed : (P : Instance) → KeepsLimits P → (n : ℕ) → n ≤ shift_count P → IsPrinted (name_numbered P n)
-numbered_is_printed P limits zero h = (refl, ((refl, refl), tt))
-numbered_is_printed P limits (suc k) h =
-    let below : k < length P.shifts = omega arith in
-    let name = (get_or P.shifts k no_row).name in
-    let good = limits.names k no_row below in
-    subst IsPrinted (ap name_in (sym (slice_get-get_or P.shifts k no_row below))) (printed_word name good.some good.no_hash (bytes_in name good.unbroken))
-
-names_of : (P : Instance) → KeepsLimits P → HasNames P
-names_of P limits = record { no_dash = λ i d less. (limits.names i d less).no_dash; distinct = limits.distinct }
-
-symbol_of_name : (P : Instance) → KeepsLimits P → (x : Symbol) → IsSymbol P x → symbol_of P (name_of P x) ≡ Some x
-symbol_of_name P limits x h = symbol_only P (names_of P limits) x.number h
-
 symbols_of_names : (P : Instance) → KeepsLimits P → (week : List Symbol) → All (IsSymbol P) week → map (symbol_of P) (map (name_of P) week) ≡ map Some week
 symbols_of_names P limits [] h = refl
 symbols_of_names P limits (x ∷ week) h =
-    let one : symbol_of P (name_of P x) ≡ Some x = symbol_of_name P limits x (All-head (IsSymbol P) x week h) in
+    let one : symbol_of P (name_of P x) ≡ Some x = symbol_named P x limits (All-head (IsSymbol P) x week h) in
     let rest : map (symbol_of P) (map (name_of P) week) ≡ map Some week = symbols_of_names P limits week (All-tail (IsSymbol P) x week h) in
     ap (λ o. o ∷ map (symbol_of P) (map (name_of P) week)) one ∙ ap (λ w. Some x ∷ w) rest
 
-names_are_printed : (P : Instance) → KeepsLimits P → (week : List Symbol) → All (IsSymbol P) week → AllByRecursion IsPrinted (map (name_of P) week)
-names_are_printed P limits [] h = tt
-names_are_printed P limits (x ∷ week) h = (numbered_is_printed P limits x.number (All-head (IsSymbol P) x week h), names_are_printed P limits week (All-tail (IsSymbol P) x week h))
+-- their names may be printed, and are short
+abbrev IsShortWord : List ℕ → Type 0
+IsShortWord word = length word ≤ 32
+
+names_are_printed : (P : Instance) → KeepsLimits P → (week : List Symbol) → All (IsSymbol P) week → AllByRecursion IsPrinted (map (name_of P) week) × AllByRecursion IsShortWord (map (name_of P) week)
+names_are_printed P limits [] h = (tt, tt)
+names_are_printed P limits (x ∷ week) h =
+    let name = symbol_word P x.number limits (All-head (IsSymbol P) x week h) in
+    let rest = names_are_printed P limits week (All-tail (IsSymbol P) x week h) in
+    ((printed_word (name_of P x) name.0.some name.0.no_hash name.0.unbroken, rest.0), (name.1, rest.1))
 
 -- the weeks of a roster
 
@@ -107,7 +87,7 @@ week_is_printed : (P : Instance) (s : List Symbol) → KeepsLimits P → IsRoste
 week_is_printed P s limits h k below =
     let long : length (week_names P s k) ≡ P.days = length-map (week_at P s k) (name_of P) ∙ length-week_at P s k h below in
     let days : 1 ≤ P.days = limits.some_days in
-    (names_are_printed P limits (week_at P s k) (week_symbols P s k h), has_words (week_names P s k) (omega arith))
+    ((names_are_printed P limits (week_at P s k) (week_symbols P s k h)).0, has_words (week_names P s k) (omega arith))
   where
     has_words : (words : List (List ℕ)) → 1 ≤ length words → has_some words ≡ true
     has_words [] h = absurd (omega arith)
@@ -150,22 +130,11 @@ printed_is_spelled P s valid h = printed_spells P s (valid_keeps P valid) h
 
 -- how long the printed text is
 
-numbered_is_short : (P : Instance) → KeepsLimits P → (n : ℕ) → n ≤ shift_count P → length (name_numbered P n) ≤ 32
-numbered_is_short P limits zero h = omega arith
-numbered_is_short P limits (suc k) h =
-    let below : k < length P.shifts = omega arith in
-    let Short : List ℕ → Type 0 = λ name. length name ≤ 32 in
-    subst Short (ap name_in (sym (slice_get-get_or P.shifts k no_row below))) (limits.names k no_row below).few
-
-names_are_short : (P : Instance) → KeepsLimits P → (week : List Symbol) → All (IsSymbol P) week → AllByRecursion (λ word. length word ≤ 32) (map (name_of P) week)
-names_are_short P limits [] h = tt
-names_are_short P limits (x ∷ week) h = (numbered_is_short P limits x.number (All-head (IsSymbol P) x week h), names_are_short P limits week (All-tail (IsSymbol P) x week h))
-
 week_is_short : (P : Instance) (s : List Symbol) → KeepsLimits P → IsRoster P s → (k : ℕ) → k < P.weeks → length (week_text P (week_at P s k)) ≤ 33 * P.days + 1
 week_is_short P s limits h k below =
     let names = week_names P s k in
     let long : length names ≡ P.days = length-map (week_at P s k) (name_of P) ∙ length-week_at P s k h below in
-    length_of_line 32 P.days names (names_are_short P limits (week_at P s k) (week_symbols P s k h)) (omega (arith, long))
+    length_of_line 32 P.days names (names_are_printed P limits (week_at P s k) (week_symbols P s k h)).1 (omega (arith, long))
 
 pub printed_is_short : PrintedIsShort
 printed_is_short P s valid h =

@@ -1,9 +1,11 @@
 -- What printing appends, step by step.
-use Rattle.std.proofs.Common.{◌≡◌, ℕ, suc, ◌+◌, ◌-◌, ◌*◌, ◌<◌, ◌≤◌, List, [], ◌∷◌, ◌++◌, length, get_or, take, drop, ap, sym, ◌∙◌, arith, append_assoc, append-nil, mul-le-mul_right, false}
+use Rattle.std.proofs.Common.{◌≡◌, ℕ, suc, ◌+◌, ◌-◌, ◌*◌, ◌<◌, ◌≤◌, List, [], ◌∷◌, ◌++◌, length, get_or, take, drop, ap, sym, ◌∙◌, arith, append_assoc, mul-le-mul_right, false}
 use Rattle.std.specs.Prelude.{map, All, slice_range, ◌==◌, slice_get}
 use Rattle.std.specs.List.{flat_map, range_with_len, join_with_byte}
 use Rattle.std.proofs.lemmas.List.{take_more, flat_map_more, take_all}
 use Rattle.std.proofs.lemmas.List.Elements.{All-take, All-drop}
+use Rattle.std.proofs.lemmas.List.Folds.{flat_map-map}
+use Rattle.rwsp_text.proofs.JoinedWords.{join_spaced}
 use Rattle.rwsp_terms.specs.Instance.{Instance, name_of, IsSymbol, off_symbol}
 use Rattle.rwsp_terms.specs.declared.data.Symbol.{Symbol}
 use Rattle.rwsp_terms.proofs.Counting.{range_more}
@@ -25,8 +27,7 @@ names_done P symbols i old out h e = e ∙ ap (λ t. old ++ flat_map (λ x. 32 �
 
 -- names with blanks between them: the first, and each other after a blank
 join_blanks : (P : Instance) (x : Symbol) (rest : List Symbol) → join_with_byte 32 (map (name_of P) (x ∷ rest)) ≡ name_of P x ++ flat_map (λ y. 32 ∷ name_of P y) rest
-join_blanks P x [] = sym (append-nil (name_of P x))
-join_blanks P x (y ∷ rest) = ap (λ t. name_of P x ++ (32 ∷ t)) (join_blanks P y rest)
+join_blanks P x rest = join_spaced (name_of P x) (map (name_of P) rest) ∙ ap (λ t. name_of P x ++ t) (flat_map-map (λ v. 32 ∷ v) (name_of P) rest)
 
 pub join_from : (P : Instance) (week : List Symbol) (old mid new : List ℕ) → (length week == 0) ≡ false → mid ≡ old ++ name_of P (get_or week 0 off_symbol) → new ≡ mid ++ flat_map (λ x. 32 ∷ name_of P x) (take (length week - 1) (drop 1 week)) → new ≡ old ++ join_with_byte 32 (map (name_of P) week)
 join_from P [] old mid new h e f = absurd (cc)

@@ -1,13 +1,14 @@
 -- What reading keeps, step by step.
-use Rattle.std.proofs.Common.{◌≡◌, ◌≢◌, ℕ, zero, suc, ◌+◌, ◌-◌, ◌<◌, ◌≤◌, List, [], ◌∷◌, ◌++◌, length, get_or, take, drop, refl, ap, sym, ◌∙◌, arith, subst, append_assoc, append-nil, Some, None, Bool, true, false, cond, length-drop, length-take, min, eq-eqb}
-use Rattle.std.specs.Prelude.{Result, Err, not, map, filter, if◌then◌else◌, All, slice_range, position, nat_lt, nat_le, ◌==◌, is_none}
-use Rattle.std.specs.List.{flat_map, list_any, position_or_len, enumerate_from}
+use Rattle.std.proofs.Common.{◌≡◌, ◌≢◌, ℕ, zero, suc, ◌+◌, ◌<◌, ◌≤◌, List, [], ◌∷◌, ◌++◌, length, get_or, drop, refl, ap, sym, ◌∙◌, arith, subst, append_assoc, append-nil, length-append, Some, None, Bool, true, false, cond, eq-eqb, inl, inr}
+use Rattle.std.specs.Prelude.{Result, Err, map, filter, All, slice_range, ◌==◌, is_none}
+use Rattle.std.specs.List.{flat_map, list_any, enumerate_from}
 use Rattle.std.specs.Option.{option_or}
-use Rattle.std.proofs.lemmas.Bool.{ltb-false, ltb-true, le-leb, lt-leb, cond-true, cond-false, or_from, or_right, or_left, ne_eqb}
-use Rattle.std.proofs.lemmas.List.{take_all, drop_all, drop-drop, map-append, drop_more, length-map, get_or-take, take_rest}
-use Rattle.std.proofs.lemmas.List.Splits.{slice_split_none, slice_split_first}
-use Rattle.std.proofs.lemmas.List.Sums.{fails_before_first}
+use Rattle.std.proofs.lemmas.Bool.{cond-true, cond-false, or_from, or_right, or_left, ne_eqb}
+use Rattle.std.proofs.lemmas.List.{drop_all, map-append, drop_more, length-map}
+use Rattle.std.proofs.lemmas.List.Elements.{All-weaker}
+use Rattle.std.proofs.lemmas.List.Splits.{slice_split_none, slice_split_at}
 use Rattle.rwsp_text.specs.Lexemes.{Lexeme, lines_of, words_of_line, has_some, lexemes}
+use Rattle.rwsp_text.specs.Lines.{HasNoFeed, IsNextLine}
 use Rattle.rwsp_text.specs.Places.{lexeme_at}
 use Rattle.rwsp_text.specs.declared.scan.Token.{Token}
 use Rattle.rwsp_terms.specs.Instance.{Instance, symbol_of}
@@ -16,47 +17,19 @@ use Rattle.rwsp_model.specs.Refusals.{IfRefused}
 use Rattle.rwsp_model.specs.declared.fail.Fail.{Fail}
 use Rattle.rwsp_model.specs.declared.fail.Fail.TheVariants.{Refused, Memory}
 use Rattle.roster_print.specs.Refusal.{numbered_weeks, week_refusal, first_refusal}
-use Rattle.roster_print.specs.Reading.{words_at}
+use Rattle.roster_print.specs.Reading.{words_at, words_in}
 use Rattle.roster_print.specs.declared.refusal.RosterRefusal.{RosterRefusal}
 use Rattle.roster_print.specs.declared.refusal.RosterRefusal.TheVariants.{Unknown, Width}
 
--- the lines from a place on; behind the last line there is none
-abbrev pub lines_left : List ℕ → ℕ → List (List ℕ)
-lines_left bytes at = if nat_le at (length bytes) then lines_of (drop at bytes) else []
-
--- the weeks of lines whose numbers begin with n
-abbrev pub weeks_left : ℕ → List (List ℕ) → List (ℕ × List (List ℕ))
-weeks_left n lines = filter (λ week. has_some week.1) (enumerate_from n (map words_of_line lines))
+-- the weeks of a text whose lines have numbers from n on
+abbrev pub weeks_left : ℕ → List ℕ → List (ℕ × List (List ℕ))
+weeks_left n bytes = filter (λ week. has_some week.1) (enumerate_from n (map words_of_line (lines_of bytes)))
 
 -- the cells that were read, with the weeks that are left, make what the whole makes
 pub record ReadsOn (P : Instance) (bytes : List ℕ) (left : List (ℕ × List (List ℕ))) (cells : List Symbol) (weeks : ℕ) : Type 0 where
   pub refusal : first_refusal P left ≡ first_refusal P (numbered_weeks bytes)
   pub names : map Some cells ++ map (symbol_of P) (flat_map (λ week. week.1) left) ≡ map (symbol_of P) (flat_map (λ week. week.1) (numbered_weeks bytes))
   pub count : weeks + length left ≡ length (numbered_weeks bytes)
-
--- the length of the first line
-
-within_len : (p : ℕ → Bool) (xs : List ℕ) → position_or_len p xs ≤ length xs
-within_len p [] = omega arith
-within_len p (x ∷ xs) = within_by p x xs (p x) (within_len p xs)
-  where
-    within_by : (p : ℕ → Bool) (x : ℕ) (xs : List ℕ) (b : Bool) → position_or_len p xs ≤ length xs → cond (not b) (1 + position_or_len p xs) 0 ≤ suc (length xs)
-    within_by p x xs true h = omega arith
-    within_by p x xs false h = omega arith
-
-found_by : (n k : ℕ) (b : Bool) → cond b (Some n) None ≡ Some k → k ≡ n
-found_by n k true e = cc
-found_by n k false e = absurd (cc)
-
-pub found_len : (p : ℕ → Bool) (xs : List ℕ) (k : ℕ) → position p xs ≡ Some k → k ≡ position_or_len p xs
-found_len p xs k e = found_by (position_or_len p xs) k (nat_lt (position_or_len p xs) (length xs)) e
-
-missed_by : (n m : ℕ) (b : Bool) → nat_lt n m ≡ b → n ≤ m → cond b (Some n) None ≡ None → m ≡ n
-missed_by n m true t h e = absurd (cc)
-missed_by n m false t h e = let above : m ≤ n = ltb-false n m t in omega arith
-
-pub missed_len : (p : ℕ → Bool) (xs : List ℕ) → position p xs ≡ None → length xs ≡ position_or_len p xs
-missed_len p xs e = missed_by (position_or_len p xs) (length xs) (nat_lt (position_or_len p xs) (length xs)) refl (within_len p xs) e
 
 -- names in the order of words
 
@@ -112,25 +85,25 @@ week_accepted P line text words old new e h =
     cond-false (list_any (λ word. is_none (symbol_of P word)) ws) (Some (Unknown line)) (cond (length ws == P.days) None (Some (Width line))) (known P ws old new e)
     ∙ cond-true (length ws == P.days) None (Some (Width line)) (eq-eqb (length ws) P.days (long ∙ h))
 
--- the words of one line
+-- the words of a text, by its tokens
 
 texts : (text : List ℕ) (words : List Token) → map (λ l. l.text) (map (lexeme_at text) words) ≡ words_at text words
 texts text [] = refl
 texts text (word ∷ words) = ap (λ ws. slice_range text word.start word.end ∷ ws) (texts text words)
 
-lexeme_texts : (n : ℕ) (words : List (List ℕ)) → map (λ (l : Lexeme). l.text) (map (λ word. record { text = word; line = n }) words ++ []) ≡ words
-lexeme_texts n [] = refl
-lexeme_texts n (word ∷ words) = ap (λ ws. word ∷ ws) (lexeme_texts n words)
+lexeme_texts : (n : ℕ) (words : List (List ℕ)) (rest : List Lexeme) → map (λ (l : Lexeme). l.text) (map (λ word. record { text = word; line = n }) words ++ rest) ≡ words ++ map (λ (l : Lexeme). l.text) rest
+lexeme_texts n [] rest = refl
+lexeme_texts n (word ∷ words) rest = ap (λ ws. word ∷ ws) (lexeme_texts n words rest)
 
-line_lexemes : List (List ℕ) → List Lexeme
-line_lexemes lines = flat_map (λ l. map (λ word. record { text = word; line = l.0 }) (words_of_line l.1)) (enumerate_from 1 lines)
+abbrev line_lexemes : ℕ → List (List ℕ) → List Lexeme
+line_lexemes n lines = flat_map (λ l. map (λ word. record { text = word; line = l.0 }) (words_of_line l.1)) (enumerate_from n lines)
 
-pub line_words : (text : List ℕ) (words : List Token) → lines_of text ≡ text ∷ [] → map (lexeme_at text) words ≡ lexemes text → words_at text words ≡ words_of_line text
-line_words text words one e =
-    sym (texts text words)
-    ∙ ap (map (λ l. l.text)) e
-    ∙ ap (λ lines. map (λ (l : Lexeme). l.text) (flat_map (λ l. map (λ word. record { text = word; line = l.0 }) (words_of_line l.1)) (enumerate_from 1 lines))) one
-    ∙ lexeme_texts 1 (words_of_line text)
+lines_words : (n : ℕ) (lines : List (List ℕ)) → map (λ (l : Lexeme). l.text) (line_lexemes n lines) ≡ flat_map words_of_line lines
+lines_words n [] = refl
+lines_words n (line ∷ lines) = lexeme_texts n (words_of_line line) (line_lexemes (n + 1) lines) ∙ ap (λ ws. words_of_line line ++ ws) (lines_words (n + 1) lines)
+
+pub text_words : (text : List ℕ) (words : List Token) → map (lexeme_at text) words ≡ lexemes text → words_at text words ≡ words_in text
+text_words text words e = sym (texts text words) ∙ ap (map (λ l. l.text)) e ∙ lines_words 1 (lines_of text)
 
 pub no_words : (text : List ℕ) (words : List Token) (line : List (List ℕ)) → words_at text words ≡ line → length words ≡ 0 → line ≡ []
 no_words text [] line e h = sym e
@@ -140,53 +113,35 @@ pub some_words : (text : List ℕ) (words : List Token) (line : List (List ℕ))
 some_words text [] line e h = absurd (h refl)
 some_words text (word ∷ words) line e h = ap has_some (sym e)
 
--- the first line of a text
+-- the first line of a text, and the others
 
-abbrev pub is_end : ℕ → Bool
-is_end b = b == 10
+-- the line is the first of a text, of which the rest is left
+pub record IsFirst (line rest bytes : List ℕ) : Type 0 where
+  pub whole : bytes ≡ line ++ rest
+  pub some : line ≢ []
+  pub ends : IsNextLine line rest
 
-length-take-at_most : {X : Type 0} (n : ℕ) (xs : List X) → length (take n xs) ≤ n
-length-take-at_most n xs = let long : length (take n xs) ≡ min n (length xs) = length-take n xs in omega arith
+no_ends : (bytes : List ℕ) → HasNoFeed bytes → All (λ b. (b == 10) ≡ false) bytes
+no_ends bytes h = All-weaker (λ b. b ≢ 10) (λ b. (b == 10) ≡ false) (λ b ne. ne_eqb b 10 ne) bytes h
 
-no_end_before : (xs : List ℕ) (n : ℕ) → n ≤ position_or_len is_end xs → All (λ b. is_end b ≡ false) (take n xs)
-no_end_before xs n h k d below =
-    let short : length (take n xs) ≤ n = length-take-at_most n xs in
-    let early : k < n = omega arith in
-    let first : k < position_or_len is_end xs = omega arith in
-    ap is_end (get_or-take n xs k d early) ∙ fails_before_first is_end xs k d first
-
-pub line_whole : (text : List ℕ) (n : ℕ) → n ≡ position_or_len is_end text → lines_of (take n text) ≡ take n text ∷ []
-line_whole text n e = slice_split_none is_end (take n text) (no_end_before text n (omega (arith, e)))
-
-lines_by : (xs : List ℕ) (n : ℕ) (b : Bool) → n ≡ position_or_len is_end xs → nat_lt n (length xs) ≡ b → lines_of xs ≡ take n xs ∷ cond b (lines_of (drop (n + 1) xs)) []
-lines_by xs n true e h =
-    let below : position_or_len is_end xs < length xs = let lt : n < length xs = ltb-true n (length xs) h in omega (arith, e) in
-    slice_split_first is_end xs 0 below ∙ ap (λ m. take m xs ∷ lines_of (drop (m + 1) xs)) (sym e)
-lines_by xs n false e h =
-    let all : take n xs ≡ xs = take_all n xs (ltb-false n (length xs) h) in
-    ap lines_of (sym all) ∙ line_whole xs n e
-
-left_by : (bytes : List ℕ) (at n : ℕ) (b : Bool) → at ≤ length bytes → nat_lt n (length (drop at bytes)) ≡ b → cond b (lines_of (drop (n + 1) (drop at bytes))) [] ≡ lines_left bytes (at + (n + 1))
-left_by bytes at n true h e =
-    let below : n < length (drop at bytes) = ltb-true n (length (drop at bytes)) e in
-    let long : length (drop at bytes) ≡ length bytes - at = length-drop at bytes in
-    let within : at + (n + 1) ≤ length bytes = omega arith in
-    ap lines_of (drop-drop (n + 1) at bytes)
-    ∙ sym (cond-true (nat_le (at + (n + 1)) (length bytes)) (lines_of (drop (at + (n + 1)) bytes)) [] (le-leb (at + (n + 1)) (length bytes) within))
-left_by bytes at n false h e =
-    let above : length (drop at bytes) ≤ n = ltb-false n (length (drop at bytes)) e in
-    let long : length (drop at bytes) ≡ length bytes - at = length-drop at bytes in
-    let past : length bytes < at + (n + 1) = omega arith in
-    sym (cond-false (nat_le (at + (n + 1)) (length bytes)) (lines_of (drop (at + (n + 1)) bytes)) [] (lt-leb (at + (n + 1)) (length bytes) past))
-
--- the first line that is left, and the others
-line_left : (bytes rest : List ℕ) (at n : ℕ) → at ≤ length bytes → rest ≡ drop at bytes → n ≡ position_or_len is_end rest → lines_left bytes at ≡ take n rest ∷ lines_left bytes (at + (n + 1))
-line_left bytes rest at n h same e =
-    let xs = drop at bytes in
-    cond-true (nat_le at (length bytes)) (lines_of xs) [] (le-leb at (length bytes) h)
-    ∙ lines_by xs n (nat_lt n (length xs)) (e ∙ ap (position_or_len is_end) same) refl
-    ∙ ap (λ lines. take n xs ∷ lines) (left_by bytes at n (nat_lt n (length xs)) h refl)
-    ∙ ap (λ r. take n r ∷ lines_left bytes (at + (n + 1))) (sym same)
+left_is : (line rest bytes : List ℕ) (n : ℕ) → IsFirst line rest bytes → weeks_left n bytes ≡ cond (has_some (words_in line)) ((n, words_in line) ∷ weeks_left (n + 1) rest) (weeks_left (n + 1) rest)
+left_is line rest bytes n l = ap (weeks_left n) l.whole ∙ by l.ends
+  where
+    by : IsNextLine line rest → weeks_left n (line ++ rest) ≡ cond (has_some (words_in line)) ((n, words_in line) ∷ weeks_left (n + 1) rest) (weeks_left (n + 1) rest)
+    by (inl a) =
+        let words : words_in line ≡ words_of_line a.0 =
+        ap words_in a.2 ∙ ap (flat_map words_of_line) (slice_split_at (λ b. b == 10) a.0 10 [] (no_ends a.0 a.1) refl) ∙ append-nil (words_of_line a.0) in
+        let cut : lines_of (line ++ rest) ≡ a.0 ∷ lines_of rest =
+        ap (λ t. lines_of (t ++ rest)) a.2 ∙ ap lines_of (append_assoc a.0 (10 ∷ []) rest) ∙ slice_split_at (λ b. b == 10) a.0 10 rest (no_ends a.0 a.1) refl in
+        ap (λ ls. filter (λ week. has_some week.1) (enumerate_from n (map words_of_line ls))) cut
+        ∙ ap (λ ws. cond (has_some ws) ((n, ws) ∷ weeks_left (n + 1) rest) (weeks_left (n + 1) rest)) (sym words)
+    by (inr a) =
+        let one : lines_of line ≡ line ∷ [] = slice_split_none (λ b. b == 10) line (no_ends line a.1) in
+        let words : words_in line ≡ words_of_line line = ap (flat_map words_of_line) one ∙ append-nil (words_of_line line) in
+        ap (λ r. weeks_left n (line ++ r)) a.2 ∙ ap (weeks_left n) (append-nil line)
+        ∙ ap (λ ls. filter (λ week. has_some week.1) (enumerate_from n (map words_of_line ls))) one
+        ∙ ap (λ ws. cond (has_some ws) ((n, ws) ∷ []) []) (sym words)
+        ∙ ap (λ r. cond (has_some (words_in line)) ((n, words_in line) ∷ weeks_left (n + 1) r) (weeks_left (n + 1) r)) (sym a.2)
 
 -- what is read of a text, and what is left
 
@@ -219,71 +174,54 @@ none_of : (words : List (List ℕ)) → has_some words ≡ false → words ≡ [
 none_of [] h = refl
 none_of (word ∷ words) h = absurd (cc)
 
--- what is read before a place, from where a line with this number begins
-pub record Progress (P : Instance) (bytes : List ℕ) (cells : List Symbol) (weeks line at : ℕ) : Type 0 where
-  pub on : ReadsOn P bytes (weeks_left line (lines_left bytes at)) cells weeks
+-- what is read of a text, of which this is left, from a line with this number on
+pub record Progress (P : Instance) (bytes : List ℕ) (cells : List Symbol) (weeks line : ℕ) (left : List ℕ) : Type 0 where
+  pub on : ReadsOn P bytes (weeks_left line left) cells weeks
   pub few_weeks : weeks < line
-  pub few_lines : line ≤ at + 1
+  pub few_lines : line + length left ≤ length bytes + 1
 
-pub begins : (P : Instance) (bytes : List ℕ) (cells : List Symbol) → cells ≡ [] → Progress P bytes cells 0 1 0
-begins P bytes cells none =
-    let all : weeks_left 1 (lines_left bytes 0) ≡ numbered_weeks bytes = ap (weeks_left 1) (cond-true (nat_le 0 (length bytes)) (lines_of bytes) [] (le-leb 0 (length bytes) (omega arith))) in
-    let long : length (weeks_left 1 (lines_left bytes 0)) ≡ length (numbered_weeks bytes) = ap length all in
-    record {
-      on = record {
-        refusal = ap (first_refusal P) all;
-        names = ap (λ c. map Some c ++ map (symbol_of P) (flat_map (λ week. week.1) (weeks_left 1 (lines_left bytes 0)))) none ∙ ap (λ weeks. map (symbol_of P) (flat_map (λ week. week.1) weeks)) all;
-        count = omega (arith, long);
-      };
+pub begins : (P : Instance) (bytes left : List ℕ) (cells : List Symbol) → cells ≡ [] → left ≡ bytes → Progress P bytes cells 0 1 left
+begins P bytes left cells none all =
+    subst (Progress P bytes cells 0 1) (sym all) (record {
+      on = record { refusal = refl; names = ap (λ c. map Some c ++ map (symbol_of P) (flat_map (λ week. week.1) (numbered_weeks bytes))) none; count = omega arith };
       few_weeks = omega arith;
       few_lines = omega arith;
-    }
+    })
 
--- the line that begins at a place: the rest of the text, and its length
-pub record LineAt (bytes rest : List ℕ) (at n : ℕ) : Type 0 where
-  pub within : at ≤ length bytes
-  pub same : rest ≡ drop at bytes
-  pub ends : n ≡ position_or_len is_end rest
+shorter : (line rest bytes : List ℕ) → IsFirst line rest bytes → length rest < length bytes
+shorter [] rest bytes l = absurd (l.some refl)
+shorter (b ∷ line) rest bytes l = let long : length bytes ≡ length ((b ∷ line) ++ rest) = ap (λ t. length t) l.whole in omega (arith, long, length-append (b ∷ line) rest)
 
-pub line_at : (bytes : List ℕ) (at n : ℕ) → at ≤ length bytes → n ≡ position_or_len is_end (take (length bytes - at) (drop at bytes)) → LineAt bytes (take (length bytes - at) (drop at bytes)) at n
-line_at bytes at n h e = record { within = h; same = take_rest bytes at; ends = e }
-
-left_is : (bytes rest : List ℕ) (line at n : ℕ) → LineAt bytes rest at n → weeks_left line (lines_left bytes at) ≡ cond (has_some (words_of_line (take n rest))) ((line, words_of_line (take n rest)) ∷ weeks_left (line + 1) (lines_left bytes (at + (n + 1)))) (weeks_left (line + 1) (lines_left bytes (at + (n + 1))))
-left_is bytes rest line at n l = ap (weeks_left line) (line_left bytes rest at n l.within l.same l.ends)
-
-pub week_skipped : (P : Instance) (bytes rest : List ℕ) (cells new : List Symbol) (weeks more line at n : ℕ) (week : Bool) → Progress P bytes cells weeks line at → LineAt bytes rest at n → week ≡ has_some (words_of_line (take n rest)) → week ≡ false → map Some new ≡ map Some cells ++ map (symbol_of P) (words_of_line (take n rest)) → more ≡ weeks → Progress P bytes new more (line + 1) (at + (n + 1))
-week_skipped P bytes rest cells new weeks more line at n week r l is absent names same =
-    let ws = words_of_line (take n rest) in
-    let left = weeks_left (line + 1) (lines_left bytes (at + (n + 1))) in
-    let none : has_some ws ≡ false = sym is ∙ absent in
+pub week_skipped : (P : Instance) (bytes left text rest : List ℕ) (cells new : List Symbol) (weeks more line : ℕ) (week : Bool) → Progress P bytes cells weeks line left → IsFirst text rest left → week ≡ has_some (words_in text) → week ≡ false → map Some new ≡ map Some cells ++ map (symbol_of P) (words_in text) → more ≡ weeks → Progress P bytes new more (line + 1) rest
+week_skipped P bytes left text rest cells new weeks more line week r l is absent names same =
+    let none : has_some (words_in text) ≡ false = sym is ∙ absent in
+    let next = weeks_left (line + 1) rest in
     record {
-      on = subst (ReadsOn P bytes left new) (sym same) (skip P bytes (weeks_left line (lines_left bytes at)) left cells new weeks r.on
-          (left_is bytes rest line at n l ∙ cond-false (has_some ws) ((line, ws) ∷ left) left none)
-          (names ∙ ap (λ w. map Some cells ++ map (symbol_of P) w) (none_of ws none) ∙ append-nil (map Some cells)));
+      on = subst (ReadsOn P bytes next new) (sym same) (skip P bytes (weeks_left line left) next cells new weeks r.on
+          (left_is text rest left line l ∙ cond-false (has_some (words_in text)) ((line, words_in text) ∷ next) next none)
+          (names ∙ ap (λ w. map Some cells ++ map (symbol_of P) w) (none_of (words_in text) none) ∙ append-nil (map Some cells)));
       few_weeks = let few = r.few_weeks in omega (arith, same);
-      few_lines = let few = r.few_lines in omega arith;
+      few_lines = let few = r.few_lines in let less = shorter text rest left l in omega arith;
     }
 
-pub week_read : (P : Instance) (bytes rest : List ℕ) (cells new : List Symbol) (weeks more line at n : ℕ) (week : Bool) → Progress P bytes cells weeks line at → LineAt bytes rest at n → week ≡ has_some (words_of_line (take n rest)) → week ≡ true → (week ≡ true → week_refusal P (line, words_of_line (take n rest)) ≡ None) → map Some new ≡ map Some cells ++ map (symbol_of P) (words_of_line (take n rest)) → more ≡ weeks + 1 → Progress P bytes new more (line + 1) (at + (n + 1))
-week_read P bytes rest cells new weeks more line at n week r l is present accepted names same =
-    let ws = words_of_line (take n rest) in
-    let left = weeks_left (line + 1) (lines_left bytes (at + (n + 1))) in
-    let some : has_some ws ≡ true = sym is ∙ present in
+pub week_read : (P : Instance) (bytes left text rest : List ℕ) (cells new : List Symbol) (weeks more line : ℕ) (week : Bool) → Progress P bytes cells weeks line left → IsFirst text rest left → week ≡ has_some (words_in text) → week ≡ true → (week ≡ true → week_refusal P (line, words_in text) ≡ None) → map Some new ≡ map Some cells ++ map (symbol_of P) (words_in text) → more ≡ weeks + 1 → Progress P bytes new more (line + 1) rest
+week_read P bytes left text rest cells new weeks more line week r l is present accepted names same =
+    let some : has_some (words_in text) ≡ true = sym is ∙ present in
+    let next = weeks_left (line + 1) rest in
     record {
-      on = subst (ReadsOn P bytes left new) (sym same) (read P bytes (weeks_left line (lines_left bytes at)) left (line, ws) cells new weeks r.on
-          (left_is bytes rest line at n l ∙ cond-true (has_some ws) ((line, ws) ∷ left) left some)
+      on = subst (ReadsOn P bytes next new) (sym same) (read P bytes (weeks_left line left) next (line, words_in text) cells new weeks r.on
+          (left_is text rest left line l ∙ cond-true (has_some (words_in text)) ((line, words_in text) ∷ next) next some)
           (accepted present) names);
       few_weeks = let few = r.few_weeks in omega (arith, same);
-      few_lines = let few = r.few_lines in omega arith;
+      few_lines = let few = r.few_lines in let less = shorter text rest left l in omega arith;
     }
 
-pub week_refused : (P : Instance) (bytes rest : List ℕ) (cells : List Symbol) (weeks line at n : ℕ) (why : RosterRefusal) → Progress P bytes cells weeks line at → LineAt bytes rest at n → has_some (words_of_line (take n rest)) ≡ true → week_refusal P (line, words_of_line (take n rest)) ≡ Some why → first_refusal P (numbered_weeks bytes) ≡ Some why
-week_refused P bytes rest cells weeks line at n why r l some refused =
-    let ws = words_of_line (take n rest) in
-    let left = weeks_left (line + 1) (lines_left bytes (at + (n + 1))) in
+pub week_refused : (P : Instance) (bytes left text rest : List ℕ) (cells : List Symbol) (weeks line : ℕ) (why : RosterRefusal) → Progress P bytes cells weeks line left → IsFirst text rest left → has_some (words_in text) ≡ true → week_refusal P (line, words_in text) ≡ Some why → first_refusal P (numbered_weeks bytes) ≡ Some why
+week_refused P bytes left text rest cells weeks line why r l some refused =
+    let next = weeks_left (line + 1) rest in
     sym r.on.refusal
-    ∙ ap (first_refusal P) (left_is bytes rest line at n l ∙ cond-true (has_some ws) ((line, ws) ∷ left) left some)
-    ∙ ap (λ o. option_or o (first_refusal P left)) refused
+    ∙ ap (first_refusal P) (left_is text rest left line l ∙ cond-true (has_some (words_in text)) ((line, words_in text) ∷ next) next some)
+    ∙ ap (λ o. option_or o (first_refusal P next)) refused
 
 -- the whole text is read
 pub record WholeRead (P : Instance) (bytes : List ℕ) (cells : List Symbol) (weeks : ℕ) : Type 0 where
@@ -291,10 +229,9 @@ pub record WholeRead (P : Instance) (bytes : List ℕ) (cells : List Symbol) (we
   pub count : weeks ≡ length (numbered_weeks bytes)
   pub accepted : first_refusal P (numbered_weeks bytes) ≡ None
 
-pub weeks_done : (P : Instance) (bytes : List ℕ) (cells : List Symbol) (weeks line at : ℕ) → Progress P bytes cells weeks line at → length bytes < at → WholeRead P bytes cells weeks
-weeks_done P bytes cells weeks line at r h =
-    let none : weeks_left line (lines_left bytes at) ≡ [] = ap (weeks_left line) (cond-false (nat_le at (length bytes)) (lines_of (drop at bytes)) [] (lt-leb at (length bytes) h)) in
-    let end = skip P bytes (weeks_left line (lines_left bytes at)) [] cells cells weeks r.on none refl in
+pub weeks_done : (P : Instance) (bytes left : List ℕ) (cells : List Symbol) (weeks line : ℕ) → Progress P bytes cells weeks line left → left ≡ [] → WholeRead P bytes cells weeks
+weeks_done P bytes left cells weeks line r h =
+    let end = skip P bytes (weeks_left line left) [] cells cells weeks r.on (ap (weeks_left line) h) refl in
     record {
       names = sym (append-nil (map Some cells)) ∙ end.names;
       count = let same : weeks ≡ weeks + 0 = omega arith in same ∙ end.count;

@@ -1,18 +1,16 @@
 -- What texts that spell a roster have, and when they are refused.
-use Rattle.std.proofs.Common.{◌≡◌, ◌≢◌, ℕ, suc, ◌+◌, ◌*◌, ◌<◌, List, [], ◌∷◌, ◌++◌, length, Option, Some, None, Bool, true, false, cond, refl, ap, sym, ◌∙◌, arith, subst, length-append, eq-eqb, eqb-true}
-use Rattle.std.specs.Prelude.{map, filter, is_none, ◌==◌, position, MatchOption, All}
+use Rattle.std.proofs.Common.{◌≡◌, ◌≢◌, ℕ, suc, ◌+◌, ◌*◌, List, [], ◌∷◌, ◌++◌, length, Option, Some, None, Bool, true, false, cond, refl, ap, sym, ◌∙◌, arith, subst, length-append, eq-eqb, eqb-true}
+use Rattle.std.specs.Prelude.{map, filter, is_none, ◌==◌, MatchOption, All}
 use Rattle.std.specs.List.{list_any, flat_map, enumerate_from, AllByRecursion}
-use Rattle.std.specs.Option.{option_or, option_map}
-use Rattle.std.specs.Str.{bytes_eq}
+use Rattle.std.specs.Option.{option_or}
 use Rattle.std.proofs.lemmas.List.{map-append, length-map}
+use Rattle.std.proofs.lemmas.List.Folds.{list_any-append, flat_map-map}
 use Rattle.std.proofs.lemmas.List.Elements.{All-from_recursion, All-head, All-tail}
-use Rattle.std.proofs.lemmas.List.Quantifiers.{position-Some}
 use Rattle.std.proofs.lemmas.Bool.{or_parts, or_from, ne_eqb, cond-true, cond-false}
 use Rattle.rwsp_text.specs.Lexemes.{lines_of, words_of_line, has_some}
 use Rattle.rwsp_terms.proofs.SymbolNames.{symbol_found}
-use Rattle.rwsp_terms.specs.Instance.{Instance, symbol_of, shift_count, symbol_numbered, off_name, IsSymbol, no_bounds}
+use Rattle.rwsp_terms.specs.Instance.{Instance, symbol_of, IsSymbol}
 use Rattle.rwsp_terms.specs.declared.data.Symbol.{Symbol}
-use Rattle.rwsp_terms.specs.declared.data.ShiftRow.{ShiftRow}
 use Rattle.roster_print.specs.RosterText.{weeks_of, SpellsRoster}
 use Rattle.roster_print.specs.Refusal.{numbered_weeks, week_refusal, first_refusal, count_refusal, refusal_of_roster}
 use Rattle.roster_print.specs.Laws.{TextSpellsOneRoster, RefusalsDecideSpelling, SpelledIsRoster}
@@ -49,10 +47,7 @@ length_joined d (week ∷ weeks) h =
     length-append week (flat_map (λ w. w) weeks) ∙ omega (arith, here, rest)
 
 length_some : {X : Type 0} (names : List (List ℕ)) (f : List ℕ → Option X) (s : List X) → map f names ≡ map Some s → length names ≡ length s
-length_some [] f [] e = refl
-length_some [] f (x ∷ s) e = absurd (cc)
-length_some (name ∷ names) f [] e = absurd (cc)
-length_some (name ∷ names) f (x ∷ s) e = ap suc (length_some names f s (cc))
+length_some names f s e = sym (length-map names f) ∙ ap length e ∙ length-map s Some
 
 pub spelled_is_roster : SpelledIsRoster
 spelled_is_roster P bytes s a = record {
@@ -91,13 +86,6 @@ none_unknown f (name ∷ names) [] e = absurd (cc)
 none_unknown f (name ∷ names) (x ∷ s) e =
     let one : f name ≡ Some x = cc in
     or_from (is_none (f name)) (list_any (λ name. is_none (f name)) names) (ap is_none one) (none_unknown f names s (cc))
-
-any-append : {X : Type 0} (p : X → Bool) (xs ys : List X) → list_any p (xs ++ ys) ≡ false → (list_any p xs ≡ false) × (list_any p ys ≡ false)
-any-append p [] ys h = (refl, h)
-any-append p (x ∷ xs) ys h =
-    let parts = or_parts (p x) (list_any p (xs ++ ys)) h in
-    let rest = any-append p xs ys parts.1 in
-    (or_from (p x) (list_any p xs) parts.0 rest.0, rest.1)
 
 -- when a week isn't refused
 
@@ -147,7 +135,9 @@ weeks_named P (week ∷ weeks) h =
 weeks_unrefused : (P : Instance) (weeks : List (ℕ × List (List ℕ))) → list_any (λ word. is_none (symbol_of P word)) (flat_map (λ week. week) (map (λ week. week.1) weeks)) ≡ false → All (λ week. length week ≡ P.days) (map (λ week. week.1) weeks) → first_refusal P weeks ≡ None
 weeks_unrefused P [] h d = refl
 weeks_unrefused P (week ∷ weeks) h d =
-    let parts = any-append (λ word. is_none (symbol_of P word)) week.1 (flat_map (λ week. week) (map (λ week. week.1) weeks)) h in
+    let others = flat_map (λ week. week) (map (λ week. week.1) weeks) in
+    let unknown : List ℕ → Bool = λ word. is_none (symbol_of P word) in
+    let parts = or_parts (list_any unknown week.1) (list_any unknown others) (sym (list_any-append unknown week.1 others) ∙ h) in
     let here : length week.1 ≡ P.days = All-head (λ w. length w ≡ P.days) week.1 (map (λ week. week.1) weeks) d in
     none_of_both (week_refusal P week) (first_refusal P weeks)
     (week_unrefused P week.0 week.1 (parts.0, here))
@@ -189,14 +179,10 @@ refusals_decide P bytes = decided_by P bytes (refusal_of_roster P bytes) refl
 
 -- what reading answers
 
-joined : (weeks : List (ℕ × List (List ℕ))) → flat_map (λ week. week) (map (λ week. week.1) weeks) ≡ flat_map (λ week. week.1) weeks
-joined [] = refl
-joined (week ∷ weeks) = ap (λ w. week.1 ++ w) (joined weeks)
-
 pub read_is_spelled : (P : Instance) (bytes : List ℕ) (s : List Symbol) → map Some s ≡ map (symbol_of P) (flat_map (λ week. week.1) (numbered_weeks bytes)) → length (numbered_weeks bytes) ≡ P.weeks → first_refusal P (numbered_weeks bytes) ≡ None → SpellsRoster P bytes s
 read_is_spelled P bytes s names count accepted =
     let named = subst (WeeksNamed P) (weeks_are bytes) (weeks_named P (numbered_weeks bytes) accepted) in
-    let words : flat_map (λ week. week) (weeks_of bytes) ≡ flat_map (λ week. week.1) (numbered_weeks bytes) = ap (flat_map (λ week. week)) (sym (weeks_are bytes)) ∙ joined (numbered_weeks bytes) in
+    let words : flat_map (λ week. week) (weeks_of bytes) ≡ flat_map (λ week. week.1) (numbered_weeks bytes) = ap (flat_map (λ week. week)) (sym (weeks_are bytes)) ∙ flat_map-map (λ week. week) (λ week. week.1) (numbered_weeks bytes) in
     record {
       weeks = ap length (sym (weeks_are bytes)) ∙ length-map (numbered_weeks bytes) (λ week. week.1) ∙ count;
       days = All-from_recursion (λ week. length week ≡ P.days) (weeks_of bytes) named.days;

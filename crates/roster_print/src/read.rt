@@ -1,8 +1,8 @@
 // The roster that a text spells.
-ghost use Rattle.std.specs.Prelude.{◌≡◌, ◌≤◌, List, [], ◌∷◌, length, Some, None, IfOk, OnOk, true, is_none, ◌==◌, position};
-ghost use Rattle.std.specs.List.{list_any, flat_map, position_or_len};
+ghost use Rattle.std.specs.Prelude.{◌≡◌, ◌≤◌, List, [], length, Some, None, IfOk, OnOk, true, is_none};
+ghost use Rattle.std.specs.List.{list_any, flat_map};
 ghost use Rattle.rwsp_terms.specs.declared.limits.TheConstants.{LONGEST_FILE};
-ghost use Rattle.rwsp_text.specs.Lexemes.{lines_of, words_of_line, has_some};
+ghost use Rattle.rwsp_text.specs.Lexemes.{has_some};
 ghost use Rattle.rwsp_text.specs.Places.{AreWithin};
 ghost use Rattle.rwsp_terms.specs.Instance.{symbol_of};
 ghost use Rattle.rwsp_terms.specs.declared.data.Symbol.{Symbol};
@@ -10,12 +10,12 @@ ghost use Rattle.rwsp_terms.specs.Roster.{IsRoster};
 ghost use Rattle.rwsp_model.specs.Refusals.{IfRefused};
 ghost use Rattle.roster_print.specs.RosterText.{SpellsRoster};
 ghost use Rattle.roster_print.specs.Refusal.{refusal_of_roster, week_refusal, first_refusal, numbered_weeks};
-ghost use Rattle.roster_print.specs.Reading.{words_at, AppendsNamed};
+ghost use Rattle.roster_print.specs.Reading.{words_at, words_in, AppendsNamed};
 
 use crate::RosterRefusal;
 use rwsp_model::{Fail, Problem, Roster};
 use rwsp_terms::Symbol;
-use rwsp_text::{Token, tokens};
+use rwsp_text::{LineReader, Token, tokens};
 use std::alloc::{AllocError, Global};
 
 // Appends the symbols that the words name.
@@ -67,13 +67,11 @@ fn read_week(
     Ok(())
 }
 
-// The words of a line.
-#[tactic(auto, using(crate::proofs::Reading::line_words))]
+// The words of a text.
+#[tactic(auto, using(crate::proofs::Reading::text_words))]
 fn words_of(alloc: Global, text: &[u8]) -> Result<Vec<Token>, AllocError>
-    requires few { length text.now ≤ LONGEST_FILE }
-    requires one { lines_of text.now ≡ text.now ∷ [] }
-    ensures words { IfOk result (λ words.
-        words_at text.now words.items ≡ words_of_line text.now) }
+    requires { length text.now ≤ LONGEST_FILE }
+    ensures words { IfOk result (λ words. words_at text.now words.items ≡ words_in text.now) }
     ensures within { IfOk result (λ words. AreWithin text.now words.items) }
 {
     tokens(alloc, text)
@@ -88,16 +86,15 @@ fn read_line(
     line: u32,
     cells: &mut Vec<Symbol>,
 ) -> Result<bool, Fail<RosterRefusal>>
-    requires few { length text.now ≤ LONGEST_FILE }
-    requires one { lines_of text.now ≡ text.now ∷ [] }
-    ensures week { IfOk result (λ week. week ≡ has_some (words_of_line text.now)) }
+    requires { length text.now ≤ LONGEST_FILE }
+    ensures week { IfOk result (λ week. week ≡ has_some (words_in text.now)) }
     ensures names { OnOk result
-        (AppendsNamed problem.now (words_of_line text.now) cells.old.items cells.new.items) }
+        (AppendsNamed problem.now (words_in text.now) cells.old.items cells.new.items) }
     ensures accepted { IfOk result (λ week.
-        week ≡ true → week_refusal problem.now (line, words_of_line text.now) ≡ None) }
+        week ≡ true → week_refusal problem.now (line, words_in text.now) ≡ None) }
     ensures refused { IfRefused result (λ why.
-        (has_some (words_of_line text.now) ≡ true)
-        × (week_refusal problem.now (line, words_of_line text.now) ≡ Some why)) }
+        (has_some (words_in text.now) ≡ true)
+        × (week_refusal problem.now (line, words_in text.now) ≡ Some why)) }
 {
     let words = words_of(alloc, text)?;
     if words.is_empty() {
@@ -105,24 +102,6 @@ fn read_line(
     }
     read_week(problem, text, &words, line, cells)?;
     Ok(true)
-}
-
-fn first_line_end(text: &[u8]) -> Option<usize>
-    ensures { result ≡ position (λ b. b == 10) text.now }
-{
-    text.iter().position(|b| *b == b'\n')
-}
-
-// How many bytes come before the end of the first line.
-#[tactic(auto, using(crate::proofs::Reading::found_len, crate::proofs::Reading::missed_len))]
-fn line_len(text: &[u8]) -> usize
-    ensures value { result ≡ position_or_len (λ b. b == 10) text.now }
-    ensures within { result ≤ length text.now }
-{
-    match first_line_end(text) {
-        Some(end) => end,
-        None => text.len(),
-    }
 }
 
 // The symbols of all weeks, and the number of weeks.
@@ -142,15 +121,12 @@ fn read_weeks(
     let mut cells = Vec::new(alloc);
     let mut weeks = 0;
     let mut line = 1;
-    let mut at = 0;
-    while at <= bytes.len() {
-        let rest = &bytes[at..];
-        let end = line_len(rest);
-        if read_line(alloc, problem, &rest[..end], line, &mut cells)? {
+    let mut reader = LineReader::new(bytes);
+    while let Some(text) = reader.next() {
+        if read_line(alloc, problem, text, line, &mut cells)? {
             weeks += 1;
         }
         line += 1;
-        at += end + 1;
     }
     Ok((cells, weeks))
 }

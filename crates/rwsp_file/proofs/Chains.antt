@@ -1,8 +1,5 @@
 -- Lists each of whose elements has something in sight of the earlier ones.
-use Rattle.std.proofs.Common.{◌≡◌, ℕ, zero, suc, ◌<◌, ◌≤◌, List, [], ◌∷◌, ◌++◌, length, get_or, take, true, nat_le, sym, arith, subst, append_assoc, append-nil}
-use Rattle.std.proofs.lemmas.Bool.{leb-true, and_from, and_parts}
-use Rattle.std.proofs.lemmas.Bool.Decides.{nat_tests}
-use Rattle.rwsp_model.specs.Validity.{is_between}
+use Rattle.std.proofs.Common.{ℕ, zero, suc, ◌<◌, List, [], ◌∷◌, ◌++◌, length, get_or, take, sym, arith, subst, append_assoc, append-nil}
 use Rattle.rwsp_file.proofs.Readers.{AllAfter}
 
 pub after_at : {X : Type 0} (V : List X → X → Type 0) (all xs : List X) → AllAfter V all xs → (i : ℕ) (d : X) → i < length xs → V (all ++ take i xs) (get_or xs i d)
@@ -16,14 +13,3 @@ after_from V all (x ∷ xs) h = (
   subst (λ es. V es x) (append-nil all) (h 0 x (omega arith)),
   after_from V (all ++ x ∷ []) xs (λ i d less. subst (λ es. V es (get_or xs i d)) (sym (append_assoc all (x ∷ []) (take i xs))) (h (suc i) d (omega (arith, less)))),
 )
-
-pub between_found : (low high n : ℕ) → is_between low high n ≡ true → (low ≤ n) × (n ≤ high)
-between_found low high n e =
-    let b : (nat_le low n ≡ true) × (nat_le n high ≡ true) = and_parts (nat_le low n) (nat_le n high) e in
-    (leb-true low n b.0, leb-true n high b.1)
-
-pub le_test : (a b : ℕ) → a ≤ b → nat_le a b ≡ true
-le_test a b h = grind (arith, nat_tests)
-
-pub between_only : (low high n : ℕ) → low ≤ n → n ≤ high → is_between low high n ≡ true
-between_only low high n l h = and_from (nat_le low n) (nat_le n high) (le_test low n l) (le_test n high h)

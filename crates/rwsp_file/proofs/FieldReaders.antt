@@ -1,100 +1,74 @@
 -- Readers of the single fields.
-use Rattle.std.proofs.Common.{◌≡◌, ℕ, suc, ◌+◌, ◌*◌, ◌<◌, List, [], ◌∷◌, ◌++◌, length, Bool, true, false, not, ◌&&◌, ◌==◌, cond, Option, Some, None, Ok, Err, refl, ap, sym, ◌∙◌, arith, take, drop, get_or, inl, inr, nat_le, length-drop}
+use Rattle.std.proofs.Common.{◌≡◌, ℕ, suc, ◌+◌, ◌*◌, ◌<◌, ◌≤◌, List, [], ◌∷◌, ◌++◌, length, Bool, true, false, not, ◌&&◌, ◌==◌, cond, Option, Some, None, Ok, Err, refl, ap, sym, ◌∙◌, arith, take, drop, inl, inr, nat_le, length-drop}
 use Rattle.std.specs.Prelude.{if◌then◌else◌}
+use Rattle.std.specs.Bool.{Decides}
 use Rattle.std.specs.Option.{option_map}
 use Rattle.std.specs.List.{list_all, before_first, after_first, position_or_len}
 use Rattle.std.specs.Char.{is_ascii_digit}
-use Rattle.std.proofs.lemmas.List.Sums.{split_at_first, prefix_len_stops}
+use Rattle.std.proofs.lemmas.List.Sums.{split_at_first, passes_at_first}
 use Rattle.std.proofs.lemmas.Bool.Decides.{nat_tests}
 use Rattle.rwsp_text.specs.Lexemes.{Lexeme}
 use Rattle.rwsp_text.specs.Numbers.{number_of, value_of}
+use Rattle.rwsp_text.proofs.Numerals.{if_some, if_false}
 use Rattle.rwsp_terms.specs.declared.limits.TheConstants.{MOST_CELLS, MOST_WEEKS}
 use Rattle.rwsp_terms.specs.declared.data.Bounds.{Bounds}
-use Rattle.rwsp_model.specs.Validity.{is_between, is_small_range}
+use Rattle.rwsp_model.specs.Validity.{IsSmallRange, is_between, is_small_range}
+use Rattle.rwsp_model.proofs.Limits.{Decides-leb, Decides-between, Decides-small_range}
 use Rattle.rwsp_file.specs.Spelling.{IsDemand, IsRange}
 use Rattle.rwsp_file.specs.Spelling.FileField.{NumberField, DemandField}
 use Rattle.rwsp_file.specs.Reading.{◌>>=◌, or_refuse, limited, number_at, limited_weeks, weeks_at, limited_demand, demand_at, written_demand, range_or, range_of, range_from, is_dot}
-use Rattle.rwsp_file.proofs.Readers.{IsReader, bind_ok, then_ok, some_ok, test_ok, word_reader}
+use Rattle.rwsp_file.proofs.Readers.{IsReader, Gives, gives_like, gives_some, gives_tested, then_gives, word_reader}
 use Rattle.rwsp_file.specs.declared.refusal.FileRefusal.{FileRefusal}
 use Rattle.rwsp_file.specs.declared.refusal.FileRefusal.TheVariants.{Number, Range}
 use Rattle.std.proofs.lemmas.List.Folds.{list_all-append}
-use Rattle.std.proofs.lemmas.Bool.{eqb-true, and_parts, not-false}
+use Rattle.std.proofs.lemmas.Bool.{eqb-true, and_parts}
 use Rattle.std.proofs.Math.Seq.{take-append_seam, drop-append-add}
 use Rattle.std.proofs.Math.Bool.{and-false}
 use Rattle.std.proofs.lemmas.Option.{same_Some}
 
 -- what is there and passes a test
-checked : {A : Type 0} (o : Option A) (test : A → Bool) (why bad : FileRefusal) (x : A) → test x ≡ true → o ≡ Some x → (or_refuse o why >>= (λ m. if test m then Ok m else Err bad)) ≡ Ok x
-checked o test why bad x t e = ap (λ p. or_refuse p why >>= (λ m. if test m then Ok m else Err bad)) e ∙ ap (λ b. if b then Ok x else Err bad) t
-
-was_checked : {A : Type 0} (o : Option A) (test : A → Bool) (why bad : FileRefusal) (x : A) → (or_refuse o why >>= (λ m. if test m then Ok m else Err bad)) ≡ Ok x → (test x ≡ true) × (o ≡ Some x)
-was_checked o test why bad x e =
-    let a : (m : _) × (or_refuse o why ≡ Ok m) × ((if test m then Ok m else Err bad) ≡ Ok x) = bind_ok (or_refuse o why) (λ m. if test m then Ok m else Err bad) x e in
-    let b : (test a.0 ≡ true) × (a.0 ≡ x) = test_ok (test a.0) a.0 x bad a.2 in
-    (ap test (sym b.1) ∙ b.0, some_ok o why a.0 a.1 ∙ ap Some b.1)
+gives_checked : {A : Type 0} (P : A → Type 0) (o : Option A) (test : A → Bool) (why bad : FileRefusal) → ((x : A) → Decides (test x) (P x)) → Gives (λ x. P x × (o ≡ Some x)) (or_refuse o why >>= (λ m. if test m then Ok m else Err bad))
+gives_checked P o test why bad decides =
+    gives_like (λ x h. ((decides x).0 h.1.0, h.0)) (λ x h. (h.1, ((decides x).1 h.0, refl)))
+    (then_gives (λ x. x) (gives_some o why) (λ x _. gives_tested (test x) x bad) (λ x y c. c.1))
 
 -- a number that keeps its limit
-pub limited_found : (limit least greatest : ℕ) (w : Lexeme) (n : ℕ) → limited limit least greatest w ≡ Ok n → (is_between least greatest n ≡ true) × (number_of w.text ≡ Some n)
+pub limited_gives : (limit least greatest : ℕ) (w : Lexeme) → Gives (λ n. ((least ≤ n) × (n ≤ greatest)) × (number_of w.text ≡ Some n)) (limited limit least greatest w)
 unfolding limited
-limited_found limit least greatest w n e = was_checked (number_of w.text) (is_between least greatest) (Number w.line) (Range w.line limit) n e
+limited_gives limit least greatest w =
+    gives_checked (λ n. (least ≤ n) × (n ≤ greatest)) (number_of w.text) (is_between least greatest) (Number w.line) (Range w.line limit) (Decides-between least greatest)
 
-pub limited_only : (limit least greatest : ℕ) (w : Lexeme) (n : ℕ) → is_between least greatest n ≡ true → number_of w.text ≡ Some n → limited limit least greatest w ≡ Ok n
-unfolding limited
-limited_only limit least greatest w n within e = checked (number_of w.text) (is_between least greatest) (Number w.line) (Range w.line limit) n within e
-
-pub number_reader : (limit least greatest : ℕ) → IsReader (λ n. is_between least greatest n ≡ true) (λ n. NumberField n ∷ []) (number_at limit least greatest)
+pub number_reader : (limit least greatest : ℕ) → IsReader (λ n. (least ≤ n) × (n ≤ greatest)) (λ n. NumberField n ∷ []) (number_at limit least greatest)
 unfolding number_at
-number_reader limit least greatest =
-    word_reader (λ n. is_between least greatest n ≡ true) NumberField (limited limit least greatest) (number_at limit least greatest) (λ u. refl)
-    (λ w n e. let f : (is_between least greatest n ≡ true) × (number_of w.text ≡ Some n) = limited_found limit least greatest w n e in (f.0, λ fs ws s. (f.1, s)))
-    (λ w n fs ws valid s. (limited_only limit least greatest w n valid s.0, s.1))
+number_reader limit least greatest = word_reader NumberField (limited_gives limit least greatest) (λ n w fs ws is s. (is, s)) (λ n w fs ws s. s)
 
 -- weeks that keep both limits
 abbrev pub AreWeeks : ℕ → ℕ → Type 0
-AreWeeks days n = (is_between 1 MOST_WEEKS n ≡ true) × (nat_le (n * days) MOST_CELLS ≡ true)
+AreWeeks days n = ((1 ≤ n) × (n ≤ MOST_WEEKS)) × (n * days ≤ MOST_CELLS)
 
-weeks_found : (days : ℕ) (w : Lexeme) (n : ℕ) → limited_weeks days w ≡ Ok n → AreWeeks days n × (number_of w.text ≡ Some n)
+weeks_gives : (days : ℕ) (w : Lexeme) → Gives (λ n. AreWeeks days n × (number_of w.text ≡ Some n)) (limited_weeks days w)
 unfolding limited_weeks
-weeks_found days w n e =
-    let a : (m : ℕ) × (limited 2 1 MOST_WEEKS w ≡ Ok m) × ((if nat_le (m * days) MOST_CELLS then Ok m else Err (Range w.line 3)) ≡ Ok n) =
-    bind_ok (limited 2 1 MOST_WEEKS w) (λ m. if nat_le (m * days) MOST_CELLS then Ok m else Err (Range w.line 3)) n e in
-    let b : (nat_le (a.0 * days) MOST_CELLS ≡ true) × (a.0 ≡ n) = test_ok (nat_le (a.0 * days) MOST_CELLS) a.0 n (Range w.line 3) a.2 in
-    let f : (is_between 1 MOST_WEEKS n ≡ true) × (number_of w.text ≡ Some n) = limited_found 2 1 MOST_WEEKS w n (a.1 ∙ ap Ok b.1) in
-    ((f.0, ap (λ m. nat_le (m * days) MOST_CELLS) (sym b.1) ∙ b.0), f.1)
-
-weeks_only : (days : ℕ) (w : Lexeme) (n : ℕ) → AreWeeks days n → number_of w.text ≡ Some n → limited_weeks days w ≡ Ok n
-unfolding limited_weeks
-weeks_only days w n valid e =
-    then_ok (limited 2 1 MOST_WEEKS w) (λ m. if nat_le (m * days) MOST_CELLS then Ok m else Err (Range w.line 3)) n n (limited_only 2 1 MOST_WEEKS w n valid.0 e)
-    (ap (λ b. if b then Ok n else Err (Range w.line 3)) valid.1)
+weeks_gives days w =
+    gives_like (λ n h. ((h.0.0, (Decides-leb (n * days) MOST_CELLS).0 h.1.0), h.0.1)) (λ n h. ((h.0.0, h.1), ((Decides-leb (n * days) MOST_CELLS).1 h.0.1, refl)))
+    (then_gives (λ n. n) (limited_gives 2 1 MOST_WEEKS w) (λ m _. gives_tested (nat_le (m * days) MOST_CELLS) m (Range w.line 3)) (λ m n c. c.1))
 
 pub weeks_reader : (days : ℕ) → IsReader (AreWeeks days) (λ n. NumberField n ∷ []) (weeks_at days)
 unfolding weeks_at
-weeks_reader days =
-    word_reader (AreWeeks days) NumberField (limited_weeks days) (weeks_at days) (λ u. refl)
-    (λ w n e. let f : AreWeeks days n × (number_of w.text ≡ Some n) = weeks_found days w n e in (f.0, λ fs ws s. (f.1, s)))
-    (λ w n fs ws valid s. (weeks_only days w n valid s.0, s.1))
+weeks_reader days = word_reader NumberField (weeks_gives days) (λ n w fs ws is s. (is, s)) (λ n w fs ws s. s)
 
 -- numbers have no dot
 
-all_digits : (a b c : Bool) (text : List ℕ) (n : ℕ) → (if a && b && c then Some (value_of text) else None) ≡ Some n → c ≡ true
-all_digits true true true text n e = refl
-all_digits true true false text n e = absurd (cc)
-all_digits true false c text n e = absurd (cc)
-all_digits false b c text n e = absurd (cc)
-
-pub number_digits : (text : List ℕ) (n : ℕ) → number_of text ≡ Some n → list_all is_ascii_digit text ≡ true
-number_digits text n e = all_digits (nat_le 1 (length text)) (nat_le (length text) 9) (list_all is_ascii_digit text) text n e
-
-no_number : (a b c : Bool) (text : List ℕ) → c ≡ false → (if a && b && c then Some (value_of text) else None) ≡ None
-no_number true true c text e = ap (λ d. if d then Some (value_of text) else None) e
-no_number true false c text e = refl
-no_number false b c text e = refl
+number_digits : (text : List ℕ) (n : ℕ) → number_of text ≡ Some n → list_all is_ascii_digit text ≡ true
+number_digits text n e =
+    let few = nat_le 1 (length text) && nat_le (length text) 9 in
+    (and_parts few (list_all is_ascii_digit text) (if_some (few && list_all is_ascii_digit text) (Some (value_of text)) n e).0).1
 
 dotted : (least rest : List ℕ) → number_of (least ++ 46 ∷ rest) ≡ None
 dotted least rest =
-    no_number (nat_le 1 (length (least ++ 46 ∷ rest))) (nat_le (length (least ++ 46 ∷ rest)) 9) (list_all is_ascii_digit (least ++ 46 ∷ rest)) (least ++ 46 ∷ rest)
-    (list_all-append is_ascii_digit least (46 ∷ rest) ∙ and-false (list_all is_ascii_digit least))
+    let text = least ++ 46 ∷ rest in
+    let few = nat_le 1 (length text) && nat_le (length text) 9 in
+    if_false (few && list_all is_ascii_digit text) (Some (value_of text)) None
+    (ap (λ c. few && c) (list_all-append is_ascii_digit least (46 ∷ rest) ∙ and-false (list_all is_ascii_digit least)) ∙ and-false few)
 
 dot_of : (b : ℕ) → is_dot b ≡ true → b ≡ 46
 dot_of b e = eqb-true b 46 e
@@ -124,9 +98,8 @@ cut_at_dot : (text : List ℕ) (c : ℕ) (cs : List ℕ) → after_first is_dot 
 cut_at_dot text c cs e =
     let k : ℕ = position_or_len is_dot text in
     let lt : position_or_len is_dot text < length text = omega (arith, ap length e, length-drop (position_or_len is_dot text + 1) text) in
-    let stop : not (is_dot (get_or text (position_or_len is_dot text) 0)) ≡ false = prefix_len_stops (λ x. not (is_dot x)) text 0 lt in
     split_at_first is_dot text 0 lt
-    ∙ ap (λ b. before_first is_dot text ++ b ∷ after_first is_dot text) (dot_of _ (not-false _ stop))
+    ∙ ap (λ b. before_first is_dot text ++ b ∷ after_first is_dot text) (dot_of _ (passes_at_first is_dot text 0 lt))
     ∙ ap (λ t. before_first is_dot text ++ 46 ∷ t) e
 
 abbrev pub range_between : ℕ → ℕ → Bounds
@@ -162,7 +135,7 @@ range_only text b r =
           ∙ ap (λ o. option_map (λ m. record { least = b.least; greatest = m }) o) r.to,
     )
 
-pub demand_found : (text : List ℕ) (b : Bounds) → written_demand text ≡ Some b → IsDemand b text
+demand_found : (text : List ℕ) (b : Bounds) → written_demand text ≡ Some b → IsDemand b text
 demand_found text b e = at (number_of text) refl e where
   at : (o : Option ℕ) → number_of text ≡ o → range_or (range_of text) o ≡ Some b → IsDemand b text
   at None n h = inr (range_found text b h)
@@ -170,17 +143,18 @@ demand_found text b e = at (number_of text) refl e where
       let same : range_between k k ≡ b = same_Some (range_between k k) b h in
       inl (n ∙ ap (λ (r : Bounds). Some r.least) same, sym (ap (λ (r : Bounds). r.greatest) same) ∙ ap (λ (r : Bounds). r.least) same)
 
-pub demand_only : (text : List ℕ) (b : Bounds) → IsDemand b text → written_demand text ≡ Some b
+demand_only : (text : List ℕ) (b : Bounds) → IsDemand b text → written_demand text ≡ Some b
 demand_only text b (inl h) = ap (range_or (range_of text)) h.0 ∙ ap (λ k. Some (range_between b.least k)) (sym h.1)
 demand_only text b (inr r) =
     let both : (number_of text ≡ None) × (range_of text ≡ Some b) = range_only text b r in
     ap (range_or (range_of text)) both.0 ∙ both.1
 
-pub demand_reader : IsReader (λ b. is_small_range b ≡ true) (λ b. DemandField b ∷ []) demand_at
-unfolding demand_at limited_demand
-demand_reader =
-    word_reader (λ b. is_small_range b ≡ true) DemandField limited_demand demand_at (λ u. refl)
-    (λ w b e.
-    let f : (is_small_range b ≡ true) × (written_demand w.text ≡ Some b) = was_checked (written_demand w.text) is_small_range (Number w.line) (Range w.line 5) b e in
-    (f.0, λ fs ws s. (demand_found w.text b f.1, s)))
-    (λ w b fs ws valid s. (checked (written_demand w.text) is_small_range (Number w.line) (Range w.line 5) b valid (demand_only w.text b s.0), s.1))
+demand_gives : (w : Lexeme) → Gives (λ b. IsSmallRange b × IsDemand b w.text) (limited_demand w)
+unfolding limited_demand
+demand_gives w =
+    gives_like (λ b h. (h.0, demand_found w.text b h.1)) (λ b h. (h.0, demand_only w.text b h.1))
+    (gives_checked IsSmallRange (written_demand w.text) is_small_range (Number w.line) (Range w.line 5) Decides-small_range)
+
+pub demand_reader : IsReader IsSmallRange (λ b. DemandField b ∷ []) demand_at
+unfolding demand_at
+demand_reader = word_reader DemandField demand_gives (λ b w fs ws is s. (is, s)) (λ b w fs ws s. s)

@@ -12,6 +12,7 @@ pub mod WordForms
 pub mod Valid
 pub mod TextLaws
 pub mod PrintSteps
+pub mod PrintedLines
 pub mod Printing
 pub mod Lengths
 pub mod TextSteps

@@ -2,7 +2,7 @@
 use Rattle.std.proofs.Common.{◌≡◌, ℕ, zero, suc, ◌+◌, ◌≤◌, List, [], ◌∷◌, length, Bool, true, false, not, cond, Some, None, refl, ap, sym, ◌∙◌, arith, map, take, drop, nat_lt, ◌==◌, ◌||◌}
 use Rattle.std.specs.Prelude.{position, unwrap_or, is_some}
 use Rattle.std.specs.List.{prefix_len, AllByRecursion, list_any}
-use Rattle.std.proofs.lemmas.List.{take-map}
+use Rattle.std.proofs.lemmas.List.{take-map, drop-map}
 use Rattle.std.proofs.lemmas.List.Sums.{prefix_len-le-length}
 use Rattle.std.proofs.lemmas.Bool.Decides.{nat_tests}
 use Rattle.rwsp_text.specs.Lexemes.{Lexeme}
@@ -45,27 +45,17 @@ is_before_end p (x ∷ xs) = one_more (p x) (prefix_len (λ y. not (p y)) xs) (l
 pub is_some-position : {X : Type 0} (p : X → Bool) (xs : List X) → is_some (position p xs) ≡ list_any p xs
 is_some-position p xs = is_found _ (length xs) ∙ is_before_end p xs
 
-pub drop-map_of : {X Y : Type 0} (f : X → Y) (n : ℕ) (xs : List X) → drop n (map f xs) ≡ map f (drop n xs)
-drop-map_of f zero xs = refl
-drop-map_of f (suc n) [] = refl
-drop-map_of f (suc n) (x ∷ xs) = drop-map_of f n xs
-
 pub AllByRecursion-drop : {X : Type 0} (P : X → Type 0) (n : ℕ) (xs : List X) → AllByRecursion P xs → AllByRecursion P (drop n xs)
 AllByRecursion-drop P zero xs all = all
 AllByRecursion-drop P (suc n) [] all = all
 AllByRecursion-drop P (suc n) (x ∷ xs) all = AllByRecursion-drop P n xs all.1
-
-pub AllByRecursion-take : {X : Type 0} (P : X → Type 0) (n : ℕ) (xs : List X) → AllByRecursion P xs → AllByRecursion P (take n xs)
-AllByRecursion-take P zero xs all = tt
-AllByRecursion-take P (suc n) [] all = tt
-AllByRecursion-take P (suc n) (x ∷ xs) all = (all.0, AllByRecursion-take P n xs all.1)
 
 -- the images of what is in front, and of what is behind
 pub take-prefix-map : {X Y : Type 0} (f : X → Y) (p : Y → Bool) (xs : List X) → map f (take (prefix_len (λ x. p (f x)) xs) xs) ≡ take (prefix_len p (map f xs)) (map f xs)
 take-prefix-map f p xs = sym (take-map f (prefix_len (λ x. p (f x)) xs) xs) ∙ ap (λ n. take n (map f xs)) (sym (prefix_len-map f p xs))
 
 pub drop-prefix-map : {X Y : Type 0} (f : X → Y) (p : Y → Bool) (xs : List X) → map f (drop (prefix_len (λ x. p (f x)) xs) xs) ≡ drop (prefix_len p (map f xs)) (map f xs)
-drop-prefix-map f p xs = sym (drop-map_of f (prefix_len (λ x. p (f x)) xs) xs) ∙ ap (λ n. drop n (map f xs)) (sym (prefix_len-map f p xs))
+drop-prefix-map f p xs = sym (drop-map f (prefix_len (λ x. p (f x)) xs) xs) ∙ ap (λ n. drop n (map f xs)) (sym (prefix_len-map f p xs))
 
 abbrev pub unread : List Lexeme → ℕ → Unread
 unread ls end = record { lexemes = ls; end = end }

@@ -1,53 +1,28 @@
 -- The canonical text of a valid instance spells it.
-use Rattle.std.proofs.Common.{◌≡◌, ◌≢◌, ℕ, zero, suc, ◌+◌, ◌^◌, ◌<◌, ◌≤◌, List, [], ◌∷◌, ◌++◌, length, get_or, Bool, true, false, ◌==◌, refl, sym, subst, map, arith, append_assoc, append-nil, inl, inr}
-use Rattle.std.specs.Prelude.{if◌then◌else◌, slice_index}
-use Rattle.std.specs.List.{flat_map, list_all, AllByRecursion}
-use Rattle.std.specs.Char.{is_ascii_digit}
+use Rattle.std.proofs.Common.{◌≡◌, ℕ, ◌+◌, ◌^◌, ◌<◌, ◌≤◌, List, [], ◌∷◌, ◌++◌, length, get_or, Bool, true, false, ◌==◌, refl, sym, subst, map, arith, append_assoc, append-nil, inl, inr}
+use Rattle.std.specs.Prelude.{if◌then◌else◌}
+use Rattle.std.specs.List.{flat_map, AllByRecursion}
 use Rattle.std.specs.Fmt.{decimal}
-use Rattle.std.proofs.lemmas.Bool.{eqb-true, and_parts, or_parts}
-use Rattle.std.proofs.lemmas.Bool.Decides.{nat_tests}
-use Rattle.std.proofs.lemmas.Fmt.{decimal_nonempty}
-use Rattle.rwsp_text.specs.Lexemes.{Lexeme, is_space}
-use Rattle.rwsp_text.proofs.Steps.{IsWordByte}
-use Rattle.rwsp_text.proofs.Printed.{printed_is_read, digits_printed}
-use Rattle.rwsp_text.proofs.JoinedWords.{IsPrinted, printed_word}
-use Rattle.rwsp_terms.specs.Instance.{Instance, shift_count, name_of, name_numbered}
+use Rattle.std.proofs.lemmas.Bool.{eqb-true}
+use Rattle.rwsp_text.specs.Lexemes.{Lexeme}
+use Rattle.rwsp_text.proofs.Printed.{printed_is_read}
+use Rattle.rwsp_text.proofs.JoinedWords.{IsPrinted}
+use Rattle.rwsp_terms.specs.Instance.{Instance}
 use Rattle.rwsp_terms.specs.declared.data.Bounds.{Bounds}
 use Rattle.rwsp_terms.specs.declared.data.ShiftRow.{ShiftRow}
-use Rattle.rwsp_terms.specs.declared.data.Symbol.{Symbol}
-use Rattle.rwsp_terms.proofs.Elements.{all_to, all_joined}
-use Rattle.rwsp_model.specs.Validity.{IsValid, KeepsLimits, IsShiftName, IsSmallRange, AreSmall, breaks_name}
+use Rattle.rwsp_terms.proofs.Elements.{all_to}
+use Rattle.rwsp_model.specs.Validity.{IsValid, KeepsLimits, IsSmallRange, AreSmall}
 use Rattle.rwsp_model.proofs.Limits.{valid_keeps}
 use Rattle.rwsp_file.specs.Spelling.{FileField, Spell, file_fields, IsDemand, IsRow, on_line, past_line, SpellsProblem}
 use Rattle.rwsp_file.specs.Spelling.FileField.{DemandField, ShiftField}
 use Rattle.rwsp_file.specs.Text.{demand_text, bounds_words, shift_words, lines_of_words, pair_words, triple_words, problem_text}
 use Rattle.rwsp_file.specs.Laws.{CanonicalTextsSpell}
 use Rattle.rwsp_file.proofs.SymbolReader.{pair_fields, triple_fields}
-use Rattle.rwsp_terms.proofs.SymbolNames.{in_place, no_row}
 use Rattle.rwsp_file.proofs.Whole.{fields_from_shifts, fields_from_frame, sequence_fields}
-use Rattle.rwsp_file.proofs.WordForms.{all_images, all_weaker}
+use Rattle.rwsp_file.proofs.WordForms.{all_weaker}
 use Rattle.rwsp_file.proofs.PrintSteps.{lexeme, numbered, text_lexemes, later, line_cut}
+use Rattle.rwsp_file.proofs.PrintedLines.{IsGoodWord, IsGoodLine, lines_good}
 use Rattle.rwsp_file.proofs.TextLaws.{texts_spell_one}
-
--- words that may be printed
-
-digit_byte : (b : ℕ) → is_ascii_digit b ≡ true → IsWordByte b
-digit_byte b e = (grind (arith, nat_tests), grind (arith, nat_tests))
-
-digit_no_hash : (b : ℕ) → is_ascii_digit b ≡ true → (b == 35) ≡ false
-digit_no_hash b e = grind (arith, nat_tests)
-
-digit_bytes : (ds : List ℕ) → list_all is_ascii_digit ds ≡ true → AllByRecursion IsWordByte ds
-digit_bytes [] e = tt
-digit_bytes (d ∷ ds) e =
-    let h : (is_ascii_digit d ≡ true) × (list_all is_ascii_digit ds ≡ true) = and_parts (is_ascii_digit d) (list_all is_ascii_digit ds) e in
-    (digit_byte d h.0, digit_bytes ds h.1)
-
-printed_digits : (ds rest : List ℕ) → 0 < length ds → list_all is_ascii_digit ds ≡ true → AllByRecursion IsWordByte rest → IsPrinted (ds ++ rest)
-printed_digits [] rest some e all = absurd (omega (arith, some))
-printed_digits (d ∷ ds) rest some e all =
-    let h : (is_ascii_digit d ≡ true) × (list_all is_ascii_digit ds ≡ true) = and_parts (is_ascii_digit d) (list_all is_ascii_digit ds) e in
-    (digit_no_hash d h.0, (digit_byte d h.0, all_joined IsWordByte ds rest (digit_bytes ds h.1) all))
 
 -- numbers of up to nine digits
 abbrev IsShortNumber : ℕ → Type 0
@@ -56,90 +31,19 @@ IsShortNumber n = n < 10 ^ 9
 below : (n : ℕ) → n ≤ 10000 → IsShortNumber n
 below n h = omega (arith, h)
 
-printed_number : (n : ℕ) → IsShortNumber n → IsPrinted (decimal n)
-printed_number n h =
-    let few : n < 2 ^ 64 = omega (arith, h) in
-    subst IsPrinted (append-nil (decimal n)) (printed_digits (decimal n) [] (decimal_nonempty n few) (digits_printed n h) tt)
+-- a shift whose numbers may be printed
+record IsPrintedRow (row : ShiftRow) : Type 0 where
+  times : (row.start ≤ 10000) × (row.length ≤ 10000)
+  blocks : AreSmall row.bounds
 
-printed_demand : (b : Bounds) → IsSmallRange b → IsPrinted (demand_text b)
-printed_demand b h = at (b.least == b.greatest) where
-  at : (t : Bool) → IsPrinted (if t then decimal b.least else decimal b.least ++ 46 ∷ 46 ∷ decimal b.greatest)
-  at true = printed_number b.least (below b.least (omega (arith, h.0)))
-  at false =
-      let l : IsShortNumber b.least = omega (arith, h.0) in
-      let g : IsShortNumber b.greatest = omega (arith, h.1) in
-      let few : b.least < 2 ^ 64 = omega (arith, h.0) in
-      printed_digits (decimal b.least) (46 ∷ 46 ∷ decimal b.greatest) (decimal_nonempty b.least few) (digits_printed b.least l)
-      ((refl, refl), ((refl, refl), digit_bytes (decimal b.greatest) (digits_printed b.greatest g)))
-
-printed_name : (name : List ℕ) → IsShiftName name → IsPrinted name
-printed_name name h =
-    printed_word name h.some h.no_hash
-    (all_weaker (λ b. breaks_name b ≡ false) IsWordByte (λ b e. or_parts (is_space b) (b == 10) e) name (all_to (λ b. breaks_name b ≡ false) name h.unbroken))
-
-printed_symbol : (P : Instance) → KeepsLimits P → (n : ℕ) → n ≤ shift_count P → IsPrinted (name_numbered P n)
-printed_symbol P k zero le = (refl, ((refl, refl), tt))
-printed_symbol P k (suc n) le =
-    let less : n < length P.shifts = omega (arith, le) in
-    subst IsPrinted (sym (in_place P n less)) (printed_name (get_or P.shifts n no_row).name (k.names n no_row less))
-
--- a shift that may be printed
-pub record IsPrintedRow (row : ShiftRow) : Type 0 where
-  pub name : IsShiftName row.name
-  pub times : (row.start ≤ 10000) × (row.length ≤ 10000)
-  pub blocks : AreSmall row.bounds
-
-pub rows_printed : (P : Instance) → KeepsLimits P → AllByRecursion IsPrintedRow P.shifts
-rows_printed P k = all_to IsPrintedRow P.shifts (λ i d less. record { name = k.names i d less; times = k.times i d less; blocks = k.blocks i d less })
+rows_printed : (P : Instance) → KeepsLimits P → AllByRecursion IsPrintedRow P.shifts
+rows_printed P k = all_to IsPrintedRow P.shifts (λ i d less. record { times = k.times i d less; blocks = k.blocks i d less })
 
 demand_printed : (P : Instance) → KeepsLimits P → AllByRecursion (AllByRecursion IsSmallRange) P.demand
 demand_printed P k = all_to (AllByRecursion IsSmallRange) P.demand (λ i d less. all_to IsSmallRange (get_or P.demand i d) (k.demand i d less))
 
-abbrev AreLines : List (List (List ℕ)) → Type 0
-AreLines lines = AllByRecursion (AllByRecursion IsPrinted) lines
-
-bounds_printed : (b : Bounds) → AreSmall b → AllByRecursion IsPrinted (bounds_words b)
-bounds_printed b h = (printed_number b.least (below b.least h.0), (printed_number b.greatest (below b.greatest h.1), tt))
-
-lines_printed : (P : Instance) → KeepsLimits P → AreLines (lines_of_words P)
-lines_printed P k =
-    let days : IsShortNumber P.days = omega (arith, k.few_days) in
-    let weeks : IsShortNumber P.weeks = omega (arith, k.few_weeks) in
-    let shifts : IsShortNumber (length P.shifts) = omega (arith, k.few_shifts) in
-    let pairs : IsShortNumber (length P.pairs) = omega (arith, k.few_pairs) in
-    let triples : IsShortNumber (length P.triples) = omega (arith, k.few_triples) in (
-      (printed_number P.days days, tt),
-      (
-        (printed_number P.weeks weeks, tt),
-        (
-          (printed_number (length P.shifts) shifts, tt),
-          all_joined (AllByRecursion IsPrinted) (map (map demand_text) P.demand) _
-              (all_images (AllByRecursion IsPrinted) (map demand_text) P.demand
-              (all_weaker (AllByRecursion IsSmallRange) (λ row. AllByRecursion IsPrinted (map demand_text row))
-              (λ row h. all_images IsPrinted demand_text row (all_weaker IsSmallRange (λ b. IsPrinted (demand_text b)) printed_demand row h)) P.demand (demand_printed P k)))
-              (all_joined (AllByRecursion IsPrinted) (map shift_words P.shifts) _
-              (all_images (AllByRecursion IsPrinted) shift_words P.shifts
-              (all_weaker IsPrintedRow (λ row. AllByRecursion IsPrinted (shift_words row))
-              (λ row h. (printed_name row.name h.name, (printed_number row.start (below row.start h.times.0), (printed_number row.length (below row.length h.times.1), bounds_printed row.bounds h.blocks))))
-              P.shifts (rows_printed P k))) (
-                bounds_printed P.off k.off,
-                (
-                  bounds_printed P.work k.work,
-                  (
-                    (printed_number (length P.pairs) pairs, (printed_number (length P.triples) triples, tt)),
-                    all_joined (AllByRecursion IsPrinted) (map (λ (x : Symbol × Symbol). name_of P x.0 ∷ name_of P x.1 ∷ []) P.pairs) _
-                        (all_images (AllByRecursion IsPrinted) (λ (x : Symbol × Symbol). name_of P x.0 ∷ name_of P x.1 ∷ []) P.pairs
-                        (all_to (λ (x : Symbol × Symbol). AllByRecursion IsPrinted (name_of P x.0 ∷ name_of P x.1 ∷ [])) P.pairs
-                        (λ i d less. (printed_symbol P k _ (k.known_pairs i d less).0, (printed_symbol P k _ (k.known_pairs i d less).1, tt)))))
-                        (all_images (AllByRecursion IsPrinted) (λ (x : Symbol × Symbol × Symbol). name_of P x.0 ∷ name_of P x.1 ∷ name_of P x.2 ∷ []) P.triples
-                        (all_to (λ (x : Symbol × Symbol × Symbol). AllByRecursion IsPrinted (name_of P x.0 ∷ name_of P x.1 ∷ name_of P x.2 ∷ [])) P.triples
-                        (λ i d less. (printed_symbol P k _ (k.known_triples i d less).0, (printed_symbol P k _ (k.known_triples i d less).1, (printed_symbol P k _ (k.known_triples i d less).2, tt)))))),
-                  ),
-                ),
-              )),
-        ),
-      ),
-    )
+lines_printed : (P : Instance) → KeepsLimits P → AllByRecursion (AllByRecursion IsPrinted) (lines_of_words P)
+lines_printed P k = all_weaker IsGoodLine (AllByRecursion IsPrinted) (λ words good. all_weaker IsGoodWord IsPrinted (λ word g. g.printed) words good.each) (lines_of_words P) (lines_good P k)
 
 -- what the lines spell, whatever the number of the first
 

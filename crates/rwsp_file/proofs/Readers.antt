@@ -4,14 +4,9 @@ use Rattle.std.specs.Prelude.{if◌then◌else◌}
 use Rattle.std.specs.List.{flat_map}
 use Rattle.rwsp_text.specs.Lexemes.{Lexeme}
 use Rattle.rwsp_file.specs.Spelling.{FileField, Spell}
-use Rattle.rwsp_file.specs.Reading.{Unread, ◌>>=◌, or_refuse, next_of, next_at, many}
+use Rattle.rwsp_file.specs.Reading.{Unread, ◌>>=◌, or_refuse, next_of, next_at, many, nothing_of}
 use Rattle.rwsp_file.specs.declared.refusal.FileRefusal.{FileRefusal}
 use Rattle.rwsp_file.proofs.ManySteps.{many_suc, many_zero}
-
--- what is read is spelled, and what is spelled is read, where F gives the fields of a value that has V
-pub record IsReader {X : Type 0} (V : X → Type 0) (F : X → List FileField) (read : Unread → Result (X × Unread) FileRefusal) : Type 0 where
-  pub found : (u v : Unread) (x : X) → read u ≡ Ok (x, v) → V x × ((fs : List FileField) → Spell fs v.lexemes → Spell (F x ++ fs) u.lexemes)
-  pub only : (u : Unread) (x : X) (fs : List FileField) → V x → Spell (F x ++ fs) u.lexemes → (v : Unread) × (read u ≡ Ok (x, v)) × Spell fs v.lexemes
 
 pub bind_ok : {A B : Type 0} (r : Result A FileRefusal) (f : A → Result B FileRefusal) (y : B) → (r >>= f) ≡ Ok y → (x : A) × (r ≡ Ok x) × (f x ≡ Ok y)
 bind_ok (Ok x) f y e = (x, refl, e)
@@ -20,13 +15,116 @@ bind_ok (Err why) f y e = absurd (cc)
 pub then_ok : {A B : Type 0} (r : Result A FileRefusal) (f : A → Result B FileRefusal) (x : A) (y : B) → r ≡ Ok x → f x ≡ Ok y → (r >>= f) ≡ Ok y
 then_ok r f x y e h = ap (λ s. s >>= f) e ∙ h
 
-pub some_ok : {A : Type 0} (o : Option A) (why : FileRefusal) (x : A) → or_refuse o why ≡ Ok x → o ≡ Some x
-some_ok None why x e = absurd (cc)
-some_ok (Some y) why x e = cc
+abbrev pub given : {A : Type 0} → A → Result A FileRefusal
+given x = Ok x
 
-pub test_ok : {A : Type 0} (b : Bool) (x y : A) (why : FileRefusal) → (if b then Ok x else Err why) ≡ Ok y → (b ≡ true) × (x ≡ y)
-test_ok true x y why e = (refl, cc)
-test_ok false x y why e = absurd (cc)
+pub ok_same : {A : Type 0} (x y : A) → given x ≡ Ok y → x ≡ y
+ok_same x y e = cc
+
+-- a result that is one value or none: what is given is right, and what is right is given
+pub record Gives {X : Type 0} (Right : X → Type 0) (r : Result X FileRefusal) : Type 0 where
+  pub found : (x : X) → r ≡ Ok x → Right x
+  pub only : (x : X) → Right x → r ≡ Ok x
+
+pub gives_like : {X : Type 0} {Q R : X → Type 0} {r : Result X FileRefusal} → ((x : X) → Q x → R x) → ((x : X) → R x → Q x) → Gives Q r → Gives R r
+gives_like to from g = record { found = λ x e. to x (g.found x e); only = λ x h. g.only x (from x h) }
+
+pub gives_value : {X : Type 0} (x : X) → Gives (λ y. y ≡ x) (Ok x)
+gives_value x = record { found = λ y e. sym (ok_same x y e); only = λ y e. ap given (sym e) }
+
+pub gives_some : {X : Type 0} (o : Option X) (why : FileRefusal) → Gives (λ x. o ≡ Some x) (or_refuse o why)
+gives_some None why = record { found = λ x e. absurd (cc); only = λ x e. absurd (cc) }
+gives_some (Some y) why = record { found = λ x e. ap Some (ok_same y x e); only = λ x e. ap (λ o. or_refuse o why) e }
+
+pub gives_tested : {X : Type 0} (b : Bool) (x : X) (why : FileRefusal) → Gives (λ y. (b ≡ true) × (y ≡ x)) (if b then Ok x else Err why)
+gives_tested true x why = record { found = λ y e. (refl, sym (ok_same x y e)); only = λ y h. ap given (sym h.1) }
+gives_tested false x why = record { found = λ y e. absurd (cc); only = λ y h. let no : false ≡ true = h.0 in absurd (cc) }
+
+-- one thing, which is a part of the whole, and then the rest in sight of it
+pub then_gives : {X Y : Type 0} {Q : X → Type 0} {r : Result X FileRefusal} {R : X → Y → Type 0} {rest : X → Result Y FileRefusal} (part : Y → X) → Gives Q r → ((x : X) → Q x → Gives (R x) (rest x)) → ((x : X) (y : Y) → R x y → part y ≡ x) →
+    Gives (λ y. Q (part y) × R (part y) y) (r >>= rest)
+then_gives {Q = Q} {r = r} {R = R} {rest = rest} part one more same = record {
+  found = λ y e.
+      let a = bind_ok r rest y e in
+      let q : Q a.0 = one.found a.0 a.1 in
+      let c : R a.0 y = (more a.0 q).found y a.2 in
+      subst (λ x. Q x × R x y) (sym (same a.0 y c)) (q, c);
+  only = λ y h. then_ok r rest (part y) y (one.only (part y) h.0) ((more (part y) h.0).only y h.1);
+}
+
+-- a reader reads what is spelled, and nothing else, where F gives the fields of a value that has V
+pub record IsReader {X : Type 0} (V : X → Type 0) (F : X → List FileField) (read : Unread → Result (X × Unread) FileRefusal) : Type 0 where
+  pub found : (u v : Unread) (x : X) → read u ≡ Ok (x, v) → V x × ((fs : List FileField) → Spell fs v.lexemes → Spell (F x ++ fs) u.lexemes)
+  pub only : (u : Unread) (x : X) (fs : List FileField) → V x → Spell (F x ++ fs) u.lexemes → (v : Unread) × (read u ≡ Ok (x, v)) × Spell fs v.lexemes
+
+-- the same of one that reads to the end
+pub record IsLast {X : Type 0} (V : X → Type 0) (F : X → List FileField) (read : Unread → Result X FileRefusal) : Type 0 where
+  pub gives : (u : Unread) → Gives (λ x. V x × Spell (F x) u.lexemes) (read u)
+
+-- in other words
+pub reader_like : {X : Type 0} {V W : X → Type 0} {F G : X → List FileField} {read : Unread → Result (X × Unread) FileRefusal} → ((x : X) → V x → W x) → ((x : X) → W x → V x) → ((x : X) → F x ≡ G x) → IsReader V F read → IsReader W G read
+reader_like {V = V} {F = F} to from same r = record {
+  found = λ u v x e.
+      let f = r.found u v x e in
+      (to x f.0, λ fs s. subst (λ (gs : List FileField). Spell (gs ++ fs) u.lexemes) (same x) (f.1 fs s));
+  only = λ u x fs valid s. r.only u x fs (from x valid) (subst (λ (gs : List FileField). Spell (gs ++ fs) u.lexemes) (sym (same x)) s);
+}
+
+pub last_like : {X : Type 0} {V W : X → Type 0} {F G : X → List FileField} {read : Unread → Result X FileRefusal} → ((x : X) → V x → W x) → ((x : X) → W x → V x) → ((x : X) → F x ≡ G x) → IsLast V F read → IsLast W G read
+last_like to from same r = record {
+  gives = λ u.
+      gives_like (λ x h. (to x h.0, subst (λ (fs : List FileField). Spell fs u.lexemes) (same x) h.1)) (λ x h. (from x h.0, subst (λ (fs : List FileField). Spell fs u.lexemes) (sym (same x)) h.1)) (r.gives u);
+}
+
+-- nothing more is read
+pub reads_nothing : {X : Type 0} (x : X) → IsReader (λ y. y ≡ x) (λ y. []) (λ u. Ok (x, u))
+reads_nothing {X} x = record {
+  found = λ u v y e.
+      let same : (x, u) ≡ (y, v) = ok_same (x, u) (y, v) e in
+      (sym (ap (λ (q : X × Unread). q.0) same), λ fs s. subst (λ (q : Unread). Spell fs q.lexemes) (sym (ap (λ (q : X × Unread). q.1) same)) s);
+  only = λ u y fs e s. (u, ap (λ (z : X). given (z, u)) (sym e), s);
+}
+
+-- nothing is left
+pub reads_end : {X : Type 0} (x : X) → IsLast (λ y. y ≡ x) (λ y. []) (λ u. nothing_of u.lexemes >>= (λ _. Ok x))
+reads_end x = record { gives = λ u. at u.lexemes } where
+  at : (ls : List Lexeme) → Gives (λ y. (y ≡ x) × Spell [] ls) (nothing_of ls >>= (λ _. Ok x))
+  at [] = record { found = λ y e. (sym (ok_same x y e), tt); only = λ y h. ap given (sym h.0) }
+  at (w ∷ ws) = record { found = λ y e. absurd (cc); only = λ y h. absurd h.1 }
+
+-- one thing, which is a part of the whole, and then the rest in sight of it
+module _ {X Y : Type 0} {V : X → Type 0} {F : X → List FileField} {read : Unread → Result (X × Unread) FileRefusal} {W : X → Y → Type 0} {G : X → Y → List FileField} (part : Y → X) (one : IsReader V F read) where
+  pub then_reader : {rest : X → Unread → Result (Y × Unread) FileRefusal} → ((x : X) → V x → IsReader (W x) (G x) (rest x)) → ((x : X) (y : Y) → W x y → part y ≡ x) →
+      IsReader (λ y. V (part y) × W (part y) y) (λ y. F (part y) ++ G (part y) y) (λ u. read u >>= (λ p. rest p.0 p.1))
+  then_reader {rest = rest} more same = record {
+    found = λ u v y e.
+        let a = bind_ok (read u) (λ p. rest p.0 p.1) (y, v) e in
+        let f = one.found u a.0.1 a.0.0 a.1 in
+        let g = (more a.0.0 f.0).found a.0.1 v y a.2 in
+        subst (λ x. (V x × W x y) × ((fs : List FileField) → Spell fs v.lexemes → Spell ((F x ++ G x y) ++ fs) u.lexemes)) (sym (same a.0.0 y g.0)) (
+          (f.0, g.0),
+          λ fs s. subst (λ (gs : List FileField). Spell gs u.lexemes) (sym (append_assoc (F a.0.0) (G a.0.0 y) fs)) (f.1 (G a.0.0 y ++ fs) (g.1 fs s)),
+        );
+    only = λ u y fs valid s.
+        let a = one.only u (part y) (G (part y) y ++ fs) valid.0 (subst (λ (gs : List FileField). Spell gs u.lexemes) (append_assoc (F (part y)) (G (part y) y) fs) s) in
+        let b = (more (part y) valid.0).only a.0 y fs valid.1 a.2 in
+        (b.0, then_ok (read u) (λ p. rest p.0 p.1) (part y, a.0) (y, b.0) a.1 b.1, b.2);
+  }
+
+  pub then_last : {rest : X → Unread → Result Y FileRefusal} → ((x : X) → V x → IsLast (W x) (G x) (rest x)) → ((x : X) (y : Y) → W x y → part y ≡ x) →
+      IsLast (λ y. V (part y) × W (part y) y) (λ y. F (part y) ++ G (part y) y) (λ u. read u >>= (λ p. rest p.0 p.1))
+  then_last {rest = rest} more same = record {
+    gives = λ u. record {
+      found = λ y e.
+          let a = bind_ok (read u) (λ p. rest p.0 p.1) y e in
+          let f = one.found u a.0.1 a.0.0 a.1 in
+          let g = ((more a.0.0 f.0).gives a.0.1).found y a.2 in
+          subst (λ x. (V x × W x y) × Spell (F x ++ G x y) u.lexemes) (sym (same a.0.0 y g.0)) ((f.0, g.0), f.1 (G a.0.0 y) g.1);
+      only = λ y h.
+          let a = one.only u (part y) (G (part y) y) h.0.0 h.1 in
+          then_ok (read u) (λ p. rest p.0 p.1) (part y, a.0) y a.1 (((more (part y) h.0.0).gives a.0).only y (h.0.1, a.2));
+    };
+  }
 
 lexemes_in : Result (Lexeme × Unread) FileRefusal → List Lexeme
 lexemes_in (Ok x) = x.0 ∷ x.1.lexemes
@@ -50,42 +148,31 @@ next_only u w ws e = ap (next_of u.end) e
 pub no_lexemes : (f : FileField) (fs : List FileField) → Spell (f ∷ fs) [] → ⊥
 no_lexemes f fs h = h
 
-abbrev pub given : {A : Type 0} → A → Result A FileRefusal
-given x = Ok x
+abbrev pub one_word : {X : Type 0} → (Lexeme → Result X FileRefusal) → Unread → Result (X × Unread) FileRefusal
+one_word give u = next_at u >>= (λ w. give w.0 >>= (λ x. Ok (x, w.1)))
 
-pub ok_same : {A : Type 0} (x y : A) → given x ≡ Ok y → x ≡ y
-ok_same x y e = cc
-
--- a reader of one lexeme
-module _ {X : Type 0} (V : X → Type 0) (field : X → FileField) (give : Lexeme → Result X FileRefusal) (read : Unread → Result (X × Unread) FileRefusal)
-    (shape : (u : Unread) → read u ≡ (next_at u >>= (λ w. give w.0 >>= (λ x. Ok (x, w.1)))))
-    (ok : (w : Lexeme) (x : X) → give w ≡ Ok x → V x × ((fs : List FileField) (ws : List Lexeme) → Spell fs ws → Spell (field x ∷ fs) (w ∷ ws)))
-    (just : (w : Lexeme) (x : X) (fs : List FileField) (ws : List Lexeme) → V x → Spell (field x ∷ fs) (w ∷ ws) → (give w ≡ Ok x) × Spell fs ws) where
-  word_found_at : (u v v' : Unread) (x y : X) (w : Lexeme) → next_at u ≡ Ok (w, v') → give w ≡ Ok y → y ≡ x → v' ≡ v →
-      V x × ((fs : List FileField) → Spell fs v.lexemes → Spell (field x ∷ fs) u.lexemes)
-  word_found_at u v v' x y w n g same left =
-      let r : V x × ((fs : List FileField) (ws : List Lexeme) → Spell fs ws → Spell (field x ∷ fs) (w ∷ ws)) = ok w x (g ∙ ap Ok same) in
-      let front : u.lexemes ≡ w ∷ v.lexemes = next_found u v' w n ∙ ap (λ (q : Unread). w ∷ q.lexemes) left in
-      (r.0, λ fs h. subst (λ (ls : List Lexeme). Spell (field x ∷ fs) ls) (sym front) (r.1 fs v.lexemes h))
-
-  word_found : (u v : Unread) (x : X) → read u ≡ Ok (x, v) → V x × ((fs : List FileField) → Spell fs v.lexemes → Spell (field x ∷ fs) u.lexemes)
+-- a reader of one lexeme, which spells the field as Is says
+module _ {X : Type 0} {V : X → Type 0} {Is : X → Lexeme → Type 0} {give : Lexeme → Result X FileRefusal} (field : X → FileField) (gives : (w : Lexeme) → Gives (λ x. V x × Is x w) (give w))
+    (spells : (x : X) (w : Lexeme) (fs : List FileField) (ws : List Lexeme) → Is x w → Spell fs ws → Spell (field x ∷ fs) (w ∷ ws))
+    (spelled : (x : X) (w : Lexeme) (fs : List FileField) (ws : List Lexeme) → Spell (field x ∷ fs) (w ∷ ws) → Is x w × Spell fs ws) where
+  word_found : (u v : Unread) (x : X) → one_word give u ≡ Ok (x, v) → V x × ((fs : List FileField) → Spell fs v.lexemes → Spell (field x ∷ fs) u.lexemes)
   word_found u v x e =
-      let step : (w : Lexeme × Unread) × (next_at u ≡ Ok w) × ((give w.0 >>= (λ y. Ok (y, w.1))) ≡ Ok (x, v)) =
-      bind_ok (next_at u) (λ w. give w.0 >>= (λ y. Ok (y, w.1))) (x, v) (sym (shape u) ∙ e) in
-      let last : (y : X) × (give step.0.0 ≡ Ok y) × (given (y, step.0.1) ≡ Ok (x, v)) =
-      bind_ok (give step.0.0) (λ y. Ok (y, step.0.1)) (x, v) step.2 in
+      let step = bind_ok (next_at u) (λ w. give w.0 >>= (λ y. Ok (y, w.1))) (x, v) e in
+      let last = bind_ok (give step.0.0) (λ y. Ok (y, step.0.1)) (x, v) step.2 in
       let same : (last.0, step.0.1) ≡ (x, v) = ok_same (last.0, step.0.1) (x, v) last.2 in
-      word_found_at u v step.0.1 x last.0 step.0.0 step.1 last.1 (ap (λ (q : X × Unread). q.0) same) (ap (λ (q : X × Unread). q.1) same)
+      let r = (gives step.0.0).found x (last.1 ∙ ap (λ (q : X × Unread). Ok q.0) same) in
+      let front : u.lexemes ≡ step.0.0 ∷ v.lexemes = next_found u step.0.1 step.0.0 step.1 ∙ ap (λ (q : X × Unread). step.0.0 ∷ q.1.lexemes) same in
+      (r.0, λ fs s. subst (λ (ls : List Lexeme). Spell (field x ∷ fs) ls) (sym front) (spells x step.0.0 fs v.lexemes r.1 s))
 
-  word_only_at : (u : Unread) (x : X) (fs : List FileField) (ls : List Lexeme) → u.lexemes ≡ ls → V x → Spell (field x ∷ fs) ls → (v : Unread) × (read u ≡ Ok (x, v)) × Spell fs v.lexemes
-  word_only_at u x fs [] e valid h = absurd (no_lexemes (field x) fs h)
-  word_only_at u x fs (w ∷ ws) e valid h =
-      let r : (give w ≡ Ok x) × Spell fs ws = just w x fs ws valid h in
+  word_only : (u : Unread) (x : X) (fs : List FileField) (ls : List Lexeme) → u.lexemes ≡ ls → V x → Spell (field x ∷ fs) ls → (v : Unread) × (one_word give u ≡ Ok (x, v)) × Spell fs v.lexemes
+  word_only u x fs [] e valid h = absurd (no_lexemes (field x) fs h)
+  word_only u x fs (w ∷ ws) e valid h =
+      let r = spelled x w fs ws h in
       let v : Unread = record { lexemes = ws; end = u.end } in
-      (v, shape u ∙ then_ok (next_at u) (λ n. give n.0 >>= (λ y. Ok (y, n.1))) (w, v) (x, v) (next_only u w ws e) (then_ok (give w) (λ y. Ok (y, v)) x (x, v) r.0 refl), r.1)
+      (v, then_ok (next_at u) (λ n. give n.0 >>= (λ y. Ok (y, n.1))) (w, v) (x, v) (next_only u w ws e) (then_ok (give w) (λ y. Ok (y, v)) x (x, v) ((gives w).only x (valid, r.0)) refl), r.1)
 
-  pub word_reader : IsReader V (λ x. field x ∷ []) read
-  word_reader = record { found = word_found; only = λ u x fs valid h. word_only_at u x fs u.lexemes refl valid h }
+  pub word_reader : IsReader V (λ x. field x ∷ []) (one_word give)
+  word_reader = record { found = word_found; only = λ u x fs valid h. word_only u x fs u.lexemes refl valid h }
 
 -- many readings of one kind
 abbrev pub AllAfter : {X : Type 0} → (List X → X → Type 0) → List X → List X → Type 0
@@ -141,13 +228,6 @@ module _ {X : Type 0} (V : List X → X → Type 0) (F : X → List FileField) (
             (b.1 ∙ ap (λ (zs : List X). Ok (zs, b.0)) (append_assoc all (x ∷ []) xs)),
         b.2,
       )
-
--- the same reader, where the fields are written otherwise
-pub with_fields : {X : Type 0} (V : X → Type 0) (F G : X → List FileField) (read : Unread → Result (X × Unread) FileRefusal) → ((x : X) → F x ≡ G x) → IsReader V F read → IsReader V G read
-with_fields V F G read same r = record {
-  found = λ u v x e. ((r.found u v x e).0, λ fs s. subst (λ (gs : List FileField). Spell (gs ++ fs) u.lexemes) (same x) ((r.found u v x e).1 fs s));
-  only = λ u x fs valid s. r.only u x fs valid (subst (λ (gs : List FileField). Spell (gs ++ fs) u.lexemes) (sym (same x)) s);
-}
 
 -- as many as are wanted
 module _ {X : Type 0} (V : List X → X → Type 0) (F : X → List FileField) (read : List X → Unread → Result (X × Unread) FileRefusal) (one : (all : List X) → IsReader (V all) F (read all)) (n : ℕ) where

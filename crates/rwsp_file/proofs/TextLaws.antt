@@ -9,19 +9,19 @@ use Rattle.rwsp_file.specs.Reading.{reading, unread_of, refusal_in}
 use Rattle.rwsp_file.specs.Laws.{TextsSpellOne, TextsSpellOrFail}
 use Rattle.rwsp_file.specs.declared.refusal.FileRefusal.{FileRefusal}
 use Rattle.rwsp_file.proofs.Readers.{ok_same, given}
-use Rattle.rwsp_file.proofs.Whole.{IsRead, reading_found, reading_only}
+use Rattle.rwsp_file.proofs.Whole.{IsRead, instance_reader}
 use Rattle.rwsp_file.proofs.WordForms.{lexemes_are_words}
 use Rattle.rwsp_file.proofs.Valid.{read_valid, keeps_read, names_spelled}
 
 -- what is read of a text, the text spells
 pub reading_spells : (bytes : List ℕ) (P : Instance) → reading (unread_of bytes) ≡ Ok P → SpellsProblem bytes P
 reading_spells bytes P e =
-    let found : IsRead P × Spell (file_fields P) (lexemes bytes) = reading_found (unread_of bytes) P e in
+    let found : IsRead P × Spell (file_fields P) (lexemes bytes) = (instance_reader.gives (unread_of bytes)).found P e in
     record { valid = read_valid P found.0 (names_spelled P (lexemes bytes) found.1 (lexemes_are_words bytes)); text = found.1 }
 
 -- what a text spells is read of it
 pub spells_reading : (bytes : List ℕ) (P : Instance) → SpellsProblem bytes P → reading (unread_of bytes) ≡ Ok P
-spells_reading bytes P s = reading_only (unread_of bytes) P (keeps_read P (valid_keeps P s.valid)) s.text
+spells_reading bytes P s = (instance_reader.gives (unread_of bytes)).only P (keeps_read P (valid_keeps P s.valid), s.text)
 
 pub texts_spell_one : TextsSpellOne
 texts_spell_one bytes P Q s t = ok_same P Q (sym (spells_reading bytes P s) ∙ spells_reading bytes Q t)

@@ -1,8 +1,8 @@
 -- Steps of printing a canonical text.
-use Rattle.std.proofs.Common.{◌≡◌, ℕ, zero, suc, ◌+◌, ◌-◌, ◌<◌, ◌≤◌, List, [], ◌∷◌, ◌++◌, length, get_or, take, Some, refl, ap, sym, ◌∙◌, arith, map, append_assoc, append-nil}
+use Rattle.std.proofs.Common.{◌≡◌, ℕ, zero, suc, ◌+◌, ◌-◌, ◌<◌, ◌≤◌, List, [], ◌∷◌, ◌++◌, length, get_or, take, Some, refl, ap, sym, ◌∙◌, arith, map, append_assoc}
 use Rattle.std.specs.Prelude.{pos, slice_get}
 use Rattle.std.specs.List.{flat_map, join_with_byte}
-use Rattle.std.proofs.lemmas.List.{take_more, take_all, map_push}
+use Rattle.std.proofs.lemmas.List.{take_more, take_all, map_push, flat_map_more, length-map}
 use Rattle.std.proofs.lemmas.Option.{slice_get-get_or}
 use Rattle.rwsp_terms.specs.Instance.{Instance, least, greatest, shift_demand, range_in, no_bounds, name_numbered, name_in}
 use Rattle.rwsp_terms.specs.declared.data.Bounds.{Bounds}
@@ -16,10 +16,6 @@ joined_push (v ∷ []) word some = refl
 joined_push (v ∷ u ∷ us) word some =
     ap (λ t. v ++ 32 ∷ t) (joined_push (u ∷ us) word (omega arith)) ∙ sym (append_assoc v (32 ∷ join_with_byte 32 (u ∷ us)) (32 ∷ word))
 
-map_long : {X Y : Type 0} (f : X → Y) (xs : List X) → length (map f xs) ≡ length xs
-map_long f [] = refl
-map_long f (x ∷ xs) = ap suc (map_long f xs)
-
 some_front : {X : Type 0} (xs : List X) (i : ℕ) → 0 < i → i < length xs → 0 < length (take i xs)
 some_front [] i p q = absurd (omega (arith, q))
 some_front (x ∷ xs) zero p q = absurd (omega (arith, p))
@@ -32,7 +28,7 @@ demand_more row i start old new some less o n =
     let front : List (List ℕ) = map demand_text (take i row) in
     let more : map demand_text (take (i + 1) row) ≡ map demand_text (take i row) ++ demand_text (get_or row i no_bounds) ∷ [] =
     ap (map demand_text) (take_more row i no_bounds less) ∙ map_push demand_text (take i row) (get_or row i no_bounds) in
-    let long : 0 < length (map demand_text (take i row)) = omega (arith, map_long demand_text (take i row), some_front row i some less) in
+    let long : 0 < length (map demand_text (take i row)) = omega (arith, length-map (take i row) demand_text, some_front row i some less) in
     n ∙ ap (λ t. t ++ 32 ∷ demand_text (get_or row i no_bounds)) o
     ∙ append_assoc start (join_with_byte 32 (map demand_text (take i row))) (32 ∷ demand_text (get_or row i no_bounds))
     ∙ ap (λ t. start ++ t) (sym (joined_push (map demand_text (take i row)) (demand_text (get_or row i no_bounds)) long))
@@ -48,17 +44,11 @@ pub demand_line : (row : List Bounds) (i : ℕ) (start old new : List ℕ) → l
 demand_line row i start old new all o n =
     n ∙ ap (λ t. t ++ 10 ∷ []) (o ∙ ap (λ r. start ++ join_with_byte 32 (map demand_text r)) (take_all i row all)) ∙ append_assoc start (join_with_byte 32 (map demand_text row)) (10 ∷ [])
 
-flat_map_push : {X Y : Type 0} (f : X → List Y) (xs : List X) (x : X) → flat_map f (xs ++ x ∷ []) ≡ flat_map f xs ++ f x
-flat_map_push f [] x = append-nil (f x)
-flat_map_push f (y ∷ ys) x = ap (λ zs. f y ++ zs) (flat_map_push f ys x) ∙ sym (append_assoc (f y) (flat_map f ys) (f x))
-
 -- one more line
 pub lines_more : {X : Type 0} (g : X → List (List ℕ)) (xs : List X) (i : ℕ) (d : X) (start old new : List ℕ) → i < length xs → old ≡ start ++ flat_map file_line (map g (take i xs)) → new ≡ old ++ file_line (g (get_or xs i d)) →
     new ≡ start ++ flat_map file_line (map g (take (i + 1) xs))
 lines_more g xs i d start old new less o n =
-    n ∙ ap (λ t. t ++ file_line (g (get_or xs i d))) o
-    ∙ append_assoc start (flat_map file_line (map g (take i xs))) (file_line (g (get_or xs i d)))
-    ∙ ap (λ t. start ++ t) (sym (flat_map_push file_line (map g (take i xs)) (g (get_or xs i d))))
+    n ∙ ap (λ t. t ++ file_line (g (get_or xs i d))) o ∙ flat_map_more file_line start (map g (take i xs)) (g (get_or xs i d))
     ∙ ap (λ ls. start ++ flat_map file_line ls) (sym (ap (map g) (take_more xs i d less) ∙ map_push g (take i xs) (get_or xs i d)))
 
 -- all lines
@@ -94,20 +84,10 @@ name_at P k less =
 pub row_of_place : (P : Instance) (k : ℕ) → k < length P.shifts → slice_get P.shifts (k + 1 - 1) ≡ Some (row_of_shift P k)
 row_of_place P k less = ap (slice_get P.shifts) (place_at k) ∙ slice_get-get_or P.shifts k no_shift less
 
--- two parts behind another are one
-behind : (xs ys : List (List (List ℕ))) (a b c : List ℕ) → b ≡ a ++ flat_map file_line xs → c ≡ b ++ flat_map file_line ys → c ≡ a ++ flat_map file_line (xs ++ ys)
-behind xs ys a b c hb hc =
-    hc ∙ ap (λ t. t ++ flat_map file_line ys) hb ∙ append_assoc a (flat_map file_line xs) (flat_map file_line ys)
-    ∙ ap (λ t. a ++ t) (sym (flat_map-append file_line xs ys))
-
 -- the parts of a text, one behind another
+parts : (A B C D E F : List (List (List ℕ))) (a b c d e f : List ℕ) → a ≡ flat_map file_line A → b ≡ a ++ flat_map file_line B → c ≡ b ++ flat_map file_line C → d ≡ c ++ flat_map file_line D → e ≡ d ++ flat_map file_line E → f ≡ e ++ flat_map file_line F → f ≡ flat_map file_line (A ++ (B ++ (C ++ (D ++ (E ++ F)))))
+parts A B C D E F a b c d e f ha hb hc hd he hf = rw (hf, he, hd, hc, hb, ha) (simp (flat_map-append, append_assoc) refl)
+
 pub whole_text : (P : Instance) (a b c d e f : List ℕ) → a ≡ flat_map file_line (size_lines P) → b ≡ a ++ flat_map file_line (map (map demand_text) P.demand) → c ≡ b ++ flat_map file_line (map shift_words P.shifts) →
     d ≡ c ++ flat_map file_line (frame_lines P) → e ≡ d ++ flat_map file_line (map (pair_words P) P.pairs) → f ≡ e ++ flat_map file_line (map (triple_words P) P.triples) → f ≡ problem_text P
-whole_text P a b c d e f ha hb hc hd he hf =
-    let s1 : f ≡ d ++ flat_map file_line (map (pair_words P) P.pairs ++ map (triple_words P) P.triples) = behind (map (pair_words P) P.pairs) (map (triple_words P) P.triples) d e f he hf in
-    let s2 : f ≡ c ++ flat_map file_line (frame_lines P ++ (map (pair_words P) P.pairs ++ map (triple_words P) P.triples)) = behind (frame_lines P) (map (pair_words P) P.pairs ++ map (triple_words P) P.triples) c d f hd s1 in
-    let s3 : f ≡ b ++ flat_map file_line (map shift_words P.shifts ++ (frame_lines P ++ (map (pair_words P) P.pairs ++ map (triple_words P) P.triples))) =
-    behind (map shift_words P.shifts) (frame_lines P ++ (map (pair_words P) P.pairs ++ map (triple_words P) P.triples)) b c f hc s2 in
-    let s4 : f ≡ a ++ flat_map file_line (map (map demand_text) P.demand ++ (map shift_words P.shifts ++ (frame_lines P ++ (map (pair_words P) P.pairs ++ map (triple_words P) P.triples)))) =
-    behind (map (map demand_text) P.demand) (map shift_words P.shifts ++ (frame_lines P ++ (map (pair_words P) P.pairs ++ map (triple_words P) P.triples))) a b f hb s3 in
-    behind (size_lines P) (map (map demand_text) P.demand ++ (map shift_words P.shifts ++ (frame_lines P ++ (map (pair_words P) P.pairs ++ map (triple_words P) P.triples)))) [] a f ha s4
+whole_text P = parts (size_lines P) (map (map demand_text) P.demand) (map shift_words P.shifts) (frame_lines P) (map (pair_words P) P.pairs) (map (triple_words P) P.triples)

@@ -1,21 +1,20 @@
 -- The forms of words: no blanks, no `#` in front, and at least one byte.
-use Rattle.std.proofs.Common.{◌≡◌, ◌≢◌, ℕ, suc, ◌+◌, ◌≤◌, List, [], ◌∷◌, ◌++◌, length, take, Bool, true, false, not, ◌==◌, cond, refl, subst, map, arith}
-use Rattle.std.specs.Prelude.{All, filter, take_while, slice_index}
+use Rattle.std.proofs.Common.{◌≡◌, ◌≢◌, ℕ, ◌+◌, ◌<◌, ◌≤◌, List, [], ◌∷◌, ◌++◌, length, get_or, take, Bool, true, false, not, ◌==◌, cond, refl, ap, ◌∙◌, subst, map, arith}
+use Rattle.std.specs.Prelude.{filter, slice_index}
 use Rattle.std.specs.List.{flat_map, AllByRecursion, slice_split, onto_first, prefix_len, enumerate_from}
-use Rattle.std.proofs.lemmas.Bool.{eq-eqb, or_from}
+use Rattle.std.proofs.lemmas.Bool.{eq-eqb, not-true, or_from}
+use Rattle.std.proofs.lemmas.List.{get_or-take}
+use Rattle.std.proofs.lemmas.List.Elements.{All-take, All-filter, filter_passes}
+use Rattle.std.proofs.lemmas.List.Folds.{length-prefix_len}
+use Rattle.std.proofs.lemmas.List.Sums.{prefix_len_passes}
 use Rattle.rwsp_text.specs.Lexemes.{Lexeme, is_space, has_some, lines_of, words_of_line, lexemes}
 use Rattle.rwsp_terms.specs.declared.data.ShiftRow.{ShiftRow}
-use Rattle.rwsp_terms.proofs.Elements.{all_from, all_joined}
+use Rattle.rwsp_terms.proofs.Elements.{all_from, all_to, all_joined}
 use Rattle.rwsp_model.specs.Validity.{breaks_name}
+use Rattle.rwsp_model.proofs.Names.{IsWord}
 use Rattle.rwsp_file.specs.Spelling.{FileField, Spell, IsRow, on_line, past_line, is_on_line}
 use Rattle.rwsp_file.specs.Spelling.FileField.{NumberField, DemandField, ShiftField, NameField}
 use Rattle.rwsp_file.proofs.Lines.{AllByRecursion-drop}
-
--- a word as it is written in a text
-pub record IsWord (text : List ℕ) : Type 0 where
-  pub some : 1 ≤ length text
-  pub unbroken : All (λ b. breaks_name b ≡ false) text
-  pub no_hash : slice_index text 0 ≢ 35
 
 abbrev pub IsWordField : FileField → Type 0
 IsWordField (ShiftField row) = IsWord row.name
@@ -67,34 +66,6 @@ pub all_weaker : {X : Type 0} (P Q : X → Type 0) → ((x : X) → P x → Q x)
 all_weaker P Q f [] h = tt
 all_weaker P Q f (x ∷ xs) h = (f x h.0, all_weaker P Q f xs h.1)
 
-pub filtered : {X : Type 0} (P : X → Type 0) (t : X → Bool) (xs : List X) → AllByRecursion P xs → AllByRecursion (λ x. P x × (t x ≡ true)) (filter t xs)
-filtered P t [] h = tt
-filtered P t (x ∷ xs) h = at (t x) refl (filter t xs) (filtered P t xs h.1) where
-  at : (b : Bool) → t x ≡ b → (ys : List _) → AllByRecursion (λ y. P y × (t y ≡ true)) ys → AllByRecursion (λ y. P y × (t y ≡ true)) (cond b (x ∷ ys) ys)
-  at true e ys all = ((h.0, e), all)
-  at false e ys all = all
-
-pub taken : {X : Type 0} (P : X → Type 0) (t : X → Bool) (xs : List X) → AllByRecursion P xs → AllByRecursion (λ x. P x × (t x ≡ true)) (take_while t xs)
-taken P t [] h = tt
-taken P t (x ∷ xs) h = at (t x) refl (prefix_len t xs) (taken P t xs h.1) where
-  at : (b : Bool) → t x ≡ b → (k : ℕ) → AllByRecursion (λ y. P y × (t y ≡ true)) (take k xs) → AllByRecursion (λ y. P y × (t y ≡ true)) (take (cond b (1 + k) 0) (x ∷ xs))
-  at true e k all =
-      let one : suc k ≡ 1 + k = omega arith in
-      subst (λ n. AllByRecursion (λ y. P y × (t y ≡ true)) (take n (x ∷ xs))) one ((h.0, e), all)
-  at false e k all = tt
-
-pub all_flat : {X Y : Type 0} (P : Y → Type 0) (f : X → List Y) (xs : List X) → AllByRecursion (λ x. AllByRecursion P (f x)) xs → AllByRecursion P (flat_map f xs)
-all_flat P f [] h = tt
-all_flat P f (x ∷ xs) h = all_joined P (f x) (flat_map f xs) h.0 (all_flat P f xs h.1)
-
-pub all_images : {X Y : Type 0} (P : Y → Type 0) (f : X → Y) (xs : List X) → AllByRecursion (λ x. P (f x)) xs → AllByRecursion P (map f xs)
-all_images P f [] h = tt
-all_images P f (x ∷ xs) h = (h.0, all_images P f xs h.1)
-
-pub all_numbered : {X : Type 0} (P : X → Type 0) (n : ℕ) (xs : List X) → AllByRecursion P xs → AllByRecursion (λ (l : ℕ × X). P l.1) (enumerate_from n xs)
-all_numbered P n [] h = tt
-all_numbered P n (x ∷ xs) h = (h.0, all_numbered P (n + 1) xs h.1)
-
 all_units : (bytes : List ℕ) → AllByRecursion (λ _. Unit {0}) bytes
 all_units [] = tt
 all_units (b ∷ bs) = (tt, all_units bs)
@@ -111,32 +82,35 @@ some_byte [] e = absurd (cc)
 some_byte (b ∷ bs) e = omega arith
 
 no_hash_of : (b : ℕ) → not (b == 35) ≡ true → b ≢ 35
-no_hash_of b e same = clash (b == 35) (eq-eqb b 35 same) e where
-  clash : (t : Bool) → t ≡ true → not t ≡ true → ⊥
-  clash true i j = absurd (cc)
-  clash false i j = absurd (cc)
+no_hash_of b e same = let is : (b == 35) ≡ true = eq-eqb b 35 same in let no : (b == 35) ≡ false = not-true (b == 35) e in cc
 
-word_form : (word : List ℕ) → (AllByRecursion InWord word × (has_some word ≡ true)) × (not (slice_index word 0 == 35) ≡ true) → IsWord word
-word_form word h = record {
-  some = some_byte word h.0.1;
-  unbroken = all_from (λ b. breaks_name b ≡ false) word (all_weaker InWord (λ b. breaks_name b ≡ false) (λ b i. or_from (is_space b) (b == 10) i.0 i.1.0) word h.0.0);
-  no_hash = no_hash_of (slice_index word 0) h.1;
-}
+abbrev is_no_comment : List ℕ → Bool
+is_no_comment word = not (slice_index word 0 == 35)
 
 line_words : (line : List ℕ) → AllByRecursion InLine line → AllByRecursion IsWord (words_of_line line)
-line_words line h =
-    all_weaker (λ word. (AllByRecursion InWord word × (has_some word ≡ true)) × (not (slice_index word 0 == 35) ≡ true)) IsWord word_form (words_of_line line)
-    (taken (λ word. AllByRecursion InWord word × (has_some word ≡ true)) (λ word. not (slice_index word 0 == 35)) (filter has_some (slice_split is_space line))
-    (filtered (AllByRecursion InWord) has_some (slice_split is_space line) (split_parts is_space InLine line h)))
+line_words line h = all_to IsWord (words_of_line line) (λ i d less.
+    let parts = slice_split is_space line in
+    let words = filter has_some parts in
+    let k = prefix_len is_no_comment words in
+    let before : i < k = omega (arith, less, length-prefix_len is_no_comment words) in
+    let bytes = All-take (AllByRecursion InWord) k words (All-filter has_some (AllByRecursion InWord) parts (all_from (AllByRecursion InWord) parts (split_parts is_space InLine line h))) i d less in
+    record {
+      some = some_byte (get_or (take k words) i d) (All-take (λ word. has_some word ≡ true) k words (filter_passes has_some parts) i d less);
+      unbroken = all_from (λ b. breaks_name b ≡ false) (get_or (take k words) i d) (all_weaker InWord (λ b. breaks_name b ≡ false) (λ b j. or_from (is_space b) (b == 10) j.0 j.1.0) (get_or (take k words) i d) bytes);
+      no_hash = no_hash_of (slice_index (get_or (take k words) i d) 0) (ap is_no_comment (get_or-take k words i d before) ∙ prefix_len_passes is_no_comment words i d before);
+    })
 
 abbrev lexeme_on : ℕ → List ℕ → Lexeme
 lexeme_on line word = record { text = word; line = line }
 
+lexemes_of_words : (n : ℕ) (words : List (List ℕ)) → AllByRecursion IsWord words → AreWords (map (lexeme_on n) words)
+lexemes_of_words n [] h = tt
+lexemes_of_words n (word ∷ words) h = (h.0, lexemes_of_words n words h.1)
+
+lexemes_of_lines : (n : ℕ) (lines : List (List ℕ)) → AllByRecursion (AllByRecursion InLine) lines → AreWords (flat_map (λ l. map (lexeme_on l.0) (words_of_line l.1)) (enumerate_from n lines))
+lexemes_of_lines n [] h = tt
+lexemes_of_lines n (line ∷ lines) h = all_joined (λ (w : Lexeme). IsWord w.text) (map (lexeme_on n) (words_of_line line)) _ (lexemes_of_words n (words_of_line line) (line_words line h.0)) (lexemes_of_lines (n + 1) lines h.1)
+
 -- the lexemes of a text are words
 pub lexemes_are_words : (bytes : List ℕ) → AreWords (lexemes bytes)
-lexemes_are_words bytes =
-    all_flat (λ (w : Lexeme). IsWord w.text) (λ (l : ℕ × List ℕ). map (λ word. lexeme_on l.0 word) (words_of_line l.1)) (enumerate_from 1 (lines_of bytes))
-    (all_weaker (λ (l : ℕ × List ℕ). AllByRecursion InLine l.1) (λ (l : ℕ × List ℕ). AllByRecursion (λ (w : Lexeme). IsWord w.text) (map (λ word. lexeme_on l.0 word) (words_of_line l.1)))
-    (λ l h. all_images (λ (w : Lexeme). IsWord w.text) (λ word. lexeme_on l.0 word) (words_of_line l.1) (line_words l.1 h))
-    (enumerate_from 1 (lines_of bytes))
-    (all_numbered (AllByRecursion InLine) 1 (lines_of bytes) (split_parts (λ b. b == 10) (λ _. Unit {0}) bytes (all_units bytes))))
+lexemes_are_words bytes = lexemes_of_lines 1 (lines_of bytes) (split_parts (λ b. b == 10) (λ _. Unit {0}) bytes (all_units bytes))

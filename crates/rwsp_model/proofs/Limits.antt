@@ -19,16 +19,16 @@ use Rattle.rwsp_model.specs.Validity.{IsValid, KeepsLimits, limit_refusal, name_
 use Rattle.rwsp_model.specs.declared.refusal.PartsRefusal.{PartsRefusal}
 use Rattle.rwsp_model.specs.declared.refusal.PartsRefusal.TheVariants.{Shape}
 
-Decides-leb : (a b : ℕ) → Decides (nat_le a b) (a ≤ b)
+pub Decides-leb : (a b : ℕ) → Decides (nat_le a b) (a ≤ b)
 Decides-leb a b = (leb-true a b, λ h. grind (arith, nat_tests))
 
-Decides-between : (low high n : ℕ) → Decides (is_between low high n) ((low ≤ n) × (n ≤ high))
+pub Decides-between : (low high n : ℕ) → Decides (is_between low high n) ((low ≤ n) × (n ≤ high))
 Decides-between low high n = Decides-and (nat_le low n) (nat_le n high) (Decides-leb low n) (Decides-leb n high)
 
 Decides-small : (b : Bounds) → Decides (are_small b) (AreSmall b)
 Decides-small b = Decides-and (nat_le b.least GREATEST_BOUND) (nat_le b.greatest GREATEST_BOUND) (Decides-leb b.least GREATEST_BOUND) (Decides-leb b.greatest GREATEST_BOUND)
 
-Decides-small_range : (b : Bounds) → Decides (is_small_range b) (IsSmallRange b)
+pub Decides-small_range : (b : Bounds) → Decides (is_small_range b) (IsSmallRange b)
 Decides-small_range b = Decides-and (nat_le b.least MOST_WEEKS) (nat_le b.greatest MOST_WEEKS) (Decides-leb b.least MOST_WEEKS) (Decides-leb b.greatest MOST_WEEKS)
 
 Decides-all : {X : Type 0} (p : X → Bool) (P : X → Type 0) → ((x : X) → Decides (p x) (P x)) → (xs : List X) → Decides (list_all p xs) (All P xs)

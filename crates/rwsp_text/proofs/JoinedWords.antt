@@ -1,67 +1,47 @@
 -- Words that are printed on lines with a blank between each two: they are found again in the text, and how long it is.
-use Rattle.std.proofs.Common.{◌≡◌, ◌≢◌, ℕ, suc, ◌+◌, ◌*◌, ◌≤◌, List, [], ◌∷◌, ◌++◌, length, take, Bool, true, false, cond, not, ◌==◌, refl, ap, ◌∙◌, arith, append_assoc, length-append, mul-le-mul_left, filter}
-use Rattle.std.specs.Prelude.{All, take_while, slice_index}
-use Rattle.std.specs.List.{flat_map, join_with_byte, slice_split, prefix_len, AllByRecursion}
-use Rattle.std.proofs.lemmas.List.Splits.{slice_split_none, slice_split_at}
-use Rattle.std.proofs.lemmas.List.Elements.{All-from_recursion}
-use Rattle.std.proofs.lemmas.Bool.{ne_eqb}
-use Rattle.rwsp_text.specs.Lexemes.{lines_of, words_of_line, has_some, is_space}
+use Rattle.std.proofs.Common.{◌≡◌, ◌≢◌, ℕ, suc, ◌+◌, ◌*◌, ◌≤◌, List, [], ◌∷◌, ◌++◌, length, false, ◌==◌, ◌||◌, refl, ap, sym, ◌∙◌, arith, append_assoc, append-nil, length-append, mul-le-mul_left}
+use Rattle.std.specs.Prelude.{All, slice_index}
+use Rattle.std.specs.List.{flat_map, join_with_byte, slice_split, AllByRecursion}
+use Rattle.std.proofs.lemmas.List.Splits.{slice_split_at}
+use Rattle.std.proofs.lemmas.List.Elements.{All-from_recursion, All-head, All-tail}
+use Rattle.std.proofs.lemmas.Bool.{ne_eqb, or_parts}
+use Rattle.rwsp_text.specs.Lexemes.{lines_of, words_of_line, is_space}
 use Rattle.rwsp_text.proofs.Steps.{IsWordByte}
+use Rattle.rwsp_text.proofs.TextSteps.{space_line, line_word}
 
 -- a word that is read as it is printed: it has a byte, no blank and no line end, and doesn't begin a comment
 abbrev pub IsPrinted : List ℕ → Type 0
 IsPrinted [] = ⊥
 IsPrinted (b ∷ bs) = ((b == 35) ≡ false) × AllByRecursion IsWordByte (b ∷ bs)
 
-pub printed_word : (word : List ℕ) → 1 ≤ length word → slice_index word 0 ≢ 35 → AllByRecursion IsWordByte word → IsPrinted word
+word_bytes_in : (word : List ℕ) → All (λ b. (is_space b || (b == 10)) ≡ false) word → AllByRecursion IsWordByte word
+word_bytes_in [] h = tt
+word_bytes_in (b ∷ word) h = (
+  or_parts (is_space b) (b == 10) (All-head (λ c. (is_space c || (c == 10)) ≡ false) b word h),
+  word_bytes_in word (All-tail (λ c. (is_space c || (c == 10)) ≡ false) b word h),
+)
+
+pub printed_word : (word : List ℕ) → 1 ≤ length word → slice_index word 0 ≢ 35 → All (λ b. (is_space b || (b == 10)) ≡ false) word → IsPrinted word
 printed_word [] some hash all = absurd (omega (arith, some))
-printed_word (b ∷ bs) some hash all = (ne_eqb b 35 hash, all)
+printed_word (b ∷ bs) some hash all = (ne_eqb b 35 hash, word_bytes_in (b ∷ bs) all)
 
 word_bytes : (word : List ℕ) → IsPrinted word → AllByRecursion IsWordByte word
 word_bytes [] h = absurd h
 word_bytes (b ∷ bs) h = h.1
 
-no_space : (word : List ℕ) → AllByRecursion IsWordByte word → AllByRecursion (λ b. is_space b ≡ false) word
-no_space [] h = tt
-no_space (b ∷ word) h = (h.0.0, no_space word h.1)
-
 no_end : (word : List ℕ) → AllByRecursion IsWordByte word → AllByRecursion (λ b. (b == 10) ≡ false) word
 no_end [] h = tt
 no_end (b ∷ word) h = (h.0.1, no_end word h.1)
 
--- words with blanks between them are parted at the blanks
-parts_joined : (word : List ℕ) (words : List (List ℕ)) → AllByRecursion IsPrinted (word ∷ words) → slice_split is_space (join_with_byte 32 (word ∷ words)) ≡ word ∷ words
-parts_joined word [] h = slice_split_none is_space word (All-from_recursion (λ b. is_space b ≡ false) word (no_space word (word_bytes word h.0)))
-parts_joined word (next ∷ words) h =
-    slice_split_at is_space word 32 (join_with_byte 32 (next ∷ words)) (All-from_recursion (λ b. is_space b ≡ false) word (no_space word (word_bytes word h.0))) refl
-    ∙ ap (λ w. word ∷ w) (parts_joined next words h.1)
-
-all_some : (words : List (List ℕ)) → AllByRecursion IsPrinted words → filter has_some words ≡ words
-all_some [] h = refl
-all_some ([] ∷ words) h = absurd h.0
-all_some ((b ∷ bs) ∷ words) h = ap (λ w. (b ∷ bs) ∷ w) (all_some words h.1)
-
-abbrev is_no_comment : List ℕ → Bool
-is_no_comment word = not (slice_index word 0 == 35)
-
-no_comments : (words : List (List ℕ)) → AllByRecursion IsPrinted words → take_while is_no_comment words ≡ words
-no_comments [] h = refl
-no_comments ([] ∷ words) h = absurd h.0
-no_comments ((b ∷ bs) ∷ words) h =
-    let word = b ∷ bs in
-    let k = prefix_len is_no_comment words in
-    let one_more : 1 + k ≡ suc k = omega arith in
-    ap (λ v. take (cond (not v) (1 + k) 0) (word ∷ words)) h.0.0
-    ∙ ap (λ m. take m (word ∷ words)) one_more
-    ∙ ap (λ w. word ∷ w) (no_comments words h.1)
-
 -- the words of a line that was printed
 pub words_printed : (words : List (List ℕ)) → AllByRecursion IsPrinted words → words_of_line (join_with_byte 32 words) ≡ words
 words_printed [] h = refl
-words_printed (word ∷ words) h =
-    ap (λ parts. take_while is_no_comment (filter has_some parts)) (parts_joined word words h)
-    ∙ ap (take_while is_no_comment) (all_some (word ∷ words) h)
-    ∙ no_comments (word ∷ words) h
+words_printed ([] ∷ words) h = absurd h.0
+words_printed ((b ∷ bs) ∷ []) h = ap words_of_line (sym (append-nil (b ∷ bs))) ∙ line_word b bs [] [] h.0.0 h.0.1 refl
+words_printed ((b ∷ bs) ∷ next ∷ words) h =
+    let rest = join_with_byte 32 (next ∷ words) in
+    line_word b bs (32 ∷ rest) (slice_split is_space rest) h.0.0 h.0.1 refl
+    ∙ ap (λ ws. (b ∷ bs) ∷ ws) (space_line 32 rest refl ∙ words_printed (next ∷ words) h.1)
 
 joined : (P : ℕ → Type 0) (xs ys : List ℕ) → AllByRecursion P xs → AllByRecursion P ys → AllByRecursion P (xs ++ ys)
 joined P [] ys h i = i
@@ -72,6 +52,11 @@ no_end_joined [] h = tt
 no_end_joined (word ∷ []) h = no_end word (word_bytes word h.0)
 no_end_joined (word ∷ next ∷ words) h =
     joined (λ b. (b == 10) ≡ false) word (32 ∷ join_with_byte 32 (next ∷ words)) (no_end word (word_bytes word h.0)) (refl, no_end_joined (next ∷ words) h.1)
+
+-- words with a blank between each two: the first, and each other one behind a blank
+pub join_spaced : (w : List ℕ) (ws : List (List ℕ)) → join_with_byte 32 (w ∷ ws) ≡ w ++ flat_map (λ v. 32 ∷ v) ws
+join_spaced w [] = sym (append-nil w)
+join_spaced w (x ∷ ws) = ap (λ t. w ++ 32 ∷ t) (join_spaced x ws)
 
 -- a line that is printed, and what follows
 pub line_printed : (words : List (List ℕ)) (rest : List ℕ) → AllByRecursion IsPrinted words → lines_of ((join_with_byte 32 words ++ 10 ∷ []) ++ rest) ≡ join_with_byte 32 words ∷ lines_of rest

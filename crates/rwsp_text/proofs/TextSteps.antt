@@ -12,7 +12,7 @@ abbrev line_lexemes : ℕ → List (List ℕ) → List Lexeme
 line_lexemes n ls = flat_map (λ l. map (λ word. record { text = word; line = l.0 }) (words_of_line l.1)) (enumerate_from n ls)
 
 -- a line that begins with a space has the lexemes of the rest
-space_line : (b : ℕ) (l : List ℕ) → is_space b ≡ true → words_of_line (b ∷ l) ≡ words_of_line l
+pub space_line : (b : ℕ) (l : List ℕ) → is_space b ≡ true → words_of_line (b ∷ l) ≡ words_of_line l
 space_line b l h = ap (λ k. take_while (λ word. not (slice_index word 0 == 35)) (filter has_some (cond k ([] ∷ slice_split is_space l) (onto_first b (slice_split is_space l))))) h
 
 onto_space : (n b : ℕ) (ls : List (List ℕ)) → is_space b ≡ true → line_lexemes n (onto_first b ls) ≡ line_lexemes n ls
@@ -95,7 +95,7 @@ keep_word w xs h =
     let one_more : 1 + k ≡ suc k = omega arith in
     ap (λ v. take (cond (not v) (1 + k) 0) (w ∷ xs)) h ∙ ap (λ m. take m (w ∷ xs)) one_more
 
-line_word : (b : ℕ) (t first : List ℕ) (parts : List (List ℕ)) → (b == 35) ≡ false → AllByRecursion IsWordByte (b ∷ t) → slice_split is_space first ≡ [] ∷ parts → words_of_line ((b ∷ t) ++ first) ≡ (b ∷ t) ∷ words_of_line first
+pub line_word : (b : ℕ) (t first : List ℕ) (parts : List (List ℕ)) → (b == 35) ≡ false → AllByRecursion IsWordByte (b ∷ t) → slice_split is_space first ≡ [] ∷ parts → words_of_line ((b ∷ t) ++ first) ≡ (b ∷ t) ∷ words_of_line first
 line_word b t first parts h all e =
     let long = parts_word (b ∷ t) first [] parts all e in
     let same : (b ∷ t) ++ [] ≡ b ∷ t = append-nil (b ∷ t) in
