@@ -34,7 +34,7 @@ stood {X} xs ys k x (rest, e) lt h =
     let at : StandsAt (xs ++ rest) k x = subst (λ (zs : List X). StandsAt zs k x) e h in
     (lt, sym (get_or_append_left xs rest x k lt) ∙ at.1)
 
-longer_than : (xs ys : List Tail) (k : ℕ) → Extends xs ys → k < length xs → k < length ys
+pub longer_than : (xs ys : List Tail) (k : ℕ) → Extends xs ys → k < length xs → k < length ys
 longer_than xs ys k (rest, e) lt = omega (arith, lt, ap length e, length-append xs rest)
 
 -- a move stays true where states are added
@@ -58,6 +58,11 @@ goes_to T tails more state to x tail next grows lt here follows there = (there.0
         let before : StandsAt tails state (tail_of w) = stood tails more state (tail_of w) grows lt at in
         let r = follows w clean (stands_once tails state (tail_of w) tail before here) in
         (r.0, subst (λ (t : Tail). StandsAt more to t) r.1 there)
+
+-- where they let no clean word with the tail continue, the state refuses the symbol
+pub refused : (T : Listed) (tails : List Tail) (state : ℕ) (x : Symbol) (tail : Tail) → StandsAt tails state tail →
+    ((w : List Symbol) → Clean T.problem T.rules w → tail_of w ≡ tail → Clean T.problem T.rules (w ++ x ∷ []) → ⊥) → Refuses T tails state x
+refused T tails state x tail here none w clean at = none w clean (stands_once tails state (tail_of w) tail at here)
 
 pub unknown_row : (size j : ℕ) → get_or (replicate size Unknown) j Unknown ≡ Unknown
 unknown_row zero j = refl
@@ -145,6 +150,13 @@ pub places_kept : (all nodes : List Tail) (states places more : List ℕ) → le
 places_kept all nodes states places more long tails placed k lt =
     let at : StandsAt all (get_or states k 0) (node_here nodes k) = tails k (node_here nodes k) (lt, get_or_default nodes k (node_here nodes k) (tail_of []) lt) in
     get_or_append_left places more 0 (get_or states k 0) (omega (arith, at.0, long)) ∙ placed k lt
+
+-- what stands at a state that is laid stands at its node
+pub node_stands : (all nodes : List Tail) (states : List ℕ) (k s : ℕ) (t : Tail) → k < length nodes → get_or states k 0 ≡ s → HasTails all nodes states → StandsAt all s t → StandsAt nodes k t
+node_stands all nodes states k s t lt is tails at =
+    let here : StandsAt nodes k (node_here nodes k) = stands_here nodes k (tail_of []) lt in
+    let there : StandsAt all s (node_here nodes k) = subst (λ (n : ℕ). StandsAt all n (node_here nodes k)) is (tails k (node_here nodes k) here) in
+    subst (λ (u : Tail). StandsAt nodes k u) (stands_once all s (node_here nodes k) t there at) here
 
 -- a state is put behind the others
 pub tails_put : (all nodes : List Tail) (states : List ℕ) (t : Tail) (s : ℕ) → length states ≡ length nodes → StandsAt all s t → HasTails all nodes states → HasTails all (nodes ++ t ∷ []) (states ++ s ∷ [])

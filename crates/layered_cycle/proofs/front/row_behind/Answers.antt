@@ -1,11 +1,16 @@
 use Rattle.std.proofs.Common.{◌≡◌, ℕ, ◌<◌, ◌-◌, suc, length, get_or, map, arith, refl, subst, ap, ◌∙◌}
 use Rattle.std.proofs.lemmas.List.{get_or-map, length-map}
+use Rattle.std.proofs.lemmas.Result.{IfOk-from_err}
 use Rattle.word_tail.specs.declared.tail.Tail.{Tail}
 use Rattle.layered_cycle.specs.declared.step.Step.{Step}
 use Rattle.layered_cycle.specs.Choices.{choice_by}
 use Rattle.layered_cycle.specs.Front.{gain_behind, reversed}
 use Rattle.layered_cycle.proofs.Chosen.{HasChosen, row_started, row_offered}
 use Rattle.layered_cycle.proofs.front.row_behind.Goals as goal
+
+pub returns-in_err-next : goal.returns-in_err-next
+returns-in_err-next g c =
+    let e = c.from_residual.ensures.0 in record { long = IfOk-from_err _ _ e; each = IfOk-from_err _ _ e; light = IfOk-from_err _ _ e }
 
 pub loop-k-init : goal.loop-k-init
 loop-k-init g c =

@@ -1,9 +1,14 @@
 use Rattle.std.proofs.Common.{◌≡◌, ℕ, ◌+◌, ◌-◌, ◌*◌, List, length, ap, subst, arith, rules}
+use Rattle.std.proofs.lemmas.Result.{IfOk-from_err}
 use Rattle.rwsp_terms.specs.declared.data.Symbol.{Symbol}
 use Rattle.layered_cycle.specs.declared.front.Front.{Front}
 use Rattle.layered_cycle.specs.Front.{Course, course, AreKept, IsBestTo, Completes}
 use Rattle.layered_cycle.proofs.GoingBack.{IsTaken, taken_off}
 use Rattle.layered_cycle.proofs.going_back.best_word_to.Goals as goal
+
+pub returns-in_err-tail : goal.returns-in_err-tail
+returns-in_err-tail g c =
+    let e = c.from_residual.ensures.0 in record { automaton = IfOk-from_err _ _ e; best = IfOk-from_err _ _ e }
 
 pub back_to-requires-clause-front : goal.back_to-requires-clause-front
 back_to-requires-clause-front g c =

@@ -1,8 +1,21 @@
 use Rattle.std.proofs.Common.{List, [], ◌∷◌, length, ap, subst, sym, arith, length-append}
+use Rattle.std.proofs.lemmas.Result.{IfOk-from_err}
 use Rattle.layered_cycle.specs.declared.front.Front.{Front}
 use Rattle.layered_cycle.specs.Front.{Course, course, IsChain}
 use Rattle.layered_cycle.proofs.GoingBack.{chain_more}
 use Rattle.layered_cycle.proofs.going_back.chain_from.Goals as goal
+
+pub returns-in_err-push : goal.returns-in_err-push
+returns-in_err-push g c =
+    let e = c.from_residual.ensures.0 in record { automaton = IfOk-from_err _ _ e; chain = IfOk-from_err _ _ e; long = IfOk-from_err _ _ e }
+
+pub returns-in_err-next : goal.returns-in_err-next
+returns-in_err-next g c =
+    let e = c.from_residual-in_err-next.ensures.0 in record { automaton = IfOk-from_err _ _ e; chain = IfOk-from_err _ _ e; long = IfOk-from_err _ _ e }
+
+pub returns-in_err-push-2 : goal.returns-in_err-push-2
+returns-in_err-push-2 g c =
+    let e = c.from_residual-in_err-push-2.ensures.0 in record { automaton = IfOk-from_err _ _ e; chain = IfOk-from_err _ _ e; long = IfOk-from_err _ _ e }
 
 pub loop-i-preserved : goal.loop-i-preserved
 loop-i-preserved g c =

@@ -1,6 +1,19 @@
 use Rattle.std.proofs.Common.{refl, arith}
+use Rattle.std.proofs.lemmas.Result.{IfOk-from_err}
 use Rattle.layered_cycle.specs.Front.{Course, course}
 use Rattle.layered_cycle.proofs.kept_fronts.fronts_of.Goals as goal
+
+pub returns-in_err-last : goal.returns-in_err-last
+returns-in_err-last g c =
+    let e = c.from_residual.ensures.0 in record { automaton = IfOk-from_err _ _ e; kept = IfOk-from_err _ _ e; last = IfOk-from_err _ _ e }
+
+pub returns-in_err-next : goal.returns-in_err-next
+returns-in_err-next g c =
+    let e = c.from_residual-in_err-next.ensures.0 in record { automaton = IfOk-from_err _ _ e; kept = IfOk-from_err _ _ e; last = IfOk-from_err _ _ e }
+
+pub returns-in_err-keep : goal.returns-in_err-keep
+returns-in_err-keep g c =
+    let e = c.from_residual-in_err-keep.ensures.0 in record { automaton = IfOk-from_err _ _ e; kept = IfOk-from_err _ _ e; last = IfOk-from_err _ _ e }
 
 pub loop-day-init : goal.loop-day-init
 loop-day-init g c =

@@ -1,6 +1,24 @@
 use Rattle.std.proofs.Common.{◌≡◌, sym}
-use Rattle.layered_cycle.proofs.Automata.{goes_to}
+use Rattle.std.proofs.lemmas.Result.{IfOk-from_err}
+use Rattle.layered_cycle.proofs.Automata.{goes_to, longer_than, refused}
 use Rattle.layered_cycle.proofs.automaton.Automaton.judge.Goals as goal
+
+pub returns-in_err-to : goal.returns-in_err-to
+returns-in_err-to c =
+    let e = c.from_residual.ensures.0 in record { automaton = IfOk-from_err _ _ e; grows = IfOk-from_err _ _ e; laid = IfOk-from_err _ _ e; follows = IfOk-from_err _ _ e }
+
+pub note_move-requires-clause-holds : goal.note_move-requires-clause-holds
+note_move-requires-clause-holds c =
+    refused c.args.rules.now c.args.self.now.tails.items c.args.state c.args.x c.index.result.now (c.requires.state, sym c.index.ensures) c.in_default.ensures
+
+pub returns-in_default-clause-follows : goal.returns-in_default-clause-follows
+returns-in_default-clause-follows c =
+    rw c.note_move.ensures.tails
+    (refused c.args.rules.now c.args.self.now.tails.items c.args.state c.args.x c.index.result.now (c.requires.state, sym c.index.ensures) c.in_default.ensures)
+
+pub note_move-requires-2-clause-state : goal.note_move-requires-2-clause-state
+note_move-requires-2-clause-state c =
+    longer_than c.args.self.now.tails.items c.state_of.new.self.tails.items c.args.state c.in_ok-to.ensures.grows c.requires.state
 
 pub note_move-requires-2-clause-holds : goal.note_move-requires-2-clause-holds
 note_move-requires-2-clause-holds c =

@@ -1,9 +1,22 @@
 use Rattle.std.proofs.Common.{◌≡◌, List, length, subst, arith, rules}
+use Rattle.std.proofs.lemmas.Result.{IfOk-from_err}
 use Rattle.rwsp_terms.specs.declared.limits.TheConstants.{MOST_SYMBOLS}
 use Rattle.word_tail.specs.declared.tail.Tail.{Tail}
 use Rattle.layered_cycle.specs.Indexed.{IsNowhere}
 use Rattle.layered_cycle.proofs.Automata.{longer_by_one, distinct_put, moves_made, rows_made, unknown_row, unknown_long}
 use Rattle.layered_cycle.proofs.automaton.Automaton.state_of.Goals as goal
+
+pub returns-in_err-push : goal.returns-in_err-push
+returns-in_err-push c =
+    let e = c.from_residual.ensures.0 in record { automaton = IfOk-from_err _ _ e; grows = IfOk-from_err _ _ e; laid = IfOk-from_err _ _ e; state = IfOk-from_err _ _ e }
+
+pub returns-in_err-push-2 : goal.returns-in_err-push-2
+returns-in_err-push-2 c =
+    let e = c.from_residual-in_err-push-2.ensures.0 in record { automaton = IfOk-from_err _ _ e; grows = IfOk-from_err _ _ e; laid = IfOk-from_err _ _ e; state = IfOk-from_err _ _ e }
+
+pub returns-in_err-push-3 : goal.returns-in_err-push-3
+returns-in_err-push-3 c =
+    let e = c.from_residual-in_err-push-3.ensures.0 in record { automaton = IfOk-from_err _ _ e; grows = IfOk-from_err _ _ e; laid = IfOk-from_err _ _ e; state = IfOk-from_err _ _ e }
 
 pub returns-clause-automaton : goal.returns-clause-automaton
 returns-clause-automaton c =
