@@ -16,15 +16,19 @@ fn weight(symbol: Symbol, value: i32) -> Weight {
 
 // The position of a bound leaf of one turn, where a day off weighs -1 and D 1.
 fn position(line: Option<Line>) -> Option<u32> {
+    let wanted = [weight(OFF, -1), weight(D, 1)];
     match line {
         Some(
             Line::Bound {
                 p,
-                turns: 1,
+                turns,
                 weights,
                 ..
             },
-        ) if weights.entries() == [weight(OFF, -1), weight(D, 1)].as_slice() => Some(p),
+        ) => {
+            let is_wanted = turns == 1 && weights.entries() == wanted.as_slice();
+            is_wanted.then_some(p)
+        }
         _ => None,
     }
 }
