@@ -16,6 +16,3 @@ pub use laws::{
 };
 pub use lines::crew_table;
 pub use places::place;
-
-#[cfg(test)]
-mod tests;

@@ -11,8 +11,6 @@ mod section;
 mod sections;
 mod sizes;
 mod staffing;
-#[cfg(test)]
-mod tests;
 mod verdict;
 
 pub use check::check_staff;

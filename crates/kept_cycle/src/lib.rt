@@ -7,8 +7,6 @@ mod cycle_cut;
 mod cycle_prop;
 mod day_marks;
 mod marks;
-#[cfg(test)]
-mod tests;
 
 pub use cycle::Cycle;
 pub use cycle_prop::CycleProp;

@@ -3,7 +3,5 @@
 
 mod corner;
 mod hull;
-#[cfg(test)]
-mod tests;
 
 pub use hull::{Hull, SCALE};

@@ -8,8 +8,6 @@ mod nearest_weights;
 mod search;
 mod small;
 mod sweep;
-#[cfg(test)]
-mod tests;
 mod words;
 
 pub use nearest_weights::NearestWeights;

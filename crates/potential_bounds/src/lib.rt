@@ -8,8 +8,6 @@ mod gate;
 mod heavy;
 mod plain;
 mod search;
-#[cfg(test)]
-mod tests;
 mod totals;
 mod weight_table;
 

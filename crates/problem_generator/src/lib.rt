@@ -7,8 +7,6 @@ mod generator;
 mod hidden;
 mod laws;
 mod stint;
-#[cfg(test)]
-mod tests;
 
 pub use generator::gen_problem;
 pub use laws::{each_number_has_one_problem, hidden_rosters_meet, stints_are_usual};

@@ -7,8 +7,6 @@ mod look;
 mod pair;
 mod propagator;
 mod root_bounds;
-#[cfg(test)]
-mod tests;
 mod window;
 mod window_over;
 

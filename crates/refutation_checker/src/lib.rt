@@ -14,8 +14,6 @@ mod line_walk;
 mod log_check;
 mod long_rules;
 mod plain_causes;
-#[cfg(test)]
-mod tests;
 mod turn;
 mod unnamed_rules;
 mod unread_splits;

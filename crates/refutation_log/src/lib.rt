@@ -10,8 +10,6 @@ mod log;
 mod print;
 mod read;
 mod refusal;
-#[cfg(test)]
-mod tests;
 mod turn;
 
 pub use cited::{put_cited, put_cited_for, put_turn_cited};

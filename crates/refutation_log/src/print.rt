@@ -47,7 +47,7 @@ pub fn print_free(alloc: Global, problem: &Problem, log: &Log) -> Result<Vec<u8>
 }
 
 /// Appends the text of the line, with its LF.
-pub fn put_line(out: &mut Vec<u8>, problem: &Problem, line: &Line) -> Result<(), AllocError>
+fn put_line(out: &mut Vec<u8>, problem: &Problem, line: &Line) -> Result<(), AllocError>
     requires { FitsSomeLog problem.now line.now }
     ensures { OnOk result (out.new.items ≡ out.old.items ++ line_text problem.now (raw problem.now line.now)) }
 {
@@ -85,7 +85,7 @@ fn put_header_for(
 }
 
 /// Appends the header of a free log.
-pub fn put_free_header(out: &mut Vec<u8>, named: &[u32], goal: u32) -> Result<(), AllocError>
+fn put_free_header(out: &mut Vec<u8>, named: &[u32], goal: u32) -> Result<(), AllocError>
     ensures { OnOk result (out.new.items ≡ out.old.items ++ free_header_text named.now goal) }
 {
     out.extend_from_slice(b"rwsp-free 1\n")?;

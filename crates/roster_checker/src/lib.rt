@@ -11,6 +11,3 @@ mod weekends;
 pub use broken::{Broken, first_broken};
 pub use laws::{first_broken_rule_is_not_met, first_broken_rule_is_unique};
 pub use weekends::free_weekends;
-
-#[cfg(test)]
-mod tests;

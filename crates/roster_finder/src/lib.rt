@@ -19,8 +19,6 @@ mod start;
 mod steady_layer;
 mod tail_classes;
 mod tail_graph;
-#[cfg(test)]
-mod tests;
 mod walk;
 mod window;
 

@@ -17,6 +17,3 @@ pub use print::print_roster;
 pub use read::read_roster;
 pub use refusal::RosterRefusal;
 pub use rule::put_rule;
-
-#[cfg(test)]
-mod tests;

@@ -13,8 +13,6 @@ mod progress;
 mod search_step;
 mod searching;
 mod sight;
-#[cfg(test)]
-mod tests;
 
 pub use choice::NextSplit;
 pub use found::Found;

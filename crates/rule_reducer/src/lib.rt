@@ -9,8 +9,6 @@ mod refusing_lines;
 mod shrinking_log;
 mod stripped_lines;
 mod stripping;
-#[cfg(test)]
-mod tests;
 
 pub use reducing::{reduce, reduce_in_place};
 pub use stripping::strip;

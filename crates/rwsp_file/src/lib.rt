@@ -17,6 +17,3 @@ pub use laws::{canonical_texts_spell, texts_spell_one, texts_spell_or_fail};
 pub use print::print_problem;
 pub use read::read_problem;
 pub use refusal::FileRefusal;
-
-#[cfg(test)]
-mod tests;

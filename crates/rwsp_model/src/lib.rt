@@ -8,8 +8,6 @@ mod problem;
 mod refusal;
 mod roster;
 mod rules;
-#[cfg(test)]
-mod tests;
 mod validity;
 mod weeks;
 

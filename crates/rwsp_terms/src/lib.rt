@@ -5,8 +5,6 @@ mod data;
 mod laws;
 pub mod limits;
 mod rule_list;
-#[cfg(test)]
-mod tests;
 mod weights;
 mod word;
 

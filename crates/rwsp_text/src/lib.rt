@@ -12,6 +12,3 @@ pub use fields::Fields;
 pub use laws::{lines_are_blankless, lines_are_read, lines_say_one, printed_is_read};
 pub use reader::LineReader;
 pub use scan::{Token, tokens};
-
-#[cfg(test)]
-mod tests;

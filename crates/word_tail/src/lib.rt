@@ -6,8 +6,6 @@ mod layout;
 mod tables;
 mod tail;
 mod tail_rules;
-#[cfg(test)]
-mod tests;
 
 pub use laws::empty_word_is_clean;
 pub use tail::Tail;

@@ -1,0 +1,183 @@
+// Dates by the command `date -u -d "DATE 00:00 UTC +N minutes"` of GNU coreutils, and places counted by hand.
+use crate::problems::{problem_of, roster_of};
+use crew_calendar::{crew_table, date_of, duties, fits, place};
+use jiff::civil::Date;
+use rwsp_model::Problem;
+use std::alloc::Global;
+use std::test::Fail;
+
+// One week of one day, with a shift of these minutes.
+fn one_day(alloc: Global, minutes: &str) -> Result<Problem, Fail> {
+    let text = format!(in alloc; "1\n1\n1\n0..1\nD {minutes} 1 9\n1 9\n1 9\n0 0\n")?;
+    problem_of(alloc, text.as_bytes())
+}
+
+#[test]
+fn words_name_dates(rt: HostRuntime) -> Result<(), Fail> {
+    let good = [
+        ("2024-02-29", Date::new(2024, 2, 29)?),
+        ("0000-01-01", Date::new(0, 1, 1)?),
+        ("0000-02-29", Date::new(0, 2, 29)?),
+        ("9999-12-31", Date::new(9999, 12, 31)?),
+    ];
+    for (word, date) in good.iter() {
+        assert_eq!(rt; date_of(word), Some(*date));
+    }
+    let bad = [
+        "2025-02-29",
+        "1900-02-29",
+        "2024-2-29",
+        "2024-02-9",
+        "20240229",
+        "2024-13-01",
+        "2024-00-01",
+        "2024-01-32",
+        "2024-01-00",
+        "-000001-01-01",
+        "+002024-01-01",
+        "10000-01-01",
+        "2024-02-29 ",
+        " 2024-02-29",
+        "2024/02/29",
+        "2024-W09-4",
+        "2024-02-29T00:00",
+        "",
+    ];
+    for word in bad.iter() {
+        assert_eq!(rt; date_of(word), None);
+    }
+    Ok(())
+}
+
+#[test]
+fn horizons_end_in_9999(rt: HostRuntime) -> Result<(), Fail> {
+    let rows = [
+        ("9999-12-31", 1u32, false),
+        ("9999-12-18", 1, false),
+        ("9999-12-17", 1, true),
+        ("9998-11-13", 400, true),
+        ("9998-11-14", 400, false),
+        ("0000-01-01", 400, true),
+    ];
+    for (word, days, wanted) in rows.iter() {
+        let date = date_of(word).ok_or("a date")?;
+        assert!(rt; *days <= 400);
+        assert_eq!(rt; fits(date, *days), *wanted);
+    }
+    Ok(())
+}
+
+#[test]
+fn tables_go_over_ends_of_months(rt: HostRuntime) -> Result<(), Fail> {
+    let alloc = rt.alloc();
+    let problem = one_day(alloc, "360 480")?;
+    let roster = roster_of(alloc, &problem, b"D\n")?;
+    let rows = [
+        ("2024-02-28", "2024-02-28 D\n2024-02-29 D\n2024-03-01 D\n"),
+        ("2023-02-28", "2023-02-28 D\n2023-03-01 D\n2023-03-02 D\n"),
+        ("1900-02-28", "1900-02-28 D\n1900-03-01 D\n1900-03-02 D\n"),
+        ("2000-02-28", "2000-02-28 D\n2000-02-29 D\n2000-03-01 D\n"),
+        ("0000-02-28", "0000-02-28 D\n0000-02-29 D\n0000-03-01 D\n"),
+        ("0000-01-01", "0000-01-01 D\n0000-01-02 D\n0000-01-03 D\n"),
+        ("2025-04-29", "2025-04-29 D\n2025-04-30 D\n2025-05-01 D\n"),
+        ("2025-12-30", "2025-12-30 D\n2025-12-31 D\n2026-01-01 D\n"),
+        ("9999-12-15", "9999-12-15 D\n9999-12-16 D\n9999-12-17 D\n"),
+    ];
+    for (word, wanted) in rows.iter() {
+        let date = date_of(word).ok_or("a date")?;
+        assert!(rt; fits(date, 3));
+        let text = crew_table(alloc, &problem, &roster, date, 3)?;
+        assert_eq!(rt; text.as_slice(), wanted.as_bytes());
+    }
+    Ok(())
+}
+
+#[test]
+fn duties_end_days_later(rt: HostRuntime) -> Result<(), Fail> {
+    let alloc = rt.alloc();
+    let rows = [
+        (
+            "2025-12-31",
+            "1320 480",
+            "2025-12-31 22:00 to 2026-01-01 06:00 D\n",
+        ),
+        (
+            "2024-02-28",
+            "1320 1440",
+            "2024-02-28 22:00 to 2024-02-29 22:00 D\n",
+        ),
+        (
+            "1900-02-28",
+            "360 1440",
+            "1900-02-28 06:00 to 1900-03-01 06:00 D\n",
+        ),
+        (
+            "2024-12-31",
+            "1439 1",
+            "2024-12-31 23:59 to 2025-01-01 00:00 D\n",
+        ),
+        (
+            "2025-04-30",
+            "0 0",
+            "2025-04-30 00:00 to 2025-04-30 00:00 D\n",
+        ),
+        (
+            "9999-12-17",
+            "10000 10000",
+            "9999-12-23 22:40 to 9999-12-30 21:20 D\n",
+        ),
+        (
+            "0000-02-28",
+            "10000 10000",
+            "0000-03-05 22:40 to 0000-03-12 21:20 D\n",
+        ),
+        (
+            "2000-02-21",
+            "0 10000",
+            "2000-02-21 00:00 to 2000-02-27 22:40 D\n",
+        ),
+    ];
+    for (word, minutes, wanted) in rows.iter() {
+        let problem = one_day(alloc, minutes)?;
+        let roster = roster_of(alloc, &problem, b"D\n")?;
+        let date = date_of(word).ok_or("a date")?;
+        assert!(rt; fits(date, 1));
+        assert!(rt; problem.weeks() == 1);
+        let text = duties(alloc, &problem, &roster, date, 1, 1)?;
+        assert_eq!(rt; text.as_slice(), wanted.as_bytes());
+    }
+    Ok(())
+}
+
+// Three weeks of two days: `D -`, `- D` and `D D`. The third employee starts in week 3, continues with week 1, and is
+// off on the second day of that week alone.
+#[test]
+fn employees_start_in_their_weeks(rt: HostRuntime) -> Result<(), Fail> {
+    let alloc = rt.alloc();
+    let text = b"2\n3\n1\n0..3 0..3\nD 360 480 1 9\n1 9\n1 9\n0 0\n";
+    let problem = problem_of(alloc, text)?;
+    let roster = roster_of(alloc, &problem, b"D -\n- D\nD D\n")?;
+    assert!(rt; problem.weeks() == 3);
+    let positions = [
+        (1u32, 0u32, 0u32),
+        (2, 0, 2),
+        (3, 0, 4),
+        (3, 1, 5),
+        (3, 2, 0),
+        (2, 7, 3),
+    ];
+    for (employee, t, wanted) in positions.iter() {
+        assert!(rt; 1 <= *employee && *employee <= 3 && *t < 400);
+        assert_eq!(rt; place(&problem, *employee, *t), *wanted);
+    }
+    let date = date_of("2025-01-06").ok_or("a date")?;
+    assert!(rt; fits(date, 4));
+    let table = crew_table(alloc, &problem, &roster, date, 4)?;
+    let lines = b"2025-01-06 D - D\n2025-01-07 - D D\n2025-01-08 - D D\n2025-01-09 D D -\n";
+    assert_eq!(rt; table.as_slice(), lines.as_slice());
+    let text = duties(alloc, &problem, &roster, date, 4, 3)?;
+    let lines =
+        b"2025-01-06 06:00 to 2025-01-06 14:00 D\n2025-01-07 06:00 to 2025-01-07 14:00 D\n2025-01-08 06:00 to 2025-01-08 14:00 D\n";
+    assert_eq!(rt; text.as_slice(), lines.as_slice());
+    Ok(())
+}

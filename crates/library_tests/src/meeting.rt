@@ -1,0 +1,47 @@
+// A gate at which two workers see each other, so that they are there at once.
+use potential_bounds::Gate;
+use std::sync::atomic::{AtomicBool, Ordering};
+
+#[derive(Drop)]
+pub struct Meeting {
+    flags: [AtomicBool; 2],
+    met: [AtomicBool; 2],
+}
+
+impl Meeting {
+    pub fn new() -> Meeting {
+        Meeting {
+            flags: [AtomicBool::new(false), AtomicBool::new(false)],
+            met: [AtomicBool::new(false), AtomicBool::new(false)],
+        }
+    }
+
+    // Whether each of the two has seen the other.
+    pub fn took_place(&self) -> bool {
+        let [first, second] = &self.met;
+        first.load(Ordering::SeqCst) && second.load(Ordering::SeqCst)
+    }
+}
+
+impl Gate for Meeting {
+    fn enter(&self, chunk: u32) {
+        let [first, second] = &self.flags;
+        let [first_met, second_met] = &self.met;
+        match chunk {
+            1 => meet(first, second, first_met),
+            2 => meet(second, first, second_met),
+            _ => {}
+        }
+    }
+}
+
+// Sets a flag, looks for the other until it is set or for long, and notes whether it was seen.
+fn meet(own: &AtomicBool, other: &AtomicBool, met: &AtomicBool) {
+    own.store(true, Ordering::SeqCst);
+    for _ in 0..200_000_000 {
+        if other.load(Ordering::SeqCst) {
+            met.store(true, Ordering::SeqCst);
+            return;
+        }
+    }
+}

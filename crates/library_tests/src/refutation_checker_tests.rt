@@ -1,0 +1,77 @@
+// Refutations of small problems, worked by hand. What else is refused and why is said by the clauses, and tried on the
+// program's own tests.
+use crate::meeting::Meeting;
+use crate::problems::{LONG_BLOCKS, ONE_CELL, TWO_IN_FOUR, TWOS_IN_SIX, log_of, problem_of};
+use refutation_checker::{check, check_free, check_log, check_with};
+use refutation_log::print_free;
+use refutation_terms::LogRefusal;
+use rwsp_model::Fail::Refused;
+use std::test::Fail;
+
+const SPLIT_TWOS: &[u8] =
+    b"rwsp-log 1\nrules 1 2 3 4\nsplit 1 1 D\ndead 1 1 7 rules 1 2 3 4\ndead 1 1 7 rules 1 2 3 4\n";
+
+const PASSING: [(&[u8], &[u8]); 4] = [
+    (
+        TWO_IN_FOUR,
+        b"rwsp-log 1\nrules 1 3 4 7\nbound 1 1 2 rules 1 3 4 weights 1 D 1\n",
+    ),
+    (TWOS_IN_SIX, SPLIT_TWOS),
+    (
+        TWOS_IN_SIX,
+        b"rwsp-log 2\nrules 1 2 3 4 7\nturn D 1\ndead 1 1 7 rules 1 2 3 4\n",
+    ),
+    (
+        ONE_CELL,
+        b"rwsp-log 1\nrules 3 5\nsplit 1 1 D\nwindow 5 1 1 8\nwindow 3 1 1 2\n",
+    ),
+];
+
+#[test]
+fn refutations_pass(rt: HostRuntime) -> Result<(), Fail> {
+    let alloc = rt.alloc();
+    for (problem, text) in PASSING {
+        let problem = problem_of(alloc, problem)?;
+        let log = log_of(alloc, &problem, text)?;
+        assert!(rt; text.len() <= 1_000);
+        assert!(rt; check(alloc, &problem, text).is_ok());
+        assert!(rt; check_log(alloc, &problem, &log).is_ok());
+    }
+    Ok(())
+}
+
+#[test]
+fn workers_are_there_at_once(rt: HostRuntime) -> Result<(), Fail> {
+    let alloc = rt.alloc();
+    let problem = problem_of(alloc, TWOS_IN_SIX)?;
+    let gate = Meeting::new();
+    let named = check_with(&rt, alloc, &problem, SPLIT_TWOS, 2, &gate)?;
+    assert_eq!(rt; named.numbers(), [1, 2, 3, 4].as_slice());
+    assert!(rt; gate.took_place());
+    Ok(())
+}
+
+// At most one weekend of three can be free, and two where work may be longer.
+#[test]
+fn free_logs_are_judged(rt: HostRuntime) -> Result<(), Fail> {
+    let alloc = rt.alloc();
+    let problem = problem_of(alloc, LONG_BLOCKS)?;
+    assert!(rt; problem.days() == 7);
+    let passing = b"rwsp-free 1\nrules 3 5 6\ngoal 2\nfree 1 1 rules 3 5 6 weights\n".as_slice();
+    let log = check_free(alloc, &problem, passing)?;
+    assert_eq!(rt; log.goal(), Some(2));
+    assert_eq!(rt; log.named().numbers(), [3, 5, 6].as_slice());
+    let printed = print_free(alloc, &problem, &log)?;
+    assert_eq!(rt; printed.as_slice(), passing);
+    let escaped = b"rwsp-free 1\nrules 3 6\ngoal 2\nfree 1 1 rules 3 6 weights\n".as_slice();
+    let Err(Refused(LogRefusal::Escape(line, word))) = check_free(alloc, &problem, escaped) else {
+        return Err(Fail::from("no escape"));
+    };
+    assert_eq!(rt; line, 4);
+    let mut shown = Vec::new(alloc);
+    for symbol in word.symbols() {
+        shown.push(if symbol.number == 0 { b'-' } else { b'D' })?;
+    }
+    assert_eq!(rt; shown.as_slice(), b"DDD----DDDDDDDDDD----".as_slice());
+    Ok(())
+}

@@ -1,0 +1,254 @@
+// Texts of logs, read and printed.
+ghost use Rattle.refutation_terms.specs.Log.{Fits};
+
+use crate::problems::{
+    D, D_ON_BOTH_DAYS, LONG_BLOCKS, NO_DEMAND, ONE_CELL, THREE_IN_FIVE, TWO_IN_FOUR, TWOS_IN_SIX,
+    log_of, problem_of,
+};
+use refutation_log::{
+    Log, LogRefusal, Turn, first_turn, print_log, put_cited, read_free_header, read_line_for,
+    read_log,
+};
+use rwsp_model::{Fail as Failure, Problem};
+use rwsp_terms::RuleList;
+use std::alloc::{AllocError, Global};
+use std::test::Fail;
+
+const TEXTS: [(&[u8], &[u8]); 9] = [
+    (
+        D_ON_BOTH_DAYS,
+        b"rwsp-log 1\nrules 1 7 8\nbound 1 1 1 rules 1 weights 1 D 1 2 D 1\n",
+    ),
+    (D_ON_BOTH_DAYS, b"rwsp-log 1\nrules\nday 1 - over\n"),
+    (
+        D_ON_BOTH_DAYS,
+        b"rwsp-log 1\nrules\nbound 1 2 8400 rules weights 1 - -1000 1 D 1000\n",
+    ),
+    (
+        TWO_IN_FOUR,
+        b"rwsp-log 1\nrules 1 3 4 7\nbound 1 1 2 rules 1 3 4 weights 1 D 1\n",
+    ),
+    (
+        TWOS_IN_SIX,
+        b"rwsp-log 1\nrules 1 2 3 4\nsplit 1 1 D\ndead 1 1 7 rules 1 2 3 4\ndead 1 1 7 rules 1 2 3 4\n",
+    ),
+    (TWOS_IN_SIX, b"rwsp-log 1\nrules\nsplit 6 1 D\nopen\nopen\n"),
+    (
+        TWOS_IN_SIX,
+        b"rwsp-log 2\nrules 1 2 3 4 7\nturn D 1\ndead 1 1 7 rules 1 2 3 4\n",
+    ),
+    (
+        THREE_IN_FIVE,
+        b"rwsp-log 2\nrules 7\nturn D 1\nsplit 2 1 D\nopen\nopen\n",
+    ),
+    (
+        ONE_CELL,
+        b"rwsp-log 1\nrules 3 5\nsplit 1 1 D\nwindow 5 1 1 8\nwindow 3 1 1 2\n",
+    ),
+];
+
+#[test]
+fn texts_come_back(rt: HostRuntime) -> Result<(), Fail> {
+    let alloc = rt.alloc();
+    for (problem, text) in TEXTS {
+        let problem = problem_of(alloc, problem)?;
+        let log = log_of(alloc, &problem, text)?;
+        let printed = print_log(alloc, &problem, &log)?;
+        assert_eq!(rt; printed.as_slice(), text);
+    }
+    Ok(())
+}
+
+const REFUSALS: [(&[u8], LogRefusal); 34] = [
+    (b"", LogRefusal::Ends),
+    (b"rwsp-log 1\n", LogRefusal::Ends),
+    (b"rwsp-log 1", LogRefusal::Form(1)),
+    (b"rwsp-log 3\nrules\nopen\n", LogRefusal::Form(1)),
+    (b"rwsp-log 2\nrules\nopen\n", LogRefusal::Form(3)),
+    (b"rwsp-log 2\nrules\nturn Q 1\n", LogRefusal::Name(3)),
+    (b"rwsp-log 2\nrules\nturn D 2\n", LogRefusal::Form(3)),
+    (b"rwsp-log 2\nrules\nturn D 1\n", LogRefusal::Ends),
+    (b"rwsp-log 1\nrules 1 1\nopen\n", LogRefusal::Form(2)),
+    (b"rwsp-log 1\nrules 2 1\nopen\n", LogRefusal::Form(2)),
+    (b"rwsp-log 1\nrules 8\nopen\n", LogRefusal::Form(2)),
+    (b"rwsp-log 1\nrules \nopen\n", LogRefusal::Form(2)),
+    (
+        b"rwsp-log 1\nrules 1 2 3 4\nsplit 1 1 D\ndead 1 1 7 rules 1 2 3 4\n",
+        LogRefusal::Ends,
+    ),
+    (b"rwsp-log 1\nrules 1\nsplit 1 1 Q\n", LogRefusal::Name(3)),
+    (b"rwsp-log 1\nrules 1\nsplit 7 1 D\n", LogRefusal::Form(3)),
+    (b"rwsp-log 1\nrules\nopen\r\n", LogRefusal::Form(3)),
+    (b"rwsp-log 1\nrules\nopen \n", LogRefusal::Form(3)),
+    (b"rwsp-log 1\nrules\nopen", LogRefusal::Form(3)),
+    (b"rwsp-log 1\nrules\nopen\nopen\n", LogRefusal::Extra(4)),
+    (b"rwsp-log 1\nrules\nopen\nwhatever", LogRefusal::Extra(4)),
+    (b"rwsp-log 1\nrules\nday 01 D over\n", LogRefusal::Form(3)),
+    (b"rwsp-log 1\nrules\nday 1 D under\n", LogRefusal::Form(3)),
+    (
+        b"rwsp-log 1\nrules\nbound 1 1 1 rules weights 1 D 0\n",
+        LogRefusal::Form(3),
+    ),
+    (
+        b"rwsp-log 1\nrules\nbound 1 1 1 rules weights 1 D -0\n",
+        LogRefusal::Form(3),
+    ),
+    (
+        b"rwsp-log 1\nrules\nbound 1 1 1 rules weights 1 D 1001\n",
+        LogRefusal::Form(3),
+    ),
+    (
+        b"rwsp-log 1\nrules\nbound 1 1 2801 rules weights\n",
+        LogRefusal::Form(3),
+    ),
+    (
+        b"rwsp-log 1\nrules\nbound 1 1 1 rules weights 1 D 1 1 - 1\n",
+        LogRefusal::Form(3),
+    ),
+    (
+        b"rwsp-log 1\nrules\nbound 1 1 1 rules weights 1 D 1 1 D 1\n",
+        LogRefusal::Form(3),
+    ),
+    (
+        b"rwsp-log 1\nrules\nbound 1 1 1 rules weights 1 D 1 1 - 1 1 Q 1\n",
+        LogRefusal::Name(3),
+    ),
+    (
+        b"rwsp-log 1\nrules\nbound 1 1 1 rules weights 1 D 1 1 - 1 1 Q\n",
+        LogRefusal::Form(3),
+    ),
+    (
+        b"rwsp-log 1\nrules\nwindow 1 1 1 16801\n",
+        LogRefusal::Form(3),
+    ),
+    (b"rwsp-log 1\nrules\nopened\n", LogRefusal::Form(3)),
+    (b"rwsp-log 1\nrules\nfew\n", LogRefusal::Form(3)),
+    (
+        b"rwsp-log 1\nrules\nfree 1 1 rules weights\n",
+        LogRefusal::Form(3),
+    ),
+];
+
+// Whether it is this cause on this line. Reading finds no others than these four.
+fn is_cause(why: &LogRefusal, wanted: &LogRefusal) -> bool {
+    match (why, wanted) {
+        (LogRefusal::Form(line), LogRefusal::Form(other)) => line == other,
+        (LogRefusal::Name(line), LogRefusal::Name(other)) => line == other,
+        (LogRefusal::Extra(line), LogRefusal::Extra(other)) => line == other,
+        (LogRefusal::Ends, LogRefusal::Ends) => true,
+        _ => false,
+    }
+}
+
+// Whether the text is refused for this cause.
+fn is_refused_for(alloc: Global, problem: &Problem, text: &[u8], wanted: &LogRefusal) -> bool {
+    if text.len() > 1_000_000 {
+        return false;
+    }
+    match read_log(alloc, problem, text) {
+        Err(Failure::Refused(why)) => is_cause(&why, wanted),
+        _ => false,
+    }
+}
+
+#[test]
+fn other_texts_are_refused(rt: HostRuntime) -> Result<(), Fail> {
+    let problem = problem_of(rt.alloc(), TWOS_IN_SIX)?;
+    for (text, wanted) in REFUSALS.iter() {
+        assert!(rt;
+            is_refused_for(rt.alloc(), &problem, text, wanted),
+            "{text:?}"
+        );
+    }
+    Ok(())
+}
+
+#[test]
+fn many_splits_and_nothing_more(rt: HostRuntime) -> Result<(), Fail> {
+    let problem = problem_of(rt.alloc(), TWOS_IN_SIX)?;
+    let mut text = b"rwsp-log 1\nrules\n".to_vec(rt.alloc())?;
+    for _ in 0..4200 {
+        text.extend_from_slice(b"split 1 1 D\n")?;
+    }
+    assert!(rt; is_refused_for(rt.alloc(), &problem, &text, &LogRefusal::Ends));
+    Ok(())
+}
+
+const FREE_TEXTS: [(&[u8], bool); 15] = [
+    (
+        b"rwsp-free 1\nrules 3 5 6\ngoal 2\nfree 1 1 rules 3 5 6 weights\n",
+        true,
+    ),
+    (
+        b"rwsp-free 1\nrules 7\ngoal 0\nfree 800 1000 rules weights 1 - -1000 1 D 1000\n",
+        true,
+    ),
+    (b"rwsp-free 1\nrules\ngoal 4\nfew\n", true),
+    (b"rwsp-free 1\nrules\ngoal 1\nwindow 1 3 7 2\n", true),
+    (b"rwsp-free 1\nrules\ngoal 1\nday 7 D short\n", true),
+    (
+        b"rwsp-free 1\nrules 1 2\ngoal 1\ndead 1 1 7 rules 1 2\n",
+        true,
+    ),
+    (b"rwsp-free 1\nrules\ngoal 1\nopen\n", true),
+    (b"rwsp-free 1\nrules\ngoal 5\nfew\n", false),
+    (b"rwsp-free 1\nrules\ngoal 01\nfew\n", false),
+    (b"rwsp-free 2\nrules\ngoal 1\nfew\n", false),
+    (b"rwsp-free 1\nrules\nfew\n", false),
+    (b"rwsp-free 1\nrules\ngoal 1\nfew 1\n", false),
+    (
+        b"rwsp-free 1\nrules\ngoal 1\nfree 801 1 rules weights\n",
+        false,
+    ),
+    (
+        b"rwsp-free 1\nrules\ngoal 1\nfree 1 1001 rules weights\n",
+        false,
+    ),
+    (
+        b"rwsp-free 1\nrules\ngoal 1\nbound 1 1 1 rules weights\n",
+        false,
+    ),
+];
+
+// Whether the text is read as that of a free log of one line.
+fn is_free_log_of_one_line(alloc: Global, problem: &Problem, text: &[u8]) -> bool {
+    match read_free_header(alloc, problem, text) {
+        Ok(header) => read_line_for(alloc, problem, Some(header.goal), header.body).is_ok(),
+        Err(_) => false,
+    }
+}
+
+#[test]
+fn free_logs_of_one_line(rt: HostRuntime) -> Result<(), Fail> {
+    let problem = problem_of(rt.alloc(), LONG_BLOCKS)?;
+    for (text, is_read) in FREE_TEXTS {
+        let found = is_free_log_of_one_line(rt.alloc(), &problem, text);
+        assert!(rt; found == is_read, "{text:?}");
+    }
+    Ok(())
+}
+
+fn put_all_cited(rules: &mut RuleList, problem: &Problem, log: &Log) -> Result<(), AllocError>
+    requires { Fits problem.now log.now }
+{
+    for line in log.lines() {
+        put_cited(rules, problem, line)?;
+    }
+    Ok(())
+}
+
+#[test]
+fn cited_rules_and_turns(rt: HostRuntime) -> Result<(), Fail> {
+    let alloc = rt.alloc();
+    let none = problem_of(alloc, NO_DEMAND)?;
+    assert_eq!(rt; first_turn(&none), None);
+    let problem = problem_of(alloc, D_ON_BOTH_DAYS)?;
+    let turn = first_turn(&problem).ok_or("a turn")?;
+    assert_eq!(rt; turn, Turn { day: 1, x: D });
+    let text = b"rwsp-log 1\nrules\nbound 1 1 1 rules 1 3 weights 1 D 1 2 D 1\n";
+    let log = log_of(alloc, &problem, text)?;
+    let mut rules = RuleList::new(alloc);
+    put_all_cited(&mut rules, &problem, &log)?;
+    assert_eq!(rt; rules.numbers(), [1u32, 3, 7, 8].as_slice());
+    Ok(())
+}

@@ -1,0 +1,46 @@
+use crate::problems::{ALL_OF_FOUR_WEEKS, D, MOST_OF_FOUR_WEEKS, problem_of};
+use roster_finder::{find_roster, find_roster_with};
+use rwsp_terms::Symbol;
+use std::test::Fail;
+
+// How many weeks hold D on a day.
+fn working(cells: &[Symbol], day: usize) -> usize {
+    cells
+        .iter()
+        .enumerate()
+        .filter(|(i, x)| i % 7 == day && **x == D)
+        .count()
+}
+
+#[test]
+fn a_roster_is_found_and_is_the_same_each_time(rt: HostRuntime) -> Result<(), Fail> {
+    let problem = problem_of(rt.alloc(), MOST_OF_FOUR_WEEKS)?;
+    let first = find_roster(rt.alloc(), &problem)?.ok_or("no roster")?;
+    assert_eq!(rt; first.cells().len(), 28);
+    for day in 0..7 {
+        let weeks = working(first.cells(), day);
+        assert!(rt; weeks == 2 || weeks == 3, "{weeks} on {day}");
+    }
+    let second = find_roster(rt.alloc(), &problem)?.ok_or("no roster")?;
+    assert_eq!(rt; first.cells(), second.cells());
+    Ok(())
+}
+
+#[test]
+fn none_is_found_where_there_is_none(rt: HostRuntime) -> Result<(), Fail> {
+    let problem = problem_of(rt.alloc(), ALL_OF_FOUR_WEEKS)?;
+    assert!(rt; find_roster(rt.alloc(), &problem)?.is_none());
+    Ok(())
+}
+
+#[test]
+fn weekends_are_free_where_the_demand_lets_them(rt: HostRuntime) -> Result<(), Fail> {
+    let problem = problem_of(rt.alloc(), MOST_OF_FOUR_WEEKS)?;
+    assert!(rt; problem.days() == 7);
+    // at most two weeks have a day off
+    for (free, is_found) in [(0, true), (1, true), (2, true), (3, false)] {
+        let found = find_roster_with(rt.alloc(), &problem, free)?;
+        assert!(rt; found.is_some() == is_found, "{free}");
+    }
+    Ok(())
+}

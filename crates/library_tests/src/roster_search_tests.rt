@@ -1,0 +1,225 @@
+// Searches for rosters of small problems, worked by hand.
+ghost use Rattle.std.specs.Prelude.{◌≡◌, IfOk, ℕ, None};
+ghost use Rattle.rwsp_terms.specs.Instance.{Instance};
+ghost use Rattle.propagators.specs.Looks.{HasPlainLeaves};
+
+use crate::problems::{CROWDED_TWOS_IN_SIX, D_ON_DAY_1, D_ON_EITHER_DAY, problem_of};
+use domain_store::Domains;
+use potential_bounds::NoGate;
+use propagators::{DayProp, Look, Pair, Propagator, RootBounds, WindowProp};
+use refutation_terms::Line;
+use roster_search::{Found, Guide, NextSplit, NoGuide, chronological, guided_search, search};
+use rwsp_model::{Problem, Roster};
+use std::alloc::{AllocError, Global};
+use std::test::Fail;
+
+// A propagator that counts how often it looks, and how often it hears of a change.
+#[derive(Drop)]
+struct Told<A> {
+    inner: A,
+    looks: u32,
+    changes: u32,
+}
+
+impl<A: Propagator> Propagator for Told<A> {
+    ghost serves = { λ t P. A.serves t.inner P };
+
+    ghost tracks = { λ t S. A.tracks t.inner S };
+
+    ghost leaves = { λ t S line. A.leaves t.inner S line };
+
+    ghost spent = { λ t S p x. A.spent t.inner S p x };
+
+    fn prove_spent(&self) {
+        self.inner.prove_spent();
+    }
+
+    fn look(&mut self, alloc: Global, doms: &Domains) -> Result<Look, AllocError> {
+        self.looks = self.looks.saturating_add(1);
+        self.inner.look(alloc, doms)
+    }
+
+    fn narrowed(&mut self, doms: &Domains, p: u32) {
+        self.changes = self.changes.saturating_add(1);
+        self.inner.narrowed(doms, p);
+    }
+
+    fn undone(&mut self, doms: &Domains) {
+        self.changes = self.changes.saturating_add(1);
+        self.inner.undone(doms);
+    }
+}
+
+// The windows and the days of the problem, which have heard of no change yet.
+fn reasons(alloc: Global, problem: &Problem) -> Result<Told<Pair<WindowProp, DayProp>>, AllocError>
+    ensures serves { IfOk result (λ t. ⟦<Told<Pair<WindowProp, DayProp>> as Propagator>⟧.serves t problem.now) }
+    ensures plain { IfOk result
+        (λ t. HasPlainLeaves problem.now (⟦<Told<Pair<WindowProp, DayProp>> as Propagator>⟧.leaves t)) }
+{
+    let doms = Domains::new(alloc, problem)?;
+    let windows = WindowProp::new(alloc, problem, &doms)?;
+    let days = DayProp::new(alloc, problem, &doms)?;
+    Ok(Told {
+        inner: Pair::new(windows, days),
+        looks: 0,
+        changes: 0,
+    })
+}
+
+// A guide whose leaves are those of a propagator.
+#[derive(Drop)]
+struct ByLook<A> {
+    propagator: A,
+}
+
+impl<A: Propagator> Guide for ByLook<A> {
+    ghost serves = { λ g P goal. A.serves g.propagator P × (goal ≡ None) };
+
+    fn leaf(&mut self, alloc: Global, doms: &Domains) -> Result<Option<Line>, AllocError> {
+        self.propagator.undone(doms);
+        match self.propagator.look(alloc, doms)? {
+            Look::Closed(line) => Ok(Some(line)),
+            _ => Ok(None),
+        }
+    }
+
+    fn roster(&mut self, _alloc: Global, _doms: &Domains) -> Result<Option<Roster>, AllocError> {
+        Ok(None)
+    }
+
+    fn split(&mut self, _doms: &Domains) -> Option<NextSplit> {
+        None
+    }
+}
+
+// A guide whose roster is found by a search without a guide.
+#[derive(Drop)]
+struct BySearch {
+    problem: Problem,
+}
+
+impl Guide for BySearch {
+    ghost serves = { λ g P goal. (g.problem ≡ P) × (goal ≡ None) };
+
+    fn leaf(&mut self, _alloc: Global, _doms: &Domains) -> Result<Option<Line>, AllocError> {
+        Ok(None)
+    }
+
+    fn roster(&mut self, alloc: Global, _doms: &Domains) -> Result<Option<Roster>, AllocError> {
+        let mut propagator = reasons(alloc, &self.problem)?;
+        match search(alloc, &self.problem, None, &mut propagator, 100)? {
+            Found::Roster(roster) => Ok(Some(roster)),
+            _ => Ok(None),
+        }
+    }
+
+    fn split(&mut self, _doms: &Domains) -> Option<NextSplit> {
+        None
+    }
+}
+
+// A guide that splits in chronological order from a position on.
+#[derive(Drop)]
+struct InOrder {
+    problem: Problem,
+    first: u32,
+}
+
+impl Guide for InOrder {
+    ghost serves = { λ g P goal. (g.problem ≡ P) × (goal ≡ None) };
+
+    fn leaf(&mut self, _alloc: Global, _doms: &Domains) -> Result<Option<Line>, AllocError> {
+        Ok(None)
+    }
+
+    fn roster(&mut self, _alloc: Global, _doms: &Domains) -> Result<Option<Roster>, AllocError> {
+        Ok(None)
+    }
+
+    fn split(&mut self, doms: &Domains) -> Option<NextSplit> {
+        chronological(&self.problem, doms, self.first)
+    }
+}
+
+// What was found: the first symbol of a roster, or the number of lines of a log.
+#[derive(Clone, Copy, Debug, PartialEq, Eq)]
+enum End {
+    Roster(u8),
+    NoRoster(usize),
+    Undecided(usize),
+}
+
+fn end_of(found: &Found) -> End {
+    match found {
+        Found::Roster(roster) => match roster.cells() {
+            [first, ..] => End::Roster(first.number),
+            [] => End::Roster(9),
+        },
+        Found::NoRoster(log) => End::NoRoster(log.lines().len()),
+        Found::Undecided(log) => End::Undecided(log.lines().len()),
+    }
+}
+
+// What a search does.
+#[derive(Clone, Copy, Debug, PartialEq, Eq)]
+struct Run {
+    end: End,
+    looks: u32,
+    changes: u32,
+}
+
+fn guided<G: Guide>(alloc: Global, problem: &Problem, guide: &mut G) -> Result<Run, AllocError>
+    requires { G.serves guide.old problem.now None }
+{
+    let mut told = reasons(alloc, problem)?;
+    let found = guided_search(alloc, problem, None, None, &mut told, guide, 100)?;
+    Ok(Run {
+        end: end_of(&found),
+        looks: told.looks,
+        changes: told.changes,
+    })
+}
+
+#[test]
+fn a_propagator_is_asked_and_told(rt: HostRuntime) -> Result<(), Fail> {
+    let alloc = rt.alloc();
+    // two cuts, and the roster is there
+    let problem = problem_of(alloc, D_ON_DAY_1)?;
+    let mut told = reasons(alloc, &problem)?;
+    let found = search(alloc, &problem, None, &mut told, 100)?;
+    assert_eq!(rt; end_of(&found), End::Roster(1));
+    assert_eq!(rt; (told.looks, told.changes), (3, 3));
+    Ok(())
+}
+
+#[test]
+fn what_a_guide_gives_is_used(rt: HostRuntime) -> Result<(), Fail> {
+    let alloc = rt.alloc();
+    let either = problem_of(alloc, D_ON_EITHER_DAY)?;
+    let mut by_search = BySearch {
+        problem: either.copy()?,
+    };
+    let mut in_order = InOrder {
+        problem: either.copy()?,
+        first: 0,
+    };
+    let crowded = problem_of(alloc, CROWDED_TWOS_IN_SIX)?;
+    let full = Domains::new(alloc, &crowded)?;
+    let mut by_bounds = ByLook {
+        propagator: RootBounds::new(&rt, alloc, &crowded, &full, 1, &NoGate)?,
+    };
+    let cases = [
+        (guided(alloc, &either, &mut NoGuide)?, End::Roster(1), 4),
+        (guided(alloc, &either, &mut in_order)?, End::Roster(0), 4),
+        (guided(alloc, &either, &mut by_search)?, End::Roster(1), 1),
+        (
+            guided(alloc, &crowded, &mut by_bounds)?,
+            End::NoRoster(1),
+            1,
+        ),
+    ];
+    for (run, end, looks) in cases {
+        assert_eq!(rt; (run.end, run.looks), (end, looks));
+    }
+    Ok(())
+}

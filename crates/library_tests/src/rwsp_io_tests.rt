@@ -1,0 +1,98 @@
+// Faults in mid-stream, and the system's files. What is read and written where no call fails, the clauses say.
+ghost use Rattle.std.specs.Prelude.{◌<◌};
+
+use rwsp_io::{
+    MemoryShelf, MemorySink, ReadFail, RealShelf, RealSink, WriteFault, read_all, write_all,
+};
+use std::alloc::{AllocError, Global};
+use std::test::Fail;
+use std::{env, fs, process};
+
+// A shelf with one file, which gives `step` bytes at a time, and whose call with this number fails.
+fn shelf_of(
+    alloc: Global,
+    bytes: &[u8],
+    step: usize,
+    failing: u64,
+) -> Result<MemoryShelf, AllocError>
+    requires { 0 < step }
+{
+    let file = (String::from_str(alloc, "F")?, bytes.to_vec(alloc)?);
+    let failing = vec![in alloc; failing]?;
+    Ok(MemoryShelf::new(vec![in alloc; file]?, step, failing))
+}
+
+#[test]
+fn each_refused_call_is_a_fault(rt: HostRuntime) -> Result<(), Fail> {
+    let alloc = rt.alloc();
+    let text = b"abcdefghijklmnopqrst".as_slice();
+    // One call chooses, three take 7, 7 and 6 bytes, and one meets the end.
+    for k in 1..6u64 {
+        let mut shelf = shelf_of(alloc, text, 7, k)?;
+        assert!(rt; matches!(read_all(alloc, &mut shelf, "F", 20), Err(ReadFail::Fault)));
+    }
+    let mut shelf = shelf_of(alloc, text, 7, 6)?;
+    let read = read_all(alloc, &mut shelf, "F", 20).expect(&rt, "it is read");
+    assert_eq!(rt; read.as_slice(), text);
+    Ok(())
+}
+
+#[test]
+fn a_long_file_is_read_in_pieces(rt: HostRuntime) -> Result<(), Fail> {
+    let alloc = rt.alloc();
+    let mut bytes = vec![in alloc; b'a'; 300_000]?;
+    bytes.extend_from_slice(b"end")?;
+    let mut shelf = shelf_of(alloc, bytes.as_slice(), 70_000, 0)?;
+    let read = read_all(alloc, &mut shelf, "F", 400_000).expect(&rt, "it is read");
+    assert!(rt; read.as_slice() == bytes.as_slice());
+    Ok(())
+}
+
+#[test]
+fn a_fault_leaves_a_prefix_written(rt: HostRuntime) -> Result<(), Fail> {
+    let alloc = rt.alloc();
+    let text = b"meets\n".as_slice();
+    for (room, failing, want) in [
+        (6, 0, Ok(())),
+        (3, 0, Err(WriteFault)),
+        (6, 4, Err(WriteFault)),
+    ] {
+        let mut sink = MemorySink::new(alloc, room, 1, vec![in alloc; failing]?)?;
+        assert_eq!(rt; write_all(&mut sink, text), want);
+        let written = if want.is_ok() {
+            text
+        } else {
+            b"mee".as_slice()
+        };
+        assert_eq!(rt; sink.bytes(), written);
+    }
+    Ok(())
+}
+
+#[test]
+fn files_of_the_system_are_read(rt: HostRuntime) -> Result<(), Fail> {
+    let alloc = rt.alloc();
+    let folder = env::temp_dir(&rt)?;
+    let path = format!(in alloc; "{}/rwsp_io_{}", folder.as_str(), process::id(rt.process()))?;
+    fs::write(&rt, path.as_str(), "meets\n")?;
+    let mut shelf = RealShelf::new(&rt);
+    let read = read_all(alloc, &mut shelf, path.as_str(), 6);
+    let long = read_all(alloc, &mut shelf, path.as_str(), 5);
+    fs::remove_file(&rt, path.as_str())?;
+    assert_eq!(rt;
+        read.expect(&rt, "it is read").as_slice(),
+        b"meets\n".as_slice()
+    );
+    assert!(rt; matches!(long, Err(ReadFail::TooLong)));
+    for name in [path.as_str(), folder.as_str()] {
+        assert!(rt; matches!(read_all(alloc, &mut shelf, name, 6), Err(ReadFail::Fault)));
+    }
+    Ok(())
+}
+
+#[test]
+fn standard_output_takes_a_text(rt: HostRuntime) -> Result<(), Fail> {
+    let mut sink = RealSink::new(&rt);
+    assert_eq!(rt; write_all(&mut sink, b"written\n".as_slice()), Ok(()));
+    Ok(())
+}

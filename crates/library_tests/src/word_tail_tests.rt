@@ -1,0 +1,57 @@
+use crate::problems::{D, DAYS_AND_NIGHTS, N, OFF, all_rules, problem_of};
+use rwsp_terms::Symbol;
+use std::test::Fail;
+use word_tail::{Tail, TailRules};
+
+fn symbol(letter: u8) -> Symbol {
+    match letter {
+        b'D' => D,
+        b'N' => N,
+        _ => OFF,
+    }
+}
+
+// The first place whose symbol makes the word unclean.
+fn first_unclean(rules: &TailRules, word: &[u8]) -> Option<usize> {
+    let mut tail = Tail::empty();
+    for (i, letter) in word.iter().enumerate() {
+        match rules.follow(tail, symbol(*letter)) {
+            Some(longer) => tail = longer,
+            None => return Some(i),
+        }
+    }
+    None
+}
+
+const NIGHTS: [u8; 31] = [b'N'; 31];
+
+const LONG_PAUSE: [u8; 35] = [b'-'; 35];
+
+#[test]
+fn words_by_their_tails(rt: HostRuntime) -> Result<(), Fail> {
+    let problem = problem_of(rt.alloc(), DAYS_AND_NIGHTS)?;
+    let rules = all_rules(rt.alloc(), &problem)?;
+    assert_eq!(rt;
+        rules.rules().numbers(),
+        [1, 2, 3, 4, 6, 8, 9, 10].as_slice()
+    );
+    for (word, want) in [
+        (b"".as_slice(), None),
+        (b"D--DDD".as_slice(), None),
+        (b"DNN--".as_slice(), None),
+        (b"D-D".as_slice(), Some(2)),
+        (b"--D-".as_slice(), Some(3)),
+        (b"--DNN".as_slice(), Some(3)),
+        (b"--DD-".as_slice(), Some(4)),
+        (b"--DDD-".as_slice(), None),
+        (b"DDDD".as_slice(), Some(3)),
+        (b"DDNN".as_slice(), Some(2)),
+        (b"NND".as_slice(), Some(2)),
+        (&NIGHTS[..30], None),
+        (&NIGHTS, Some(30)),
+        (&LONG_PAUSE, None),
+    ] {
+        assert_eq!(rt; first_unclean(&rules, word), want, "{word:?}");
+    }
+    Ok(())
+}
