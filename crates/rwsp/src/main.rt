@@ -1,24 +1,13 @@
 //! Plans, checks and proves rotating workforce schedules.
 #![tactic(auto)]
 
-mod best;
-mod check;
-mod check_free;
-mod crew;
-mod input;
-mod plan;
-mod reduce;
-mod run;
-mod second_file;
-mod staff;
 #[cfg(test)]
 mod tests;
-mod trial;
-mod verify;
 
 use potential_bounds::NoGate;
 use rwsp_answers::Outcome;
 use rwsp_io::{RealShelf, RealSink};
+use rwsp_run::run;
 use std::env;
 use std::io::ErrorKind;
 use std::process::ExitCode;
@@ -41,6 +30,6 @@ fn main(rt: HostRuntime) -> ExitCode {
     }
     let mut shelf = RealShelf::new(&rt);
     let mut out = RealSink::new(&rt);
-    let outcome = run::run(&rt, rt.alloc(), &words, &mut shelf, &mut out, &NoGate);
+    let outcome = run(&rt, rt.alloc(), &words, &mut shelf, &mut out, &NoGate);
     ExitCode::from(outcome.status())
 }

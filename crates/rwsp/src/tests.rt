@@ -11,9 +11,9 @@ mod trials;
 
 ghost use Rattle.std.specs.Prelude.{◌<◌};
 
-use crate::run::run;
 use potential_bounds::NoGate;
 use rwsp_io::{MemoryShelf, MemorySink};
+use rwsp_run::run;
 use std::alloc::{AllocError, Global};
 use std::test::Fail;
 use std::thread::Threads;

@@ -1,9 +1,9 @@
 // Each limit and the first number beyond it: of command lines, problem files, logs, staff texts, and of their lengths.
 use super::logs::{TWOS, checks};
 use super::{TWO_DAYS, USAGE, ran, shelf_of, shows, words_in};
-use crate::run::run;
 use potential_bounds::NoGate;
 use rwsp_io::MemorySink;
+use rwsp_run::run;
 use std::test::Fail;
 
 // What is a command line finds no file; what isn't is answered by the usage.

@@ -1,8 +1,8 @@
 // Logs checked and reduced: what is printed, to the byte, and the status.
 use super::{NINE_WEEKS, TWO_DAYS, ends, shelf_of, words_of};
-use crate::run::run;
 use potential_bounds::{Gate, NoGate};
 use rwsp_io::MemorySink;
+use rwsp_run::run;
 use std::alloc::{AllocError, Global};
 use std::sync::atomic::{AtomicBool, Ordering};
 use std::test::Fail;

@@ -1,9 +1,9 @@
 // Rosters and refutations: what `plan` prints is right by `verify` and `check`.
 use super::logs::{BOTH_DAYS, Meeting, TOO_MANY, TWOS, checks};
 use super::{NINE_WEEKS, TWO_DAYS, ends, shelf_of, verifies, words_of};
-use crate::run::run;
 use potential_bounds::NoGate;
 use rwsp_io::MemorySink;
+use rwsp_run::run;
 use std::alloc::{AllocError, Global};
 use std::test::Fail;
 use std::thread::Threads;

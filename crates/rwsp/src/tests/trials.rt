@@ -2,13 +2,13 @@
 use super::logs::Meeting;
 use super::plans::printed;
 use super::{ends, shelf_of, words_of};
-use crate::run::run;
 use potential_bounds::NoGate;
 use problem_generator::gen_problem;
 use roster_search::Found;
 use rwsp_answers::{Answer, Outcome};
 use rwsp_file::print_problem;
 use rwsp_io::MemorySink;
+use rwsp_run::run;
 use std::test::Fail;
 
 const ONE_WEEK: &str =
