@@ -44,7 +44,7 @@ same_possible P D E j x day same =
     (λ i le less. same (i * P.days + (j - 1)) x (in_column P i j (omega (arith, less)) day))
 
 -- by words over them
-same_over : (P : Instance) (D E : Domains) (p : ℕ) (u : List Symbol) → 0 < cells P → AreSame P D E → Over P D p u → Over P E p u
+pub same_over : (P : Instance) (D E : Domains) (p : ℕ) (u : List Symbol) → 0 < cells P → AreSame P D E → Over P D p u → Over P E p u
 same_over P D E p [] some same over = tt
 same_over P D E p (x ∷ u) some same over =
     let inside : p % cells P < cells P = omega (arith, some) in
@@ -59,7 +59,7 @@ same_heaviest P D E p len R weighs u some same h = record {
   heaviest = λ v c. h.heaviest v (same_clean P E D p len R v some (turned_round P D E same) c);
 }
 
-same_least : (P : Instance) (D E : Domains) (p len : ℕ) (R : List ℕ) (weighs : List Symbol → ℤ) (u : List Symbol) → 0 < cells P → AreSame P D E → IsLeastHeaviestBy P D p len R weighs u → IsLeastHeaviestBy P E p len R weighs u
+pub same_least : (P : Instance) (D E : Domains) (p len : ℕ) (R : List ℕ) (weighs : List Symbol → ℤ) (u : List Symbol) → 0 < cells P → AreSame P D E → IsLeastHeaviestBy P D p len R weighs u → IsLeastHeaviestBy P E p len R weighs u
 same_least P D E p len R weighs u some same h = record {
   heavy = same_heaviest P D E p len R weighs u some same h.heavy;
   least = λ v c. h.least v (same_heaviest P E D p len R weighs v some (turned_round P D E same) c);
