@@ -7,20 +7,12 @@ use Rattle.layered_cycle.specs.Grown.{StandsAt}
 use Rattle.kept_cycle.specs.Marks.{is_marked, IsJoined, IsPass}
 use Rattle.layered_cycle.proofs.Growing.{stands_once}
 
-pub marked_within : (row : List Bool) (k : ℕ) → IsTrue (is_marked row k) → k < length row
-marked_within [] k h = absurd (cc)
-marked_within (b ∷ row) zero h = omega arith
-marked_within (b ∷ row) (suc k) h = omega (arith, marked_within row k h)
-
 pub unlike : (b : Bool) → b ≡ false → IsTrue b → ⊥
 unlike b h g = cc
 
 -- what the first steps mark
 abbrev pub PassesBelow : (Step → ℕ) → (Step → ℕ) → List Step → (ℕ → Bool) → List Bool → List Bool → ℕ → Type 0
 PassesBelow here there steps has row next number = (t : ℕ) → IsTrue (is_marked next t) ↔ IsJoined here there steps has row t number
-
-pub passes_none : (here there : Step → ℕ) (steps : List Step) (has : ℕ → Bool) (row next : List Bool) → ((t : ℕ) → is_marked next t ≡ false) → PassesBelow here there steps has row next 0
-passes_none here there steps has row next none t = (λ h. absurd (unlike (is_marked next t) (none t) h), λ j. absurd (omega (arith, j.below)))
 
 later : (here there : Step → ℕ) (steps : List Step) (has : ℕ → Bool) (row : List Bool) (t n : ℕ) → IsJoined here there steps has row t n → IsJoined here there steps has row t (n + 1)
 later here there steps has row t n j = record { step = j.step; place = j.place; below = omega (arith, j.below); stands = j.stands; marked = j.marked; held = j.held; joins = j.joins }
@@ -32,28 +24,6 @@ last_step : (here there : Step → ℕ) (steps : List Step) (has : ℕ → Bool)
 last_step here there steps has row t n s stands j same =
     let P : ℕ → Type 0 = λ k. StandsAt steps k j.step in
     stands_once steps n j.step s (subst P same j.stands) stands
-
-pub passes_unmarked : (here there : Step → ℕ) (steps : List Step) (has : ℕ → Bool) (row next : List Bool) (n : ℕ) (s : Step) → StandsAt steps n s → is_marked row (here s) ≡ false → PassesBelow here there steps has row next n → PassesBelow here there steps has row next (n + 1)
-passes_unmarked here there steps has row next n s stands none p t = (
-  λ h. later here there steps has row t n ((p t).0 h),
-  λ j. elim (cases_eq j.place n) [
-    | inl same ↦
-        let e : j.step ≡ s = last_step here there steps has row t n s stands j same in
-        absurd (unlike (is_marked row (here s)) none (sym (ap (λ z. is_marked row (here z)) e) ∙ j.marked))
-    | inr other ↦ (p t).1 (earlier here there steps has row t n j other)
-  ],
-)
-
-pub passes_unheld : (here there : Step → ℕ) (steps : List Step) (has : ℕ → Bool) (row next : List Bool) (n : ℕ) (s : Step) → StandsAt steps n s → has s.symbol.number ≡ false → PassesBelow here there steps has row next n → PassesBelow here there steps has row next (n + 1)
-passes_unheld here there steps has row next n s stands none p t = (
-  λ h. later here there steps has row t n ((p t).0 h),
-  λ j. elim (cases_eq j.place n) [
-    | inl same ↦
-        let e : j.step ≡ s = last_step here there steps has row t n s stands j same in
-        absurd (unlike (has s.symbol.number) none (sym (ap (λ (z : Step). has z.symbol.number) e) ∙ j.held))
-    | inr other ↦ (p t).1 (earlier here there steps has row t n j other)
-  ],
-)
 
 marked_put : (row : List Bool) (k t : ℕ) → k < length row → IsTrue (is_marked (set row k true) t) ↔ (IsTrue (is_marked row t) ⊎ (k ≡ t))
 marked_put row k t lt = elim (cases_eq t k) [
@@ -82,6 +52,3 @@ passes_put here there steps has row next n s stands marked held within p t = (
     | inr other ↦ inl ((p t).1 (earlier here there steps has row t n j other))
   ]),
 )
-
-pub passes_all : (here there : Step → ℕ) (steps : List Step) (has : ℕ → Bool) (row next : List Bool) (n : ℕ) → n ≡ length steps → PassesBelow here there steps has row next n → IsPass here there steps has row next
-passes_all here there steps has row next n all p = let P : ℕ → Type 0 = λ m. PassesBelow here there steps has row next m in subst P all p

@@ -280,6 +280,26 @@ wide_set rows day row width within wide long i less =
       | inr other ↦ ap length (get_or-set_other rows day i row [] other) ∙ wide i (omega (arith, less, length-set rows day row))
     ]
 
+within_days : (days day : ℕ) → (day ≡ 0) ⊎ (day ≡ days) → day < days + 1
+within_days days day (inl e) = omega (arith, e)
+within_days days day (inr e) = omega (arith, e)
+
+-- the first row and the last one are there, and are as wide as a row of marks
+pub row_fits : (width days day : ℕ) (rows : List (List Bool)) (row : List Bool) → (day ≡ 0) ⊎ (day ≡ days) → rows ≡ replicate (days + 1) (replicate width false) → length row ≡ width →
+    (day < length rows) × (length row ≡ length (row_at rows day))
+row_fits width days day rows row end is long =
+    let many : length rows ≡ days + 1 = ap length is ∙ length-replicate (days + 1) (replicate width false) in
+    let there : day < length rows = omega (arith, within_days days day end, many) in
+    let P : List (List Bool) → Type 0 = λ r. IsWide r width in
+    let wide : IsWide rows width = subst P (sym is) (wide_rows (days + 1) width) in
+    (there, long ∙ sym (wide day there))
+
+pub marks_long : (width : ℕ) (b : Bool) (row : List Bool) → row ≡ replicate width b → length row ≡ width
+marks_long width b row is = ap length is ∙ length-replicate width b
+
+pub first_there : (width : ℕ) (row : List Bool) → 0 < width → length row ≡ width → 0 < length row
+first_there width row some long = omega (arith, some, long)
+
 pub started : (T : Listed) (layers : List (List Step)) (sets : List (List ℕ)) (front back : List (List Bool)) (start end : List Bool) (width n days : ℕ) → HasLayers T layers width → sets ≡ replicate n [] → n ≡ cells T.problem → days ≡ length layers
     → start ≡ set (replicate width false) 0 true → front ≡ set (replicate (days + 1) (replicate width false)) 0 start
     → end ≡ replicate width true → back ≡ set (replicate (days + 1) (replicate width false)) days end

@@ -19,9 +19,6 @@ use Rattle.layered_cycle.specs.Indexed.{IsNowhere}
 use Rattle.layered_cycle.specs.Automata.{IsMove, Refuses, GoesTo, move_at}
 use Rattle.layered_cycle.proofs.Growing.{stands_once, stands_here, grown_with, grown_without}
 
-pub extends_itself : {X : Type 0} (xs : List X) → Extends xs xs
-extends_itself xs = ([], sym (append-nil xs))
-
 pub longer_by_one : {X : Type 0} (xs ys : List X) (x : X) → ys ≡ xs ++ x ∷ [] → length ys ≡ length xs + 1
 longer_by_one xs ys x e = omega (arith, ap length e, length-append xs (x ∷ []))
 
@@ -139,17 +136,8 @@ rows_noted moves state number size to lt old k less = by_state (cases_eq k state
 abbrev pub HasTails : List Tail → List Tail → List ℕ → Type 0
 HasTails all nodes states = (k : ℕ) (t : Tail) → StandsAt nodes k t → StandsAt all (get_or states k 0) t
 
-abbrev pub HasPlaces : List ℕ → List Tail → List ℕ → Type 0
-HasPlaces places nodes states = (k : ℕ) → k < length nodes → get_or places (get_or states k 0) 0 ≡ k
-
 abbrev node_here : List Tail → ℕ → Tail
 node_here nodes k = get_or nodes k (tail_of [])
-
--- they stay where states are added
-pub places_kept : (all nodes : List Tail) (states places more : List ℕ) → length places ≡ length all → HasTails all nodes states → HasPlaces places nodes states → HasPlaces (places ++ more) nodes states
-places_kept all nodes states places more long tails placed k lt =
-    let at : StandsAt all (get_or states k 0) (node_here nodes k) = tails k (node_here nodes k) (lt, get_or_default nodes k (node_here nodes k) (tail_of []) lt) in
-    get_or_append_left places more 0 (get_or states k 0) (omega (arith, at.0, long)) ∙ placed k lt
 
 -- what stands at a state that is laid stands at its node
 pub node_stands : (all nodes : List Tail) (states : List ℕ) (k s : ℕ) (t : Tail) → k < length nodes → get_or states k 0 ≡ s → HasTails all nodes states → StandsAt all s t → StandsAt nodes k t
@@ -157,35 +145,6 @@ node_stands all nodes states k s t lt is tails at =
     let here : StandsAt nodes k (node_here nodes k) = stands_here nodes k (tail_of []) lt in
     let there : StandsAt all s (node_here nodes k) = subst (λ (n : ℕ). StandsAt all n (node_here nodes k)) is (tails k (node_here nodes k) here) in
     subst (λ (u : Tail). StandsAt nodes k u) (stands_once all s (node_here nodes k) t there at) here
-
--- a state is put behind the others
-pub tails_put : (all nodes : List Tail) (states : List ℕ) (t : Tail) (s : ℕ) → length states ≡ length nodes → StandsAt all s t → HasTails all nodes states → HasTails all (nodes ++ t ∷ []) (states ++ s ∷ [])
-tails_put all nodes states t s long here old k u at = by_place (eq-or-lt_of_le {n = k} {m = length nodes} (omega (arith, at.0, length-append nodes (t ∷ []))))
-  where
-    by_place : (k ≡ length nodes) ⊎ (k < length nodes) → StandsAt all (get_or (states ++ s ∷ []) k 0) u
-    by_place (inl last) =
-        let read : get_or (states ++ s ∷ []) k 0 ≡ s = get_or_push states s 0 k (long ∙ sym last) in
-        let is : t ≡ u = sym (get_or_push nodes t u k (sym last)) ∙ at.1 in
-        subst (λ (n : ℕ). StandsAt all n u) (sym read) (subst (λ (z : Tail). StandsAt all s z) is here)
-    by_place (inr less) =
-        let read : get_or (states ++ s ∷ []) k 0 ≡ get_or states k 0 = get_or_append_left states (s ∷ []) 0 k (omega (arith, less, long)) in
-        let before : StandsAt nodes k u = (less, sym (get_or_append_left nodes (t ∷ []) u k less) ∙ at.1) in
-        subst (λ (n : ℕ). StandsAt all n u) (sym read) (old k u before)
-
-pub places_put : (nodes : List Tail) (states places : List ℕ) (t : Tail) (s place : ℕ) → length states ≡ length nodes → s < length places → place ≡ length nodes → ((k : ℕ) → k < length nodes → get_or states k 0 ≡ s → ⊥) →
-    HasPlaces places nodes states → HasPlaces (set places s place) (nodes ++ t ∷ []) (states ++ s ∷ [])
-places_put nodes states places t s place long lt is absent old k less = by_place (eq-or-lt_of_le {n = k} {m = length nodes} (omega (arith, less, length-append nodes (t ∷ []))))
-  where
-    by_place : (k ≡ length nodes) ⊎ (k < length nodes) → get_or (set places s place) (get_or (states ++ s ∷ []) k 0) 0 ≡ k
-    by_place (inl last) =
-        ap (λ (n : ℕ). get_or (set places s place) n 0) (get_or_push states s 0 k (long ∙ sym last)) ∙ get_or-set_same places s place 0 lt ∙ is ∙ sym last
-    by_place (inr earlier) =
-        ap (λ (n : ℕ). get_or (set places s place) n 0) (get_or_append_left states (s ∷ []) 0 k (omega (arith, earlier, long)))
-        ∙ get_or-set_other places s (get_or states k 0) place 0 (absent k earlier) ∙ old k earlier
-
--- a tail whose state has no node has none itself
-pub misses_by : (all nodes : List Tail) (states : List ℕ) (t : Tail) (s : ℕ) → AreDistinct all → StandsAt all s t → HasTails all nodes states → ((k : ℕ) → k < length nodes → get_or states k 0 ≡ s → ⊥) → IsNowhere nodes t
-misses_by all nodes states t s distinct here tails absent k at = absent k at.0 (distinct (get_or states k 0) s t (tails k t at) here)
 
 pub distinct_put : (xs : List Tail) (t : Tail) → AreDistinct xs → IsNowhere xs t → AreDistinct (xs ++ t ∷ [])
 distinct_put xs t distinct misses j k u a b = by_places (place j a.0) (place k b.0)

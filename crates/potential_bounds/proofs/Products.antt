@@ -1,5 +1,5 @@
 -- Weights, products and sums are small.
-use Rattle.std.proofs.Common.{◌≡◌, ℕ, suc, ◌+◌, ◌*◌, List, [], ◌∷◌, Bool, true, false, ◌&&◌, ◌==◌, ap, sym, ◌∙◌, subst, arith, pos, negsuc, neg_ℤ, ℤ, if◌then◌else◌}
+use Rattle.std.proofs.Common.{◌≡◌, ℕ, suc, ◌+◌, ◌*◌, List, [], ◌∷◌, Bool, true, false, ◌&&◌, ◌==◌, ap, sym, ◌∙◌, subst, arith, pos, negsuc, neg_ℤ, ℤ, w32, w64, to_z, of_z, if◌then◌else◌}
 use Rattle.std.specs.Prelude.{◌≤ℤ◌, ◌+ℤ◌, ◌*ℤ◌, All}
 use Rattle.std.specs.List.{range_with_len}
 use Rattle.std.proofs.lemmas.Int.{ints}
@@ -23,6 +23,10 @@ small_by (e ∷ y) small j x =
 
 pub weight_small : (y : List Weight) (j x : ℕ) → AreWeights y → IsBetween 1000 (weight_at y j x)
 weight_small y j x h = small_by y h.small j x
+
+-- a weight that is read into a wider type
+pub read_wider : (a b v : ℤ) → b ≡ to_z w32 (of_z w32 a) → a ≡ v → IsBetween 1000 v → IsBetween 1000 (to_z w64 (of_z w64 b))
+read_wider a b v e f h = (omega (arith, ints), omega (arith, ints))
 
 -- a product of a weight and a number of weeks
 product_by : (a b : ℤ) → IsBetween 1000 a → IsBetween 4800 b → IsBetween 4800000 (a *ℤ b)
