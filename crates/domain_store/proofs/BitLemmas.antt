@@ -1,14 +1,14 @@
 -- The bits of a number, and the symbols whose bits are set.
 use Rattle.std.proofs.Common.{◌≡◌, ℕ, zero, suc, ◌+◌, ◌-◌, ◌*◌, ◌/◌, ◌%◌, ◌^◌, ◌<◌, ◌≤◌, List, [], ◌∷◌, length, Bool, true, false, cond, refl, ap, sym, ◌∙◌, arith, eqb, ltb, leb, inl, inr}
-use Rattle.std.specs.Prelude.{◌≢◌, ◌&&◌, not, filter, slice_get, Some, None}
-use Rattle.std.specs.List.{range_with_len, sum_by}
+use Rattle.std.specs.Prelude.{◌≢◌, ◌&&◌, not, filter, slice_get, Some}
+use Rattle.std.specs.List.{range_with_len}
 use Rattle.std.specs.Int.{bit_at, bit_not, w16, trailing_zeros}
 use Rattle.std.specs.Int.RustNames.{bit_and, count_ones}
 use Rattle.std.proofs.lemmas.Bool.{cases_eq, cases_lt, ne_eqb, eq-eqb}
 use Rattle.std.proofs.lemmas.Bool.Decides.{nat_tests}
-use Rattle.std.proofs.lemmas.Nat.{mod-pow-add, shr-shr, one_shl, pow_below, pow_pos, and_le_l, ones_cat, ones-le, ones_le_self, zero_from_ones, trailing_le}
+use Rattle.std.proofs.lemmas.Nat.{one_shl, pow_below, pow_pos, and_le_l, ones_cat, ones-le, ones_le_self, zero_from_ones}
 use Rattle.std.proofs.lemmas.Nat.Bits.{bit_at-zero, bit_at-lt, bit_at-pow_same, bit_at-pow_other, bit_at_ones, bit_at_ones_above, bit_at_clear_same, bit_at_clear_other, bit_at-trailing_zeros, bit_at_above, shr_and_one}
-use Rattle.std.proofs.Math.Nat.{pow-le-pow_right, pow-suc, mod-eq_of_lt}
+use Rattle.std.proofs.Math.Nat.{pow-le-pow_right}
 use Rattle.rwsp_terms.specs.declared.limits.TheConstants.{MOST_SYMBOLS}
 use Rattle.domain_store.specs.Sets.{has_symbol, without_symbol, symbols_of, bits_of}
 use Rattle.domain_store.specs.Bits.{passed, dropped, is_set, is_clear, low_bit, no_bits_left, all_bits, bits_of_symbols}

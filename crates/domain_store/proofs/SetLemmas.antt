@@ -1,6 +1,6 @@
 -- Ascending lists of symbols.
-use Rattle.std.proofs.Common.{◌≡◌, ℕ, zero, suc, ◌+◌, ◌-◌, ◌<◌, ◌≤◌, List, [], ◌∷◌, ◌++◌, length, Bool, true, false, cond, refl, ap, sym, ◌∙◌, arith, subst, get_or, set, drop, replicate, eqb}
-use Rattle.std.specs.Prelude.{◌||◌, not, filter, slice_get, Some, None, count_by, All, AllPairs, ◌&&◌}
+use Rattle.std.proofs.Common.{◌≡◌, ℕ, zero, suc, ◌+◌, ◌<◌, ◌≤◌, List, [], ◌∷◌, length, Bool, true, false, cond, refl, ap, sym, ◌∙◌, arith, subst, get_or, set, eqb}
+use Rattle.std.specs.Prelude.{◌||◌, not, filter, slice_get, Some, None, All, AllPairs, ◌&&◌}
 use Rattle.std.specs.List.{range_with_len}
 use Rattle.std.specs.List.Sorted.{IsStrictlyIncreasing}
 use Rattle.std.proofs.Common.{inl, inr, leb, ltb}
@@ -9,14 +9,6 @@ use Rattle.std.proofs.lemmas.List.Elements.{All-head, All-tail, All-cons, All-ni
 use Rattle.std.proofs.lemmas.List.Kept.{AllPairs-from_increasing, IsStrictlyIncreasing-filter}
 use Rattle.std.proofs.lemmas.List.FromFn.{length-range_with_len, get_or-range_with_len}
 use Rattle.std.proofs.lemmas.Bool.Decides.{nat_tests}
-use Rattle.std.proofs.lemmas.List.{ext_get_or, get_or_past, drop_more, drop_all, set_at, length-replicate, append_assoc, replicate_more}
-use Rattle.std.proofs.lemmas.List.Sums.{length-filter, count_by-le-length}
-use Rattle.std.specs.Prelude.{IsTrue}
-use Rattle.std.specs.Cmp.Lexicographic.{pointwise}
-use Rattle.std.proofs.Math.Bool.{beq}
-use Rattle.std.specs.Cmp.{booleans_Decides}
-use Rattle.std.proofs.lemmas.Slice.Eq.{slice_eq-Decides}
-use Rattle.rwsp_terms.specs.declared.limits.TheConstants.{MOST_SYMBOLS}
 use Rattle.domain_store.specs.Sets.{has_symbol, without_symbol, IsDomain}
 
 -- the first number, where there is just one

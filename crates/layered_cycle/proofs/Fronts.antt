@@ -5,12 +5,12 @@ use Rattle.std.specs.List.{filter}
 use Rattle.std.proofs.lemmas.Int.{ints}
 use Rattle.std.proofs.lemmas.Bool.{cases_lt}
 use Rattle.std.proofs.lemmas.List.{get_or_default, get_or-map, get_or_past, length-map}
-use Rattle.std.proofs.lemmas.List.Elements.{Contains-get_or, All-filter, All-contains_itself, All-get_or, filter_passes}
+use Rattle.std.proofs.lemmas.List.Elements.{All-filter, All-contains_itself, All-get_or, filter_passes}
 use Rattle.std.proofs.lemmas.List.Kept.{AllPairs-filter}
 use Rattle.rwsp_terms.specs.declared.data.Symbol.{Symbol}
 use Rattle.rwsp_terms.specs.Instance.{cells, off_symbol, symbol_numbered}
 use Rattle.refutation_terms.specs.Word.{Clean}
-use Rattle.refutation_terms.specs.Escape.{ComesFirst, IsCleanOver}
+use Rattle.refutation_terms.specs.Escape.{ComesFirst}
 use Rattle.word_tail.specs.Tails.{tail_of}
 use Rattle.word_tail.specs.declared.tail.Tail.{Tail}
 use Rattle.word_tail.proofs.Lists.{ends}
@@ -20,7 +20,7 @@ use Rattle.layered_cycle.specs.Graph.{StepBefore}
 use Rattle.layered_cycle.specs.Grown.{StandsAt, Grown}
 use Rattle.layered_cycle.specs.Choices.{Row, choice_at, end_choice, choice_by, chosen, AreChoicesWithin, IsChoiceWithin}
 use Rattle.layered_cycle.specs.Front.{Course, IsOf, word_gain, gain_behind, IsNoWorse, IsBestTo, IsLowerWord, tail_at, IsFront, AreLinked, reversed, is_by, is_picked}
-use Rattle.layered_cycle.proofs.Chosen.{most_gain, In, Contains-In, In-Contains, Offers, offers, choice_by-some, IsFirstHeaviest, IsChosen, chosen_is}
+use Rattle.layered_cycle.proofs.Chosen.{most_gain, In, Contains-In, In-Contains, Offers, offers, choice_by-some, IsChosen, chosen_is}
 use Rattle.layered_cycle.proofs.Reached.{over_longer, over_front, over_last, clean_front}
 use Rattle.layered_cycle.proofs.Orders.{word_gain_push, before_push, first_push_lower, first_push_same, first_itself, first_from_before, before_then, first_once}
 

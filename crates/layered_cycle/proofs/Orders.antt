@@ -1,5 +1,5 @@
 -- The order of words, and words with one symbol more.
-use Rattle.std.proofs.Common.{◌≡◌, ◌⊎◌, ℕ, ◌+◌, ◌<◌, List, [], ◌∷◌, ◌++◌, length, refl, ap, sym, ◌∙◌, subst, inl, inr, arith}
+use Rattle.std.proofs.Common.{◌≡◌, ◌⊎◌, ℕ, ◌+◌, ◌<◌, List, [], ◌∷◌, ◌++◌, length, refl, ap, sym, ◌∙◌, inl, inr, arith}
 use Rattle.std.specs.Prelude.{ℤ, ◌+ℤ◌, Option, Some, None, slice_get}
 use Rattle.std.proofs.lemmas.Int.{ints}
 use Rattle.rwsp_terms.specs.declared.data.Symbol.{Symbol}

@@ -1,5 +1,5 @@
 -- Weights on days and symbols of the problem.
-use Rattle.std.proofs.Common.{◌≡◌, ℕ, ◌+◌, ◌≤◌, List, ◌∙◌, arith, ℤ}
+use Rattle.std.proofs.Common.{ℕ, ◌≤◌, List, ◌∙◌, arith, ℤ}
 use Rattle.rwsp_terms.specs.declared.data.Weight.{Weight}
 use Rattle.rwsp_terms.specs.Instance.{Instance, shift_count, IsDay}
 use Rattle.rwsp_terms.specs.Places.{SetsWeight}

@@ -1,5 +1,5 @@
 -- What is gained with a reward where a free weekend ends is the weight with the reward for each free weekend.
-use Rattle.std.proofs.Common.{◌≡◌, ℕ, zero, suc, ◌+◌, ◌*◌, ◌%◌, ◌<◌, List, [], ◌∷◌, length, get_or, refl, ap, sym, ◌∙◌, arith, pos, ℤ, Option, Some, None, Bool, true, false, cond, ◌&&◌, ◌==◌, count_by}
+use Rattle.std.proofs.Common.{◌≡◌, ℕ, suc, ◌+◌, ◌*◌, ◌%◌, List, [], ◌∷◌, length, refl, ap, sym, ◌∙◌, arith, pos, ℤ, Option, Some, None, Bool, true, false, cond, ◌&&◌, ◌==◌, count_by}
 use Rattle.std.specs.Prelude.{nat_lt, ◌+ℤ◌}
 use Rattle.std.specs.List.{range_with_len}
 use Rattle.std.proofs.Math.Nat.{mul-add}
@@ -8,7 +8,7 @@ use Rattle.std.proofs.lemmas.Bool.{lt-ltb}
 use Rattle.std.proofs.lemmas.Bool.Decides.{nat_tests}
 use Rattle.rwsp_terms.specs.declared.data.Symbol.{Symbol}
 use Rattle.rwsp_terms.specs.declared.data.Weight.{Weight}
-use Rattle.rwsp_terms.specs.Instance.{Instance, off_symbol}
+use Rattle.rwsp_terms.specs.Instance.{Instance}
 use Rattle.rwsp_terms.proofs.Counting.{count_next, count_same}
 use Rattle.refutation_terms.specs.Word.{weight}
 use Rattle.refutation_terms.specs.FreeWeekends.{is_off_at, is_free_weekend, free_weekends, free_weight}

@@ -1,5 +1,5 @@
 -- The best words of layers are the heaviest clean words.
-use Rattle.std.proofs.Common.{◌≡◌, ℕ, ◌+◌, ◌*◌, ◌%◌, List, [], ◌∷◌, length, refl, ap, sym, ◌∙◌, subst, arith, pos, ℤ, Option, Some, None, ◌⊎◌, inl, inr}
+use Rattle.std.proofs.Common.{◌≡◌, ℕ, ◌+◌, ◌*◌, ◌%◌, List, [], ◌∷◌, length, refl, ap, sym, ◌∙◌, subst, arith, pos, ℤ, Option, Some, None, inl, inr}
 use Rattle.std.specs.Prelude.{◌<ℤ◌, ◌≤ℤ◌, ◌+ℤ◌, ◌*ℤ◌, ◌↔◌, IsTrue, MatchOption, IfOk, Result, Ok, Err, int_lt}
 use Rattle.std.specs.declared.alloc.AllocError.{AllocError}
 use Rattle.layered_cycle.specs.declared.step.Step.{Step}

@@ -1,7 +1,6 @@
 -- What the heaviest clean words say of a bound leaf and of a free leaf.
-use Rattle.std.proofs.Common.{◌≡◌, ℕ, ◌*◌, ◌+◌, List, subst, arith}
-use Rattle.std.specs.Prelude.{ℤ, pos, ◌+ℤ◌, ◌*ℤ◌, ◌≤ℤ◌, ◌<ℤ◌, Some}
-use Rattle.rwsp_terms.specs.declared.data.Symbol.{Symbol}
+use Rattle.std.proofs.Common.{◌≡◌, ℕ, ◌*◌, List, subst}
+use Rattle.std.specs.Prelude.{ℤ, pos, ◌*ℤ◌, ◌≤ℤ◌, ◌<ℤ◌, Some}
 use Rattle.rwsp_terms.specs.declared.data.Weight.{Weight}
 use Rattle.rwsp_terms.specs.Instance.{Instance, cells}
 use Rattle.refutation_terms.specs.declared.lines.Line.TheVariants.{Bound, Free}

@@ -1,6 +1,6 @@
 -- Domains are told apart by their symbols, all short rules have one list, and what plain bounds weigh.
 use Rattle.std.proofs.Common.{◌≡◌, ℕ, zero, suc, ◌+◌, ◌<◌, ◌≤◌, List, [], ◌∷◌, length, get_or, refl, sym, ◌∙◌, subst, arith, inl, inr, Option, Some, None, true, eqb}
-use Rattle.std.specs.Prelude.{All, Contains, ◌↔◌, slice_get, map, pos, negsuc, ℤ}
+use Rattle.std.specs.Prelude.{All, Contains, slice_get, map, pos, negsuc, ℤ}
 use Rattle.std.specs.List.{range_with_len, flat_map}
 use Rattle.std.specs.List.Sorted.{IsStrictlyIncreasing}
 use Rattle.std.proofs.lemmas.Bool.{eqb-true, eq-eqb}

@@ -3,7 +3,7 @@ use Rattle.std.proofs.Common.{◌≡◌, ℕ, zero, suc, ◌*◌, ◌<◌, List,
 use Rattle.rwsp_terms.specs.declared.data.Weight.{Weight}
 use Rattle.rwsp_terms.specs.Instance.{Instance, cells}
 use Rattle.refutation_terms.specs.declared.lines.Line.{Line}
-use Rattle.refutation_terms.specs.declared.lines.Line.TheVariants.{Split, Window, Day, Dead, Bound, Few, Free, Unfinished}
+use Rattle.refutation_terms.specs.declared.lines.Line.TheVariants.{Bound, Few, Free}
 use Rattle.refutation_terms.specs.Log.{LineFits, LineFitsFor}
 
 -- kinds that free logs have of their own

@@ -1,10 +1,10 @@
 -- Dead and bound leaves, judged apart from their log.
-use Rattle.std.proofs.Common.{◌≡◌, ℕ, ◌<◌, Option, Some, None, Bool, IsTrue, true, false, refl, arith}
+use Rattle.std.proofs.Common.{ℕ, Option, Some, None, IsTrue, true, false, refl, arith}
 use Rattle.std.specs.Prelude.{◌↔◌, MatchOption, IfOk, Result, Ok, Err}
 use Rattle.std.specs.declared.alloc.AllocError.{AllocError}
 use Rattle.rwsp_terms.specs.declared.data.Symbol.{Symbol}
 use Rattle.std.proofs.Common.{List}
-use Rattle.rwsp_terms.specs.Instance.{Instance, cells}
+use Rattle.rwsp_terms.specs.Instance.{Instance}
 use Rattle.refutation_terms.specs.declared.lines.Line.{Line}
 use Rattle.refutation_terms.specs.declared.lines.Line.TheVariants.{Split, Window, Day, Dead, Bound, Few, Free, Unfinished}
 use Rattle.refutation_terms.specs.Word.{Domains, AreSame}

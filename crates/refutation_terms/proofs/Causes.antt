@@ -1,8 +1,6 @@
 -- One cause for a line that is refused.
 use Rattle.std.proofs.Common.{◌≡◌, ℕ, ◌≤◌, List, [], ◌∷◌, ◌++◌, refl, ap, sym, ◌∙◌, subst, arith, inl, inr, true, false, Option, Some, None, pos}
 use Rattle.std.specs.Prelude.{◌<ℤ◌, ◌*ℤ◌}
-use Rattle.std.specs.Fmt.{decimal}
-use Rattle.std.proofs.lemmas.Fmt.{decimal_injective}
 use Rattle.rwsp_terms.specs.declared.data.Symbol.{Symbol}
 use Rattle.rwsp_terms.specs.declared.data.Rule.{Rule}
 use Rattle.rwsp_terms.specs.declared.data.Rule.TheVariants as TheRules
@@ -18,8 +16,7 @@ use Rattle.refutation_terms.specs.FreeLeaves.{free_total}
 use Rattle.refutation_terms.specs.Tree.{is_idle}
 use Rattle.refutation_terms.specs.Log.{Holds, HoldsFor, Cites, CitesOnlyNamed, ListsShortOnly}
 use Rattle.refutation_terms.specs.Escape.{ComesFirst}
-use Rattle.refutation_terms.specs.LogText.{RawLine, raw, raw_fields, line_text, line_of, turn_text, IsInRangeFor}
-use Rattle.rwsp_text.specs.Fields.{text_of, IsName}
+use Rattle.refutation_terms.specs.LogText.{RawLine, raw_fields, line_text, line_of, IsInRangeFor}
 use Rattle.refutation_terms.specs.Verdict.{IsLeast, IsUnnamed, ListsLong, IsPlainLeaf, Escapes, EscapesFor, SpellsNothingFor, SpellsUnknownFor, SpellsFor, TreeCauseFor, SpellsUnknown, Spells, TreeCause, SpellsTurn, SpellsNoTurn, TurnCause, RulesCause, VersionCause, ExtraCause}
 use Rattle.refutation_terms.specs.TextLaws.{IsWritable, HasNames}
 use Rattle.rwsp_text.proofs.LineLaws.{same_words}

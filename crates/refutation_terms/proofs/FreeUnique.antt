@@ -1,5 +1,5 @@
 -- A text has one verdict as that of a free log.
-use Rattle.std.proofs.Common.{◌≡◌, ◌⊎◌, ℕ, ◌+◌, ◌≤◌, List, [], ◌∷◌, ◌++◌, length, refl, ap, sym, ◌∙◌, subst, append_assoc, append-nil, inl, inr, Some}
+use Rattle.std.proofs.Common.{◌≡◌, ℕ, ◌+◌, ◌≤◌, List, [], ◌∷◌, ◌++◌, refl, ap, sym, ◌∙◌, subst, append-nil, inl, inr, Some}
 use Rattle.std.specs.Prelude.{Ok, Err}
 use Rattle.rwsp_text.specs.Fields.{Words, text_of}
 use Rattle.rwsp_text.specs.Lines.{text_of_lines, AreLines, AreFronts}
@@ -7,13 +7,12 @@ use Rattle.rwsp_terms.specs.Instance.{Instance}
 use Rattle.refutation_terms.specs.declared.lines.Line.{Line}
 use Rattle.refutation_terms.specs.declared.lines.LogRefusal.{LogRefusal}
 use Rattle.refutation_terms.specs.declared.lines.LogRefusal.TheVariants as Refusals
-use Rattle.refutation_terms.specs.Tree.{IsTree}
-use Rattle.refutation_terms.specs.Log.{Log, AreRules}
-use Rattle.refutation_terms.specs.LogText.{raw, raw_fields, line_text, free_version_text, rules_text, goal_text}
+use Rattle.refutation_terms.specs.Log.{Log}
+use Rattle.refutation_terms.specs.LogText.{raw, raw_fields, free_version_text, rules_text, goal_text}
 use Rattle.refutation_terms.specs.Verdict.{IsSoundSoFarFor}
 use Rattle.refutation_terms.specs.FreeVerdict.{FreeFront, FreeStart, FreeVersioned, BeforeGoal, ReadingFree, free_front_text, HasNoFreeCause, IsWholeFree, FreeVersionCause, GoalCause, FreeCause, IsFreeRefused, IsFreeAccepted}
 use Rattle.refutation_terms.specs.TextLaws.{IsWritable, HasNames, FreeVerdictIsUnique}
-use Rattle.refutation_terms.proofs.LineTables.{rules_fields, rules_words, rules_same, free_version_fields, goal_fields, free_version_words, goal_words, goal_same}
+use Rattle.refutation_terms.proofs.LineTables.{rules_fields, rules_words, rules_same, free_version_fields, goal_fields, free_version_words}
 use Rattle.refutation_terms.proofs.Texts.{lines_fields, free_log_fields, log_written_for, log_words_for}
 use Rattle.refutation_terms.proofs.Fronts.{free_goes_on, free_log_same, texts_distinct_for}
 use Rattle.refutation_terms.proofs.Causes.{rules_cause}

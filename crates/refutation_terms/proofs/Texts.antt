@@ -1,5 +1,5 @@
 -- Texts of logs as lists of lines, and each line as its words.
-use Rattle.std.proofs.Common.{◌≡◌, ℕ, suc, ◌+◌, ◌<◌, ◌≤◌, List, [], ◌∷◌, ◌++◌, length, map, refl, ap, sym, ◌∙◌, append_assoc, append-nil, Bool, true, false, Option, Some, None}
+use Rattle.std.proofs.Common.{◌≡◌, ℕ, suc, List, [], ◌∷◌, ◌++◌, map, refl, ap, sym, ◌∙◌, append_assoc, append-nil, Bool, true, false, Option, Some, None}
 use Rattle.std.specs.Prelude.{slice_get}
 use Rattle.std.specs.List.{AllByRecursion, concat}
 use Rattle.rwsp_text.specs.Fields.{Words, text_of}
@@ -9,7 +9,7 @@ use Rattle.rwsp_terms.specs.Instance.{Instance, symbol_of, name_of}
 use Rattle.refutation_terms.specs.declared.lines.Line.{Line}
 use Rattle.refutation_terms.specs.declared.lines.Turn.{Turn}
 use Rattle.refutation_terms.specs.Log.{Log, Fits, FitsFor, LineFitsFor, TurnFits, AreRules}
-use Rattle.refutation_terms.specs.LogText.{raw, raw_fields, line_text, version_text, rules_text, turn_text, header_text, free_version_text, goal_text, free_header_text, log_text, free_log_text, log_text_for, line_of}
+use Rattle.refutation_terms.specs.LogText.{raw, raw_fields, line_text, version_text, rules_text, turn_text, header_text, free_version_text, goal_text, log_text, free_log_text, log_text_for, line_of}
 use Rattle.refutation_terms.specs.TextLaws.{IsWritable, HasNames}
 use Rattle.refutation_terms.proofs.Spelled.{spell_for}
 use Rattle.refutation_terms.proofs.LineTables.{version_fields, rules_fields, turn_fields, version_words, rules_words, turn_words, free_version_fields, goal_fields, free_version_words, goal_words, line_words_for, line_same_for, turn_same as names_same}

@@ -1,5 +1,5 @@
 -- The verdict on a text: that it is a log that passes, or its first line with a cause to refuse it.
-use Rattle.std.specs.Prelude.{◌≡◌, ◌≢◌, ◌⊎◌, ℕ, ◌+◌, ◌*◌, ◌<◌, ◌≤◌, List, [], ◌∷◌, ◌++◌, length, slice_get, take, All, Contains, Bool, true, Option, Some, None, Result, Ok, Err, pos, ◌*ℤ◌, ◌<ℤ◌, ◌≤ℤ◌}
+use Rattle.std.specs.Prelude.{◌≡◌, ◌≢◌, ◌⊎◌, ℕ, ◌+◌, ◌*◌, ◌<◌, ◌≤◌, List, [], ◌++◌, length, slice_get, take, Contains, Bool, true, Option, Some, None, Result, Ok, Err, pos, ◌*ℤ◌, ◌<ℤ◌, ◌≤ℤ◌}
 use Rattle.rwsp_text.specs.Lines.{IsNextLine}
 use Rattle.rwsp_text.specs.Fields.{IsName}
 use Rattle.rwsp_terms.specs.declared.data.Symbol.{Symbol}

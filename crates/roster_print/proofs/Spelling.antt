@@ -1,5 +1,5 @@
 -- What texts that spell a roster have, and when they are refused.
-use Rattle.std.proofs.Common.{◌≡◌, ◌≢◌, ℕ, suc, ◌+◌, ◌*◌, List, [], ◌∷◌, ◌++◌, length, Option, Some, None, Bool, true, false, cond, refl, ap, sym, ◌∙◌, arith, subst, length-append, eq-eqb, eqb-true}
+use Rattle.std.proofs.Common.{◌≡◌, ◌≢◌, ℕ, ◌+◌, ◌*◌, List, [], ◌∷◌, ◌++◌, length, Option, Some, None, Bool, true, false, cond, refl, ap, sym, ◌∙◌, arith, subst, length-append, eq-eqb, eqb-true}
 use Rattle.std.specs.Prelude.{map, filter, is_none, ◌==◌, MatchOption, All}
 use Rattle.std.specs.List.{list_any, flat_map, enumerate_from, AllByRecursion}
 use Rattle.std.specs.Option.{option_or}

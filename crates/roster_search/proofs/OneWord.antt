@@ -1,5 +1,5 @@
 -- Decided domains have one word, and a roster of them breaks only what a leaf sees.
-use Rattle.std.proofs.Common.{◌≡◌, ℕ, ◌⊎◌, ◌+◌, ◌-◌, ◌*◌, ◌%◌, ◌<◌, ◌≤◌, List, [], ◌∷◌, length, get_or, Option, Some, refl, ap, sym, ◌∙◌, subst, arith, length-append, inl, inr, Bool, true, false, IsTrue, ◌||◌, ◌==◌, not, pos, ℤ, None, ◌&&◌, count_by}
+use Rattle.std.proofs.Common.{◌≡◌, ℕ, ◌+◌, ◌-◌, ◌*◌, ◌%◌, ◌<◌, ◌≤◌, List, [], ◌∷◌, length, get_or, Option, Some, refl, ap, sym, ◌∙◌, subst, arith, length-append, inl, inr, Bool, true, false, IsTrue, ◌||◌, ◌==◌, not, pos, ℤ, None, ◌&&◌, count_by}
 use Rattle.std.specs.Prelude.{slice_get, All, ◌<ℤ◌, ◌≤ℤ◌}
 use Rattle.std.specs.List.{range_with_len, list_all}
 use Rattle.std.proofs.lemmas.Int.{ints, by_lt_z}

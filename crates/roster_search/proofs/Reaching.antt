@@ -9,7 +9,7 @@ use Rattle.refutation_terms.specs.Word.{Domains, AreSame}
 use Rattle.refutation_terms.specs.Log.{LineFits, LineFitsFor, GoalFits, Holds, HoldsFree, HoldsFor}
 use Rattle.refutation_terms.proofs.SameDomains as SameDomains
 use Rattle.refutation_terms.proofs.SameDomains.{turned_round, same_holds}
-use Rattle.domain_store.specs.Store.{Store, has_domain}
+use Rattle.domain_store.specs.Store.{Store}
 use Rattle.propagators.specs.Looks.{IsLeafOf, IsUnweighed}
 use Rattle.roster_search.specs.Guides.{IsLeafFor, AreUnweighedFor}
 

@@ -1,18 +1,18 @@
 -- The rules that lines cite, found line by line, and what a strip leaves of them.
-use Rattle.std.proofs.Common.{◌≡◌, ℕ, zero, suc, ◌+◌, ◌<◌, ◌≤◌, List, [], ◌∷◌, length, take, refl, ap, sym, ◌∙◌, subst, arith, ◌⊎◌, inl, inr, ⊎_elim, Some, None, Option, Bool, true, false}
+use Rattle.std.proofs.Common.{◌≡◌, ℕ, zero, suc, ◌+◌, ◌<◌, ◌≤◌, List, [], ◌∷◌, length, take, ap, sym, ◌∙◌, subst, arith, ◌⊎◌, inl, inr, ⊎_elim, Some, None, Option, Bool, true, false}
 use Rattle.std.specs.Prelude.{Contains, ◌↔◌, slice_get}
 use Rattle.std.proofs.lemmas.Bool.{cases_lt}
 use Rattle.std.proofs.lemmas.List.{take_all}
-use Rattle.std.proofs.lemmas.Option.{same_Some, slice_get_within}
+use Rattle.std.proofs.lemmas.Option.{same_Some}
 use Rattle.rwsp_terms.specs.declared.data.Rule.{Rule}
 use Rattle.rwsp_terms.specs.Instance.{Instance}
 use Rattle.rwsp_terms.specs.Rules.{rule_of, Names}
 use Rattle.rwsp_model.proofs.Numbering.{one_number}
 use Rattle.refutation_terms.specs.declared.lines.Line.{Line}
 use Rattle.refutation_terms.specs.declared.lines.Turn.{Turn}
-use Rattle.refutation_terms.specs.Log.{Log, Fits, Cites, TurnCites, Passes}
+use Rattle.refutation_terms.specs.Log.{Log, Fits, Cites, TurnCites}
 use Rattle.refutation_terms.specs.Strip.{strip, strip_line, StripsTo}
-use Rattle.rule_reducer.specs.Citing.{is_plain, OneCites, CitesForGood, AreCited}
+use Rattle.rule_reducer.specs.Citing.{is_plain, OneCites, AreCited}
 use Rattle.rule_reducer.proofs.Stripped.{cited_before, plain_stays, plain_same}
 use Rattle.rule_reducer.proofs.Strips.{line_after, line_before}
 

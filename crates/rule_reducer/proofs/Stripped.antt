@@ -1,5 +1,5 @@
 -- When a log that passes still passes without one rule.
-use Rattle.std.proofs.Common.{◌≡◌, ◌≢◌, ℕ, zero, suc, ◌+◌, ◌<◌, ◌≤◌, List, [], ◌∷◌, length, take, get_or, map, refl, ap, sym, ◌∙◌, subst, arith, ◌⊎◌, inl, inr, ⊎_elim, Some, None, Option, Bool, IsTrue, true, false, cond, not, ◌==◌, pos}
+use Rattle.std.proofs.Common.{◌≡◌, ◌≢◌, ℕ, ◌<◌, ◌≤◌, List, [], ◌∷◌, length, take, get_or, refl, ap, sym, ◌∙◌, subst, inl, inr, ⊎_elim, Some, None, Option, Bool, IsTrue, true, false, cond, not, ◌==◌}
 use Rattle.std.specs.Prelude.{All, Contains, ◌↔◌, slice_get, MatchBool}
 use Rattle.std.proofs.lemmas.Bool.Decides.{eqb_tells}
 use Rattle.std.proofs.lemmas.List.{take_all, get_or_default}
@@ -8,7 +8,7 @@ use Rattle.rwsp_terms.specs.declared.data.Weight.{Weight}
 use Rattle.rwsp_terms.specs.declared.data.Rule.{Rule}
 use Rattle.rwsp_terms.specs.declared.data.Rule.TheVariants as TheRules
 use Rattle.rwsp_terms.specs.Instance.{Instance}
-use Rattle.rwsp_terms.specs.Rules.{rule_of, Names, NamesShortOnly}
+use Rattle.rwsp_terms.specs.Rules.{rule_of, Names}
 use Rattle.rwsp_terms.specs.Weights.{AreWeights, IsWeight}
 use Rattle.rwsp_terms.proofs.Ascending.{Contains-first, Contains-later}
 use Rattle.rwsp_model.proofs.Numbering.{one_number}
@@ -19,9 +19,9 @@ use Rattle.refutation_terms.specs.Tree.{domains_at}
 use Rattle.refutation_terms.specs.Log.{Log, LineFits, Holds, HasWeight, Cites, TurnCites, ListsShortOnly, Passes}
 use Rattle.refutation_terms.specs.Strip.{without_rule, without_day, strip_line, strip}
 use Rattle.refutation_log.proofs.CitedRules.{weight_of_entry, entry_of_weight, read_at}
-use Rattle.rule_reducer.specs.Citing.{is_plain, OneCites, CitesForGood, AreCited}
+use Rattle.rule_reducer.specs.Citing.{is_plain, OneCites, CitesForGood}
 use Rattle.rule_reducer.specs.Without.{HoldsWithout}
-use Rattle.rule_reducer.proofs.Kept.{was_listed, still_listed, kept_first, same_or_not}
+use Rattle.rule_reducer.proofs.Kept.{was_listed, still_listed, kept_first}
 use Rattle.rule_reducer.proofs.Strips.{tree_stays, domains_stay, line_after, line_before, fits_still}
 
 -- weights

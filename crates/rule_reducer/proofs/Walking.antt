@@ -1,25 +1,24 @@
 -- Walks through a log that passes, and what its lines say of a strip.
-use Rattle.std.proofs.Common.{◌≡◌, ℕ, suc, ◌+◌, ◌<◌, ◌≤◌, List, [], ◌∷◌, ◌++◌, length, take, get_or, ◌&&◌, inl, inr, refl, ap, sym, ◌∙◌, subst, arith, Some, None, Option, Bool, true, false, IsTrue}
+use Rattle.std.proofs.Common.{◌≡◌, ℕ, ◌+◌, ◌<◌, ◌≤◌, List, [], ◌∷◌, ◌++◌, length, take, get_or, ◌&&◌, inl, inr, refl, ap, sym, ◌∙◌, subst, arith, Some, Option, Bool, true, false, IsTrue}
 use Rattle.std.specs.Prelude.{◌↔◌, slice_get, MatchBool, not}
 use Rattle.std.proofs.Math.Seq.{take-length}
 use Rattle.std.proofs.lemmas.Bool.{cases_lt}
 use Rattle.std.proofs.lemmas.List.{take_more}
 use Rattle.std.proofs.lemmas.Option.{same_Some, slice_get_within, slice_get_read, get_or_from_slice_get}
-use Rattle.rwsp_terms.specs.declared.data.Rule.{Rule}
 use Rattle.rwsp_terms.specs.Instance.{Instance}
 use Rattle.refutation_terms.specs.declared.lines.Line.{Line}
 use Rattle.refutation_terms.specs.declared.lines.Line.TheVariants.{Split, Window, Day, Dead, Bound, Few, Free, Unfinished}
 use Rattle.refutation_terms.specs.declared.lines.Turn.{Turn}
 use Rattle.refutation_terms.specs.Word.{Domains}
 use Rattle.refutation_terms.specs.Tree.{opening, lines_leave, domains_at}
-use Rattle.refutation_terms.specs.Log.{Log, LineFits, ListsShortOnly, Holds, Passes}
+use Rattle.refutation_terms.specs.Log.{Log, Holds, Passes}
 use Rattle.refutation_terms.specs.Strip.{strip, strip_line}
 use Rattle.refutation_checker.specs.LineVerdicts.{HoldsByWords}
 use Rattle.refutation_checker.proofs.Passing.{no_front, still_part}
 use Rattle.tree_walk.specs.States.{State, IsStateOf}
 use Rattle.rule_reducer.specs.Citing.{HasList}
 use Rattle.rule_reducer.specs.Without.{HoldsWithout}
-use Rattle.rule_reducer.proofs.Stripped.{short_stripped, line_without}
+use Rattle.rule_reducer.proofs.Stripped.{line_without}
 
 -- the domains behind the first lines
 pub behind : (P : Instance) (turn : Option Turn) (lines : List Line) (k : ℕ) → domains_at P turn (take k lines) (length (take k lines)) ≡ domains_at P turn lines k

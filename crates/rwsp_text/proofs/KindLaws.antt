@@ -1,5 +1,5 @@
 -- Lines of a table are read where they are spelled, and as what they say.
-use Rattle.std.proofs.Common.{◌≡◌, ◌≢◌, ◌⊎◌, ℕ, suc, ◌+◌, ◌*◌, ◌/◌, ◌%◌, ◌^◌, ◌<◌, ◌≤◌, List, [], ◌∷◌, ◌++◌, length, refl, ap, sym, ◌∙◌, subst, arith, inl, inr, Option, Some, None, Bool, true, false, cond}
+use Rattle.std.proofs.Common.{◌≡◌, ◌≢◌, ℕ, suc, ◌+◌, ◌/◌, ◌%◌, ◌^◌, ◌<◌, ◌≤◌, List, [], ◌∷◌, ◌++◌, refl, ap, sym, ◌∙◌, subst, arith, inl, inr, Some, None, Bool, true, false, cond}
 use Rattle.std.specs.Prelude.{All, ℤ, pos, negsuc}
 use Rattle.std.specs.List.{flat_map, list_all}
 use Rattle.std.specs.Str.{bytes_eq}
@@ -11,7 +11,7 @@ use Rattle.std.proofs.lemmas.Bool.{and_parts}
 use Rattle.std.proofs.lemmas.List.{append-nil}
 use Rattle.std.proofs.lemmas.List.Elements.{All-nil, All-cons, All-head, All-tail, All-weaker}
 use Rattle.rwsp_text.specs.Fields.{Words, Field, Word, Number, Name, Choice, Place, Rules, Weights, Values, AreInRange, spell, Says, read, ◌>>=◌, IsName, IsValue, NamedWeight, IsNamedWeight, numbers, week_and_day, either_word, weight_fields, is_visible, is_name, number_at, name_at, word_at, choice_at, place_at, rules_at, weights_at}
-use Rattle.rwsp_text.specs.Kinds.{Kind, IsOfKind, IsLine, read_by, read_line, ClosesNumbers, ClosesWeights, AreReadable, IsFree, IsReadable, IsBlankless, AreBlankless, LinesAreRead, LinesSayOne, LinesAreBlankless}
+use Rattle.rwsp_text.specs.Kinds.{Kind, IsLine, read_by, read_line, ClosesNumbers, ClosesWeights, AreReadable, IsFree, IsReadable, IsBlankless, AreBlankless, LinesAreRead, LinesSayOne, LinesAreBlankless}
 use Rattle.rwsp_text.specs.Lines.{AreWords}
 use Rattle.rwsp_text.proofs.Printed.{ascii_digits_model}
 use Rattle.rwsp_text.proofs.Numerals.{bind_found, bind_only, no_number, if_true}

@@ -1,5 +1,5 @@
 -- Numbers that are printed and read.
-use Rattle.std.proofs.Common.{◌≡◌, ℕ, ◌+◌, ◌-◌, ◌*◌, ◌^◌, ◌<◌, ◌≤◌, length, Bool, true, false, Some, None, ◌&&◌, ap, sym, ◌∙◌, arith, lit<, rules, List, [], ◌∷◌, ◌++◌, ◌%◌, ◌/◌, suc, append_assoc, refl}
+use Rattle.std.proofs.Common.{◌≡◌, ℕ, ◌+◌, ◌-◌, ◌*◌, ◌^◌, ◌<◌, ◌≤◌, length, Bool, true, false, Some, None, ◌&&◌, ap, sym, ◌∙◌, arith, lit<, rules, List, [], ◌∷◌, ◌++◌, ◌%◌, ◌/◌, suc, append_assoc}
 use Rattle.std.specs.Prelude.{nat_le, fold, if◌then◌else◌}
 use Rattle.std.specs.List.{list_all}
 use Rattle.std.specs.Char.{is_ascii_digit}

@@ -11,8 +11,8 @@ use Rattle.std.proofs.lemmas.Nat.{mod-mul-add, div-mul-add, div-add-mod'}
 use Rattle.std.proofs.lemmas.Slice.Eq.{bytes_eq-Decides}
 use Rattle.std.proofs.lemmas.Bool.{ne_eqb, and_parts, and_from}
 use Rattle.std.proofs.lemmas.List.Elements.{All-nil, All-cons, All-head, All-tail}
-use Rattle.rwsp_text.specs.Fields.{Words, ◌>>=◌, IsName, NamedWeight, IsNamedWeight, Ascends, numbers, week_and_day, either_word, weight_fields, numeral, number_in, value_in, is_name, is_visible, number_at, name_at, word_at, choice_at, done_at, place_at, front_onto, rules_front, rules_at, weight_from, weight_of_words, weights_at}
-use Rattle.rwsp_text.proofs.Numerals.{if_some, if_true, mapped, bind_found, bind_only, number_found, number_only, no_number, value_found, value_only}
+use Rattle.rwsp_text.specs.Fields.{Words, ◌>>=◌, IsName, NamedWeight, IsNamedWeight, Ascends, numbers, week_and_day, either_word, weight_fields, number_in, value_in, is_name, is_visible, number_at, name_at, word_at, choice_at, done_at, place_at, front_onto, rules_front, rules_at, weight_from, weight_of_words, weights_at}
+use Rattle.rwsp_text.proofs.Numerals.{if_some, if_true, mapped, bind_found, bind_only, number_found, number_only, value_found, value_only}
 
 abbrev pub pair_of : {A B : Type 0} → A → B → A × B
 pair_of a b = (a, b)

@@ -1,5 +1,5 @@
 -- Kinds of lines. A table lists the kinds of lines of a text.
-use Rattle.std.specs.Prelude.{◌≡◌, ◌⊎◌, ℕ, ◌<◌, ◌≤◌, ◌^◌, List, [], ◌∷◌, All, Option, Some, None, Bool, true, false, cond}
+use Rattle.std.specs.Prelude.{◌≡◌, ◌⊎◌, ℕ, ◌<◌, ◌≤◌, ◌^◌, List, [], ◌∷◌, All, Option, Some, None, true, false, cond}
 use Rattle.std.specs.Str.{bytes_eq}
 use Rattle.rwsp_text.specs.Fields.{Words, Field, Word, Number, Name, Choice, Place, Rules, Weights, Values, Says, read, numeral, is_name, is_visible}
 

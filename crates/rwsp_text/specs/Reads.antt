@@ -1,5 +1,5 @@
 -- What a reader's call returned and left, against what reading gives.
-use Rattle.std.specs.Prelude.{◌≡◌, ℕ, List, Option, Some, None}
+use Rattle.std.specs.Prelude.{◌≡◌, ℕ, Option, Some, None}
 use Rattle.rwsp_text.specs.Fields.{Words}
 
 -- where it gave nothing, nothing is said of what is left

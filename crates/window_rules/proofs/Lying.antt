@@ -1,5 +1,5 @@
 -- Where one domain lies, by the test that one symbol is alone in it or is not there.
-use Rattle.std.proofs.Common.{◌≡◌, ◌≢◌, ℕ, ◌%◌, ◌<◌, ◌≤◌, length, refl, ap, sym, ◌∙◌, subst, arith, IsTrue, Bool, true, false, not, inl, inr}
+use Rattle.std.proofs.Common.{◌≡◌, ◌≢◌, ℕ, ◌%◌, ◌<◌, length, refl, ap, sym, ◌∙◌, subst, arith, IsTrue, Bool, true, false, not, inl, inr}
 use Rattle.std.specs.Prelude.{◌↔◌}
 use Rattle.std.proofs.lemmas.Bool.{cases_eq}
 use Rattle.rwsp_terms.specs.declared.data.Symbol.{Symbol}
@@ -7,7 +7,7 @@ use Rattle.rwsp_terms.specs.declared.data.Class.{Class}
 use Rattle.rwsp_terms.specs.declared.data.Class.TheVariants.{Shift, Off, Work}
 use Rattle.rwsp_terms.specs.Instance.{symbol_numbered}
 use Rattle.rwsp_terms.specs.Window.{InClass}
-use Rattle.domain_store.specs.Store.{Store, domain_at, has_domain, HasDomains}
+use Rattle.domain_store.specs.Store.{Store, has_domain}
 use Rattle.window_rules.specs.Views.{LiesIn, LiesOutside, left_in}
 
 -- the domain of the position has this symbol alone

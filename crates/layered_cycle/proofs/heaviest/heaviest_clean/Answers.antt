@@ -1,7 +1,4 @@
-use Rattle.std.proofs.Common.{◌≡◌, List, ap, ◌∙◌, arith, rules, w32, w64, to_z, of_z, SFits}
-use Rattle.std.proofs.lemmas.Int.{ints}
-use Rattle.word_tail.specs.declared.tail.Tail.{Tail}
-use Rattle.layered_cycle.specs.Front.{Course, course, tail_at}
+use Rattle.layered_cycle.specs.Front.{Course, course}
 use Rattle.layered_cycle.proofs.HeaviestEnds.{none_of_all}
 use Rattle.layered_cycle.proofs.heaviest.heaviest_clean.Goals as goal
 

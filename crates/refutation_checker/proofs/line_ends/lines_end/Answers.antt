@@ -1,5 +1,4 @@
-use Rattle.std.proofs.Common.{◌≡◌, ◌+◌, ◌≤◌, length, arith}
-use Rattle.std.specs.List.{between}
+use Rattle.std.proofs.Common.{arith}
 use Rattle.std.proofs.lemmas.List.Edits.{length-between}
 use Rattle.refutation_checker.proofs.Feeds.{fed_by_block, ends_in_block}
 use Rattle.refutation_checker.proofs.line_ends.lines_end.Goals as goal

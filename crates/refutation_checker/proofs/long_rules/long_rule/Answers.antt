@@ -2,9 +2,8 @@
 use Rattle.std.proofs.Common.{sym, subst}
 use Rattle.std.specs.Prelude.{MatchOption}
 use Rattle.refutation_terms.specs.declared.lines.Line.{Line}
-use Rattle.refutation_terms.specs.Log.{ListsShortOnly, LineFits}
+use Rattle.refutation_terms.specs.Log.{ListsShortOnly}
 use Rattle.refutation_terms.specs.Verdict.{IsLeast, ListsLong}
-use Rattle.refutation_checker.proofs.GoalLines.{shared_fits, free_bound}
 use Rattle.refutation_checker.proofs.long_rules.long_rule.Goals as goal
 
 pub returns-in-Dead : goal.returns-in-Dead

@@ -1,5 +1,3 @@
-use Rattle.std.proofs.Common.{subst, List, Option}
-use Rattle.refutation_terms.specs.declared.lines.Line.{Line}
 use Rattle.rule_reducer.proofs.Citing.{both_kinds}
 use Rattle.rule_reducer.proofs.citations.citations_of.Goals as goal
 

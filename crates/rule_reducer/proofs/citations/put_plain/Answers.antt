@@ -1,4 +1,4 @@
-use Rattle.std.proofs.Common.{false, true}
+use Rattle.std.proofs.Common.{true}
 use Rattle.refutation_log.proofs.Adding.{on_ok}
 use Rattle.rule_reducer.proofs.Citing.{put_of_kind, other_kind, false_not_true}
 use Rattle.rule_reducer.proofs.citations.put_plain.Goals as goal

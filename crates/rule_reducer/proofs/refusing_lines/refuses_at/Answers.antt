@@ -1,6 +1,5 @@
-use Rattle.std.proofs.Common.{ap, length, arith, subst}
-use Rattle.rwsp_terms.specs.Instance.{Instance}
-use Rattle.rule_reducer.proofs.Walking.{Tells, line_read, told_of, tells_refusal}
+use Rattle.std.proofs.Common.{ap, length, arith}
+use Rattle.rule_reducer.proofs.Walking.{line_read, told_of, tells_refusal}
 use Rattle.rule_reducer.proofs.refusing_lines.refuses_at.Goals as goal
 
 pub returns : goal.returns

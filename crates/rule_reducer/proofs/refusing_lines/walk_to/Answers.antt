@@ -1,7 +1,4 @@
-use Rattle.std.proofs.Common.{◌≡◌, List, length, take, get_or, refl, subst, arith, Some}
-use Rattle.std.specs.Prelude.{slice_get}
-use Rattle.std.proofs.lemmas.Option.{slice_get_read}
-use Rattle.refutation_terms.specs.declared.lines.Line.{Line}
+use Rattle.std.proofs.Common.{take, arith}
 use Rattle.rule_reducer.proofs.Walking.{not_whole, line_at, line_read}
 use Rattle.rule_reducer.proofs.refusing_lines.walk_to.Goals as goal
 

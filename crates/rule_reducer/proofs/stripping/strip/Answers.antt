@@ -1,6 +1,5 @@
-use Rattle.std.proofs.Common.{◌≡◌, ◌∙◌, ap, sym, subst, List, Some}
+use Rattle.std.proofs.Common.{◌∙◌, ap, sym, subst}
 use Rattle.rwsp_model.proofs.Numbering.{one_number}
-use Rattle.refutation_terms.specs.declared.lines.Line.{Line}
 use Rattle.refutation_terms.specs.Log.{Log, Fits}
 use Rattle.refutation_terms.specs.Tree.{IsTree}
 use Rattle.refutation_terms.specs.Strip.{strip}

@@ -1,4 +1,4 @@
-use Rattle.std.proofs.Common.{◌≡◌, sym}
+use Rattle.std.proofs.Common.{sym}
 use Rattle.std.proofs.lemmas.Result.{IfOk-from_err}
 use Rattle.layered_cycle.proofs.Automata.{goes_to, longer_than, refused}
 use Rattle.layered_cycle.proofs.automaton.Automaton.judge.Goals as goal

@@ -8,7 +8,7 @@ use Rattle.word_tail.specs.declared.tail.Tail.{Tail}
 use Rattle.layered_cycle.specs.declared.step.Step.{Step}
 use Rattle.layered_cycle.specs.Choices.{choice_at, chosen}
 use Rattle.layered_cycle.specs.Grown.{Grown}
-use Rattle.layered_cycle.specs.Front.{Course, course, gain_behind, reversed, IsFront, AreLinked}
+use Rattle.layered_cycle.specs.Front.{Course, course, gain_behind, reversed}
 use Rattle.layered_cycle.proofs.Fronts.{Moves, front_made}
 use Rattle.layered_cycle.proofs.front.Front.next.Goals as goal
 

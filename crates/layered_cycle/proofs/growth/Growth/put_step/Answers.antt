@@ -3,7 +3,7 @@ use Rattle.std.proofs.lemmas.Result.{IfOk-from_err}
 use Rattle.domain_store.specs.Store.{has_domain}
 use Rattle.word_tail.specs.declared.tail.Tail.{Tail}
 use Rattle.layered_cycle.specs.Grown.{StandsAt, AreDistinct}
-use Rattle.layered_cycle.specs.Automata.{GoesTo, Refuses}
+use Rattle.layered_cycle.specs.Automata.{GoesTo}
 use Rattle.layered_cycle.specs.Front.{tail_at}
 use Rattle.layered_cycle.proofs.Growing.{grown_outside}
 use Rattle.layered_cycle.proofs.Automata.{grown_by, grown_not, stands_on}

@@ -1,4 +1,4 @@
-use Rattle.std.proofs.Common.{ℕ, Option, None, subst, sym, IsTrue}
+use Rattle.std.proofs.Common.{ℕ, Option, subst, sym, IsTrue}
 use Rattle.refutation_terms.specs.Log.{LineFitsFor}
 use Rattle.refutation_terms.specs.Verdict.{Spells}
 use Rattle.refutation_terms.proofs.Spelled.{spelled_lines_fit}

@@ -1,5 +1,4 @@
-use Rattle.std.proofs.Common.{List, subst, IsTrue, refl}
-use Rattle.refutation_terms.specs.declared.lines.Line.{Line}
+use Rattle.std.proofs.Common.{subst, IsTrue}
 use Rattle.refutation_terms.specs.Verdict.{SpellsFor}
 use Rattle.refutation_terms.proofs.Spelled.{spelled_lines_fit_for}
 use Rattle.refutation_checker.specs.LineTexts.{Judging}
