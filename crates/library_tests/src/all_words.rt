@@ -1,6 +1,7 @@
 // A trial of the definitions: `escape` and `heaviest` against a look at all words, where what is bad for a rule and
 // what a word weighs are written anew.
-ghost use Rattle.std.specs.Prelude.{◌≤ℤ◌, negsuc, pos};
+ghost use Rattle.std.specs.Prelude.{◌≤ℤ◌, negsuc, pos, IfOk};
+ghost use Rattle.domain_store.specs.Store.{BelongsTo};
 
 use crate::problems::{D, OFF, TWO_IN_FOUR, TWOS_IN_SIX, all_rules, problem_of, take_away};
 use domain_store::Domains;
@@ -242,14 +243,25 @@ fn is_same(found: &Option<HeavyWord>, best: &Option<HeavyWord>) -> bool {
     }
 }
 
+// All symbols at each position, but for the day off at one of them.
+fn domains_of(alloc: Global, problem: &Problem, working: Option<u32>) -> Result<Domains, Fail>
+    ensures { IfOk result (BelongsTo problem.now) }
+{
+    let mut doms = Domains::new(alloc, problem)?;
+    match working {
+        Some(p) => {
+            take_away(&mut doms, p, OFF)?;
+            Ok(doms)
+        }
+        None => Ok(doms),
+    }
+}
+
 // The least clean words of up to nine days, and the heaviest of the turns.
 fn compare(rt: &impl Abort, alloc: Global, case: &Case) -> Result<(), Fail> {
     let problem = problem_of(alloc, case.text)?;
     let tails = all_rules(alloc, &problem)?;
-    let mut doms = Domains::new(alloc, &problem)?;
-    if let Some(p) = case.working {
-        take_away(&mut doms, p, OFF)?;
-    }
+    let doms = domains_of(alloc, &problem, case.working)?;
     let p = case.first;
     assert!(rt; p < problem.cells());
     for len in 1..10 {
