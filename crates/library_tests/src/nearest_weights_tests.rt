@@ -3,7 +3,9 @@ use crate::problems::{D, HALF_OF_FOUR, MOST_OF_FOUR, OFF, problem_of, take_away}
 use domain_store::Domains;
 use nearest_weights::NearestWeights;
 use refutation_terms::Line;
+use rwsp_model::Problem;
 use rwsp_terms::{Symbol, Weight};
+use std::alloc::Global;
 use std::test::Fail;
 
 fn weight(symbol: Symbol, value: i32) -> Weight {
@@ -14,40 +16,59 @@ fn weight(symbol: Symbol, value: i32) -> Weight {
     }
 }
 
-// The position of a bound leaf of one turn, where a day off weighs -1 and D 1.
-fn position(line: Option<Line>) -> Option<u32> {
+// The position of a bound leaf of one turn, where a day off weighs -1 and D 1. Any other leaf has the greatest number.
+fn position(leaf: &Line) -> u32 {
     let wanted = [weight(OFF, -1), weight(D, 1)];
-    match line {
-        Some(
-            Line::Bound {
-                p,
-                turns,
-                weights,
-                ..
-            },
-        ) => {
-            let is_wanted = turns == 1 && weights.entries() == wanted.as_slice();
-            is_wanted.then_some(p)
+    match leaf {
+        Line::Bound {
+            p,
+            turns,
+            weights,
+            ..
+        } => {
+            if *turns == 1 && weights.entries() == wanted.as_slice() {
+                *p
+            } else {
+                u32::MAX
+            }
         }
-        _ => None,
+        _ => u32::MAX,
     }
+}
+
+fn position_of(leaf: &Option<Line>) -> Option<u32> {
+    match leaf {
+        Some(leaf) => Some(position(leaf)),
+        None => None,
+    }
+}
+
+// The leaf at the top.
+fn at_top(alloc: Global, problem: &Problem) -> Result<Option<u32>, Fail> {
+    let mut nearest = NearestWeights::new(alloc, problem)?;
+    let doms = Domains::new(alloc, problem)?;
+    let leaf = nearest.leaf_at_top(alloc, &doms)?;
+    Ok(position_of(&leaf))
+}
+
+// The leaf where D is at position 0 and the day off at position 1.
+fn within(alloc: Global, problem: &Problem) -> Result<Option<u32>, Fail> {
+    let mut nearest = NearestWeights::new(alloc, problem)?;
+    let mut doms = Domains::new(alloc, problem)?;
+    take_away(&mut doms, 0, OFF)?;
+    take_away(&mut doms, 1, D)?;
+    let leaf = nearest.leaf_within(alloc, &doms)?;
+    Ok(position_of(&leaf))
 }
 
 #[test]
 fn half_of_the_days(rt: HostRuntime) -> Result<(), Fail> {
     let alloc = rt.alloc();
-    for (text, at_top, within) in [(MOST_OF_FOUR, Some(0), Some(1)), (HALF_OF_FOUR, None, None)] {
-        let problem = problem_of(alloc, text)?;
-        let mut nearest = NearestWeights::new(alloc, &problem)?;
-        let mut doms = Domains::new(alloc, &problem)?;
-        let leaf = nearest.leaf_at_top(alloc, &doms)?;
-        assert!(rt; leaf.is_some() == at_top.is_some());
-        assert_eq!(rt; position(leaf), at_top);
-        take_away(&mut doms, 0, OFF)?;
-        take_away(&mut doms, 1, D)?;
-        let leaf = nearest.leaf_within(alloc, &doms)?;
-        assert!(rt; leaf.is_some() == within.is_some());
-        assert_eq!(rt; position(leaf), within);
-    }
+    let problem = problem_of(alloc, MOST_OF_FOUR)?;
+    assert_eq!(rt; at_top(alloc, &problem)?, Some(0));
+    assert_eq!(rt; within(alloc, &problem)?, Some(1));
+    let problem = problem_of(alloc, HALF_OF_FOUR)?;
+    assert_eq!(rt; at_top(alloc, &problem)?, None);
+    assert_eq!(rt; within(alloc, &problem)?, None);
     Ok(())
 }
