@@ -47,26 +47,40 @@ pub fn sees<A: Propagator>(
     })
 }
 
+// Eight days of work on the one cell.
 #[test]
-fn each_sees_its_leaves(rt: HostRuntime) -> Result<(), Fail> {
+fn windows_are_seen(rt: HostRuntime) -> Result<(), Fail> {
     let alloc = rt.alloc();
-    // eight days of work on the one cell
-    let one_cell = problem_of(alloc, ONE_CELL)?;
-    let mut doms = Domains::new(alloc, &one_cell)?;
+    let problem = problem_of(alloc, ONE_CELL)?;
+    let mut doms = Domains::new(alloc, &problem)?;
     take_away(&mut doms, 0, OFF)?;
-    let mut windows = WindowProp::new(alloc, &one_cell, &doms)?;
+    let mut windows = WindowProp::new(alloc, &problem, &doms)?;
     assert_eq!(rt;
-        sees(&mut windows, alloc, &one_cell, &doms)?,
+        sees(&mut windows, alloc, &problem, &doms)?,
         Seen::Window(8)
     );
-    // two weeks less three shifts leave a day off -1 times
-    let too_many = problem_of(alloc, THREE_IN_TWO)?;
-    let doms = Domains::new(alloc, &too_many)?;
-    let mut days = DayProp::new(alloc, &too_many, &doms)?;
-    assert_eq!(rt; sees(&mut days, alloc, &too_many, &doms)?, Seen::Day(0));
+    Ok(())
+}
+
+// Two weeks less three shifts leave a day off -1 times.
+#[test]
+fn days_are_seen(rt: HostRuntime) -> Result<(), Fail> {
+    let alloc = rt.alloc();
+    let problem = problem_of(alloc, THREE_IN_TWO)?;
+    let doms = Domains::new(alloc, &problem)?;
+    let mut days = DayProp::new(alloc, &problem, &doms)?;
+    assert_eq!(rt; sees(&mut days, alloc, &problem, &doms)?, Seen::Day(0));
+    Ok(())
+}
+
+#[test]
+fn bounds_are_seen_by_any_number_of_workers(rt: HostRuntime) -> Result<(), Fail> {
+    let alloc = rt.alloc();
+    let problem = problem_of(alloc, THREE_IN_TWO)?;
+    let doms = Domains::new(alloc, &problem)?;
     for workers in [1, 64] {
-        let mut tops = RootBounds::new(&rt, alloc, &too_many, &doms, workers, &NoGate)?;
-        assert_eq!(rt; sees(&mut tops, alloc, &too_many, &doms)?, Seen::Bound);
+        let mut tops = RootBounds::new(&rt, alloc, &problem, &doms, workers, &NoGate)?;
+        assert_eq!(rt; sees(&mut tops, alloc, &problem, &doms)?, Seen::Bound);
     }
     Ok(())
 }
