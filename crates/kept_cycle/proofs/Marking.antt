@@ -1,10 +1,10 @@
 -- Rows of marks, one step more.
-use Rattle.std.proofs.Common.{◌≡◌, ◌≢◌, ◌⊎◌, inl, inr, ℕ, zero, suc, ◌+◌, ◌<◌, List, [], ◌∷◌, length, get_or, set, ap, sym, ◌∙◌, subst, arith, Bool, true, false, IsTrue, get_or-set_same, get_or-set_other}
+use Rattle.std.proofs.Common.{◌≡◌, ◌≢◌, ◌⊎◌, inl, inr, ℕ, ◌+◌, ◌<◌, List, length, get_or, set, ap, sym, ◌∙◌, subst, arith, Bool, true, false, IsTrue, get_or-set_same, get_or-set_other}
 use Rattle.std.specs.Prelude.{◌↔◌}
 use Rattle.std.proofs.lemmas.Bool.{cases_eq}
 use Rattle.layered_cycle.specs.declared.step.Step.{Step}
 use Rattle.layered_cycle.specs.Grown.{StandsAt}
-use Rattle.kept_cycle.specs.Marks.{is_marked, IsJoined, IsPass}
+use Rattle.kept_cycle.specs.Marks.{is_marked, IsJoined}
 use Rattle.layered_cycle.proofs.Growing.{stands_once}
 
 pub unlike : (b : Bool) → b ≡ false → IsTrue b → ⊥

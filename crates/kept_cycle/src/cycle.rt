@@ -1,12 +1,12 @@
 // Layers that are made once and kept while domains change.
-ghost use Rattle.std.specs.Prelude.{◌≡◌, ◌↔◌, ℕ, ◌*◌, ◌<◌, ◌≤◌, [], false, true, length, replicate, slice_index, slice_index_or, slice_set, IfOk, IsTrue};
+ghost use Rattle.std.specs.Prelude.{◌≡◌, ◌↔◌, ℕ, ◌+◌, ◌*◌, ◌<◌, ◌≤◌, [], false, true, length, replicate, slice_index, slice_index_or, slice_set, IfOk, IsTrue};
 ghost use Rattle.rwsp_terms.specs.Instance.{cells, shift_count};
 ghost use Rattle.refutation_terms.specs.declared.lines.Line.TheVariants.{Dead};
 ghost use Rattle.refutation_terms.specs.Leaf.{IsDead};
 ghost use Rattle.refutation_terms.specs.Sharp.{NoWordHas};
 ghost use Rattle.domain_store.specs.Sets.{has_symbol};
 ghost use Rattle.domain_store.specs.Store.{BelongsTo, domain_at};
-ghost use Rattle.kept_cycle.specs.KeptCycle.{HasLayers, HasJoiningStep};
+ghost use Rattle.kept_cycle.specs.KeptCycle.{IsCycle, AreAwaited, HasLayers, HasJoiningStep};
 
 use crate::day_marks::DayMarks;
 use crate::marks::Marks;
@@ -74,13 +74,23 @@ impl Cycle {
         ensures rules { IfOk result (λ C. C.rules ≡ tails.rules) }
         ensures stands { IfOk result (λ C. KnowsDomains C doms.now) }
     {
-        tails.problem().prove_limits();
-        let full = Domains::new(alloc, tails.problem())?;
-        let days = 2 * tails.problem().cells();
-        keep_room(alloc, &tails, &full, days)?;
-        let layers = Layers::of(alloc, &tails, &full, 0, days)?;
-        let width = greatest(layers.node_counts());
-        let mut cycle = Cycle::of_empty_sets(alloc, tails, layers, width)?;
+        let Empty {
+            layers,
+            width,
+            sets,
+            front,
+            back,
+            pending,
+        } = Empty::new(alloc, &tails)?;
+        let mut cycle = Cycle {
+            tails,
+            layers,
+            width,
+            sets,
+            front,
+            back,
+            pending,
+        };
         cycle.undo_to(doms);
         Ok(cycle)
     }
@@ -227,30 +237,28 @@ impl Cycle {
         raise(&mut self.pending, start, end + 1);
         raise(&mut self.pending, low, cells);
     }
+}
 
-    // A cycle in which no position has a symbol.
-    fn of_empty_sets(
-        alloc: Global,
-        tails: TailRules,
-        layers: Layers,
-        width: u32,
-    ) -> Result<Cycle, AllocError>
-        requires { HasLayers tails layers.layers width }
-        ensures problem { IfOk result (λ C. C.problem ≡ tails.problem) }
-        ensures rules { IfOk result (λ C. C.rules ≡ tails.rules) }
+// What a cycle keeps beside its rules, while no position has a symbol.
+#[derive(Debug, Drop)]
+struct Empty {
+    layers: Layers,
+    width: u32,
+    sets: Vec<SymbolSet>,
+    front: DayMarks,
+    back: DayMarks,
+    pending: Vec<bool>,
+}
+
+impl Empty {
+    fn new(alloc: Global, tails: &TailRules) -> Result<Empty, AllocError>
+        ensures cycle { IfOk result (λ e. IsCycle tails.now e.layers.layers e.sets.items e.front e.back e.width) }
+        ensures awaited { IfOk result (λ e. AreAwaited tails.now e.sets.items e.pending.items) }
     {
-        let days = layers.layers().len();
-        let cells = tails.problem().cells();
-        let sets = empty_sets(alloc, cells)?;
-        let pending = vec![in alloc; false; cells as usize]?;
-        let mut start = Marks::of(alloc, width as usize, false)?;
-        start.put(0, true);
-        let mut front = DayMarks::none(alloc, days + 1, width as usize)?;
-        front.put_row(0, start);
-        let mut back = DayMarks::none(alloc, days + 1, width as usize)?;
-        back.put_row(days, Marks::of(alloc, width as usize, true)?);
-        Ok(Cycle {
-            tails,
+        let (layers, width) = clean_layers(alloc, tails)?;
+        let (front, back) = marks_of_ends(alloc, layers.layers().len(), width as usize)?;
+        let (sets, pending) = empty_positions(alloc, tails.problem().cells())?;
+        Ok(Empty {
             layers,
             width,
             sets,
@@ -259,6 +267,73 @@ impl Cycle {
             pending,
         })
     }
+}
+
+// The layers of all clean words of two turns, and their greatest number of nodes. There is too little memory where they
+// would pass the limit of their room.
+fn clean_layers(alloc: Global, tails: &TailRules) -> Result<(Layers, u32), AllocError>
+    ensures { IfOk result (λ r. HasLayers tails.now r.0.layers r.1) }
+{
+    tails.problem().prove_limits();
+    let full = Domains::new(alloc, tails.problem())?;
+    let days = 2 * tails.problem().cells();
+    keep_room(alloc, tails, &full, days)?;
+    let layers = Layers::of(alloc, tails, &full, 0, days)?;
+    let width = greatest(layers.node_counts());
+    Ok((layers, width))
+}
+
+// What a cycle keeps for its ends: the marks of the front, and those of the back.
+fn marks_of_ends(
+    alloc: Global,
+    days: usize,
+    nodes: usize,
+) -> Result<(DayMarks, DayMarks), AllocError>
+    requires days { days ≤ LONGEST_WORD }
+    requires nodes { 0 < nodes }
+    ensures front { IfOk result (λ r. r.0 ≡ slice_set (replicate (days + 1) (replicate nodes false)) 0
+        (slice_set (replicate nodes false) 0 true)) }
+    ensures back { IfOk result (λ r. r.1 ≡ slice_set (replicate (days + 1) (replicate nodes false)) days
+        (replicate nodes true)) }
+{
+    let front = first_front(alloc, days, nodes)?;
+    let back = first_back(alloc, days, nodes)?;
+    Ok((front, back))
+}
+
+// The front marks node 0 before the first day, and none behind.
+fn first_front(alloc: Global, days: usize, nodes: usize) -> Result<DayMarks, AllocError>
+    requires days { days ≤ LONGEST_WORD }
+    requires nodes { 0 < nodes }
+    ensures { IfOk result (λ r. r ≡ slice_set (replicate (days + 1) (replicate nodes false)) 0
+        (slice_set (replicate nodes false) 0 true)) }
+{
+    let mut start = Marks::of(alloc, nodes, false)?;
+    start.put(0, true);
+    let mut front = DayMarks::none(alloc, days + 1, nodes)?;
+    front.put_row(0, start);
+    Ok(front)
+}
+
+// The back marks each node behind the last day, and none before.
+fn first_back(alloc: Global, days: usize, nodes: usize) -> Result<DayMarks, AllocError>
+    requires { days ≤ LONGEST_WORD }
+    ensures { IfOk result (λ r. r ≡ slice_set (replicate (days + 1) (replicate nodes false)) days
+        (replicate nodes true)) }
+{
+    let mut back = DayMarks::none(alloc, days + 1, nodes)?;
+    back.put_row(days, Marks::of(alloc, nodes, true)?);
+    Ok(back)
+}
+
+// For each position no symbol, and that none is without support.
+fn empty_positions(alloc: Global, cells: u32) -> Result<(Vec<SymbolSet>, Vec<bool>), AllocError>
+    ensures sets { IfOk result (λ r. r.0.items ≡ replicate cells []) }
+    ensures pending { IfOk result (λ r. length r.1.items ≡ cells) }
+{
+    let sets = empty_sets(alloc, cells)?;
+    let pending = vec![in alloc; false; cells as usize]?;
+    Ok((sets, pending))
 }
 
 // Tells want of memory where two turns would take more marks or more steps than are kept, judged by their first days:

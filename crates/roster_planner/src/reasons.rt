@@ -1,7 +1,10 @@
 // The reasons by which a search closes cases.
-ghost use Rattle.std.specs.Prelude.{IfOk};
+ghost use Rattle.std.specs.Prelude.{IfOk, ℕ, ◌↔◌};
+ghost use Rattle.rwsp_terms.specs.declared.data.Symbol.{Symbol};
 ghost use Rattle.refutation_terms.specs.Log.{TurnFits};
-ghost use Rattle.domain_store.specs.Store.{BelongsTo};
+ghost use Rattle.domain_store.specs.Store.{BelongsTo, Store, has_domain};
+ghost use Rattle.propagators.specs.Looks.{HasPlainLeaves};
+ghost use Rattle.propagators.specs.Days.{IsDaySpent};
 ghost use Rattle.roster_planner.specs.Reasons.{AreCaseReasons, AreReasons, WeighNoWords};
 
 use domain_store::Domains;
@@ -36,9 +39,27 @@ pub fn case_reasons(
     ensures unweighed { IfOk result (λ r. WeighNoWords (⟦<CaseReasons as Propagator>⟧.leaves r)) }
 {
     let cycle = CycleProp::new(alloc, problem, doms)?;
+    let plain = plain_reasons(alloc, problem, doms)?;
+    Ok(Pair::new(plain, cycle))
+}
+
+// Windows and days, asked in this order. It is a function of its own, as those above and below it, since what a body
+// costs to prove grows with the fields of all that it owns at once.
+fn plain_reasons(
+    alloc: Global,
+    problem: &Problem,
+    doms: &Domains,
+) -> Result<Pair<WindowProp, DayProp>, AllocError>
+    requires { BelongsTo problem.now doms.now }
+    ensures serves { IfOk result (λ r. ⟦<Pair<WindowProp, DayProp> as Propagator>⟧.serves r problem.now) }
+    ensures leaves { IfOk result (λ r. HasPlainLeaves problem.now (⟦<Pair<WindowProp, DayProp> as Propagator>⟧.leaves r)) }
+    ensures unweighed { IfOk result (λ r. WeighNoWords (⟦<Pair<WindowProp, DayProp> as Propagator>⟧.leaves r)) }
+    ensures spent { IfOk result (λ r. (S : Store) (p : ℕ) (x : Symbol)
+        → ⟦<Pair<WindowProp, DayProp> as Propagator>⟧.spent r S p x ↔ IsDaySpent problem.now (has_domain S) p x) }
+{
     let windows = WindowProp::new(alloc, problem, doms)?;
     let days = DayProp::new(alloc, problem, doms)?;
-    Ok(Pair::new(Pair::new(windows, days), cycle))
+    Ok(Pair::new(windows, days))
 }
 
 /// The reasons of a plan, whose search begins with the turn. The workers pass the gate.
@@ -57,7 +78,7 @@ pub fn reasons_of<R: Threads + Sync, G: Gate>(
     problem.prove_limits();
     let walk = Walk::new(alloc, problem, turn)?;
     let doms = walk.domains();
-    let cases = case_reasons(alloc, problem, doms)?;
     let bounds = RootBounds::new(rt, alloc, problem, doms, WORKERS, gate)?;
+    let cases = case_reasons(alloc, problem, doms)?;
     Ok(Pair::new(cases, bounds))
 }
