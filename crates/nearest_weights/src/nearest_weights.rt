@@ -74,15 +74,11 @@ impl NearestWeights {
     pub fn new(alloc: Global, problem: &Problem) -> Result<NearestWeights, AllocError>
         ensures { IfOk result (λ n. n.problem ≡ problem.now) }
     {
-        let tails = tails_of(alloc, problem)?;
-        let words = Words::of(alloc, &tails)?;
-        let demand = Demand::of(alloc, problem)?;
-        let size = Shape::of(problem).size();
-        let top = vec![in alloc; 0i64; size]?;
-        let free_top = vec![in alloc; 0i64; size.saturating_add(1)]?;
-        let problem = problem.copy()?;
+        let copy = problem.copy()?;
+        let (demand, top, free_top) = demand_and_weights(alloc, problem)?;
+        let (tails, words) = rules_and_words(alloc, problem)?;
         Ok(NearestWeights {
-            problem,
+            problem: copy,
             tails,
             words,
             demand,
@@ -236,6 +232,30 @@ impl NearestWeights {
         )?;
         Ok(line)
     }
+}
+
+// What the words are weighed against, and the first weights: for a bound leaf, and for a free leaf.
+fn demand_and_weights(
+    alloc: Global,
+    problem: &Problem,
+) -> Result<(Demand, Vec<i64>, Vec<i64>), AllocError> {
+    let demand = Demand::of(alloc, problem)?;
+    let size = Shape::of(problem).size();
+    let top = vec![in alloc; 0i64; size]?;
+    let free_top = vec![in alloc; 0i64; size.saturating_add(1)]?;
+    Ok((demand, top, free_top))
+}
+
+// All short rules, and the words that are clean by them.
+fn rules_and_words(
+    alloc: Global,
+    problem: &Problem,
+) -> Result<(TailRules, Option<Words>), AllocError>
+    ensures { IfOk result (λ r. HasRules problem.now r.0) }
+{
+    let tails = tails_of(alloc, problem)?;
+    let words = Words::of(alloc, &tails)?;
+    Ok((tails, words))
 }
 
 // Tail rules with all short rules of the problem.

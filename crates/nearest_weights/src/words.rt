@@ -1,4 +1,7 @@
 // The clean words over all symbols.
+ghost use Rattle.std.specs.Prelude.{◌≤◌};
+ghost use Rattle.domain_store.specs.Store.{BelongsTo};
+
 use domain_store::Domains;
 use layered_cycle::{Layer, Layers, Step};
 use rwsp_terms::limits::LONGEST_WORD;
@@ -32,23 +35,41 @@ impl Words {
         let mut words = None;
         let mut days = FIRST_DAYS;
         for _ in 0..10 {
-            let layers = Layers::of(alloc, tails, &doms, 0, days)?;
-            if step_count(layers.layers()) > MOST_STEPS {
-                return Ok(words);
-            }
-            let period = period_of(layers.layers());
-            let ends_off = ends_off(alloc, layers.layers(), layers.node_counts())?;
-            words = Some(Words {
-                layers,
-                period,
-                ends_off,
-            });
-            if period.is_some() || days == LONGEST_WORD {
-                return Ok(words);
+            let Some(longer) = Words::of_days(alloc, tails, &doms, days)? else {
+                break;
+            };
+            let is_last = longer.period.is_some() || days == LONGEST_WORD;
+            words = Some(longer);
+            if is_last {
+                break;
             }
             days = (2 * days).min(LONGEST_WORD);
         }
         Ok(words)
+    }
+
+    // The words of this many days, where there is room for their layers.
+    fn of_days(
+        alloc: Global,
+        tails: &TailRules,
+        doms: &Domains,
+        days: u32,
+    ) -> Result<Option<Words>, AllocError>
+        requires belongs { BelongsTo tails.now.problem doms.now }
+        requires long { (1 ≤ days) × (days ≤ LONGEST_WORD) }
+    {
+        tails.problem().prove_limits();
+        let layers = Layers::of(alloc, tails, doms, 0, days)?;
+        if step_count(layers.layers()) > MOST_STEPS {
+            return Ok(None);
+        }
+        let period = period_of(layers.layers());
+        let ends_off = ends_off(alloc, layers.layers(), layers.node_counts())?;
+        Ok(Some(Words {
+            layers,
+            period,
+            ends_off,
+        }))
     }
 
     // The number of days for which there are layers.

@@ -16,20 +16,29 @@ use std::process::ExitCode;
 const NO_TEXT: u8 = 9;
 
 fn main(rt: HostRuntime) -> ExitCode {
-    let no_memory = Outcome::Memory.status();
-    let all = match env::args(&rt) {
-        Ok(all) => all,
-        Err(error) if error.kind() == ErrorKind::OutOfMemory => return ExitCode::from(no_memory),
-        Err(_) => return ExitCode::from(NO_TEXT),
+    let words = match command_words(&rt) {
+        Ok(words) => words,
+        Err(status) => return ExitCode::from(status),
     };
-    let mut words = Vec::new(rt.alloc());
-    for (i, word) in all.enumerate() {
-        if i > 0 && words.push(word).is_err() {
-            return ExitCode::from(no_memory);
-        }
-    }
     let mut shelf = RealShelf::new(&rt);
     let mut out = RealSink::new(&rt);
     let outcome = run(&rt, rt.alloc(), &words, &mut shelf, &mut out, &NoGate);
     ExitCode::from(outcome.status())
+}
+
+// The words behind the program's name, or the status of a run that can't have them.
+fn command_words(rt: &HostRuntime) -> Result<Vec<String>, u8> {
+    let no_memory = Outcome::Memory.status();
+    let all = match env::args(rt) {
+        Ok(all) => all,
+        Err(error) if error.kind() == ErrorKind::OutOfMemory => return Err(no_memory),
+        Err(_) => return Err(NO_TEXT),
+    };
+    let mut words = Vec::new(rt.alloc());
+    for (i, word) in all.enumerate() {
+        if i > 0 && words.push(word).is_err() {
+            return Err(no_memory);
+        }
+    }
+    Ok(words)
 }

@@ -11,7 +11,8 @@ mod trials;
 
 ghost use Rattle.std.specs.Prelude.{◌<◌};
 
-use potential_bounds::NoGate;
+use potential_bounds::{Gate, NoGate};
+use rwsp_answers::Outcome;
 use rwsp_io::{MemoryShelf, MemorySink};
 use rwsp_run::run;
 use std::alloc::{AllocError, Global};
@@ -90,6 +91,31 @@ fn ended_by(alloc: Global, status: u8, sink: &MemorySink) -> Result<Ending, Fail
     Ok(Ending { status, text })
 }
 
+// How a run ends, of which nothing is promised: a test that calls `run` itself takes long to prove, for all that `run`
+// promises.
+fn outcome_of<R: Threads + Sync, G: Gate>(
+    rt: &R,
+    alloc: Global,
+    words: &Vec<String>,
+    shelf: &mut MemoryShelf,
+    sink: &mut MemorySink,
+    gate: &G,
+) -> Outcome {
+    run(rt, alloc, words, shelf, sink, gate)
+}
+
+// The status of a run.
+fn status_of<R: Threads + Sync, G: Gate>(
+    rt: &R,
+    alloc: Global,
+    words: &Vec<String>,
+    shelf: &mut MemoryShelf,
+    sink: &mut MemorySink,
+    gate: &G,
+) -> u8 {
+    outcome_of(rt, alloc, words, shelf, sink, gate).status()
+}
+
 // A run of a command line over these files. The call of the shelf and the call of the sink with these numbers fail;
 // none has the number 0.
 fn ran<R: Threads + Sync>(
@@ -103,8 +129,8 @@ fn ran<R: Threads + Sync>(
     let words = words_in(alloc, line)?;
     let mut shelf = shelf_by_sevens(alloc, files, failing_read)?;
     let mut sink = sink_of(alloc, failing_write)?;
-    let outcome = run(rt, alloc, &words, &mut shelf, &mut sink, &NoGate);
-    ended_by(alloc, outcome.status(), &sink)
+    let status = status_of(rt, alloc, &words, &mut shelf, &mut sink, &NoGate);
+    ended_by(alloc, status, &sink)
 }
 
 // Whether the words end with the status and print the text, over these files.
@@ -119,8 +145,8 @@ fn ends<R: Threads + Sync>(
     let words = words_of(alloc, words)?;
     let mut shelf = shelf_of(alloc, files, 50, &[])?;
     let mut sink = MemorySink::new(alloc, 10_000, 7, Vec::new(alloc))?;
-    let outcome = run(rt, alloc, &words, &mut shelf, &mut sink, &NoGate);
-    Ok(outcome.status() == status && sink.bytes() == text.as_bytes())
+    let ended = status_of(rt, alloc, &words, &mut shelf, &mut sink, &NoGate);
+    Ok(ended == status && sink.bytes() == text.as_bytes())
 }
 
 fn verifies<R: Threads + Sync>(

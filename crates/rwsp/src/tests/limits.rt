@@ -1,9 +1,8 @@
 // Each limit and the first number beyond it: of command lines, problem files, logs, staff texts, and of their lengths.
 use super::logs::{TWOS, checks};
-use super::{TWO_DAYS, USAGE, ran, shelf_of, shows, words_in};
+use super::{TWO_DAYS, USAGE, ran, shelf_of, shows, status_of, words_in};
 use potential_bounds::NoGate;
 use rwsp_io::MemorySink;
-use rwsp_run::run;
 use std::test::Fail;
 
 // What is a command line finds no file; what isn't is answered by the usage.
@@ -575,8 +574,8 @@ fn lengths_of_files(rt: HostRuntime) -> Result<(), Fail> {
         let mut shelf = shelf_of(alloc, &files, 100_000, &[])?;
         let mut sink = MemorySink::new(alloc, 1000, 1000, Vec::new(alloc))?;
         let words = words_in(alloc, line)?;
-        let outcome = run(&rt, alloc, &words, &mut shelf, &mut sink, &NoGate);
-        assert_eq!(rt; outcome.status(), status, "{line} {length}");
+        let ended = status_of(&rt, alloc, &words, &mut shelf, &mut sink, &NoGate);
+        assert_eq!(rt; ended, status, "{line} {length}");
         assert_eq!(rt; sink.bytes(), text.as_bytes(), "{line} {length}");
     }
     Ok(())

@@ -1,8 +1,7 @@
 // Logs checked and reduced: what is printed, to the byte, and the status.
-use super::{NINE_WEEKS, TWO_DAYS, ends, shelf_of, words_of};
+use super::{NINE_WEEKS, TWO_DAYS, ends, shelf_of, status_of, words_of};
 use potential_bounds::{Gate, NoGate};
 use rwsp_io::MemorySink;
-use rwsp_run::run;
 use std::alloc::{AllocError, Global};
 use std::sync::atomic::{AtomicBool, Ordering};
 use std::test::Fail;
@@ -308,13 +307,13 @@ fn logs_that_are_not_reduced(rt: HostRuntime) -> Result<(), Fail> {
 
 // Each of two workers waits at the gate until it has seen the other, or for long.
 #[derive(Drop)]
-pub struct Meeting {
+struct Meeting {
     flags: [AtomicBool; 2],
     met: [AtomicBool; 2],
 }
 
 impl Meeting {
-    pub fn new() -> Meeting {
+    fn new() -> Meeting {
         Meeting {
             flags: [AtomicBool::new(false), AtomicBool::new(false)],
             met: [AtomicBool::new(false), AtomicBool::new(false)],
@@ -322,7 +321,7 @@ impl Meeting {
     }
 
     // Whether each has seen the other.
-    pub fn is_over(&self) -> bool {
+    fn is_over(&self) -> bool {
         let [first, second] = &self.met;
         first.load(Ordering::SeqCst) && second.load(Ordering::SeqCst)
     }
@@ -350,16 +349,25 @@ fn meet(own: &AtomicBool, other: &AtomicBool, met: &AtomicBool) {
     }
 }
 
+// Whether the words end with this status, over these files, and two workers meet at the gate.
+pub fn they_meet<R: Threads + Sync>(
+    rt: &R,
+    alloc: Global,
+    words: &[&str],
+    files: &[(&str, &str)],
+    status: u8,
+) -> Result<bool, AllocError> {
+    let gate = Meeting::new();
+    let words = words_of(alloc, words)?;
+    let mut shelf = shelf_of(alloc, files, 50, &[])?;
+    let mut sink = MemorySink::new(alloc, 1000, 100, Vec::new(alloc))?;
+    Ok(status_of(rt, alloc, &words, &mut shelf, &mut sink, &gate) == status && gate.is_over())
+}
+
 // Two chunks of a log are judged at once.
 #[test]
 fn workers_are_there_at_once(rt: HostRuntime) -> Result<(), Fail> {
-    let alloc = rt.alloc();
-    let gate = Meeting::new();
-    let words = words_of(alloc, &["check", "F", "G", "--workers", "2"])?;
-    let mut shelf = shelf_of(alloc, &[("F", TWOS), ("G", SPLIT)], 50, &[])?;
-    let mut sink = MemorySink::new(alloc, 100, 100, Vec::new(alloc))?;
-    let outcome = run(&rt, alloc, &words, &mut shelf, &mut sink, &gate);
-    assert_eq!(rt; outcome.status(), 0);
-    assert!(rt; gate.is_over());
+    let words = ["check", "F", "G", "--workers", "2"];
+    assert!(rt; they_meet(&rt, rt.alloc(), &words, &[("F", TWOS), ("G", SPLIT)], 0)?);
     Ok(())
 }

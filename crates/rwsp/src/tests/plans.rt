@@ -1,9 +1,8 @@
 // Rosters and refutations: what `plan` prints is right by `verify` and `check`.
-use super::logs::{BOTH_DAYS, Meeting, TOO_MANY, TWOS, checks};
-use super::{NINE_WEEKS, TWO_DAYS, ends, shelf_of, verifies, words_of};
+use super::logs::{BOTH_DAYS, TOO_MANY, TWOS, checks, they_meet};
+use super::{NINE_WEEKS, TWO_DAYS, ends, shelf_of, status_of, verifies, words_of};
 use potential_bounds::NoGate;
 use rwsp_io::MemorySink;
-use rwsp_run::run;
 use std::alloc::{AllocError, Global};
 use std::test::Fail;
 use std::thread::Threads;
@@ -12,7 +11,7 @@ use std::thread::Threads;
 pub const THREE_OF_FIVE: &str = "1\n5\n1\n3\nD 360 480 2 2\n1 2\n2 2\n0 0\n";
 
 // The status of the words, over a problem, and what is written goes into the sink.
-fn status_of<R: Threads + Sync>(
+fn status_over<R: Threads + Sync>(
     rt: &R,
     alloc: Global,
     words: &[&str],
@@ -21,8 +20,7 @@ fn status_of<R: Threads + Sync>(
 ) -> Result<u8, AllocError> {
     let words = words_of(alloc, words)?;
     let mut shelf = shelf_of(alloc, &[("F", problem)], 50, &[])?;
-    let outcome = run(rt, alloc, &words, &mut shelf, sink, &NoGate);
-    Ok(outcome.status())
+    Ok(status_of(rt, alloc, &words, &mut shelf, sink, &NoGate))
 }
 
 fn text_in(alloc: Global, sink: &MemorySink) -> Result<String, Fail> {
@@ -39,7 +37,7 @@ pub fn printed<R: Threads + Sync>(
     status: u8,
 ) -> Result<String, Fail> {
     let mut sink = MemorySink::new(alloc, 1_000_000, 100_000, Vec::new(alloc))?;
-    if status_of(rt, alloc, words, problem, &mut sink)? == status {
+    if status_over(rt, alloc, words, problem, &mut sink)? == status {
         text_in(alloc, &sink)
     } else {
         Ok(String::new(alloc))
@@ -57,8 +55,7 @@ pub fn is_accepted<R: Threads + Sync>(
     let files = [("F", problem), ("G", log)];
     let mut shelf = shelf_of(alloc, &files, 1000, &[])?;
     let mut sink = MemorySink::new(alloc, 1000, 1000, Vec::new(alloc))?;
-    let outcome = run(rt, alloc, &words, &mut shelf, &mut sink, &NoGate);
-    Ok(outcome.status() == 0)
+    Ok(status_of(rt, alloc, &words, &mut shelf, &mut sink, &NoGate) == 0)
 }
 
 // Whether `plan` refutes, and `check` accepts what it prints.
@@ -105,14 +102,7 @@ fn one_leaf_is_enough(rt: HostRuntime) -> Result<(), Fail> {
 // Two chunks of the bounds are tried at once.
 #[test]
 fn bounds_are_shared_out(rt: HostRuntime) -> Result<(), Fail> {
-    let alloc = rt.alloc();
-    let gate = Meeting::new();
-    let words = words_of(alloc, &["plan", "F"])?;
-    let mut shelf = shelf_of(alloc, &[("F", TWOS)], 50, &[])?;
-    let mut sink = MemorySink::new(alloc, 1000, 1000, Vec::new(alloc))?;
-    let outcome = run(&rt, alloc, &words, &mut shelf, &mut sink, &gate);
-    assert_eq!(rt; outcome.status(), 1);
-    assert!(rt; gate.is_over());
+    assert!(rt; they_meet(&rt, rt.alloc(), &["plan", "F"], &[("F", TWOS)], 1)?);
     Ok(())
 }
 

@@ -1,14 +1,13 @@
 // Trials: what is printed for a number and a count of weeks.
-use super::logs::Meeting;
+use super::logs::they_meet;
 use super::plans::printed;
-use super::{ends, shelf_of, words_of};
+use super::{ends, outcome_of, shelf_of, words_of};
 use potential_bounds::NoGate;
 use problem_generator::gen_problem;
 use roster_search::Found;
 use rwsp_answers::{Answer, Outcome};
 use rwsp_file::print_problem;
 use rwsp_io::MemorySink;
-use rwsp_run::run;
 use std::test::Fail;
 
 const ONE_WEEK: &str =
@@ -62,7 +61,7 @@ fn a_trial_is_answered(rt: HostRuntime) -> Result<(), Fail> {
     let words = words_of(alloc, &["trial", "0", "1"])?;
     let mut shelf = shelf_of(alloc, &[], 50, &[])?;
     let mut sink = MemorySink::new(alloc, 1000, 100, Vec::new(alloc))?;
-    let outcome = run(&rt, alloc, &words, &mut shelf, &mut sink, &NoGate);
+    let outcome = outcome_of(&rt, alloc, &words, &mut shelf, &mut sink, &NoGate);
     match &outcome {
         Outcome::Done(Answer::Trial(trial)) => {
             assert_eq!(rt; trial.number, 0);
@@ -77,13 +76,6 @@ fn a_trial_is_answered(rt: HostRuntime) -> Result<(), Fail> {
 // The bounds at the top are tried by several workers, as for `plan`.
 #[test]
 fn bounds_of_a_trial_are_shared_out(rt: HostRuntime) -> Result<(), Fail> {
-    let alloc = rt.alloc();
-    let gate = Meeting::new();
-    let words = words_of(alloc, &["trial", "0", "1"])?;
-    let mut shelf = shelf_of(alloc, &[], 50, &[])?;
-    let mut sink = MemorySink::new(alloc, 1000, 100, Vec::new(alloc))?;
-    let outcome = run(&rt, alloc, &words, &mut shelf, &mut sink, &gate);
-    assert_eq!(rt; outcome.status(), 0);
-    assert!(rt; gate.is_over());
+    assert!(rt; they_meet(&rt, rt.alloc(), &["trial", "0", "1"], &[], 0)?);
     Ok(())
 }
