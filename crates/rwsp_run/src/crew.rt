@@ -104,10 +104,13 @@ fn on_roster(
         return printed(alloc, problem, Answer::Breaks(broken));
     }
     match employee {
-        None => Ok(Reply {
-            answer: Answer::Crew,
-            text: crew_table(alloc, problem, roster, date, days)?,
-        }),
+        None => {
+            let text = crew_table(alloc, problem, roster, date, days)?;
+            Ok(Reply {
+                answer: Answer::Crew,
+                text,
+            })
+        }
         Some(number) => duties_of(alloc, problem, bytes, roster, date, days, number),
     }
 }
@@ -137,8 +140,9 @@ fn duties_of(
     if number > problem.weeks() {
         return printed(alloc, problem, Answer::NoEmployee(number));
     }
+    let text = duties(alloc, problem, roster, date, days, number)?;
     Ok(Reply {
         answer: Answer::Crew,
-        text: duties(alloc, problem, roster, date, days, number)?,
+        text,
     })
 }
