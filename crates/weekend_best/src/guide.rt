@@ -38,9 +38,10 @@ impl BestGuide {
         requires goal { goal ≤ problem.now.weeks + 1 }
         ensures { IfOk result (λ g. ⟦<BestGuide as Guide>⟧.serves g problem.now (Some goal)) }
     {
+        let copy = problem.copy()?;
         let weights = NearestWeights::new(alloc, problem)?;
         Ok(BestGuide {
-            problem: problem.copy()?,
+            problem: copy,
             weights,
             goal,
             wish,

@@ -1,6 +1,7 @@
 // A search with one goal.
 ghost use Rattle.std.specs.Prelude.{◌≡◌, ◌+◌, ◌*◌, ◌^◌, ◌<◌, ◌≤◌, IfOk};
 ghost use Rattle.rwsp_terms.specs.Instance.{cells, shift_count};
+ghost use Rattle.roster_planner.specs.Reasons.{AreCaseReasons, WeighNoWords};
 ghost use Rattle.roster_search.specs.Founds.{HasSpentBudget};
 ghost use Rattle.weekend_best.specs.Bests.{IsFoundWith};
 ghost use Rattle.weekend_best.specs.FreeSharp.{FailsFreeAtTop};
@@ -8,7 +9,8 @@ ghost use Rattle.weekend_best.specs.FreeSharp.{FailsFreeAtTop};
 use crate::guide::BestGuide;
 use crate::top_leaf::proof_at_top;
 use domain_store::Domains;
-use roster_planner::case_reasons;
+use propagators::Propagator;
+use roster_planner::{CaseReasons, case_reasons};
 use roster_search::{Found, guided_search};
 use rwsp_model::Problem;
 use rwsp_terms::limits::GREATEST_BUDGET;
@@ -52,9 +54,42 @@ fn split_cases(
     ensures complete { IfOk result (λ found.
         HasSpentBudget found → budget + 1 < 2 * (shift_count problem.now + 1) ^ cells problem.now) }
 {
-    problem.prove_limits();
+    let reasons = full_reasons(alloc, problem)?;
+    search_by(alloc, problem, reasons, goal, wish, budget)
+}
+
+// The reasons of cases, for a search that begins with full domains.
+fn full_reasons(alloc: Global, problem: &Problem) -> Result<CaseReasons, AllocError>
+    ensures serves { IfOk result (λ r. ⟦<CaseReasons as Propagator>⟧.serves r problem.now) }
+    ensures reasons { IfOk result (λ r.
+        AreCaseReasons problem.now (⟦<CaseReasons as Propagator>⟧.leaves r) (⟦<CaseReasons as Propagator>⟧.spent r)) }
+    ensures unweighed { IfOk result (λ r. WeighNoWords (⟦<CaseReasons as Propagator>⟧.leaves r)) }
+{
     let doms = Domains::new(alloc, problem)?;
-    let mut reasons = case_reasons(alloc, problem, &doms)?;
+    case_reasons(alloc, problem, &doms)
+}
+
+// The search that closes cases by these reasons.
+fn search_by<A: Propagator + Drop>(
+    alloc: Global,
+    problem: &Problem,
+    mut reasons: A,
+    goal: u32,
+    wish: u32,
+    budget: u32,
+) -> Result<Found, AllocError>
+    requires week { problem.now.days ≡ 7 }
+    requires goal { goal ≤ problem.now.weeks + 1 }
+    requires budget { (1 ≤ budget) × (budget ≤ GREATEST_BUDGET) }
+    requires top { FailsFreeAtTop problem.now goal }
+    requires serves { A.serves reasons problem.now }
+    requires reasons { AreCaseReasons problem.now (A.leaves reasons) (A.spent reasons) }
+    requires unweighed { WeighNoWords (A.leaves reasons) }
+    ensures found { IfOk result (IsFoundWith problem.now budget goal) }
+    ensures complete { IfOk result (λ found.
+        HasSpentBudget found → budget + 1 < 2 * (shift_count problem.now + 1) ^ cells problem.now) }
+{
+    problem.prove_limits();
     let mut guide = BestGuide::new(alloc, problem, goal, wish)?;
     guided_search(
         alloc,
