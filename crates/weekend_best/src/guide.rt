@@ -38,10 +38,9 @@ impl BestGuide {
         requires goal { goal ≤ problem.now.weeks + 1 }
         ensures { IfOk result (λ g. ⟦<BestGuide as Guide>⟧.serves g problem.now (Some goal)) }
     {
-        let weights = NearestWeights::new(alloc, problem)?;
         Ok(BestGuide {
             problem: problem.copy()?,
-            weights,
+            weights: NearestWeights::new(alloc, problem)?,
             goal,
             wish,
             has_begun: false,

@@ -1,5 +1,8 @@
 // How many free weekends are worth asking for.
-ghost use Rattle.std.specs.Prelude.{◌≡◌, ◌≤◌, IfOk};
+ghost use Rattle.std.specs.Prelude.{◌≡◌, ◌+◌, ◌≤◌, IfOk, IsTrue};
+ghost use Rattle.refutation_terms.specs.declared.lines.Line.{Line};
+ghost use Rattle.domain_store.specs.Store.{BelongsTo, has_domain};
+ghost use Rattle.nearest_weights.specs.Found.{IsHoldingFreeLeaf};
 
 use domain_store::Domains;
 use nearest_weights::NearestWeights;
@@ -12,18 +15,45 @@ pub fn likely_most(alloc: Global, problem: &Problem) -> Result<u32, AllocError>
     requires { problem.now.days ≡ 7 }
     ensures { IfOk result (λ n. n ≤ problem.now.weeks) }
 {
+    let mut weights = NearestWeights::new(alloc, problem)?;
+    halved(alloc, problem, &mut weights)
+}
+
+// The same by these weights.
+fn halved(alloc: Global, problem: &Problem, weights: &mut NearestWeights) -> Result<u32, AllocError>
+    requires week { problem.now.days ≡ 7 }
+    requires problem { weights.old.problem ≡ problem.now }
+    ensures same { weights.new ≡ weights.old }
+    ensures most { IfOk result (λ n. n ≤ problem.now.weeks) }
+{
     problem.prove_limits();
     let doms = Domains::new(alloc, problem)?;
-    let mut weights = NearestWeights::new(alloc, problem)?;
     let mut low = 0;
     let mut high = problem.weeks() + 1;
     while low + 1 < high {
         let goal = low + (high - low) / 2;
-        if weights.free_leaf_at_top(alloc, &doms, goal)?.is_some() {
+        if has_leaf(alloc, weights, &doms, goal)? {
             high = goal;
         } else {
             low = goal;
         }
     }
     Ok(low)
+}
+
+// Whether a free leaf with this goal is found at the top.
+fn has_leaf(
+    alloc: Global,
+    weights: &mut NearestWeights,
+    doms: &Domains,
+    goal: u32,
+) -> Result<bool, AllocError>
+    requires belongs { BelongsTo weights.old.problem doms.now }
+    requires week { weights.old.problem.days ≡ 7 }
+    requires goal { goal ≤ weights.old.problem.weeks + 1 }
+    ensures same { weights.new ≡ weights.old }
+    ensures leaf { IfOk result (λ has. IsTrue has
+        → (line : Line) × IsHoldingFreeLeaf weights.old.problem goal (has_domain doms.now) line) }
+{
+    Ok(weights.free_leaf_at_top(alloc, doms, goal)?.is_some())
 }

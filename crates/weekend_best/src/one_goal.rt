@@ -1,6 +1,7 @@
 // A search with one goal.
-ghost use Rattle.std.specs.Prelude.{◌≡◌, ◌+◌, ◌*◌, ◌^◌, ◌<◌, ◌≤◌, IfOk};
+ghost use Rattle.std.specs.Prelude.{◌≡◌, ◌+◌, ◌*◌, ◌^◌, ◌<◌, ◌≤◌, Some, IfOk};
 ghost use Rattle.rwsp_terms.specs.Instance.{cells, shift_count};
+ghost use Rattle.roster_planner.specs.Reasons.{AreCaseReasons, WeighNoWords};
 ghost use Rattle.roster_search.specs.Founds.{HasSpentBudget};
 ghost use Rattle.weekend_best.specs.Bests.{IsFoundWith};
 ghost use Rattle.weekend_best.specs.FreeSharp.{FailsFreeAtTop};
@@ -8,8 +9,9 @@ ghost use Rattle.weekend_best.specs.FreeSharp.{FailsFreeAtTop};
 use crate::guide::BestGuide;
 use crate::top_leaf::proof_at_top;
 use domain_store::Domains;
-use roster_planner::case_reasons;
-use roster_search::{Found, guided_search};
+use propagators::Propagator;
+use roster_planner::{CaseReasons, case_reasons};
+use roster_search::{Found, Guide, guided_search};
 use rwsp_model::Problem;
 use rwsp_terms::limits::GREATEST_BUDGET;
 use std::alloc::{AllocError, Global};
@@ -32,30 +34,56 @@ pub fn search_with(
 {
     match proof_at_top(alloc, problem, goal)? {
         Some(proof) => Ok(Found::NoRoster(proof)),
-        None => split_cases(alloc, problem, goal, wish, budget),
+        None => {
+            let guide = BestGuide::new(alloc, problem, goal, wish)?;
+            split_cases(alloc, problem, goal, guide, budget)
+        }
     }
 }
 
-// The same where the free leaf of one turn doesn't hold at the top.
-fn split_cases(
+// The same with this guide, where the free leaf of one turn doesn't hold at the top.
+fn split_cases<G: Guide + Drop>(
     alloc: Global,
     problem: &Problem,
     goal: u32,
-    wish: u32,
+    guide: G,
     budget: u32,
 ) -> Result<Found, AllocError>
     requires week { problem.now.days ≡ 7 }
     requires goal { goal ≤ problem.now.weeks + 1 }
     requires budget { (1 ≤ budget) × (budget ≤ GREATEST_BUDGET) }
     requires top { FailsFreeAtTop problem.now goal }
+    requires guide { G.serves guide problem.now (Some goal) }
+    ensures found { IfOk result (IsFoundWith problem.now budget goal) }
+    ensures complete { IfOk result (λ found.
+        HasSpentBudget found → budget + 1 < 2 * (shift_count problem.now + 1) ^ cells problem.now) }
+{
+    let reasons = full_reasons(alloc, problem)?;
+    search_by(alloc, problem, goal, reasons, guide, budget)
+}
+
+// The same by these reasons. Their type and the guide's are left open, since nothing else of them matters here.
+fn search_by<A: Propagator + Drop, G: Guide + Drop>(
+    alloc: Global,
+    problem: &Problem,
+    goal: u32,
+    mut reasons: A,
+    mut guide: G,
+    budget: u32,
+) -> Result<Found, AllocError>
+    requires week { problem.now.days ≡ 7 }
+    requires goal { goal ≤ problem.now.weeks + 1 }
+    requires budget { (1 ≤ budget) × (budget ≤ GREATEST_BUDGET) }
+    requires top { FailsFreeAtTop problem.now goal }
+    requires serves { A.serves reasons problem.now }
+    requires reasons { AreCaseReasons problem.now (A.leaves reasons) (A.spent reasons) }
+    requires unweighed { WeighNoWords (A.leaves reasons) }
+    requires guide { G.serves guide problem.now (Some goal) }
     ensures found { IfOk result (IsFoundWith problem.now budget goal) }
     ensures complete { IfOk result (λ found.
         HasSpentBudget found → budget + 1 < 2 * (shift_count problem.now + 1) ^ cells problem.now) }
 {
     problem.prove_limits();
-    let doms = Domains::new(alloc, problem)?;
-    let mut reasons = case_reasons(alloc, problem, &doms)?;
-    let mut guide = BestGuide::new(alloc, problem, goal, wish)?;
     guided_search(
         alloc,
         problem,
@@ -65,4 +93,15 @@ fn split_cases(
         &mut guide,
         budget,
     )
+}
+
+// The reasons of cases, for a search that begins with full domains.
+fn full_reasons(alloc: Global, problem: &Problem) -> Result<CaseReasons, AllocError>
+    ensures serves { IfOk result (λ r. ⟦<CaseReasons as Propagator>⟧.serves r problem.now) }
+    ensures reasons { IfOk result (λ r.
+        AreCaseReasons problem.now (⟦<CaseReasons as Propagator>⟧.leaves r) (⟦<CaseReasons as Propagator>⟧.spent r)) }
+    ensures unweighed { IfOk result (λ r. WeighNoWords (⟦<CaseReasons as Propagator>⟧.leaves r)) }
+{
+    let doms = Domains::new(alloc, problem)?;
+    case_reasons(alloc, problem, &doms)
 }

@@ -43,11 +43,27 @@ fn holds_at_top(
     requires short { NamesShortRules problem.now rules.now }
     ensures { IfOk result (λ holds. IsTrue holds ↔ HoldsFreeAtTop problem.now goal rules.now) }
 {
-    problem.prove_limits();
     let tails = TailRules::of(alloc, problem, rules)?;
+    holds_by(alloc, problem, &tails, goal)
+}
+
+// Whether the leaf holds by the rules of these tails.
+fn holds_by(
+    alloc: Global,
+    problem: &Problem,
+    tails: &TailRules,
+    goal: u32,
+) -> Result<bool, AllocError>
+    requires week { problem.now.days ≡ 7 }
+    requires goal { goal ≤ problem.now.weeks + 1 }
+    requires same { tails.now.problem ≡ problem.now }
+    requires rules { AreRules problem.now tails.now.rules }
+    ensures { IfOk result (λ holds. IsTrue holds ↔ HoldsFreeAtTop problem.now goal tails.now.rules) }
+{
+    problem.prove_limits();
     let doms = Domains::new(alloc, problem)?;
     let weights = Weights::new(alloc);
-    match free_escape(alloc, problem, &tails, &doms, goal, 1, 1, &weights)? {
+    match free_escape(alloc, problem, tails, &doms, goal, 1, 1, &weights)? {
         Some(_) => Ok(false),
         None => Ok(true),
     }

@@ -1,9 +1,9 @@
 use Rattle.std.proofs.Common.{◌≡◌, ◌+◌, ◌-◌, ◌<◌, ◌≤◌}
-use Rattle.weekend_best.proofs.likely_most.likely_most.Given as goal
+use Rattle.weekend_best.proofs.likely_most.halved.Given as goal
 
 abbrev pub invariant-loop-low : goal.invariant-loop-low
 invariant-loop-low l = record {
-  problem : l.weights.problem ≡ l.problem;
+  same : l.weights ≡ l.fn.weights;
   between : l.low < l.high;
   within : l.high ≤ l.problem.weeks + 1;
 }
