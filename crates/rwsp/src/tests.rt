@@ -113,7 +113,10 @@ fn status_of<R: Threads + Sync, G: Gate>(
     sink: &mut MemorySink,
     gate: &G,
 ) -> u8 {
-    outcome_of(rt, alloc, words, shelf, sink, gate).status()
+    let outcome = outcome_of(rt, alloc, words, shelf, sink, gate);
+    let status = outcome.status();
+    drop(outcome);
+    status
 }
 
 // A run of a command line over these files. The call of the shelf and the call of the sink with these numbers fail;

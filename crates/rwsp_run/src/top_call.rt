@@ -23,7 +23,7 @@ use rwsp_answers::{Answer, Outcome, Stop, fixed_text, text_on};
 use rwsp_io::{Shelf, Sink, write_all};
 use rwsp_model::Problem;
 use rwsp_terms::limits::{GREATEST_BUDGET, MOST_WEEKS};
-use std::alloc::Global;
+use std::alloc::{AllocError, Global};
 use std::thread::Threads;
 
 /// An answer and its whole text.
@@ -241,8 +241,10 @@ fn fixed(alloc: Global, answer: Answer) -> Result<Reply, Stop>
     ensures text { IfOk result (λ r. (P : Instance) → r.text.items ≡ answer_text P r.answer) }
     ensures fault { IsErrOf result Stop.ReadFault → ⊥ }
 {
-    let text = fixed_text(alloc, &answer)?;
-    Ok(Reply { answer, text })
+    match fixed_text(alloc, &answer) {
+        Ok(text) => Ok(Reply { answer, text }),
+        Err(AllocError) => Err(without_memory(answer)),
+    }
 }
 
 /// The reply of an answer on a problem.
@@ -253,8 +255,17 @@ pub fn printed(alloc: Global, problem: &Problem, answer: Answer) -> Result<Reply
         IsPrintable problem.now r.answer × (r.text.items ≡ answer_text problem.now r.answer)) }
     ensures fault { IsErrOf result Stop.ReadFault → ⊥ }
 {
-    let text = text_on(alloc, problem, &answer)?;
-    Ok(Reply { answer, text })
+    match text_on(alloc, problem, &answer) {
+        Ok(text) => Ok(Reply { answer, text }),
+        Err(AllocError) => Err(without_memory(answer)),
+    }
+}
+
+// The end of a run that has an answer, of any type, and no memory for its text.
+fn without_memory<A: Drop>(_answer: A) -> Stop
+    ensures { result ≡ Stop.Memory }
+{
+    Stop::Memory
 }
 
 // The answer to `plan`.
