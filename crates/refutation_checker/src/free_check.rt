@@ -1,10 +1,11 @@
 // The verdict on the text of a free log.
-ghost use Rattle.std.specs.Prelude.{◌≡◌, ◌≤◌, ◌+◌, ◌++◌, length, None, Some};
+ghost use Rattle.std.specs.Prelude.{◌≡◌, ◌≤◌, ◌+◌, ◌++◌, [], length, None, Some};
 ghost use Rattle.rwsp_terms.specs.declared.limits.TheConstants.{LONGEST_LOG};
 ghost use Rattle.rwsp_model.specs.Refusals.{MatchAnswer};
 ghost use Rattle.refutation_terms.specs.Log.{AreRules, GoalFits};
 ghost use Rattle.refutation_terms.specs.LogText.{free_header_text};
 ghost use Rattle.refutation_terms.specs.FreeVerdict.{IsFreeAccepted, IsFreeRefused};
+ghost use Rattle.tree_walk.specs.States.{IsStateOf};
 ghost use Rattle.refutation_checker.specs.FreeLines.{ArePassingLines};
 
 use crate::judge::Judge;
@@ -49,11 +50,31 @@ fn passing_lines(
         Err(_) => return Err(Fail::Memory),
     };
     let mut judge = Judge::new(problem, &header.named, Some(header.goal));
+    judged_lines(alloc, problem, header, &mut walk, &mut judge)
+}
+
+// The same with a walk that has read no line yet.
+fn judged_lines(
+    alloc: Global,
+    problem: &Problem,
+    header: &FreeHeader,
+    walk: &mut Walk,
+    judge: &mut Judge,
+) -> Result<Vec<Line>, Fail<LogRefusal>>
+    requires rules { AreRules problem.now header.now.named }
+    requires goal { GoalFits problem.now None (Some header.now.goal) }
+    requires long { length header.now.body.now ≤ LONGEST_LOG }
+    requires walk { IsStateOf problem.now None [] walk.old }
+    requires judge { judge.old ≡ record { problem = problem.now; named = header.now.named; goal = Some header.now.goal } }
+    ensures { MatchAnswer result
+        (λ lines. ArePassingLines problem.now header.now.named header.now.goal header.now.body.now lines.items)
+        (IsFreeRefused problem.now (free_header_text header.now.named header.now.goal ++ header.now.body.now)) }
+{
     let mut reader = LineReader::new(header.body);
     let mut lines = Vec::new(alloc);
     while let Some(bytes) = reader.next() {
         let number = lines.len() as u32 + 4;
-        let line = match judge.read_line(alloc, &mut walk, bytes, number) {
+        let line = match judge.read_line(alloc, walk, bytes, number) {
             Ok(line) => line,
             Err(fail) => return Err(fail),
         };

@@ -133,8 +133,14 @@ impl<'a> Judge<'a> {
         };
         match self.pass(alloc, walk, &line, number) {
             Ok(None) => Ok(line),
-            Ok(Some(why)) => Err(Fail::Refused(why)),
-            Err(_) => Err(Fail::Memory),
+            Ok(Some(why)) => {
+                drop(line);
+                Err(Fail::Refused(why))
+            }
+            Err(_) => {
+                drop(line);
+                Err(Fail::Memory)
+            }
         }
     }
 
@@ -251,9 +257,9 @@ impl<'a> Judge<'a> {
             (IsLeastClean self.old.problem (has_domain doms.now) p len rules.now)) }
     {
         let tails = tails_of(alloc, self.problem, self.tails.take(), rules)?;
-        let found = escape(alloc, &tails, doms, p, len)?;
+        let found = escape(alloc, &tails, doms, p, len);
         self.tails = Some(tails);
-        Ok(found)
+        found
     }
 
     // The least of the heaviest words of `turns` turns that are clean for the rules, where it
@@ -278,9 +284,9 @@ impl<'a> Judge<'a> {
             (Escapes self.old.problem (has_domain doms.now) (Bound p turns rules.now weights.now))) }
     {
         let tails = tails_of(alloc, self.problem, self.tails.take(), rules)?;
-        let found = bound_escape(alloc, self.problem, &tails, doms, p, turns, weights)?;
+        let found = bound_escape(alloc, self.problem, &tails, doms, p, turns, weights);
         self.tails = Some(tails);
-        Ok(found)
+        found
     }
 
     // The least of the heaviest words of `turns` turns that are clean for the rules, with a reward
@@ -316,9 +322,9 @@ impl<'a> Judge<'a> {
             turns,
             reward,
             weights,
-        )?;
+        );
         self.tails = Some(tails);
-        Ok(found)
+        found
     }
 }
 

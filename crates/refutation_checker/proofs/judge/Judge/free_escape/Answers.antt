@@ -1,5 +1,5 @@
 use Rattle.std.proofs.Common.{subst}
-use Rattle.std.specs.Prelude.{MatchOption}
+use Rattle.std.specs.Prelude.{IfOk, MatchOption}
 use Rattle.refutation_terms.specs.declared.lines.Line.TheVariants.{Free}
 use Rattle.refutation_terms.specs.FreeLeaves.{IsTooLightFree}
 use Rattle.refutation_terms.specs.Verdict.{EscapesFree}
@@ -13,5 +13,5 @@ returns-clause-escape c =
     let D = has_domain c.args.doms.now in
     let R = c.args.rules.now in
     let y = c.args.weights.now in
-    subst (λ (j : Judging). MatchOption c.in_ok-found.found (IsTooLightFree j.problem c.args.goal D c.args.turns c.args.reward R y) (EscapesFree j.problem c.args.goal D (Free c.args.turns c.args.reward R y))) c.self.view_is
-    (rw c.in_ok-tails.ensures.rules at c.in_ok-found.ensures)
+    subst (λ (j : Judging). IfOk c.free_escape-found.result (λ found. MatchOption found (IsTooLightFree j.problem c.args.goal D c.args.turns c.args.reward R y) (EscapesFree j.problem c.args.goal D (Free c.args.turns c.args.reward R y)))) c.self.view_is
+    (rw c.in_ok-tails.ensures.rules at c.free_escape-found.ensures)

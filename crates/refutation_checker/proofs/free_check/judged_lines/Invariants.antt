@@ -1,6 +1,6 @@
 use Rattle.std.proofs.Common.{◌≡◌, length, Some}
 use Rattle.refutation_checker.proofs.FreeReading.{ReadSoFar}
-use Rattle.refutation_checker.proofs.free_check.passing_lines.Given as goal
+use Rattle.refutation_checker.proofs.free_check.judged_lines.Given as goal
 
 abbrev pub invariant-loop-bytes : goal.invariant-loop-bytes
 invariant-loop-bytes l = record {

@@ -1,22 +1,22 @@
 use Rattle.std.proofs.Common.{List, None, ◌∙◌, sym, subst, refl, arith, IsTrue, false}
 use Rattle.refutation_terms.specs.declared.lines.Line.{Line}
 use Rattle.refutation_checker.proofs.FreeReading.{ReadSoFar, read_more, fail_read, read_all, read_ends}
-use Rattle.refutation_checker.proofs.free_check.passing_lines.Goals as goal
+use Rattle.refutation_checker.proofs.free_check.judged_lines.Goals as goal
 
-pub returns-in-Err-read_line : goal.returns-in-Err-read_line
-returns-in-Err-read_line c =
+pub returns-in-Err : goal.returns-in-Err
+returns-in-Err c =
     let h = c.args.header.now in
     let so = c.loop-bytes.invariant.read in
-    fail_read c.args.problem.now h.named h.goal c.loop-bytes.judge h.body.now c.loop-bytes.reader c.in-Some.bytes.now c.next.new.self c.loop-bytes.walk c.read_line.new.walk c.loop-bytes.lines.items _ c.in-Err-read_line.fail _
+    fail_read c.args.problem.now h.named h.goal c.loop-bytes.judge h.body.now c.loop-bytes.reader c.in-Some.bytes.now c.next.new.self c.loop-bytes.walk c.read_line.new.walk c.loop-bytes.lines.items _ c.in-Err.fail _
     c.requires.rules c.requires.goal c.loop-bytes.invariant.judge so c.in-Some.ensures.line.1 c.in-Some.ensures.end
-    (omega (arith, c.len.ensures, so.few, c.requires.long)) c.in-Err-read_line.ensures.read
+    (omega (arith, c.len.ensures, so.few, c.requires.long)) c.in-Err.ensures.read
 
 pub loop-bytes-preserved : goal.loop-bytes-preserved
 loop-bytes-preserved c =
     let P = c.args.problem.now in
     let h = c.args.header.now in
-    let more = read_more P h.named h.goal c.loop-bytes.judge h.body.now c.loop-bytes.reader c.in-Some.bytes.now c.next.new.self c.loop-bytes.walk c.read_line.new.walk c.loop-bytes.lines.items c.in-Ok-read_line.line
-    c.loop-bytes.invariant.judge c.loop-bytes.invariant.read c.in-Some.ensures.line.0 c.in-Some.ensures.line.1 c.in-Ok-read_line.ensures.read in
+    let more = read_more P h.named h.goal c.loop-bytes.judge h.body.now c.loop-bytes.reader c.in-Some.bytes.now c.next.new.self c.loop-bytes.walk c.read_line.new.walk c.loop-bytes.lines.items c.in-Ok.line
+    c.loop-bytes.invariant.judge c.loop-bytes.invariant.read c.in-Some.ensures.line.0 c.in-Some.ensures.line.1 c.in-Ok.ensures.read in
     record {
       judge = c.read_line.ensures.same ∙ c.loop-bytes.invariant.judge;
       read = subst (λ (ls : List Line). ReadSoFar P h.named h.goal h.body.now c.next.new.self c.read_line.new.walk ls) (sym c.in_default-push.ensures.items) more;
@@ -30,8 +30,8 @@ returns-then-is_whole c =
     read_all P h.named h.goal h.body.now c.loop-bytes.reader c.loop-bytes.walk c.loop-bytes.lines.items c.requires.rules c.requires.goal so c.in_default.ensures.line
     ((c.if-is_whole.ensures.tree P None c.loop-bytes.lines.items so.state).0 refl)
 
-pub returns : goal.returns
-returns c =
+pub returns-else-is_whole : goal.returns-else-is_whole
+returns-else-is_whole c =
     let P = c.args.problem.now in
     let h = c.args.header.now in
     let so = c.loop-bytes.invariant.read in
