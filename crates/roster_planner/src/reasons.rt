@@ -43,8 +43,7 @@ pub fn case_reasons(
     Ok(Pair::new(plain, cycle))
 }
 
-// Windows and days, asked in this order. It is a function of its own, as those above and below it, since what a body
-// costs to prove grows with the fields of all that it owns at once.
+// Windows and days, asked in this order.
 fn plain_reasons(
     alloc: Global,
     problem: &Problem,
