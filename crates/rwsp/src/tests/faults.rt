@@ -5,7 +5,9 @@ use super::logs::{SPLIT, TURN, TWOS};
 use super::plans::THREE_OF_FIVE;
 use super::staffs::{NONE_TO_THREE, TWO_OF_FOUR};
 use super::{TWO_DAYS, ran};
+use std::alloc::Global;
 use std::test::Fail;
+use std::thread::Threads;
 
 // Command lines, with the texts of the files that they read: F, and G where there is a second one. A file without a
 // text isn't there, and isn't looked for.
@@ -44,48 +46,98 @@ fn calls_for(text: &str) -> u64 {
     }
 }
 
-// Each file is read once and whole, so a run has no more calls than these.
+// Whether each call of the shelf that is refused gives the fault's status and writes nothing. Each file is read once and
+// whole, so there are no more calls than those of both.
+fn shelf_faults_end<R: Threads + Sync>(
+    rt: &R,
+    alloc: Global,
+    line: &str,
+    problem: &str,
+    second: &str,
+    status: u8,
+) -> Result<bool, Fail> {
+    let files = [("F", problem), ("G", second)];
+    let calls = calls_for(problem).saturating_add(calls_for(second));
+    for call in 1..calls.saturating_add(1) {
+        let refused = ran(rt, alloc, line, &files, call, 0)?;
+        if refused.status != 6 || !refused.text.is_empty() {
+            return Ok(false);
+        }
+    }
+    let behind = ran(rt, alloc, line, &files, calls.saturating_add(1), 0)?;
+    Ok(behind.status == status)
+}
+
 #[test]
 fn calls_of_the_shelf(rt: HostRuntime) -> Result<(), Fail> {
-    let alloc = rt.alloc();
-    for (line, problem, second, status) in RUNS {
-        let files = [("F", problem), ("G", second)];
-        let calls = calls_for(problem).saturating_add(calls_for(second));
-        for call in 1..calls.saturating_add(1) {
-            let refused = ran(&rt, alloc, line, &files, call, 0)?;
-            assert_eq!(rt; refused.status, 6, "{line}, call {call}");
-            assert!(rt; refused.text.is_empty(), "{line}, call {call}");
-        }
-        let behind = ran(&rt, alloc, line, &files, calls.saturating_add(1), 0)?;
-        assert_eq!(rt; behind.status, status, "{line}");
+    for (line, problem, second, status) in &RUNS {
+        assert!(rt;
+            shelf_faults_end(&rt, rt.alloc(), line, problem, second, *status)?,
+            "{line}"
+        );
     }
     Ok(())
 }
 
-// The sink takes forty bytes at a time: what was put before the refused call is the front of the text.
+// Whether each call of the sink that is refused gives the fault's status, and what was put before it is the front of
+// the text. The sink takes forty bytes at a time.
+fn sink_faults_end<R: Threads + Sync>(
+    rt: &R,
+    alloc: Global,
+    line: &str,
+    files: &[(&str, &str)],
+    status: u8,
+) -> Result<bool, Fail> {
+    let whole = ran(rt, alloc, line, files, 0, 0)?;
+    Ok(
+        whole.status == status
+            && fronts_are_put(rt, alloc, line, files, whole.text.as_bytes(), status)?,
+    )
+}
+
+// The same for a run that writes this text.
+fn fronts_are_put<R: Threads + Sync>(
+    rt: &R,
+    alloc: Global,
+    line: &str,
+    files: &[(&str, &str)],
+    text: &[u8],
+    status: u8,
+) -> Result<bool, Fail> {
+    let mut written = Vec::new(alloc);
+    let mut call = 1u64;
+    for piece in text.chunks(40) {
+        if !is_ended(rt, alloc, line, files, call, 7, &written)? {
+            return Ok(false);
+        }
+        written.extend_from_slice(piece)?;
+        call = call.saturating_add(1);
+    }
+    is_ended(rt, alloc, line, files, call, status, &written)
+}
+
+// Whether the run ends with this status and has written these bytes, where this call of the sink is refused.
+fn is_ended<R: Threads + Sync>(
+    rt: &R,
+    alloc: Global,
+    line: &str,
+    files: &[(&str, &str)],
+    call: u64,
+    status: u8,
+    written: &[u8],
+) -> Result<bool, Fail> {
+    let ended = ran(rt, alloc, line, files, 0, call)?;
+    Ok(ended.status == status && ended.text.as_bytes() == written)
+}
+
 #[test]
 fn calls_of_the_sink(rt: HostRuntime) -> Result<(), Fail> {
-    let alloc = rt.alloc();
-    for (line, problem, second, status) in RUNS {
-        let files = [("F", problem), ("G", second)];
-        let whole = ran(&rt, alloc, line, &files, 0, 0)?;
-        assert_eq!(rt; whole.status, status, "{line}");
-        let mut written = Vec::new(alloc);
-        let mut call = 1u64;
-        for piece in whole.text.as_bytes().chunks(40) {
-            let refused = ran(&rt, alloc, line, &files, 0, call)?;
-            assert_eq!(rt; refused.status, 7, "{line}, call {call}");
-            assert_eq!(rt;
-                refused.text.as_bytes(),
-                written.as_slice(),
-                "{line}, call {call}"
-            );
-            written.extend_from_slice(piece)?;
-            call = call.saturating_add(1);
-        }
-        let behind = ran(&rt, alloc, line, &files, 0, call)?;
-        assert_eq!(rt; behind.status, status, "{line}");
-        assert_eq!(rt; behind.text.as_bytes(), written.as_slice(), "{line}");
+    for (line, problem, second, status) in &RUNS {
+        let files = [("F", *problem), ("G", *second)];
+        assert!(rt;
+            sink_faults_end(&rt, rt.alloc(), line, &files, *status)?,
+            "{line}"
+        );
     }
     Ok(())
 }

@@ -1,7 +1,7 @@
 // Tiny problems against a listing of all their rosters.
 use super::plans::{is_accepted, printed};
 use super::{ran, verifies};
-use std::alloc::Global;
+use std::alloc::{AllocError, Global};
 use std::test::Fail;
 use std::thread::Threads;
 
@@ -241,22 +241,44 @@ fn is_refutation<R: Threads + Sync>(
     )
 }
 
-#[test]
-fn words_are_judged(rt: HostRuntime) -> Result<(), Fail> {
-    let alloc = rt.alloc();
-    for (problem, rosters, cells, verdict) in TINY {
-        let status = if verdict == "meets\n" { 0 } else { 5 };
-        assert!(rt;
-            verifies(&rt, alloc, problem, cells, status, verdict)?,
-            "{problem}{cells}"
-        );
-        for roster in rosters.split("\n\n") {
-            let is_right = roster.is_empty()
-                || verifies(&rt, alloc, problem, roster, 0, "meets\n")?;
-            assert!(rt; is_right, "{problem}{roster}");
+// Whether `verify` says this of the cells, and accepts each roster of the listing.
+fn are_judged<R: Threads + Sync>(
+    rt: &R,
+    alloc: Global,
+    problem: &str,
+    rosters: &str,
+    cells: &str,
+    verdict: &str,
+) -> Result<bool, AllocError> {
+    let status = if verdict == "meets\n" { 0 } else { 5 };
+    for roster in rosters.split("\n\n") {
+        if !roster.is_empty() && !verifies(rt, alloc, problem, roster, 0, "meets\n")? {
+            return Ok(false);
         }
     }
+    verifies(rt, alloc, problem, cells, status, verdict)
+}
+
+#[test]
+fn words_are_judged(rt: HostRuntime) -> Result<(), Fail> {
+    for (problem, rosters, cells, verdict) in &TINY {
+        assert!(rt;
+            are_judged(&rt, rt.alloc(), problem, rosters, cells, verdict)?,
+            "{problem}{cells}"
+        );
+    }
     Ok(())
+}
+
+// Whether the plan is a roster of the listing, which isn't empty.
+fn is_listed<R: Threads + Sync>(
+    rt: &R,
+    alloc: Global,
+    problem: &str,
+    rosters: &str,
+) -> Result<bool, Fail> {
+    let roster = printed(rt, alloc, &["plan", "F"], problem, 0)?;
+    Ok(!roster.is_empty() && rosters.contains(roster.as_str()))
 }
 
 // A plan is a roster of the listing, or a refutation where that is empty. The refutation of the problem before is none
@@ -265,24 +287,17 @@ fn words_are_judged(rt: HostRuntime) -> Result<(), Fail> {
 fn plans_are_as_listed(rt: HostRuntime) -> Result<(), Fail> {
     let alloc = rt.alloc();
     let mut other = String::from_str(alloc, "rwsp-log 1\nrules\nopen\n")?;
-    for (problem, rosters, _, _) in TINY {
+    for (problem, rosters, _, _) in &TINY {
         if rosters.is_empty() {
             other = printed(&rt, alloc, &["plan", "F"], problem, 1)?;
-            assert!(rt;
-                is_refutation(&rt, alloc, problem, other.as_str())?,
-                "{problem}"
-            );
-        } else {
-            let roster = printed(&rt, alloc, &["plan", "F"], problem, 0)?;
-            assert!(rt;
-                !roster.is_empty() && rosters.contains(roster.as_str()),
-                "{problem}{roster}"
-            );
-            assert!(rt;
-                !is_accepted(&rt, alloc, problem, other.as_str())?,
-                "{problem}{other}"
-            );
         }
+        let is_right = if rosters.is_empty() {
+            is_refutation(&rt, alloc, problem, other.as_str())?
+        } else {
+            is_listed(&rt, alloc, problem, rosters)?
+                && !is_accepted(&rt, alloc, problem, other.as_str())?
+        };
+        assert!(rt; is_right, "{problem}{other}");
     }
     Ok(())
 }
