@@ -8,3 +8,4 @@ pub mod Heads
 pub mod LogCuts
 pub mod OneVerdict
 pub mod Refused
+pub mod Printing

@@ -1,5 +1,5 @@
 -- What is answered at a heading's place.
-use Rattle.std.proofs.Common.{◌≡◌, ◌≢◌, ℕ, ◌+◌, ◌^◌, ◌<◌, ◌≤◌, List, [], ◌∷◌, ◌++◌, length, get_or, Option, Some, None, refl, ap, sym, ◌∙◌, subst, arith, inl, inr}
+use Rattle.std.proofs.Common.{◌≡◌, ◌≢◌, ℕ, ◌+◌, ◌^◌, ◌<◌, ◌≤◌, List, [], ◌∷◌, ◌++◌, length, get_or, Option, Some, None, refl, ap, sym, ◌∙◌, subst, arith, inl, inr, length-append}
 use Rattle.std.specs.Prelude.{codes}
 use Rattle.std.proofs.lemmas.List.{append-nil, append_assoc}
 use Rattle.std.proofs.lemmas.Option.{slice_get-get_or}
@@ -39,6 +39,11 @@ at_start P text place a b c = record {
 -- the same with an equal rest
 along : (P : Instance) (text : List ℕ) (low : ℕ) (logs : List Log) (rest other : List ℕ) → rest ≡ other → StandsBehindLogs P text low logs rest → StandsBehindLogs P text low logs other
 along P text low logs rest other e h = subst (StandsBehindLogs P text low logs) e h
+
+-- what is behind a line is shorter
+pub shorter_behind : (whole line more : List ℕ) → line ≢ [] → whole ≡ line ++ more → length more < length whole
+shorter_behind whole [] more some e = absurd (some refl)
+shorter_behind whole (b ∷ line) more some e = omega (arith, ap length e, length-append line more)
 
 pub ends_here : (P : Instance) (text : List ℕ) (place : Place) → IsPlace P text place → place.rest ≡ [] → EndsTooEarly P text
 ends_here P text place h e = record {

@@ -1,7 +1,11 @@
 // The sections of a staff text, judged one after the other.
 ghost use Rattle.std.specs.Prelude.{◌≡◌, ◌≢◌, ℕ, ◌<◌, ◌≤◌, ◌^◌, List, length, MatchOption, IfOk, IsSome};
-ghost use Rattle.rwsp_terms.specs.declared.limits.TheConstants.{MOST_WORKERS};
+ghost use Rattle.rwsp_terms.specs.declared.limits.TheConstants.{LONGEST_LOG, MOST_WORKERS};
 ghost use Rattle.rwsp_terms.specs.Instance.{Instance};
+ghost use Rattle.rwsp_model.specs.Refusals.{MatchAnswer};
+ghost use Rattle.refutation_terms.specs.Log.{Log};
+ghost use Rattle.refutation_terms.specs.Verdict.{IsAccepted, IsRefused};
+ghost use Rattle.crew_size.specs.Sizes.{with_weeks, IsSize};
 ghost use Rattle.crew_size.specs.Texts.{refuted_line, roster_line, none_line};
 ghost use Rattle.crew_size.specs.Places.{Place, IsPlace, IsAt, IsNextOf, IsLastOf, IsHeadingNumber, MayFollow, heading_line, IsShortPlace, IsFurther, IsHeadingAnswer, first_size};
 ghost use Rattle.crew_size.specs.declared.heading.Heading.{Heading};
@@ -12,7 +16,7 @@ use crate::sizes::with_weeks;
 use crate::{StaffRefusal, Staffed};
 use potential_bounds::Gate;
 use refutation_checker::check_with;
-use refutation_log::LineReader;
+use refutation_log::{LineReader, LogRefusal};
 use roster_checker::first_broken;
 use roster_print::read_roster;
 use rwsp_model::{Fail, Problem};
@@ -107,20 +111,42 @@ impl<'a> Sections<'a> {
             IsHeadingAnswer problem.now text self.new result }
         ensures further { IfOk result (λ found. MatchOption found (IsFurther self.new self.old) (λ _. Unit {0})) }
     {
-        let Ok(sized) = with_weeks(problem, weeks) else {
-            return Err(Fail::Memory);
-        };
         let (log, rest) = bytes.split_at(section_end(bytes));
-        match check_with(rt, alloc, &sized, log, workers, gate) {
+        match check_log(rt, alloc, problem, weeks, log, workers, gate) {
             Err(Fail::Memory) => Err(Fail::Memory),
             Err(Fail::Refused(why)) => Err(Fail::Refused(StaffRefusal::Log(weeks, why))),
-            Ok(_) => {
+            Ok(()) => {
                 self.sizes = Some((first_size(self.sizes, weeks), weeks + 1));
                 self.line += 1 + count_feeds(log) as u32;
                 self.rest = rest;
                 Ok(None)
             }
         }
+    }
+}
+
+// Checks the log for the problem with this number of weeks.
+fn check_log<R: Threads + Sync, G: Gate>(
+    rt: &R,
+    alloc: Global,
+    problem: &Problem,
+    weeks: u32,
+    log: &[u8],
+    workers: u32,
+    gate: &G,
+) -> Result<(), Fail<LogRefusal>>
+    requires size { IsSize problem.now weeks }
+    requires long { length log.now ≤ LONGEST_LOG }
+    requires workers { (1 ≤ workers) × (workers ≤ MOST_WORKERS) }
+    ensures { MatchAnswer result (λ _. (g : Log) × IsAccepted (with_weeks problem.now weeks) log.now g)
+        (IsRefused (with_weeks problem.now weeks) log.now) }
+{
+    let Ok(sized) = with_weeks(problem, weeks) else {
+        return Err(Fail::Memory);
+    };
+    match check_with(rt, alloc, &sized, log, workers, gate) {
+        Ok(_) => Ok(()),
+        Err(fail) => Err(fail),
     }
 }
 

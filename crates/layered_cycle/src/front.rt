@@ -73,11 +73,7 @@ impl Front {
             day,
             gain,
         )?;
-        let picks = picks(alloc, &row, &growth.steps)?;
-        Ok(Front {
-            tails: tails_behind(alloc, &growth.nodes, &picks)?,
-            row: row.behind(alloc, &picks)?,
-        })
+        front_by(alloc, &row, &growth.steps, &growth.nodes)
     }
 }
 
@@ -115,6 +111,23 @@ fn row_behind<G: GainAfter>(
         next.offer(back.from, choice);
     }
     Ok(next)
+}
+
+// The front of the steps that are chosen where they lead.
+fn front_by(
+    alloc: Global,
+    row: &ChoiceRow,
+    steps: &[Step],
+    nodes: &[Tail],
+) -> Result<Front, AllocError>
+    ensures { IfOk result (λ f. (length (filter (is_picked row.now) steps.now) < 2 ^ 32)
+        × (f.tails.items ≡ map (λ s. tail_at nodes.now s.to) (filter (is_picked row.now) steps.now))
+        × (f.row ≡ map (λ s. choice_at row.now s.to) (filter (is_picked row.now) steps.now))) }
+{
+    let picks = picks(alloc, row, steps)?;
+    let tails = tails_behind(alloc, nodes, &picks)?;
+    let row = row.behind(alloc, &picks)?;
+    Ok(Front { tails, row })
 }
 
 // The steps that are chosen where they lead.

@@ -5,6 +5,7 @@ ghost use Rattle.rwsp_terms.specs.Instance.{cells};
 ghost use Rattle.rwsp_terms.specs.declared.data.Symbol.{Symbol};
 ghost use Rattle.refutation_terms.specs.Escape.{IsCleanOver};
 ghost use Rattle.domain_store.specs.Store.{has_domain, BelongsTo};
+ghost use Rattle.layered_cycle.specs.Automata.{IsAutomaton};
 ghost use Rattle.layered_cycle.specs.Graph.{Leads, AreLayers};
 
 use crate::Layer;
@@ -37,8 +38,29 @@ pub fn graph_of(
     ensures long { IfOk result (λ g. length g.layers.items ≡ len) }
     ensures layers { IfOk result (λ g. AreLayers g.node_counts.items g.layers.items) }
 {
-    empty_word_is_clean();
     let mut automaton = Automaton::new(alloc)?;
+    graph_by(alloc, &mut automaton, tails, doms, p, len)
+}
+
+// The same by the automaton.
+fn graph_by(
+    alloc: Global,
+    automaton: &mut Automaton,
+    tails: &TailRules,
+    doms: &Domains,
+    p: u32,
+    len: u32,
+) -> Result<LayeredGraph, AllocError>
+    requires automaton { IsAutomaton tails.now automaton.old }
+    requires belongs { BelongsTo tails.now.problem doms.now }
+    requires position { p < cells tails.now.problem }
+    requires few { len ≤ LONGEST_WORD }
+    ensures words { IfOk result (λ g. (u : List Symbol)
+        → IsCleanOver tails.now.problem (has_domain doms.now) p len tails.now.rules u ↔ Leads g.layers.items 0 u) }
+    ensures long { IfOk result (λ g. length g.layers.items ≡ len) }
+    ensures layers { IfOk result (λ g. AreLayers g.node_counts.items g.layers.items) }
+{
+    empty_word_is_clean();
     let mut layers = Vec::new(alloc);
     let mut node_counts = Vec::new(alloc);
     node_counts.push(1)?;
@@ -49,7 +71,7 @@ pub fn graph_of(
             steps,
             nodes: next,
             states: _,
-        } = layer_of_day(alloc, &mut automaton, tails, doms, p, i, &nodes)?;
+        } = layer_of_day(alloc, automaton, tails, doms, p, i, &nodes)?;
         layers.push(Layer::of(steps))?;
         node_counts.push(next.len() as u32)?;
         nodes = next;

@@ -36,20 +36,31 @@ pub fn heaviest_clean<G: GainAfter>(
         (λ h. IsBestOf (course rules.now doms.now p (G.gain_after_of gain.now)) len h.weight h.word)) }
 {
     let mut automaton = Automaton::new(alloc)?;
-    let fronts = fronts_of(alloc, &mut automaton, rules, doms, p, len, gain)?;
+    heaviest_by(alloc, &mut automaton, rules, doms, p, len, gain)
+}
+
+// The same by the automaton.
+fn heaviest_by<G: GainAfter>(
+    alloc: Global,
+    automaton: &mut Automaton,
+    rules: &TailRules,
+    doms: &Domains,
+    p: u32,
+    len: u32,
+    gain: &G,
+) -> Result<Option<HeavyWord>, AllocError>
+    requires automaton { IsAutomaton rules.now automaton.old }
+    requires belongs { BelongsTo rules.now.problem doms.now }
+    requires position { p < cells rules.now.problem }
+    requires few { len ≤ LONGEST_WORD }
+    ensures { IfOk result (λ found. MatchOption found
+        (IsDead rules.now.problem (has_domain doms.now) p len rules.now.rules)
+        (λ h. IsBestOf (course rules.now doms.now p (G.gain_after_of gain.now)) len h.weight h.word)) }
+{
+    let fronts = fronts_of(alloc, automaton, rules, doms, p, len, gain)?;
     match heaviest_end(&fronts.last.row) {
         Some(end) => {
-            let heavy = best_of(
-                alloc,
-                &mut automaton,
-                rules,
-                doms,
-                p,
-                len,
-                gain,
-                fronts,
-                end,
-            )?;
+            let heavy = best_of(alloc, automaton, rules, doms, p, len, gain, fronts, end)?;
             Ok(Some(heavy))
         }
         None => Ok(None),
@@ -76,24 +87,37 @@ pub fn heaviest_reaching<G: GainAfter>(
         × (least ≤ℤ h.weight))) }
 {
     let mut automaton = Automaton::new(alloc)?;
-    let fronts = fronts_of(alloc, &mut automaton, rules, doms, p, len, gain)?;
+    reaching_by(alloc, &mut automaton, rules, doms, p, len, gain, least)
+}
+
+// The same by the automaton.
+fn reaching_by<G: GainAfter>(
+    alloc: Global,
+    automaton: &mut Automaton,
+    rules: &TailRules,
+    doms: &Domains,
+    p: u32,
+    len: u32,
+    gain: &G,
+    least: i64,
+) -> Result<Option<HeavyWord>, AllocError>
+    requires automaton { IsAutomaton rules.now automaton.old }
+    requires belongs { BelongsTo rules.now.problem doms.now }
+    requires position { p < cells rules.now.problem }
+    requires few { len ≤ LONGEST_WORD }
+    ensures { IfOk result (λ found. MatchOption found
+        (AreBelow (course rules.now doms.now p (G.gain_after_of gain.now)) len least)
+        (λ h. IsBestOf (course rules.now doms.now p (G.gain_after_of gain.now)) len h.weight h.word
+        × (least ≤ℤ h.weight))) }
+{
+    let fronts = fronts_of(alloc, automaton, rules, doms, p, len, gain)?;
     let Some(end) = heaviest_end(&fronts.last.row) else {
         return Ok(None);
     };
     if is_below(end, least) {
         return Ok(None);
     }
-    let heavy = best_of(
-        alloc,
-        &mut automaton,
-        rules,
-        doms,
-        p,
-        len,
-        gain,
-        fronts,
-        end,
-    )?;
+    let heavy = best_of(alloc, automaton, rules, doms, p, len, gain, fronts, end)?;
     Ok(Some(heavy))
 }
 

@@ -50,6 +50,13 @@ IsLook P leaves spent S Quiet = (Closes P leaves S → ⊥) × ((p : ℕ) (x : S
 IsLook P leaves spent S (Closed line) = IsClosing P leaves S line
 IsLook P leaves spent S (Cut p x line) = (Closes P leaves S → ⊥) × IsCut P spent S p x line
 
+-- what two looks see together: what the second sees where it sees a leaf that holds or the first sees nothing, and
+-- else what the first sees
+abbrev pub joined : Look → Look → Look
+joined Quiet second = second
+joined first (Closed line) = Closed line
+joined first second = first
+
 -- the leaves include all window and day leaves of the problem
 pub record HasPlainLeaves (P : Instance) (leaves : Store → Line → Type 0) : Type 0 where
   pub windows : (S : Store) (number p len : ℕ) → LineFits P (Window number p len) → leaves S (Window number p len)

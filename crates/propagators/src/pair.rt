@@ -1,9 +1,11 @@
 // Two propagators as one.
-ghost use Rattle.std.specs.Prelude.{ℕ, ◌⊎◌, ◌↔◌};
+ghost use Rattle.std.specs.Prelude.{◌≡◌, ℕ, ◌⊎◌, ◌↔◌, Ok, IfOk};
 ghost use Rattle.rwsp_terms.specs.declared.data.Symbol.{Symbol};
 ghost use Rattle.rwsp_terms.specs.Instance.{Instance};
 ghost use Rattle.refutation_terms.specs.declared.lines.Line.{Line};
 ghost use Rattle.domain_store.specs.Store.{Store};
+ghost use Rattle.propagators.specs.declared.look.Look.{Look};
+ghost use Rattle.propagators.specs.Looks.{joined};
 
 use crate::{Look, Propagator};
 use domain_store::Domains;
@@ -48,17 +50,10 @@ impl<A: Propagator, B: Propagator> Propagator for Pair<A, B> {
 
     fn look(&mut self, alloc: Global, doms: &Domains) -> Result<Look, AllocError> {
         let first = self.first.look(alloc, doms)?;
-        if let Look::Closed(line) = first {
-            return Ok(Look::Closed(line));
+        if let Look::Closed(_) = first {
+            return Ok(first);
         }
-        let second = self.second.look(alloc, doms)?;
-        if let Look::Quiet = first {
-            return Ok(second);
-        }
-        if let Look::Closed(closing) = second {
-            return Ok(Look::Closed(closing));
-        }
-        Ok(first)
+        joined(first, self.second.look(alloc, doms))
     }
 
     fn narrowed(&mut self, doms: &Domains, p: u32) {
@@ -69,5 +64,24 @@ impl<A: Propagator, B: Propagator> Propagator for Pair<A, B> {
     fn undone(&mut self, doms: &Domains) {
         self.first.undone(doms);
         self.second.undone(doms);
+    }
+}
+
+// What two looks see together, where the second didn't fail.
+fn joined(first: Look, second: Result<Look, AllocError>) -> Result<Look, AllocError>
+    ensures { IfOk result (λ look. (other : Look) × (second ≡ Ok other) × (look ≡ joined first other)) }
+{
+    if let Look::Quiet = first {
+        return second;
+    }
+    match second {
+        Err(_) | Ok(Look::Closed(_)) => {
+            drop(first);
+            second
+        }
+        Ok(_) => {
+            drop(second);
+            Ok(first)
+        }
     }
 }

@@ -72,9 +72,11 @@ impl RootBounds {
     {
         let rules = short_rules(alloc, problem)?;
         let weights = holding_weights(rt, alloc, problem, &rules, doms, workers, gate)?;
+        let start = doms.copy()?;
+        let problem = problem.copy()?;
         Ok(RootBounds {
-            problem: problem.copy()?,
-            start: doms.copy()?,
+            problem,
+            start,
             rules,
             weights,
         })
@@ -150,9 +152,27 @@ fn holding_weights<R: Threads + Sync, G: Gate>(
     ensures { IfOk result (IsTopAnswer problem.now (has_domain doms.now) rules.now) }
 {
     let tails = TailRules::of(alloc, problem, rules)?;
-    match first_plain(rt, alloc, problem, &tails, doms, workers, gate)? {
+    holding_with(rt, alloc, problem, &tails, doms, workers, gate)
+}
+
+// The same by the tails of the rules.
+fn holding_with<R: Threads + Sync, G: Gate>(
+    rt: &R,
+    alloc: Global,
+    problem: &Problem,
+    tails: &TailRules,
+    doms: &Domains,
+    workers: u32,
+    gate: &G,
+) -> Result<Option<Weights>, AllocError>
+    requires same { tails.now.problem ≡ problem.now }
+    requires belongs { BelongsTo problem.now doms.now }
+    requires workers { (1 ≤ workers) × (workers ≤ 64) }
+    ensures { IfOk result (IsTopAnswer problem.now (has_domain doms.now) tails.now.rules) }
+{
+    match first_plain(rt, alloc, problem, tails, doms, workers, gate)? {
         Some(index) => Ok(Some(plain_bound(alloc, problem, index)?)),
-        None => search_weights(alloc, problem, &tails, doms, ROUNDS),
+        None => search_weights(alloc, problem, tails, doms, ROUNDS),
     }
 }
 

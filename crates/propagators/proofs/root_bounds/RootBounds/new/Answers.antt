@@ -13,4 +13,4 @@ invariant_of-result g c =
       short = record { are_rules = (c.in_ok-rules.ensures.ascends, c.in_ok-rules.ensures.in_range); all_short = c.in_ok-rules.ensures.rules };
       answer = c.in_ok-weights.ensures;
     } in
-    subst (Watches c.in_ok-copy.field-0) (sym c.in_ok-copy-2.ensures) (subst (λ P. Watches P c.args.doms.now) (sym c.in_ok-copy.ensures) here)
+    subst (Watches c.in_ok-problem.problem) (sym c.in_ok-start.ensures) (subst (λ P. Watches P c.args.doms.now) (sym c.in_ok-problem.ensures) here)

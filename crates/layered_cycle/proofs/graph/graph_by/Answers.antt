@@ -4,11 +4,11 @@ use Rattle.domain_store.specs.Store.{has_domain}
 use Rattle.word_tail.specs.declared.tail.Tail.{Tail}
 use Rattle.layered_cycle.specs.Grown.{Grown}
 use Rattle.layered_cycle.proofs.Reached.{built_none, built_more, reaches_words}
-use Rattle.layered_cycle.proofs.graph.graph_of.Goals as goal
+use Rattle.layered_cycle.proofs.graph.graph_by.Goals as goal
 
 pub loop-i-init : goal.loop-i-init
 loop-i-init c = record {
-  automaton = c.in_ok-automaton.ensures c.args.tails.now;
+  automaton = c.requires.automaton;
   built = rw (c.in_ok-push.ensures.items, c.in_ok-push-2.ensures.items, c.new-node_counts.ensures.items, c.new-nodes.ensures.items, c.new-layers.ensures.items, c.empty.ensures) (built_none c.args.tails.now (has_domain c.args.doms.now) c.args.p (c.empty_word_is_clean.ensures c.args.tails.now.problem c.args.tails.now.rules));
 }
 

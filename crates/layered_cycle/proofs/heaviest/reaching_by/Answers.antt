@@ -3,7 +3,7 @@ use Rattle.std.specs.Prelude.{◌<ℤ◌}
 use Rattle.std.proofs.lemmas.Int.{ints}
 use Rattle.layered_cycle.specs.Front.{Course, course}
 use Rattle.layered_cycle.proofs.HeaviestEnds.{none_of_all, below_end}
-use Rattle.layered_cycle.proofs.heaviest.heaviest_reaching.Goals as goal
+use Rattle.layered_cycle.proofs.heaviest.reaching_by.Goals as goal
 
 pub returns-in_default : goal.returns-in_default
 returns-in_default g c = λ u of.

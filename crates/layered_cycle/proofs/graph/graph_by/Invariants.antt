@@ -1,7 +1,7 @@
 use Rattle.domain_store.specs.Store.{has_domain}
 use Rattle.layered_cycle.specs.Automata.{IsAutomaton}
 use Rattle.layered_cycle.proofs.Reached.{Built}
-use Rattle.layered_cycle.proofs.graph.graph_of.Given as goal
+use Rattle.layered_cycle.proofs.graph.graph_by.Given as goal
 
 abbrev pub invariant-loop-i : goal.invariant-loop-i
 invariant-loop-i l = record {
