@@ -10,8 +10,8 @@ pub returns-clause-cycle : goal.returns-clause-cycle
 returns-clause-cycle c =
     let width = c.in_ok-layers.width in
     started c.args.tails.now c.in_ok-layers.layers.layers c.in_ok-sets.sets.items c.in_ok-front.front c.in_ok-front.back (set (replicate width false) 0 true) (replicate width true) width c.cells.result (length c.layers-2.result.now)
-        c.in_ok-layers.ensures c.in_ok-sets.ensures.sets (c.cells.ensures.value ∙ ap cells c.problem.ensures) (ap length c.layers-2.ensures)
-        refl c.in_ok-front.ensures.front refl c.in_ok-front.ensures.back
+    c.in_ok-layers.ensures c.in_ok-sets.ensures.sets (c.cells.ensures.value ∙ ap cells c.problem.ensures) (ap length c.layers-2.ensures)
+    refl c.in_ok-front.ensures.front refl c.in_ok-front.ensures.back
 
 pub returns-clause-awaited : goal.returns-clause-awaited
 returns-clause-awaited c =
