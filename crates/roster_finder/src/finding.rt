@@ -7,6 +7,7 @@ ghost use Rattle.roster_finder.specs.Found.{IsRosterWith};
 use crate::counters::Reweighing;
 use crate::draft::{Draft, Window};
 use crate::grid::rest;
+use crate::made::{both, with};
 use crate::prices::LONGEST_WINDOW;
 use crate::random::Random;
 use crate::setting::Setting;
@@ -78,28 +79,22 @@ impl Finder {
     // A search without a word yet. None where there are no shares.
     fn new(alloc: Global, problem: &Problem, free: u32) -> Result<Option<Finder>, AllocError> {
         let setting = Setting::of(alloc, problem, free)?;
-        if setting.layer.nodes() == 0 {
-            return Ok(None);
-        }
         let mut random = Random::new();
-        let Some(shares) = Shares::of(alloc, &setting, &mut random, 0)? else {
-            return Ok(None);
-        };
-        let draft = Draft::new(alloc, &setting)?;
-        let other = Draft::new(alloc, &setting)?;
-        let starter = Starter::new(alloc, &setting)?;
-        let mover = Mover::new(alloc, &setting)?;
-        Ok(Some(Finder {
-            setting,
-            shares,
-            random,
-            draft,
-            other,
-            starter,
-            mover,
-            least: i64::MAX,
-            since: 0,
-        }))
+        let parts = parts_for(alloc, &setting, &mut random);
+        match with(setting, parts)? {
+            Some((setting, (shares, ((draft, other), (starter, mover))))) => Ok(Some(Finder {
+                setting,
+                shares,
+                random,
+                draft,
+                other,
+                starter,
+                mover,
+                least: i64::MAX,
+                since: 0,
+            })),
+            None => Ok(None),
+        }
     }
 
     // Makes new shares where their turn has come. Where there are none this time, the old ones stay.
@@ -272,6 +267,31 @@ impl Finder {
     }
 }
 
+// Two words, and room for start words and moves.
+type Room = ((Draft, Draft), (Starter, Mover));
+
+// The first shares, and room to search. None where there are no shares.
+fn parts_for(
+    alloc: Global,
+    setting: &Setting,
+    random: &mut Random,
+) -> Result<Option<(Shares, Room)>, AllocError> {
+    if setting.layer.nodes() == 0 {
+        return Ok(None);
+    }
+    match Shares::of(alloc, setting, random, 0)? {
+        Some(shares) => Ok(Some(both(Ok(shares), room_for(alloc, setting))?)),
+        None => Ok(None),
+    }
+}
+
+fn room_for(alloc: Global, setting: &Setting) -> Result<Room, AllocError> {
+    both(
+        both(Draft::new(alloc, setting), Draft::new(alloc, setting)),
+        both(Starter::new(alloc, setting), Mover::new(alloc, setting)),
+    )
+}
+
 fn set_block_ranges(draft: &mut Draft, shares: &Shares) {
     for (symbol, range) in shares.blocks.iter().enumerate() {
         draft.counters.set_block_range(symbol, *range);
@@ -372,7 +392,11 @@ fn find(alloc: Global, problem: &Problem, free: u32) -> Result<Option<Roster>, A
         return Ok(None);
     }
     match Finder::new(alloc, problem, free)? {
-        Some(mut finder) => finder.search(alloc, problem, free),
+        Some(mut finder) => {
+            let found = finder.search(alloc, problem, free);
+            drop(finder);
+            found
+        }
         None => Ok(None),
     }
 }

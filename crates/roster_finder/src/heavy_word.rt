@@ -1,5 +1,6 @@
 // The heaviest clean words of many days.
 use crate::grid::{Grid, entry_or, put, rest, set_all};
+use crate::made::both;
 use crate::setting::Setting;
 use crate::steady_layer::SteadyLayer;
 use std::alloc::{AllocError, Global};
@@ -31,12 +32,15 @@ pub(crate) struct Weigher {
 impl Weigher {
     pub fn new(alloc: Global, setting: &Setting, len: usize) -> Result<Weigher, AllocError> {
         let nodes = setting.layer.nodes();
+        let weights = both(vec![in alloc; 0; nodes], vec![in alloc; 0; nodes]);
+        let made = both(weights, Grid::new(alloc, len, nodes, 0));
+        let ((weights, next_weights), last_steps) = made?;
         Ok(Weigher {
             weekdays: setting.demand.days,
             len,
-            weights: vec![in alloc; 0; nodes]?,
-            next_weights: vec![in alloc; 0; nodes]?,
-            last_steps: Grid::new(alloc, len, nodes, 0)?,
+            weights,
+            next_weights,
+            last_steps,
         })
     }
 

@@ -2,6 +2,7 @@
 use crate::demand::Demand;
 use crate::grid::{Grid, entry_or, quotient, whole};
 use crate::heavy_word::{HeavyWord, Weigher};
+use crate::made::both;
 use crate::quotas::Quota;
 use crate::random::Random;
 use crate::setting::Setting;
@@ -59,14 +60,19 @@ impl Mixture {
             .unwrap_or(0)
             .max(FEWEST_TURNS);
         let quotas = first_quotas(alloc, setting)?;
+        let hull = hull_of(alloc, demand, turns, &quotas);
+        let goal = both(Ok(quotas), hull);
         let len = demand.cells().saturating_mul(turns);
+        let weights = Grid::new(alloc, demand.days, layer.steps.len(), 0);
+        let room = both(Weigher::new(alloc, setting, len), weights);
+        let ((quotas, hull), (weigher, weights)) = both(goal, room)?;
         Ok(Mixture {
             rounds: FIRST_ROUNDS,
             turns,
             words: Vec::new(alloc),
-            hull: hull_of(alloc, demand, turns, &quotas)?,
-            weigher: Weigher::new(alloc, setting, len)?,
-            weights: Grid::new(alloc, demand.days, layer.steps.len(), 0)?,
+            hull,
+            weigher,
+            weights,
             quotas,
         })
     }

@@ -1,5 +1,6 @@
 // What a search is about.
 use crate::demand::Demand;
+use crate::made::both;
 use crate::steady_layer::SteadyLayer;
 use rwsp_model::{Problem, short_rules};
 use std::alloc::{AllocError, Global};
@@ -15,11 +16,22 @@ pub(crate) struct Setting {
 impl Setting {
     /// For rosters with at least `free` free weekends.
     pub fn of(alloc: Global, problem: &Problem, free: u32) -> Result<Setting, AllocError> {
-        let short = short_rules(alloc, problem)?;
-        let rules = TailRules::of(alloc, problem, &short)?;
-        Ok(Setting {
-            layer: SteadyLayer::of(alloc, &rules, problem.shifts())?,
-            demand: Demand::of(alloc, problem, free)?,
-        })
+        let layer = layer_of(alloc, problem);
+        let (layer, demand) = both(layer, Demand::of(alloc, problem, free))?;
+        Ok(Setting { layer, demand })
     }
+}
+
+fn layer_of(alloc: Global, problem: &Problem) -> Result<SteadyLayer, AllocError> {
+    let rules = tail_rules_of(alloc, problem)?;
+    let layer = SteadyLayer::of(alloc, &rules, problem.shifts());
+    drop(rules);
+    layer
+}
+
+fn tail_rules_of(alloc: Global, problem: &Problem) -> Result<TailRules, AllocError> {
+    let short = short_rules(alloc, problem)?;
+    let rules = TailRules::of(alloc, problem, &short);
+    drop(short);
+    rules
 }

@@ -39,6 +39,18 @@ impl Shares {
         noise: usize,
     ) -> Result<Option<Shares>, AllocError> {
         let mut mixture = Mixture::new(alloc, setting)?;
+        let shares = Shares::of_mixture(alloc, setting, random, noise, &mut mixture);
+        drop(mixture);
+        shares
+    }
+
+    fn of_mixture(
+        alloc: Global,
+        setting: &Setting,
+        random: &mut Random,
+        noise: usize,
+        mixture: &mut Mixture,
+    ) -> Result<Option<Shares>, AllocError> {
         if !mixture.approach(alloc, setting, random, noise)? {
             return Ok(None);
         }

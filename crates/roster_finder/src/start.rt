@@ -2,6 +2,7 @@
 use crate::counters::Counter;
 use crate::draft::Draft;
 use crate::grid::{Grid, quotient, whole};
+use crate::made::both;
 use crate::random::Random;
 use crate::setting::Setting;
 use crate::shares::{ONE_USE, Shares};
@@ -49,10 +50,10 @@ pub(crate) struct Starter {
 impl Starter {
     pub fn new(alloc: Global, setting: &Setting) -> Result<Starter, AllocError> {
         let days = setting.demand.cells().saturating_add(1);
-        Ok(Starter {
-            closes: Grid::new(alloc, days, setting.layer.nodes(), false)?,
-            taken: Grid::new(alloc, setting.demand.days, setting.layer.steps.len(), 0)?,
-        })
+        let closes = Grid::new(alloc, days, setting.layer.nodes(), false);
+        let taken = Grid::new(alloc, setting.demand.days, setting.layer.steps.len(), 0);
+        let (closes, taken) = both(closes, taken)?;
+        Ok(Starter { closes, taken })
     }
 
     /// Writes a start word and counts it. False where each of the first nodes that were drawn has no closed walk.

@@ -1,6 +1,7 @@
 // Moves that rewrite a window of a word by the clean word that costs least.
 use crate::draft::{Draft, Window};
 use crate::grid::{Grid, entry_or, put, set_all};
+use crate::made::both;
 use crate::prices::{LONGEST_WINDOW, Prices};
 use crate::random::Random;
 use crate::setting::Setting;
@@ -29,12 +30,17 @@ pub(crate) struct Mover {
 impl Mover {
     pub fn new(alloc: Global, setting: &Setting) -> Result<Mover, AllocError> {
         let nodes = setting.layer.nodes();
+        let costs = both(vec![in alloc; FAR; nodes], vec![in alloc; FAR; nodes]);
+        let parents = Grid::new(alloc, LONGEST_WINDOW, nodes, 0);
+        let tables = both(parents, vec![in alloc; 0; LONGEST_WINDOW]);
+        let made = both(Prices::new(alloc, setting), both(costs, tables));
+        let (prices, ((costs, next_costs), (parents, old))) = made?;
         Ok(Mover {
-            prices: Prices::new(alloc, setting)?,
-            costs: vec![in alloc; FAR; nodes]?,
-            next_costs: vec![in alloc; FAR; nodes]?,
-            parents: Grid::new(alloc, LONGEST_WINDOW, nodes, 0)?,
-            old: vec![in alloc; 0; LONGEST_WINDOW]?,
+            prices,
+            costs,
+            next_costs,
+            parents,
+            old,
         })
     }
 
