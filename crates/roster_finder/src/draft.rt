@@ -6,14 +6,14 @@ use crate::walk::Walk;
 use std::alloc::{AllocError, Global};
 
 /// A window of a cyclic word: some days from a position on.
-#[derive(Clone, Copy, Debug)]
+#[derive(Clone, Copy)]
 pub(crate) struct Window {
     pub start: usize,
     pub len: usize,
 }
 
 /// A clean cyclic word and its counters.
-#[derive(Debug, Drop)]
+#[derive(Drop)]
 pub(crate) struct Draft {
     pub walk: Walk,
     pub counters: Counters,

@@ -60,7 +60,7 @@ const PATIENCE: usize = 200;
 const MOST_REFUSED: usize = 10_000_000;
 
 /// A search, as far as it is.
-#[derive(Debug, Drop)]
+#[derive(Drop)]
 struct Finder {
     setting: Setting,
     shares: Shares,
@@ -105,7 +105,7 @@ impl Finder {
         if turn > 0 {
             let blurred = Shares::of(alloc, &self.setting, &mut self.random, SHARES_NOISE)?;
             if let Some(shares) = blurred {
-                self.shares = shares;
+                drop(mem::replace(&mut self.shares, shares));
             }
         }
         set_block_ranges(&mut self.draft, &self.shares);
@@ -182,18 +182,8 @@ impl Finder {
 
     // A window of at most a week or of more, each in half of the cases; anywhere, or on a day that is off.
     fn drawn_window(&mut self) -> Window {
-        let week = self.setting.demand.days;
-        let drawn = if week >= LONGEST_WINDOW {
-            self.random.below(LONGEST_WINDOW)
-        } else if self.random.is_heads() {
-            self.random.below(week)
-        } else {
-            self.random
-                .below(LONGEST_WINDOW - week)
-                .saturating_add(week)
-        };
         let cells = self.draft.walk.cells();
-        let len = drawn.saturating_add(1).min(cells / 2);
+        let len = self.drawn_len().saturating_add(1).min(cells / 2);
         let start = if self.random.is_heads() {
             self.random.below(cells)
         } else {
@@ -202,6 +192,20 @@ impl Finder {
             self.draft.walk.later(day, cells.saturating_sub(within))
         };
         Window { start, len }
+    }
+
+    // The days of a window but one.
+    fn drawn_len(&mut self) -> usize {
+        let week = self.setting.demand.days;
+        if week >= LONGEST_WINDOW {
+            self.random.below(LONGEST_WINDOW)
+        } else if self.random.is_heads() {
+            self.random.below(week)
+        } else {
+            self.random
+                .below(LONGEST_WINDOW - week)
+                .saturating_add(week)
+        }
     }
 
     // A position on a weekday whose counters are off, if there is one.

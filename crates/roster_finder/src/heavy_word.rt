@@ -10,7 +10,7 @@ use std::mem;
 const NEVER: i64 = -(1 << 60);
 
 /// A word by its weight and by how often it takes each step on each weekday.
-#[derive(Debug, Drop)]
+#[derive(Drop)]
 pub(crate) struct HeavyWord {
     pub weight: i64,
     /// By weekday and step.
@@ -18,7 +18,7 @@ pub(crate) struct HeavyWord {
 }
 
 /// Room to weigh words of a number of days.
-#[derive(Debug, Drop)]
+#[derive(Drop)]
 pub(crate) struct Weigher {
     weekdays: usize,
     len: usize,

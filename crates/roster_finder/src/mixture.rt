@@ -2,12 +2,13 @@
 use crate::demand::Demand;
 use crate::grid::{Grid, entry_or, quotient, whole};
 use crate::heavy_word::{HeavyWord, Weigher};
-use crate::made::both;
+use crate::made::{both, kept};
 use crate::quotas::Quota;
 use crate::random::Random;
 use crate::setting::Setting;
 use nearest_point::{Hull, SCALE};
 use std::alloc::{AllocError, Global};
+use std::mem;
 
 /// About how many days a word has: enough that its free ends matter little.
 const WORD_DAYS: usize = 3_000;
@@ -36,7 +37,7 @@ const GREATEST_STEP_WEIGHT: i64 = 100_000;
 const NEAR: i64 = SCALE as i64 / 64;
 
 /// Words, and a mixture of them.
-#[derive(Debug, Drop)]
+#[derive(Drop)]
 pub(crate) struct Mixture {
     /// What else the mixture has to come to: free weekends, and cuts that it is led over.
     pub quotas: Vec<Quota>,
@@ -93,15 +94,27 @@ impl Mixture {
                 return Ok(true);
             }
             self.set_weights(setting, random, noise, far);
-            let word = self.weigher.heaviest(alloc, &setting.layer, &self.weights)?;
-            if word.weight < self.wanted_weight(&setting.demand, far) {
-                return Ok(false);
-            }
-            if !self.add_word(alloc, setting, word)? {
-                return Ok(true);
+            if let Some(is_near) = self.add_heaviest(alloc, setting, far)? {
+                return Ok(is_near);
             }
         }
         Ok(true)
+    }
+
+    // Adds the heaviest word. Where that can't be done, whether the mixture has come as near as it does.
+    fn add_heaviest(
+        &mut self,
+        alloc: Global,
+        setting: &Setting,
+        far: i64,
+    ) -> Result<Option<bool>, AllocError> {
+        let word = self.weigher.heaviest(alloc, &setting.layer, &self.weights)?;
+        if word.weight < self.wanted_weight(&setting.demand, far) {
+            drop(word);
+            return Ok(Some(false));
+        }
+        let is_new = self.add_word(alloc, setting, word)?;
+        Ok(if is_new { None } else { Some(true) })
     }
 
     fn rounds(&self, setting: &Setting) -> usize {
@@ -118,16 +131,32 @@ impl Mixture {
         setting: &Setting,
         word: HeavyWord,
     ) -> Result<bool, AllocError> {
-        let row = row_of(alloc, setting, &self.quotas, &word.uses)?;
-        if self.hull.contains(&row) {
-            return Ok(false);
+        match self.add_row(alloc, setting, &word.uses) {
+            Ok(true) => self.words.push(word)?,
+            other => {
+                drop(word);
+                return other;
+            }
         }
-        self.hull.push(row)?;
-        self.words.push(word)?;
         self.hull.descend(BETTERINGS);
         if self.words.len() > MANY_WORDS {
             self.drop_unused();
         }
+        Ok(true)
+    }
+
+    // Adds the coordinates of a word. False where they are there already.
+    fn add_row(
+        &mut self,
+        alloc: Global,
+        setting: &Setting,
+        uses: &Grid<i64>,
+    ) -> Result<bool, AllocError> {
+        let row = row_of(alloc, setting, &self.quotas, uses)?;
+        if self.hull.contains(&row) {
+            return Ok(false);
+        }
+        self.hull.push(row)?;
         Ok(true)
     }
 
@@ -233,12 +262,23 @@ impl Mixture {
     /// Takes new cuts into account. Each word keeps its part.
     pub fn renew(&mut self, alloc: Global, setting: &Setting) -> Result<(), AllocError> {
         let mut hull = hull_of(alloc, &setting.demand, self.turns, &self.quotas)?;
+        let put = self.put_words(alloc, setting, &mut hull);
+        let hull = kept(hull, put)?;
+        drop(mem::replace(&mut self.hull, hull));
+        self.rounds = CUT_ROUNDS;
+        Ok(())
+    }
+
+    fn put_words(
+        &self,
+        alloc: Global,
+        setting: &Setting,
+        hull: &mut Hull,
+    ) -> Result<(), AllocError> {
         for (word, part) in self.words.iter().zip(self.hull.parts().iter()) {
             let row = row_of(alloc, setting, &self.quotas, &word.uses)?;
             hull.push_part(row, *part)?;
         }
-        self.hull = hull;
-        self.rounds = CUT_ROUNDS;
         Ok(())
     }
 }
@@ -278,9 +318,21 @@ fn hull_of(
     turns: usize,
     quotas: &[Quota],
 ) -> Result<Hull, AllocError> {
-    let times = whole(turns);
     let mut low = Vec::new(alloc);
     let mut high = Vec::new(alloc);
+    let put = put_box(demand, turns, quotas, &mut low, &mut high);
+    let (low, high) = kept((low, high), put)?;
+    Hull::new(alloc, low, high)
+}
+
+fn put_box(
+    demand: &Demand,
+    turns: usize,
+    quotas: &[Quota],
+    low: &mut Vec<i64>,
+    high: &mut Vec<i64>,
+) -> Result<(), AllocError> {
+    let times = whole(turns);
     for symbol in 0..demand.symbols {
         for weekday in 0..demand.days {
             let range = demand.range(symbol, weekday);
@@ -292,7 +344,7 @@ fn hull_of(
         low.push(quota.least.wrapping_mul(times))?;
         high.push(whole(demand.cells()).wrapping_mul(times))?;
     }
-    Hull::new(alloc, low, high)
+    Ok(())
 }
 
 // The coordinates of a word: how often it has each symbol on each weekday, and what it has of each quota.
@@ -303,6 +355,16 @@ fn row_of(
     uses: &Grid<i64>,
 ) -> Result<Vec<i64>, AllocError> {
     let mut row = Vec::new(alloc);
+    let put = put_row(setting, quotas, uses, &mut row);
+    kept(row, put)
+}
+
+fn put_row(
+    setting: &Setting,
+    quotas: &[Quota],
+    uses: &Grid<i64>,
+    row: &mut Vec<i64>,
+) -> Result<(), AllocError> {
     for symbol in 0..setting.demand.symbols {
         for weekday in 0..setting.demand.days {
             row.push(count_of(setting, uses, symbol, weekday))?;
@@ -311,7 +373,7 @@ fn row_of(
     for quota in quotas {
         row.push(quota.uses(uses))?;
     }
-    Ok(row)
+    Ok(())
 }
 
 fn count_of(setting: &Setting, uses: &Grid<i64>, symbol: usize, weekday: usize) -> i64 {

@@ -17,14 +17,14 @@ const UNIT: i64 = 256;
 const NOISE: usize = 256;
 
 /// How many of the days of a weekday a symbol still lacks, and how many it may have.
-#[derive(Clone, Copy, Debug)]
+#[derive(Clone, Copy)]
 struct Hand {
     lacking: i64,
     allowed: i64,
 }
 
 /// Prices for windows.
-#[derive(Debug, Drop)]
+#[derive(Drop)]
 pub(crate) struct Prices {
     symbols: usize,
     weekdays: usize,

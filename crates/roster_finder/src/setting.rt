@@ -7,7 +7,7 @@ use std::alloc::{AllocError, Global};
 use word_tail::TailRules;
 
 /// The steps that clean words take, and the demand that they should meet.
-#[derive(Debug, Drop)]
+#[derive(Drop)]
 pub(crate) struct Setting {
     pub layer: SteadyLayer,
     pub demand: Demand,

@@ -23,7 +23,7 @@ const NO_SHARE: i64 = 1_000_000;
 const DRAWS: usize = 20;
 
 /// Which uses of a step are due.
-#[derive(Clone, Copy, Debug, PartialEq, Eq)]
+#[derive(Clone, Copy)]
 pub(crate) enum Due {
     /// Those of the whole roster.
     InAll,
@@ -32,14 +32,14 @@ pub(crate) enum Due {
 }
 
 /// How a start word is written: by which uses, and how far it is led by chance.
-#[derive(Clone, Copy, Debug)]
+#[derive(Clone, Copy)]
 pub(crate) struct Manner {
     pub due: Due,
     pub noise: usize,
 }
 
 /// Room for start words.
-#[derive(Debug, Drop)]
+#[derive(Drop)]
 pub(crate) struct Starter {
     // By day and node: whether the walk can be closed from there.
     closes: Grid<bool>,

@@ -10,7 +10,7 @@ use word_tail::TailRules;
 pub(crate) const LAST_OF_WEEKEND: usize = 6;
 
 /// One step through the layer.
-#[derive(Clone, Copy, Debug)]
+#[derive(Clone, Copy)]
 pub(crate) struct Step {
     pub from: usize,
     pub to: usize,
@@ -30,7 +30,7 @@ impl Step {
 
 /// The nodes that clean words without end pass through, and the steps between them. A node stands for all tails that
 /// end in one symbol and have one future, so a closed walk through nodes is a clean cyclic word.
-#[derive(Debug, Drop)]
+#[derive(Drop)]
 pub(crate) struct SteadyLayer {
     /// The number of symbols, the day off among them.
     pub symbols: usize,

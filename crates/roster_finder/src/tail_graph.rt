@@ -1,4 +1,5 @@
 // The tails of clean words and the steps between them.
+use crate::made::kept;
 use rwsp_terms::Symbol;
 use std::alloc::{AllocError, Global};
 use word_tail::{Tail, TailRules};
@@ -7,7 +8,7 @@ use word_tail::{Tail, TailRules};
 const MOST_TAILS: usize = 4000;
 
 /// Tails, and for each of them and each symbol the tail that follows.
-#[derive(Debug, Drop)]
+#[derive(Drop)]
 pub(crate) struct TailGraph {
     pub symbols: usize,
     pub tails: Vec<Tail>,
@@ -22,13 +23,18 @@ impl TailGraph {
             tails: vec![in alloc; Tail::empty()]?,
             steps: Vec::new(alloc),
         };
+        let added = graph.add_all(rules, shifts);
+        kept(graph, added)
+    }
+
+    fn add_all(&mut self, rules: &TailRules, shifts: u8) -> Result<(), AllocError> {
         for place in 0..MOST_TAILS {
-            let Some(tail) = graph.tail(place) else {
-                return Ok(graph);
+            let Some(tail) = self.tail(place) else {
+                return Ok(());
             };
-            graph.add_steps(rules, tail, shifts)?;
+            self.add_steps(rules, tail, shifts)?;
         }
-        Ok(graph)
+        Ok(())
     }
 
     pub fn tail(&self, place: usize) -> Option<Tail> {

@@ -15,7 +15,7 @@ use std::mem;
 const FAR: i64 = 1 << 60;
 
 /// Room for moves.
-#[derive(Debug, Drop)]
+#[derive(Drop)]
 pub(crate) struct Mover {
     prices: Prices,
     // The least cost of the walks to each node, on one day and on the next.
