@@ -110,6 +110,23 @@ impl Parts {
         Ok(Quota { steps, least: 1 })
     }
 
+    // Adds the cut round a part, where it isn't there yet.
+    fn add_cut(
+        &self,
+        alloc: Global,
+        layer: &SteadyLayer,
+        part: usize,
+        quotas: &mut Vec<Quota>,
+    ) -> Result<(), AllocError> {
+        let cut = self.cut(alloc, layer, part)?;
+        if quotas.contains(&cut) {
+            drop(cut);
+            return Ok(());
+        }
+        quotas.push(cut)?;
+        Ok(())
+    }
+
     // Joins the parts by each step, and adds the cuts round them, until there are many new ones.
     fn join_along(
         &mut self,
@@ -131,7 +148,7 @@ impl Parts {
             let flow = self.flow(&setting.layer, used, to);
             let is_large = flow.held >= days && all.wrapping_sub(flow.held) >= days;
             if is_large && flow.leaving < one_use.wrapping_mul(3) / 4 {
-                add_cut(quotas, self.cut(alloc, &setting.layer, to)?)?;
+                self.add_cut(alloc, &setting.layer, to, quotas)?;
             }
             if quotas.len().saturating_sub(before) >= MOST_CUTS {
                 break;
@@ -199,13 +216,4 @@ fn add_cuts_along(
     let added = parts.join_along(alloc, setting, used, one_use, quotas);
     drop(parts);
     added
-}
-
-// Adds a cut that isn't there yet.
-fn add_cut(quotas: &mut Vec<Quota>, cut: Quota) -> Result<(), AllocError> {
-    if quotas.contains(&cut) {
-        return Ok(());
-    }
-    quotas.push(cut)?;
-    Ok(())
 }

@@ -259,9 +259,9 @@ impl Finder {
                 return Ok(None);
             }
             if self.draft.counters.deviation() == 0 {
-                let found = met_roster(alloc, problem, free, self.draft.walk.symbols())?;
-                if found.is_some() {
-                    return Ok(found);
+                let symbols = self.draft.walk.symbols();
+                if let Some(roster) = met_roster(alloc, problem, free, symbols)? {
+                    return Ok(Some(roster));
                 }
                 refused = refused.saturating_add(self.draft.walk.cells());
             }

@@ -251,9 +251,10 @@ impl Mixture {
 
     fn mixed_uses(&self, weekday: usize, number: usize, one_use: i64) -> i64 {
         let mut sum: i64 = 0;
-        for (word, part) in self.words.iter().zip(self.hull.parts().iter()) {
+        for (place, word) in self.words.iter().enumerate() {
+            let part = entry_or(self.hull.parts(), place, 0);
             let times = word.uses.at(weekday, number);
-            sum = sum.wrapping_add(times.wrapping_mul(i64::from(*part)));
+            sum = sum.wrapping_add(times.wrapping_mul(i64::from(part)));
         }
         let turns = i64::from(SCALE).wrapping_mul(whole(self.turns));
         quotient(sum.wrapping_mul(one_use), turns)
@@ -275,9 +276,10 @@ impl Mixture {
         setting: &Setting,
         hull: &mut Hull,
     ) -> Result<(), AllocError> {
-        for (word, part) in self.words.iter().zip(self.hull.parts().iter()) {
+        for (place, word) in self.words.iter().enumerate() {
+            let part = entry_or(self.hull.parts(), place, 0);
             let row = row_of(alloc, setting, &self.quotas, &word.uses)?;
-            hull.push_part(row, *part)?;
+            hull.push_part(row, part)?;
         }
         Ok(())
     }
@@ -304,10 +306,12 @@ fn furthest(numbers: &[i64]) -> i64 {
 
 // The quota of free weekends, where some are wanted.
 fn first_quotas(alloc: Global, setting: &Setting) -> Result<Vec<Quota>, AllocError> {
-    let mut quotas = Vec::new(alloc);
-    if setting.demand.free > 0 {
-        quotas.push(Quota::of_weekends(alloc, setting)?)?;
+    if setting.demand.free == 0 {
+        return Ok(Vec::new(alloc));
     }
+    let quota = Quota::of_weekends(alloc, setting)?;
+    let mut quotas = Vec::new(alloc);
+    quotas.push(quota)?;
     Ok(quotas)
 }
 

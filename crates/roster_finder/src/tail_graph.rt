@@ -60,8 +60,10 @@ impl TailGraph {
 
     // The place of the tail; a new one is put behind the others. Costs one look at each tail.
     fn place_of(&mut self, tail: Tail) -> Result<usize, AllocError> {
-        if let Some(place) = self.tails.iter().position(|other| *other == tail) {
-            return Ok(place);
+        for (place, other) in self.tails.iter().enumerate() {
+            if *other == tail {
+                return Ok(place);
+            }
         }
         let place = self.tails.len();
         self.tails.push(tail)?;
