@@ -1,5 +1,5 @@
 // Mixtures of clean words that come near to the demand.
-use crate::demand::Demand;
+use crate::demand::{Demand, Range};
 use crate::grid::{Grid, entry_or, quotient, whole};
 use crate::heavy_word::{HeavyWord, Weigher};
 use crate::made::{both, kept};
@@ -339,15 +339,27 @@ fn put_box(
     let times = whole(turns);
     for symbol in 0..demand.symbols {
         for weekday in 0..demand.days {
-            let range = demand.range(symbol, weekday);
-            low.push(range.least.wrapping_mul(times))?;
-            high.push(range.greatest.wrapping_mul(times))?;
+            put_range(low, high, demand.range(symbol, weekday), times)?;
         }
     }
     for quota in quotas {
-        low.push(quota.least.wrapping_mul(times))?;
-        high.push(whole(demand.cells()).wrapping_mul(times))?;
+        let range = Range {
+            least: quota.least,
+            greatest: whole(demand.cells()),
+        };
+        put_range(low, high, range, times)?;
     }
+    Ok(())
+}
+
+fn put_range(
+    low: &mut Vec<i64>,
+    high: &mut Vec<i64>,
+    range: Range,
+    times: i64,
+) -> Result<(), AllocError> {
+    low.push(range.least.wrapping_mul(times))?;
+    high.push(range.greatest.wrapping_mul(times))?;
     Ok(())
 }
 

@@ -6,7 +6,7 @@ use crate::prices::{LONGEST_WINDOW, Prices};
 use crate::random::Random;
 use crate::setting::Setting;
 use crate::shares::Shares;
-use crate::steady_layer::LAST_OF_WEEKEND;
+use crate::steady_layer::{LAST_OF_WEEKEND, Step};
 use crate::walk::Walk;
 use std::alloc::{AllocError, Global};
 use std::mem;
@@ -87,23 +87,31 @@ impl Mover {
 
     fn sweep_day(&mut self, setting: &Setting, shares: &Shares, weekday: usize, day: usize) {
         for (number, step) in setting.layer.steps.iter().enumerate() {
-            let mut cost = entry_or(&self.costs, step.from, FAR);
-            if cost == FAR {
+            let before = entry_or(&self.costs, step.from, FAR);
+            if before == FAR {
                 continue;
             }
-            cost = cost.wrapping_add(self.prices.of_day(day, step.symbol));
-            cost = cost.wrapping_add(shares.price(weekday, number));
-            if step.begins {
-                cost = cost.wrapping_add(self.prices.of_block(step.symbol));
-            }
-            if step.ends_weekend(weekday) {
-                cost = cost.wrapping_add(self.prices.of_weekend());
-            }
+            let price = shares.price(weekday, number);
+            let cost = before
+                .wrapping_add(price)
+                .wrapping_add(self.price_of(step, weekday, day));
             if cost < entry_or(&self.next_costs, step.to, 0) {
                 put(&mut self.next_costs, step.to, cost);
                 self.parents.set(day, step.to, step.from);
             }
         }
+    }
+
+    // What a step costs on a day of the window by the counters.
+    fn price_of(&self, step: &Step, weekday: usize, day: usize) -> i64 {
+        let mut price = self.prices.of_day(day, step.symbol);
+        if step.begins {
+            price = price.wrapping_add(self.prices.of_block(step.symbol));
+        }
+        if step.ends_weekend(weekday) {
+            price = price.wrapping_add(self.prices.of_weekend());
+        }
+        price
     }
 
     // The node behind the window that costs least among those from which the word can continue as it is.
