@@ -93,7 +93,8 @@ impl SteadyLayer {
         self.last.push(last)?;
         for symbol in 0..graph.symbols {
             if let Some(to) = classes.class_after(graph, place, symbol) {
-                self.add_step(Step {
+                self.out.set(node, symbol, Some(self.steps.len()));
+                self.steps.push(Step {
                     from: node,
                     to,
                     symbol,
@@ -102,12 +103,6 @@ impl SteadyLayer {
                 })?;
             }
         }
-        Ok(())
-    }
-
-    fn add_step(&mut self, step: Step) -> Result<(), AllocError> {
-        self.out.set(step.from, step.symbol, Some(self.steps.len()));
-        self.steps.push(step)?;
         Ok(())
     }
 
