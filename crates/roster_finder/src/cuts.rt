@@ -205,6 +205,7 @@ pub(crate) fn add_cuts(
     Ok(quotas.len() > before)
 }
 
+// Adds the cuts round the parts that the steps join.
 fn add_cuts_along(
     alloc: Global,
     setting: &Setting,

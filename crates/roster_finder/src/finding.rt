@@ -289,6 +289,7 @@ fn parts_for(
     }
 }
 
+// Two words to be written, and room for start words and moves.
 fn room_for(alloc: Global, setting: &Setting) -> Result<Room, AllocError> {
     both(
         both(Draft::new(alloc, setting), Draft::new(alloc, setting)),

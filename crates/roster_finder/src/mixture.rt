@@ -101,7 +101,8 @@ impl Mixture {
         Ok(true)
     }
 
-    // Adds the heaviest word. Where that can't be done, whether the mixture has come as near as it does.
+    // Adds the heaviest word. Some where it isn't added: false where it isn't heavy enough, true where it is there
+    // already.
     fn add_heaviest(
         &mut self,
         alloc: Global,
@@ -270,6 +271,7 @@ impl Mixture {
         Ok(())
     }
 
+    // Puts the words into a hull, each with its part.
     fn put_words(
         &self,
         alloc: Global,
@@ -329,6 +331,7 @@ fn hull_of(
     Hull::new(alloc, low, high)
 }
 
+// Puts the ends of the box: those of the demand first, and then those of the quotas.
 fn put_box(
     demand: &Demand,
     turns: usize,
@@ -352,6 +355,7 @@ fn put_box(
     Ok(())
 }
 
+// Puts the ends of a range, `times` times.
 fn put_range(
     low: &mut Vec<i64>,
     high: &mut Vec<i64>,
@@ -375,6 +379,7 @@ fn row_of(
     kept(row, put)
 }
 
+// Puts the coordinates of a word behind those that are there.
 fn put_row(
     setting: &Setting,
     quotas: &[Quota],

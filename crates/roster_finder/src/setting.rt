@@ -22,6 +22,7 @@ impl Setting {
     }
 }
 
+// The layer of the words that break no short rule.
 fn layer_of(alloc: Global, problem: &Problem) -> Result<SteadyLayer, AllocError> {
     let rules = tail_rules_of(alloc, problem)?;
     let layer = SteadyLayer::of(alloc, &rules, problem.shifts());
@@ -29,6 +30,7 @@ fn layer_of(alloc: Global, problem: &Problem) -> Result<SteadyLayer, AllocError>
     layer
 }
 
+// What the short rules say of tails.
 fn tail_rules_of(alloc: Global, problem: &Problem) -> Result<TailRules, AllocError> {
     let short = short_rules(alloc, problem)?;
     let rules = TailRules::of(alloc, problem, &short);

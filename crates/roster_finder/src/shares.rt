@@ -46,6 +46,7 @@ impl Shares {
         shares
     }
 
+    // Those of a mixture that has no words yet.
     fn of_mixture(
         alloc: Global,
         setting: &Setting,

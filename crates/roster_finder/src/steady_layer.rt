@@ -50,6 +50,7 @@ impl SteadyLayer {
         layer
     }
 
+    // The layer of the tails of a graph.
     fn of_graph(alloc: Global, graph: &TailGraph) -> Result<SteadyLayer, AllocError> {
         let classes = TailClasses::of(alloc, graph)?;
         let layer = SteadyLayer::of_classes(alloc, graph, &classes);
@@ -57,7 +58,7 @@ impl SteadyLayer {
         layer
     }
 
-    // A node for each class.
+    // The layer that has a node for each class.
     fn of_classes(
         alloc: Global,
         graph: &TailGraph,
@@ -74,6 +75,7 @@ impl SteadyLayer {
         kept(layer, added)
     }
 
+    // Adds the node of each class, with its steps.
     fn add_nodes(&mut self, graph: &TailGraph, classes: &TailClasses) -> Result<(), AllocError> {
         for place in &classes.tails {
             self.add_node(graph, classes, *place)?;

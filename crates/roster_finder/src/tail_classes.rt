@@ -71,6 +71,7 @@ impl TailClasses {
         kept(finer, put)
     }
 
+    // Puts each tail into the class that it is like by coarser classes.
     fn put_all(&mut self, coarser: &TailClasses, graph: &TailGraph) -> Result<(), AllocError> {
         for place in 0..coarser.of_tail.len() {
             let class = match coarser.class(place) {
@@ -140,6 +141,7 @@ fn steady_tails(alloc: Global, graph: &TailGraph) -> Result<Vec<bool>, AllocErro
     kept(alive, cleared)
 }
 
+// Marks tails as dead until a step leaves and a step enters each of those that are left.
 fn clear_dead_ends(
     alloc: Global,
     graph: &TailGraph,

@@ -27,6 +27,7 @@ impl TailGraph {
         kept(graph, added)
     }
 
+    // Adds the steps out of each tail, and the tails that they lead to.
     fn add_all(&mut self, rules: &TailRules, shifts: u8) -> Result<(), AllocError> {
         for place in 0..MOST_TAILS {
             let Some(tail) = self.tail(place) else {
