@@ -6,7 +6,7 @@ use crate::steady_layer::LAST_OF_WEEKEND;
 use std::alloc::{AllocError, Global};
 
 /// A count, the range in which it should lie, and what it weighs to be off by one.
-#[derive(Clone, Copy, Debug)]
+#[derive(Clone, Copy)]
 pub(crate) struct Counter {
     pub count: i64,
     pub range: Range,
@@ -38,7 +38,7 @@ impl Counter {
 }
 
 /// How weights change.
-#[derive(Clone, Copy, Debug, PartialEq, Eq)]
+#[derive(Clone, Copy)]
 pub(crate) enum Reweighing {
     /// All are 1.
     Alike,
@@ -61,7 +61,7 @@ impl Reweighing {
 
 /// A counter for each symbol and weekday; in the column behind the last weekday those of the symbols' blocks. One more
 /// of free weekends.
-#[derive(Debug, Drop)]
+#[derive(Drop)]
 pub(crate) struct Counters {
     days: usize,
     symbols: usize,

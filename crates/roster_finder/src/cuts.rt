@@ -13,7 +13,7 @@ const MOST_CUTS: usize = 20;
 const FEWEST_DAYS: usize = 7;
 
 // A step that has a share on a weekday.
-#[derive(Clone, Copy, Debug)]
+#[derive(Clone, Copy)]
 struct Used {
     weekday: usize,
     number: usize,
@@ -21,14 +21,14 @@ struct Used {
 }
 
 // How much of a fractional roster a part of the layer holds, and how much leaves it.
-#[derive(Clone, Copy, Debug)]
+#[derive(Clone, Copy)]
 struct Flow {
     held: i64,
     leaving: i64,
 }
 
 // The parts that the layer's nodes are joined to on each weekday.
-#[derive(Debug, Drop)]
+#[derive(Drop)]
 struct Parts {
     weekdays: usize,
     nodes: usize,
@@ -109,6 +109,53 @@ impl Parts {
         }
         Ok(Quota { steps, least: 1 })
     }
+
+    // Adds the cut round a part, where it isn't there yet.
+    fn add_cut(
+        &self,
+        alloc: Global,
+        layer: &SteadyLayer,
+        part: usize,
+        quotas: &mut Vec<Quota>,
+    ) -> Result<(), AllocError> {
+        let cut = self.cut(alloc, layer, part)?;
+        if quotas.contains(&cut) {
+            drop(cut);
+            return Ok(());
+        }
+        quotas.push(cut)?;
+        Ok(())
+    }
+
+    // Joins the parts by each step, and adds the cuts round them, until there are many new ones.
+    fn join_along(
+        &mut self,
+        alloc: Global,
+        setting: &Setting,
+        used: &[Used],
+        one_use: i64,
+        quotas: &mut Vec<Quota>,
+    ) -> Result<(), AllocError> {
+        let all = whole_flow(used);
+        let days = one_use.wrapping_mul(whole(setting.demand.days.max(FEWEST_DAYS)));
+        let before = quotas.len();
+        for step in used {
+            let (from, to) = self.ends(&setting.layer, step.weekday, step.number);
+            if from == to {
+                continue;
+            }
+            self.join(from, to);
+            let flow = self.flow(&setting.layer, used, to);
+            let is_large = flow.held >= days && all.wrapping_sub(flow.held) >= days;
+            if is_large && flow.leaving < one_use.wrapping_mul(3) / 4 {
+                self.add_cut(alloc, &setting.layer, to, quotas)?;
+            }
+            if quotas.len().saturating_sub(before) >= MOST_CUTS {
+                break;
+            }
+        }
+        Ok(())
+    }
 }
 
 // The steps that have a share, those of the greatest shares first.
@@ -151,33 +198,23 @@ pub(crate) fn add_cuts(
     quotas: &mut Vec<Quota>,
 ) -> Result<bool, AllocError> {
     let used = used_steps(alloc, setting, uses)?;
-    let all = whole_flow(&used);
-    let days = one_use.wrapping_mul(whole(setting.demand.days.max(FEWEST_DAYS)));
-    let mut parts = Parts::new(alloc, &setting.layer, setting.demand.days)?;
     let before = quotas.len();
-    for step in &used {
-        let (from, to) = parts.ends(&setting.layer, step.weekday, step.number);
-        if from == to {
-            continue;
-        }
-        parts.join(from, to);
-        let flow = parts.flow(&setting.layer, &used, to);
-        let is_large = flow.held >= days && all.wrapping_sub(flow.held) >= days;
-        if is_large && flow.leaving < one_use.wrapping_mul(3) / 4 {
-            add_cut(quotas, parts.cut(alloc, &setting.layer, to)?)?;
-        }
-        if quotas.len().saturating_sub(before) >= MOST_CUTS {
-            break;
-        }
-    }
+    let added = add_cuts_along(alloc, setting, &used, one_use, quotas);
+    drop(used);
+    added?;
     Ok(quotas.len() > before)
 }
 
-// Adds a cut that isn't there yet.
-fn add_cut(quotas: &mut Vec<Quota>, cut: Quota) -> Result<(), AllocError> {
-    if quotas.contains(&cut) {
-        return Ok(());
-    }
-    quotas.push(cut)?;
-    Ok(())
+// Adds the cuts round the parts that the steps join.
+fn add_cuts_along(
+    alloc: Global,
+    setting: &Setting,
+    used: &[Used],
+    one_use: i64,
+    quotas: &mut Vec<Quota>,
+) -> Result<(), AllocError> {
+    let mut parts = Parts::new(alloc, &setting.layer, setting.demand.days)?;
+    let added = parts.join_along(alloc, setting, used, one_use, quotas);
+    drop(parts);
+    added
 }

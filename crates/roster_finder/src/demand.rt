@@ -8,7 +8,7 @@ use rwsp_terms::Symbol;
 use std::alloc::{AllocError, Global};
 
 /// A least and a greatest number.
-#[derive(Clone, Copy, Debug)]
+#[derive(Clone, Copy)]
 pub(crate) struct Range {
     pub least: i64,
     pub greatest: i64,
@@ -23,7 +23,7 @@ impl Range {
 
 /// For each symbol and weekday, in how many weeks it is, and how many weekends are free at least. Symbols and weekdays
 /// count from 0.
-#[derive(Debug, Drop)]
+#[derive(Drop)]
 pub(crate) struct Demand {
     pub days: usize,
     pub weeks: usize,

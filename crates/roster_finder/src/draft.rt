@@ -1,18 +1,19 @@
 // Words that are on their way to a roster, with their counters.
 use crate::counters::Counters;
+use crate::made::both;
 use crate::setting::Setting;
 use crate::walk::Walk;
 use std::alloc::{AllocError, Global};
 
 /// A window of a cyclic word: some days from a position on.
-#[derive(Clone, Copy, Debug)]
+#[derive(Clone, Copy)]
 pub(crate) struct Window {
     pub start: usize,
     pub len: usize,
 }
 
 /// A clean cyclic word and its counters.
-#[derive(Debug, Drop)]
+#[derive(Drop)]
 pub(crate) struct Draft {
     pub walk: Walk,
     pub counters: Counters,
@@ -21,10 +22,9 @@ pub(crate) struct Draft {
 impl Draft {
     pub fn new(alloc: Global, setting: &Setting) -> Result<Draft, AllocError> {
         let demand = &setting.demand;
-        Ok(Draft {
-            walk: Walk::new(alloc, demand.days, demand.cells())?,
-            counters: Counters::new(alloc, demand)?,
-        })
+        let walk = Walk::new(alloc, demand.days, demand.cells());
+        let (walk, counters) = both(walk, Counters::new(alloc, demand))?;
+        Ok(Draft { walk, counters })
     }
 
     /// Counts the days of a window, and the blocks that begin and free weekends that end in it or right behind it, each

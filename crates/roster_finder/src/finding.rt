@@ -7,6 +7,7 @@ ghost use Rattle.roster_finder.specs.Found.{IsRosterWith};
 use crate::counters::Reweighing;
 use crate::draft::{Draft, Window};
 use crate::grid::rest;
+use crate::made::{both, with};
 use crate::prices::LONGEST_WINDOW;
 use crate::random::Random;
 use crate::setting::Setting;
@@ -59,7 +60,7 @@ const PATIENCE: usize = 200;
 const MOST_REFUSED: usize = 10_000_000;
 
 /// A search, as far as it is.
-#[derive(Debug, Drop)]
+#[derive(Drop)]
 struct Finder {
     setting: Setting,
     shares: Shares,
@@ -78,28 +79,22 @@ impl Finder {
     // A search without a word yet. None where there are no shares.
     fn new(alloc: Global, problem: &Problem, free: u32) -> Result<Option<Finder>, AllocError> {
         let setting = Setting::of(alloc, problem, free)?;
-        if setting.layer.nodes() == 0 {
-            return Ok(None);
-        }
         let mut random = Random::new();
-        let Some(shares) = Shares::of(alloc, &setting, &mut random, 0)? else {
-            return Ok(None);
-        };
-        let draft = Draft::new(alloc, &setting)?;
-        let other = Draft::new(alloc, &setting)?;
-        let starter = Starter::new(alloc, &setting)?;
-        let mover = Mover::new(alloc, &setting)?;
-        Ok(Some(Finder {
-            setting,
-            shares,
-            random,
-            draft,
-            other,
-            starter,
-            mover,
-            least: i64::MAX,
-            since: 0,
-        }))
+        let parts = parts_for(alloc, &setting, &mut random);
+        match with(setting, parts)? {
+            Some((setting, (shares, ((draft, other), (starter, mover))))) => Ok(Some(Finder {
+                setting,
+                shares,
+                random,
+                draft,
+                other,
+                starter,
+                mover,
+                least: i64::MAX,
+                since: 0,
+            })),
+            None => Ok(None),
+        }
     }
 
     // Makes new shares where their turn has come. Where there are none this time, the old ones stay.
@@ -110,7 +105,7 @@ impl Finder {
         if turn > 0 {
             let blurred = Shares::of(alloc, &self.setting, &mut self.random, SHARES_NOISE)?;
             if let Some(shares) = blurred {
-                self.shares = shares;
+                drop(mem::replace(&mut self.shares, shares));
             }
         }
         set_block_ranges(&mut self.draft, &self.shares);
@@ -187,18 +182,8 @@ impl Finder {
 
     // A window of at most a week or of more, each in half of the cases; anywhere, or on a day that is off.
     fn drawn_window(&mut self) -> Window {
-        let week = self.setting.demand.days;
-        let drawn = if week >= LONGEST_WINDOW {
-            self.random.below(LONGEST_WINDOW)
-        } else if self.random.is_heads() {
-            self.random.below(week)
-        } else {
-            self.random
-                .below(LONGEST_WINDOW - week)
-                .saturating_add(week)
-        };
         let cells = self.draft.walk.cells();
-        let len = drawn.saturating_add(1).min(cells / 2);
+        let len = self.drawn_len().saturating_add(1).min(cells / 2);
         let start = if self.random.is_heads() {
             self.random.below(cells)
         } else {
@@ -207,6 +192,20 @@ impl Finder {
             self.draft.walk.later(day, cells.saturating_sub(within))
         };
         Window { start, len }
+    }
+
+    // The days of a window but one.
+    fn drawn_len(&mut self) -> usize {
+        let week = self.setting.demand.days;
+        if week >= LONGEST_WINDOW {
+            self.random.below(LONGEST_WINDOW)
+        } else if self.random.is_heads() {
+            self.random.below(week)
+        } else {
+            self.random
+                .below(LONGEST_WINDOW - week)
+                .saturating_add(week)
+        }
     }
 
     // A position on a weekday whose counters are off, if there is one.
@@ -260,9 +259,9 @@ impl Finder {
                 return Ok(None);
             }
             if self.draft.counters.deviation() == 0 {
-                let found = met_roster(alloc, problem, free, self.draft.walk.symbols())?;
-                if found.is_some() {
-                    return Ok(found);
+                let symbols = self.draft.walk.symbols();
+                if let Some(roster) = met_roster(alloc, problem, free, symbols)? {
+                    return Ok(Some(roster));
                 }
                 refused = refused.saturating_add(self.draft.walk.cells());
             }
@@ -270,6 +269,32 @@ impl Finder {
         }
         Ok(None)
     }
+}
+
+// Two words, and room for start words and moves.
+type Room = ((Draft, Draft), (Starter, Mover));
+
+// The first shares, and room to search. None where there are no shares.
+fn parts_for(
+    alloc: Global,
+    setting: &Setting,
+    random: &mut Random,
+) -> Result<Option<(Shares, Room)>, AllocError> {
+    if setting.layer.nodes() == 0 {
+        return Ok(None);
+    }
+    match Shares::of(alloc, setting, random, 0)? {
+        Some(shares) => Ok(Some(both(Ok(shares), room_for(alloc, setting))?)),
+        None => Ok(None),
+    }
+}
+
+// Two words to be written, and room for start words and moves.
+fn room_for(alloc: Global, setting: &Setting) -> Result<Room, AllocError> {
+    both(
+        both(Draft::new(alloc, setting), Draft::new(alloc, setting)),
+        both(Starter::new(alloc, setting), Mover::new(alloc, setting)),
+    )
 }
 
 fn set_block_ranges(draft: &mut Draft, shares: &Shares) {
@@ -372,7 +397,11 @@ fn find(alloc: Global, problem: &Problem, free: u32) -> Result<Option<Roster>, A
         return Ok(None);
     }
     match Finder::new(alloc, problem, free)? {
-        Some(mut finder) => finder.search(alloc, problem, free),
+        Some(mut finder) => {
+            let found = finder.search(alloc, problem, free);
+            drop(finder);
+            found
+        }
         None => Ok(None),
     }
 }

@@ -2,7 +2,7 @@
 use std::alloc::{AllocError, Global};
 
 /// A table of values by row and column. Outside of it every value is the same, and a write there does nothing.
-#[derive(Debug, Drop)]
+#[derive(Drop)]
 pub(crate) struct Grid<T: Copy + Drop> {
     columns: usize,
     entries: Vec<T>,

@@ -1,5 +1,6 @@
 // The heaviest clean words of many days.
 use crate::grid::{Grid, entry_or, put, rest, set_all};
+use crate::made::both;
 use crate::setting::Setting;
 use crate::steady_layer::SteadyLayer;
 use std::alloc::{AllocError, Global};
@@ -9,7 +10,7 @@ use std::mem;
 const NEVER: i64 = -(1 << 60);
 
 /// A word by its weight and by how often it takes each step on each weekday.
-#[derive(Debug, Drop)]
+#[derive(Drop)]
 pub(crate) struct HeavyWord {
     pub weight: i64,
     /// By weekday and step.
@@ -17,7 +18,7 @@ pub(crate) struct HeavyWord {
 }
 
 /// Room to weigh words of a number of days.
-#[derive(Debug, Drop)]
+#[derive(Drop)]
 pub(crate) struct Weigher {
     weekdays: usize,
     len: usize,
@@ -31,12 +32,15 @@ pub(crate) struct Weigher {
 impl Weigher {
     pub fn new(alloc: Global, setting: &Setting, len: usize) -> Result<Weigher, AllocError> {
         let nodes = setting.layer.nodes();
+        let weights = both(vec![in alloc; 0; nodes], vec![in alloc; 0; nodes]);
+        let made = both(weights, Grid::new(alloc, len, nodes, 0));
+        let ((weights, next_weights), last_steps) = made?;
         Ok(Weigher {
             weekdays: setting.demand.days,
             len,
-            weights: vec![in alloc; 0; nodes]?,
-            next_weights: vec![in alloc; 0; nodes]?,
-            last_steps: Grid::new(alloc, len, nodes, 0)?,
+            weights,
+            next_weights,
+            last_steps,
         })
     }
 

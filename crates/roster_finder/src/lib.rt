@@ -9,6 +9,7 @@ mod draft;
 mod finding;
 mod grid;
 mod heavy_word;
+mod made;
 mod mixture;
 mod prices;
 mod quotas;

@@ -1,12 +1,14 @@
 // Mixtures of clean words that come near to the demand.
-use crate::demand::Demand;
+use crate::demand::{Demand, Range};
 use crate::grid::{Grid, entry_or, quotient, whole};
 use crate::heavy_word::{HeavyWord, Weigher};
+use crate::made::{both, kept};
 use crate::quotas::Quota;
 use crate::random::Random;
 use crate::setting::Setting;
 use nearest_point::{Hull, SCALE};
 use std::alloc::{AllocError, Global};
+use std::mem;
 
 /// About how many days a word has: enough that its free ends matter little.
 const WORD_DAYS: usize = 3_000;
@@ -35,7 +37,7 @@ const GREATEST_STEP_WEIGHT: i64 = 100_000;
 const NEAR: i64 = SCALE as i64 / 64;
 
 /// Words, and a mixture of them.
-#[derive(Debug, Drop)]
+#[derive(Drop)]
 pub(crate) struct Mixture {
     /// What else the mixture has to come to: free weekends, and cuts that it is led over.
     pub quotas: Vec<Quota>,
@@ -59,14 +61,19 @@ impl Mixture {
             .unwrap_or(0)
             .max(FEWEST_TURNS);
         let quotas = first_quotas(alloc, setting)?;
+        let hull = hull_of(alloc, demand, turns, &quotas);
+        let goal = both(Ok(quotas), hull);
         let len = demand.cells().saturating_mul(turns);
+        let weights = Grid::new(alloc, demand.days, layer.steps.len(), 0);
+        let room = both(Weigher::new(alloc, setting, len), weights);
+        let ((quotas, hull), (weigher, weights)) = both(goal, room)?;
         Ok(Mixture {
             rounds: FIRST_ROUNDS,
             turns,
             words: Vec::new(alloc),
-            hull: hull_of(alloc, demand, turns, &quotas)?,
-            weigher: Weigher::new(alloc, setting, len)?,
-            weights: Grid::new(alloc, demand.days, layer.steps.len(), 0)?,
+            hull,
+            weigher,
+            weights,
             quotas,
         })
     }
@@ -87,15 +94,28 @@ impl Mixture {
                 return Ok(true);
             }
             self.set_weights(setting, random, noise, far);
-            let word = self.weigher.heaviest(alloc, &setting.layer, &self.weights)?;
-            if word.weight < self.wanted_weight(&setting.demand, far) {
-                return Ok(false);
-            }
-            if !self.add_word(alloc, setting, word)? {
-                return Ok(true);
+            if let Some(is_near) = self.add_heaviest(alloc, setting, far)? {
+                return Ok(is_near);
             }
         }
         Ok(true)
+    }
+
+    // Adds the heaviest word. Some where it isn't added: false where it isn't heavy enough, true where it is there
+    // already.
+    fn add_heaviest(
+        &mut self,
+        alloc: Global,
+        setting: &Setting,
+        far: i64,
+    ) -> Result<Option<bool>, AllocError> {
+        let word = self.weigher.heaviest(alloc, &setting.layer, &self.weights)?;
+        if word.weight < self.wanted_weight(&setting.demand, far) {
+            drop(word);
+            return Ok(Some(false));
+        }
+        let is_new = self.add_word(alloc, setting, word)?;
+        Ok(if is_new { None } else { Some(true) })
     }
 
     fn rounds(&self, setting: &Setting) -> usize {
@@ -112,16 +132,32 @@ impl Mixture {
         setting: &Setting,
         word: HeavyWord,
     ) -> Result<bool, AllocError> {
-        let row = row_of(alloc, setting, &self.quotas, &word.uses)?;
-        if self.hull.contains(&row) {
-            return Ok(false);
+        match self.add_row(alloc, setting, &word.uses) {
+            Ok(true) => self.words.push(word)?,
+            other => {
+                drop(word);
+                return other;
+            }
         }
-        self.hull.push(row)?;
-        self.words.push(word)?;
         self.hull.descend(BETTERINGS);
         if self.words.len() > MANY_WORDS {
             self.drop_unused();
         }
+        Ok(true)
+    }
+
+    // Adds the coordinates of a word. False where they are there already.
+    fn add_row(
+        &mut self,
+        alloc: Global,
+        setting: &Setting,
+        uses: &Grid<i64>,
+    ) -> Result<bool, AllocError> {
+        let row = row_of(alloc, setting, &self.quotas, uses)?;
+        if self.hull.contains(&row) {
+            return Ok(false);
+        }
+        self.hull.push(row)?;
         Ok(true)
     }
 
@@ -216,9 +252,10 @@ impl Mixture {
 
     fn mixed_uses(&self, weekday: usize, number: usize, one_use: i64) -> i64 {
         let mut sum: i64 = 0;
-        for (word, part) in self.words.iter().zip(self.hull.parts().iter()) {
+        for (place, word) in self.words.iter().enumerate() {
+            let part = entry_or(self.hull.parts(), place, 0);
             let times = word.uses.at(weekday, number);
-            sum = sum.wrapping_add(times.wrapping_mul(i64::from(*part)));
+            sum = sum.wrapping_add(times.wrapping_mul(i64::from(part)));
         }
         let turns = i64::from(SCALE).wrapping_mul(whole(self.turns));
         quotient(sum.wrapping_mul(one_use), turns)
@@ -227,12 +264,25 @@ impl Mixture {
     /// Takes new cuts into account. Each word keeps its part.
     pub fn renew(&mut self, alloc: Global, setting: &Setting) -> Result<(), AllocError> {
         let mut hull = hull_of(alloc, &setting.demand, self.turns, &self.quotas)?;
-        for (word, part) in self.words.iter().zip(self.hull.parts().iter()) {
-            let row = row_of(alloc, setting, &self.quotas, &word.uses)?;
-            hull.push_part(row, *part)?;
-        }
-        self.hull = hull;
+        let put = self.put_words(alloc, setting, &mut hull);
+        let hull = kept(hull, put)?;
+        drop(mem::replace(&mut self.hull, hull));
         self.rounds = CUT_ROUNDS;
+        Ok(())
+    }
+
+    // Puts the words into a hull, each with its part.
+    fn put_words(
+        &self,
+        alloc: Global,
+        setting: &Setting,
+        hull: &mut Hull,
+    ) -> Result<(), AllocError> {
+        for (place, word) in self.words.iter().enumerate() {
+            let part = entry_or(self.hull.parts(), place, 0);
+            let row = row_of(alloc, setting, &self.quotas, &word.uses)?;
+            hull.push_part(row, part)?;
+        }
         Ok(())
     }
 }
@@ -258,10 +308,12 @@ fn furthest(numbers: &[i64]) -> i64 {
 
 // The quota of free weekends, where some are wanted.
 fn first_quotas(alloc: Global, setting: &Setting) -> Result<Vec<Quota>, AllocError> {
-    let mut quotas = Vec::new(alloc);
-    if setting.demand.free > 0 {
-        quotas.push(Quota::of_weekends(alloc, setting)?)?;
+    if setting.demand.free == 0 {
+        return Ok(Vec::new(alloc));
     }
+    let quota = Quota::of_weekends(alloc, setting)?;
+    let mut quotas = Vec::new(alloc);
+    quotas.push(quota)?;
     Ok(quotas)
 }
 
@@ -272,21 +324,47 @@ fn hull_of(
     turns: usize,
     quotas: &[Quota],
 ) -> Result<Hull, AllocError> {
-    let times = whole(turns);
     let mut low = Vec::new(alloc);
     let mut high = Vec::new(alloc);
+    let put = put_box(demand, turns, quotas, &mut low, &mut high);
+    let (low, high) = kept((low, high), put)?;
+    Hull::new(alloc, low, high)
+}
+
+// Puts the ends of the box: those of the demand first, and then those of the quotas.
+fn put_box(
+    demand: &Demand,
+    turns: usize,
+    quotas: &[Quota],
+    low: &mut Vec<i64>,
+    high: &mut Vec<i64>,
+) -> Result<(), AllocError> {
+    let times = whole(turns);
     for symbol in 0..demand.symbols {
         for weekday in 0..demand.days {
-            let range = demand.range(symbol, weekday);
-            low.push(range.least.wrapping_mul(times))?;
-            high.push(range.greatest.wrapping_mul(times))?;
+            put_range(low, high, demand.range(symbol, weekday), times)?;
         }
     }
     for quota in quotas {
-        low.push(quota.least.wrapping_mul(times))?;
-        high.push(whole(demand.cells()).wrapping_mul(times))?;
+        let range = Range {
+            least: quota.least,
+            greatest: whole(demand.cells()),
+        };
+        put_range(low, high, range, times)?;
     }
-    Hull::new(alloc, low, high)
+    Ok(())
+}
+
+// Puts the ends of a range, `times` times.
+fn put_range(
+    low: &mut Vec<i64>,
+    high: &mut Vec<i64>,
+    range: Range,
+    times: i64,
+) -> Result<(), AllocError> {
+    low.push(range.least.wrapping_mul(times))?;
+    high.push(range.greatest.wrapping_mul(times))?;
+    Ok(())
 }
 
 // The coordinates of a word: how often it has each symbol on each weekday, and what it has of each quota.
@@ -297,6 +375,17 @@ fn row_of(
     uses: &Grid<i64>,
 ) -> Result<Vec<i64>, AllocError> {
     let mut row = Vec::new(alloc);
+    let put = put_row(setting, quotas, uses, &mut row);
+    kept(row, put)
+}
+
+// Puts the coordinates of a word behind those that are there.
+fn put_row(
+    setting: &Setting,
+    quotas: &[Quota],
+    uses: &Grid<i64>,
+    row: &mut Vec<i64>,
+) -> Result<(), AllocError> {
     for symbol in 0..setting.demand.symbols {
         for weekday in 0..setting.demand.days {
             row.push(count_of(setting, uses, symbol, weekday))?;
@@ -305,7 +394,7 @@ fn row_of(
     for quota in quotas {
         row.push(quota.uses(uses))?;
     }
-    Ok(row)
+    Ok(())
 }
 
 fn count_of(setting: &Setting, uses: &Grid<i64>, symbol: usize, weekday: usize) -> i64 {

@@ -2,6 +2,7 @@
 use crate::counters::{Counter, Counters};
 use crate::draft::{Draft, Window};
 use crate::grid::{Grid, entry_or, put, set_all, whole};
+use crate::made::both;
 use crate::random::Random;
 use crate::setting::Setting;
 use std::alloc::{AllocError, Global};
@@ -16,14 +17,14 @@ const UNIT: i64 = 256;
 const NOISE: usize = 256;
 
 /// How many of the days of a weekday a symbol still lacks, and how many it may have.
-#[derive(Clone, Copy, Debug)]
+#[derive(Clone, Copy)]
 struct Hand {
     lacking: i64,
     allowed: i64,
 }
 
 /// Prices for windows.
-#[derive(Debug, Drop)]
+#[derive(Drop)]
 pub(crate) struct Prices {
     symbols: usize,
     weekdays: usize,
@@ -46,14 +47,19 @@ impl Prices {
             lacking: 0,
             allowed: 0,
         };
+        let of_days = Grid::new(alloc, LONGEST_WINDOW, symbols, 0);
+        let prices = both(of_days, vec![in alloc; 0; symbols]);
+        let hands = Grid::new(alloc, symbols, weekdays, none);
+        let days = both(vec![in alloc; 0; weekdays], hands);
+        let ((of_days, of_blocks), (undealt, hands)) = both(prices, days)?;
         Ok(Prices {
             symbols,
             weekdays,
-            of_days: Grid::new(alloc, LONGEST_WINDOW, symbols, 0)?,
-            of_blocks: vec![in alloc; 0; symbols]?,
+            of_days,
+            of_blocks,
             of_weekend: 0,
-            undealt: vec![in alloc; 0; weekdays]?,
-            hands: Grid::new(alloc, symbols, weekdays, none)?,
+            undealt,
+            hands,
         })
     }
 

@@ -4,7 +4,7 @@ use crate::setting::Setting;
 use std::alloc::{AllocError, Global};
 
 /// Steps, each with its weekday, and how often a roster takes one of them at least.
-#[derive(Debug, Drop, PartialEq, Eq)]
+#[derive(Drop, PartialEq, Eq)]
 pub(crate) struct Quota {
     pub steps: Vec<(usize, usize)>,
     pub least: i64,

@@ -6,7 +6,7 @@ const FACTOR: u64 = 6364136223846793005;
 const INCREMENT: u64 = 1442695040888963407;
 
 /// A generator of random numbers.
-#[derive(Debug, Drop)]
+#[derive(Drop)]
 pub(crate) struct Random {
     state: u64,
 }

@@ -2,10 +2,12 @@
 use crate::cuts::add_cuts;
 use crate::demand::Range;
 use crate::grid::{Grid, entry_or};
+use crate::made::both;
 use crate::mixture::Mixture;
 use crate::random::Random;
 use crate::setting::Setting;
 use std::alloc::{AllocError, Global};
+use std::mem;
 
 /// Shares are given in parts of a use; this many parts are one use.
 pub(crate) const ONE_USE: i64 = 4_096;
@@ -20,7 +22,7 @@ const CUTTING_TURNS: usize = 10;
 const BLOCK_SLACK: i64 = ONE_USE / 10;
 
 /// A fractional roster: for each weekday and step how often it is taken.
-#[derive(Debug, Drop)]
+#[derive(Drop)]
 pub(crate) struct Shares {
     /// Whether they are led over all cuts. Where none are, there is hardly a roster.
     pub hang_together: bool,
@@ -39,21 +41,26 @@ impl Shares {
         noise: usize,
     ) -> Result<Option<Shares>, AllocError> {
         let mut mixture = Mixture::new(alloc, setting)?;
+        let shares = Shares::of_mixture(alloc, setting, random, noise, &mut mixture);
+        drop(mixture);
+        shares
+    }
+
+    // Those of a mixture that has no words yet.
+    fn of_mixture(
+        alloc: Global,
+        setting: &Setting,
+        random: &mut Random,
+        noise: usize,
+        mixture: &mut Mixture,
+    ) -> Result<Option<Shares>, AllocError> {
         if !mixture.approach(alloc, setting, random, noise)? {
             return Ok(None);
         }
         let mut uses = mixture.uses(alloc, setting, ONE_USE)?;
-        for _ in 0..CUTTING_TURNS {
-            if !add_cuts(alloc, setting, &uses, ONE_USE, &mut mixture.quotas)? {
-                break;
-            }
-            mixture.renew(alloc, setting)?;
-            if !mixture.approach(alloc, setting, random, noise)? {
-                return Ok(Some(Shares::from_uses(alloc, setting, uses, false)?));
-            }
-            uses = mixture.uses(alloc, setting, ONE_USE)?;
-        }
-        Ok(Some(Shares::from_uses(alloc, setting, uses, true)?))
+        let led = lead_over_cuts(alloc, setting, random, noise, mixture, &mut uses);
+        let (uses, hang_together) = both(Ok(uses), led)?;
+        Ok(Some(Shares::from_uses(alloc, setting, uses, hang_together)?))
     }
 
     fn from_uses(
@@ -86,6 +93,30 @@ impl Shares {
             0
         }
     }
+}
+
+// Leads a mixture and its uses over cuts. False where no mixture is led over all of them; then the uses are those of
+// the last one that was led over those before.
+fn lead_over_cuts(
+    alloc: Global,
+    setting: &Setting,
+    random: &mut Random,
+    noise: usize,
+    mixture: &mut Mixture,
+    uses: &mut Grid<i64>,
+) -> Result<bool, AllocError> {
+    for _ in 0..CUTTING_TURNS {
+        if !add_cuts(alloc, setting, uses, ONE_USE, &mut mixture.quotas)? {
+            break;
+        }
+        mixture.renew(alloc, setting)?;
+        if !mixture.approach(alloc, setting, random, noise)? {
+            return Ok(false);
+        }
+        let led = mixture.uses(alloc, setting, ONE_USE)?;
+        drop(mem::replace(uses, led));
+    }
+    Ok(true)
 }
 
 // The whole numbers next to the number of a symbol's blocks.

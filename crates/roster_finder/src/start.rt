@@ -2,6 +2,7 @@
 use crate::counters::Counter;
 use crate::draft::Draft;
 use crate::grid::{Grid, quotient, whole};
+use crate::made::both;
 use crate::random::Random;
 use crate::setting::Setting;
 use crate::shares::{ONE_USE, Shares};
@@ -22,7 +23,7 @@ const NO_SHARE: i64 = 1_000_000;
 const DRAWS: usize = 20;
 
 /// Which uses of a step are due.
-#[derive(Clone, Copy, Debug, PartialEq, Eq)]
+#[derive(Clone, Copy)]
 pub(crate) enum Due {
     /// Those of the whole roster.
     InAll,
@@ -31,14 +32,14 @@ pub(crate) enum Due {
 }
 
 /// How a start word is written: by which uses, and how far it is led by chance.
-#[derive(Clone, Copy, Debug)]
+#[derive(Clone, Copy)]
 pub(crate) struct Manner {
     pub due: Due,
     pub noise: usize,
 }
 
 /// Room for start words.
-#[derive(Debug, Drop)]
+#[derive(Drop)]
 pub(crate) struct Starter {
     // By day and node: whether the walk can be closed from there.
     closes: Grid<bool>,
@@ -49,10 +50,10 @@ pub(crate) struct Starter {
 impl Starter {
     pub fn new(alloc: Global, setting: &Setting) -> Result<Starter, AllocError> {
         let days = setting.demand.cells().saturating_add(1);
-        Ok(Starter {
-            closes: Grid::new(alloc, days, setting.layer.nodes(), false)?,
-            taken: Grid::new(alloc, setting.demand.days, setting.layer.steps.len(), 0)?,
-        })
+        let closes = Grid::new(alloc, days, setting.layer.nodes(), false);
+        let taken = Grid::new(alloc, setting.demand.days, setting.layer.steps.len(), 0);
+        let (closes, taken) = both(closes, taken)?;
+        Ok(Starter { closes, taken })
     }
 
     /// Writes a start word and counts it. False where each of the first nodes that were drawn has no closed walk.

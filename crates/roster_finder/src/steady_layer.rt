@@ -1,5 +1,6 @@
 // The one layer that long clean words pass through day by day.
 use crate::grid::{Grid, entry_or};
+use crate::made::kept;
 use crate::tail_classes::{TailClasses, last_of};
 use crate::tail_graph::TailGraph;
 use std::alloc::{AllocError, Global};
@@ -9,7 +10,7 @@ use word_tail::TailRules;
 pub(crate) const LAST_OF_WEEKEND: usize = 6;
 
 /// One step through the layer.
-#[derive(Clone, Copy, Debug)]
+#[derive(Clone, Copy)]
 pub(crate) struct Step {
     pub from: usize,
     pub to: usize,
@@ -29,7 +30,7 @@ impl Step {
 
 /// The nodes that clean words without end pass through, and the steps between them. A node stands for all tails that
 /// end in one symbol and have one future, so a closed walk through nodes is a clean cyclic word.
-#[derive(Debug, Drop)]
+#[derive(Drop)]
 pub(crate) struct SteadyLayer {
     /// The number of symbols, the day off among them.
     pub symbols: usize,
@@ -44,17 +45,42 @@ pub(crate) struct SteadyLayer {
 impl SteadyLayer {
     pub fn of(alloc: Global, rules: &TailRules, shifts: u8) -> Result<SteadyLayer, AllocError> {
         let graph = TailGraph::of(alloc, rules, shifts)?;
-        let classes = TailClasses::of(alloc, &graph)?;
+        let layer = SteadyLayer::of_graph(alloc, &graph);
+        drop(graph);
+        layer
+    }
+
+    // The layer of the tails of a graph.
+    fn of_graph(alloc: Global, graph: &TailGraph) -> Result<SteadyLayer, AllocError> {
+        let classes = TailClasses::of(alloc, graph)?;
+        let layer = SteadyLayer::of_classes(alloc, graph, &classes);
+        drop(classes);
+        layer
+    }
+
+    // The layer that has a node for each class.
+    fn of_classes(
+        alloc: Global,
+        graph: &TailGraph,
+        classes: &TailClasses,
+    ) -> Result<SteadyLayer, AllocError> {
+        let out = Grid::new(alloc, classes.tails.len(), graph.symbols, None)?;
         let mut layer = SteadyLayer {
             symbols: graph.symbols,
             steps: Vec::new(alloc),
             last: Vec::new(alloc),
-            out: Grid::new(alloc, classes.tails.len(), graph.symbols, None)?,
+            out,
         };
+        let added = layer.add_nodes(graph, classes);
+        kept(layer, added)
+    }
+
+    // Adds the node of each class, with its steps.
+    fn add_nodes(&mut self, graph: &TailGraph, classes: &TailClasses) -> Result<(), AllocError> {
         for place in &classes.tails {
-            layer.add_node(&graph, &classes, *place)?;
+            self.add_node(graph, classes, *place)?;
         }
-        Ok(layer)
+        Ok(())
     }
 
     // The node of the next class, with its steps.

@@ -1,12 +1,14 @@
 // Classes of tails that have one future.
 use crate::grid::{entry_or, put};
+use crate::made::{both, kept};
 use crate::tail_graph::TailGraph;
 use rwsp_terms::limits::LONGEST_RUN;
 use std::alloc::{AllocError, Global};
+use std::mem;
 use word_tail::Tail;
 
 /// A class for each tail that words without end pass through again and again, and for each class one of its tails.
-#[derive(Debug, Drop)]
+#[derive(Drop)]
 pub(crate) struct TailClasses {
     of_tail: Vec<Option<usize>>,
     /// A tail of each class.
@@ -17,16 +19,24 @@ impl TailClasses {
     /// The tails of one class end in one symbol and can be followed by the same words (E. Moore, 1956).
     pub fn of(alloc: Global, graph: &TailGraph) -> Result<TailClasses, AllocError> {
         let alive = steady_tails(alloc, graph)?;
-        let mut classes = classes_by_last(alloc, graph, &alive)?;
-        for _ in 0..alive.len() {
-            let finer = classes.refined(alloc, graph)?;
-            let is_stable = finer.tails.len() == classes.tails.len();
-            classes = finer;
+        let coarse = classes_by_last(alloc, graph, &alive);
+        drop(alive);
+        let mut classes = coarse?;
+        let refined = classes.refine(alloc, graph);
+        kept(classes, refined)
+    }
+
+    // Refines the classes until they stay as they are.
+    fn refine(&mut self, alloc: Global, graph: &TailGraph) -> Result<(), AllocError> {
+        for _ in 0..self.of_tail.len() {
+            let finer = self.refined(alloc, graph)?;
+            let is_stable = finer.tails.len() == self.tails.len();
+            drop(mem::replace(self, finer));
             if is_stable {
                 break;
             }
         }
-        Ok(classes)
+        Ok(())
     }
 
     fn class(&self, place: usize) -> Option<usize> {
@@ -57,14 +67,20 @@ impl TailClasses {
             of_tail: Vec::new(alloc),
             tails: Vec::new(alloc),
         };
-        for place in 0..self.of_tail.len() {
-            let class = match self.class(place) {
-                Some(_) => Some(finer.class_like(self, graph, place)?),
+        let put = finer.put_all(self, graph);
+        kept(finer, put)
+    }
+
+    // Puts each tail into the class that it is like by coarser classes.
+    fn put_all(&mut self, coarser: &TailClasses, graph: &TailGraph) -> Result<(), AllocError> {
+        for place in 0..coarser.of_tail.len() {
+            let class = match coarser.class(place) {
+                Some(_) => Some(self.class_like(coarser, graph, place)?),
                 None => None,
             };
-            finer.of_tail.push(class)?;
+            self.of_tail.push(class)?;
         }
-        Ok(finer)
+        Ok(())
     }
 
     // The class whose tail is alike by coarser classes; a new one where there is none.
@@ -121,28 +137,41 @@ fn steady_tails(alloc: Global, graph: &TailGraph) -> Result<Vec<bool>, AllocErro
     for tail in &graph.tails {
         alive.push(is_steady(*tail))?;
     }
+    let cleared = clear_dead_ends(alloc, graph, &mut alive);
+    kept(alive, cleared)
+}
+
+// Marks tails as dead until a step leaves and a step enters each of those that are left.
+fn clear_dead_ends(
+    alloc: Global,
+    graph: &TailGraph,
+    alive: &mut Vec<bool>,
+) -> Result<(), AllocError> {
     for _ in 0..graph.tails.len() {
-        let kept = kept_tails(alloc, graph, &alive)?;
-        if kept == alive {
+        let passed = passed_tails(alloc, graph, alive)?;
+        let is_stable = passed == *alive;
+        drop(mem::replace(alive, passed));
+        if is_stable {
             break;
         }
-        alive = kept;
     }
-    Ok(alive)
+    Ok(())
 }
 
 // The tails that a step leaves and a step enters. Costs a look at each step.
-fn kept_tails(alloc: Global, graph: &TailGraph, alive: &[bool]) -> Result<Vec<bool>, AllocError> {
-    let mut left = vec![in alloc; false; alive.len()]?;
-    let mut entered = vec![in alloc; false; alive.len()]?;
-    for place in 0..alive.len() {
+fn passed_tails(alloc: Global, graph: &TailGraph, alive: &[bool]) -> Result<Vec<bool>, AllocError> {
+    let tails = alive.len();
+    let marks = both(vec![in alloc; false; tails], vec![in alloc; false; tails]);
+    let (mut left, mut entered) = marks?;
+    for place in 0..tails {
         mark_steps(graph, alive, place, &mut left, &mut entered);
     }
-    let mut kept = Vec::new(alloc);
-    for place in 0..alive.len() {
-        kept.push(entry_or(&left, place, false) && entry_or(&entered, place, false))?;
+    for place in 0..tails {
+        let is_passed = entry_or(&left, place, false) && entry_or(&entered, place, false);
+        put(&mut left, place, is_passed);
     }
-    Ok(kept)
+    drop(entered);
+    Ok(left)
 }
 
 // Marks a tail as left and its followers as entered, as far as they are alive.

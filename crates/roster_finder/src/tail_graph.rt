@@ -1,4 +1,5 @@
 // The tails of clean words and the steps between them.
+use crate::made::kept;
 use rwsp_terms::Symbol;
 use std::alloc::{AllocError, Global};
 use word_tail::{Tail, TailRules};
@@ -7,7 +8,7 @@ use word_tail::{Tail, TailRules};
 const MOST_TAILS: usize = 4000;
 
 /// Tails, and for each of them and each symbol the tail that follows.
-#[derive(Debug, Drop)]
+#[derive(Drop)]
 pub(crate) struct TailGraph {
     pub symbols: usize,
     pub tails: Vec<Tail>,
@@ -22,13 +23,19 @@ impl TailGraph {
             tails: vec![in alloc; Tail::empty()]?,
             steps: Vec::new(alloc),
         };
+        let added = graph.add_all(rules, shifts);
+        kept(graph, added)
+    }
+
+    // Adds the steps out of each tail, and the tails that they lead to.
+    fn add_all(&mut self, rules: &TailRules, shifts: u8) -> Result<(), AllocError> {
         for place in 0..MOST_TAILS {
-            let Some(tail) = graph.tail(place) else {
-                return Ok(graph);
+            let Some(tail) = self.tail(place) else {
+                return Ok(());
             };
-            graph.add_steps(rules, tail, shifts)?;
+            self.add_steps(rules, tail, shifts)?;
         }
-        Ok(graph)
+        Ok(())
     }
 
     pub fn tail(&self, place: usize) -> Option<Tail> {
@@ -54,8 +61,10 @@ impl TailGraph {
 
     // The place of the tail; a new one is put behind the others. Costs one look at each tail.
     fn place_of(&mut self, tail: Tail) -> Result<usize, AllocError> {
-        if let Some(place) = self.tails.iter().position(|other| *other == tail) {
-            return Ok(place);
+        for (place, other) in self.tails.iter().enumerate() {
+            if *other == tail {
+                return Ok(place);
+            }
         }
         let place = self.tails.len();
         self.tails.push(tail)?;

@@ -4,7 +4,7 @@ use crate::steady_layer::{LAST_OF_WEEKEND, SteadyLayer};
 use std::alloc::{AllocError, Global};
 
 /// A cyclic word and the nodes that it passes.
-#[derive(Debug, Drop)]
+#[derive(Drop)]
 pub(crate) struct Walk {
     days: usize,
     // The symbol of each day.

@@ -1,11 +1,12 @@
 // Moves that rewrite a window of a word by the clean word that costs least.
 use crate::draft::{Draft, Window};
 use crate::grid::{Grid, entry_or, put, set_all};
+use crate::made::both;
 use crate::prices::{LONGEST_WINDOW, Prices};
 use crate::random::Random;
 use crate::setting::Setting;
 use crate::shares::Shares;
-use crate::steady_layer::LAST_OF_WEEKEND;
+use crate::steady_layer::{LAST_OF_WEEKEND, Step};
 use crate::walk::Walk;
 use std::alloc::{AllocError, Global};
 use std::mem;
@@ -14,7 +15,7 @@ use std::mem;
 const FAR: i64 = 1 << 60;
 
 /// Room for moves.
-#[derive(Debug, Drop)]
+#[derive(Drop)]
 pub(crate) struct Mover {
     prices: Prices,
     // The least cost of the walks to each node, on one day and on the next.
@@ -29,12 +30,17 @@ pub(crate) struct Mover {
 impl Mover {
     pub fn new(alloc: Global, setting: &Setting) -> Result<Mover, AllocError> {
         let nodes = setting.layer.nodes();
+        let costs = both(vec![in alloc; FAR; nodes], vec![in alloc; FAR; nodes]);
+        let parents = Grid::new(alloc, LONGEST_WINDOW, nodes, 0);
+        let tables = both(parents, vec![in alloc; 0; LONGEST_WINDOW]);
+        let made = both(Prices::new(alloc, setting), both(costs, tables));
+        let (prices, ((costs, next_costs), (parents, old))) = made?;
         Ok(Mover {
-            prices: Prices::new(alloc, setting)?,
-            costs: vec![in alloc; FAR; nodes]?,
-            next_costs: vec![in alloc; FAR; nodes]?,
-            parents: Grid::new(alloc, LONGEST_WINDOW, nodes, 0)?,
-            old: vec![in alloc; 0; LONGEST_WINDOW]?,
+            prices,
+            costs,
+            next_costs,
+            parents,
+            old,
         })
     }
 
@@ -81,23 +87,31 @@ impl Mover {
 
     fn sweep_day(&mut self, setting: &Setting, shares: &Shares, weekday: usize, day: usize) {
         for (number, step) in setting.layer.steps.iter().enumerate() {
-            let mut cost = entry_or(&self.costs, step.from, FAR);
-            if cost == FAR {
+            let before = entry_or(&self.costs, step.from, FAR);
+            if before == FAR {
                 continue;
             }
-            cost = cost.wrapping_add(self.prices.of_day(day, step.symbol));
-            cost = cost.wrapping_add(shares.price(weekday, number));
-            if step.begins {
-                cost = cost.wrapping_add(self.prices.of_block(step.symbol));
-            }
-            if step.ends_weekend(weekday) {
-                cost = cost.wrapping_add(self.prices.of_weekend());
-            }
+            let price = shares.price(weekday, number);
+            let cost = before
+                .wrapping_add(price)
+                .wrapping_add(self.price_of(step, weekday, day));
             if cost < entry_or(&self.next_costs, step.to, 0) {
                 put(&mut self.next_costs, step.to, cost);
                 self.parents.set(day, step.to, step.from);
             }
         }
+    }
+
+    // What a step costs on a day of the window by the counters.
+    fn price_of(&self, step: &Step, weekday: usize, day: usize) -> i64 {
+        let mut price = self.prices.of_day(day, step.symbol);
+        if step.begins {
+            price = price.wrapping_add(self.prices.of_block(step.symbol));
+        }
+        if step.ends_weekend(weekday) {
+            price = price.wrapping_add(self.prices.of_weekend());
+        }
+        price
     }
 
     // The node behind the window that costs least among those from which the word can continue as it is.
