@@ -1,6 +1,8 @@
 // A trial of the definitions: `escape` and `heaviest` against a look at all words, where what is bad for a rule and
 // what a word weighs are written anew.
-ghost use Rattle.std.specs.Prelude.{◌≤ℤ◌, negsuc, pos, IfOk};
+ghost use Rattle.std.specs.Prelude.{◌≡◌, ◌*◌, ◌≤◌, ◌<◌, ◌≤ℤ◌, negsuc, pos, IfOk};
+ghost use Rattle.rwsp_terms.specs.declared.limits.TheConstants.{LONGEST_WORD};
+ghost use Rattle.rwsp_terms.specs.Instance.{cells};
 ghost use Rattle.domain_store.specs.Store.{BelongsTo};
 
 use crate::problems::{D, OFF, TWO_IN_FOUR, TWOS_IN_SIX, all_rules, problem_of, take_away};
@@ -12,6 +14,7 @@ use rwsp_terms::{Bounds, Class, Symbol, Word};
 use std::alloc::{AllocError, Global};
 use std::process::Abort;
 use std::test::Fail;
+use word_tail::TailRules;
 
 // What a symbol weighs on a day: from -3 to 3.
 fn value(day: u32, x: Symbol) -> i32
@@ -257,32 +260,81 @@ fn domains_of(alloc: Global, problem: &Problem, working: Option<u32>) -> Result<
     }
 }
 
-// The least clean words of up to nine days, and the heaviest of the turns.
-fn compare(rt: &impl Abort, alloc: Global, case: &Case) -> Result<(), Fail> {
-    let problem = problem_of(alloc, case.text)?;
-    let tails = all_rules(alloc, &problem)?;
-    let doms = domains_of(alloc, &problem, case.working)?;
-    let p = case.first;
-    assert!(rt; p < problem.cells());
-    for len in 1..10 {
-        let word = escape(alloc, &tails, &doms, p, len)?;
-        let found = word.map(|word| HeavyWord { weight: 0, word });
-        let best = heaviest_of_all(alloc, &problem, case, len, 0)?;
-        assert!(rt; is_same(&found, &best), "{len}");
-    }
-    let weights = weights_of(alloc, &problem)?;
-    assert!(rt; case.turns == 1 || case.turns == 2);
-    let found = heaviest(alloc, &problem, &tails, &doms, p, case.turns, &weights)?;
+// Whether the least clean word of a length is that of all words.
+fn is_least(
+    alloc: Global,
+    problem: &Problem,
+    tails: &TailRules,
+    doms: &Domains,
+    case: &Case,
+    len: u32,
+) -> Result<bool, AllocError>
+    requires belongs { BelongsTo tails.now.problem doms.now }
+    requires position { case.now.first < cells tails.now.problem }
+    requires long { (1 ≤ len) × (len ≤ LONGEST_WORD) }
+{
+    let word = escape(alloc, tails, doms, case.first, len)?;
+    let found = word.map(|word| HeavyWord { weight: 0, word });
+    let best = heaviest_of_all(alloc, problem, case, len, 0)?;
+    Ok(is_same(&found, &best))
+}
+
+// Whether the heaviest word of the turns is that of all words.
+fn is_heaviest(
+    alloc: Global,
+    problem: &Problem,
+    tails: &TailRules,
+    doms: &Domains,
+    case: &Case,
+) -> Result<bool, AllocError>
+    requires same { tails.now.problem ≡ problem.now }
+    requires belongs { BelongsTo problem.now doms.now }
+    requires position { case.now.first < cells problem.now }
+    requires some { 1 ≤ case.now.turns }
+    requires few { case.now.turns * cells problem.now ≤ LONGEST_WORD }
+{
+    let weights = weights_of(alloc, problem)?;
+    let found = heaviest(
+        alloc, problem, tails, doms, case.first, case.turns, &weights,
+    )?;
     let len = case.turns.wrapping_mul(problem.cells());
-    let best = heaviest_of_all(alloc, &problem, case, len, 1)?;
-    assert!(rt; is_same(&found, &best), "{len}");
+    let best = heaviest_of_all(alloc, problem, case, len, 1)?;
+    Ok(is_same(&found, &best))
+}
+
+// The least clean words of up to nine days, and the heaviest of the turns.
+fn compare(
+    rt: &impl Abort,
+    alloc: Global,
+    problem: &Problem,
+    tails: &TailRules,
+    doms: &Domains,
+    case: &Case,
+) -> Result<(), Fail>
+    requires same { tails.now.problem ≡ problem.now }
+    requires belongs { BelongsTo problem.now doms.now }
+{
+    problem.prove_limits();
+    assert!(rt; case.first < problem.cells());
+    for len in 1..10 {
+        assert!(rt; is_least(alloc, problem, tails, doms, case, len)?, "{len}");
+    }
+    assert!(rt; case.turns == 1 || case.turns == 2);
+    assert!(rt; is_heaviest(alloc, problem, tails, doms, case)?);
     Ok(())
+}
+
+fn compare_on(rt: &impl Abort, alloc: Global, problem: &Problem, case: &Case) -> Result<(), Fail> {
+    let tails = all_rules(alloc, problem)?;
+    let doms = domains_of(alloc, problem, case.working)?;
+    compare(rt, alloc, problem, &tails, &doms, case)
 }
 
 #[test]
 fn words_against_all_words(rt: HostRuntime) -> Result<(), Fail> {
     for case in &CASES {
-        compare(&rt, rt.alloc(), case)?;
+        let problem = problem_of(rt.alloc(), case.text)?;
+        compare_on(&rt, rt.alloc(), &problem, case)?;
     }
     Ok(())
 }

@@ -1,11 +1,13 @@
 // Single days of the shift D with single days off between them: D can be on half of the days, and on no more.
+ghost use Rattle.domain_store.specs.Store.{BelongsTo};
+
 use crate::problems::{D, HALF_OF_FOUR, MOST_OF_FOUR, OFF, problem_of, take_away};
 use domain_store::Domains;
 use nearest_weights::NearestWeights;
 use refutation_terms::Line;
 use rwsp_model::Problem;
 use rwsp_terms::{Symbol, Weight};
-use std::alloc::Global;
+use std::alloc::{AllocError, Global};
 use std::test::Fail;
 
 fn weight(symbol: Symbol, value: i32) -> Weight {
@@ -43,22 +45,47 @@ fn position_of(leaf: &Option<Line>) -> Option<u32> {
     }
 }
 
+// The leaf at the top of a tree, or within.
+fn leaf_of(
+    alloc: Global,
+    nearest: &mut NearestWeights,
+    doms: &Domains,
+    is_within: bool,
+) -> Result<Option<u32>, AllocError>
+    requires { BelongsTo nearest.old.problem doms.now }
+{
+    let leaf = if is_within {
+        nearest.leaf_within(alloc, doms)?
+    } else {
+        nearest.leaf_at_top(alloc, doms)?
+    };
+    Ok(position_of(&leaf))
+}
+
+fn leaf_under(
+    alloc: Global,
+    problem: &Problem,
+    doms: &Domains,
+    is_within: bool,
+) -> Result<Option<u32>, AllocError>
+    requires { BelongsTo problem.now doms.now }
+{
+    let mut nearest = NearestWeights::new(alloc, problem)?;
+    leaf_of(alloc, &mut nearest, doms, is_within)
+}
+
 // The leaf at the top.
 fn at_top(alloc: Global, problem: &Problem) -> Result<Option<u32>, Fail> {
-    let mut nearest = NearestWeights::new(alloc, problem)?;
     let doms = Domains::new(alloc, problem)?;
-    let leaf = nearest.leaf_at_top(alloc, &doms)?;
-    Ok(position_of(&leaf))
+    Ok(leaf_under(alloc, problem, &doms, false)?)
 }
 
 // The leaf where D is at position 0 and the day off at position 1.
 fn within(alloc: Global, problem: &Problem) -> Result<Option<u32>, Fail> {
-    let mut nearest = NearestWeights::new(alloc, problem)?;
     let mut doms = Domains::new(alloc, problem)?;
     take_away(&mut doms, 0, OFF)?;
     take_away(&mut doms, 1, D)?;
-    let leaf = nearest.leaf_within(alloc, &doms)?;
-    Ok(position_of(&leaf))
+    Ok(leaf_under(alloc, problem, &doms, true)?)
 }
 
 #[test]

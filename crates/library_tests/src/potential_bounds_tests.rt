@@ -1,33 +1,67 @@
 // Bounds of small problems. The heaviest words are compared with a listing in `all_words.rt`.
+ghost use Rattle.std.specs.Prelude.{◌≡◌, ◌≤◌};
+ghost use Rattle.rwsp_terms.specs.declared.limits.TheConstants.{GREATEST_WEIGHT};
+ghost use Rattle.domain_store.specs.Store.{BelongsTo};
+
 use crate::meeting::Meeting;
 use crate::problems::{
     D, D_ON_BOTH_DAYS, LONG_BLOCKS, LONGER_BLOCKS, OFF, TWOS_IN_SIX, all_rules, problem_of,
 };
 use domain_store::Domains;
 use potential_bounds::{Gate, NoGate, Weights, first_plain, heaviest_free, search_weights};
+use rwsp_model::Problem;
 use rwsp_terms::{Symbol, Weight};
 use std::alloc::Global;
 use std::test::Fail;
 use std::thread::Threads;
+use word_tail::TailRules;
+
+// What the heaviest word weighs by its free weekends alone, in three weeks of seven days.
+fn weight_under(
+    alloc: Global,
+    problem: &Problem,
+    tails: &TailRules,
+    doms: &Domains,
+) -> Result<Option<i64>, Fail>
+    requires same { tails.now.problem ≡ problem.now }
+    requires belongs { BelongsTo problem.now doms.now }
+{
+    if problem.days() != 7 || problem.cells() != 21 {
+        return Err(Fail::from("not three weeks"));
+    }
+    let weights = Weights::new(alloc);
+    match heaviest_free(alloc, problem, tails, doms, 1, &weights, 1)? {
+        Some(found) => Ok(Some(found.weight)),
+        None => Ok(None),
+    }
+}
+
+fn greatest_weight(alloc: Global, text: &[u8]) -> Result<Option<i64>, Fail> {
+    let problem = problem_of(alloc, text)?;
+    let tails = all_rules(alloc, &problem)?;
+    let doms = Domains::new(alloc, &problem)?;
+    weight_under(alloc, &problem, &tails, &doms)
+}
 
 #[test]
 fn free_weekends_are_rewarded(rt: HostRuntime) -> Result<(), Fail> {
-    let alloc = rt.alloc();
-    let weights = Weights::new(alloc);
     for (text, weight) in [(LONG_BLOCKS, 1), (LONGER_BLOCKS, 2)] {
-        let problem = problem_of(alloc, text)?;
-        let tails = all_rules(alloc, &problem)?;
-        let doms = Domains::new(alloc, &problem)?;
-        assert!(rt; problem.days() == 7);
-        assert!(rt; problem.cells() == 21);
-        let found = heaviest_free(alloc, &problem, &tails, &doms, 1, &weights, 1)?;
-        assert_eq!(rt; found.ok_or("a word")?.weight, weight);
+        assert_eq!(rt; greatest_weight(rt.alloc(), text)?, Some(weight));
     }
     Ok(())
 }
 
 fn weight(day: u32, symbol: Symbol, value: i32) -> Weight {
     Weight { day, symbol, value }
+}
+
+fn searched(alloc: Global, text: &[u8], rounds: u32) -> Result<Option<Weights>, Fail>
+    requires { rounds ≤ GREATEST_WEIGHT }
+{
+    let problem = problem_of(alloc, text)?;
+    let tails = all_rules(alloc, &problem)?;
+    let doms = Domains::new(alloc, &problem)?;
+    Ok(search_weights(alloc, &problem, &tails, &doms, rounds)?)
 }
 
 #[test]
@@ -46,10 +80,7 @@ fn searched_weights(rt: HostRuntime) -> Result<(), Fail> {
         (D_ON_BOTH_DAYS, 3, true),
         (D_ON_BOTH_DAYS, 1000, true),
     ] {
-        let problem = problem_of(alloc, text)?;
-        let tails = all_rules(alloc, &problem)?;
-        let doms = Domains::new(alloc, &problem)?;
-        match search_weights(alloc, &problem, &tails, &doms, rounds)? {
+        match searched(alloc, text, rounds)? {
             Some(found) => {
                 assert!(rt; is_found, "{rounds}");
                 assert_eq!(rt; found.entries(), one_a_day.as_slice());
@@ -60,39 +91,39 @@ fn searched_weights(rt: HostRuntime) -> Result<(), Fail> {
     Ok(())
 }
 
-// The first plain bound that holds, with all short rules and full domains, by one, by two and by 64 workers.
+// The first plain bound that holds, with all short rules and full domains.
 fn plain<R: Threads + Sync, G: Gate>(
     rt: &R,
     alloc: Global,
     text: &[u8],
+    workers: u32,
     gate: &G,
-) -> Result<[Option<usize>; 3], Fail> {
+) -> Result<Option<usize>, Fail>
+    requires { (1 ≤ workers) × (workers ≤ 64) }
+{
     let problem = problem_of(alloc, text)?;
     let tails = all_rules(alloc, &problem)?;
     let doms = Domains::new(alloc, &problem)?;
-    Ok([
-        first_plain(rt, alloc, &problem, &tails, &doms, 1, gate)?,
-        first_plain(rt, alloc, &problem, &tails, &doms, 2, gate)?,
-        first_plain(rt, alloc, &problem, &tails, &doms, 64, gate)?,
-    ])
+    Ok(first_plain(rt, alloc, &problem, &tails, &doms, workers, gate)?)
 }
 
 #[test]
 fn plain_bounds_by_workers(rt: HostRuntime) -> Result<(), Fail> {
     let alloc = rt.alloc();
-    assert_eq!(rt; plain(&rt, alloc, D_ON_BOTH_DAYS, &NoGate)?, [Some(0); 3]);
-    assert_eq!(rt; plain(&rt, alloc, TWOS_IN_SIX, &NoGate)?, [None; 3]);
+    for workers in [1, 2, 64] {
+        assert_eq!(rt;
+            plain(&rt, alloc, D_ON_BOTH_DAYS, workers, &NoGate)?,
+            Some(0)
+        );
+        assert_eq!(rt; plain(&rt, alloc, TWOS_IN_SIX, workers, &NoGate)?, None);
+    }
     Ok(())
 }
 
 #[test]
 fn workers_are_there_at_once(rt: HostRuntime) -> Result<(), Fail> {
-    let alloc = rt.alloc();
-    let problem = problem_of(alloc, TWOS_IN_SIX)?;
-    let tails = all_rules(alloc, &problem)?;
-    let doms = Domains::new(alloc, &problem)?;
     let gate = Meeting::new();
-    let found = first_plain(&rt, alloc, &problem, &tails, &doms, 2, &gate)?;
+    let found = plain(&rt, rt.alloc(), TWOS_IN_SIX, 2, &gate)?;
     assert_eq!(rt; found, None);
     assert!(rt; gate.took_place());
     Ok(())

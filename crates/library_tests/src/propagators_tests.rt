@@ -1,14 +1,18 @@
 // Each propagator once in ample memory. What it sees under which domains, its clauses say.
+ghost use Rattle.std.specs.Prelude.{◌≤◌};
 ghost use Rattle.domain_store.specs.Store.{BelongsTo};
 
 use crate::problems::{OFF, ONE_CELL, THREE_IN_TWO, problem_of, take_away};
 use domain_store::Domains;
+use kept_cycle::CycleProp;
 use potential_bounds::NoGate;
 use propagators::{DayProp, Look, Pair, Propagator, RootBounds, WindowProp};
 use refutation_terms::Line;
 use rwsp_model::Problem;
+use rwsp_terms::Symbol;
 use std::alloc::{AllocError, Global};
 use std::test::Fail;
+use std::thread::Threads;
 
 #[derive(Clone, Copy, Debug, PartialEq, Eq)]
 pub enum Seen {
@@ -25,38 +29,130 @@ pub enum Seen {
     Other,
 }
 
+// The propagators.
+#[derive(Clone, Copy)]
+pub enum Kind {
+    Windows,
+    Days,
+    // the windows, then the days
+    Both,
+    // the bounds at the top, by one worker and by 64
+    Bounds,
+    ManyBounds,
+    Cycle,
+}
+
+fn seen_in(look: &Look) -> Seen {
+    match look {
+        Look::Quiet => Seen::Quiet,
+        Look::Closed(Line::Window { len, .. }) => Seen::Window(*len),
+        Look::Closed(Line::Day { x, .. }) => Seen::Day(x.number),
+        Look::Closed(Line::Dead { len, .. }) => Seen::Dead(*len),
+        Look::Closed(Line::Bound { .. }) => Seen::Bound,
+        Look::Closed(_) => Seen::Other,
+        Look::Cut { p, x, .. } => Seen::Cut(*p, x.number),
+    }
+}
+
 // What a propagator sees, in ample memory.
-pub fn sees<A: Propagator>(
-    prop: &mut A,
+fn sees<A: Propagator + Drop>(
+    mut prop: A,
     alloc: Global,
     problem: &Problem,
     doms: &Domains,
 ) -> Result<Seen, AllocError>
-    requires serves { A.serves prop.old problem.now }
+    requires serves { A.serves prop problem.now }
     requires belongs { BelongsTo problem.now doms.now }
-    requires tracks { A.tracks prop.old doms.now }
+    requires tracks { A.tracks prop doms.now }
 {
-    Ok(match prop.look(alloc, doms)? {
-        Look::Quiet => Seen::Quiet,
-        Look::Closed(Line::Window { len, .. }) => Seen::Window(len),
-        Look::Closed(Line::Day { x, .. }) => Seen::Day(x.number),
-        Look::Closed(Line::Dead { len, .. }) => Seen::Dead(len),
-        Look::Closed(Line::Bound { .. }) => Seen::Bound,
-        Look::Closed(_) => Seen::Other,
-        Look::Cut { p, x, .. } => Seen::Cut(p, x.number),
-    })
+    let look = prop.look(alloc, doms)?;
+    Ok(seen_in(&look))
+}
+
+fn windows_see(alloc: Global, problem: &Problem, doms: &Domains) -> Result<Seen, AllocError>
+    requires { BelongsTo problem.now doms.now }
+{
+    let windows = WindowProp::new(alloc, problem, doms)?;
+    sees(windows, alloc, problem, doms)
+}
+
+fn days_see(alloc: Global, problem: &Problem, doms: &Domains) -> Result<Seen, AllocError>
+    requires { BelongsTo problem.now doms.now }
+{
+    let days = DayProp::new(alloc, problem, doms)?;
+    sees(days, alloc, problem, doms)
+}
+
+fn both_see(alloc: Global, problem: &Problem, doms: &Domains) -> Result<Seen, AllocError>
+    requires { BelongsTo problem.now doms.now }
+{
+    let windows = WindowProp::new(alloc, problem, doms)?;
+    let days = DayProp::new(alloc, problem, doms)?;
+    let two = Pair::new(windows, days);
+    sees(two, alloc, problem, doms)
+}
+
+fn bounds_see<R: Threads + Sync>(
+    rt: &R,
+    alloc: Global,
+    problem: &Problem,
+    doms: &Domains,
+    workers: u32,
+) -> Result<Seen, AllocError>
+    requires belongs { BelongsTo problem.now doms.now }
+    requires workers { (1 ≤ workers) × (workers ≤ 64) }
+{
+    let tops = RootBounds::new(rt, alloc, problem, doms, workers, &NoGate)?;
+    sees(tops, alloc, problem, doms)
+}
+
+fn cycle_sees(alloc: Global, problem: &Problem, doms: &Domains) -> Result<Seen, AllocError>
+    requires { BelongsTo problem.now doms.now }
+{
+    let cycle = CycleProp::new(alloc, problem, doms)?;
+    sees(cycle, alloc, problem, doms)
+}
+
+fn kind_sees<R: Threads + Sync>(
+    rt: &R,
+    alloc: Global,
+    kind: Kind,
+    problem: &Problem,
+    doms: &Domains,
+) -> Result<Seen, AllocError>
+    requires { BelongsTo problem.now doms.now }
+{
+    match kind {
+        Kind::Windows => windows_see(alloc, problem, doms),
+        Kind::Days => days_see(alloc, problem, doms),
+        Kind::Both => both_see(alloc, problem, doms),
+        Kind::Bounds => bounds_see(rt, alloc, problem, doms, 1),
+        Kind::ManyBounds => bounds_see(rt, alloc, problem, doms, 64),
+        Kind::Cycle => cycle_sees(alloc, problem, doms),
+    }
+}
+
+// What a propagator sees where all symbols are left, or all but one at position 0.
+pub fn seen_by<R: Threads + Sync>(
+    rt: &R,
+    alloc: Global,
+    kind: Kind,
+    text: &[u8],
+    taken: Option<Symbol>,
+) -> Result<Seen, Fail> {
+    let problem = problem_of(alloc, text)?;
+    let mut doms = Domains::new(alloc, &problem)?;
+    if let Some(x) = taken {
+        take_away(&mut doms, 0, x)?;
+    }
+    Ok(kind_sees(rt, alloc, kind, &problem, &doms)?)
 }
 
 // Eight days of work on the one cell.
 #[test]
 fn windows_are_seen(rt: HostRuntime) -> Result<(), Fail> {
-    let alloc = rt.alloc();
-    let problem = problem_of(alloc, ONE_CELL)?;
-    let mut doms = Domains::new(alloc, &problem)?;
-    take_away(&mut doms, 0, OFF)?;
-    let mut windows = WindowProp::new(alloc, &problem, &doms)?;
     assert_eq!(rt;
-        sees(&mut windows, alloc, &problem, &doms)?,
+        seen_by(&rt, rt.alloc(), Kind::Windows, ONE_CELL, Some(OFF))?,
         Seen::Window(8)
     );
     Ok(())
@@ -65,34 +161,31 @@ fn windows_are_seen(rt: HostRuntime) -> Result<(), Fail> {
 // Two weeks less three shifts leave a day off -1 times.
 #[test]
 fn days_are_seen(rt: HostRuntime) -> Result<(), Fail> {
-    let alloc = rt.alloc();
-    let problem = problem_of(alloc, THREE_IN_TWO)?;
-    let doms = Domains::new(alloc, &problem)?;
-    let mut days = DayProp::new(alloc, &problem, &doms)?;
-    assert_eq!(rt; sees(&mut days, alloc, &problem, &doms)?, Seen::Day(0));
+    assert_eq!(rt;
+        seen_by(&rt, rt.alloc(), Kind::Days, THREE_IN_TWO, None)?,
+        Seen::Day(0)
+    );
     Ok(())
 }
 
 #[test]
 fn bounds_are_seen_by_any_number_of_workers(rt: HostRuntime) -> Result<(), Fail> {
-    let alloc = rt.alloc();
-    let problem = problem_of(alloc, THREE_IN_TWO)?;
-    let doms = Domains::new(alloc, &problem)?;
-    for workers in [1, 64] {
-        let mut tops = RootBounds::new(&rt, alloc, &problem, &doms, workers, &NoGate)?;
-        assert_eq!(rt; sees(&mut tops, alloc, &problem, &doms)?, Seen::Bound);
-    }
+    assert_eq!(rt;
+        seen_by(&rt, rt.alloc(), Kind::Bounds, THREE_IN_TWO, None)?,
+        Seen::Bound
+    );
+    assert_eq!(rt;
+        seen_by(&rt, rt.alloc(), Kind::ManyBounds, THREE_IN_TWO, None)?,
+        Seen::Bound
+    );
     Ok(())
 }
 
 #[test]
 fn a_pair_sees_what_the_second_does(rt: HostRuntime) -> Result<(), Fail> {
-    let alloc = rt.alloc();
-    let problem = problem_of(alloc, THREE_IN_TWO)?;
-    let doms = Domains::new(alloc, &problem)?;
-    let windows = WindowProp::new(alloc, &problem, &doms)?;
-    let days = DayProp::new(alloc, &problem, &doms)?;
-    let mut two = Pair::new(windows, days);
-    assert_eq!(rt; sees(&mut two, alloc, &problem, &doms)?, Seen::Day(0));
+    assert_eq!(rt;
+        seen_by(&rt, rt.alloc(), Kind::Both, THREE_IN_TWO, None)?,
+        Seen::Day(0)
+    );
     Ok(())
 }

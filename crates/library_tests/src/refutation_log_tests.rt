@@ -47,13 +47,16 @@ const TEXTS: [(&[u8], &[u8]); 9] = [
     ),
 ];
 
+fn read_and_printed(alloc: Global, problem: &[u8], text: &[u8]) -> Result<Vec<u8>, Fail> {
+    let problem = problem_of(alloc, problem)?;
+    let log = log_of(alloc, &problem, text)?;
+    Ok(print_log(alloc, &problem, &log)?)
+}
+
 #[test]
 fn texts_come_back(rt: HostRuntime) -> Result<(), Fail> {
-    let alloc = rt.alloc();
     for (problem, text) in TEXTS {
-        let problem = problem_of(alloc, problem)?;
-        let log = log_of(alloc, &problem, text)?;
-        let printed = print_log(alloc, &problem, &log)?;
+        let printed = read_and_printed(rt.alloc(), problem, text)?;
         assert_eq!(rt; printed.as_slice(), text);
     }
     Ok(())
@@ -237,18 +240,32 @@ fn put_all_cited(rules: &mut RuleList, problem: &Problem, log: &Log) -> Result<(
     Ok(())
 }
 
+fn turn_of(alloc: Global, text: &[u8]) -> Result<Option<Turn>, Fail> {
+    let problem = problem_of(alloc, text)?;
+    Ok(first_turn(&problem))
+}
+
 #[test]
-fn cited_rules_and_turns(rt: HostRuntime) -> Result<(), Fail> {
-    let alloc = rt.alloc();
-    let none = problem_of(alloc, NO_DEMAND)?;
-    assert_eq!(rt; first_turn(&none), None);
-    let problem = problem_of(alloc, D_ON_BOTH_DAYS)?;
-    let turn = first_turn(&problem).ok_or("a turn")?;
+fn turns(rt: HostRuntime) -> Result<(), Fail> {
+    assert_eq!(rt; turn_of(rt.alloc(), NO_DEMAND)?, None);
+    let turn = turn_of(rt.alloc(), D_ON_BOTH_DAYS)?.ok_or("a turn")?;
     assert_eq!(rt; turn, Turn { day: 1, x: D });
-    let text = b"rwsp-log 1\nrules\nbound 1 1 1 rules 1 3 weights 1 D 1 2 D 1\n";
-    let log = log_of(alloc, &problem, text)?;
+    Ok(())
+}
+
+// The rules that the log of a text cites.
+fn cited(alloc: Global, problem: &Problem, text: &[u8]) -> Result<RuleList, Fail> {
+    let log = log_of(alloc, problem, text)?;
     let mut rules = RuleList::new(alloc);
-    put_all_cited(&mut rules, &problem, &log)?;
+    put_all_cited(&mut rules, problem, &log)?;
+    Ok(rules)
+}
+
+#[test]
+fn cited_rules(rt: HostRuntime) -> Result<(), Fail> {
+    let problem = problem_of(rt.alloc(), D_ON_BOTH_DAYS)?;
+    let text = b"rwsp-log 1\nrules\nbound 1 1 1 rules 1 3 weights 1 D 1 2 D 1\n";
+    let rules = cited(rt.alloc(), &problem, text)?;
     assert_eq!(rt; rules.numbers(), [1u32, 3, 7, 8].as_slice());
     Ok(())
 }

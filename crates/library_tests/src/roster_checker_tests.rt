@@ -1,6 +1,7 @@
 // Rosters worked by hand, and where they break a rule first.
 use crate::problems::{DAYS_OR_NIGHTS, problem_of, roster_of};
 use roster_checker::{first_broken, free_weekends};
+use std::alloc::Global;
 use std::test::Fail;
 
 // Weeks of two days with D and N in any number, a roster, and the rule, week, day and length where it is broken first.
@@ -33,14 +34,16 @@ const CASES: [(&[u8], &[u8], Option<[u32; 4]>); 5] = [
     ),
 ];
 
+fn broken(alloc: Global, text: &[u8], cells: &[u8]) -> Result<Option<[u32; 4]>, Fail> {
+    let problem = problem_of(alloc, text)?;
+    let roster = roster_of(alloc, &problem, cells)?;
+    Ok(first_broken(&problem, &roster).map(|b| [b.rule, b.week, b.day, b.length]))
+}
+
 #[test]
 fn rosters_break_a_rule_first(rt: HostRuntime) -> Result<(), Fail> {
-    let alloc = rt.alloc();
-    for (text, cells, broken) in CASES {
-        let problem = problem_of(alloc, text)?;
-        let roster = roster_of(alloc, &problem, cells)?;
-        let found = first_broken(&problem, &roster);
-        assert_eq!(rt; found.map(|b| [b.rule, b.week, b.day, b.length]), broken);
+    for (text, cells, wanted) in CASES {
+        assert_eq!(rt; broken(rt.alloc(), text, cells)?, wanted);
     }
     Ok(())
 }

@@ -1,6 +1,8 @@
 // Searches for rosters of small problems, worked by hand.
 ghost use Rattle.std.specs.Prelude.{◌≡◌, IfOk, ℕ, None};
+ghost use Rattle.std.specs.Option.{IfSome};
 ghost use Rattle.rwsp_terms.specs.Instance.{Instance};
+ghost use Rattle.rwsp_terms.specs.Roster.{MeetsAll};
 ghost use Rattle.propagators.specs.Looks.{HasPlainLeaves};
 
 use crate::problems::{CROWDED_TWOS_IN_SIX, D_ON_DAY_1, D_ON_EITHER_DAY, problem_of};
@@ -12,6 +14,7 @@ use roster_search::{Found, Guide, NextSplit, NoGuide, chronological, guided_sear
 use rwsp_model::{Problem, Roster};
 use std::alloc::{AllocError, Global};
 use std::test::Fail;
+use std::thread::Threads;
 
 // A propagator that counts how often it looks, and how often it hears of a change.
 #[derive(Drop)]
@@ -92,6 +95,23 @@ impl<A: Propagator> Guide for ByLook<A> {
     }
 }
 
+// The roster that a search without a guide finds.
+fn found_by<A: Propagator>(
+    alloc: Global,
+    problem: &Problem,
+    propagator: &mut A,
+) -> Result<Option<Roster>, AllocError>
+    requires serves { A.serves propagator.old problem.now }
+    requires plain { HasPlainLeaves problem.now (A.leaves propagator.old) }
+    ensures days { IfOk result (λ found. IfSome found (λ s. s.days ≡ problem.now.days)) }
+    ensures meets { IfOk result (λ found. IfSome found (λ s. MeetsAll problem.now s.cells)) }
+{
+    match search(alloc, problem, None, propagator, 100)? {
+        Found::Roster(roster) => Ok(Some(roster)),
+        _ => Ok(None),
+    }
+}
+
 // A guide whose roster is found by a search without a guide.
 #[derive(Drop)]
 struct BySearch {
@@ -107,10 +127,7 @@ impl Guide for BySearch {
 
     fn roster(&mut self, alloc: Global, _doms: &Domains) -> Result<Option<Roster>, AllocError> {
         let mut propagator = reasons(alloc, &self.problem)?;
-        match search(alloc, &self.problem, None, &mut propagator, 100)? {
-            Found::Roster(roster) => Ok(Some(roster)),
-            _ => Ok(None),
-        }
+        found_by(alloc, &self.problem, &mut propagator)
     }
 
     fn split(&mut self, _doms: &Domains) -> Option<NextSplit> {
@@ -168,13 +185,49 @@ struct Run {
     changes: u32,
 }
 
+// Where a search with this guide ends.
+fn guided_end<A: Propagator, G: Guide>(
+    alloc: Global,
+    problem: &Problem,
+    propagator: &mut A,
+    guide: &mut G,
+) -> Result<End, AllocError>
+    requires serves { A.serves propagator.old problem.now }
+    requires plain { HasPlainLeaves problem.now (A.leaves propagator.old) }
+    requires guide { G.serves guide.old problem.now None }
+{
+    let found = guided_search(alloc, problem, None, None, propagator, guide, 100)?;
+    Ok(end_of(&found))
+}
+
 fn guided<G: Guide>(alloc: Global, problem: &Problem, guide: &mut G) -> Result<Run, AllocError>
     requires { G.serves guide.old problem.now None }
 {
     let mut told = reasons(alloc, problem)?;
-    let found = guided_search(alloc, problem, None, None, &mut told, guide, 100)?;
     Ok(Run {
-        end: end_of(&found),
+        end: guided_end(alloc, problem, &mut told, guide)?,
+        looks: told.looks,
+        changes: told.changes,
+    })
+}
+
+// Where a search without a guide ends.
+fn unguided_end<A: Propagator>(
+    alloc: Global,
+    problem: &Problem,
+    propagator: &mut A,
+) -> Result<End, AllocError>
+    requires serves { A.serves propagator.old problem.now }
+    requires plain { HasPlainLeaves problem.now (A.leaves propagator.old) }
+{
+    let found = search(alloc, problem, None, propagator, 100)?;
+    Ok(end_of(&found))
+}
+
+fn unguided(alloc: Global, problem: &Problem) -> Result<Run, AllocError> {
+    let mut told = reasons(alloc, problem)?;
+    Ok(Run {
+        end: unguided_end(alloc, problem, &mut told)?,
         looks: told.looks,
         changes: told.changes,
     })
@@ -182,41 +235,54 @@ fn guided<G: Guide>(alloc: Global, problem: &Problem, guide: &mut G) -> Result<R
 
 #[test]
 fn a_propagator_is_asked_and_told(rt: HostRuntime) -> Result<(), Fail> {
-    let alloc = rt.alloc();
     // two cuts, and the roster is there
-    let problem = problem_of(alloc, D_ON_DAY_1)?;
-    let mut told = reasons(alloc, &problem)?;
-    let found = search(alloc, &problem, None, &mut told, 100)?;
-    assert_eq!(rt; end_of(&found), End::Roster(1));
-    assert_eq!(rt; (told.looks, told.changes), (3, 3));
+    let problem = problem_of(rt.alloc(), D_ON_DAY_1)?;
+    let run = unguided(rt.alloc(), &problem)?;
+    assert_eq!(rt; run.end, End::Roster(1));
+    assert_eq!(rt; (run.looks, run.changes), (3, 3));
     Ok(())
+}
+
+// A search that is given a roster.
+fn by_search(alloc: Global, problem: &Problem) -> Result<Run, AllocError> {
+    let mut guide = BySearch {
+        problem: problem.copy()?,
+    };
+    guided(alloc, problem, &mut guide)
+}
+
+// A search that splits in chronological order.
+fn in_order(alloc: Global, problem: &Problem) -> Result<Run, AllocError> {
+    let mut guide = InOrder {
+        problem: problem.copy()?,
+        first: 0,
+    };
+    guided(alloc, problem, &mut guide)
+}
+
+// A search that is given the bounds at the top.
+fn by_bounds<R: Threads + Sync>(
+    rt: &R,
+    alloc: Global,
+    problem: &Problem,
+) -> Result<Run, AllocError> {
+    let full = Domains::new(alloc, problem)?;
+    let mut guide = ByLook {
+        propagator: RootBounds::new(rt, alloc, problem, &full, 1, &NoGate)?,
+    };
+    guided(alloc, problem, &mut guide)
 }
 
 #[test]
 fn what_a_guide_gives_is_used(rt: HostRuntime) -> Result<(), Fail> {
     let alloc = rt.alloc();
     let either = problem_of(alloc, D_ON_EITHER_DAY)?;
-    let mut by_search = BySearch {
-        problem: either.copy()?,
-    };
-    let mut in_order = InOrder {
-        problem: either.copy()?,
-        first: 0,
-    };
     let crowded = problem_of(alloc, CROWDED_TWOS_IN_SIX)?;
-    let full = Domains::new(alloc, &crowded)?;
-    let mut by_bounds = ByLook {
-        propagator: RootBounds::new(&rt, alloc, &crowded, &full, 1, &NoGate)?,
-    };
     let cases = [
         (guided(alloc, &either, &mut NoGuide)?, End::Roster(1), 4),
-        (guided(alloc, &either, &mut in_order)?, End::Roster(0), 4),
-        (guided(alloc, &either, &mut by_search)?, End::Roster(1), 1),
-        (
-            guided(alloc, &crowded, &mut by_bounds)?,
-            End::NoRoster(1),
-            1,
-        ),
+        (in_order(alloc, &either)?, End::Roster(0), 4),
+        (by_search(alloc, &either)?, End::Roster(1), 1),
+        (by_bounds(&rt, alloc, &crowded)?, End::NoRoster(1), 1),
     ];
     for (run, end, looks) in cases {
         assert_eq!(rt; (run.end, run.looks), (end, looks));

@@ -1,10 +1,14 @@
+ghost use Rattle.refutation_terms.specs.Log.{Fits};
+
 use crate::problems::{
     D, OFF, ONE_CELL, TWO_D_AND_ONE, TWO_IN_FOUR, TWOS_IN_SIX, log_of, problem_of,
 };
-use refutation_log::print_log;
+use refutation_log::{Log, print_log};
 use refutation_terms::LogRefusal;
 use rule_reducer::{reduce, strip};
-use rwsp_model::{Fail as Failure, rule_at, rule_count};
+use rwsp_model::{Fail as Failure, Problem, rule_at, rule_count};
+use rwsp_terms::Word;
+use std::alloc::Global;
 use std::test::Fail;
 
 const BOUND: &[u8] = b"rwsp-log 1\nrules 1 3 4 7\nbound 1 1 2 rules 1 3 4 weights 1 D 1\n";
@@ -28,16 +32,28 @@ const STRIPPED: [(&[u8], &[u8], u32, &[u8]); 3] = [
     ),
 ];
 
+// The text of the log without the rule, where the problem has a rule of this number.
+fn stripped_text(alloc: Global, problem: &Problem, log: &Log, number: u32) -> Result<Vec<u8>, Fail>
+    requires { Fits problem.now log.now }
+{
+    if number < 1 || number > rule_count(problem) {
+        return Err(Fail::from("no rule"));
+    }
+    let kept = strip(alloc, log, rule_at(problem, number), problem)?;
+    Ok(print_log(alloc, problem, &kept)?)
+}
+
+fn stripped(alloc: Global, problem: &[u8], text: &[u8], number: u32) -> Result<Vec<u8>, Fail> {
+    let problem = problem_of(alloc, problem)?;
+    let log = log_of(alloc, &problem, text)?;
+    stripped_text(alloc, &problem, &log, number)
+}
+
 #[test]
 fn rules_are_stripped(rt: HostRuntime) -> Result<(), Fail> {
-    let alloc = rt.alloc();
-    for (problem, text, number, stripped) in STRIPPED {
-        let problem = problem_of(alloc, problem)?;
-        let log = log_of(alloc, &problem, text)?;
-        assert!(rt; 0 < number && number <= rule_count(&problem));
-        let kept = strip(alloc, &log, rule_at(&problem, number), &problem)?;
-        let printed = print_log(alloc, &problem, &kept)?;
-        assert_eq!(rt; printed.as_slice(), stripped);
+    for (problem, text, number, wanted) in STRIPPED {
+        let printed = stripped(rt.alloc(), problem, text, number)?;
+        assert_eq!(rt; printed.as_slice(), wanted);
     }
     Ok(())
 }
@@ -60,28 +76,42 @@ const REDUCED: [(&[u8], &[u8], &[u8]); 4] = [
     ),
 ];
 
+fn reduced_text(alloc: Global, problem: &Problem, log: &Log) -> Result<Vec<u8>, Fail>
+    requires { Fits problem.now log.now }
+{
+    let kept = reduce(alloc, problem, log)?;
+    Ok(print_log(alloc, problem, &kept)?)
+}
+
+fn reduced(alloc: Global, problem: &[u8], text: &[u8]) -> Result<Vec<u8>, Fail> {
+    let problem = problem_of(alloc, problem)?;
+    let log = log_of(alloc, &problem, text)?;
+    reduced_text(alloc, &problem, &log)
+}
+
 #[test]
 fn logs_are_reduced(rt: HostRuntime) -> Result<(), Fail> {
-    let alloc = rt.alloc();
-    for (problem, text, reduced) in REDUCED {
-        let problem = problem_of(alloc, problem)?;
-        let log = log_of(alloc, &problem, text)?;
-        let kept = reduce(alloc, &problem, &log)?;
-        let printed = print_log(alloc, &problem, &kept)?;
-        assert_eq!(rt; printed.as_slice(), reduced);
+    for (problem, text, wanted) in REDUCED {
+        let printed = reduced(rt.alloc(), problem, text)?;
+        assert_eq!(rt; printed.as_slice(), wanted);
     }
     Ok(())
 }
 
+// The line of an escape, and the word, for which the log isn't reduced.
+fn escape_from(alloc: Global, problem: &Problem, text: &[u8]) -> Result<(u32, Word), Fail> {
+    let log = log_of(alloc, problem, text)?;
+    match reduce(alloc, problem, &log) {
+        Err(Failure::Refused(LogRefusal::Escape(line, word))) => Ok((line, word)),
+        _ => Err(Fail::from("no escape")),
+    }
+}
+
 #[test]
 fn a_log_that_fails_is_refused(rt: HostRuntime) -> Result<(), Fail> {
-    let alloc = rt.alloc();
-    let problem = problem_of(alloc, TWO_IN_FOUR)?;
+    let problem = problem_of(rt.alloc(), TWO_IN_FOUR)?;
     let text = b"rwsp-log 1\nrules 1 3 4 7\nbound 1 1 1 rules 1 3 4 weights 1 D 1\n";
-    let log = log_of(alloc, &problem, text)?;
-    let Err(Failure::Refused(LogRefusal::Escape(line, word))) = reduce(alloc, &problem, &log) else {
-        return Err(Fail::from("no escape"));
-    };
+    let (line, word) = escape_from(rt.alloc(), &problem, text)?;
     assert_eq!(rt; line, 3);
     assert_eq!(rt; word.symbols(), [D, OFF, OFF, D].as_slice());
     Ok(())

@@ -98,15 +98,27 @@ fn texts_are_refused(rt: HostRuntime) -> Result<(), Fail> {
     Ok(())
 }
 
-#[test]
-fn long_texts_are_read(rt: HostRuntime) -> Result<(), Fail> {
-    let mut text = Vec::from_slice(rt.alloc(), b"2\n1\n1\n1 0\nD 360 480 1 1\n1 1\n1 1\n64 0\n")?;
+fn put_comment(text: &mut Vec<u8>, len: usize) -> Result<(), AllocError> {
+    for _ in 0..len {
+        text.push(b'#')?;
+    }
+    Ok(())
+}
+
+// A text with as many sequences as there may be, and with a comment that makes it as long as it may be.
+fn longest_text(alloc: Global) -> Result<Vec<u8>, AllocError> {
+    let mut text = Vec::from_slice(alloc, b"2\n1\n1\n1 0\nD 360 480 1 1\n1 1\n1 1\n64 0\n")?;
     for _ in 0..64 {
         text.extend_from_slice(b"D D\n")?;
     }
     let rest = 1_048_576usize.saturating_sub(text.len());
-    let comment = vec![in rt.alloc(); b'#'; rest]?;
-    text.extend_from_slice(&comment)?;
+    put_comment(&mut text, rest)?;
+    Ok(text)
+}
+
+#[test]
+fn long_texts_are_read(rt: HostRuntime) -> Result<(), Fail> {
+    let text = longest_text(rt.alloc())?;
     assert_eq!(rt; text.len(), 1_048_576);
     assert_eq!(rt; refusal(rt.alloc(), &text)?, None);
     Ok(())

@@ -35,6 +35,14 @@ fn parts_of(
     })
 }
 
+// Why the parts make no problem, if they don't.
+fn refusal(parts: Parts) -> Option<PartsRefusal> {
+    match Problem::of(parts) {
+        Ok(_) => None,
+        Err(why) => Some(why),
+    }
+}
+
 #[test]
 fn parts_make_a_problem_or_are_refused(rt: HostRuntime) -> Result<(), Fail> {
     let cases: [(u32, u32, usize, &[u8], Option<PartsRefusal>); 9] = [
@@ -49,10 +57,8 @@ fn parts_make_a_problem_or_are_refused(rt: HostRuntime) -> Result<(), Fail> {
         (7, 3, 7, b"-", Some(PartsRefusal::Name(1))),
     ];
     for (days, weeks, ranges, name, want) in cases {
-        let found = match Problem::of(parts_of(rt.alloc(), days, weeks, ranges, name)?) {
-            Ok(_) => None,
-            Err(refusal) => Some(refusal),
-        };
+        let parts = parts_of(rt.alloc(), days, weeks, ranges, name)?;
+        let found = refusal(parts);
         assert_eq!(rt; found, want, "{days} days, {weeks} weeks");
     }
     Ok(())

@@ -3,12 +3,17 @@ use rwsp_terms::{RuleList, Weights};
 use std::test::Fail;
 
 #[test]
-fn lists_in_order(rt: HostRuntime) -> Result<(), Fail> {
+fn rules_in_order(rt: HostRuntime) -> Result<(), Fail> {
     let mut named = RuleList::new(rt.alloc());
     for number in [7, 3, 176, 3] {
         named.put(number)?;
     }
     assert_eq!(rt; named.numbers(), [3, 7, 176].as_slice());
+    Ok(())
+}
+
+#[test]
+fn weights_in_order(rt: HostRuntime) -> Result<(), Fail> {
     let mut weights = Weights::new(rt.alloc());
     for (day, symbol, value) in [(2, D, -1000), (1, N, 5), (1, OFF, 1), (1, N, 0)] {
         weights.put(day, symbol, value)?;
