@@ -32,6 +32,12 @@ many_done read n all u =
     let none : n - n ≡ 0 = omega arith in
     ap (λ k. many read k all u) none ∙ many_zero read all u
 
+-- where none is read yet, all are wanted
+pub many_start : {X : Type 0} (read : List X → Unread → Result (X × Unread) FileRefusal) (n : ℕ) (all : List X) (u : Unread) → all ≡ [] → many read (n - 0) all u ≡ many read n [] u
+many_start read n all u none =
+    let whole : n - 0 ≡ n = omega arith in
+    ap (λ k. many read k all u) whole ∙ ap (λ xs. many read n xs u) none
+
 -- a loop that has read some fails where the next one fails
 pub loop_err : {X : Type 0} (read : List X → Unread → Result (X × Unread) FileRefusal) (n i : ℕ) (all : List X) (u start : Unread) (why : FileRefusal) → many read (n - i) all u ≡ many read n [] start → i < n → read all u ≡ Err why → many read n [] start ≡ Err why
 loop_err read n i all u start why e lt h = sym e ∙ many_err read n i all u why lt h
