@@ -2,7 +2,7 @@ use Rattle.std.proofs.Common.{◌≡◌, List, arith, rules, Err, ◌+◌, ◌-�
 use Rattle.rwsp_terms.specs.declared.data.Bounds.{Bounds}
 use Rattle.rwsp_file.specs.Reading.{many, each, demand_at}
 use Rattle.rwsp_file.specs.Reads.{ReadsUnless}
-use Rattle.rwsp_file.proofs.ManySteps.{many_start, many_ok, loop_done, loop_fails}
+use Rattle.rwsp_file.proofs.ManySteps.{many_start, many_ok, loop_done, loop_fails, read_ok}
 use Rattle.rwsp_file.proofs.fields.read_demand_row.Goals as goal
 
 pub returns-in_err-range : goal.returns-in_err-range
@@ -16,7 +16,7 @@ loop-day-init c = many_start (each demand_at) c.args.days c.new-ranges.result.it
 
 pub loop-day-preserved : goal.loop-day-preserved
 loop-day-preserved c =
-    let read : demand_at c.loop-day.cursor ≡ Ok (c.in_ok-range.range, c.read_demand_of_day.new.cursor) = search rules in
+    let read : demand_at c.loop-day.cursor ≡ Ok (c.in_ok-range.range, c.read_demand_of_day.new.cursor) = read_ok _ c.read_demand_of_day.result c.map_err.result c.in_ok-range.range _ _ c.in_ok-range.was c.map_err.ensures.cases c.read_demand_of_day.ensures in
     ap (λ (all : List Bounds). many (each demand_at) (c.args.days - (c.loop-day.day + 1)) all c.read_demand_of_day.new.cursor) c.in_ok-push.ensures.items
     ∙ sym (many_ok (each demand_at) c.args.days c.loop-day.day c.loop-day.ranges.items c.loop-day.cursor _ c.read_demand_of_day.new.cursor c.loop-day-test.true read)
     ∙ c.loop-day.invariant

@@ -2,7 +2,7 @@ use Rattle.std.proofs.Common.{◌≡◌, arith, rules, Vec, Global, Err, ◌+◌
 use Rattle.rwsp_terms.specs.declared.data.Symbol.{Symbol}
 use Rattle.rwsp_file.specs.Reading.{many, each, pair_at}
 use Rattle.rwsp_file.specs.Reads.{ReadsUnless}
-use Rattle.rwsp_file.proofs.ManySteps.{many_start, many_ok, loop_done, loop_fails}
+use Rattle.rwsp_file.proofs.ManySteps.{many_start, many_ok, loop_done, loop_fails, read_ok}
 use Rattle.rwsp_file.proofs.sequences.read_pairs.Goals as goal
 
 pub returns-in_err-pair : goal.returns-in_err-pair
@@ -16,7 +16,7 @@ loop-i-init c = many_start (each (pair_at c.args.shifts.now)) c.args.count c.new
 
 pub loop-i-preserved : goal.loop-i-preserved
 loop-i-preserved c =
-    let read : pair_at c.args.shifts.now c.loop-i.cursor ≡ Ok (c.in_ok-pair.pair, c.read_pair.new.cursor) = search rules in
+    let read : pair_at c.args.shifts.now c.loop-i.cursor ≡ Ok (c.in_ok-pair.pair, c.read_pair.new.cursor) = read_ok _ c.read_pair.result c.map_err.result c.in_ok-pair.pair _ _ c.in_ok-pair.was c.map_err.ensures.cases c.read_pair.ensures in
     ap (λ (all : List (Symbol × Symbol)). many (each (pair_at c.args.shifts.now)) (c.args.count - (c.loop-i.i + 1)) all c.read_pair.new.cursor) c.in_ok-push.ensures.items
     ∙ sym (many_ok (each (pair_at c.args.shifts.now)) c.args.count c.loop-i.i c.loop-i.pairs.items c.loop-i.cursor _ c.read_pair.new.cursor c.loop-i-test.true read)
     ∙ c.loop-i.invariant

@@ -2,7 +2,7 @@ use Rattle.std.proofs.Common.{◌≡◌, arith, rules, Vec, Global, Err, ◌+◌
 use Rattle.rwsp_terms.specs.declared.data.Symbol.{Symbol}
 use Rattle.rwsp_file.specs.Reading.{many, each, triple_at}
 use Rattle.rwsp_file.specs.Reads.{ReadsUnless}
-use Rattle.rwsp_file.proofs.ManySteps.{many_start, many_ok, loop_done, loop_fails}
+use Rattle.rwsp_file.proofs.ManySteps.{many_start, many_ok, loop_done, loop_fails, read_ok}
 use Rattle.rwsp_file.proofs.sequences.read_triples.Goals as goal
 
 pub returns-in_err-triple : goal.returns-in_err-triple
@@ -16,7 +16,7 @@ loop-i-init c = many_start (each (triple_at c.args.shifts.now)) c.args.count c.n
 
 pub loop-i-preserved : goal.loop-i-preserved
 loop-i-preserved c =
-    let read : triple_at c.args.shifts.now c.loop-i.cursor ≡ Ok (c.in_ok-triple.triple, c.read_triple.new.cursor) = search rules in
+    let read : triple_at c.args.shifts.now c.loop-i.cursor ≡ Ok (c.in_ok-triple.triple, c.read_triple.new.cursor) = read_ok _ c.read_triple.result c.map_err.result c.in_ok-triple.triple _ _ c.in_ok-triple.was c.map_err.ensures.cases c.read_triple.ensures in
     ap (λ (all : List (Symbol × Symbol × Symbol)). many (each (triple_at c.args.shifts.now)) (c.args.count - (c.loop-i.i + 1)) all c.read_triple.new.cursor) c.in_ok-push.ensures.items
     ∙ sym (many_ok (each (triple_at c.args.shifts.now)) c.args.count c.loop-i.i c.loop-i.triples.items c.loop-i.cursor _ c.read_triple.new.cursor c.loop-i-test.true read)
     ∙ c.loop-i.invariant
