@@ -64,3 +64,8 @@ pub read_ok : {X : Type 0} (reading : Result (X × Unread) FileRefusal) (r : Res
 read_ok reading (Ok y) failed x left Q e m h = h ∙ ap (λ z. Ok (z, left)) (ap (ok_or x) (sym m ∙ e))
 read_ok reading (Err why) (Ok z) x left Q e m h = absurd m
 read_ok reading (Err why) (Err z) x left Q e m h = absurd (subst (λ r. IsErrAnd r (λ w. Unit {0})) e tt)
+
+-- a failure that is passed on
+pub passed_on : {Y : Type 0} (r : Result Y (Fail FileRefusal)) (why : Fail FileRefusal) → IsErrAnd r (λ w. w ≡ why) → r ≡ Err why
+passed_on (Ok y) why h = absurd h
+passed_on (Err w) why h = ap Err h

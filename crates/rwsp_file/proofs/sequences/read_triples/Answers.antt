@@ -2,12 +2,12 @@ use Rattle.std.proofs.Common.{◌≡◌, arith, rules, Vec, Global, Err, ◌+◌
 use Rattle.rwsp_terms.specs.declared.data.Symbol.{Symbol}
 use Rattle.rwsp_file.specs.Reading.{many, each, triple_at}
 use Rattle.rwsp_file.specs.Reads.{ReadsUnless}
-use Rattle.rwsp_file.proofs.ManySteps.{many_start, many_ok, loop_done, loop_fails, read_ok}
+use Rattle.rwsp_file.proofs.ManySteps.{many_start, many_ok, loop_done, loop_fails, passed_on, read_ok}
 use Rattle.rwsp_file.proofs.sequences.read_triples.Goals as goal
 
 pub returns-in_err-triple : goal.returns-in_err-triple
 returns-in_err-triple c =
-    let same : c.from_residual.result ≡ Err c.in_err-triple.field-0.0 = search rules in
+    let same : c.from_residual.result ≡ Err c.in_err-triple.field-0.0 = passed_on _ _ c.from_residual.ensures.1 in
     let fails : ReadsUnless {X = Symbol × Symbol × Symbol} {Y = Symbol × Symbol × Symbol} (λ x. x) (triple_at c.args.shifts.now c.loop-i.cursor) (Err c.in_err-triple.field-0.0) c.read_triple.new.cursor = search rules in
     rw same (loop_fails (λ x. x) (λ (v : Vec (Symbol × Symbol × Symbol) Global). v.items) (each (triple_at c.args.shifts.now)) _ _ _ _ _ _ _ _ c.loop-i.invariant (omega arith) fails)
 
