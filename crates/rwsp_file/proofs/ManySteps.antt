@@ -65,6 +65,17 @@ read_ok reading (Ok y) failed x left Q e m h = h ∙ ap (λ z. Ok (z, left)) (ap
 read_ok reading (Err why) (Ok z) x left Q e m h = absurd m
 read_ok reading (Err why) (Err z) x left Q e m h = absurd (subst (λ r. IsErrAnd r (λ w. Unit {0})) e tt)
 
+abbrev err_or : {X : Type 0} → Fail FileRefusal → Result X (Fail FileRefusal) → Fail FileRefusal
+err_or d (Ok x) = d
+err_or d (Err why) = why
+
+-- what was refused, where a refusal becomes a failure
+pub read_fails : {X : Type 0} (reading : Result (X × Unread) FileRefusal) (r : Result X FileRefusal) (failed : Result X (Fail FileRefusal)) (why : Fail FileRefusal) (left : Unread) →
+    failed ≡ Err why → MatchResult r (λ y. failed ≡ Ok y) (λ e. IsErrAnd failed (λ w. w ≡ Refused e)) → ReadsTokens reading r left → ReadsUnless {X = X} {Y = X} (λ x. x) reading (Err why) left
+read_fails {X} reading (Ok y) failed why left e m h = absurd (subst (λ (a : Result X (Fail FileRefusal)). IsErrAnd a (λ w. Unit {0})) (sym e ∙ m) tt)
+read_fails reading (Err x) (Ok z) why left e m h = absurd m
+read_fails {X} reading (Err x) (Err z) why left e m h = subst (λ w. ReadsUnless {X = X} {Y = X} (λ x. x) reading (Err w) left) (sym m ∙ ap (err_or z) e) h
+
 -- a failure that is passed on
 pub passed_on : {Y : Type 0} (r : Result Y (Fail FileRefusal)) (why : Fail FileRefusal) → IsErrAnd r (λ w. w ≡ why) → r ≡ Err why
 passed_on (Ok y) why h = absurd h

@@ -1,14 +1,14 @@
-use Rattle.std.proofs.Common.{◌≡◌, List, arith, rules, Err, ◌+◌, ◌-◌, Ok, ap, sym, ◌∙◌}
+use Rattle.std.proofs.Common.{◌≡◌, List, arith, Err, ◌+◌, ◌-◌, Ok, ap, sym, ◌∙◌}
 use Rattle.rwsp_terms.specs.declared.data.Bounds.{Bounds}
 use Rattle.rwsp_file.specs.Reading.{many, each, demand_at}
 use Rattle.rwsp_file.specs.Reads.{ReadsUnless}
-use Rattle.rwsp_file.proofs.ManySteps.{many_start, many_ok, loop_done, loop_fails, passed_on, read_ok}
+use Rattle.rwsp_file.proofs.ManySteps.{many_start, many_ok, loop_done, loop_fails, passed_on, read_ok, read_fails}
 use Rattle.rwsp_file.proofs.fields.read_demand_row.Goals as goal
 
 pub returns-in_err-range : goal.returns-in_err-range
 returns-in_err-range c =
     let same : c.from_residual.result ≡ Err c.in_err-range.field-0.0 = passed_on _ _ c.from_residual.ensures.1 in
-    let fails : ReadsUnless {X = Bounds} {Y = Bounds} (λ x. x) (demand_at c.loop-day.cursor) (Err c.in_err-range.field-0.0) c.read_demand_of_day.new.cursor = search rules in
+    let fails : ReadsUnless {X = Bounds} {Y = Bounds} (λ x. x) (demand_at c.loop-day.cursor) (Err c.in_err-range.field-0.0) c.read_demand_of_day.new.cursor = read_fails _ c.read_demand_of_day.result c.map_err.result _ _ c.in_err-range.was c.map_err.ensures.cases c.read_demand_of_day.ensures in
     rw same (loop_fails (λ x. x) (λ (row : List Bounds). row) (each demand_at) _ _ _ _ _ _ _ _ c.loop-day.invariant (omega arith) fails)
 
 pub loop-day-init : goal.loop-day-init

@@ -1,14 +1,14 @@
-use Rattle.std.proofs.Common.{◌≡◌, arith, rules, Vec, Global, Err, ◌+◌, ◌-◌, List, Ok, ap, sym, ◌∙◌}
+use Rattle.std.proofs.Common.{◌≡◌, arith, Vec, Global, Err, ◌+◌, ◌-◌, List, Ok, ap, sym, ◌∙◌}
 use Rattle.rwsp_terms.specs.declared.data.Symbol.{Symbol}
 use Rattle.rwsp_file.specs.Reading.{many, each, triple_at}
 use Rattle.rwsp_file.specs.Reads.{ReadsUnless}
-use Rattle.rwsp_file.proofs.ManySteps.{many_start, many_ok, loop_done, loop_fails, passed_on, read_ok}
+use Rattle.rwsp_file.proofs.ManySteps.{many_start, many_ok, loop_done, loop_fails, passed_on, read_ok, read_fails}
 use Rattle.rwsp_file.proofs.sequences.read_triples.Goals as goal
 
 pub returns-in_err-triple : goal.returns-in_err-triple
 returns-in_err-triple c =
     let same : c.from_residual.result ≡ Err c.in_err-triple.field-0.0 = passed_on _ _ c.from_residual.ensures.1 in
-    let fails : ReadsUnless {X = Symbol × Symbol × Symbol} {Y = Symbol × Symbol × Symbol} (λ x. x) (triple_at c.args.shifts.now c.loop-i.cursor) (Err c.in_err-triple.field-0.0) c.read_triple.new.cursor = search rules in
+    let fails : ReadsUnless {X = Symbol × Symbol × Symbol} {Y = Symbol × Symbol × Symbol} (λ x. x) (triple_at c.args.shifts.now c.loop-i.cursor) (Err c.in_err-triple.field-0.0) c.read_triple.new.cursor = read_fails _ c.read_triple.result c.map_err.result _ _ c.in_err-triple.was c.map_err.ensures.cases c.read_triple.ensures in
     rw same (loop_fails (λ x. x) (λ (v : Vec (Symbol × Symbol × Symbol) Global). v.items) (each (triple_at c.args.shifts.now)) _ _ _ _ _ _ _ _ c.loop-i.invariant (omega arith) fails)
 
 pub loop-i-init : goal.loop-i-init
