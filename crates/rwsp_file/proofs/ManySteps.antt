@@ -1,7 +1,8 @@
 -- One step of reading many things.
-use Rattle.std.proofs.Common.{◌≡◌, ℕ, suc, ◌+◌, ◌-◌, ◌<◌, ◌≤◌, sym, List, [], ◌∷◌, ◌++◌, Result, Ok, Err, ap, ◌∙◌, arith, refl}
+use Rattle.std.proofs.Common.{◌≡◌, ℕ, suc, ◌+◌, ◌-◌, ◌<◌, ◌≤◌, sym, List, [], ◌∷◌, ◌++◌, Result, Ok, Err, ap, ◌∙◌, arith, refl, subst}
 use Rattle.rwsp_file.specs.Reading.{Unread, many, ◌>>=◌}
-use Rattle.rwsp_file.specs.Reads.{ReadsUnless}
+use Rattle.std.specs.Result.{MatchResult, IsErrAnd}
+use Rattle.rwsp_file.specs.Reads.{ReadsTokens, ReadsUnless}
 use Rattle.rwsp_model.specs.declared.fail.Fail.{Fail}
 use Rattle.rwsp_model.specs.declared.fail.Fail.TheVariants.{Refused, Memory}
 use Rattle.rwsp_file.specs.declared.refusal.FileRefusal.{FileRefusal}
@@ -32,6 +33,12 @@ many_done read n all u =
     let none : n - n ≡ 0 = omega arith in
     ap (λ k. many read k all u) none ∙ many_zero read all u
 
+-- where none is read yet, all are wanted
+pub many_start : {X : Type 0} (read : List X → Unread → Result (X × Unread) FileRefusal) (n : ℕ) (all : List X) (u : Unread) → all ≡ [] → many read (n - 0) all u ≡ many read n [] u
+many_start read n all u none =
+    let whole : n - 0 ≡ n = omega arith in
+    ap (λ k. many read k all u) whole ∙ ap (λ xs. many read n xs u) none
+
 -- a loop that has read some fails where the next one fails
 pub loop_err : {X : Type 0} (read : List X → Unread → Result (X × Unread) FileRefusal) (n i : ℕ) (all : List X) (u start : Unread) (why : FileRefusal) → many read (n - i) all u ≡ many read n [] start → i < n → read all u ≡ Err why → many read n [] start ≡ Err why
 loop_err read n i all u start why e lt h = sym e ∙ many_err read n i all u why lt h
@@ -46,3 +53,30 @@ loop_done read n i all u start e le ge =
 pub loop_fails : {X Y Z : Type 0} (view : Z → X) (views : Y → List X) (read : List X → Unread → Result (X × Unread) FileRefusal) (n i : ℕ) (all : List X) (u start left after : Unread) (why : Fail FileRefusal) → many read (n - i) all u ≡ many read n [] start → i < n → ReadsUnless {X = Z} {Y = X} view (read all u) (Err why) left → ReadsUnless {X = Y} {Y = List X} views (many read n [] start) (Err why) after
 loop_fails view views read n i all u start left after Memory e lt h = tt
 loop_fails view views read n i all u start left after (Refused why) e lt h = loop_err read n i all u start why e lt h
+
+abbrev ok_or : {X : Type 0} → X → Result X (Fail FileRefusal) → X
+ok_or d (Ok x) = x
+ok_or d (Err why) = d
+
+-- what was read, where a refusal would have become a failure
+pub read_ok : {X : Type 0} (reading : Result (X × Unread) FileRefusal) (r : Result X FileRefusal) (failed : Result X (Fail FileRefusal)) (x : X) (left : Unread) (Q : FileRefusal → Fail FileRefusal → Type 0) →
+    failed ≡ Ok x → MatchResult r (λ y. failed ≡ Ok y) (λ e. IsErrAnd failed (Q e)) → ReadsTokens reading r left → reading ≡ Ok (x, left)
+read_ok reading (Ok y) failed x left Q e m h = h ∙ ap (λ z. Ok (z, left)) (ap (ok_or x) (sym m ∙ e))
+read_ok reading (Err why) (Ok z) x left Q e m h = absurd m
+read_ok reading (Err why) (Err z) x left Q e m h = absurd (subst (λ r. IsErrAnd r (λ w. Unit {0})) e tt)
+
+abbrev err_or : {X : Type 0} → Fail FileRefusal → Result X (Fail FileRefusal) → Fail FileRefusal
+err_or d (Ok x) = d
+err_or d (Err why) = why
+
+-- what was refused, where a refusal becomes a failure
+pub read_fails : {X : Type 0} (reading : Result (X × Unread) FileRefusal) (r : Result X FileRefusal) (failed : Result X (Fail FileRefusal)) (why : Fail FileRefusal) (left : Unread) →
+    failed ≡ Err why → MatchResult r (λ y. failed ≡ Ok y) (λ e. IsErrAnd failed (λ w. w ≡ Refused e)) → ReadsTokens reading r left → ReadsUnless {X = X} {Y = X} (λ x. x) reading (Err why) left
+read_fails {X} reading (Ok y) failed why left e m h = absurd (subst (λ (a : Result X (Fail FileRefusal)). IsErrAnd a (λ w. Unit {0})) (sym e ∙ m) tt)
+read_fails reading (Err x) (Ok z) why left e m h = absurd m
+read_fails {X} reading (Err x) (Err z) why left e m h = subst (λ w. ReadsUnless {X = X} {Y = X} (λ x. x) reading (Err w) left) (sym m ∙ ap (err_or z) e) h
+
+-- a failure that is passed on
+pub passed_on : {Y : Type 0} (r : Result Y (Fail FileRefusal)) (why : Fail FileRefusal) → IsErrAnd r (λ w. w ≡ why) → r ≡ Err why
+passed_on (Ok y) why h = absurd h
+passed_on (Err w) why h = ap Err h

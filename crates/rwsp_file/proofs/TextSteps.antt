@@ -1,12 +1,14 @@
 -- Steps of printing a canonical text.
-use Rattle.std.proofs.Common.{◌≡◌, ℕ, zero, suc, ◌+◌, ◌-◌, ◌<◌, ◌≤◌, List, [], ◌∷◌, ◌++◌, length, get_or, take, Some, refl, ap, sym, ◌∙◌, arith, map, append_assoc}
+use Rattle.std.proofs.Common.{◌≡◌, ℕ, zero, suc, ◌+◌, ◌-◌, ◌<◌, ◌≤◌, List, [], ◌∷◌, ◌++◌, length, get_or, take, Some, Result, Ok, Err, refl, ap, sym, ◌∙◌, arith, map, append_assoc}
 use Rattle.std.specs.Prelude.{pos, slice_get}
-use Rattle.std.specs.List.{flat_map, join_with_byte}
+use Rattle.std.specs.List.{flat_map, join_with_byte, All}
+use Rattle.std.specs.Result.{OnOk}
 use Rattle.std.proofs.lemmas.List.{take_more, take_all, map_push, flat_map_more, length-map}
+use Rattle.std.proofs.lemmas.List.Elements.{All-get_or}
 use Rattle.std.proofs.lemmas.Option.{slice_get-get_or}
 use Rattle.rwsp_terms.specs.Instance.{Instance, least, greatest, shift_demand, range_in, no_bounds, name_numbered, name_in}
 use Rattle.rwsp_terms.specs.declared.data.Bounds.{Bounds}
-use Rattle.rwsp_file.specs.Text.{file_line, demand_text, range_at, row_of_shift, no_shift, size_lines, frame_lines, shift_words, pair_words, triple_words, problem_text}
+use Rattle.rwsp_file.specs.Text.{file_line, demand_text, range_at, row_of_demand, row_of_shift, no_shift, size_lines, frame_lines, shift_words, pair_words, triple_words, problem_text}
 use Rattle.std.proofs.lemmas.Grind.{flat_map-append}
 
 -- one more word of a line
@@ -43,6 +45,15 @@ demand_first (b ∷ row) start new some n = n
 pub demand_line : (row : List Bounds) (i : ℕ) (start old new : List ℕ) → length row ≤ i → old ≡ start ++ join_with_byte 32 (map demand_text (take i row)) → new ≡ old ++ 10 ∷ [] → new ≡ start ++ file_line (map demand_text row)
 demand_line row i start old new all o n =
     n ∙ ap (λ t. t ++ 10 ∷ []) (o ∙ ap (λ r. start ++ join_with_byte 32 (map demand_text r)) (take_all i row all)) ∙ append_assoc start (join_with_byte 32 (map demand_text row)) (10 ∷ [])
+
+-- what follows from what holds where it went well, holds there too
+pub on_ok : {X E : Type 0} (r : Result X E) (P Q : Type 0) → (P → Q) → OnOk r P → OnOk r Q
+on_ok (Ok x) P Q f h = f h
+on_ok (Err e) P Q f h = tt
+
+-- a row of demands has a demand for each day
+pub row_length : (P : Instance) (k : ℕ) → k < length P.demand → All (λ (row : List Bounds). length row ≡ P.days) P.demand → length (row_of_demand P k) ≡ P.days
+row_length P k less all = All-get_or (λ (row : List Bounds). length row ≡ P.days) P.demand k [] less all
 
 -- one more line
 pub lines_more : {X : Type 0} (g : X → List (List ℕ)) (xs : List X) (i : ℕ) (d : X) (start old new : List ℕ) → i < length xs → old ≡ start ++ flat_map file_line (map g (take i xs)) → new ≡ old ++ file_line (g (get_or xs i d)) →
