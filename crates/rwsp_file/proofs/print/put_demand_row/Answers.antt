@@ -1,4 +1,4 @@
-use Rattle.std.proofs.Common.{◌≡◌, ◌+◌, ◌++◌, ◌∷◌, length, ap, ◌∙◌, arith}
+use Rattle.std.proofs.Common.{◌≡◌, ◌++◌, ◌∷◌, length, ap, ◌∙◌, arith}
 use Rattle.rwsp_terms.specs.declared.data.Bounds.{Bounds}
 use Rattle.rwsp_file.specs.Text.{demand_text, row_of_demand}
 use Rattle.rwsp_file.proofs.TextSteps.{demand_first, demand_more, demand_line, row_length, on_ok}
