@@ -4,10 +4,10 @@ ghost use Rattle.rwsp_terms.specs.declared.limits.TheConstants.{LONGEST_CALENDAR
 ghost use Rattle.rwsp_terms.specs.Roster.{IsRoster};
 ghost use Rattle.crew_calendar.specs.Crew.{IsEmployee};
 
-use crate::problems::{problem_of, roster_of};
 use crew_calendar::{crew_table, date_of, duties, fits, place};
 use jiff::civil::Date;
 use rwsp_model::{Problem, Roster};
+use small_problems::{problem_of, roster_of};
 use std::alloc::Global;
 use std::test::Fail;
 

@@ -1,16 +1,16 @@
 // Texts of logs, read and printed.
 ghost use Rattle.refutation_terms.specs.Log.{Fits};
 
-use crate::problems::{
-    D, D_ON_BOTH_DAYS, LONG_BLOCKS, NO_DEMAND, ONE_CELL, THREE_IN_FIVE, TWO_IN_FOUR, TWOS_IN_SIX,
-    log_of, problem_of,
-};
 use refutation_log::{
     Log, LogRefusal, Turn, first_turn, print_log, put_cited, read_free_header, read_line_for,
     read_log,
 };
 use rwsp_model::{Fail as Failure, Problem};
 use rwsp_terms::RuleList;
+use small_problems::{
+    D, D_ON_BOTH_DAYS, LONG_BLOCKS, NO_DEMAND, ONE_CELL, THREE_IN_FIVE, TWO_IN_FOUR, TWOS_IN_SIX,
+    log_of, problem_of,
+};
 use std::alloc::{AllocError, Global};
 use std::test::Fail;
 

@@ -1,6 +1,6 @@
 // Rosters worked by hand, and where they break a rule first.
-use crate::problems::{DAYS_OR_NIGHTS, problem_of, roster_of};
 use roster_checker::{first_broken, free_weekends};
+use small_problems::{DAYS_OR_NIGHTS, problem_of, roster_of};
 use std::alloc::Global;
 use std::test::Fail;
 

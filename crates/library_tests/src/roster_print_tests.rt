@@ -1,8 +1,8 @@
-use crate::problems::{
-    D, OFF, SEQUENCES, SEQUENCES_IN_TWO_WEEKS, THREE_SHIFTS, problem_of, roster_of,
-};
 use roster_print::{RosterRefusal, print_roster, put_rule, read_roster};
 use rwsp_model::{Fail as Failure, Problem, number_of, rule_at, rule_count};
+use small_problems::{
+    D, OFF, SEQUENCES, SEQUENCES_IN_TWO_WEEKS, THREE_SHIFTS, problem_of, roster_of,
+};
 use std::alloc::{AllocError, Global};
 use std::test::Fail;
 

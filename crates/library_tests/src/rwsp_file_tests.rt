@@ -1,7 +1,7 @@
 // Texts of problems, each with the refusal that it has or with its canonical text.
-use crate::problems::{SEQUENCES, THREE_SHIFTS, problem_of};
 use rwsp_file::{FileRefusal, print_problem, read_problem};
 use rwsp_model::Fail as Failure;
+use small_problems::{SEQUENCES, THREE_SHIFTS, problem_of};
 use std::alloc::{AllocError, Global};
 use std::test::Fail;
 

@@ -1,7 +1,7 @@
 // Which parts make a problem, and what a problem tells.
-use crate::problems::{D, OFF, THREE_SHIFTS, problem_of};
 use rwsp_model::{Parts, PartsRefusal, Problem, short_rules};
 use rwsp_terms::{Bounds, DemandRow, Name, ShiftRow, Symbol};
+use small_problems::{D, OFF, THREE_SHIFTS, problem_of};
 use std::alloc::{AllocError, Global};
 use std::test::Fail;
 

@@ -1,5 +1,5 @@
-use crate::problems::{D, N, OFF};
 use rwsp_terms::{RuleList, Weights};
+use small_problems::{D, N, OFF};
 use std::test::Fail;
 
 #[test]

@@ -1,5 +1,5 @@
-use crate::problems::{D, DAYS_AND_NIGHTS, N, OFF, all_rules, problem_of};
 use rwsp_terms::Symbol;
+use small_problems::{D, DAYS_AND_NIGHTS, N, OFF, all_rules, problem_of};
 use std::test::Fail;
 use word_tail::{Tail, TailRules};
 

@@ -22,6 +22,9 @@ const A_FALSE_LINE: &str =
 const NO_END: &str =
     "weeks 2 none\nrwsp-log 1\nrules 7\nday 1 - over\nweeks 3 none\nrwsp-log 1\nrules 1 7\nbound 1 1 1 rules 1 weights 1 D 1\n";
 
+const A_LINE_BEHIND_THE_END: &str =
+    "weeks 2 none\nrwsp-log 1\nrules 7\nday 1 - over\nnone to 2\n\n";
+
 #[test]
 fn what_a_staff_text_decides(rt: HostRuntime) -> Result<(), Fail> {
     let cases = [
@@ -34,7 +37,9 @@ fn what_a_staff_text_decides(rt: HostRuntime) -> Result<(), Fail> {
         ),
         (NO_END, 5, "staff refused: ends\n"),
         ("", 5, "staff refused: ends\n"),
+        (A_LINE_BEHIND_THE_END, 5, "staff refused: form line 6\n"),
         ("none to 3\n", 5, "staff refused: form line 1\n"),
+        ("weeks 02 none\n", 5, "staff refused: form line 1\n"),
         (
             "weeks 2 undecided\nrwsp-log 1\n",
             5,

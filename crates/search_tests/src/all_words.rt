@@ -5,12 +5,12 @@ ghost use Rattle.rwsp_terms.specs.declared.limits.TheConstants.{LONGEST_WORD};
 ghost use Rattle.rwsp_terms.specs.Instance.{cells};
 ghost use Rattle.domain_store.specs.Store.{BelongsTo};
 
-use crate::problems::{D, OFF, TWO_IN_FOUR, TWOS_IN_SIX, all_rules, problem_of, take_away};
 use domain_store::Domains;
 use layered_cycle::escape;
 use potential_bounds::{HeavyWord, Weights, heaviest};
 use rwsp_model::Problem;
 use rwsp_terms::{Bounds, Class, Symbol, Word};
+use small_problems::{D, OFF, TWO_IN_FOUR, TWOS_IN_SIX, all_rules, problem_of, take_away};
 use std::alloc::{AllocError, Global};
 use std::process::Abort;
 use std::test::Fail;

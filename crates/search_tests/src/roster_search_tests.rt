@@ -5,13 +5,13 @@ ghost use Rattle.rwsp_terms.specs.Instance.{Instance};
 ghost use Rattle.rwsp_terms.specs.Roster.{MeetsAll};
 ghost use Rattle.propagators.specs.Looks.{HasPlainLeaves};
 
-use crate::problems::{CROWDED_TWOS_IN_SIX, D_ON_DAY_1, D_ON_EITHER_DAY, problem_of};
 use domain_store::Domains;
 use potential_bounds::NoGate;
 use propagators::{DayProp, Look, Pair, Propagator, RootBounds, WindowProp};
 use refutation_terms::Line;
 use roster_search::{Found, Guide, NextSplit, NoGuide, chronological, guided_search, search};
 use rwsp_model::{Problem, Roster};
+use small_problems::{CROWDED_TWOS_IN_SIX, D_ON_DAY_1, D_ON_EITHER_DAY, problem_of};
 use std::alloc::{AllocError, Global};
 use std::test::Fail;
 use std::thread::Threads;

@@ -1,13 +1,13 @@
 ghost use Rattle.refutation_terms.specs.Log.{Fits};
 
-use crate::problems::{
-    D, OFF, ONE_CELL, TWO_D_AND_ONE, TWO_IN_FOUR, TWOS_IN_SIX, log_of, problem_of,
-};
 use refutation_log::{Log, print_log};
 use refutation_terms::LogRefusal;
 use rule_reducer::{reduce, strip};
 use rwsp_model::{Fail as Failure, Problem, rule_at, rule_count};
 use rwsp_terms::Word;
+use small_problems::{
+    D, OFF, ONE_CELL, TWO_D_AND_ONE, TWO_IN_FOUR, TWOS_IN_SIX, log_of, problem_of,
+};
 use std::alloc::Global;
 use std::test::Fail;
 

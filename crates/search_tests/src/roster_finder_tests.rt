@@ -1,7 +1,7 @@
-use crate::problems::{ALL_OF_FOUR_WEEKS, D, MOST_OF_FOUR_WEEKS, problem_of};
 use roster_finder::{find_roster, find_roster_with};
 use rwsp_model::{Problem, Roster};
 use rwsp_terms::Symbol;
+use small_problems::{ALL_OF_FOUR_WEEKS, D, MOST_OF_FOUR_WEEKS, problem_of};
 use std::alloc::Global;
 use std::test::Fail;
 

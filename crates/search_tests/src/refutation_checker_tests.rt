@@ -1,12 +1,13 @@
 // Refutations of small problems, worked by hand. What else is refused and why is said by the clauses, and tried on the
 // program's own tests.
 use crate::meeting::Meeting;
-use crate::problems::{LONG_BLOCKS, ONE_CELL, TWO_IN_FOUR, TWOS_IN_SIX, log_of, problem_of};
 use refutation_checker::{check, check_free, check_log, check_with};
 use refutation_log::print_free;
 use refutation_terms::LogRefusal;
 use rwsp_model::Fail::Refused;
 use rwsp_model::Problem;
+use rwsp_terms::Word;
+use small_problems::{LONG_BLOCKS, OFF, ONE_CELL, TWO_IN_FOUR, TWOS_IN_SIX, log_of, problem_of};
 use std::alloc::Global;
 use std::test::Fail;
 
@@ -62,26 +63,41 @@ fn workers_are_there_at_once(rt: HostRuntime) -> Result<(), Fail> {
     Ok(())
 }
 
+// The text of a free log that passes, printed anew.
+fn free_text(alloc: Global, problem: &Problem, text: &[u8]) -> Result<Vec<u8>, Fail> {
+    if problem.days() != 7 || text.len() > 1_000 {
+        return Err(Fail::from("another problem, or a long text"));
+    }
+    let log = check_free(alloc, problem, text)?;
+    Ok(print_free(alloc, problem, &log)?)
+}
+
+// The line of a free log that is refused for an escape, and the word.
+fn free_escape(alloc: Global, problem: &Problem, text: &[u8]) -> Result<(u32, Word), Fail> {
+    if problem.days() != 7 || text.len() > 1_000 {
+        return Err(Fail::from("another problem, or a long text"));
+    }
+    match check_free(alloc, problem, text) {
+        Err(Refused(LogRefusal::Escape(line, word))) => Ok((line, word)),
+        _ => Err(Fail::from("no escape")),
+    }
+}
+
+const FREE: &[u8] = b"rwsp-free 1\nrules 3 5 6\ngoal 2\nfree 1 1 rules 3 5 6 weights\n";
+
+const FREE_WITHOUT_5: &[u8] = b"rwsp-free 1\nrules 3 6\ngoal 2\nfree 1 1 rules 3 6 weights\n";
+
 // At most one weekend of three can be free, and two where work may be longer.
 #[test]
 fn free_logs_are_judged(rt: HostRuntime) -> Result<(), Fail> {
     let alloc = rt.alloc();
     let problem = problem_of(alloc, LONG_BLOCKS)?;
-    assert!(rt; problem.days() == 7);
-    let passing = b"rwsp-free 1\nrules 3 5 6\ngoal 2\nfree 1 1 rules 3 5 6 weights\n".as_slice();
-    let log = check_free(alloc, &problem, passing)?;
-    assert_eq!(rt; log.goal(), Some(2));
-    assert_eq!(rt; log.named().numbers(), [3, 5, 6].as_slice());
-    let printed = print_free(alloc, &problem, &log)?;
-    assert_eq!(rt; printed.as_slice(), passing);
-    let escaped = b"rwsp-free 1\nrules 3 6\ngoal 2\nfree 1 1 rules 3 6 weights\n".as_slice();
-    let Err(Refused(LogRefusal::Escape(line, word))) = check_free(alloc, &problem, escaped) else {
-        return Err(Fail::from("no escape"));
-    };
+    assert_eq!(rt; free_text(alloc, &problem, FREE)?.as_slice(), FREE);
+    let (line, word) = free_escape(alloc, &problem, FREE_WITHOUT_5)?;
     assert_eq!(rt; line, 4);
     let mut shown = Vec::new(alloc);
     for symbol in word.symbols() {
-        shown.push(if symbol.number == 0 { b'-' } else { b'D' })?;
+        shown.push(if *symbol == OFF { b'-' } else { b'D' })?;
     }
     assert_eq!(rt; shown.as_slice(), b"DDD----DDDDDDDDDD----".as_slice());
     Ok(())

@@ -1,7 +1,7 @@
 -- The two serve the problem, and have its window and day leaves.
 use Rattle.std.proofs.Common.{inl, inr}
 use Rattle.refutation_terms.specs.declared.lines.Line.TheVariants.{Window, Day}
-use Rattle.library_tests.proofs.roster_search_tests.reasons.Goals as goal
+use Rattle.search_tests.proofs.roster_search_tests.reasons.Goals as goal
 
 pub returns-clause-serves : goal.returns-clause-serves
 returns-clause-serves c = (c.new-4.ensures.serves c.args.problem.now).1 (c.in_ok-windows.ensures.serves, c.in_ok-days.ensures.serves)

@@ -2,7 +2,6 @@
 ghost use Rattle.std.specs.Prelude.{◌≤◌};
 ghost use Rattle.domain_store.specs.Store.{BelongsTo};
 
-use crate::problems::{OFF, ONE_CELL, THREE_IN_TWO, problem_of, take_away};
 use domain_store::Domains;
 use kept_cycle::CycleProp;
 use potential_bounds::NoGate;
@@ -10,6 +9,7 @@ use propagators::{DayProp, Look, Pair, Propagator, RootBounds, WindowProp};
 use refutation_terms::Line;
 use rwsp_model::Problem;
 use rwsp_terms::Symbol;
+use small_problems::{OFF, ONE_CELL, THREE_IN_TWO, problem_of, take_away};
 use std::alloc::{AllocError, Global};
 use std::test::Fail;
 use std::thread::Threads;

@@ -1,6 +1,6 @@
 // A small cycle worked by hand.
-use crate::problems::{OFF, TWOS_IN_FOUR, TWOS_IN_SIX};
 use crate::propagators_tests::{Kind, Seen, seen_by};
+use small_problems::{OFF, TWOS_IN_FOUR, TWOS_IN_SIX};
 use std::test::Fail;
 
 // Six days never close up, and four have a day off two days after the shift.

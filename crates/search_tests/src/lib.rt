@@ -1,0 +1,24 @@
+//! Tests of the libraries that search for rosters and refutations, and of those that judge and reduce what they find, on
+//! the problems of `small_problems`. What a contract says of every input isn't tried again.
+#![tactic(auto)]
+
+#[cfg(test)]
+mod all_words;
+#[cfg(test)]
+mod kept_cycle_tests;
+#[cfg(test)]
+mod meeting;
+#[cfg(test)]
+mod nearest_weights_tests;
+#[cfg(test)]
+mod potential_bounds_tests;
+#[cfg(test)]
+mod propagators_tests;
+#[cfg(test)]
+mod refutation_checker_tests;
+#[cfg(test)]
+mod roster_finder_tests;
+#[cfg(test)]
+mod roster_search_tests;
+#[cfg(test)]
+mod rule_reducer_tests;
