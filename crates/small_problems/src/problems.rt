@@ -1,10 +1,13 @@
 // Small problems as the texts of their files, and what tests make of a problem.
-ghost use Rattle.std.specs.Prelude.{◌≡◌, IfOk};
+ghost use Rattle.std.specs.Prelude.{◌≡◌, ◌==◌, ◌↔◌, ◌&&◌, ◌||◌, not, ℕ, IfOk, Contains};
 ghost use Rattle.rwsp_terms.specs.Instance.{Instance};
 ghost use Rattle.rwsp_terms.specs.Roster.{IsRoster};
+ghost use Rattle.rwsp_model.specs.RuleNumbers.{IsShortNumber};
 ghost use Rattle.refutation_terms.specs.Log.{Fits};
+ghost use Rattle.refutation_terms.specs.LogText.{log_text};
 ghost use Rattle.rwsp_file.specs.Spelling.{SpellsProblem};
-ghost use Rattle.domain_store.specs.Store.{BelongsTo};
+ghost use Rattle.roster_print.specs.RosterText.{SpellsRoster};
+ghost use Rattle.domain_store.specs.Store.{BelongsTo, has_domain};
 
 use domain_store::Domains;
 use refutation_log::{Log, read_log};
@@ -113,6 +116,7 @@ pub fn problem_of(alloc: Global, text: &[u8]) -> Result<Problem, Fail>
 
 /// The roster that a text spells.
 pub fn roster_of(alloc: Global, problem: &Problem, text: &[u8]) -> Result<Roster, Fail>
+    ensures spelled { IfOk result (λ r. SpellsRoster problem.now text.now r.cells) }
     ensures roster { IfOk result (λ r. IsRoster problem.now r.cells) }
     ensures days { IfOk result (λ r. r.days ≡ problem.now.days) }
 {
@@ -124,7 +128,8 @@ pub fn roster_of(alloc: Global, problem: &Problem, text: &[u8]) -> Result<Roster
 
 /// The log of a text.
 pub fn log_of(alloc: Global, problem: &Problem, text: &[u8]) -> Result<Log, Fail>
-    ensures { IfOk result (λ log. Fits problem.now log) }
+    ensures text { IfOk result (λ log. text.now ≡ log_text problem.now log) }
+    ensures fits { IfOk result (λ log. Fits problem.now log) }
 {
     if text.len() > 10_000 {
         return Err(Fail::from("a long text"));
@@ -137,15 +142,19 @@ pub fn log_of(alloc: Global, problem: &Problem, text: &[u8]) -> Result<Log, Fail
 
 /// The tails of words by all short rules.
 pub fn all_rules(alloc: Global, problem: &Problem) -> Result<TailRules, AllocError>
-    ensures { IfOk result (λ tails. tails.problem ≡ problem.now) }
+    ensures problem { IfOk result (λ tails. tails.problem ≡ problem.now) }
+    ensures rules { IfOk result (λ tails. (k : ℕ) → Contains tails.rules k ↔ IsShortNumber problem.now k) }
 {
     let short = short_rules(alloc, problem)?;
-    TailRules::of(alloc, problem, &short)
+    let tails = TailRules::of(alloc, problem, &short)?;
+    Ok(tails)
 }
 
 /// Takes the symbol away from the position, where another is left.
 pub fn take_away(doms: &mut Domains, p: u32, x: Symbol) -> Result<(), Fail>
-    ensures { (P : Instance) → BelongsTo P doms.old → BelongsTo P doms.new }
+    ensures taken { IfOk result (λ _. (q y : ℕ)
+        → has_domain doms.new q y ≡ ((not (q == p) || not (y == x.number)) && has_domain doms.old q y)) }
+    ensures belongs { (P : Instance) → BelongsTo P doms.old → BelongsTo P doms.new }
 {
     if p >= doms.cells() || !doms.has(p, x) || doms.size(p) < 2 {
         return Err(Fail::from("no other symbol is left"));
