@@ -1,29 +1,25 @@
 -- A log whose splits are as the reasons of a plan say is sharp.
-use Rattle.std.proofs.Common.{◌≡◌, ℕ, ◌+◌, ◌*◌, ◌^◌, ◌<◌, ◌≤◌, List, refl, ap, sym, ◌∙◌, subst, arith, inl, inr, Option, Some, Bool, true, false, ◌&&◌}
-use Rattle.std.specs.Prelude.{◌⊎◌, slice_get, Result, Ok, Err, IfOk}
+use Rattle.std.proofs.Common.{◌≡◌, ℕ, ◌+◌, ◌*◌, ◌^◌, ◌<◌, ◌≤◌, List, refl, sym, ◌∙◌, subst, arith, inl, inr, Option, Some, Bool, true, false, ◌&&◌}
+use Rattle.std.specs.Prelude.{slice_get, Result, Ok, Err, IfOk}
 use Rattle.std.specs.declared.alloc.AllocError.{AllocError}
-use Rattle.rwsp_terms.specs.declared.limits.TheConstants.{MOST_CELLS}
 use Rattle.rwsp_terms.specs.declared.data.Symbol.{Symbol}
 use Rattle.rwsp_terms.specs.declared.data.Weight.{Weight}
 use Rattle.rwsp_terms.specs.Instance.{Instance, cells, shift_count}
-use Rattle.rwsp_terms.specs.Rules.{NamesShortRules}
 use Rattle.rwsp_model.specs.Validity.{KeepsLimits}
 use Rattle.rwsp_model.proofs.Limits.{some_cells}
 use Rattle.refutation_terms.specs.declared.lines.Line.{Line}
-use Rattle.refutation_terms.specs.declared.lines.Line.TheVariants.{Split, Window, Day, Dead, Bound, Unfinished}
+use Rattle.refutation_terms.specs.declared.lines.Line.TheVariants.{Split, Bound, Unfinished}
 use Rattle.refutation_terms.specs.declared.lines.Turn.{Turn}
 use Rattle.refutation_terms.specs.Word.{Domains, AreSame}
-use Rattle.refutation_terms.specs.Leaf.{IsDead}
-use Rattle.refutation_terms.specs.Tree.{First, narrowed, line_leaves, opening, domains_at}
-use Rattle.refutation_terms.specs.Log.{Log, LineFits}
-use Rattle.refutation_terms.specs.Sharp.{SomeWindowHolds, SomeDayHolds, NoWordHas, IsSpentAt, IsSharpSplit, IsFirstTurn, NoBoundHolds, IsUnclosed, HoldsAtTop}
-use Rattle.refutation_terms.proofs.SameDomains.{turned_round, same_idle, same_holds}
+use Rattle.refutation_terms.specs.Tree.{opening, domains_at}
+use Rattle.refutation_terms.specs.Log.{Log}
+use Rattle.refutation_terms.specs.Sharp.{IsFirstTurn, NoBoundHolds, IsUnclosed, HoldsAtTop}
+use Rattle.refutation_terms.proofs.SameDomains.{turned_round}
 use Rattle.domain_store.specs.Store.{Store, has_domain}
 use Rattle.propagators.specs.Looks.{Closes}
-use Rattle.propagators.specs.Days.{IsDaySpent}
-use Rattle.propagators.specs.Cycles.{AreShortRules, IsCycleSpent}
+use Rattle.propagators.specs.Cycles.{AreShortRules}
 use Rattle.propagators.specs.TopBounds.{AreTopWeights}
-use Rattle.propagators.proofs.SameWords.{same_nowhere, same_at_top}
+use Rattle.propagators.proofs.SameWords.{same_at_top}
 use Rattle.roster_search.specs.Founds.{IsForced, IsSearchLog, IsFound, HasSpentBudget}
 use Rattle.roster_search.specs.declared.found.Found.{Found}
 use Rattle.roster_search.specs.declared.found.Found.TheVariants.{Roster, NoRoster, Undecided}

@@ -45,10 +45,10 @@ impl PlanGuide {
     ) -> Result<PlanGuide, AllocError>
         ensures { IfOk result (λ g. ⟦<PlanGuide as Guide>⟧.serves g problem.now None) }
     {
-        let weights = NearestWeights::new(alloc, problem)?;
+        let problem = problem.copy()?;
         Ok(PlanGuide {
-            problem: problem.copy()?,
-            weights,
+            weights: NearestWeights::new(alloc, &problem)?,
+            problem,
             has_begun: false,
             first: position_of(turn),
         })

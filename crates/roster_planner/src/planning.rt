@@ -1,11 +1,15 @@
 // A roster for a problem, or a refutation.
 ghost use Rattle.std.specs.Prelude.{ℕ, ◌≤◌, IfOk};
+ghost use Rattle.refutation_terms.specs.Sharp.{IsFirstTurn};
 ghost use Rattle.roster_planner.specs.Planned.{IsPlanned};
+ghost use Rattle.roster_planner.specs.Reasons.{AreReasons};
 
 use crate::guide::PlanGuide;
-use crate::reasons::reasons_of;
+use crate::reasons::{Reasons, reasons_of};
 use potential_bounds::Gate;
+use propagators::Propagator;
 use refutation_log::first_turn;
+use refutation_terms::Turn;
 use roster_search::{Found, guided_search};
 use rwsp_model::Problem;
 use rwsp_terms::limits::GREATEST_BUDGET;
@@ -27,9 +31,32 @@ pub fn plan_roster<R: Threads + Sync, G: Gate>(
     requires { (1 ≤ budget) × (budget ≤ GREATEST_BUDGET) }
     ensures { IfOk result (IsPlanned problem.now budget) }
 {
-    problem.prove_limits();
     let turn = first_turn(problem);
     let mut reasons = reasons_of(rt, alloc, problem, turn, gate)?;
+    let found = plan_by(alloc, problem, turn, &mut reasons, budget);
+    // An owned value that a generic call takes is dropped there, which keeps the proof of this body small.
+    drop(reasons);
+    found
+}
+
+// The same by these reasons, which hold for the search that begins with the turn.
+fn plan_by(
+    alloc: Global,
+    problem: &Problem,
+    turn: Option<Turn>,
+    reasons: &mut Reasons,
+    budget: u32,
+) -> Result<Found, AllocError>
+    requires budget { (1 ≤ budget) × (budget ≤ GREATEST_BUDGET) }
+    requires turn { IsFirstTurn problem.now turn }
+    requires serves { ⟦<Reasons as Propagator>⟧.serves reasons.old problem.now }
+    requires reasons { AreReasons problem.now turn (⟦<Reasons as Propagator>⟧.leaves reasons.old)
+        (⟦<Reasons as Propagator>⟧.spent reasons.old) }
+    ensures { IfOk result (IsPlanned problem.now budget) }
+{
+    problem.prove_limits();
     let mut guide = PlanGuide::new(alloc, problem, turn)?;
-    guided_search(alloc, problem, turn, None, &mut reasons, &mut guide, budget)
+    let found = guided_search(alloc, problem, turn, None, reasons, &mut guide, budget);
+    drop(guide);
+    found
 }

@@ -1,5 +1,5 @@
 -- The four as one, made with the opening domains.
-use Rattle.std.proofs.Common.{◌≡◌, ◌∙◌, sym, [], inl, inr}
+use Rattle.std.proofs.Common.{◌∙◌, sym, [], inl, inr}
 use Rattle.rwsp_model.proofs.Limits.{some_cells}
 use Rattle.refutation_terms.specs.declared.lines.Line.TheVariants.{Window, Day}
 use Rattle.refutation_terms.specs.Word.{AreSame}
