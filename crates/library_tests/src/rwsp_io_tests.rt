@@ -2,11 +2,13 @@
 ghost use Rattle.std.specs.Prelude.{◌<◌};
 
 use rwsp_io::{
-    MemoryShelf, MemorySink, ReadFail, RealShelf, RealSink, WriteFault, read_all, write_all,
+    MemoryShelf, MemorySink, ReadFail, RealShelf, RealSink, ShelfFault, SinkFault, WriteFault,
+    read_again, read_all, write_again, write_all,
 };
 use std::alloc::{AllocError, Global};
+use std::io::{ErrorKind, Read, Write};
 use std::test::Fail;
-use std::{env, fs, process};
+use std::{env, fs, io, process};
 
 // A shelf with one file, which gives `step` bytes at a time, and whose call with this number fails.
 fn shelf_of(
@@ -107,5 +109,62 @@ fn files_of_the_system_are_read(rt: HostRuntime) -> Result<(), Fail> {
 fn standard_output_takes_a_text(rt: HostRuntime) -> Result<(), Fail> {
     let mut sink = RealSink::new(&rt);
     assert_eq!(rt; write_all(&mut sink, b"written\n".as_slice()), Ok(()));
+    Ok(())
+}
+
+// A call that a signal interrupts, which no file or memory shelf can be made to do.
+// Fails `times` times with this kind of error; then it is at its end, and takes whatever is written.
+#[derive(Drop)]
+struct Failing {
+    kind: ErrorKind,
+    times: u32,
+}
+
+impl Failing {
+    fn call(&mut self) -> io::Result<()> {
+        if self.times == 0 {
+            return Ok(());
+        }
+        self.times -= 1;
+        Err(io::Error::from(self.kind))
+    }
+}
+
+impl Read for Failing {
+    fn read(&mut self, _piece: &mut [u8]) -> io::Result<usize> {
+        self.call()?;
+        Ok(0)
+    }
+}
+
+impl Write for Failing {
+    fn write(&mut self, piece: &[u8]) -> io::Result<usize> {
+        self.call()?;
+        Ok(piece.len())
+    }
+
+    fn flush(&mut self) -> io::Result<()> {
+        Ok(())
+    }
+}
+
+#[test]
+fn an_interrupted_call_is_made_again(rt: HostRuntime) -> Result<(), Fail> {
+    let piece = &mut [0u8; 3];
+    for times in 0..3u32 {
+        let kind = ErrorKind::Interrupted;
+        assert_eq!(rt; read_again(&mut Failing { kind, times }, piece), Ok(0));
+        assert_eq!(rt; write_again(&mut Failing { kind, times }, piece), Ok(3));
+    }
+    let kind = ErrorKind::Other;
+    let times = 1;
+    assert_eq!(rt;
+        read_again(&mut Failing { kind, times }, piece),
+        Err(ShelfFault)
+    );
+    assert_eq!(rt;
+        write_again(&mut Failing { kind, times }, piece),
+        Err(SinkFault)
+    );
     Ok(())
 }

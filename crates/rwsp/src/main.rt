@@ -1,9 +1,6 @@
 //! Plans, checks and proves rotating workforce schedules.
 #![tactic(auto)]
 
-#[cfg(test)]
-mod tests;
-
 use potential_bounds::NoGate;
 use rwsp_answers::Outcome;
 use rwsp_io::{RealShelf, RealSink};

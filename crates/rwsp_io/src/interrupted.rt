@@ -5,7 +5,8 @@ ghost use Rattle.std.specs.Io.KnownBytes.{ReadConsumes, WriteAppends};
 use crate::{ShelfFault, SinkFault};
 use std::io::{ErrorKind, Read, Write};
 
-// The next bytes of a reader, at the front of the piece, and their number.
+/// The next bytes of a reader, at the front of the piece, and their number, which is 0 where there are none or no room
+/// for one. Gives a fault where the reader fails, unless a signal interrupted it.
 pub fn read_again<F: Read>(reader: &mut F, piece: &mut [u8]) -> Result<usize, ShelfFault>
     ensures bound { ReadsAtMost result piece.new }
     ensures bytes { ReadConsumes (F.remaining reader.old) (F.remaining reader.new) result piece.new }
@@ -20,7 +21,8 @@ pub fn read_again<F: Read>(reader: &mut F, piece: &mut [u8]) -> Result<usize, Sh
     Err(ShelfFault)
 }
 
-// Writes the first bytes of the piece, and gives their number.
+/// Writes the first bytes of the piece, and gives their number. Gives a fault where the writer fails, unless a signal
+/// interrupted it.
 pub fn write_again<W: Write>(writer: &mut W, piece: &[u8]) -> Result<usize, SinkFault>
     ensures bound { WritesAtMost result piece.now }
     ensures bytes { WriteAppends (W.contents writer.old) (W.contents writer.new) result piece.now }

@@ -8,9 +8,8 @@ mod memory;
 mod shelf;
 mod sink;
 mod system_files;
-#[cfg(test)]
-mod tests;
 
+pub use interrupted::{read_again, write_again};
 pub use memory::{MemoryShelf, MemorySink};
 pub use shelf::{ReadFail, Shelf, ShelfFault, read_all};
 pub use sink::{Sink, SinkFault, WriteFault, write_all};
