@@ -18,8 +18,8 @@ use Rattle.refutation_terms.proofs.InWords.{idle_as_said}
 use Rattle.refutation_terms.proofs.ExampleShort.{clean_for_some, dead_for_all, all_are_short}
 use Rattle.domain_store.specs.Sets.{has_symbol}
 use Rattle.domain_store.specs.Store.{Store, BelongsTo, domain_at, has_domain, HasDomains}
-use Rattle.propagators.specs.Looks.{Closes, IsClosing, IsCut, IsLeafOf}
-use Rattle.propagators.specs.Cycles.{AreShortRules, IsCycleLeaf, IsCycleSpent}
+use Rattle.propagator_terms.specs.Looks.{Closes, IsClosing, IsCut, IsLeafOf}
+use Rattle.propagator_terms.specs.Cycles.{AreShortRules, IsCycleLeaf, IsCycleSpent}
 use Rattle.kept_cycle.specs.Known.{KnownCycle, knows_symbol, KnowsDomains}
 use Rattle.kept_cycle.specs.CycleCuts.{IsUnsupported, IsShortCycle}
 

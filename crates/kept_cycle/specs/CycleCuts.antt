@@ -5,7 +5,7 @@ use Rattle.rwsp_terms.specs.Instance.{cells}
 use Rattle.refutation_terms.specs.Tree.{is_idle}
 use Rattle.refutation_terms.specs.Sharp.{NoWordHas}
 use Rattle.domain_store.specs.Store.{Store, has_domain}
-use Rattle.propagators.specs.Cycles.{AreShortRules}
+use Rattle.propagator_terms.specs.Cycles.{AreShortRules}
 use Rattle.kept_cycle.specs.Known.{KnownCycle, KnowsDomains}
 
 -- the symbol is beside another in the domain of the position, and no clean word of two turns has it there

@@ -4,14 +4,14 @@ ghost use Rattle.rwsp_terms.specs.declared.data.Symbol.{Symbol};
 ghost use Rattle.refutation_terms.specs.declared.lines.Line.{Line};
 ghost use Rattle.domain_store.specs.Store.{Store, BelongsTo, has_domain};
 ghost use Rattle.kept_cycle.specs.Known.{KnowsDomains};
-ghost use Rattle.propagators.specs.Cycles.{IsCycleLeaf, IsCycleSpent};
-ghost use Rattle.propagators.specs.Looks.{IsLook};
+ghost use Rattle.propagator_terms.specs.Cycles.{IsCycleLeaf, IsCycleSpent};
+ghost use Rattle.propagator_terms.specs.Looks.{IsLook};
 ghost use Rattle.kept_cycle.specs.CycleCuts.{IsShortCycle};
 
 use crate::Cycle;
 use crate::cycle_cut::first_unsupported;
 use domain_store::Domains;
-use propagators::{Look, Propagator};
+use propagator_terms::{Look, Propagator};
 use rwsp_model::{Problem, short_rules};
 use std::alloc::{AllocError, Global};
 use std::marker::Model;
@@ -29,7 +29,7 @@ impl Model for CycleProp {
 
     ghost Value = { KnownCycle };
 
-    ghost use Rattle.propagators.specs.Cycles.{AreShortRules};
+    ghost use Rattle.propagator_terms.specs.Cycles.{AreShortRules};
 
     ghost view = { λ c. c.cycle };
 

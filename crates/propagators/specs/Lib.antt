@@ -1,5 +1,3 @@
-pub mod Looks
 pub mod Days
-pub mod Cycles
 pub mod Windows
 pub mod TopBounds

@@ -7,10 +7,10 @@ ghost use Rattle.refutation_terms.specs.Log.{LineFits};
 ghost use Rattle.domain_store.specs.Store.{Store, BelongsTo, has_domain};
 ghost use Rattle.demand_counts.specs.Counted.{StandsFor};
 ghost use Rattle.propagators.specs.Days.{AreCountsOf, IsDayLeaf, IsDaySpent};
-ghost use Rattle.propagators.specs.Looks.{IsLook};
+ghost use Rattle.propagator_terms.specs.Looks.{IsLook};
 
 use crate::day_cut::first_cut;
-use crate::{Look, Propagator};
+use propagator_terms::{Look, Propagator};
 use demand_counts::Counts;
 use domain_store::Domains;
 use refutation_terms::Line;

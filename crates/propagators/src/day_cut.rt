@@ -4,10 +4,10 @@ ghost use Rattle.rwsp_terms.specs.Instance.{shift_count, IsDay, IsSymbol};
 ghost use Rattle.refutation_terms.specs.Leaf.{fixed, possible};
 ghost use Rattle.domain_store.specs.Store.{has_domain, BelongsTo};
 ghost use Rattle.refutation_terms.specs.declared.lines.Line.TheVariants.{Day};
-ghost use Rattle.propagators.specs.declared.look.Look.TheVariants.{Cut};
+ghost use Rattle.propagator_terms.specs.declared.look.Look.TheVariants.{Cut};
 ghost use Rattle.propagators.specs.Days.{AreCountsOf, TakesNone, IsSaturation, IsNeighbour, IsPlaceAnswer, IsDayCut};
 
-use crate::Look;
+use propagator_terms::Look;
 use demand_counts::Counts;
 use domain_store::Domains;
 use plain_leaves::position_of;

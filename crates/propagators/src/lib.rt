@@ -3,16 +3,10 @@
 
 mod day;
 mod day_cut;
-mod look;
-mod pair;
-mod propagator;
 mod root_bounds;
 mod window;
 mod window_over;
 
 pub use day::DayProp;
-pub use look::Look;
-pub use pair::Pair;
-pub use propagator::Propagator;
 pub use root_bounds::RootBounds;
 pub use window::WindowProp;

@@ -10,7 +10,7 @@ ghost use Rattle.refutation_terms.specs.Sharp.{plain_bounds};
 ghost use Rattle.domain_store.specs.Store.{Store, BelongsTo, has_domain};
 ghost use Rattle.propagators.specs.TopBounds.{IsStartBound, IsTopAnswer, IsTopWatch, IsBoundLook};
 
-use crate::{Look, Propagator};
+use propagator_terms::{Look, Propagator};
 use domain_store::Domains;
 use potential_bounds::{Gate, first_plain, plain_bounds, search_weights};
 use refutation_terms::Line;

@@ -16,9 +16,9 @@ use Rattle.refutation_terms.specs.Log.{LineFits}
 use Rattle.refutation_terms.specs.Sharp.{SomeWindowHolds, SomeDayHolds, NoWordHas, IsSpentAt, IsSharpSplit}
 use Rattle.refutation_terms.proofs.SameDomains.{turned_round, same_idle, same_holds}
 use Rattle.domain_store.specs.Store.{Store, has_domain}
-use Rattle.propagators.specs.Looks.{Closes}
+use Rattle.propagator_terms.specs.Looks.{Closes}
 use Rattle.propagators.specs.Days.{IsDaySpent}
-use Rattle.propagators.specs.Cycles.{AreShortRules, IsCycleSpent}
+use Rattle.propagator_terms.specs.Cycles.{AreShortRules, IsCycleSpent}
 use Rattle.propagators.proofs.SameWords.{same_nowhere}
 use Rattle.roster_search.specs.Founds.{IsForced}
 use Rattle.roster_planner.specs.Reasons.{AreCaseReasons}

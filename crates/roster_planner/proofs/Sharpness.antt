@@ -16,8 +16,8 @@ use Rattle.refutation_terms.specs.Log.{Log}
 use Rattle.refutation_terms.specs.Sharp.{IsFirstTurn, NoBoundHolds, IsUnclosed, HoldsAtTop}
 use Rattle.refutation_terms.proofs.SameDomains.{turned_round}
 use Rattle.domain_store.specs.Store.{Store, has_domain}
-use Rattle.propagators.specs.Looks.{Closes}
-use Rattle.propagators.specs.Cycles.{AreShortRules}
+use Rattle.propagator_terms.specs.Looks.{Closes}
+use Rattle.propagator_terms.specs.Cycles.{AreShortRules}
 use Rattle.propagators.specs.TopBounds.{AreTopWeights}
 use Rattle.propagators.proofs.SameWords.{same_at_top}
 use Rattle.roster_search.specs.Founds.{IsForced, IsSearchLog, IsFound, HasSpentBudget}

@@ -2,10 +2,10 @@
 use Rattle.rwsp_terms.specs.Instance.{Instance}
 use Rattle.refutation_terms.specs.declared.lines.Line.{Line}
 use Rattle.refutation_terms.specs.declared.lines.Line.TheVariants.{Window, Day, Dead}
-use Rattle.propagators.specs.Looks.{IsUnweighed}
+use Rattle.propagator_terms.specs.Looks.{IsUnweighed}
 use Rattle.propagators.specs.Windows.{IsWindowLeaf}
 use Rattle.propagators.specs.Days.{IsDayLeaf}
-use Rattle.propagators.specs.Cycles.{IsCycleLeaf}
+use Rattle.propagator_terms.specs.Cycles.{IsCycleLeaf}
 
 pub window_unweighed : (P : Instance) (line : Line) → IsWindowLeaf P line → IsUnweighed line
 window_unweighed P (Window number p len) h = tt

@@ -7,9 +7,9 @@ use Rattle.refutation_terms.specs.declared.lines.Turn.{Turn}
 use Rattle.refutation_terms.specs.Word.{AreSame}
 use Rattle.refutation_terms.specs.Tree.{opening}
 use Rattle.domain_store.specs.Store.{Store, has_domain}
-use Rattle.propagators.specs.Looks.{HasPlainLeaves, IsUnweighed}
+use Rattle.propagator_terms.specs.Looks.{HasPlainLeaves, IsUnweighed}
 use Rattle.propagators.specs.Days.{IsDaySpent}
-use Rattle.propagators.specs.Cycles.{AreShortRules, IsCycleLeaf, IsCycleSpent}
+use Rattle.propagator_terms.specs.Cycles.{AreShortRules, IsCycleLeaf, IsCycleSpent}
 use Rattle.propagators.specs.TopBounds.{IsTopBound}
 
 -- all window and day leaves of the problem, and the dead leaf of two turns; the symbols are spent that a day leaf or

@@ -7,7 +7,7 @@ ghost use Rattle.roster_planner.specs.Reasons.{AreReasons};
 use crate::guide::PlanGuide;
 use crate::reasons::{Reasons, reasons_of};
 use potential_bounds::Gate;
-use propagators::Propagator;
+use propagator_terms::Propagator;
 use refutation_log::first_turn;
 use refutation_terms::Turn;
 use roster_search::{Found, guided_search};

@@ -3,14 +3,15 @@ ghost use Rattle.std.specs.Prelude.{IfOk, ℕ, ◌↔◌};
 ghost use Rattle.rwsp_terms.specs.declared.data.Symbol.{Symbol};
 ghost use Rattle.refutation_terms.specs.Log.{TurnFits};
 ghost use Rattle.domain_store.specs.Store.{BelongsTo, Store, has_domain};
-ghost use Rattle.propagators.specs.Looks.{HasPlainLeaves};
+ghost use Rattle.propagator_terms.specs.Looks.{HasPlainLeaves};
 ghost use Rattle.propagators.specs.Days.{IsDaySpent};
 ghost use Rattle.roster_planner.specs.Reasons.{AreCaseReasons, AreReasons, WeighNoWords};
 
 use domain_store::Domains;
 use kept_cycle::CycleProp;
 use potential_bounds::Gate;
-use propagators::{DayProp, Pair, Propagator, RootBounds, WindowProp};
+use propagator_terms::{Pair, Propagator};
+use propagators::{DayProp, RootBounds, WindowProp};
 use refutation_terms::Turn;
 use rwsp_model::Problem;
 use std::alloc::{AllocError, Global};

@@ -10,7 +10,7 @@ use Rattle.refutation_terms.specs.Word.{Domains, AreSame}
 use Rattle.refutation_terms.specs.Tree.{IsLeaf, domains_at}
 use Rattle.refutation_terms.specs.Log.{HoldsFor}
 use Rattle.domain_store.specs.Store.{Store, IsStore, has_domain}
-use Rattle.propagators.specs.Looks.{Closes}
+use Rattle.propagator_terms.specs.Looks.{Closes}
 use Rattle.roster_search.specs.declared.sight.Sight.{Sight}
 use Rattle.roster_search.specs.Guides.{IsSight}
 use Rattle.roster_search.specs.declared.progress.Progress.{Progress}

@@ -10,7 +10,7 @@ use Rattle.refutation_terms.specs.Log.{LineFits, LineFitsFor, GoalFits, Holds, H
 use Rattle.refutation_terms.proofs.SameDomains as SameDomains
 use Rattle.refutation_terms.proofs.SameDomains.{turned_round, same_holds}
 use Rattle.domain_store.specs.Store.{Store}
-use Rattle.propagators.specs.Looks.{IsLeafOf, IsUnweighed}
+use Rattle.propagator_terms.specs.Looks.{IsLeafOf, IsUnweighed}
 use Rattle.roster_search.specs.Guides.{IsLeafFor, AreUnweighedFor}
 
 -- a line that weighs no words is one of a free log too

@@ -11,7 +11,7 @@ use Rattle.refutation_terms.specs.Tree.{domains_at}
 use Rattle.refutation_terms.specs.Log.{Log, HoldsFor, PassesFor, IsSpentFor, NamesOnlyCited, size}
 use Rattle.refutation_terms.specs.Laws.{HasGoal}
 use Rattle.domain_store.specs.Store.{Store, BelongsTo, IsStore, has_domain}
-use Rattle.propagators.specs.Looks.{Closes}
+use Rattle.propagator_terms.specs.Looks.{Closes}
 use Rattle.roster_search.specs.declared.found.Found.{Found}
 use Rattle.roster_search.specs.declared.found.Found.TheVariants.{Roster, NoRoster, Undecided}
 

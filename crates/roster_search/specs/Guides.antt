@@ -11,7 +11,7 @@ use Rattle.refutation_terms.specs.Log.{LineFitsFor, ListsShortOnly, HoldsFor}
 use Rattle.refutation_terms.specs.Laws.{HasGoal}
 use Rattle.domain_store.specs.Store.{Store, has_domain}
 use Rattle.tree_walk.specs.Splits.{is_idle_in}
-use Rattle.propagators.specs.Looks.{IsUnweighed, Closes, IsCut}
+use Rattle.propagator_terms.specs.Looks.{IsUnweighed, Closes, IsCut}
 use Rattle.roster_search.specs.declared.choice.NextSplit.{NextSplit}
 use Rattle.roster_search.specs.declared.sight.Sight.{Sight}
 use Rattle.roster_search.specs.declared.sight.Sight.TheVariants.{Leaf, Roster, Cut, Quiet}

@@ -12,7 +12,7 @@ use Rattle.refutation_terms.specs.Tree.{IsLeaf, domains_at}
 use Rattle.refutation_terms.specs.Log.{LineFitsFor, TurnFits, GoalFits, HoldsFor, Cites, TurnCites, ListsShortOnly, PassesFor, IsSpentFor, size}
 use Rattle.domain_store.specs.Store.{Store}
 use Rattle.tree_walk.specs.States.{IsStateOf, open_trees}
-use Rattle.propagators.specs.Looks.{IsNarrowedAt}
+use Rattle.propagator_terms.specs.Looks.{IsNarrowedAt}
 use Rattle.roster_search.specs.Founds.{AreForced, FewHoldsAtNoSplit, IsLogOfTurn}
 use Rattle.roster_search.specs.declared.progress.Progress.{Progress}
 use Rattle.roster_search.specs.declared.found.Found.{Found}

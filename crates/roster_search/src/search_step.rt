@@ -7,7 +7,7 @@ ghost use Rattle.refutation_terms.specs.declared.lines.Line.{Line};
 ghost use Rattle.refutation_terms.specs.declared.lines.Turn.{Turn};
 ghost use Rattle.refutation_terms.specs.Laws.{HasGoal};
 ghost use Rattle.domain_store.specs.Store.{Store, BelongsTo, IsDecided};
-ghost use Rattle.propagators.specs.Looks.{HasPlainLeaves};
+ghost use Rattle.propagator_terms.specs.Looks.{HasPlainLeaves};
 ghost use Rattle.roster_search.specs.Guides.{IsSplitIn, AreUnweighedFor};
 ghost use Rattle.roster_search.specs.Written.{IsUnderWay};
 
@@ -17,7 +17,7 @@ use crate::progress::Progress;
 use crate::sight::{Arrival, Sight, see};
 use crate::{Guide, NextSplit};
 use domain_store::Domains;
-use propagators::Propagator;
+use propagator_terms::Propagator;
 use rwsp_model::{Problem, Roster};
 use std::alloc::{AllocError, Global};
 

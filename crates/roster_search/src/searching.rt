@@ -5,7 +5,7 @@ ghost use Rattle.rwsp_terms.specs.Instance.{Instance, cells, shift_count};
 ghost use Rattle.refutation_terms.specs.declared.lines.Line.{Line};
 ghost use Rattle.refutation_terms.specs.Log.{TurnFits, GoalFits, IsAllowed};
 ghost use Rattle.domain_store.specs.Store.{Store};
-ghost use Rattle.propagators.specs.Looks.{HasPlainLeaves};
+ghost use Rattle.propagator_terms.specs.Looks.{HasPlainLeaves};
 ghost use Rattle.roster_search.specs.Founds.{IsFound, IsFoundFor, HasSpentBudget};
 ghost use Rattle.roster_search.specs.Guides.{AreUnweighedFor};
 
@@ -14,7 +14,7 @@ use crate::progress::Progress;
 use crate::search_step::step;
 use crate::sight::Arrival;
 use crate::{Found, Guide, NoGuide};
-use propagators::Propagator;
+use propagator_terms::Propagator;
 use refutation_terms::Turn;
 use rwsp_model::Problem;
 use rwsp_terms::limits::GREATEST_BUDGET;

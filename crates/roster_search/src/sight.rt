@@ -13,7 +13,7 @@ ghost use Rattle.roster_search.specs.Guides.{IsLeafGiven, IsGiven, IsSight, AreU
 use crate::Guide;
 use domain_store::Domains;
 use plain_leaves::few_holds;
-use propagators::{Look, Propagator};
+use propagator_terms::{Look, Propagator};
 use refutation_terms::Line;
 use rwsp_model::{Problem, Roster};
 use rwsp_terms::Symbol;

@@ -3,11 +3,12 @@ ghost use Rattle.std.specs.Prelude.{◌≡◌, IfOk, ℕ, None};
 ghost use Rattle.std.specs.Option.{IfSome};
 ghost use Rattle.rwsp_terms.specs.Instance.{Instance};
 ghost use Rattle.rwsp_terms.specs.Roster.{MeetsAll};
-ghost use Rattle.propagators.specs.Looks.{HasPlainLeaves};
+ghost use Rattle.propagator_terms.specs.Looks.{HasPlainLeaves};
 
 use domain_store::Domains;
 use potential_bounds::NoGate;
-use propagators::{DayProp, Look, Pair, Propagator, RootBounds, WindowProp};
+use propagator_terms::{Look, Pair, Propagator};
+use propagators::{DayProp, RootBounds, WindowProp};
 use refutation_terms::Line;
 use roster_search::{Found, Guide, NextSplit, NoGuide, chronological, guided_search, search};
 use rwsp_model::{Problem, Roster};

@@ -9,7 +9,7 @@ ghost use Rattle.weekend_best.specs.FreeSharp.{FailsFreeAtTop};
 use crate::guide::BestGuide;
 use crate::top_leaf::proof_at_top;
 use domain_store::Domains;
-use propagators::Propagator;
+use propagator_terms::Propagator;
 use roster_planner::{CaseReasons, case_reasons};
 use roster_search::{Found, Guide, guided_search};
 use rwsp_model::Problem;

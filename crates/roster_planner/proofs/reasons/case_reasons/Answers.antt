@@ -1,7 +1,7 @@
 -- The three as one.
 use Rattle.std.proofs.Common.{◌≡◌, subst, inl, inr}
 use Rattle.kept_cycle.specs.Known.{KnownCycle}
-use Rattle.propagators.specs.Cycles.{AreShortRules}
+use Rattle.propagator_terms.specs.Cycles.{AreShortRules}
 use Rattle.refutation_terms.specs.declared.lines.Line.TheVariants.{Window, Day}
 use Rattle.roster_planner.proofs.Unweighed.{cycle_unweighed}
 use Rattle.roster_planner.proofs.reasons.case_reasons.Goals as goal

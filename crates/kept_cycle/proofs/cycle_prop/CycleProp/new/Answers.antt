@@ -3,7 +3,7 @@ use Rattle.std.proofs.Common.{◌≡◌, ◌∙◌, List, ℕ, sym, subst}
 use Rattle.rwsp_terms.specs.Instance.{Instance}
 use Rattle.rwsp_terms.specs.Rules.{NamesShortRules}
 use Rattle.refutation_terms.specs.Log.{AreRules}
-use Rattle.propagators.specs.Cycles.{AreShortRules}
+use Rattle.propagator_terms.specs.Cycles.{AreShortRules}
 use Rattle.kept_cycle.proofs.cycle_prop.CycleProp.new.Goals as goal
 
 all_short : (P Q : Instance) (R S : List ℕ) → Q ≡ P → S ≡ R → AreRules P R → NamesShortRules P R → AreShortRules Q S

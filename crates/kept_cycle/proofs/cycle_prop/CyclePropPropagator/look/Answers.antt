@@ -3,9 +3,9 @@ use Rattle.std.proofs.Common.{Result, Ok, Err, subst}
 use Rattle.std.specs.Prelude.{IfOk}
 use Rattle.rwsp_terms.specs.Instance.{Instance}
 use Rattle.domain_store.specs.Store.{has_domain}
-use Rattle.propagators.specs.declared.look.Look.{Look}
-use Rattle.propagators.specs.Looks.{IsLook}
-use Rattle.propagators.specs.Cycles.{IsCycleLeaf, IsCycleSpent}
+use Rattle.propagator_terms.specs.declared.look.Look.{Look}
+use Rattle.propagator_terms.specs.Looks.{IsLook}
+use Rattle.propagator_terms.specs.Cycles.{IsCycleLeaf, IsCycleSpent}
 use Rattle.kept_cycle.specs.Known.{KnownCycle}
 use Rattle.kept_cycle.proofs.cycle_prop.CyclePropPropagator.look.Goals as goal
 

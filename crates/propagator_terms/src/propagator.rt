@@ -4,7 +4,7 @@ ghost use Rattle.rwsp_terms.specs.declared.data.Symbol.{Symbol};
 ghost use Rattle.rwsp_terms.specs.Instance.{Instance};
 ghost use Rattle.refutation_terms.specs.declared.lines.Line.{Line};
 ghost use Rattle.domain_store.specs.Store.{Store, BelongsTo};
-ghost use Rattle.propagators.specs.Looks.{IsLook, IsNarrowedAt, SameReasons, AreSpentBesideAnother};
+ghost use Rattle.propagator_terms.specs.Looks.{IsLook, IsNarrowedAt, SameReasons, AreSpentBesideAnother};
 
 use crate::Look;
 use domain_store::Domains;

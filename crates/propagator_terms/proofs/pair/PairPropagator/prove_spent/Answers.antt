@@ -1,6 +1,6 @@
 -- A symbol that is spent for one of the two is beside another, as that one says.
 use Rattle.std.proofs.Common.{inl, inr}
-use Rattle.propagators.proofs.pair.PairPropagator.prove_spent.Goals as goal
+use Rattle.propagator_terms.proofs.pair.PairPropagator.prove_spent.Goals as goal
 
 pub returns : goal.returns
 returns g c P S p x serves belongs spent =

@@ -2,10 +2,10 @@
 use Rattle.std.proofs.Common.{sym, subst}
 use Rattle.std.proofs.lemmas.Result.{IfOk-weaker, IfOk-at_ok}
 use Rattle.rwsp_terms.specs.Instance.{Instance}
-use Rattle.propagators.specs.declared.look.Look.{Look}
-use Rattle.propagators.specs.Looks.{IsLook}
-use Rattle.propagators.proofs.Pairs.{seen_by_two}
-use Rattle.propagators.proofs.pair.PairPropagator.look.Goals as goal
+use Rattle.propagator_terms.specs.declared.look.Look.{Look}
+use Rattle.propagator_terms.specs.Looks.{IsLook}
+use Rattle.propagator_terms.proofs.Pairs.{seen_by_two}
+use Rattle.propagator_terms.proofs.pair.PairPropagator.look.Goals as goal
 
 pub returns-clause-look : goal.returns-clause-look
 returns-clause-look g c =

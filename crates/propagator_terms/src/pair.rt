@@ -4,8 +4,8 @@ ghost use Rattle.rwsp_terms.specs.declared.data.Symbol.{Symbol};
 ghost use Rattle.rwsp_terms.specs.Instance.{Instance};
 ghost use Rattle.refutation_terms.specs.declared.lines.Line.{Line};
 ghost use Rattle.domain_store.specs.Store.{Store};
-ghost use Rattle.propagators.specs.declared.look.Look.{Look};
-ghost use Rattle.propagators.specs.Looks.{joined};
+ghost use Rattle.propagator_terms.specs.declared.look.Look.{Look};
+ghost use Rattle.propagator_terms.specs.Looks.{joined};
 
 use crate::{Look, Propagator};
 use domain_store::Domains;

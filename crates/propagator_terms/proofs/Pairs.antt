@@ -4,9 +4,9 @@ use Rattle.rwsp_terms.specs.declared.data.Symbol.{Symbol}
 use Rattle.rwsp_terms.specs.Instance.{Instance}
 use Rattle.refutation_terms.specs.declared.lines.Line.{Line}
 use Rattle.domain_store.specs.Store.{Store}
-use Rattle.propagators.specs.declared.look.Look.{Look}
-use Rattle.propagators.specs.declared.look.Look.TheVariants.{Quiet, Closed, Cut}
-use Rattle.propagators.specs.Looks.{Closes, IsClosing, IsCut, IsLook, joined}
+use Rattle.propagator_terms.specs.declared.look.Look.{Look}
+use Rattle.propagator_terms.specs.declared.look.Look.TheVariants.{Quiet, Closed, Cut}
+use Rattle.propagator_terms.specs.Looks.{Closes, IsClosing, IsCut, IsLook, joined}
 
 neither_closes : (P : Instance) (l m : Line → Type 0) (S : Store) → (Closes P l S → ⊥) → (Closes P m S → ⊥) → Closes P (λ line. l line ⊎ m line) S → ⊥
 neither_closes P l m S first second h =

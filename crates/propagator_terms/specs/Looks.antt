@@ -7,8 +7,8 @@ use Rattle.refutation_terms.specs.declared.lines.Line.TheVariants.{Split, Window
 use Rattle.refutation_terms.specs.Tree.{IsLeaf, First, narrowed, is_idle}
 use Rattle.refutation_terms.specs.Log.{Holds, LineFits, ListsShortOnly}
 use Rattle.domain_store.specs.Store.{Store, BelongsTo, HasSameShape, domain_at, has_domain}
-use Rattle.propagators.specs.declared.look.Look.{Look}
-use Rattle.propagators.specs.declared.look.Look.TheVariants.{Quiet, Closed, Cut}
+use Rattle.propagator_terms.specs.declared.look.Look.{Look}
+use Rattle.propagator_terms.specs.declared.look.Look.TheVariants.{Quiet, Closed, Cut}
 
 -- some leaf of these holds under the domains: they are closed
 abbrev pub Closes : Instance → (Line → Type 0) → Store → Type 0
