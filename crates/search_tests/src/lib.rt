@@ -7,8 +7,6 @@ mod all_words;
 #[cfg(test)]
 mod kept_cycle_tests;
 #[cfg(test)]
-mod meeting;
-#[cfg(test)]
 mod nearest_weights_tests;
 #[cfg(test)]
 mod potential_bounds_tests;

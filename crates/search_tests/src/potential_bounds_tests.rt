@@ -3,13 +3,12 @@ ghost use Rattle.std.specs.Prelude.{◌≡◌, ◌≤◌};
 ghost use Rattle.rwsp_terms.specs.declared.limits.TheConstants.{GREATEST_WEIGHT};
 ghost use Rattle.domain_store.specs.Store.{BelongsTo};
 
-use crate::meeting::Meeting;
 use domain_store::Domains;
 use potential_bounds::{Gate, NoGate, Weights, first_plain, heaviest_free, search_weights};
 use rwsp_model::Problem;
 use rwsp_terms::{Symbol, Weight};
 use small_problems::{
-    D, D_ON_BOTH_DAYS, LONG_BLOCKS, LONGER_BLOCKS, OFF, TWOS_IN_SIX, all_rules, problem_of,
+    D, D_ON_BOTH_DAYS, LONG_BLOCKS, LONGER_BLOCKS, Meeting, OFF, TWOS_IN_SIX, all_rules, problem_of,
 };
 use std::alloc::Global;
 use std::test::Fail;

@@ -1,13 +1,14 @@
 // Refutations of small problems, worked by hand. What else is refused and why is said by the clauses, and tried on the
 // program's own tests.
-use crate::meeting::Meeting;
 use refutation_checker::{check, check_free, check_log, check_with};
 use refutation_log::print_free;
 use refutation_terms::LogRefusal;
 use rwsp_model::Fail::Refused;
 use rwsp_model::Problem;
 use rwsp_terms::Word;
-use small_problems::{LONG_BLOCKS, OFF, ONE_CELL, TWO_IN_FOUR, TWOS_IN_SIX, log_of, problem_of};
+use small_problems::{
+    LONG_BLOCKS, Meeting, OFF, ONE_CELL, TWO_IN_FOUR, TWOS_IN_SIX, log_of, problem_of,
+};
 use std::alloc::Global;
 use std::test::Fail;
 

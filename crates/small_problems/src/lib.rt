@@ -1,8 +1,10 @@
-//! Small problems for tests, as the texts of their files, and what tests make of a problem.
+//! Small problems for tests, as the texts of their files, what tests make of a problem, and a gate for two workers.
 #![tactic(auto)]
 
+mod meeting;
 mod problems;
 
+pub use meeting::Meeting;
 pub use problems::{
     ALL_OF_FOUR_WEEKS, CROWDED_TWOS_IN_SIX, D, D_ON_BOTH_DAYS, D_ON_DAY_1, D_ON_EITHER_DAY,
     DAYS_AND_NIGHTS, DAYS_OR_NIGHTS, HALF_OF_FOUR, LONG_BLOCKS, LONGER_BLOCKS, MOST_OF_FOUR,

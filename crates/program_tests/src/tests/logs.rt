@@ -1,9 +1,8 @@
 // Logs checked and reduced: what is printed, to the byte, and the status.
 use super::{NINE_WEEKS, TWO_DAYS, ends, shelf_of, status_of, words_of};
-use potential_bounds::{Gate, NoGate};
 use rwsp_io::MemorySink;
+use small_problems::Meeting;
 use std::alloc::{AllocError, Global};
-use std::sync::atomic::{AtomicBool, Ordering};
 use std::test::Fail;
 use std::thread::Threads;
 
@@ -305,50 +304,6 @@ fn logs_that_are_not_reduced(rt: HostRuntime) -> Result<(), Fail> {
     Ok(())
 }
 
-// Each of two workers waits at the gate until it has seen the other, or for long.
-#[derive(Drop)]
-struct Meeting {
-    flags: [AtomicBool; 2],
-    met: [AtomicBool; 2],
-}
-
-impl Meeting {
-    fn new() -> Meeting {
-        Meeting {
-            flags: [AtomicBool::new(false), AtomicBool::new(false)],
-            met: [AtomicBool::new(false), AtomicBool::new(false)],
-        }
-    }
-
-    // Whether each has seen the other.
-    fn is_over(&self) -> bool {
-        let [first, second] = &self.met;
-        first.load(Ordering::SeqCst) && second.load(Ordering::SeqCst)
-    }
-}
-
-impl Gate for Meeting {
-    fn enter(&self, chunk: u32) {
-        let [first, second] = &self.flags;
-        let [first_met, second_met] = &self.met;
-        match chunk {
-            1 => meet(first, second, first_met),
-            2 => meet(second, first, second_met),
-            _ => {}
-        }
-    }
-}
-
-fn meet(own: &AtomicBool, other: &AtomicBool, met: &AtomicBool) {
-    own.store(true, Ordering::SeqCst);
-    for _ in 0..200_000_000 {
-        if other.load(Ordering::SeqCst) {
-            met.store(true, Ordering::SeqCst);
-            return;
-        }
-    }
-}
-
 // Whether the words end with this status, over these files, and two workers meet at the gate.
 pub fn they_meet<R: Threads + Sync>(
     rt: &R,
@@ -361,7 +316,7 @@ pub fn they_meet<R: Threads + Sync>(
     let words = words_of(alloc, words)?;
     let mut shelf = shelf_of(alloc, files, 50, &[])?;
     let mut sink = MemorySink::new(alloc, 1000, 100, Vec::new(alloc))?;
-    Ok(status_of(rt, alloc, &words, &mut shelf, &mut sink, &gate) == status && gate.is_over())
+    Ok(status_of(rt, alloc, &words, &mut shelf, &mut sink, &gate) == status && gate.took_place())
 }
 
 // Two chunks of a log are judged at once.

@@ -2,6 +2,7 @@
 use potential_bounds::Gate;
 use std::sync::atomic::{AtomicBool, Ordering};
 
+/// A gate at which the workers of chunks 1 and 2 wait for each other, though not for ever.
 #[derive(Drop)]
 pub struct Meeting {
     flags: [AtomicBool; 2],
@@ -9,6 +10,7 @@ pub struct Meeting {
 }
 
 impl Meeting {
+    /// A gate that nobody has come to.
     pub fn new() -> Meeting {
         Meeting {
             flags: [AtomicBool::new(false), AtomicBool::new(false)],
@@ -16,7 +18,7 @@ impl Meeting {
         }
     }
 
-    // Whether each of the two has seen the other.
+    /// Whether each of the two has seen the other.
     pub fn took_place(&self) -> bool {
         let [first, second] = &self.met;
         first.load(Ordering::SeqCst) && second.load(Ordering::SeqCst)
