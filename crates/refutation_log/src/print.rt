@@ -56,7 +56,6 @@ fn put_line(out: &mut Vec<u8>, problem: &Problem, line: &Line) -> Result<(), All
     Ok(())
 }
 
-#[tactic(auto, using(crate::proofs::PrintedTexts::pieces_more, crate::proofs::PrintedTexts::joined_lines))]
 fn put_lines(out: &mut Vec<u8>, problem: &Problem, lines: &[Line]) -> Result<(), AllocError>
     requires { (k : ℕ) (line : Line) → slice_get lines.now k ≡ Some line → FitsSomeLog problem.now line }
     ensures { OnOk result (out.new.items ≡ out.old.items ++ lines_text problem.now lines.now) }

@@ -1,6 +1,10 @@
 use Rattle.std.proofs.Common.{ap, ◌∙◌, ◌++◌, arith}
-use Rattle.refutation_log.proofs.PrintedTexts.{pieces_all, line_piece, joined_lines}
+use Rattle.refutation_log.proofs.PrintedTexts.{pieces_all, pieces_step, line_piece, joined_lines}
 use Rattle.refutation_log.proofs.print.put_lines.Goals as goal
+
+pub loop-line-preserved : goal.loop-line-preserved
+loop-line-preserved c =
+    pieces_step (line_piece c.args.problem.now) _ _ c.args.out.now.items c.args.lines.now c.loop-line.line-index c.line-item.result c.loop-line-test.true c.line-item.is c.loop-line.invariant c.in_ok-put_line.ensures
 
 pub returns : goal.returns
 returns c =
