@@ -2,7 +2,6 @@ pub mod Headings
 pub mod Cuts
 pub mod Fronts
 pub mod Verdicts
-pub mod Searches
 pub mod Decided
 pub mod Heads
 pub mod LogCuts

@@ -10,7 +10,6 @@ mod run;
 mod section;
 mod sections;
 mod sizes;
-mod staffing;
 mod verdict;
 
 pub use check::check_staff;
@@ -21,5 +20,4 @@ pub use laws::{
 pub use print::print_staff;
 pub use run::{StaffEnd, StaffRun};
 pub use sizes::{is_size, with_weeks};
-pub use staffing::staff;
 pub use verdict::{StaffRefusal, Staffed};

@@ -23,7 +23,7 @@ use Rattle.propagators.proofs.SameWords.{same_at_top}
 use Rattle.roster_search.specs.Founds.{IsForced, IsSearchLog, IsFound, HasSpentBudget}
 use Rattle.roster_search.specs.declared.found.Found.{Found}
 use Rattle.roster_search.specs.declared.found.Found.TheVariants.{Roster, NoRoster, Undecided}
-use Rattle.roster_planner.specs.Planned.{IsPlannedLog, IsPlanned}
+use Rattle.plan_terms.specs.Planned.{IsPlannedLog, IsPlanned}
 use Rattle.roster_planner.specs.Reasons.{AreReasons}
 use Rattle.roster_planner.proofs.SharpSplits.{sharp_split}
 

@@ -1,7 +1,7 @@
 // A roster for a problem, or a refutation.
 ghost use Rattle.std.specs.Prelude.{ℕ, ◌≤◌, IfOk};
 ghost use Rattle.refutation_terms.specs.Sharp.{IsFirstTurn};
-ghost use Rattle.roster_planner.specs.Planned.{IsPlanned};
+ghost use Rattle.plan_terms.specs.Planned.{IsPlanned};
 ghost use Rattle.roster_planner.specs.Reasons.{AreReasons};
 
 use crate::guide::PlanGuide;

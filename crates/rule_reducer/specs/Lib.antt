@@ -1,3 +1,2 @@
 pub mod Citing
-pub mod Needs
 pub mod Without

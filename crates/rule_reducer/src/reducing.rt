@@ -5,7 +5,7 @@ ghost use Rattle.refutation_terms.specs.Log.{Fits, Passes};
 ghost use Rattle.refutation_terms.specs.LogText.{log_text};
 ghost use Rattle.refutation_terms.specs.Strip.{IsReduced};
 ghost use Rattle.refutation_terms.specs.Verdict.{IsRefused};
-ghost use Rattle.rule_reducer.specs.Needs.{NeedsEach, NeedsTogether};
+ghost use Rattle.plan_terms.specs.Needs.{NeedsEach, NeedsTogether};
 
 use crate::citations::citations_of;
 use crate::descent::{LastRefusal, descend};

@@ -14,7 +14,7 @@ use Rattle.refutation_terms.specs.FreeVerdict.{IsFreeAccepted, IsFreeRefused}
 use Rattle.refutation_terms.specs.FreeWeekends.{free_weekends}
 use Rattle.refutation_terms.specs.Strip.{IsReduced}
 use Rattle.refutation_terms.specs.Verdict.{IsAccepted, IsRefused}
-use Rattle.rule_reducer.specs.Needs.{NeedsEach, NeedsTogether}
+use Rattle.plan_terms.specs.Needs.{NeedsEach, NeedsTogether}
 use Rattle.command_line.specs.Commands.{CommandWords, IsForm, HasNoForm, ReadsProblem, ReadsSecond, IsWithinHorizon, problem_name, second_name}
 use Rattle.rwsp_answers.specs.Inputs.{WhereTold, IsWithinLimit, IsTooLong, OfProblem, HasProblem}
 use Rattle.rwsp_answers.specs.Plans.{IsPlanAnswer}

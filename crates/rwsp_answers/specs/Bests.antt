@@ -1,9 +1,9 @@
 -- What `best` says of a problem.
 use Rattle.std.specs.Prelude.{ℕ, ◌+◌, ◌*◌, ◌^◌, ◌<◌}
 use Rattle.rwsp_terms.specs.Instance.{Instance, cells, shift_count}
-use Rattle.weekend_best.specs.Bests.{IsBestFound}
-use Rattle.weekend_best.specs.declared.found.BestFound.{BestFound}
-use Rattle.weekend_best.specs.declared.found.BestFound.TheVariants as Founds
+use Rattle.plan_terms.specs.Bests.{IsBestFound}
+use Rattle.plan_terms.specs.declared.best_found.BestFound.{BestFound}
+use Rattle.plan_terms.specs.declared.best_found.BestFound.TheVariants as Founds
 use Rattle.rwsp_answers.specs.declared.answer.Answer.{Answer}
 use Rattle.rwsp_answers.specs.declared.answer.Answer.TheVariants.{Best, NoBest, BestUndecided}
 

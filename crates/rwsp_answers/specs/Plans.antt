@@ -3,7 +3,7 @@ use Rattle.std.specs.Prelude.{◌≡◌, ℕ, ◌+◌, ◌*◌, ◌^◌, ◌<◌
 use Rattle.rwsp_terms.specs.Instance.{Instance, cells, shift_count}
 use Rattle.rwsp_terms.specs.Roster.{MeetsAll}
 use Rattle.refutation_terms.specs.Log.{Passes, IsSpent, size}
-use Rattle.roster_planner.specs.Planned.{IsPlannedLog}
+use Rattle.plan_terms.specs.Planned.{IsPlannedLog}
 use Rattle.roster_search.specs.declared.found.Found.{Found}
 use Rattle.roster_search.specs.declared.found.Found.TheVariants as Founds
 use Rattle.rwsp_answers.specs.declared.answer.Answer.{Answer}

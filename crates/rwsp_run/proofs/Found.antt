@@ -7,12 +7,12 @@ use Rattle.rwsp_terms.specs.Roster.{MeetsAll}
 use Rattle.problem_generator.specs.Blocks.{roster_of}
 use Rattle.problem_generator.specs.Generated.{IsGenerated}
 use Rattle.problem_generator.specs.Laws.{HiddenRostersMeet}
-use Rattle.roster_planner.specs.Planned.{IsPlanned}
+use Rattle.plan_terms.specs.Planned.{IsPlanned}
 use Rattle.roster_search.specs.declared.found.Found.{Found}
 use Rattle.roster_search.specs.declared.found.Found.TheVariants as Founds
-use Rattle.weekend_best.specs.Bests.{IsBestFound, IsUndecided}
-use Rattle.weekend_best.specs.declared.found.BestFound.{BestFound}
-use Rattle.weekend_best.specs.declared.found.BestFound.TheVariants as Bests
+use Rattle.plan_terms.specs.Bests.{IsBestFound, IsUndecided}
+use Rattle.plan_terms.specs.declared.best_found.BestFound.{BestFound}
+use Rattle.plan_terms.specs.declared.best_found.BestFound.TheVariants as Bests
 use Rattle.rwsp_answers.specs.Plans.{IsPlanAnswer, answer_of}
 use Rattle.rwsp_answers.specs.Bests.{IsBestAnswer, best_answer_of}
 use Rattle.rwsp_answers.specs.Trials.{IsTried}

@@ -7,7 +7,7 @@ use rwsp_answers::Answer;
 use rwsp_model::Problem;
 use rwsp_terms::limits::GREATEST_BUDGET;
 use std::alloc::{AllocError, Global};
-use weekend_best::{BestFound, best};
+use weekend_best::best;
 
 /// What is found of the most free weekends of the problem, with the budget for each goal.
 pub fn best_found(alloc: Global, problem: &Problem, budget: u32) -> Result<Answer, AllocError>

@@ -7,7 +7,8 @@ ghost use Rattle.rwsp_answers.specs.Answers.{IsOfStaffText};
 ghost use Rattle.rwsp_answers.specs.Texts.{IsPrintable};
 ghost use Rattle.rwsp_answers.specs.declared.answer.InputKind.TheVariants as Kinds;
 
-use crew_size::{check_staff, staff};
+use crew_search::staff;
+use crew_size::check_staff;
 use potential_bounds::Gate;
 use rwsp_answers::Answer;
 use rwsp_model::{Fail, Problem};

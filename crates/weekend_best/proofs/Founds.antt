@@ -17,8 +17,8 @@ use Rattle.roster_search.specs.declared.found.Found.{Found}
 use Rattle.roster_search.specs.declared.found.Found.TheVariants.{Roster, NoRoster, Undecided}
 use Rattle.roster_planner.specs.Reasons.{AreCaseReasons}
 use Rattle.roster_planner.proofs.SharpSplits.{clean_by_other_list, sharp_split}
-use Rattle.weekend_best.specs.Bests.{IsFoundWith}
-use Rattle.weekend_best.specs.FreeSharp.{HoldsFreeAtTop, FailsFreeAtTop, IsFreeSharp}
+use Rattle.plan_terms.specs.Bests.{IsFoundWith}
+use Rattle.plan_terms.specs.FreeSharp.{HoldsFreeAtTop, FailsFreeAtTop, IsFreeSharp}
 
 abbrev Leaves : Type 1
 Leaves = Store → Line → Type 0

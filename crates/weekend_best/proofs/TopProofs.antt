@@ -20,8 +20,8 @@ use Rattle.refutation_terms.specs.Log.{Log, AreRules, GoalFits, LineFitsFor, Hol
 use Rattle.refutation_terms.specs.Sharp.{IsUnclosed}
 use Rattle.refutation_terms.specs.Verdict.{EscapesFree}
 use Rattle.refutation_terms.proofs.SameDomains.{turned_round, same_holds_for}
-use Rattle.weekend_best.specs.Bests.{IsFreeProof}
-use Rattle.weekend_best.specs.FreeSharp.{HoldsFreeAtTop, IsFreeSharp}
+use Rattle.plan_terms.specs.Bests.{IsFreeProof}
+use Rattle.plan_terms.specs.FreeSharp.{HoldsFreeAtTop, IsFreeSharp}
 
 abbrev pub top_line : List ℕ → Line
 top_line R = Free 1 1 R []

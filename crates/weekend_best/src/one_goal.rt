@@ -3,8 +3,8 @@ ghost use Rattle.std.specs.Prelude.{◌≡◌, ◌+◌, ◌*◌, ◌^◌, ◌<�
 ghost use Rattle.rwsp_terms.specs.Instance.{cells, shift_count};
 ghost use Rattle.roster_planner.specs.Reasons.{AreCaseReasons, WeighNoWords};
 ghost use Rattle.roster_search.specs.Founds.{HasSpentBudget};
-ghost use Rattle.weekend_best.specs.Bests.{IsFoundWith};
-ghost use Rattle.weekend_best.specs.FreeSharp.{FailsFreeAtTop};
+ghost use Rattle.plan_terms.specs.Bests.{IsFoundWith};
+ghost use Rattle.plan_terms.specs.FreeSharp.{FailsFreeAtTop};
 
 use crate::guide::BestGuide;
 use crate::top_leaf::proof_at_top;

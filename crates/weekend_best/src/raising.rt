@@ -2,11 +2,11 @@
 ghost use Rattle.std.specs.Prelude.{◌≡◌, ℕ, ◌+◌, ◌*◌, ◌^◌, ◌<◌, ◌≤◌, IfOk};
 ghost use Rattle.std.specs.Option.{IfSome};
 ghost use Rattle.rwsp_terms.specs.Instance.{Instance, cells, shift_count};
-ghost use Rattle.weekend_best.specs.Bests.{IsMeeting, IsFreeProof, IsBestFound, IsUndecided, goal_above};
+ghost use Rattle.plan_terms.specs.Bests.{IsMeeting, IsFreeProof, IsBestFound, IsUndecided, goal_above};
 
-use crate::BestFound;
 use crate::likely_most::likely_most;
 use crate::one_goal::search_with;
+use plan_terms::BestFound;
 use refutation_log::Log;
 use roster_checker::free_weekends;
 use roster_search::Found;

@@ -2,8 +2,8 @@
 ghost use Rattle.std.specs.Prelude.{◌≡◌, ◌↔◌, ◌+◌, ◌≤◌, IfOk, IsTrue, MatchOption};
 ghost use Rattle.rwsp_terms.specs.Rules.{NamesShortRules};
 ghost use Rattle.refutation_terms.specs.Log.{AreRules};
-ghost use Rattle.weekend_best.specs.Bests.{IsFreeProof};
-ghost use Rattle.weekend_best.specs.FreeSharp.{HoldsFreeAtTop, FailsFreeAtTop};
+ghost use Rattle.plan_terms.specs.Bests.{IsFreeProof};
+ghost use Rattle.plan_terms.specs.FreeSharp.{HoldsFreeAtTop, FailsFreeAtTop};
 
 use domain_store::Domains;
 use potential_bounds::free_escape;

@@ -1,6 +1,6 @@
 -- The proof is of one free weekend more than the roster that is kept.
 use Rattle.std.proofs.Common.{◌≡◌, ℕ, subst}
-use Rattle.weekend_best.specs.Bests.{IsFreeProof, goal_above}
+use Rattle.plan_terms.specs.Bests.{IsFreeProof, goal_above}
 use Rattle.weekend_best.proofs.raising.best.Goals as goal
 
 pub returns-in-NoRoster-clause-found : goal.returns-in-NoRoster-clause-found

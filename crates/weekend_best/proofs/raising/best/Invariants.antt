@@ -1,6 +1,6 @@
 use Rattle.std.proofs.Common.{◌≡◌, ◌+◌, ◌-◌, ◌≤◌}
 use Rattle.std.specs.Option.{IfSome}
-use Rattle.weekend_best.specs.Bests.{IsMeeting, goal_above}
+use Rattle.plan_terms.specs.Bests.{IsMeeting, goal_above}
 use Rattle.weekend_best.proofs.raising.best.Given as goal
 
 abbrev pub invariant-loop-kept : goal.invariant-loop-kept

@@ -1,7 +1,7 @@
 -- The tails have these rules.
 use Rattle.std.proofs.Common.{subst}
 use Rattle.std.specs.Prelude.{◌↔◌, IfOk, IsTrue}
-use Rattle.weekend_best.specs.FreeSharp.{HoldsFreeAtTop}
+use Rattle.plan_terms.specs.FreeSharp.{HoldsFreeAtTop}
 use Rattle.weekend_best.proofs.top_leaf.holds_at_top.Goals as goal
 
 pub returns : goal.returns

@@ -1,13 +1,12 @@
 // How few weeks are enough.
 ghost use Rattle.std.specs.Prelude.{◌≤◌, IfOk};
 ghost use Rattle.rwsp_terms.specs.declared.limits.TheConstants.{GREATEST_STAFF_BUDGET};
-ghost use Rattle.roster_planner.specs.Planned.{IsPlanned};
+ghost use Rattle.plan_terms.specs.Planned.{IsPlanned};
 ghost use Rattle.crew_size.specs.Sizes.{IsSize, with_weeks};
 ghost use Rattle.crew_size.specs.Runs.{IsStaffed};
 ghost use Rattle.crew_size.specs.Fitting.{FitsSizes};
 
-use crate::sizes::with_weeks;
-use crate::{StaffEnd, StaffRun};
+use crew_size::{StaffEnd, StaffRun, with_weeks};
 use potential_bounds::Gate;
 use roster_planner::plan_roster;
 use roster_search::Found;

@@ -1,2 +1,4 @@
+pub mod Planned
 pub mod Bests
 pub mod FreeSharp
+pub mod Needs

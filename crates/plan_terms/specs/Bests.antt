@@ -8,9 +8,9 @@ use Rattle.refutation_terms.specs.FreeWeekends.{free_weekends}
 use Rattle.refutation_terms.specs.Log.{Log, FreePasses, IsSpentFor, size}
 use Rattle.roster_search.specs.declared.found.Found.{Found}
 use Rattle.roster_search.specs.declared.found.Found.TheVariants.{Roster, NoRoster as NoRosterFound, Undecided as UndecidedFound}
-use Rattle.weekend_best.specs.FreeSharp.{IsFreeSharp}
-use Rattle.weekend_best.specs.declared.found.BestFound.{BestFound}
-use Rattle.weekend_best.specs.declared.found.BestFound.TheVariants.{Best, NoRoster, Undecided}
+use Rattle.plan_terms.specs.FreeSharp.{IsFreeSharp}
+use Rattle.plan_terms.specs.declared.best_found.BestFound.{BestFound}
+use Rattle.plan_terms.specs.declared.best_found.BestFound.TheVariants.{Best, NoRoster, Undecided}
 
 -- a roster of the problem's days that meets every rule
 abbrev pub IsMeeting : Instance → Schedule → Type 0

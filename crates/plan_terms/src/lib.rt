@@ -1,0 +1,6 @@
+//! What is promised of what `plan`, `best` and `reduce` find, apart from how they find it.
+#![tactic(auto)]
+
+mod best_found;
+
+pub use best_found::BestFound;
