@@ -1,24 +1,16 @@
 -- What is found: leaves that hold.
-use Rattle.std.specs.Prelude.{◌≡◌, ℕ, Option, Some, None}
+use Rattle.std.specs.Prelude.{◌≡◌, ℕ, Some, None}
 use Rattle.rwsp_terms.specs.Instance.{Instance}
 use Rattle.rwsp_terms.specs.Rules.{NamesShortOnly}
 use Rattle.word_tail.specs.Listed.{Listed}
 use Rattle.refutation_terms.specs.declared.lines.Line.{Line}
 use Rattle.refutation_terms.specs.Word.{Domains}
-use Rattle.refutation_terms.specs.Tree.{IsLeaf}
-use Rattle.refutation_terms.specs.Log.{AreRules, HoldsFor, LineFitsFor, ListsShortOnly}
+use Rattle.refutation_terms.specs.Log.{AreRules}
+use Rattle.propagator_terms.specs.Leaves.{IsHoldingLeafFor}
 
 -- what callers see of a search for weights: its problem
 pub record Searcher : Type 0 where
   pub problem : Instance
-
--- a leaf with its numbers in their ranges, with short rules only in its list, and it holds under the domains, for this
--- goal or none
-pub record IsHoldingLeafFor (P : Instance) (goal : Option ℕ) (D : Domains) (line : Line) : Type 0 where
-  pub leaf : IsLeaf line
-  pub fits : LineFitsFor P goal line
-  pub short : ListsShortOnly P line
-  pub holds : HoldsFor P goal D line
 
 -- one of a log without a goal
 abbrev pub IsHoldingLeaf : Instance → Domains → Line → Type 0

@@ -3,7 +3,8 @@ ghost use Rattle.std.specs.Prelude.{◌≡◌, ◌*◌, ◌<◌, ◌≤◌, IfOk
 ghost use Rattle.rwsp_terms.specs.Instance.{cells};
 ghost use Rattle.refutation_terms.specs.Log.{GoalFits};
 ghost use Rattle.domain_store.specs.Store.{BelongsTo, has_domain};
-ghost use Rattle.nearest_weights.specs.Found.{HasRules, IsHoldingLeafFor};
+ghost use Rattle.propagator_terms.specs.Leaves.{IsHoldingLeafFor};
+ghost use Rattle.nearest_weights.specs.Found.{HasRules};
 
 use crate::leaf::leaf_of;
 use crate::search::{Effort, Field, Turns, search};

@@ -5,7 +5,8 @@ ghost use Rattle.rwsp_terms.specs.Rules.{NamesShortOnly};
 ghost use Rattle.rwsp_terms.specs.declared.limits.TheConstants.{GREATEST_REWARD};
 ghost use Rattle.refutation_terms.specs.Log.{AreRules, AreWeightsOf, GoalFits};
 ghost use Rattle.domain_store.specs.Store.{BelongsTo, has_domain};
-ghost use Rattle.nearest_weights.specs.Found.{IsHoldingFreeLeaf, IsHoldingLeaf, IsHoldingLeafFor};
+ghost use Rattle.propagator_terms.specs.Leaves.{IsHoldingLeafFor};
+ghost use Rattle.nearest_weights.specs.Found.{IsHoldingFreeLeaf, IsHoldingLeaf};
 
 use crate::demand::Shape;
 use domain_store::Domains;

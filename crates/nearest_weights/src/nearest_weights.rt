@@ -68,7 +68,8 @@ impl Model for NearestWeights {
 impl NearestWeights {
     ghost use Rattle.std.specs.Prelude.{◌+◌};
     ghost use Rattle.refutation_terms.specs.Log.{GoalFits};
-    ghost use Rattle.nearest_weights.specs.Found.{IsHoldingFreeLeaf, IsHoldingLeaf, IsHoldingLeafFor};
+    ghost use Rattle.propagator_terms.specs.Leaves.{IsHoldingLeafFor};
+    ghost use Rattle.nearest_weights.specs.Found.{IsHoldingFreeLeaf, IsHoldingLeaf};
 
     /// A search for the problem, of which it keeps a copy.
     pub fn new(alloc: Global, problem: &Problem) -> Result<NearestWeights, AllocError>

@@ -1,2 +1,3 @@
 pub mod Looks
 pub mod Cycles
+pub mod Leaves

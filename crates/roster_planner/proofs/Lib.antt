@@ -1,4 +1,1 @@
-pub mod Given
-pub mod SharpSplits
-mod Unweighed
 mod Sharpness

@@ -25,7 +25,7 @@ use Rattle.roster_search.specs.declared.found.Found.{Found}
 use Rattle.roster_search.specs.declared.found.Found.TheVariants.{Roster, NoRoster, Undecided}
 use Rattle.plan_terms.specs.Planned.{IsPlannedLog, IsPlanned}
 use Rattle.roster_planner.specs.Reasons.{AreReasons}
-use Rattle.roster_planner.proofs.SharpSplits.{sharp_split}
+use Rattle.case_reasons.proofs.SharpSplits.{sharp_split}
 
 abbrev Leaves : Type 1
 Leaves = Store → Line → Type 0

@@ -1,5 +1,5 @@
--- The reasons by which a search closes cases.
-use Rattle.std.specs.Prelude.{◌⊎◌, ◌↔◌, ℕ, List, Option}
+-- The reasons by which the search of a plan closes cases.
+use Rattle.std.specs.Prelude.{ℕ, Option}
 use Rattle.rwsp_terms.specs.declared.data.Symbol.{Symbol}
 use Rattle.rwsp_terms.specs.Instance.{Instance}
 use Rattle.refutation_terms.specs.declared.lines.Line.{Line}
@@ -7,28 +7,10 @@ use Rattle.refutation_terms.specs.declared.lines.Turn.{Turn}
 use Rattle.refutation_terms.specs.Word.{AreSame}
 use Rattle.refutation_terms.specs.Tree.{opening}
 use Rattle.domain_store.specs.Store.{Store, has_domain}
-use Rattle.propagator_terms.specs.Looks.{HasPlainLeaves, IsUnweighed}
-use Rattle.propagators.specs.Days.{IsDaySpent}
-use Rattle.propagator_terms.specs.Cycles.{AreShortRules, IsCycleLeaf, IsCycleSpent}
 use Rattle.propagators.specs.TopBounds.{IsTopBound}
+use Rattle.case_reasons.specs.Reasons.{AreCaseReasons}
 
--- all window and day leaves of the problem, and the dead leaf of two turns; the symbols are spent that a day leaf or
--- the words of two turns take away
-pub record AreCaseReasons (P : Instance) (leaves : Store → Line → Type 0) (spent : Store → ℕ → Symbol → Type 0)
-    : Type 0 where
-  -- the list of all short rules
-  pub rules : List ℕ
-  pub short : AreShortRules P rules
-  pub plain : HasPlainLeaves P leaves
-  pub cycle : (S : Store) (line : Line) → IsCycleLeaf P line → leaves S line
-  pub taken : (S : Store) (p : ℕ) (x : Symbol)
-      → spent S p x ↔ (IsDaySpent P (has_domain S) p x ⊎ IsCycleSpent P (has_domain S) p x)
-
--- no leaf weighs words
-abbrev pub WeighNoWords : (Store → Line → Type 0) → Type 0
-WeighNoWords leaves = (S : Store) (line : Line) → leaves S line → IsUnweighed line
-
--- these, and under the opening domains the bounds of one turn
+-- the reasons of cases, and under the opening domains the bounds of one turn
 pub record AreReasons (P : Instance) (turn : Option Turn) (leaves : Store → Line → Type 0)
     (spent : Store → ℕ → Symbol → Type 0) : Type 0 where
   pub cases : AreCaseReasons P leaves spent

@@ -74,7 +74,7 @@ impl Guide for PlanGuide {
 }
 
 // A leaf of weights, within the tree or at its top.
-#[tactic(auto, using(crate::proofs::Given::given_of_holding))]
+#[tactic(auto, using(roster_search::proofs::Given::given_of_holding))]
 fn leaf_by_weights(
     alloc: Global,
     weights: &mut NearestWeights,

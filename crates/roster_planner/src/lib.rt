@@ -6,4 +6,3 @@ mod planning;
 mod reasons;
 
 pub use planning::plan_roster;
-pub use reasons::{CaseReasons, case_reasons};

@@ -1,17 +1,12 @@
-// The reasons by which a search closes cases.
-ghost use Rattle.std.specs.Prelude.{IfOk, ℕ, ◌↔◌};
-ghost use Rattle.rwsp_terms.specs.declared.data.Symbol.{Symbol};
+// The reasons by which the search of a plan closes cases.
+ghost use Rattle.std.specs.Prelude.{IfOk};
 ghost use Rattle.refutation_terms.specs.Log.{TurnFits};
-ghost use Rattle.domain_store.specs.Store.{BelongsTo, Store, has_domain};
-ghost use Rattle.propagator_terms.specs.Looks.{HasPlainLeaves};
-ghost use Rattle.propagators.specs.Days.{IsDaySpent};
-ghost use Rattle.roster_planner.specs.Reasons.{AreCaseReasons, AreReasons, WeighNoWords};
+ghost use Rattle.roster_planner.specs.Reasons.{AreReasons};
 
-use domain_store::Domains;
-use kept_cycle::CycleProp;
+use case_reasons::{CaseReasons, case_reasons};
 use potential_bounds::Gate;
 use propagator_terms::{Pair, Propagator};
-use propagators::{DayProp, RootBounds, WindowProp};
+use propagators::RootBounds;
 use refutation_terms::Turn;
 use rwsp_model::Problem;
 use std::alloc::{AllocError, Global};
@@ -21,46 +16,8 @@ use tree_walk::Walk;
 // The workers among whom the plain bounds are shared out.
 const WORKERS: u32 = 4;
 
-/// Windows, days and words of two turns, asked in this order.
-pub type CaseReasons = Pair<Pair<WindowProp, DayProp>, CycleProp>;
-
-/// These, and bounds at the top.
+/// The reasons of cases, and bounds at the top.
 pub type Reasons = Pair<CaseReasons, RootBounds>;
-
-/// The reasons of a problem that weigh no words, for any search.
-pub fn case_reasons(
-    alloc: Global,
-    problem: &Problem,
-    doms: &Domains,
-) -> Result<CaseReasons, AllocError>
-    requires { BelongsTo problem.now doms.now }
-    ensures serves { IfOk result (λ r. ⟦<CaseReasons as Propagator>⟧.serves r problem.now) }
-    ensures reasons { IfOk result (λ r.
-        AreCaseReasons problem.now (⟦<CaseReasons as Propagator>⟧.leaves r) (⟦<CaseReasons as Propagator>⟧.spent r)) }
-    ensures unweighed { IfOk result (λ r. WeighNoWords (⟦<CaseReasons as Propagator>⟧.leaves r)) }
-{
-    let cycle = CycleProp::new(alloc, problem, doms)?;
-    let plain = plain_reasons(alloc, problem, doms)?;
-    Ok(Pair::new(plain, cycle))
-}
-
-// Windows and days, asked in this order.
-fn plain_reasons(
-    alloc: Global,
-    problem: &Problem,
-    doms: &Domains,
-) -> Result<Pair<WindowProp, DayProp>, AllocError>
-    requires { BelongsTo problem.now doms.now }
-    ensures serves { IfOk result (λ r. ⟦<Pair<WindowProp, DayProp> as Propagator>⟧.serves r problem.now) }
-    ensures leaves { IfOk result (λ r. HasPlainLeaves problem.now (⟦<Pair<WindowProp, DayProp> as Propagator>⟧.leaves r)) }
-    ensures unweighed { IfOk result (λ r. WeighNoWords (⟦<Pair<WindowProp, DayProp> as Propagator>⟧.leaves r)) }
-    ensures spent { IfOk result (λ r. (S : Store) (p : ℕ) (x : Symbol)
-        → ⟦<Pair<WindowProp, DayProp> as Propagator>⟧.spent r S p x ↔ IsDaySpent problem.now (has_domain S) p x) }
-{
-    let windows = WindowProp::new(alloc, problem, doms)?;
-    let days = DayProp::new(alloc, problem, doms)?;
-    Ok(Pair::new(windows, days))
-}
 
 /// The reasons of a plan, whose search begins with the turn. The workers pass the gate.
 pub fn reasons_of<R: Threads + Sync, G: Gate>(

@@ -15,8 +15,8 @@ use Rattle.domain_store.specs.Store.{Store}
 use Rattle.roster_search.specs.Founds.{IsForced, IsSearchLogFor, IsFoundFor}
 use Rattle.roster_search.specs.declared.found.Found.{Found}
 use Rattle.roster_search.specs.declared.found.Found.TheVariants.{Roster, NoRoster, Undecided}
-use Rattle.roster_planner.specs.Reasons.{AreCaseReasons}
-use Rattle.roster_planner.proofs.SharpSplits.{clean_by_other_list, sharp_split}
+use Rattle.case_reasons.specs.Reasons.{AreCaseReasons}
+use Rattle.case_reasons.proofs.SharpSplits.{clean_by_other_list, sharp_split}
 use Rattle.plan_terms.specs.Bests.{IsFoundWith}
 use Rattle.plan_terms.specs.FreeSharp.{HoldsFreeAtTop, FailsFreeAtTop, IsFreeSharp}
 

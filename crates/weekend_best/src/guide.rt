@@ -74,7 +74,7 @@ impl Guide for BestGuide {
 }
 
 // A free leaf, within the tree or at its top.
-#[tactic(auto, using(roster_planner::proofs::Given::given_of_holding))]
+#[tactic(auto, using(roster_search::proofs::Given::given_of_holding))]
 fn leaf_by_weights(
     alloc: Global,
     weights: &mut NearestWeights,

@@ -1,16 +1,16 @@
 // A search with one goal.
 ghost use Rattle.std.specs.Prelude.{◌≡◌, ◌+◌, ◌*◌, ◌^◌, ◌<◌, ◌≤◌, Some, IfOk};
 ghost use Rattle.rwsp_terms.specs.Instance.{cells, shift_count};
-ghost use Rattle.roster_planner.specs.Reasons.{AreCaseReasons, WeighNoWords};
+ghost use Rattle.case_reasons.specs.Reasons.{AreCaseReasons, WeighNoWords};
 ghost use Rattle.roster_search.specs.Founds.{HasSpentBudget};
 ghost use Rattle.plan_terms.specs.Bests.{IsFoundWith};
 ghost use Rattle.plan_terms.specs.FreeSharp.{FailsFreeAtTop};
 
 use crate::guide::BestGuide;
 use crate::top_leaf::proof_at_top;
+use case_reasons::{CaseReasons, case_reasons};
 use domain_store::Domains;
 use propagator_terms::Propagator;
-use roster_planner::{CaseReasons, case_reasons};
 use roster_search::{Found, Guide, guided_search};
 use rwsp_model::Problem;
 use rwsp_terms::limits::GREATEST_BUDGET;

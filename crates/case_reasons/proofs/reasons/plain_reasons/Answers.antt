@@ -1,8 +1,8 @@
 -- The two as one.
 use Rattle.std.proofs.Common.{inl, inr}
 use Rattle.refutation_terms.specs.declared.lines.Line.TheVariants.{Window, Day}
-use Rattle.roster_planner.proofs.Unweighed.{window_unweighed, day_unweighed}
-use Rattle.roster_planner.proofs.reasons.plain_reasons.Goals as goal
+use Rattle.case_reasons.proofs.Unweighed.{window_unweighed, day_unweighed}
+use Rattle.case_reasons.proofs.reasons.plain_reasons.Goals as goal
 
 pub returns-clause-serves : goal.returns-clause-serves
 returns-clause-serves c = (c.new-3.ensures.serves c.args.problem.now).1 (c.in_ok-windows.ensures.serves, c.in_ok-days.ensures.serves)

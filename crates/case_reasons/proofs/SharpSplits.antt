@@ -21,7 +21,7 @@ use Rattle.propagators.specs.Days.{IsDaySpent}
 use Rattle.propagator_terms.specs.Cycles.{AreShortRules, IsCycleSpent}
 use Rattle.propagators.proofs.SameWords.{same_nowhere}
 use Rattle.roster_search.specs.Founds.{IsForced}
-use Rattle.roster_planner.specs.Reasons.{AreCaseReasons}
+use Rattle.case_reasons.specs.Reasons.{AreCaseReasons}
 
 abbrev Leaves : Type 1
 Leaves = Store → Line → Type 0

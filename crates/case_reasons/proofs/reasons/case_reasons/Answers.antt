@@ -3,8 +3,8 @@ use Rattle.std.proofs.Common.{◌≡◌, subst, inl, inr}
 use Rattle.kept_cycle.specs.Known.{KnownCycle}
 use Rattle.propagator_terms.specs.Cycles.{AreShortRules}
 use Rattle.refutation_terms.specs.declared.lines.Line.TheVariants.{Window, Day}
-use Rattle.roster_planner.proofs.Unweighed.{cycle_unweighed}
-use Rattle.roster_planner.proofs.reasons.case_reasons.Goals as goal
+use Rattle.case_reasons.proofs.Unweighed.{cycle_unweighed}
+use Rattle.case_reasons.proofs.reasons.case_reasons.Goals as goal
 
 pub returns-clause-serves : goal.returns-clause-serves
 returns-clause-serves c = (c.new-2.ensures.serves c.args.problem.now).1 (c.in_ok-plain.ensures.serves, c.in_ok-cycle.ensures.serves)

@@ -4,7 +4,7 @@ use Rattle.std.specs.Option.{IfSome}
 use Rattle.rwsp_terms.specs.Instance.{Instance}
 use Rattle.refutation_terms.specs.declared.lines.Line.{Line}
 use Rattle.domain_store.specs.Store.{Store, has_domain}
-use Rattle.nearest_weights.specs.Found.{IsHoldingLeafFor}
+use Rattle.propagator_terms.specs.Leaves.{IsHoldingLeafFor}
 use Rattle.roster_search.specs.Guides.{IsLeafGiven}
 
 pub given_of_holding : (P : Instance) (goal : Option ℕ) (S : Store) (found : Option Line) → IfSome found (IsHoldingLeafFor P goal (has_domain S)) → IsLeafGiven P goal S found

@@ -1,0 +1,2 @@
+pub mod SharpSplits
+mod Unweighed
