@@ -25,7 +25,7 @@ use Rattle.crew_size.specs.declared.run.StaffEnd.{StaffEnd}
 use Rattle.crew_size.specs.declared.run.StaffEnd.TheVariants as Ends
 use Rattle.crew_size.specs.declared.verdict.Staffed.{Staffed}
 use Rattle.crew_size.specs.declared.verdict.Staffed.TheVariants.{Least, NoneTo}
-use Rattle.crew_search.proofs.Searches.{AreRefuted, fits_sizes}
+use Rattle.crew_size.proofs.Searches.{AreRefuted, fits_sizes}
 
 pub sized_keeps : (P : Instance) (m : ℕ) → KeepsLimits P → IsSize P m → KeepsLimits (with_weeks P m)
 sized_keeps P m limits size = other_weeks_keep P m limits size.some size.few size.few_cells

@@ -8,3 +8,4 @@ pub mod LogCuts
 pub mod OneVerdict
 pub mod Refused
 pub mod Printing
+pub mod Searches

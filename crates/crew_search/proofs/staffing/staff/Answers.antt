@@ -3,7 +3,7 @@ use Rattle.roster_search.specs.declared.found.Found.TheVariants as Founds
 use Rattle.plan_terms.specs.Planned.{IsPlanned}
 use Rattle.crew_size.specs.Sizes.{with_weeks}
 use Rattle.crew_size.specs.declared.run.StaffEnd.TheVariants as Ends
-use Rattle.crew_search.proofs.Searches.{is_staffed, fits_sizes, one_more_refuted, size_of_more}
+use Rattle.crew_size.proofs.Searches.{is_staffed, fits_sizes, one_more_refuted, size_of_more}
 use Rattle.crew_search.proofs.staffing.staff.Goals as goal
 
 pub returns-in-Roster-clause-staffed : goal.returns-in-Roster-clause-staffed

@@ -1,5 +1,5 @@
 use Rattle.std.proofs.Common.{◌≡◌, ◌+◌, length}
-use Rattle.crew_search.proofs.Searches.{AreRefuted}
+use Rattle.crew_size.proofs.Searches.{AreRefuted}
 use Rattle.crew_search.proofs.staffing.staff.Given as goal
 
 abbrev pub invariant-loop-weeks : goal.invariant-loop-weeks
