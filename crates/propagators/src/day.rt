@@ -10,9 +10,9 @@ ghost use Rattle.propagators.specs.Days.{AreCountsOf, IsDayLeaf, IsDaySpent};
 ghost use Rattle.propagator_terms.specs.Looks.{IsLook};
 
 use crate::day_cut::first_cut;
-use propagator_terms::{Look, Propagator};
 use demand_counts::Counts;
 use domain_store::Domains;
+use propagator_terms::{Look, Propagator};
 use refutation_terms::Line;
 use rwsp_model::Problem;
 use rwsp_terms::Symbol;

@@ -7,10 +7,10 @@ ghost use Rattle.refutation_terms.specs.declared.lines.Line.TheVariants.{Day};
 ghost use Rattle.propagator_terms.specs.declared.look.Look.TheVariants.{Cut};
 ghost use Rattle.propagators.specs.Days.{AreCountsOf, TakesNone, IsSaturation, IsNeighbour, IsPlaceAnswer, IsDayCut};
 
-use propagator_terms::Look;
 use demand_counts::Counts;
 use domain_store::Domains;
 use plain_leaves::position_of;
+use propagator_terms::Look;
 use refutation_terms::Line;
 use rwsp_model::Problem;
 use rwsp_terms::Symbol;

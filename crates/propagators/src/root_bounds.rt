@@ -10,9 +10,9 @@ ghost use Rattle.refutation_terms.specs.Sharp.{plain_bounds};
 ghost use Rattle.domain_store.specs.Store.{Store, BelongsTo, has_domain};
 ghost use Rattle.propagators.specs.TopBounds.{IsStartBound, IsTopAnswer, IsTopWatch, IsBoundLook};
 
-use propagator_terms::{Look, Propagator};
 use domain_store::Domains;
 use potential_bounds::{Gate, first_plain, plain_bounds, search_weights};
+use propagator_terms::{Look, Propagator};
 use refutation_terms::Line;
 use rwsp_model::{Problem, short_rules};
 use rwsp_terms::{RuleList, Weights};

@@ -11,8 +11,8 @@ ghost use Rattle.domain_store.specs.Store.{Store, BelongsTo, domain_at};
 ghost use Rattle.propagators.specs.Windows.{IsWindowLeaf, IsWatch, IsSpan, IsWindow};
 
 use crate::window_over::{WindowLeaf, window_over};
-use propagator_terms::{Look, Propagator};
 use domain_store::{Domains, SymbolSet};
+use propagator_terms::{Look, Propagator};
 use refutation_terms::Line;
 use rwsp_model::Problem;
 use rwsp_terms::limits::MOST_SYMBOLS;
