@@ -1,3 +1,4 @@
 pub mod BitLemmas
 pub mod SetLemmas
 pub mod StoreLemmas
+pub mod TurnLemmas

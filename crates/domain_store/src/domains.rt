@@ -237,8 +237,7 @@ impl Domains {
         ensures marks { (len : ℕ) → len ≤ length self.old.trail → store_at self.new len ≡ store_at self.old len }
     {
         self.prove_facts();
-        let set = &self.sets[p as usize];
-        let rest = set.without(x.number);
+        let rest = self.set(p).without(x.number);
         self.change(p, rest);
     }
 
