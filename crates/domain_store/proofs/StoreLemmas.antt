@@ -339,6 +339,10 @@ kept_by_copy S count capacity n sets trail capacity' kept e f long room =
     let Q : Store → Type 0 = λ s. IsKept s count capacity' in
     subst Q same (record { store = kept.store; counted = kept.counted; room = wide })
 
+-- a position that has this symbol alone, by the test
+pub has_where_alone : (S : Store) (p x : ℕ) → domain_at S p ≡ x ∷ [] → has_domain S p x ≡ true
+has_where_alone S p x e = ap (λ set. has_symbol set x) e ∙ or_left (eqb x x) false (eq-eqb x x refl)
+
 -- the only symbols make a roster
 pub roster_of_decided : (P : Instance) (S : Store) (symbols : List Symbol) → IsStore S → BelongsTo P S → map (λ x. x.number ∷ []) symbols ≡ S.sets → IsRoster P symbols
 roster_of_decided P S symbols now belongs e =
@@ -355,6 +359,11 @@ roster_of_decided P S symbols now belongs e =
           let below : (get_or symbols k d).number ≤ S.shifts = small 0 0 (omega arith) in
           subst (λ n. (get_or symbols k d).number ≤ n) belongs.shifts below;
     }
+
+pub roster_has : (S : Store) (symbols : List Symbol) (p : ℕ) (d : Symbol) → map (λ x. x.number ∷ []) symbols ≡ S.sets → p < length symbols → has_domain S p (get_or symbols p d).number ≡ true
+roster_has S symbols p d e within =
+    let alone : Symbol → List ℕ = λ x. x.number ∷ [] in
+    has_where_alone S p (get_or symbols p d).number (ap (λ s. get_or s p []) (sym e) ∙ get_or-map alone symbols p d [] within)
 
 -- sets by their test
 first-of : (set : List ℕ) → 0 < length set → (x : ℕ) × (has_symbol set x ≡ true)
@@ -402,10 +411,7 @@ store_has_domains S now = record {
       another-of (domain_at S p) x (All-get_or (IsDomain S.shifts) S.sets p [] inside now.domains).ascends two;
 }
 
--- a position that has this symbol alone, by the test
-pub has_where_alone : (S : Store) (p x : ℕ) → domain_at S p ≡ x ∷ [] → has_domain S p x ≡ true
-has_where_alone S p x e = ap (λ set. has_symbol set x) e ∙ or_left (eqb x x) false (eq-eqb x x refl)
-
+-- a position that has no other symbol
 alone-by-test : (last x : ℕ) (set : List ℕ) → IsDomain last set → ((y : ℕ) → has_symbol set y ≡ true → y ≡ x) → set ≡ x ∷ []
 alone-by-test last x [] domain each = absurd (omega (arith, domain.some))
 alone-by-test last x (y ∷ []) domain each = ap (λ z. z ∷ []) (each y (or_left (eqb y y) false (eq-eqb y y refl)))

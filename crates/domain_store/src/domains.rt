@@ -209,7 +209,6 @@ impl Domains {
     }
 
     /// Leaves the position this symbol alone. The change is noted on the trail.
-    #[tactic(auto, using(crate::proofs::StoreLemmas::symbol_is_known, crate::proofs::StoreLemmas::single_domain, crate::proofs::StoreLemmas::store_at_changed, crate::proofs::StoreLemmas::has_set_only, crate::proofs::StoreLemmas::same_shape_changed))]
     pub fn set_only(&mut self, p: u32, x: Symbol)
         requires position { p < length self.old.sets }
         requires held { IsTrue (has_domain self.old p x.number) }
@@ -225,7 +224,6 @@ impl Domains {
     }
 
     /// Takes the symbol from the domain of the position. The change is noted on the trail.
-    #[tactic(auto, using(crate::proofs::StoreLemmas::symbol_is_known, crate::proofs::StoreLemmas::smaller_domain, crate::proofs::StoreLemmas::length_smaller, crate::proofs::StoreLemmas::store_at_changed, crate::proofs::StoreLemmas::has_removed, crate::proofs::StoreLemmas::same_shape_changed))]
     pub fn remove(&mut self, p: u32, x: Symbol)
         requires position { p < length self.old.sets }
         requires held { IsTrue (has_domain self.old p x.number) }
@@ -264,7 +262,6 @@ impl Domains {
     }
 
     /// The roster of the only symbols.
-    #[tactic(auto, using(crate::proofs::StoreLemmas::roster_of_decided))]
     pub fn to_roster(&self, problem: &Problem) -> Result<Roster, AllocError>
         requires decided { IsDecided self.now }
         requires belongs { BelongsTo problem.now self.now }
