@@ -1,4 +1,3 @@
 pub mod BitLemmas
 pub mod SetLemmas
 pub mod StoreLemmas
-pub mod TurnLemmas

@@ -1,8 +1,14 @@
 -- One symbol more in each turn.
-use Rattle.std.proofs.Common.{[], ◌∷◌, length, sym, ap, ◌∙◌}
-use Rattle.domain_store.proofs.TurnLemmas.{made_more, copied_all}
+use Rattle.std.proofs.Common.{◌≡◌, ℕ, ◌+◌, ◌<◌, List, [], ◌∷◌, ◌++◌, length, get_or, take, ap, sym, ◌∙◌}
+use Rattle.std.specs.Prelude.{map}
+use Rattle.std.proofs.lemmas.List.{take_more, take_all, map_push}
 use Rattle.domain_store.proofs.domains.only_symbols.Goals.{in-Some+in_ok-push, in_default}
 use Rattle.domain_store.proofs.domains.only_symbols.Goals as goal
+
+made_more : {A B : Type 0} (f : A → B) (n : ℕ) (items : List B) (x : A) (y : B) (before after : List A) → n < length items → map f before ≡ take n items → y ≡ get_or items n y → f x ≡ y → after ≡ before ++ x ∷ [] → map f after ≡ take (n + 1) items
+made_more f n items x y before after within all here same e =
+    ap (map f) e ∙ map_push f before x ∙ ap (λ s. s ++ f x ∷ []) all
+    ∙ ap (λ z. take n items ++ z ∷ []) (same ∙ here) ∙ sym (take_more items n y within)
 
 pub loop-set-preserved : goal.loop-set-preserved
 loop-set-preserved c =
@@ -14,4 +20,4 @@ loop-set-preserved c =
     ]
 
 pub returns : goal.returns
-returns c = copied_all _ _ _ c.loop-set.invariant c.loop-set-test.false
+returns c = c.loop-set.invariant ∙ take_all _ _ c.loop-set-test.false

@@ -12,9 +12,9 @@ overflow_mul-room c =
 pub invariant_of-result : goal.invariant_of-result
 invariant_of-result c =
     let long : c.len.result ≡ length c.self.inside.sets.items = c.len.ensures ∙ sym c.deref.ensures.len ∙ ap length c.deref.ensures.value in
-    kept_by_copy _ _ _ _ _ _ _ c.self.invariant (c.in_ok-sets.ensures ∙ c.deref.ensures.value) (c.in_ok-trail.ensures.items ∙ c.deref-2.ensures.value) long c.in_ok-trail.ensures.room
+    kept_by_copy _ _ _ _ _ _ _ c.self.invariant (c.in_ok-sets.ensures.items ∙ c.deref.ensures.value) (c.in_ok-trail.ensures.items ∙ c.deref-2.ensures.value) long c.in_ok-trail.ensures.room
 
 pub returns : goal.returns
 returns c =
-    same_store (record { days = c.self.inside.days; weeks = c.self.inside.weeks; shifts = c.self.inside.shifts; sets = c.self.inside.sets.items; trail = c.self.inside.trail.items }) _ _ _ _ (c.in_ok-sets.ensures ∙ c.deref.ensures.value) (c.in_ok-trail.ensures.items ∙ c.deref-2.ensures.value)
+    same_store (record { days = c.self.inside.days; weeks = c.self.inside.weeks; shifts = c.self.inside.shifts; sets = c.self.inside.sets.items; trail = c.self.inside.trail.items }) _ _ _ _ (c.in_ok-sets.ensures.items ∙ c.deref.ensures.value) (c.in_ok-trail.ensures.items ∙ c.deref-2.ensures.value)
     ∙ c.self.view_is
