@@ -172,6 +172,11 @@ pub has_no_bit_past : (n x : ℕ) → MOST_SYMBOLS ≤ x → has_symbol (symbols
 has_no_bit_past n x many =
     has-symbols n x ∙ ap (λ b. eqb (bit_at n x) 1 && b) (large x many) ∙ sym (and-false (eqb (bit_at n x) 1))
 
+pub has_past : (n x y : ℕ) → y ≡ x → MOST_SYMBOLS ≤ y → ltb y MOST_SYMBOLS ≡ has_symbol (symbols_of n) x
+has_past n x y same many =
+    let past : ltb y MOST_SYMBOLS ≡ false = grind (arith, nat_tests) in
+    past ∙ sym (has_no_bit_past n x (rw (← same) many))
+
 -- ---- the lowest symbol
 few-zeros : (n t : ℕ) → n < 2 ^ MOST_SYMBOLS → bit_at n t ≡ 1 → t < 0 + MOST_SYMBOLS
 few-zeros n t fits one =

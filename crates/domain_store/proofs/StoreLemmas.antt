@@ -29,8 +29,8 @@ length-undone : (changes : List Change) (sets : List (List ℕ)) → length (und
 length-undone [] sets = refl
 length-undone (c ∷ changes) sets = length-set (undone changes sets) c.position c.before ∙ length-undone changes sets
 
-same-store : (S : Store) (a b : List (List ℕ)) (s t : List Change) → a ≡ b → s ≡ t → record S { sets = a; trail = s } ≡ record S { sets = b; trail = t }
-same-store S a b s t e f =
+pub same_store : (S : Store) (a b : List (List ℕ)) (s t : List Change) → a ≡ b → s ≡ t → record S { sets = a; trail = s } ≡ record S { sets = b; trail = t }
+same_store S a b s t e f =
     let with_sets : List (List ℕ) → Store = λ v. record S { sets = v; trail = s } in
     let with_trail : List Change → Store = λ v. record S { sets = b; trail = v } in
     ap with_sets e ∙ ap with_trail f
@@ -38,7 +38,7 @@ same-store S a b s t e f =
 -- with its whole trail a store is what it is
 pub store_at_end : (S : Store) (len : ℕ) → length S.trail ≤ len → store_at S len ≡ S
 store_at_end S len h =
-    same-store S (undone (drop len S.trail) S.sets) S.sets (take len S.trail) S.trail
+    same_store S (undone (drop len S.trail) S.sets) S.sets (take len S.trail) S.trail
     (ap (λ t. undone t S.sets) (drop_all len S.trail h)) (take_all len S.trail h)
 
 -- a change leaves the earlier stores as they were
@@ -47,7 +47,7 @@ store_at_changed S p domain len h =
     let c : Change = record { position = p; before = domain_at S p } in
     let sets = set S.sets p domain in
     let front = drop len S.trail in
-    same-store S (undone (drop len (S.trail ++ c ∷ [])) sets) (undone front S.sets) (take len (S.trail ++ c ∷ [])) (take len S.trail)
+    same_store S (undone (drop len (S.trail ++ c ∷ [])) sets) (undone front S.sets) (take len (S.trail ++ c ∷ [])) (take len S.trail)
     (ap (λ t. undone t sets) (drop-append-le len S.trail (c ∷ []) h)
     ∙ undone-append front (c ∷ []) sets
     ∙ ap (undone front) (set-set S.sets p domain (domain_at S p) ∙ set-get_or S.sets p []))
@@ -58,7 +58,7 @@ pub store_at_earlier : (S : Store) (n len : ℕ) → n ≤ length S.trail → le
 store_at_earlier S n len h l =
     let t = S.trail in
     let within : len ≤ length (take n t) = omega (arith, length-take-le n t h) in
-    same-store S (undone (drop len (take n t)) (undone (drop n t) S.sets)) (undone (drop len t) S.sets) (take len (take n t)) (take len t)
+    same_store S (undone (drop len (take n t)) (undone (drop n t) S.sets)) (undone (drop len t) S.sets) (take len (take n t)) (take len t)
     (sym (undone-append (drop len (take n t)) (drop n t) S.sets)
     ∙ ap (λ changes. undone changes S.sets) (sym (drop-append-le len (take n t) (drop n t) within) ∙ ap (drop len) (take-append-drop n t)))
     (take-take len n t l)
@@ -131,7 +131,7 @@ kept_by_change S count capacity p domain before dest trail size size' capacity' 
 -- the store before the last change
 pub store_before_last : (S : Store) (front : List Change) (c : Change) → S.trail ≡ front ++ c ∷ [] → store_at S (length front) ≡ record S { sets = set S.sets c.position c.before; trail = front }
 store_before_last S front c e =
-    same-store S (undone (drop (length front) S.trail) S.sets) (set S.sets c.position c.before) (take (length front) S.trail) front
+    same_store S (undone (drop (length front) S.trail) S.sets) (set S.sets c.position c.before) (take (length front) S.trail) front
     (ap (λ t. undone (drop (length front) t) S.sets) e ∙ ap (λ t. undone t S.sets) (drop_at front (c ∷ []) (length front) refl))
     (ap (take (length front)) e ∙ take_at front (c ∷ []) (length front) refl)
 
@@ -313,6 +313,36 @@ pub has_full : (P : Instance) (p x : ℕ) → p < cells P → has_domain (full_s
 has_full P p x within =
     ap (λ d. has_symbol d x) (get_or-replicate (cells P) p (range_with_len 0 (shift_count P + 1)) [] within) ∙ has_symbol_full (shift_count P) x
 
+-- the fields that new domains are given make the full store
+pub same_full : (P : Instance) (days weeks shifts count : ℕ) (sets : List (List ℕ)) (trail : List Change) → days ≡ P.days → weeks ≡ P.weeks → shifts ≡ shift_count P → count ≡ cells P → sets ≡ replicate count (range_with_len 0 (shifts + 1)) → trail ≡ [] → record { days = days; weeks = weeks; shifts = shifts; sets = sets; trail = trail } ≡ full_store P
+same_full P days weeks shifts count sets trail d w s n e t = rw (e, t, d, w, s, n) refl
+
+pub kept_by_new : (P : Instance) (days weeks shifts count : ℕ) (sets : List (List ℕ)) (trail : List Change) (capacity : ℕ) → KeepsLimits P → days ≡ P.days → weeks ≡ P.weeks → shifts ≡ shift_count P → count ≡ cells P → sets ≡ replicate count (range_with_len 0 (shifts + 1)) → trail ≡ [] → count * shifts ≤ capacity → IsKept (record { days = days; weeks = weeks; shifts = shifts; sets = sets; trail = trail }) (count * shifts) capacity
+kept_by_new P days weeks shifts count sets trail capacity limits d w s n e t room =
+    let most : count * shifts ≡ cells P * shift_count P = ap (λ m. m * shifts) n ∙ ap (λ m. cells P * m) s in
+    let wide : cells P * shift_count P ≤ capacity = omega (arith, room, most) in
+    rw (same_full P days weeks shifts count sets trail d w s n e t, most) (kept_full P capacity limits wide)
+
+-- a copy keeps what the domains keep
+pub few_symbols : (S : Store) (n : ℕ) → IsStoreThroughout S → n ≡ length S.sets → n * S.shifts ≤ MOST_CELLS * MOST_SHIFTS
+few_symbols S n all e =
+    let now = store_now S all in
+    let few : n ≤ MOST_CELLS = omega (arith, now.long, now.few_cells) in
+    mul-le-mul few now.few_shifts
+
+pub kept_by_copy : (S : Store) (count capacity n : ℕ) (sets : List (List ℕ)) (trail : List Change) (capacity' : ℕ) → IsKept S count capacity → sets ≡ S.sets → trail ≡ S.trail → n ≡ length S.sets → n * S.shifts ≤ capacity' → IsKept (record S { sets = sets; trail = trail }) count capacity'
+kept_by_copy S count capacity n sets trail capacity' kept e f long room =
+    let size : n * S.shifts ≡ S.weeks * S.days * S.shifts = ap (λ m. m * S.shifts) (long ∙ (store_now S kept.store).long) in
+    let wide : S.weeks * S.days * S.shifts ≤ capacity' = omega (arith, size, room) in
+    let S' : Store = record S { sets = sets; trail = trail } in
+    let same : S ≡ S' = same_store S S.sets sets S.trail trail (sym e) (sym f) in
+    let Q : Store → Type 0 = λ s. IsKept s count capacity' in
+    subst Q same (record { store = kept.store; counted = kept.counted; room = wide })
+
+-- a position that has this symbol alone, by the test
+pub has_where_alone : (S : Store) (p x : ℕ) → domain_at S p ≡ x ∷ [] → has_domain S p x ≡ true
+has_where_alone S p x e = ap (λ set. has_symbol set x) e ∙ or_left (eqb x x) false (eq-eqb x x refl)
+
 -- the only symbols make a roster
 pub roster_of_decided : (P : Instance) (S : Store) (symbols : List Symbol) → IsStore S → BelongsTo P S → map (λ x. x.number ∷ []) symbols ≡ S.sets → IsRoster P symbols
 roster_of_decided P S symbols now belongs e =
@@ -329,6 +359,11 @@ roster_of_decided P S symbols now belongs e =
           let below : (get_or symbols k d).number ≤ S.shifts = small 0 0 (omega arith) in
           subst (λ n. (get_or symbols k d).number ≤ n) belongs.shifts below;
     }
+
+pub roster_has : (S : Store) (symbols : List Symbol) (p : ℕ) (d : Symbol) → map (λ x. x.number ∷ []) symbols ≡ S.sets → p < length symbols → has_domain S p (get_or symbols p d).number ≡ true
+roster_has S symbols p d e within =
+    let alone : Symbol → List ℕ = λ x. x.number ∷ [] in
+    has_where_alone S p (get_or symbols p d).number (ap (λ s. get_or s p []) (sym e) ∙ get_or-map alone symbols p d [] within)
 
 -- sets by their test
 first-of : (set : List ℕ) → 0 < length set → (x : ℕ) × (has_symbol set x ≡ true)
@@ -376,10 +411,7 @@ store_has_domains S now = record {
       another-of (domain_at S p) x (All-get_or (IsDomain S.shifts) S.sets p [] inside now.domains).ascends two;
 }
 
--- a position that has this symbol alone, by the test
-pub has_where_alone : (S : Store) (p x : ℕ) → domain_at S p ≡ x ∷ [] → has_domain S p x ≡ true
-has_where_alone S p x e = ap (λ set. has_symbol set x) e ∙ or_left (eqb x x) false (eq-eqb x x refl)
-
+-- a position that has no other symbol
 alone-by-test : (last x : ℕ) (set : List ℕ) → IsDomain last set → ((y : ℕ) → has_symbol set y ≡ true → y ≡ x) → set ≡ x ∷ []
 alone-by-test last x [] domain each = absurd (omega (arith, domain.some))
 alone-by-test last x (y ∷ []) domain each = ap (λ z. z ∷ []) (each y (or_left (eqb y y) false (eq-eqb y y refl)))

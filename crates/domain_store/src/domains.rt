@@ -1,6 +1,5 @@
 // Domains with their trail.
-ghost use Rattle.std.specs.Prelude.{◌≡◌, ℕ, ◌+◌, ◌-◌, ◌*◌, ◌<◌, ◌≤◌, ◌↔◌, All, List, [], ◌∷◌, ◌++◌, length, map, take, replicate, IsTrue, IfOk, MatchOption, OnOk, vec_len, vec_capacity, ◌==◌, not, ◌&&◌, ◌||◌, nat_le, slice_index_or};
-ghost use Rattle.std.specs.List.{range_with_len};
+ghost use Rattle.std.specs.Prelude.{◌≡◌, ℕ, ◌+◌, ◌-◌, ◌*◌, ◌<◌, ◌≤◌, ◌↔◌, All, List, [], ◌∷◌, ◌++◌, length, map, take, IsTrue, IfOk, MatchOption, OnOk, vec_len, vec_capacity, ◌==◌, not, ◌&&◌, ◌||◌, nat_le, slice_index_or};
 ghost use Rattle.rwsp_terms.specs.Instance.{cells, shift_count};
 ghost use Rattle.rwsp_terms.specs.Roster.{IsRoster};
 ghost use Rattle.rwsp_terms.specs.declared.data.Symbol.{Symbol};
@@ -53,7 +52,6 @@ impl Domains {
     ghost use Rattle.domain_store.specs.Store.{Store, domain_at, has_domain, IsDecided, BelongsTo, full_store, changed, store_at, HasSameShape, IsStore, HasDomains};
 
     /// The domains that have all symbols of the problem, and room for all changes that can be made.
-    #[tactic(auto, using(crate::proofs::StoreLemmas::kept_full, crate::proofs::StoreLemmas::has_full))]
     pub fn new(alloc: Global, problem: &Problem) -> Result<Domains, AllocError>
         ensures full { IfOk result (λ D. D ≡ full_store problem.now) }
         ensures belongs { IfOk result (λ D. BelongsTo problem.now D) }
@@ -65,7 +63,7 @@ impl Domains {
         let weeks = problem.weeks();
         let shifts = problem.shifts();
         let cells = problem.cells();
-        let sets = full_sets(alloc, cells, shifts)?;
+        let sets = vec![in alloc; SymbolSet::up_to(shifts); cells as usize]?;
         let spare = cells * shifts as u32;
         let trail = Vec::with_capacity(alloc, spare as usize)?;
         Ok(Domains {
@@ -84,7 +82,7 @@ impl Domains {
         ensures { IfOk result (λ D. D ≡ self.now) }
     {
         let alloc = *self.sets.allocator();
-        let sets = copied_sets(alloc, &self.sets)?;
+        let sets = Vec::from_slice(alloc, &self.sets)?;
         let room = self.sets.len() * self.shifts as usize;
         let trail = copied_trail(alloc, &self.trail, room)?;
         Ok(Domains {
@@ -209,7 +207,6 @@ impl Domains {
     }
 
     /// Leaves the position this symbol alone. The change is noted on the trail.
-    #[tactic(auto, using(crate::proofs::StoreLemmas::symbol_is_known, crate::proofs::StoreLemmas::single_domain, crate::proofs::StoreLemmas::store_at_changed, crate::proofs::StoreLemmas::has_set_only, crate::proofs::StoreLemmas::same_shape_changed))]
     pub fn set_only(&mut self, p: u32, x: Symbol)
         requires position { p < length self.old.sets }
         requires held { IsTrue (has_domain self.old p x.number) }
@@ -225,7 +222,6 @@ impl Domains {
     }
 
     /// Takes the symbol from the domain of the position. The change is noted on the trail.
-    #[tactic(auto, using(crate::proofs::StoreLemmas::symbol_is_known, crate::proofs::StoreLemmas::smaller_domain, crate::proofs::StoreLemmas::length_smaller, crate::proofs::StoreLemmas::store_at_changed, crate::proofs::StoreLemmas::has_removed, crate::proofs::StoreLemmas::same_shape_changed))]
     pub fn remove(&mut self, p: u32, x: Symbol)
         requires position { p < length self.old.sets }
         requires held { IsTrue (has_domain self.old p x.number) }
@@ -237,8 +233,7 @@ impl Domains {
         ensures marks { (len : ℕ) → len ≤ length self.old.trail → store_at self.new len ≡ store_at self.old len }
     {
         self.prove_facts();
-        let set = &self.sets[p as usize];
-        let rest = set.without(x.number);
+        let rest = self.set(p).without(x.number);
         self.change(p, rest);
     }
 
@@ -265,7 +260,6 @@ impl Domains {
     }
 
     /// The roster of the only symbols.
-    #[tactic(auto, using(crate::proofs::StoreLemmas::roster_of_decided))]
     pub fn to_roster(&self, problem: &Problem) -> Result<Roster, AllocError>
         requires decided { IsDecided self.now }
         requires belongs { BelongsTo problem.now self.now }
@@ -324,37 +318,13 @@ fn note(trail: &mut Vec<Change>, change: Change)
     let _ = trail.push(change);
 }
 
-// All symbols up to the last shift, for each cell.
-#[tactic(auto, using(std::proofs::lemmas::List::replicate_more))]
-fn full_sets(alloc: Global, cells: u32, shifts: u8) -> Result<Vec<SymbolSet>, AllocError>
-    requires { shifts ≤ MOST_SHIFTS }
-    ensures { IfOk result (λ v. v.items ≡ replicate cells (range_with_len 0 (shifts + 1))) }
-{
-    let mut sets = Vec::with_capacity(alloc, cells as usize)?;
-    for _ in 0..cells {
-        sets.push(SymbolSet::up_to(shifts))?;
-    }
-    Ok(sets)
-}
-
-fn copied_sets(alloc: Global, sets: &[SymbolSet]) -> Result<Vec<SymbolSet>, AllocError>
-    ensures { IfOk result (λ v. v.items ≡ sets.now) }
-{
-    let mut copies = Vec::with_capacity(alloc, sets.len())?;
-    for set in sets {
-        copies.push(*set)?;
-    }
-    Ok(copies)
-}
-
+// A copy of the trail, with this much room.
 fn copied_trail(alloc: Global, trail: &[Change], room: usize) -> Result<Vec<Change>, AllocError>
     ensures items { IfOk result (λ v. v.items ≡ trail.now) }
     ensures room { IfOk result (λ v. room ≤ vec_capacity v) }
 {
     let mut copies = Vec::with_capacity(alloc, room)?;
-    for change in trail {
-        copies.push(*change)?;
-    }
+    copies.extend_from_slice(trail)?;
     Ok(copies)
 }
 

@@ -9,13 +9,14 @@ use Rattle.std.proofs.lemmas.Bool.{leb-true, ltb-false, le-ltb, and_from, and_pa
 use Rattle.std.proofs.lemmas.Bool.Decides.{nat_tests, Decides-eqb, Decides-and, Decides-not, Decides-like, Decides-by_and}
 use Rattle.std.proofs.lemmas.List.{take_more, append_assoc, append-nil, get_or-take, length-take-le, get_or_default}
 use Rattle.std.proofs.lemmas.List.Folds.{list_any_none, list_any_at}
+use Rattle.std.proofs.lemmas.List.Quantifiers.{position-Some}
 use Rattle.std.proofs.lemmas.Slice.Eq.{bytes_eq-Decides}
 use Rattle.rwsp_terms.specs.declared.limits.TheConstants.{MOST_DAYS, MOST_WEEKS, MOST_CELLS, MOST_SHIFTS, GREATEST_BOUND, MOST_SEQUENCES}
 use Rattle.rwsp_terms.specs.Instance.{Instance, cells, shift_count, off_name}
 use Rattle.rwsp_terms.specs.declared.data.Bounds.{Bounds}
 use Rattle.rwsp_terms.specs.declared.data.ShiftRow.{ShiftRow}
 use Rattle.rwsp_terms.specs.declared.data.Symbol.{Symbol}
-use Rattle.rwsp_model.specs.Validity.{IsValid, KeepsLimits, limit_refusal, name_refusal, limits_kept, has_shape, are_small, AreSmall, is_small_range, IsSmallRange, is_between, is_shift_name, breaks_name, IsShiftName, is_named_well, bad_name_from}
+use Rattle.rwsp_model.specs.Validity.{IsValid, KeepsLimits, refusal_of, limit_refusal, name_refusal, limits_kept, has_shape, are_small, AreSmall, is_small_range, IsSmallRange, is_between, is_shift_name, breaks_name, IsShiftName, is_named_well, bad_name_from}
 use Rattle.rwsp_model.specs.declared.refusal.PartsRefusal.{PartsRefusal}
 use Rattle.rwsp_model.specs.declared.refusal.PartsRefusal.TheVariants.{Shape}
 
@@ -296,6 +297,27 @@ keeps_valid P k =
     ap (λ (b : Bool). cond b (limit_refusal P (position not (limits_kept P))) (Some Shape)) shape
     ∙ ap (limit_refusal P) (none_broken (limits_kept P) kept)
     ∙ ap name_refusal (none_where_names P.shifts (k.names, k.distinct))
+
+-- why the parts are refused, by what is found of them
+pub refused_shape : (P : Instance) → has_shape P ≡ false → Some Shape ≡ refusal_of P
+refused_shape P shape = sym (ap (λ (b : Bool). cond b (limit_refusal P (position not (limits_kept P))) (Some Shape)) shape)
+
+pub refused_limit : (P : Instance) (broken : Option ℕ) → has_shape P ≡ true → broken ≡ position not (limits_kept P) → limit_refusal P broken ≡ refusal_of P
+refused_limit P broken shape found =
+    ap (limit_refusal P) found
+    ∙ sym (ap (λ (b : Bool). cond b (limit_refusal P (position not (limits_kept P))) (Some Shape)) shape)
+
+pub refused_name : (P : Instance) (bad : Option ℕ) → has_shape P ≡ true → None ≡ position not (limits_kept P) → bad ≡ bad_name_from [] 1 P.shifts → name_refusal bad ≡ refusal_of P
+refused_name P bad shape none found = ap name_refusal found ∙ refused_limit P None shape none
+
+-- nine limits
+pub limit_below : (P : Instance) (k : ℕ) → Some k ≡ position not (limits_kept P) → k < 9
+limit_below P k found = (position-Some not (limits_kept P) k true (sym found)).0
+
+pub few_shifts_where_none : (P : Instance) → None ≡ position not (limits_kept P) → length P.shifts ≤ MOST_SHIFTS
+few_shifts_where_none P none =
+    let k = nine (is_between 1 MOST_DAYS P.days) (is_between 1 MOST_WEEKS P.weeks) (nat_le (cells P) MOST_CELLS) (is_between 1 MOST_SHIFTS (shift_count P)) (list_all (λ row. list_all is_small_range row) P.demand) (list_all (λ row. nat_le row.start GREATEST_BOUND && nat_le row.length GREATEST_BOUND) P.shifts) (list_all (λ row. are_small row.bounds) P.shifts && are_small P.off && are_small P.work) (nat_le (length P.pairs) MOST_SEQUENCES) (nat_le (length P.triples) MOST_SEQUENCES) (all_kept (limits_kept P) (sym none)) in
+    ((Decides-between 1 MOST_SHIFTS (shift_count P)).0 k.3).1
 
 -- the search for a bad name, one shift on
 pub bad_step : (earlier : List ShiftRow) (k : ℕ) (rows : List ShiftRow) (i : ℕ) (d : ShiftRow) → i < length rows → bad_name_from earlier k (drop i rows) ≡ cond (is_named_well earlier (get_or rows i d)) (bad_name_from (earlier ++ (get_or rows i d) ∷ []) (k + 1) (drop (i + 1) rows)) (Some k)

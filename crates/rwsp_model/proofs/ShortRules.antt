@@ -1,6 +1,8 @@
 -- The list of all short rules, as far as it has come.
 use Rattle.std.proofs.Common.{◌≡◌, ◌≢◌, ℕ, zero, suc, ◌+◌, ◌<◌, ◌≤◌, List, [], length, get_or, refl, ap, sym, ◌∙◌, subst, arith, Some, ◌⊎◌, inl, inr, ⊎_elim}
-use Rattle.std.specs.Prelude.{All, Contains, ◌↔◌}
+use Rattle.std.specs.Prelude.{All, Contains, ◌↔◌, nat_le, true}
+use Rattle.std.specs.Bool.{Decides}
+use Rattle.rwsp_terms.specs.declared.limits.TheConstants.{GREATEST_SHORT_BOUND}
 use Rattle.std.specs.List.Sorted.{IsStrictlyIncreasing}
 use Rattle.std.proofs.lemmas.Bool.{cases_eq}
 use Rattle.std.proofs.lemmas.List.Elements.{Contains-get_or}
@@ -10,6 +12,13 @@ use Rattle.rwsp_terms.specs.Rules.{rules, rule_of, IsShort, NamesShortRules}
 use Rattle.rwsp_terms.specs.declared.data.Rule.{Rule}
 use Rattle.rwsp_model.specs.RuleNumbers.{place_of, IsShortNumber}
 use Rattle.rwsp_model.proofs.Numbering.{rule_numbered, number_at_place, rule_in_range}
+
+-- a test that decides whether one rule is short, of an equal rule
+pub short_by_test : (P : Instance) (r of : Rule) (n m : ℕ) → r ≡ of → n ≡ m → Decides (nat_le m GREATEST_SHORT_BOUND) (IsShort P of) → (nat_le n GREATEST_SHORT_BOUND ≡ true) ↔ IsShort P r
+short_by_test P r of n m same bound test =
+    let Q : Rule → Type 0 = λ s. (nat_le n GREATEST_SHORT_BOUND ≡ true) ↔ IsShort P s in
+    let R : ℕ → Type 0 = λ k. Decides (nat_le k GREATEST_SHORT_BOUND) (IsShort P of) in
+    subst Q (sym same) (subst R (sym bound) test)
 
 -- a list with the number of a short rule more
 pub put_short : (P : Instance) (old new : List ℕ) (n : ℕ) (r : Rule) → rule_of P n ≡ Some r → IsShort P r → ((k : ℕ) → Contains new k ↔ (Contains old k ⊎ (k ≡ n))) → (k : ℕ) → Contains new k ↔ (Contains old k ⊎ ((k ≡ n) × IsShortNumber P k))

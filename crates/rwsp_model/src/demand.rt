@@ -1,7 +1,7 @@
 // How many weeks are to hold a symbol on a day.
-ghost use Rattle.std.specs.Prelude.{◌≡◌, ◌+◌, ◌-◌, ◌*◌, ◌<◌, ◌≤◌, ◌≤ℤ◌, pos, neg_ℤ, length, All, slice_index_or};
+ghost use Rattle.std.specs.Prelude.{◌≡◌, ◌+◌, ◌-◌, ◌*◌, ◌<◌, ◌≤◌, ◌≤ℤ◌, ◌-ℤ◌, pos, neg_ℤ, length, All, slice_index_or};
 ghost use Rattle.std.specs.List.{sum_by};
-ghost use Rattle.rwsp_terms.specs.Instance.{least, greatest, no_bounds};
+ghost use Rattle.rwsp_terms.specs.Instance.{least, greatest, shift_demand, no_bounds, IsShift, IsDay};
 ghost use Rattle.rwsp_model.specs.Parts.{instance_of};
 ghost use Rattle.rwsp_model.specs.Validity.{KeepsLimits, IsSmallRange};
 
@@ -37,6 +37,28 @@ fn column_range(rows: &[DemandRow], day: u32) -> Bounds
     Bounds { least, greatest }
 }
 
+// The range of a shift on a day.
+fn shift_range(parts: &Parts, shift: Symbol, day: u32) -> Bounds
+    requires limits { KeepsLimits (instance_of parts.now) }
+    requires shift { IsShift (instance_of parts.now) shift }
+    requires day { IsDay (instance_of parts.now) day }
+    ensures value { result ≡ shift_demand (instance_of parts.now) shift.number day }
+    ensures small { IsSmallRange result }
+{
+    range_at(parts.demand[shift.number as usize - 1].ranges(), day)
+}
+
+// The weeks that are left beside those that are demanded; fewer than none where more are demanded than there are.
+fn weeks_left(weeks: u32, demanded: u32) -> i32
+    requires weeks { weeks ≤ MOST_WEEKS }
+    requires demanded { demanded ≤ MOST_WEEKS * MOST_SHIFTS }
+    ensures value { result ≡ pos weeks -ℤ pos demanded }
+    ensures above { neg_ℤ (pos (MOST_WEEKS * MOST_SHIFTS)) ≤ℤ result }
+    ensures below { result ≤ℤ pos MOST_WEEKS }
+{
+    weeks as i32 - demanded as i32
+}
+
 /// The least number of weeks that hold the symbol on the day. Of the day off it may be negative.
 pub fn least_of(parts: &Parts, symbol: Symbol, day: u32) -> i32
     requires limits { KeepsLimits (instance_of parts.now) }
@@ -46,11 +68,10 @@ pub fn least_of(parts: &Parts, symbol: Symbol, day: u32) -> i32
     ensures above { neg_ℤ (pos (MOST_WEEKS * MOST_SHIFTS)) ≤ℤ result }
     ensures below { result ≤ℤ pos MOST_WEEKS }
 {
-    let number = symbol.number as usize;
-    if number == 0 {
-        parts.weeks as i32 - column_range(&parts.demand, day).greatest as i32
+    if symbol.number == 0 {
+        weeks_left(parts.weeks, column_range(&parts.demand, day).greatest)
     } else {
-        range_at(parts.demand[number - 1].ranges(), day).least as i32
+        shift_range(parts, symbol, day).least as i32
     }
 }
 
@@ -63,10 +84,9 @@ pub fn greatest_of(parts: &Parts, symbol: Symbol, day: u32) -> i32
     ensures above { neg_ℤ (pos (MOST_WEEKS * MOST_SHIFTS)) ≤ℤ result }
     ensures below { result ≤ℤ pos MOST_WEEKS }
 {
-    let number = symbol.number as usize;
-    if number == 0 {
-        parts.weeks as i32 - column_range(&parts.demand, day).least as i32
+    if symbol.number == 0 {
+        weeks_left(parts.weeks, column_range(&parts.demand, day).least)
     } else {
-        range_at(parts.demand[number - 1].ranges(), day).greatest as i32
+        shift_range(parts, symbol, day).greatest as i32
     }
 }

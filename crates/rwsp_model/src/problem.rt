@@ -161,7 +161,7 @@ impl Problem {
     {
         self.prove_limits();
         match class {
-            Class::Shift(shift) => self.parts.shifts[shift.number as usize - 1].bounds,
+            Class::Shift(shift) => row_of(&self.parts.shifts, shift).bounds,
             Class::Off => self.parts.off,
             Class::Work => self.parts.work,
         }
@@ -196,7 +196,7 @@ impl Problem {
         requires { IsShift self.now x }
         ensures { option_map (λ row. row.start) (slice_get self.now.shifts (x.number - 1)) ≡ Some result }
     {
-        self.parts.shifts[x.number as usize - 1].start
+        row_of(&self.parts.shifts, x).start
     }
 
     /// The length of a shift, in minutes.
@@ -204,7 +204,7 @@ impl Problem {
         requires { IsShift self.now x }
         ensures { option_map (λ row. row.length) (slice_get self.now.shifts (x.number - 1)) ≡ Some result }
     {
-        self.parts.shifts[x.number as usize - 1].length
+        row_of(&self.parts.shifts, x).length
     }
 
     /// The least number of weeks that hold the symbol on the day. Of the day off it may be negative.
@@ -243,6 +243,14 @@ fn copy_of(parts: &Parts) -> Result<Parts, AllocError>
         pairs: parts.pairs.clone()?,
         triples: parts.triples.clone()?,
     })
+}
+
+// The row of a shift.
+fn row_of(rows: &[ShiftRow], shift: Symbol) -> &ShiftRow
+    requires { (0 < shift.number) × (shift.number ≤ length rows.now) }
+    ensures { slice_get rows.now (shift.number - 1) ≡ Some result.now }
+{
+    &rows[shift.number as usize - 1]
 }
 
 fn name_among(rows: &[ShiftRow], number: u8) -> &[u8]

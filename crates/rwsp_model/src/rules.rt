@@ -102,19 +102,20 @@ fn place_of(problem: &Problem, rule: Rule) -> u32
     ensures few { result < MOST_RULES }
 {
     problem.prove_limits();
-    let shifts = u32::from(problem.shifts());
-    let pairs = problem.pairs().len() as u32;
-    let triples = problem.triples().len() as u32;
+    let first_off = 2 * u32::from(problem.shifts());
+    let first_pair = first_off + 4;
+    let first_triple = first_pair + problem.pairs().len() as u32;
+    let first_day = first_triple + problem.triples().len() as u32;
     match rule {
         Rule::MaxShift(shift) => 2 * (u32::from(shift.number) - 1),
         Rule::MinShift(shift) => 2 * (u32::from(shift.number) - 1) + 1,
-        Rule::MaxOff => 2 * shifts,
-        Rule::MinOff => 2 * shifts + 1,
-        Rule::MaxWork => 2 * shifts + 2,
-        Rule::MinWork => 2 * shifts + 3,
-        Rule::Pair(pair) => 2 * shifts + 4 + pair,
-        Rule::Triple(triple) => 2 * shifts + 4 + pairs + triple,
-        Rule::Day(day) => 2 * shifts + 4 + pairs + triples + (day - 1),
+        Rule::MaxOff => first_off,
+        Rule::MinOff => first_off + 1,
+        Rule::MaxWork => first_off + 2,
+        Rule::MinWork => first_off + 3,
+        Rule::Pair(pair) => first_pair + pair,
+        Rule::Triple(triple) => first_triple + triple,
+        Rule::Day(day) => first_day + (day - 1),
     }
 }
 

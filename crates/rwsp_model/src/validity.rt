@@ -55,8 +55,8 @@ fn are_small(bounds: Bounds) -> bool
     bounds.least <= GREATEST_BOUND && bounds.greatest <= GREATEST_BOUND
 }
 
-fn is_small_range(range: Bounds) -> bool
-    ensures { result ≡ is_small_range range }
+fn is_small_range(range: &Bounds) -> bool
+    ensures { result ≡ is_small_range range.now }
 {
     range.least <= MOST_WEEKS && range.greatest <= MOST_WEEKS
 }
@@ -64,13 +64,13 @@ fn is_small_range(range: Bounds) -> bool
 fn ranges_are_small(row: &DemandRow) -> bool
     ensures { result ≡ list_all is_small_range row.now }
 {
-    row.ranges().iter().all(|range| is_small_range(*range))
+    row.ranges().iter().all(is_small_range)
 }
 
 fn demand_is_small(rows: &[DemandRow]) -> bool
     ensures { result ≡ list_all (λ row. list_all is_small_range row) rows.now }
 {
-    rows.iter().all(|row| ranges_are_small(row))
+    rows.iter().all(ranges_are_small)
 }
 
 fn times_are_small(rows: &[ShiftRow]) -> bool
@@ -85,7 +85,7 @@ fn blocks_are_small(rows: &[ShiftRow]) -> bool
     rows.iter().all(|row| are_small(row.bounds))
 }
 
-fn is_between(low: u64, high: u64, n: u64) -> bool
+fn is_between(low: usize, high: usize, n: usize) -> bool
     ensures { result ≡ is_between low high n }
 {
     low <= n && n <= high
@@ -100,10 +100,10 @@ fn first_broken_limit(parts: &Parts) -> Option<usize>
     let off = are_small(parts.off);
     let work = are_small(parts.work);
     let kept = [
-        is_between(1, u64::from(MOST_DAYS), u64::from(parts.days)),
-        is_between(1, u64::from(MOST_WEEKS), u64::from(parts.weeks)),
-        u64::from(parts.weeks) * u64::from(parts.days) <= u64::from(MOST_CELLS),
-        is_between(1, u64::from(MOST_SHIFTS), shifts.len() as u64),
+        is_between(1, MOST_DAYS as usize, parts.days as usize),
+        is_between(1, MOST_WEEKS as usize, parts.weeks as usize),
+        parts.weeks as usize * parts.days as usize <= MOST_CELLS as usize,
+        is_between(1, MOST_SHIFTS as usize, shifts.len()),
         demand_is_small(&parts.demand),
         times_are_small(shifts),
         blocks && off && work,

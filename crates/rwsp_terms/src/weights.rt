@@ -163,6 +163,7 @@ fn add_entry(entries: &mut Vec<Weight>, place: usize, entry: Weight) -> Result<(
     requires weights { AreWeights entries.old.items }
     requires place { EntryBelongs entries.old.items entry.day entry.symbol.number place }
     requires value { (neg_ℤ (pos GREATEST_WEIGHT) ≤ℤ entry.value) × (entry.value ≤ℤ pos GREATEST_WEIGHT) }
+    ensures weights { AreWeights entries.new.items }
     ensures sets { OnOk result (SetsWeight entries.old.items entries.new.items entry.day entry.symbol.number
         entry.value) }
     ensures kept { OnErr result (entries.new.items ≡ entries.old.items) }
