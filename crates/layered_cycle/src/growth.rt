@@ -16,7 +16,7 @@ use std::alloc::{AllocError, Global};
 use word_tail::{Tail, TailRules};
 
 // The steps of a layer, and the tails that they lead to: the nodes of the next layer.
-#[derive(Debug, Drop)]
+#[derive(Drop)]
 pub struct Growth {
     pub steps: Vec<Step>,
     pub nodes: Vec<Tail>,
