@@ -8,35 +8,13 @@ use Rattle.layered_cycle.proofs.Growing.{stands_here, stands_once}
 use Rattle.layered_cycle.proofs.growth.node_of.Goals as goal
 use Rattle.layered_cycle.proofs.growth.node_of.Goals.{else-noted-len-via-then-noted-len+else-index-state, else-noted-len-via-else-noted-len}
 
-pub returns-in_err-push-clause-automaton : goal.returns-in_err-push-clause-automaton
-returns-in_err-push-clause-automaton c = IfOk-from_err _ _ c.from_residual.ensures.0
+pub returns-in_err-push : goal.returns-in_err-push
+returns-in_err-push c =
+    let e = c.from_residual.ensures.0 in record { automaton = IfOk-from_err _ _ e; tails = IfOk-from_err _ _ e; few = IfOk-from_err _ _ e; grows = IfOk-from_err _ _ e; laid = IfOk-from_err _ _ e; distinct = IfOk-from_err _ _ e; node = IfOk-from_err _ _ e; others = IfOk-from_err _ _ e }
 
-pub returns-in_err-push-clause-tails : goal.returns-in_err-push-clause-tails
-returns-in_err-push-clause-tails c = IfOk-from_err _ _ c.from_residual.ensures.0
-
-pub returns-in_err-push-clause-laid : goal.returns-in_err-push-clause-laid
-returns-in_err-push-clause-laid c = IfOk-from_err _ _ c.from_residual.ensures.0
-
-pub returns-in_err-push-clause-node : goal.returns-in_err-push-clause-node
-returns-in_err-push-clause-node c = IfOk-from_err _ _ c.from_residual.ensures.0
-
-pub returns-in_err-push-clause-others : goal.returns-in_err-push-clause-others
-returns-in_err-push-clause-others c = IfOk-from_err _ _ c.from_residual.ensures.0
-
-pub returns-in_err-push-2-clause-automaton : goal.returns-in_err-push-2-clause-automaton
-returns-in_err-push-2-clause-automaton c = IfOk-from_err _ _ c.from_residual-in_err-push-2.ensures.0
-
-pub returns-in_err-push-2-clause-tails : goal.returns-in_err-push-2-clause-tails
-returns-in_err-push-2-clause-tails c = IfOk-from_err _ _ c.from_residual-in_err-push-2.ensures.0
-
-pub returns-in_err-push-2-clause-laid : goal.returns-in_err-push-2-clause-laid
-returns-in_err-push-2-clause-laid c = IfOk-from_err _ _ c.from_residual-in_err-push-2.ensures.0
-
-pub returns-in_err-push-2-clause-node : goal.returns-in_err-push-2-clause-node
-returns-in_err-push-2-clause-node c = IfOk-from_err _ _ c.from_residual-in_err-push-2.ensures.0
-
-pub returns-in_err-push-2-clause-others : goal.returns-in_err-push-2-clause-others
-returns-in_err-push-2-clause-others c = IfOk-from_err _ _ c.from_residual-in_err-push-2.ensures.0
+pub returns-in_err-push-2 : goal.returns-in_err-push-2
+returns-in_err-push-2 c =
+    let e = c.from_residual-in_err-push-2.ensures.0 in record { automaton = IfOk-from_err _ _ e; tails = IfOk-from_err _ _ e; few = IfOk-from_err _ _ e; grows = IfOk-from_err _ _ e; laid = IfOk-from_err _ _ e; distinct = IfOk-from_err _ _ e; node = IfOk-from_err _ _ e; others = IfOk-from_err _ _ e }
 
 pub returns-then-index-state-clause-node : goal.returns-then-index-state-clause-node
 returns-then-index-state-clause-node c = λ t at.
