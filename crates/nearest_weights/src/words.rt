@@ -66,7 +66,9 @@ impl Words {
     pub fn of(alloc: Global, tails: &TailRules) -> Result<Option<Words>, AllocError> {
         tails.problem().prove_limits();
         let doms = Domains::new(alloc, tails.problem())?;
-        Words::over(alloc, tails, &doms)
+        let words = Words::over(alloc, tails, &doms);
+        drop(doms);
+        words
     }
 
     // The same over domains that have all symbols.
@@ -80,9 +82,16 @@ impl Words {
                 break;
             }
             days = (2 * days).min(LONGEST_WORD);
-            let longer = Words::of_days(alloc, tails, doms, days)?;
-            if !put(&mut words, longer) {
-                break;
+            match Words::of_days(alloc, tails, doms, days) {
+                Ok(longer) => {
+                    if !put(&mut words, longer) {
+                        break;
+                    }
+                }
+                Err(error) => {
+                    drop(words);
+                    return Err(error);
+                }
             }
         }
         Ok(words)
@@ -100,10 +109,18 @@ impl Words {
     {
         tails.problem().prove_limits();
         let layers = Layers::of(alloc, tails, doms, 0, days)?;
-        let Some(ways) = Ways::of(alloc, &layers)? else {
-            return Ok(None);
-        };
-        Ok(Some(Words { layers, ways }))
+        // `drop` is one step of the proof, where a `?` would have a step for each part of the layers.
+        match Ways::of(alloc, &layers) {
+            Ok(Some(ways)) => Ok(Some(Words { layers, ways })),
+            Ok(None) => {
+                drop(layers);
+                Ok(None)
+            }
+            Err(error) => {
+                drop(layers);
+                Err(error)
+            }
+        }
     }
 
     // The number of days for which there are layers.
