@@ -1,10 +1,9 @@
-use Rattle.std.proofs.Common.{◌≡◌, ℕ, ◌<◌, ◌∷◌, [], ◌++◌, length, get_or, refl, ap, sym, ◌∙◌, subst, arith, rules, List}
+use Rattle.std.proofs.Common.{◌≡◌, ℕ, ◌<◌, length, get_or, refl, sym, ◌∙◌, arith, rules}
 use Rattle.std.proofs.lemmas.List.{get_or_default, get_or_push, length-set}
 use Rattle.std.proofs.lemmas.Result.{IfOk-from_err}
-use Rattle.word_tail.specs.declared.tail.Tail.{Tail}
 use Rattle.layered_cycle.specs.Grown.{StandsAt}
 use Rattle.layered_cycle.proofs.Automata.{node_stands, longer_by_one, unlaid, unplaced, tails_put, placed_put, distinct_put}
-use Rattle.layered_cycle.proofs.Growing.{stands_here, stands_once}
+use Rattle.layered_cycle.proofs.Growing.{stands_once}
 use Rattle.layered_cycle.proofs.growth.node_of.Goals as goal
 use Rattle.layered_cycle.proofs.growth.node_of.Goals.{else-noted-len-via-then-noted-len+else-index-state, else-noted-len-via-else-noted-len}
 

@@ -1,8 +1,6 @@
-use Rattle.std.proofs.Common.{◌≡◌, List, Some, ap, ◌∙◌, arith, rules, subst, w32, w64, to_z, of_z, SFits}
-use Rattle.std.specs.Prelude.{IfSome}
+use Rattle.std.proofs.Common.{◌≡◌, List, ap, ◌∙◌, arith, rules, w32, w64, to_z, of_z, SFits}
 use Rattle.std.proofs.lemmas.Int.{ints}
 use Rattle.word_tail.specs.declared.tail.Tail.{Tail}
-use Rattle.layered_cycle.specs.declared.ends.End.{End}
 use Rattle.layered_cycle.specs.Front.{Course, course, tail_at}
 use Rattle.layered_cycle.proofs.HeaviestEnds.{some_to_end, best_of_all}
 use Rattle.layered_cycle.proofs.heaviest.best_of.Goals as goal
