@@ -146,6 +146,53 @@ node_stands all nodes states k s t lt is tails at =
     let there : StandsAt all s (node_here nodes k) = subst (λ (n : ℕ). StandsAt all n (node_here nodes k)) is (tails k (node_here nodes k) here) in
     subst (λ (u : Tail). StandsAt nodes k u) (stands_once all s (node_here nodes k) t there at) here
 
+-- a state that is not at the node that was noted for it is at none
+pub unlaid : (places states : List ℕ) (n s noted : ℕ) → n ≡ length states → noted ≡ get_or places s 0 → (noted < length states → get_or states noted 0 ≡ s → ⊥) →
+    ((k : ℕ) → k < n → get_or places (get_or states k 0) 0 ≡ k) → (k : ℕ) → k < n → get_or states k 0 ≡ s → ⊥
+unlaid places states n s noted long read free placed k lt is =
+    let at : noted ≡ k = read ∙ ap (λ (i : ℕ). get_or places i 0) (sym is) ∙ placed k lt in
+    free (omega (arith, lt, at, long)) (subst (λ (i : ℕ). get_or states i 0 ≡ s) (sym at) is)
+
+-- then its tail is at no node
+pub unplaced : (all nodes : List Tail) (states : List ℕ) (s : ℕ) (t : Tail) → AreDistinct all → HasTails all nodes states → StandsAt all s t → ((k : ℕ) → k < length nodes → get_or states k 0 ≡ s → ⊥) → IsNowhere nodes t
+unplaced all nodes states s t distinct tails at none k h = none k h.0 (distinct (get_or states k 0) s t (tails k t h) at)
+
+-- such a state is put behind the others
+pub tails_put : (all nodes : List Tail) (states : List ℕ) (s : ℕ) (t : Tail) → length states ≡ length nodes → HasTails all nodes states → StandsAt all s t → HasTails all (nodes ++ t ∷ []) (states ++ s ∷ [])
+tails_put all nodes states s t long tails at k u h = by_place (eq-or-lt_of_le {n = k} {m = length nodes} (omega (arith, h.0, length-append nodes (t ∷ []))))
+  where
+    by_place : (k ≡ length nodes) ⊎ (k < length nodes) → StandsAt all (get_or (states ++ s ∷ []) k 0) u
+    by_place (inl last) =
+        let same : t ≡ u = sym (get_or_push nodes t u k (sym last)) ∙ h.1 in
+        let read : get_or (states ++ s ∷ []) k 0 ≡ s = get_or_push states s 0 k (long ∙ sym last) in
+        subst (λ (i : ℕ). StandsAt all i u) (sym read) (subst (λ (z : Tail). StandsAt all s z) same at)
+    by_place (inr less) =
+        let read : get_or (states ++ s ∷ []) k 0 ≡ get_or states k 0 = get_or_append_left states (s ∷ []) 0 k (omega (arith, less, long)) in
+        subst (λ (i : ℕ). StandsAt all i u) (sym read) (tails k u (less, sym (get_or_append_left nodes (t ∷ []) u k less) ∙ h.1))
+
+pub placed_put : (places states : List ℕ) (n s : ℕ) → n ≡ length states → s < length places → ((k : ℕ) → k < n → get_or states k 0 ≡ s → ⊥) →
+    ((k : ℕ) → k < n → get_or places (get_or states k 0) 0 ≡ k) → (k : ℕ) → k < n + 1 → get_or (set places s n) (get_or (states ++ s ∷ []) k 0) 0 ≡ k
+placed_put places states n s long lt none placed k less = by_place (eq-or-lt_of_le {n = k} {m = n} (omega (arith, less)))
+  where
+    by_place : (k ≡ n) ⊎ (k < n) → get_or (set places s n) (get_or (states ++ s ∷ []) k 0) 0 ≡ k
+    by_place (inl last) = ap (λ (i : ℕ). get_or (set places s n) i 0) (get_or_push states s 0 k (sym long ∙ sym last)) ∙ get_or-set_same places s n 0 lt ∙ sym last
+    by_place (inr earlier) =
+        ap (λ (i : ℕ). get_or (set places s n) i 0) (get_or_append_left states (s ∷ []) 0 k (omega (arith, earlier, long)))
+        ∙ get_or-set_other places s (get_or states k 0) n 0 (none k earlier) ∙ placed k earlier
+
+-- what was laid stays so where a state is added
+pub tails_longer : (all more nodes : List Tail) (states : List ℕ) → Extends all more → HasTails all nodes states → HasTails more nodes states
+tails_longer all more nodes states grows tails k t h = stands_on all more (get_or states k 0) t grows (tails k t h)
+
+pub placed_longer : (all nodes : List Tail) (states places : List ℕ) (p : ℕ) → length places ≡ length all → HasTails all nodes states → ((k : ℕ) → k < length nodes → get_or places (get_or states k 0) 0 ≡ k) →
+    (k : ℕ) → k < length nodes → get_or (places ++ p ∷ []) (get_or states k 0) 0 ≡ k
+placed_longer all nodes states places p long tails placed k lt =
+    let at : StandsAt all (get_or states k 0) (node_here nodes k) = tails k (node_here nodes k) (stands_here nodes k (tail_of []) lt) in
+    get_or_append_left places (p ∷ []) 0 (get_or states k 0) (omega (arith, at.0, long)) ∙ placed k lt
+
+pub extends_by_none : (xs ys : List Tail) → ys ≡ xs → Extends xs ys
+extends_by_none xs ys e = ([], e ∙ sym (append-nil xs))
+
 pub distinct_put : (xs : List Tail) (t : Tail) → AreDistinct xs → IsNowhere xs t → AreDistinct (xs ++ t ∷ [])
 distinct_put xs t distinct misses j k u a b = by_places (place j a.0) (place k b.0)
   where

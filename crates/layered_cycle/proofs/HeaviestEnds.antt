@@ -1,13 +1,15 @@
 -- Where the best of all words ends.
-use Rattle.std.proofs.Common.{◌≡◌, ◌⊎◌, ℕ, ◌<◌, ◌≤◌, List, length, ap, sym, ◌∙◌, subst, inl, inr, arith, Some, None, ℤ}
-use Rattle.std.specs.Prelude.{◌<ℤ◌}
+use Rattle.std.proofs.Common.{◌≡◌, ◌⊎◌, ℕ, ◌<◌, ◌≤◌, List, length, ap, sym, ◌∙◌, subst, inl, inr, arith, Option, Some, None, ℤ}
+use Rattle.std.specs.Prelude.{◌<ℤ◌, ◌≤ℤ◌, IfSome, MatchOption}
 use Rattle.std.proofs.Math.Nat.{eq-or-lt_of_le}
 use Rattle.std.proofs.lemmas.Int.{ints}
 use Rattle.rwsp_terms.specs.declared.data.Symbol.{Symbol}
 use Rattle.refutation_terms.specs.Escape.{ComesFirst}
+use Rattle.refutation_terms.specs.Leaf.{IsDead}
 use Rattle.word_tail.specs.declared.tail.Tail.{Tail}
 use Rattle.layered_cycle.specs.declared.choice.Choice.{Choice}
 use Rattle.layered_cycle.specs.declared.ends.End.{End}
+use Rattle.layered_cycle.specs.declared.best.HeavyWord.{HeavyWord}
 use Rattle.layered_cycle.specs.Choices.{Row, choice_at}
 use Rattle.layered_cycle.specs.Front.{Course, IsOf, word_gain, IsNoWorse, IsBestTo, tail_at, IsFront, IsHeaviestEnd, IsBestOf, AreBelow}
 use Rattle.layered_cycle.proofs.Orders.{first_itself, first_from_before, first_then}
@@ -77,3 +79,33 @@ below_end C len tails row f e least h less u of = by_best ((best_end C len tails
     by_best : IsNoWorse C (f.word e.node) u → word_gain C u <ℤ least
     by_best (inl lt) = omega (arith, ints, lt, weight, less)
     by_best (inr same) = omega (arith, ints, same.0, weight, less)
+
+-- the best word, found from the end that is given; none where none is given
+abbrev pub IsFoundFrom : Course → ℕ → Option End → Option HeavyWord → Type 0
+IsFoundFrom C len end found = MatchOption found (end ≡ None) (λ h. IsBestOf C len h.weight h.word × MatchOption end ⊥ (λ e. h.weight ≡ e.weight))
+
+-- from where the heaviest words end
+pub found_from_end : (C : Course) (len : ℕ) (tails : List Tail) (row : Row) (f : IsFront C len tails row) (end : Option End) → IsHeaviestEnd row (length row) end → (found : Option HeavyWord) → IsFoundFrom C len end found →
+    MatchOption found (IsDead C.listed.problem C.domains C.position len C.listed.rules) (λ h. IsBestOf C len h.weight h.word)
+found_from_end C len tails row f end h None none =
+    let P : Option End → Type 0 = λ e. IsHeaviestEnd row (length row) e in
+    λ u long over clean. none_of_all C len tails row f (subst P none h) u (record { long = long; over = over; clean = clean })
+found_from_end C len tails row f end h (Some w) best = best.0
+
+-- the end is the wanted one if its weight is the least at least
+abbrev pub IsWanted : Option End → ℤ → Option End → Type 0
+IsWanted end least wanted = MatchOption wanted (IfSome end (λ e. e.weight <ℤ least)) (λ e. (end ≡ Some e) × (least ≤ℤ e.weight))
+
+below_wanted : (C : Course) (len : ℕ) (tails : List Tail) (row : Row) (f : IsFront C len tails row) (end : Option End) (least : ℤ) → IsHeaviestEnd row (length row) end → IfSome end (λ e. e.weight <ℤ least) → AreBelow C len least
+below_wanted C len tails row f None least h less = λ u of. absurd (none_of_all C len tails row f h u of)
+below_wanted C len tails row f (Some e) least h less = below_end C len tails row f e least h less
+
+-- the same where the end is wanted
+pub found_from_wanted : (C : Course) (len : ℕ) (tails : List Tail) (row : Row) (f : IsFront C len tails row) (end wanted : Option End) (least given : ℤ) → given ≡ least → IsHeaviestEnd row (length row) end → IsWanted end given wanted → (found : Option HeavyWord) →
+    IsFoundFrom C len wanted found → MatchOption found (AreBelow C len least) (λ h. IsBestOf C len h.weight h.word × (least ≤ℤ h.weight))
+found_from_wanted C len tails row f end None least given same h w None none =
+    let P : ℤ → Type 0 = λ z. AreBelow C len z in
+    subst P same (below_wanted C len tails row f end given h w)
+found_from_wanted C len tails row f end (Some e) least given same h w None none = absurd (cc)
+found_from_wanted C len tails row f end None least given same h w (Some b) best = absurd best.1
+found_from_wanted C len tails row f end (Some e) least given same h w (Some b) best = (best.0, omega (arith, ints, same, w.1, best.1))

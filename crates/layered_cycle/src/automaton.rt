@@ -13,7 +13,7 @@ use std::alloc::{AllocError, Global};
 use word_tail::{Tail, TailRules};
 
 // Where a symbol leads from a state.
-#[derive(Clone, Copy, Debug)]
+#[derive(Clone, Copy)]
 pub enum Move {
     // It wasn't asked for yet.
     Unknown,
@@ -25,7 +25,7 @@ pub enum Move {
 
 // The tails that were met so far, and the moves that were asked for (rules on sequences as automata: G. Pesant, 2004).
 // A move is judged by the rules once and is a look-up from then on, so one automaton serves all layers of a leaf.
-#[derive(Debug, Drop)]
+#[derive(Drop)]
 pub struct Automaton {
     // The tail of each state.
     pub tails: Vec<Tail>,

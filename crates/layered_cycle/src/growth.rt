@@ -16,7 +16,7 @@ use std::alloc::{AllocError, Global};
 use word_tail::{Tail, TailRules};
 
 // The steps of a layer, and the tails that they lead to: the nodes of the next layer.
-#[derive(Debug, Drop)]
+#[derive(Drop)]
 pub struct Growth {
     pub steps: Vec<Step>,
     pub nodes: Vec<Tail>,
@@ -38,10 +38,10 @@ fn node_of(
     requires laid { IsLaid automaton.old nodes.old.items states.old.items }
     ensures automaton { OnOk result (IsAutomaton rules.now automaton.new) }
     ensures tails { OnOk result (automaton.new.tails.items ≡ automaton.old.tails.items) }
-    ensures few { length nodes.new.items < 2 ^ 32 }
-    ensures grows { Extends nodes.old.items nodes.new.items }
+    ensures few { OnOk result (length nodes.new.items < 2 ^ 32) }
+    ensures grows { OnOk result (Extends nodes.old.items nodes.new.items) }
     ensures laid { OnOk result (IsLaid automaton.new nodes.new.items states.new.items) }
-    ensures distinct { AreDistinct nodes.old.items → AreDistinct nodes.new.items }
+    ensures distinct { OnOk result (AreDistinct nodes.old.items → AreDistinct nodes.new.items) }
     ensures node { IfOk result (λ node. (t : Tail) → StandsAt automaton.new.tails.items state t
         → StandsAt nodes.new.items node t) }
     ensures others { IfOk result (λ node. (k : ℕ) → length nodes.old.items ≤ k → k < length nodes.new.items

@@ -1,5 +1,5 @@
 // The heaviest clean words.
-ghost use Rattle.std.specs.Prelude.{◌≡◌, ◌<◌, ◌≤◌, length, Some, IfOk, OnOk, IsTrue, false, MatchOption, ◌<ℤ◌, ◌≤ℤ◌};
+ghost use Rattle.std.specs.Prelude.{◌≡◌, ◌<◌, ◌≤◌, length, Some, None, IfOk, IfSome, IsTrue, false, MatchOption, ◌<ℤ◌, ◌≤ℤ◌};
 ghost use Rattle.rwsp_terms.specs.declared.limits.TheConstants.{LONGEST_WORD};
 ghost use Rattle.rwsp_terms.specs.Instance.{cells};
 ghost use Rattle.refutation_terms.specs.Leaf.{IsDead};
@@ -9,9 +9,9 @@ ghost use Rattle.layered_cycle.specs.Front.{course, AreKept, IsFront, IsHeaviest
 
 use crate::automaton::Automaton;
 use crate::ends::{End, heaviest_end};
-use crate::front::tail_at;
+use crate::front::{Front, tail_at};
 use crate::going_back::best_word_to;
-use crate::kept_fronts::{KeptFronts, fronts_of};
+use crate::kept_fronts::fronts_of;
 use crate::{GainAfter, HeavyWord};
 use domain_store::Domains;
 use std::alloc::{AllocError, Global};
@@ -58,13 +58,19 @@ fn heaviest_by<G: GainAfter>(
         (λ h. IsBestOf (course rules.now doms.now p (G.gain_after_of gain.now)) len h.weight h.word)) }
 {
     let fronts = fronts_of(alloc, automaton, rules, doms, p, len, gain)?;
-    match heaviest_end(&fronts.last.row) {
-        Some(end) => {
-            let heavy = best_of(alloc, automaton, rules, doms, p, len, gain, fronts, end)?;
-            Ok(Some(heavy))
-        }
-        None => Ok(None),
-    }
+    let end = heaviest_end(&fronts.last.row);
+    best_of(
+        alloc,
+        automaton,
+        rules,
+        doms,
+        p,
+        len,
+        gain,
+        fronts.kept,
+        &fronts.last,
+        end,
+    )
 }
 
 /// The heaviest clean word of this length over the domains, from a position on, and the least of its weight, if it
@@ -111,14 +117,31 @@ fn reaching_by<G: GainAfter>(
         × (least ≤ℤ h.weight))) }
 {
     let fronts = fronts_of(alloc, automaton, rules, doms, p, len, gain)?;
-    let Some(end) = heaviest_end(&fronts.last.row) else {
-        return Ok(None);
-    };
-    if is_below(end, least) {
-        return Ok(None);
+    let end = end_reaching(heaviest_end(&fronts.last.row), least);
+    best_of(
+        alloc,
+        automaton,
+        rules,
+        doms,
+        p,
+        len,
+        gain,
+        fronts.kept,
+        &fronts.last,
+        end,
+    )
+}
+
+// The end, where its weight is `least` at least.
+fn end_reaching(end: Option<End>, least: i64) -> Option<End>
+    ensures { MatchOption result (IfSome end (λ e. e.weight <ℤ least)) (λ e. (end ≡ Some e) × (least ≤ℤ e.weight)) }
+{
+    let found = end?;
+    if is_below(found, least) {
+        None
+    } else {
+        Some(found)
     }
-    let heavy = best_of(alloc, automaton, rules, doms, p, len, gain, fronts, end)?;
-    Ok(Some(heavy))
 }
 
 fn is_below(end: End, least: i64) -> bool
@@ -128,7 +151,7 @@ fn is_below(end: End, least: i64) -> bool
     i64::from(end.weight) < least
 }
 
-// The best word, by where it ends.
+// The best word, by where it ends; None where no end is given.
 fn best_of<G: GainAfter>(
     alloc: Global,
     automaton: &mut Automaton,
@@ -137,36 +160,29 @@ fn best_of<G: GainAfter>(
     p: u32,
     len: u32,
     gain: &G,
-    fronts: KeptFronts,
-    end: End,
-) -> Result<HeavyWord, AllocError>
+    kept: Vec<Front>,
+    last: &Front,
+    end: Option<End>,
+) -> Result<Option<HeavyWord>, AllocError>
     requires automaton { IsAutomaton rules.now automaton.old }
     requires belongs { BelongsTo rules.now.problem doms.now }
     requires position { p < cells rules.now.problem }
     requires few { len ≤ LONGEST_WORD }
-    requires kept { AreKept (course rules.now doms.now p (G.gain_after_of gain.now)) len fronts.kept.items }
-    requires last { IsFront (course rules.now doms.now p (G.gain_after_of gain.now)) len fronts.last.tails.items
-        fronts.last.row }
-    requires end { IsHeaviestEnd fronts.last.row (length fronts.last.row) (Some end) }
-    ensures automaton { OnOk result (IsAutomaton rules.now automaton.new) }
-    ensures best { IfOk result
-        (λ h. IsBestOf (course rules.now doms.now p (G.gain_after_of gain.now)) len h.weight h.word) }
-    ensures weight { IfOk result (λ h. h.weight ≡ end.weight) }
+    requires kept { AreKept (course rules.now doms.now p (G.gain_after_of gain.now)) len kept.items }
+    requires last { IsFront (course rules.now doms.now p (G.gain_after_of gain.now)) len last.now.tails.items
+        last.now.row }
+    requires end { IfSome end (λ e. IsHeaviestEnd last.now.row (length last.now.row) (Some e)) }
+    ensures { IfOk result (λ found. MatchOption found (end ≡ None)
+        (λ h. IsBestOf (course rules.now doms.now p (G.gain_after_of gain.now)) len h.weight h.word
+        × MatchOption end ⊥ (λ e. h.weight ≡ e.weight))) }
 {
-    let last = tail_at(&fronts.last.tails, end.node);
-    let word = best_word_to(
-        alloc,
-        automaton,
-        rules,
-        doms,
-        p,
-        len,
-        gain,
-        fronts.kept,
-        last,
-    )?;
-    Ok(HeavyWord {
+    let Some(end) = end else {
+        return Ok(None);
+    };
+    let tail = tail_at(&last.tails, end.node);
+    let word = best_word_to(alloc, automaton, rules, doms, p, len, gain, kept, tail)?;
+    Ok(Some(HeavyWord {
         weight: i64::from(end.weight),
         word,
-    })
+    }))
 }

@@ -81,9 +81,7 @@ impl Layers {
             → IsCleanOver tails.now.problem (has_domain doms.now) p len tails.now.rules u ↔ Leads g.layers 0 u) }
     {
         let graph = graph_of(alloc, tails, doms, p, len)?;
-        let problem = tails.problem().copy()?;
-        let rules = tails.rules().copy()?;
-        let domains = doms.copy()?;
+        let (problem, rules, domains) = copies(tails, doms)?;
         Ok(Layers {
             problem,
             rules,
@@ -149,4 +147,16 @@ impl Layers {
     {
         &self.graph.node_counts
     }
+}
+
+// Copies of the problem, the rules and the domains.
+fn copies(tails: &TailRules, doms: &Domains) -> Result<(Problem, RuleList, Domains), AllocError>
+    ensures problem { IfOk result (λ r. r.0 ≡ tails.now.problem) }
+    ensures rules { IfOk result (λ r. r.1 ≡ tails.now.rules) }
+    ensures domains { IfOk result (λ r. r.2 ≡ doms.now) }
+{
+    let problem = tails.problem().copy()?;
+    let rules = tails.rules().copy()?;
+    let domains = doms.copy()?;
+    Ok((problem, rules, domains))
 }

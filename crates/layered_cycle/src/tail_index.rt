@@ -23,7 +23,7 @@ const CODES: usize = ENDS * RUNS * LENGTHS * 4;
 // one index serves one list after another and is never cleared (the sparse sets of Briggs and Torczon, 1993). Each tail
 // of a word has a code of its own, so a look-up reads one place; where two tails had one code, it would go along the
 // list.
-#[derive(Debug, Drop)]
+#[derive(Drop)]
 pub struct TailIndex {
     places: Vec<u32>,
 }

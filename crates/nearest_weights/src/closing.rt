@@ -73,9 +73,8 @@ fn small_leaf(
     let p = field.place.position;
     if let Some(small) = small_weights(alloc, field, sweep, weights, turns)? {
         let fewer = few_turns(field, sweep, &small, turns);
-        let line = leaf_of(alloc, problem, tails, doms, goal, p, fewer, &small)?;
-        if line.is_some() {
-            return Ok(line);
+        if let Some(line) = leaf_of(alloc, problem, tails, doms, goal, p, fewer, &small)? {
+            return Ok(Some(line));
         }
     }
     let fewer = few_turns(field, sweep, weights, turns);

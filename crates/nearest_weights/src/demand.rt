@@ -4,7 +4,7 @@ use rwsp_terms::Symbol;
 use std::alloc::{AllocError, Global};
 
 // The days of a week and the number of symbols, by which each day and symbol has a coordinate.
-#[derive(Clone, Copy, Debug, Drop)]
+#[derive(Clone, Copy, Drop)]
 pub struct Shape {
     pub days: u32,
     pub symbols: u32,

@@ -75,8 +75,8 @@ impl NearestWeights {
     pub fn new(alloc: Global, problem: &Problem) -> Result<NearestWeights, AllocError>
         ensures { IfOk result (λ n. n.problem ≡ problem.now) }
     {
-        let copy = problem.copy()?;
         let (demand, top, free_top) = demand_and_weights(alloc, problem)?;
+        let copy = problem.copy()?;
         let (tails, words) = rules_and_words(alloc, problem)?;
         Ok(NearestWeights {
             problem: copy,
@@ -255,8 +255,13 @@ fn rules_and_words(
     ensures { IfOk result (λ r. HasRules problem.now r.0) }
 {
     let tails = tails_of(alloc, problem)?;
-    let words = Words::of(alloc, &tails)?;
-    Ok((tails, words))
+    match Words::of(alloc, &tails) {
+        Ok(words) => Ok((tails, words)),
+        Err(error) => {
+            drop(tails);
+            Err(error)
+        }
+    }
 }
 
 // Tail rules with all short rules of the problem.

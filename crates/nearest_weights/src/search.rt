@@ -9,14 +9,14 @@ use rwsp_terms::limits::GREATEST_WEIGHT;
 use std::alloc::{AllocError, Global};
 
 // How many words are tried, and how many steps are taken toward the demand after each.
-#[derive(Clone, Copy, Debug, Drop)]
+#[derive(Clone, Copy, Drop)]
 pub struct Effort {
     pub rounds: u32,
     pub steps: u32,
 }
 
 // How many turns words have at first, and at most.
-#[derive(Clone, Copy, Debug, Drop)]
+#[derive(Clone, Copy, Drop)]
 pub struct Turns {
     pub first: u32,
     pub most: u32,
@@ -71,10 +71,31 @@ pub fn search(
     requires { (1 ≤ turns.first) × (turns.first ≤ turns.most) }
     ensures { IfOk result (λ found. IfSome found (λ t. (1 ≤ t) × (t ≤ turns.most))) }
 {
+    let mut hull = hull_of(alloc, field.demand, turns.first)?;
+    search_by(alloc, field, sweep, &mut hull, weights, turns, effort)
+}
+
+// The hull of no words, and how far it is from the demand for `turns` turns.
+fn hull_of(alloc: Global, demand: &Demand, turns: u32) -> Result<Hull, AllocError> {
+    let low = times(alloc, &demand.low, turns)?;
+    let high = times(alloc, &demand.high, turns)?;
+    Hull::new(alloc, low, high)
+}
+
+// The same search by a hull, which is owned above, so that no round has it to drop.
+fn search_by(
+    alloc: Global,
+    field: Field<'_>,
+    sweep: &mut Sweep,
+    hull: &mut Hull,
+    weights: &mut Vec<i64>,
+    turns: Turns,
+    effort: Effort,
+) -> Result<Option<u32>, AllocError>
+    requires { (1 ≤ turns.first) × (turns.first ≤ turns.most) }
+    ensures { IfOk result (λ found. IfSome found (λ t. (1 ≤ t) × (t ≤ turns.most))) }
+{
     let days = turns.first.wrapping_mul(field.place.shape.cells);
-    let low = times(alloc, &field.demand.low, turns.first)?;
-    let high = times(alloc, &field.demand.high, turns.first)?;
-    let mut hull = Hull::new(alloc, low, high)?;
     for round in 0..rounds_within(field, days, effort) {
         let Some(word) = field.heaviest(sweep, weights, turns.first) else {
             return Ok(None);
@@ -83,15 +104,9 @@ pub fn search(
             return Ok(Some(turns.first));
         }
         let counts = sweep.counts(alloc, field.words, field.place, days, weights.len())?;
-        if hull.contains(&counts) {
+        if !turn(alloc, hull, counts, effort.steps, weights)? {
             return Ok(None);
         }
-        hull.push(counts)?;
-        hull.descend(effort.steps);
-        let Some(next) = direction(alloc, hull.off())? else {
-            return Ok(None);
-        };
-        *weights = next;
         if round % ROUNDS_PER_TRY == ROUNDS_PER_TRY - 1 {
             let more = more_turns(field, sweep, weights, turns);
             if more.is_some() {
@@ -100,6 +115,27 @@ pub fn search(
         }
     }
     Ok(None)
+}
+
+// Puts the counts of one more word into the hull, and turns the weights to the direction that leads from there to the
+// demand. False where the word is there already, or the hull reaches the demand nearly.
+fn turn(
+    alloc: Global,
+    hull: &mut Hull,
+    counts: Vec<i64>,
+    steps: u32,
+    weights: &mut Vec<i64>,
+) -> Result<bool, AllocError> {
+    if hull.contains(&counts) {
+        return Ok(false);
+    }
+    hull.push(counts)?;
+    hull.descend(steps);
+    let Some(next) = direction(alloc, hull.off())? else {
+        return Ok(false);
+    };
+    *weights = next;
+    Ok(true)
 }
 
 // As many rounds as look at no more than `MOST_LOOKS` steps.

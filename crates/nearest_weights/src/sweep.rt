@@ -13,7 +13,7 @@ use std::mem;
 pub const MOST_CHOICES: u32 = 2_000_000;
 
 // Where words lie: from a position on, over domains, for a number of days.
-#[derive(Debug, Drop)]
+#[derive(Drop)]
 pub struct Place {
     pub shape: Shape,
     pub position: u32,
@@ -80,7 +80,7 @@ fn bit(x: Symbol) -> u16 {
 
 // The room for passes: what the words from each node of a layer to the end weigh at most, for the present layer and for
 // the next; and for each day and node which step comes first.
-#[derive(Debug, Drop)]
+#[derive(Drop)]
 pub struct Sweep {
     now: Vec<Option<i64>>,
     next: Vec<Option<i64>>,

@@ -20,30 +20,79 @@ const MOST_STEPS: usize = 1_000_000;
 #[derive(Debug, Drop)]
 pub struct Words {
     layers: Layers,
+    ways: Ways,
+}
+
+// What is found out about the ways through layers.
+#[derive(Debug, Drop)]
+struct Ways {
     period: Option<usize>,
     // For each layer and node before it, whether the words to the node end with the day off.
     ends_off: Vec<Vec<bool>>,
+}
+
+impl Ways {
+    // None where there is no room for the layers.
+    fn of(alloc: Global, layers: &Layers) -> Result<Option<Ways>, AllocError> {
+        if step_count(layers.layers()) > MOST_STEPS {
+            return Ok(None);
+        }
+        let period = period_of(layers.layers());
+        let ends_off = ends_off(alloc, layers.layers(), layers.node_counts())?;
+        Ok(Some(Ways { period, ends_off }))
+    }
+}
+
+// Whether layers of more days may be better than these words of so many.
+fn are_longer_wanted(words: &Option<Words>, days: u32) -> bool {
+    match words {
+        Some(words) => words.ways.period.is_none() && days < LONGEST_WORD,
+        None => false,
+    }
+}
+
+// Puts the value there, if it is one; whether it is. (A generic call drops words in one step of the proof.)
+fn put<T: Drop>(place: &mut Option<T>, value: Option<T>) -> bool {
+    let is_some = value.is_some();
+    if is_some {
+        *place = value;
+    }
+    is_some
 }
 
 impl Words {
     // The words, of as many days as there is room for; none where there is hardly any.
     // Cost: twice that of the layers of the first days until they come again.
     pub fn of(alloc: Global, tails: &TailRules) -> Result<Option<Words>, AllocError> {
-        let problem = tails.problem();
-        problem.prove_limits();
-        let doms = Domains::new(alloc, problem)?;
-        let mut words = None;
+        tails.problem().prove_limits();
+        let doms = Domains::new(alloc, tails.problem())?;
+        let words = Words::over(alloc, tails, &doms);
+        drop(doms);
+        words
+    }
+
+    // The same over domains that have all symbols.
+    fn over(alloc: Global, tails: &TailRules, doms: &Domains) -> Result<Option<Words>, AllocError>
+        requires { BelongsTo tails.now.problem doms.now }
+    {
         let mut days = FIRST_DAYS;
-        for _ in 0..10 {
-            let Some(longer) = Words::of_days(alloc, tails, &doms, days)? else {
-                break;
-            };
-            let is_last = longer.period.is_some() || days == LONGEST_WORD;
-            words = Some(longer);
-            if is_last {
+        let mut words = Words::of_days(alloc, tails, doms, days)?;
+        for _ in 0..9 {
+            if !are_longer_wanted(&words, days) {
                 break;
             }
             days = (2 * days).min(LONGEST_WORD);
+            match Words::of_days(alloc, tails, doms, days) {
+                Ok(longer) => {
+                    if !put(&mut words, longer) {
+                        break;
+                    }
+                }
+                Err(error) => {
+                    drop(words);
+                    return Err(error);
+                }
+            }
         }
         Ok(words)
     }
@@ -60,21 +109,23 @@ impl Words {
     {
         tails.problem().prove_limits();
         let layers = Layers::of(alloc, tails, doms, 0, days)?;
-        if step_count(layers.layers()) > MOST_STEPS {
-            return Ok(None);
+        // `drop` is one step of the proof, where a `?` would have a step for each part of the layers.
+        match Ways::of(alloc, &layers) {
+            Ok(Some(ways)) => Ok(Some(Words { layers, ways })),
+            Ok(None) => {
+                drop(layers);
+                Ok(None)
+            }
+            Err(error) => {
+                drop(layers);
+                Err(error)
+            }
         }
-        let period = period_of(layers.layers());
-        let ends_off = ends_off(alloc, layers.layers(), layers.node_counts())?;
-        Ok(Some(Words {
-            layers,
-            period,
-            ends_off,
-        }))
     }
 
     // The number of days for which there are layers.
     pub fn days(&self) -> u32 {
-        match self.period {
+        match self.ways.period {
             Some(_) => LONGEST_WORD,
             None => self.layers.len(),
         }
@@ -90,7 +141,7 @@ impl Words {
 
     // For each node before a day, whether the words to it end with the day off.
     pub fn ends_off(&self, day: u32) -> &[bool] {
-        match self.ends_off.get(self.place(day as usize)) {
+        match self.ways.ends_off.get(self.place(day as usize)) {
             Some(ends) => ends,
             None => &[],
         }
@@ -99,7 +150,7 @@ impl Words {
     // The layer of a day.
     fn place(&self, day: usize) -> usize {
         let len = self.layers.layers().len();
-        match self.period {
+        match self.ways.period {
             Some(period) if len <= day => {
                 let on = (day - len).checked_rem(period).unwrap_or(0);
                 len.saturating_sub(period).saturating_add(on)
@@ -123,7 +174,7 @@ impl Words {
     }
 }
 
-// For each layer and node before it, whether the steps to the node are by the day off, as all are where one is.
+// For each layer and node before it, whether the steps to the node are by the day off.
 fn ends_off(
     alloc: Global,
     layers: &[Layer],
@@ -131,16 +182,22 @@ fn ends_off(
 ) -> Result<Vec<Vec<bool>>, AllocError> {
     let mut all = Vec::new(alloc);
     all.push(vec![in alloc; false]?)?;
-    for (layer, count) in layers.iter().zip(node_counts.iter().skip(1)) {
-        let mut ends = vec![in alloc; false; *count as usize]?;
-        for step in layer.steps() {
-            if let Some(end) = ends.get_mut(step.to as usize) {
-                *end = step.symbol.number == 0;
-            }
-        }
-        all.push(ends)?;
+    for day in 0..layers.len() {
+        let count = node_counts.get(day + 1).copied().unwrap_or(0);
+        all.push(ends_behind(alloc, &layers[day], count)?)?;
     }
     Ok(all)
+}
+
+// For each of `count` nodes behind the layer, whether the steps to it are by the day off, as all are where one is.
+fn ends_behind(alloc: Global, layer: &Layer, count: u32) -> Result<Vec<bool>, AllocError> {
+    let mut ends = vec![in alloc; false; count as usize]?;
+    for step in layer.steps() {
+        if let Some(end) = ends.get_mut(step.to as usize) {
+            *end = step.symbol.number == 0;
+        }
+    }
+    Ok(ends)
 }
 
 fn step_count(layers: &[Layer]) -> usize {
@@ -163,11 +220,8 @@ fn period_of(layers: &[Layer]) -> Option<usize> {
 
 // Whether each layer of the second half is the same as the one `period` days before.
 fn comes_again(layers: &[Layer], period: usize) -> bool {
-    let half = layers.len() / 2;
-    let later = layers.iter().skip(half);
-    let earlier = layers.iter().skip(half.saturating_sub(period));
-    for (a, b) in later.zip(earlier) {
-        if a.steps() != b.steps() {
+    for day in layers.len() / 2..layers.len() {
+        if layers[day].steps() != layers[day.saturating_sub(period)].steps() {
             return false;
         }
     }

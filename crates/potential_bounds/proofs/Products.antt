@@ -1,5 +1,5 @@
 -- Weights, products and sums are small.
-use Rattle.std.proofs.Common.{◌≡◌, ℕ, suc, ◌+◌, ◌*◌, List, [], ◌∷◌, Bool, true, false, ◌&&◌, ◌==◌, ap, sym, ◌∙◌, subst, arith, pos, negsuc, neg_ℤ, ℤ, w32, w64, to_z, of_z, if◌then◌else◌}
+use Rattle.std.proofs.Common.{◌≡◌, ℕ, suc, ◌+◌, ◌*◌, ◌≤◌, List, [], ◌∷◌, Bool, true, false, ◌&&◌, ◌==◌, refl, ap, sym, ◌∙◌, subst, arith, pos, negsuc, neg_ℤ, ℤ, w32, w64, to_z, of_z, if◌then◌else◌}
 use Rattle.std.specs.Prelude.{◌≤ℤ◌, ◌+ℤ◌, ◌*ℤ◌, All}
 use Rattle.std.specs.List.{range_with_len}
 use Rattle.std.proofs.lemmas.Int.{ints}
@@ -56,3 +56,17 @@ sum_step f a n k at sum r new is small one here few more = (
 
 pub value_small : (y : List Weight) (j x : ℕ) (v : ℤ) → AreWeights y → v ≡ weight_at y j x → IsBetween 1000 v
 value_small y j x v h is = let P : ℤ → Type 0 = IsBetween 1000 in subst P (sym is) (weight_small y j x h)
+
+-- a product of a number of turns and a total
+pub turns_small : (n : ℕ) (b : ℤ) → n ≤ 100000 → IsBetween 4000000000 b → IsBetween 400000000000000 (pos n *ℤ b)
+turns_small n b few h =
+    let up : (pos n *ℤ b) ≤ℤ pos (n * 4000000000) = times_pos_le n b (pos 4000000000) h.1 in
+    let down : (pos n *ℤ neg_ℤ (pos 4000000000)) ≤ℤ (pos n *ℤ b) = times_pos_le n (neg_ℤ (pos 4000000000)) b h.0 in
+    (omega (arith, ints, down, few), omega (arith, ints, up, few))
+
+-- a product of a reward and a goal
+pub reward_small : (n m : ℕ) → n ≤ 1000 → m ≤ 601 → n * m ≤ 601000
+reward_small n m few less =
+    let up : (pos n *ℤ pos m) ≤ℤ pos (n * 601) = times_pos_le n (pos m) (pos 601) (omega (arith, ints, less)) in
+    let same : pos n *ℤ pos m ≡ pos (n * m) = refl in
+    omega (arith, ints, up, same, few)

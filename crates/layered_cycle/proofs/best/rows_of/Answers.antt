@@ -1,5 +1,5 @@
 use Rattle.std.proofs.Common.{◌≡◌, ◌-◌, suc, arith}
-use Rattle.layered_cycle.proofs.Passes.{pass_started, pass_gone_on, layer_fits}
+use Rattle.layered_cycle.proofs.Passes.{pass_started, pass_gone_on, pass_needs, layer_fits}
 use Rattle.layered_cycle.proofs.best.rows_of.Goals as goal
 
 pub loop-day-init : goal.loop-day-init
@@ -19,6 +19,11 @@ pub row_before-requires-clause-to : goal.row_before-requires-clause-to
 row_before-requires-clause-to g c =
     let back : c.loop-day.day ≡ suc (c.loop-day.day - 1) = omega (arith, c.loop-day-test.true) in
     (layer_fits _ _ _ _ _ _ _ _ _ c.requires.layers c.loop-day.invariant back c.index-layers-day.is c.steps.ensures c.first.ensures).to
+
+pub row_before-requires-clause-light : goal.row_before-requires-clause-light
+row_before-requires-clause-light g c =
+    let back : c.loop-day.day ≡ suc (c.loop-day.day - 1) = omega (arith, c.loop-day-test.true) in
+    rw c.first.ensures (pass_needs _ _ _ _ _ _ c.requires.few c.loop-day.invariant back)
 
 pub loop-day-preserved : goal.loop-day-preserved
 loop-day-preserved g c =

@@ -1,6 +1,6 @@
-use Rattle.std.proofs.Common.{refl, arith}
+use Rattle.std.proofs.Common.{◌≡◌, ℕ, refl, subst, arith}
 use Rattle.std.proofs.lemmas.Result.{IfOk-from_err}
-use Rattle.layered_cycle.specs.Front.{Course, course}
+use Rattle.layered_cycle.specs.Front.{Course, course, IsFront, AreKept}
 use Rattle.layered_cycle.proofs.kept_fronts.fronts_of.Goals as goal
 
 pub returns-in_err-last : goal.returns-in_err-last
@@ -32,3 +32,18 @@ loop-day-preserved g c =
       kept = c.in_ok-keep.ensures C (rw c.replace-before.ensures.value c.loop-day.invariant.last) c.loop-day.invariant.kept;
       last = rw c.replace-before.ensures.after c.in_ok-next.ensures.front;
     }
+
+pub returns-clause-automaton : goal.returns-clause-automaton
+returns-clause-automaton g c = c.loop-day.invariant.automaton
+
+pub returns-clause-kept : goal.returns-clause-kept
+returns-clause-kept g c =
+    let C : Course = course c.args.rules.now c.args.doms.now c.args.p (g.G.GainAfter.gain_after_of c.args.gain.now) in
+    let end : c.loop-day.day ≡ c.args.len = omega arith in
+    subst (λ (n : ℕ). AreKept C n c.loop-day.kept.items) end c.loop-day.invariant.kept
+
+pub returns-clause-last : goal.returns-clause-last
+returns-clause-last g c =
+    let C : Course = course c.args.rules.now c.args.doms.now c.args.p (g.G.GainAfter.gain_after_of c.args.gain.now) in
+    let end : c.loop-day.day ≡ c.args.len = omega arith in
+    subst (λ (n : ℕ). IsFront C n c.loop-day.last.tails.items c.loop-day.last.row) end c.loop-day.invariant.last
