@@ -7,3 +7,4 @@ pub mod Forced
 pub mod OneWord
 pub mod Finding
 pub mod Volume
+pub mod Reasons

@@ -8,6 +8,7 @@ ghost use Rattle.refutation_terms.specs.declared.lines.Line.TheVariants.{Few};
 ghost use Rattle.refutation_terms.specs.declared.lines.Turn.{Turn};
 ghost use Rattle.refutation_terms.specs.Log.{GoalFits, HoldsFor};
 ghost use Rattle.domain_store.specs.Store.{Store, BelongsTo, has_domain};
+ghost use Rattle.propagators.specs.Looks.{SameReasons};
 ghost use Rattle.roster_search.specs.Guides.{IsLeafGiven, IsGiven, IsSight, AreUnweighedFor};
 
 use crate::Guide;
@@ -59,6 +60,16 @@ pub enum Sight {
     Quiet,
 }
 
+impl Sight {
+    /// How the search comes to the domains behind what it writes for this.
+    pub fn next_arrival(&self) -> Arrival {
+        match self {
+            Sight::Cut { .. } => Arrival::Cut,
+            _ => Arrival::NewCase,
+        }
+    }
+}
+
 /// What is seen under the domains. With a goal the leaf of few weeks comes first; then the propagator's leaf; then what
 /// the guide gives, where it is due; then a spent symbol.
 pub fn see<A: Propagator, G: Guide>(
@@ -79,9 +90,8 @@ pub fn see<A: Propagator, G: Guide>(
     ensures sight { IfOk result (λ sight.
         IsSight problem.now goal (A.leaves propagator.old doms.now) (A.spent propagator.old doms.now) doms.now sight) }
     ensures tracks { A.tracks propagator.new doms.now }
-    ensures serves { (P : Instance) → A.serves propagator.old P ↔ A.serves propagator.new P }
-    ensures leaves { (S : Store) (line : Line) → A.leaves propagator.old S line ↔ A.leaves propagator.new S line }
-    ensures spent { (S : Store) (p : ℕ) (x : Symbol) → A.spent propagator.old S p x ↔ A.spent propagator.new S p x }
+    ensures same { SameReasons (A.serves propagator.old) (A.serves propagator.new)
+        (A.leaves propagator.old) (A.leaves propagator.new) (A.spent propagator.old) (A.spent propagator.new) }
     ensures guide { (P : Instance) (g : Option ℕ) → G.serves guide.old P g ↔ G.serves guide.new P g }
 {
     if is_short_of(problem, goal, doms) {
