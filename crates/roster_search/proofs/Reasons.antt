@@ -48,10 +48,6 @@ sight_by P goal serves serves' leaves leaves' spent spent' S sight same h = by_k
     )
     by_kind Quiet h = (still_open h.0, λ p x spent. h.1 p x ((same.spent S p x).1 spent))
 
--- nothing was seen
-pub quiet : (P : Instance) (goal : Option ℕ) (leaves : Line → Type 0) (spent : ℕ → Symbol → Type 0) (S : Store) (sight : Sight) → sight ≡ Quiet → IsSight P goal leaves spent S sight → IsSight P goal leaves spent S Quiet
-quiet P goal leaves spent S sight is h = subst (IsSight P goal leaves spent S) is h
-
 -- lines are under way with a turn and a goal that are equal
 
 pub of_turn_and_goal : (P : Instance) (turn turn' : Option Turn) (goal goal' : Option ℕ) (budget : ℕ) (leaves : Leaves) (spent : Spent) (s : Progress) → turn ≡ turn' → goal ≡ goal' → IsUnderWay P turn goal budget leaves spent s → IsUnderWay P turn' goal' budget leaves spent s

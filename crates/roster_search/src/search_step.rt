@@ -64,8 +64,8 @@ pub fn step<A: Propagator, G: Guide>(
     write_seen(problem, budget, propagator, guide, progress, sight)
 }
 
-// Writes what was seen, or splits where nothing was, and tells the propagator. Or it gives the roster that was seen, or
-// that of decided domains.
+// Writes what was seen, and tells the propagator, or gives the roster that was seen; where nothing was seen it goes on
+// by choice.
 fn write_seen<A: Propagator, G: Guide>(
     problem: &Problem,
     budget: u32,
@@ -107,13 +107,49 @@ fn write_seen<A: Propagator, G: Guide>(
             write_cut(problem, budget, propagator, progress, p, x, line)?;
             Ok(None)
         }
-        Sight::Quiet => match next_split(problem, guide, progress.walk.domains()) {
-            Some(split) => {
-                write_split(problem, budget, propagator, progress, split)?;
-                Ok(None)
-            }
-            None => Ok(Some(met_roster(problem, progress.goal, progress.walk.domains())?)),
-        },
+        Sight::Quiet => write_choice(problem, budget, propagator, guide, progress),
+    }
+}
+
+// Splits open domains that have no spent symbol, and tells the propagator. Where each position has one symbol it gives
+// their roster.
+fn write_choice<A: Propagator, G: Guide>(
+    problem: &Problem,
+    budget: u32,
+    propagator: &mut A,
+    guide: &mut G,
+    progress: &mut Progress,
+) -> Result<Option<Roster>, AllocError>
+    requires under_way { IsUnderWay problem.now progress.old.turn progress.old.goal budget
+        (A.leaves propagator.old) (A.spent propagator.old) progress.old }
+    requires part { progress.old.walk.whole ≡ false }
+    requires room { length progress.old.lines.items < budget }
+    requires serves { A.serves propagator.old problem.now }
+    requires tracks { A.tracks propagator.old progress.old.walk.store }
+    requires plain { HasPlainLeaves problem.now (A.leaves propagator.old) }
+    requires guide { G.serves guide.old problem.now progress.old.goal }
+    requires is_open { IsOpen problem.now progress.old.goal (A.leaves propagator.old progress.old.walk.store)
+        progress.old.walk.store }
+    requires unspent { (p : ℕ) (x : Symbol) → A.spent propagator.old progress.old.walk.store p x → ⊥ }
+    ensures under_way { IfOk result (λ found.
+        found ≡ None → IsUnderWay problem.now progress.old.turn progress.old.goal budget
+        (A.leaves propagator.old) (A.spent propagator.old) progress.new) }
+    ensures longer { IfOk result (λ found.
+        found ≡ None → length progress.old.lines.items < length progress.new.lines.items) }
+    ensures tracks { IfOk result (λ found. found ≡ None → A.tracks propagator.new progress.new.walk.store) }
+    ensures roster { IfOk result (λ found.
+        IfSome found (λ s.
+        (s.days ≡ problem.now.days) × MeetsAll problem.now s.cells × HasGoal progress.old.goal s.cells)) }
+    ensures same { SameReasons (A.serves propagator.old) (A.serves propagator.new)
+        (A.leaves propagator.old) (A.leaves propagator.new) (A.spent propagator.old) (A.spent propagator.new) }
+    ensures guide { (P : Instance) (goal : Option ℕ) → G.serves guide.old P goal ↔ G.serves guide.new P goal }
+{
+    match next_split(problem, guide, progress.walk.domains()) {
+        Some(split) => {
+            write_split(problem, budget, propagator, progress, split)?;
+            Ok(None)
+        }
+        None => Ok(Some(met_roster(problem, progress.goal, progress.walk.domains())?)),
     }
 }
 

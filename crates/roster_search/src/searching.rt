@@ -78,9 +78,17 @@ pub fn guided_search<A: Propagator, G: Guide>(
     ensures guide { (P : Instance) (g : Option ℕ) → G.serves guide.old P g ↔ G.serves guide.new P g }
 {
     let mut progress = Progress::new(alloc, problem, turn, goal)?;
-    match write_lines(alloc, problem, budget, propagator, guide, &mut progress)? {
-        Some(roster) => Ok(Found::Roster(roster)),
-        None => end(problem, budget, progress),
+    let written = write_lines(alloc, problem, budget, propagator, guide, &mut progress);
+    match written {
+        Ok(None) => end(problem, budget, progress),
+        Ok(Some(roster)) => {
+            drop(progress);
+            Ok(Found::Roster(roster))
+        }
+        Err(error) => {
+            drop(progress);
+            Err(error)
+        }
     }
 }
 

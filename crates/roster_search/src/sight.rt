@@ -1,5 +1,5 @@
 // What is seen before a line is written.
-ghost use Rattle.std.specs.Prelude.{ℕ, ◌↔◌, Option, IsTrue, IfOk};
+ghost use Rattle.std.specs.Prelude.{◌≡◌, ◌⊎◌, ℕ, ◌↔◌, Option, IsTrue, IfOk};
 ghost use Rattle.std.specs.Option.{IfSome};
 ghost use Rattle.rwsp_terms.specs.declared.data.Symbol.{Symbol};
 ghost use Rattle.rwsp_terms.specs.Instance.{Instance};
@@ -61,6 +61,13 @@ pub enum Sight {
 }
 
 impl Sight {
+    fn is_quiet(&self) -> bool {
+        match self {
+            Sight::Quiet => true,
+            _ => false,
+        }
+    }
+
     /// How the search comes to the domains behind what it writes for this.
     pub fn next_arrival(&self) -> Arrival {
         match self {
@@ -99,14 +106,36 @@ pub fn see<A: Propagator, G: Guide>(
     }
     match propagator.look(alloc, doms)? {
         Look::Closed(line) => Ok(Sight::Leaf(line)),
-        Look::Cut { p, x, line } => match given(alloc, guide, arrival, false, doms)? {
-            Some(given) => Ok(given),
-            None => Ok(Sight::Cut { p, x, line }),
-        },
-        Look::Quiet => match given(alloc, guide, arrival, true, doms)? {
-            Some(given) => Ok(given),
-            None => Ok(Sight::Quiet),
-        },
+        Look::Cut { p, x, line } => {
+            given_or(alloc, guide, arrival, doms, Sight::Cut { p, x, line })
+        }
+        Look::Quiet => given_or(alloc, guide, arrival, doms, Sight::Quiet),
+    }
+}
+
+// What the guide gives, or else what was seen.
+fn given_or<G: Guide>(
+    alloc: Global,
+    guide: &mut G,
+    arrival: Arrival,
+    doms: &Domains,
+    seen: Sight,
+) -> Result<Sight, AllocError>
+    requires problem { (P : Instance) × (goal : Option ℕ) × G.serves guide.old P goal × BelongsTo P doms.now }
+    ensures sight { IfOk result (λ sight.
+        (sight ≡ seen) ⊎ ((P : Instance) (goal : Option ℕ) → G.serves guide.old P goal → IsGiven P goal doms.now sight)) }
+    ensures serves { (P : Instance) (goal : Option ℕ) → G.serves guide.old P goal ↔ G.serves guide.new P goal }
+{
+    match given(alloc, guide, arrival, seen.is_quiet(), doms) {
+        Ok(None) => Ok(seen),
+        Ok(Some(given)) => {
+            drop(seen);
+            Ok(given)
+        }
+        Err(error) => {
+            drop(seen);
+            Err(error)
+        }
     }
 }
 

@@ -9,24 +9,24 @@ use Rattle.roster_search.proofs.Finding.{found_by, undecided_small}
 use Rattle.roster_search.proofs.Reasons.{of_turn_and_goal}
 use Rattle.roster_search.proofs.searching.guided_search.Goals as goal
 
-pub returns-in-None-clause-found : goal.returns-in-None-clause-found
-returns-in-None-clause-found g c =
+pub returns-in-Ok-None-clause-found : goal.returns-in-Ok-None-clause-found
+returns-in-Ok-None-clause-found g c =
     let P = c.args.problem.now in
     let a = c.in_ok-progress.progress in
-    let s = c.write_lines.new.progress in
+    let s = c.write_lines-written.new.progress in
     let leaves = g.A.Propagator.leaves c.args.propagator.now in
     let spent = g.A.Propagator.spent c.args.propagator.now in
     IfOk-weaker c.end.result
     (λ (found : Found). IsEnded P s.turn s.goal c.args.budget s.lines.items found)
     (λ (found : Found). IsFoundFor P c.args.turn c.args.goal c.args.budget leaves spent found)
     (λ found h. found_by P c.args.turn c.args.goal c.args.budget leaves spent s found
-    (of_turn_and_goal P a.turn c.args.turn a.goal c.args.goal c.args.budget leaves spent s c.in_ok-progress.ensures.turn c.in_ok-progress.ensures.goal (c.in_ok-roster.ensures.under_way c.in-None.is)) h)
+    (of_turn_and_goal P a.turn c.args.turn a.goal c.args.goal c.args.budget leaves spent s c.in_ok-progress.ensures.turn c.in_ok-progress.ensures.goal (c.in-Ok-None.ensures.under_way c.in-Ok-None.field-0-is)) h)
     c.end.ensures
 
-pub returns-in-None-clause-complete : goal.returns-in-None-clause-complete
-returns-in-None-clause-complete g c =
+pub returns-in-Ok-None-clause-complete : goal.returns-in-Ok-None-clause-complete
+returns-in-Ok-None-clause-complete g c =
     let P = c.args.problem.now in
-    let s = c.write_lines.new.progress in
+    let s = c.write_lines-written.new.progress in
     IfOk-weaker c.end.result
     (λ (found : Found). IsEnded P s.turn s.goal c.args.budget s.lines.items found)
     (λ (found : Found). HasSpentBudget found → c.args.budget + 1 < 2 * (shift_count P + 1) ^ cells P)
