@@ -43,7 +43,9 @@ fn refuses(
 {
     if lists(line, number, rule) {
         let stripped = strip_line(alloc, line, number, rule)?;
-        let holds = judge.holds(alloc, walk, &stripped)?;
+        let judged = judge.holds(alloc, walk, &stripped);
+        drop(stripped);
+        let holds = judged?;
         return Ok(!holds);
     }
     Ok(false)
@@ -109,7 +111,10 @@ fn refuses_behind(
     let lines = log.lines();
     let walk = walk_to(alloc, problem, log, place)?;
     let mut judge = LeafJudge::new(problem, log.named());
-    refuses(alloc, &mut judge, &walk, &lines[place], number, rule)
+    let refused = refuses(alloc, &mut judge, &walk, &lines[place], number, rule);
+    drop(judge);
+    drop(walk);
+    refused
 }
 
 /// The first line that refuses the strip of the rule; None exactly where each line holds without the rule. Lines that
@@ -129,7 +134,10 @@ pub fn refusing_line(
 {
     let mut walk = Walk::new(alloc, problem, log.turn())?;
     let mut judge = LeafJudge::new(problem, log.named());
-    first_refusing(alloc, problem, log, &mut judge, &mut walk, number, rule)
+    let found = first_refusing(alloc, problem, log, &mut judge, &mut walk, number, rule);
+    drop(judge);
+    drop(walk);
+    found
 }
 
 // The same by a walk that has read no line yet.
