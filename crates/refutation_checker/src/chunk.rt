@@ -49,7 +49,10 @@ pub fn judge_chunk(
 {
     let mut walk = chunk.walk;
     let mut judge = Judge::new(problem, named, None);
-    judge_lines(alloc, &mut judge, &mut walk, chunk.bytes, chunk.first)
+    let judged = judge_lines(alloc, &mut judge, &mut walk, chunk.bytes, chunk.first);
+    drop(judge);
+    drop(walk);
+    judged
 }
 
 // The same of lines behind the walk, the first of which has this number.

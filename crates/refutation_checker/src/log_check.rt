@@ -61,7 +61,10 @@ fn tree_refusal(
     let lines = log.lines();
     let mut walk = Walk::new(alloc, problem, log.turn())?;
     let mut judge = Judge::new(problem, log.named(), None);
-    first_refusal(alloc, &mut judge, &mut walk, log, lines.len())
+    let found = first_refusal(alloc, &mut judge, &mut walk, log, lines.len());
+    drop(judge);
+    drop(walk);
+    found
 }
 
 // The cause of the first of so many lines that has one, by a walk that has read no line yet.

@@ -7,5 +7,5 @@ pub returns-clause-refusal : goal.returns-clause-refusal
 returns-clause-refusal c =
     let P = c.args.problem.now in
     let g = c.args.log.now in
-    subst (λ (n : ℕ). IfOk c.first_refusal.result (λ found. MatchOption found (AreSound P g n) (λ why. (i : ℕ) × IsRefusedAt P g i why))) (ap length c.lines-lines.ensures.value)
-    (rw c.new-judge.ensures.problem at c.first_refusal.ensures)
+    subst (λ (n : ℕ). IfOk c.first_refusal-found.result (λ found. MatchOption found (AreSound P g n) (λ why. (i : ℕ) × IsRefusedAt P g i why))) (ap length c.lines-lines.ensures.value)
+    (rw c.new-judge.ensures.problem at c.first_refusal-found.ensures)
