@@ -56,5 +56,7 @@ fn plan_for<R: Threads + Sync, G: Gate>(
     ensures { IfOk result (IsPlanned (with_weeks problem.now weeks) budget) }
 {
     let sized = with_weeks(problem, weeks)?;
-    plan_roster(rt, alloc, &sized, budget, gate)
+    let found = plan_roster(rt, alloc, &sized, budget, gate);
+    drop(sized);
+    found
 }

@@ -97,7 +97,9 @@ fn put_log(
     ensures { OnOk result (out.new.items ≡ out.old.items ++ log_text (with_weeks problem.now weeks) log.now) }
 {
     let sized = with_weeks(problem, weeks)?;
-    let text = print_log(alloc, &sized, log)?;
+    let printed = print_log(alloc, &sized, log);
+    drop(sized);
+    let text = printed?;
     out.extend_from_slice(&text)?;
     Ok(())
 }
@@ -117,7 +119,9 @@ fn put_roster(
         out.new.items ≡ out.old.items ++ roster_text (with_weeks problem.now weeks) roster.now.cells) }
 {
     let sized = with_weeks(problem, weeks)?;
-    let text = print_roster(alloc, &sized, roster)?;
+    let printed = print_roster(alloc, &sized, roster);
+    drop(sized);
+    let text = printed?;
     out.extend_from_slice(&text)?;
     Ok(())
 }

@@ -5,7 +5,6 @@ ghost use Rattle.crew_size.specs.Sections.{AreUpToHeading, AreWholeLines, HasHea
 use crate::heading::begins_as_heading;
 
 /// How many bytes are in front of the first line that begins as a heading does; all of them where none does.
-#[tactic(auto, using(crate::proofs::Cuts::cut_at_heading, crate::proofs::Cuts::cut_at_end))]
 pub fn section_end(bytes: &[u8]) -> usize
     ensures within { result ≤ length bytes.now }
     ensures end { AreUpToHeading (take result bytes.now) (drop result bytes.now) }

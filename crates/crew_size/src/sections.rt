@@ -144,8 +144,13 @@ fn check_log<R: Threads + Sync, G: Gate>(
     let Ok(sized) = with_weeks(problem, weeks) else {
         return Err(Fail::Memory);
     };
-    match check_with(rt, alloc, &sized, log, workers, gate) {
-        Ok(_) => Ok(()),
+    let checked = check_with(rt, alloc, &sized, log, workers, gate);
+    drop(sized);
+    match checked {
+        Ok(accepted) => {
+            drop(accepted);
+            Ok(())
+        }
         Err(fail) => Err(fail),
     }
 }

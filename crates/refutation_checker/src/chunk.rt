@@ -1,5 +1,5 @@
 // The lines of a chunk, judged one after the other.
-ghost use Rattle.std.specs.Prelude.{◌+◌, ◌^◌, ◌<◌, List, length, Option};
+ghost use Rattle.std.specs.Prelude.{◌≡◌, ◌+◌, ◌^◌, ◌<◌, List, length, Option, None};
 ghost use Rattle.refutation_terms.specs.declared.lines.Line.{Line};
 ghost use Rattle.refutation_terms.specs.declared.lines.Turn.{Turn};
 ghost use Rattle.tree_walk.specs.States.{IsStateOf};
@@ -49,10 +49,31 @@ pub fn judge_chunk(
 {
     let mut walk = chunk.walk;
     let mut judge = Judge::new(problem, named, None);
-    let mut reader = LineReader::new(chunk.bytes);
-    let mut number = chunk.first;
+    let judged = judge_lines(alloc, &mut judge, &mut walk, chunk.bytes, chunk.first);
+    drop(judge);
+    drop(walk);
+    judged
+}
+
+// The same of lines behind the walk, the first of which has this number.
+fn judge_lines(
+    alloc: Global,
+    judge: &mut Judge,
+    walk: &mut Walk,
+    bytes: &[u8],
+    first: u32,
+) -> Result<bool, Fail<LogRefusal>>
+    requires plain { judge.old.goal ≡ None }
+    requires state { (turn : Option Turn) × (earlier : List Line) × IsStateOf judge.old.problem turn earlier walk.old }
+    requires few { first + length bytes.now < 2 ^ 31 }
+    ensures { (turn : Option Turn) (earlier : List Line) →
+        StandsBehind judge.old.problem turn earlier (record { walk = walk.old; bytes = bytes.now; first = first }) →
+        IsJudged judge.old.problem judge.old.named turn earlier bytes.now result }
+{
+    let mut reader = LineReader::new(bytes);
+    let mut number = first;
     while let Some(bytes) = reader.next() {
-        match judge.read(alloc, &mut walk, bytes, number) {
+        match judge.read(alloc, walk, bytes, number) {
             Err(_) => return Err(Fail::Memory),
             Ok(Some(why)) => return Err(Fail::Refused(why)),
             Ok(None) => number += 1,

@@ -87,7 +87,9 @@ fn enter(
         Err(Fail::Memory) => return Err(AllocError),
         Err(Fail::Refused(_)) => return Ok(false),
     };
-    match split_of(&line) {
+    let found = split_of(&line);
+    drop(line);
+    match found {
         Some((p, x)) => enter_split(walk, p, x, split.in_second),
         None => Ok(false),
     }

@@ -50,7 +50,10 @@ fn passing_lines(
         Err(_) => return Err(Fail::Memory),
     };
     let mut judge = Judge::new(problem, &header.named, Some(header.goal));
-    judged_lines(alloc, problem, header, &mut walk, &mut judge)
+    let lines = judged_lines(alloc, problem, header, &mut walk, &mut judge);
+    drop(judge);
+    drop(walk);
+    lines
 }
 
 // The same with a walk that has read no line yet.

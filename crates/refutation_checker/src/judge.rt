@@ -97,7 +97,11 @@ impl<'a> Judge<'a> {
             return Ok(Some(LogRefusal::Extra(number)));
         }
         match read_line(alloc, self.problem, bytes) {
-            Ok(line) => self.pass(alloc, walk, &line, number),
+            Ok(line) => {
+                let found = self.pass(alloc, walk, &line, number);
+                drop(line);
+                found
+            }
             Err(Fail::Memory) => Err(AllocError),
             Err(Fail::Refused(why)) => Ok(Some(spelling_refusal(why, number))),
         }
@@ -237,6 +241,14 @@ impl<'a> Judge<'a> {
         }
     }
 
+    // Keeps the tail rules for the next lines.
+    fn keep(&mut self, tails: TailRules)
+        requires { tails.problem ≡ self.old.problem }
+        ensures { self.new ≡ self.old }
+    {
+        self.tails = Some(tails);
+    }
+
     // The least word of `len` days over the domains from position `p` on that is clean for the
     // rules.
     fn dead_escape(
@@ -258,7 +270,7 @@ impl<'a> Judge<'a> {
     {
         let tails = tails_of(alloc, self.problem, self.tails.take(), rules)?;
         let found = escape(alloc, &tails, doms, p, len);
-        self.tails = Some(tails);
+        self.keep(tails);
         found
     }
 
@@ -285,7 +297,7 @@ impl<'a> Judge<'a> {
     {
         let tails = tails_of(alloc, self.problem, self.tails.take(), rules)?;
         let found = bound_escape(alloc, self.problem, &tails, doms, p, turns, weights);
-        self.tails = Some(tails);
+        self.keep(tails);
         found
     }
 
@@ -323,7 +335,7 @@ impl<'a> Judge<'a> {
             reward,
             weights,
         );
-        self.tails = Some(tails);
+        self.keep(tails);
         found
     }
 }

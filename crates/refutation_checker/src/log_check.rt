@@ -1,5 +1,5 @@
 // The verdict on a log without its text.
-ghost use Rattle.std.specs.Prelude.{◌≡◌, ℕ, ◌+◌, ◌<◌, length, None, IfOk, MatchOption};
+ghost use Rattle.std.specs.Prelude.{◌≡◌, ℕ, ◌+◌, ◌<◌, ◌≤◌, length, None, IfOk, MatchOption};
 ghost use Rattle.rwsp_model.specs.Refusals.{MatchAnswer};
 ghost use Rattle.refutation_terms.specs.Tree.{IsTree};
 ghost use Rattle.refutation_terms.specs.Log.{Fits, Passes};
@@ -61,8 +61,31 @@ fn tree_refusal(
     let lines = log.lines();
     let mut walk = Walk::new(alloc, problem, log.turn())?;
     let mut judge = Judge::new(problem, log.named(), None);
-    for i in 0..lines.len() {
-        if let Some(why) = pass_at(alloc, &mut judge, &mut walk, log, i)? {
+    let found = first_refusal(alloc, &mut judge, &mut walk, log, lines.len());
+    drop(judge);
+    drop(walk);
+    found
+}
+
+// The cause of the first of so many lines that has one, by a walk that has read no line yet.
+fn first_refusal(
+    alloc: Global,
+    judge: &mut Judge,
+    walk: &mut Walk,
+    log: &Log,
+    count: usize,
+) -> Result<Option<LogRefusal>, AllocError>
+    requires count { count ≤ length log.now.lines }
+    requires fits { Fits judge.old.problem log.now }
+    requires named { judge.old.named ≡ log.now.named }
+    requires plain { judge.old.goal ≡ None }
+    requires before { IsPassed judge.old.problem log.now 0 walk.old }
+    ensures { IfOk result (λ found. MatchOption found
+        (AreSound judge.old.problem log.now count)
+        (λ why. (i : ℕ) × IsRefusedAt judge.old.problem log.now i why)) }
+{
+    for i in 0..count {
+        if let Some(why) = pass_at(alloc, judge, walk, log, i)? {
             return Ok(Some(why));
         }
     }

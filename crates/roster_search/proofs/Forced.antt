@@ -1,8 +1,8 @@
 -- Splits as the propagator says, with more lines and with an equal propagator.
-use Rattle.std.proofs.Common.{◌≡◌, ℕ, ◌≤◌, List, [], ◌∷◌, ◌++◌, length, Option, Some, refl, ap, sym, ◌∙◌, subst}
+use Rattle.std.proofs.Common.{◌≡◌, ℕ, ◌<◌, ◌≤◌, List, [], ◌∷◌, ◌++◌, length, Option, Some, refl, ap, sym, ◌∙◌, subst}
 use Rattle.std.specs.Prelude.{◌↔◌}
 use Rattle.rwsp_terms.specs.declared.data.Symbol.{Symbol}
-use Rattle.rwsp_terms.specs.Instance.{Instance}
+use Rattle.rwsp_terms.specs.Instance.{Instance, cells}
 use Rattle.refutation_terms.specs.declared.lines.Line.{Line}
 use Rattle.refutation_terms.specs.declared.lines.Line.TheVariants.{Split, Few}
 use Rattle.refutation_terms.specs.declared.lines.Turn.{Turn}
@@ -11,11 +11,11 @@ use Rattle.refutation_terms.specs.Tree.{IsLeaf, domains_at}
 use Rattle.refutation_terms.specs.Log.{HoldsFor}
 use Rattle.domain_store.specs.Store.{Store, IsStore, has_domain}
 use Rattle.propagator_terms.specs.Looks.{Closes}
-use Rattle.roster_search.specs.declared.sight.Sight.{Sight}
-use Rattle.roster_search.specs.Guides.{IsSight}
+use Rattle.roster_search.specs.Guides.{IsOpen}
 use Rattle.roster_search.specs.declared.progress.Progress.{Progress}
 use Rattle.roster_search.specs.Founds.{IsForced, AreForced, FewHoldsAtNoSplit}
 use Rattle.roster_search.specs.Written.{IsProgress, IsSplitOff, IsUnderWay}
+use Rattle.roster_search.proofs.Reaching.{no_few_for}
 use Rattle.roster_search.proofs.Growing.{EachAt, one_more, split_more}
 
 abbrev pub Leaves : Type 1
@@ -23,10 +23,6 @@ Leaves = Store → Line → Type 0
 
 abbrev pub Spent : Type 1
 Spent = Store → ℕ → Symbol → Type 0
-
--- what was seen, of the domains at hand
-pub seen : (P : Instance) (goal : Option ℕ) (leaves : Leaves) (spent : Spent) (S T : Store) (sight other : Sight) → T ≡ S → sight ≡ other → IsSight P goal (leaves T) (spent T) T sight → IsSight P goal (leaves S) (spent S) S other
-seen P goal leaves spent S T sight other at is h = subst (λ k. IsSight P goal (leaves S) (spent S) S k) is (subst (λ U. IsSight P goal (leaves U) (spent U) U sight) at h)
 
 abbrev IsForcedLine : Instance → Leaves → Spent → Domains → Line → Type 0
 IsForcedLine P leaves spent D line = (p : ℕ) (x : Symbol) → line ≡ Split p x → IsForced P leaves spent D p x
@@ -103,6 +99,12 @@ split_under_way P turn goal budget leaves spent a b p x u off few store same not
           (λ q y e. none_here) (leaf_is_no_few P goal) off.split));
       few = few;
     }
+
+-- behind a split of open domains
+pub open_under_way : (P : Instance) (budget : ℕ) (leaves : Leaves) (spent : Spent) (a b : Progress) (p : ℕ) (x : Symbol) → 0 < cells P → IsUnderWay P a.turn a.goal budget leaves spent a → IsSplitOff P a b p x → length b.lines.items ≤ budget → IsStore a.walk.store → AreSame P (has_domain a.walk.store) (domains_at P a.turn a.lines.items (length a.lines.items)) → IsOpen P a.goal (leaves a.walk.store) a.walk.store → ((q : ℕ) (z : Symbol) → spent a.walk.store q z → spent a.walk.store p x) → IsUnderWay P a.turn a.goal budget leaves spent b
+open_under_way P budget leaves spent a b p x some u off few store same unclosed forced =
+    split_under_way P a.turn a.goal budget leaves spent a b p x u off few store same unclosed.0
+    (no_few_for P a.turn a.goal (has_domain a.walk.store) (domains_at P a.turn a.lines.items (length a.lines.items)) some u.written.goal_fits same unclosed.1) forced
 
 -- under tests that say the same
 pub under_way_by : (P : Instance) (turn : Option Turn) (goal : Option ℕ) (budget : ℕ) (leaves leaves' : Leaves) (spent spent' : Spent) (s : Progress) → ((S : Store) (line : Line) → leaves S line ↔ leaves' S line) → ((S : Store) (p : ℕ) (x : Symbol) → spent S p x ↔ spent' S p x) → IsUnderWay P turn goal budget leaves spent s → IsUnderWay P turn goal budget leaves' spent' s

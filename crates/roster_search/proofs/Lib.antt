@@ -7,4 +7,5 @@ pub mod Forced
 pub mod OneWord
 pub mod Finding
 pub mod Volume
+pub mod Reasons
 pub mod Given

@@ -35,10 +35,13 @@ pub fn end(problem: &Problem, budget: u32, progress: Progress) -> Result<Found, 
     } = progress;
     named.numbers();
     problem.prove_limits();
-    if walk.is_whole() {
+    let is_whole = walk.is_whole();
+    let count = walk.open_count();
+    drop(walk);
+    if is_whole {
         return Ok(Found::NoRoster(log_of(named, turn, goal, lines)));
     }
-    leave_open(&mut lines, walk.open_count())?;
+    leave_open(&mut lines, count)?;
     Ok(Found::Undecided(log_of(named, turn, goal, lines)))
 }
 

@@ -1,5 +1,5 @@
 // What is seen before a line is written.
-ghost use Rattle.std.specs.Prelude.{ℕ, ◌↔◌, Option, IsTrue, IfOk};
+ghost use Rattle.std.specs.Prelude.{◌≡◌, ◌⊎◌, ℕ, ◌↔◌, Option, IsTrue, IfOk};
 ghost use Rattle.std.specs.Option.{IfSome};
 ghost use Rattle.rwsp_terms.specs.declared.data.Symbol.{Symbol};
 ghost use Rattle.rwsp_terms.specs.Instance.{Instance};
@@ -8,6 +8,7 @@ ghost use Rattle.refutation_terms.specs.declared.lines.Line.TheVariants.{Few};
 ghost use Rattle.refutation_terms.specs.declared.lines.Turn.{Turn};
 ghost use Rattle.refutation_terms.specs.Log.{GoalFits, HoldsFor};
 ghost use Rattle.domain_store.specs.Store.{Store, BelongsTo, has_domain};
+ghost use Rattle.propagators.specs.Looks.{SameReasons};
 ghost use Rattle.roster_search.specs.Guides.{IsLeafGiven, IsGiven, IsSight, AreUnweighedFor};
 
 use crate::Guide;
@@ -59,6 +60,23 @@ pub enum Sight {
     Quiet,
 }
 
+impl Sight {
+    fn is_quiet(&self) -> bool {
+        match self {
+            Sight::Quiet => true,
+            _ => false,
+        }
+    }
+
+    /// How the search comes to the domains behind what it writes for this.
+    pub fn next_arrival(&self) -> Arrival {
+        match self {
+            Sight::Cut { .. } => Arrival::Cut,
+            _ => Arrival::NewCase,
+        }
+    }
+}
+
 /// What is seen under the domains. With a goal the leaf of few weeks comes first; then the propagator's leaf; then what
 /// the guide gives, where it is due; then a spent symbol.
 pub fn see<A: Propagator, G: Guide>(
@@ -79,9 +97,8 @@ pub fn see<A: Propagator, G: Guide>(
     ensures sight { IfOk result (λ sight.
         IsSight problem.now goal (A.leaves propagator.old doms.now) (A.spent propagator.old doms.now) doms.now sight) }
     ensures tracks { A.tracks propagator.new doms.now }
-    ensures serves { (P : Instance) → A.serves propagator.old P ↔ A.serves propagator.new P }
-    ensures leaves { (S : Store) (line : Line) → A.leaves propagator.old S line ↔ A.leaves propagator.new S line }
-    ensures spent { (S : Store) (p : ℕ) (x : Symbol) → A.spent propagator.old S p x ↔ A.spent propagator.new S p x }
+    ensures same { SameReasons (A.serves propagator.old) (A.serves propagator.new)
+        (A.leaves propagator.old) (A.leaves propagator.new) (A.spent propagator.old) (A.spent propagator.new) }
     ensures guide { (P : Instance) (g : Option ℕ) → G.serves guide.old P g ↔ G.serves guide.new P g }
 {
     if is_short_of(problem, goal, doms) {
@@ -89,14 +106,36 @@ pub fn see<A: Propagator, G: Guide>(
     }
     match propagator.look(alloc, doms)? {
         Look::Closed(line) => Ok(Sight::Leaf(line)),
-        Look::Cut { p, x, line } => match given(alloc, guide, arrival, false, doms)? {
-            Some(given) => Ok(given),
-            None => Ok(Sight::Cut { p, x, line }),
-        },
-        Look::Quiet => match given(alloc, guide, arrival, true, doms)? {
-            Some(given) => Ok(given),
-            None => Ok(Sight::Quiet),
-        },
+        Look::Cut { p, x, line } => {
+            given_or(alloc, guide, arrival, doms, Sight::Cut { p, x, line })
+        }
+        Look::Quiet => given_or(alloc, guide, arrival, doms, Sight::Quiet),
+    }
+}
+
+// What the guide gives, or else what was seen.
+fn given_or<G: Guide>(
+    alloc: Global,
+    guide: &mut G,
+    arrival: Arrival,
+    doms: &Domains,
+    seen: Sight,
+) -> Result<Sight, AllocError>
+    requires problem { (P : Instance) × (goal : Option ℕ) × G.serves guide.old P goal × BelongsTo P doms.now }
+    ensures sight { IfOk result (λ sight.
+        (sight ≡ seen) ⊎ ((P : Instance) (goal : Option ℕ) → G.serves guide.old P goal → IsGiven P goal doms.now sight)) }
+    ensures serves { (P : Instance) (goal : Option ℕ) → G.serves guide.old P goal ↔ G.serves guide.new P goal }
+{
+    match given(alloc, guide, arrival, seen.is_quiet(), doms) {
+        Ok(None) => Ok(seen),
+        Ok(Some(given)) => {
+            drop(seen);
+            Ok(given)
+        }
+        Err(error) => {
+            drop(seen);
+            Err(error)
+        }
     }
 }
 

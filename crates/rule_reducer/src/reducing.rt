@@ -1,13 +1,14 @@
 // Logs without the rules that they can do without.
-ghost use Rattle.std.specs.Prelude.{IfOk};
+ghost use Rattle.std.specs.Prelude.{IfOk, OnOk};
 ghost use Rattle.rwsp_model.specs.Refusals.{MatchAnswer};
 ghost use Rattle.refutation_terms.specs.Log.{Fits, Passes};
 ghost use Rattle.refutation_terms.specs.LogText.{log_text};
 ghost use Rattle.refutation_terms.specs.Strip.{IsReduced};
 ghost use Rattle.refutation_terms.specs.Verdict.{IsRefused};
+ghost use Rattle.rule_reducer.specs.Citing.{AreCited};
 ghost use Rattle.plan_terms.specs.Needs.{NeedsEach, NeedsTogether};
 
-use crate::citations::citations_of;
+use crate::citations::{Citations, citations_of};
 use crate::descent::{LastRefusal, descend};
 use crate::shrinking_log::ShrinkingLog;
 use refutation_checker::check_log;
@@ -24,12 +25,28 @@ fn descend_to_end(alloc: Global, problem: &Problem, log: Log) -> Result<Log, All
 {
     let mut reduced = ShrinkingLog::of(log);
     let cited = citations_of(alloc, problem, &reduced)?;
+    descend_all(alloc, problem, &mut reduced, &cited)?;
+    Ok(reduced.into_log())
+}
+
+// The descents themselves, with what the log cites at the start.
+fn descend_all(
+    alloc: Global,
+    problem: &Problem,
+    log: &mut ShrinkingLog,
+    cited: &Citations,
+) -> Result<(), AllocError>
+    requires passes { Passes problem.now log.old }
+    requires cited { AreCited problem.now log.old cited.now.for_good cited.now.in_lists }
+    ensures reduced { OnOk result (IsReduced problem.now log.old log.new) }
+    ensures passes { OnOk result (Passes problem.now log.new) }
+{
     let mut last = LastRefusal { place: 0 };
     loop {
-        let named = reduced.named().len();
-        descend(alloc, problem, &mut reduced, &cited, &mut last)?;
-        if reduced.named().len() == named {
-            return Ok(reduced.into_log());
+        let named = log.named().len();
+        descend(alloc, problem, log, cited, &mut last)?;
+        if log.named().len() == named {
+            return Ok(());
         }
     }
 }

@@ -1,5 +1,5 @@
 // The lines of a log that refuse a strip: dead and bound leaves that don't hold without the rule.
-ghost use Rattle.std.specs.Prelude.{◌≡◌, ◌≤◌, List, length, take, Option, Some, IsTrue, IfOk, MatchOption, MatchBool};
+ghost use Rattle.std.specs.Prelude.{◌≡◌, ◌<◌, ◌≤◌, List, [], length, take, Option, Some, IsTrue, IfOk, MatchOption, MatchBool};
 ghost use Rattle.rwsp_terms.specs.Rules.{rule_of};
 ghost use Rattle.refutation_terms.specs.declared.lines.Line.{Line};
 ghost use Rattle.refutation_terms.specs.declared.lines.Turn.{Turn};
@@ -43,7 +43,9 @@ fn refuses(
 {
     if lists(line, number, rule) {
         let stripped = strip_line(alloc, line, number, rule)?;
-        let holds = judge.holds(alloc, walk, &stripped)?;
+        let judged = judge.holds(alloc, walk, &stripped);
+        drop(stripped);
+        let holds = judged?;
         return Ok(!holds);
     }
     Ok(false)
@@ -89,10 +91,30 @@ pub fn refuses_at(
     if !lists(&lines[place], number, rule) {
         return Ok(false);
     }
+    refuses_behind(alloc, problem, log, number, rule, place)
+}
+
+// The same of a line that there is, whether or not it lists the rule.
+fn refuses_behind(
+    alloc: Global,
+    problem: &Problem,
+    log: &ShrinkingLog,
+    number: u32,
+    rule: Rule,
+    place: usize,
+) -> Result<bool, AllocError>
+    requires passes { Passes problem.now log.now }
+    requires rule { rule_of problem.now number ≡ Some rule }
+    requires place { place < length log.now.lines }
+    ensures { IfOk result (λ yes. IsTrue yes → Passes problem.now (strip problem.now number log.now) → ⊥) }
+{
+    let lines = log.lines();
     let walk = walk_to(alloc, problem, log, place)?;
     let mut judge = LeafJudge::new(problem, log.named());
-    let refused = refuses(alloc, &mut judge, &walk, &lines[place], number, rule)?;
-    Ok(refused)
+    let refused = refuses(alloc, &mut judge, &walk, &lines[place], number, rule);
+    drop(judge);
+    drop(walk);
+    refused
 }
 
 /// The first line that refuses the strip of the rule; None exactly where each line holds without the rule. Lines that
@@ -110,16 +132,40 @@ pub fn refusing_line(
         (HoldsWithout problem.now number log.now)
         (λ k. Passes problem.now (strip problem.now number log.now) → ⊥)) }
 {
-    let lines = log.lines();
     let mut walk = Walk::new(alloc, problem, log.turn())?;
     let mut judge = LeafJudge::new(problem, log.named());
+    let found = first_refusing(alloc, problem, log, &mut judge, &mut walk, number, rule);
+    drop(judge);
+    drop(walk);
+    found
+}
+
+// The same by a walk that has read no line yet.
+fn first_refusing(
+    alloc: Global,
+    problem: &Problem,
+    log: &ShrinkingLog,
+    judge: &mut LeafJudge,
+    walk: &mut Walk,
+    number: u32,
+    rule: Rule,
+) -> Result<Option<usize>, AllocError>
+    requires passes { Passes problem.now log.now }
+    requires rule { rule_of problem.now number ≡ Some rule }
+    requires judge { judge.old ≡ problem.now }
+    requires walk { IsStateOf problem.now log.now.turn [] walk.old }
+    ensures { IfOk result (λ found. MatchOption found
+        (HoldsWithout problem.now number log.now)
+        (λ k. Passes problem.now (strip problem.now number log.now) → ⊥)) }
+{
+    let lines = log.lines();
     for i in 0..lines.len() {
         let line = &lines[i];
-        let refused = refuses(alloc, &mut judge, &walk, line, number, rule)?;
+        let refused = refuses(alloc, judge, walk, line, number, rule)?;
         if refused {
             return Ok(Some(i));
         }
-        go_past(&mut walk, problem, line)?;
+        go_past(walk, problem, line)?;
     }
     Ok(None)
 }

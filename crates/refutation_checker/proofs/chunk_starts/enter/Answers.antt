@@ -22,7 +22,7 @@ returns-in-Some-clause-entered c =
     (ap (λ (u : UnreadSplit). u.line) c.split.view_is) (ap (λ (u : UnreadSplit). u.in_second) c.split.view_is) c.in-Ok.ensures c.in-Some.ensures goes)
     c.enter_split.ensures.entered
 
-pub returns-clause-entered : goal.returns-clause-entered
-returns-clause-entered c =
+pub returns-in-None-clause-entered : goal.returns-in-None-clause-entered
+returns-in-None-clause-entered c =
     no_entry c.args.problem.now c.args.split.now c.args.walk.now c.args.walk.now c.split.inside.line.now c.in-Ok.line c.prove_limits.ensures
     (ap (λ (u : UnreadSplit). u.line) c.split.view_is) c.in-Ok.ensures c.in-None.ensures

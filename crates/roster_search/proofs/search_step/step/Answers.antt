@@ -1,124 +1,55 @@
 -- One turn, by what the propagator and the guide see.
-use Rattle.std.proofs.Common.{◌≡◌, ◌+◌, [], ◌∷◌, length, ap, ◌∙◌, subst, arith, length-append}
-use Rattle.refutation_terms.specs.declared.lines.Line.TheVariants.{Split, Window, Day, Few}
-use Rattle.refutation_terms.specs.Log.{Holds, HoldsFor}
-use Rattle.refutation_terms.specs.Tree.{First, narrowed, domains_at}
-use Rattle.domain_store.specs.Store.{Store, has_domain}
-use Rattle.roster_search.specs.declared.sight.Sight.TheVariants.{Leaf, Cut, Quiet}
+use Rattle.std.proofs.Common.{◌≡◌, None, subst}
+use Rattle.std.proofs.lemmas.Result.{IfOk-weaker, IfOk-from_err}
+use Rattle.domain_store.specs.Store.{Store}
 use Rattle.roster_search.specs.Guides.{IsSight}
-use Rattle.roster_search.proofs.Reaching.{same_holds_for, no_few_for, plain_holds, unweighed_leaf}
-use Rattle.roster_search.proofs.Forced.{seen, leaf_under_way, split_under_way}
+use Rattle.roster_search.specs.Written.{IsUnderWay}
+use Rattle.roster_search.proofs.Forced.{under_way_by, under_way_back}
+use Rattle.roster_search.proofs.Reasons.{same_on, plain_by, sight_by}
 use Rattle.roster_search.proofs.search_step.step.Goals as goal
-use Rattle.rwsp_model.proofs.Limits.{some_cells}
 
-pub close-requires-clause-holds : goal.close-requires-clause-holds
-close-requires-clause-holds g c =
+pub write_seen-requires-clause-under_way : goal.write_seen-requires-clause-under_way
+write_seen-requires-clause-under_way g c =
+    let a = c.args.progress.now in
+    let same = c.see.ensures.same in
+    under_way_by c.args.problem.now a.turn a.goal c.args.budget _ _ _ _ a same.leaves same.spent c.requires.under_way
+
+pub returns-clause-under_way : goal.returns-clause-under_way
+returns-clause-under_way g c =
     let P = c.args.problem.now in
+    let a = c.args.progress.now in
+    let b = c.write_seen.new.progress in
+    let same = c.see.ensures.same in
+    let A = g.A.Propagator in
+    IfOk-weaker c.write_seen.result
+    (λ found. found ≡ None → IsUnderWay P a.turn a.goal c.args.budget (A.leaves c.see.new.propagator) (A.spent c.see.new.propagator) b)
+    (λ found. found ≡ None → IsUnderWay P a.turn a.goal c.args.budget (A.leaves c.args.propagator.now) (A.spent c.args.propagator.now) b)
+    (λ found h none. under_way_back P a.turn a.goal c.args.budget _ _ _ _ b same.leaves same.spent (h none))
+    c.write_seen.ensures.under_way
+
+pub returns-clause-same : goal.returns-clause-same
+returns-clause-same g c = same_on _ _ _ _ _ _ _ _ _ c.see.ensures.same c.write_seen.ensures.same
+
+pub returns-in_err-sight-clause-under_way : goal.returns-in_err-sight-clause-under_way
+returns-in_err-sight-clause-under_way g c = IfOk-from_err _ _ c.from_residual.ensures.0
+
+pub returns-in_err-sight-clause-longer : goal.returns-in_err-sight-clause-longer
+returns-in_err-sight-clause-longer g c = IfOk-from_err _ _ c.from_residual.ensures.0
+
+pub returns-in_err-sight-clause-tracks : goal.returns-in_err-sight-clause-tracks
+returns-in_err-sight-clause-tracks g c = IfOk-from_err _ _ c.from_residual.ensures.0
+
+pub returns-in_err-sight-clause-roster : goal.returns-in_err-sight-clause-roster
+returns-in_err-sight-clause-roster g c = IfOk-from_err _ _ c.from_residual.ensures.0
+
+pub write_seen-requires-clause-plain : goal.write_seen-requires-clause-plain
+write_seen-requires-clause-plain g c = plain_by c.args.problem.now _ _ _ _ _ _ c.see.ensures.same c.requires.plain
+
+pub write_seen-requires-clause-sight : goal.write_seen-requires-clause-sight
+write_seen-requires-clause-sight g c =
     let a = c.args.progress.now in
     let S = a.walk.store in
     let leaves = g.A.Propagator.leaves c.args.propagator.now in
     let spent = g.A.Propagator.spent c.args.propagator.now in
-    let sight : IsSight P a.goal (leaves S) (spent S) S (Leaf c.in-Leaf.line) =
-    seen P a.goal leaves spent S c.domains-doms.result.now c.in_ok-roster.field-0 (Leaf c.in-Leaf.line) c.domains-doms.ensures.value c.in-Leaf.is c.in_ok-roster.ensures.sight in
-    same_holds_for P a.turn a.goal (has_domain S) (domains_at P a.turn a.lines.items (length a.lines.items)) c.in-Leaf.line (some_cells P c.prove_limits.ensures) c.requires.under_way.written.goal_fits sight.is_leaf.fits
-    (c.prove_domains.ensures.same P c.requires.under_way.written)
-    sight.holds
-
-pub cut-requires-clause-leaf : goal.cut-requires-clause-leaf
-cut-requires-clause-leaf g c =
-    let P = c.args.problem.now in
-    let a = c.args.progress.now in
-    let S = a.walk.store in
-    let leaves = g.A.Propagator.leaves c.args.propagator.now in
-    let spent = g.A.Propagator.spent c.args.propagator.now in
-    let sight : IsSight P a.goal (leaves S) (spent S) S (Cut c.in-Cut.p c.in-Cut.x c.in-Cut.line) =
-    seen P a.goal leaves spent S c.domains-doms.result.now c.in_ok-roster.field-0 (Cut c.in-Cut.p c.in-Cut.x c.in-Cut.line) c.domains-doms.ensures.value c.in-Cut.is c.in_ok-roster.ensures.sight in
-    unweighed_leaf P a.goal c.in-Cut.line sight.1.is_leaf sight.1.unweighed
-
-pub cut-requires-clause-holds : goal.cut-requires-clause-holds
-cut-requires-clause-holds g c =
-    let P = c.args.problem.now in
-    let a = c.args.progress.now in
-    let S = a.walk.store in
-    let leaves = g.A.Propagator.leaves c.args.propagator.now in
-    let spent = g.A.Propagator.spent c.args.propagator.now in
-    let sight : IsSight P a.goal (leaves S) (spent S) S (Cut c.in-Cut.p c.in-Cut.x c.in-Cut.line) =
-    seen P a.goal leaves spent S c.domains-doms.result.now c.in_ok-roster.field-0 (Cut c.in-Cut.p c.in-Cut.x c.in-Cut.line) c.domains-doms.ensures.value c.in-Cut.is c.in_ok-roster.ensures.sight in
-    plain_holds P a.goal (narrowed (has_domain S) (Split c.in-Cut.p c.in-Cut.x) First) c.in-Cut.line sight.1.holds
-
-pub met_roster-requires-clause-few : goal.met_roster-requires-clause-few
-met_roster-requires-clause-few g c few =
-    let P = c.args.problem.now in
-    let a = c.args.progress.now in
-    let S = a.walk.store in
-    let leaves = g.A.Propagator.leaves c.args.propagator.now in
-    let spent = g.A.Propagator.spent c.args.propagator.now in
-    let sight : IsSight P a.goal (leaves S) (spent S) S Quiet =
-    seen P a.goal leaves spent S c.domains-doms.result.now c.in_ok-roster.field-0 Quiet c.domains-doms.ensures.value c.in-Quiet.is c.in_ok-roster.ensures.sight in
-    sight.0.1 (subst (λ (T : Store). HoldsFor P a.goal (has_domain T) Few) c.domains-in-None.ensures.value few)
-
-pub met_roster-requires-clause-windows : goal.met_roster-requires-clause-windows
-met_roster-requires-clause-windows g c number p len fits holds =
-    let P = c.args.problem.now in
-    let a = c.args.progress.now in
-    let S = a.walk.store in
-    let leaves = g.A.Propagator.leaves c.args.propagator.now in
-    let spent = g.A.Propagator.spent c.args.propagator.now in
-    let sight : IsSight P a.goal (leaves S) (spent S) S Quiet =
-    seen P a.goal leaves spent S c.domains-doms.result.now c.in_ok-roster.field-0 Quiet c.domains-doms.ensures.value c.in-Quiet.is c.in_ok-roster.ensures.sight in
-    sight.0.0 (Window number p len, c.requires.plain.windows S number p len fits, subst (λ (T : Store). Holds P (has_domain T) (Window number p len)) c.domains-in-None.ensures.value holds)
-
-pub met_roster-requires-clause-days : goal.met_roster-requires-clause-days
-met_roster-requires-clause-days g c j x over fits holds =
-    let P = c.args.problem.now in
-    let a = c.args.progress.now in
-    let S = a.walk.store in
-    let leaves = g.A.Propagator.leaves c.args.propagator.now in
-    let spent = g.A.Propagator.spent c.args.propagator.now in
-    let sight : IsSight P a.goal (leaves S) (spent S) S Quiet =
-    seen P a.goal leaves spent S c.domains-doms.result.now c.in_ok-roster.field-0 Quiet c.domains-doms.ensures.value c.in-Quiet.is c.in_ok-roster.ensures.sight in
-    sight.0.0 (Day j x over, c.requires.plain.days S j x over fits, subst (λ (T : Store). Holds P (has_domain T) (Day j x over)) c.domains-in-None.ensures.value holds)
-
-pub returns-in_ok-close-in-Leaf-clause-under_way :
-    goal.returns-in_ok-close-in-Leaf-clause-under_way
-returns-in_ok-close-in-Leaf-clause-under_way g c none =
-    let P = c.args.problem.now in
-    let a = c.args.progress.now in
-    let b = c.close.new.self in
-    let S = a.walk.store in
-    let leaves = g.A.Propagator.leaves c.args.propagator.now in
-    let spent = g.A.Propagator.spent c.args.propagator.now in
-    let sight : IsSight P a.goal (leaves S) (spent S) S (Leaf c.in-Leaf.line) =
-    seen P a.goal leaves spent S c.domains-doms.result.now c.in_ok-roster.field-0 (Leaf c.in-Leaf.line) c.domains-doms.ensures.value c.in-Leaf.is c.in_ok-roster.ensures.sight in
-    let long : length b.lines.items ≡ length a.lines.items + 1 = ap length c.in_ok-close-in-Leaf.ensures.lines ∙ length-append a.lines.items (c.in-Leaf.line ∷ []) in
-    leaf_under_way P a.turn a.goal c.args.budget leaves spent a b c.in-Leaf.line c.requires.under_way c.in_ok-close-in-Leaf.ensures.written sight.is_leaf.leaf c.close.ensures.turn c.close.ensures.goal
-    c.in_ok-close-in-Leaf.ensures.lines (omega (arith, long, c.requires.room))
-
-pub returns-in_ok-cut-in-Cut-clause-under_way : goal.returns-in_ok-cut-in-Cut-clause-under_way
-returns-in_ok-cut-in-Cut-clause-under_way g c none =
-    let P = c.args.problem.now in
-    let a = c.args.progress.now in
-    let b = c.cut.new.self in
-    let S = a.walk.store in
-    let leaves = g.A.Propagator.leaves c.args.propagator.now in
-    let spent = g.A.Propagator.spent c.args.propagator.now in
-    let sight : IsSight P a.goal (leaves S) (spent S) S (Cut c.in-Cut.p c.in-Cut.x c.in-Cut.line) =
-    seen P a.goal leaves spent S c.domains-doms.result.now c.in_ok-roster.field-0 (Cut c.in-Cut.p c.in-Cut.x c.in-Cut.line) c.domains-doms.ensures.value c.in-Cut.is c.in_ok-roster.ensures.sight in
-    split_under_way P a.turn a.goal c.args.budget leaves spent a b c.in-Cut.p c.in-Cut.x c.requires.under_way c.in_ok-cut-in-Cut.ensures.off c.in_ok-cut-in-Cut.ensures.few c.prove_domains.ensures.store (c.prove_domains.ensures.same P c.requires.under_way.written)
-    sight.0.0 (no_few_for P a.turn a.goal (has_domain S) (domains_at P a.turn a.lines.items (length a.lines.items)) (some_cells P c.prove_limits.ensures) c.requires.under_way.written.goal_fits (c.prove_domains.ensures.same P c.requires.under_way.written) sight.0.1) (λ q z s. sight.1.is_spent)
-
-pub returns-in_ok-split-in-Some-clause-under_way :
-    goal.returns-in_ok-split-in-Some-clause-under_way
-returns-in_ok-split-in-Some-clause-under_way g c none =
-    let P = c.args.problem.now in
-    let a = c.args.progress.now in
-    let b = c.split.new.self in
-    let S = a.walk.store in
-    let leaves = g.A.Propagator.leaves c.args.propagator.now in
-    let spent = g.A.Propagator.spent c.args.propagator.now in
-    let sight : IsSight P a.goal (leaves S) (spent S) S Quiet =
-    seen P a.goal leaves spent S c.domains-doms.result.now c.in_ok-roster.field-0 Quiet c.domains-doms.ensures.value c.in-Quiet.is c.in_ok-roster.ensures.sight in
-    let long : length b.lines.items ≡ length a.lines.items + 1 = ap length c.in_ok-split-in-Some.ensures.lines ∙ length-append a.lines.items (Split c.in-Some.split.p c.in-Some.split.x ∷ []) in
-    split_under_way P a.turn a.goal c.args.budget leaves spent a b c.in-Some.split.p c.in-Some.split.x
-    c.requires.under_way (c.in_ok-split-in-Some.ensures.off P c.requires.under_way.written) (omega (arith, long, c.requires.room)) c.prove_domains.ensures.store (c.prove_domains.ensures.same P c.requires.under_way.written)
-    sight.0.0 (no_few_for P a.turn a.goal (has_domain S) (domains_at P a.turn a.lines.items (length a.lines.items)) (some_cells P c.prove_limits.ensures) c.requires.under_way.written.goal_fits (c.prove_domains.ensures.same P c.requires.under_way.written) sight.0.1) (λ q z s. absurd (sight.1 q z s))
+    sight_by c.args.problem.now a.goal _ _ _ _ _ _ S c.in_ok-sight.sight c.see.ensures.same
+    (subst (λ (T : Store). IsSight c.args.problem.now a.goal (leaves T) (spent T) T c.in_ok-sight.sight) c.domains-doms.ensures.value c.in_ok-sight.ensures.sight)

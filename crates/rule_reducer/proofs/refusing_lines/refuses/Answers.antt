@@ -6,13 +6,13 @@ use Rattle.rule_reducer.proofs.Stripped.{short_stripped}
 use Rattle.rule_reducer.proofs.Walking.{refuses_here}
 use Rattle.rule_reducer.proofs.refusing_lines.refuses.Goals as goal
 
-pub holds-requires-clause-fits : goal.holds-requires-clause-fits
-holds-requires-clause-fits c =
+pub holds-judged-requires-clause-fits : goal.holds-judged-requires-clause-fits
+holds-judged-requires-clause-fits c =
     let P = c.args.judge.now in
     subst (LineFits P) (sym (c.in_ok-stripped.ensures P c.requires.rule)) (line_fits_still P c.args.number c.args.line.now c.requires.fits)
 
-pub holds-requires-clause-short : goal.holds-requires-clause-short
-holds-requires-clause-short c =
+pub holds-judged-requires-clause-short : goal.holds-judged-requires-clause-short
+holds-judged-requires-clause-short c =
     let P = c.args.judge.now in
     subst (ListsShortOnly P) (sym (c.in_ok-stripped.ensures P c.requires.rule)) (short_stripped P c.args.number c.args.line.now c.requires.short)
 

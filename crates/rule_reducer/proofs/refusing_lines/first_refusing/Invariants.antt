@@ -1,7 +1,7 @@
 use Rattle.std.proofs.Common.{◌≡◌, take}
 use Rattle.tree_walk.specs.States.{IsStateOf}
 use Rattle.rule_reducer.proofs.Walking.{HoldWithout}
-use Rattle.rule_reducer.proofs.refusing_lines.refusing_line.Given as goal
+use Rattle.rule_reducer.proofs.refusing_lines.first_refusing.Given as goal
 
 abbrev pub invariant-loop-i : goal.invariant-loop-i
 invariant-loop-i l = record {
