@@ -1,12 +1,12 @@
 -- From what the parts of a run found to what its answer says.
-use Rattle.std.proofs.Common.{◌≡◌, ◌⊎◌, ℕ, ◌≤◌, List, [], ◌∷◌, subst, sym, arith, refl, inl, inr}
+use Rattle.std.proofs.Common.{◌≡◌, ◌⊎◌, ℕ, ◌≤◌, List, [], ◌∷◌, subst, sym, ap, ◌∙◌, arith, refl, inl, inr}
 use Rattle.std.specs.Prelude.{Result, Ok, Err, IfOk, IfErr, IsErrOf, Option}
 use Rattle.std.proofs.lemmas.Result.{IfOk-weaker}
 use Rattle.rwsp_io.specs.Told.{Told, Silent, Missing, Bytes, Rose}
 use Rattle.rwsp_terms.specs.Instance.{Instance}
 use Rattle.rwsp_file.specs.Spelling.{SpellsProblem}
 use Rattle.command_line.specs.Commands.{CommandWords, IsForm, ReadsProblem, ReadsSecond, HasFewWorkers, AsksNoCalendar, IsWithinHorizon, HasDaysFor, problem_name, second_name}
-use Rattle.rwsp_answers.specs.Inputs.{WhereTold, IsWithinLimit, OfProblem, IsProblemOf}
+use Rattle.rwsp_answers.specs.Inputs.{WhereTold, IsWithinLimit, IsTooLong, second_kind, OfProblem, IsProblemOf}
 use Rattle.rwsp_answers.specs.Answers.{IsAnswer, IsAnswerOn, IsReadFault, IsOfCommand, IsOfSecond, IsSecondAnswer, IsOfCrew, IsCrewAnswer, IsOfStaff, IsNotWeekly, IsWeekly}
 use Rattle.rwsp_answers.specs.Staffs.{IsStaffAnswer}
 use Rattle.rwsp_answers.specs.Texts.{IsTextOf, IsTextOfTrial, IsReplyText, IsPrintable, answer_text}
@@ -14,14 +14,17 @@ use Rattle.rwsp_answers.specs.Trials.{IsTrial, IsTrialAnswer}
 use Rattle.rwsp_answers.specs.declared.answer.TrialResult.{TrialResult}
 use Rattle.command_line.specs.declared.command.Command.{Command}
 use Rattle.command_line.specs.declared.command.Command.TheVariants.{Plan, Check, Verify, Reduce, Show, Trial, Crew as CrewCommand, Staff as StaffCommand, CheckStaff, CheckFree, Best as BestCommand}
+use Rattle.rwsp_answers.specs.declared.answer.InputKind.{InputKind}
 use Rattle.rwsp_answers.specs.declared.answer.InputKind.TheVariants as Kinds
 use Rattle.rwsp_answers.specs.declared.answer.Answer.{Answer}
 use Rattle.rwsp_answers.specs.declared.answer.Stop.{Stop}
 use Rattle.rwsp_answers.specs.declared.answer.Stop.TheVariants.{ReadFault, Memory}
-use Rattle.rwsp_answers.specs.declared.answer.Answer.TheVariants.{Trial as TrialOf, Staff, StaffRange, NotWeekly}
+use Rattle.rwsp_answers.specs.declared.answer.Answer.TheVariants.{Trial as TrialOf, TooLong, Staff, StaffRange, NotWeekly}
 use Rattle.rwsp_answers.proofs.Bests.{of_best}
 use Rattle.jiff.specs.Types.{Date}
-use Rattle.rwsp_run.specs.Exits.{IsStop}
+use Rattle.rwsp_run.specs.Exits.{IsStop, IsReadExit}
+use Rattle.rwsp_run.specs.declared.input.Exit.{Exit}
+use Rattle.rwsp_run.specs.declared.input.Exit.TheVariants.{Answer as ExitAnswer}
 use Rattle.rwsp_run.specs.declared.top_call.Reply.{Reply}
 use Rattle.rwsp_run.proofs.Printable.{planned_is}
 
@@ -100,6 +103,28 @@ few_workers words (StaffCommand low high budget) form = tt
 few_workers words CheckStaff form = tt
 few_workers words (BestCommand budget) form = tt
 few_workers words CheckFree form = tt
+
+-- a fact about bytes that were read
+pub told_of : (told : Told) (bytes : List ℕ) (Q : List ℕ → Type 0) → WhereTold told (λ file. bytes ≡ file) → Q bytes → WhereTold told Q
+told_of told bytes Q same q = told_weaker told (λ file. bytes ≡ file) Q (λ file e. subst Q e q) same
+
+-- a second file that is too long is an answer
+pub too_long : (command : Command) (told : Told) (P : Instance) → ReadsSecond command → WhereTold told (IsTooLong (second_kind command)) → WhereTold told (IsSecondAnswer command (TooLong (second_kind command)) P) × IsOfSecond command (TooLong (second_kind command))
+too_long Verify told P reads h = (h, tt)
+too_long (Check workers) told P reads h = (h, tt)
+too_long Reduce told P reads h = (h, tt)
+too_long (CrewCommand date count employee) told P reads h = (h, tt)
+too_long CheckStaff told P reads h = (h, tt)
+too_long CheckFree told P reads h = (h, tt)
+too_long command told P reads h = absurd reads
+
+-- and so is the answer that ends its reading
+pub read_answer : (command : Command) (told : Told) (P : Instance) (rose : Type 0) (kind : InputKind) (exit : Exit) (answer : Answer) → ReadsSecond command → kind ≡ second_kind command → exit ≡ ExitAnswer answer → IsReadExit told rose kind exit → WhereTold told (IsSecondAnswer command answer P) × IsOfSecond command answer × IsPrintable P answer
+read_answer command told P rose kind exit answer reads e is h =
+    let both : (answer ≡ TooLong kind) × WhereTold told (IsTooLong kind) = subst (IsReadExit told rose kind) is h in
+    let same : answer ≡ TooLong (second_kind command) = both.0 ∙ ap TooLong e in
+    let long = too_long command told P reads (subst (λ (k : InputKind). WhereTold told (IsTooLong k)) e both.1) in
+    subst (λ (a : Answer). WhereTold told (IsSecondAnswer command a P) × IsOfSecond command a × IsPrintable P a) (sym same) (long.0, long.1, tt)
 
 -- an answer to the second file is one on the problem
 second_on : (command : Command) (told : Told) (P : Instance) (answer : Answer) → HasDaysFor command P → IsOfSecond command answer → WhereTold told (IsSecondAnswer command answer P) → IsAnswerOn command told P answer
