@@ -6,12 +6,12 @@ use Rattle.std.specs.String.{string_bytes}
 use Rattle.std.specs.declared.alloc.Global.{Global}
 use Rattle.std.specs.Str.{bytes_eq}
 use Rattle.rwsp_text.specs.Numbers.{number_of}
-use Rattle.rwsp_terms.specs.declared.limits.TheConstants.{MOST_WEEKS, USUAL_BUDGET, USUAL_STAFF_BUDGET, USUAL_WORKERS, USUAL_BEST_BUDGET}
+use Rattle.rwsp_terms.specs.declared.limits.TheConstants.{MOST_WEEKS, USUAL_BUDGET, USUAL_STAFF_BUDGET, USUAL_WORKERS, USUAL_BEST_BUDGET, GREATEST_STAFF_BUDGET}
 use Rattle.rwsp_text.proofs.Words.{bytes_same}
 use Rattle.jiff.specs.Types.{Date}
 use Rattle.crew_calendar.specs.Calendar.{IsDateWord}
 use Rattle.crew_calendar.proofs.OneText.{one_date}
-use Rattle.command_line.specs.Commands.{CommandWords, IsForm, IsCount, IsCrewForm, HasNoForm}
+use Rattle.command_line.specs.Commands.{CommandWords, IsForm, IsCount, IsCrewForm, AreSizesForm, HasNoForm}
 use Rattle.command_line.specs.declared.command.Command.{Command}
 use Rattle.command_line.specs.declared.command.Command.TheVariants.{Plan, Check, Verify, Reduce, Show, Trial, Crew, Staff, CheckStaff, CheckFree, Best}
 
@@ -237,3 +237,9 @@ pub no_number : (v w x y z u : String Global) → (string_bytes v ≡ codes "sta
 no_number v w x y z u other none (Crew d n e) h = none h.1.0 h.1.1
 no_number v w x y z u other none (Staff l g b) h = other h.0.0
 no_number v w x y z u other none c h = absurd h
+
+-- six words that begin with `staff` and aren't its form with a budget have no form
+pub no_staff : (v w x y z u : String Global) → string_bytes v ≡ codes "staff" → ((low high budget : ℕ) → AreSizesForm v w x y low high → string_bytes z ≡ codes "--budget" → IsCount (string_bytes u) GREATEST_STAFF_BUDGET budget → ⊥) → HasNoForm (v ∷ w ∷ x ∷ y ∷ z ∷ u ∷ [])
+no_staff v w x y z u is none (Crew d n e) h = unlike (codes "crew") (codes "staff") refl (sym h.0.0 ∙ is)
+no_staff v w x y z u is none (Staff l m b) h = none l m b h.0 h.1 h.2
+no_staff v w x y z u is none c h = absurd h
