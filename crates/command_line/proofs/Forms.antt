@@ -1,17 +1,18 @@
 -- The words of a command line have one form at most.
-use Rattle.std.proofs.Common.{◌≡◌, ℕ, List, Option, Some, None, ap, sym, ◌∙◌, refl, subst, true, false}
+use Rattle.std.proofs.Common.{◌≡◌, ℕ, suc, ◌<◌, ◌≤◌, drop, get_or, length, drop-cons, List, Option, Some, None, ap, sym, ◌∙◌, refl, subst, true, false}
+use Rattle.std.proofs.lemmas.List.{drop_all}
 use Rattle.std.specs.Prelude.{[], ◌∷◌, codes, String, if◌then◌else◌}
 use Rattle.std.specs.Option.{option_map}
 use Rattle.std.specs.String.{string_bytes}
 use Rattle.std.specs.declared.alloc.Global.{Global}
 use Rattle.std.specs.Str.{bytes_eq}
 use Rattle.rwsp_text.specs.Numbers.{number_of}
-use Rattle.rwsp_terms.specs.declared.limits.TheConstants.{MOST_WEEKS, USUAL_BUDGET, USUAL_STAFF_BUDGET, USUAL_WORKERS, USUAL_BEST_BUDGET}
+use Rattle.rwsp_terms.specs.declared.limits.TheConstants.{MOST_WEEKS, USUAL_BUDGET, USUAL_STAFF_BUDGET, USUAL_WORKERS, MOST_WORKERS, USUAL_BEST_BUDGET, GREATEST_BUDGET, GREATEST_STAFF_BUDGET}
 use Rattle.rwsp_text.proofs.Words.{bytes_same}
 use Rattle.jiff.specs.Types.{Date}
 use Rattle.crew_calendar.specs.Calendar.{IsDateWord}
 use Rattle.crew_calendar.proofs.OneText.{one_date}
-use Rattle.command_line.specs.Commands.{CommandWords, IsForm, IsCount, IsCrewForm, HasNoForm}
+use Rattle.command_line.specs.Commands.{CommandWords, IsForm, IsCount, IsCrewForm, AreSizesForm, HasNoForm}
 use Rattle.command_line.specs.declared.command.Command.{Command}
 use Rattle.command_line.specs.declared.command.Command.TheVariants.{Plan, Check, Verify, Reduce, Show, Trial, Crew, Staff, CheckStaff, CheckFree, Best}
 
@@ -237,3 +238,30 @@ pub no_number : (v w x y z u : String Global) → (string_bytes v ≡ codes "sta
 no_number v w x y z u other none (Crew d n e) h = none h.1.0 h.1.1
 no_number v w x y z u other none (Staff l g b) h = other h.0.0
 no_number v w x y z u other none c h = absurd h
+
+-- six words that begin with `staff` and aren't its form with a budget have no form
+pub no_staff : (v w x y z u : String Global) → string_bytes v ≡ codes "staff" → ((low high budget : ℕ) → AreSizesForm v w x y low high → string_bytes z ≡ codes "--budget" → IsCount (string_bytes u) GREATEST_STAFF_BUDGET budget → ⊥) → HasNoForm (v ∷ w ∷ x ∷ y ∷ z ∷ u ∷ [])
+no_staff v w x y z u is none (Crew d n e) h = unlike (codes "crew") (codes "staff") refl (sym h.0.0 ∙ is)
+no_staff v w x y z u is none (Staff l m b) h = none l m b h.0 h.1 h.2
+no_staff v w x y z u is none c h = absurd h
+
+-- four words that don't begin with `staff` and whose last is no budget have no form
+pub no_budget : (v w x y : String Global) → (string_bytes v ≡ codes "staff" → ⊥) → ((n : ℕ) → IsCount (string_bytes y) GREATEST_BUDGET n → ⊥) → HasNoForm (v ∷ w ∷ x ∷ y ∷ [])
+no_budget v w x y other none (Plan m) h = none m h.3
+no_budget v w x y other none (Best m) h = none m h.3
+no_budget v w x y other none (Staff l g b) h = other h.0.0
+no_budget v w x y other none c h = absurd h
+
+-- nor have five words that don't begin with `crew` and whose last is no number of workers
+pub no_workers : (v w x y z : String Global) → (string_bytes v ≡ codes "crew" → ⊥) → ((n : ℕ) → IsCount (string_bytes z) MOST_WORKERS n → ⊥) → HasNoForm (v ∷ w ∷ x ∷ y ∷ z ∷ [])
+no_workers v w x y z other none (Check m) h = none m h.4
+no_workers v w x y z other none (Crew d n e) h = other h.0.0
+no_workers v w x y z other none c h = absurd h
+
+-- words that are told one by one
+
+pub no_more : (words : CommandWords) (i : ℕ) → length words ≤ i → [] ≡ drop i words
+no_more words i less = sym (drop_all i words less)
+
+pub one_more : (words : CommandWords) (i : ℕ) (word : String Global) (others : CommandWords) → i < length words → word ≡ get_or words i word → others ≡ drop (suc i) words → word ∷ others ≡ drop i words
+one_more words i word others less is e = ap (λ w. w ∷ others) is ∙ ap (λ rest. get_or words i word ∷ rest) e ∙ sym (drop-cons words i word less)

@@ -22,7 +22,6 @@ pub fn put_labelled(out: &mut Vec<u8>, label: &[u8], number: u32) -> Result<(), 
 }
 
 // Appends the numbers, each behind a blank.
-#[tactic(auto, using(crate::proofs::Appends::numbers_more, crate::proofs::Appends::numbers_done))]
 fn put_numbers(out: &mut Vec<u8>, numbers: &[u32]) -> Result<(), AllocError>
     ensures { OnOk result (out.new.items ≡ out.old.items ++ flat_map (λ k. 32 ∷ decimal k) numbers.now) }
 {

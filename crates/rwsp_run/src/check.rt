@@ -14,7 +14,6 @@ use std::alloc::{AllocError, Global};
 use std::thread::Threads;
 
 /// The answer to the bytes of a log, worked out by `workers` threads at most.
-#[tactic(auto, using(crate::proofs::Printable::printable))]
 pub fn log_verdict<R: Threads + Sync, G: Gate>(
     rt: &R,
     alloc: Global,

@@ -13,7 +13,6 @@ use rwsp_model::{Fail, Problem};
 use std::alloc::{AllocError, Global};
 
 /// The answer to the bytes of a free log.
-#[tactic(auto, using(crate::proofs::Printable::free_printable))]
 pub fn free_verdict(alloc: Global, problem: &Problem, bytes: &[u8]) -> Result<Answer, AllocError>
     requires weekly { problem.now.days ≡ 7 }
     requires short { IsWithinLimit Kinds.Log bytes.now }

@@ -1,6 +1,7 @@
 // A roster for a problem, or a refutation.
 ghost use Rattle.std.specs.Prelude.{◌≡◌, ◌≤◌, IfOk};
 ghost use Rattle.rwsp_answers.specs.Plans.{IsPlanAnswer, answer_of};
+ghost use Rattle.rwsp_answers.specs.Texts.{IsPrintable};
 
 use potential_bounds::Gate;
 use roster_planner::plan_roster;
@@ -20,7 +21,8 @@ pub fn planned<R: Threads + Sync, G: Gate>(
     gate: &G,
 ) -> Result<Answer, AllocError>
     requires { (1 ≤ budget) × (budget ≤ GREATEST_BUDGET) }
-    ensures { IfOk result (IsPlanAnswer problem.now budget) }
+    ensures answer { IfOk result (IsPlanAnswer problem.now budget) }
+    ensures printable { IfOk result (IsPrintable problem.now) }
 {
     let found = plan_roster(rt, alloc, problem, budget, gate)?;
     Ok(answer_of(found))

@@ -60,7 +60,6 @@ fn reduced(alloc: Global, problem: &Problem, log: Log) -> Result<Answer, AllocEr
 }
 
 // Why bytes are refused that spell no log: a line before the first that isn't spelled may have a cause too.
-#[tactic(auto, using(crate::proofs::Printable::printable))]
 fn first_refusal<R: Threads + Sync, G: Gate>(
     rt: &R,
     alloc: Global,

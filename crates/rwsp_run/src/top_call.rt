@@ -1,14 +1,14 @@
 // One call that answers a command line.
-ghost use Rattle.std.specs.Prelude.{◌≡◌, ℕ, ◌≤◌, List, length, take, IfOk, IsErrOf};
+ghost use Rattle.std.specs.Prelude.{◌≡◌, ℕ, ◌≤◌, List, length, take, IfOk, IfErr, IsErrOf};
 ghost use Rattle.std.specs.Io.KnownBytes.{Appends, Keeps};
 ghost use Rattle.rwsp_io.specs.Told.{Rose, NeverFall, Missing};
 ghost use Rattle.rwsp_terms.specs.Instance.{Instance};
 ghost use Rattle.rwsp_answers.specs.Answers.{IsAnswer, IsAnswerOn, IsReadFault};
 ghost use Rattle.command_line.specs.Commands.{IsForm, ReadsProblem, ReadsSecond, IsWithinHorizon, HasDaysFor, AsksNoCalendar, problem_name, second_name};
-ghost use Rattle.rwsp_answers.specs.Plans.{IsPlanAnswer};
 ghost use Rattle.rwsp_answers.specs.Trials.{IsTrialAnswer};
 ghost use Rattle.rwsp_answers.specs.Texts.{IsTextOf, IsReplyText, IsTextOfTrial, HasFixedText, IsPrintable, answer_text};
 ghost use Rattle.rwsp_answers.specs.declared.answer.Answer.{Answer};
+ghost use Rattle.rwsp_run.specs.Exits.{IsStop};
 
 use crate::best::best_found;
 use crate::crew::crew_reply;
@@ -22,7 +22,7 @@ use potential_bounds::Gate;
 use rwsp_answers::{Answer, Outcome, Stop, fixed_text, text_on};
 use rwsp_io::{Shelf, Sink, write_all};
 use rwsp_model::Problem;
-use rwsp_terms::limits::{GREATEST_BUDGET, MOST_WEEKS};
+use rwsp_terms::limits::MOST_WEEKS;
 use std::alloc::{AllocError, Global};
 use std::thread::Threads;
 
@@ -151,10 +151,8 @@ fn on_problem<R: Threads + Sync, S: Shelf, G: Gate>(
         IsAnswerOn command (S.held shelf.old (second_name words.now.items)) problem.now r.answer) }
     ensures text { IfOk result (λ r.
         IsReplyText command (S.held shelf.old (second_name words.now.items)) problem.now r.answer r.text.items) }
-    ensures second { IsErrOf result Stop.ReadFault → ReadsSecond command }
-    ensures days { IsErrOf result Stop.ReadFault → HasDaysFor command problem.now }
-    ensures fault { IsErrOf result Stop.ReadFault
-        → Rose (S.faults shelf.old (second_name words.now.items)) (S.faults shelf.new (second_name words.now.items)) }
+    ensures stop { IfErr result (IsStop (ReadsSecond command × HasDaysFor command problem.now
+        × Rose (S.faults shelf.old (second_name words.now.items)) (S.faults shelf.new (second_name words.now.items)))) }
     ensures faults { NeverFall (S.faults shelf.old) (S.faults shelf.new) }
 {
     if let Command::Crew {
@@ -192,17 +190,15 @@ fn answer_on<R: Threads + Sync, S: Shelf, G: Gate>(
     requires other { AsksNoCalendar command }
     ensures answer { IfOk result (IsAnswerOn command (S.held shelf.old (second_name words.now.items)) problem.now) }
     ensures printable { IfOk result (IsPrintable problem.now) }
-    ensures second { IsErrOf result Stop.ReadFault → ReadsSecond command }
-    ensures days { IsErrOf result Stop.ReadFault → HasDaysFor command problem.now }
-    ensures fault { IsErrOf result Stop.ReadFault
-        → Rose (S.faults shelf.old (second_name words.now.items)) (S.faults shelf.new (second_name words.now.items)) }
+    ensures stop { IfErr result (IsStop (ReadsSecond command × HasDaysFor command problem.now
+        × Rose (S.faults shelf.old (second_name words.now.items)) (S.faults shelf.new (second_name words.now.items)))) }
     ensures faults { NeverFall (S.faults shelf.old) (S.faults shelf.new) }
 {
     if !has_days_for(&command, problem) {
         return Ok(Answer::NotWeekly(problem.days()));
     }
     match command {
-        Command::Plan { budget } => plan(rt, alloc, problem, budget, gate),
+        Command::Plan { budget } => Ok(planned(rt, alloc, problem, budget, gate)?),
         Command::Show => Ok(Answer::Shown),
         Command::Staff { low, high, budget } => {
             Ok(staffed(rt, alloc, problem, low, high, budget, gate)?)
@@ -266,21 +262,4 @@ fn without_memory<A: Drop>(_answer: A) -> Stop
     ensures { result ≡ Stop.Memory }
 {
     Stop::Memory
-}
-
-// The answer to `plan`.
-#[tactic(auto, using(crate::proofs::Printable::planned_printable))]
-fn plan<R: Threads + Sync, G: Gate>(
-    rt: &R,
-    alloc: Global,
-    problem: &Problem,
-    budget: u32,
-    gate: &G,
-) -> Result<Answer, Stop>
-    requires { (1 ≤ budget) × (budget ≤ GREATEST_BUDGET) }
-    ensures answer { IfOk result (IsPlanAnswer problem.now budget) }
-    ensures printable { IfOk result (IsPrintable problem.now) }
-    ensures fault { IsErrOf result Stop.ReadFault → ⊥ }
-{
-    Ok(planned(rt, alloc, problem, budget, gate)?)
 }

@@ -4,7 +4,7 @@ use Rattle.rwsp_file.specs.Spelling.{SpellsProblem}
 use Rattle.command_line.specs.Commands.{second_name}
 use Rattle.rwsp_answers.specs.Inputs.{WhereTold, IsWithinLimit}
 use Rattle.rwsp_answers.specs.declared.answer.InputKind.TheVariants as Kinds
-use Rattle.rwsp_run.proofs.Replies.{IsRead, job_answer, job_text, second_fault}
+use Rattle.rwsp_run.proofs.Replies.{IsRead, job_answer, job_text, second_fault, at_fault}
 use Rattle.rwsp_run.proofs.top_call.reply_on_file.Goals as goal
 
 pub returns-clause-answer : goal.returns-clause-answer
@@ -29,5 +29,5 @@ returns-clause-fault g c stopped =
     let words = c.args.words.now.items in
     let P = c.in-Ok.problem in
     let read : IsRead held words P = subst (λ (name : List ℕ). WhereTold (held name) (λ file. IsWithinLimit Kinds.Problem file × SpellsProblem file P)) c.word_at.ensures c.in-Ok.ensures.problem in
-    let said = c.on_problem.ensures in
-    second_fault held (g.S.Shelf.faults c.args.shelf.now) (g.S.Shelf.faults c.problem_in.new.shelf) (g.S.Shelf.faults c.on_problem.new.shelf) words c.args.command P c.requires.form c.requires.reads (said.second stopped) (said.days stopped) read (c.problem_in.ensures.faults (second_name words)) (said.fault stopped)
+    let said = at_fault c.on_problem.result _ c.on_problem.ensures.stop stopped in
+    second_fault held (g.S.Shelf.faults c.args.shelf.now) (g.S.Shelf.faults c.problem_in.new.shelf) (g.S.Shelf.faults c.on_problem.new.shelf) words c.args.command P c.requires.form c.requires.reads said.0 said.1 read (c.problem_in.ensures.faults (second_name words)) said.2
