@@ -5,7 +5,7 @@ use Rattle.rwsp_terms.specs.Instance.{Instance}
 use Rattle.refutation_terms.specs.declared.lines.Line.{Line}
 use Rattle.refutation_terms.specs.declared.lines.Turn.{Turn}
 use Rattle.domain_store.specs.Store.{Store}
-use Rattle.propagators.specs.Looks.{HasPlainLeaves, SameReasons}
+use Rattle.propagator_terms.specs.Looks.{HasPlainLeaves, SameReasons}
 use Rattle.refutation_terms.specs.declared.lines.Line.TheVariants.{Window, Day}
 use Rattle.roster_search.specs.declared.sight.Sight.{Sight}
 use Rattle.roster_search.specs.declared.sight.Sight.TheVariants.{Leaf, Roster, Cut, Quiet}

@@ -8,7 +8,7 @@ ghost use Rattle.refutation_terms.specs.declared.lines.Line.TheVariants.{Few};
 ghost use Rattle.refutation_terms.specs.declared.lines.Turn.{Turn};
 ghost use Rattle.refutation_terms.specs.Log.{GoalFits, HoldsFor};
 ghost use Rattle.domain_store.specs.Store.{Store, BelongsTo, has_domain};
-ghost use Rattle.propagators.specs.Looks.{SameReasons};
+ghost use Rattle.propagator_terms.specs.Looks.{SameReasons};
 ghost use Rattle.roster_search.specs.Guides.{IsLeafGiven, IsGiven, IsSight, AreUnweighedFor};
 
 use crate::Guide;

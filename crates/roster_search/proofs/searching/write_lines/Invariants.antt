@@ -1,6 +1,6 @@
 use Rattle.std.proofs.Common.{ℕ, Option, ◌↔◌, ◌-◌, length}
 use Rattle.rwsp_terms.specs.Instance.{Instance}
-use Rattle.propagators.specs.Looks.{SameReasons}
+use Rattle.propagator_terms.specs.Looks.{SameReasons}
 use Rattle.roster_search.specs.Written.{IsUnderWay}
 use Rattle.roster_search.proofs.searching.write_lines.Given as goal
 
