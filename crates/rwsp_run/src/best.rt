@@ -3,6 +3,7 @@ ghost use Rattle.std.specs.Prelude.{◌≡◌, ◌≤◌, IfOk};
 ghost use Rattle.rwsp_answers.specs.Bests.{IsBestAnswer, best_answer_of};
 ghost use Rattle.rwsp_answers.specs.Texts.{IsPrintable};
 
+use plan_terms::BestFound;
 use rwsp_answers::Answer;
 use rwsp_model::Problem;
 use rwsp_terms::limits::GREATEST_BUDGET;
