@@ -1,5 +1,6 @@
 // Each propagator once in ample memory. What it sees under which domains, its clauses say.
 ghost use Rattle.std.specs.Prelude.{◌≤◌};
+ghost use Rattle.rwsp_terms.specs.Instance.{Instance};
 ghost use Rattle.domain_store.specs.Store.{BelongsTo};
 
 use domain_store::Domains;
@@ -143,10 +144,18 @@ pub fn seen_by<R: Threads + Sync>(
 ) -> Result<Seen, Fail> {
     let problem = problem_of(alloc, text)?;
     let mut doms = Domains::new(alloc, &problem)?;
-    if let Some(x) = taken {
-        take_away(&mut doms, 0, x)?;
-    }
+    take_from_first(&mut doms, taken)?;
     Ok(kind_sees(rt, alloc, kind, &problem, &doms)?)
+}
+
+// Takes the symbol away from position 0, if there is one to take.
+fn take_from_first(doms: &mut Domains, taken: Option<Symbol>) -> Result<(), Fail>
+    ensures { (P : Instance) → BelongsTo P doms.old → BelongsTo P doms.new }
+{
+    match taken {
+        Some(x) => take_away(doms, 0, x),
+        None => Ok(()),
+    }
 }
 
 // Eight days of work on the one cell.
