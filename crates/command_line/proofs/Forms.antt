@@ -10,8 +10,8 @@ use Rattle.rwsp_text.specs.Numbers.{number_of}
 use Rattle.rwsp_terms.specs.declared.limits.TheConstants.{MOST_WEEKS, USUAL_BUDGET, USUAL_STAFF_BUDGET, USUAL_WORKERS, MOST_WORKERS, USUAL_BEST_BUDGET, GREATEST_BUDGET, GREATEST_STAFF_BUDGET}
 use Rattle.rwsp_text.proofs.Words.{bytes_same}
 use Rattle.jiff.specs.Types.{Date}
-use Rattle.crew_calendar.specs.Calendar.{IsDateWord}
-use Rattle.crew_calendar.proofs.OneText.{one_date}
+use Rattle.calendar_dates.specs.Calendar.{IsDateWord}
+use Rattle.calendar_dates.proofs.DateWords.{one_date}
 use Rattle.command_line.specs.Commands.{CommandWords, IsForm, IsCount, IsCrewForm, AreSizesForm, HasNoForm}
 use Rattle.command_line.specs.declared.command.Command.{Command}
 use Rattle.command_line.specs.declared.command.Command.TheVariants.{Plan, Check, Verify, Reduce, Show, Trial, Crew, Staff, CheckStaff, CheckFree, Best}

@@ -2,22 +2,18 @@
 ghost use Rattle.std.specs.Prelude.{◌≡◌, ◌≢◌, codes, ℕ, ◌<◌, ◌↔◌, [], ◌∷◌, length, IsTrue, MatchOption, slice_get};
 ghost use Rattle.std.specs.String.{string_bytes};
 ghost use Rattle.jiff.specs.Types.{Date as PlainDate};
-ghost use Rattle.command_line.specs.Commands.{IsFileWord, IsCount, IsCommandOf, AreDatesOf, AreSizesOf, HasFewDays, IsWithinHorizon, HasDaysFor, word_bytes};
+ghost use Rattle.command_line.specs.Commands.{IsFileWord, IsCount, IsCommandOf, AreDatesOf, AreSizesOf, HasFewDays, IsWithinHorizon, word_bytes};
 
-use crew_calendar::{date_of, fits};
+use calendar_dates::{date_of, fits};
 use jiff::civil::Date;
-use rwsp_model::Problem;
 use rwsp_terms::limits::{
     GREATEST_BUDGET, GREATEST_STAFF_BUDGET, LONGEST_CALENDAR, MOST_SIZES, MOST_WEEKS, MOST_WORKERS,
     USUAL_BEST_BUDGET, USUAL_BUDGET, USUAL_STAFF_BUDGET, USUAL_WORKERS,
 };
 use rwsp_text::number;
 
-/// The days of a week that has a weekend.
-const DAYS_OF_WEEK: u32 = 7;
-
 /// What is to be done. The names of files are words of their own.
-#[derive(Clone, Copy, Debug, PartialEq, Eq)]
+#[derive(Clone, Copy)]
 pub enum Command {
     /// A roster for a problem, or the log of a refutation of at most `budget` lines.
     Plan {
@@ -349,16 +345,6 @@ pub fn is_within_horizon(command: &Command) -> bool
 {
     match command {
         Command::Crew { date, days, .. } => fits(*date, *days),
-        _ => true,
-    }
-}
-
-/// Whether the week of the problem has as many days as the command asks for.
-pub fn has_days_for(command: &Command, problem: &Problem) -> bool
-    ensures { IsTrue result ↔ HasDaysFor command.now problem.now }
-{
-    match command {
-        Command::CheckFree | Command::Best { .. } => problem.days() == DAYS_OF_WEEK,
         _ => true,
     }
 }

@@ -3,4 +3,4 @@
 
 mod command;
 
-pub use command::{Command, command_of, has_days_for, is_within_horizon, word_at};
+pub use command::{Command, command_of, is_within_horizon, word_at};

@@ -1,11 +1,17 @@
 -- What is appended, piece by piece.
-use Rattle.std.proofs.Common.{◌≡◌, ℕ, ◌+◌, ◌-◌, ◌≤◌, List, [], ◌∷◌, ◌++◌, length, ap, sym, ◌∙◌, arith, append_assoc}
-use Rattle.std.specs.Prelude.{Option, Some, None, option_map}
+use Rattle.std.proofs.Common.{◌≡◌, ℕ, zero, suc, ◌+◌, ◌-◌, ◌<◌, ◌≤◌, List, [], ◌∷◌, ◌++◌, length, refl, ap, sym, ◌∙◌, arith, append_assoc}
+use Rattle.std.specs.Prelude.{Option, Some, None, option_map, Result, Ok, Err, OnOk}
 use Rattle.std.specs.List.{flat_map, range_with_len}
 use Rattle.std.proofs.lemmas.List.{flat_map_more}
+use Rattle.std.specs.declared.alloc.AllocError.{AllocError}
+use Rattle.jiff.specs.Types.{Date}
+use Rattle.rwsp_terms.specs.Instance.{Instance}
 use Rattle.rwsp_terms.specs.declared.data.ShiftRow.{ShiftRow}
+use Rattle.rwsp_terms.specs.declared.data.Symbol.{Symbol}
 use Rattle.rwsp_terms.proofs.Counting.{range_more}
-use Rattle.crew_calendar.specs.Texts.{start_in, length_in}
+use Rattle.calendar_dates.specs.Calendar.{OnCalendar}
+use Rattle.crew_calendar.specs.Crew.{symbol_on}
+use Rattle.crew_calendar.specs.Texts.{start_in, length_in, shift_line, duty_line_of, duty_line}
 
 -- one piece more
 pub piece_more : (f : ℕ → List ℕ) (a n : ℕ) (old out new : List ℕ) → out ≡ old ++ flat_map f (range_with_len a n) → new ≡ out ++ f (a + n) → new ≡ old ++ flat_map f (range_with_len a (n + 1))
@@ -50,3 +56,12 @@ pub shift_joined : (old from to end name a b c d new : List ℕ) → a ≡ old +
 shift_joined old from to end name a b c d new e1 e2 e3 e4 e5 =
     e5 ∙ ap (λ t. t ++ 10 ∷ []) (e4 ∙ ap (λ t. t ++ 32 ∷ name) (e3 ∙ ap (λ t. t ++ end) (e2 ∙ ap (λ t. t ++ to) e1)))
     ∙ simp append_assoc
+
+-- a symbol that is a shift has the shift's line
+shift_duty : (P : Instance) (on : ℕ → Date) (t n : ℕ) → 0 < n → shift_line P on t (record { number = n }) ≡ duty_line_of P on t n
+shift_duty P on t zero some = absurd (omega (arith, some))
+shift_duty P on t (suc n) some = refl
+
+pub duty_put : (P : Instance) (s : List Symbol) (e t days : ℕ) (date : Date) (x : Symbol) (old new : List ℕ) (r : Result (Unit {0}) AllocError) → x ≡ symbol_on P s e t → 0 < x.number → OnOk r (OnCalendar date days (λ on. new ≡ old ++ shift_line P on t x)) → OnOk r (OnCalendar date days (λ on. new ≡ old ++ duty_line P s on e t))
+duty_put P s e t days date x old new (Err why) is some h = tt
+duty_put P s e t days date x old new (Ok u) is some h = λ on calendar. h on calendar ∙ ap (λ l. old ++ l) (shift_duty P on t x.number some ∙ ap (λ (y : Symbol). duty_line_of P on t y.number) is)

@@ -1,5 +1,3 @@
-pub mod DateWords
-pub mod Calendars
 pub mod Appended
 pub mod Standing
 pub mod Rounds

@@ -1,5 +1,5 @@
--- A table and duties have one text, and a word names one date.
-use Rattle.std.proofs.Common.{◌≡◌, ℕ, zero, suc, ◌+◌, ◌-◌, ◌*◌, ◌/◌, ◌%◌, ◌<◌, ◌≤◌, inl, inr, List, [], ◌∷◌, ◌++◌, get_or, Ok, refl, ap, sym, subst, ◌∙◌, arith}
+-- A table and duties have one text.
+use Rattle.std.proofs.Common.{◌≡◌, ℕ, zero, suc, ◌+◌, ◌-◌, ◌*◌, ◌/◌, ◌%◌, ◌<◌, ◌≤◌, inl, inr, List, [], ◌∷◌, ◌++◌, get_or, refl, ap, sym, subst, ◌∙◌, arith}
 use Rattle.std.specs.Prelude.{slice_get, Some, None, All, codes}
 use Rattle.std.specs.List.{flat_map, range_with_len}
 use Rattle.std.proofs.lemmas.Option.{slice_get_cases}
@@ -9,13 +9,12 @@ use Rattle.rwsp_terms.specs.declared.data.Symbol.{Symbol}
 use Rattle.rwsp_terms.specs.Instance.{Instance, name_of}
 use Rattle.rwsp_model.specs.Validity.{KeepsLimits}
 use Rattle.jiff.specs.Types.{Date}
-use Rattle.jiff.specs.Words.{date_text, parse_date, date_parts}
-use Rattle.jiff.proofs.Family.{parse_date-date_text, epoch_day_same, same_date}
-use Rattle.crew_calendar.specs.declared.calendar.TheConstants.{MOST_DAYS_LATER}
+use Rattle.jiff.specs.Words.{date_text}
+use Rattle.calendar_dates.specs.declared.dates.TheConstants.{MOST_DAYS_LATER}
 use Rattle.crew_calendar.specs.Crew.{symbol_on}
-use Rattle.crew_calendar.specs.Calendar.{IsCalendar, IsDateWord}
+use Rattle.calendar_dates.specs.Calendar.{IsCalendar}
 use Rattle.crew_calendar.specs.Texts.{crew_text, day_line, day_minutes, clock_text, moment_text, start_in, length_in, start_of, length_of, shift_line, duty_line_of, duty_line, IsTable, AreDuties}
-use Rattle.crew_calendar.proofs.Calendars.{one_text}
+use Rattle.calendar_dates.proofs.Calendars.{one_text}
 
 -- two calendars from one date have the same texts
 agree : (date : Date) (days : ℕ) (on other : ℕ → Date) → IsCalendar date days on → IsCalendar date days other → (t : ℕ) → t < days → date_text (on t) ≡ date_text (other t)
@@ -70,10 +69,3 @@ one_duties P s date days employee text other limits a b =
     ∙ lines_same (duty_line P s a.on employee) (duty_line P s b.on employee) 0 days
     (λ t less. duty_same P date days a.on b.on limits a.calendar b.calendar t (symbol_on P s employee t).number (omega (arith, less)))
     ∙ sym b.is
-
-pub one_date : (word : List ℕ) (date other : Date) → IsDateWord word date → IsDateWord word other → date ≡ other
-one_date word date other a b =
-    let good : parse_date word ≡ Ok (date_parts date) = ap parse_date a.1 ∙ parse_date-date_text date in
-    let also : parse_date word ≡ Ok (date_parts other) = ap parse_date b.1 ∙ parse_date-date_text other in
-    let same : date_parts date ≡ date_parts other = cc in
-    same_date date other (epoch_day_same date other (ap (λ p. p.year) same) (ap (λ p. p.month) same) (ap (λ p. p.day) same))

@@ -1,10 +1,11 @@
 -- The position of an employee in the cycle.
-use Rattle.std.proofs.Common.{◌≡◌, ℕ, zero, suc, ◌+◌, ◌-◌, ◌*◌, ◌/◌, ◌%◌, ◌<◌, ◌≤◌, inl, inr, List, length, get_or, refl, ap, sym, subst, ◌∙◌, arith, mul-le-mul_right}
+use Rattle.std.proofs.Common.{◌≡◌, ℕ, zero, suc, ◌+◌, ◌-◌, ◌*◌, ◌/◌, ◌%◌, ◌<◌, ◌≤◌, inl, inr, List, [], ◌∷◌, length, get_or, refl, ap, sym, subst, ◌∙◌, arith, mul-le-mul_right}
+use Rattle.std.specs.Prelude.{All, slice_index_or}
 use Rattle.std.proofs.lemmas.Nat.{mod_below}
 use Rattle.std.proofs.lemmas.Bool.{cases_order}
 use Rattle.std.proofs.Math.Nat.{add-mod-mod, add-mul-mod_self_right, mod-eq_of_lt}
 use Rattle.rwsp_terms.specs.declared.data.Symbol.{Symbol}
-use Rattle.rwsp_terms.specs.Instance.{Instance, cells, off_symbol}
+use Rattle.rwsp_terms.specs.Instance.{Instance, cells, off_symbol, IsSymbol}
 use Rattle.rwsp_terms.specs.Window.{Bad, cell, window}
 use Rattle.rwsp_terms.specs.Roster.{IsRoster, MeetsAll}
 use Rattle.refutation_terms.proofs.Windows.{no_bad_met}
@@ -65,3 +66,12 @@ goes_round P some e t p less =
         only = λ other within there. same_day n a found.0 other p some found.1 within found.2 (sym (at other) ∙ there);
       },
     )
+
+-- a symbol of a roster is the problem's
+pub symbol_known : (P : Instance) (s : List Symbol) (p : ℕ) → All (IsSymbol P) s → IsSymbol P (slice_index_or s p off_symbol)
+symbol_known P [] p all = omega arith
+symbol_known P (x ∷ s) zero all = all 0 x (omega arith)
+symbol_known P (x ∷ s) (suc p) all = symbol_known P s p (λ k d less. all (suc k) d (omega (arith, less)))
+
+pub on_symbol : (P : Instance) (s : List Symbol) (e t : ℕ) (x : Symbol) → IsRoster P s → x ≡ symbol_on P s e t → IsSymbol P x
+on_symbol P s e t x roster is = subst (IsSymbol P) (sym is) (symbol_known P s (position_on P e t) roster.symbols)

@@ -2,13 +2,11 @@
 //! week comes the first. A table of all employees by dates, and the duties of one.
 #![tactic(auto)]
 
-mod calendar;
 mod duty_lines;
 mod laws;
 mod lines;
 mod places;
 
-pub use calendar::{date_of, fits};
 pub use duty_lines::duties;
 pub use laws::{
     demand_is_met_daily, duties_are_one, employees_follow_the_cycle, employees_go_round,

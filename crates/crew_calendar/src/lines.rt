@@ -3,12 +3,12 @@ ghost use Rattle.std.specs.Prelude.{◌≡◌, ◌++◌, ◌∷◌, [], ◌<◌,
 ghost use Rattle.rwsp_terms.specs.Instance.{IsSymbol, name_of};
 ghost use Rattle.rwsp_terms.specs.Roster.{IsRoster, MeetsAll};
 ghost use Rattle.jiff.specs.Words.{date_text};
-ghost use Rattle.crew_calendar.specs.Calendar.{FitsDates};
+ghost use Rattle.calendar_dates.specs.Calendar.{FitsDates};
 ghost use Rattle.crew_calendar.specs.Texts.{crew_text, IsTable};
 ghost use Rattle.crew_calendar.specs.Facts.{MeetsDemandDaily, FollowsCycle, IsClean, GoesRound};
 
-use crate::calendar::date_after;
 use crate::places::symbol_on;
+use calendar_dates::date_after;
 use jiff::civil::Date;
 use rwsp_model::{Problem, Roster};
 use rwsp_terms::Symbol;

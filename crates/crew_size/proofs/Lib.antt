@@ -6,6 +6,5 @@ pub mod Decided
 pub mod Heads
 pub mod LogCuts
 pub mod OneVerdict
-pub mod Refused
 pub mod Printing
 pub mod Searches

@@ -9,7 +9,7 @@ use rwsp_model::Problem;
 use rwsp_text::number;
 
 /// A heading that a text may have where it is accepted.
-#[derive(Clone, Copy, Debug, PartialEq, Eq)]
+#[derive(Clone, Copy)]
 pub enum Heading {
     /// This number of weeks has no roster; the log that shows it follows.
     Refuted(u32),

@@ -6,7 +6,7 @@ use rwsp_model::Roster;
 use std::marker::Model;
 
 /// How a search size by size ends.
-#[derive(Debug, Drop)]
+#[derive(Drop)]
 pub enum StaffEnd {
     /// The next number of weeks has this roster.
     Least(Roster),
@@ -17,7 +17,7 @@ pub enum StaffEnd {
 }
 
 /// The first number of weeks, a log for it and for each one above, and the end.
-#[derive(Debug, Drop)]
+#[derive(Drop)]
 pub struct StaffRun {
     low: u32,
     logs: Vec<Log>,

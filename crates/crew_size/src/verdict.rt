@@ -3,7 +3,7 @@ use roster_checker::Broken;
 use roster_print::RosterRefusal;
 
 /// The first and the last number of weeks that an accepted text decides.
-#[derive(Clone, Copy, Debug, PartialEq, Eq)]
+#[derive(Clone, Copy, PartialEq, Eq)]
 pub enum Staffed {
     /// The last has a roster, and no smaller one from the first on has one.
     Least(u32, u32),
@@ -12,7 +12,7 @@ pub enum Staffed {
 }
 
 /// Why a staff text is refused. Lines count from 1.
-#[derive(Debug, Drop)]
+#[derive(Drop)]
 pub enum StaffRefusal {
     /// The line is where a heading has to be and is none that may be there, or the text of the roster behind it is too
     /// long.

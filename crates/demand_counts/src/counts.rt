@@ -18,7 +18,7 @@ use std::mem;
 /// domains that they count.
 ///
 /// Days count from 1, and positions from 0, week after week.
-#[derive(Debug, Drop)]
+#[derive(Drop)]
 pub struct Counts {
     days: u32,
     weeks: u32,
@@ -179,7 +179,6 @@ impl Counts {
     }
 }
 
-#[tactic(auto, using(std::proofs::lemmas::List::replicate_more))]
 fn empty_sets(alloc: Global, cells: u32) -> Result<Vec<SymbolSet>, AllocError>
     ensures { IfOk result (λ v. v.items ≡ replicate cells []) }
 {

@@ -20,7 +20,7 @@ use std::mem;
 ///
 /// Positions count from 0, week after week. Each change takes a symbol or more from one domain, and leaves one at
 /// least.
-#[derive(Debug, Drop)]
+#[derive(Drop)]
 pub struct Domains {
     days: u32,
     weeks: u32,

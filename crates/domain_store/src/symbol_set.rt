@@ -8,7 +8,7 @@ use std::marker::Model;
 
 /// A set of symbols whose numbers are below `MOST_SYMBOLS`, seen as the ascending list of the numbers. Each symbol has
 /// the bit of its number.
-#[derive(Clone, Copy, Debug)]
+#[derive(Clone, Copy)]
 pub struct SymbolSet {
     bits: u16,
 }

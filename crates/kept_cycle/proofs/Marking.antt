@@ -40,6 +40,18 @@ marked_put row k t lt = elim (cases_eq t k) [
   )
 ]
 
+-- a step that doesn't join marks nothing
+pub passes_over : (here there : Step → ℕ) (steps : List Step) (has : ℕ → Bool) (row next : List Bool) (n : ℕ) (s : Step) → StandsAt steps n s → (is_marked row (here s) ≡ false) ⊎ (has s.symbol.number ≡ false) → PassesBelow here there steps has row next n → PassesBelow here there steps has row next (n + 1)
+passes_over here there steps has row next n s stands fails p t = (
+  λ h. later here there steps has row t n ((p t).0 h),
+  λ j. (p t).1 (earlier here there steps has row t n j (λ same.
+      let is = last_step here there steps has row t n s stands j same in
+      elim fails [
+        | inl unmarked ↦ unlike (is_marked row (here s)) unmarked (subst (λ (x : Step). IsTrue (is_marked row (here x))) is j.marked)
+        | inr out ↦ unlike (has s.symbol.number) out (subst (λ (x : Step). IsTrue (has x.symbol.number)) is j.held)
+      ])),
+)
+
 pub passes_put : (here there : Step → ℕ) (steps : List Step) (has : ℕ → Bool) (row next : List Bool) (n : ℕ) (s : Step) → StandsAt steps n s → IsTrue (is_marked row (here s)) → IsTrue (has s.symbol.number) → there s < length next → PassesBelow here there steps has row next n
     → PassesBelow here there steps has row (set next (there s) true) (n + 1)
 passes_put here there steps has row next n s stands marked held within p t = (

@@ -1,7 +1,7 @@
 -- Rows that are mended day after day.
-use Rattle.std.proofs.Common.{◌≡◌, ◌≢◌, inl, inr, ℕ, ◌+◌, ◌%◌, ◌<◌, ◌≤◌, List, [], length, get_or, set, refl, ap, sym, ◌∙◌, subst, arith, Bool, false, replicate}
+use Rattle.std.proofs.Common.{get_or-set_same, get_or-set_other, ◌≡◌, ◌≢◌, inl, inr, ℕ, ◌+◌, ◌%◌, ◌<◌, ◌≤◌, List, [], length, get_or, set, refl, ap, sym, ◌∙◌, subst, arith, Bool, false, replicate}
 use Rattle.std.proofs.lemmas.Bool.{cases_eq}
-use Rattle.std.proofs.lemmas.List.{get_or_read, length-replicate, get_or-replicate}
+use Rattle.std.proofs.lemmas.List.{get_or_read, length-set, length-replicate, get_or-replicate}
 use Rattle.std.proofs.lemmas.Nat.{mod_below}
 use Rattle.domain_store.specs.Sets.{has_symbol}
 use Rattle.layered_cycle.specs.declared.step.Step.{Step}
@@ -126,3 +126,48 @@ wide_replicate days nodes rows spare e is i less =
     let row : List Bool = replicate nodes false in
     let within : i < days = omega (arith, less, ap length e, length-replicate days (replicate nodes false)) in
     ap (λ r. length (row_at r i)) e ∙ ap length (get_or-replicate days i (replicate nodes false) [] within) ∙ sym (ap length is)
+
+-- the rows are as wide as the row that there is room for, and so are the steps of a day
+pub room_for : (now rows : List (List Bool)) (spare : List Bool) (layer steps : List Step) (i : ℕ) → rows ≡ now → steps ≡ layer → i + 1 < length now → (width : ℕ) × IsWide now width × FitsInto width layer → IsWide rows (length spare) → FitsInto (length spare) steps
+room_for now rows spare layer steps i same is within fits wide =
+    let P : List (List Bool) → Type 0 = λ r. length (row_at r i) ≡ length spare in
+    let here : length (row_at now i) ≡ length spare = subst P same (wide i (omega (arith, within, ap length same))) in
+    let width : fits.0 ≡ length spare = sym (fits.1 i (omega (arith, within))) ∙ here in
+    subst (λ (l : List Step). FitsInto (length spare) l) (sym is) (subst (λ (w : ℕ). FitsInto w layer) width fits.2)
+
+pass_read : (here there : Step → ℕ) (layer steps : List Step) (has : ℕ → Bool) (row row2 next next2 : List Bool) → steps ≡ layer → row ≡ row2 → next ≡ next2 → IsPass here there steps has row next → IsPass here there layer has row2 next2
+pass_read here there layer steps has row row2 next next2 is same same_next pass =
+    subst (λ (ys : List Bool). IsPass here there layer has row2 ys) same_next
+    (subst (λ (xs : List Bool). IsPass here there layer has xs next) same
+    (subst (λ (l : List Step). IsPass here there l has row next) is pass))
+
+-- the pass from a row that is kept to one that is put
+pub pass_put : (here there : Step → ℕ) (layer steps : List Step) (has : ℕ → Bool) (now rows : List (List Bool)) (row next put : List Bool) (i k : ℕ) → rows ≡ now → i < length now → k < length now → i ≢ k → row ≡ get_or rows i row → steps ≡ layer → put ≡ next → IsPass here there steps has row next
+    → IsPass here there layer has (row_at (set rows k put) i) (row_at (set rows k put) k)
+pass_put here there layer steps has now rows row next put i k same i_in k_in apart read is is_put pass =
+    let long : length rows ≡ length now = ap length same in
+    let kept : row ≡ row_at (set rows k put) i = get_or_read rows i row (omega (arith, i_in, long)) read [] ∙ sym (get_or-set_other rows k i put [] apart) in
+    let there_now : next ≡ row_at (set rows k put) k = sym is_put ∙ sym (get_or-set_same rows k put [] (omega (arith, k_in, long))) in
+    pass_read here there layer steps has row (row_at (set rows k put) i) next (row_at (set rows k put) k) is kept there_now pass
+
+-- the pass from a row to one that is there already
+pub pass_same : (here there : Step → ℕ) (layer steps : List Step) (has : ℕ → Bool) (now rows : List (List Bool)) (row next other : List Bool) (i k : ℕ) → rows ≡ now → i < length now → k < length now → row ≡ get_or rows i row → other ≡ get_or rows k other → steps ≡ layer → next ≡ other → IsPass here there steps has row next
+    → IsPass here there layer has (row_at rows i) (row_at rows k)
+pass_same here there layer steps has now rows row next other i k same i_in k_in read read_other is is_other pass =
+    let long : length rows ≡ length now = ap length same in
+    pass_read here there layer steps has row (row_at rows i) next (row_at rows k) is (get_or_read rows i row (omega (arith, i_in, long)) read [])
+    (is_other ∙ get_or_read rows k other (omega (arith, k_in, long)) read_other []) pass
+
+pub wide_set : (rows : List (List Bool)) (day : ℕ) (row : List Bool) (width : ℕ) → day < length rows → IsWide rows width → length row ≡ width → IsWide (set rows day row) width
+wide_set rows day row width within wide long i less =
+    elim (cases_eq i day) [
+      | inl same ↦ ap (λ k. length (row_at (set rows day row) k)) same ∙ ap length (get_or-set_same rows day row [] within) ∙ long
+      | inr other ↦ ap length (get_or-set_other rows day i row [] other) ∙ wide i (omega (arith, less, length-set rows day row))
+    ]
+
+-- the row that is kept free is swapped with one of the rows
+pub wide_swapped : (now rows : List (List Bool)) (spare put old row free : List Bool) (k : ℕ) → rows ≡ now → k < length now → IsWide rows (length spare) → length put ≡ length spare → row ≡ put → free ≡ old → old ≡ get_or rows k old → IsWide (set rows k row) (length free)
+wide_swapped now rows spare put old row free k same k_in wide long is_row is_free read =
+    let within : k < length rows = omega (arith, k_in, ap length same) in
+    let width : length free ≡ length spare = ap length (is_free ∙ get_or_read rows k old within read []) ∙ wide k within in
+    subst (λ (w : ℕ). IsWide (set rows k row) w) (sym width) (wide_set rows k row (length spare) within wide (ap length is_row ∙ long))

@@ -20,6 +20,7 @@ use Rattle.kept_cycle.specs.Known.{KnownCycle, knows_symbol, KnowsDomains, Knows
 use Rattle.kept_cycle.specs.Marks.{is_marked, row_at, layer_at, has_on, from_of, to_of, IsPass, IsFrontStep, IsBackStep, MendsFront, MendsBack, IsWide, AllFitInto}
 use Rattle.kept_cycle.specs.KeptCycle.{HasSymbolsOf, HasLayers, IsCycle, HasJoiningStep}
 use Rattle.kept_cycle.proofs.Marking.{unlike}
+use Rattle.kept_cycle.proofs.Mending.{wide_set}
 use Rattle.kept_cycle.proofs.TwoTurns.{Held, ArePasses, goes_on, WordHas, word_has, has_support}
 
 abbrev known : Listed → List (List ℕ) → KnownCycle
@@ -273,13 +274,6 @@ wide_rows days width i less =
     let within : i < days = omega (arith, less, length-replicate days (replicate width false)) in
     ap length (get_or-replicate days i (replicate width false) [] within) ∙ length-replicate width false
 
-wide_set : (rows : List (List Bool)) (day : ℕ) (row : List Bool) (width : ℕ) → day < length rows → IsWide rows width → length row ≡ width → IsWide (set rows day row) width
-wide_set rows day row width within wide long i less =
-    elim (cases_eq i day) [
-      | inl same ↦ ap (λ k. length (row_at (set rows day row) k)) same ∙ ap length (get_or-set_same rows day row [] within) ∙ long
-      | inr other ↦ ap length (get_or-set_other rows day i row [] other) ∙ wide i (omega (arith, less, length-set rows day row))
-    ]
-
 within_days : (days day : ℕ) → (day ≡ 0) ⊎ (day ≡ days) → day < days + 1
 within_days days day (inl e) = omega (arith, e)
 within_days days day (inr e) = omega (arith, e)
@@ -377,3 +371,10 @@ mends_back_read layers now sets read day there old new is are same m =
     let Q : List (List ℕ) → Type 0 = λ s. MendsBack now s there old new in
     let R : ℕ → Type 0 = λ d. MendsBack now read d old new in
     subst P is (subst Q are (subst R same m))
+
+-- a position has a day in the second turn
+pub second_day : (T : Listed) (layers : List (List Step)) (sets : List (List ℕ)) (front back rows : List (List Bool)) (width p n : ℕ) → IsCycle T layers sets front back width → p < length sets → n ≡ length sets → (length rows ≡ length front) ⊎ (rows ≡ back) → p + n + 1 < length rows
+second_day T layers sets front back rows width p n h within all long = elim long [
+  | inl e ↦ omega (arith, e, within, all, h.long, h.front_long, h.layered.days)
+  | inr e ↦ let same = ap length e in omega (arith, same, within, all, h.long, h.back_long, h.layered.days)
+]

@@ -37,7 +37,7 @@ const FIRST_DAYS: u32 = 64;
 ///
 /// The layers of all clean words are made once. What is kept beside them for each day, and changes with the domains, is
 /// which nodes are reached over them from the front, and from which nodes they lead to the end.
-#[derive(Debug, Drop)]
+#[derive(Drop)]
 pub struct Cycle {
     tails: TailRules,
     layers: Layers,
@@ -240,7 +240,7 @@ impl Cycle {
 }
 
 // What a cycle keeps beside its rules, while no position has a symbol.
-#[derive(Debug, Drop)]
+#[derive(Drop)]
 struct Empty {
     layers: Layers,
     width: u32,
@@ -256,15 +256,53 @@ impl Empty {
         ensures awaited { IfOk result (λ e. AreAwaited tails.now e.sets.items e.pending.items) }
     {
         let (layers, width) = clean_layers(alloc, tails)?;
-        let (front, back) = marks_of_ends(alloc, layers.layers().len(), width as usize)?;
-        let (sets, pending) = empty_positions(alloc, tails.problem().cells())?;
-        Ok(Empty {
-            layers,
-            width,
+        let days = layers.layers().len();
+        match Ends::new(alloc, days, width as usize, tails.problem().cells()) {
+            Ok(ends) => Ok(Empty {
+                layers,
+                width,
+                sets: ends.sets,
+                front: ends.front,
+                back: ends.back,
+                pending: ends.pending,
+            }),
+            Err(error) => {
+                drop(layers);
+                Err(error)
+            }
+        }
+    }
+}
+
+// What a cycle keeps beside its rules and its layers, while no position has a symbol.
+#[derive(Drop)]
+struct Ends {
+    sets: Vec<SymbolSet>,
+    pending: Vec<bool>,
+    front: DayMarks,
+    back: DayMarks,
+}
+
+impl Ends {
+    fn new(alloc: Global, days: usize, nodes: usize, cells: u32) -> Result<Ends, AllocError>
+        requires days { days ≤ LONGEST_WORD }
+        requires nodes { 0 < nodes }
+        ensures front { IfOk result (λ e. e.front ≡ slice_set (replicate (days + 1) (replicate nodes false)) 0
+            (slice_set (replicate nodes false) 0 true)) }
+        ensures back { IfOk result (λ e. e.back ≡ slice_set (replicate (days + 1) (replicate nodes false)) days
+            (replicate nodes true)) }
+        ensures sets { IfOk result (λ e. e.sets.items ≡ replicate cells []) }
+        ensures pending { IfOk result (λ e. length e.pending.items ≡ cells) }
+    {
+        let sets = empty_sets(alloc, cells)?;
+        let pending = vec![in alloc; false; cells as usize]?;
+        let front = first_front(alloc, days, nodes)?;
+        let back = first_back(alloc, days, nodes)?;
+        Ok(Ends {
             sets,
+            pending,
             front,
             back,
-            pending,
         })
     }
 }
@@ -281,24 +319,6 @@ fn clean_layers(alloc: Global, tails: &TailRules) -> Result<(Layers, u32), Alloc
     let layers = Layers::of(alloc, tails, &full, 0, days)?;
     let width = greatest(layers.node_counts());
     Ok((layers, width))
-}
-
-// What a cycle keeps for its ends: the marks of the front, and those of the back.
-fn marks_of_ends(
-    alloc: Global,
-    days: usize,
-    nodes: usize,
-) -> Result<(DayMarks, DayMarks), AllocError>
-    requires days { days ≤ LONGEST_WORD }
-    requires nodes { 0 < nodes }
-    ensures front { IfOk result (λ r. r.0 ≡ slice_set (replicate (days + 1) (replicate nodes false)) 0
-        (slice_set (replicate nodes false) 0 true)) }
-    ensures back { IfOk result (λ r. r.1 ≡ slice_set (replicate (days + 1) (replicate nodes false)) days
-        (replicate nodes true)) }
-{
-    let front = first_front(alloc, days, nodes)?;
-    let back = first_back(alloc, days, nodes)?;
-    Ok((front, back))
 }
 
 // The front marks node 0 before the first day, and none behind.
@@ -326,16 +346,6 @@ fn first_back(alloc: Global, days: usize, nodes: usize) -> Result<DayMarks, Allo
     Ok(back)
 }
 
-// For each position no symbol, and that none is without support.
-fn empty_positions(alloc: Global, cells: u32) -> Result<(Vec<SymbolSet>, Vec<bool>), AllocError>
-    ensures sets { IfOk result (λ r. r.0.items ≡ replicate cells []) }
-    ensures pending { IfOk result (λ r. length r.1.items ≡ cells) }
-{
-    let sets = empty_sets(alloc, cells)?;
-    let pending = vec![in alloc; false; cells as usize]?;
-    Ok((sets, pending))
-}
-
 // Tells want of memory where two turns would take more marks or more steps than are kept, judged by their first days:
 // no more is spent on layers that are too large.
 fn keep_room(alloc: Global, tails: &TailRules, full: &Domains, days: u32) -> Result<(), AllocError>
@@ -344,12 +354,18 @@ fn keep_room(alloc: Global, tails: &TailRules, full: &Domains, days: u32) -> Res
     requires long { (1 ≤ days) × (days ≤ LONGEST_WORD) }
 {
     let first = Layers::of(alloc, tails, full, 0, days.min(FIRST_DAYS))?;
+    let keeps = keeps_room(&first, days);
+    drop(first);
+    if keeps { Ok(()) } else { Err(AllocError) }
+}
+
+// Whether so many days, of which these are the first, take no more marks and no more steps than are kept.
+fn keeps_room(first: &Layers, days: u32) -> bool
+    requires { 1 ≤ days }
+{
     let nodes = greatest(first.node_counts());
     let steps = most_steps(first.layers());
-    if nodes as u64 * days as u64 > MOST_MARKS || steps > MOST_STEPS / days as u64 {
-        return Err(AllocError);
-    }
-    Ok(())
+    nodes as u64 * days as u64 <= MOST_MARKS && steps <= MOST_STEPS / days as u64
 }
 
 // The greatest number of steps of a day. Goes once over the days.
@@ -397,7 +413,6 @@ fn greatest(counts: &[u32]) -> u32
     greatest
 }
 
-#[tactic(auto, using(std::proofs::lemmas::List::replicate_more))]
 fn empty_sets(alloc: Global, cells: u32) -> Result<Vec<SymbolSet>, AllocError>
     ensures { IfOk result (λ v. v.items ≡ replicate cells []) }
 {

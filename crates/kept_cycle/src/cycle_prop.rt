@@ -19,7 +19,7 @@ use word_tail::TailRules;
 
 /// Closes where no word of two turns round the cycle is clean for the short rules, and takes away the symbols that no
 /// such word has at their position. It keeps the layers of these words.
-#[derive(Debug, Drop)]
+#[derive(Drop)]
 pub struct CycleProp {
     cycle: Cycle,
 }

@@ -12,7 +12,7 @@ use std::marker::Model;
 use std::mem;
 
 // For each day of a word, and for its end, which nodes are marked; with room for one row more.
-#[derive(Debug, Drop)]
+#[derive(Drop)]
 pub struct DayMarks {
     rows: Vec<Marks>,
     spare: Marks,

@@ -9,7 +9,7 @@ use std::alloc::{AllocError, Global};
 use std::marker::Model;
 
 // For each node whether it is marked.
-#[derive(Debug, Drop)]
+#[derive(Drop)]
 pub struct Marks {
     flags: Vec<bool>,
 }

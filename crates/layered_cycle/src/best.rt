@@ -12,7 +12,7 @@ use rwsp_terms::{Symbol, Word};
 use std::alloc::{AllocError, Global};
 
 /// A word with its weight.
-#[derive(Debug, Drop)]
+#[derive(Drop)]
 pub struct HeavyWord {
     pub weight: i64,
     pub word: Word,

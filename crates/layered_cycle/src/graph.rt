@@ -16,7 +16,7 @@ use std::alloc::{AllocError, Global};
 use word_tail::{Tail, TailRules, empty_word_is_clean};
 
 // The layers, and how many nodes there are before each and behind the last.
-#[derive(Debug, Drop)]
+#[derive(Drop)]
 pub struct LayeredGraph {
     pub layers: Vec<Layer>,
     pub node_counts: Vec<u32>,

@@ -20,7 +20,7 @@ use word_tail::TailRules;
 ///
 /// A node of a layer is the tail of a clean word that leads to it, so that words with one tail continue together (the
 /// layered graph of a regular language: G. Pesant, 2004).
-#[derive(Debug, Drop)]
+#[derive(Drop)]
 pub struct Layers {
     problem: Problem,
     rules: RuleList,

@@ -5,7 +5,7 @@ use rwsp_terms::Symbol;
 use std::marker::Model;
 
 /// A step by a symbol, from a node of one layer to a node of the next.
-#[derive(Clone, Copy, Debug, PartialEq, Eq)]
+#[derive(Clone, Copy, PartialEq, Eq)]
 pub struct Step {
     /// The node of the one layer.
     pub from: u32,
@@ -16,7 +16,7 @@ pub struct Step {
 }
 
 /// All steps from the nodes of one layer to those of the next, seen as their list.
-#[derive(Debug, Drop)]
+#[derive(Drop)]
 pub struct Layer {
     steps: Vec<Step>,
 }

@@ -4,7 +4,8 @@ ghost use Rattle.rwsp_terms.specs.declared.limits.TheConstants.{LONGEST_CALENDAR
 ghost use Rattle.rwsp_terms.specs.Roster.{IsRoster};
 ghost use Rattle.crew_calendar.specs.Crew.{IsEmployee};
 
-use crew_calendar::{crew_table, date_of, duties, fits, place};
+use calendar_dates::{date_of, fits};
+use crew_calendar::{crew_table, duties, place};
 use jiff::civil::Date;
 use rwsp_model::{Problem, Roster};
 use small_problems::{problem_of, roster_of};

@@ -4,7 +4,7 @@ ghost use Rattle.std.specs.Prelude.{◌≡◌, ◌<◌, ◌≤◌, length, slice
 use std::marker::Model;
 
 // Whole numbers, one for each coordinate. Further coordinates are 0.
-#[derive(Debug, Drop)]
+#[derive(Drop)]
 pub struct Vector {
     entries: Vec<i64>,
 }
@@ -56,7 +56,7 @@ pub fn square_distance(a: &[i64], b: &[i64]) -> u64 {
 }
 
 // A part to be moved from one vector to another.
-#[derive(Clone, Copy, Debug, Drop)]
+#[derive(Clone, Copy, Drop)]
 pub struct Move {
     pub gaining: usize,
     pub losing: usize,

@@ -1,8 +1,8 @@
 // The hull of vectors, with a mix of them that comes nearer to a box.
-ghost use Rattle.std.specs.Prelude.{◌≡◌, ℕ, ◌+◌, ◌<◌, List, [], ◌∷◌, ◌++◌, length, sum, IfOk, OnOk, OnErr, IsTrue, ◌↔◌, Contains, IfSome, IfNone, slice_index, slice_get, Some, None, remove, All, ◌≢◌};
+ghost use Rattle.std.specs.Prelude.{◌≡◌, ℕ, ◌+◌, ◌<◌, ◌≤◌, List, [], ◌∷◌, ◌++◌, length, sum, IfOk, OnOk, OnErr, IsTrue, ◌↔◌, Contains, IfSome, IfNone, slice_index, slice_get, Some, None, remove, All, ◌≢◌};
 ghost use Rattle.nearest_point.specs.Hull.{first_part};
 
-use crate::corner::{Vector, best_move, entry, product};
+use crate::corner::{Move, Vector, best_move, entry, product};
 use std::alloc::{AllocError, Global};
 use std::marker::Model;
 
@@ -17,7 +17,7 @@ pub const SCALE: u32 = 1 << 20;
 /// Each step moves a part from one vector to the one that lies furthest toward the box (E. Gilbert, 1966; B. Mitchell,
 /// V. Dem'yanov, V. Malozemov, 1974). With the furthest of all vectors pushed in turn, whose hull need not be written
 /// out, this finds the nearest point of that hull, or a plane between it and the box.
-#[derive(Debug, Drop)]
+#[derive(Drop)]
 pub struct Hull {
     low: Vec<i64>,
     high: Vec<i64>,
@@ -147,18 +147,8 @@ impl Hull {
         let Some(best) = best_move(&self.vectors, &self.parts, &self.pulls) else {
             return false;
         };
-        self.parts[best.losing] -= best.amount;
-        self.parts[best.gaining] = self.parts[best.gaining].saturating_add(best.amount);
-        take_out(
-            &mut self.mix,
-            self.vectors[best.losing].entries(),
-            best.amount,
-        );
-        add(
-            &mut self.mix,
-            self.vectors[best.gaining].entries(),
-            best.amount,
-        );
+        move_part(&mut self.parts, best);
+        move_mix(&mut self.mix, &self.vectors, best);
         aim(&mut self.off, &self.mix, &self.low, &self.high);
         true
     }
@@ -221,6 +211,26 @@ fn take_out(mix: &mut [i64], vector: &[i64], part: u32) {
     for (sum, x) in mix.iter_mut().zip(vector.iter()) {
         *sum = sum.wrapping_sub(x.wrapping_mul(i64::from(part)));
     }
+}
+
+// Moves the part from the one vector to the other.
+fn move_part(parts: &mut [u32], best: Move)
+    requires losing { best.losing < length parts.old }
+    requires gaining { best.gaining < length parts.old }
+    requires amount { best.amount ≤ slice_index parts.old best.losing }
+    ensures { length parts.new ≡ length parts.old }
+{
+    parts[best.losing] -= best.amount;
+    parts[best.gaining] = parts[best.gaining].saturating_add(best.amount);
+}
+
+// Moves as much of the mix.
+fn move_mix(mix: &mut [i64], vectors: &[Vector], best: Move)
+    requires losing { best.losing < length vectors.now }
+    requires gaining { best.gaining < length vectors.now }
+{
+    take_out(mix, vectors[best.losing].entries(), best.amount);
+    add(mix, vectors[best.gaining].entries(), best.amount);
 }
 
 // What leads from the mix to the nearest point of the box.

@@ -38,7 +38,7 @@ impl Shape {
 }
 
 // The least and the greatest number of weeks, for each coordinate.
-#[derive(Debug, Drop)]
+#[derive(Drop)]
 pub struct Demand {
     pub low: Vec<i64>,
     pub high: Vec<i64>,
@@ -70,12 +70,21 @@ impl Demand {
     // What a roster that meets the demand weighs at least.
     pub fn total(&self, weights: &[i64]) -> i64 {
         let mut sum: i64 = 0;
-        for (weight, (low, high)) in weights.iter().zip(self.low.iter().zip(self.high.iter())) {
-            let at_least = weight.wrapping_mul(*low);
-            let at_most = weight.wrapping_mul(*high);
-            sum = sum.wrapping_add(at_least.min(at_most));
+        for (coordinate, weight) in weights.iter().enumerate() {
+            sum = sum.wrapping_add(self.least_of(coordinate, *weight));
         }
         sum
+    }
+
+    // What the weeks of one coordinate weigh at least; 0 where there is no such coordinate.
+    fn least_of(&self, coordinate: usize, weight: i64) -> i64 {
+        let Some(low) = self.low.get(coordinate) else {
+            return 0;
+        };
+        let Some(high) = self.high.get(coordinate) else {
+            return 0;
+        };
+        weight.wrapping_mul(*low).min(weight.wrapping_mul(*high))
     }
 }
 

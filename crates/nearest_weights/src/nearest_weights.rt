@@ -43,7 +43,7 @@ const MOST_DECIDED: u32 = 28;
 /// point of that hull, which it learns word by word: the heaviest word by the present weights is one more corner, and
 /// the next weights lead from the nearest mix of the corners to the demand. For a free leaf the number of free weekends
 /// is one count more, and the goal its demand.
-#[derive(Debug, Drop)]
+#[derive(Drop)]
 pub struct NearestWeights {
     problem: Problem,
     tails: TailRules,

@@ -17,14 +17,14 @@ const MOST_STEPS: usize = 1_000_000;
 // The clean words over all symbols as ways through layers of steps, which are the same from each position on.
 // The order of a layer's nodes is that of the least words to them, which come again after some days; where layers have
 // come again for long, it is assumed that they always will.
-#[derive(Debug, Drop)]
+#[derive(Drop)]
 pub struct Words {
     layers: Layers,
     ways: Ways,
 }
 
 // What is found out about the ways through layers.
-#[derive(Debug, Drop)]
+#[derive(Drop)]
 struct Ways {
     period: Option<usize>,
     // For each layer and node before it, whether the words to the node end with the day off.

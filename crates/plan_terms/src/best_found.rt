@@ -2,7 +2,7 @@ use refutation_log::Log;
 use rwsp_model::Roster;
 
 /// What a search for the most free weekends finds.
-#[derive(Debug, Drop)]
+#[derive(Drop)]
 pub enum BestFound {
     /// A roster that meets every rule, and a free log that passes: no roster has more free weekends than it.
     Best {

@@ -1,5 +1,5 @@
 -- The weights of a round are one, and the search continues from round to round.
-use Rattle.std.proofs.Common.{◌≡◌, ℕ, zero, suc, ◌+◌, List, [], ap, sym, ◌∙◌, subst, arith, ⊎_elim, below_more, Option, Some, Bool, false}
+use Rattle.std.proofs.Common.{◌≡◌, None, length, ◌*◌, ℕ, zero, suc, ◌+◌, ◌≤◌, List, [], ap, sym, ◌∙◌, subst, arith, ⊎_elim, below_more, Option, Some, Bool, false}
 use Rattle.std.specs.Prelude.{◌↔◌, IsTrue}
 use Rattle.std.proofs.lemmas.Int.{ints}
 use Rattle.rwsp_terms.specs.declared.data.Symbol.{Symbol}
@@ -7,7 +7,7 @@ use Rattle.rwsp_terms.specs.declared.data.Weight.{Weight}
 use Rattle.rwsp_terms.specs.Instance.{Instance, cells}
 use Rattle.rwsp_terms.specs.Weights.{weight_at}
 use Rattle.rwsp_terms.proofs.SameLists.{same_weights}
-use Rattle.refutation_terms.specs.Word.{Domains}
+use Rattle.refutation_terms.specs.Word.{Domains, Over}
 use Rattle.refutation_terms.specs.Escape.{IsLeastHeaviest}
 use Rattle.refutation_terms.specs.Sharp.{step, AreStepped, IsNext, IsSearched, HoldsAtTop}
 use Rattle.refutation_terms.proofs.Causes.{first_same}
@@ -94,3 +94,14 @@ followed g y found h P word light next turn is some test fails same letters step
         let A : Instance → Type 0 = λ Q. AreStepped Q y word next in
         let B : List Symbol → Type 0 = λ w. AreStepped g.problem y w next in
         subst B letters (subst A same stepped)
+
+pub values_within : (n m : ℕ) (y : List Weight) → n ≤ m → AreValuesWithin n y → AreValuesWithin m y
+values_within n m y le within j x = (omega (arith, ints, le, (within j x).0), omega (arith, ints, le, (within j x).1))
+
+-- where no word is clean, the bound holds
+pub holds_by_none : (g : WordGraph) (y : List Weight) (found : Option HeavyWord) → IsOneTurn g → IsHeaviestFound g.problem (has_domain g.store) g.position g.len g.rules y found → found ≡ None → HoldsAtTop g.problem (has_domain g.store) g.rules y
+holds_by_none g y found turn is none u long over clean =
+    let F : Option HeavyWord → Type 0 = IsHeaviestFound g.problem (has_domain g.store) g.position g.len g.rules y in
+    let dead = subst F none is in
+    let same : length u ≡ g.len = omega (arith, long, turn.1) in
+    absurd (dead u same (subst (λ (p : ℕ). Over g.problem (has_domain g.store) p u) (sym turn.0) over) clean)

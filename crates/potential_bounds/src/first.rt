@@ -40,7 +40,10 @@ pub fn first_plain<R: Threads + Sync, G: Gate>(
     problem.prove_limits();
     let bounds = plain_bounds(alloc, problem)?;
     let layers = one_turn(alloc, problem, tails, doms)?;
-    first_holding(rt, alloc, &layers, &bounds, workers, gate)
+    let found = first_holding(rt, alloc, &layers, &bounds, workers, gate);
+    drop(layers);
+    drop(bounds);
+    found
 }
 
 // The index of the first of some bounds that holds at the top.

@@ -19,7 +19,7 @@ const LEAST_WORK: u32 = 4;
 const MOST_WORK: u32 = 7;
 
 /// The shifts of a stint's work: day shifts alone, afternoon shifts behind day shifts, or night shifts at the end.
-#[derive(Clone, Copy, Debug, PartialEq, Eq)]
+#[derive(Clone, Copy)]
 pub enum Pattern {
     Day,
     Afternoon,
@@ -37,7 +37,7 @@ fn pattern_of(number: u32) -> Pattern
 }
 
 /// Days of work and then days off.
-#[derive(Clone, Copy, Debug, PartialEq, Eq)]
+#[derive(Clone, Copy)]
 pub struct Stint {
     pub work: u32,
     pub off: u32,

@@ -2,7 +2,7 @@ use refutation_terms::Line;
 use rwsp_terms::Symbol;
 
 /// What a propagator sees under domains.
-#[derive(Debug, Drop)]
+#[derive(Drop)]
 pub enum Look {
     /// No leaf holds, and no symbol is spent.
     Quiet,

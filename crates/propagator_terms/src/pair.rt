@@ -12,7 +12,7 @@ use domain_store::Domains;
 use std::alloc::{AllocError, Global};
 
 /// The leaves and the spent symbols of two propagators. The first is asked first.
-#[derive(Debug, Drop)]
+#[derive(Drop)]
 pub struct Pair<A, B> {
     first: A,
     second: B,

@@ -22,7 +22,7 @@ use std::marker::Model;
 /// Closes where more weeks certainly hold a symbol on a day than may hold it, or fewer can hold it than must, and
 /// takes away what would lead there at once. It keeps counts of the domains that it tracks: a look takes a step for
 /// each day and symbol, and one for each week where a symbol is taken away.
-#[derive(Debug, Drop)]
+#[derive(Drop)]
 pub struct DayProp {
     problem: Problem,
     counts: Counts,

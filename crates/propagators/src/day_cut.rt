@@ -17,7 +17,7 @@ use rwsp_terms::Symbol;
 
 /// A symbol `x` at a position, and the day leaf that holds once `x` is alone there. Days count from 1, positions from
 /// 0.
-#[derive(Clone, Copy, Debug)]
+#[derive(Clone, Copy)]
 pub struct DayCut {
     pub p: u32,
     pub x: Symbol,

@@ -28,7 +28,7 @@ const ROUNDS: u32 = 32;
 /// or one of the first 32 searched weights. It closes no others, and takes no symbol away.
 ///
 /// All bounds are tried when it is made, so a look only compares domains, and does so only where a bound holds.
-#[derive(Debug, Drop)]
+#[derive(Drop)]
 pub struct RootBounds {
     problem: Problem,
     start: Domains,

@@ -25,7 +25,7 @@ use std::marker::Model;
 /// look found nothing there. A look goes over the windows of these positions alone, at a cost of a few steps for each
 /// rule and each day of its bound, and of one for each position between two of them; what an undoing gives back costs
 /// nothing at the next look.
-#[derive(Debug, Drop)]
+#[derive(Drop)]
 pub struct WindowProp {
     problem: Problem,
     sets: Vec<SymbolSet>,

@@ -13,7 +13,7 @@ use rwsp_terms::limits::LONGEST_WORD;
 use window_rules::bad_window_over;
 
 /// A window leaf. Rules count from 1, positions from 0.
-#[derive(Clone, Copy, Debug)]
+#[derive(Clone, Copy)]
 pub struct WindowLeaf {
     pub rule: u32,
     pub p: u32,

@@ -1,5 +1,5 @@
 -- Splits that are passed without being read.
-use Rattle.std.proofs.Common.{◌≡◌, ◌≢◌, ℕ, ◌+◌, ◌≤◌, List, [], ◌∷◌, ◌++◌, length, get_or, refl, ap, sym, ◌∙◌, append_assoc, length-append, subst, arith, inl, inr, Bool, true, false, ◌==◌}
+use Rattle.std.proofs.Common.{◌≡◌, ◌≢◌, ℕ, ◌+◌, ◌<◌, ◌≤◌, List, [], ◌∷◌, ◌++◌, length, get_or, refl, ap, sym, ◌∙◌, append_assoc, length-append, subst, arith, inl, inr, Bool, true, false, ◌==◌}
 use Rattle.std.specs.Prelude.{MatchBool}
 use Rattle.std.proofs.lemmas.List.{append-nil}
 use Rattle.rwsp_terms.specs.declared.data.Symbol.{Symbol}
@@ -224,3 +224,10 @@ passed_all P old splits all left count so none earlier lines h fit text =
     no_lines : (P : Instance) (ls : List Line) → lines_text P ls ≡ [] → ls ≡ []
     no_lines P [] e = refl
     no_lines P (l ∷ ls) e = absurd (nothing_ends (body P l) (lines_text P ls) (sym e))
+
+-- what follows a line is shorter than what began with it
+pub shorter : (left line rest : List ℕ) → line ≢ [] → left ≡ line ++ rest → length rest < length left
+shorter left line rest some both =
+    let one = some_bytes line some in
+    let long : length left ≡ length line + length rest = ap length both ∙ length-append line rest in
+    omega (arith, one, long)

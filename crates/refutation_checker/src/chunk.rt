@@ -15,7 +15,7 @@ use std::marker::Model;
 use tree_walk::Walk;
 
 /// Some lines of a log's tree that follow one another.
-#[derive(Debug, Drop)]
+#[derive(Drop)]
 pub struct Chunk<'a> {
     /// Which chunk it is, from 1 on.
     pub number: u32,

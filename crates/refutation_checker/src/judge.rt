@@ -35,7 +35,7 @@ use word_tail::TailRules;
 
 /// Judges lines of a log with a goal or none, under the rules that its header names. Tail rules that were made for a
 /// line serve the next lines with the same list.
-#[derive(Debug, Drop)]
+#[derive(Drop)]
 pub struct Judge<'a> {
     problem: &'a Problem,
     named: &'a RuleList,

@@ -18,7 +18,7 @@ use tree_walk::Walk;
 
 /// Judges dead and bound leaves apart from the other lines of their log. What was made for the list of one leaf serves
 /// the next leaves with the same list.
-#[derive(Debug, Drop)]
+#[derive(Drop)]
 pub struct LeafJudge<'a> {
     judge: Judge<'a>,
 }

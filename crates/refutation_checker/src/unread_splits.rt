@@ -12,7 +12,7 @@ use std::alloc::AllocError;
 use std::marker::Model;
 
 /// The line of a split that was passed without being read, and whether its first side was passed too.
-#[derive(Debug, Drop)]
+#[derive(Drop)]
 pub struct UnreadSplit<'a> {
     pub line: &'a [u8],
     pub in_second: bool,

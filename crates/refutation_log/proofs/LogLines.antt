@@ -15,7 +15,7 @@ use Rattle.refutation_terms.specs.declared.lines.Turn.{Turn}
 use Rattle.refutation_terms.specs.declared.lines.LogRefusal.{LogRefusal}
 use Rattle.refutation_terms.specs.declared.lines.LogRefusal.TheVariants as Refusals
 use Rattle.refutation_terms.specs.Tree.{IsTree, after_trees}
-use Rattle.refutation_terms.specs.Log.{LineFits, AreRules, TurnFits}
+use Rattle.refutation_terms.specs.Log.{Log, Fits, LineFits, AreRules, TurnFits}
 use Rattle.refutation_terms.specs.LogText.{raw, line_text, log_text, header_text}
 use Rattle.rwsp_text.specs.Lines.{IsNextLine}
 use Rattle.refutation_terms.specs.Verdict.{Spells, Reading, header_lines}
@@ -199,6 +199,12 @@ log_read P text named turn old left lines t e f =
     t ∙ headed (header_text P named turn) (lines_text P lines) left old e
     ∙ ap (λ z. (header_text P named turn ++ lines_text P lines) ++ z) f
     ∙ append-nil (header_text P named turn ++ lines_text P lines)
+
+-- a whole log, from its parts
+pub read_whole : (P : Instance) (text : List ℕ) (named : List ℕ) (turn : Option Turn) (old left : List ℕ) (lines : List Line) (g : Log) → text ≡ header_text P named turn ++ old → IsReadSoFar P (log_with named turn lines) → IsTree lines → old ≡ lines_text P lines ++ left → left ≡ [] → g.named ≡ named → g.turn ≡ turn → g.goal ≡ None → g.lines ≡ lines → (text ≡ log_text P g) × Fits P g × IsTree g.lines
+read_whole P text named turn old left lines g t read tree e f by_name by_turn by_goal by_lines =
+    let is : g ≡ log_with named turn lines = ap (λ n. record { named = n; turn = g.turn; goal = g.goal; lines = g.lines }) by_name ∙ ap (λ o. record { named = named; turn = o; goal = g.goal; lines = g.lines }) by_turn ∙ ap (λ o. record { named = named; turn = turn; goal = o; lines = g.lines }) by_goal ∙ ap (log_with named turn) by_lines in
+    subst (λ h. (text ≡ log_text P h) × Fits P h × IsTree h.lines) (sym is) (log_read P text named turn old left lines t e f, read.fits, tree)
 
 -- a failure for one reason is one for another that follows
 pub fail_along : {T S R : Type 0} (fail : Fail R) (A : T → Type 0) (B : S → Type 0) (Q Q' : R → Type 0) → ((why : R) → Q why → Q' why) → MatchAnswer (Err fail) A Q → MatchAnswer (Err fail) B Q'

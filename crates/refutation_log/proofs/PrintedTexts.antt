@@ -20,10 +20,14 @@ spaced-append ws vs = flat_map-append (λ (w : List ℕ). 32 ∷ w) ws vs
 pub pieces_more : {X : Type 0} (f : X → List ℕ) (out : List ℕ) (xs : List X) (i : ℕ) (d : X) → i < length xs → (out ++ flat_map f (take i xs)) ++ f (get_or xs i d) ≡ out ++ flat_map f (take (i + 1) xs)
 pieces_more f out xs i d less = flat_map_more f out (take i xs) (get_or xs i d) ∙ ap (λ ys. out ++ flat_map f ys) (sym (take_more xs i d less))
 
--- the same of a text that has the piece of the item that was read
+-- the same of a text that has this piece
+pub pieces_put : {X : Type 0} (f : X → List ℕ) (longer out all : List ℕ) (xs : List X) (i : ℕ) (d : X) → i < length xs → out ≡ all ++ flat_map f (take i xs) → longer ≡ out ++ f (get_or xs i d) → longer ≡ all ++ flat_map f (take (i + 1) xs)
+pieces_put f longer out all xs i d less before more =
+    more ∙ ap (λ t. t ++ f (get_or xs i d)) before ∙ pieces_more f all xs i d less
+
+-- the same where the item was read
 pub pieces_step : {X : Type 0} (f : X → List ℕ) (longer out all : List ℕ) (xs : List X) (i : ℕ) (x : X) → i < length xs → x ≡ get_or xs i x → out ≡ all ++ flat_map f (take i xs) → longer ≡ out ++ f x → longer ≡ all ++ flat_map f (take (i + 1) xs)
-pieces_step f longer out all xs i x less read before more =
-    more ∙ ap (λ t. t ++ f x) before ∙ ap (λ y. (all ++ flat_map f (take i xs)) ++ f y) read ∙ pieces_more f all xs i x less
+pieces_step f longer out all xs i x less read before more = pieces_put f longer out all xs i x less before (more ∙ ap (λ y. out ++ f y) read)
 
 abbrev pub number_piece : ℕ → List ℕ
 number_piece n = 32 ∷ decimal n

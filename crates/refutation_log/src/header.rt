@@ -31,7 +31,7 @@ pub fn lines_of_header(turn: Option<Turn>) -> u32
 }
 
 /// What is in front of a log's lines, and the bytes of these lines.
-#[derive(Debug, Drop)]
+#[derive(Drop)]
 pub struct Header<'a> {
     pub named: RuleList,
     pub turn: Option<Turn>,
@@ -76,7 +76,7 @@ pub fn read_header<'a>(
 }
 
 /// What is in front of a free log's lines, and the bytes of these lines.
-#[derive(Debug, Drop)]
+#[derive(Drop)]
 pub struct FreeHeader<'a> {
     pub named: RuleList,
     pub goal: u32,

@@ -10,7 +10,7 @@ use std::marker::Model;
 
 /// The rules that a refutation names, its turn if it has one, its goal if it has one, and its lines, which are one
 /// whole tree. A log with a goal says that no roster has as many free weekends as the goal.
-#[derive(Debug, Drop)]
+#[derive(Drop)]
 pub struct Log {
     named: RuleList,
     turn: Option<Turn>,

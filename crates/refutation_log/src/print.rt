@@ -331,7 +331,6 @@ fn put_place(out: &mut Vec<u8>, problem: &Problem, p: u32) -> Result<(), AllocEr
     put_count(out, p % days + 1)
 }
 
-#[tactic(auto, using(crate::proofs::PrintedTexts::pieces_more, crate::proofs::PrintedTexts::spaced_numbers))]
 fn put_numbers(out: &mut Vec<u8>, all: &[u32]) -> Result<(), AllocError>
     ensures { OnOk result (out.new.items ≡ out.old.items ++ spaced (numbers all.now)) }
 {
@@ -341,7 +340,6 @@ fn put_numbers(out: &mut Vec<u8>, all: &[u32]) -> Result<(), AllocError>
     Ok(())
 }
 
-#[tactic(auto, using(crate::proofs::PrintedTexts::pieces_more, crate::proofs::PrintedTexts::spaced_weights))]
 fn put_weights(out: &mut Vec<u8>, problem: &Problem, entries: &[Weight]) -> Result<(), AllocError>
     requires { WeightsFit problem.now entries.now }
     ensures { OnOk result (out.new.items ≡ out.old.items ++ spaced (weight_words problem.now entries.now)) }

@@ -1,5 +1,5 @@
 /// Why a line of a log's text is no line.
-#[derive(Clone, Copy, Debug, PartialEq, Eq)]
+#[derive(Clone, Copy)]
 pub enum LineRefusal {
     /// It isn't spelled as a line, a number is out of its range, or its weights, all of known symbols, don't ascend.
     Form,

@@ -3,7 +3,7 @@
 use rwsp_terms::{RuleList, Symbol, Weights, Word};
 
 /// A line of a log: a split of the cases in two, or a leaf that closes a case.
-#[derive(Debug, Drop)]
+#[derive(Drop)]
 pub enum Line {
     /// First the rosters that hold `x` at position `p`, then those that don't.
     Split {

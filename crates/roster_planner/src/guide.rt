@@ -14,7 +14,7 @@ use std::marker::Model;
 
 /// The guide of a plan. It closes cases by weights, looks for a roster by other means before the first split, and
 /// splits in the order of the days, from the turn on round the cycle.
-#[derive(Debug, Drop)]
+#[derive(Drop)]
 pub struct PlanGuide {
     problem: Problem,
     weights: NearestWeights,

@@ -1,5 +1,5 @@
 // The reasons by which the search of a plan closes cases.
-ghost use Rattle.std.specs.Prelude.{IfOk};
+ghost use Rattle.std.specs.Prelude.{◌≡◌, IfOk, Ok};
 ghost use Rattle.refutation_terms.specs.Log.{TurnFits};
 ghost use Rattle.roster_planner.specs.Reasons.{AreReasons};
 
@@ -35,7 +35,22 @@ pub fn reasons_of<R: Threads + Sync, G: Gate>(
     problem.prove_limits();
     let walk = Walk::new(alloc, problem, turn)?;
     let doms = walk.domains();
-    let bounds = RootBounds::new(rt, alloc, problem, doms, WORKERS, gate)?;
-    let cases = case_reasons(alloc, problem, doms)?;
+    let bounds = RootBounds::new(rt, alloc, problem, doms, WORKERS, gate);
+    let cases = case_reasons(alloc, problem, doms);
+    // No value of these large types is dropped in this body, which keeps its proof small.
+    drop(walk);
+    let (cases, bounds) = both(cases, bounds)?;
     Ok(Pair::new(cases, bounds))
+}
+
+// Both values, where both were made.
+fn both<A: Drop, B: Drop>(
+    first: Result<A, AllocError>,
+    second: Result<B, AllocError>,
+) -> Result<(A, B), AllocError>
+    ensures { IfOk result (λ pair. (first ≡ Ok pair.0) × (second ≡ Ok pair.1)) }
+{
+    let one = first?;
+    let other = second?;
+    Ok((one, other))
 }

@@ -1,5 +1,5 @@
 -- What printing appends, step by step.
-use Rattle.std.proofs.Common.{◌≡◌, ℕ, suc, ◌+◌, ◌-◌, ◌*◌, ◌<◌, ◌≤◌, List, [], ◌∷◌, ◌++◌, length, get_or, take, drop, ap, sym, ◌∙◌, arith, append_assoc, mul-le-mul_right, false}
+use Rattle.std.proofs.Common.{◌≡◌, ℕ, suc, ◌+◌, ◌-◌, ◌*◌, ◌<◌, ◌≤◌, List, [], ◌∷◌, ◌++◌, length, get_or, take, drop, ap, sym, ◌∙◌, arith, append_assoc, false}
 use Rattle.std.specs.Prelude.{map, All, slice_range, ◌==◌, slice_get}
 use Rattle.std.specs.List.{flat_map, range_with_len, join_with_byte}
 use Rattle.std.proofs.lemmas.List.{take_more, flat_map_more, take_all}
@@ -13,11 +13,14 @@ use Rattle.roster_print.specs.RosterText.{week_at, week_text}
 use Rattle.roster_print.specs.RuleText.{pair_list, triple_list}
 use Rattle.std.proofs.lemmas.Option.{slice_get-get_or}
 
--- one symbol more of those that were appended after blanks
-pub name_more : (P : Instance) (symbols : List Symbol) (i : ℕ) (old out : List ℕ) → i < length symbols → out ≡ old ++ flat_map (λ x. 32 ∷ name_of P x) (take i symbols) → (out ++ 32 ∷ []) ++ name_of P (get_or symbols i off_symbol) ≡ old ++ flat_map (λ x. 32 ∷ name_of P x) (take (i + 1) symbols)
-name_more P symbols i old out h e =
+-- one symbol more of those that were appended after blanks: a blank, and then the name
+pub name_more : (P : Instance) (symbols : List Symbol) (i : ℕ) (old out blank name new : List ℕ) → i < length symbols → out ≡ old ++ flat_map (λ x. 32 ∷ name_of P x) (take i symbols) → blank ≡ out ++ 32 ∷ [] → name ≡ name_of P (get_or symbols i off_symbol) → new ≡ blank ++ name → new ≡ old ++ flat_map (λ x. 32 ∷ name_of P x) (take (i + 1) symbols)
+name_more P symbols i old out blank name new h e pushed named step =
     let x = get_or symbols i off_symbol in
-    append_assoc out (32 ∷ []) (name_of P x)
+    step
+    ∙ ap (λ n. blank ++ n) named
+    ∙ ap (λ t. t ++ name_of P x) pushed
+    ∙ append_assoc out (32 ∷ []) (name_of P x)
     ∙ ap (λ t. t ++ (32 ∷ name_of P x)) e
     ∙ flat_map_more (λ x. 32 ∷ name_of P x) old (take i symbols) x
     ∙ ap (λ t. old ++ flat_map (λ x. 32 ∷ name_of P x) t) (sym (take_more symbols i off_symbol h))
@@ -47,11 +50,6 @@ week_more f n out e =
     ∙ flat_map_more f [] (range_with_len 0 n) n
     ∙ ap (λ k. flat_map f (range_with_len 0 n ++ k ∷ [])) (sym last)
     ∙ ap (flat_map f) (sym (range_more 0 n))
-
-pub week_within : (weeks days k len : ℕ) → len ≡ weeks * days → k < weeks → k * days + days ≤ len
-week_within weeks days k len e h =
-    let more : (k + 1) * days ≤ weeks * days = let below : k + 1 ≤ weeks = omega arith in mul-le-mul_right days below in
-    omega (arith, more, e)
 
 pub week_symbols : (P : Instance) (s : List Symbol) (a b : ℕ) → All (IsSymbol P) s → All (IsSymbol P) (slice_range s a b)
 week_symbols P s a b h = All-take (IsSymbol P) (b - a) (drop a s) (All-drop (IsSymbol P) a s h)

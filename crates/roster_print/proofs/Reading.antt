@@ -33,10 +33,11 @@ pub record ReadsOn (P : Instance) (bytes : List ℕ) (left : List (ℕ × List (
 
 -- names in the order of words
 
-pub name_read : (P : Instance) (text : List ℕ) (words : List Token) (i : ℕ) (d : Token) (x : Symbol) (old cells : List Symbol) → i < length words → map Some cells ++ map (symbol_of P) (words_at text (drop i words)) ≡ map Some old ++ map (symbol_of P) (words_at text words) → symbol_of P (slice_range text (get_or words i d).start (get_or words i d).end) ≡ Some x → map Some (cells ++ x ∷ []) ++ map (symbol_of P) (words_at text (drop (i + 1) words)) ≡ map Some old ++ map (symbol_of P) (words_at text words)
-name_read P text words i d x old cells h inv e =
+pub name_read : (P : Instance) (text : List ℕ) (words : List Token) (i : ℕ) (d : Token) (x : Symbol) (old cells new : List Symbol) → i < length words → map Some cells ++ map (symbol_of P) (words_at text (drop i words)) ≡ map Some old ++ map (symbol_of P) (words_at text words) → symbol_of P (slice_range text (get_or words i d).start (get_or words i d).end) ≡ Some x → new ≡ cells ++ x ∷ [] → map Some new ++ map (symbol_of P) (words_at text (drop (i + 1) words)) ≡ map Some old ++ map (symbol_of P) (words_at text words)
+name_read P text words i d x old cells new h inv e pushed =
     let rest = map (symbol_of P) (words_at text (drop (i + 1) words)) in
-    ap (λ w. w ++ rest) (map-append Some cells (x ∷ []))
+    ap (λ cs. map Some cs ++ rest) pushed
+    ∙ ap (λ w. w ++ rest) (map-append Some cells (x ∷ []))
     ∙ append_assoc (map Some cells) (Some x ∷ []) rest
     ∙ ap (λ o. map Some cells ++ o ∷ rest) (sym e)
     ∙ ap (λ ws. map Some cells ++ map (symbol_of P) (words_at text ws)) (sym (drop_more words i d h))
@@ -104,14 +105,6 @@ lines_words n (line ∷ lines) = lexeme_texts n (words_of_line line) (line_lexem
 
 pub text_words : (text : List ℕ) (words : List Token) → map (lexeme_at text) words ≡ lexemes text → words_at text words ≡ words_in text
 text_words text words e = sym (texts text words) ∙ ap (map (λ l. l.text)) e ∙ lines_words 1 (lines_of text)
-
-pub no_words : (text : List ℕ) (words : List Token) (line : List (List ℕ)) → words_at text words ≡ line → length words ≡ 0 → line ≡ []
-no_words text [] line e h = sym e
-no_words text (word ∷ words) line e h = absurd (omega arith)
-
-pub some_words : (text : List ℕ) (words : List Token) (line : List (List ℕ)) → words_at text words ≡ line → length words ≢ 0 → has_some line ≡ true
-some_words text [] line e h = absurd (h refl)
-some_words text (word ∷ words) line e h = ap has_some (sym e)
 
 -- the first line of a text, and the others
 

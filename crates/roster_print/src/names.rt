@@ -8,7 +8,6 @@ use rwsp_terms::Symbol;
 use std::alloc::AllocError;
 
 /// Appends the name of each symbol after a blank.
-#[tactic(auto, using(crate::proofs::Printing::name_more, crate::proofs::Printing::names_done))]
 pub fn put_after_blanks(
     out: &mut Vec<u8>,
     problem: &Problem,

@@ -35,7 +35,6 @@ fn put_week(out: &mut Vec<u8>, problem: &Problem, week: &[Symbol]) -> Result<(),
 }
 
 /// The text of a roster: a line for each week, with the names of its symbols and single blanks between them.
-#[tactic(auto, using(crate::proofs::Printing::week_within, crate::proofs::Printing::week_symbols))]
 pub fn print_roster(
     alloc: Global,
     problem: &Problem,

@@ -19,7 +19,6 @@ use rwsp_text::{LineReader, Token, tokens};
 use std::alloc::{AllocError, Global};
 
 // Appends the symbols that the words name.
-#[tactic(auto, using(crate::proofs::Reading::name_read, crate::proofs::Reading::names_done, crate::proofs::Reading::unknown_there))]
 fn read_names(
     problem: &Problem,
     text: &[u8],
@@ -78,7 +77,6 @@ fn words_of(alloc: Global, text: &[u8]) -> Result<Vec<Token>, AllocError>
 }
 
 // Appends the symbols of a line. Whether it has words, and so is a week.
-#[tactic(auto, using(crate::proofs::Reading::no_words, crate::proofs::Reading::some_words))]
 fn read_line(
     alloc: Global,
     problem: &Problem,

@@ -1,6 +1,6 @@
 -- What was found, by the lines of the search.
-use Rattle.std.proofs.Common.{◌≡◌, ℕ, ◌+◌, ◌*◌, ◌^◌, ◌<◌, ◌≤◌, List, ◌++◌, length, Option, sym, ◌∙◌, subst, arith, inl, inr}
-use Rattle.std.specs.Prelude.{replicate}
+use Rattle.std.proofs.Common.{◌≡◌, ℕ, ◌+◌, ◌*◌, ◌^◌, ◌<◌, ◌≤◌, List, [], ◌++◌, length, Option, Some, refl, ap, sym, ◌∙◌, subst, arith, inl, inr}
+use Rattle.std.specs.Prelude.{replicate, slice_get}
 use Rattle.rwsp_terms.specs.Instance.{Instance, cells, shift_count}
 use Rattle.refutation_terms.specs.declared.lines.Line.{Line}
 use Rattle.refutation_terms.specs.declared.lines.Line.TheVariants.{Split, Few, Unfinished}
@@ -10,7 +10,7 @@ use Rattle.roster_search.specs.declared.found.Found.{Found}
 use Rattle.roster_search.specs.declared.found.Found.TheVariants.{Roster, NoRoster, Undecided}
 use Rattle.roster_search.specs.declared.progress.Progress.{Progress}
 use Rattle.roster_search.specs.Founds.{IsForced, AreForced, FewHoldsAtNoSplit, IsFoundFor, HasSpentBudget}
-use Rattle.roster_search.specs.Written.{IsUnderWay, IsEnded}
+use Rattle.roster_search.specs.Written.{IsProgress, IsUnderWay, IsEnded}
 use Rattle.roster_search.proofs.Growing.{got_in, domains_before}
 use Rattle.roster_search.proofs.Logs.{open_rest}
 use Rattle.roster_search.proofs.Volume.{spent_budgets_small}
@@ -31,6 +31,20 @@ rest_no_few P goal turn ls n h k p x e few = elim (got_in ls (replicate n Unfini
       h k p x at.1 (subst (λ D. HoldsFor P goal D Few) (domains_before P turn ls (replicate n Unfinished) k le) few)
   | inr at ↦ let clash : Split p x ≡ Unfinished = open_rest n at.0 (Split p x) at.2 in absurd (cc)
 ]
+
+no_line : (k : ℕ) (line : Line) → slice_get [] k ≡ Some line → ⊥
+no_line k line h = absurd (cc)
+
+-- before the first line
+pub begins_under_way : (P : Instance) (budget : ℕ) (leaves : Leaves) (spent : Spent) (s : Progress) → IsProgress P s → s.lines.items ≡ [] → IsUnderWay P s.turn s.goal budget leaves spent s
+begins_under_way P budget leaves spent s written none = record {
+  written = written;
+  same_turn = refl;
+  same_goal = refl;
+  forced = λ k p x h. absurd (no_line k (Split p x) (subst (λ (lines : List Line). slice_get lines k ≡ Some (Split p x)) none h));
+  no_few = λ k p x h few. no_line k (Split p x) (subst (λ (lines : List Line). slice_get lines k ≡ Some (Split p x)) none h);
+  few = omega (arith, ap length none);
+}
 
 pub found_by : (P : Instance) (turn : Option Turn) (goal : Option ℕ) (budget : ℕ) (leaves : Leaves) (spent : Spent) (s : Progress) (found : Found) → IsUnderWay P turn goal budget leaves spent s → IsEnded P s.turn s.goal budget s.lines.items found → IsFoundFor P turn goal budget leaves spent found
 found_by P turn goal budget leaves spent s (Roster r) u e = absurd e

@@ -62,7 +62,6 @@ fn log_of(named: RuleList, turn: Option<Turn>, goal: Option<u32>, lines: Vec<Lin
 }
 
 // Writes `count` unfinished lines.
-#[tactic(auto, using(std::proofs::lemmas::List::replicate_more))]
 fn leave_open(lines: &mut Vec<Line>, count: usize) -> Result<(), AllocError>
     ensures { IfOk result (λ _. lines.new.items ≡ lines.old.items ++ replicate count Unfinished) }
 {

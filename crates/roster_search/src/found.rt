@@ -2,7 +2,7 @@ use refutation_log::Log;
 use rwsp_model::Roster;
 
 /// What a search finds.
-#[derive(Debug, Drop)]
+#[derive(Drop)]
 pub enum Found {
     /// A roster that meets every rule.
     Roster(Roster),

@@ -47,7 +47,7 @@ pub trait Guide {
 }
 
 /// The guide that gives nothing, for any problem and goal.
-#[derive(Debug, Drop)]
+#[derive(Drop)]
 pub struct NoGuide;
 
 impl Guide for NoGuide {

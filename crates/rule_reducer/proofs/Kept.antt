@@ -1,12 +1,12 @@
 -- Lists of numbers and weights without one number or one day.
-use Rattle.std.proofs.Common.{◌≡◌, ◌≢◌, ℕ, ◌<◌, ◌≤◌, List, [], ◌∷◌, ◌++◌, length, take, get_or, ap, sym, ◌∙◌, subst, arith, ◌⊎◌, inl, inr, ⊎_elim, Some, Bool, true, false, cond, not, ◌==◌, pos, ℤ, length-take-le, get_or-take}
+use Rattle.std.proofs.Common.{◌≡◌, ◌≢◌, ℕ, ◌+◌, ◌<◌, ◌≤◌, List, [], ◌∷◌, ◌++◌, length, take, get_or, ap, sym, ◌∙◌, subst, arith, ◌⊎◌, inl, inr, ⊎_elim, Some, Bool, true, false, cond, not, ◌==◌, pos, ℤ, length-take-le, get_or-take}
 use Rattle.std.specs.Prelude.{All, AllPairs, Contains, ◌↔◌}
 use Rattle.std.specs.List.Sorted.{IsStrictlyIncreasing}
-use Rattle.std.specs.List.{insert}
+use Rattle.std.specs.List.{insert, filter}
 use Rattle.std.proofs.lemmas.Bool.Decides.{eqb_tells}
-use Rattle.std.proofs.lemmas.List.{get_or_default}
+use Rattle.std.proofs.lemmas.List.{get_or_default, take_more, take_all}
 use Rattle.std.proofs.lemmas.List.Edits.{insert_end}
-use Rattle.std.proofs.lemmas.List.Elements.{All-take, All-filter}
+use Rattle.std.proofs.lemmas.List.Elements.{All-take, All-filter, filter-append}
 use Rattle.std.proofs.lemmas.List.Kept.{AllPairs-filter, AllPairs-from_increasing, IsStrictlyIncreasing-filter}
 use Rattle.rwsp_terms.specs.declared.data.Rule.TheVariants.{Day}
 use Rattle.rwsp_terms.specs.declared.data.Weight.{Weight}
@@ -173,3 +173,11 @@ kept_weight e j ne =
     (λ (q : ((e.day == j) ≡ true) × (e.day ≡ j)). absurd (ne q.1))
     (λ (q : ((e.day == j) ≡ false) × (e.day ≢ j)). ap (λ b. cond (not b) (e ∷ []) []) q.0)
     (eqb_tells e.day j)
+
+-- what is kept of one item more
+pub kept_more : {X : Type 0} → (p : X → Bool) (items kept new : List X) (i : ℕ) (d : X) → kept ≡ filter p (take i items) → new ≡ kept ++ filter p (get_or items i d ∷ []) → i < length items → new ≡ filter p (take (i + 1) items)
+kept_more p items kept new i d so is less =
+    is ∙ ap (λ ks. ks ++ filter p (get_or items i d ∷ [])) so ∙ sym (ap (filter p) (take_more items i d less) ∙ filter-append p (take i items) (get_or items i d ∷ []))
+
+pub kept_all : {X : Type 0} → (p : X → Bool) (items list kept : List X) (i : ℕ) → kept ≡ filter p (take i items) → length items ≤ i → items ≡ list → kept ≡ filter p list
+kept_all p items list kept i so all is = so ∙ ap (filter p) (take_all i items all ∙ is)

@@ -14,7 +14,7 @@ use rwsp_terms::RuleList;
 use std::alloc::{AllocError, Global};
 
 /// The rules that the lines of a log cite.
-#[derive(Debug, Drop)]
+#[derive(Drop)]
 pub struct Citations {
     /// Those that the turn or a window or a day leaf cites: no strip takes them out there.
     pub for_good: RuleList,

@@ -15,7 +15,7 @@ use std::alloc::{AllocError, Global};
 
 /// The line that refused the last strip. The next one is tried there first: a line that can't do without one rule often
 /// needs others.
-#[derive(Debug, Drop)]
+#[derive(Drop)]
 pub struct LastRefusal {
     pub place: usize,
 }

@@ -15,7 +15,7 @@ use std::marker::Model;
 
 /// A log without a goal, from which rules are taken out in place. A strip costs one pass over the lines, and memory for
 /// one line at a time.
-#[derive(Debug, Drop)]
+#[derive(Drop)]
 pub struct ShrinkingLog {
     named: RuleList,
     turn: Option<Turn>,

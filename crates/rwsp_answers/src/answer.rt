@@ -13,7 +13,7 @@ use rwsp_terms::RuleList;
 use std::alloc::AllocError;
 
 /// Which input is too long.
-#[derive(Clone, Copy, Debug, PartialEq, Eq)]
+#[derive(Clone, Copy)]
 pub enum InputKind {
     Problem,
     Roster,
@@ -21,7 +21,7 @@ pub enum InputKind {
 }
 
 /// What was found for the problem of a number and a count of weeks.
-#[derive(Debug, Drop)]
+#[derive(Drop)]
 pub struct TrialResult {
     pub number: u32,
     pub weeks: u32,
@@ -29,7 +29,7 @@ pub struct TrialResult {
 }
 
 /// The answer to a command line.
-#[derive(Debug, Drop)]
+#[derive(Drop)]
 pub enum Answer {
     /// A roster that meets every rule.
     Roster(Roster),
@@ -96,7 +96,7 @@ pub enum Answer {
 }
 
 /// Why there is no answer.
-#[derive(Clone, Copy, Debug, PartialEq, Eq)]
+#[derive(Clone, Copy)]
 pub enum Stop {
     /// A file could not be read.
     ReadFault,
@@ -115,7 +115,7 @@ impl From<AllocError> for Stop {
 }
 
 /// How a run ended.
-#[derive(Debug, Drop)]
+#[derive(Drop)]
 pub enum Outcome {
     /// The text of the answer was written.
     Done(Answer),
@@ -140,6 +140,13 @@ impl Outcome {
             Outcome::WriteFault(_) => 7,
             Outcome::Memory => 8,
         }
+    }
+
+    /// The status that the program ends with, where nothing else is asked of the outcome.
+    pub fn into_status(self) -> u8
+        ensures { result ≡ status_of self }
+    {
+        self.status()
     }
 }
 

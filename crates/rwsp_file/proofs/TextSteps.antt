@@ -1,9 +1,10 @@
 -- Steps of printing a canonical text.
-use Rattle.std.proofs.Common.{◌≡◌, ℕ, zero, suc, ◌+◌, ◌-◌, ◌<◌, ◌≤◌, List, [], ◌∷◌, ◌++◌, length, get_or, take, Some, Result, Ok, Err, refl, ap, sym, ◌∙◌, arith, map, append_assoc}
-use Rattle.std.specs.Prelude.{pos, slice_get}
+use Rattle.std.proofs.Common.{◌≡◌, ℕ, zero, suc, ◌+◌, ◌-◌, ◌<◌, ◌≤◌, List, [], ◌∷◌, ◌++◌, length, get_or, take, Some, Result, Ok, Err, refl, ap, sym, ◌∙◌, arith, map, append_assoc, w32, to_z, of_z, SFits, nat_abs}
+use Rattle.std.specs.Prelude.{ℤ, pos, slice_get}
 use Rattle.std.specs.List.{flat_map, join_with_byte, All}
 use Rattle.std.specs.Result.{OnOk}
 use Rattle.std.proofs.lemmas.List.{take_more, take_all, map_push, flat_map_more, length-map}
+use Rattle.std.proofs.lemmas.Int.{to_z-of_z}
 use Rattle.std.proofs.lemmas.List.Elements.{All-get_or}
 use Rattle.std.proofs.lemmas.Option.{slice_get-get_or}
 use Rattle.rwsp_terms.specs.Instance.{Instance, least, greatest, shift_demand, range_in, no_bounds, name_numbered, name_in}
@@ -83,6 +84,13 @@ pub greatest_at : (P : Instance) (k i : ℕ) → k < length P.demand → greates
 greatest_at P k i less =
     let next : k + 1 ≡ suc k = omega arith in
     ap (λ n. greatest P n (i + 1)) next ∙ ap (λ (b : Bounds). pos b.greatest) (range_there P k i less)
+
+-- bounds whose numbers were cast from signed ones
+pub cast_bounds : (b : Bounds) (least greatest : ℤ) → least ≡ pos b.least → greatest ≡ pos b.greatest → SFits w32 least → SFits w32 greatest → record { least = nat_abs (to_z w32 (of_z w32 least)); greatest = nat_abs (to_z w32 (of_z w32 greatest)) } ≡ b
+cast_bounds b least greatest p q f g =
+    let low : nat_abs (to_z w32 (of_z w32 least)) ≡ b.least = ap nat_abs (to_z-of_z w32 least f ∙ p) in
+    let high : nat_abs (to_z w32 (of_z w32 greatest)) ≡ b.greatest = ap nat_abs (to_z-of_z w32 greatest g ∙ q) in
+    ap (λ (n : ℕ). record { least = n; greatest = nat_abs (to_z w32 (of_z w32 greatest)) }) low ∙ ap (λ (n : ℕ). record { least = b.least; greatest = n }) high
 
 pub place_at : (k : ℕ) → k + 1 - 1 ≡ k
 place_at k = omega arith

@@ -38,8 +38,21 @@ fn read_parts(alloc: Global, cursor: &mut Cursor) -> Result<Parts, Fail<FileRefu
     let size = read_size(cursor).map_err(Fail::Refused)?;
     let demand = read_demand(alloc, size, cursor)?;
     let shifts = read_shifts(alloc, size.shifts, cursor)?;
-    let frame = read_frame(cursor).map_err(Fail::Refused)?;
-    let (pairs, triples) = read_sequences(alloc, &shifts, frame, cursor)?;
+    // The shifts are let go by a call, so that their drop is one step of the proof.
+    let frame = match read_frame(cursor) {
+        Ok(frame) => frame,
+        Err(why) => {
+            drop(shifts);
+            return Err(Fail::Refused(why));
+        }
+    };
+    let (pairs, triples) = match read_sequences(alloc, &shifts, frame, cursor) {
+        Ok(sequences) => sequences,
+        Err(fail) => {
+            drop(shifts);
+            return Err(fail);
+        }
+    };
     Ok(Parts {
         days: size.days,
         weeks: size.weeks,

@@ -149,7 +149,14 @@ pub fn read_shifts(
 {
     let mut shifts = Shifts::new(alloc);
     for shift in 0..count {
-        let row = read_shift(alloc, &shifts, cursor)?;
+        let row = match read_shift(alloc, &shifts, cursor) {
+            Ok(row) => row,
+            Err(fail) => {
+                // By a call, so that the drop of the shifts is one step of the proof.
+                drop(shifts);
+                return Err(fail);
+            }
+        };
         shifts = shifts.with(alloc, row)?;
     }
     Ok(shifts)

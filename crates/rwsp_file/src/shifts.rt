@@ -1,5 +1,5 @@
 // The shifts of a text, whose names are looked up.
-ghost use Rattle.std.specs.Prelude.{◌≡◌, List, [], ◌∷◌, ◌++◌, IfOk, IfSome, position, false, ◌<◌, length};
+ghost use Rattle.std.specs.Prelude.{◌≡◌, List, [], ◌∷◌, ◌++◌, IfOk, OnOk, IfSome, map, position, false, ◌<◌, length};
 ghost use Rattle.std.specs.List.{list_any};
 ghost use Rattle.std.specs.Str.{bytes_eq};
 ghost use Rattle.rwsp_terms.specs.declared.data.ShiftRow.{ShiftRow};
@@ -55,17 +55,40 @@ impl Shifts {
             mut rows,
             mut names,
         } = self;
-        let name = Vec::from_slice(alloc, row.name.bytes())?;
-        names.insert_full(name)?;
-        rows.push(row)?;
-        Ok(Shifts { rows, names })
+        match put_row(alloc, &mut rows, &mut names, row) {
+            Ok(()) => Ok(Shifts { rows, names }),
+            Err(fail) => {
+                // By a call, so that the drop of the names is one step of the proof.
+                drop(names);
+                Err(fail)
+            }
+        }
     }
 
     /// The shifts in order.
     pub fn rows(self) -> Vec<ShiftRow>
         ensures { result.items ≡ self }
     {
-        let Shifts { rows, names: _ } = self;
+        let Shifts { rows, names } = self;
+        drop(names);
         rows
     }
+}
+
+// Puts a row and its name behind the others.
+fn put_row(
+    alloc: Global,
+    rows: &mut Vec<ShiftRow>,
+    names: &mut IndexSet<Vec<u8>>,
+    row: ShiftRow,
+) -> Result<(), AllocError>
+    requires names { map (λ name. name.items) names.old.keys ≡ map (λ row. row.name) rows.old.items }
+    requires fresh { list_any (λ other. bytes_eq row.name other.name) rows.old.items ≡ false }
+    ensures rows { OnOk result (rows.new.items ≡ rows.old.items ++ row ∷ []) }
+    ensures names { OnOk result (map (λ name. name.items) names.new.keys ≡ map (λ row. row.name) rows.new.items) }
+{
+    let name = Vec::from_slice(alloc, row.name.bytes())?;
+    names.insert_full(name)?;
+    rows.push(row)?;
+    Ok(())
 }

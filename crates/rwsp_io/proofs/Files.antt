@@ -1,6 +1,6 @@
 -- Files in memory, place by place.
-use Rattle.std.proofs.Common.{◌≡◌, ℕ, zero, suc, List, [], ◌∷◌, ◌++◌, ◌+◌, ◌<◌, Option, Some, None, true, cond, drop, take, length, subst, ap, sym, ◌∙◌, arith, slice_get}
-use Rattle.std.proofs.lemmas.List.{drop-drop, drop_all}
+use Rattle.std.proofs.Common.{◌≡◌, ℕ, zero, suc, List, [], ◌∷◌, ◌++◌, ◌+◌, ◌-◌, ◌<◌, ◌≤◌, Option, Some, None, true, cond, drop, take, length, subst, ap, sym, ◌∙◌, arith, slice_get, length-drop}
+use Rattle.std.proofs.lemmas.List.{drop-drop, drop_all, take_all}
 use Rattle.std.specs.Prelude.{Vec, String, IfSome, min}
 use Rattle.std.specs.String.{string_bytes}
 use Rattle.std.specs.Str.{bytes_eq}
@@ -31,3 +31,13 @@ took (Some file) from count rest piece is h end =
 pub counted : (known : Option (List ℕ)) (rest : List ℕ) (n room step : ℕ) → IfSome known (λ bytes. rest ≡ bytes) → n ≡ min (min (length rest) room) step → IfSome known (λ bytes. n ≡ min (min (length bytes) room) step)
 counted None rest n room step is h = tt
 counted (Some bytes) rest n room step is h = h ∙ ap (λ w. min (min (length w) room) step) is
+
+-- the bytes from a place on, where it is within the file, and where it is past its end
+pub rest_there : (files : Files) (place from : ℕ) (file : String Global × Vec ℕ Global) (bytes : List ℕ) → slice_get files place ≡ Some file → bytes ≡ file.1.items → IfSome (bytes_from (slice_get files place) from) (λ rest. take (length bytes - from) (drop from bytes) ≡ rest)
+rest_there files place from file bytes there is =
+    subst (λ f. IfSome (bytes_from f from) (λ rest. take (length bytes - from) (drop from bytes) ≡ rest)) (sym there)
+    (take_all (length bytes - from) (drop from bytes) (omega (arith, length-drop from bytes)) ∙ ap (drop from) is)
+
+pub rest_past : (files : Files) (place from : ℕ) (file : String Global × Vec ℕ Global) → slice_get files place ≡ Some file → length file.1.items ≤ from → IfSome (bytes_from (slice_get files place) from) (λ rest. [] ≡ rest)
+rest_past files place from file there past =
+    subst (λ f. IfSome (bytes_from f from) (λ rest. [] ≡ rest)) (sym there) (sym (drop_all from file.1.items past))

@@ -64,9 +64,13 @@ fn rest_of(files: &[(String, Vec<u8>)], place: usize, from: usize) -> &[u8]
     ensures rest { IfSome (bytes_from (slice_get files.now place) from) (λ rest. result.now ≡ rest) }
     ensures fits { from + length result.now < 2 ^ 64 }
 {
-    match files.get(place) {
-        Some(file) if from <= file.1.len() => &file.1[from..],
-        _ => &[],
+    let Some(file) = files.get(place) else {
+        return &[];
+    };
+    if from <= file.1.len() {
+        &file.1[from..]
+    } else {
+        &[]
     }
 }
 

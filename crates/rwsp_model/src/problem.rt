@@ -15,7 +15,7 @@ use std::alloc::AllocError;
 use std::marker::Model;
 
 /// What a problem is made of. A row of demand for each shift has a range for each day.
-#[derive(Debug, Drop)]
+#[derive(Drop)]
 pub struct Parts {
     pub days: u32,
     pub weeks: u32,
@@ -28,7 +28,7 @@ pub struct Parts {
 }
 
 /// A problem that keeps all limits.
-#[derive(Debug, Drop)]
+#[derive(Drop)]
 pub struct Problem {
     parts: Parts,
 }

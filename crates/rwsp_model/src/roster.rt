@@ -6,7 +6,7 @@ use rwsp_terms::Symbol;
 use std::marker::Model;
 
 /// A symbol for each day of each week, and the number of days.
-#[derive(Debug, Drop)]
+#[derive(Drop)]
 pub struct Roster {
     days: u32,
     cells: Vec<Symbol>,

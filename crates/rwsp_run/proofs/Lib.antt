@@ -1,4 +1,3 @@
 pub mod Printable
 pub mod Found
-pub mod Passing
 pub mod Replies

@@ -1,37 +1,29 @@
 -- From what the parts of a run found to what its answer says.
-use Rattle.std.proofs.Common.{◌≡◌, ◌⊎◌, ℕ, ◌≤◌, List, [], ◌∷◌, subst, sym, ap, ◌∙◌, arith, refl, inl, inr}
+use Rattle.std.proofs.Common.{◌≡◌, ◌⊎◌, ℕ, ◌≤◌, List, [], ◌∷◌, subst, sym, arith, refl, inl, inr}
 use Rattle.std.specs.Prelude.{Result, Ok, Err, IfOk, IfErr, IsErrOf, Option}
-use Rattle.std.proofs.lemmas.Result.{IfOk-weaker}
-use Rattle.rwsp_io.specs.Told.{Told, Silent, Missing, Bytes, Rose}
+use Rattle.rwsp_io.specs.Told.{Told, Rose}
 use Rattle.rwsp_terms.specs.Instance.{Instance}
 use Rattle.rwsp_file.specs.Spelling.{SpellsProblem}
 use Rattle.command_line.specs.Commands.{CommandWords, IsForm, ReadsProblem, ReadsSecond, HasFewWorkers, AsksNoCalendar, IsWithinHorizon, HasDaysFor, problem_name, second_name}
-use Rattle.rwsp_answers.specs.Inputs.{WhereTold, IsWithinLimit, IsTooLong, second_kind, OfProblem, IsProblemOf}
+use Rattle.rwsp_answers.specs.Inputs.{WhereTold, IsWithinLimit, OfProblem, IsProblemOf}
 use Rattle.rwsp_answers.specs.Answers.{IsAnswer, IsAnswerOn, IsReadFault, IsOfCommand, IsOfSecond, IsSecondAnswer, IsOfCrew, IsCrewAnswer, IsOfStaff, IsNotWeekly, IsWeekly}
 use Rattle.rwsp_answers.specs.Staffs.{IsStaffAnswer}
-use Rattle.rwsp_answers.specs.Texts.{IsTextOf, IsTextOfTrial, IsReplyText, IsPrintable, answer_text}
+use Rattle.rwsp_answers.specs.Texts.{IsTextOf, IsTextOfTrial, IsReplyText}
 use Rattle.rwsp_answers.specs.Trials.{IsTrial, IsTrialAnswer}
 use Rattle.rwsp_answers.specs.declared.answer.TrialResult.{TrialResult}
 use Rattle.command_line.specs.declared.command.Command.{Command}
 use Rattle.command_line.specs.declared.command.Command.TheVariants.{Plan, Check, Verify, Reduce, Show, Trial, Crew as CrewCommand, Staff as StaffCommand, CheckStaff, CheckFree, Best as BestCommand}
-use Rattle.rwsp_answers.specs.declared.answer.InputKind.{InputKind}
 use Rattle.rwsp_answers.specs.declared.answer.InputKind.TheVariants as Kinds
 use Rattle.rwsp_answers.specs.declared.answer.Answer.{Answer}
 use Rattle.rwsp_answers.specs.declared.answer.Stop.{Stop}
 use Rattle.rwsp_answers.specs.declared.answer.Stop.TheVariants.{ReadFault, Memory}
-use Rattle.rwsp_answers.specs.declared.answer.Answer.TheVariants.{Trial as TrialOf, TooLong, Staff, StaffRange, NotWeekly}
+use Rattle.rwsp_answers.specs.declared.answer.Answer.TheVariants.{Trial as TrialOf, Staff, StaffRange, NotWeekly}
 use Rattle.rwsp_answers.proofs.Bests.{of_best}
 use Rattle.jiff.specs.Types.{Date}
-use Rattle.rwsp_run.specs.Exits.{IsStop, IsReadExit}
-use Rattle.rwsp_run.specs.declared.input.Exit.{Exit}
-use Rattle.rwsp_run.specs.declared.input.Exit.TheVariants.{Answer as ExitAnswer}
-use Rattle.rwsp_run.specs.declared.top_call.Reply.{Reply}
+use Rattle.rwsp_replies.specs.Exits.{IsStop}
+use Rattle.rwsp_replies.specs.declared.reply.Reply.{Reply}
+use Rattle.rwsp_replies.proofs.Replies.{told_weaker}
 use Rattle.rwsp_run.proofs.Printable.{planned_is}
-
-told_weaker : (told : Told) (Q R : List ℕ → Type 0) → ((bytes : List ℕ) → Q bytes → R bytes) → WhereTold told Q → WhereTold told R
-told_weaker Silent Q R f h = tt
-told_weaker Missing Q R f h = h
-told_weaker (Bytes bytes) Q R f h = f bytes h
 
 -- the problem's file was read and spells the problem
 abbrev pub IsRead : (List ℕ → Told) → CommandWords → Instance → Type 0
@@ -104,28 +96,6 @@ few_workers words CheckStaff form = tt
 few_workers words (BestCommand budget) form = tt
 few_workers words CheckFree form = tt
 
--- a fact about bytes that were read
-pub told_of : (told : Told) (bytes : List ℕ) (Q : List ℕ → Type 0) → WhereTold told (λ file. bytes ≡ file) → Q bytes → WhereTold told Q
-told_of told bytes Q same q = told_weaker told (λ file. bytes ≡ file) Q (λ file e. subst Q e q) same
-
--- a second file that is too long is an answer
-pub too_long : (command : Command) (told : Told) (P : Instance) → ReadsSecond command → WhereTold told (IsTooLong (second_kind command)) → WhereTold told (IsSecondAnswer command (TooLong (second_kind command)) P) × IsOfSecond command (TooLong (second_kind command))
-too_long Verify told P reads h = (h, tt)
-too_long (Check workers) told P reads h = (h, tt)
-too_long Reduce told P reads h = (h, tt)
-too_long (CrewCommand date count employee) told P reads h = (h, tt)
-too_long CheckStaff told P reads h = (h, tt)
-too_long CheckFree told P reads h = (h, tt)
-too_long command told P reads h = absurd reads
-
--- and so is the answer that ends its reading
-pub read_answer : (command : Command) (told : Told) (P : Instance) (rose : Type 0) (kind : InputKind) (exit : Exit) (answer : Answer) → ReadsSecond command → kind ≡ second_kind command → exit ≡ ExitAnswer answer → IsReadExit told rose kind exit → WhereTold told (IsSecondAnswer command answer P) × IsOfSecond command answer × IsPrintable P answer
-read_answer command told P rose kind exit answer reads e is h =
-    let both : (answer ≡ TooLong kind) × WhereTold told (IsTooLong kind) = subst (IsReadExit told rose kind) is h in
-    let same : answer ≡ TooLong (second_kind command) = both.0 ∙ ap TooLong e in
-    let long = too_long command told P reads (subst (λ (k : InputKind). WhereTold told (IsTooLong k)) e both.1) in
-    subst (λ (a : Answer). WhereTold told (IsSecondAnswer command a P) × IsOfSecond command a × IsPrintable P a) (sym same) (long.0, long.1, tt)
-
 -- an answer to the second file is one on the problem
 second_on : (command : Command) (told : Told) (P : Instance) (answer : Answer) → HasDaysFor command P → IsOfSecond command answer → WhereTold told (IsSecondAnswer command answer P) → IsAnswerOn command told P answer
 second_on Verify told P answer days kind says = (kind, says)
@@ -163,14 +133,6 @@ pub second_fault : (held : List ℕ → Told) (before later now : List ℕ → �
 second_fault held before later now words command P form file reads days read le rose =
     (command, form, file, inr (reads, rose_since _ _ _ le rose, of_problem held words P (HasDaysFor command) read days))
 
--- the reply of an answer has what the answer has
-pub replied : (result : Result Reply Stop) (answer : Answer) (Q : Answer → Type 0) → IfOk result (λ r. r.answer ≡ answer) → Q answer → IfOk result (λ r. Q r.answer)
-replied result answer Q same q = IfOk-weaker result (λ r. r.answer ≡ answer) (λ r. Q r.answer) (λ r e. subst Q (sym e) q) same
-
--- and the text of one that names what the problem has is a reply's text
-pub reply_text : (result : Result Reply Stop) (command : Command) (told : Told) (P : Instance) → IfOk result (λ r. IsPrintable P r.answer × (r.text.items ≡ answer_text P r.answer)) → IfOk result (λ r. IsReplyText command told P r.answer r.text.items)
-reply_text result command told P h = IfOk-weaker result (λ r. IsPrintable P r.answer × (r.text.items ≡ answer_text P r.answer)) (λ r. IsReplyText command told P r.answer r.text.items) (λ r k. inl k) h
-
 -- what is no read fault is a stop for want of memory
 pub no_fault : {A : Type 0} (result : Result A Stop) (rose : Type 0) → (IsErrOf result ReadFault → ⊥) → IfErr result (IsStop rose)
 no_fault (Ok a) rose none = tt
@@ -189,7 +151,6 @@ at_fault (Err ReadFault) rose h e = h
 at_fault (Err Memory) rose h e = absurd (cc)
 
 -- the reply of a trial
-
 pub trial_answer : (held : List ℕ → Told) (words : CommandWords) (number weeks : ℕ) (answer : Answer) → IsForm words (Trial number weeks) → IsTrialAnswer number weeks answer → IsAnswer held words answer
 trial_answer held words number weeks answer form h = inr (inr (inl (number, weeks, form, h)))
 

@@ -1,18 +1,14 @@
-// The least crew, and whether a text that says so is right.
+// The least crew.
 ghost use Rattle.std.specs.Prelude.{◌<◌, ◌+◌, ◌≤◌, IfOk};
 ghost use Rattle.rwsp_terms.specs.declared.limits.TheConstants.{MOST_WEEKS, MOST_SIZES, GREATEST_STAFF_BUDGET};
-ghost use Rattle.rwsp_answers.specs.Inputs.{IsWithinLimit};
-ghost use Rattle.rwsp_answers.specs.Staffs.{IsStaffAnswer, IsStaffVerdictOf};
-ghost use Rattle.rwsp_answers.specs.Answers.{IsOfStaffText};
+ghost use Rattle.rwsp_answers.specs.Staffs.{IsStaffAnswer};
 ghost use Rattle.rwsp_answers.specs.Texts.{IsPrintable};
-ghost use Rattle.rwsp_answers.specs.declared.answer.InputKind.TheVariants as Kinds;
 
-use crew_search::staff;
-use crew_size::check_staff;
 use potential_bounds::Gate;
+use roster_planner::staff;
 use rwsp_answers::Answer;
-use rwsp_model::{Fail, Problem};
-use rwsp_terms::limits::{MOST_CELLS, USUAL_WORKERS};
+use rwsp_model::Problem;
+use rwsp_terms::limits::MOST_CELLS;
 use std::alloc::{AllocError, Global};
 use std::thread::Threads;
 
@@ -38,24 +34,4 @@ pub fn staffed<R: Threads + Sync, G: Gate>(
     }
     let run = staff(rt, alloc, problem, low, high, budget, gate)?;
     Ok(Answer::Staff(run))
-}
-
-/// The answer to the bytes of a staff text.
-pub fn staff_verdict<R: Threads + Sync, G: Gate>(
-    rt: &R,
-    alloc: Global,
-    problem: &Problem,
-    bytes: &[u8],
-    gate: &G,
-) -> Result<Answer, AllocError>
-    requires short { IsWithinLimit Kinds.Log bytes.now }
-    ensures answer { IfOk result (λ a. IsStaffVerdictOf a problem.now bytes.now) }
-    ensures kind { IfOk result IsOfStaffText }
-    ensures printable { IfOk result (IsPrintable problem.now) }
-{
-    match check_staff(rt, alloc, problem, bytes, USUAL_WORKERS, gate) {
-        Ok(staffed) => Ok(Answer::StaffAccepted(staffed)),
-        Err(Fail::Refused(why)) => Ok(Answer::StaffRefused(why)),
-        Err(Fail::Memory) => Err(AllocError),
-    }
 }

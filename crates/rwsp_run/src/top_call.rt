@@ -1,37 +1,30 @@
 // One call that answers a command line.
-ghost use Rattle.std.specs.Prelude.{◌≡◌, ℕ, ◌≤◌, List, length, take, IfOk, IfErr, IsErrOf};
+ghost use Rattle.std.specs.Prelude.{◌≡◌, ◌↔◌, ℕ, ◌≤◌, List, length, take, IfOk, IfErr, IsErrOf, IsTrue};
 ghost use Rattle.std.specs.Io.KnownBytes.{Appends, Keeps};
 ghost use Rattle.rwsp_io.specs.Told.{Rose, NeverFall, Missing};
-ghost use Rattle.rwsp_terms.specs.Instance.{Instance};
 ghost use Rattle.rwsp_answers.specs.Answers.{IsAnswer, IsAnswerOn, IsReadFault};
 ghost use Rattle.command_line.specs.Commands.{IsForm, ReadsProblem, ReadsSecond, IsWithinHorizon, HasDaysFor, AsksNoCalendar, problem_name, second_name};
 ghost use Rattle.rwsp_answers.specs.Trials.{IsTrialAnswer};
-ghost use Rattle.rwsp_answers.specs.Texts.{IsTextOf, IsReplyText, IsTextOfTrial, HasFixedText, IsPrintable, answer_text};
+ghost use Rattle.rwsp_answers.specs.Texts.{IsTextOf, IsReplyText, IsTextOfTrial, IsPrintable};
 ghost use Rattle.rwsp_answers.specs.declared.answer.Answer.{Answer};
-ghost use Rattle.rwsp_run.specs.Exits.{IsStop};
+ghost use Rattle.rwsp_replies.specs.Exits.{IsStop};
 
 use crate::best::best_found;
-use crate::crew::crew_reply;
-use crate::input::{Exit, problem_in};
 use crate::plan::planned;
-use crate::second_file::second_answer;
 use crate::staff::staffed;
 use crate::trial::run_trial;
-use command_line::{Command, command_of, has_days_for, is_within_horizon, word_at};
+use command_line::{Command, command_of, is_within_horizon, word_at};
 use potential_bounds::Gate;
-use rwsp_answers::{Answer, Outcome, Stop, fixed_text, text_on};
+use rwsp_answers::{Answer, Outcome, Stop};
 use rwsp_io::{Shelf, Sink, write_all};
 use rwsp_model::Problem;
+use rwsp_replies::{Exit, Reply, crew_reply, fixed, printed, problem_in, second_answer};
 use rwsp_terms::limits::MOST_WEEKS;
-use std::alloc::{AllocError, Global};
+use std::alloc::Global;
 use std::thread::Threads;
 
-/// An answer and its whole text.
-#[derive(Debug, Drop)]
-pub struct Reply {
-    pub answer: Answer,
-    pub text: Vec<u8>,
-}
+/// The days of a week that has a weekend.
+const DAYS_OF_WEEK: u32 = 7;
 
 /// Answers the words of a command line, over the files of the shelf. The words are looked at first, then the problem's
 /// file, then the second file; a file behind an earlier refusal isn't read. The answer's whole text is composed before
@@ -229,37 +222,12 @@ fn tried<R: Threads + Sync, G: Gate>(
     })
 }
 
-// The reply whose text is the same for every problem.
-fn fixed(alloc: Global, answer: Answer) -> Result<Reply, Stop>
-    requires { HasFixedText answer }
-    ensures answer { IfOk result (λ r. r.answer ≡ answer) }
-    ensures fixed { IfOk result (λ r. HasFixedText r.answer) }
-    ensures text { IfOk result (λ r. (P : Instance) → r.text.items ≡ answer_text P r.answer) }
-    ensures fault { IsErrOf result Stop.ReadFault → ⊥ }
+// Whether the week of the problem has as many days as the command asks for.
+fn has_days_for(command: &Command, problem: &Problem) -> bool
+    ensures { IsTrue result ↔ HasDaysFor command.now problem.now }
 {
-    match fixed_text(alloc, &answer) {
-        Ok(text) => Ok(Reply { answer, text }),
-        Err(AllocError) => Err(without_memory(answer)),
+    match command {
+        Command::CheckFree | Command::Best { .. } => problem.days() == DAYS_OF_WEEK,
+        _ => true,
     }
-}
-
-/// The reply of an answer on a problem.
-pub fn printed(alloc: Global, problem: &Problem, answer: Answer) -> Result<Reply, Stop>
-    requires { IsPrintable problem.now answer }
-    ensures answer { IfOk result (λ r. r.answer ≡ answer) }
-    ensures text { IfOk result (λ r.
-        IsPrintable problem.now r.answer × (r.text.items ≡ answer_text problem.now r.answer)) }
-    ensures fault { IsErrOf result Stop.ReadFault → ⊥ }
-{
-    match text_on(alloc, problem, &answer) {
-        Ok(text) => Ok(Reply { answer, text }),
-        Err(AllocError) => Err(without_memory(answer)),
-    }
-}
-
-// The end of a run that has an answer, of any type, and no memory for its text.
-fn without_memory<A: Drop>(_answer: A) -> Stop
-    ensures { result ≡ Stop.Memory }
-{
-    Stop::Memory
 }

@@ -15,7 +15,7 @@ use std::alloc::{AllocError, Global};
 use std::thread::Threads;
 
 /// A trial and its whole text.
-#[derive(Debug, Drop)]
+#[derive(Drop)]
 pub struct Trial {
     pub result: TrialResult,
     pub text: Vec<u8>,

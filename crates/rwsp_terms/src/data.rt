@@ -17,14 +17,14 @@ impl Symbol {
 }
 
 /// A least and a greatest number: of the days of a block, or of the weeks that hold a shift on a day.
-#[derive(Clone, Copy, Debug, PartialEq, Eq)]
+#[derive(Clone, Copy, PartialEq, Eq)]
 pub struct Bounds {
     pub least: u32,
     pub greatest: u32,
 }
 
 /// The symbols that a block is made of: one shift, the day off, or all shifts.
-#[derive(Clone, Copy, Debug, PartialEq, Eq)]
+#[derive(Clone, Copy, PartialEq, Eq)]
 pub enum Class {
     Shift(Symbol),
     Off,
@@ -45,7 +45,7 @@ impl Class {
 }
 
 /// A rule of a problem. Pairs and triples count from 0, days from 1.
-#[derive(Clone, Copy, Debug, PartialEq, Eq)]
+#[derive(Clone, Copy, PartialEq, Eq)]
 pub enum Rule {
     MaxShift(Symbol),
     MinShift(Symbol),
@@ -62,17 +62,30 @@ pub enum Rule {
 impl fmt::Display for Rule {
     fn fmt<W: fmt::Write>(&self, f: &mut fmt::Formatter<W>) -> fmt::Result {
         match self {
-            Rule::MaxShift(shift) => write!(f, "the longest block of shift {}", shift.number),
-            Rule::MinShift(shift) => write!(f, "the shortest block of shift {}", shift.number),
+            Rule::MaxShift(shift) => put_numbered(
+                f,
+                "the longest block of shift ",
+                u32::from(shift.number),
+            ),
+            Rule::MinShift(shift) => put_numbered(
+                f,
+                "the shortest block of shift ",
+                u32::from(shift.number),
+            ),
             Rule::MaxOff => f.write_str("the longest block of days off"),
             Rule::MinOff => f.write_str("the shortest block of days off"),
             Rule::MaxWork => f.write_str("the longest block of work"),
             Rule::MinWork => f.write_str("the shortest block of work"),
-            Rule::Pair(pair) => write!(f, "forbidden pair {pair}, counted from 0"),
-            Rule::Triple(triple) => write!(f, "forbidden triple {triple}, counted from 0"),
-            Rule::Day(day) => write!(f, "the demand of day {day}"),
+            Rule::Pair(pair) => put_numbered(f, "forbidden pair, counted from 0: ", *pair),
+            Rule::Triple(triple) => put_numbered(f, "forbidden triple, counted from 0: ", *triple),
+            Rule::Day(day) => put_numbered(f, "the demand of day ", *day),
         }
     }
+}
+
+// Words, and the number behind them.
+fn put_numbered<W: fmt::Write>(f: &mut fmt::Formatter<W>, words: &str, number: u32) -> fmt::Result {
+    write!(f, "{words}{number}")
 }
 
 /// What a symbol weighs on a day. Days count from 1.
@@ -84,7 +97,7 @@ pub struct Weight {
 }
 
 /// The name of a shift, as its bytes.
-#[derive(Debug, Drop)]
+#[derive(Drop)]
 pub struct Name {
     bytes: Vec<u8>,
 }
@@ -124,7 +137,7 @@ impl Clone for Name {
 }
 
 /// The demand of a shift: for each day the least and the greatest number of weeks that hold it.
-#[derive(Debug, Drop)]
+#[derive(Drop)]
 pub struct DemandRow {
     ranges: Vec<Bounds>,
 }
@@ -165,7 +178,7 @@ impl Clone for DemandRow {
 }
 
 /// A shift: its name, its start and length in minutes, and the bounds of its blocks.
-#[derive(Debug, Drop)]
+#[derive(Drop)]
 pub struct ShiftRow {
     pub name: Name,
     pub start: u32,

@@ -6,7 +6,7 @@ use std::alloc::{AllocError, Global};
 use std::marker::Model;
 
 /// Numbers of rules, ascending and without repeats.
-#[derive(Debug, Drop)]
+#[derive(Drop)]
 pub struct RuleList {
     numbers: Vec<u32>,
 }

@@ -9,7 +9,7 @@ use std::alloc::{AllocError, Global};
 use std::marker::Model;
 
 /// What symbols weigh on days, ascending by day and then by symbol; where nothing is listed the weight is 0.
-#[derive(Debug, Drop)]
+#[derive(Drop)]
 pub struct Weights {
     entries: Vec<Weight>,
 }

@@ -8,7 +8,7 @@ ghost use Rattle.rwsp_text.specs.Places.{is_word_byte, is_no_line_end, lexeme_at
 use std::alloc::{AllocError, Global};
 
 /// A word of a text: the bytes from `start` to before `end`, and the number of their line, from 1 on.
-#[derive(Clone, Copy, Debug, PartialEq, Eq)]
+#[derive(Clone, Copy)]
 pub struct Token {
     pub start: usize,
     pub end: usize,

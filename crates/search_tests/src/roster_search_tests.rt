@@ -179,7 +179,7 @@ fn end_of(found: &Found) -> End {
 }
 
 // What a search does.
-#[derive(Clone, Copy, Debug, PartialEq, Eq)]
+#[derive(Clone, Copy)]
 struct Run {
     end: End,
     looks: u32,

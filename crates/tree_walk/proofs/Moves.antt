@@ -1,9 +1,11 @@
 -- What the moves of a walk leave.
-use Rattle.std.proofs.Common.{◌≡◌, ℕ, ◌+◌, ◌-◌, ◌*◌, ◌<◌, ◌≤◌, List, [], ◌∷◌, ◌++◌, length, take, Option, Some, refl, ap, sym, ◌∙◌, subst, arith, Bool, true, false, ◌&&◌, ◌||◌, ◌==◌, not, IsTrue, cond}
+use Rattle.std.proofs.Common.{◌≡◌, ℕ, ◌+◌, ◌-◌, ◌*◌, ◌<◌, ◌≤◌, List, [], ◌∷◌, ◌++◌, length, take, Option, Some, None, refl, ap, sym, ◌∙◌, subst, arith, Bool, true, false, ◌&&◌, ◌||◌, ◌==◌, not, IsTrue, cond}
+use Rattle.std.proofs.Math.Bool.{and-true}
 use Rattle.std.proofs.Math.Nat.{mul-le-mul_right}
-use Rattle.std.specs.Prelude.{◌↔◌}
+use Rattle.std.specs.Prelude.{◌↔◌, nat_le}
+use Rattle.std.proofs.lemmas.Bool.{le-leb}
 use Rattle.std.specs.List.{range_with_len}
-use Rattle.std.proofs.lemmas.List.{take_all, length-take-le, length_push, get_or-replicate}
+use Rattle.std.proofs.lemmas.List.{take_all, length-take-le, length_push, get_or-replicate, length-replicate}
 use Rattle.std.proofs.lemmas.List.Sums.{sum_by-cons, sum_by-append}
 use Rattle.std.proofs.lemmas.List.FromFn.{length-range_with_len}
 use Rattle.rwsp_terms.specs.declared.data.Symbol.{Symbol}
@@ -19,7 +21,7 @@ use Rattle.domain_store.specs.Store.{Store, store_at, domain_at, has_domain, cha
 use Rattle.tree_walk.specs.declared.open_split.OpenSplit.{OpenSplit}
 use Rattle.tree_walk.specs.Splits.{Agrees, IsSplitAt, NoLines, InSplits, HasRead, IsBehindTree, second_sides_to_come, is_idle_in}
 use Rattle.tree_walk.specs.States.{IsStateOf, IsWalk}
-use Rattle.tree_walk.proofs.Stack.{tree_read, split_read, second_ended, first_ended, innermost, read_leaves, read_is_tree, read_whole, read_part}
+use Rattle.tree_walk.proofs.Stack.{narrowed_there, tree_read, split_read, second_ended, first_ended, innermost, read_leaves, read_is_tree, read_whole, read_part}
 use Rattle.tree_walk.proofs.Idle.{idle_in_store, held_where_useful, more_where_useful, positions_of}
 
 -- the split on top of the stack
@@ -58,7 +60,7 @@ at_start P turn S splits now belongs none agrees =
       read = subst (λ s. InSplits NoLines (length S.sets) S (opening P turn) 0 s []) (sym none) (omega arith, here, refl);
     }
 
-belongs_still : (P : Instance) (S T : Store) → BelongsTo P S → HasSameShape S T → BelongsTo P T
+pub belongs_still : (P : Instance) (S T : Store) → BelongsTo P S → HasSameShape S T → BelongsTo P T
 belongs_still P S T b same = record {
   days = same.days ∙ b.days;
   weeks = same.weeks ∙ b.weeks;
@@ -146,6 +148,23 @@ two_in_full P S p limits e lt =
 -- the day of a turn is one of the first week
 turn_fits : (P : Instance) (turn : Option Turn) (t : Turn) → TurnFits P turn → turn ≡ Some t → TurnFits P (Some t)
 turn_fits P turn t h e = subst (TurnFits P) e h
+
+pub full_position : (P : Instance) (p : ℕ) → p < cells P → p < length (full_store P).sets
+full_position P p lt = subst (λ n. p < n) (sym (length-replicate (cells P) (range_with_len 0 (shift_count P + 1)))) lt
+
+pub symbol_held : (P : Instance) (turn : Option Turn) (t : Turn) → TurnFits P turn → turn ≡ Some t → nat_le t.x.number (shift_count P) ≡ true
+symbol_held P turn t h e = le-leb t.x.number (shift_count P) (turn_fits P turn t h e).1
+
+-- the domains at the first line, with the turn's symbol alone on its day or with all symbols
+pub open_with_turn : (P : Instance) (S T : Store) (turn : Option Turn) (t : Turn) → turn ≡ Some t → ((p x : ℕ) → p < cells P → has_domain S p x ≡ nat_le x (shift_count P)) → ((q y : ℕ) → has_domain T q y ≡ ((not (q == t.day - 1) || (y == t.x.number)) && has_domain S q y)) → AreSame P (has_domain T) (opening P turn)
+open_with_turn P S T turn t e full has p x lt =
+    has p x
+    ∙ narrowed_there p (t.day - 1) (x == t.x.number) (has_domain S p x) (nat_le x (shift_count P)) (full p x lt)
+    ∙ ap (λ o. opening P o p x) (sym e)
+
+pub open_without_turn : (P : Instance) (S : Store) (turn : Option Turn) → ((t : Turn) → turn ≡ Some t → ⊥) → ((p x : ℕ) → p < cells P → has_domain S p x ≡ nat_le x (shift_count P)) → AreSame P (has_domain S) (opening P turn)
+open_without_turn P S None none full p x lt = full p x lt ∙ sym (and-true (nat_le x (shift_count P)))
+open_without_turn P S (Some t) none full p x lt = absurd (none t refl)
 
 pub day_within : (P : Instance) (turn : Option Turn) (t : Turn) → KeepsLimits P → TurnFits P turn → turn ≡ Some t → t.day - 1 < cells P
 day_within P turn t limits h e =

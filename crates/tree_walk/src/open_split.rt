@@ -3,7 +3,7 @@ use rwsp_terms::Symbol;
 
 /// A split whose sides haven't all been read: its position and symbol, the mark of the domains before it, and whether
 /// its first side has been read.
-#[derive(Clone, Copy, Debug, PartialEq, Eq)]
+#[derive(Clone, Copy)]
 pub struct OpenSplit {
     pub p: u32,
     pub x: Symbol,

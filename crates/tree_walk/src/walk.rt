@@ -23,7 +23,7 @@ use std::marker::Model;
 /// How far the lines of a log have been read, with the domains there.
 ///
 /// A split costs constant time, and a leaf as much as the splits that it closes. Positions count from 0.
-#[derive(Debug, Drop)]
+#[derive(Drop)]
 pub struct Walk {
     domains: Domains,
     splits: Vec<OpenSplit>,

@@ -14,7 +14,7 @@ use std::alloc::{AllocError, Global};
 /// The guide of a search with a goal. It closes cases by weights with a reward for each free weekend, looks for a
 /// roster by other means before the first split, first for one with more free weekends, and splits in the order of the
 /// days.
-#[derive(Debug, Drop)]
+#[derive(Drop)]
 pub struct BestGuide {
     problem: Problem,
     weights: NearestWeights,

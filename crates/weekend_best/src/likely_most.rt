@@ -16,7 +16,9 @@ pub fn likely_most(alloc: Global, problem: &Problem) -> Result<u32, AllocError>
     ensures { IfOk result (λ n. n ≤ problem.now.weeks) }
 {
     let mut weights = NearestWeights::new(alloc, problem)?;
-    halved(alloc, problem, &mut weights)
+    let most = halved(alloc, problem, &mut weights);
+    drop(weights);
+    most
 }
 
 // The same by these weights.
@@ -55,5 +57,8 @@ fn has_leaf(
     ensures leaf { IfOk result (λ has. IsTrue has
         → (line : Line) × IsHoldingFreeLeaf weights.old.problem goal (has_domain doms.now) line) }
 {
-    Ok(weights.free_leaf_at_top(alloc, doms, goal)?.is_some())
+    let leaf = weights.free_leaf_at_top(alloc, doms, goal)?;
+    let has = leaf.is_some();
+    drop(leaf);
+    Ok(has)
 }

@@ -1,13 +1,14 @@
 -- The words of each kind of rule, by their places.
-use Rattle.std.proofs.Common.{◌≡◌, ℕ, zero, suc, ◌+◌, ◌-◌, ◌<◌, ◌≤◌, List, [], ◌∷◌, ◌++◌, length, get_or, refl, ap, sym, ◌∙◌, arith, subst, length-append, inl, inr, Some}
+use Rattle.std.proofs.Common.{◌≡◌, ℕ, zero, suc, ◌+◌, ◌-◌, ◌<◌, ◌≤◌, List, [], ◌∷◌, ◌++◌, length, get_or, refl, ap, sym, ◌∙◌, arith, subst, length-append, inl, inr, Some, None}
 use Rattle.std.proofs.lemmas.Option.{same_Some}
 use Rattle.std.specs.Prelude.{slice_get}
 use Rattle.rwsp_terms.specs.declared.data.Symbol.{Symbol}
 use Rattle.rwsp_terms.specs.declared.data.Class.{Class}
 use Rattle.rwsp_terms.specs.declared.data.Class.TheVariants.{Shift}
 use Rattle.rwsp_terms.specs.declared.data.Rule.TheVariants.{Pair, Triple}
+use Rattle.rwsp_terms.specs.declared.limits.TheConstants.{GREATEST_BOUND}
 use Rattle.rwsp_terms.specs.Instance.{Instance, off_symbol}
-use Rattle.rwsp_terms.specs.Window.{Bad, InClass, TooShort}
+use Rattle.rwsp_terms.specs.Window.{Bad, InClass, TooLong, TooShort}
 use Rattle.rwsp_terms.proofs.Windows.{get_or-front, get_or-seam}
 use Rattle.window_rules.specs.declared.pattern.Pattern.{Pattern}
 use Rattle.window_rules.specs.declared.pattern.Side.TheVariants.{In, Outside}
@@ -17,6 +18,35 @@ other_default : (xs : List Symbol) (i : ℕ) (d e : Symbol) → i < length xs �
 other_default [] i d e h = absurd (omega (arith, h))
 other_default (x ∷ xs) zero d e h = refl
 other_default (x ∷ xs) (suc i) d e h = other_default xs i d e (omega (arith, h))
+
+-- a block of one length
+
+abbrev pub long_pattern : Class → ℕ → Pattern
+long_pattern c greatest = record { first = In c; inner = c; fewest = greatest; most = greatest; last = None }
+
+long_shaped : (c : Class) (greatest : ℕ) (u : List Symbol) → TooLong c greatest u → IsShaped (long_pattern c greatest) u
+long_shaped c greatest u h = record {
+  inner = greatest;
+  fewest = omega arith;
+  most = omega arith;
+  long = omega (arith, h.long);
+  first = h.within 0 off_symbol (omega (arith, h.long));
+  within = λ i lt. h.within (suc i) off_symbol (omega (arith, h.long, lt));
+  last = tt;
+}
+
+shaped_long : (c : Class) (greatest : ℕ) (u : List Symbol) → IsShaped (long_pattern c greatest) u → TooLong c greatest u
+shaped_long c greatest u h = record {
+  long = omega (arith, h.fewest, h.most, h.long);
+  within = λ k d lt. subst (InClass c) (other_default u k off_symbol d lt) (at k lt);
+}
+  where
+    at : (k : ℕ) → k < length u → InClass c (get_or u k off_symbol)
+    at zero lt = h.first
+    at (suc i) lt = h.within i (omega (arith, h.long, lt))
+
+pub pattern_of_long : (c : Class) (greatest : ℕ) → greatest ≤ GREATEST_BOUND → IsPatternOf (TooLong c greatest) (long_pattern c greatest)
+pattern_of_long c greatest few = record { one_length = inl refl; few = few; shaped = long_shaped c greatest; kind = shaped_long c greatest }
 
 -- a block between two days outside
 

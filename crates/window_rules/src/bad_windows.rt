@@ -16,7 +16,7 @@ use rwsp_model::Problem;
 use rwsp_terms::{Class, Rule};
 
 /// A window that breaks a rule: the position of its first day, counted from 0, and how many days it has.
-#[derive(Clone, Copy, Debug, PartialEq, Eq)]
+#[derive(Clone, Copy)]
 pub struct BadWindow {
     pub start: u32,
     pub length: u32,

@@ -12,7 +12,7 @@ pub(crate) const PAIRS: usize = (MOST_SYMBOLS * MOST_SYMBOLS) as usize;
 pub(crate) const TRIPLES: usize = (MOST_SYMBOLS * MOST_SYMBOLS * MOST_SYMBOLS) as usize;
 
 /// The least and the greatest length of the blocks of a class, in days, where the list has a rule.
-#[derive(Clone, Copy, Debug)]
+#[derive(Clone, Copy)]
 pub(crate) struct Lengths {
     pub least: Option<u32>,
     pub greatest: Option<u32>,
@@ -26,7 +26,7 @@ impl Lengths {
 }
 
 /// The rules of a list, by kind.
-#[derive(Debug, Drop)]
+#[derive(Drop)]
 pub(crate) struct RuleTables {
     /// Of the blocks of one symbol, by its number.
     pub symbols: [Lengths; MOST_SYMBOLS as usize],

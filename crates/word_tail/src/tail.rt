@@ -6,7 +6,7 @@ use rwsp_terms::Symbol;
 use rwsp_terms::limits::LONGEST_RUN;
 
 /// Six facts of a word: its tail.
-#[derive(Clone, Copy, Debug, PartialEq, Eq, PartialOrd, Ord)]
+#[derive(Clone, Copy, PartialEq, Eq, PartialOrd, Ord)]
 pub struct Tail {
     /// The last symbol. The empty word has none.
     pub last: Option<Symbol>,

@@ -13,7 +13,7 @@ use std::alloc::{AllocError, Global};
 use std::marker::Model;
 
 /// The rules of a list of a problem, laid out so that a word's tail tells which symbols may follow it.
-#[derive(Debug, Drop)]
+#[derive(Drop)]
 pub struct TailRules {
     problem: Problem,
     list: RuleList,

@@ -1,9 +1,12 @@
 use Rattle.std.proofs.Common.{◌≡◌, ◌+◌, ◌++◌, ap, ◌∙◌, arith}
-use Rattle.crew_calendar.specs.declared.calendar.TheConstants.{MOST_DAYS_LATER}
+use Rattle.calendar_dates.specs.declared.dates.TheConstants.{MOST_DAYS_LATER}
 use Rattle.crew_calendar.specs.Texts.{duty_line, duties_text}
 use Rattle.crew_calendar.proofs.Appended.{day_more}
-use Rattle.crew_calendar.proofs.Calendars.{calendar_from, is_calendar}
+use Rattle.calendar_dates.proofs.Calendars.{fewer_fit, calendar_from, is_calendar}
 use Rattle.crew_calendar.proofs.duty_lines.duties.Goals as goal
+
+pub put_duty-requires-clause-within : goal.put_duty-requires-clause-within
+put_duty-requires-clause-within c = fewer_fit c.args.date _ (c.args.days + MOST_DAYS_LATER) (omega arith) c.requires.fits
 
 pub loop-t-preserved : goal.loop-t-preserved
 loop-t-preserved c =

@@ -1,10 +1,13 @@
 use Rattle.std.proofs.Common.{◌≡◌, ◌<◌, ◌+◌, ◌∷◌, [], ◌++◌, ap, sym, ◌∙◌, arith}
 use Rattle.jiff.specs.Words.{date_text}
-use Rattle.crew_calendar.specs.declared.calendar.TheConstants.{MOST_DAYS_LATER}
+use Rattle.calendar_dates.specs.declared.dates.TheConstants.{MOST_DAYS_LATER}
 use Rattle.crew_calendar.specs.Texts.{day_line, crew_text, table_text}
 use Rattle.crew_calendar.proofs.Appended.{day_more}
-use Rattle.crew_calendar.proofs.Calendars.{calendar_from, is_calendar, one_text}
+use Rattle.calendar_dates.proofs.Calendars.{fewer_fit, calendar_from, is_calendar, one_text}
 use Rattle.crew_calendar.proofs.lines.day_lines.Goals as goal
+
+pub date_after-requires-clause-within : goal.date_after-requires-clause-within
+date_after-requires-clause-within c = fewer_fit c.args.date _ (c.args.days + MOST_DAYS_LATER) (omega arith) c.requires.fits
 
 pub loop-t-preserved : goal.loop-t-preserved
 loop-t-preserved c =

@@ -3,12 +3,12 @@ use Rattle.rwsp_terms.specs.Instance.{shift_count}
 use Rattle.potential_bounds.proofs.Growing.{plain_count}
 use Rattle.potential_bounds.proofs.first.first_plain.Goals as goal
 
-pub first_holding-requires-clause-few : goal.first_holding-requires-clause-few
-first_holding-requires-clause-few g c κs within =
+pub first_holding-found-requires-clause-few : goal.first_holding-found-requires-clause-few
+first_holding-found-requires-clause-few g c κs within =
     let count : length c.deref.result.now ≡ 2 * (shift_count c.args.problem.now + 1) = ap length c.deref.ensures.value ∙ plain_count c.args.problem.now _ c.in_ok-bounds.ensures in
     omega (arith, count, c.prove_limits.ensures.few_shifts)
 
-pub first_holding-requires-clause-some : goal.first_holding-requires-clause-some
-first_holding-requires-clause-some g c κs within =
+pub first_holding-found-requires-clause-some : goal.first_holding-found-requires-clause-some
+first_holding-found-requires-clause-some g c κs within =
     let count : length c.deref.result.now ≡ 2 * (shift_count c.args.problem.now + 1) = ap length c.deref.ensures.value ∙ plain_count c.args.problem.now _ c.in_ok-bounds.ensures in
     omega (arith, count)

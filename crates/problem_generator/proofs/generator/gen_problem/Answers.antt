@@ -1,10 +1,27 @@
-use Rattle.std.proofs.Common.{length, ap, sym, subst, ◌∙◌}
+use Rattle.std.proofs.Common.{length, All, ap, sym, subst, ◌∙◌}
+use Rattle.std.proofs.lemmas.Result.{IfOk-from_err}
 use Rattle.rwsp_model.specs.Validity.{IsValid}
+use Rattle.problem_generator.specs.Stints.{IsUsual}
 use Rattle.problem_generator.specs.Blocks.{roster_of}
 use Rattle.problem_generator.specs.Generated.{problem_with, demand_of}
 use Rattle.problem_generator.proofs.Lengths.{roster_long}
 use Rattle.problem_generator.proofs.Valid.{valid}
 use Rattle.problem_generator.proofs.generator.gen_problem.Goals as goal
+
+pub returns-in_err-stints : goal.returns-in_err-stints
+returns-in_err-stints c = IfOk-from_err _ _ c.from_residual.ensures.0
+
+pub returns-in_err-cells : goal.returns-in_err-cells
+returns-in_err-cells c = IfOk-from_err _ _ c.from_residual-in_err-cells.ensures.0
+
+pub returns-in_err-demand : goal.returns-in_err-demand
+returns-in_err-demand c = IfOk-from_err _ _ c.from_residual-in_err-demand.ensures.0
+
+pub returns-in_err-parts : goal.returns-in_err-parts
+returns-in_err-parts c = IfOk-from_err _ _ c.from_residual-in_err-parts.ensures.0
+
+pub roster_of-requires : goal.roster_of-requires
+roster_of-requires c = subst (All IsUsual) (sym c.deref.ensures.value) c.in_ok-stints.ensures.usual
 
 pub demand_of-requires-clause-cells : goal.demand_of-requires-clause-cells
 demand_of-requires-clause-cells c =

@@ -1,6 +1,7 @@
 use Rattle.std.proofs.Common.{◌+◌, None, subst}
 use Rattle.refutation_checker.specs.UnreadSplits.{IsInto}
-use Rattle.refutation_checker.proofs.Unread.{passed_more, passed_all}
+use Rattle.refutation_log.proofs.LogLines.{some_bytes}
+use Rattle.refutation_checker.proofs.Unread.{passed_none, shorter, passed_more, passed_all}
 use Rattle.refutation_checker.proofs.Starts.{entered_state, entered_not, passed_tree, passed_idle}
 use Rattle.refutation_checker.proofs.chunk_starts.pass_lines.Goals as goal
 
@@ -32,3 +33,12 @@ loop-line-preserved c =
 pub returns-clause-passed : goal.returns-clause-passed
 returns-clause-passed c =
     passed_all c.args.problem.now c.args.splits.now.items c.loop-line.splits.items c.args.bytes.now c.loop-line.reader c.loop-line.count c.loop-line.invariant c.in_default.ensures.line
+
+pub loop-line-init : goal.loop-line-init
+loop-line-init c = passed_none c.args.problem.now c.args.splits.now.items c.args.bytes.now c.new-reader.result c.new-reader.ensures
+
+pub loop-line-smaller : goal.loop-line-smaller
+loop-line-smaller c = shorter c.loop-line.reader c.in-Some.line.now c.next.new.self c.in-Some.ensures.line.0 c.in-Some.ensures.line.1
+
+pub pass_line-requires : goal.pass_line-requires
+pass_line-requires c = some_bytes c.in-Some.line.now c.in-Some.ensures.line.0

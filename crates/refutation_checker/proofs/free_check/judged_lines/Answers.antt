@@ -1,6 +1,7 @@
 use Rattle.std.proofs.Common.{List, None, ◌∙◌, sym, subst, refl, arith, IsTrue, false}
 use Rattle.refutation_terms.specs.declared.lines.Line.{Line}
 use Rattle.refutation_checker.proofs.FreeReading.{ReadSoFar, read_more, fail_read, read_all, read_ends}
+use Rattle.refutation_checker.proofs.Unread.{shorter}
 use Rattle.refutation_checker.proofs.free_check.judged_lines.Goals as goal
 
 pub returns-in-Err : goal.returns-in-Err
@@ -37,3 +38,6 @@ returns-else-is_whole c =
     let so = c.loop-bytes.invariant.read in
     read_ends P h.named h.goal h.body.now c.loop-bytes.reader c.loop-bytes.walk c.loop-bytes.lines.items c.requires.rules c.requires.goal so c.in_default.ensures.line
     (λ tree. let t : IsTrue false = (c.if-is_whole.ensures.tree P None c.loop-bytes.lines.items so.state).1 tree in absurd (cc))
+
+pub loop-bytes-smaller : goal.loop-bytes-smaller
+loop-bytes-smaller c = shorter c.loop-bytes.reader c.in-Some.bytes.now c.next.new.self c.in-Some.ensures.line.0 c.in-Some.ensures.line.1

@@ -5,6 +5,9 @@ use Rattle.rwsp_terms.specs.Weights.{ComesBefore}
 use Rattle.refutation_log.specs.Gathering.{with_last}
 use Rattle.refutation_log.proofs.gather.add_behind.Goals as goal
 
+pub append-requires-clause-last : goal.append-requires-clause-last
+append-requires-clause-last c = rw (c.if-goes_behind.true, c.entries.ensures.value) at (c.goes_behind.ensures (to_z w32 (of_z w32 c.args.value)))
+
 pub returns-in_ok-append : goal.returns-in_ok-append
 returns-in_ok-append c =
     let z = c.args.weights in

@@ -1,6 +1,10 @@
-use Rattle.std.proofs.Common.{ap, ◌∙◌, ◌++◌, arith}
+use Rattle.std.proofs.Common.{refl, ap, ◌∙◌, ◌++◌, arith}
+use Rattle.std.proofs.lemmas.Option.{slice_get_read}
 use Rattle.refutation_log.proofs.PrintedTexts.{pieces_all, pieces_step, line_piece, joined_lines}
 use Rattle.refutation_log.proofs.print.put_lines.Goals as goal
+
+pub put_line-requires : goal.put_line-requires
+put_line-requires c = c.requires _ _ (slice_get_read c.args.lines.now _ _ _ refl c.loop-line-test.true c.line-item.is)
 
 pub loop-line-preserved : goal.loop-line-preserved
 loop-line-preserved c =

@@ -12,7 +12,9 @@ use Rattle.roster_planner.proofs.reasons.reasons_of.Goals as goal
 
 pub returns-clause-serves : goal.returns-clause-serves
 returns-clause-serves g c =
-    (c.new-3.ensures.serves c.args.problem.now).1 (c.in_ok-cases.ensures.serves, c.in_ok-bounds.ensures.serves)
+    let cases = rw c.in_ok-cases.ensures.0 at c.case_reasons-cases.ensures.serves in
+    let bounds = rw c.in_ok-cases.ensures.1 at c.new-bounds.ensures.serves in
+    (c.new-2.ensures.serves c.args.problem.now).1 (cases, bounds)
 
 pub returns-clause-reasons : goal.returns-clause-reasons
 returns-clause-reasons g c =
@@ -20,25 +22,27 @@ returns-clause-reasons g c =
     let turn = c.args.turn in
     let start = c.domains-doms.result.now in
     let opened : AreSame P (has_domain start) (opening P turn) = at_first P turn [] (has_domain start) (c.domains-doms.ensures.has P turn [] c.in_ok-walk.ensures.starts) in
-    let cases = c.in_ok-cases.ensures.reasons in
+    let cases = rw c.in_ok-cases.ensures.0 at c.case_reasons-cases.ensures.reasons in
+    let none_spent = rw c.in_ok-cases.ensures.1 at c.new-bounds.ensures.none_spent in
+    let leaves = rw c.in_ok-cases.ensures.1 at c.new-bounds.ensures.leaves in
     record {
       cases = record {
         rules = cases.rules;
         short = cases.short;
         plain = record {
-          windows = λ S number p len fits. (c.new-3.ensures.leaves S (Window number p len)).1 (inl (cases.plain.windows S number p len fits));
-          days = λ S j x over fits. (c.new-3.ensures.leaves S (Day j x over)).1 (inl (cases.plain.days S j x over fits));
+          windows = λ S number p len fits. (c.new-2.ensures.leaves S (Window number p len)).1 (inl (cases.plain.windows S number p len fits));
+          days = λ S j x over fits. (c.new-2.ensures.leaves S (Day j x over)).1 (inl (cases.plain.days S j x over fits));
         };
-        cycle = λ S line is. (c.new-3.ensures.leaves S line).1 (inl (cases.cycle S line is));
+        cycle = λ S line is. (c.new-2.ensures.leaves S line).1 (inl (cases.cycle S line is));
         taken = λ S p x. (
-          λ h. elim ((c.new-3.ensures.spent S p x).0 h) [
+          λ h. elim ((c.new-2.ensures.spent S p x).0 h) [
             | inl spent ↦ (cases.taken S p x).0 spent
-            | inr bound ↦ absurd (c.in_ok-bounds.ensures.none_spent S p x bound)
+            | inr bound ↦ absurd (none_spent S p x bound)
           ],
-          λ k. (c.new-3.ensures.spent S p x).1 (inl ((cases.taken S p x).1 k)),
+          λ k. (c.new-2.ensures.spent S p x).1 (inl ((cases.taken S p x).1 k)),
         );
       };
-      top = λ S line same bound. (c.new-3.ensures.leaves S line).1 (inr ((c.in_ok-bounds.ensures.leaves S line).1 (record {
+      top = λ S line same bound. (c.new-2.ensures.leaves S line).1 (inr ((leaves S line).1 (record {
         same = λ p x inside. same p x inside ∙ sym (opened p x inside);
         bound = same_top P (opening P turn) (has_domain start) line (some_cells P c.prove_limits.ensures) (turned_round P (has_domain start) (opening P turn) opened) bound;
       })));

@@ -1,7 +1,8 @@
 -- The log of the lines, whole or with a rest.
-use Rattle.std.proofs.Common.{◌≡◌, ◌≤◌, ℕ, sym, subst, ◌∙◌, arith, false}
+use Rattle.std.proofs.Common.{◌≡◌, ◌≤◌, ℕ, sym, subst, ◌∙◌, arith, false, ◌+◌, length, length-append, ap}
 use Rattle.std.specs.Prelude.{replicate}
 use Rattle.std.specs.List.Sorted.{IsStrictlyIncreasing}
+use Rattle.std.proofs.lemmas.List.{length-replicate}
 use Rattle.refutation_terms.specs.declared.lines.Line.TheVariants.{Unfinished}
 use Rattle.refutation_terms.specs.Tree.{IsTree}
 use Rattle.tree_walk.specs.States.{open_trees}
@@ -35,3 +36,11 @@ returns c =
     spent_end P s c.args.budget n c.log_of-2.result c.requires.written c.requires.allowed up
     (rest_ends s.lines.items n (c.open_count-count.ensures.trees P s.turn s.lines.items (replicate n Unfinished) c.requires.written.state))
     c.requires.few (c.requires.spent part) (omega (arith, some, c.open_count-count.ensures.value)) c.log_of-2.ensures.named c.log_of-2.ensures.turn c.log_of-2.ensures.goal (c.log_of-2.ensures.lines ∙ c.in_ok-leave_open.ensures)
+
+pub log_of-requires-2-clause-few : goal.log_of-requires-2-clause-few
+log_of-requires-2-clause-few c =
+    let s = c.args.progress in
+    let n : ℕ = c.open_count-count.result in
+    let long : length c.leave_open.new.lines.items ≡ length s.lines.items + length (replicate n Unfinished) = ap length c.in_ok-leave_open.ensures ∙ length-append s.lines.items (replicate n Unfinished) in
+    let few_open : n ≤ length s.lines.items + 1 = subst (λ m. m ≤ length s.lines.items + 1) (sym c.open_count-count.ensures.value) c.requires.written.few_open in
+    omega (arith, long, few_open, length-replicate n Unfinished, c.requires.few, c.requires.budget)

@@ -1,10 +1,11 @@
 -- A spent symbol that was seen.
 use Rattle.std.proofs.Common.{subst}
 use Rattle.std.proofs.lemmas.Result.{IfOk-from_err}
+use Rattle.rwsp_model.proofs.Limits.{some_cells}
+use Rattle.roster_search.proofs.Reaching.{plain_holds, unweighed_leaf}
 use Rattle.roster_search.proofs.Forced.{open_under_way}
 use Rattle.roster_search.proofs.Reasons.{same_still, split_off_longer}
 use Rattle.roster_search.proofs.search_step.write_cut.Goals as goal
-use Rattle.rwsp_model.proofs.Limits.{some_cells}
 
 pub returns-clause-under_way : goal.returns-clause-under_way
 returns-clause-under_way g c =
@@ -32,3 +33,9 @@ returns-in_err-cut-clause-tracks g c = IfOk-from_err _ _ c.from_residual.ensures
 
 pub returns-in_err-cut-clause-same : goal.returns-in_err-cut-clause-same
 returns-in_err-cut-clause-same g c = same_still _ _ _
+
+pub cut-requires-clause-leaf : goal.cut-requires-clause-leaf
+cut-requires-clause-leaf g c = unweighed_leaf c.args.problem.now c.args.progress.now.goal c.args.line c.requires.cut.is_leaf c.requires.cut.unweighed
+
+pub cut-requires-clause-holds : goal.cut-requires-clause-holds
+cut-requires-clause-holds g c = plain_holds c.args.problem.now c.args.progress.now.goal _ c.args.line c.requires.cut.holds

@@ -1,11 +1,12 @@
 -- What is found, by the lines that were written.
-use Rattle.std.proofs.Common.{◌+◌, ◌*◌, ◌^◌, ◌<◌}
+use Rattle.std.proofs.Common.{◌+◌, ◌*◌, ◌^◌, ◌<◌, sym, subst, ◌∙◌}
 use Rattle.std.proofs.lemmas.Result.{IfOk-weaker}
 use Rattle.rwsp_terms.specs.Instance.{cells, shift_count}
+use Rattle.refutation_terms.specs.Log.{IsAllowed}
 use Rattle.roster_search.specs.declared.found.Found.{Found}
 use Rattle.roster_search.specs.Founds.{IsFoundFor, HasSpentBudget}
 use Rattle.roster_search.specs.Written.{IsEnded}
-use Rattle.roster_search.proofs.Finding.{found_by, undecided_small}
+use Rattle.roster_search.proofs.Finding.{found_by, undecided_small, begins_under_way}
 use Rattle.roster_search.proofs.Reasons.{of_turn_and_goal}
 use Rattle.roster_search.proofs.searching.guided_search.Goals as goal
 
@@ -32,3 +33,12 @@ returns-in-Ok-None-clause-complete g c =
     (λ (found : Found). HasSpentBudget found → c.args.budget + 1 < 2 * (shift_count P + 1) ^ cells P)
     (λ found h undecided. undecided_small P s.turn s.goal c.args.budget s.lines.items found h undecided)
     c.end.ensures
+
+pub write_lines-written-requires-clause-under_way : goal.write_lines-written-requires-clause-under_way
+write_lines-written-requires-clause-under_way g c = begins_under_way c.args.problem.now c.args.budget _ _ c.in_ok-progress.progress c.in_ok-progress.ensures.written c.in_ok-progress.ensures.none
+
+pub end-requires-clause-written : goal.end-requires-clause-written
+end-requires-clause-written g c = (c.in-Ok-None.ensures.under_way c.in-Ok-None.field-0-is).written
+
+pub end-requires-clause-allowed : goal.end-requires-clause-allowed
+end-requires-clause-allowed g c = subst (IsAllowed c.args.problem.now) (sym ((c.in-Ok-None.ensures.under_way c.in-Ok-None.field-0-is).same_turn ∙ c.in_ok-progress.ensures.turn)) c.requires.turn.1

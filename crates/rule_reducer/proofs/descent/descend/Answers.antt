@@ -1,7 +1,7 @@
-use Rattle.std.proofs.Common.{◌≡◌, ◌-◌, ◌<◌, length, arith, ap, subst, ◌∙◌, Some}
+use Rattle.std.proofs.Common.{◌≡◌, ◌-◌, ◌<◌, length, refl, arith, ap, subst, ◌∙◌, Some}
 use Rattle.std.specs.Prelude.{slice_get}
 use Rattle.rule_reducer.proofs.Citing.{cited_on}
-use Rattle.rule_reducer.proofs.Descents.{descent_goes_on}
+use Rattle.rule_reducer.proofs.Descents.{descent_begins, descent_goes_on}
 use Rattle.rule_reducer.proofs.descent.descend.Goals as goal
 
 pub loop-done-preserved : goal.loop-done-preserved
@@ -21,3 +21,8 @@ loop-done-preserved c =
       so_far = descent_goes_on P g c.loop-done.log c.drop_rule.new.log c.loop-done.done c.at-number.result so_far less here c.in_ok-drop_rule.ensures;
       cited = cited_on P c.at-number.result c.loop-done.log c.drop_rule.new.log _ _ so_far.passes.grounded.fits c.loop-done.invariant.cited c.in_ok-drop_rule.ensures;
     }
+
+pub loop-done-init : goal.loop-done-init
+loop-done-init c =
+    let g = c.args.log.now in
+    record { so_far = descent_begins c.args.problem.now g g refl c.requires.passes; cited = c.requires.cited }

@@ -1,5 +1,5 @@
 use Rattle.std.proofs.Common.{take, arith}
-use Rattle.rule_reducer.proofs.Walking.{not_whole, line_at, line_read}
+use Rattle.rule_reducer.proofs.Walking.{not_whole, line_at, line_read, walked_more}
 use Rattle.rule_reducer.proofs.refusing_lines.walk_to.Goals as goal
 
 pub go_past-requires-clause-part : goal.go_past-requires-clause-part
@@ -18,3 +18,11 @@ go_past-requires-clause-holds c =
     let i = c.loop-i.i in
     let line = c.index-lines-i.result in
     (g.turn, take i g.lines, c.loop-i.invariant, line_at c.args.problem.now g i line (line_read g.lines _ i line c.lines-lines.ensures (omega (arith, c.requires.place)) c.index-lines-i.is) c.requires.passes)
+
+pub loop-i-preserved : goal.loop-i-preserved
+loop-i-preserved c =
+    let g = c.args.log.now in
+    let i = c.loop-i.i in
+    let line = c.index-lines-i.result in
+    walked_more c.args.problem.now g.turn g.lines i line c.go_past.new.walk (line_read g.lines _ i line c.lines-lines.ensures (omega (arith, c.requires.place)) c.index-lines-i.is)
+    (c.in_ok-go_past.ensures g.turn (take i g.lines) c.loop-i.invariant)

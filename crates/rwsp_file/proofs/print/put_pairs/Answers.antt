@@ -8,6 +8,9 @@ use Rattle.rwsp_file.proofs.print.put_pairs.Goals as goal
 pub loop-i-init : goal.loop-i-init
 loop-i-init c = sym (append-nil c.args.out.now.items)
 
+pub put_pair-requires : goal.put_pair-requires
+put_pair-requires c = (rw (← c.pairs-pairs.ensures.value) at c.prove_limits.ensures.known_pairs) c.loop-i.i _ c.loop-i-test.true
+
 pub loop-i-preserved : goal.loop-i-preserved
 loop-i-preserved c = lines_more (pair_words c.args.problem.now) c.pairs-pairs.result.now c.loop-i.i _ c.args.out.now.items _ _ c.loop-i-test.true c.loop-i.invariant c.in_ok-put_pair.ensures
 

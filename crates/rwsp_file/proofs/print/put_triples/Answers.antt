@@ -8,6 +8,9 @@ use Rattle.rwsp_file.proofs.print.put_triples.Goals as goal
 pub loop-i-init : goal.loop-i-init
 loop-i-init c = sym (append-nil c.args.out.now.items)
 
+pub put_triple-requires : goal.put_triple-requires
+put_triple-requires c = (rw (← c.triples-triples.ensures.value) at c.prove_limits.ensures.known_triples) c.loop-i.i _ c.loop-i-test.true
+
 pub loop-i-preserved : goal.loop-i-preserved
 loop-i-preserved c = lines_more (triple_words c.args.problem.now) c.triples-triples.result.now c.loop-i.i _ c.args.out.now.items _ _ c.loop-i-test.true c.loop-i.invariant c.in_ok-put_triple.ensures
 

@@ -2,7 +2,8 @@ use Rattle.rwsp_io.specs.Told.{Rose}
 use Rattle.command_line.specs.Commands.{second_name}
 use Rattle.command_line.specs.declared.command.Command.TheVariants.{Crew as Asked}
 use Rattle.rwsp_answers.specs.Answers.{IsAnswerOn}
-use Rattle.rwsp_run.proofs.Replies.{replied, reply_text, crew_answers, no_fault, second_stop}
+use Rattle.rwsp_replies.proofs.Replies.{replied, reply_text}
+use Rattle.rwsp_run.proofs.Replies.{crew_answers, no_fault, second_stop}
 use Rattle.rwsp_run.proofs.top_call.on_problem.Goals as goal
 
 pub returns : goal.returns

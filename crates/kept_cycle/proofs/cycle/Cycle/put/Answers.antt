@@ -1,9 +1,9 @@
 -- The days of the position are mended, and no other has another domain.
-use Rattle.std.proofs.Common.{◌≡◌, ◌+◌, ◌<◌, ℕ, length, set, arith, ◌≤◌, refl, ap, sym, subst, ◌∙◌, rules, vec_len, IsTrue}
+use Rattle.std.proofs.Common.{◌≡◌, ◌+◌, ◌<◌, ℕ, length, set, arith, ◌≤◌, inl, inr, refl, ap, sym, subst, ◌∙◌, rules, vec_len, IsTrue}
 use Rattle.rwsp_terms.specs.Instance.{shift_count}
 use Rattle.domain_store.specs.Sets.{has_symbol}
 use Rattle.kept_cycle.specs.Known.{KnownCycle}
-use Rattle.kept_cycle.proofs.Turning.{fit_read, mends_front_read, mends_back_read, mended}
+use Rattle.kept_cycle.proofs.Turning.{fit_read, second_day, mends_front_read, mends_back_read, mended}
 use Rattle.kept_cycle.proofs.Awaiting.{still_awaited}
 use Rattle.kept_cycle.proofs.cycle.Cycle.put.Goals as goal
 
@@ -48,3 +48,13 @@ invariant_of-self c =
           c.raise.ensures.long c.raise.ensures.kept c.raise.ensures.raised c.raise-2.ensures.long c.raise-2.ensures.kept (λ q from less all. c.raise-2.ensures.raised q from (omega (arith, less, far)) all)
           c.self.invariant.1,
     )
+
+pub mend_front-requires-clause-day : goal.mend_front-requires-clause-day
+mend_front-requires-clause-day c =
+    let i = c.self.inside in
+    second_day i.tails i.layers.layers i.sets.items i.front i.back c.mend_front-end.new.self i.width c.args.p c.len-cells.result c.self.invariant.0 (search rules) (search rules) (inl c.mend_front-end.ensures.long)
+
+pub mend_back-low-requires-clause-day : goal.mend_back-low-requires-clause-day
+mend_back-low-requires-clause-day c =
+    let i = c.self.inside in
+    second_day i.tails i.layers.layers i.sets.items i.front i.back i.back i.width c.args.p c.len-cells.result c.self.invariant.0 (search rules) (search rules) (inr refl)

@@ -1,6 +1,6 @@
 -- One day more is mended, and where its marks stay, all are.
 use Rattle.std.proofs.Common.{◌≡◌, ◌+◌, ◌-◌, ◌<◌, ◌∙◌, length, arith, ap}
-use Rattle.kept_cycle.proofs.Mending.{back_step_read, back_more, back_stays, fits_here}
+use Rattle.kept_cycle.proofs.Mending.{back_step_read, back_unmended, back_more, back_stays, fits_here}
 use Rattle.kept_cycle.specs.Marks.{row_at}
 use Rattle.kept_cycle.proofs.day_marks.DayMarks.mend_back.Goals as goal
 
@@ -34,3 +34,9 @@ loop-i-preserved c =
 
 pub returns-then-not-go_back-clause-before : goal.returns-then-not-go_back-clause-before
 returns-then-not-go_back-clause-before c i less = ap (λ r. row_at r (i + 1)) (c.go_back.ensures.unchanged c.if-not-go_back.true) ∙ c.loop-i.invariant.before (i + 1) (omega (arith, less))
+
+pub loop-i-init : goal.loop-i-init
+loop-i-init c = back_unmended c.args.layers.now c.args.sets.now c.args.day c.args.self.now
+
+pub returns-clause-steps : goal.returns-clause-steps
+returns-clause-steps c i within old = c.loop-i.invariant.steps i within (λ e. omega (arith, e, c.loop-i-test.false)) old

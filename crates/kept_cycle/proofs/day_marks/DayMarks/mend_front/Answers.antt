@@ -1,6 +1,6 @@
 -- One day more is mended, and where its marks stay, all are.
-use Rattle.std.proofs.Common.{◌<◌, ◌∙◌, length, rules, ap}
-use Rattle.kept_cycle.proofs.Mending.{front_step_read, front_more, front_stays, fits_here}
+use Rattle.std.proofs.Common.{◌≡◌, ◌<◌, ◌∙◌, length, rules, arith, ap}
+use Rattle.kept_cycle.proofs.Mending.{front_step_read, front_unmended, front_more, front_stays, fits_here}
 use Rattle.kept_cycle.specs.Marks.{row_at}
 use Rattle.kept_cycle.proofs.day_marks.DayMarks.mend_front.Goals as goal
 
@@ -35,3 +35,16 @@ returns-then-not-go_on-clause-before c i less = ap (λ r. row_at r i) (c.go_on.e
 
 pub returns-then-not-go_on-clause-behind : goal.returns-then-not-go_on-clause-behind
 returns-then-not-go_on-clause-behind c i less within = ap (λ r. row_at r i) (c.go_on.ensures.unchanged c.if-not-go_on.true) ∙ c.loop-i.invariant.behind i less
+
+pub loop-i-init : goal.loop-i-init
+loop-i-init c = front_unmended c.args.layers.now c.args.sets.now c.args.day c.args.self.now
+
+pub returns-clause-steps : goal.returns-clause-steps
+returns-clause-steps c i within old =
+    let rows : c.len-i-end.result ≡ length c.args.self.now = search rules in
+    c.loop-i.invariant.steps i within (λ e. omega (arith, e, within, rows)) old
+
+pub returns-clause-behind : goal.returns-clause-behind
+returns-clause-behind c i past within =
+    let rows : c.len.result ≡ length c.loop-i.self = search rules in
+    absurd (omega (arith, past, within, rows))

@@ -1,11 +1,12 @@
-use Rattle.std.proofs.Common.{ℕ, ◌<◌, ap, get_or, length, subst, sym, ◌∙◌}
+use Rattle.std.proofs.Common.{◌≡◌, ◌⊎◌, inl, inr, false, ℕ, ◌<◌, ap, get_or, length, subst, sym, ◌∙◌}
 use Rattle.std.proofs.lemmas.List.{length-set}
 use Rattle.domain_store.specs.Sets.{has_symbol}
 use Rattle.layered_cycle.specs.declared.step.Step.{Step}
 use Rattle.layered_cycle.proofs.Growing.{stands_here}
-use Rattle.kept_cycle.specs.Marks.{from_of, to_of}
-use Rattle.kept_cycle.proofs.Marking.{passes_put}
+use Rattle.kept_cycle.specs.Marks.{is_marked, from_of, to_of}
+use Rattle.kept_cycle.proofs.Marking.{passes_put, passes_over}
 use Rattle.kept_cycle.proofs.marks.Marks.put_behind.Goals as goal
+use Rattle.kept_cycle.proofs.marks.Marks.put_behind.Goals.{then-not-has-via-then-not-has, then-not-has-via-else-not-has+then-not-has-2}
 
 pub loop-step-preserved : goal.loop-step-preserved
 loop-step-preserved c =
@@ -18,4 +19,19 @@ loop-step-preserved c =
       passes = rw c.put.ensures
           (passes_put from_of to_of c.args.steps.now (has_symbol c.args.set.now) c.args.before.now c.loop-step.self i s (stands_here c.args.steps.now i none c.loop-step-test.true)
           (sym c.has.ensures ∙ c.if-not-has.false) (sym c.has-else-not-has.ensures ∙ c.if-not-has-2.false) within c.loop-step.invariant.passes);
+    }
+
+pub loop-step-preserved-then-not-has : goal.loop-step-preserved-then-not-has
+loop-step-preserved-then-not-has c =
+    let i = c.loop-step.step-index in
+    let none : Step = record { from = 0; symbol = record { number = 0 }; to = 0 } in
+    let s = get_or c.args.steps.now i none in
+    let fails : (is_marked c.args.before.now (from_of s) ≡ false) ⊎ (has_symbol c.args.set.now s.symbol.number ≡ false) =
+    elim c.then-not-has.branch [
+      | then-not-has-via-then-not-has w ↦ inl (sym c.has.ensures ∙ w.if-not-has.true)
+      | then-not-has-via-else-not-has+then-not-has-2 w ↦ inr (sym w.has-else-not-has.ensures ∙ w.if-not-has-2.true)
+    ] in
+    record {
+      long = c.loop-step.invariant.long;
+      passes = passes_over from_of to_of c.args.steps.now (has_symbol c.args.set.now) c.args.before.now c.loop-step.self i s (stands_here c.args.steps.now i none c.loop-step-test.true) fails c.loop-step.invariant.passes;
     }

@@ -1,4 +1,5 @@
-use Rattle.std.proofs.Common.{ℕ, Option, subst, sym, IsTrue}
+use Rattle.std.proofs.Common.{ℕ, Option, subst, sym, ◌∙◌}
+use Rattle.std.proofs.lemmas.Bool.{false≢true}
 use Rattle.refutation_terms.specs.Log.{LineFitsFor}
 use Rattle.refutation_terms.specs.Verdict.{Spells}
 use Rattle.refutation_terms.proofs.Spelled.{spelled_lines_fit}
@@ -18,7 +19,7 @@ returns-in-Ok-clause-read c =
     let bytes = c.args.bytes.now in
     passed_reads P c.args.self.now.named c.args.walk.now bytes c.in-Ok.line c.args.number c.pass-found.new.walk c.pass-found.result
     (subst (λ (j : Judging). Spells j.problem bytes c.in-Ok.line) c.self.view_is c.in-Ok.ensures)
-    (λ turn lines state tree. let whole : IsTrue c.is_whole.result = (c.is_whole.ensures.tree P turn lines state).1 tree in absurd (cc))
+    (λ turn lines state tree. absurd (false≢true (sym c.if-is_whole.false ∙ (c.is_whole.ensures.tree P turn lines state).1 tree)))
     (rw c.requires.plain at c.pass-found.ensures.passed)
 
 pub returns-in-Ok-clause-walks : goal.returns-in-Ok-clause-walks

@@ -1,4 +1,5 @@
-use Rattle.std.proofs.Common.{subst, IsTrue}
+use Rattle.std.proofs.Common.{subst, sym, ◌∙◌}
+use Rattle.std.proofs.lemmas.Bool.{false≢true}
 use Rattle.refutation_terms.specs.Verdict.{SpellsFor}
 use Rattle.refutation_terms.proofs.Spelled.{spelled_lines_fit_for}
 use Rattle.refutation_checker.specs.LineTexts.{Judging}
@@ -21,7 +22,7 @@ returns-in-Ok-None-clause-read c =
     let line = c.in-Ok.line in
     let spelled : SpellsFor j.problem j.goal bytes line = subst (λ (j : Judging). SpellsFor j.problem j.goal bytes line) c.self.view_is c.in-Ok.ensures in
     read_as j.problem j.goal j.named turn lines bytes line c.pass.new.walk spelled
-    (λ tree. let whole : IsTrue c.is_whole.result = (c.is_whole.ensures.tree j.problem turn lines state).1 tree in absurd (cc))
+    (λ tree. absurd (false≢true (sym c.if-is_whole.false ∙ (c.is_whole.ensures.tree j.problem turn lines state).1 tree)))
     ((rw c.in-Ok-None.field-0-is at c.in-Ok-None.ensures.passed) turn lines state)
 
 pub returns-in-Ok-Some-clause-read : goal.returns-in-Ok-Some-clause-read
@@ -32,6 +33,6 @@ returns-in-Ok-Some-clause-read c =
     let line = c.in-Ok.line in
     let spelled : SpellsFor j.problem j.goal bytes line = subst (λ (j : Judging). SpellsFor j.problem j.goal bytes line) c.self.view_is c.in-Ok.ensures in
     refused_as j.problem j.goal j.named turn lines bytes line c.args.number c.in-Ok-Some.why spelled
-    (λ tree. let whole : IsTrue c.is_whole.result = (c.is_whole.ensures.tree j.problem turn lines state).1 tree in absurd (cc))
+    (λ tree. absurd (false≢true (sym c.if-is_whole.false ∙ (c.is_whole.ensures.tree j.problem turn lines state).1 tree)))
     is
     ((rw c.in-Ok-Some.field-0-is at c.in-Ok-Some.ensures.passed) turn lines state)

@@ -1,26 +1,38 @@
 -- A split and the leaf of its first side.
-use Rattle.std.proofs.Common.{◌≡◌, ℕ, List, [], ◌∷◌, ◌++◌, refl, sym, subst, ap, ◌∙◌, length, arith, inr, append_assoc, Option}
-use Rattle.rwsp_terms.specs.Instance.{cells}
+use Rattle.std.proofs.Common.{◌≡◌, ℕ, List, [], ◌∷◌, ◌++◌, ◌<◌, ◌≤◌, refl, sym, subst, ap, ◌∙◌, length, arith, inr, append_assoc, Option}
+use Rattle.std.proofs.lemmas.List.{length_push}
+use Rattle.rwsp_terms.specs.Instance.{Instance, cells}
+use Rattle.rwsp_model.proofs.Limits.{some_cells}
+use Rattle.domain_store.specs.Store.{Store, IsStore, BelongsTo, has_domain}
 use Rattle.refutation_terms.specs.declared.lines.Line.{Line}
 use Rattle.refutation_terms.specs.declared.lines.Line.TheVariants.{Split}
 use Rattle.refutation_terms.specs.declared.lines.Turn.{Turn}
 use Rattle.refutation_terms.specs.Tree.{domains_at, narrowed, First}
 use Rattle.refutation_terms.specs.Log.{HoldsFor}
-use Rattle.domain_store.specs.Store.{has_domain}
 use Rattle.tree_walk.proofs.Idle.{positions_of, idle_in_store}
 use Rattle.roster_search.specs.Written.{IsSplitWithLeaf}
 use Rattle.roster_search.proofs.Narrowing.{HasDomainsBehind, narrowed_at, first_side}
 use Rattle.roster_search.proofs.Reaching.{same_holds_for}
 use Rattle.roster_search.proofs.progress.Progress.cut.Goals as goal
-use Rattle.rwsp_model.proofs.Limits.{some_cells}
+
+-- a position of the problem is one of its store
+position_in_store : (P : Instance) (S : Store) (p : ℕ) → IsStore S → BelongsTo P S → p < cells P → p < length S.sets
+position_in_store P S p store belongs h = subst (λ n. p < n) (sym (positions_of P S store belongs)) h
+
+-- a line more, where there is room
+one_more_fits : (lines new : List Line) (line : Line) (budget : ℕ) → new ≡ lines ++ line ∷ [] → length lines < budget → length new ≤ budget
+one_more_fits lines new line budget e h = omega (arith, ap length e ∙ length_push lines line)
+
+-- the split and then the leaf
+both_lines : (old mid new : List Line) (cut leaf : Line) → mid ≡ old ++ cut ∷ [] → new ≡ mid ++ leaf ∷ [] → new ≡ old ++ cut ∷ leaf ∷ []
+both_lines old mid new cut leaf split close = close ∙ ap (λ lines. lines ++ leaf ∷ []) split ∙ append_assoc old (cut ∷ []) (leaf ∷ [])
 
 pub split-requires-clause-useful : goal.split-requires-clause-useful
 split-requires-clause-useful c =
     let P = c.args.problem.now in
     let S = c.args.self.now.walk.store in
     let belongs = c.requires.written.state.belongs in
-    let many : length S.sets ≡ cells P = positions_of P S c.prove_domains.ensures.store belongs in
-    idle_in_store P (has_domain S) S c.args.p c.args.x.number c.prove_domains.ensures.store c.prove_domains.ensures.tests belongs (omega (arith, c.requires.position, many)) (λ z. refl) ∙ c.requires.useful
+    idle_in_store P (has_domain S) S c.args.p c.args.x.number c.prove_domains.ensures.store c.prove_domains.ensures.tests belongs (position_in_store P S c.args.p c.prove_domains.ensures.store belongs c.requires.position) (λ z. refl) ∙ c.requires.useful
 
 pub close-requires-clause-holds : goal.close-requires-clause-holds
 close-requires-clause-holds c =
@@ -47,7 +59,7 @@ returns-in_ok-close-clause-off c =
     let x = c.args.x in
     let added : List Line = Split p x ∷ c.args.line ∷ [] in
     let turn : b.turn ≡ a.turn = c.close.ensures.turn ∙ c.in_ok-split.ensures.turn in
-    let lines : b.lines.items ≡ a.lines.items ++ added = c.in_ok-close.ensures.lines ∙ ap (λ (ls : List Line). ls ++ c.args.line ∷ []) c.in_ok-split.ensures.lines ∙ append_assoc a.lines.items (Split p x ∷ []) (c.args.line ∷ []) in
+    let lines : b.lines.items ≡ a.lines.items ++ added = both_lines a.lines.items c.split.new.self.lines.items b.lines.items (Split p x) c.args.line c.in_ok-split.ensures.lines c.in_ok-close.ensures.lines in
     let kind : IsSplitWithLeaf p x added = inr (c.args.line, c.requires.leaf.leaf, refl) in
     let w = c.in_ok-close.ensures.written in
     let before : HasDomainsBehind P a.turn a.lines.items a.walk.store = record { store = c.prove_domains.ensures.store; belongs = c.requires.written.state.belongs; same = c.prove_domains.ensures.same P c.requires.written } in
@@ -62,3 +74,18 @@ returns-in_ok-close-clause-off c =
       narrowed = narrowed_at P a.turn a.lines.items added a.walk.store b.walk.store p x before
           (subst (λ (ls : List Line). HasDomainsBehind P a.turn ls b.walk.store) lines (subst (λ (t : Option Turn). HasDomainsBehind P t b.lines.items b.walk.store) turn behind)) kind c.requires.position;
     }
+
+pub returns-in_ok-close-clause-few : goal.returns-in_ok-close-clause-few
+returns-in_ok-close-clause-few c = one_more_fits c.split.new.self.lines.items _ c.args.line c.args.budget c.in_ok-close.ensures.lines (c.has_room.ensures.0 c.if-has_room.true)
+
+pub returns-in_ok-close-clause-leaf : goal.returns-in_ok-close-clause-leaf
+returns-in_ok-close-clause-leaf c = λ _. both_lines c.args.self.now.lines.items _ _ _ _ c.in_ok-split.ensures.lines c.in_ok-close.ensures.lines
+
+pub returns-else-has_room-clause-off : goal.returns-else-has_room-clause-off
+returns-else-has_room-clause-off c = c.in_ok-split.ensures.off c.args.problem.now c.requires.written
+
+pub returns-else-has_room-clause-few : goal.returns-else-has_room-clause-few
+returns-else-has_room-clause-few c = one_more_fits c.args.self.now.lines.items _ _ c.args.budget c.in_ok-split.ensures.lines c.requires.room
+
+pub close-requires-clause-written : goal.close-requires-clause-written
+close-requires-clause-written c = (c.in_ok-split.ensures.off c.args.problem.now c.requires.written).written

@@ -1,0 +1,2 @@
+pub mod DateWords
+pub mod Calendars

@@ -1,0 +1,6 @@
+//! The dates of days in a row, and the words that name a date.
+#![tactic(auto)]
+
+mod dates;
+
+pub use dates::{DAY_MINUTES, MOST_DAYS_LATER, date_after, date_of, fits};

@@ -1,0 +1,62 @@
+// How few weeks are enough.
+ghost use Rattle.std.specs.Prelude.{◌≤◌, IfOk};
+ghost use Rattle.rwsp_terms.specs.declared.limits.TheConstants.{GREATEST_STAFF_BUDGET};
+ghost use Rattle.plan_terms.specs.Planned.{IsPlanned};
+ghost use Rattle.crew_size.specs.Sizes.{IsSize, with_weeks};
+ghost use Rattle.crew_size.specs.Runs.{IsStaffed};
+ghost use Rattle.crew_size.specs.Fitting.{FitsSizes};
+
+use crate::plan_roster;
+use crew_size::{StaffEnd, StaffRun, with_weeks};
+use potential_bounds::Gate;
+use roster_search::Found;
+use rwsp_model::Problem;
+use std::alloc::{AllocError, Global};
+use std::thread::Threads;
+
+/// Plans the problem for `low` weeks, and for one more as long as there is a refutation, up to `high` weeks; each
+/// number of weeks has the whole budget. The workers of a plan pass the gate.
+pub fn staff<R: Threads + Sync, G: Gate>(
+    rt: &R,
+    alloc: Global,
+    problem: &Problem,
+    low: u32,
+    high: u32,
+    budget: u32,
+    gate: &G,
+) -> Result<StaffRun, AllocError>
+    requires sizes { (1 ≤ low) × (low ≤ high) }
+    requires most { IsSize problem.now high }
+    requires budget { (1 ≤ budget) × (budget ≤ GREATEST_STAFF_BUDGET) }
+    ensures staffed { IfOk result (IsStaffed problem.now low high budget) }
+    ensures fits { IfOk result (FitsSizes problem.now) }
+{
+    let mut logs = Vec::new(alloc);
+    for weeks in low..high + 1 {
+        match plan_for(rt, alloc, problem, weeks, budget, gate)? {
+            Found::NoRoster(log) => logs.push(log)?,
+            Found::Roster(roster) => return Ok(StaffRun::of(low, logs, StaffEnd::Least(roster))),
+            Found::Undecided(log) => return Ok(StaffRun::of(low, logs, StaffEnd::Undecided(log))),
+        }
+    }
+    Ok(StaffRun::of(low, logs, StaffEnd::NoneTo))
+}
+
+// The plan for this number of weeks.
+fn plan_for<R: Threads + Sync, G: Gate>(
+    rt: &R,
+    alloc: Global,
+    problem: &Problem,
+    weeks: u32,
+    budget: u32,
+    gate: &G,
+) -> Result<Found, AllocError>
+    requires size { IsSize problem.now weeks }
+    requires budget { (1 ≤ budget) × (budget ≤ GREATEST_STAFF_BUDGET) }
+    ensures { IfOk result (IsPlanned (with_weeks problem.now weeks) budget) }
+{
+    let sized = with_weeks(problem, weeks)?;
+    let found = plan_roster(rt, alloc, &sized, budget, gate);
+    drop(sized);
+    found
+}

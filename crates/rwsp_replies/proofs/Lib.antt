@@ -1,0 +1,3 @@
+pub mod Replies
+pub mod Printable
+pub mod Passing
