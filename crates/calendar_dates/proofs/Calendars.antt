@@ -3,13 +3,11 @@ use Rattle.std.proofs.Common.{◌≡◌, ℕ, zero, suc, ◌+◌, ◌<◌, ◌�
 use Rattle.std.specs.Prelude.{◌<ℤ◌, ◌≤ℤ◌}
 use Rattle.std.proofs.lemmas.Bool.{cases_order}
 use Rattle.std.proofs.lemmas.Int.{by_lt_z}
-use Rattle.jiff.specs.Types.{Date}
-use Rattle.jiff.specs.Words.{epoch_day, date_text, days_in_month}
-use Rattle.jiff_core.specs.Calendar.{days_from_civil}
+use Rattle.jiff_core.specs.Calendar.{days_from_civil, days_in_month}
 use Rattle.jiff_core.proofs.CalendarLemmas.{days_in_month_bounds}
-use Rattle.jiff.proofs.SpanFacts.{signed_arith}
-use Rattle.jiff.proofs.Family.{epoch_day_injective, days_from_civil-day, days_from_civil-next_month, days_from_civil-next_year, days_from_civil-max}
-use Rattle.calendar_dates.specs.Calendar.{IsCalendar, IsWithinDates, last_day}
+use Rattle.jiff_core.proofs.SignedLemmas.{signed_arith}
+use Rattle.jiff_core.proofs.DateLemmas.{epoch_day_injective, days_from_civil-day, days_from_civil-next_month, days_from_civil-next_year, days_from_civil-max}
+use Rattle.calendar_dates.specs.Calendar.{Date, epoch_day, date_text, IsCalendar, IsWithinDates, last_day}
 
 -- two dates of one day have one text
 pub one_text : (a b : Date) → epoch_day a ≡ epoch_day b → date_text a ≡ date_text b

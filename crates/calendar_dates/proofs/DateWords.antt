@@ -3,11 +3,17 @@ use Rattle.std.proofs.Common.{◌≡◌, ℕ, pos, List, [], ◌∷◌, Ok, Err,
 use Rattle.std.specs.Prelude.{◌<ℤ◌}
 use Rattle.std.proofs.lemmas.Bool.Decides.{nat_tests}
 use Rattle.std.specs.Str.{bytes_eq}
-use Rattle.jiff.specs.Types.{Date}
-use Rattle.jiff.specs.Words.{parse_date, date_text, date_parts, Error}
-use Rattle.jiff.proofs.SpanFacts.{signed_arith}
-use Rattle.jiff.proofs.Family.{parse_date-date_text, epoch_day_same, same_date}
-use Rattle.calendar_dates.specs.Calendar.{IsDateWord}
+use Rattle.jiff_core.specs.declared.error.Error.{Error}
+use Rattle.jiff_core.proofs.SignedLemmas.{signed_arith}
+use Rattle.jiff_core.proofs.DateLemmas.{epoch_day_same}
+use Rattle.jiff_fmt.specs.Temporal.{parse_date, date_parts}
+use Rattle.jiff_fmt.proofs.RoundTrip.{parse_date-date_text}
+use Rattle.jiff.proofs.Family.{same_date}
+use Rattle.calendar_dates.specs.Calendar.{Date, date_text, IsDateWord}
+
+-- dates of the same parts are one
+pub same_parts : (a b : Date) → a.year ≡ b.year → a.month ≡ b.month → a.day ≡ b.day → a ≡ b
+same_parts a b years months days = same_date a b (epoch_day_same a b years months days)
 
 -- a text is the same as itself
 pub text_same : (xs : List ℕ) → bytes_eq xs xs ≡ true
@@ -46,4 +52,4 @@ one_date word date other a b =
     let good : parse_date word ≡ Ok (date_parts date) = ap parse_date a.1 ∙ parse_date-date_text date in
     let also : parse_date word ≡ Ok (date_parts other) = ap parse_date b.1 ∙ parse_date-date_text other in
     let same : date_parts date ≡ date_parts other = cc in
-    same_date date other (epoch_day_same date other (ap (λ p. p.year) same) (ap (λ p. p.month) same) (ap (λ p. p.day) same))
+    same_parts date other (ap (λ p. p.year) same) (ap (λ p. p.month) same) (ap (λ p. p.day) same)

@@ -1,9 +1,11 @@
 -- The dates of days in a row, and the words that name a date.
 use Rattle.std.specs.Prelude.{◌≡◌, ℕ, ◌+◌, ◌<◌, ℤ, pos, ◌+ℤ◌, ◌≤ℤ◌, List}
-use Rattle.jiff.specs.Types.{Date}
-use Rattle.jiff.specs.Words.{epoch_day, date_text, IsBetween}
-use Rattle.jiff_core.specs.Calendar.{days_from_civil}
+use Rattle.jiff_core.specs.Calendar.{days_from_civil, IsBetween}
 use Rattle.calendar_dates.specs.declared.dates.TheConstants.{MOST_DAYS_LATER}
+-- a date, the number of its day, and its text YYYY-MM-DD, as `jiff` has them
+pub use Rattle.jiff_core.specs.declared.civil.date.Date.{Date}
+pub use Rattle.jiff_core.specs.Date.{epoch_day}
+pub use Rattle.jiff_fmt.specs.Text.{date_text}
 
 -- the day number of the last date, 9999-12-31
 abbrev pub last_day : ℤ

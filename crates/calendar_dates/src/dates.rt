@@ -1,13 +1,13 @@
 // The dates of days in a row, and the words that name a date.
-ghost use Rattle.std.specs.Prelude.{◌≡◌, ◌+◌, ◌≤◌, ◌↔◌, pos, ◌+ℤ◌, IsOk, IfOk, IsTrue, MatchOption};
-ghost use Rattle.jiff.specs.Types.{Date as PlainDate};
-ghost use Rattle.jiff.specs.Words.{epoch_day};
-ghost use Rattle.calendar_dates.specs.Calendar.{IsWithinDates, FitsDates, IsDateWord};
+ghost use Rattle.std.specs.Prelude.{◌≡◌, ◌+◌, ◌++◌, ◌≤◌, ◌↔◌, pos, ◌+ℤ◌, IsOk, IfOk, OnOk, IsTrue, MatchOption};
+ghost use Rattle.calendar_dates.specs.Calendar.{Date as DateValue, epoch_day, date_text, IsWithinDates, FitsDates, IsDateWord};
 
+use crate::civil_date::{CivilDate, from_jiff, to_jiff};
 use jiff::civil::Date;
 use jiff::{Error, ToSpan};
 use jiff_fmt::temporal::DateTimePrinter;
 use rwsp_terms::limits::{GREATEST_BOUND, LONGEST_CALENDAR};
+use std::alloc::AllocError;
 
 /// The minutes of a day.
 pub const DAY_MINUTES: u32 = 24 * 60;
@@ -29,28 +29,28 @@ fn days_later(date: Date, days: u32) -> Result<Date, Error>
 }
 
 /// Whether a calendar of `days` dates ends by 9999-12-31, with all its duties.
-pub fn fits(date: Date, days: u32) -> bool
+pub fn fits(date: CivilDate, days: u32) -> bool
     requires { days ≤ LONGEST_CALENDAR }
     ensures { IsTrue result ↔ FitsDates date days }
 {
-    days_later(date, days + MOST_DAYS_LATER).is_ok()
+    days_later(to_jiff(date), days + MOST_DAYS_LATER).is_ok()
 }
 
 /// The date that many days later.
-pub fn date_after(date: Date, days: u32) -> Date
+pub fn date_after(date: CivilDate, days: u32) -> CivilDate
     requires few { days ≤ LONGEST_CALENDAR + MOST_DAYS_LATER }
     requires within { IsWithinDates date days }
     ensures { epoch_day result ≡ epoch_day date +ℤ pos days }
 {
-    match days_later(date, days) {
-        Ok(later) => later,
+    match days_later(to_jiff(date), days) {
+        Ok(later) => from_jiff(later),
         Err(_) => unreachable!(),
     }
 }
 
 /// The date that a word of the form YYYY-MM-DD names; None exactly where it names none. Takes no memory.
-pub fn date_of(word: &str) -> Option<Date>
-    ensures { MatchOption result ((date : PlainDate) → IsDateWord word.now date → ⊥) (IsDateWord word.now) }
+pub fn date_of(word: &str) -> Option<CivilDate>
+    ensures { MatchOption result ((date : DateValue) → IsDateWord word.now date → ⊥) (IsDateWord word.now) }
 {
     let Ok(date) = word.parse::<Date>() else {
         return None;
@@ -60,8 +60,16 @@ pub fn date_of(word: &str) -> Option<Date>
     }
     let text = DateTimePrinter::new().date_text(date.to_plain());
     if text.as_str() == word {
-        Some(date)
+        Some(from_jiff(date))
     } else {
         None
     }
+}
+
+/// Appends a date as YYYY-MM-DD.
+pub fn put_date(out: &mut Vec<u8>, date: CivilDate) -> Result<(), AllocError>
+    ensures { OnOk result (out.new.items ≡ out.old.items ++ date_text date) }
+{
+    let text = DateTimePrinter::new().date_text(to_jiff(date).to_plain());
+    out.extend_from_slice(text.as_bytes())
 }

@@ -9,8 +9,7 @@ use Rattle.std.specs.Str.{bytes_eq}
 use Rattle.rwsp_text.specs.Numbers.{number_of}
 use Rattle.rwsp_terms.specs.declared.limits.TheConstants.{MOST_WEEKS, USUAL_BUDGET, USUAL_STAFF_BUDGET, USUAL_WORKERS, MOST_WORKERS, USUAL_BEST_BUDGET, GREATEST_BUDGET, GREATEST_STAFF_BUDGET}
 use Rattle.rwsp_text.proofs.Words.{bytes_same}
-use Rattle.jiff.specs.Types.{Date}
-use Rattle.calendar_dates.specs.Calendar.{IsDateWord}
+use Rattle.calendar_dates.specs.Calendar.{Date, IsDateWord}
 use Rattle.calendar_dates.proofs.DateWords.{one_date}
 use Rattle.command_line.specs.Commands.{CommandWords, IsForm, IsCount, IsCrewForm, AreSizesForm, HasNoForm}
 use Rattle.command_line.specs.declared.command.Command.{Command}

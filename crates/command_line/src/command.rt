@@ -1,11 +1,9 @@
 // The words of the command line.
 ghost use Rattle.std.specs.Prelude.{◌≡◌, ◌≢◌, codes, ℕ, ◌<◌, ◌↔◌, [], ◌∷◌, length, IsTrue, MatchOption, slice_get};
 ghost use Rattle.std.specs.String.{string_bytes};
-ghost use Rattle.jiff.specs.Types.{Date as PlainDate};
 ghost use Rattle.command_line.specs.Commands.{IsFileWord, IsCount, IsCommandOf, AreDatesOf, AreSizesOf, HasFewDays, IsWithinHorizon, word_bytes};
 
-use calendar_dates::{date_of, fits};
-use jiff::civil::Date;
+use calendar_dates::{CivilDate, date_of, fits};
 use rwsp_terms::limits::{
     GREATEST_BUDGET, GREATEST_STAFF_BUDGET, LONGEST_CALENDAR, MOST_SIZES, MOST_WEEKS, MOST_WORKERS,
     USUAL_BEST_BUDGET, USUAL_BUDGET, USUAL_STAFF_BUDGET, USUAL_WORKERS,
@@ -36,7 +34,7 @@ pub enum Command {
     },
     /// The calendar of a roster from a date on, for some days: of all employees, or the duties of one.
     Crew {
-        date: Date,
+        date: CivilDate,
         days: u32,
         employee: Option<u32>,
     },
@@ -244,7 +242,7 @@ fn dates_of(
     second: &String,
     date: &String,
     days: &String,
-) -> Option<(Date, u32)>
+) -> Option<(CivilDate, u32)>
     ensures { AreDatesOf word.now file.now second.now date.now days.now result }
 {
     if word.as_str() != "crew" {

@@ -4,12 +4,11 @@ use Rattle.std.specs.Prelude.{Option, Some, None, option_map, Result, Ok, Err, O
 use Rattle.std.specs.List.{flat_map, range_with_len}
 use Rattle.std.proofs.lemmas.List.{flat_map_more}
 use Rattle.std.specs.declared.alloc.AllocError.{AllocError}
-use Rattle.jiff.specs.Types.{Date}
 use Rattle.rwsp_terms.specs.Instance.{Instance}
 use Rattle.rwsp_terms.specs.declared.data.ShiftRow.{ShiftRow}
 use Rattle.rwsp_terms.specs.declared.data.Symbol.{Symbol}
 use Rattle.rwsp_terms.proofs.Counting.{range_more}
-use Rattle.calendar_dates.specs.Calendar.{OnCalendar}
+use Rattle.calendar_dates.specs.Calendar.{Date, OnCalendar}
 use Rattle.crew_calendar.specs.Crew.{symbol_on}
 use Rattle.crew_calendar.specs.Texts.{start_in, length_in, shift_line, duty_line_of, duty_line}
 

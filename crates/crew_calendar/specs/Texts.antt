@@ -1,14 +1,12 @@
 -- The texts of the crew's calendar.
 use Rattle.std.specs.Prelude.{◌≡◌, ℕ, zero, suc, ◌+◌, ◌-◌, ◌*◌, ◌/◌, ◌%◌, List, [], ◌∷◌, ◌++◌, slice_get, Option, Some, None, codes}
 use Rattle.std.specs.List.{flat_map, range_with_len}
-use Rattle.jiff.specs.Types.{Date}
-use Rattle.jiff.specs.Words.{date_text}
 use Rattle.rwsp_terms.specs.Instance.{Instance, name_of}
 use Rattle.rwsp_terms.specs.declared.data.Symbol.{Symbol}
 use Rattle.rwsp_terms.specs.declared.data.ShiftRow.{ShiftRow}
 use Rattle.crew_calendar.specs.Crew.{employees, symbol_on}
 use Rattle.calendar_dates.specs.declared.dates.TheConstants.{MOST_DAYS_LATER}
-use Rattle.calendar_dates.specs.Calendar.{IsCalendar}
+use Rattle.calendar_dates.specs.Calendar.{Date, date_text, IsCalendar}
 
 -- the names of the symbols of all employees on a day, each after a blank
 abbrev pub crew_text : Instance → List Symbol → ℕ → List ℕ

@@ -6,10 +6,9 @@ ghost use Rattle.crew_calendar.specs.Crew.{IsEmployee};
 ghost use Rattle.calendar_dates.specs.Calendar.{FitsDates, IsWithinDates, OnCalendar};
 ghost use Rattle.crew_calendar.specs.Texts.{day_minutes, two_digits, clock_text, moment_text, start_of, length_of, shift_line, duty_line, AreDuties};
 
-use crate::lines::{put_date, put_name};
+use crate::lines::put_name;
 use crate::places::symbol_on;
-use calendar_dates::{DAY_MINUTES, MOST_DAYS_LATER, date_after};
-use jiff::civil::Date;
+use calendar_dates::{CivilDate, DAY_MINUTES, MOST_DAYS_LATER, date_after, put_date};
 use rwsp_model::{Problem, Roster};
 use rwsp_terms::Symbol;
 use rwsp_terms::limits::{GREATEST_BOUND, LONGEST_CALENDAR};
@@ -37,7 +36,7 @@ fn put_clock(out: &mut Vec<u8>, minutes: u32) -> Result<(), AllocError>
 }
 
 // Appends the moment that is `minutes` after the midnight of a date.
-fn put_moment(out: &mut Vec<u8>, date: Date, minutes: u32) -> Result<(), AllocError>
+fn put_moment(out: &mut Vec<u8>, date: CivilDate, minutes: u32) -> Result<(), AllocError>
     requires few { minutes / day_minutes ≤ LONGEST_CALENDAR + MOST_DAYS_LATER }
     requires within { IsWithinDates date (minutes / day_minutes) }
     ensures { OnOk result (OnCalendar date (minutes / day_minutes + 1) (λ on.
@@ -73,7 +72,7 @@ fn length_of(problem: &Problem, shift: Symbol) -> u32
 fn put_shift(
     out: &mut Vec<u8>,
     problem: &Problem,
-    date: Date,
+    date: CivilDate,
     t: u32,
     shift: Symbol,
 ) -> Result<(), AllocError>
@@ -97,7 +96,7 @@ fn put_duty(
     out: &mut Vec<u8>,
     problem: &Problem,
     cells: &[Symbol],
-    date: Date,
+    date: CivilDate,
     t: u32,
     employee: u32,
 ) -> Result<(), AllocError>
@@ -121,7 +120,7 @@ pub fn duties(
     alloc: Global,
     problem: &Problem,
     roster: &Roster,
-    date: Date,
+    date: CivilDate,
     days: u32,
     employee: u32,
 ) -> Result<Vec<u8>, AllocError>

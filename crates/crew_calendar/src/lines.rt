@@ -2,26 +2,16 @@
 ghost use Rattle.std.specs.Prelude.{◌≡◌, ◌++◌, ◌∷◌, [], ◌<◌, ◌≤◌, IfOk, OnOk};
 ghost use Rattle.rwsp_terms.specs.Instance.{IsSymbol, name_of};
 ghost use Rattle.rwsp_terms.specs.Roster.{IsRoster, MeetsAll};
-ghost use Rattle.jiff.specs.Words.{date_text};
-ghost use Rattle.calendar_dates.specs.Calendar.{FitsDates};
+ghost use Rattle.calendar_dates.specs.Calendar.{date_text, FitsDates};
 ghost use Rattle.crew_calendar.specs.Texts.{crew_text, IsTable};
 ghost use Rattle.crew_calendar.specs.Facts.{MeetsDemandDaily, FollowsCycle, IsClean, GoesRound};
 
 use crate::places::symbol_on;
-use calendar_dates::date_after;
-use jiff::civil::Date;
+use calendar_dates::{CivilDate, date_after, put_date};
 use rwsp_model::{Problem, Roster};
 use rwsp_terms::Symbol;
 use rwsp_terms::limits::LONGEST_CALENDAR;
 use std::alloc::{AllocError, Global};
-
-/// Appends a date.
-pub fn put_date(out: &mut Vec<u8>, date: Date) -> Result<(), AllocError>
-    ensures { OnOk result (out.new.items ≡ out.old.items ++ date_text date) }
-{
-    let text = date.to_string(*out.allocator())?;
-    out.extend_from_slice(text.as_bytes())
-}
 
 /// Appends the name of a symbol after a blank.
 pub fn put_name(out: &mut Vec<u8>, problem: &Problem, symbol: Symbol) -> Result<(), AllocError>
@@ -54,7 +44,7 @@ fn put_day(
     out: &mut Vec<u8>,
     problem: &Problem,
     cells: &[Symbol],
-    date: Date,
+    date: CivilDate,
     t: u32,
 ) -> Result<(), AllocError>
     requires roster { IsRoster problem.now cells.now }
@@ -73,7 +63,7 @@ fn day_lines(
     alloc: Global,
     problem: &Problem,
     cells: &[Symbol],
-    date: Date,
+    date: CivilDate,
     days: u32,
 ) -> Result<Vec<u8>, AllocError>
     requires roster { IsRoster problem.now cells.now }
@@ -94,7 +84,7 @@ pub fn crew_table(
     alloc: Global,
     problem: &Problem,
     roster: &Roster,
-    date: Date,
+    date: CivilDate,
     days: u32,
 ) -> Result<Vec<u8>, AllocError>
     requires roster { IsRoster problem.now roster.now.cells }

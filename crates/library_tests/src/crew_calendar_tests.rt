@@ -6,7 +6,6 @@ ghost use Rattle.crew_calendar.specs.Crew.{IsEmployee};
 
 use calendar_dates::{date_of, fits};
 use crew_calendar::{crew_table, duties, place};
-use jiff::civil::Date;
 use rwsp_model::{Problem, Roster};
 use small_problems::{problem_of, roster_of};
 use std::alloc::Global;
@@ -21,13 +20,14 @@ fn one_day(alloc: Global, minutes: &str) -> Result<Problem, Fail> {
 #[test]
 fn words_name_dates(rt: HostRuntime) -> Result<(), Fail> {
     let good = [
-        ("2024-02-29", Date::new(2024, 2, 29)?),
-        ("0000-01-01", Date::new(0, 1, 1)?),
-        ("0000-02-29", Date::new(0, 2, 29)?),
-        ("9999-12-31", Date::new(9999, 12, 31)?),
+        ("2024-02-29", (2024i16, 2u8, 29u8)),
+        ("0000-01-01", (0i16, 1u8, 1u8)),
+        ("0000-02-29", (0i16, 2u8, 29u8)),
+        ("9999-12-31", (9999i16, 12u8, 31u8)),
     ];
     for (word, date) in good.iter() {
-        assert_eq!(rt; date_of(word), Some(*date));
+        let found = date_of(word).ok_or("a date")?;
+        assert_eq!(rt; (found.year, found.month, found.day), *date);
     }
     Ok(())
 }
@@ -55,7 +55,7 @@ fn other_words_name_none(rt: HostRuntime) -> Result<(), Fail> {
         "",
     ];
     for word in bad.iter() {
-        assert_eq!(rt; date_of(word), None);
+        assert!(rt; date_of(word).is_none());
     }
     Ok(())
 }

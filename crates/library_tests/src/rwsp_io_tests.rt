@@ -1,9 +1,10 @@
 // Faults in mid-stream, and the system's files. What is read and written where no call fails, the clauses say.
 ghost use Rattle.std.specs.Prelude.{◌<◌};
 
+use memory_files::{MemoryShelf, MemorySink};
 use rwsp_io::{
-    MemoryShelf, MemorySink, ReadFail, RealShelf, RealSink, ShelfFault, SinkFault, WriteFault,
-    read_again, read_all, write_again, write_all,
+    ReadFail, RealShelf, RealSink, ShelfFault, SinkFault, WriteFault, read_again, read_all,
+    write_again, write_all,
 };
 use std::alloc::{AllocError, Global};
 use std::io::{ErrorKind, Read, Write};

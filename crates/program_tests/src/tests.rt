@@ -11,9 +11,9 @@ mod trials;
 
 ghost use Rattle.std.specs.Prelude.{◌<◌};
 
+use memory_files::{MemoryShelf, MemorySink};
 use potential_bounds::{Gate, NoGate};
 use rwsp_answers::Outcome;
-use rwsp_io::{MemoryShelf, MemorySink};
 use rwsp_run::run;
 use std::alloc::{AllocError, Global};
 use std::test::Fail;

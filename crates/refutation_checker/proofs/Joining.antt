@@ -16,8 +16,10 @@ use Rattle.rwsp_text.specs.Lines.{HasNoFeed, IsNextLine}
 use Rattle.refutation_terms.specs.Verdict.{Cause, Reading}
 use Rattle.refutation_log.specs.Printing.{lines_text, EachFits}
 use Rattle.refutation_log.specs.ReadLog.{log_with}
-use Rattle.refutation_checker.specs.ChunkVerdicts.{AreSoundBehind, AreAllSound, IsChunkRefused, IsJudged, Start, StandsBehind}
-use Rattle.refutation_checker.specs.Chunks.{AreChunks, EndWithFeed, joined_from}
+use Rattle.log_chunks.specs.Starts.{Start, StandsBehind}
+use Rattle.log_chunks.specs.Chunks.{AreChunks, EndWithFeed}
+use Rattle.log_chunks.proofs.LastFeed.{no_feed_at_end}
+use Rattle.refutation_checker.specs.ChunkVerdicts.{AreSoundBehind, AreAllSound, IsChunkRefused, IsJudged, joined_from}
 use Rattle.refutation_checker.proofs.SoundLines.{lines_joined, sound_joined}
 use Rattle.refutation_log.proofs.LogLines.{some_bytes}
 
@@ -44,36 +46,6 @@ answers_to P R (c ∷ chunks) (a ∷ answers) s d e h = (h 0 (omega arith), answ
 fit_from_sound : (P : Instance) (R : List ℕ) (turn : Option Turn) (earlier lines : List Line) → AreSoundBehind P R turn earlier lines → EachFits P lines
 fit_from_sound P R turn earlier [] h = tt
 fit_from_sound P R turn earlier (l ∷ lines) h = (h.0.fits, fit_from_sound P R turn (earlier ++ l ∷ []) lines h.1)
-
--- bytes without LF, one at least, don't end with LF
-no_feed_at_end : (a line b : List ℕ) → line ≢ [] → HasNoFeed line → a ++ line ≡ b ++ 10 ∷ [] → ⊥
-no_feed_at_end [] line [] some none e = All-head (λ c. c ≢ 10) 10 [] (subst HasNoFeed e none) refl
-no_feed_at_end [] line (x ∷ b) some none e =
-    no_feed_at_end [] (b ++ 10 ∷ []) b
-    (λ no. let long = length-append b (10 ∷ []) in let zero_long : length (b ++ 10 ∷ []) ≡ 0 = ap length no in absurd (omega (arith, long, zero_long)))
-    (All-tail (λ c. c ≢ 10) x (b ++ 10 ∷ []) (subst HasNoFeed e none)) refl
-no_feed_at_end (x ∷ a) line [] some none e =
-    let long : length (a ++ line) ≡ length a + length line = length-append a line in
-    let one : suc (length (a ++ line)) ≡ 1 = ap length e in
-    let more = some_bytes line some in
-    absurd (omega (arith, long, one, more))
-no_feed_at_end (x ∷ a) line (y ∷ b) some none e = let rest : a ++ line ≡ b ++ 10 ∷ [] = cc in no_feed_at_end a line b some none rest
-
--- the text of lines ends with LF
-ends_with_feed : (P : Instance) (line : Line) (lines : List Line) → (b : List ℕ) × (lines_text P (line ∷ lines) ≡ b ++ 10 ∷ [])
-ends_with_feed P line [] = (join_with_byte 32 (raw_fields P (raw P line)), append-nil (line_text P (raw P line)))
-ends_with_feed P line (m ∷ lines) =
-    let rest = ends_with_feed P m lines in
-    (line_text P (raw P line) ++ rest.0, ap (λ t. line_text P (raw P line) ++ t) rest.1 ∙ sym (append_assoc (line_text P (raw P line)) rest.0 (10 ∷ [])))
-
-pub not_at_end : (P : Instance) (lines : List Line) (front line : List ℕ) → line ≢ [] → HasNoFeed line → lines_text P lines ≡ front ++ line → ⊥
-not_at_end P [] front line some none e =
-    let long : length (front ++ line) ≡ length front + length line = length-append front line in
-    let zero_long : 0 ≡ length (front ++ line) = ap length e in
-    let more = some_bytes line some in
-    absurd (omega (arith, long, zero_long, more))
-not_at_end P (l ∷ lines) front line some none e =
-    let feed = ends_with_feed P l lines in no_feed_at_end front line feed.0 some none (sym e ∙ feed.1)
 
 -- what follows a chunk: nothing, or chunks behind its lines, whatever they are
 abbrev pub IsFollowed : Instance → Option Turn → ℕ → List Line → Start → List ℕ → List Start → Type 0

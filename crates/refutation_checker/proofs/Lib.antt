@@ -6,11 +6,7 @@ pub mod Passing
 pub mod HeaderFaults
 pub mod SoundLines
 pub mod ChunkJudging
-pub mod Unread
-pub mod Starts
-pub mod Cutting
 pub mod Joining
-pub mod Feeds
 pub mod Deciding
 pub mod SomeVerdict
 pub mod LeafJudging

@@ -1,5 +1,5 @@
 -- Lines that are judged behind other lines, and the answer to the bytes of such lines.
-use Rattle.std.specs.Prelude.{◌≡◌, ◌↔◌, ℕ, ◌+◌, List, [], ◌∷◌, ◌++◌, length, Option, None, Bool, IsTrue, Result}
+use Rattle.std.specs.Prelude.{◌≡◌, ◌↔◌, ℕ, List, [], ◌∷◌, ◌++◌, Option, None, Bool, IsTrue, Result, Ok, Err}
 use Rattle.rwsp_terms.specs.Instance.{Instance}
 use Rattle.rwsp_model.specs.Refusals.{MatchAnswer}
 use Rattle.rwsp_model.specs.declared.fail.Fail.{Fail}
@@ -8,10 +8,9 @@ use Rattle.refutation_terms.specs.declared.lines.Turn.{Turn}
 use Rattle.refutation_terms.specs.declared.lines.LogRefusal.{LogRefusal}
 use Rattle.refutation_terms.specs.Tree.{IsTree}
 use Rattle.rwsp_text.specs.Lines.{IsNextLine}
-use Rattle.refutation_terms.specs.Verdict.{Cause, Reading, header_lines}
+use Rattle.refutation_terms.specs.Verdict.{Cause, Reading}
 use Rattle.refutation_log.specs.Printing.{lines_text}
 use Rattle.refutation_log.specs.ReadLog.{log_with}
-use Rattle.tree_walk.specs.States.{State, IsStateOf}
 use Rattle.refutation_checker.specs.LineTexts.{IsSoundNextFor}
 
 -- behind the earlier lines of a log with this goal or none, none of the further lines is refused
@@ -48,13 +47,8 @@ abbrev pub IsJudged : Instance → List ℕ → Option Turn → List Line → Li
 IsJudged P named turn earlier bytes judged = MatchAnswer judged (AreAllSound P named turn earlier bytes)
     (IsChunkRefused P named turn earlier bytes)
 
--- the bytes of some lines of a text, the number of the first of them, and the walk in front of it
-pub record Start : Type 0 where
-  pub walk : State
-  pub bytes : List ℕ
-  pub first : ℕ
-
--- the walk and the number are those behind these lines
-pub record StandsBehind (P : Instance) (turn : Option Turn) (earlier : List Line) (s : Start) : Type 0 where
-  pub state : IsStateOf P turn earlier s.walk
-  pub counted : s.first ≡ header_lines turn + length earlier + 1
+-- the first failure among answers, or else the last answer
+abbrev pub joined_from : Bool → List (Result Bool (Fail LogRefusal)) → Result Bool (Fail LogRefusal)
+joined_from whole [] = Ok whole
+joined_from whole (Ok last ∷ answers) = joined_from last answers
+joined_from whole (Err fail ∷ answers) = Err fail

@@ -6,6 +6,4 @@ pub mod Turns
 pub mod LogVerdicts
 pub mod ChunkVerdicts
 pub mod Headers
-pub mod UnreadSplits
-pub mod Chunks
 pub mod Laws

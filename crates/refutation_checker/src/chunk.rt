@@ -3,36 +3,17 @@ ghost use Rattle.std.specs.Prelude.{◌≡◌, ◌+◌, ◌^◌, ◌<◌, List, 
 ghost use Rattle.refutation_terms.specs.declared.lines.Line.{Line};
 ghost use Rattle.refutation_terms.specs.declared.lines.Turn.{Turn};
 ghost use Rattle.tree_walk.specs.States.{IsStateOf};
-ghost use Rattle.refutation_checker.specs.ChunkVerdicts.{StandsBehind, IsJudged};
+ghost use Rattle.log_chunks.specs.Starts.{StandsBehind};
+ghost use Rattle.refutation_checker.specs.ChunkVerdicts.{IsJudged};
 
 use crate::judge::Judge;
+use log_chunks::Chunk;
 use refutation_log::LineReader;
 use refutation_terms::LogRefusal;
 use rwsp_model::{Fail, Problem};
 use rwsp_terms::RuleList;
 use std::alloc::Global;
-use std::marker::Model;
 use tree_walk::Walk;
-
-/// Some lines of a log's tree that follow one another.
-#[derive(Drop)]
-pub struct Chunk<'a> {
-    /// Which chunk it is, from 1 on.
-    pub number: u32,
-    /// The walk in front of its lines.
-    pub walk: Walk,
-    pub bytes: &'a [u8],
-    /// The number of its first line among all lines of the text, from 1 on.
-    pub first: u32,
-}
-
-impl<'a> Model for Chunk<'a> {
-    ghost use Rattle.refutation_checker.specs.ChunkVerdicts.{Start};
-
-    ghost Value = { Start };
-
-    ghost view = { λ c. record { walk = c.walk; bytes = c.bytes.now; first = c.first } };
-}
 
 /// Whether the tree is whole behind the lines of the chunk, where none of them is refused, or why its first line that
 /// is refused is.

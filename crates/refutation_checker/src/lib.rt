@@ -2,21 +2,18 @@
 #![tactic(auto)]
 
 mod chunk;
-mod chunk_starts;
 mod free_check;
 mod header;
 mod judge;
 mod kept_tails;
 mod laws;
 mod leaf_judge;
-mod line_ends;
 mod line_walk;
 mod log_check;
 mod long_rules;
 mod plain_causes;
 mod turn;
 mod unnamed_rules;
-mod unread_splits;
 mod verdict;
 mod workers;
 

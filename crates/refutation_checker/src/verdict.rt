@@ -4,11 +4,13 @@ ghost use Rattle.rwsp_terms.specs.declared.limits.TheConstants.{LONGEST_LOG, MOS
 ghost use Rattle.rwsp_model.specs.Refusals.{MatchAnswer};
 ghost use Rattle.refutation_terms.specs.Log.{Log as LogValue, TurnFits};
 ghost use Rattle.refutation_terms.specs.Verdict.{IsAccepted, IsRefused};
-ghost use Rattle.refutation_checker.specs.ChunkVerdicts.{StandsBehind, IsJudged};
+ghost use Rattle.log_chunks.specs.Starts.{StandsBehind};
+ghost use Rattle.refutation_checker.specs.ChunkVerdicts.{IsJudged};
 
-use crate::chunk::{Chunk, judge_chunk};
+use crate::chunk::judge_chunk;
 use crate::header::judge_header;
 use crate::workers::judge_by_workers;
+use log_chunks::Chunk;
 use potential_bounds::Gate;
 use refutation_log::{Header, lines_of_header};
 use refutation_terms::LogRefusal;

@@ -3,11 +3,12 @@ ghost use Rattle.std.specs.Prelude.{◌≡◌, ◌≢◌, ◌≤◌, List, [], O
 ghost use Rattle.rwsp_terms.specs.declared.limits.TheConstants.{MOST_WORKERS};
 ghost use Rattle.refutation_terms.specs.declared.lines.Line.{Line};
 ghost use Rattle.refutation_terms.specs.declared.lines.Turn.{Turn};
-ghost use Rattle.refutation_checker.specs.ChunkVerdicts.{StandsBehind, IsJudged};
-ghost use Rattle.refutation_checker.specs.Chunks.{IsJudgeable, joined_from};
+ghost use Rattle.log_chunks.specs.Starts.{StandsBehind};
+ghost use Rattle.log_chunks.specs.Chunks.{IsJudgeable};
+ghost use Rattle.refutation_checker.specs.ChunkVerdicts.{IsJudged, joined_from};
 
-use crate::chunk::{Chunk, judge_chunk};
-use crate::chunk_starts::chunks_for;
+use crate::chunk::judge_chunk;
+use log_chunks::{Chunk, chunks_for};
 use potential_bounds::Gate;
 use refutation_terms::LogRefusal;
 use rwsp_model::{Fail, Problem};

@@ -146,7 +146,9 @@ impl Outcome {
     pub fn into_status(self) -> u8
         ensures { result ≡ status_of self }
     {
-        self.status()
+        let status = self.status();
+        drop(self);
+        status
     }
 }
 

@@ -1,3 +1,1 @@
 pub mod Replies
-pub mod Printable
-pub mod Passing

@@ -14,8 +14,8 @@ ghost use Rattle.command_line.specs.declared.command.Command.TheVariants.{Crew a
 
 use crate::input::{Exit, bytes_in};
 use crate::reply::{Reply, printed};
+use calendar_dates::CivilDate;
 use crew_calendar::{crew_table, duties};
-use jiff::civil::Date;
 use roster_checker::first_broken;
 use roster_print::read_roster;
 use rwsp_answers::{Answer, InputKind, Stop};
@@ -30,7 +30,7 @@ pub fn crew_reply<S: Shelf>(
     shelf: &mut S,
     problem: &Problem,
     name: &str,
-    date: Date,
+    date: CivilDate,
     days: u32,
     employee: Option<u32>,
 ) -> Result<Reply, Stop>
@@ -57,7 +57,7 @@ fn calendar(
     alloc: Global,
     problem: &Problem,
     bytes: &[u8],
-    date: Date,
+    date: CivilDate,
     days: u32,
     employee: Option<u32>,
 ) -> Result<Reply, Stop>
@@ -84,7 +84,7 @@ fn on_roster(
     problem: &Problem,
     bytes: &[u8],
     roster: &Roster,
-    date: Date,
+    date: CivilDate,
     days: u32,
     employee: Option<u32>,
 ) -> Result<Reply, Stop>
@@ -121,7 +121,7 @@ fn duties_of(
     problem: &Problem,
     bytes: &[u8],
     roster: &Roster,
-    date: Date,
+    date: CivilDate,
     days: u32,
     number: u32,
 ) -> Result<Reply, Stop>

@@ -19,7 +19,7 @@ use Rattle.rwsp_answers.specs.declared.answer.Stop.{Stop}
 use Rattle.rwsp_answers.specs.declared.answer.Stop.TheVariants.{ReadFault, Memory}
 use Rattle.rwsp_answers.specs.declared.answer.Answer.TheVariants.{Trial as TrialOf, Staff, StaffRange, NotWeekly}
 use Rattle.rwsp_answers.proofs.Bests.{of_best}
-use Rattle.jiff.specs.Types.{Date}
+use Rattle.calendar_dates.specs.Calendar.{Date}
 use Rattle.rwsp_replies.specs.Exits.{IsStop}
 use Rattle.rwsp_replies.specs.declared.reply.Reply.{Reply}
 use Rattle.rwsp_replies.proofs.Replies.{told_weaker}

@@ -18,8 +18,9 @@ use potential_bounds::Gate;
 use rwsp_answers::{Answer, Outcome, Stop};
 use rwsp_io::{Shelf, Sink, write_all};
 use rwsp_model::Problem;
-use rwsp_replies::{Exit, Reply, crew_reply, fixed, printed, problem_in, second_answer};
+use rwsp_replies::{Exit, Reply, crew_reply, fixed, printed, problem_in};
 use rwsp_terms::limits::MOST_WEEKS;
+use rwsp_verdicts::second_answer;
 use std::alloc::Global;
 use std::thread::Threads;
 

@@ -1,8 +1,8 @@
 // Each limit and the first number beyond it: of command lines, problem files, logs, staff texts, and of their lengths.
 use super::logs::{TWOS, checks};
 use super::{TWO_DAYS, USAGE, line_ends, ran, shelf_of, shows, status_of, words_in};
+use memory_files::MemorySink;
 use potential_bounds::NoGate;
-use rwsp_io::MemorySink;
 use std::alloc::Global;
 use std::test::Fail;
 use std::thread::Threads;

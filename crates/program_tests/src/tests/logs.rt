@@ -1,6 +1,6 @@
 // Logs checked and reduced: what is printed, to the byte, and the status.
 use super::{NINE_WEEKS, TWO_DAYS, ends, shelf_of, status_of, words_of};
-use rwsp_io::MemorySink;
+use memory_files::MemorySink;
 use small_problems::Meeting;
 use std::alloc::{AllocError, Global};
 use std::test::Fail;

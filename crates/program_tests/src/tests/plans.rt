@@ -1,8 +1,8 @@
 // Rosters and refutations: what `plan` prints is right by `verify` and `check`.
 use super::logs::{BOTH_DAYS, TOO_MANY, TWOS, checks, they_meet};
 use super::{NINE_WEEKS, TWO_DAYS, ends, shelf_of, status_of, verifies, words_of};
+use memory_files::MemorySink;
 use potential_bounds::NoGate;
-use rwsp_io::MemorySink;
 use std::alloc::{AllocError, Global};
 use std::test::Fail;
 use std::thread::Threads;

@@ -2,12 +2,12 @@
 use super::logs::they_meet;
 use super::plans::printed;
 use super::{ends, outcome_of, shelf_of, words_of};
+use memory_files::MemorySink;
 use potential_bounds::NoGate;
 use problem_generator::gen_problem;
 use roster_search::Found;
 use rwsp_answers::{Answer, Outcome};
 use rwsp_file::print_problem;
-use rwsp_io::MemorySink;
 use std::test::Fail;
 
 const ONE_WEEK: &str =

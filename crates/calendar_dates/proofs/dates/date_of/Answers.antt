@@ -2,7 +2,7 @@ use Rattle.std.proofs.Common.{◌≡◌, pos, true, arith, ap, ◌∙◌}
 use Rattle.std.specs.Prelude.{◌<ℤ◌}
 use Rattle.std.specs.Str.{bytes_eq}
 use Rattle.std.proofs.lemmas.Int.{ints}
-use Rattle.jiff.specs.Words.{date_text}
+use Rattle.calendar_dates.specs.Calendar.{date_text}
 use Rattle.calendar_dates.proofs.DateWords.{word_is_read, not_negative, text_is_word, text_same}
 use Rattle.calendar_dates.proofs.dates.date_of.Goals as goal
 

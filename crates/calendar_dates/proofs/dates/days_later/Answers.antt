@@ -1,9 +1,9 @@
 use Rattle.std.proofs.Common.{◌≡◌, pos, ◌+ℤ◌, arith, ap, ◌∙◌, FitsSigned, w64}
 use Rattle.std.proofs.lemmas.Int.{to_z-of_z}
 use Rattle.std.proofs.lemmas.Result.{IfOk-weaker}
-use Rattle.jiff.specs.Words.{epoch_day}
+use Rattle.jiff_core.proofs.DateLemmas.{epoch_day_range, days_from_civil-max}
 use Rattle.jiff.proofs.SpanFacts.{signed_arith, date_add-days, can_add-days}
-use Rattle.jiff.proofs.Family.{epoch_day_range, days_from_civil-max}
+use Rattle.calendar_dates.specs.Calendar.{epoch_day}
 use Rattle.calendar_dates.proofs.dates.days_later.Goals as goal
 
 pub returns-clause-succeeds : goal.returns-clause-succeeds

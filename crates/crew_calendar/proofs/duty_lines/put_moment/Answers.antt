@@ -1,5 +1,5 @@
 use Rattle.std.proofs.Common.{◌≡◌, ◌/◌, ◌%◌, ◌++◌, ap, sym, ◌∙◌, arith}
-use Rattle.jiff.specs.Words.{date_text}
+use Rattle.calendar_dates.specs.Calendar.{date_text}
 use Rattle.crew_calendar.specs.Texts.{day_minutes, clock_text}
 use Rattle.crew_calendar.proofs.Appended.{moment_joined}
 use Rattle.calendar_dates.proofs.Calendars.{one_text}

@@ -1,5 +1,5 @@
 use Rattle.std.proofs.Common.{◌≡◌, ◌<◌, ◌+◌, ◌∷◌, [], ◌++◌, ap, sym, ◌∙◌, arith}
-use Rattle.jiff.specs.Words.{date_text}
+use Rattle.calendar_dates.specs.Calendar.{date_text}
 use Rattle.calendar_dates.specs.declared.dates.TheConstants.{MOST_DAYS_LATER}
 use Rattle.crew_calendar.specs.Texts.{day_line, crew_text, table_text}
 use Rattle.crew_calendar.proofs.Appended.{day_more}

@@ -1,7 +1,7 @@
 use Rattle.std.proofs.Common.{List, None, ◌∙◌, sym, subst, refl, arith, IsTrue, false}
 use Rattle.refutation_terms.specs.declared.lines.Line.{Line}
 use Rattle.refutation_checker.proofs.FreeReading.{ReadSoFar, read_more, fail_read, read_all, read_ends}
-use Rattle.refutation_checker.proofs.Unread.{shorter}
+use Rattle.log_chunks.proofs.Unread.{shorter}
 use Rattle.refutation_checker.proofs.free_check.judged_lines.Goals as goal
 
 pub returns-in-Err : goal.returns-in-Err

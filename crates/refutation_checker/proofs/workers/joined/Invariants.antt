@@ -1,6 +1,6 @@
 use Rattle.std.proofs.Common.{◌≡◌, false}
 use Rattle.std.specs.Vec.Iter.{into_iter_items}
-use Rattle.refutation_checker.specs.Chunks.{joined_from}
+use Rattle.refutation_checker.specs.ChunkVerdicts.{joined_from}
 use Rattle.refutation_checker.proofs.workers.joined.Given as goal
 
 abbrev pub invariant-loop-answer : goal.invariant-loop-answer

@@ -1,7 +1,8 @@
 use Rattle.std.proofs.Common.{◌≡◌, [], length, get_or, false, sym, subst, arith, Ok}
 use Rattle.std.specs.Int.{div_ceil}
-use Rattle.refutation_checker.specs.ChunkVerdicts.{Start, IsJudged}
-use Rattle.refutation_checker.specs.Chunks.{line_count}
+use Rattle.log_chunks.specs.Starts.{Start}
+use Rattle.log_chunks.specs.Chunks.{line_count}
+use Rattle.refutation_checker.specs.ChunkVerdicts.{IsJudged}
 use Rattle.refutation_checker.proofs.Joining.{Answer, IsAnswerTo, answers_to, joined}
 use Rattle.refutation_checker.proofs.workers.judge_by_workers.Goals as goal
 

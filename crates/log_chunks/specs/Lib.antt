@@ -1,0 +1,3 @@
+pub mod UnreadSplits
+pub mod Starts
+pub mod Chunks

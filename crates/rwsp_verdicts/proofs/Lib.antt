@@ -1,0 +1,3 @@
+pub mod Seconds
+pub mod Printable
+pub mod Passing
