@@ -5,7 +5,7 @@ use Rattle.std.proofs.Math.Nat.{mul-le-mul_right}
 use Rattle.std.proofs.lemmas.Option.{slice_get_within}
 use Rattle.rwsp_terms.specs.Instance.{Instance}
 use Rattle.refutation_terms.specs.Log.{Log}
-use Rattle.roster_search.specs.declared.found.Found.TheVariants as Founds
+use Rattle.plan_terms.specs.declared.found.Found.TheVariants as Founds
 use Rattle.plan_terms.specs.Planned.{IsPlanned}
 use Rattle.crew_size.specs.Sizes.{with_weeks, IsSize}
 use Rattle.crew_size.specs.Texts.{Staff, next_size}

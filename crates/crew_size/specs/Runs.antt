@@ -2,7 +2,7 @@
 use Rattle.std.specs.Prelude.{◌≡◌, ℕ, ◌+◌, ◌≤◌, length, slice_get, Some}
 use Rattle.rwsp_terms.specs.Instance.{Instance}
 use Rattle.refutation_terms.specs.Log.{Log}
-use Rattle.roster_search.specs.declared.found.Found.TheVariants as Founds
+use Rattle.plan_terms.specs.declared.found.Found.TheVariants as Founds
 use Rattle.plan_terms.specs.Planned.{IsPlanned}
 use Rattle.crew_size.specs.Sizes.{with_weeks}
 use Rattle.crew_size.specs.Texts.{Staff}

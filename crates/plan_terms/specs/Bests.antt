@@ -6,8 +6,8 @@ use Rattle.rwsp_terms.specs.Roster.{MeetsAll}
 use Rattle.rwsp_model.specs.Schedule.{Schedule}
 use Rattle.refutation_terms.specs.FreeWeekends.{free_weekends}
 use Rattle.refutation_terms.specs.Log.{Log, FreePasses, IsSpentFor, size}
-use Rattle.roster_search.specs.declared.found.Found.{Found}
-use Rattle.roster_search.specs.declared.found.Found.TheVariants.{Roster, NoRoster as NoRosterFound, Undecided as UndecidedFound}
+use Rattle.plan_terms.specs.declared.found.Found.{Found}
+use Rattle.plan_terms.specs.declared.found.Found.TheVariants.{Roster, NoRoster as NoRosterFound, Undecided as UndecidedFound}
 use Rattle.plan_terms.specs.FreeSharp.{IsFreeSharp}
 use Rattle.plan_terms.specs.declared.best_found.BestFound.{BestFound}
 use Rattle.plan_terms.specs.declared.best_found.BestFound.TheVariants.{Best, NoRoster, Undecided}

@@ -4,8 +4,8 @@ use Rattle.rwsp_terms.specs.Instance.{Instance, cells, shift_count}
 use Rattle.rwsp_terms.specs.Roster.{MeetsAll}
 use Rattle.refutation_terms.specs.Log.{Log, Passes, IsSpent, NamesOnlyCited, size}
 use Rattle.refutation_terms.specs.Sharp.{IsSharp}
-use Rattle.roster_search.specs.declared.found.Found.{Found}
-use Rattle.roster_search.specs.declared.found.Found.TheVariants.{Roster, NoRoster, Undecided}
+use Rattle.plan_terms.specs.declared.found.Found.{Found}
+use Rattle.plan_terms.specs.declared.found.Found.TheVariants.{Roster, NoRoster, Undecided}
 
 -- a sharp log that names what it cites and no more
 pub record IsPlannedLog (P : Instance) (g : Log) : Type 0 where

@@ -2,5 +2,7 @@
 #![tactic(auto)]
 
 mod best_found;
+mod found;
 
 pub use best_found::BestFound;
+pub use found::Found;

@@ -21,8 +21,8 @@ use Rattle.propagator_terms.specs.Cycles.{AreShortRules}
 use Rattle.propagators.specs.TopBounds.{AreTopWeights}
 use Rattle.propagators.proofs.SameWords.{same_at_top}
 use Rattle.roster_search.specs.Founds.{IsForced, IsSearchLog, IsFound, HasSpentBudget}
-use Rattle.roster_search.specs.declared.found.Found.{Found}
-use Rattle.roster_search.specs.declared.found.Found.TheVariants.{Roster, NoRoster, Undecided}
+use Rattle.plan_terms.specs.declared.found.Found.{Found}
+use Rattle.plan_terms.specs.declared.found.Found.TheVariants.{Roster, NoRoster, Undecided}
 use Rattle.plan_terms.specs.Planned.{IsPlannedLog, IsPlanned}
 use Rattle.roster_planner.specs.Reasons.{AreReasons}
 use Rattle.case_reasons.proofs.SharpSplits.{sharp_split}

@@ -6,11 +6,12 @@ ghost use Rattle.roster_planner.specs.Reasons.{AreReasons};
 
 use crate::guide::PlanGuide;
 use crate::reasons::{Reasons, reasons_of};
+use plan_terms::Found;
 use potential_bounds::Gate;
 use propagator_terms::Propagator;
 use refutation_log::first_turn;
 use refutation_terms::Turn;
-use roster_search::{Found, guided_search};
+use roster_search::guided_search;
 use rwsp_model::Problem;
 use rwsp_terms::limits::GREATEST_BUDGET;
 use std::alloc::{AllocError, Global};

@@ -8,8 +8,8 @@ ghost use Rattle.crew_size.specs.Fitting.{FitsSizes};
 
 use crate::plan_roster;
 use crew_size::{StaffEnd, StaffRun, with_weeks};
+use plan_terms::Found;
 use potential_bounds::Gate;
-use roster_search::Found;
 use rwsp_model::Problem;
 use std::alloc::{AllocError, Global};
 use std::thread::Threads;

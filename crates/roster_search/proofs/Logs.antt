@@ -18,7 +18,7 @@ use Rattle.refutation_terms.proofs.TreeDomains.{got_left}
 use Rattle.tree_walk.specs.Splits.{second_sides_to_come}
 use Rattle.tree_walk.specs.States.{State, open_trees}
 use Rattle.roster_search.specs.declared.progress.Progress.{Progress}
-use Rattle.roster_search.specs.declared.found.Found.TheVariants.{NoRoster, Undecided}
+use Rattle.plan_terms.specs.declared.found.Found.TheVariants.{NoRoster, Undecided}
 use Rattle.roster_search.specs.Founds.{IsLogOfTurn}
 use Rattle.roster_search.specs.Written.{IsProgress, IsEnded}
 use Rattle.roster_search.proofs.Growing.{got_in, domains_before}

@@ -12,8 +12,8 @@ use Rattle.refutation_terms.specs.Log.{Log, HoldsFor, PassesFor, IsSpentFor, Nam
 use Rattle.refutation_terms.specs.Laws.{HasGoal}
 use Rattle.domain_store.specs.Store.{Store, BelongsTo, IsStore, has_domain}
 use Rattle.propagator_terms.specs.Looks.{Closes}
-use Rattle.roster_search.specs.declared.found.Found.{Found}
-use Rattle.roster_search.specs.declared.found.Found.TheVariants.{Roster, NoRoster, Undecided}
+use Rattle.plan_terms.specs.declared.found.Found.{Found}
+use Rattle.plan_terms.specs.declared.found.Found.TheVariants.{Roster, NoRoster, Undecided}
 
 -- the propagator didn't close the domains at a split, and where a symbol was spent for it the split is of a spent
 -- symbol at its position

@@ -15,8 +15,8 @@ use Rattle.tree_walk.specs.States.{IsStateOf, open_trees}
 use Rattle.propagator_terms.specs.Looks.{IsNarrowedAt}
 use Rattle.roster_search.specs.Founds.{AreForced, FewHoldsAtNoSplit, IsLogOfTurn}
 use Rattle.roster_search.specs.declared.progress.Progress.{Progress}
-use Rattle.roster_search.specs.declared.found.Found.{Found}
-use Rattle.roster_search.specs.declared.found.Found.TheVariants.{Roster, NoRoster, Undecided}
+use Rattle.plan_terms.specs.declared.found.Found.{Found}
+use Rattle.plan_terms.specs.declared.found.Found.TheVariants.{Roster, NoRoster, Undecided}
 
 -- a line that holds, with its numbers in their ranges and with short rules only in its list, for this goal or none
 pub record Stands (P : Instance) (goal : Option ℕ) (D : Domains) (line : Line) : Type 0 where

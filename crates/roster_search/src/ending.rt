@@ -7,8 +7,8 @@ ghost use Rattle.refutation_terms.specs.Tree.{IsTree};
 ghost use Rattle.refutation_terms.specs.Log.{IsAllowed, GoalFits};
 ghost use Rattle.roster_search.specs.Written.{IsProgress, IsEnded};
 
-use crate::Found;
 use crate::progress::Progress;
+use plan_terms::Found;
 use refutation_log::Log;
 use refutation_terms::{Line, Turn};
 use rwsp_model::Problem;

@@ -4,7 +4,6 @@
 mod choice;
 mod decided;
 mod ending;
-mod found;
 mod guide;
 mod laws;
 mod need;
@@ -15,7 +14,6 @@ mod searching;
 mod sight;
 
 pub use choice::NextSplit;
-pub use found::Found;
 pub use guide::{Guide, NoGuide};
 pub use laws::spent_budgets_are_small;
 pub use order::chronological;

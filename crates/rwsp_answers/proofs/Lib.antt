@@ -5,3 +5,4 @@ pub mod Bests
 pub mod Reductions
 pub mod Ends
 pub mod OneAnswer
+pub mod Refusals

@@ -4,8 +4,8 @@ use Rattle.rwsp_terms.specs.Instance.{Instance, cells, shift_count}
 use Rattle.rwsp_terms.specs.Roster.{MeetsAll}
 use Rattle.refutation_terms.specs.Log.{Passes, IsSpent, size}
 use Rattle.plan_terms.specs.Planned.{IsPlannedLog}
-use Rattle.roster_search.specs.declared.found.Found.{Found}
-use Rattle.roster_search.specs.declared.found.Found.TheVariants as Founds
+use Rattle.plan_terms.specs.declared.found.Found.{Found}
+use Rattle.plan_terms.specs.declared.found.Found.TheVariants as Founds
 use Rattle.rwsp_answers.specs.declared.answer.Answer.{Answer}
 use Rattle.rwsp_answers.specs.declared.answer.Answer.TheVariants.{Roster, NoRoster, Undecided}
 

@@ -24,8 +24,8 @@ use Rattle.refutation_terms.specs.FreeWeekends.{free_weekends}
 use Rattle.rwsp_model.specs.declared.roster.Roster.{Roster as RosterValue}
 use Rattle.roster_print.specs.RosterText.{roster_text, SpellsRoster}
 use Rattle.problem_generator.specs.Generated.{IsGenerated}
-use Rattle.roster_search.specs.declared.found.Found.{Found}
-use Rattle.roster_search.specs.declared.found.Found.TheVariants as Founds
+use Rattle.plan_terms.specs.declared.found.Found.{Found}
+use Rattle.plan_terms.specs.declared.found.Found.TheVariants as Founds
 use Rattle.crew_calendar.specs.Texts.{IsTable, AreDuties}
 use Rattle.crew_size.specs.Texts.{staff_text}
 use Rattle.crew_size.specs.Fitting.{FitsSizes}

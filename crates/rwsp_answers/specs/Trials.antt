@@ -5,8 +5,8 @@ use Rattle.rwsp_terms.specs.Instance.{Instance}
 use Rattle.rwsp_terms.specs.Roster.{MeetsAll}
 use Rattle.refutation_terms.specs.Log.{IsSpent}
 use Rattle.problem_generator.specs.Generated.{IsGenerated}
-use Rattle.roster_search.specs.declared.found.Found.{Found}
-use Rattle.roster_search.specs.declared.found.Found.TheVariants as Founds
+use Rattle.plan_terms.specs.declared.found.Found.{Found}
+use Rattle.plan_terms.specs.declared.found.Found.TheVariants as Founds
 use Rattle.plan_terms.specs.Planned.{IsPlannedLog}
 use Rattle.rwsp_answers.specs.declared.answer.TrialResult.{TrialResult}
 use Rattle.rwsp_answers.specs.declared.answer.Answer.{Answer}

@@ -3,10 +3,10 @@ ghost use Rattle.std.specs.Prelude.{◌≡◌};
 ghost use Rattle.rwsp_answers.specs.Status.{end_status};
 
 use crew_size::{StaffEnd, StaffRefusal, StaffRun, Staffed};
+use plan_terms::Found;
 use refutation_log::{Log, LogRefusal};
 use roster_checker::Broken;
 use roster_print::RosterRefusal;
-use roster_search::Found;
 use rwsp_file::FileRefusal;
 use rwsp_model::Roster;
 use rwsp_terms::RuleList;

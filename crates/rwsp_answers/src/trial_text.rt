@@ -7,9 +7,9 @@ ghost use Rattle.rwsp_answers.specs.Texts.{demand_on, whole_demand, trial_line, 
 
 use crate::answer::TrialResult;
 use crate::log_text::put_labelled;
+use plan_terms::Found;
 use refutation_log::print_log;
 use roster_print::print_roster;
-use roster_search::Found;
 use rwsp_model::Problem;
 use rwsp_terms::Symbol;
 use rwsp_terms::limits::{MOST_SHIFTS, MOST_WEEKS};

@@ -8,8 +8,8 @@ use Rattle.problem_generator.specs.Blocks.{roster_of}
 use Rattle.problem_generator.specs.Generated.{IsGenerated}
 use Rattle.problem_generator.specs.Laws.{HiddenRostersMeet}
 use Rattle.plan_terms.specs.Planned.{IsPlanned}
-use Rattle.roster_search.specs.declared.found.Found.{Found}
-use Rattle.roster_search.specs.declared.found.Found.TheVariants as Founds
+use Rattle.plan_terms.specs.declared.found.Found.{Found}
+use Rattle.plan_terms.specs.declared.found.Found.TheVariants as Founds
 use Rattle.plan_terms.specs.Bests.{IsBestFound, IsUndecided}
 use Rattle.plan_terms.specs.declared.best_found.BestFound.{BestFound}
 use Rattle.plan_terms.specs.declared.best_found.BestFound.TheVariants as Bests

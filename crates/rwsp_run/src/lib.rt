@@ -1,8 +1,10 @@
-//! The jobs of the commands that read no second file, and `run`, the one call that answers a command line.
+//! The jobs that look for a roster or a log, and `run`, the one call that answers a command line.
 #![tactic(auto)]
 
 mod best;
 mod plan;
+mod reduce;
+mod second_file;
 mod staff;
 mod top_call;
 mod trial;

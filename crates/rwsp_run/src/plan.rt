@@ -3,9 +3,9 @@ ghost use Rattle.std.specs.Prelude.{◌≡◌, ◌≤◌, IfOk};
 ghost use Rattle.rwsp_answers.specs.Plans.{IsPlanAnswer, answer_of};
 ghost use Rattle.rwsp_answers.specs.Texts.{IsPrintable};
 
+use plan_terms::Found;
 use potential_bounds::Gate;
 use roster_planner::plan_roster;
-use roster_search::Found;
 use rwsp_answers::Answer;
 use rwsp_model::Problem;
 use rwsp_terms::limits::GREATEST_BUDGET;

@@ -11,6 +11,7 @@ ghost use Rattle.rwsp_replies.specs.Exits.{IsStop};
 
 use crate::best::best_found;
 use crate::plan::planned;
+use crate::second_file::second_answer;
 use crate::staff::staffed;
 use crate::trial::run_trial;
 use command_line::{Command, command_of, is_within_horizon, word_at};
@@ -20,7 +21,6 @@ use rwsp_io::{Shelf, Sink, write_all};
 use rwsp_model::Problem;
 use rwsp_replies::{Exit, Reply, crew_reply, fixed, printed, problem_in};
 use rwsp_terms::limits::MOST_WEEKS;
-use rwsp_verdicts::second_answer;
 use std::alloc::Global;
 use std::thread::Threads;
 

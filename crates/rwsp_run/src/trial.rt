@@ -4,10 +4,10 @@ ghost use Rattle.problem_generator.specs.Generated.{IsGenerated};
 ghost use Rattle.rwsp_answers.specs.Trials.{IsTried, IsTrial};
 ghost use Rattle.rwsp_answers.specs.Texts.{IsTrialText};
 
+use plan_terms::Found;
 use potential_bounds::Gate;
 use problem_generator::{gen_problem, hidden_rosters_meet};
 use roster_planner::plan_roster;
-use roster_search::Found;
 use rwsp_answers::{TrialResult, text_of_trial};
 use rwsp_model::Problem;
 use rwsp_terms::limits::{MOST_WEEKS, TRIAL_BUDGET};

@@ -1,3 +1,1 @@
-pub mod Seconds
-pub mod Printable
 pub mod Passing

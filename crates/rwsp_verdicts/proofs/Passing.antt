@@ -1,17 +1,9 @@
--- What passes is read, and a free log that passes has a goal.
-use Rattle.std.proofs.Common.{◌≡◌, ℕ, List, subst, sym, ◌∙◌}
+-- A free log that passes has a goal.
+use Rattle.std.proofs.Common.{◌≡◌, ℕ, List, sym, ◌∙◌}
 use Rattle.std.specs.Prelude.{Some, None}
 use Rattle.rwsp_terms.specs.Instance.{Instance}
-use Rattle.rwsp_model.specs.Validity.{KeepsLimits}
-use Rattle.refutation_terms.specs.declared.lines.LogRefusal.{LogRefusal}
 use Rattle.refutation_terms.specs.Log.{Log}
-use Rattle.refutation_terms.specs.Verdict.{IsAccepted}
 use Rattle.refutation_terms.specs.FreeVerdict.{IsFreeAccepted}
-use Rattle.refutation_log.specs.ReadLog.{IsUnread}
-use Rattle.refutation_log.proofs.NotRefused.{not_refused}
-
-pub passes_and_is_unread : (P : Instance) (bytes : List ℕ) (g : Log) (why : LogRefusal) → KeepsLimits P → IsAccepted P bytes g → IsUnread P bytes why → ⊥
-passes_and_is_unread P bytes g why limits a u = not_refused P g why limits a.1.grounded.fits a.1.tree (subst (λ (text : List ℕ). IsUnread P text why) a.0 u)
 
 pub has_goal : (P : Instance) (bytes : List ℕ) (g : Log) → IsFreeAccepted P bytes g → g.goal ≡ None → ⊥
 has_goal P bytes g h is =

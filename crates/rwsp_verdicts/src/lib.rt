@@ -1,12 +1,12 @@
-//! The jobs of the commands that judge a second file: whether a roster, a log or a staff text is right, and what a log can do
-//! without.
+//! The jobs that judge a second file: whether a roster, a log or a staff text is right.
 #![tactic(auto)]
 
 mod check;
 mod check_free;
-mod reduce;
-mod second_file;
 mod staff_text;
 mod verify;
 
-pub use second_file::second_answer;
+pub use check::log_verdict;
+pub use check_free::free_verdict;
+pub use staff_text::staff_verdict;
+pub use verify::roster_verdict;

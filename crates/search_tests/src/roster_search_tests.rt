@@ -6,11 +6,12 @@ ghost use Rattle.rwsp_terms.specs.Roster.{MeetsAll};
 ghost use Rattle.propagator_terms.specs.Looks.{HasPlainLeaves};
 
 use domain_store::Domains;
+use plan_terms::Found;
 use potential_bounds::NoGate;
 use propagator_terms::{Look, Pair, Propagator};
 use propagators::{DayProp, RootBounds, WindowProp};
 use refutation_terms::Line;
-use roster_search::{Found, Guide, NextSplit, NoGuide, chronological, guided_search, search};
+use roster_search::{Guide, NextSplit, NoGuide, chronological, guided_search, search};
 use rwsp_model::{Problem, Roster};
 use small_problems::{CROWDED_TWOS_IN_SIX, D_ON_DAY_1, D_ON_EITHER_DAY, problem_of};
 use std::alloc::{AllocError, Global};

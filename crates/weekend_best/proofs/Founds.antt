@@ -13,8 +13,8 @@ use Rattle.refutation_terms.specs.Tree.{domains_at}
 use Rattle.refutation_terms.specs.Log.{Log, HoldsFor}
 use Rattle.domain_store.specs.Store.{Store}
 use Rattle.roster_search.specs.Founds.{IsForced, IsSearchLogFor, IsFoundFor}
-use Rattle.roster_search.specs.declared.found.Found.{Found}
-use Rattle.roster_search.specs.declared.found.Found.TheVariants.{Roster, NoRoster, Undecided}
+use Rattle.plan_terms.specs.declared.found.Found.{Found}
+use Rattle.plan_terms.specs.declared.found.Found.TheVariants.{Roster, NoRoster, Undecided}
 use Rattle.case_reasons.specs.Reasons.{AreCaseReasons}
 use Rattle.case_reasons.proofs.SharpSplits.{clean_by_other_list, sharp_split}
 use Rattle.plan_terms.specs.Bests.{IsFoundWith}

@@ -6,10 +6,9 @@ ghost use Rattle.plan_terms.specs.Bests.{IsMeeting, IsFreeProof, IsBestFound, Is
 
 use crate::likely_most::likely_most;
 use crate::one_goal::search_with;
-use plan_terms::BestFound;
+use plan_terms::{BestFound, Found};
 use refutation_log::Log;
 use roster_checker::free_weekends;
-use roster_search::Found;
 use rwsp_model::{Problem, Roster};
 use rwsp_terms::limits::GREATEST_BUDGET;
 use std::alloc::{AllocError, Global};

@@ -1,5 +1,5 @@
 use Rattle.std.proofs.Common.{◌≡◌, ◌+◌, ◌≤◌, subst, arith}
-use Rattle.roster_search.specs.declared.found.Found.TheVariants as Founds
+use Rattle.plan_terms.specs.declared.found.Found.TheVariants as Founds
 use Rattle.plan_terms.specs.Planned.{IsPlanned}
 use Rattle.crew_size.specs.Sizes.{with_weeks}
 use Rattle.crew_size.specs.declared.run.StaffEnd.TheVariants as Ends

@@ -3,7 +3,7 @@ use Rattle.std.proofs.Common.{◌+◌, ◌*◌, ◌^◌, ◌<◌, sym, subst, �
 use Rattle.std.proofs.lemmas.Result.{IfOk-weaker}
 use Rattle.rwsp_terms.specs.Instance.{cells, shift_count}
 use Rattle.refutation_terms.specs.Log.{IsAllowed}
-use Rattle.roster_search.specs.declared.found.Found.{Found}
+use Rattle.plan_terms.specs.declared.found.Found.{Found}
 use Rattle.roster_search.specs.Founds.{IsFoundFor, HasSpentBudget}
 use Rattle.roster_search.specs.Written.{IsEnded}
 use Rattle.roster_search.proofs.Finding.{found_by, undecided_small, begins_under_way}

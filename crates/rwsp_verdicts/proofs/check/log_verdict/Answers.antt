@@ -1,5 +1,5 @@
 use Rattle.rwsp_answers.proofs.Logs.{accepted}
-use Rattle.rwsp_verdicts.proofs.Printable.{printable}
+use Rattle.rwsp_answers.proofs.Refusals.{printable}
 use Rattle.rwsp_verdicts.proofs.check.log_verdict.Goals as goal
 
 pub returns-in-Ok : goal.returns-in-Ok

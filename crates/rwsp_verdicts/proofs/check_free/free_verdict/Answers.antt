@@ -1,4 +1,4 @@
-use Rattle.rwsp_verdicts.proofs.Printable.{free_printable}
+use Rattle.rwsp_answers.proofs.Refusals.{free_printable}
 use Rattle.rwsp_verdicts.proofs.check_free.free_verdict.Goals as goal
 
 pub returns-in-Err-Refused : goal.returns-in-Err-Refused

@@ -1,5 +1,5 @@
 use Rattle.crew_size.proofs.Decided.{accepted_decide}
-use Rattle.rwsp_verdicts.proofs.Printable.{names_its_own}
+use Rattle.rwsp_answers.proofs.Refusals.{names_its_own}
 use Rattle.rwsp_verdicts.proofs.staff_text.staff_verdict.Goals as goal
 
 pub returns-in-Ok-clause-answer : goal.returns-in-Ok-clause-answer

@@ -1,6 +1,6 @@
-use Rattle.rwsp_verdicts.proofs.Passing.{passes_and_is_unread}
-use Rattle.rwsp_verdicts.proofs.Printable.{printable}
-use Rattle.rwsp_verdicts.proofs.reduce.first_refusal.Goals as goal
+use Rattle.rwsp_run.proofs.Unread.{passes_and_is_unread}
+use Rattle.rwsp_answers.proofs.Refusals.{printable}
+use Rattle.rwsp_run.proofs.reduce.first_refusal.Goals as goal
 
 pub unreachable-requires : goal.unreachable-requires
 unreachable-requires g c =

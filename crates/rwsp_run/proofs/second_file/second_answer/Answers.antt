@@ -1,7 +1,7 @@
 use Rattle.rwsp_io.specs.Told.{Rose}
 use Rattle.rwsp_answers.specs.Answers.{IsSecondAnswer}
-use Rattle.rwsp_verdicts.proofs.Seconds.{told_of, read_answer}
-use Rattle.rwsp_verdicts.proofs.second_file.second_answer.Goals as goal
+use Rattle.rwsp_run.proofs.Seconds.{told_of, read_answer}
+use Rattle.rwsp_run.proofs.second_file.second_answer.Goals as goal
 
 pub returns : goal.returns
 returns g c =

@@ -7,17 +7,14 @@ ghost use Rattle.rwsp_answers.specs.Answers.{IsOfSecond, IsSecondAnswer};
 ghost use Rattle.rwsp_replies.specs.Exits.{IsStop};
 ghost use Rattle.rwsp_answers.specs.Texts.{IsPrintable};
 
-use crate::check::log_verdict;
-use crate::check_free::free_verdict;
 use crate::reduce::reduction;
-use crate::staff_text::staff_verdict;
-use crate::verify::roster_verdict;
 use command_line::Command;
 use potential_bounds::Gate;
 use rwsp_answers::{Answer, InputKind, Stop};
 use rwsp_io::Shelf;
 use rwsp_model::Problem;
 use rwsp_replies::{Exit, bytes_in};
+use rwsp_verdicts::{free_verdict, log_verdict, roster_verdict, staff_verdict};
 use std::alloc::{AllocError, Global};
 use std::thread::Threads;
 
