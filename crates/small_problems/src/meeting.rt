@@ -2,6 +2,10 @@
 use potential_bounds::Gate;
 use std::sync::atomic::{AtomicBool, Ordering};
 
+// How often a worker looks for the other before it gives up, which takes ten seconds or so: on a machine that is busy
+// with other work, a thread may begin late.
+const MOST_LOOKS: u64 = 20_000_000_000;
+
 /// A gate at which the workers of chunks 1 and 2 wait for each other, though not for ever.
 #[derive(Drop)]
 pub struct Meeting {
@@ -40,7 +44,7 @@ impl Gate for Meeting {
 // Sets a flag, looks for the other until it is set or for long, and notes whether it was seen.
 fn meet(own: &AtomicBool, other: &AtomicBool, met: &AtomicBool) {
     own.store(true, Ordering::SeqCst);
-    for _ in 0..200_000_000 {
+    for _ in 0..MOST_LOOKS {
         if other.load(Ordering::SeqCst) {
             met.store(true, Ordering::SeqCst);
             return;
