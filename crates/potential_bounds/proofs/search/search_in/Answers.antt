@@ -8,7 +8,7 @@ use Rattle.potential_bounds.proofs.search.search_in.Goals as goal
 
 pub loop-round-preserved : goal.loop-round-preserved
 loop-round-preserved c =
-    let F : Option (List Weight) → Type 0 = IsFollowing c.args.layers.now.problem (has_domain c.args.layers.now.store) c.args.layers.now.rules c.loop-round.weights in
+    let F : Option (List Weight) → Type 0 = IsFollowing c.args.turn.now.automaton.now.problem (has_domain c.args.turn.now.domains.now) c.args.turn.now.automaton.now.rules c.loop-round.weights in
     reached_more _ _ _ _ _ _ c.loop-round.invariant (subst F c.in-Some.is c.in_ok-next.ensures)
 
 pub loop-round-init : goal.loop-round-init
