@@ -10,11 +10,8 @@ use Rattle.refutation_terms.specs.Word.{Domains, Over, weight, total}
 use Rattle.refutation_terms.specs.Leaf.{IsDead}
 use Rattle.refutation_terms.specs.Sharp.{HoldsAtTop}
 use Rattle.refutation_terms.specs.Escape.{ComesFirst, IsCleanOver, IsHeaviestBy, IsLeastHeaviest}
-use Rattle.domain_store.specs.Store.{Store, has_domain}
-use Rattle.rule_automaton.specs.Automata.{RuleAutomaton}
-use Rattle.clean_words.specs.Courses.{Course, IsNoWorse, IsBestOf, AreBelow}
+use Rattle.clean_words.specs.Courses.{Course, IsNoWorse, IsBestOf}
 use Rattle.clean_words.specs.declared.heavy_words.HeavyWord.{HeavyWord}
-use Rattle.potential_bounds.specs.Gains.{free_gain, weighed}
 use Rattle.potential_bounds.specs.Heaviest.{IsHeaviestFoundBy, IsHeaviestFound}
 use Rattle.potential_bounds.proofs.FreeWords.{Weighs}
 

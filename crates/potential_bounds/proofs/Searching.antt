@@ -1,5 +1,5 @@
 -- The weights of a round are one, and the search continues from round to round.
-use Rattle.std.proofs.Common.{◌≡◌, None, length, ◌*◌, ℕ, zero, suc, ◌+◌, ◌≤◌, List, [], ap, sym, ◌∙◌, subst, arith, ⊎_elim, below_more, Option, Some, Bool, false}
+use Rattle.std.proofs.Common.{◌≡◌, ℕ, zero, suc, ◌+◌, ◌≤◌, List, [], ap, sym, ◌∙◌, subst, arith, ⊎_elim, below_more, Some, Bool, false}
 use Rattle.std.specs.Prelude.{◌↔◌, IsTrue}
 use Rattle.std.proofs.lemmas.Int.{ints}
 use Rattle.rwsp_terms.specs.declared.data.Symbol.{Symbol}
@@ -7,7 +7,7 @@ use Rattle.rwsp_terms.specs.declared.data.Weight.{Weight}
 use Rattle.rwsp_terms.specs.Instance.{Instance, cells}
 use Rattle.rwsp_terms.specs.Weights.{weight_at}
 use Rattle.rwsp_terms.proofs.SameLists.{same_weights}
-use Rattle.refutation_terms.specs.Word.{Domains, Over}
+use Rattle.refutation_terms.specs.Word.{Domains}
 use Rattle.refutation_terms.specs.Escape.{IsLeastHeaviest}
 use Rattle.refutation_terms.specs.Sharp.{step, AreStepped, IsNext, IsSearched, HoldsAtTop}
 use Rattle.refutation_terms.proofs.Causes.{first_same}

@@ -94,10 +94,8 @@ pub fn free_escape(
         position: 0,
         days: claim.turns * problem.cells(),
     };
-    let least = times(
-        claim.turns,
-        free_total(problem, claim.weights, claim.reward, claim.goal),
-    );
+    let once = free_total(problem, claim.weights, claim.reward, claim.goal);
+    let least = times(claim.turns, once);
     match heaviest_reaching(alloc, &words, claim.weights, claim.reward, least)? {
         Some(heavy) => Ok(Some(heavy.word)),
         None => Ok(None),

@@ -10,8 +10,8 @@ ghost use Rattle.potential_bounds.specs.Gains.{weighed};
 ghost use Rattle.potential_bounds.specs.Heaviest.{IsHeaviestFound, IsHeaviestFreeFound};
 
 use crate::total;
-use crate::weight_table::weight_table;
 use crate::weighing::Weighing;
+use crate::weight_table::weight_table;
 use clean_words::{CleanWords, HeavyWord};
 use rwsp_terms::Weights;
 use std::alloc::{AllocError, Global};

@@ -8,8 +8,8 @@ mod heavy;
 mod plain;
 mod search;
 mod totals;
-mod weight_table;
 mod weighing;
+mod weight_table;
 
 pub use clean_words::HeavyWord;
 pub use escapes::{FreeClaim, bound_escape, free_escape};

@@ -1,6 +1,7 @@
 // What the symbols of words weigh, with a reward where a free weekend ends.
-ghost use Rattle.std.specs.Prelude.{◌≡◌, ◌+◌, ◌*◌, ◌≤◌, pos, ◌≤ℤ◌};
-ghost use Rattle.rwsp_terms.specs.declared.limits.TheConstants.{GREATEST_REWARD, MOST_SYMBOLS};
+ghost use Rattle.std.specs.Prelude.{◌≡◌, ◌+◌, ◌*◌, ◌%◌, ◌≤◌, pos, neg_ℤ, ◌≤ℤ◌};
+ghost use Rattle.rwsp_terms.specs.declared.limits.TheConstants.{GREATEST_REWARD, GREATEST_WEIGHT, MOST_SYMBOLS};
+ghost use Rattle.rwsp_terms.specs.Weights.{weight_at};
 ghost use Rattle.potential_bounds.specs.Gains.{reward_behind, free_gain};
 ghost use Rattle.potential_bounds.specs.WeightTables.{HoldsWeights};
 
@@ -22,15 +23,26 @@ pub struct Weighing<'a> {
     ghost small: { reward ≤ GREATEST_REWARD },
 }
 
-impl<'a> Gain for Weighing<'a> {
-    ghost gain_of = { λ g day behind_off x. free_gain g.weights.now g.position g.days g.reward day behind_off x };
-
-    fn gain(&self, day: u32, behind_off: bool, symbol: Symbol) -> i32 {
+impl<'a> Weighing<'a> {
+    // What the symbol weighs on a day of the word.
+    fn weight(&self, day: u32, symbol: Symbol) -> i32
+        ensures value { result
+            ≡ weight_at self.now.weights.now ((self.now.position + day) % self.now.days + 1) symbol.number }
+        ensures low { neg_ℤ (pos GREATEST_WEIGHT) ≤ℤ result }
+        ensures high { result ≤ℤ pos GREATEST_WEIGHT }
+    {
         self.weights.entries();
         let place = u64::from(self.position) + u64::from(day);
         let in_week = (place % u64::from(self.days)) as u32;
         weight_in(self.weights, self.table, self.days, in_week, symbol)
-            + reward_behind(self.reward, day, behind_off, symbol)
+    }
+}
+
+impl<'a> Gain for Weighing<'a> {
+    ghost gain_of = { λ g day behind_off x. free_gain g.weights.now g.position g.days g.reward day behind_off x };
+
+    fn gain(&self, day: u32, behind_off: bool, symbol: Symbol) -> i32 {
+        self.weight(day, symbol) + reward_behind(self.reward, day, behind_off, symbol)
     }
 }
 

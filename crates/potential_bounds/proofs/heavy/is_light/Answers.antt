@@ -1,4 +1,4 @@
-use Rattle.std.proofs.Common.{◌≡◌, arith, refl, rules, w64, to_z, of_z, SFits}
+use Rattle.std.proofs.Common.{◌≡◌, arith, rules, w64, to_z, of_z, SFits}
 use Rattle.std.proofs.lemmas.Int.{ints}
 use Rattle.potential_bounds.proofs.HeavyWords.{light_decides}
 use Rattle.potential_bounds.proofs.heavy.is_light.Goals as goal

@@ -13,13 +13,13 @@ loop-round-preserved c =
 
 pub loop-round-init : goal.loop-round-init
 loop-round-init c =
-    let g = c.args.layers.now in
-    reached_start g.problem (has_domain g.store) g.rules c.new-weights.result c.new-weights.ensures
+    let w = c.args.turn.now in
+    reached_start w.automaton.now.problem (has_domain w.domains.now) w.automaton.now.rules c.new-weights.result c.new-weights.ensures
 
 pub returns-in-None : goal.returns-in-None
 returns-in-None c =
-    let g = c.args.layers.now in
-    let F : Option (List Weight) → Type 0 = IsFollowing g.problem (has_domain g.store) g.rules c.loop-round.weights in
+    let w = c.args.turn.now in
+    let F : Option (List Weight) → Type 0 = IsFollowing w.automaton.now.problem (has_domain w.domains.now) w.automaton.now.rules c.loop-round.weights in
     let so_far = c.loop-round.invariant in
     (c.loop-round.round, c.loop-round-test.true, so_far.searched, subst F c.in-None.is c.in_ok-next.ensures, so_far.none)
 
