@@ -26,6 +26,9 @@ pub fn heaviest<G: Gain>(
         (IsDead A.problem (has_domain doms) words.now.position words.now.days A.rules)
         (λ h. IsBestOf (course A doms words.now.position (G.gain_of gain.now)) words.now.days h.weight h.word)) }
 {
+    let _ = alloc;
+    let _ = words;
+    let _ = gain;
     Err(AllocError)
 }
 
@@ -42,5 +45,9 @@ pub fn heaviest_reaching<G: Gain>(
         (AreBelow C words.now.days least)
         (λ h. IsBestOf C words.now.days h.weight h.word × (least ≤ℤ h.weight))) }
 {
+    let _ = alloc;
+    let _ = words;
+    let _ = gain;
+    let _ = least;
     Err(AllocError)
 }
