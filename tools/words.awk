@@ -46,12 +46,12 @@ function read_problem(line) {
     else if (line <= 5 + 2 * shifts) read_lengths(line - 3 - shifts)
     else if (line == 6 + 2 * shifts) sequences = $1 + $2
     else sequence[line - 6 - 2 * shifts] = $0
-    if (line > 3 + shifts && line <= 3 + 2 * shifts) name[line - 3 - shifts] = quoted($1)
+    if (line > 3 + shifts && line <= 3 + 2 * shifts) name[line - 3 - shifts] = $1
     is_read = line > 3 && line == 6 + 2 * shifts + sequences
 }
 
 function days_of(class) {
-    return class <= shifts ? " of " name[class] : class == shifts + 1 ? " off" : " of work"
+    return class <= shifts ? " of " quoted(name[class]) : class == shifts + 1 ? " off" : " of work"
 }
 
 function class_name(class) {
@@ -65,7 +65,7 @@ function block_words(class, is_most) {
 
 function sequence_words(text,    words, count, i, told) {
     count = split(text, words, " ")
-    for (i = 1; i <= count; i++) told = told (i > 1 ? ", then " : "") (words[i] == "-" ? "a day off" : words[i])
+    for (i = 1; i <= count; i++) told = told (i > 1 ? ", then " : "") (words[i] == "-" ? "a day off" : quoted(words[i]))
     return "never " told " (not " text ")"
 }
 
@@ -74,8 +74,8 @@ function sequence_words(text,    words, count, i, told) {
 function day_words(j,    k, told, low, high) {
     told = "day " j ": "
     for (k = 1; k <= shifts; k++) {
-        if (least[k, j] > greatest[k, j]) return "day " j ": " name[k] " " least[k, j] ".." greatest[k, j] ": the least is above the greatest"
-        told = told name[k] " " span(least[k, j], greatest[k, j]) ", "
+        if (least[k, j] > greatest[k, j]) return "day " j ": " quoted(name[k]) " " least[k, j] ".." greatest[k, j] ": the least is above the greatest"
+        told = told quoted(name[k]) " " span(least[k, j], greatest[k, j]) ", "
         low += least[k, j]
         high += greatest[k, j]
     }
@@ -120,7 +120,7 @@ function shift_misfit(k,    j, low, high, short, count, told) {
     short = larger(shortest[k], 1)
     count = int(high / short)
     if (low == 0 || (longest[k] >= short && count * longest[k] >= low)) return ""
-    told = "the " span(low, high) " days of " name[k] " cannot be made of blocks of " span(shortest[k], longest[k])
+    told = "the " span(low, high) " days of " quoted(name[k]) " cannot be made of blocks of " span(shortest[k], longest[k])
     if (longest[k] < short) return told " days"
     told = told " days: " count (count == 1 ? " block has" : " blocks have") " at most " days(count * longest[k])
     return told ", and " count + 1 " at least " days((count + 1) * short)
