@@ -16,23 +16,25 @@ abbrev pub Extends : {X : Type 0} → List X → List X → Type 0
 Extends {X} xs ys = (rest : List X) × (ys ≡ xs ++ rest)
 
 -- a clean word that has the tail continues with the symbol just where there is a state, and then the state has its tail
-abbrev pub Judges : Listed → List Tail → Tail → Symbol → Option ℕ → Type 0
-Judges T tails tail x state =
-    (w : List Symbol)
-    → Clean T.problem T.rules w → tail_of w ≡ tail → MatchOption state (Clean T.problem T.rules (w ++ x ∷ []) → ⊥)
-    (λ to. Clean T.problem T.rules (w ++ x ∷ []) × StandsAt tails to (tail_of (w ++ x ∷ [])))
+pub record Judges (T : Listed) (tails : List Tail) (tail : Tail) (x : Symbol) (state : Option ℕ) : Type 0 where
+  pub inside : (to : ℕ) → state ≡ Some to → to < length tails
+  pub words :
+      (w : List Symbol)
+      → Clean T.problem T.rules w → tail_of w ≡ tail → MatchOption state (Clean T.problem T.rules (w ++ x ∷ []) → ⊥)
+        (λ to. Clean T.problem T.rules (w ++ x ∷ []) × StandsAt tails to (tail_of (w ++ x ∷ [])))
 
--- the moves of a tail by the first symbols, and none by others
+-- the moves of a tail by the symbols below a number, and none by others
 pub record IsRow (T : Listed) (tails : List Tail) (tail : Tail) (symbols : ℕ) (row : List (Option ℕ)) : Type 0 where
-  pub inside : (x to : ℕ) → slice_index_or row x None ≡ Some to → (x < symbols) × (to < length tails)
+  pub known : (x to : ℕ) → slice_index_or row x None ≡ Some to → x < symbols
   pub judges : (x : Symbol) → x.number < symbols → Judges T tails tail x (slice_index_or row x.number None)
 
 -- the first tail is that of the empty word, and the first tails have their moves
 pub record AreStates (T : Listed) (symbols : ℕ) (tails : List Tail) (moves : Moves) : Type 0 where
   pub few : length tails < 2 ^ 32
   pub first : StandsAt tails 0 (tail_of [])
-  pub rows :
-      (k : ℕ) (tail : Tail) → k < length moves → StandsAt tails k tail → IsRow T tails tail symbols (slice_index_or moves k [])
+  pub done : length moves ≤ length tails
+  pub rows : (k : ℕ) (tail : Tail) → k < length moves → StandsAt tails k tail
+      → IsRow T tails tail symbols (slice_index_or moves k [])
 
 -- whether a word with this last symbol ends with the day off
 abbrev pub ends_off : Option Symbol → Bool

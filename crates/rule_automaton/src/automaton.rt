@@ -106,12 +106,13 @@ impl Automaton {
     pub fn copy(&self) -> Result<Automaton, AllocError>
         ensures { IfOk result (λ a. a ≡ self.now) }
     {
+        let alloc = *self.moves.allocator();
         Ok(Automaton {
             problem: self.problem.copy()?,
             list: self.list.copy()?,
-            moves: self.moves.clone()?,
-            offs: self.offs.clone()?,
-            steps: self.steps.clone()?,
+            moves: Vec::from_slice(alloc, &self.moves)?,
+            offs: Vec::from_slice(alloc, &self.offs)?,
+            steps: Vec::from_slice(alloc, &self.steps)?,
         })
     }
 

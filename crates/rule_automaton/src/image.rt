@@ -4,6 +4,7 @@ ghost use Rattle.std.specs.Option.{option_map};
 ghost use Rattle.rule_automaton.specs.Tables.{IsReader, IsKept, HasStates};
 
 use crate::table::{Row, Table};
+use rwsp_terms::limits::MOST_SYMBOLS;
 use std::alloc::{AllocError, Global};
 use word_tail::TailRules;
 
@@ -17,11 +18,25 @@ pub fn class_of(classes: &[u32], state: u32) -> u32
     }
 }
 
-// The moves to classes in place of those to states.
-fn image_of(classes: &[u32], row: Row) -> Row
-    ensures { result ≡ map (option_map (slice_index classes.now)) row }
+// The class of the state where a move leads.
+fn class_to(classes: &[u32], to: Option<u32>) -> Option<u32>
+    ensures { result ≡ option_map (slice_index classes.now) to }
 {
-    row.map(|to| to.map(|state| class_of(classes, state)))
+    match to {
+        Some(state) => Some(class_of(classes, state)),
+        None => None,
+    }
+}
+
+// The moves to classes in place of those to states.
+fn image_of(classes: &[u32], row: &Row) -> Row
+    ensures { result ≡ map (option_map (slice_index classes.now)) row.now }
+{
+    let mut image = [None; MOST_SYMBOLS as usize];
+    for number in 0..image.len() {
+        image[number] = class_to(classes, row[number]);
+    }
+    image
 }
 
 // The table of the classes, each with the moves of its first state. Classes are numbered in the order of these.
@@ -37,7 +52,7 @@ fn quotient(alloc: Global, table: &Table, classes: &[u32]) -> Result<Table, Allo
     let mut offs = Vec::new(alloc);
     for state in 0..table.moves.len() as u32 {
         if class_of(classes, state) as usize == moves.len() {
-            moves.push(image_of(classes, table.moves[state as usize]))?;
+            moves.push(image_of(classes, &table.moves[state as usize]))?;
             offs.push(table.offs[state as usize])?;
         }
     }
@@ -56,7 +71,7 @@ fn is_kept(table: &Table, small: &Table, classes: &[u32], state: u32) -> bool
     if class >= small.moves.len() || small.offs[class] != table.offs[state as usize] {
         return false;
     }
-    small.moves[class] == image_of(classes, table.moves[state as usize])
+    small.moves[class] == image_of(classes, &table.moves[state as usize])
 }
 
 // Whether each class is as its states are.

@@ -10,7 +10,7 @@ use crate::tail_index::TailIndex;
 use rwsp_terms::Symbol;
 use rwsp_terms::limits::MOST_SYMBOLS;
 use std::alloc::{AllocError, Global};
-use word_tail::{Tail, TailRules};
+use word_tail::{Tail, TailRules, empty_word_is_clean};
 
 // The tails that were met so far, each a state, from that of the empty word on (rules on sequences as automata:
 // G. Pesant, 2004), and the moves of the first of them.
@@ -28,11 +28,10 @@ impl States {
         ensures all { IfOk result (λ s. length s.moves.items ≡ length s.tails.items) }
     {
         let mut states = States {
-            tails: Vec::new(alloc),
+            tails: vec![in alloc; Tail::empty()]?,
             index: TailIndex::new(alloc)?,
             moves: Vec::new(alloc),
         };
-        states.state_of(Tail::empty())?;
         while states.moves.len() < states.tails.len() {
             states.put_moves(rules)?;
         }
@@ -113,6 +112,7 @@ impl States {
         requires all { length self.moves.items ≡ length self.tails.items }
         ensures { IfOk result (λ t. IsReader rules.now.problem rules.now.rules t.moves.items t.offs.items) }
     {
+        empty_word_is_clean();
         let _ = rules;
         let offs = offs_of(alloc, &self.tails)?;
         Ok(Table {

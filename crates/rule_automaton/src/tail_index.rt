@@ -25,7 +25,7 @@ pub struct TailIndex {
 }
 
 impl TailIndex {
-    // An index for a list that is empty yet. It has 215 KB.
+    // An index for a list of one tail at most, which is found at once. It has 215 KB.
     pub fn new(alloc: Global) -> Result<TailIndex, AllocError> {
         let places = vec![in alloc; 0; CODES]?;
         Ok(TailIndex { places })
