@@ -19,9 +19,9 @@ abbrev pub gain_there : Trellis → ℕ → Bool → ℕ → Option ℤ
 gain_there T day behind_off x =
     if T.domains (place_of T day) x then Some (T.gain day behind_off (symbol_numbered x)) else None
 
--- the gains of all symbols on a day
-pub record AreGains (T : Trellis) (day : ℕ) (behind_off : Bool) (gains : Row) : Type 0 where
-  pub long : length gains ≡ shift_count T.automaton.problem + 1
+-- the gains of the first symbols on a day
+pub record AreGains (T : Trellis) (day : ℕ) (behind_off : Bool) (count : ℕ) (gains : Row) : Type 0 where
+  pub long : length gains ≡ count
   pub each : (x : ℕ) → x < length gains → gain_at gains x ≡ gain_there T day behind_off x
   pub light : AreWithin (GREATEST_WEIGHT + GREATEST_REWARD) gains
 
@@ -30,7 +30,8 @@ gains_behind gains true = gains.behind_off.items
 gains_behind gains false = gains.behind_work.items
 
 abbrev pub AreDayGains : Trellis → ℕ → DayGains → Type 0
-AreDayGains T day gains = (off : Bool) → AreGains T day off (gains_behind gains off)
+AreDayGains T day gains =
+    (off : Bool) → AreGains T day off (shift_count T.automaton.problem + 1) (gains_behind gains off)
 
 -- the choice of a symbol's number that gains this much and leads to a state, from where so much more is gained
 abbrev pub choice_to : ℕ → ℤ → ℕ → Option ℤ → Option Choice

@@ -2,11 +2,11 @@
 -- 1967).
 use Rattle.std.specs.Prelude.{◌≡◌, ◌⊎◌, ℕ, ◌+◌, ◌-◌, ◌*◌, ◌%◌, ◌<◌, ◌≤◌, List, [], ◌∷◌, length, Option, Some, None, Bool, false, IsTrue, slice_index_or, ℤ, pos, ◌+ℤ◌, ◌≤ℤ◌, ◌<ℤ◌}
 use Rattle.rwsp_terms.specs.declared.data.Symbol.{Symbol}
-use Rattle.rwsp_terms.specs.declared.limits.TheConstants.{GREATEST_REWARD, GREATEST_WEIGHT, MOST_SHIFTS}
-use Rattle.rwsp_terms.specs.Instance.{Instance, cells, shift_count}
+use Rattle.rwsp_terms.specs.declared.limits.TheConstants.{GREATEST_REWARD, GREATEST_WEIGHT, MOST_CELLS, MOST_SHIFTS}
+use Rattle.rwsp_terms.specs.Instance.{cells, shift_count}
 use Rattle.refutation_terms.specs.Word.{Domains}
 use Rattle.refutation_terms.specs.Escape.{ComesFirst}
-use Rattle.domain_store.specs.Store.{Store, has_domain}
+use Rattle.domain_store.specs.Store.{has_domain}
 use Rattle.rule_automaton.specs.Moves.{move_at}
 use Rattle.rule_automaton.specs.Automata.{RuleAutomaton, IsAutomaton}
 use Rattle.clean_words.specs.declared.words.CleanWords.{CleanWords}
@@ -34,6 +34,7 @@ pub record AreFacts (words : CleanWords) : Type 0 where
   pub positions : length words.domains.now.sets ≡ cells words.automaton.now.problem
   pub shifts : words.domains.now.shifts ≡ shift_count words.automaton.now.problem
   pub few : shift_count words.automaton.now.problem ≤ MOST_SHIFTS
+  pub few_cells : cells words.automaton.now.problem ≤ MOST_CELLS
   pub symbols :
       (q x : ℕ) → IsTrue (has_domain words.domains.now q x) → x ≤ shift_count words.automaton.now.problem
 

@@ -1,7 +1,7 @@
 // What the symbols of a day gain.
-ghost use Rattle.std.specs.Prelude.{◌≡◌, ◌+◌, ◌%◌, ◌<◌, ◌≤◌, Bool, length, IfOk};
-ghost use Rattle.rwsp_terms.specs.Instance.{cells, shift_count};
-ghost use Rattle.rwsp_terms.specs.declared.limits.TheConstants.{GREATEST_REWARD, GREATEST_WEIGHT, LONGEST_WORD, MOST_SYMBOLS};
+ghost use Rattle.std.specs.Prelude.{◌≡◌, ◌+◌, ◌<◌, IfOk};
+ghost use Rattle.rwsp_terms.specs.Instance.{shift_count};
+ghost use Rattle.rwsp_terms.specs.declared.limits.TheConstants.{GREATEST_REWARD, GREATEST_WEIGHT};
 ghost use Rattle.clean_words.specs.Rows.{IsWithin};
 ghost use Rattle.clean_words.specs.Trellis.{trellis};
 ghost use Rattle.clean_words.specs.Choices.{AreDayGains, AreGains, gain_within, gains_behind};
@@ -58,7 +58,8 @@ fn gains_on<G: Gain>(
     behind_off: bool,
 ) -> Result<Vec<Option<i32>>, AllocError>
     requires { day < words.now.days }
-    ensures { IfOk result (λ gains. AreGains (trellis words.now (G.gain_of gain.now)) day behind_off gains.items) }
+    ensures { let count = shift_count words.now.automaton.now.problem + 1 in IfOk result
+        (λ gains. AreGains (trellis words.now (G.gain_of gain.now)) day behind_off count gains.items) }
 {
     words.prove_facts();
     let domain = words.domains.set(words.place(day));

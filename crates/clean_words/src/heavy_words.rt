@@ -32,6 +32,7 @@ pub fn heaviest<G: Gain>(
         (IsDead A.problem (has_domain doms) words.now.position words.now.days A.rules)
         (λ h. IsBestOf (course A doms words.now.position (G.gain_of gain.now)) words.now.days h.weight h.word)) }
 {
+    words.prove_facts();
     let rows = kept_rows(alloc, words, gain)?;
     match rows.first.at(0) {
         Some(weight) => {
@@ -55,6 +56,7 @@ pub fn heaviest_reaching<G: Gain>(
         (AreBelow C words.now.days least)
         (λ h. IsBestOf C words.now.days h.weight h.word × (least ≤ℤ h.weight))) }
 {
+    words.prove_facts();
     let rows = kept_rows(alloc, words, gain)?;
     match reaching(rows.first.at(0), least) {
         Some(weight) => {

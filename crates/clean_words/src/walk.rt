@@ -31,6 +31,7 @@ pub fn best_word<G: Gain>(
     requires some { (u : List Symbol) × (w : ℤ) × Leads (trellis words.now (G.gain_of gain.now)) 0 0 u w }
     ensures { IfOk result (λ word. (w : ℤ) × IsBest (trellis words.now (G.gain_of gain.now)) 0 0 word w) }
 {
+    words.prove_facts();
     let mut walk = Walk {
         symbols: Vec::new(alloc),
         state: 0,
@@ -55,8 +56,10 @@ fn go_along<G: Gain>(
 ) -> Result<(), AllocError>
     requires rows { AreRows (trellis words.now (G.gain_of gain.now))
         (length walk.old.symbols.items + length rows.items) rows.items }
-    requires walk { IsOnBest (trellis words.now (G.gain_of gain.now)) walk.old }
-    ensures walk { OnOk result (IsOnBest (trellis words.now (G.gain_of gain.now)) walk.new) }
+    requires inside { length walk.old.symbols.items + length rows.items ≤ words.now.days }
+    requires walk { IsOnBest (trellis words.now (G.gain_of gain.now)) walk.old.symbols.items walk.old.state }
+    ensures walk { OnOk result
+        (IsOnBest (trellis words.now (G.gain_of gain.now)) walk.new.symbols.items walk.new.state) }
     ensures day { OnOk result
         (length walk.new.symbols.items ≡ length walk.old.symbols.items + length rows.items) }
 {
@@ -76,16 +79,18 @@ fn go_on<G: Gain>(
 ) -> Result<(), AllocError>
     requires next { IsRow (trellis words.now (G.gain_of gain.now)) (length walk.old.symbols.items + 1) next.now }
     requires day { length walk.old.symbols.items < words.now.days }
-    requires walk { IsOnBest (trellis words.now (G.gain_of gain.now)) walk.old }
-    ensures walk { OnOk result (IsOnBest (trellis words.now (G.gain_of gain.now)) walk.new) }
+    requires walk { IsOnBest (trellis words.now (G.gain_of gain.now)) walk.old.symbols.items walk.old.state }
+    ensures walk { OnOk result
+        (IsOnBest (trellis words.now (G.gain_of gain.now)) walk.new.symbols.items walk.new.state) }
     ensures day { OnOk result (length walk.new.symbols.items ≡ length walk.old.symbols.items + 1) }
 {
     words.prove_facts();
     let gains = DayGains::on(alloc, words, gain, walk.symbols.len() as u32)?;
     let behind = gains.behind(words.automaton.is_off(walk.state));
-    if let Some(choice) = choose(words.automaton, walk.state, behind, next) {
-        walk.symbols.push(choice.symbol)?;
-        walk.state = choice.to;
-    }
+    let Some(choice) = choose(words.automaton, walk.state, behind, next) else {
+        unreachable!()
+    };
+    walk.symbols.push(choice.symbol)?;
+    walk.state = choice.to;
     Ok(())
 }
