@@ -4,7 +4,9 @@ ghost use Rattle.rwsp_terms.specs.declared.limits.TheConstants.{GREATEST_WEIGHT}
 ghost use Rattle.domain_store.specs.Store.{BelongsTo};
 
 use domain_store::Domains;
-use potential_bounds::{Gate, NoGate, Weights, first_plain, heaviest_free, search_weights};
+use potential_bounds::{
+    Gate, NoGate, Weights, first_plain, heaviest_free, plain_bounds, search_weights,
+};
 use rwsp_model::Problem;
 use rwsp_terms::{Symbol, Weight};
 use small_problems::{
@@ -90,6 +92,19 @@ fn searched_weights(rt: HostRuntime) -> Result<(), Fail> {
     Ok(())
 }
 
+// Every shift weighs 1 or -1 on every day, then the one shift that there is.
+#[test]
+fn plain_bounds_in_order(rt: HostRuntime) -> Result<(), Fail> {
+    let problem = problem_of(rt.alloc(), D_ON_BOTH_DAYS)?;
+    let bounds = plain_bounds(rt.alloc(), &problem)?;
+    assert_eq!(rt; bounds.len(), 4);
+    for (weights, value) in bounds.iter().zip([1, -1, 1, -1].iter()) {
+        let both = [weight(1, D, *value), weight(2, D, *value)];
+        assert_eq!(rt; weights.entries(), both.as_slice());
+    }
+    Ok(())
+}
+
 // The first plain bound that holds, with all short rules and full domains.
 fn plain<R: Threads + Sync, G: Gate>(
     rt: &R,
@@ -109,7 +124,7 @@ fn plain<R: Threads + Sync, G: Gate>(
 #[test]
 fn plain_bounds_by_workers(rt: HostRuntime) -> Result<(), Fail> {
     let alloc = rt.alloc();
-    for workers in [1, 2, 64] {
+    for workers in [1, 2, 4, 64] {
         assert_eq!(rt;
             plain(&rt, alloc, D_ON_BOTH_DAYS, workers, &NoGate)?,
             Some(0)

@@ -11,7 +11,7 @@ use propagators::{DayProp, RootBounds, WindowProp};
 use refutation_terms::Line;
 use rwsp_model::Problem;
 use rwsp_terms::Symbol;
-use small_problems::{OFF, ONE_CELL, THREE_IN_TWO, problem_of, take_away};
+use small_problems::{D_ON_DAY_1, OFF, ONE_CELL, THREE_IN_TWO, problem_of, take_away};
 use std::alloc::{AllocError, Global};
 use std::test::Fail;
 use std::thread::Threads;
@@ -168,12 +168,18 @@ fn windows_are_seen(rt: HostRuntime) -> Result<(), Fail> {
     Ok(())
 }
 
-// Two weeks less three shifts leave a day off -1 times.
+// Two weeks less three shifts leave a day off -1 times. Where D is asked on the first of two days alone, the day off is
+// spent there, and D on the second.
 #[test]
 fn days_are_seen(rt: HostRuntime) -> Result<(), Fail> {
     assert_eq!(rt;
         seen_by(&rt, rt.alloc(), Kind::Days, THREE_IN_TWO, None)?,
         Seen::Day(0)
+    );
+    let spent = seen_by(&rt, rt.alloc(), Kind::Days, D_ON_DAY_1, None)?;
+    assert!(rt;
+        spent == Seen::Cut(0, 0) || spent == Seen::Cut(1, 1),
+        "{spent:?}"
     );
     Ok(())
 }
