@@ -1,6 +1,7 @@
 // Each propagator once in ample memory. What it sees under which domains, its clauses say.
 ghost use Rattle.std.specs.Prelude.{◌≤◌};
 ghost use Rattle.rwsp_terms.specs.Instance.{Instance};
+ghost use Rattle.rwsp_terms.specs.declared.limits.TheConstants.{MOST_WORKERS};
 ghost use Rattle.domain_store.specs.Store.{BelongsTo};
 
 use domain_store::Domains;
@@ -9,6 +10,7 @@ use potential_bounds::NoGate;
 use propagator_terms::{Look, Pair, Propagator};
 use propagators::{DayProp, RootBounds, WindowProp};
 use refutation_terms::Line;
+use rule_automaton::{Automaton, Told};
 use rwsp_model::Problem;
 use rwsp_terms::Symbol;
 use small_problems::{D_ON_DAY_1, OFF, ONE_CELL, THREE_IN_TWO, problem_of, take_away};
@@ -102,9 +104,10 @@ fn bounds_see<R: Threads + Sync>(
     workers: u32,
 ) -> Result<Seen, AllocError>
     requires belongs { BelongsTo problem.now doms.now }
-    requires workers { (1 ≤ workers) × (workers ≤ 64) }
+    requires workers { (1 ≤ workers) × (workers ≤ MOST_WORKERS) }
 {
-    let tops = RootBounds::new(rt, alloc, problem, doms, workers, &NoGate)?;
+    let automaton = Automaton::of_short_rules(alloc, problem, Told::DayOff)?;
+    let tops = RootBounds::new(rt, alloc, &automaton, doms, workers, &NoGate)?;
     sees(tops, alloc, problem, doms)
 }
 
