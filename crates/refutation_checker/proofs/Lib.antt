@@ -10,4 +10,5 @@ pub mod Joining
 pub mod Deciding
 pub mod SomeVerdict
 pub mod LeafJudging
+pub mod ShortTails
 pub mod FreeReading
