@@ -4,27 +4,25 @@ ghost use Rattle.rwsp_terms.specs.declared.data.Symbol.{Symbol};
 ghost use Rattle.refutation_terms.specs.declared.lines.Line.{Line};
 ghost use Rattle.domain_store.specs.Store.{Store, BelongsTo, has_domain};
 ghost use Rattle.kept_cycle.specs.Known.{KnowsDomains};
-ghost use Rattle.propagator_terms.specs.Cycles.{IsCycleLeaf, IsCycleSpent};
+ghost use Rattle.propagator_terms.specs.Cycles.{AreShortRules, IsCycleLeaf, IsCycleSpent};
 ghost use Rattle.propagator_terms.specs.Looks.{IsLook};
-ghost use Rattle.kept_cycle.specs.CycleCuts.{IsShortCycle};
+ghost use Rattle.propagators.specs.ShortCycles.{IsShortCycle};
 
-use crate::Cycle;
-use crate::cycle_cut::first_unsupported;
 use domain_store::Domains;
+use kept_cycle::{Cycle, first_unsupported};
 use propagator_terms::{Look, Propagator};
-use rwsp_model::{Problem, short_rules};
+use rule_automaton::Automaton;
 use std::alloc::{AllocError, Global};
 use std::marker::Model;
-use word_tail::TailRules;
 
 /// Closes where no word of two turns round the cycle is clean for the short rules, and takes away the symbols that no
-/// such word has at their position. It keeps the layers of these words.
+/// such word has at their position. It keeps which states of the rules' automaton the domains leave.
 #[derive(Drop)]
-pub struct CycleProp {
-    cycle: Cycle,
+pub struct CycleProp<'a> {
+    cycle: Cycle<'a>,
 }
 
-impl Model for CycleProp {
+impl<'a> Model for CycleProp<'a> {
     ghost use Rattle.kept_cycle.specs.Known.{KnownCycle};
 
     ghost Value = { KnownCycle };
@@ -36,26 +34,28 @@ impl Model for CycleProp {
     ghost invariant = { λ c. AreShortRules c.cycle.problem c.cycle.rules };
 }
 
-impl CycleProp {
+impl<'a> CycleProp<'a> {
     /// Tracks the domains. Its one leaf is that of two turns from position 0 on, by all short rules.
-    pub fn new(alloc: Global, problem: &Problem, doms: &Domains) -> Result<CycleProp, AllocError>
-        requires { BelongsTo problem.now doms.now }
-        ensures serves { IfOk result (λ c. ⟦<CycleProp as Propagator>⟧.serves c problem.now) }
-        ensures tracks { IfOk result (λ c. ⟦<CycleProp as Propagator>⟧.tracks c doms.now) }
-        ensures leaves { IfOk result (λ c.
-            (S : Store) (line : Line) → ⟦<CycleProp as Propagator>⟧.leaves c S line ↔ IsCycleLeaf problem.now line) }
-        ensures spent { IfOk result (λ c.
-            (S : Store) (p : ℕ) (x : Symbol)
-            → ⟦<CycleProp as Propagator>⟧.spent c S p x ↔ IsCycleSpent problem.now (has_domain S) p x) }
+    pub fn new(
+        alloc: Global,
+        automaton: &'a Automaton,
+        doms: &Domains,
+    ) -> Result<CycleProp<'a>, AllocError>
+        requires belongs { BelongsTo automaton.now.problem doms.now }
+        requires short { AreShortRules automaton.now.problem automaton.now.rules }
+        ensures serves { IfOk result (λ c. ⟦<CycleProp<'a> as Propagator>⟧.serves c automaton.now.problem) }
+        ensures tracks { IfOk result (λ c. ⟦<CycleProp<'a> as Propagator>⟧.tracks c doms.now) }
+        ensures leaves { IfOk result (λ c. (S : Store) (line : Line)
+            → ⟦<CycleProp<'a> as Propagator>⟧.leaves c S line ↔ IsCycleLeaf automaton.now.problem line) }
+        ensures spent { IfOk result (λ c. (S : Store) (p : ℕ) (x : Symbol)
+            → ⟦<CycleProp<'a> as Propagator>⟧.spent c S p x ↔ IsCycleSpent automaton.now.problem (has_domain S) p x) }
     {
-        let short = short_rules(alloc, problem)?;
-        let tails = TailRules::of(alloc, problem, &short)?;
-        let cycle = Cycle::new(alloc, tails, doms)?;
+        let cycle = Cycle::new(alloc, automaton, doms)?;
         Ok(CycleProp { cycle })
     }
 }
 
-impl Propagator for CycleProp {
+impl<'a> Propagator for CycleProp<'a> {
     ghost serves = { λ c P. c.problem ≡ P };
 
     ghost tracks = { λ c S. KnowsDomains c S };
@@ -80,7 +80,7 @@ impl Propagator for CycleProp {
 }
 
 // What the words of two turns say.
-fn seen(cycle: &mut Cycle, doms: &Domains) -> Result<Look, AllocError>
+fn seen(cycle: &mut Cycle<'_>, doms: &Domains) -> Result<Look, AllocError>
     requires { IsShortCycle cycle.old doms.now }
     ensures look { let P = cycle.old.problem in
         IfOk result (λ look. IsLook P (IsCycleLeaf P) (IsCycleSpent P (has_domain doms.now)) doms.now look) }

@@ -4,9 +4,9 @@ use Rattle.rwsp_terms.specs.Instance.{cells}
 use Rattle.refutation_terms.specs.declared.lines.Line.TheVariants.{Dead}
 use Rattle.kept_cycle.specs.Known.{KnownCycle}
 use Rattle.rwsp_model.specs.Validity.{KeepsLimits}
-use Rattle.kept_cycle.proofs.CutSymbols.{some_cells, closed_cycle, none_closes, cut_cycle, none_spent}
-use Rattle.kept_cycle.proofs.Marking.{unlike}
-use Rattle.kept_cycle.proofs.cycle_prop.seen.Goals as goal
+use Rattle.rwsp_model.proofs.Limits.{some_cells}
+use Rattle.propagators.proofs.CycleLooks.{unlike, closed_cycle, none_closes, cut_cycle, none_spent}
+use Rattle.propagators.proofs.cycle.seen.Goals as goal
 
 pub returns-then-is_dead : goal.returns-then-is_dead
 returns-then-is_dead c =

@@ -7,7 +7,7 @@ use Rattle.propagator_terms.specs.declared.look.Look.{Look}
 use Rattle.propagator_terms.specs.Looks.{IsLook}
 use Rattle.propagator_terms.specs.Cycles.{IsCycleLeaf, IsCycleSpent}
 use Rattle.kept_cycle.specs.Known.{KnownCycle}
-use Rattle.kept_cycle.proofs.cycle_prop.CyclePropPropagator.look.Goals as goal
+use Rattle.propagators.proofs.cycle.CyclePropPropagator.look.Goals as goal
 
 if_ok : {X E : Type 0} (r : Result X E) (A B : X → Type 0) → ((x : X) → A x → B x) → IfOk r A → IfOk r B
 if_ok (Ok x) A B more h = more x h
