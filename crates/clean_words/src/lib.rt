@@ -3,11 +3,11 @@
 #![tactic(auto)]
 
 mod gain;
-mod heaviest;
-mod least;
+mod heavy_words;
+mod least_words;
 mod words;
 
 pub use gain::Gain;
-pub use heaviest::{HeavyWord, heaviest, heaviest_reaching};
-pub use least::{escape, is_alive};
+pub use heavy_words::{HeavyWord, heaviest, heaviest_reaching};
+pub use least_words::{escape, is_alive};
 pub use words::CleanWords;

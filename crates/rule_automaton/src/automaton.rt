@@ -70,7 +70,6 @@ impl Automaton {
         ensures problem { IfOk result (λ a. a.problem ≡ problem.now) }
         ensures rules { IfOk result (λ a. a.rules ≡ rules.now) }
     {
-        let _ = (alloc, problem, rules, told);
         Err(AllocError)
     }
 
@@ -84,7 +83,6 @@ impl Automaton {
         ensures rules { IfOk result (λ a. AreRules problem.now a.rules) }
         ensures short { IfOk result (λ a. NamesShortRules problem.now a.rules) }
     {
-        let _ = (alloc, problem, told);
         Err(AllocError)
     }
 

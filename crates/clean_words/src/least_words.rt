@@ -17,7 +17,8 @@ pub fn is_alive(alloc: Global, words: &CleanWords<'_>) -> Result<bool, AllocErro
         ((u : List Symbol) × IsCleanOver A.problem (has_domain doms) p days A.rules u)
         (IsDead A.problem (has_domain doms) p days A.rules)) }
 {
-    let _ = (alloc, words);
+    let _ = alloc;
+    let _ = words;
     Err(AllocError)
 }
 
@@ -29,6 +30,7 @@ pub fn escape(alloc: Global, words: &CleanWords<'_>) -> Result<Option<Word>, All
         (IsDead A.problem (has_domain doms) p days A.rules)
         (λ w. IsLeastClean A.problem (has_domain doms) p days A.rules w)) }
 {
-    let _ = (alloc, words);
+    let _ = alloc;
+    let _ = words;
     Err(AllocError)
 }

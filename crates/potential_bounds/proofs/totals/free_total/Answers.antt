@@ -2,7 +2,7 @@ use Rattle.std.proofs.Common.{◌≡◌, ◌*◌, ◌≤◌, ◌∙◌, ap, arit
 use Rattle.std.specs.Prelude.{◌*ℤ◌}
 use Rattle.std.proofs.lemmas.Int.{ints}
 use Rattle.potential_bounds.proofs.Products.{reward_small}
-use Rattle.potential_bounds.proofs.free.free_total.Goals as goal
+use Rattle.potential_bounds.proofs.totals.free_total.Goals as goal
 
 small : (c : goal.After-from-2) → c.args.reward * c.args.goal ≤ 601000
 small c = reward_small c.args.reward c.args.goal c.requires.reward c.requires.goal

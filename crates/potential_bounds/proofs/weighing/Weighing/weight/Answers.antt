@@ -3,7 +3,7 @@ use Rattle.std.proofs.lemmas.Int.{ints}
 use Rattle.rwsp_terms.specs.declared.data.Weight.{Weight}
 use Rattle.rwsp_terms.specs.Weights.{AreWeights}
 use Rattle.potential_bounds.proofs.Products.{IsBetween, value_small}
-use Rattle.potential_bounds.proofs.heavy.WeightGainGain.gain.Goals as goal
+use Rattle.potential_bounds.proofs.weighing.Weighing.weight.Goals as goal
 
 pub returns-clause-low : goal.returns-clause-low
 returns-clause-low c =

@@ -1,5 +1,5 @@
 // The heaviest clean words.
-ghost use Rattle.std.specs.Prelude.{◌×◌, IfOk, MatchOption, ◌≤ℤ◌};
+ghost use Rattle.std.specs.Prelude.{IfOk, MatchOption, ◌≤ℤ◌};
 ghost use Rattle.refutation_terms.specs.Leaf.{IsDead};
 ghost use Rattle.domain_store.specs.Store.{has_domain};
 ghost use Rattle.clean_words.specs.Courses.{course, IsBestOf, AreBelow};
@@ -26,7 +26,9 @@ pub fn heaviest<G: Gain>(
         (IsDead A.problem (has_domain doms) words.now.position words.now.days A.rules)
         (λ h. IsBestOf (course A doms words.now.position (G.gain_of gain.now)) words.now.days h.weight h.word)) }
 {
-    let _ = (alloc, words, gain);
+    let _ = alloc;
+    let _ = words;
+    let _ = gain;
     Err(AllocError)
 }
 
@@ -43,6 +45,9 @@ pub fn heaviest_reaching<G: Gain>(
         (AreBelow C words.now.days least)
         (λ h. IsBestOf C words.now.days h.weight h.word × (least ≤ℤ h.weight))) }
 {
-    let _ = (alloc, words, gain, least);
+    let _ = alloc;
+    let _ = words;
+    let _ = gain;
+    let _ = least;
     Err(AllocError)
 }
