@@ -5,6 +5,7 @@ ghost use Rattle.refutation_terms.specs.FreeWeekends.{free_weekends};
 ghost use Rattle.roster_finder.specs.Found.{IsRosterWith};
 
 use crate::counters::Reweighing;
+use crate::demand::Demand;
 use crate::draft::{Draft, Window};
 use crate::grid::rest;
 use crate::made::{both, with};
@@ -13,11 +14,13 @@ use crate::random::Random;
 use crate::setting::Setting;
 use crate::shares::Shares;
 use crate::start::{Due, Manner, Starter};
+use crate::steady_layer::SteadyLayer;
 use crate::window::Mover;
 use roster_checker::{first_broken, free_weekends};
 use rwsp_model::{Problem, Roster};
 use rwsp_terms::Symbol;
 use std::alloc::{AllocError, Global};
+use std::marker::Model;
 use std::mem;
 
 /// Rosters of fewer days are left to searches that distinguish cases.
@@ -61,8 +64,8 @@ const MOST_REFUSED: usize = 10_000_000;
 
 /// A search, as far as it is.
 #[derive(Drop)]
-struct Finder {
-    setting: Setting,
+struct Search<'a> {
+    setting: Setting<'a>,
     shares: Shares,
     random: Random,
     draft: Draft,
@@ -75,14 +78,13 @@ struct Finder {
     since: usize,
 }
 
-impl Finder {
+impl<'a> Search<'a> {
     // A search without a word yet. None where there are no shares.
-    fn new(alloc: Global, problem: &Problem, free: u32) -> Result<Option<Finder>, AllocError> {
-        let setting = Setting::of(alloc, problem, free)?;
+    fn new(alloc: Global, setting: Setting<'a>) -> Result<Option<Search<'a>>, AllocError> {
         let mut random = Random::new();
         let parts = parts_for(alloc, &setting, &mut random);
         match with(setting, parts)? {
-            Some((setting, (shares, ((draft, other), (starter, mover))))) => Ok(Some(Finder {
+            Some((setting, (shares, ((draft, other), (starter, mover))))) => Ok(Some(Search {
                 setting,
                 shares,
                 random,
@@ -243,7 +245,7 @@ impl Finder {
     }
 
     // Rewrites windows until the word is a roster that meets every rule and has `free` free weekends at least.
-    fn search(
+    fn run(
         &mut self,
         alloc: Global,
         problem: &Problem,
@@ -277,7 +279,7 @@ type Room = ((Draft, Draft), (Starter, Mover));
 // The first shares, and room to search. None where there are no shares.
 fn parts_for(
     alloc: Global,
-    setting: &Setting,
+    setting: &Setting<'_>,
     random: &mut Random,
 ) -> Result<Option<(Shares, Room)>, AllocError> {
     if setting.layer.nodes() == 0 {
@@ -290,7 +292,7 @@ fn parts_for(
 }
 
 // Two words to be written, and room for start words and moves.
-fn room_for(alloc: Global, setting: &Setting) -> Result<Room, AllocError> {
+fn room_for(alloc: Global, setting: &Setting<'_>) -> Result<Room, AllocError> {
     both(
         both(Draft::new(alloc, setting), Draft::new(alloc, setting)),
         both(Starter::new(alloc, setting), Mover::new(alloc, setting)),
@@ -362,46 +364,68 @@ fn roster_of(problem: &Problem, cells: Vec<Symbol>) -> Option<Roster>
     Some(Roster::of(problem, cells))
 }
 
-/// A roster that meets every rule, or None. None says nothing: another search may find one.
+/// A search for rosters of a problem that distinguishes no cases.
 ///
 /// A fractional roster is found first, that is, how often each step of clean words is taken on each weekday in the
 /// mean (G. Dantzig and P. Wolfe's generation of columns, 1960). Words that follow it meet the demand nearly; windows
 /// of them are then rewritten, each by the clean word that fits best, until the demand is met. The same problem gives
-/// the same answer each time. Costs at most some seconds.
-pub fn find_roster(alloc: Global, problem: &Problem) -> Result<Option<Roster>, AllocError>
-    ensures { IfOk result (λ found.
-        IfSome found (λ s. (s.days ≡ problem.now.days) × MeetsAll problem.now s.cells)) }
-{
-    find(alloc, problem, 0)
+/// the same answer each time.
+#[derive(Drop)]
+pub struct RosterFinder<'a> {
+    problem: &'a Problem,
+    layer: SteadyLayer,
 }
 
-/// A roster that meets every rule and has at least `free` free weekends, or None. None says nothing: another search may
-/// find one. It is looked for as `find_roster` does, with free weekends as one more count.
-pub fn find_roster_with(
-    alloc: Global,
-    problem: &Problem,
-    free: u32,
-) -> Result<Option<Roster>, AllocError>
-    requires { problem.now.days ≡ 7 }
-    ensures { IfOk result (λ found. IfSome found (λ s.
-        (s.days ≡ problem.now.days) × MeetsAll problem.now s.cells × (free ≤ free_weekends s.cells))) }
-{
-    find(alloc, problem, free)
+impl<'a> Model for RosterFinder<'a> {
+    ghost use Rattle.rwsp_terms.specs.Instance.{Instance};
+
+    ghost Value = { Instance };
+
+    ghost view = { λ f. f.problem.now };
 }
 
-fn find(alloc: Global, problem: &Problem, free: u32) -> Result<Option<Roster>, AllocError>
-    requires { 0 < free → problem.now.days ≡ 7 }
-    ensures { IfOk result (λ found. IfSome found (IsRosterWith problem.now free)) }
-{
-    if problem.cells() < FEWEST_CELLS {
-        return Ok(None);
+impl<'a> RosterFinder<'a> {
+    /// A search for rosters of the problem.
+    pub fn new(alloc: Global, problem: &'a Problem) -> Result<RosterFinder<'a>, AllocError>
+        ensures { IfOk result (λ f. f ≡ problem.now) }
+    {
+        Ok(RosterFinder {
+            problem,
+            layer: SteadyLayer::of(alloc, problem)?,
+        })
     }
-    match Finder::new(alloc, problem, free)? {
-        Some(mut finder) => {
-            let found = finder.search(alloc, problem, free);
-            drop(finder);
-            found
+
+    /// A roster that meets every rule and has at least `free` free weekends, or None. None says nothing: another search
+    /// may find one. Costs at most some seconds.
+    pub fn find(&self, alloc: Global, free: u32) -> Result<Option<Roster>, AllocError>
+        requires { 0 < free → self.now.days ≡ 7 }
+        ensures { IfOk result (λ found. IfSome found (IsRosterWith self.now free)) }
+    {
+        if self.problem.cells() < FEWEST_CELLS {
+            return Ok(None);
         }
-        None => Ok(None),
+        let setting = Setting {
+            layer: &self.layer,
+            demand: Demand::of(alloc, self.problem, free)?,
+        };
+        match Search::new(alloc, setting)? {
+            Some(mut search) => {
+                let found = search.run(alloc, self.problem, free);
+                drop(search);
+                found
+            }
+            None => Ok(None),
+        }
     }
+}
+
+/// A roster that meets every rule, or None, as `RosterFinder` finds it.
+pub fn find_roster(alloc: Global, problem: &Problem) -> Result<Option<Roster>, AllocError>
+    ensures { IfOk result (λ found. IfSome found (λ s.
+        (s.days ≡ problem.now.days) × MeetsAll problem.now s.cells)) }
+{
+    let finder = RosterFinder::new(alloc, problem)?;
+    let found = finder.find(alloc, 0);
+    drop(finder);
+    found
 }

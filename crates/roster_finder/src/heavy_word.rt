@@ -30,7 +30,7 @@ pub(crate) struct Weigher {
 }
 
 impl Weigher {
-    pub fn new(alloc: Global, setting: &Setting, len: usize) -> Result<Weigher, AllocError> {
+    pub fn new(alloc: Global, setting: &Setting<'_>, len: usize) -> Result<Weigher, AllocError> {
         let nodes = setting.layer.nodes();
         let weights = both(vec![in alloc; 0; nodes], vec![in alloc; 0; nodes]);
         let made = both(weights, Grid::new(alloc, len, nodes, 0));

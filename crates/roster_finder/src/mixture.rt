@@ -54,8 +54,8 @@ pub(crate) struct Mixture {
 
 impl Mixture {
     /// No words yet, and no cuts.
-    pub fn new(alloc: Global, setting: &Setting) -> Result<Mixture, AllocError> {
-        let Setting { layer, demand } = setting;
+    pub fn new(alloc: Global, setting: &Setting<'_>) -> Result<Mixture, AllocError> {
+        let demand = &setting.demand;
         let turns = WORD_DAYS
             .checked_div(demand.cells())
             .unwrap_or(0)
@@ -64,7 +64,7 @@ impl Mixture {
         let hull = hull_of(alloc, demand, turns, &quotas);
         let goal = both(Ok(quotas), hull);
         let len = demand.cells().saturating_mul(turns);
-        let weights = Grid::new(alloc, demand.days, layer.steps.len(), 0);
+        let weights = Grid::new(alloc, demand.days, setting.layer.steps.len(), 0);
         let room = both(Weigher::new(alloc, setting, len), weights);
         let ((quotas, hull), (weigher, weights)) = both(goal, room)?;
         Ok(Mixture {
@@ -83,7 +83,7 @@ impl Mixture {
     pub fn approach(
         &mut self,
         alloc: Global,
-        setting: &Setting,
+        setting: &Setting<'_>,
         random: &mut Random,
         noise: usize,
     ) -> Result<bool, AllocError> {
@@ -106,10 +106,10 @@ impl Mixture {
     fn add_heaviest(
         &mut self,
         alloc: Global,
-        setting: &Setting,
+        setting: &Setting<'_>,
         far: i64,
     ) -> Result<Option<bool>, AllocError> {
-        let word = self.weigher.heaviest(alloc, &setting.layer, &self.weights)?;
+        let word = self.weigher.heaviest(alloc, setting.layer, &self.weights)?;
         if word.weight < self.wanted_weight(&setting.demand, far) {
             drop(word);
             return Ok(Some(false));
@@ -118,7 +118,7 @@ impl Mixture {
         Ok(if is_new { None } else { Some(true) })
     }
 
-    fn rounds(&self, setting: &Setting) -> usize {
+    fn rounds(&self, setting: &Setting<'_>) -> usize {
         let days = setting.demand.cells().saturating_mul(self.turns);
         let looks = days.saturating_mul(setting.layer.steps.len());
         let affordable = MOST_LOOKS.checked_div(looks).unwrap_or(0);
@@ -129,7 +129,7 @@ impl Mixture {
     fn add_word(
         &mut self,
         alloc: Global,
-        setting: &Setting,
+        setting: &Setting<'_>,
         word: HeavyWord,
     ) -> Result<bool, AllocError> {
         match self.add_row(alloc, setting, &word.uses) {
@@ -150,7 +150,7 @@ impl Mixture {
     fn add_row(
         &mut self,
         alloc: Global,
-        setting: &Setting,
+        setting: &Setting<'_>,
         uses: &Grid<i64>,
     ) -> Result<bool, AllocError> {
         let row = row_of(alloc, setting, &self.quotas, uses)?;
@@ -175,7 +175,7 @@ impl Mixture {
         quotient(off.wrapping_mul(GREATEST_STEP_WEIGHT), far)
     }
 
-    fn set_weights(&mut self, setting: &Setting, random: &mut Random, noise: usize, far: i64) {
+    fn set_weights(&mut self, setting: &Setting<'_>, random: &mut Random, noise: usize, far: i64) {
         for weekday in 0..setting.demand.days {
             self.set_day_weights(setting, random, noise, far, weekday);
         }
@@ -189,7 +189,7 @@ impl Mixture {
 
     fn set_day_weights(
         &mut self,
-        setting: &Setting,
+        setting: &Setting<'_>,
         random: &mut Random,
         noise: usize,
         far: i64,
@@ -237,7 +237,7 @@ impl Mixture {
     pub fn uses(
         &self,
         alloc: Global,
-        setting: &Setting,
+        setting: &Setting<'_>,
         one_use: i64,
     ) -> Result<Grid<i64>, AllocError> {
         let steps = setting.layer.steps.len();
@@ -262,7 +262,7 @@ impl Mixture {
     }
 
     /// Takes new cuts into account. Each word keeps its part.
-    pub fn renew(&mut self, alloc: Global, setting: &Setting) -> Result<(), AllocError> {
+    pub fn renew(&mut self, alloc: Global, setting: &Setting<'_>) -> Result<(), AllocError> {
         let mut hull = hull_of(alloc, &setting.demand, self.turns, &self.quotas)?;
         let put = self.put_words(alloc, setting, &mut hull);
         let hull = kept(hull, put)?;
@@ -275,7 +275,7 @@ impl Mixture {
     fn put_words(
         &self,
         alloc: Global,
-        setting: &Setting,
+        setting: &Setting<'_>,
         hull: &mut Hull,
     ) -> Result<(), AllocError> {
         for (place, word) in self.words.iter().enumerate() {
@@ -307,7 +307,7 @@ fn furthest(numbers: &[i64]) -> i64 {
 }
 
 // The quota of free weekends, where some are wanted.
-fn first_quotas(alloc: Global, setting: &Setting) -> Result<Vec<Quota>, AllocError> {
+fn first_quotas(alloc: Global, setting: &Setting<'_>) -> Result<Vec<Quota>, AllocError> {
     if setting.demand.free == 0 {
         return Ok(Vec::new(alloc));
     }
@@ -370,7 +370,7 @@ fn put_range(
 // The coordinates of a word: how often it has each symbol on each weekday, and what it has of each quota.
 fn row_of(
     alloc: Global,
-    setting: &Setting,
+    setting: &Setting<'_>,
     quotas: &[Quota],
     uses: &Grid<i64>,
 ) -> Result<Vec<i64>, AllocError> {
@@ -381,7 +381,7 @@ fn row_of(
 
 // Puts the coordinates of a word behind those that are there.
 fn put_row(
-    setting: &Setting,
+    setting: &Setting<'_>,
     quotas: &[Quota],
     uses: &Grid<i64>,
     row: &mut Vec<i64>,
@@ -397,7 +397,7 @@ fn put_row(
     Ok(())
 }
 
-fn count_of(setting: &Setting, uses: &Grid<i64>, symbol: usize, weekday: usize) -> i64 {
+fn count_of(setting: &Setting<'_>, uses: &Grid<i64>, symbol: usize, weekday: usize) -> i64 {
     let mut sum: i64 = 0;
     for (number, step) in setting.layer.steps.iter().enumerate() {
         if step.symbol == symbol {
