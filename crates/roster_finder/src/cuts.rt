@@ -171,7 +171,11 @@ impl Parts {
 }
 
 // The steps that have a share, those of the greatest shares first.
-fn used_steps(alloc: Global, setting: &Setting<'_>, uses: &Grid<i64>) -> Result<Vec<Used>, AllocError> {
+fn used_steps(
+    alloc: Global,
+    setting: &Setting<'_>,
+    uses: &Grid<i64>,
+) -> Result<Vec<Used>, AllocError> {
     let mut used = Vec::new(alloc);
     for weekday in 0..setting.demand.days {
         for number in 0..setting.layer.steps.len() {

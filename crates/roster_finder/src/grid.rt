@@ -41,6 +41,27 @@ impl<T: Copy + Drop> Grid<T> {
         put(&mut self.entries, place, value);
     }
 
+    /// The values of a row; none outside of the table.
+    pub fn row(&self, row: usize) -> &[T] {
+        let first = row.saturating_mul(self.columns);
+        match self.entries.get(first..first.saturating_add(self.columns)) {
+            Some(entries) => entries,
+            None => &[],
+        }
+    }
+
+    /// The same, to be written.
+    pub fn row_mut(&mut self, row: usize) -> &mut [T] {
+        let first = row.saturating_mul(self.columns);
+        match self
+            .entries
+            .get_mut(first..first.saturating_add(self.columns))
+        {
+            Some(entries) => entries,
+            None => &mut [],
+        }
+    }
+
     /// Writes the outside's value everywhere.
     pub fn clear(&mut self) {
         set_all(&mut self.entries, self.outside);
