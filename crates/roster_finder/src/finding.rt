@@ -29,6 +29,9 @@ const FEWEST_CELLS: u32 = 14;
 /// The most windows that are rewritten.
 const MOST_MOVES: usize = 320_000;
 
+/// The most of a search that is to end soon.
+const MOST_SHORT_MOVES: usize = 16_000;
+
 /// Where a layer has many steps, this divided by their number, since each move looks at each step.
 const MOST_STEP_MOVES: usize = 36_000_000;
 
@@ -61,6 +64,14 @@ const PATIENCE: usize = 200;
 
 /// The search ends when the words that met the demand and broke a rule of long blocks have this many cells in all.
 const MOST_REFUSED: usize = 10_000_000;
+
+/// How long a search goes on that has found nothing.
+#[derive(Clone, Copy)]
+pub enum Patience {
+    /// Most rosters that can be found are found by then.
+    Short,
+    Long,
+}
 
 /// A search, as far as it is.
 #[derive(Drop)]
@@ -234,11 +245,11 @@ impl<'a> Search<'a> {
     }
 
     // At most this many moves are made.
-    fn most_moves(&self) -> usize {
-        let most = if self.shares.hang_together {
-            MOST_MOVES
-        } else {
-            MOST_LOOSE_MOVES
+    fn most_moves(&self, patience: Patience) -> usize {
+        let most = match patience {
+            Patience::Short => MOST_SHORT_MOVES,
+            Patience::Long if self.shares.hang_together => MOST_MOVES,
+            Patience::Long => MOST_LOOSE_MOVES,
         };
         let affordable = MOST_STEP_MOVES.checked_div(self.setting.layer.steps.len());
         affordable.unwrap_or(0).min(most)
@@ -250,12 +261,13 @@ impl<'a> Search<'a> {
         alloc: Global,
         problem: &Problem,
         free: u32,
+        patience: Patience,
     ) -> Result<Option<Roster>, AllocError>
         requires { 0 < free → problem.now.days ≡ 7 }
         ensures { IfOk result (λ found. IfSome found (IsRosterWith problem.now free)) }
     {
         let mut refused: usize = 0;
-        for turn in 0..self.most_moves() {
+        for turn in 0..self.most_moves(patience) {
             self.renew_shares(alloc, turn)?;
             if !self.renew_word(turn) || refused > MOST_REFUSED {
                 return Ok(None);
@@ -395,9 +407,21 @@ impl<'a> RosterFinder<'a> {
         })
     }
 
+    /// The problem.
+    pub fn problem(&self) -> &Problem
+        ensures { result.now ≡ self.now }
+    {
+        self.problem
+    }
+
     /// A roster that meets every rule and has at least `free` free weekends, or None. None says nothing: another search
     /// may find one. Costs at most some seconds.
-    pub fn find(&self, alloc: Global, free: u32) -> Result<Option<Roster>, AllocError>
+    pub fn find(
+        &self,
+        alloc: Global,
+        free: u32,
+        patience: Patience,
+    ) -> Result<Option<Roster>, AllocError>
         requires { 0 < free → self.now.days ≡ 7 }
         ensures { IfOk result (λ found. IfSome found (IsRosterWith self.now free)) }
     {
@@ -410,7 +434,7 @@ impl<'a> RosterFinder<'a> {
         };
         match Search::new(alloc, setting)? {
             Some(mut search) => {
-                let found = search.run(alloc, self.problem, free);
+                let found = search.run(alloc, self.problem, free, patience);
                 drop(search);
                 found
             }
@@ -425,7 +449,7 @@ pub fn find_roster(alloc: Global, problem: &Problem) -> Result<Option<Roster>, A
         (s.days ≡ problem.now.days) × MeetsAll problem.now s.cells)) }
 {
     let finder = RosterFinder::new(alloc, problem)?;
-    let found = finder.find(alloc, 0);
+    let found = finder.find(alloc, 0, Patience::Long);
     drop(finder);
     found
 }

@@ -44,21 +44,11 @@ impl<T: Copy + Drop> Grid<T> {
     /// The values of a row; none outside of the table.
     pub fn row(&self, row: usize) -> &[T] {
         let first = row.saturating_mul(self.columns);
-        match self.entries.get(first..first.saturating_add(self.columns)) {
-            Some(entries) => entries,
-            None => &[],
-        }
-    }
-
-    /// The same, to be written.
-    pub fn row_mut(&mut self, row: usize) -> &mut [T] {
-        let first = row.saturating_mul(self.columns);
-        match self
-            .entries
-            .get_mut(first..first.saturating_add(self.columns))
-        {
-            Some(entries) => entries,
-            None => &mut [],
+        let end = first.saturating_add(self.columns);
+        if first <= end && end <= self.entries.len() {
+            &self.entries[first..end]
+        } else {
+            &[]
         }
     }
 

@@ -72,14 +72,13 @@ impl Weigher {
     // One day, on which the steps have these weights.
     fn weigh_day(&mut self, layer: &SteadyLayer, weights: &[i64], day: usize) {
         set_all(&mut self.next_weights, NEVER);
-        let last_steps = self.last_steps.row_mut(day);
         let mut number: u32 = 0;
         for (step, weight) in layer.steps.iter().zip(weights.iter()) {
             let before = entry_or(&self.weights, step.from, NEVER);
             let weight = before.wrapping_add(*weight);
             if weight > entry_or(&self.next_weights, step.to, NEVER) {
                 put(&mut self.next_weights, step.to, weight);
-                put(last_steps, step.to, number);
+                self.last_steps.set(day, step.to, number);
             }
             number = number.wrapping_add(1);
         }

@@ -21,4 +21,4 @@ mod steady_layer;
 mod walk;
 mod window;
 
-pub use finding::{RosterFinder, find_roster};
+pub use finding::{Patience, RosterFinder, find_roster};
