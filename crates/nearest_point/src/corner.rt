@@ -45,12 +45,12 @@ pub fn product(a: &[i64], b: &[i64]) -> i64 {
     sum
 }
 
-// The square of the distance.
+// The square of the distance of two vectors of as many coordinates.
 pub fn square_distance(a: &[i64], b: &[i64]) -> u64 {
     let mut sum: u64 = 0;
-    for i in 0..a.len().max(b.len()) {
-        let apart = entry(a, i).wrapping_sub(entry(b, i)).unsigned_abs();
-        sum = sum.saturating_add(apart.saturating_mul(apart));
+    for (x, y) in a.iter().zip(b.iter()) {
+        let apart = x.wrapping_sub(*y).unsigned_abs();
+        sum = sum.wrapping_add(apart.wrapping_mul(apart));
     }
     sum
 }

@@ -166,7 +166,7 @@ impl Sweep {
         self.now.fill(NEVER);
         for step in &self.moves {
             let after = entry_or(&self.next, step.to, NEVER);
-            let weight = after.saturating_add(entry_or(&self.gains, step.gain, NEVER));
+            let weight = after.wrapping_add(entry_or(&self.gains, step.gain, NEVER));
             if weight > entry_or(&self.now, step.from, NEVER) {
                 put(&mut self.now, step.from, weight);
                 put(&mut self.choices, row.saturating_add(step.from), step.symbol);

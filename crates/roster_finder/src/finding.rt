@@ -27,7 +27,7 @@ use std::mem;
 const FEWEST_CELLS: u32 = 14;
 
 /// The most windows that are rewritten.
-const MOST_MOVES: usize = 320_000;
+const MOST_MOVES: usize = 160_000;
 
 /// The most of a search that is to end soon.
 const MOST_SHORT_MOVES: usize = 16_000;
