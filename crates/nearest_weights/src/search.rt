@@ -112,12 +112,7 @@ fn rounds_within(sweep: &Sweep, days: u32, effort: Effort) -> u32 {
 }
 
 // Four times as many turns, and so on up to the most, whose bound holds with these weights.
-fn more_turns(
-    field: &Field<'_>,
-    sweep: &mut Sweep,
-    weights: &[i64],
-    effort: Effort,
-) -> Option<u32>
+fn more_turns(field: &Field<'_>, sweep: &mut Sweep, weights: &[i64], effort: Effort) -> Option<u32>
     requires { (1 ≤ effort.first_turns) × (effort.first_turns ≤ effort.most_turns) }
     ensures { IfSome result (λ t. (1 ≤ t) × (t ≤ effort.most_turns)) }
 {

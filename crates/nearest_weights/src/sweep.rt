@@ -81,19 +81,27 @@ fn bit(number: u8) -> u16 {
     1u16.wrapping_shl(u32::from(number))
 }
 
-// A step of the automaton, and the place of what it gains.
+// A step of the automaton.
 #[derive(Clone, Copy)]
 struct Move {
     from: usize,
     to: usize,
+}
+
+// Steps that gain the same on each day, and their symbol.
+#[derive(Drop)]
+struct Moves {
     symbol: u8,
-    gain: usize,
+    moves: Vec<Move>,
 }
 
 // The room for passes over days.
 #[derive(Drop)]
 pub struct Sweep {
-    moves: Vec<Move>,
+    // The number of steps.
+    steps: u64,
+    // The steps, by the place of what they gain.
+    moves: Vec<Moves>,
     // For each state, whether the words to it end with the day off.
     offs: Vec<bool>,
     // What the words from each state to the end weigh at most, on one day and on the next.
@@ -112,6 +120,7 @@ impl Sweep {
         let offs = offs_of(alloc, automaton)?;
         let moves = moves_of(alloc, automaton, &offs)?;
         Ok(Sweep {
+            steps: automaton.steps().len() as u64,
             moves,
             offs,
             now: vec![in alloc; NEVER; states]?,
@@ -164,12 +173,10 @@ impl Sweep {
     fn weigh_day(&mut self, day: u32) {
         let row = (day as usize).saturating_mul(self.offs.len());
         self.now.fill(NEVER);
-        for step in &self.moves {
-            let after = entry_or(&self.next, step.to, NEVER);
-            let weight = after.wrapping_add(entry_or(&self.gains, step.gain, NEVER));
-            if weight > entry_or(&self.now, step.from, NEVER) {
-                put(&mut self.now, step.from, weight);
-                put(&mut self.choices, row.saturating_add(step.from), step.symbol);
+        for (moves, gain) in self.moves.iter().zip(self.gains.iter()) {
+            if *gain > NEVER / 2 {
+                let offer = Offer { gain: *gain, row };
+                weigh_moves(&mut self.now, &mut self.choices, &self.next, moves, offer);
             }
         }
     }
@@ -188,7 +195,10 @@ impl Sweep {
         let mut state = 0u32;
         for day in 0..days {
             let number = self.choice(day, state);
-            add_one(&mut counts, place.day_start(day).wrapping_add(usize::from(number)));
+            add_one(
+                &mut counts,
+                place.day_start(day).wrapping_add(usize::from(number)),
+            );
             let was_off = entry_or(&self.offs, state as usize, false);
             if number == 0 && was_off && place.ends_weekend(day) {
                 add_one(&mut counts, place.shape.size());
@@ -205,7 +215,7 @@ impl Sweep {
 
     // The number of steps in a pass over `days` days.
     pub fn looks(&self, days: u32) -> u64 {
-        u64::from(days).saturating_mul(self.moves.len() as u64)
+        u64::from(days).saturating_mul(self.steps)
     }
 }
 
@@ -219,29 +229,62 @@ fn offs_of(alloc: Global, automaton: &Automaton) -> Result<Vec<bool>, AllocError
     Ok(offs)
 }
 
-// The steps, each with the place of what it gains.
-fn moves_of(
+// The steps, by the place of what they gain.
+fn moves_of(alloc: Global, automaton: &Automaton, offs: &[bool]) -> Result<Vec<Moves>, AllocError> {
+    let mut all = Vec::new(alloc);
+    for place in 0..OFF_AGAIN + 1 {
+        let moves = moves_at(alloc, automaton, offs, place)?;
+        let symbol = if place < OFF_AGAIN { place as u8 } else { 0 };
+        all.push(Moves { symbol, moves })?;
+    }
+    Ok(all)
+}
+
+// The steps of one such place.
+fn moves_at(
     alloc: Global,
     automaton: &Automaton,
     offs: &[bool],
+    place: usize,
 ) -> Result<Vec<Move>, AllocError> {
     let mut moves = Vec::new(alloc);
     for step in automaton.steps() {
         let from = step.from as usize;
-        let symbol = step.symbol.number;
-        let is_off_again = symbol == 0 && entry_or(offs, from, false);
-        moves.push(Move {
-            from,
-            to: step.to as usize,
-            symbol,
-            gain: if is_off_again {
-                OFF_AGAIN
-            } else {
-                usize::from(symbol)
-            },
-        })?;
+        if place_of(step.symbol, entry_or(offs, from, false)) == place {
+            moves.push(Move {
+                from,
+                to: step.to as usize,
+            })?;
+        }
     }
     Ok(moves)
+}
+
+// The place of what a symbol gains behind a day that is off or not.
+fn place_of(symbol: Symbol, was_off: bool) -> usize {
+    if symbol.number == 0 && was_off {
+        OFF_AGAIN
+    } else {
+        usize::from(symbol.number)
+    }
+}
+
+// What steps of one symbol gain on a day, and where the choices of this day begin.
+#[derive(Clone, Copy)]
+struct Offer {
+    gain: i64,
+    row: usize,
+}
+
+// The heaviest words from each state that begin with one of the steps, where they are heavier than those before.
+fn weigh_moves(now: &mut [i64], choices: &mut [u8], next: &[i64], moves: &Moves, offer: Offer) {
+    for step in &moves.moves {
+        let weight = entry_or(next, step.to, NEVER).wrapping_add(offer.gain);
+        if weight > entry_or(now, step.from, NEVER) {
+            put(now, step.from, weight);
+            put(choices, offer.row.saturating_add(step.from), moves.symbol);
+        }
+    }
 }
 
 // Where the symbol of a number leads from a state; the state of the empty word where it leads nowhere.
