@@ -5,13 +5,12 @@ ghost use Rattle.refutation_terms.specs.Leaf.{fixed, possible};
 ghost use Rattle.domain_store.specs.Store.{Store, domain_at, has_domain, BelongsTo};
 
 use crate::recount::{alone, held, recount};
-use domain_store::{Domains, SymbolSet};
+use domain_store::{Domains, KeptSets, SymbolSet};
 use rwsp_model::Problem;
 use rwsp_terms::Symbol;
 use rwsp_terms::limits::{MOST_SHIFTS, MOST_SYMBOLS, MOST_WEEKS};
 use std::alloc::{AllocError, Global};
 use std::marker::Model;
-use std::mem;
 
 /// For each day and symbol the number of weeks that certainly hold the symbol on the day, since it is alone in the
 /// domain there, and the number of those that can hold it, since it is in the domain there. They are kept with the
@@ -23,7 +22,7 @@ pub struct Counts {
     days: u32,
     weeks: u32,
     shifts: u8,
-    sets: Vec<SymbolSet>,
+    sets: KeptSets,
     // `MOST_SYMBOLS` counters for each day, one for each symbol that may be
     fixed: Vec<u32>,
     possible: Vec<u32>,
@@ -36,11 +35,11 @@ impl Model for Counts {
 
     ghost use Rattle.demand_counts.specs.Tallies.{IsTallied};
 
-    ghost view = { λ c. record { days = c.days; weeks = c.weeks; shifts = c.shifts; sets = c.sets.items } };
+    ghost view = { λ c. record { days = c.days; weeks = c.weeks; shifts = c.shifts; sets = c.sets } };
 
     ghost invariant = { λ c.
         IsTallied
-        (record { days = c.days; weeks = c.weeks; shifts = c.shifts; sets = c.sets.items })
+        (record { days = c.days; weeks = c.weeks; shifts = c.shifts; sets = c.sets })
         c.fixed.items c.possible.items };
 }
 
@@ -129,7 +128,7 @@ impl Counts {
         let weeks = problem.weeks();
         let shifts = problem.shifts();
         let counters = days as usize * MOST_SYMBOLS as usize;
-        let sets = empty_sets(alloc, problem.cells())?;
+        let sets = KeptSets::empty(alloc, problem.cells())?;
         let fixed = vec![in alloc; 0; counters]?;
         let possible = vec![in alloc; 0; counters]?;
         Ok(Counts {
@@ -148,19 +147,9 @@ impl Counts {
         requires position { p < length doms.now.sets }
         ensures { self.new ≡ with_set self.old p (domain_at doms.now p) }
     {
-        let set = doms.set(p);
-        if !self.has_set(p, set) {
-            self.put(p, *set);
+        if let Some(set) = self.sets.changed(doms, p) {
+            self.put(p, set);
         }
-    }
-
-    // Whether the position has the domain.
-    fn has_set(&self, p: u32, set: &SymbolSet) -> bool
-        requires { p < length self.now.sets }
-        ensures { IsTrue result ↔ (slice_index_or self.now.sets p [] ≡ set.now) }
-    {
-        let kept = &self.sets[p as usize];
-        kept.is_same(set)
     }
 
     // Gives the position another domain.
@@ -171,22 +160,13 @@ impl Counts {
         let row = (p % self.days) as usize * MOST_SYMBOLS as usize;
         let is_held = held(&set);
         let is_alone = alone(&set, self.shifts);
-        let before = mem::replace(&mut self.sets[p as usize], set);
+        let before = *self.sets.at(p);
+        self.sets.put(p, set);
         let was_held = held(&before);
         let was_alone = alone(&before, self.shifts);
         recount(&mut self.possible, row, &was_held, &is_held);
         recount(&mut self.fixed, row, &was_alone, &is_alone);
     }
-}
-
-fn empty_sets(alloc: Global, cells: u32) -> Result<Vec<SymbolSet>, AllocError>
-    ensures { IfOk result (λ v. v.items ≡ replicate cells []) }
-{
-    let mut sets = Vec::with_capacity(alloc, cells as usize)?;
-    for _ in 0..cells {
-        sets.push(SymbolSet::empty())?;
-    }
-    Ok(sets)
 }
 
 // Counts may be sent to other threads and shared with them.

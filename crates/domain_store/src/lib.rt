@@ -3,9 +3,11 @@
 
 mod change;
 mod domains;
+mod kept_sets;
 mod mark;
 mod symbol_set;
 
 pub use domains::Domains;
+pub use kept_sets::KeptSets;
 pub use mark::Mark;
 pub use symbol_set::SymbolSet;

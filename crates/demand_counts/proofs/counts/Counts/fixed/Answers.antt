@@ -13,7 +13,7 @@ returns-clause-few c =
     let shifts : c.self.inside.shifts ≡ c.args.self.now.shifts = ap (λ (C : Counted). C.shifts) c.self.view_is in
     let small : c.args.x.number < MOST_SYMBOLS = omega (arith, c.requires.symbol, shifts, c.self.invariant.few_shifts) in
     let le : c.args.day ≤ c.self.inside.days = omega (arith, c.requires.day.1, days) in
-    omega (arith, weeks, tally_few (is_alone c.self.inside.shifts) c.self.inside.days c.self.inside.weeks c.self.inside.sets.items c.self.inside.fixed.items c.args.day c.args.x.number c.index.result.now c.self.invariant.fixed_counted c.requires.day.0 le small c.index.ensures)
+    omega (arith, weeks, tally_few (is_alone c.self.inside.shifts) c.self.inside.days c.self.inside.weeks c.self.inside.sets c.self.inside.fixed.items c.args.day c.args.x.number c.index.result.now c.self.invariant.fixed_counted c.requires.day.0 le small c.index.ensures)
 
 pub returns-clause-small : goal.returns-clause-small
 returns-clause-small c =
