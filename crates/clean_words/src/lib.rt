@@ -2,12 +2,19 @@
 //! passes over the days with the automaton of the rules.
 #![tactic(auto)]
 
+mod choice;
+mod day_gains;
+mod facts;
 mod gain;
-mod heaviest;
-mod least;
+mod heavy_words;
+mod kept_rows;
+mod least_words;
+mod row;
+mod rows;
+mod walk;
 mod words;
 
 pub use gain::Gain;
-pub use heaviest::{HeavyWord, heaviest, heaviest_reaching};
-pub use least::{escape, is_alive};
+pub use heavy_words::{HeavyWord, heaviest, heaviest_reaching};
+pub use least_words::{escape, is_alive};
 pub use words::CleanWords;

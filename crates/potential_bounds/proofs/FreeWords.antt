@@ -1,5 +1,5 @@
--- What is gained with a reward where a free weekend ends is the weight with the reward for each free weekend.
-use Rattle.std.proofs.Common.{◌≡◌, ℕ, suc, ◌+◌, ◌*◌, ◌%◌, List, [], ◌∷◌, length, refl, ap, sym, ◌∙◌, arith, pos, ℤ, Option, Some, None, Bool, true, false, cond, ◌&&◌, ◌==◌, count_by}
+-- What is gained by weights is the weight, and with a reward where a free weekend ends that with one for each of them.
+use Rattle.std.proofs.Common.{◌≡◌, ℕ, suc, ◌+◌, ◌*◌, ◌%◌, List, [], ◌∷◌, length, refl, ap, sym, ◌∙◌, arith, pos, ℤ, Bool, true, false, cond, ◌&&◌, ◌==◌, count_by}
 use Rattle.std.specs.Prelude.{nat_lt, ◌+ℤ◌}
 use Rattle.std.specs.List.{range_with_len}
 use Rattle.std.proofs.Math.Nat.{mul-add}
@@ -13,14 +13,13 @@ use Rattle.rwsp_terms.proofs.Counting.{count_next, count_same}
 use Rattle.refutation_terms.specs.Word.{weight}
 use Rattle.refutation_terms.specs.FreeWeekends.{is_off_at, is_free_weekend, free_weekends, free_weight}
 use Rattle.refutation_terms.proofs.Turning.{count_shift}
-use Rattle.layered_cycle.specs.Front.{gained_after}
-use Rattle.potential_bounds.specs.FreeGains.{ends_free, reward_behind, free_gain}
-use Rattle.potential_bounds.proofs.HeavyWords.{Weighs, alone_from, alone_weighs}
+use Rattle.clean_words.specs.Courses.{gained}
+use Rattle.potential_bounds.specs.Gains.{ends_free, reward_behind, free_gain}
 
--- how many free weekends end in a word, from a day on and behind a symbol
-abbrev ended : ℕ → Option Symbol → List Symbol → ℕ
-ended day before [] = 0
-ended day before (x ∷ u) = cond (ends_free day before x) 1 0 + ended (day + 1) (Some x) u
+-- how many free weekends end in a word, from a day on, where the day before is off or not
+abbrev ended : ℕ → Bool → List Symbol → ℕ
+ended day behind_off [] = 0
+ended day behind_off (x ∷ u) = cond (ends_free day behind_off x) 1 0 + ended (day + 1) (x.number == 0) u
 
 -- a day 6 of the word, from a day on, that is off as the day behind it
 abbrev begins : ℕ → List Symbol → ℕ → Bool
@@ -30,12 +29,15 @@ rewarded : (reward : ℕ) (b : Bool) → cond b reward 0 ≡ reward * cond b 1 0
 rewarded reward true = omega arith
 rewarded reward false = omega arith
 
-gained_free : (y : List Weight) (p days reward day : ℕ) (before : Option Symbol) (u : List Symbol) → gained_after (free_gain y p days reward) day before u ≡ gained_after (alone_from y p days) day before u +ℤ pos (reward * ended day before u)
-gained_free y p days reward day before [] = let e : reward * 0 ≡ 0 = omega arith in omega (arith, ints, e)
-gained_free y p days reward day before (x ∷ u) =
-    let rest : gained_after (free_gain y p days reward) (day + 1) (Some x) u ≡ gained_after (alone_from y p days) (day + 1) (Some x) u +ℤ pos (reward * ended (day + 1) (Some x) u) = gained_free y p days reward (day + 1) (Some x) u in
-    let here : reward_behind reward day before x ≡ reward * cond (ends_free day before x) 1 0 = rewarded reward (ends_free day before x) in
-    let sum : reward * (cond (ends_free day before x) 1 0 + ended (day + 1) (Some x) u) ≡ reward * cond (ends_free day before x) 1 0 + reward * ended (day + 1) (Some x) u = mul-add reward (cond (ends_free day before x) 1 0) (ended (day + 1) (Some x) u) in
+-- what a word gains from a day on is its weight, with the reward for each of these
+gained_free : (P : Instance) (y : List Weight) (p reward day : ℕ) (behind_off : Bool) (u : List Symbol) → gained (free_gain y p P.days reward) day behind_off u ≡ weight P y (p + day) u +ℤ pos (reward * ended day behind_off u)
+gained_free P y p reward day behind_off [] = let e : reward * 0 ≡ 0 = omega arith in omega (arith, ints, e)
+gained_free P y p reward day behind_off (x ∷ u) =
+    let next : p + (day + 1) ≡ p + day + 1 = omega arith in
+    let rest : gained (free_gain y p P.days reward) (day + 1) (x.number == 0) u ≡ weight P y (p + day + 1) u +ℤ pos (reward * ended (day + 1) (x.number == 0) u) =
+    gained_free P y p reward (day + 1) (x.number == 0) u ∙ ap (λ (q : ℕ). weight P y q u +ℤ pos (reward * ended (day + 1) (x.number == 0) u)) next in
+    let here : reward_behind reward day behind_off x ≡ reward * cond (ends_free day behind_off x) 1 0 = rewarded reward (ends_free day behind_off x) in
+    let sum : reward * (cond (ends_free day behind_off x) 1 0 + ended (day + 1) (x.number == 0) u) ≡ reward * cond (ends_free day behind_off x) 1 0 + reward * ended (day + 1) (x.number == 0) u = mul-add reward (cond (ends_free day behind_off x) 1 0) (ended (day + 1) (x.number == 0) u) in
     omega (arith, ints, rest, here, sum)
 
 four : (a b c d e f g h : Bool) → a ≡ e → b ≡ f → c ≡ g → d ≡ h → (a && b && c && d) ≡ (e && f && g && h)
@@ -81,22 +83,22 @@ first_apart day x u =
     ap (λ (n : ℕ). count_by (begins day (x ∷ u)) (range_with_len 0 n)) long ∙ next ∙ ap (λ (n : ℕ). cond (begins day (x ∷ u) 0) 1 0 + n) rest
 
 -- a free weekend ends a day after it begins
-ends_as_begins : (day : ℕ) (x : Symbol) (u : List Symbol) → count_by (begins day (x ∷ u)) (range_with_len 0 (length (x ∷ u))) ≡ ended (day + 1) (Some x) u
+ends_as_begins : (day : ℕ) (x : Symbol) (u : List Symbol) → count_by (begins day (x ∷ u)) (range_with_len 0 (length (x ∷ u))) ≡ ended (day + 1) (x.number == 0) u
 ends_as_begins day x [] =
     let none : begins day (x ∷ []) 0 ≡ false = no_next ((day + 0) % 7 == 5) (is_off_at (x ∷ []) 0) (is_off_at (x ∷ []) 1) in
     first_apart day x [] ∙ ap (λ (b : Bool). cond b 1 0 + 0) none
 ends_as_begins day x (y ∷ u) =
-    let first : begins day (x ∷ y ∷ u) 0 ≡ ends_free (day + 1) (Some x) y =
+    let first : begins day (x ∷ y ∷ u) 0 ≡ ends_free (day + 1) (x.number == 0) y =
     four ((day + 0) % 7 == 5) (nat_lt 1 (length (x ∷ y ∷ u))) (x.number == 0) (y.number == 0) ((day + 1) % 7 == 6) true (x.number == 0) (y.number == 0) (week_ends day) (lt-ltb 1 (length (x ∷ y ∷ u)) (omega arith)) refl refl
     ∙ a_next ((day + 1) % 7 == 6) (x.number == 0) (y.number == 0) in
     first_apart day x (y ∷ u)
     ∙ ap (λ (b : Bool). cond b 1 0 + count_by (begins (day + 1) (y ∷ u)) (range_with_len 0 (length (y ∷ u)))) first
-    ∙ ap (λ (n : ℕ). cond (ends_free (day + 1) (Some x) y) 1 0 + n) (ends_as_begins (day + 1) y u)
+    ∙ ap (λ (n : ℕ). cond (ends_free (day + 1) (x.number == 0) y) 1 0 + n) (ends_as_begins (day + 1) y u)
 
-all_ended : (u : List Symbol) → ended 0 None u ≡ free_weekends u
+all_ended : (u : List Symbol) → ended 0 false u ≡ free_weekends u
 all_ended [] = refl
 all_ended (x ∷ u) =
-    let none : 0 + ended (0 + 1) (Some x) u ≡ ended (0 + 1) (Some x) u = omega arith in
+    let none : 0 + ended (0 + 1) (x.number == 0) u ≡ ended (0 + 1) (x.number == 0) u = omega arith in
     none
     ∙ sym (ends_as_begins 0 x u)
     ∙ count_same (begins 0 (x ∷ u)) (is_free_weekend (x ∷ u)) 0 (length (x ∷ u))
@@ -104,8 +106,21 @@ all_ended (x ∷ u) =
     let same : 0 + k ≡ k = omega arith in
     ap (λ (n : ℕ). (n % 7 == 5) && nat_lt (k + 1) (length (x ∷ u)) && is_off_at (x ∷ u) k && is_off_at (x ∷ u) (k + 1)) same)
 
-pub free_weighs : (P : Instance) (y : List Weight) (days reward : ℕ) → days ≡ P.days → Weighs (free_gain y 0 days reward) (free_weight P y reward 0)
-free_weighs P y days reward same u =
-    gained_free y 0 days reward 0 None u
-    ∙ ap (λ (z : ℤ). z +ℤ pos (reward * ended 0 None u)) (alone_weighs P y 0 days same u)
+-- a gain by which words weigh this
+abbrev pub Weighs : (ℕ → Bool → Symbol → ℤ) → (List Symbol → ℤ) → Type 0
+Weighs gain weighs = (u : List Symbol) → gained gain 0 false u ≡ weighs u
+
+-- without a reward
+pub plain_weighs : (P : Instance) (y : List Weight) (p : ℕ) → Weighs (free_gain y p P.days 0) (weight P y p)
+plain_weighs P y p u =
+    let here : p + 0 ≡ p = omega arith in
+    let none : 0 * ended 0 false u ≡ 0 = omega arith in
+    omega (arith, ints, gained_free P y p 0 0 false u, ap (λ (q : ℕ). weight P y q u) here, none)
+
+-- with one, from day 1 on
+pub free_weighs : (P : Instance) (y : List Weight) (p reward : ℕ) → p ≡ 0 → Weighs (free_gain y p P.days reward) (free_weight P y reward 0)
+free_weighs P y p reward first u =
+    let here : p + 0 ≡ 0 = omega (arith, first) in
+    gained_free P y p reward 0 false u
+    ∙ ap (λ (q : ℕ). weight P y q u +ℤ pos (reward * ended 0 false u)) here
     ∙ ap (λ (n : ℕ). weight P y 0 u +ℤ pos (reward * n)) (all_ended u)

@@ -1,5 +1,5 @@
 -- The weights of a round are one, and the search continues from round to round.
-use Rattle.std.proofs.Common.{◌≡◌, None, length, ◌*◌, ℕ, zero, suc, ◌+◌, ◌≤◌, List, [], ap, sym, ◌∙◌, subst, arith, ⊎_elim, below_more, Option, Some, Bool, false}
+use Rattle.std.proofs.Common.{◌≡◌, ℕ, zero, suc, ◌+◌, ◌≤◌, List, [], ap, sym, ◌∙◌, subst, arith, ⊎_elim, below_more, Some, Bool, false}
 use Rattle.std.specs.Prelude.{◌↔◌, IsTrue}
 use Rattle.std.proofs.lemmas.Int.{ints}
 use Rattle.rwsp_terms.specs.declared.data.Symbol.{Symbol}
@@ -7,14 +7,12 @@ use Rattle.rwsp_terms.specs.declared.data.Weight.{Weight}
 use Rattle.rwsp_terms.specs.Instance.{Instance, cells}
 use Rattle.rwsp_terms.specs.Weights.{weight_at}
 use Rattle.rwsp_terms.proofs.SameLists.{same_weights}
-use Rattle.refutation_terms.specs.Word.{Domains, Over}
+use Rattle.refutation_terms.specs.Word.{Domains}
 use Rattle.refutation_terms.specs.Escape.{IsLeastHeaviest}
 use Rattle.refutation_terms.specs.Sharp.{step, AreStepped, IsNext, IsSearched, HoldsAtTop}
 use Rattle.refutation_terms.proofs.Causes.{first_same}
-use Rattle.domain_store.specs.Store.{has_domain}
-use Rattle.layered_cycle.specs.declared.best.HeavyWord.{HeavyWord}
-use Rattle.layered_cycle.specs.WordGraph.{WordGraph}
-use Rattle.potential_bounds.specs.Heaviest.{IsHeaviestFound, IsOneTurn}
+use Rattle.clean_words.specs.declared.heavy_words.HeavyWord.{HeavyWord}
+use Rattle.potential_bounds.specs.Heaviest.{IsHeaviestFound}
 use Rattle.potential_bounds.specs.Searched.{NoneHolds, IsFollowing, AreValuesWithin}
 use Rattle.potential_bounds.proofs.Stepping.{IsInside, inside_or_not, zero_outside, stepped_within}
 
@@ -68,11 +66,11 @@ reached_more P D R k y next h is =
       none = λ i z lt. below_more (λ n. (w : List Weight) → IsSearched P D R n w → HoldsAtTop P D R w → ⊥) k (λ n less w. h.none n w less) here i lt z;
     }
 
--- the weights a step on by the least of the heaviest words follow, where the bound doesn't hold
-pub followed : (g : WordGraph) (y : List Weight) (found : Option HeavyWord) (h : HeavyWord) (P : Instance) (word : List Symbol) (light : Bool) (next : List Weight) → IsOneTurn g → IsHeaviestFound g.problem (has_domain g.store) g.position g.len g.rules y found → found ≡ Some h → IsTrue light ↔ HoldsAtTop g.problem (has_domain g.store) g.rules y → light ≡ false → P ≡ g.problem → word ≡ h.word → AreStepped P y word next → IsFollowing g.problem (has_domain g.store) g.rules y (Some next)
-followed g y found h P word light next turn is some test fails same letters stepped = (never, record { word = h.word; is_heaviest = heaviest; stepped = here })
+-- the weights a step on by the least of the heaviest words of one turn follow, where the bound doesn't hold
+pub followed : (P Q : Instance) (D : Domains) (p len : ℕ) (R : List ℕ) (y : List Weight) (h : HeavyWord) (word : List Symbol) (light : Bool) (next : List Weight) → p ≡ 0 → len ≡ cells P → IsHeaviestFound P D p len R y (Some h) → IsTrue light ↔ HoldsAtTop P D R y → light ≡ false → Q ≡ P → word ≡ h.word → AreStepped Q y word next → IsFollowing P D R y (Some next)
+followed P Q D p len R y h word light next first once is test fails same letters stepped = (never, record { word = h.word; is_heaviest = heaviest; stepped = here })
   where
-    never : HoldsAtTop g.problem (has_domain g.store) g.rules y → ⊥
+    never : HoldsAtTop P D R y → ⊥
     never holds =
         let T : Bool → Type 0 = IsTrue in
         let none : IsTrue false = subst T fails (test.1 holds) in
@@ -81,27 +79,17 @@ followed g y found h P word light next turn is some test fails same letters step
         false_never : IsTrue false → ⊥
         false_never t = cc
 
-    heaviest : IsLeastHeaviest g.problem (has_domain g.store) 0 (cells g.problem) g.rules y h.word
+    heaviest : IsLeastHeaviest P D 0 (cells P) R y h.word
     heaviest =
-        let F : Option HeavyWord → Type 0 = IsHeaviestFound g.problem (has_domain g.store) g.position g.len g.rules y in
-        let best : F (Some h) = subst F some is in
-        let S : ℕ → Type 0 = λ p. IsLeastHeaviest g.problem (has_domain g.store) p g.len g.rules y h.word in
-        let L : ℕ → Type 0 = λ len. IsLeastHeaviest g.problem (has_domain g.store) 0 len g.rules y h.word in
-        subst L turn.1 (subst S turn.0 best.0)
+        let S : ℕ → Type 0 = λ q. IsLeastHeaviest P D q len R y h.word in
+        let L : ℕ → Type 0 = λ n. IsLeastHeaviest P D 0 n R y h.word in
+        subst L once (subst S first is.0)
 
-    here : AreStepped g.problem y h.word next
+    here : AreStepped P y h.word next
     here =
-        let A : Instance → Type 0 = λ Q. AreStepped Q y word next in
-        let B : List Symbol → Type 0 = λ w. AreStepped g.problem y w next in
+        let A : Instance → Type 0 = λ I. AreStepped I y word next in
+        let B : List Symbol → Type 0 = λ w. AreStepped P y w next in
         subst B letters (subst A same stepped)
 
 pub values_within : (n m : ℕ) (y : List Weight) → n ≤ m → AreValuesWithin n y → AreValuesWithin m y
 values_within n m y le within j x = (omega (arith, ints, le, (within j x).0), omega (arith, ints, le, (within j x).1))
-
--- where no word is clean, the bound holds
-pub holds_by_none : (g : WordGraph) (y : List Weight) (found : Option HeavyWord) → IsOneTurn g → IsHeaviestFound g.problem (has_domain g.store) g.position g.len g.rules y found → found ≡ None → HoldsAtTop g.problem (has_domain g.store) g.rules y
-holds_by_none g y found turn is none u long over clean =
-    let F : Option HeavyWord → Type 0 = IsHeaviestFound g.problem (has_domain g.store) g.position g.len g.rules y in
-    let dead = subst F none is in
-    let same : length u ≡ g.len = omega (arith, long, turn.1) in
-    absurd (dead u same (subst (λ (p : ℕ). Over g.problem (has_domain g.store) p u) (sym turn.0) over) clean)

@@ -3,4 +3,4 @@ pub mod Heaviest
 pub mod First
 pub mod Searched
 pub mod WeightTables
-pub mod FreeGains
+pub mod Gains

@@ -8,37 +8,95 @@ ghost use Rattle.refutation_terms.specs.FreeLeaves.{IsTooLightFree};
 ghost use Rattle.refutation_terms.specs.Verdict.{Escapes, EscapesFree};
 ghost use Rattle.domain_store.specs.Store.{BelongsTo, has_domain};
 
-use crate::{free_total, heaviest_free_reaching, heaviest_reaching, total};
+use crate::heavy::heaviest_reaching;
+use crate::{free_total, total};
+use clean_words::CleanWords;
 use domain_store::Domains;
-use rwsp_model::Problem;
+use rule_automaton::Automaton;
 use rwsp_terms::{Weights, Word};
 use std::alloc::{AllocError, Global};
-use word_tail::TailRules;
 
-/// The least of the heaviest words of `turns` turns over the domains from position `p` on that are clean for the rules,
-/// where it weighs at least `turns` times the total; None exactly where it weighs less or there is no clean word: the
-/// bound leaf of these rules holds.
+/// The least of the heaviest words of `turns` turns over the domains from position `p` on that are clean for the rules
+/// of the automaton, where it weighs at least `turns` times the total; None exactly where it weighs less or there is no
+/// clean word: the bound leaf of these rules holds.
 pub fn bound_escape(
     alloc: Global,
-    problem: &Problem,
-    tails: &TailRules,
+    automaton: &Automaton,
     doms: &Domains,
     p: u32,
     turns: u32,
     weights: &Weights,
 ) -> Result<Option<Word>, AllocError>
-    requires same { tails.now.problem ≡ problem.now }
-    requires belongs { BelongsTo problem.now doms.now }
-    requires position { p < cells problem.now }
+    requires belongs { BelongsTo automaton.now.problem doms.now }
+    requires position { p < cells automaton.now.problem }
     requires some { 1 ≤ turns }
-    requires few { turns * cells problem.now ≤ LONGEST_WORD }
-    ensures { IfOk result (λ found. MatchOption found
-        (IsTooLight problem.now (has_domain doms.now) p turns tails.now.rules weights.now)
-        (Escapes problem.now (has_domain doms.now) (Bound p turns tails.now.rules weights.now))) }
+    requires few { turns * cells automaton.now.problem ≤ LONGEST_WORD }
+    ensures { let P = automaton.now.problem in let D = has_domain doms.now in let R = automaton.now.rules in
+        IfOk result (λ found. MatchOption found
+        (IsTooLight P D p turns R weights.now)
+        (Escapes P D (Bound p turns R weights.now))) }
 {
+    let problem = automaton.problem();
     problem.prove_limits();
+    let words = CleanWords {
+        automaton,
+        domains: doms,
+        position: p,
+        days: turns * problem.cells(),
+    };
     let least = times(turns, total(problem, weights));
-    match heaviest_reaching(alloc, problem, tails, doms, p, turns, weights, least)? {
+    match heaviest_reaching(alloc, &words, weights, 0, least)? {
+        Some(heavy) => Ok(Some(heavy.word)),
+        None => Ok(None),
+    }
+}
+
+/// What a free leaf says: words that are clean for its rules weigh less than a roster with so many free weekends.
+#[derive(Clone, Copy)]
+pub struct FreeClaim<'a> {
+    /// The free weekends of the roster.
+    pub goal: u32,
+    /// The length of the words, in turns. They begin on day 1.
+    pub turns: u32,
+    /// What each free weekend weighs.
+    pub reward: u32,
+    /// What the symbols weigh on the days.
+    pub weights: &'a Weights,
+}
+
+/// The least of the heaviest words of the claim's turns over the domains from day 1 on that are clean for the rules of
+/// the automaton, with the reward for each free weekend, where it weighs at least as many times the total with the
+/// reward for as many as the goal; None exactly where the free leaf of these rules holds.
+pub fn free_escape(
+    alloc: Global,
+    automaton: &Automaton,
+    doms: &Domains,
+    claim: FreeClaim<'_>,
+) -> Result<Option<Word>, AllocError>
+    requires belongs { BelongsTo automaton.now.problem doms.now }
+    requires days { automaton.now.problem.days ≡ 7 }
+    requires goal { claim.goal ≤ automaton.now.problem.weeks + 1 }
+    requires some { 1 ≤ claim.turns }
+    requires few { claim.turns * cells automaton.now.problem ≤ LONGEST_WORD }
+    requires reward { claim.reward ≤ GREATEST_REWARD }
+    ensures { let P = automaton.now.problem in let D = has_domain doms.now in let R = automaton.now.rules in
+        let goal = claim.entry.goal in let turns = claim.entry.turns in
+        let reward = claim.entry.reward in let y = claim.entry.weights.now in
+        IfOk result (λ found. MatchOption found
+        (IsTooLightFree P goal D turns reward R y)
+        (EscapesFree P goal D (Free turns reward R y))) }
+{
+    let problem = automaton.problem();
+    problem.prove_limits();
+    let words = CleanWords {
+        automaton,
+        domains: doms,
+        position: 0,
+        days: claim.turns * problem.cells(),
+    };
+    let once = free_total(problem, claim.weights, claim.reward, claim.goal);
+    let least = times(claim.turns, once);
+    match heaviest_reaching(alloc, &words, claim.weights, claim.reward, least)? {
         Some(heavy) => Ok(Some(heavy.word)),
         None => Ok(None),
     }
@@ -54,36 +112,4 @@ fn times(turns: u32, total: i64) -> i64
     ensures { result ≡ pos turns *ℤ total }
 {
     i64::from(turns) * total
-}
-
-/// The least of the heaviest words of `turns` turns over the domains from day 1 on that are clean for the rules, with
-/// the reward for each free weekend, where it weighs at least `turns` times the total with the reward for as many as
-/// the goal; None exactly where the free leaf of these rules holds.
-pub fn free_escape(
-    alloc: Global,
-    problem: &Problem,
-    tails: &TailRules,
-    doms: &Domains,
-    goal: u32,
-    turns: u32,
-    reward: u32,
-    weights: &Weights,
-) -> Result<Option<Word>, AllocError>
-    requires same { tails.now.problem ≡ problem.now }
-    requires belongs { BelongsTo problem.now doms.now }
-    requires days { problem.now.days ≡ 7 }
-    requires goal { goal ≤ problem.now.weeks + 1 }
-    requires some { 1 ≤ turns }
-    requires few { turns * cells problem.now ≤ LONGEST_WORD }
-    requires reward { reward ≤ GREATEST_REWARD }
-    ensures { IfOk result (λ found. MatchOption found
-        (IsTooLightFree problem.now goal (has_domain doms.now) turns reward tails.now.rules weights.now)
-        (EscapesFree problem.now goal (has_domain doms.now) (Free turns reward tails.now.rules weights.now))) }
-{
-    problem.prove_limits();
-    let least = times(turns, free_total(problem, weights, reward, goal));
-    match heaviest_free_reaching(alloc, problem, tails, doms, turns, weights, reward, least)? {
-        Some(heavy) => Ok(Some(heavy.word)),
-        None => Ok(None),
-    }
 }

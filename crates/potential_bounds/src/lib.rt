@@ -3,21 +3,20 @@
 
 mod escapes;
 mod first;
-mod free;
 mod gate;
 mod heavy;
 mod plain;
 mod search;
 mod totals;
+mod weighing;
 mod weight_table;
 
-pub use escapes::{bound_escape, free_escape};
+pub use clean_words::HeavyWord;
+pub use escapes::{FreeClaim, bound_escape, free_escape};
 pub use first::first_plain;
-pub use free::{free_total, heaviest_free, heaviest_free_reaching};
 pub use gate::{Gate, NoGate};
-pub use heavy::{heaviest, heaviest_in, heaviest_reaching, holds_at_top};
-pub use layered_cycle::HeavyWord;
+pub use heavy::{heaviest, heaviest_free};
 pub use plain::plain_bounds;
 pub use rwsp_terms::Weights;
 pub use search::search_weights;
-pub use totals::total;
+pub use totals::{free_total, total};

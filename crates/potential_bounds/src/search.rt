@@ -5,19 +5,18 @@ ghost use Rattle.rwsp_terms.specs.Instance.{cells, IsDay, IsSymbol};
 ghost use Rattle.rwsp_terms.specs.Weights.{weight_at};
 ghost use Rattle.refutation_terms.specs.Sharp.{step, AreStepped};
 ghost use Rattle.domain_store.specs.Store.{has_domain, BelongsTo};
-ghost use Rattle.potential_bounds.specs.Heaviest.{IsOneTurn};
 ghost use Rattle.potential_bounds.specs.Searched.{IsFirstSearched, IsFollowing, AreValuesWithin, AreSteppedOn};
 
-use crate::heavy::{heaviest_in, is_light, one_turn};
+use crate::heavy::{heaviest, is_light};
+use clean_words::CleanWords;
 use domain_store::Domains;
-use layered_cycle::Layers;
+use rule_automaton::Automaton;
 use rwsp_model::{Problem, weeks_with};
 use rwsp_terms::{Symbol, Weights};
 use std::alloc::{AllocError, Global};
-use word_tail::TailRules;
 
 /// The first of the weights of `rounds` rounds whose bound of one turn from position 0 holds with the rules of the
-/// tails; None exactly where none of these bounds holds.
+/// automaton; None exactly where none of these bounds holds.
 ///
 /// The weights of the first round are 0 everywhere. Those of the next follow from the least of the heaviest clean
 /// words: where it has a symbol on a day in more weeks than are demanded at most, the weight goes down by one, and
@@ -25,30 +24,41 @@ use word_tail::TailRules;
 /// bounds M. Held and R. Karp, 1971).
 pub fn search_weights(
     alloc: Global,
-    problem: &Problem,
-    tails: &TailRules,
+    automaton: &Automaton,
     doms: &Domains,
     rounds: u32,
 ) -> Result<Option<Weights>, AllocError>
-    requires same { tails.now.problem ≡ problem.now }
-    requires belongs { BelongsTo problem.now doms.now }
+    requires belongs { BelongsTo automaton.now.problem doms.now }
     requires few { rounds ≤ GREATEST_WEIGHT }
-    ensures { IfOk result (λ found. IsFirstSearched problem.now (has_domain doms.now) tails.now.rules rounds found) }
+    ensures { let A = automaton.now in
+        IfOk result (λ found. IsFirstSearched A.problem (has_domain doms.now) A.rules rounds found) }
 {
-    let layers = one_turn(alloc, problem, tails, doms)?;
-    search_in(alloc, &layers, rounds)
+    let problem = automaton.problem();
+    problem.prove_limits();
+    let turn = CleanWords {
+        automaton,
+        domains: doms,
+        position: 0,
+        days: problem.cells(),
+    };
+    search_in(alloc, &turn, rounds)
 }
 
-// The first of the weights of `rounds` rounds whose bound of one turn holds, by the words of the layers.
-fn search_in(alloc: Global, layers: &Layers, rounds: u32) -> Result<Option<Weights>, AllocError>
-    requires turn { IsOneTurn layers.now }
+// The first of the weights of `rounds` rounds whose bound of one turn holds, by the words of the turn.
+fn search_in(
+    alloc: Global,
+    turn: &CleanWords<'_>,
+    rounds: u32,
+) -> Result<Option<Weights>, AllocError>
+    requires first { turn.now.position ≡ 0 }
+    requires once { turn.now.days ≡ cells turn.now.automaton.now.problem }
     requires few { rounds ≤ GREATEST_WEIGHT }
-    ensures { IfOk result
-        (λ found. IsFirstSearched layers.now.problem (has_domain layers.now.store) layers.now.rules rounds found) }
+    ensures { let A = turn.now.automaton.now in
+        IfOk result (λ found. IsFirstSearched A.problem (has_domain turn.now.domains.now) A.rules rounds found) }
 {
     let mut weights = Weights::new(alloc);
     for round in 0..rounds {
-        match following(alloc, layers, &weights)? {
+        match following(alloc, turn, &weights)? {
             Some(next) => weights = next,
             None => return Ok(Some(weights)),
         }
@@ -59,21 +69,23 @@ fn search_in(alloc: Global, layers: &Layers, rounds: u32) -> Result<Option<Weigh
 // The weights that follow where the bound of these doesn't hold; None exactly where it holds.
 fn following(
     alloc: Global,
-    layers: &Layers,
+    turn: &CleanWords<'_>,
     weights: &Weights,
 ) -> Result<Option<Weights>, AllocError>
-    requires turn { IsOneTurn layers.now }
+    requires first { turn.now.position ≡ 0 }
+    requires once { turn.now.days ≡ cells turn.now.automaton.now.problem }
     requires within { AreValuesWithin (GREATEST_WEIGHT - 1) weights.now }
-    ensures { IfOk result
-        (λ next. IsFollowing layers.now.problem (has_domain layers.now.store) layers.now.rules weights.now next) }
+    ensures { let A = turn.now.automaton.now in
+        IfOk result (λ next. IsFollowing A.problem (has_domain turn.now.domains.now) A.rules weights.now next) }
 {
-    let Some(heavy) = heaviest_in(alloc, layers, weights)? else {
+    let Some(heavy) = heaviest(alloc, turn, weights)? else {
         return Ok(None);
     };
-    if is_light(layers, weights, &heavy) {
+    if is_light(turn, weights, &heavy) {
         return Ok(None);
     }
-    let next = next_weights(alloc, layers.problem(), weights, heavy.word.symbols())?;
+    let problem = turn.automaton.problem();
+    let next = next_weights(alloc, problem, weights, heavy.word.symbols())?;
     Ok(Some(next))
 }
 

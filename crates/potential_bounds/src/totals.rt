@@ -1,10 +1,11 @@
 // What a roster that meets the demand weighs at least.
 ghost use Rattle.std.specs.Prelude.{◌≡◌, ◌+◌, ◌≤◌, ℤ, pos, negsuc, neg_ℤ, ◌≤ℤ◌, ◌*ℤ◌, ◌*◌};
-ghost use Rattle.rwsp_terms.specs.declared.limits.TheConstants.{GREATEST_WEIGHT, MOST_DAYS, MOST_SHIFTS, MOST_SYMBOLS, MOST_WEEKS};
+ghost use Rattle.rwsp_terms.specs.declared.limits.TheConstants.{GREATEST_REWARD, GREATEST_WEIGHT, MOST_DAYS, MOST_SHIFTS, MOST_SYMBOLS, MOST_WEEKS};
 ghost use Rattle.std.specs.List.{range_with_len};
 ghost use Rattle.rwsp_terms.specs.Instance.{IsDay, IsSymbol, shift_count};
 ghost use Rattle.rwsp_terms.specs.Weights.{weight_at};
 ghost use Rattle.refutation_terms.specs.Word.{int_sum_by, least_weight, total};
+ghost use Rattle.refutation_terms.specs.FreeLeaves.{free_total};
 
 use rwsp_model::Problem;
 use rwsp_terms::{Symbol, Weights};
@@ -21,6 +22,19 @@ pub fn total(problem: &Problem, weights: &Weights) -> i64
         sum += day_total(problem, weights, i + 1);
     }
     sum
+}
+
+/// The least that a roster can weigh which meets the demand and has as many free weekends as the goal.
+pub fn free_total(problem: &Problem, weights: &Weights, reward: u32, goal: u32) -> i64
+    requires reward { reward ≤ GREATEST_REWARD }
+    requires goal { goal ≤ MOST_WEEKS + 1 }
+    ensures value { result ≡ free_total problem.now weights.now reward goal }
+    ensures above { neg_ℤ (pos (MOST_DAYS * (MOST_SYMBOLS * (GREATEST_WEIGHT * (MOST_SHIFTS * MOST_WEEKS))))) ≤ℤ
+        result }
+    ensures below { result ≤ℤ pos (MOST_DAYS * (MOST_SYMBOLS * (GREATEST_WEIGHT * (MOST_SHIFTS * MOST_WEEKS)))
+        + GREATEST_REWARD * (MOST_WEEKS + 1)) }
+{
+    total(problem, weights) + i64::from(reward) * i64::from(goal)
 }
 
 // The sum over the symbols of one day.

@@ -3,23 +3,24 @@ ghost use Rattle.std.specs.Prelude.{◌≡◌, ℕ, ◌<◌, ◌≤◌, ◌↔�
 ghost use Rattle.rwsp_terms.specs.declared.data.Symbol.{Symbol};
 ghost use Rattle.rwsp_terms.specs.Instance.{cells};
 ghost use Rattle.refutation_terms.specs.declared.lines.Line.{Line};
-ghost use Rattle.rwsp_terms.specs.Rules.{NamesShortRules};
+ghost use Rattle.rwsp_terms.specs.declared.limits.TheConstants.{MOST_WORKERS};
 ghost use Rattle.rwsp_terms.specs.Weights.{AreWeights};
 ghost use Rattle.refutation_terms.specs.Word.{AreSame};
 ghost use Rattle.refutation_terms.specs.Sharp.{plain_bounds};
 ghost use Rattle.domain_store.specs.Store.{Store, BelongsTo, has_domain};
+ghost use Rattle.propagator_terms.specs.Cycles.{AreShortRules};
 ghost use Rattle.propagators.specs.TopBounds.{IsStartBound, IsTopAnswer, IsTopWatch, IsBoundLook};
 
 use domain_store::Domains;
 use potential_bounds::{Gate, first_plain, plain_bounds, search_weights};
 use propagator_terms::{Look, Propagator};
 use refutation_terms::Line;
-use rwsp_model::{Problem, short_rules};
-use rwsp_terms::{RuleList, Weights};
+use rule_automaton::Automaton;
+use rwsp_model::Problem;
+use rwsp_terms::Weights;
 use std::alloc::{AllocError, Global};
 use std::marker::Model;
 use std::thread::Threads;
-use word_tail::TailRules;
 
 // The rounds of the search for weights.
 const ROUNDS: u32 = 32;
@@ -29,55 +30,62 @@ const ROUNDS: u32 = 32;
 ///
 /// All bounds are tried when it is made, so a look only compares domains, and does so only where a bound holds.
 #[derive(Drop)]
-pub struct RootBounds {
-    problem: Problem,
+pub struct RootBounds<'a> {
+    automaton: &'a Automaton,
     start: Domains,
-    rules: RuleList,
     // those of a bound that holds
     weights: Option<Weights>,
 }
 
-impl Model for RootBounds {
+impl<'a> Model for RootBounds<'a> {
     ghost use Rattle.propagators.specs.TopBounds.{TopWatch};
 
     ghost Value = { TopWatch };
 
     ghost use Rattle.propagators.specs.TopBounds.{IsTopWatch};
 
-    ghost view = { λ w. record { problem = w.problem; start = w.start; rules = w.rules; weights = w.weights } };
+    ghost view = { λ w. record {
+      problem = w.automaton.now.problem;
+      start = w.start;
+      rules = w.automaton.now.rules;
+      weights = w.weights;
+    } };
 
     ghost invariant = { λ w. IsTopWatch
-        (record { problem = w.problem; start = w.start; rules = w.rules; weights = w.weights }) };
+        (record {
+          problem = w.automaton.now.problem;
+          start = w.start;
+          rules = w.automaton.now.rules;
+          weights = w.weights;
+        }) };
 }
 
-impl RootBounds {
-    /// Tries the bounds under the domains: the plain ones shared out among workers, who pass the gate, and where none
-    /// holds the searched ones.
+impl<'a> RootBounds<'a> {
+    /// Tries the bounds under the domains, by the automaton of all short rules: the plain ones shared out among
+    /// workers, who pass the gate, and where none holds the searched ones.
     pub fn new<R: Threads + Sync, G: Gate>(
         rt: &R,
         alloc: Global,
-        problem: &Problem,
+        automaton: &'a Automaton,
         doms: &Domains,
         workers: u32,
         gate: &G,
-    ) -> Result<RootBounds, AllocError>
-        requires belongs { BelongsTo problem.now doms.now }
-        requires workers { (1 ≤ workers) × (workers ≤ 64) }
-        ensures serves { IfOk result (λ b. ⟦<RootBounds as Propagator>⟧.serves b problem.now) }
-        ensures tracks { IfOk result (λ b. (S : Store) → ⟦<RootBounds as Propagator>⟧.tracks b S) }
+    ) -> Result<RootBounds<'a>, AllocError>
+        requires short { AreShortRules automaton.now.problem automaton.now.rules }
+        requires belongs { BelongsTo automaton.now.problem doms.now }
+        requires workers { (1 ≤ workers) × (workers ≤ MOST_WORKERS) }
+        ensures serves { IfOk result (λ b. ⟦<RootBounds<'a> as Propagator>⟧.serves b automaton.now.problem) }
+        ensures tracks { IfOk result (λ b. (S : Store) → ⟦<RootBounds<'a> as Propagator>⟧.tracks b S) }
         ensures leaves { IfOk result (λ b. (S : Store) (line : Line)
-            → ⟦<RootBounds as Propagator>⟧.leaves b S line ↔ IsStartBound problem.now doms.now S line) }
+            → ⟦<RootBounds<'a> as Propagator>⟧.leaves b S line ↔ IsStartBound automaton.now.problem doms.now S line) }
         ensures none_spent { IfOk result (λ b. (S : Store) (p : ℕ) (x : Symbol)
-            → ⟦<RootBounds as Propagator>⟧.spent b S p x → ⊥) }
+            → ⟦<RootBounds<'a> as Propagator>⟧.spent b S p x → ⊥) }
     {
-        let rules = short_rules(alloc, problem)?;
-        let weights = holding_weights(rt, alloc, problem, &rules, doms, workers, gate)?;
+        let weights = holding_weights(rt, alloc, automaton, doms, workers, gate)?;
         let start = doms.copy()?;
-        let problem = problem.copy()?;
         Ok(RootBounds {
-            problem,
+            automaton,
             start,
-            rules,
             weights,
         })
     }
@@ -95,14 +103,15 @@ impl RootBounds {
         ensures { IfOk result (IsBoundLook self.now.problem self.now.start doms.now) }
     {
         self.prove_facts();
-        self.problem.prove_limits();
+        let problem = self.automaton.problem();
+        problem.prove_limits();
         let Some(weights) = &self.weights else {
             return Ok(None);
         };
-        if !are_same(&self.problem, &self.start, doms) {
+        if !are_same(problem, &self.start, doms) {
             return Ok(None);
         }
-        let rules = self.rules.copy()?;
+        let rules = self.automaton.rules().copy()?;
         let weights = weights.copy()?;
         Ok(Some(Line::Bound {
             p: 0,
@@ -113,7 +122,7 @@ impl RootBounds {
     }
 }
 
-impl Propagator for RootBounds {
+impl<'a> Propagator for RootBounds<'a> {
     ghost serves = { λ w P. w.problem ≡ P };
 
     ghost tracks = { λ w S. Unit {0} };
@@ -136,43 +145,22 @@ impl Propagator for RootBounds {
     fn undone(&mut self, _doms: &Domains) {}
 }
 
-// The weights of a bound with these rules that holds; None exactly where none of them holds.
+// The weights of a bound that holds with the rules of the automaton; None exactly where none of them holds.
 fn holding_weights<R: Threads + Sync, G: Gate>(
     rt: &R,
     alloc: Global,
-    problem: &Problem,
-    rules: &RuleList,
+    automaton: &Automaton,
     doms: &Domains,
     workers: u32,
     gate: &G,
 ) -> Result<Option<Weights>, AllocError>
-    requires belongs { BelongsTo problem.now doms.now }
-    requires short { NamesShortRules problem.now rules.now }
-    requires workers { (1 ≤ workers) × (workers ≤ 64) }
-    ensures { IfOk result (IsTopAnswer problem.now (has_domain doms.now) rules.now) }
+    requires belongs { BelongsTo automaton.now.problem doms.now }
+    requires workers { (1 ≤ workers) × (workers ≤ MOST_WORKERS) }
+    ensures { IfOk result (IsTopAnswer automaton.now.problem (has_domain doms.now) automaton.now.rules) }
 {
-    let tails = TailRules::of(alloc, problem, rules)?;
-    holding_with(rt, alloc, problem, &tails, doms, workers, gate)
-}
-
-// The same by the tails of the rules.
-fn holding_with<R: Threads + Sync, G: Gate>(
-    rt: &R,
-    alloc: Global,
-    problem: &Problem,
-    tails: &TailRules,
-    doms: &Domains,
-    workers: u32,
-    gate: &G,
-) -> Result<Option<Weights>, AllocError>
-    requires same { tails.now.problem ≡ problem.now }
-    requires belongs { BelongsTo problem.now doms.now }
-    requires workers { (1 ≤ workers) × (workers ≤ 64) }
-    ensures { IfOk result (IsTopAnswer problem.now (has_domain doms.now) tails.now.rules) }
-{
-    match first_plain(rt, alloc, problem, tails, doms, workers, gate)? {
-        Some(index) => Ok(Some(plain_bound(alloc, problem, index)?)),
-        None => search_weights(alloc, problem, tails, doms, ROUNDS),
+    match first_plain(rt, alloc, automaton, doms, workers, gate)? {
+        Some(index) => Ok(Some(plain_bound(alloc, automaton.problem(), index)?)),
+        None => search_weights(alloc, automaton, doms, ROUNDS),
     }
 }
 

@@ -5,7 +5,7 @@ mod chunk;
 mod free_check;
 mod header;
 mod judge;
-mod kept_tails;
+mod kept_automaton;
 mod laws;
 mod leaf_judge;
 mod line_walk;
@@ -15,6 +15,7 @@ mod plain_causes;
 mod turn;
 mod unnamed_rules;
 mod verdict;
+mod word_leaves;
 mod workers;
 
 pub use free_check::check_free;

@@ -18,9 +18,7 @@ mod setting;
 mod shares;
 mod start;
 mod steady_layer;
-mod tail_classes;
-mod tail_graph;
 mod walk;
 mod window;
 
-pub use finding::{find_roster, find_roster_with};
+pub use finding::{Patience, RosterFinder, find_roster};

@@ -154,7 +154,10 @@ pub fn all_rules(alloc: Global, problem: &Problem) -> Result<TailRules, AllocErr
 pub fn one_rule(alloc: Global, problem: &Problem, number: u32) -> Result<TailRules, Fail>
     ensures problem { IfOk result (λ tails. tails.problem ≡ problem.now) }
 {
-    if number < 1 || number > rule_count(problem) || !is_short(problem, rule_at(problem, number)) {
+    if number < 1 || number > rule_count(problem) {
+        return Err(Fail::from("no rule"));
+    }
+    if !is_short(problem, rule_at(problem, number)) {
         return Err(Fail::from("no short rule"));
     }
     let mut rules = RuleList::new(alloc);

@@ -5,10 +5,10 @@ use Rattle.potential_bounds.proofs.first.first_plain.Goals as goal
 
 pub first_holding-found-requires-clause-few : goal.first_holding-found-requires-clause-few
 first_holding-found-requires-clause-few g c κs within =
-    let count : length c.deref.result.now ≡ 2 * (shift_count c.args.problem.now + 1) = ap length c.deref.ensures.value ∙ plain_count c.args.problem.now _ c.in_ok-bounds.ensures in
+    let count : length c.deref.result.now ≡ 2 * (shift_count c.problem-problem.result.now + 1) = ap length c.deref.ensures.value ∙ plain_count c.problem-problem.result.now _ c.in_ok-bounds.ensures in
     omega (arith, count, c.prove_limits.ensures.few_shifts)
 
 pub first_holding-found-requires-clause-some : goal.first_holding-found-requires-clause-some
 first_holding-found-requires-clause-some g c κs within =
-    let count : length c.deref.result.now ≡ 2 * (shift_count c.args.problem.now + 1) = ap length c.deref.ensures.value ∙ plain_count c.args.problem.now _ c.in_ok-bounds.ensures in
+    let count : length c.deref.result.now ≡ 2 * (shift_count c.problem-problem.result.now + 1) = ap length c.deref.ensures.value ∙ plain_count c.problem-problem.result.now _ c.in_ok-bounds.ensures in
     omega (arith, count)

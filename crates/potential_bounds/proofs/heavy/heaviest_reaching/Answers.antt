@@ -1,15 +1,17 @@
-use Rattle.std.proofs.Common.{◌≡◌, ℕ, ◌*◌, ap, arith, rules, w64, to_z, of_z, SFits}
+use Rattle.std.proofs.Common.{◌≡◌, ℕ, ℤ, subst, ◌∙◌, ap, arith, rules, w64, to_z, of_z, SFits}
+use Rattle.std.specs.Prelude.{IfOk, MatchOption, ◌≤ℤ◌}
 use Rattle.std.proofs.lemmas.Int.{ints}
-use Rattle.refutation_terms.specs.Word.{weight}
-use Rattle.domain_store.specs.Store.{Store}
-use Rattle.word_tail.specs.Listed.{Listed}
-use Rattle.potential_bounds.proofs.HeavyWords.{alone_from, alone_weighs, reaching_of_course}
+use Rattle.clean_words.specs.Courses.{course, IsBestOf, AreBelow}
+use Rattle.potential_bounds.specs.Gains.{free_gain}
 use Rattle.potential_bounds.proofs.heavy.heaviest_reaching.Goals as goal
 
 pub returns : goal.returns
 returns c =
-    let T : Listed = c.args.tails.now in
-    let S : Store = c.args.doms.now in
+    let w = c.args.words.now in
+    let A = w.automaton.now in
     let narrow : SFits w64 c.args.least = search rules in
     let read : to_z w64 (of_z w64 c.args.least) ≡ c.args.least = omega (arith, ints, narrow) in
-    reaching_of_course T S c.args.problem.now c.args.p _ _ (alone_from c.args.weights.now c.args.p c.days-week.result) (weight c.args.problem.now c.args.weights.now c.args.p) c.args.least _ c.heaviest_reaching.result (alone_weighs c.args.problem.now c.args.weights.now c.args.p c.days-week.result c.days-week.ensures.value) read c.requires.same (ap (λ (n : ℕ). c.args.turns * n) c.cells.ensures.value) c.heaviest_reaching.ensures
+    let F : ℕ → ℤ → Type 0 = λ days least. IfOk c.heaviest_reaching.result (λ found. MatchOption found (AreBelow (course A w.domains.now w.position (free_gain c.args.weights.now w.position days c.args.reward)) w.days least)
+    (λ h. IsBestOf (course A w.domains.now w.position (free_gain c.args.weights.now w.position days c.args.reward)) w.days h.weight h.word × (least ≤ℤ h.weight))) in
+    let same = c.days-days.ensures.value ∙ ap (λ P. P.days) c.problem-problem.ensures in
+    subst (λ (z : ℤ). F A.problem.days z) read (subst (λ (n : ℕ). F n (to_z w64 (of_z w64 c.args.least))) same c.heaviest_reaching.ensures)

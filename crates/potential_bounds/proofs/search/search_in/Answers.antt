@@ -8,18 +8,18 @@ use Rattle.potential_bounds.proofs.search.search_in.Goals as goal
 
 pub loop-round-preserved : goal.loop-round-preserved
 loop-round-preserved c =
-    let F : Option (List Weight) → Type 0 = IsFollowing c.args.layers.now.problem (has_domain c.args.layers.now.store) c.args.layers.now.rules c.loop-round.weights in
+    let F : Option (List Weight) → Type 0 = IsFollowing c.args.turn.now.automaton.now.problem (has_domain c.args.turn.now.domains.now) c.args.turn.now.automaton.now.rules c.loop-round.weights in
     reached_more _ _ _ _ _ _ c.loop-round.invariant (subst F c.in-Some.is c.in_ok-next.ensures)
 
 pub loop-round-init : goal.loop-round-init
 loop-round-init c =
-    let g = c.args.layers.now in
-    reached_start g.problem (has_domain g.store) g.rules c.new-weights.result c.new-weights.ensures
+    let w = c.args.turn.now in
+    reached_start w.automaton.now.problem (has_domain w.domains.now) w.automaton.now.rules c.new-weights.result c.new-weights.ensures
 
 pub returns-in-None : goal.returns-in-None
 returns-in-None c =
-    let g = c.args.layers.now in
-    let F : Option (List Weight) → Type 0 = IsFollowing g.problem (has_domain g.store) g.rules c.loop-round.weights in
+    let w = c.args.turn.now in
+    let F : Option (List Weight) → Type 0 = IsFollowing w.automaton.now.problem (has_domain w.domains.now) w.automaton.now.rules c.loop-round.weights in
     let so_far = c.loop-round.invariant in
     (c.loop-round.round, c.loop-round-test.true, so_far.searched, subst F c.in-None.is c.in_ok-next.ensures, so_far.none)
 
