@@ -21,7 +21,7 @@ pub record Judges (T : Listed) (tails : List Tail) (tail : Tail) (x : Symbol) (s
   pub words :
       (w : List Symbol)
       → Clean T.problem T.rules w → tail_of w ≡ tail → MatchOption state (Clean T.problem T.rules (w ++ x ∷ []) → ⊥)
-        (λ to. Clean T.problem T.rules (w ++ x ∷ []) × StandsAt tails to (tail_of (w ++ x ∷ [])))
+      (λ to. Clean T.problem T.rules (w ++ x ∷ []) × StandsAt tails to (tail_of (w ++ x ∷ [])))
 
 -- the moves of a tail by the symbols below a number, and none by others
 pub record IsRow (T : Listed) (tails : List Tail) (tail : Tail) (symbols : ℕ) (row : List (Option ℕ)) : Type 0 where
