@@ -1,4 +1,4 @@
-use Rattle.std.proofs.Common.{◌≡◌, ◌≤◌, length, arith, rules, sym, ◌∙◌}
+use Rattle.std.proofs.Common.{◌≡◌, length, arith, rules, sym, ◌∙◌}
 use Rattle.std.proofs.lemmas.List.{length_push}
 use Rattle.rule_automaton.proofs.Images.{states_more, states_same}
 use Rattle.rule_automaton.proofs.image.quotient.Goals as goal
