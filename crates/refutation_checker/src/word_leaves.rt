@@ -49,7 +49,10 @@ pub fn escape_of(
     match line {
         Line::Dead { p, len, .. } => dead_escape(alloc, automaton, doms, *p, *len),
         Line::Bound {
-            p, turns, weights, ..
+            p,
+            turns,
+            weights,
+            ..
         } => bound_escape(alloc, automaton, doms, *p, *turns, weights),
         Line::Free {
             turns,

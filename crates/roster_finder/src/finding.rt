@@ -318,7 +318,7 @@ fn set_block_ranges(draft: &mut Draft, shares: &Shares) {
 }
 
 // The roster of these symbols, where it meets every rule and has `free` free weekends at least.
-fn met_roster(
+pub(crate) fn met_roster(
     alloc: Global,
     problem: &Problem,
     free: u32,

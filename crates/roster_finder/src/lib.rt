@@ -9,6 +9,8 @@ mod draft;
 mod finding;
 mod grid;
 mod heavy_word;
+#[cfg(test)]
+mod layer_tests;
 mod made;
 mod mixture;
 mod prices;

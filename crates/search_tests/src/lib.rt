@@ -5,6 +5,8 @@
 #[cfg(test)]
 mod all_words;
 #[cfg(test)]
+mod clean_words_tests;
+#[cfg(test)]
 mod demand_counts_tests;
 #[cfg(test)]
 mod kept_cycle_tests;

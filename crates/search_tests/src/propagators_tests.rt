@@ -1,6 +1,7 @@
 // Each propagator once in ample memory. What it sees under which domains, its clauses say.
 ghost use Rattle.std.specs.Prelude.{◌≤◌};
 ghost use Rattle.rwsp_terms.specs.Instance.{Instance};
+ghost use Rattle.rwsp_terms.specs.declared.limits.TheConstants.{MOST_WORKERS};
 ghost use Rattle.domain_store.specs.Store.{BelongsTo};
 
 use domain_store::Domains;
@@ -102,9 +103,10 @@ fn bounds_see<R: Threads + Sync>(
     workers: u32,
 ) -> Result<Seen, AllocError>
     requires belongs { BelongsTo problem.now doms.now }
-    requires workers { (1 ≤ workers) × (workers ≤ 64) }
+    requires workers { (1 ≤ workers) × (workers ≤ MOST_WORKERS) }
 {
-    let tops = RootBounds::new(rt, alloc, problem, doms, workers, &NoGate)?;
+    let automaton = Automaton::of_short_rules(alloc, problem, Told::DayOff)?;
+    let tops = RootBounds::new(rt, alloc, &automaton, doms, workers, &NoGate)?;
     sees(tops, alloc, problem, doms)
 }
 

@@ -12,6 +12,7 @@ use propagator_terms::{Look, Pair, Propagator};
 use propagators::{DayProp, RootBounds, WindowProp};
 use refutation_terms::Line;
 use roster_search::{Guide, NextSplit, NoGuide, chronological, guided_search, search};
+use rule_automaton::Automaton;
 use rwsp_model::{Problem, Roster};
 use small_problems::{CROWDED_TWOS_IN_SIX, D_ON_DAY_1, D_ON_EITHER_DAY, problem_of};
 use std::alloc::{AllocError, Global};
@@ -269,8 +270,9 @@ fn by_bounds<R: Threads + Sync>(
     problem: &Problem,
 ) -> Result<Run, AllocError> {
     let full = Domains::new(alloc, problem)?;
+    let automaton = Automaton::of_short_rules(alloc, problem, rule_automaton::Told::DayOff)?;
     let mut guide = ByLook {
-        propagator: RootBounds::new(rt, alloc, problem, &full, 1, &NoGate)?,
+        propagator: RootBounds::new(rt, alloc, &automaton, &full, 1, &NoGate)?,
     };
     guided(alloc, problem, &mut guide)
 }
