@@ -1,1 +1,5 @@
 pub mod Courses
+pub mod Rows
+pub mod Trellis
+pub mod Choices
+pub mod Kept

@@ -1,12 +1,13 @@
 // The least clean words.
-ghost use Rattle.std.specs.Prelude.{List, IfOk, MatchBool, MatchOption};
+ghost use Rattle.std.specs.Prelude.{List, IfOk, MatchBool, MatchOption, pos};
 ghost use Rattle.rwsp_terms.specs.declared.data.Symbol.{Symbol};
 ghost use Rattle.refutation_terms.specs.Leaf.{IsDead};
 ghost use Rattle.refutation_terms.specs.Escape.{IsCleanOver, IsLeastClean};
 ghost use Rattle.domain_store.specs.Store.{has_domain};
 
-use crate::CleanWords;
-use rwsp_terms::Word;
+use crate::kept_rows::kept_rows;
+use crate::{CleanWords, Gain, HeavyWord, heaviest};
+use rwsp_terms::{Symbol, Word};
 use std::alloc::{AllocError, Global};
 
 /// Whether there is a clean word.
@@ -17,9 +18,9 @@ pub fn is_alive(alloc: Global, words: &CleanWords<'_>) -> Result<bool, AllocErro
         ((u : List Symbol) × IsCleanOver A.problem (has_domain doms) p days A.rules u)
         (IsDead A.problem (has_domain doms) p days A.rules)) }
 {
-    let _ = alloc;
-    let _ = words;
-    Err(AllocError)
+    words.prove_facts();
+    let rows = kept_rows(alloc, words, &NoGain)?;
+    Ok(rows.first.at(0).is_some())
 }
 
 /// The least of the words; None exactly where there is none.
@@ -30,7 +31,19 @@ pub fn escape(alloc: Global, words: &CleanWords<'_>) -> Result<Option<Word>, All
         (IsDead A.problem (has_domain doms) p days A.rules)
         (λ w. IsLeastClean A.problem (has_domain doms) p days A.rules w)) }
 {
-    let _ = alloc;
-    let _ = words;
-    Err(AllocError)
+    match heaviest(alloc, words, &NoGain)? {
+        Some(HeavyWord { weight: _, word }) => Ok(Some(word)),
+        None => Ok(None),
+    }
+}
+
+// No symbol gains anything.
+struct NoGain;
+
+impl Gain for NoGain {
+    ghost gain_of = { λ g day behind_off x. pos 0 };
+
+    fn gain(&self, _day: u32, _behind_off: bool, _symbol: Symbol) -> i32 {
+        0
+    }
 }

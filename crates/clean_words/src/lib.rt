@@ -2,9 +2,16 @@
 //! passes over the days with the automaton of the rules.
 #![tactic(auto)]
 
+mod choice;
+mod day_gains;
+mod facts;
 mod gain;
 mod heavy_words;
+mod kept_rows;
 mod least_words;
+mod row;
+mod rows;
+mod walk;
 mod words;
 
 pub use gain::Gain;

@@ -1,5 +1,5 @@
 // The words that are looked at.
-ghost use Rattle.std.specs.Prelude.{◌<◌, ◌≤◌};
+ghost use Rattle.std.specs.Prelude.{◌≡◌, ◌+◌, ◌%◌, ◌<◌, ◌≤◌, length};
 ghost use Rattle.rwsp_terms.specs.declared.limits.TheConstants.{LONGEST_WORD};
 ghost use Rattle.rwsp_terms.specs.Instance.{cells};
 ghost use Rattle.domain_store.specs.Store.{BelongsTo};

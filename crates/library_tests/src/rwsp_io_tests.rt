@@ -51,6 +51,17 @@ fn a_long_file_is_read_in_pieces(rt: HostRuntime) -> Result<(), Fail> {
     Ok(())
 }
 
+#[test]
+fn a_file_may_be_as_long_as_the_limit(rt: HostRuntime) -> Result<(), Fail> {
+    let alloc = rt.alloc();
+    let mut shelf = shelf_of(alloc, b"ten bytes.", 4, 0)?;
+    let read = read_all(alloc, &mut shelf, "F", 10).expect(&rt, "it is read");
+    assert_eq!(rt; read.as_slice(), b"ten bytes.".as_slice());
+    let mut shelf = shelf_of(alloc, b"ten and one", 4, 0)?;
+    assert!(rt; matches!(read_all(alloc, &mut shelf, "F", 10), Err(ReadFail::TooLong)));
+    Ok(())
+}
+
 // Whether a sink with this much room, which takes a byte at a time, and whose call with this number fails, is left with
 // what is wanted where the text is written.
 fn leaves(

@@ -1,5 +1,7 @@
 use rwsp_terms::Symbol;
-use small_problems::{D, DAYS_AND_NIGHTS, N, OFF, all_rules, problem_of};
+use small_problems::{
+    D, D_ON_BOTH_DAYS, DAYS_AND_NIGHTS, N, OFF, TWOS_IN_SIX, all_rules, one_rule, problem_of,
+};
 use std::test::Fail;
 use word_tail::{Tail, TailRules};
 
@@ -53,5 +55,22 @@ fn words_by_their_tails(rt: HostRuntime) -> Result<(), Fail> {
     ] {
         assert_eq!(rt; first_unclean(&rules, word), want, "{word:?}");
     }
+    Ok(())
+}
+
+// Words by one rule, and by all rules where all of them are of blocks of two days.
+#[test]
+fn words_by_some_rules(rt: HostRuntime) -> Result<(), Fail> {
+    let alloc = rt.alloc();
+    let twos = problem_of(alloc, TWOS_IN_SIX)?;
+    let min_off = one_rule(alloc, &twos, 4)?;
+    assert_eq!(rt; first_unclean(&min_off, b"-D"), None);
+    assert_eq!(rt; first_unclean(&min_off, b"D-D"), Some(2));
+    let single = problem_of(alloc, D_ON_BOTH_DAYS)?;
+    let max_shift = one_rule(alloc, &single, 1)?;
+    assert_eq!(rt; first_unclean(&max_shift, b"DD"), Some(1));
+    let all = all_rules(alloc, &twos)?;
+    assert_eq!(rt; first_unclean(&all, b"D--DD-"), None);
+    assert_eq!(rt; first_unclean(&all, b"D--DD-D"), Some(6));
     Ok(())
 }

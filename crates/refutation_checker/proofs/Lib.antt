@@ -11,3 +11,4 @@ pub mod Deciding
 pub mod SomeVerdict
 pub mod LeafJudging
 pub mod FreeReading
+pub mod SomeFreeVerdict

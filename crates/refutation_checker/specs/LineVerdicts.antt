@@ -48,6 +48,20 @@ IsPlainFailure n (Split p x) why = why ≡ Refusals.Idle n
 IsPlainFailure n Unfinished why = why ≡ Refusals.Unfinished n
 IsPlainFailure n leaf why = why ≡ Refusals.Fails n
 
+-- the line lists these rules
+abbrev pub HasList : Line → List ℕ → Type 0
+HasList (Dead p len R) list = R ≡ list
+HasList (Bound p turns R y) list = R ≡ list
+HasList (Free turns reward R y) list = R ≡ list
+HasList line list = ⊥
+
+-- the line is none that lists rules
+abbrev pub HasNoList : Line → Type 0
+HasNoList (Dead p len R) = ⊥
+HasNoList (Bound p turns R y) = ⊥
+HasNoList (Free turns reward R y) = ⊥
+HasNoList line = Unit {0}
+
 -- a dead or a bound leaf that holds. Nothing is said of other lines
 abbrev pub HoldsByWords : Instance → Domains → Line → Type 0
 HoldsByWords P D (Dead p len R) = IsDead P D p len R

@@ -1,46 +1,38 @@
 // The lines of a log's tree, judged one after the other.
-ghost use Rattle.std.specs.Prelude.{◌≡◌, ◌+◌, ◌*◌, ◌<◌, ◌≤◌, Some, List, [], ◌∷◌, ◌++◌, length, Option, IfOk, MatchOption, None, false};
-ghost use Rattle.rwsp_terms.specs.Instance.{cells};
-ghost use Rattle.rwsp_terms.specs.declared.limits.TheConstants.{GREATEST_REWARD, LONGEST_WORD};
-ghost use Rattle.rwsp_terms.specs.Rules.{NamesShortOnly};
+ghost use Rattle.std.specs.Prelude.{◌≡◌, ◌+◌, List, [], ◌∷◌, ◌++◌, length, Option, IfOk, MatchOption, None, false};
 ghost use Rattle.refutation_terms.specs.declared.lines.Line.{Line};
-ghost use Rattle.refutation_terms.specs.declared.lines.Line.TheVariants.{Bound, Free};
 ghost use Rattle.refutation_terms.specs.declared.lines.Turn.{Turn};
 ghost use Rattle.refutation_terms.specs.Tree.{domains_at};
-ghost use Rattle.refutation_terms.specs.Leaf.{IsDead, IsTooLight};
-ghost use Rattle.refutation_terms.specs.FreeLeaves.{IsTooLightFree};
-ghost use Rattle.refutation_terms.specs.Escape.{IsLeastClean};
 ghost use Rattle.refutation_terms.specs.Log.{GoalFits, LineFitsFor, ListsShortOnly};
-ghost use Rattle.refutation_terms.specs.Verdict.{Cause, CauseBehindFor, Reading, Escapes, EscapesFor, EscapesFree, header_lines, header_lines_for};
+ghost use Rattle.refutation_terms.specs.Verdict.{Cause, CauseBehindFor, Reading, EscapesFor, header_lines, header_lines_for};
 ghost use Rattle.rwsp_model.specs.Refusals.{MatchAnswer};
 ghost use Rattle.domain_store.specs.Store.{BelongsTo, has_domain};
 ghost use Rattle.tree_walk.specs.States.{IsStateOf};
 ghost use Rattle.refutation_checker.specs.LineVerdicts.{HoldsByWordsFor, IsSoundFor, LineCauseFor};
 ghost use Rattle.refutation_checker.specs.LineTexts.{IsLineRead, IsLineReadAs, IsSpellingRefusal, StillWalks};
 
-use crate::kept_tails::tails_of;
+use crate::kept_automaton::automaton_of;
 use crate::line_walk::step;
 use crate::plain_causes::plain_refusal;
+use crate::word_leaves::{escape_of, list_of};
 use domain_store::Domains;
-use layered_cycle::escape;
-use potential_bounds::{bound_escape, free_escape};
 use refutation_log::{LineRefusal, read_line, read_line_for};
 use refutation_terms::{Line, LogRefusal};
+use rule_automaton::Automaton;
 use rwsp_model::{Fail, Problem};
-use rwsp_terms::{RuleList, Weights, Word};
+use rwsp_terms::{RuleList, Word};
 use std::alloc::{AllocError, Global};
 use std::marker::Model;
 use tree_walk::Walk;
-use word_tail::TailRules;
 
-/// Judges lines of a log with a goal or none, under the rules that its header names. Tail rules that were made for a
-/// line serve the next lines with the same list.
+/// Judges lines of a log with a goal or none, under the rules that its header names. The automaton that was made for the
+/// list of a line serves the next lines with the same list.
 #[derive(Drop)]
 pub struct Judge<'a> {
     problem: &'a Problem,
     named: &'a RuleList,
     goal: Option<u32>,
-    tails: Option<TailRules>,
+    automaton: Option<Automaton>,
 }
 
 impl<'a> Model for Judge<'a> {
@@ -52,7 +44,7 @@ impl<'a> Model for Judge<'a> {
 
     ghost view = { λ j. record { problem = j.problem.now; named = j.named.now; goal = j.goal } };
 
-    ghost invariant = { λ j. IfSome j.tails (λ tails. tails.problem ≡ j.problem.now)
+    ghost invariant = { λ j. IfSome j.automaton (λ automaton. automaton.problem ≡ j.problem.now)
         × GoalFits j.problem.now None j.goal };
 }
 
@@ -68,7 +60,7 @@ impl<'a> Judge<'a> {
             problem,
             named,
             goal,
-            tails: None,
+            automaton: None,
         }
     }
 
@@ -218,125 +210,21 @@ impl<'a> Judge<'a> {
             (HoldsByWordsFor self.old.problem self.old.goal (has_domain doms.now) line.now)
             (EscapesFor self.old.problem self.old.goal (has_domain doms.now) line.now)) }
     {
-        match line {
-            Line::Dead { p, len, rules } => self.dead_escape(alloc, doms, *p, *len, rules),
-            Line::Bound {
-                p,
-                turns,
-                rules,
-                weights,
-            } => self.bound_escape(alloc, doms, *p, *turns, rules, weights),
-            Line::Free {
-                turns,
-                reward,
-                rules,
-                weights,
-            } => match self.goal {
-                Some(goal) => {
-                    self.free_escape(alloc, doms, goal, *turns, *reward, rules, weights)
-                }
-                None => Ok(None),
-            },
-            _ => Ok(None),
-        }
+        let Some(list) = list_of(line) else {
+            return Ok(None);
+        };
+        let automaton = automaton_of(alloc, self.problem, self.automaton.take(), list)?;
+        let found = escape_of(alloc, &automaton, doms, self.goal, line);
+        self.keep(automaton);
+        found
     }
 
-    // Keeps the tail rules for the next lines.
-    fn keep(&mut self, tails: TailRules)
-        requires { tails.problem ≡ self.old.problem }
+    // Keeps the automaton for the next lines.
+    fn keep(&mut self, automaton: Automaton)
+        requires { automaton.problem ≡ self.old.problem }
         ensures { self.new ≡ self.old }
     {
-        self.tails = Some(tails);
-    }
-
-    // The least word of `len` days over the domains from position `p` on that is clean for the
-    // rules.
-    fn dead_escape(
-        &mut self,
-        alloc: Global,
-        doms: &Domains,
-        p: u32,
-        len: u32,
-        rules: &RuleList,
-    ) -> Result<Option<Word>, AllocError>
-        requires domains { BelongsTo self.old.problem doms.now }
-        requires position { p < cells self.old.problem }
-        requires long { (1 ≤ len) × (len ≤ LONGEST_WORD) }
-        requires short { NamesShortOnly self.old.problem rules.now }
-        ensures same { self.new ≡ self.old }
-        ensures escape { IfOk result (λ found. MatchOption found
-            (IsDead self.old.problem (has_domain doms.now) p len rules.now)
-            (IsLeastClean self.old.problem (has_domain doms.now) p len rules.now)) }
-    {
-        let tails = tails_of(alloc, self.problem, self.tails.take(), rules)?;
-        let found = escape(alloc, &tails, doms, p, len);
-        self.keep(tails);
-        found
-    }
-
-    // The least of the heaviest words of `turns` turns that are clean for the rules, where it
-    // weighs enough.
-    fn bound_escape(
-        &mut self,
-        alloc: Global,
-        doms: &Domains,
-        p: u32,
-        turns: u32,
-        rules: &RuleList,
-        weights: &Weights,
-    ) -> Result<Option<Word>, AllocError>
-        requires domains { BelongsTo self.old.problem doms.now }
-        requires position { p < cells self.old.problem }
-        requires some { 1 ≤ turns }
-        requires few { turns * cells self.old.problem ≤ LONGEST_WORD }
-        requires short { NamesShortOnly self.old.problem rules.now }
-        ensures same { self.new ≡ self.old }
-        ensures escape { IfOk result (λ found. MatchOption found
-            (IsTooLight self.old.problem (has_domain doms.now) p turns rules.now weights.now)
-            (Escapes self.old.problem (has_domain doms.now) (Bound p turns rules.now weights.now))) }
-    {
-        let tails = tails_of(alloc, self.problem, self.tails.take(), rules)?;
-        let found = bound_escape(alloc, self.problem, &tails, doms, p, turns, weights);
-        self.keep(tails);
-        found
-    }
-
-    // The least of the heaviest words of `turns` turns that are clean for the rules, with a reward
-    // for each free weekend, where it weighs enough.
-    fn free_escape(
-        &mut self,
-        alloc: Global,
-        doms: &Domains,
-        goal: u32,
-        turns: u32,
-        reward: u32,
-        rules: &RuleList,
-        weights: &Weights,
-    ) -> Result<Option<Word>, AllocError>
-        requires domains { BelongsTo self.old.problem doms.now }
-        requires goal { GoalFits self.old.problem None (Some goal) }
-        requires some { 1 ≤ turns }
-        requires few { turns * cells self.old.problem ≤ LONGEST_WORD }
-        requires reward { reward ≤ GREATEST_REWARD }
-        requires short { NamesShortOnly self.old.problem rules.now }
-        ensures same { self.new ≡ self.old }
-        ensures escape { IfOk result (λ found. MatchOption found
-            (IsTooLightFree self.old.problem goal (has_domain doms.now) turns reward rules.now weights.now)
-            (EscapesFree self.old.problem goal (has_domain doms.now) (Free turns reward rules.now weights.now))) }
-    {
-        let tails = tails_of(alloc, self.problem, self.tails.take(), rules)?;
-        let found = free_escape(
-            alloc,
-            self.problem,
-            &tails,
-            doms,
-            goal,
-            turns,
-            reward,
-            weights,
-        );
-        self.keep(tails);
-        found
+        self.automaton = Some(automaton);
     }
 }
 

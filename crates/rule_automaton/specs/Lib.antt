@@ -1,2 +1,4 @@
 pub mod Moves
 pub mod Automata
+pub mod States
+pub mod Tables

@@ -3,13 +3,20 @@ ghost use Rattle.std.specs.Prelude.{◌≡◌, ◌<◌, ◌≤◌, length, slice
 ghost use Rattle.rwsp_terms.specs.Rules.{NamesShortOnly, NamesShortRules};
 ghost use Rattle.rwsp_terms.specs.declared.limits.TheConstants.{MOST_SYMBOLS};
 ghost use Rattle.refutation_terms.specs.Log.{AreRules};
+ghost use Rattle.rule_automaton.specs.Tables.{IsReader};
 
 use crate::Step;
-use rwsp_model::Problem;
+use crate::classes::classes_of;
+use crate::image::merged;
+use crate::states::States;
+use crate::step_list::steps_of;
+use crate::table::{Row, Table};
+use rwsp_model::{Problem, short_rules};
 use rwsp_terms::limits::MOST_SYMBOLS;
 use rwsp_terms::{RuleList, Symbol};
 use std::alloc::{AllocError, Global};
 use std::marker::Model;
+use word_tail::TailRules;
 
 /// What a state tells of the words that lead to it, at least.
 #[derive(Clone, Copy)]
@@ -26,7 +33,7 @@ pub enum Told {
 pub struct Automaton {
     problem: Problem,
     list: RuleList,
-    moves: Vec<[Option<u32>; MOST_SYMBOLS as usize]>,
+    moves: Vec<Row>,
     offs: Vec<bool>,
     steps: Vec<Step>,
 }
@@ -70,7 +77,15 @@ impl Automaton {
         ensures problem { IfOk result (λ a. a.problem ≡ problem.now) }
         ensures rules { IfOk result (λ a. a.rules ≡ rules.now) }
     {
-        Err(AllocError)
+        let table = small_table(alloc, &TailRules::of(alloc, problem, rules)?, told)?;
+        let steps = steps_of(alloc, &table.moves)?;
+        Ok(Automaton {
+            problem: problem.copy()?,
+            list: rules.copy()?,
+            moves: table.moves,
+            offs: table.offs,
+            steps,
+        })
     }
 
     /// The automaton of all short rules of the problem.
@@ -83,14 +98,22 @@ impl Automaton {
         ensures rules { IfOk result (λ a. AreRules problem.now a.rules) }
         ensures short { IfOk result (λ a. NamesShortRules problem.now a.rules) }
     {
-        Err(AllocError)
+        let rules = short_rules(alloc, problem)?;
+        Automaton::of(alloc, problem, &rules, told)
     }
 
     /// The same automaton.
     pub fn copy(&self) -> Result<Automaton, AllocError>
         ensures { IfOk result (λ a. a ≡ self.now) }
     {
-        Err(AllocError)
+        let alloc = *self.moves.allocator();
+        Ok(Automaton {
+            problem: self.problem.copy()?,
+            list: self.list.copy()?,
+            moves: Vec::from_slice(alloc, &self.moves)?,
+            offs: Vec::from_slice(alloc, &self.offs)?,
+            steps: Vec::from_slice(alloc, &self.steps)?,
+        })
     }
 
     /// What holds of all automata.
@@ -144,6 +167,16 @@ impl Automaton {
     {
         &self.steps
     }
+}
+
+// The table of the rules, with one state for those that no continuation tells apart.
+fn small_table(alloc: Global, rules: &TailRules, told: Told) -> Result<Table, AllocError>
+    ensures { IfOk result (λ t. IsReader rules.now.problem rules.now.rules t.moves.items t.offs.items) }
+{
+    let states = States::of(alloc, rules)?;
+    let classes = classes_of(alloc, &states, told)?;
+    let table = states.into_table(alloc, rules)?;
+    merged(alloc, rules, table, &classes)
 }
 
 // An automaton may be sent to other threads and shared with them.

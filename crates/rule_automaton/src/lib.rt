@@ -2,7 +2,13 @@
 #![tactic(auto)]
 
 mod automaton;
+mod classes;
+mod image;
+mod states;
 mod step;
+mod step_list;
+mod table;
+mod tail_index;
 
 pub use automaton::{Automaton, Told};
 pub use step::Step;

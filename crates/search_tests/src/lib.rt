@@ -5,6 +5,10 @@
 #[cfg(test)]
 mod all_words;
 #[cfg(test)]
+mod clean_words_tests;
+#[cfg(test)]
+mod demand_counts_tests;
+#[cfg(test)]
 mod kept_cycle_tests;
 #[cfg(test)]
 mod nearest_weights_tests;
@@ -17,6 +21,10 @@ mod refutation_checker_tests;
 #[cfg(test)]
 mod roster_finder_tests;
 #[cfg(test)]
+mod roster_planner_tests;
+#[cfg(test)]
 mod roster_search_tests;
 #[cfg(test)]
 mod rule_reducer_tests;
+#[cfg(test)]
+mod weekend_best_tests;

@@ -1,35 +1,38 @@
 // Bounds of small problems. The heaviest words are compared with a listing in `all_words.rt`.
 ghost use Rattle.std.specs.Prelude.{◌≡◌, ◌≤◌};
-ghost use Rattle.rwsp_terms.specs.declared.limits.TheConstants.{GREATEST_WEIGHT};
+ghost use Rattle.rwsp_terms.specs.declared.limits.TheConstants.{GREATEST_WEIGHT, MOST_WORKERS};
 ghost use Rattle.domain_store.specs.Store.{BelongsTo};
 
+use clean_words::CleanWords;
 use domain_store::Domains;
-use potential_bounds::{Gate, NoGate, Weights, first_plain, heaviest_free, search_weights};
-use rwsp_model::Problem;
+use potential_bounds::{
+    Gate, NoGate, Weights, first_plain, heaviest_free, plain_bounds, search_weights,
+};
+use rule_automaton::{Automaton, Told};
 use rwsp_terms::{Symbol, Weight};
 use small_problems::{
-    D, D_ON_BOTH_DAYS, LONG_BLOCKS, LONGER_BLOCKS, Meeting, OFF, TWOS_IN_SIX, all_rules, problem_of,
+    D, D_ON_BOTH_DAYS, LONG_BLOCKS, LONGER_BLOCKS, Meeting, OFF, TWOS_IN_SIX, problem_of,
 };
 use std::alloc::Global;
 use std::test::Fail;
 use std::thread::Threads;
-use word_tail::TailRules;
 
 // What the heaviest word weighs by its free weekends alone, in three weeks of seven days.
-fn weight_under(
-    alloc: Global,
-    problem: &Problem,
-    tails: &TailRules,
-    doms: &Domains,
-) -> Result<Option<i64>, Fail>
-    requires same { tails.now.problem ≡ problem.now }
-    requires belongs { BelongsTo problem.now doms.now }
+fn weight_under(alloc: Global, automaton: &Automaton, doms: &Domains) -> Result<Option<i64>, Fail>
+    requires { BelongsTo automaton.now.problem doms.now }
 {
+    let problem = automaton.problem();
     if problem.days() != 7 || problem.cells() != 21 {
         return Err(Fail::from("not three weeks"));
     }
+    let words = CleanWords {
+        automaton,
+        domains: doms,
+        position: 0,
+        days: 21,
+    };
     let weights = Weights::new(alloc);
-    match heaviest_free(alloc, problem, tails, doms, 1, &weights, 1)? {
+    match heaviest_free(alloc, &words, &weights, 1)? {
         Some(found) => Ok(Some(found.weight)),
         None => Ok(None),
     }
@@ -37,9 +40,9 @@ fn weight_under(
 
 fn greatest_weight(alloc: Global, text: &[u8]) -> Result<Option<i64>, Fail> {
     let problem = problem_of(alloc, text)?;
-    let tails = all_rules(alloc, &problem)?;
+    let automaton = Automaton::of_short_rules(alloc, &problem, Told::DayOff)?;
     let doms = Domains::new(alloc, &problem)?;
-    weight_under(alloc, &problem, &tails, &doms)
+    weight_under(alloc, &automaton, &doms)
 }
 
 #[test]
@@ -58,9 +61,9 @@ fn searched(alloc: Global, text: &[u8], rounds: u32) -> Result<Option<Weights>, 
     requires { rounds ≤ GREATEST_WEIGHT }
 {
     let problem = problem_of(alloc, text)?;
-    let tails = all_rules(alloc, &problem)?;
+    let automaton = Automaton::of_short_rules(alloc, &problem, Told::DayOff)?;
     let doms = Domains::new(alloc, &problem)?;
-    Ok(search_weights(alloc, &problem, &tails, &doms, rounds)?)
+    Ok(search_weights(alloc, &automaton, &doms, rounds)?)
 }
 
 #[test]
@@ -90,6 +93,19 @@ fn searched_weights(rt: HostRuntime) -> Result<(), Fail> {
     Ok(())
 }
 
+// Every shift weighs 1 or -1 on every day, then the one shift that there is.
+#[test]
+fn plain_bounds_in_order(rt: HostRuntime) -> Result<(), Fail> {
+    let problem = problem_of(rt.alloc(), D_ON_BOTH_DAYS)?;
+    let bounds = plain_bounds(rt.alloc(), &problem)?;
+    assert_eq!(rt; bounds.len(), 4);
+    for (weights, value) in bounds.iter().zip([1, -1, 1, -1].iter()) {
+        let both = [weight(1, D, *value), weight(2, D, *value)];
+        assert_eq!(rt; weights.entries(), both.as_slice());
+    }
+    Ok(())
+}
+
 // The first plain bound that holds, with all short rules and full domains.
 fn plain<R: Threads + Sync, G: Gate>(
     rt: &R,
@@ -98,18 +114,18 @@ fn plain<R: Threads + Sync, G: Gate>(
     workers: u32,
     gate: &G,
 ) -> Result<Option<usize>, Fail>
-    requires { (1 ≤ workers) × (workers ≤ 64) }
+    requires { (1 ≤ workers) × (workers ≤ MOST_WORKERS) }
 {
     let problem = problem_of(alloc, text)?;
-    let tails = all_rules(alloc, &problem)?;
+    let automaton = Automaton::of_short_rules(alloc, &problem, Told::DayOff)?;
     let doms = Domains::new(alloc, &problem)?;
-    Ok(first_plain(rt, alloc, &problem, &tails, &doms, workers, gate)?)
+    Ok(first_plain(rt, alloc, &automaton, &doms, workers, gate)?)
 }
 
 #[test]
 fn plain_bounds_by_workers(rt: HostRuntime) -> Result<(), Fail> {
     let alloc = rt.alloc();
-    for workers in [1, 2, 64] {
+    for workers in [1, 2, 4, 64] {
         assert_eq!(rt;
             plain(&rt, alloc, D_ON_BOTH_DAYS, workers, &NoGate)?,
             Some(0)

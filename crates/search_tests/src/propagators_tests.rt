@@ -1,6 +1,7 @@
 // Each propagator once in ample memory. What it sees under which domains, its clauses say.
 ghost use Rattle.std.specs.Prelude.{◌≤◌};
 ghost use Rattle.rwsp_terms.specs.Instance.{Instance};
+ghost use Rattle.rwsp_terms.specs.declared.limits.TheConstants.{MOST_WORKERS};
 ghost use Rattle.domain_store.specs.Store.{BelongsTo};
 
 use domain_store::Domains;
@@ -11,7 +12,7 @@ use refutation_terms::Line;
 use rule_automaton::{Automaton, Told};
 use rwsp_model::Problem;
 use rwsp_terms::Symbol;
-use small_problems::{OFF, ONE_CELL, THREE_IN_TWO, problem_of, take_away};
+use small_problems::{D_ON_DAY_1, OFF, ONE_CELL, THREE_IN_TWO, problem_of, take_away};
 use std::alloc::{AllocError, Global};
 use std::test::Fail;
 use std::thread::Threads;
@@ -102,9 +103,10 @@ fn bounds_see<R: Threads + Sync>(
     workers: u32,
 ) -> Result<Seen, AllocError>
     requires belongs { BelongsTo problem.now doms.now }
-    requires workers { (1 ≤ workers) × (workers ≤ 64) }
+    requires workers { (1 ≤ workers) × (workers ≤ MOST_WORKERS) }
 {
-    let tops = RootBounds::new(rt, alloc, problem, doms, workers, &NoGate)?;
+    let automaton = Automaton::of_short_rules(alloc, problem, Told::DayOff)?;
+    let tops = RootBounds::new(rt, alloc, &automaton, doms, workers, &NoGate)?;
     sees(tops, alloc, problem, doms)
 }
 
@@ -169,12 +171,18 @@ fn windows_are_seen(rt: HostRuntime) -> Result<(), Fail> {
     Ok(())
 }
 
-// Two weeks less three shifts leave a day off -1 times.
+// Two weeks less three shifts leave a day off -1 times. Where D is asked on the first of two days alone, the day off is
+// spent there, and D on the second.
 #[test]
 fn days_are_seen(rt: HostRuntime) -> Result<(), Fail> {
     assert_eq!(rt;
         seen_by(&rt, rt.alloc(), Kind::Days, THREE_IN_TWO, None)?,
         Seen::Day(0)
+    );
+    let spent = seen_by(&rt, rt.alloc(), Kind::Days, D_ON_DAY_1, None)?;
+    assert!(rt;
+        spent == Seen::Cut(0, 0) || spent == Seen::Cut(1, 1),
+        "{spent:?}"
     );
     Ok(())
 }

@@ -12,6 +12,7 @@ use propagator_terms::{Look, Pair, Propagator};
 use propagators::{DayProp, RootBounds, WindowProp};
 use refutation_terms::Line;
 use roster_search::{Guide, NextSplit, NoGuide, chronological, guided_search, search};
+use rule_automaton::Automaton;
 use rwsp_model::{Problem, Roster};
 use small_problems::{CROWDED_TWOS_IN_SIX, D_ON_DAY_1, D_ON_EITHER_DAY, problem_of};
 use std::alloc::{AllocError, Global};
@@ -253,11 +254,11 @@ fn by_search(alloc: Global, problem: &Problem) -> Result<Run, AllocError> {
     guided(alloc, problem, &mut guide)
 }
 
-// A search that splits in chronological order.
+// A search that splits in chronological order from day 2 on.
 fn in_order(alloc: Global, problem: &Problem) -> Result<Run, AllocError> {
     let mut guide = InOrder {
         problem: problem.copy()?,
-        first: 0,
+        first: 1,
     };
     guided(alloc, problem, &mut guide)
 }
@@ -269,8 +270,9 @@ fn by_bounds<R: Threads + Sync>(
     problem: &Problem,
 ) -> Result<Run, AllocError> {
     let full = Domains::new(alloc, problem)?;
+    let automaton = Automaton::of_short_rules(alloc, problem, rule_automaton::Told::DayOff)?;
     let mut guide = ByLook {
-        propagator: RootBounds::new(rt, alloc, problem, &full, 1, &NoGate)?,
+        propagator: RootBounds::new(rt, alloc, &automaton, &full, 1, &NoGate)?,
     };
     guided(alloc, problem, &mut guide)
 }
@@ -281,9 +283,10 @@ fn what_a_guide_gives_is_used(rt: HostRuntime) -> Result<(), Fail> {
     let either = problem_of(alloc, D_ON_EITHER_DAY)?;
     let crowded = problem_of(alloc, CROWDED_TWOS_IN_SIX)?;
     let cases = [
-        (guided(alloc, &either, &mut NoGuide)?, End::Roster(1), 4),
-        (in_order(alloc, &either)?, End::Roster(0), 4),
-        (by_search(alloc, &either)?, End::Roster(1), 1),
+        // of symbols that are needed no more than another, the day off is tried first
+        (guided(alloc, &either, &mut NoGuide)?, End::Roster(0), 4),
+        (in_order(alloc, &either)?, End::Roster(1), 4),
+        (by_search(alloc, &either)?, End::Roster(0), 1),
         (by_bounds(&rt, alloc, &crowded)?, End::NoRoster(1), 1),
     ];
     for (run, end, looks) in cases {

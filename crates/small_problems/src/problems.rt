@@ -13,8 +13,8 @@ use domain_store::Domains;
 use refutation_log::{Log, read_log};
 use roster_print::read_roster;
 use rwsp_file::read_problem;
-use rwsp_model::{Problem, Roster, short_rules};
-use rwsp_terms::Symbol;
+use rwsp_model::{Problem, Roster, is_short, rule_at, rule_count, short_rules};
+use rwsp_terms::{RuleList, Symbol};
 use std::alloc::{AllocError, Global};
 use std::test::Fail;
 use word_tail::TailRules;
@@ -148,6 +148,21 @@ pub fn all_rules(alloc: Global, problem: &Problem) -> Result<TailRules, AllocErr
     let short = short_rules(alloc, problem)?;
     let tails = TailRules::of(alloc, problem, &short)?;
     Ok(tails)
+}
+
+/// The tails of words by one short rule alone.
+pub fn one_rule(alloc: Global, problem: &Problem, number: u32) -> Result<TailRules, Fail>
+    ensures problem { IfOk result (λ tails. tails.problem ≡ problem.now) }
+{
+    if number < 1 || number > rule_count(problem) {
+        return Err(Fail::from("no rule"));
+    }
+    if !is_short(problem, rule_at(problem, number)) {
+        return Err(Fail::from("no short rule"));
+    }
+    let mut rules = RuleList::new(alloc);
+    rules.put(number)?;
+    Ok(TailRules::of(alloc, problem, &rules)?)
 }
 
 /// Takes the symbol away from the position, where another is left.

@@ -1,6 +1,7 @@
 // A search with one goal.
 ghost use Rattle.std.specs.Prelude.{◌≡◌, ◌+◌, ◌*◌, ◌^◌, ◌<◌, ◌≤◌, Some, IfOk};
 ghost use Rattle.rwsp_terms.specs.Instance.{cells, shift_count};
+ghost use Rattle.propagator_terms.specs.Cycles.{AreShortRules};
 ghost use Rattle.case_reasons.specs.Reasons.{AreCaseReasons, WeighNoWords};
 ghost use Rattle.roster_search.specs.Founds.{HasSpentBudget};
 ghost use Rattle.plan_terms.specs.Bests.{IsFoundWith};
@@ -12,32 +13,37 @@ use case_reasons::{CaseReasons, case_reasons};
 use domain_store::Domains;
 use plan_terms::Found;
 use propagator_terms::Propagator;
+use roster_finder::RosterFinder;
 use roster_search::{Guide, guided_search};
+use rule_automaton::Automaton;
 use rwsp_model::Problem;
 use rwsp_terms::limits::GREATEST_BUDGET;
 use std::alloc::{AllocError, Global};
 
-/// A roster with at least as many free weekends as the goal, or a free log of why there is none, or one that has spent
-/// the budget. Where the wish is greater, a roster with as many is looked for first.
+/// A roster of the automaton's problem with at least as many free weekends as the goal, or a free log of why there is
+/// none, or one that has spent the budget. Where the wish is greater, a roster with as many is looked for first.
 pub fn search_with(
     alloc: Global,
-    problem: &Problem,
+    automaton: &Automaton,
+    finder: &RosterFinder<'_>,
     goal: u32,
     wish: u32,
     budget: u32,
 ) -> Result<Found, AllocError>
-    requires week { problem.now.days ≡ 7 }
-    requires goal { goal ≤ problem.now.weeks + 1 }
+    requires short { AreShortRules automaton.now.problem automaton.now.rules }
+    requires same { finder.now ≡ automaton.now.problem }
+    requires week { automaton.now.problem.days ≡ 7 }
+    requires goal { goal ≤ automaton.now.problem.weeks + 1 }
     requires budget { (1 ≤ budget) × (budget ≤ GREATEST_BUDGET) }
-    ensures found { IfOk result (IsFoundWith problem.now budget goal) }
-    ensures complete { IfOk result (λ found.
-        HasSpentBudget found → budget + 1 < 2 * (shift_count problem.now + 1) ^ cells problem.now) }
+    ensures found { IfOk result (IsFoundWith automaton.now.problem budget goal) }
+    ensures complete { IfOk result (λ found. HasSpentBudget found
+        → budget + 1 < 2 * (shift_count automaton.now.problem + 1) ^ cells automaton.now.problem) }
 {
-    match proof_at_top(alloc, problem, goal)? {
+    match proof_at_top(alloc, automaton, goal)? {
         Some(proof) => Ok(Found::NoRoster(proof)),
         None => {
-            let guide = BestGuide::new(alloc, problem, goal, wish)?;
-            split_cases(alloc, problem, goal, guide, budget)
+            let guide = BestGuide::new(alloc, automaton, finder, goal, wish);
+            split_cases(alloc, automaton, goal, guide, budget)
         }
     }
 }
@@ -45,22 +51,23 @@ pub fn search_with(
 // The same with this guide, where the free leaf of one turn doesn't hold at the top.
 fn split_cases<G: Guide + Drop>(
     alloc: Global,
-    problem: &Problem,
+    automaton: &Automaton,
     goal: u32,
     guide: G,
     budget: u32,
 ) -> Result<Found, AllocError>
-    requires week { problem.now.days ≡ 7 }
-    requires goal { goal ≤ problem.now.weeks + 1 }
+    requires short { AreShortRules automaton.now.problem automaton.now.rules }
+    requires week { automaton.now.problem.days ≡ 7 }
+    requires goal { goal ≤ automaton.now.problem.weeks + 1 }
     requires budget { (1 ≤ budget) × (budget ≤ GREATEST_BUDGET) }
-    requires top { FailsFreeAtTop problem.now goal }
-    requires guide { G.serves guide problem.now (Some goal) }
-    ensures found { IfOk result (IsFoundWith problem.now budget goal) }
-    ensures complete { IfOk result (λ found.
-        HasSpentBudget found → budget + 1 < 2 * (shift_count problem.now + 1) ^ cells problem.now) }
+    requires top { FailsFreeAtTop automaton.now.problem goal }
+    requires guide { G.serves guide automaton.now.problem (Some goal) }
+    ensures found { IfOk result (IsFoundWith automaton.now.problem budget goal) }
+    ensures complete { IfOk result (λ found. HasSpentBudget found
+        → budget + 1 < 2 * (shift_count automaton.now.problem + 1) ^ cells automaton.now.problem) }
 {
-    let reasons = full_reasons(alloc, problem)?;
-    search_by(alloc, problem, goal, reasons, guide, budget)
+    let reasons = full_reasons(alloc, automaton)?;
+    search_by(alloc, automaton.problem(), goal, reasons, guide, budget)
 }
 
 // The same by these reasons. Their type and the guide's are left open, since nothing else of them matters here.
@@ -97,12 +104,13 @@ fn search_by<A: Propagator + Drop, G: Guide + Drop>(
 }
 
 // The reasons of cases, for a search that begins with full domains.
-fn full_reasons(alloc: Global, problem: &Problem) -> Result<CaseReasons, AllocError>
-    ensures serves { IfOk result (λ r. ⟦<CaseReasons as Propagator>⟧.serves r problem.now) }
-    ensures reasons { IfOk result (λ r.
-        AreCaseReasons problem.now (⟦<CaseReasons as Propagator>⟧.leaves r) (⟦<CaseReasons as Propagator>⟧.spent r)) }
+fn full_reasons<'a>(alloc: Global, automaton: &'a Automaton) -> Result<CaseReasons<'a>, AllocError>
+    requires short { AreShortRules automaton.now.problem automaton.now.rules }
+    ensures serves { IfOk result (λ r. ⟦<CaseReasons as Propagator>⟧.serves r automaton.now.problem) }
+    ensures reasons { IfOk result (λ r. AreCaseReasons automaton.now.problem
+        (⟦<CaseReasons as Propagator>⟧.leaves r) (⟦<CaseReasons as Propagator>⟧.spent r)) }
     ensures unweighed { IfOk result (λ r. WeighNoWords (⟦<CaseReasons as Propagator>⟧.leaves r)) }
 {
-    let doms = Domains::new(alloc, problem)?;
-    case_reasons(alloc, problem, &doms)
+    let doms = Domains::new(alloc, automaton.problem())?;
+    case_reasons(alloc, automaton, &doms)
 }

@@ -2,6 +2,7 @@
 ghost use Rattle.std.specs.Prelude.{◌≡◌, ℕ, ◌+◌, ◌*◌, ◌^◌, ◌<◌, ◌≤◌, IfOk};
 ghost use Rattle.std.specs.Option.{IfSome};
 ghost use Rattle.rwsp_terms.specs.Instance.{Instance, cells, shift_count};
+ghost use Rattle.propagator_terms.specs.Cycles.{AreShortRules};
 ghost use Rattle.plan_terms.specs.Bests.{IsMeeting, IsFreeProof, IsBestFound, IsUndecided, goal_above};
 
 use crate::likely_most::likely_most;
@@ -9,6 +10,8 @@ use crate::one_goal::search_with;
 use plan_terms::{BestFound, Found};
 use refutation_log::Log;
 use roster_checker::free_weekends;
+use roster_finder::RosterFinder;
+use rule_automaton::{Automaton, Told};
 use rwsp_model::{Problem, Roster};
 use rwsp_terms::limits::GREATEST_BUDGET;
 use std::alloc::{AllocError, Global};
@@ -24,13 +27,43 @@ pub fn best(alloc: Global, problem: &Problem, budget: u32) -> Result<BestFound, 
     ensures complete { IfOk result (λ found.
         IsUndecided found → budget + 1 < 2 * (shift_count problem.now + 1) ^ cells problem.now) }
 {
+    let automaton = Automaton::of_short_rules(alloc, problem, Told::DayOff)?;
+    let finder = RosterFinder::new(alloc, automaton.problem());
+    let found = match finder {
+        Ok(finder) => {
+            let found = best_by(alloc, &automaton, &finder, budget);
+            drop(finder);
+            found
+        }
+        Err(error) => Err(error),
+    };
+    drop(automaton);
+    found
+}
+
+// The same with the automaton of all short rules of its problem.
+fn best_by(
+    alloc: Global,
+    automaton: &Automaton,
+    finder: &RosterFinder<'_>,
+    budget: u32,
+) -> Result<BestFound, AllocError>
+    requires short { AreShortRules automaton.now.problem automaton.now.rules }
+    requires same { finder.now ≡ automaton.now.problem }
+    requires week { automaton.now.problem.days ≡ 7 }
+    requires budget { (1 ≤ budget) × (budget ≤ GREATEST_BUDGET) }
+    ensures found { IfOk result (IsBestFound automaton.now.problem budget) }
+    ensures complete { IfOk result (λ found. IsUndecided found
+        → budget + 1 < 2 * (shift_count automaton.now.problem + 1) ^ cells automaton.now.problem) }
+{
+    let problem = automaton.problem();
     problem.prove_limits();
     let mut kept = None;
     let mut goal = 0;
-    let mut wish = likely_most(alloc, problem)?;
+    let mut wish = likely_most(alloc, automaton)?;
     let mut too_many = wish + 1;
     loop {
-        match search_with(alloc, problem, goal, wish, budget)? {
+        match search_with(alloc, automaton, finder, goal, wish, budget)? {
             Found::Roster(roster) => {
                 goal = free_weekends(problem, &roster) + 1;
                 kept = Some(roster);

@@ -4,8 +4,11 @@ use super::frees::{ONE_OF_THREE, ONE_WEEK, THREE_WEEKS};
 use super::logs::{SPLIT, TURN, TWOS};
 use super::plans::THREE_OF_FIVE;
 use super::staffs::{NONE_TO_THREE, TWO_OF_FOUR};
-use super::{TWO_DAYS, ran};
-use std::alloc::Global;
+use super::{NINE_WEEKS, NINE_WEEKS_ROSTER, TWO_DAYS, outcome_of, ran, shelf_of, words_of};
+use memory_files::MemorySink;
+use potential_bounds::NoGate;
+use rwsp_answers::{Answer, Outcome};
+use std::alloc::{AllocError, Global};
 use std::test::Fail;
 use std::thread::Threads;
 
@@ -138,6 +141,59 @@ fn calls_of_the_sink(rt: HostRuntime) -> Result<(), Fail> {
             sink_faults_end(&rt, rt.alloc(), line, &files, *status)?,
             "{line}"
         );
+    }
+    Ok(())
+}
+
+// How much of `meets` a run has written.
+#[derive(Clone, Copy, Debug, PartialEq, Eq)]
+enum Meets {
+    Whole,
+    Part,
+    NotSaid,
+}
+
+fn meets_in(outcome: &Outcome) -> Meets {
+    match outcome {
+        Outcome::Done(Answer::Meets) => Meets::Whole,
+        Outcome::WriteFault(Answer::Meets) => Meets::Part,
+        _ => Meets::NotSaid,
+    }
+}
+
+// A roster is judged that meets all rules, and the answer is written into the sink.
+fn meets_into<R: Threads + Sync>(
+    rt: &R,
+    alloc: Global,
+    sink: &mut MemorySink,
+) -> Result<Meets, AllocError> {
+    let words = words_of(alloc, &["verify", "F", "G"])?;
+    let files = [("F", NINE_WEEKS), ("G", NINE_WEEKS_ROSTER)];
+    let mut shelf = shelf_of(alloc, &files, 100, &[])?;
+    let outcome = outcome_of(rt, alloc, &words, &mut shelf, sink, &NoGate);
+    let meets = meets_in(&outcome);
+    drop(outcome);
+    Ok(meets)
+}
+
+// A write that fails keeps the answer, and has written a part of its text: as much as there is room for, or as was put
+// before the call that is refused. The sink takes a byte at a time.
+#[test]
+fn answers_of_failed_writes(rt: HostRuntime) -> Result<(), Fail> {
+    let alloc = rt.alloc();
+    for (room, failing, written, meets) in [
+        (0usize, 0u64, "", Meets::Part),
+        (1, 0, "m", Meets::Part),
+        (2, 0, "me", Meets::Part),
+        (3, 0, "mee", Meets::Part),
+        (4, 0, "meet", Meets::Part),
+        (5, 0, "meets", Meets::Part),
+        (6, 0, "meets\n", Meets::Whole),
+        (6, 4, "mee", Meets::Part),
+    ] {
+        let mut sink = MemorySink::new(alloc, room, 1, vec![in alloc; failing]?)?;
+        assert_eq!(rt; meets_into(&rt, alloc, &mut sink)?, meets);
+        assert_eq!(rt; sink.bytes(), written.as_bytes());
     }
     Ok(())
 }

@@ -1,6 +1,6 @@
 // Each limit and the first number beyond it: of command lines, problem files, logs, staff texts, and of their lengths.
 use super::logs::{TWOS, checks};
-use super::{TWO_DAYS, USAGE, line_ends, ran, shelf_of, shows, status_of, words_in};
+use super::{TWO_DAYS, USAGE, ends, line_ends, ran, shelf_of, shows, status_of, words_in};
 use memory_files::MemorySink;
 use potential_bounds::NoGate;
 use std::alloc::Global;
@@ -85,6 +85,7 @@ fn command_lines(rt: HostRuntime) -> Result<(), Fail> {
             "{line}"
         );
     }
+    assert!(rt; ends(&rt, rt.alloc(), &[], &[], 2, USAGE)?, "no words");
     Ok(())
 }
 

@@ -1,0 +1,35 @@
+// An automaton that serves one line after another.
+ghost use Rattle.std.specs.Prelude.{◌≡◌, IsTrue, IfOk, IfSome};
+ghost use Rattle.rwsp_terms.specs.Rules.{NamesShortOnly};
+
+use rule_automaton::{Automaton, Told};
+use rwsp_model::Problem;
+use rwsp_terms::RuleList;
+use std::alloc::{AllocError, Global};
+
+// Whether the automaton is of this list.
+fn is_of(automaton: &Automaton, list: &RuleList) -> bool
+    ensures { IsTrue result → automaton.now.rules ≡ list.now }
+{
+    automaton.rules().numbers() == list.numbers()
+}
+
+/// The automaton of the list: the one that was kept, where it is of this list, else a new one.
+pub fn automaton_of(
+    alloc: Global,
+    problem: &Problem,
+    kept: Option<Automaton>,
+    list: &RuleList,
+) -> Result<Automaton, AllocError>
+    requires kept { IfSome kept (λ automaton. automaton.problem ≡ problem.now) }
+    requires short { NamesShortOnly problem.now list.now }
+    ensures problem { IfOk result (λ automaton. automaton.problem ≡ problem.now) }
+    ensures rules { IfOk result (λ automaton. automaton.rules ≡ list.now) }
+{
+    if let Some(automaton) = kept {
+        if is_of(&automaton, list) {
+            return Ok(automaton);
+        }
+    }
+    Automaton::of(alloc, problem, list, Told::DayOff)
+}

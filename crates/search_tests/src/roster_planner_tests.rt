@@ -1,0 +1,64 @@
+// The search for the least crew by itself, and the text of what it gives.
+use crew_checker::check_staff;
+use crew_size::{Staffed, is_size, print_staff, with_weeks};
+use potential_bounds::NoGate;
+use roster_planner::staff;
+use rwsp_model::Problem;
+use small_problems::{TWOS_IN_SIX, problem_of};
+use std::alloc::Global;
+use std::test::Fail;
+use std::thread::Threads;
+
+// The text of a search of two and three weeks.
+fn staff_text<R: Threads + Sync>(
+    rt: &R,
+    alloc: Global,
+    problem: &Problem,
+) -> Result<Vec<u8>, Fail> {
+    if !is_size(problem, 3) {
+        return Err(Fail::from("three weeks are too long"));
+    }
+    let run = staff(rt, alloc, problem, 2, 3, 2_000, &NoGate)?;
+    Ok(print_staff(alloc, problem, &run)?)
+}
+
+// What a staff text decides, if it is accepted.
+fn decided<R: Threads + Sync>(
+    rt: &R,
+    alloc: Global,
+    problem: &Problem,
+    text: &[u8],
+) -> Option<Staffed> {
+    if text.len() > 10_000 {
+        return None;
+    }
+    check_staff(rt, alloc, problem, text, 2, &NoGate).ok()
+}
+
+// Three days of work are asked of two weeks, or of three, in blocks of two.
+#[test]
+fn two_and_three_weeks_are_too_few(rt: HostRuntime) -> Result<(), Fail> {
+    let alloc = rt.alloc();
+    let problem = problem_of(alloc, TWOS_IN_SIX)?;
+    let text = staff_text(&rt, alloc, &problem)?;
+    assert!(rt; text.starts_with(b"weeks 2 none\nrwsp-log 2\n"));
+    assert!(rt; text.ends_with(b"\nnone to 3\n"));
+    assert!(rt; decided(&rt, alloc, &problem, &text) == Some(Staffed::NoneTo(2, 3)));
+    Ok(())
+}
+
+// The days, weeks and shifts of the problem with another number of weeks.
+fn sizes_with(problem: &Problem, weeks: u32) -> Result<[u32; 3], Fail> {
+    if !is_size(problem, weeks) {
+        return Err(Fail::from("no size"));
+    }
+    let sized = with_weeks(problem, weeks)?;
+    Ok([sized.days(), sized.weeks(), u32::from(sized.shifts())])
+}
+
+#[test]
+fn a_problem_with_other_weeks(rt: HostRuntime) -> Result<(), Fail> {
+    let problem = problem_of(rt.alloc(), TWOS_IN_SIX)?;
+    assert_eq!(rt; sizes_with(&problem, 600)?, [1, 600, 1]);
+    Ok(())
+}

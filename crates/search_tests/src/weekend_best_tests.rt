@@ -1,0 +1,28 @@
+// The search for the most free weekends by itself.
+use plan_terms::BestFound;
+use roster_checker::free_weekends;
+use rwsp_model::Problem;
+use small_problems::{LONG_BLOCKS, problem_of};
+use std::alloc::Global;
+use std::test::Fail;
+use weekend_best::best;
+
+// How many free weekends the best roster has, and the goal of the log that says that none has more.
+fn most_free(alloc: Global, problem: &Problem) -> Result<Option<(u32, Option<u32>)>, Fail> {
+    if problem.days() != 7 {
+        return Err(Fail::from("no week of seven days"));
+    }
+    match best(alloc, problem, 2_000)? {
+        BestFound::Best { roster, proof } => {
+            Ok(Some((free_weekends(problem, &roster), proof.goal())))
+        }
+        _ => Ok(None),
+    }
+}
+
+#[test]
+fn one_weekend_of_three_is_free(rt: HostRuntime) -> Result<(), Fail> {
+    let problem = problem_of(rt.alloc(), LONG_BLOCKS)?;
+    assert_eq!(rt; most_free(rt.alloc(), &problem)?, Some((1, Some(2))));
+    Ok(())
+}
