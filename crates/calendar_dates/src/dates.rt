@@ -1,5 +1,5 @@
 // The dates of days in a row, and the words that name a date.
-ghost use Rattle.std.specs.Prelude.{◌≡◌, ◌+◌, ◌++◌, ◌≤◌, ◌↔◌, pos, ◌+ℤ◌, IsOk, IfOk, OnOk, IsTrue, MatchOption};
+ghost use Rattle.std.specs.Prelude.{◌≡◌, ◌+◌, ◌++◌, ◌≤◌, ◌↔◌, pos, ◌+ℤ◌, IsOk, IfOk, OnOk, OnErr, IsTrue, MatchOption};
 ghost use Rattle.calendar_dates.specs.Calendar.{Date as DateValue, epoch_day, date_text, IsWithinDates, FitsDates, IsDateWord};
 
 use crate::civil_date::{CivilDate, from_jiff, to_jiff};
@@ -66,9 +66,10 @@ pub fn date_of(word: &str) -> Option<CivilDate>
     }
 }
 
-/// Appends a date as YYYY-MM-DD.
+/// Appends a date as YYYY-MM-DD. Where there is no memory nothing is appended.
 pub fn put_date(out: &mut Vec<u8>, date: CivilDate) -> Result<(), AllocError>
-    ensures { OnOk result (out.new.items ≡ out.old.items ++ date_text date) }
+    ensures ok { OnOk result (out.new.items ≡ out.old.items ++ date_text date) }
+    ensures err { OnErr result (out.new.items ≡ out.old.items) }
 {
     let text = DateTimePrinter::new().date_text(to_jiff(date).to_plain());
     out.extend_from_slice(text.as_bytes())

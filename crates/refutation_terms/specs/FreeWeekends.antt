@@ -1,6 +1,7 @@
 -- Free weekends of a word, and what a word weighs with a reward for each.
 use Rattle.std.specs.Prelude.{ℕ, ◌+◌, ◌*◌, ◌%◌, ◌==◌, ◌&&◌, List, length, Bool, nat_lt, ℤ, pos, ◌+ℤ◌, slice_index_or, count_by}
 use Rattle.std.specs.List.{range_with_len}
+use Rattle.rwsp_terms.specs.declared.limits.TheConstants.{DAYS_OF_WEEK, SATURDAY}
 use Rattle.rwsp_terms.specs.declared.data.Symbol.{Symbol}
 use Rattle.rwsp_terms.specs.declared.data.Weight.{Weight}
 use Rattle.rwsp_terms.specs.Instance.{Instance, off_symbol}
@@ -10,11 +11,11 @@ use Rattle.refutation_terms.specs.Word.{weight}
 abbrev pub is_off_at : List Symbol → ℕ → Bool
 is_off_at u k = (slice_index_or u k off_symbol).number == 0
 
--- day k, counted from 0, is day 6 of a week of seven days, the word has the day behind it too, and both are off
+-- day k, counted from 0, is the Saturday of a week of seven days, the word has the day behind it too, and both are off
 abbrev pub is_free_weekend : List Symbol → ℕ → Bool
-is_free_weekend u k = (k % 7 == 5) && nat_lt (k + 1) (length u) && is_off_at u k && is_off_at u (k + 1)
+is_free_weekend u k = (k % DAYS_OF_WEEK == SATURDAY) && nat_lt (k + 1) (length u) && is_off_at u k && is_off_at u (k + 1)
 
--- how many weeks of a word that begins on day 1 have days 6 and 7 both off
+-- how many weeks of a word that begins on day 1 have both days of the weekend off
 abbrev pub free_weekends : List Symbol → ℕ
 free_weekends u = count_by (is_free_weekend u) (range_with_len 0 (length u))
 

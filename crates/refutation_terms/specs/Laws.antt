@@ -1,6 +1,7 @@
 -- Laws of the definitions, as the contracts of src/laws.rt state them.
 use Rattle.std.specs.Prelude.{◌≡◌, ◌≢◌, ◌⊎◌, ◌↔◌, ℕ, ◌-◌, ◌+◌, ◌%◌, ◌*◌, ◌<◌, ◌≤◌, EachIndex, List, [], ◌∷◌, ◌++◌, take, length, slice_get, slice_index_or, Option, Some, None, IsTrue, false, count_by, ◌&&◌, Contains, pos, ◌*ℤ◌, ◌≤ℤ◌}
 use Rattle.std.specs.List.{range_with_len}
+use Rattle.rwsp_terms.specs.declared.limits.TheConstants.{DAYS_OF_WEEK, SATURDAY, SUNDAY}
 use Rattle.rwsp_terms.specs.declared.data.Symbol.{Symbol}
 use Rattle.rwsp_terms.specs.declared.data.Weight.{Weight}
 use Rattle.rwsp_terms.specs.declared.data.Rule.{Rule}
@@ -165,16 +166,16 @@ PassingLeavesNoRoster =
     (P : Instance) (goal : Option ℕ) (g : Log) (s : List Symbol)
     → PassesFor P goal g → Meets P g.named s → HasGoal goal s → ⊥
 
--- a roster of weeks of seven days has as many free weekends as weeks with days 6 and 7 off
+-- a roster of weeks of seven days has as many free weekends as weeks with both days of the weekend off
 abbrev pub FreeWeekendsAreWeeks : Type 0
 FreeWeekendsAreWeeks =
-    (P : Instance) (s : List Symbol) → P.days ≡ 7 → IsRoster P s
-    → free_weekends s ≡ count_by (λ i. is_off_at s (i * 7 + 5) && is_off_at s (i * 7 + 6)) (range_with_len 0 P.weeks)
+    (P : Instance) (s : List Symbol) → P.days ≡ DAYS_OF_WEEK → IsRoster P s
+    → free_weekends s ≡ count_by (λ i. is_off_at s (i * DAYS_OF_WEEK + SATURDAY) && is_off_at s (i * DAYS_OF_WEEK + SUNDAY)) (range_with_len 0 P.weeks)
 
 -- the word that goes through a whole roster of such weeks `turns` times has its free weekends `turns` times
 abbrev pub TurnsHaveFreeWeekends : Type 0
 TurnsHaveFreeWeekends =
-    (P : Instance) (s : List Symbol) (turns : ℕ) → P.days ≡ 7 → IsRoster P s
+    (P : Instance) (s : List Symbol) (turns : ℕ) → P.days ≡ DAYS_OF_WEEK → IsRoster P s
     → free_weekends (window s 0 (turns * cells P)) ≡ turns * free_weekends s
 
 -- a log that passes is not spent, whatever the budget

@@ -4,7 +4,7 @@ use Rattle.rwsp_terms.specs.declared.data.Weight.{Weight}
 use Rattle.rwsp_terms.specs.declared.data.Rule.{Rule}
 use Rattle.rwsp_terms.specs.declared.data.Rule.TheVariants as TheRules
 use Rattle.std.specs.List.Sorted.{IsStrictlyIncreasing}
-use Rattle.rwsp_terms.specs.declared.limits.TheConstants.{LONGEST_WORD, GREATEST_REWARD}
+use Rattle.rwsp_terms.specs.declared.limits.TheConstants.{LONGEST_WORD, GREATEST_REWARD, DAYS_OF_WEEK}
 use Rattle.rwsp_terms.specs.Instance.{Instance, cells, least, IsSymbol, IsDay}
 use Rattle.rwsp_terms.specs.Rules.{rules, Names, NamesShortOnly}
 use Rattle.rwsp_terms.specs.Weights.{weight_at, AreWeights}
@@ -67,7 +67,7 @@ TurnFits P (Some t) = IsDay P t.day × IsSymbol P t.x
 -- a free log has no turn. Its week has seven days, and its goal is at most one more than the weeks
 abbrev pub GoalFits : Instance → Option Turn → Option ℕ → Type 0
 GoalFits P turn None = Unit {0}
-GoalFits P turn (Some goal) = (turn ≡ None) × (P.days ≡ 7) × (goal ≤ P.weeks + 1)
+GoalFits P turn (Some goal) = (turn ≡ None) × (P.days ≡ DAYS_OF_WEEK) × (goal ≤ P.weeks + 1)
 
 -- a log with this goal, or without one, over the rules, days, positions and symbols of the problem
 pub record FitsFor (P : Instance) (goal : Option ℕ) (g : Log) : Type 0 where

@@ -3,6 +3,7 @@ use Rattle.std.specs.Prelude.{◌≡◌, ◌⊎◌, ℕ, zero, suc, ◌*◌, ◌
 use Rattle.std.specs.List.{range_with_len, flat_map}
 use Rattle.rwsp_terms.specs.declared.data.Symbol.{Symbol}
 use Rattle.rwsp_terms.specs.declared.data.Weight.{Weight}
+use Rattle.rwsp_terms.specs.declared.limits.TheConstants.{SEARCHED_ROUNDS}
 use Rattle.rwsp_terms.specs.Instance.{Instance, cells, shift_count, least, greatest, IsShift, IsDay, symbol_numbered}
 use Rattle.rwsp_terms.specs.Roster.{weeks_with}
 use Rattle.rwsp_terms.specs.Rules.{NamesShortRules}
@@ -79,10 +80,10 @@ IsSearched P D R (suc k) y = (before : List Weight) × IsSearched P D R k before
 abbrev pub HoldsAtTop : Instance → Domains → List ℕ → List Weight → Type 0
 HoldsAtTop P D R y = IsTooLight P D 0 1 R y
 
--- no plain bound holds, nor that of one of the first 32 searched weights
+-- no plain bound holds, nor that of searched weights
 pub record NoBoundHolds (P : Instance) (D : Domains) (R : List ℕ) : Type 0 where
   pub plain : (k : ℕ) (y : List Weight) → slice_get (plain_bounds P) k ≡ Some y → HoldsAtTop P D R y → ⊥
-  pub searched : (k : ℕ) (y : List Weight) → k < 32 → IsSearched P D R k y → HoldsAtTop P D R y → ⊥
+  pub searched : (k : ℕ) (y : List Weight) → k < SEARCHED_ROUNDS → IsSearched P D R k y → HoldsAtTop P D R y → ⊥
 
 -- a line that is a split or unfinished
 abbrev pub IsUnclosed : Line → Type 0

@@ -12,7 +12,7 @@ use Rattle.refutation_terms.specs.Laws.{HasGoal}
 use Rattle.domain_store.specs.Store.{Store, has_domain}
 use Rattle.tree_walk.specs.Splits.{is_idle_in}
 use Rattle.propagator_terms.specs.Looks.{IsUnweighed, Closes, IsCut}
-use Rattle.roster_search.specs.declared.choice.NextSplit.{NextSplit}
+use Rattle.roster_search.specs.declared.order.NextSplit.{NextSplit}
 use Rattle.roster_search.specs.declared.sight.Sight.{Sight}
 use Rattle.roster_search.specs.declared.sight.Sight.TheVariants.{Leaf, Roster, Cut, Quiet}
 
@@ -41,9 +41,9 @@ AreUnweighedFor (Some goal) leaves = (S : Store) (line : Line) → leaves S line
 abbrev pub IsSplitIn : Store → NextSplit → Type 0
 IsSplitIn S next = (next.p < length S.sets) × (is_idle_in S next.p next.x.number ≡ false)
 
--- the domain has no symbol from this one on
-abbrev pub HasNoneFrom : Store → ℕ → ℕ → Type 0
-HasNoneFrom S p lowest = (x : ℕ) → lowest ≤ x → x ≤ S.shifts → has_domain S p x ≡ false
+-- the domain has no symbol
+abbrev pub IsEmpty : Store → ℕ → Type 0
+IsEmpty S p = (x : ℕ) → x ≤ S.shifts → has_domain S p x ≡ false
 
 -- a leaf or a roster that a guide gave
 abbrev pub IsGiven : Instance → Option ℕ → Store → Sight → Type 0

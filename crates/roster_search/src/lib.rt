@@ -1,7 +1,6 @@
 //! A search for a roster that writes down its cases: a roster, or the log of a refutation.
 #![tactic(auto)]
 
-mod choice;
 mod decided;
 mod ending;
 mod guide;
@@ -13,8 +12,7 @@ mod search_step;
 mod searching;
 mod sight;
 
-pub use choice::NextSplit;
 pub use guide::{Guide, NoGuide};
 pub use laws::spent_budgets_are_small;
-pub use order::chronological;
+pub use order::{NextSplit, chronological};
 pub use searching::{guided_search, search};

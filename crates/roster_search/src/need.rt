@@ -2,24 +2,22 @@
 ghost use Rattle.std.specs.Prelude.{◌≡◌, ℕ, ◌+◌, ◌<◌, ◌≤◌, length, false, IsTrue, None, MatchOption};
 ghost use Rattle.rwsp_terms.specs.Instance.{IsSymbol};
 ghost use Rattle.domain_store.specs.Store.{BelongsTo, has_domain};
-ghost use Rattle.roster_search.specs.Guides.{HasNoneFrom};
+ghost use Rattle.roster_search.specs.Guides.{IsEmpty};
 
 use domain_store::Domains;
 use rwsp_model::Problem;
 use rwsp_terms::Symbol;
 use rwsp_terms::limits::{MOST_CELLS, MOST_DAYS};
 
-/// The symbol of the domain, of those from the lowest on, that is needed most on the day of the position, of several
-/// the first.
-pub fn most_needed(problem: &Problem, domains: &Domains, p: u32, lowest: Symbol) -> Option<Symbol>
+/// The symbol of the domain that is needed most on the day of the position, of several the first.
+pub fn most_needed(problem: &Problem, domains: &Domains, p: u32) -> Option<Symbol>
     requires belongs { BelongsTo problem.now domains.now }
     requires position { p < length domains.now.sets }
-    ensures { MatchOption result (HasNoneFrom domains.now p lowest.number)
-        (λ x. (lowest.number ≤ x.number) × IsTrue (has_domain domains.now p x.number)) }
+    ensures { MatchOption result (IsEmpty domains.now p) (λ x. IsTrue (has_domain domains.now p x.number)) }
 {
     domains.prove_facts();
     let mut best: Option<Wanted> = None;
-    for number in lowest.number..domains.shifts() + 1 {
+    for number in 0..domains.shifts() + 1 {
         let x = Symbol { number };
         if domains.has(p, x) {
             let here = need_of(problem, domains, p, x);

@@ -1,13 +1,19 @@
-// The order of splits for a planner.
+// Where a search splits when no leaf says so.
 ghost use Rattle.std.specs.Prelude.{◌≡◌, ℕ, ◌<◌, ◌≤◌, length, MatchOption};
 ghost use Rattle.domain_store.specs.Store.{BelongsTo, IsDecided, domain_at};
 ghost use Rattle.roster_search.specs.Guides.{IsSplitIn};
 
-use crate::NextSplit;
 use crate::need::most_needed;
 use domain_store::Domains;
 use rwsp_model::Problem;
 use rwsp_terms::Symbol;
+
+/// A position, counted from 0, and a symbol of its domain.
+#[derive(Clone, Copy)]
+pub struct NextSplit {
+    pub p: u32,
+    pub x: Symbol,
+}
 
 /// A position with two symbols or more, and one of them; None where each position has one symbol.
 ///
@@ -21,7 +27,7 @@ pub fn chronological(problem: &Problem, domains: &Domains, first: u32) -> Option
 {
     domains.prove_facts();
     let p = first_open_from(domains, first)?;
-    let x = most_needed(problem, domains, p, Symbol::OFF)?;
+    let x = most_needed(problem, domains, p)?;
     Some(NextSplit { p, x })
 }
 

@@ -11,8 +11,8 @@ ghost use Rattle.propagator_terms.specs.Looks.{HasPlainLeaves, IsCut, SameReason
 ghost use Rattle.roster_search.specs.Guides.{IsSplitIn, AreUnweighedFor, IsLeafUnder, IsOpen, IsSight};
 ghost use Rattle.roster_search.specs.Written.{IsUnderWay};
 
-use crate::choice::choose;
 use crate::decided::met_roster;
+use crate::order::chronological;
 use crate::progress::Progress;
 use crate::sight::{Arrival, Sight, see};
 use crate::{Guide, NextSplit};
@@ -246,7 +246,8 @@ fn write_split<A: Propagator>(
     Ok(())
 }
 
-// The guide's split, or else the search's own; None where each position has one symbol.
+// The guide's split, or else the first in chronological order from position 0 on; None where each position has one
+// symbol.
 fn next_split<G: Guide>(problem: &Problem, guide: &mut G, doms: &Domains) -> Option<NextSplit>
     requires belongs { BelongsTo problem.now doms.now }
     requires serves { (goal : Option ℕ) × G.serves guide.old problem.now goal }
@@ -255,6 +256,6 @@ fn next_split<G: Guide>(problem: &Problem, guide: &mut G, doms: &Domains) -> Opt
 {
     match guide.split(doms) {
         Some(split) => Some(split),
-        None => choose(problem, doms),
+        None => chronological(problem, doms, 0),
     }
 }

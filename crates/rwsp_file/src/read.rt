@@ -81,8 +81,5 @@ pub fn read_problem(alloc: Global, bytes: &[u8]) -> Result<Problem, Fail<FileRef
     ensures refused { IfRefused result (λ why. file_refusal bytes.now ≡ Some why) }
 {
     let parts = parts_of(alloc, bytes)?;
-    match Problem::of(parts) {
-        Ok(problem) => Ok(problem),
-        Err(_) => unreachable!(),
-    }
+    Ok(Problem::of_valid(parts))
 }

@@ -1,5 +1,5 @@
 -- Names of symbols: the symbol of a name has the name, and the symbol of a symbol's name is the symbol.
-use Rattle.std.proofs.Common.{◌≡◌, ◌≢◌, ℕ, zero, suc, ◌+◌, ◌<◌, ◌≤◌, List, [], ◌∷◌, length, get_or, Bool, true, false, Option, Some, None, cond, refl, ap, sym, ◌∙◌, arith, subst}
+use Rattle.std.proofs.Common.{◌≡◌, ◌≢◌, ℕ, zero, suc, ◌+◌, ◌<◌, ◌≤◌, List, [], length, get_or, Bool, true, false, Option, Some, None, cond, refl, ap, sym, ◌∙◌, arith, subst}
 use Rattle.std.specs.Prelude.{position, nat_lt, All, AllPairs}
 use Rattle.std.specs.Option.{option_map}
 use Rattle.std.specs.Str.{bytes_eq}
@@ -9,7 +9,7 @@ use Rattle.std.proofs.lemmas.List.Sums.{position_or_len_is}
 use Rattle.std.proofs.lemmas.Option.{slice_get-get_or, same_Some}
 use Rattle.std.proofs.lemmas.Slice.Eq.{bytes_eq-Decides}
 use Rattle.std.proofs.lemmas.Bool.{lt-ltb, false_from_ne_true}
-use Rattle.rwsp_terms.specs.Instance.{Instance, IsSymbol, shift_count, off_name, name_of, name_numbered, name_in, symbol_of, symbol_numbered, no_bounds}
+use Rattle.rwsp_terms.specs.Instance.{Instance, shift_count, off_name, name_of, name_numbered, name_in, symbol_of, symbol_numbered, no_bounds}
 use Rattle.rwsp_terms.specs.declared.data.ShiftRow.{ShiftRow}
 use Rattle.rwsp_terms.specs.declared.data.Symbol.{Symbol}
 

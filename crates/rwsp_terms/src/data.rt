@@ -3,7 +3,6 @@ ghost use Rattle.std.specs.Prelude.{◌≡◌, ◌↔◌, ◌<◌, IsTrue};
 ghost use Rattle.rwsp_terms.specs.Window.{InClass};
 
 use std::alloc::AllocError;
-use std::fmt;
 use std::marker::Model;
 
 /// The day off, numbered 0, or a shift, numbered from 1 in the order of the file.
@@ -56,36 +55,6 @@ pub enum Rule {
     Pair(u32),
     Triple(u32),
     Day(u32),
-}
-
-/// The rule in words, with the numbers of its shift, pair, triple or day.
-impl fmt::Display for Rule {
-    fn fmt<W: fmt::Write>(&self, f: &mut fmt::Formatter<W>) -> fmt::Result {
-        match self {
-            Rule::MaxShift(shift) => put_numbered(
-                f,
-                "the longest block of shift ",
-                u32::from(shift.number),
-            ),
-            Rule::MinShift(shift) => put_numbered(
-                f,
-                "the shortest block of shift ",
-                u32::from(shift.number),
-            ),
-            Rule::MaxOff => f.write_str("the longest block of days off"),
-            Rule::MinOff => f.write_str("the shortest block of days off"),
-            Rule::MaxWork => f.write_str("the longest block of work"),
-            Rule::MinWork => f.write_str("the shortest block of work"),
-            Rule::Pair(pair) => put_numbered(f, "forbidden pair, counted from 0: ", *pair),
-            Rule::Triple(triple) => put_numbered(f, "forbidden triple, counted from 0: ", *triple),
-            Rule::Day(day) => put_numbered(f, "the demand of day ", *day),
-        }
-    }
-}
-
-// Words, and the number behind them.
-fn put_numbered<W: fmt::Write>(f: &mut fmt::Formatter<W>, words: &str, number: u32) -> fmt::Result {
-    write!(f, "{words}{number}")
 }
 
 /// What a symbol weighs on a day. Days count from 1.

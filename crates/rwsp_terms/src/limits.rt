@@ -4,6 +4,15 @@
 /// The most days of a week of the schedule.
 pub const MOST_DAYS: u32 = 28;
 
+/// The days of a week that has a weekend.
+pub const DAYS_OF_WEEK: u32 = 7;
+
+/// The first day of the weekend, counted from 0 within its week.
+pub const SATURDAY: u32 = 5;
+
+/// The last day of the weekend, counted from 0 within its week.
+pub const SUNDAY: u32 = 6;
+
 /// The most weeks of a schedule, which is the most employees, and the most that a shift may demand on a day.
 pub const MOST_WEEKS: u32 = 600;
 
@@ -45,6 +54,9 @@ pub const GREATEST_WEIGHT: u32 = 1_000;
 /// The most that a free weekend may weigh.
 pub const GREATEST_REWARD: u32 = 1_000;
 
+/// The rounds of the search for the weights of a bound at the top of a plan's log; each round has weights of its own.
+pub const SEARCHED_ROUNDS: u32 = 32;
+
 /// The most bytes of a problem's file, and of a roster's.
 pub const LONGEST_FILE: u32 = 1_048_576;
 
@@ -67,7 +79,7 @@ pub const TRIAL_BUDGET: u32 = 2_000;
 /// The most days of a calendar.
 pub const LONGEST_CALENDAR: u32 = 400;
 
-/// The workers of a check where none are given.
+/// The workers of a check where none are given, and of a plan and a reduction.
 pub const USUAL_WORKERS: u32 = 4;
 
 /// The most workers of a check.

@@ -1,10 +1,11 @@
 // Numbers in decimal digits.
-ghost use Rattle.std.specs.Prelude.{◌≡◌, ◌+◌, ◌<◌, ◌≤◌, ◌^◌, ◌++◌, length, true, OnOk};
+ghost use Rattle.std.specs.Prelude.{◌≡◌, ◌+◌, ◌<◌, ◌≤◌, ◌^◌, ◌++◌, length, true, OnOk, OnErr};
 ghost use Rattle.std.specs.List.{list_all};
 ghost use Rattle.std.specs.Char.{is_ascii_digit};
 ghost use Rattle.std.specs.Fmt.{decimal, signed_decimal};
 ghost use Rattle.rwsp_text.specs.Numbers.{number_of, value_of};
 
+use itoa::Buffer;
 use std::alloc::AllocError;
 
 fn are_digits(bytes: &[u8]) -> bool
@@ -37,26 +38,20 @@ pub fn number(bytes: &[u8]) -> Option<u32>
     }
 }
 
-/// Appends the decimal digits of a number, with no zero in front. Takes no memory but that of the bytes appended; where
-/// there is none, some of the digits may have been appended.
-#[tactic(auto, using(crate::proofs::Printed::one_digit, crate::proofs::Printed::digits_more))]
+/// Appends the decimal digits of a number, with no zero in front. Where there is no memory nothing is appended.
 pub fn put_number(out: &mut Vec<u8>, value: u64) -> Result<(), AllocError>
-    ensures { OnOk result (out.new.items ≡ out.old.items ++ decimal value) }
+    ensures ok { OnOk result (out.new.items ≡ out.old.items ++ decimal value) }
+    ensures err { OnErr result (out.new.items ≡ out.old.items) }
 {
-    if value >= 10 {
-        put_number(out, value / 10)?;
-    }
-    out.push(b'0' + (value % 10) as u8)?;
-    Ok(())
+    let mut digits = Buffer::new();
+    out.extend_from_slice(digits.format(value).as_bytes())
 }
 
 /// The same of a number that may be negative, with its sign in front.
-#[tactic(auto, using(crate::proofs::Printed::with_sign, crate::proofs::Printed::without_sign))]
 pub fn put_signed(out: &mut Vec<u8>, value: i32) -> Result<(), AllocError>
-    ensures { OnOk result (out.new.items ≡ out.old.items ++ signed_decimal value) }
+    ensures ok { OnOk result (out.new.items ≡ out.old.items ++ signed_decimal value) }
+    ensures err { OnErr result (out.new.items ≡ out.old.items) }
 {
-    if value < 0 {
-        out.push(b'-')?;
-    }
-    put_number(out, u64::from(value.unsigned_abs()))
+    let mut text = Buffer::new();
+    out.extend_from_slice(text.format(value).as_bytes())
 }

@@ -3,4 +3,4 @@ use Rattle.domain_store.specs.Store.{has_domain}
 use Rattle.roster_search.proofs.need.most_needed.Given as goal
 
 abbrev pub invariant-loop-number : goal.invariant-loop-number
-invariant-loop-number l = MatchOption l.best ((y : ℕ) → l.fn.lowest.number ≤ y → y < l.number → has_domain l.domains l.p y ≡ false) (λ b. (l.fn.lowest.number ≤ b.x.number) × IsTrue (has_domain l.domains l.p b.x.number))
+invariant-loop-number l = MatchOption l.best ((y : ℕ) → y < l.number → has_domain l.domains l.p y ≡ false) (λ b. IsTrue (has_domain l.domains l.p b.x.number))

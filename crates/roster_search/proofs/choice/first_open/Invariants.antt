@@ -1,6 +1,0 @@
-use Rattle.std.proofs.Common.{◌≡◌, ℕ, ◌<◌, length}
-use Rattle.domain_store.specs.Store.{domain_at}
-use Rattle.roster_search.proofs.choice.first_open.Given as goal
-
-abbrev pub invariant-loop-p : goal.invariant-loop-p
-invariant-loop-p l = (q : ℕ) → q < l.p → length (domain_at l.domains q) ≡ 1
