@@ -1,10 +1,10 @@
-// A search with one goal.
+// A search with one goal, and the goal of the next.
 ghost use Rattle.std.specs.Prelude.{◌≡◌, ◌+◌, ◌*◌, ◌^◌, ◌<◌, ◌≤◌, Some, IfOk};
 ghost use Rattle.rwsp_terms.specs.Instance.{cells, shift_count};
 ghost use Rattle.propagator_terms.specs.Cycles.{AreShortRules};
 ghost use Rattle.case_reasons.specs.Reasons.{AreCaseReasons, WeighNoWords};
 ghost use Rattle.roster_search.specs.Founds.{HasSpentBudget};
-ghost use Rattle.plan_terms.specs.Bests.{IsFoundWith};
+ghost use Rattle.plan_terms.specs.Bests.{IsFoundWith, goal_behind};
 ghost use Rattle.plan_terms.specs.FreeSharp.{FailsFreeAtTop};
 
 use crate::guide::BestGuide;
@@ -13,16 +13,78 @@ use case_reasons::{CaseReasons, case_reasons};
 use domain_store::Domains;
 use plan_terms::Found;
 use propagator_terms::Propagator;
+use roster_checker::free_weekends;
 use roster_finder::RosterFinder;
 use roster_search::{Guide, guided_search};
 use rule_automaton::Automaton;
 use rwsp_model::Problem;
 use rwsp_terms::limits::GREATEST_BUDGET;
 use std::alloc::{AllocError, Global};
+use std::marker::Model;
 
-/// A roster of the automaton's problem with at least as many free weekends as the goal, or a free log of why there is
-/// none, or one that has spent the budget. Where the wish is greater, a roster with as many is looked for first.
-pub fn search_with(
+/// The goal of the next search, in free weekends: one more than the best roster of all searches before has, and 0 where
+/// they found none. No roster that they find is forgotten by it.
+#[derive(Drop)]
+pub struct RisingGoal {
+    goal: u32,
+}
+
+impl Model for RisingGoal {
+    ghost use Rattle.std.specs.Prelude.{ℕ};
+
+    ghost Value = { ℕ };
+
+    ghost view = { λ r. r.goal };
+}
+
+impl RisingGoal {
+    /// The goal of the first search.
+    pub fn new() -> RisingGoal
+        ensures { result ≡ 0 }
+    {
+        RisingGoal { goal: 0 }
+    }
+
+    /// The goal itself.
+    pub fn goal(&self) -> u32
+        ensures { result ≡ self.now }
+    {
+        self.goal
+    }
+
+    /// A roster of the automaton's problem with at least as many free weekends as the goal, or a free log of why there
+    /// is none, or one that has spent the budget. Where the wish is greater, a roster with as many is looked for first.
+    pub fn search(
+        &mut self,
+        alloc: Global,
+        automaton: &Automaton,
+        finder: &RosterFinder<'_>,
+        wish: u32,
+        budget: u32,
+    ) -> Result<Found, AllocError>
+        requires short { AreShortRules automaton.now.problem automaton.now.rules }
+        requires same { finder.now ≡ automaton.now.problem }
+        requires week { automaton.now.problem.days ≡ 7 }
+        requires goal { self.old ≤ automaton.now.problem.weeks + 1 }
+        requires budget { (1 ≤ budget) × (budget ≤ GREATEST_BUDGET) }
+        ensures found { IfOk result (IsFoundWith automaton.now.problem budget self.old) }
+        ensures goal { IfOk result (λ found. self.new ≡ goal_behind self.old found) }
+        ensures few { IfOk result (λ _. self.new ≤ automaton.now.problem.weeks + 1) }
+        ensures complete { IfOk result (λ found. HasSpentBudget found
+            → budget + 1 < 2 * (shift_count automaton.now.problem + 1) ^ cells automaton.now.problem) }
+    {
+        let problem = automaton.problem();
+        problem.prove_limits();
+        let found = search_with(alloc, automaton, finder, self.goal, wish, budget)?;
+        if let Found::Roster(roster) = &found {
+            self.goal = free_weekends(problem, roster) + 1;
+        }
+        Ok(found)
+    }
+}
+
+// The search with this goal.
+fn search_with(
     alloc: Global,
     automaton: &Automaton,
     finder: &RosterFinder<'_>,
