@@ -1,5 +1,5 @@
 -- Which positions stay settled where a domain changes.
-use Rattle.std.proofs.Common.{◌≡◌, ◌≢◌, ◌⊎◌, inl, inr, ℕ, zero, suc, ◌+◌, ◌*◌, ◌<◌, ◌≤◌, refl, List, [], ◌∷◌, length, get_or, set, replicate, ap, sym, ◌∙◌, subst, arith, Bool, true, false, IsTrue, get_or-set_other}
+use Rattle.std.proofs.Common.{◌≡◌, ◌≢◌, ◌⊎◌, inl, inr, ℕ, zero, suc, ◌+◌, ◌*◌, ◌<◌, ◌≤◌, refl, List, [], ◌∷◌, length, get_or, set, replicate, sym, ◌∙◌, subst, arith, Bool, true, false, IsTrue, get_or-set_other}
 use Rattle.std.proofs.lemmas.Bool.{cases_eq, cases_lt}
 use Rattle.std.proofs.lemmas.List.{length-set}
 use Rattle.rwsp_terms.specs.declared.data.Symbol.{Symbol}

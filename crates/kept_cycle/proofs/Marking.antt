@@ -1,5 +1,5 @@
 -- Rows of marks, one step more.
-use Rattle.std.proofs.Common.{◌≡◌, ◌≢◌, ◌⊎◌, inl, inr, ℕ, zero, suc, ◌+◌, ◌-◌, ◌*◌, ◌/◌, ◌%◌, ◌^◌, ◌<◌, ◌≤◌, List, length, get_or, set, replicate, refl, ap, sym, ◌∙◌, subst, arith, eqb, eq-eqb, w64, Bool, true, false, IsTrue, get_or-set_same, get_or-set_other}
+use Rattle.std.proofs.Common.{◌≡◌, ◌≢◌, ◌⊎◌, inl, inr, ℕ, zero, suc, ◌+◌, ◌-◌, ◌*◌, ◌/◌, ◌%◌, ◌^◌, ◌<◌, ◌≤◌, List, length, get_or, set, replicate, refl, ap, sym, ◌∙◌, subst, arith, eqb, eq-eqb, w64, Bool, false, IsTrue, get_or-set_same, get_or-set_other}
 use Rattle.std.specs.Prelude.{◌↔◌}
 use Rattle.std.specs.Int.{bit_at}
 use Rattle.std.specs.Int.RustNames.{bit_or}
@@ -8,7 +8,8 @@ use Rattle.std.proofs.lemmas.List.{get_or_past, get_or-replicate, get_or_default
 use Rattle.std.proofs.lemmas.Nat.Bits.{bit_at-zero, bit_at_ones, bit_at_set_same, bit_at_set_other}
 use Rattle.rule_automaton.specs.declared.step.Step.{Step}
 use Rattle.kept_cycle.specs.declared.marks.TheConstants.{WORD_BITS}
-use Rattle.kept_cycle.specs.Marks.{is_marked, StandsAt, IsJoined}
+use Rattle.kept_cycle.specs.declared.marks.Way.{Way}
+use Rattle.kept_cycle.specs.Marks.{is_marked, here_of, there_of, StandsAt, IsJoined}
 
 pub unlike : (b : Bool) → b ≡ false → IsTrue b → ⊥
 unlike b h g = cc
@@ -20,17 +21,17 @@ pub stands_here : {X : Type 0} (xs : List X) (k : ℕ) (d : X) → k < length xs
 stands_here xs k d lt = (lt, get_or_default xs k (get_or xs k d) d lt)
 
 -- what the first steps mark
-abbrev pub PassesBelow : (Step → ℕ) → (Step → ℕ) → List Step → (ℕ → Bool) → List ℕ → List ℕ → ℕ → Type 0
-PassesBelow here there steps has row next number = (t : ℕ) → IsTrue (is_marked next t) ↔ IsJoined here there steps has row t number
+abbrev pub PassesBelow : Way → List Step → (ℕ → Bool) → List ℕ → List ℕ → ℕ → Type 0
+PassesBelow way steps has row next number = (t : ℕ) → IsTrue (is_marked next t) ↔ IsJoined way steps has row t number
 
-later : (here there : Step → ℕ) (steps : List Step) (has : ℕ → Bool) (row : List ℕ) (t n : ℕ) → IsJoined here there steps has row t n → IsJoined here there steps has row t (n + 1)
-later here there steps has row t n j = record { step = j.step; place = j.place; below = omega (arith, j.below); stands = j.stands; marked = j.marked; held = j.held; joins = j.joins }
+later : (way : Way) (steps : List Step) (has : ℕ → Bool) (row : List ℕ) (t n : ℕ) → IsJoined way steps has row t n → IsJoined way steps has row t (n + 1)
+later way steps has row t n j = record { step = j.step; place = j.place; below = omega (arith, j.below); stands = j.stands; marked = j.marked; held = j.held; joins = j.joins }
 
-earlier : (here there : Step → ℕ) (steps : List Step) (has : ℕ → Bool) (row : List ℕ) (t n : ℕ) (j : IsJoined here there steps has row t (n + 1)) → j.place ≢ n → IsJoined here there steps has row t n
-earlier here there steps has row t n j other = record { step = j.step; place = j.place; below = omega (arith, j.below, other); stands = j.stands; marked = j.marked; held = j.held; joins = j.joins }
+earlier : (way : Way) (steps : List Step) (has : ℕ → Bool) (row : List ℕ) (t n : ℕ) (j : IsJoined way steps has row t (n + 1)) → j.place ≢ n → IsJoined way steps has row t n
+earlier way steps has row t n j other = record { step = j.step; place = j.place; below = omega (arith, j.below, other); stands = j.stands; marked = j.marked; held = j.held; joins = j.joins }
 
-last_step : (here there : Step → ℕ) (steps : List Step) (has : ℕ → Bool) (row : List ℕ) (t n : ℕ) (s : Step) → StandsAt steps n s → (j : IsJoined here there steps has row t (n + 1)) → j.place ≡ n → j.step ≡ s
-last_step here there steps has row t n s stands j same =
+last_step : (way : Way) (steps : List Step) (has : ℕ → Bool) (row : List ℕ) (t n : ℕ) (s : Step) → StandsAt steps n s → (j : IsJoined way steps has row t (n + 1)) → j.place ≡ n → j.step ≡ s
+last_step way steps has row t n s stands j same =
     let P : ℕ → Type 0 = λ k. StandsAt steps k j.step in
     stands_once steps n j.step s (subst P same j.stands) stands
 
@@ -99,26 +100,26 @@ all_marked n t within =
     eq-eqb _ 1 (ap (λ w. bit_at w (t % 64)) (get_or-replicate n (t / 64) (2 ^ 64 - 1) 0 less) ∙ bit_at_ones 64 (t % 64) (omega arith))
 
 -- a step that doesn't join marks nothing
-pub passes_over : (here there : Step → ℕ) (steps : List Step) (has : ℕ → Bool) (row next : List ℕ) (n : ℕ) (s : Step) → StandsAt steps n s → (is_marked row (here s) ≡ false) ⊎ (has s.symbol.number ≡ false) → PassesBelow here there steps has row next n → PassesBelow here there steps has row next (n + 1)
-passes_over here there steps has row next n s stands fails p t = (
-  λ h. later here there steps has row t n ((p t).0 h),
-  λ j. (p t).1 (earlier here there steps has row t n j (λ same.
-      let is = last_step here there steps has row t n s stands j same in
+pub passes_over : (way : Way) (steps : List Step) (has : ℕ → Bool) (row next : List ℕ) (n : ℕ) (s : Step) → StandsAt steps n s → (is_marked row (here_of way s) ≡ false) ⊎ (has s.symbol.number ≡ false) → PassesBelow way steps has row next n → PassesBelow way steps has row next (n + 1)
+passes_over way steps has row next n s stands fails p t = (
+  λ h. later way steps has row t n ((p t).0 h),
+  λ j. (p t).1 (earlier way steps has row t n j (λ same.
+      let is = last_step way steps has row t n s stands j same in
       elim fails [
-        | inl unmarked ↦ unlike (is_marked row (here s)) unmarked (subst (λ (x : Step). IsTrue (is_marked row (here x))) is j.marked)
+        | inl unmarked ↦ unlike (is_marked row (here_of way s)) unmarked (subst (λ (x : Step). IsTrue (is_marked row (here_of way x))) is j.marked)
         | inr out ↦ unlike (has s.symbol.number) out (subst (λ (x : Step). IsTrue (has x.symbol.number)) is j.held)
       ])),
 )
 
-pub passes_put : (here there : Step → ℕ) (steps : List Step) (has : ℕ → Bool) (row next new : List ℕ) (n : ℕ) (s : Step) → StandsAt steps n s → IsTrue (is_marked row (here s)) → IsTrue (has s.symbol.number) → ((t : ℕ) → IsTrue (is_marked new t) ↔ (IsTrue (is_marked next t) ⊎ (there s ≡ t))) → PassesBelow here there steps has row next n
-    → PassesBelow here there steps has row new (n + 1)
-passes_put here there steps has row next new n s stands marked held puts p t = (
+pub passes_put : (way : Way) (steps : List Step) (has : ℕ → Bool) (row next new : List ℕ) (n : ℕ) (s : Step) → StandsAt steps n s → IsTrue (is_marked row (here_of way s)) → IsTrue (has s.symbol.number) → ((t : ℕ) → IsTrue (is_marked new t) ↔ (IsTrue (is_marked next t) ⊎ (there_of way s ≡ t))) → PassesBelow way steps has row next n
+    → PassesBelow way steps has row new (n + 1)
+passes_put way steps has row next new n s stands marked held puts p t = (
   λ h. elim ((puts t).0 h) [
-    | inl was ↦ later here there steps has row t n ((p t).0 was)
+    | inl was ↦ later way steps has row t n ((p t).0 was)
     | inr same ↦ record { step = s; place = n; below = omega arith; stands = stands; marked = marked; held = held; joins = same }
   ],
   λ j. (puts t).1 (elim (cases_eq j.place n) [
-    | inl same ↦ inr (sym (ap there (last_step here there steps has row t n s stands j same)) ∙ j.joins)
-    | inr other ↦ inl ((p t).1 (earlier here there steps has row t n j other))
+    | inl same ↦ inr (sym (ap (there_of way) (last_step way steps has row t n s stands j same)) ∙ j.joins)
+    | inr other ↦ inl ((p t).1 (earlier way steps has row t n j other))
   ]),
 )

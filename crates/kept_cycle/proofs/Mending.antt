@@ -1,41 +1,31 @@
 -- Rows that are mended day after day.
-use Rattle.std.proofs.Common.{get_or-set_same, get_or-set_other, ◌≡◌, ◌≢◌, inl, inr, ℕ, ◌+◌, ◌%◌, ◌<◌, ◌≤◌, List, [], length, get_or, set, refl, ap, sym, ◌∙◌, subst, arith, Bool, replicate}
+use Rattle.std.proofs.Common.{get_or-set_same, get_or-set_other, ◌≡◌, ◌≢◌, inl, inr, ℕ, ◌+◌, ◌*◌, ◌%◌, ◌<◌, ◌≤◌, List, [], length, get_or, set, refl, ap, sym, ◌∙◌, subst, arith, Bool, replicate}
+use Rattle.std.specs.Prelude.{All}
 use Rattle.std.proofs.lemmas.Bool.{cases_eq}
 use Rattle.std.proofs.lemmas.List.{get_or_read, length-set, length-replicate, get_or-replicate}
 use Rattle.std.proofs.lemmas.Nat.{mod_below}
 use Rattle.domain_store.specs.Sets.{has_symbol}
 use Rattle.rule_automaton.specs.declared.step.Step.{Step}
-use Rattle.kept_cycle.specs.Marks.{row_at, from_of, to_of, has_on, IsWide, IsPass, IsFrontStep, IsBackStep, FitsInto}
+use Rattle.kept_cycle.specs.declared.marks.TheConstants.{WORD_BITS}
+use Rattle.kept_cycle.specs.declared.marks.Way.{Way}
+use Rattle.kept_cycle.specs.declared.marks.Way.TheVariants.{On, Back}
+use Rattle.kept_cycle.specs.Marks.{row_at, there_of, has_on, IsWide, IsPass, IsFrontStep, IsBackStep, FitsInto}
 
 read_set : (sets : List (List ℕ)) (i : ℕ) (set : List ℕ) → 0 < length sets → set ≡ get_or sets (i % length sets) set → set ≡ get_or sets (i % length sets) []
 read_set sets i set some read = get_or_read sets (i % length sets) set (mod_below i (length sets) some) read []
 
-pub front_step_read : (steps : List Step) (sets : List (List ℕ)) (rows : List (List ℕ)) (i : ℕ) (set : List ℕ) → 0 < length sets → set ≡ get_or sets (i % length sets) set → IsPass from_of to_of steps (has_symbol set) (row_at rows i) (row_at rows (i + 1)) → IsFrontStep steps sets rows i
-front_step_read steps sets rows i set some read step =
-    let P : List ℕ → Type 0 = λ s. IsPass from_of to_of steps (has_symbol s) (row_at rows i) (row_at rows (i + 1)) in
-    subst P (read_set sets i set some read) step
-
-pub back_step_read : (steps : List Step) (sets : List (List ℕ)) (rows : List (List ℕ)) (i : ℕ) (set : List ℕ) → 0 < length sets → set ≡ get_or sets (i % length sets) set → IsPass to_of from_of steps (has_symbol set) (row_at rows (i + 1)) (row_at rows i) → IsBackStep steps sets rows i
-back_step_read steps sets rows i set some read step =
-    let P : List ℕ → Type 0 = λ s. IsPass to_of from_of steps (has_symbol s) (row_at rows (i + 1)) (row_at rows i) in
+pub step_read : (way : Way) (steps : List Step) (sets : List (List ℕ)) (i : ℕ) (row next set : List ℕ) → 0 < length sets → set ≡ get_or sets (i % length sets) set → IsPass way steps (has_symbol set) row next → IsPass way steps (has_on sets i) row next
+step_read way steps sets i row next set some read step =
+    let P : List ℕ → Type 0 = λ s. IsPass way steps (has_symbol s) row next in
     subst P (read_set sets i set some read) step
 
 -- what a pass needs of the rows and of the steps
 pub fits_here : (steps : List Step) (old rows : List (List ℕ)) → (width : ℕ) × IsWide old width × FitsInto width steps → ((width : ℕ) → IsWide old width → IsWide rows width) → (width : ℕ) × IsWide rows width × FitsInto width steps
 fits_here steps old rows fits wide = (fits.0, wide fits.0 fits.1, fits.2)
 
--- the steps of a day depend on two rows
-pub front_step_by : (steps : List Step) (sets : List (List ℕ)) (old new : List (List ℕ)) (i : ℕ) → row_at new i ≡ row_at old i → row_at new (i + 1) ≡ row_at old (i + 1) → IsFrontStep steps sets old i → IsFrontStep steps sets new i
-front_step_by steps sets old new i here next step =
-    let P : List ℕ → Type 0 = λ r. IsPass from_of to_of steps (has_on sets i) r (row_at old (i + 1)) in
-    let Q : List ℕ → Type 0 = λ r. IsPass from_of to_of steps (has_on sets i) (row_at new i) r in
-    subst Q (sym next) (subst P (sym here) step)
-
-pub back_step_by : (steps : List Step) (sets : List (List ℕ)) (old new : List (List ℕ)) (i : ℕ) → row_at new i ≡ row_at old i → row_at new (i + 1) ≡ row_at old (i + 1) → IsBackStep steps sets old i → IsBackStep steps sets new i
-back_step_by steps sets old new i here next step =
-    let P : List ℕ → Type 0 = λ r. IsPass to_of from_of steps (has_on sets i) (row_at old (i + 1)) r in
-    let Q : List ℕ → Type 0 = λ r. IsPass to_of from_of steps (has_on sets i) r (row_at new i) in
-    subst Q (sym next) (subst P (sym here) step)
+pass_read : (way : Way) (steps : List Step) (has : ℕ → Bool) (row row2 next next2 : List ℕ) → row ≡ row2 → next ≡ next2 → IsPass way steps has row next → IsPass way steps has row2 next2
+pass_read way steps has row row2 next next2 same same_next pass =
+    subst (λ (ys : List ℕ). IsPass way steps has row2 ys) same_next (subst (λ (xs : List ℕ). IsPass way steps has xs next) same pass)
 
 -- the front has been mended up to day i: that day's step alone may be wrong
 pub record FrontMended (steps : List Step) (sets : List (List ℕ)) (day : ℕ) (old rows : List (List ℕ)) (i : ℕ) : Type 0 where
@@ -58,7 +48,7 @@ front_more steps sets day old rows new i m step others long wide = record {
   behind = λ j less. others j (λ e. omega (arith, e, less)) ∙ m.behind j (omega (arith, less));
   mended = λ j less other before. elim (cases_eq j i) [
     | inl same ↦ let P : ℕ → Type 0 = λ k. IsFrontStep steps sets new k in subst P (sym same) step
-    | inr apart ↦ front_step_by steps sets rows new j (others j other) (others (j + 1) (λ e. apart (omega (arith, e)))) (m.mended j (omega (arith, less, long)) apart before)
+    | inr apart ↦ pass_read On steps (has_on sets j) (row_at rows j) (row_at new j) (row_at rows (j + 1)) (row_at new (j + 1)) (sym (others j other)) (sym (others (j + 1) (λ e. apart (omega (arith, e))))) (m.mended j (omega (arith, less, long)) apart before)
   ];
   first = others 0 (λ e. omega (arith, e)) ∙ m.first;
   long = long ∙ m.long;
@@ -99,7 +89,7 @@ back_more steps sets day old rows new i k next m step others long wide = record 
   within = omega (arith, m.within, next);
   mended = λ j less other before. elim (cases_eq j i) [
     | inl same ↦ let P : ℕ → Type 0 = λ n. IsBackStep steps sets new n in subst P (sym same) step
-    | inr apart ↦ back_step_by steps sets rows new j (others j apart) (others (j + 1) other) (m.mended j (omega (arith, less, long)) (λ e. apart (omega (arith, e, next))) before)
+    | inr apart ↦ pass_read Back steps (has_on sets j) (row_at rows (j + 1)) (row_at new (j + 1)) (row_at rows j) (row_at new j) (sym (others (j + 1) other)) (sym (others j apart)) (m.mended j (omega (arith, less, long)) (λ e. apart (omega (arith, e, next))) before)
   ];
   last = λ j less. others j (λ e. omega (arith, e, less, m.within, next)) ∙ m.last j less;
   before = λ j less. others j (λ e. omega (arith, e, less)) ∙ m.before j (omega (arith, less, next));
@@ -122,33 +112,34 @@ wide_replicate days row rows spare e is i less =
     let within : i < days = omega (arith, less, ap length e, length-replicate days row) in
     ap (λ r. length (row_at r i)) e ∙ ap length (get_or-replicate days i row [] within) ∙ sym (ap length is)
 
--- the rows are as wide as the row that there is room for, and so are the steps
-pub room_for : (now rows : List (List ℕ)) (spare : List ℕ) (steps : List Step) (i : ℕ) → rows ≡ now → i + 1 < length now → (width : ℕ) × IsWide now width × FitsInto width steps → IsWide rows (length spare) → FitsInto (length spare) steps
-room_for now rows spare steps i same within fits wide =
-    let P : List (List ℕ) → Type 0 = λ r. length (row_at r i) ≡ length spare in
-    let here : length (row_at now i) ≡ length spare = subst P same (wide i (omega (arith, within, ap length same))) in
-    let width : fits.0 ≡ length spare = sym (fits.1 i (omega (arith, within))) ∙ here in
-    subst (λ (w : ℕ). FitsInto w steps) width fits.2
+-- the rows are as wide as the row that there is room for, and the steps lead to states that it is for
+pub room_for : (way : Way) (now rows : List (List ℕ)) (spare : List ℕ) (steps : List Step) (i : ℕ) → rows ≡ now → i < length now → (width : ℕ) × IsWide now width × FitsInto width steps → IsWide rows (length spare) → All (λ s. there_of way s < WORD_BITS * length spare) steps
+room_for way now rows spare steps i same within fits wide = by_way way (subst (λ (w : ℕ). FitsInto w steps) width fits.2)
+  where
+    width : fits.0 ≡ length spare
+    width =
+        let P : List (List ℕ) → Type 0 = λ r. length (row_at r i) ≡ length spare in
+        sym (fits.1 i within) ∙ subst P same (wide i (omega (arith, within, ap length same)))
 
-pass_read : (here there : Step → ℕ) (steps : List Step) (has : ℕ → Bool) (row row2 next next2 : List ℕ) → row ≡ row2 → next ≡ next2 → IsPass here there steps has row next → IsPass here there steps has row2 next2
-pass_read here there steps has row row2 next next2 same same_next pass =
-    subst (λ (ys : List ℕ). IsPass here there steps has row2 ys) same_next (subst (λ (xs : List ℕ). IsPass here there steps has xs next) same pass)
+    by_way : (w : Way) → FitsInto (length spare) steps → All (λ s. there_of w s < WORD_BITS * length spare) steps
+    by_way On f = f.to
+    by_way Back f = f.from
 
 -- the pass from a row that is kept to one that is put
-pub pass_put : (here there : Step → ℕ) (steps : List Step) (has : ℕ → Bool) (now rows : List (List ℕ)) (row next put : List ℕ) (i k : ℕ) → rows ≡ now → i < length now → k < length now → i ≢ k → row ≡ get_or rows i row → put ≡ next → IsPass here there steps has row next
-    → IsPass here there steps has (row_at (set rows k put) i) (row_at (set rows k put) k)
-pass_put here there steps has now rows row next put i k same i_in k_in apart read is_put pass =
+pub pass_put : (way : Way) (steps : List Step) (has : ℕ → Bool) (now rows : List (List ℕ)) (row next put : List ℕ) (i k : ℕ) → rows ≡ now → i < length now → k < length now → i ≢ k → row ≡ get_or rows i row → put ≡ next → IsPass way steps has row next
+    → IsPass way steps has (row_at (set rows k put) i) (row_at (set rows k put) k)
+pass_put way steps has now rows row next put i k same i_in k_in apart read is_put pass =
     let long : length rows ≡ length now = ap length same in
     let kept : row ≡ row_at (set rows k put) i = get_or_read rows i row (omega (arith, i_in, long)) read [] ∙ sym (get_or-set_other rows k i put [] apart) in
     let there_now : next ≡ row_at (set rows k put) k = sym is_put ∙ sym (get_or-set_same rows k put [] (omega (arith, k_in, long))) in
-    pass_read here there steps has row (row_at (set rows k put) i) next (row_at (set rows k put) k) kept there_now pass
+    pass_read way steps has row (row_at (set rows k put) i) next (row_at (set rows k put) k) kept there_now pass
 
 -- the pass from a row to one that is there already
-pub pass_same : (here there : Step → ℕ) (steps : List Step) (has : ℕ → Bool) (now rows : List (List ℕ)) (row next other : List ℕ) (i k : ℕ) → rows ≡ now → i < length now → k < length now → row ≡ get_or rows i row → other ≡ get_or rows k other → next ≡ other → IsPass here there steps has row next
-    → IsPass here there steps has (row_at rows i) (row_at rows k)
-pass_same here there steps has now rows row next other i k same i_in k_in read read_other is_other pass =
+pub pass_same : (way : Way) (steps : List Step) (has : ℕ → Bool) (now rows : List (List ℕ)) (row next other : List ℕ) (i k : ℕ) → rows ≡ now → i < length now → k < length now → row ≡ get_or rows i row → other ≡ get_or rows k other → next ≡ other → IsPass way steps has row next
+    → IsPass way steps has (row_at rows i) (row_at rows k)
+pass_same way steps has now rows row next other i k same i_in k_in read read_other is_other pass =
     let long : length rows ≡ length now = ap length same in
-    pass_read here there steps has row (row_at rows i) next (row_at rows k) (get_or_read rows i row (omega (arith, i_in, long)) read [])
+    pass_read way steps has row (row_at rows i) next (row_at rows k) (get_or_read rows i row (omega (arith, i_in, long)) read [])
     (is_other ∙ get_or_read rows k other (omega (arith, k_in, long)) read_other []) pass
 
 pub wide_set : (rows : List (List ℕ)) (day : ℕ) (row : List ℕ) (width : ℕ) → day < length rows → IsWide rows width → length row ≡ width → IsWide (set rows day row) width

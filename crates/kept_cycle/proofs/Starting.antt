@@ -1,7 +1,7 @@
 -- The marks of a cycle in which no position has a symbol.
-use Rattle.std.proofs.Common.{◌≡◌, ◌≢◌, ◌⊎◌, inl, inr, ℕ, zero, suc, ◌+◌, ◌-◌, ◌*◌, ◌/◌, ◌%◌, ◌^◌, ◌<◌, ◌≤◌, List, [], length, get_or, set, replicate, refl, ap, sym, ◌∙◌, subst, arith, Bool, false, IsTrue, Option, Some, None, get_or-set_same, get_or-set_other}
-use Rattle.std.specs.Prelude.{◌↔◌, All, Contains}
-use Rattle.std.proofs.lemmas.Bool.{cases_eq, cases_lt}
+use Rattle.std.proofs.Common.{◌≡◌, ◌≢◌, ◌⊎◌, inl, inr, ℕ, zero, suc, ◌+◌, ◌-◌, ◌*◌, ◌/◌, ◌%◌, ◌^◌, ◌<◌, ◌≤◌, List, [], length, get_or, set, replicate, refl, ap, sym, ◌∙◌, subst, arith, false, IsTrue, Option, Some, None, get_or-set_same, get_or-set_other}
+use Rattle.std.specs.Prelude.{◌↔◌}
+use Rattle.std.proofs.lemmas.Bool.{cases_lt}
 use Rattle.std.proofs.lemmas.List.{length-set, length-replicate, get_or-replicate, get_or_past}
 use Rattle.std.proofs.lemmas.List.Elements.{Contains-get_or}
 use Rattle.rwsp_terms.specs.declared.limits.TheConstants.{MOST_CELLS}
@@ -11,7 +11,9 @@ use Rattle.rule_automaton.specs.declared.step.Step.{Step}
 use Rattle.rule_automaton.specs.Moves.{Moves, move_at}
 use Rattle.rule_automaton.specs.Automata.{RuleAutomaton, IsAutomaton}
 use Rattle.kept_cycle.specs.declared.marks.TheConstants.{WORD_BITS}
-use Rattle.kept_cycle.specs.Marks.{is_marked, row_at, has_on, from_of, to_of, IsPass, IsWide, FitsInto, IsFirstFront, IsFirstBack}
+use Rattle.kept_cycle.specs.declared.marks.Way.{Way}
+use Rattle.kept_cycle.specs.declared.marks.Way.TheVariants.{On, Back}
+use Rattle.kept_cycle.specs.Marks.{is_marked, row_at, has_on, IsPass, IsWide, FitsInto, IsFirstFront, IsFirstBack}
 use Rattle.kept_cycle.specs.KeptCycle.{IsCycle}
 use Rattle.kept_cycle.proofs.Marking.{unlike, unmarked, all_marked}
 use Rattle.kept_cycle.proofs.Mending.{wide_set}
@@ -130,8 +132,8 @@ none_held n i x sets e h =
     nothing : IsTrue (has_symbol [] x) → ⊥
     nothing g = cc
 
-no_pass : (here there : Step → ℕ) (steps : List Step) (sets : List (List ℕ)) (n i : ℕ) (row next : List ℕ) → sets ≡ replicate n [] → ((t : ℕ) → is_marked next t ≡ false) → IsPass here there steps (has_on sets i) row next
-no_pass here there steps sets n i row next empty none t = (
+no_pass : (way : Way) (steps : List Step) (sets : List (List ℕ)) (n i : ℕ) (row next : List ℕ) → sets ≡ replicate n [] → ((t : ℕ) → is_marked next t ≡ false) → IsPass way steps (has_on sets i) row next
+no_pass way steps sets n i row next empty none t = (
   λ h. absurd (unlike (is_marked next t) (none t) h),
   λ j. absurd (none_held n (i % length sets) j.step.symbol.number sets empty j.held),
 )
@@ -149,10 +151,10 @@ started A sets front back width n days a some few room empty all turns f b = rec
   front_long = f.long ∙ ap (λ k. k + 1) turns;
   front_wide = f.wide;
   first = f.first;
-  fronts = λ i less. no_pass from_of to_of A.steps sets n i (row_at front i) (row_at front (i + 1)) empty (f.none i);
+  fronts = λ i less. no_pass On A.steps sets n i (row_at front i) (row_at front (i + 1)) empty (f.none i);
   back_long = b.long ∙ ap (λ k. k + 1) turns;
   back_wide = b.wide;
   last = (let P : ℕ → Type 0 = λ d. (k : ℕ) → k < length A.moves → IsTrue (is_marked (row_at back d) k) in
       subst P turns (λ k less. b.last k (omega (arith, less, room))));
-  backs = λ i less. no_pass to_of from_of A.steps sets n i (row_at back (i + 1)) (row_at back i) empty (λ t. b.none i t (λ e. omega (arith, e, less, turns)));
+  backs = λ i less. no_pass Back A.steps sets n i (row_at back (i + 1)) (row_at back i) empty (λ t. b.none i t (λ e. omega (arith, e, less, turns)));
 }

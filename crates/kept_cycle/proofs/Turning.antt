@@ -13,10 +13,11 @@ use Rattle.domain_store.specs.Sets.{has_symbol}
 use Rattle.domain_store.specs.Store.{Store, BelongsTo, IsStore, domain_at}
 use Rattle.rule_automaton.specs.declared.step.Step.{Step}
 use Rattle.rule_automaton.specs.Automata.{RuleAutomaton, HasSymbolsOf}
+use Rattle.kept_cycle.specs.declared.marks.Way.{Way}
+use Rattle.kept_cycle.specs.declared.marks.Way.TheVariants.{On, Back}
 use Rattle.kept_cycle.specs.Known.{KnownCycle, known, knows_symbol, KnowsDomains, KnowsAllBut}
-use Rattle.kept_cycle.specs.Marks.{is_marked, row_at, has_on, from_of, to_of, IsPass, IsFrontStep, IsBackStep, MendsFront, MendsBack, IsWide}
+use Rattle.kept_cycle.specs.Marks.{is_marked, row_at, has_on, IsPass, MendsFront, MendsBack, IsWide}
 use Rattle.kept_cycle.specs.KeptCycle.{IsCycle, HasJoiningStep}
-use Rattle.kept_cycle.proofs.Marking.{unlike}
 use Rattle.kept_cycle.proofs.TwoTurns.{Held, GoesOn, goes_on, word_has, has_support}
 
 -- words over the known domains, by the days
@@ -106,14 +107,9 @@ other_day sets p s i within less here there =
     ap (λ n. get_or (set sets p s) (i % n) []) (length-set sets p s)
     ∙ get_or-set_other sets p (i % length sets) s [] (apart i p (length sets) within less here there)
 
-front_kept : (steps : List Step) (sets rows : List (List ℕ)) (p : ℕ) (s : List ℕ) (i : ℕ) → p < length sets → i < 2 * length sets → i ≢ p → i ≢ p + length sets → IsFrontStep steps sets rows i → IsFrontStep steps (set sets p s) rows i
-front_kept steps sets rows p s i within less here there step =
-    let P : List ℕ → Type 0 = λ d. IsPass from_of to_of steps (has_symbol d) (row_at rows i) (row_at rows (i + 1)) in
-    subst P (sym (other_day sets p s i within less here there)) step
-
-back_kept : (steps : List Step) (sets rows : List (List ℕ)) (p : ℕ) (s : List ℕ) (i : ℕ) → p < length sets → i < 2 * length sets → i ≢ p → i ≢ p + length sets → IsBackStep steps sets rows i → IsBackStep steps (set sets p s) rows i
-back_kept steps sets rows p s i within less here there step =
-    let P : List ℕ → Type 0 = λ d. IsPass to_of from_of steps (has_symbol d) (row_at rows (i + 1)) (row_at rows i) in
+step_kept : (way : Way) (steps : List Step) (sets : List (List ℕ)) (p : ℕ) (s : List ℕ) (i : ℕ) (row next : List ℕ) → p < length sets → i < 2 * length sets → i ≢ p → i ≢ p + length sets → IsPass way steps (has_on sets i) row next → IsPass way steps (has_on (set sets p s) i) row next
+step_kept way steps sets p s i row next within less here there step =
+    let P : List ℕ → Type 0 = λ d. IsPass way steps (has_symbol d) row next in
     subst P (sym (other_day sets p s i within less here there)) step
 
 -- the two days of a position are mended in the front
@@ -158,13 +154,13 @@ mended {A} {sets} {front} {back} c p s front1 front2 back1 back2 within small f 
   front_wide = f.wide c.width c.front_wide;
   first = (let P : List ℕ → Type 0 = λ r. (t : ℕ) → IsTrue (is_marked r t) ↔ (0 ≡ t) in subst P (sym f.first) c.first);
   fronts = λ i less.
-      f.two i (omega (arith, less, f.long1, f.long2, c.front_long)) (λ there. f.one i (omega (arith, less, f.long1, c.front_long)) (λ here. front_kept A.steps sets front p s i within (omega (arith, less, c.long)) here there (c.fronts i less)));
+      f.two i (omega (arith, less, f.long1, f.long2, c.front_long)) (λ there. f.one i (omega (arith, less, f.long1, c.front_long)) (λ here. step_kept On A.steps sets p s i (row_at front i) (row_at front (i + 1)) within (omega (arith, less, c.long)) here there (c.fronts i less)));
   back_long = b.long2 ∙ b.long1 ∙ c.back_long;
   back_wide = b.wide c.width c.back_wide;
   last = (let P : List ℕ → Type 0 = λ r. (k : ℕ) → k < length A.moves → IsTrue (is_marked r k) in
       subst P (sym (b.last (2 * cells A.problem) (omega (arith, within, c.long)))) c.last);
   backs = λ i less.
-      b.one i (omega (arith, less, b.long1, b.long2, c.back_long)) (λ here. b.two i (omega (arith, less, b.long1, c.back_long)) (λ there. back_kept A.steps sets back p s i within (omega (arith, less, c.long)) here there (c.backs i less)));
+      b.one i (omega (arith, less, b.long1, b.long2, c.back_long)) (λ here. b.two i (omega (arith, less, b.long1, c.back_long)) (λ there. step_kept Back A.steps sets p s i (row_at back (i + 1)) (row_at back i) within (omega (arith, less, c.long)) here there (c.backs i less)));
 }
 
 -- all positions taken over

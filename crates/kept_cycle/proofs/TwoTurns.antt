@@ -7,7 +7,8 @@ use Rattle.rwsp_terms.specs.Instance.{cells}
 use Rattle.rule_automaton.specs.declared.step.Step.{Step}
 use Rattle.rule_automaton.specs.Moves.{Moves, move_at, after, lead}
 use Rattle.rule_automaton.specs.Automata.{RuleAutomaton, IsAutomaton}
-use Rattle.kept_cycle.specs.Marks.{is_marked, row_at, has_on, from_of, to_of, IsJoined}
+use Rattle.kept_cycle.specs.declared.marks.Way.TheVariants.{On, Back}
+use Rattle.kept_cycle.specs.Marks.{is_marked, row_at, has_on, IsJoined}
 use Rattle.kept_cycle.specs.KeptCycle.{IsCycle, HasJoiningStep}
 
 -- the word's symbols are held on its days, the first of which is this one
@@ -116,12 +117,12 @@ step_by k x t = record { from = k; symbol = x; to = t }
 moves_by : {A : RuleAutomaton} (a : IsAutomaton A) (s : Step) → Contains A.steps s → move_at A.moves s.from s.symbol.number ≡ Some s.to
 moves_by a s c = (a.stepped s.from s.symbol s.to).0 c
 
-joined_front : {A : RuleAutomaton} (a : IsAutomaton A) (has : ℕ → Bool) (row : List ℕ) (k : ℕ) (x : Symbol) (t : ℕ) → IsTrue (is_marked row k) → IsTrue (has x.number) → move_at A.moves k x.number ≡ Some t → IsJoined from_of to_of A.steps has row t (length A.steps)
+joined_front : {A : RuleAutomaton} (a : IsAutomaton A) (has : ℕ → Bool) (row : List ℕ) (k : ℕ) (x : Symbol) (t : ℕ) → IsTrue (is_marked row k) → IsTrue (has x.number) → move_at A.moves k x.number ≡ Some t → IsJoined On A.steps has row t (length A.steps)
 joined_front a has row k x t marked held moves =
     let c = (a.stepped k x t).1 moves in
     record { step = record { from = k; symbol = x; to = t }; place = c.0; below = c.1; stands = (c.1, c.2); marked = marked; held = held; joins = refl }
 
-joined_back : {A : RuleAutomaton} (a : IsAutomaton A) (has : ℕ → Bool) (row : List ℕ) (k : ℕ) (x : Symbol) (t : ℕ) → IsTrue (is_marked row t) → IsTrue (has x.number) → move_at A.moves k x.number ≡ Some t → IsJoined to_of from_of A.steps has row k (length A.steps)
+joined_back : {A : RuleAutomaton} (a : IsAutomaton A) (has : ℕ → Bool) (row : List ℕ) (k : ℕ) (x : Symbol) (t : ℕ) → IsTrue (is_marked row t) → IsTrue (has x.number) → move_at A.moves k x.number ≡ Some t → IsJoined Back A.steps has row k (length A.steps)
 joined_back a has row k x t marked held moves =
     let c = (a.stepped k x t).1 moves in
     record { step = record { from = k; symbol = x; to = t }; place = c.0; below = c.1; stands = (c.1, c.2); marked = marked; held = held; joins = refl }
@@ -141,13 +142,13 @@ came {A} {sets} {front} {back} c (suc i) t le =
     H : ℕ → ℕ → Bool
     H = has_on sets
 
-    pass : (s : ℕ) → IsTrue (is_marked (row_at front (suc i)) s) ↔ IsJoined from_of to_of A.steps (has_on sets i) (row_at front i) s (length A.steps)
+    pass : (s : ℕ) → IsTrue (is_marked (row_at front (suc i)) s) ↔ IsJoined On A.steps (has_on sets i) (row_at front i) s (length A.steps)
     pass s =
         let next : i + 1 ≡ suc i = omega arith in
-        let P : ℕ → Type 0 = λ n. IsTrue (is_marked (row_at front n) s) ↔ IsJoined from_of to_of A.steps (has_on sets i) (row_at front i) s (length A.steps) in
+        let P : ℕ → Type 0 = λ n. IsTrue (is_marked (row_at front n) s) ↔ IsJoined On A.steps (has_on sets i) (row_at front i) s (length A.steps) in
         subst P next (c.fronts i (omega (arith, le)) s)
 
-    there : ((k : ℕ) → IsTrue (is_marked (row_at front i) k) ↔ CameTo A (has_on sets) i k) → IsJoined from_of to_of A.steps (has_on sets i) (row_at front i) t (length A.steps) → CameTo A (has_on sets) (suc i) t
+    there : ((k : ℕ) → IsTrue (is_marked (row_at front i) k) ↔ CameTo A (has_on sets) i k) → IsJoined On A.steps (has_on sets i) (row_at front i) t (length A.steps) → CameTo A (has_on sets) (suc i) t
     there before j =
         let w = (before j.step.from).0 j.marked in
         let x : Symbol = j.step.symbol in
@@ -160,7 +161,7 @@ came {A} {sets} {front} {back} c (suc i) t le =
           held = held_both H 0 w.word (x ∷ []) w.held (held_at H i (0 + length w.word) x.number (sym at) j.held, tt);
         }
 
-    again : ((k : ℕ) → IsTrue (is_marked (row_at front i) k) ↔ CameTo A (has_on sets) i k) → (w : CameTo A (has_on sets) (suc i) t) → Passing A.moves 0 w.word t i → IsJoined from_of to_of A.steps (has_on sets i) (row_at front i) t (length A.steps)
+    again : ((k : ℕ) → IsTrue (is_marked (row_at front i) k) ↔ CameTo A (has_on sets) i k) → (w : CameTo A (has_on sets) (suc i) t) → Passing A.moves 0 w.word t i → IsJoined On A.steps (has_on sets i) (row_at front i) t (length A.steps)
     again before w r =
         let Q : List Symbol → Type 0 = λ u. Held H 0 u in
         let held : Held H 0 (r.before ++ r.symbol ∷ r.behind) = subst Q r.whole w.held in
@@ -169,7 +170,7 @@ came {A} {sets} {front} {back} c (suc i) t le =
         let none : length r.behind ≡ 0 = omega (arith, w.long, r.long, ap length r.whole, length-append r.before (r.symbol ∷ r.behind)) in
         let last : r.to ≡ t = ends_there A.moves r.to t r.behind none r.on in
         let marked = (before r.from).1 (record { word = r.before; long = r.long; leads = r.there; held = held_front H 0 r.before (r.symbol ∷ r.behind) held }) in
-        let P : ℕ → Type 0 = λ n. IsJoined from_of to_of A.steps (has_on sets i) (row_at front i) n (length A.steps) in
+        let P : ℕ → Type 0 = λ n. IsJoined On A.steps (has_on sets i) (row_at front i) n (length A.steps) in
         subst P last (joined_front c.automaton (has_on sets i) (row_at front i) r.from r.symbol r.to marked here r.moves)
 
 -- the back marks the states from which words go on
@@ -193,7 +194,7 @@ goes_on {A} {sets} {front} {back} c (suc m) i all k lt =
     less : i < 2 * cells A.problem
     less = omega (arith, all)
 
-    there : ((t : ℕ) → t < length A.moves → IsTrue (is_marked (row_at back (i + 1)) t) ↔ GoesOn A (has_on sets) (i + 1) t) → IsJoined to_of from_of A.steps (has_on sets i) (row_at back (i + 1)) k (length A.steps) → GoesOn A (has_on sets) i k
+    there : ((t : ℕ) → t < length A.moves → IsTrue (is_marked (row_at back (i + 1)) t) ↔ GoesOn A (has_on sets) (i + 1) t) → IsJoined Back A.steps (has_on sets i) (row_at back (i + 1)) k (length A.steps) → GoesOn A (has_on sets) i k
     there behind j =
         let moves = moves_by c.automaton j.step (j.place, j.stands.0, j.stands.1) in
         let g = (behind j.step.to (c.automaton.inside j.step.from j.step.symbol.number j.step.to moves).1).0 j.marked in
@@ -201,7 +202,7 @@ goes_on {A} {sets} {front} {back} c (suc m) i all k lt =
         let P : ℕ → Type 0 = λ n. lead A.moves (Some n) (j.step.symbol ∷ g.word) ≡ Some g.end in
         record { word = j.step.symbol ∷ g.word; long = long; end = g.end; leads = subst P j.joins (ap (λ s. lead A.moves s g.word) moves ∙ g.leads); held = (j.held, g.held) }
 
-    again : ((t : ℕ) → t < length A.moves → IsTrue (is_marked (row_at back (i + 1)) t) ↔ GoesOn A (has_on sets) (i + 1) t) → (w : List Symbol) (end : ℕ) → i + length w ≡ 2 * cells A.problem → lead A.moves (Some k) w ≡ Some end → Held (has_on sets) i w → IsJoined to_of from_of A.steps (has_on sets i) (row_at back (i + 1)) k (length A.steps)
+    again : ((t : ℕ) → t < length A.moves → IsTrue (is_marked (row_at back (i + 1)) t) ↔ GoesOn A (has_on sets) (i + 1) t) → (w : List Symbol) (end : ℕ) → i + length w ≡ 2 * cells A.problem → lead A.moves (Some k) w ≡ Some end → Held (has_on sets) i w → IsJoined Back A.steps (has_on sets i) (row_at back (i + 1)) k (length A.steps)
     again behind [] end long leads held = absurd (omega (arith, long, all))
     again behind (x ∷ v) end long leads held =
         let t = begins A.moves (move_at A.moves k x.number) v end leads in

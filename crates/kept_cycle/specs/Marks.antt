@@ -4,6 +4,8 @@ use Rattle.std.specs.Int.{bit_at}
 use Rattle.domain_store.specs.Sets.{has_symbol}
 use Rattle.rule_automaton.specs.declared.step.Step.{Step}
 use Rattle.kept_cycle.specs.declared.marks.TheConstants.{WORD_BITS}
+use Rattle.kept_cycle.specs.declared.marks.Way.{Way}
+use Rattle.kept_cycle.specs.declared.marks.Way.TheVariants.{On, Back}
 
 -- whether the words have the bit of the state
 abbrev pub is_marked : List ℕ → ℕ → Bool
@@ -16,39 +18,41 @@ row_at rows i = slice_index_or rows i []
 abbrev pub has_on : List (List ℕ) → ℕ → ℕ → Bool
 has_on sets i x = has_symbol (slice_index_or sets (i % length sets) []) x
 
-abbrev pub from_of : Step → ℕ
-from_of s = s.from
+-- the state from which a step leads this way, and the one to which it leads
+abbrev pub here_of : Way → Step → ℕ
+here_of On s = s.from
+here_of Back s = s.to
 
-abbrev pub to_of : Step → ℕ
-to_of s = s.to
+abbrev pub there_of : Way → Step → ℕ
+there_of On s = s.to
+there_of Back s = s.from
 
 -- the element is at the place
 abbrev pub StandsAt : {X : Type 0} → List X → ℕ → X → Type 0
 StandsAt xs k x = (k < length xs) × (slice_index_or xs k x ≡ x)
 
--- one of the first steps, by a symbol of the domain, joins a marked state and this one
-pub record IsJoined (here there : Step → ℕ) (steps : List Step) (has : ℕ → Bool) (row : List ℕ)
-    (t number : ℕ) : Type 0 where
+-- one of the first steps, by a symbol of the domain, leads this way from a marked state to this one
+pub record IsJoined (way : Way) (steps : List Step) (has : ℕ → Bool) (row : List ℕ) (t number : ℕ) : Type 0 where
   pub step : Step
   pub place : ℕ
   pub below : place < number
   pub stands : StandsAt steps place step
-  pub marked : IsTrue (is_marked row (here step))
+  pub marked : IsTrue (is_marked row (here_of way step))
   pub held : IsTrue (has step.symbol.number)
-  pub joins : there step ≡ t
+  pub joins : there_of way step ≡ t
 
--- the second row marks just the states that steps join with those that the first row marks
-abbrev pub IsPass : (Step → ℕ) → (Step → ℕ) → List Step → (ℕ → Bool) → List ℕ → List ℕ → Type 0
-IsPass here there steps has row next =
-    (t : ℕ) → IsTrue (is_marked next t) ↔ IsJoined here there steps has row t (length steps)
+-- the second row marks just the states to which steps lead this way from those that the first row marks
+abbrev pub IsPass : Way → List Step → (ℕ → Bool) → List ℕ → List ℕ → Type 0
+IsPass way steps has row next =
+    (t : ℕ) → IsTrue (is_marked next t) ↔ IsJoined way steps has row t (length steps)
 
 -- behind a day the states are marked to which steps lead from the day's marked states
 abbrev pub IsFrontStep : List Step → List (List ℕ) → List (List ℕ) → ℕ → Type 0
-IsFrontStep steps sets rows i = IsPass from_of to_of steps (has_on sets i) (row_at rows i) (row_at rows (i + 1))
+IsFrontStep steps sets rows i = IsPass On steps (has_on sets i) (row_at rows i) (row_at rows (i + 1))
 
 -- on a day the states are marked from which steps lead to marked states behind it
 abbrev pub IsBackStep : List Step → List (List ℕ) → List (List ℕ) → ℕ → Type 0
-IsBackStep steps sets rows i = IsPass to_of from_of steps (has_on sets i) (row_at rows (i + 1)) (row_at rows i)
+IsBackStep steps sets rows i = IsPass Back steps (has_on sets i) (row_at rows (i + 1)) (row_at rows i)
 
 -- each row has `width` words
 abbrev pub IsWide : List (List ℕ) → ℕ → Type 0

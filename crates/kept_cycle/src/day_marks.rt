@@ -1,9 +1,9 @@
 // Sets of states for all places between days.
 ghost use Rattle.std.specs.Prelude.{◌≡◌, ◌≢◌, ◌↔◌, ℕ, ◌+◌, ◌*◌, ◌<◌, ◌≤◌, false, true, length, replicate, slice_set, IfOk, IsTrue};
 ghost use Rattle.domain_store.specs.Sets.{has_symbol};
-ghost use Rattle.kept_cycle.specs.Marks.{row_at, from_of, to_of, IsWide, IsPass, MendsFront, MendsBack, FitsInto};
+ghost use Rattle.kept_cycle.specs.Marks.{row_at, IsWide, IsPass, MendsFront, MendsBack, FitsInto};
 
-use crate::marks::Marks;
+use crate::marks::{Marks, Way};
 use domain_store::SymbolSet;
 use rule_automaton::Step;
 use rwsp_terms::limits::MOST_CELLS;
@@ -60,41 +60,29 @@ impl DayMarks {
         self.rows[day] = row;
     }
 
-    // Marks what is behind a day by its symbols. Whether that has changed the marks there.
-    fn go_on(&mut self, steps: &[Step], set: &SymbolSet, day: usize) -> bool
-        requires day { day + 1 < length self.old }
+    // Marks in one row what leads there this way from another, by the symbols of the set. Whether that has changed the
+    // marks there.
+    fn renew(
+        &mut self,
+        steps: &[Step],
+        set: &SymbolSet,
+        way: Way,
+        here: usize,
+        there: usize,
+    ) -> bool
+        requires apart { (here < length self.old) × (there < length self.old) × (here ≢ there) }
         requires wide { (width : ℕ) × IsWide self.old width × FitsInto width steps.now }
-        ensures step { IsPass from_of to_of steps.now (has_symbol set.now) (row_at self.new day)
-            (row_at self.new (day + 1)) }
-        ensures others { (i : ℕ) → i ≢ day + 1 → row_at self.new i ≡ row_at self.old i }
+        ensures step { IsPass way steps.now (has_symbol set.now) (row_at self.new here) (row_at self.new there) }
+        ensures others { (i : ℕ) → i ≢ there → row_at self.new i ≡ row_at self.old i }
         ensures unchanged { result ≡ false → self.new ≡ self.old }
         ensures long { length self.new ≡ length self.old }
         ensures wide { (width : ℕ) → IsWide self.old width → IsWide self.new width }
     {
-        self.spare.put_behind(steps, set, &self.rows[day]);
-        if self.spare.is_same(&self.rows[day + 1]) {
+        self.spare.put_behind(steps, set, way, &self.rows[here]);
+        if self.spare.is_same(&self.rows[there]) {
             return false;
         }
-        mem::swap(&mut self.spare, &mut self.rows[day + 1]);
-        true
-    }
-
-    // Marks what leads on from a day by its symbols. Whether that has changed the marks there.
-    fn go_back(&mut self, steps: &[Step], set: &SymbolSet, day: usize) -> bool
-        requires day { day + 1 < length self.old }
-        requires wide { (width : ℕ) × IsWide self.old width × FitsInto width steps.now }
-        ensures step { IsPass to_of from_of steps.now (has_symbol set.now) (row_at self.new (day + 1))
-            (row_at self.new day) }
-        ensures others { (i : ℕ) → i ≢ day → row_at self.new i ≡ row_at self.old i }
-        ensures unchanged { result ≡ false → self.new ≡ self.old }
-        ensures long { length self.new ≡ length self.old }
-        ensures wide { (width : ℕ) → IsWide self.old width → IsWide self.new width }
-    {
-        self.spare.put_before(steps, set, &self.rows[day + 1]);
-        if self.spare.is_same(&self.rows[day]) {
-            return false;
-        }
-        mem::swap(&mut self.spare, &mut self.rows[day]);
+        mem::swap(&mut self.spare, &mut self.rows[there]);
         true
     }
 
@@ -113,7 +101,7 @@ impl DayMarks {
         ensures wide { (width : ℕ) → IsWide self.old width → IsWide self.new width }
     {
         for i in day..self.rows.len() - 1 {
-            if !self.go_on(steps, &sets[i % sets.len()], i) {
+            if !self.renew(steps, &sets[i % sets.len()], Way::On, i, i + 1) {
                 return i;
             }
         }
@@ -137,7 +125,7 @@ impl DayMarks {
         let mut i = day + 1;
         while 0 < i {
             i -= 1;
-            if !self.go_back(steps, &sets[i % sets.len()], i) {
+            if !self.renew(steps, &sets[i % sets.len()], Way::Back, i + 1, i) {
                 return i;
             }
         }

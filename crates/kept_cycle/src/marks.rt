@@ -1,7 +1,7 @@
 // Sets of states.
 ghost use Rattle.std.specs.Prelude.{◌≡◌, ◌⊎◌, ◌↔◌, ℕ, ◌-◌, ◌*◌, ◌^◌, ◌<◌, length, replicate, IfOk, IsTrue, All, false};
 ghost use Rattle.domain_store.specs.Sets.{has_symbol};
-ghost use Rattle.kept_cycle.specs.Marks.{is_marked, from_of, to_of, IsPass};
+ghost use Rattle.kept_cycle.specs.Marks.{is_marked, here_of, there_of, IsPass};
 
 use domain_store::SymbolSet;
 use rule_automaton::Step;
@@ -10,6 +10,35 @@ use std::marker::Model;
 
 /// The states that one word of bits is for.
 pub const WORD_BITS: u32 = 64;
+
+/// Which way words are followed: from the front on, or from the end back.
+#[derive(Clone, Copy)]
+pub enum Way {
+    On,
+    Back,
+}
+
+impl Way {
+    // The state from which the step leads this way.
+    fn here(self, step: &Step) -> u32
+        ensures { result ≡ here_of self step.now }
+    {
+        match self {
+            Way::On => step.from,
+            Way::Back => step.to,
+        }
+    }
+
+    // The state to which it leads.
+    fn there(self, step: &Step) -> u32
+        ensures { result ≡ there_of self step.now }
+    {
+        match self {
+            Way::On => step.to,
+            Way::Back => step.from,
+        }
+    }
+}
 
 // For each state whether it is marked: a bit each, in words. Seen as the list of the words.
 #[derive(Drop)]
@@ -79,35 +108,19 @@ impl Marks {
         self.words.as_slice() == other.words.as_slice()
     }
 
-    // Marks the states to which the steps lead by symbols of the set from the states that are marked before. Goes once
-    // over the steps.
-    pub fn put_behind(&mut self, steps: &[Step], set: &SymbolSet, before: &Marks)
-        requires { All (λ s. s.to < WORD_BITS * length self.old) steps.now }
+    // Marks the states to which the steps lead this way, by symbols of the set, from the states that are marked before.
+    // Goes once over the steps.
+    pub fn put_behind(&mut self, steps: &[Step], set: &SymbolSet, way: Way, before: &Marks)
+        requires { All (λ s. there_of way s < WORD_BITS * length self.old) steps.now }
         ensures long { length self.new ≡ length self.old }
-        ensures marks { IsPass from_of to_of steps.now (has_symbol set.now) before.now self.new }
+        ensures marks { IsPass way steps.now (has_symbol set.now) before.now self.new }
     {
         self.clear();
         for step in steps {
-            if !before.has(step.from) || !set.has(step.symbol.number) {
+            if !before.has(way.here(step)) || !set.has(step.symbol.number) {
                 continue;
             }
-            self.put(step.to);
-        }
-    }
-
-    // Marks the states from which the steps lead by symbols of the set to the states that are marked behind. Goes once
-    // over the steps.
-    pub fn put_before(&mut self, steps: &[Step], set: &SymbolSet, behind: &Marks)
-        requires { All (λ s. s.from < WORD_BITS * length self.old) steps.now }
-        ensures long { length self.new ≡ length self.old }
-        ensures marks { IsPass to_of from_of steps.now (has_symbol set.now) behind.now self.new }
-    {
-        self.clear();
-        for step in steps {
-            if !behind.has(step.to) || !set.has(step.symbol.number) {
-                continue;
-            }
-            self.put(step.from);
+            self.put(way.there(step));
         }
     }
 }

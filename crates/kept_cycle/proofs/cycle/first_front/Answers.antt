@@ -1,5 +1,5 @@
 -- One state is marked, before the first day.
-use Rattle.std.proofs.Common.{ℕ, List, ◌∙◌, ◌*◌, ◌<◌, length, replicate, set, ap, sym, subst, arith}
+use Rattle.std.proofs.Common.{ℕ, ◌∙◌, length, set, ap, arith}
 use Rattle.std.proofs.lemmas.List.{length-replicate}
 use Rattle.kept_cycle.proofs.Starting.{row_fits, first_front_by}
 use Rattle.kept_cycle.proofs.cycle.first_front.Goals as goal
