@@ -2,7 +2,10 @@
 ghost use Rattle.std.specs.Prelude.{◌≡◌, ◌*◌, ◌≤◌, ◌<◌, ◌+◌, IfOk, IfSome, Option, None};
 ghost use Rattle.rwsp_terms.specs.Instance.{cells};
 ghost use Rattle.rwsp_terms.specs.declared.limits.TheConstants.{LONGEST_WORD};
-ghost use Rattle.domain_store.specs.Store.{BelongsTo};
+ghost use Rattle.refutation_terms.specs.Log.{GoalFits};
+ghost use Rattle.domain_store.specs.Store.{BelongsTo, has_domain};
+ghost use Rattle.propagator_terms.specs.Cycles.{AreShortRules};
+ghost use Rattle.propagator_terms.specs.Leaves.{IsHoldingLeafFor};
 
 use crate::closing::found_leaf;
 use crate::demand::{Demand, Shape};
@@ -64,12 +67,6 @@ impl<'a> Model for NearestWeights<'a> {
 }
 
 impl<'a> NearestWeights<'a> {
-    ghost use Rattle.std.specs.Prelude.{◌≡◌};
-    ghost use Rattle.refutation_terms.specs.Log.{GoalFits};
-    ghost use Rattle.domain_store.specs.Store.{has_domain};
-    ghost use Rattle.propagator_terms.specs.Cycles.{AreShortRules};
-    ghost use Rattle.propagator_terms.specs.Leaves.{IsHoldingLeafFor};
-
     /// A search with the rules of the automaton, which are all short rules of its problem.
     pub fn new(alloc: Global, automaton: &'a Automaton) -> NearestWeights<'a>
         requires short { AreShortRules automaton.now.problem automaton.now.rules }
