@@ -50,7 +50,7 @@ impl<'a> PlanGuide<'a> {
     ) -> PlanGuide<'a>
         requires short { AreShortRules automaton.now.problem automaton.now.rules }
         requires same { finder.now ≡ automaton.now.problem }
-        ensures { ⟦<PlanGuide as Guide>⟧.serves result automaton.now.problem None }
+        ensures { ⟦<PlanGuide<'a> as Guide>⟧.serves result automaton.now.problem None }
     {
         PlanGuide {
             automaton,

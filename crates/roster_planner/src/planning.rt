@@ -85,21 +85,21 @@ fn plan_cases<R: Threads + Sync, G: Gate>(
 }
 
 // The same by these reasons, which hold for the search that begins with the turn.
-fn plan_by(
+fn plan_by<'a>(
     alloc: Global,
     automaton: &Automaton,
     finder: &RosterFinder<'_>,
     turn: Option<Turn>,
-    reasons: &mut Reasons<'_>,
+    reasons: &mut Reasons<'a>,
     budget: u32,
 ) -> Result<Found, AllocError>
     requires short { AreShortRules automaton.now.problem automaton.now.rules }
     requires same { finder.now ≡ automaton.now.problem }
     requires budget { (1 ≤ budget) × (budget ≤ GREATEST_BUDGET) }
     requires turn { IsFirstTurn automaton.now.problem turn }
-    requires serves { ⟦<Reasons as Propagator>⟧.serves reasons.old automaton.now.problem }
-    requires reasons { AreReasons automaton.now.problem turn (⟦<Reasons as Propagator>⟧.leaves reasons.old)
-        (⟦<Reasons as Propagator>⟧.spent reasons.old) }
+    requires serves { ⟦<Reasons<'a> as Propagator>⟧.serves reasons.old automaton.now.problem }
+    requires reasons { AreReasons automaton.now.problem turn (⟦<Reasons<'a> as Propagator>⟧.leaves reasons.old)
+        (⟦<Reasons<'a> as Propagator>⟧.spent reasons.old) }
     ensures { IfOk result (IsPlanned automaton.now.problem budget) }
 {
     let problem = automaton.problem();

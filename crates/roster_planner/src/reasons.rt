@@ -30,9 +30,9 @@ pub fn reasons_of<'a, R: Threads + Sync, G: Gate>(
 ) -> Result<Reasons<'a>, AllocError>
     requires short { AreShortRules automaton.now.problem automaton.now.rules }
     requires turn { TurnFits automaton.now.problem turn }
-    ensures serves { IfOk result (λ r. ⟦<Reasons as Propagator>⟧.serves r automaton.now.problem) }
+    ensures serves { IfOk result (λ r. ⟦<Reasons<'a> as Propagator>⟧.serves r automaton.now.problem) }
     ensures reasons { IfOk result (λ r. AreReasons automaton.now.problem turn
-        (⟦<Reasons as Propagator>⟧.leaves r) (⟦<Reasons as Propagator>⟧.spent r)) }
+        (⟦<Reasons<'a> as Propagator>⟧.leaves r) (⟦<Reasons<'a> as Propagator>⟧.spent r)) }
 {
     let problem = automaton.problem();
     problem.prove_limits();

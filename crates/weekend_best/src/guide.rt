@@ -43,7 +43,7 @@ impl<'a> BestGuide<'a> {
         requires same { finder.now ≡ automaton.now.problem }
         requires week { automaton.now.problem.days ≡ 7 }
         requires goal { goal ≤ automaton.now.problem.weeks + 1 }
-        ensures { ⟦<BestGuide as Guide>⟧.serves result automaton.now.problem (Some goal) }
+        ensures { ⟦<BestGuide<'a> as Guide>⟧.serves result automaton.now.problem (Some goal) }
     {
         BestGuide {
             automaton,

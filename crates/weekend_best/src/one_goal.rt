@@ -168,10 +168,10 @@ fn search_by<A: Propagator + Drop, G: Guide + Drop>(
 // The reasons of cases, for a search that begins with full domains.
 fn full_reasons<'a>(alloc: Global, automaton: &'a Automaton) -> Result<CaseReasons<'a>, AllocError>
     requires short { AreShortRules automaton.now.problem automaton.now.rules }
-    ensures serves { IfOk result (λ r. ⟦<CaseReasons as Propagator>⟧.serves r automaton.now.problem) }
+    ensures serves { IfOk result (λ r. ⟦<CaseReasons<'a> as Propagator>⟧.serves r automaton.now.problem) }
     ensures reasons { IfOk result (λ r. AreCaseReasons automaton.now.problem
-        (⟦<CaseReasons as Propagator>⟧.leaves r) (⟦<CaseReasons as Propagator>⟧.spent r)) }
-    ensures unweighed { IfOk result (λ r. WeighNoWords (⟦<CaseReasons as Propagator>⟧.leaves r)) }
+        (⟦<CaseReasons<'a> as Propagator>⟧.leaves r) (⟦<CaseReasons<'a> as Propagator>⟧.spent r)) }
+    ensures unweighed { IfOk result (λ r. WeighNoWords (⟦<CaseReasons<'a> as Propagator>⟧.leaves r)) }
 {
     let doms = Domains::new(alloc, automaton.problem())?;
     case_reasons(alloc, automaton, &doms)
