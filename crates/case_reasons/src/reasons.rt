@@ -2,34 +2,36 @@
 ghost use Rattle.std.specs.Prelude.{IfOk, ℕ, ◌↔◌};
 ghost use Rattle.rwsp_terms.specs.declared.data.Symbol.{Symbol};
 ghost use Rattle.domain_store.specs.Store.{BelongsTo, Store, has_domain};
+ghost use Rattle.propagator_terms.specs.Cycles.{AreShortRules};
 ghost use Rattle.propagator_terms.specs.Looks.{HasPlainLeaves};
 ghost use Rattle.propagators.specs.Days.{IsDaySpent};
 ghost use Rattle.case_reasons.specs.Reasons.{AreCaseReasons, WeighNoWords};
 
 use domain_store::Domains;
-use kept_cycle::CycleProp;
 use propagator_terms::{Pair, Propagator};
-use propagators::{DayProp, WindowProp};
+use propagators::{CycleProp, DayProp, WindowProp};
+use rule_automaton::Automaton;
 use rwsp_model::Problem;
 use std::alloc::{AllocError, Global};
 
 /// Windows, days and words of two turns, asked in this order.
-pub type CaseReasons = Pair<Pair<WindowProp, DayProp>, CycleProp>;
+pub type CaseReasons<'a> = Pair<Pair<WindowProp, DayProp>, CycleProp<'a>>;
 
-/// The reasons of a problem that weigh no words, for any search.
-pub fn case_reasons(
+/// The reasons of an automaton's problem that weigh no words, for any search. Its rules are all short ones.
+pub fn case_reasons<'a>(
     alloc: Global,
-    problem: &Problem,
+    automaton: &'a Automaton,
     doms: &Domains,
-) -> Result<CaseReasons, AllocError>
-    requires { BelongsTo problem.now doms.now }
-    ensures serves { IfOk result (λ r. ⟦<CaseReasons as Propagator>⟧.serves r problem.now) }
-    ensures reasons { IfOk result (λ r.
-        AreCaseReasons problem.now (⟦<CaseReasons as Propagator>⟧.leaves r) (⟦<CaseReasons as Propagator>⟧.spent r)) }
-    ensures unweighed { IfOk result (λ r. WeighNoWords (⟦<CaseReasons as Propagator>⟧.leaves r)) }
+) -> Result<CaseReasons<'a>, AllocError>
+    requires belongs { BelongsTo automaton.now.problem doms.now }
+    requires short { AreShortRules automaton.now.problem automaton.now.rules }
+    ensures serves { IfOk result (λ r. ⟦<CaseReasons<'a> as Propagator>⟧.serves r automaton.now.problem) }
+    ensures reasons { IfOk result (λ r. AreCaseReasons automaton.now.problem
+        (⟦<CaseReasons<'a> as Propagator>⟧.leaves r) (⟦<CaseReasons<'a> as Propagator>⟧.spent r)) }
+    ensures unweighed { IfOk result (λ r. WeighNoWords (⟦<CaseReasons<'a> as Propagator>⟧.leaves r)) }
 {
-    let cycle = CycleProp::new(alloc, problem, doms)?;
-    let plain = plain_reasons(alloc, problem, doms)?;
+    let cycle = CycleProp::new(alloc, automaton, doms)?;
+    let plain = plain_reasons(alloc, automaton.problem(), doms)?;
     Ok(Pair::new(plain, cycle))
 }
 

@@ -2,6 +2,8 @@
 #![tactic(auto)]
 
 mod check;
+mod laws;
 mod sections;
 
 pub use check::check_staff;
+pub use laws::staff_texts_have_a_verdict;

@@ -1,5 +1,5 @@
 -- Which positions stay settled where a domain changes.
-use Rattle.std.proofs.Common.{◌≡◌, ◌≢◌, ◌⊎◌, inl, inr, ℕ, zero, suc, ◌+◌, ◌*◌, ◌<◌, ◌≤◌, refl, List, [], ◌∷◌, length, get_or, set, replicate, ap, sym, ◌∙◌, subst, arith, Bool, true, false, IsTrue, get_or-set_other}
+use Rattle.std.proofs.Common.{◌≡◌, ◌≢◌, ◌⊎◌, inl, inr, ℕ, zero, suc, ◌+◌, ◌*◌, ◌<◌, ◌≤◌, refl, List, [], ◌∷◌, length, get_or, set, replicate, sym, ◌∙◌, subst, arith, Bool, true, false, IsTrue, get_or-set_other}
 use Rattle.std.proofs.lemmas.Bool.{cases_eq, cases_lt}
 use Rattle.std.proofs.lemmas.List.{length-set}
 use Rattle.rwsp_terms.specs.declared.data.Symbol.{Symbol}
@@ -7,76 +7,82 @@ use Rattle.rwsp_terms.specs.Instance.{cells}
 use Rattle.refutation_terms.proofs.InWords.{idle_as_said}
 use Rattle.domain_store.specs.Sets.{has_symbol}
 use Rattle.domain_store.specs.Store.{Store, domain_at, has_domain, HasDomains}
-use Rattle.word_tail.specs.Listed.{Listed}
-use Rattle.layered_cycle.specs.declared.step.Step.{Step}
-use Rattle.kept_cycle.specs.Known.{KnownCycle, KnowsDomains, IsSupportedAt}
-use Rattle.kept_cycle.specs.Marks.{row_at, layer_at}
+use Rattle.rule_automaton.specs.Automata.{RuleAutomaton}
+use Rattle.kept_cycle.specs.Known.{KnownCycle, known, KnowsDomains, IsSupportedAt}
+use Rattle.kept_cycle.specs.Marks.{row_at}
 use Rattle.kept_cycle.specs.KeptCycle.{IsCycle, HasJoiningStep, AreAwaited}
 use Rattle.kept_cycle.specs.CycleCuts.{IsUnsupported}
 use Rattle.kept_cycle.proofs.Turning.{supported_by, nowhere_by}
 use Rattle.kept_cycle.proofs.CutSymbols.{none_beside, beside_another, nowhere_in_store, nowhere_known}
 
 -- the rows of a position on both sides are those from before, wherever no flag was raised
-pub record KeepsRows (n p : ℕ) (front front2 back back2 : List (List Bool)) (q : ℕ) : Type 0 where
+pub record KeepsRows (p : ℕ) (front front2 back back2 : List (List ℕ)) (q : ℕ) : Type 0 where
   pub apart : q ≢ p
   pub before : row_at front2 q ≡ row_at front q
   pub behind : row_at back2 (q + 1) ≡ row_at back (q + 1)
 
-pub keeps_rows : (n p end low start q : ℕ) (front front1 front2 back back1 back2 : List (List Bool)) → p < n → n < length front
-    → p ≤ end → ((i : ℕ) → i ≤ p → row_at front1 i ≡ row_at front i) → ((i : ℕ) → end < i → i < length front → row_at front1 i ≡ row_at front i)
-    → ((i : ℕ) → i ≤ p + n → row_at front2 i ≡ row_at front1 i)
-    → ((i : ℕ) → i < low → row_at back1 (i + 1) ≡ row_at back (i + 1))
-    → start ≤ p → ((i : ℕ) → i < start → row_at back2 (i + 1) ≡ row_at back1 (i + 1)) → ((i : ℕ) → p < i → row_at back2 i ≡ row_at back1 i)
-    → q < n → q < low → (q < start) ⊎ (end < q) → KeepsRows n p front front2 back back2 q
-keeps_rows n p end low start q front front1 front2 back back1 back2 within few reach f_before f_behind f_second b_second reach2 b_before b_last less q_low (inl early) = record {
-  apart = λ e. omega (arith, e, early, reach2);
-  before = f_second q (omega (arith, less)) ∙ f_before q (omega (arith, early, reach2));
-  behind = b_before q early ∙ b_second q q_low;
+-- which rows stay where the two days of a position are mended: all but those between the day and the end in the front,
+-- and in the back all but those behind low, and behind start up to the day
+pub record RowsStay (p n end low start : ℕ) (front front1 front2 back back1 back2 : List (List ℕ)) : Type 0 where
+  pub reach : p ≤ end
+  pub front_before : (i : ℕ) → i ≤ p → row_at front1 i ≡ row_at front i
+  pub front_behind : (i : ℕ) → end < i → i < length front → row_at front1 i ≡ row_at front i
+  pub front_second : (i : ℕ) → i ≤ p + n → row_at front2 i ≡ row_at front1 i
+  pub back_second : (i : ℕ) → i < low → row_at back1 (i + 1) ≡ row_at back (i + 1)
+  pub start_reach : start ≤ p
+  pub back_before : (i : ℕ) → i < start → row_at back2 (i + 1) ≡ row_at back1 (i + 1)
+  pub back_behind : (i : ℕ) → p < i → row_at back2 i ≡ row_at back1 i
+
+keeps_rows : (n p end low start q : ℕ) (front front1 front2 back back1 back2 : List (List ℕ)) → p < n → n < length front → RowsStay p n end low start front front1 front2 back back1 back2
+    → q < n → q < low → (q < start) ⊎ (end < q) → KeepsRows p front front2 back back2 q
+keeps_rows n p end low start q front front1 front2 back back1 back2 within few r less q_low (inl early) = record {
+  apart = λ e. omega (arith, e, early, r.start_reach);
+  before = r.front_second q (omega (arith, less)) ∙ r.front_before q (omega (arith, early, r.start_reach));
+  behind = r.back_before q early ∙ r.back_second q q_low;
 }
-keeps_rows n p end low start q front front1 front2 back back1 back2 within few reach f_before f_behind f_second b_second reach2 b_before b_last less q_low (inr late) = record {
-  apart = λ e. omega (arith, e, late, reach);
-  before = f_second q (omega (arith, less)) ∙ f_behind q late (omega (arith, less, few));
-  behind = b_last (q + 1) (omega (arith, late, reach)) ∙ b_second q q_low;
+keeps_rows n p end low start q front front1 front2 back back1 back2 within few r less q_low (inr late) = record {
+  apart = λ e. omega (arith, e, late, r.reach);
+  before = r.front_second q (omega (arith, less)) ∙ r.front_behind q late (omega (arith, less, few));
+  behind = r.back_behind (q + 1) (omega (arith, late, r.reach)) ∙ r.back_second q q_low;
 }
 
 -- a position whose rows and domain stay keeps its support
-pub supported_still : (T : Listed) (layers : List (List Step)) (sets : List (List ℕ)) (p : ℕ) (s : List ℕ) (front front2 back back2 : List (List Bool)) (width q : ℕ)
-    → IsCycle T layers sets front back width → IsCycle T layers (set sets p s) front2 back2 width → q < cells T.problem → KeepsRows (length sets) p front front2 back back2 q
-    → IsSupportedAt (record { problem = T.problem; rules = T.rules; sets = sets }) q → IsSupportedAt (record { problem = T.problem; rules = T.rules; sets = set sets p s }) q
-supported_still T layers sets p s front front2 back back2 width q c d within keeps supported x many held none =
+supported_still : {A : RuleAutomaton} {sets front back : List (List ℕ)} (c : IsCycle A sets front back) (p : ℕ) (s : List ℕ) {front2 back2 : List (List ℕ)} (d : IsCycle A (set sets p s) front2 back2) (q : ℕ)
+    → q < cells A.problem → KeepsRows p front front2 back back2 q → IsSupportedAt (known A sets) q → IsSupportedAt (known A (set sets p s)) q
+supported_still {A} {sets} {front} {back} c p s {front2} {back2} d q within keeps supported x many held none =
     let same : get_or (set sets p s) q [] ≡ get_or sets q [] = get_or-set_other sets p q s [] keeps.apart in
     let Many : List ℕ → Type 0 = λ v. 2 ≤ length v in
-    let Held : List ℕ → Type 0 = λ v. IsTrue (has_symbol v x.number) in
-    let Joins : List Bool → List Bool → Type 0 = λ before behind. HasJoiningStep (layer_at layers q) x before behind in
-    supported x (subst Many same many) (subst Held same held)
-    (nowhere_by T layers sets front back width q x c within
-    (λ joins. supported_by T layers (set sets p s) front2 back2 width q x d within held
+    let IsHeld : List ℕ → Type 0 = λ v. IsTrue (has_symbol v x.number) in
+    let Joins : List ℕ → List ℕ → Type 0 = λ before behind. HasJoiningStep A.steps x before behind in
+    supported x (subst Many same many) (subst IsHeld same held)
+    (nowhere_by c q x within
+    (λ _ joins. supported_by d q x within held
     (subst (λ r. Joins r (row_at back2 (q + 1))) (sym keeps.before) (subst (λ r. Joins (row_at front q) r) (sym keeps.behind) joins)) none))
 
+-- flags are raised from a position on, and none is taken down
+pub record IsRaised (start end : ℕ) (old new : List Bool) : Type 0 where
+  pub long : length new ≡ length old
+  pub kept : (q : ℕ) → get_or new q false ≡ false → get_or old q false ≡ false
+  pub raised : (q : ℕ) → start ≤ q → q < end → q < length old → get_or new q false ≡ true
+
 -- what the raised flags leave settled
-pub still_awaited : (T : Listed) (layers : List (List Step)) (sets : List (List ℕ)) (p : ℕ) (s : List ℕ) (front front1 front2 back back1 back2 : List (List Bool)) (width end low start : ℕ) (pending pending1 pending2 : List Bool)
-    → IsCycle T layers sets front back width → IsCycle T layers (set sets p s) front2 back2 width → p < length sets
-    → p ≤ end → ((i : ℕ) → i ≤ p → row_at front1 i ≡ row_at front i) → ((i : ℕ) → end < i → i < length front → row_at front1 i ≡ row_at front i)
-    → ((i : ℕ) → i ≤ p + length sets → row_at front2 i ≡ row_at front1 i)
-    → ((i : ℕ) → i < low → row_at back1 (i + 1) ≡ row_at back (i + 1))
-    → start ≤ p → ((i : ℕ) → i < start → row_at back2 (i + 1) ≡ row_at back1 (i + 1)) → ((i : ℕ) → p < i → row_at back2 i ≡ row_at back1 i)
-    → length pending1 ≡ length pending → ((q : ℕ) → get_or pending1 q false ≡ false → get_or pending q false ≡ false) → ((q : ℕ) → start ≤ q → q < end + 1 → q < length pending → get_or pending1 q false ≡ true)
-    → length pending2 ≡ length pending1 → ((q : ℕ) → get_or pending2 q false ≡ false → get_or pending1 q false ≡ false) → ((q : ℕ) → low ≤ q → q < length sets → q < length pending1 → get_or pending2 q false ≡ true)
-    → AreAwaited T sets pending → AreAwaited T (set sets p s) pending2
-still_awaited T layers sets p s front front1 front2 back back1 back2 width end low start pending pending1 pending2 c d within reach f_before f_behind f_second b_second reach2 b_before b_last long1 kept1 raised1 long2 kept2 raised2 a = record {
-  long = long2 ∙ long1 ∙ a.long;
+pub still_awaited : {A : RuleAutomaton} {sets front back : List (List ℕ)} (c : IsCycle A sets front back) (p : ℕ) (s : List ℕ) {front2 back2 : List (List ℕ)} (d : IsCycle A (set sets p s) front2 back2) (front1 back1 : List (List ℕ)) (end low start : ℕ) (pending pending1 pending2 : List Bool)
+    → p < length sets → RowsStay p (length sets) end low start front front1 front2 back back1 back2
+    → IsRaised start (end + 1) pending pending1 → IsRaised low (length sets) pending1 pending2
+    → AreAwaited (known A sets) pending → AreAwaited (known A (set sets p s)) pending2
+still_awaited {A} {sets} {front} {back} c p s {front2} {back2} d front1 back1 end low start pending pending1 pending2 within rows one two a = record {
+  long = two.long ∙ one.long ∙ a.long;
   settled = λ q less calm2.
-      let calm1 : get_or pending1 q false ≡ false = kept2 q calm2 in
-      let calm : get_or pending q false ≡ false = kept1 q calm1 in
-      let n : length sets ≡ cells T.problem = c.long in
-      let days : length layers ≡ 2 * cells T.problem = c.layered.days in
-      let rows : length front ≡ length layers + 1 = c.front_long in
-      let pend : length pending ≡ cells T.problem = a.long in
-      let pend1 : length pending1 ≡ length pending = long1 in
-      let q_low : q < low = below (cases_lt q low) (λ late. clash (get_or pending2 q false) calm2 (raised2 q late (omega (arith, less, n)) (omega (arith, less, pend, pend1)))) in
-      let side : (q < start) ⊎ (end < q) = beside q (λ from to. clash (get_or pending1 q false) calm1 (raised1 q from to (omega (arith, less, pend)))) in
-      supported_still T layers sets p s front front2 back back2 width q c d less
-      (keeps_rows (length sets) p end low start q front front1 front2 back back1 back2 within (omega (arith, n, days, rows, c.layered.some)) reach f_before f_behind f_second b_second reach2 b_before b_last (omega (arith, less, n)) q_low side)
+      let calm1 : get_or pending1 q false ≡ false = two.kept q calm2 in
+      let calm : get_or pending q false ≡ false = one.kept q calm1 in
+      let n : length sets ≡ cells A.problem = c.long in
+      let many : length front ≡ 2 * cells A.problem + 1 = c.front_long in
+      let pend : length pending ≡ cells A.problem = a.long in
+      let pend1 : length pending1 ≡ length pending = one.long in
+      let q_low : q < low = below (cases_lt q low) (λ late. clash (get_or pending2 q false) calm2 (two.raised q late (omega (arith, less, n)) (omega (arith, less, pend, pend1)))) in
+      let side : (q < start) ⊎ (end < q) = beside q (λ from to. clash (get_or pending1 q false) calm1 (one.raised q from to (omega (arith, less, pend)))) in
+      supported_still c p s d q less
+      (keeps_rows (length sets) p end low start q front front1 front2 back back1 back2 within (omega (arith, n, many, c.some)) rows (omega (arith, less, n)) q_low side)
       (a.settled q less calm);
 }
   where
@@ -97,8 +103,8 @@ still_awaited T layers sets p s front front1 front2 back back1 back2 width end l
     ]
 
 -- without symbols there is nothing to support
-pub none_awaited : (T : Listed) (sets : List (List ℕ)) (n : ℕ) (pending : List Bool) → sets ≡ replicate n [] → length pending ≡ cells T.problem → AreAwaited T sets pending
-none_awaited T sets n pending empty long = record {
+pub none_awaited : (A : RuleAutomaton) (sets : List (List ℕ)) (n : ℕ) (pending : List Bool) → sets ≡ replicate n [] → length pending ≡ cells A.problem → AreAwaited (known A sets) pending
+none_awaited A sets n pending empty long = record {
   long = long;
   settled = λ p less calm x many held none.
       let P : List (List ℕ) → Type 0 = λ v. 2 ≤ length (get_or v p []) in
@@ -111,12 +117,12 @@ none_awaited T sets n pending empty long = record {
     nothing (suc n) (suc p) h = nothing n p h
 
 -- a flag is taken down
-pub settled_more : (T : Listed) (sets : List (List ℕ)) (pending new : List Bool) (p : ℕ) → new ≡ set pending p false → AreAwaited T sets pending → IsSupportedAt (record { problem = T.problem; rules = T.rules; sets = sets }) p → AreAwaited T sets new
-settled_more T sets pending new p is a here = record {
-  long = ap length is ∙ length-set pending p false ∙ a.long;
+pub settled_more : (C : KnownCycle) (pending : List Bool) (p : ℕ) → AreAwaited C pending → IsSupportedAt C p → AreAwaited C (set pending p false)
+settled_more C pending p a here = record {
+  long = length-set pending p false ∙ a.long;
   settled = λ q less calm. elim (cases_eq q p) [
-    | inl same ↦ subst (λ k. IsSupportedAt (record { problem = T.problem; rules = T.rules; sets = sets }) k) (sym same) here
-    | inr other ↦ a.settled q less (sym (ap (λ v. get_or v q false) is ∙ get_or-set_other pending p q false false other) ∙ calm)
+    | inl same ↦ subst (λ k. IsSupportedAt C k) (sym same) here
+    | inr other ↦ a.settled q less (sym (get_or-set_other pending p q false false other) ∙ calm)
   ];
 }
 

@@ -1,13 +1,15 @@
--- Marks, and the words that lead through the layers by held symbols.
-use Rattle.std.proofs.Common.{◌≡◌, ℕ, zero, suc, ◌+◌, ◌-◌, ◌<◌, ◌≤◌, List, [], ◌∷◌, ◌++◌, length, take, drop, refl, ap, sym, ◌∙◌, subst, arith, Bool, IsTrue, Some}
+-- Marks, and the words that lead from state to state by held symbols.
+use Rattle.std.proofs.Common.{◌≡◌, ℕ, zero, suc, ◌+◌, ◌-◌, ◌*◌, ◌<◌, ◌≤◌, List, [], ◌∷◌, ◌++◌, length, refl, ap, sym, ◌∙◌, subst, arith, Bool, IsTrue, Option, Some, None}
 use Rattle.std.specs.Prelude.{◌↔◌, Contains, slice_get}
-use Rattle.std.proofs.Math.Seq.{drop-cons, drop-length}
+use Rattle.std.proofs.lemmas.List.{length-append}
 use Rattle.rwsp_terms.specs.declared.data.Symbol.{Symbol}
-use Rattle.layered_cycle.specs.declared.step.Step.{Step}
-use Rattle.layered_cycle.specs.Graph.{Leads}
-use Rattle.layered_cycle.specs.Grown.{StandsAt}
-use Rattle.kept_cycle.specs.Marks.{is_marked, row_at, layer_at, from_of, to_of, IsJoined, IsPass}
-use Rattle.layered_cycle.proofs.Ways.{step_by, LeadsTo, leads_on, last_step}
+use Rattle.rwsp_terms.specs.Instance.{cells}
+use Rattle.rule_automaton.specs.declared.step.Step.{Step}
+use Rattle.rule_automaton.specs.Moves.{Moves, move_at, after, lead}
+use Rattle.rule_automaton.specs.Automata.{RuleAutomaton, IsAutomaton}
+use Rattle.kept_cycle.specs.declared.marks.Way.TheVariants.{On, Back}
+use Rattle.kept_cycle.specs.Marks.{is_marked, row_at, has_on, IsJoined}
+use Rattle.kept_cycle.specs.KeptCycle.{IsCycle, HasJoiningStep}
 
 -- the word's symbols are held on its days, the first of which is this one
 abbrev pub Held : (ℕ → ℕ → Bool) → ℕ → List Symbol → Type 0
@@ -20,260 +22,246 @@ held_at H i j x e h = let P : ℕ → Type 0 = λ k. IsTrue (H k x) in subst P e
 held_from : (H : ℕ → ℕ → Bool) (i j : ℕ) (u : List Symbol) → i ≡ j → Held H i u → Held H j u
 held_from H i j u e h = let P : ℕ → Type 0 = λ k. Held H k u in subst P e h
 
-pub held_both : (H : ℕ → ℕ → Bool) (i : ℕ) (u v : List Symbol) → Held H i u → Held H (i + length u) v → Held H i (u ++ v)
+held_both : (H : ℕ → ℕ → Bool) (i : ℕ) (u v : List Symbol) → Held H i u → Held H (i + length u) v → Held H i (u ++ v)
 held_both H i [] v h g = let e : i + 0 ≡ i = omega arith in held_from H (i + 0) i v e g
 held_both H i (x ∷ u) v h g = let e : i + length (x ∷ u) ≡ i + 1 + length u = omega arith in (h.0, held_both H (i + 1) u v h.1 (held_from H (i + length (x ∷ u)) (i + 1 + length u) v e g))
 
-pub held_front : (H : ℕ → ℕ → Bool) (i : ℕ) (u v : List Symbol) → Held H i (u ++ v) → Held H i u
+held_front : (H : ℕ → ℕ → Bool) (i : ℕ) (u v : List Symbol) → Held H i (u ++ v) → Held H i u
 held_front H i [] v h = tt
 held_front H i (x ∷ u) v h = (h.0, held_front H (i + 1) u v h.1)
 
-pub held_back : (H : ℕ → ℕ → Bool) (i : ℕ) (u v : List Symbol) → Held H i (u ++ v) → Held H (i + length u) v
+held_back : (H : ℕ → ℕ → Bool) (i : ℕ) (u v : List Symbol) → Held H i (u ++ v) → Held H (i + length u) v
 held_back H i [] v h = let e : i ≡ i + 0 = omega arith in held_from H i (i + 0) v e h
 held_back H i (x ∷ u) v h = let e : i + 1 + length u ≡ i + length (x ∷ u) = omega arith in held_from H (i + 1 + length u) (i + length (x ∷ u)) v e (held_back H (i + 1) u v h.1)
 
-long_to : (layers : List (List Step)) (node : ℕ) (u : List Symbol) (last : ℕ) → LeadsTo layers node u last → length u ≡ length layers
-long_to [] node [] last h = refl
-long_to [] node (x ∷ u) last h = absurd h
-long_to (layer ∷ layers) node [] last h = absurd h
-long_to (layer ∷ layers) node (x ∷ u) last h = let e : length u ≡ length layers = long_to layers h.0 u last h.2 in omega arith
+-- where words lead
 
-pub leads_both : (a b : List (List Step)) (node middle : ℕ) (u v : List Symbol) → LeadsTo a node u middle → Leads b middle v → Leads (a ++ b) node (u ++ v)
-leads_both [] b node middle [] v h g = let P : ℕ → Type 0 = λ k. Leads b k v in subst P (sym h) g
-leads_both [] b node middle (x ∷ u) v h g = absurd h
-leads_both (layer ∷ a) b node middle [] v h g = absurd h
-leads_both (layer ∷ a) b node middle (x ∷ u) v h g = (h.0, h.1, leads_both a b h.0 middle u v h.2 g)
+lead_both : (m : Moves) (s : Option ℕ) (u v : List Symbol) → lead m s (u ++ v) ≡ lead m (lead m s u) v
+lead_both m s [] v = refl
+lead_both m s (x ∷ u) v = lead_both m (after m s x) u v
 
--- a way in two parts
-pub record Halves (a b : List (List Step)) (node : ℕ) (w : List Symbol) : Type 0 where
-  pub front : List Symbol
-  pub back : List Symbol
-  pub middle : ℕ
-  pub whole : w ≡ front ++ back
-  pub there : LeadsTo a node front middle
-  pub on : Leads b middle back
+lead_nowhere : (m : Moves) (u : List Symbol) → lead m None u ≡ None
+lead_nowhere m [] = refl
+lead_nowhere m (x ∷ u) = lead_nowhere m u
 
-pub halves : (a b : List (List Step)) (node : ℕ) (w : List Symbol) → Leads (a ++ b) node w → Halves a b node w
-halves [] b node w h = record { front = []; back = w; middle = node; whole = refl; there = refl; on = h }
-halves (layer ∷ a) b node [] h = absurd h
-halves (layer ∷ a) b node (x ∷ w) h =
-    let r = halves a b h.0 w h.2 in
-    record { front = x ∷ r.front; back = r.back; middle = r.middle; whole = ap (λ u. x ∷ u) r.whole; there = (h.0, h.1, r.there); on = r.on }
+-- a word that leads somewhere begins somewhere
+begins : (m : Moves) (s : Option ℕ) (u : List Symbol) (end : ℕ) → lead m s u ≡ Some end → (t : ℕ) × (s ≡ Some t)
+begins m None u end h =
+    let nowhere : Option ℕ = None in
+    let e : nowhere ≡ Some end = sym (lead_nowhere m u) ∙ h in
+    absurd (cc)
+begins m (Some t) u end h = (t, refl)
 
-take_drop : (layers : List (List Step)) (i : ℕ) → take i layers ++ drop i layers ≡ layers
-take_drop layers zero = refl
-take_drop [] (suc i) = refl
-take_drop (layer ∷ layers) (suc i) = ap (λ l. layer ∷ l) (take_drop layers i)
+ends_there : (m : Moves) (s t : ℕ) (u : List Symbol) → length u ≡ 0 → lead m (Some s) u ≡ Some t → s ≡ t
+ends_there m s t [] none h = cc
+ends_there m s t (x ∷ u) none h = absurd (omega (arith, none))
 
-long_take : (layers : List (List Step)) (i : ℕ) → i ≤ length layers → length (take i layers) ≡ i
-long_take layers zero le = refl
-long_take [] (suc i) le = absurd (omega (arith, le))
-long_take (layer ∷ layers) (suc i) le = let e : length (take i layers) ≡ i = long_take layers i (omega (arith, le)) in omega arith
+-- the symbol at a place of a word, and the states that it leads between
+record Passing (m : Moves) (start : ℕ) (w : List Symbol) (end i : ℕ) : Type 0 where
+  pub before : List Symbol
+  pub symbol : Symbol
+  pub behind : List Symbol
+  pub from : ℕ
+  pub to : ℕ
+  pub whole : w ≡ before ++ symbol ∷ behind
+  pub long : length before ≡ i
+  pub has : slice_get w i ≡ Some symbol
+  pub there : lead m (Some start) before ≡ Some from
+  pub moves : move_at m from symbol.number ≡ Some to
+  pub on : lead m (Some to) behind ≡ Some end
+
+passing : (m : Moves) (start : ℕ) (w : List Symbol) (end i : ℕ) → i < length w → lead m (Some start) w ≡ Some end → Passing m start w end i
+passing m start [] end i less h = absurd (omega (arith, less))
+passing m start (x ∷ v) end zero less h =
+    let t = begins m (move_at m start x.number) v end h in
+    let P : Option ℕ → Type 0 = λ s. lead m s v ≡ Some end in
+    record { before = []; symbol = x; behind = v; from = start; to = t.0; whole = refl; long = refl; has = refl; there = refl; moves = t.1; on = subst P t.1 h }
+passing m start (x ∷ v) end (suc i) less h =
+    let t = begins m (move_at m start x.number) v end h in
+    let P : Option ℕ → Type 0 = λ s. lead m s v ≡ Some end in
+    let r = passing m t.0 v end i (omega (arith, less)) (subst P t.1 h) in
+    let one_more : length (x ∷ r.before) ≡ suc i = (let e = r.long in omega arith) in
+    record {
+      before = x ∷ r.before;
+      symbol = r.symbol;
+      behind = r.behind;
+      from = r.from;
+      to = r.to;
+      whole = ap (λ u. x ∷ u) r.whole;
+      long = one_more;
+      has = r.has;
+      there = ap (λ s. lead m s r.before) t.1 ∙ r.there;
+      moves = r.moves;
+      on = r.on;
+    }
 
 -- some word leads here by held symbols
-pub record CameTo (H : ℕ → ℕ → Bool) (layers : List (List Step)) (i t : ℕ) : Type 0 where
+record CameTo (A : RuleAutomaton) (H : ℕ → ℕ → Bool) (i t : ℕ) : Type 0 where
   pub word : List Symbol
-  pub way : LeadsTo (take i layers) 0 word t
+  pub long : length word ≡ i
+  pub leads : lead A.moves (Some 0) word ≡ Some t
   pub held : Held H 0 word
 
 -- some word leads on to the end by held symbols
-pub record GoesOn (H : ℕ → ℕ → Bool) (layers : List (List Step)) (i k : ℕ) : Type 0 where
+pub record GoesOn (A : RuleAutomaton) (H : ℕ → ℕ → Bool) (i k : ℕ) : Type 0 where
   pub word : List Symbol
-  pub way : Leads (drop i layers) k word
+  pub long : i + length word ≡ 2 * cells A.problem
+  pub end : ℕ
+  pub leads : lead A.moves (Some k) word ≡ Some end
   pub held : Held H i word
 
--- the passes of all days
-pub record ArePasses (H : ℕ → ℕ → Bool) (layers : List (List Step)) (front back : List (List Bool)) (width : ℕ) : Type 0 where
-  pub first : (t : ℕ) → IsTrue (is_marked (row_at front 0) t) ↔ (0 ≡ t)
-  pub fronts : (i : ℕ) → i < length layers → IsPass from_of to_of (layer_at layers i) (H i) (row_at front i) (row_at front (i + 1))
-  pub last : (k : ℕ) → k < width → IsTrue (is_marked (row_at back (length layers)) k)
-  pub backs : (i : ℕ) → i < length layers → IsPass to_of from_of (layer_at layers i) (H i) (row_at back (i + 1)) (row_at back i)
-  pub fits : (i : ℕ) (s : Step) → i < length layers → Contains (layer_at layers i) s → (s.from < width) × (s.to < width)
+abbrev step_by : ℕ → Symbol → ℕ → Step
+step_by k x t = record { from = k; symbol = x; to = t }
 
-contains_stands : (layer : List Step) (k : ℕ) (s : Step) → StandsAt layer k s → Contains layer s
-contains_stands layer k s h = (k, h.0, h.1)
+-- a move is a step, and a step a move
+moves_by : {A : RuleAutomaton} (a : IsAutomaton A) (s : Step) → Contains A.steps s → move_at A.moves s.from s.symbol.number ≡ Some s.to
+moves_by a s c = (a.stepped s.from s.symbol s.to).0 c
 
--- a step that joins, and back
-joined_front : (steps : List Step) (has : ℕ → Bool) (row : List Bool) (k : ℕ) (x : Symbol) (t : ℕ) → IsTrue (is_marked row k) → IsTrue (has x.number) → Contains steps (step_by k x t) → IsJoined from_of to_of steps has row t (length steps)
-joined_front steps has row k x t marked held c = record { step = step_by k x t; place = c.0; below = c.1; stands = (c.1, c.2); marked = marked; held = held; joins = refl }
+joined_front : {A : RuleAutomaton} (a : IsAutomaton A) (has : ℕ → Bool) (row : List ℕ) (k : ℕ) (x : Symbol) (t : ℕ) → IsTrue (is_marked row k) → IsTrue (has x.number) → move_at A.moves k x.number ≡ Some t → IsJoined On A.steps has row t (length A.steps)
+joined_front a has row k x t marked held moves =
+    let c = (a.stepped k x t).1 moves in
+    record { step = record { from = k; symbol = x; to = t }; place = c.0; below = c.1; stands = (c.1, c.2); marked = marked; held = held; joins = refl }
 
-joined_back : (steps : List Step) (has : ℕ → Bool) (row : List Bool) (k : ℕ) (x : Symbol) (t : ℕ) → IsTrue (is_marked row t) → IsTrue (has x.number) → Contains steps (step_by k x t) → IsJoined to_of from_of steps has row k (length steps)
-joined_back steps has row k x t marked held c = record { step = step_by k x t; place = c.0; below = c.1; stands = (c.1, c.2); marked = marked; held = held; joins = refl }
+joined_back : {A : RuleAutomaton} (a : IsAutomaton A) (has : ℕ → Bool) (row : List ℕ) (k : ℕ) (x : Symbol) (t : ℕ) → IsTrue (is_marked row t) → IsTrue (has x.number) → move_at A.moves k x.number ≡ Some t → IsJoined Back A.steps has row k (length A.steps)
+joined_back a has row k x t marked held moves =
+    let c = (a.stepped k x t).1 moves in
+    record { step = record { from = k; symbol = x; to = t }; place = c.0; below = c.1; stands = (c.1, c.2); marked = marked; held = held; joins = refl }
 
-front_grows : (layers : List (List Step)) (i : ℕ) → i < length layers → take (suc i) layers ≡ take i layers ++ layer_at layers i ∷ []
-front_grows [] i less = absurd (omega (arith, less))
-front_grows (layer ∷ layers) zero less = refl
-front_grows (layer ∷ layers) (suc i) less = ap (λ l. layer ∷ l) (front_grows layers i (omega (arith, less)))
-
-back_grows : (layers : List (List Step)) (i : ℕ) → i < length layers → drop i layers ≡ layer_at layers i ∷ drop (i + 1) layers
-back_grows layers i less =
-    let e : suc i ≡ i + 1 = omega arith in
-    drop-cons layers i [] less ∙ ap (λ n. layer_at layers i ∷ drop n layers) e
-
-pub came : (H : ℕ → ℕ → Bool) (layers : List (List Step)) (front back : List (List Bool)) (width : ℕ) → ArePasses H layers front back width → (i t : ℕ) → i ≤ length layers → IsTrue (is_marked (row_at front i) t) ↔ CameTo H layers i t
-came H layers front back width p zero t le = (
-  λ h. record { word = []; way = (p.first t).0 h; held = tt },
-  λ c. (p.first t).1 (nowhere c.word c.way),
+-- the front marks the states to which words came
+came : {A : RuleAutomaton} {sets front back : List (List ℕ)} (c : IsCycle A sets front back) (i t : ℕ) → i ≤ 2 * cells A.problem → IsTrue (is_marked (row_at front i) t) ↔ CameTo A (has_on sets) i t
+came {A} {sets} {front} {back} c zero t le = (
+  λ h. record { word = []; long = refl; leads = ap Some ((c.first t).0 h); held = tt },
+  λ w. (c.first t).1 (ends_there A.moves 0 t w.word w.long w.leads),
 )
+came {A} {sets} {front} {back} c (suc i) t le =
+    let before : (k : ℕ) → IsTrue (is_marked (row_at front i) k) ↔ CameTo A (has_on sets) i k = λ k. came c i k (omega (arith, le)) in (
+      λ h. there before ((pass t).0 h),
+      λ w. (pass t).1 (again before w (passing A.moves 0 w.word t i (omega (arith, w.long)) w.leads)),
+    )
   where
-    nowhere : (u : List Symbol) → LeadsTo [] 0 u t → 0 ≡ t
-    nowhere [] h = h
-    nowhere (x ∷ u) h = absurd h
-came H layers front back width p (suc i) t le =
-    one_more (λ k. came H layers front back width p i k (omega (arith, le)))
-  where
-    less : i < length layers
-    less = omega (arith, le)
+    H : ℕ → ℕ → Bool
+    H = has_on sets
 
-    next : i + 1 ≡ suc i
-    next = omega arith
+    pass : (s : ℕ) → IsTrue (is_marked (row_at front (suc i)) s) ↔ IsJoined On A.steps (has_on sets i) (row_at front i) s (length A.steps)
+    pass s =
+        let next : i + 1 ≡ suc i = omega arith in
+        let P : ℕ → Type 0 = λ n. IsTrue (is_marked (row_at front n) s) ↔ IsJoined On A.steps (has_on sets i) (row_at front i) s (length A.steps) in
+        subst P next (c.fronts i (omega (arith, le)) s)
 
-    layer : List Step
-    layer = layer_at layers i
-
-    pass : (s : ℕ) → IsTrue (is_marked (row_at front (suc i)) s) ↔ IsJoined from_of to_of (layer_at layers i) (H i) (row_at front i) s (length (layer_at layers i))
-    pass = let P : ℕ → Type 0 = λ n. IsPass from_of to_of (layer_at layers i) (H i) (row_at front i) (row_at front n) in subst P next (p.fronts i less)
-
-    grown : take (suc i) layers ≡ take i layers ++ layer_at layers i ∷ []
-    grown = front_grows layers i less
-
-    long : (u : List Symbol) (k : ℕ) → LeadsTo (take i layers) 0 u k → length u ≡ i
-    long u k way = long_to (take i layers) 0 u k way ∙ long_take layers i (omega (arith, le))
-
-    there : ((k : ℕ) → IsTrue (is_marked (row_at front i) k) ↔ CameTo H layers i k) → IsJoined from_of to_of (layer_at layers i) (H i) (row_at front i) t (length (layer_at layers i)) → CameTo H layers (suc i) t
+    there : ((k : ℕ) → IsTrue (is_marked (row_at front i) k) ↔ CameTo A (has_on sets) i k) → IsJoined On A.steps (has_on sets i) (row_at front i) t (length A.steps) → CameTo A (has_on sets) (suc i) t
     there before j =
-        let c = (before j.step.from).0 j.marked in
+        let w = (before j.step.from).0 j.marked in
         let x : Symbol = j.step.symbol in
-        let P : List (List Step) → Type 0 = λ l. LeadsTo l 0 (c.word ++ x ∷ []) t in
-        let Q : ℕ → Type 0 = λ n. LeadsTo (take i layers ++ layer_at layers i ∷ []) 0 (c.word ++ x ∷ []) n in
-        let at : 0 + length c.word ≡ i = (let e : length c.word ≡ i = long c.word j.step.from c.way in omega arith) in
+        let at : 0 + length w.word ≡ i = (let e = w.long in omega arith) in
+        let moves = moves_by c.automaton j.step (j.place, j.stands.0, j.stands.1) in
         record {
-          word = c.word ++ x ∷ [];
-          way = subst P (sym grown) (subst Q j.joins (leads_on (take i layers) (layer_at layers i) 0 c.word j.step.from x j.step.to c.way (contains_stands (layer_at layers i) j.place j.step j.stands)));
-          held = held_both H 0 c.word (x ∷ []) c.held (held_at H i (0 + length c.word) x.number (sym at) j.held, tt);
+          word = w.word ++ x ∷ [];
+          long = length-append w.word (x ∷ []) ∙ (let e = w.long in omega arith);
+          leads = lead_both A.moves (Some 0) w.word (x ∷ []) ∙ ap (λ s. after A.moves s x) w.leads ∙ moves ∙ ap Some j.joins;
+          held = held_both H 0 w.word (x ∷ []) w.held (held_at H i (0 + length w.word) x.number (sym at) j.held, tt);
         }
 
-    again : ((k : ℕ) → IsTrue (is_marked (row_at front i) k) ↔ CameTo H layers i k) → CameTo H layers (suc i) t → IsJoined from_of to_of (layer_at layers i) (H i) (row_at front i) t (length (layer_at layers i))
-    again before c =
-        let P : List (List Step) → Type 0 = λ l. LeadsTo l 0 c.word t in
-        let l = last_step (take i layers) (layer_at layers i) 0 c.word t (subst P grown c.way) in
+    again : ((k : ℕ) → IsTrue (is_marked (row_at front i) k) ↔ CameTo A (has_on sets) i k) → (w : CameTo A (has_on sets) (suc i) t) → Passing A.moves 0 w.word t i → IsJoined On A.steps (has_on sets i) (row_at front i) t (length A.steps)
+    again before w r =
         let Q : List Symbol → Type 0 = λ u. Held H 0 u in
-        let held : Held H 0 (l.word ++ l.symbol ∷ []) = subst Q l.whole c.held in
-        let at : 0 + length l.word ≡ i = (let e : length l.word ≡ i = long l.word l.node_before l.way in omega arith) in
-        let here : IsTrue (H i l.symbol.number) = held_at H (0 + length l.word) i l.symbol.number at (held_back H 0 l.word (l.symbol ∷ []) held).0 in
-        joined_front (layer_at layers i) (H i) (row_at front i) l.node_before l.symbol t ((before l.node_before).1 (record { word = l.word; way = l.way; held = held_front H 0 l.word (l.symbol ∷ []) held })) here l.step
+        let held : Held H 0 (r.before ++ r.symbol ∷ r.behind) = subst Q r.whole w.held in
+        let at : 0 + length r.before ≡ i = (let e = r.long in omega arith) in
+        let here = held_at H (0 + length r.before) i r.symbol.number at (held_back H 0 r.before (r.symbol ∷ r.behind) held).0 in
+        let none : length r.behind ≡ 0 = omega (arith, w.long, r.long, ap length r.whole, length-append r.before (r.symbol ∷ r.behind)) in
+        let last : r.to ≡ t = ends_there A.moves r.to t r.behind none r.on in
+        let marked = (before r.from).1 (record { word = r.before; long = r.long; leads = r.there; held = held_front H 0 r.before (r.symbol ∷ r.behind) held }) in
+        let P : ℕ → Type 0 = λ n. IsJoined On A.steps (has_on sets i) (row_at front i) n (length A.steps) in
+        subst P last (joined_front c.automaton (has_on sets i) (row_at front i) r.from r.symbol r.to marked here r.moves)
 
-    one_more : ((k : ℕ) → IsTrue (is_marked (row_at front i) k) ↔ CameTo H layers i k) → IsTrue (is_marked (row_at front (suc i)) t) ↔ CameTo H layers (suc i) t
-    one_more before = (λ h. there before ((pass t).0 h), λ c. (pass t).1 (again before c))
-
--- the marked nodes are those from which words continue
-abbrev pub OnFrom : (ℕ → ℕ → Bool) → List (List Step) → List (List Bool) → ℕ → ℕ → Type 0
-OnFrom H layers back width i = (k : ℕ) → k < width → IsTrue (is_marked (row_at back i) k) ↔ GoesOn H layers i k
-
-on_there : (H : ℕ → ℕ → Bool) (layers : List (List Step)) (front back : List (List Bool)) (width i k : ℕ) → ArePasses H layers front back width → i < length layers → OnFrom H layers back width (i + 1)
-    → IsJoined to_of from_of (layer_at layers i) (H i) (row_at back (i + 1)) k (length (layer_at layers i)) → GoesOn H layers i k
-on_there H layers front back width i k p less behind j =
-    let c = contains_stands (layer_at layers i) j.place j.step j.stands in
-    let g = (behind j.step.to (p.fits i j.step less c).1).0 j.marked in
-    let P : List (List Step) → Type 0 = λ l. Leads l k (j.step.symbol ∷ g.word) in
-    let Q : ℕ → Type 0 = λ n. Leads (layer_at layers i ∷ drop (i + 1) layers) n (j.step.symbol ∷ g.word) in
-    record { word = j.step.symbol ∷ g.word; way = subst P (sym (back_grows layers i less)) (subst Q j.joins (j.step.to, c, g.way)); held = (j.held, g.held) }
-
-on_again : (H : ℕ → ℕ → Bool) (layers : List (List Step)) (front back : List (List Bool)) (width i k : ℕ) → ArePasses H layers front back width → i < length layers → OnFrom H layers back width (i + 1)
-    → (word : List Symbol) → Leads (layer_at layers i ∷ drop (i + 1) layers) k word → Held H i word → IsJoined to_of from_of (layer_at layers i) (H i) (row_at back (i + 1)) k (length (layer_at layers i))
-on_again H layers front back width i k p less behind [] way held = absurd way
-on_again H layers front back width i k p less behind (x ∷ v) way held =
-    let within = (p.fits i (step_by k x way.0) less way.1).1 in
-    joined_back (layer_at layers i) (H i) (row_at back (i + 1)) k x way.0 ((behind way.0 within).1 (record { word = v; way = way.2; held = held.1 })) held.0 way.1
-
-pub goes_on : (H : ℕ → ℕ → Bool) (layers : List (List Step)) (front back : List (List Bool)) (width : ℕ) → ArePasses H layers front back width → (m i : ℕ) → i + m ≡ length layers → OnFrom H layers back width i
-goes_on H layers front back width p zero i all k lt =
-    let here : i ≡ length layers = omega arith in
+-- the back marks the states from which words go on
+pub goes_on : {A : RuleAutomaton} {sets front back : List (List ℕ)} (c : IsCycle A sets front back) (m i : ℕ) → i + m ≡ 2 * cells A.problem → (k : ℕ) → k < length A.moves → IsTrue (is_marked (row_at back i) k) ↔ GoesOn A (has_on sets) i k
+goes_on {A} {sets} {front} {back} c zero i all k lt =
+    let here : i ≡ 2 * cells A.problem = omega arith in
     let P : ℕ → Type 0 = λ n. IsTrue (is_marked (row_at back n) k) in
-    let none : drop i layers ≡ [] = ap (λ n. drop n layers) here ∙ drop-length layers in
-    let Q : List (List Step) → Type 0 = λ l. Leads l k [] in (
-      λ h. record { word = []; way = subst Q (sym none) tt; held = tt },
-      λ g. subst P (sym here) (p.last k lt),
+    let none : i + 0 ≡ 2 * cells A.problem = omega arith in (
+      λ h. record { word = []; long = none; end = k; leads = refl; held = tt },
+      λ g. subst P (sym here) (c.last k lt),
     )
-goes_on H layers front back width p (suc m) i all k lt =
-    let less : i < length layers = omega (arith, all) in
-    let behind : OnFrom H layers back width (i + 1) = goes_on H layers front back width p m (i + 1) (omega (arith, all)) in
-    let P : List (List Step) → Type 0 = λ l. (word : List Symbol) → Leads l k word → Held H i word → IsJoined to_of from_of (layer_at layers i) (H i) (row_at back (i + 1)) k (length (layer_at layers i)) in
-    let again : P (drop i layers) = subst P (sym (back_grows layers i less)) (on_again H layers front back width i k p less behind) in (
-      λ h. on_there H layers front back width i k p less behind ((p.backs i less k).0 h),
-      λ g. (p.backs i less k).1 (again g.word g.way g.held),
+goes_on {A} {sets} {front} {back} c (suc m) i all k lt =
+    let behind : (t : ℕ) → t < length A.moves → IsTrue (is_marked (row_at back (i + 1)) t) ↔ GoesOn A (has_on sets) (i + 1) t = goes_on c m (i + 1) (omega (arith, all)) in (
+      λ h. there behind ((c.backs i less k).0 h),
+      λ g. (c.backs i less k).1 (again behind g.word g.end g.long g.leads g.held),
     )
+  where
+    H : ℕ → ℕ → Bool
+    H = has_on sets
 
--- a word that has the symbol at the place
-pub record WordHas (H : ℕ → ℕ → Bool) (layers : List (List Step)) (i : ℕ) (x : Symbol) : Type 0 where
+    less : i < 2 * cells A.problem
+    less = omega (arith, all)
+
+    there : ((t : ℕ) → t < length A.moves → IsTrue (is_marked (row_at back (i + 1)) t) ↔ GoesOn A (has_on sets) (i + 1) t) → IsJoined Back A.steps (has_on sets i) (row_at back (i + 1)) k (length A.steps) → GoesOn A (has_on sets) i k
+    there behind j =
+        let moves = moves_by c.automaton j.step (j.place, j.stands.0, j.stands.1) in
+        let g = (behind j.step.to (c.automaton.inside j.step.from j.step.symbol.number j.step.to moves).1).0 j.marked in
+        let long : i + length (j.step.symbol ∷ g.word) ≡ 2 * cells A.problem = (let e = g.long in omega arith) in
+        let P : ℕ → Type 0 = λ n. lead A.moves (Some n) (j.step.symbol ∷ g.word) ≡ Some g.end in
+        record { word = j.step.symbol ∷ g.word; long = long; end = g.end; leads = subst P j.joins (ap (λ s. lead A.moves s g.word) moves ∙ g.leads); held = (j.held, g.held) }
+
+    again : ((t : ℕ) → t < length A.moves → IsTrue (is_marked (row_at back (i + 1)) t) ↔ GoesOn A (has_on sets) (i + 1) t) → (w : List Symbol) (end : ℕ) → i + length w ≡ 2 * cells A.problem → lead A.moves (Some k) w ≡ Some end → Held (has_on sets) i w → IsJoined Back A.steps (has_on sets i) (row_at back (i + 1)) k (length A.steps)
+    again behind [] end long leads held = absurd (omega (arith, long, all))
+    again behind (x ∷ v) end long leads held =
+        let t = begins A.moves (move_at A.moves k x.number) v end leads in
+        let P : Option ℕ → Type 0 = λ s. lead A.moves s v ≡ Some end in
+        let rest : i + 1 + length v ≡ 2 * cells A.problem = omega (arith, long) in
+        let marked = (behind t.0 (c.automaton.inside k x.number t.0 t.1).1).1 (record { word = v; long = rest; end = end; leads = subst P t.1 leads; held = held.1 }) in
+        joined_back c.automaton (has_on sets i) (row_at back (i + 1)) k x t.0 marked held.0 t.1
+
+-- a word of two turns that has the symbol at the place
+pub record WordHas (A : RuleAutomaton) (H : ℕ → ℕ → Bool) (i : ℕ) (x : Symbol) : Type 0 where
   pub word : List Symbol
-  pub leads : Leads layers 0 word
+  pub long : length word ≡ 2 * cells A.problem
+  pub end : ℕ
+  pub leads : lead A.moves (Some 0) word ≡ Some end
   pub held : Held H 0 word
   pub has : slice_get word i ≡ Some x
-
--- a step by the symbol that joins a marked node before it and one behind
-pub record Supports (H : ℕ → ℕ → Bool) (layers : List (List Step)) (front back : List (List Bool)) (i : ℕ) (x : Symbol) : Type 0 where
-  pub step : Step
-  pub is_step : Contains (layer_at layers i) step
-  pub symbol : step.symbol ≡ x
-  pub held : IsTrue (H i x.number)
-  pub before : IsTrue (is_marked (row_at front i) step.from)
-  pub behind : IsTrue (is_marked (row_at back (i + 1)) step.to)
 
 got_behind : (u v : List Symbol) (x : Symbol) → slice_get (u ++ x ∷ v) (length u) ≡ Some x
 got_behind [] v x = refl
 got_behind (y ∷ u) v x = got_behind u v x
 
-same_got : (x y : Symbol) → Some x ≡ Some y → x ≡ y
-same_got x y e = cc
-
-pub word_has : (H : ℕ → ℕ → Bool) (layers : List (List Step)) (front back : List (List Bool)) (width : ℕ) → ArePasses H layers front back width → (i : ℕ) (x : Symbol) → i < length layers → Supports H layers front back i x → WordHas H layers i x
-word_has H layers front back width p i x less s =
-    let c = (came H layers front back width p i s.step.from (omega (arith, less))).0 s.before in
-    let within = (p.fits i s.step less s.is_step).1 in
-    let rest = length layers - (i + 1) in
-    let g = (goes_on H layers front back width p rest (i + 1) (omega (arith, less)) s.step.to within).0 s.behind in
-    let P : Symbol → Type 0 = λ y. Contains (layer_at layers i) (step_by s.step.from y s.step.to) in
-    let way : Leads (layer_at layers i ∷ drop (i + 1) layers) s.step.from (x ∷ g.word) = (s.step.to, subst P s.symbol s.is_step, g.way) in
-    let Q : List (List Step) → Type 0 = λ l. Leads l s.step.from (x ∷ g.word) in
-    let on : Leads (drop i layers) s.step.from (x ∷ g.word) = subst Q (sym (back_grows layers i less)) way in
-    let R : List (List Step) → Type 0 = λ l. Leads l 0 (c.word ++ x ∷ g.word) in
-    let long : length c.word ≡ i = long_to (take i layers) 0 c.word s.step.from c.way ∙ long_take layers i (omega (arith, less)) in
-    let at : i ≡ 0 + length c.word = omega arith in
-    let next : i + 1 ≡ 0 + length c.word + 1 = omega arith in
+-- a step that joins is one of a word
+pub word_has : {A : RuleAutomaton} {sets front back : List (List ℕ)} (c : IsCycle A sets front back) (i : ℕ) (x : Symbol) → i < 2 * cells A.problem → IsTrue (has_on sets i x.number) → HasJoiningStep A.steps x (row_at front i) (row_at back (i + 1)) → WordHas A (has_on sets) i x
+word_has {A} {sets} {front} {back} c i x less held (s, is_step, same, marked, marked_behind) =
+    let H : ℕ → ℕ → Bool = has_on sets in
+    let moves = moves_by c.automaton s is_step in
+    let u = (came c i s.from (omega (arith, less))).0 marked in
+    let within = (c.automaton.inside s.from s.symbol.number s.to moves).1 in
+    let v = (goes_on c (2 * cells A.problem - (i + 1)) (i + 1) (omega (arith, less)) s.to within).0 marked_behind in
+    let at : i ≡ 0 + length u.word = (let e = u.long in omega arith) in
+    let next : i + 1 ≡ 0 + length u.word + 1 = (let e = u.long in omega arith) in
+    let by_x : move_at A.moves s.from x.number ≡ Some s.to = ap (λ (y : Symbol). move_at A.moves s.from y.number) (sym same) ∙ moves in
     record {
-      word = c.word ++ x ∷ g.word;
-      leads = subst R (take_drop layers i) (leads_both (take i layers) (drop i layers) 0 s.step.from c.word (x ∷ g.word) c.way on);
-      held = held_both H 0 c.word (x ∷ g.word) c.held (held_at H i (0 + length c.word) x.number at s.held, held_from H (i + 1) (0 + length c.word + 1) g.word next g.held);
-      has = ap (slice_get (c.word ++ x ∷ g.word)) (sym long) ∙ got_behind c.word g.word x;
+      word = u.word ++ x ∷ v.word;
+      long = length-append u.word (x ∷ v.word) ∙ (let e = u.long in let f = v.long in omega arith);
+      end = v.end;
+      leads = lead_both A.moves (Some 0) u.word (x ∷ v.word) ∙ ap (λ o. lead A.moves o (x ∷ v.word)) u.leads ∙ ap (λ o. lead A.moves o v.word) by_x ∙ v.leads;
+      held = held_both H 0 u.word (x ∷ v.word) u.held (held_at H i (0 + length u.word) x.number at held, held_from H (i + 1) (0 + length u.word + 1) v.word next v.held);
+      has = ap (slice_get (u.word ++ x ∷ v.word)) (sym u.long) ∙ got_behind u.word v.word x;
     }
 
-supports_by : (H : ℕ → ℕ → Bool) (layers : List (List Step)) (front back : List (List Bool)) (width : ℕ) → ArePasses H layers front back width → (i : ℕ) (x : Symbol) → i < length layers → (u v : List Symbol) (middle : ℕ) → length u ≡ i → LeadsTo (take i layers) 0 u middle → Leads (layer_at layers i ∷ drop (i + 1) layers) middle v → Held H 0 (u ++ v) → slice_get (u ++ v) i ≡ Some x → Supports H layers front back i x
-supports_by H layers front back width p i x less u [] middle long there on held has = absurd on
-supports_by H layers front back width p i x less u (y ∷ v) middle long there on held has =
-    let same : y ≡ x = same_got y x (sym (got_behind u v y) ∙ ap (slice_get (u ++ y ∷ v)) long ∙ has) in
-    let at : 0 + length u ≡ i = omega arith in
-    let later = held_back H 0 u (y ∷ v) held in
-    let here : IsTrue (H i y.number) = held_at H (0 + length u) i y.number at later.0 in
-    let next : 0 + length u + 1 ≡ i + 1 = omega arith in
-    let within = (p.fits i (step_by middle y on.0) less on.1).1 in
-    let P : Symbol → Type 0 = λ z. IsTrue (H i z.number) in
-    let rest = length layers - (i + 1) in
-    record {
-      step = step_by middle y on.0;
-      is_step = on.1;
-      symbol = same;
-      held = subst P same here;
-      before = (came H layers front back width p i middle (omega (arith, less))).1 (record { word = u; way = there; held = held_front H 0 u (y ∷ v) held });
-      behind = (goes_on H layers front back width p rest (i + 1) (omega (arith, less)) on.0 within).1 (record { word = v; way = on.2; held = held_from H (0 + length u + 1) (i + 1) v next later.1 });
-    }
-
-pub has_support : (H : ℕ → ℕ → Bool) (layers : List (List Step)) (front back : List (List Bool)) (width : ℕ) → ArePasses H layers front back width → (i : ℕ) (x : Symbol) → i < length layers → WordHas H layers i x → Supports H layers front back i x
-has_support H layers front back width p i x less w =
-    let P : List (List Step) → Type 0 = λ l. Leads l 0 w.word in
-    let h = halves (take i layers) (drop i layers) 0 w.word (subst P (sym (take_drop layers i)) w.leads) in
-    let Q : List (List Step) → Type 0 = λ l. Leads l h.middle h.back in
-    let R : List Symbol → Type 0 = λ u. Held H 0 u in
-    let S : List Symbol → Type 0 = λ u. slice_get u i ≡ Some x in
-    let long : length h.front ≡ i = long_to (take i layers) 0 h.front h.middle h.there ∙ long_take layers i (omega (arith, less)) in
-    supports_by H layers front back width p i x less h.front h.back h.middle long h.there (subst Q (back_grows layers i less) h.on) (subst R h.whole w.held) (subst S h.whole w.has)
+-- the step of a word joins
+pub has_support : {A : RuleAutomaton} {sets front back : List (List ℕ)} (c : IsCycle A sets front back) (i : ℕ) (x : Symbol) → i < 2 * cells A.problem → WordHas A (has_on sets) i x → IsTrue (has_on sets i x.number) × HasJoiningStep A.steps x (row_at front i) (row_at back (i + 1))
+has_support {A} {sets} {front} {back} c i x less w =
+    let H : ℕ → ℕ → Bool = has_on sets in
+    let r = passing A.moves 0 w.word w.end i (omega (arith, less, w.long)) w.leads in
+    let same : r.symbol ≡ x = same_got r.symbol x (sym r.has ∙ w.has) in
+    let Q : List Symbol → Type 0 = λ u. Held H 0 u in
+    let held : Held H 0 (r.before ++ r.symbol ∷ r.behind) = subst Q r.whole w.held in
+    let at : 0 + length r.before ≡ i = (let e = r.long in omega arith) in
+    let next : 0 + length r.before + 1 ≡ i + 1 = (let e = r.long in omega arith) in
+    let later = held_back H 0 r.before (r.symbol ∷ r.behind) held in
+    let here = held_at H (0 + length r.before) i r.symbol.number at later.0 in
+    let within = (c.automaton.inside r.from r.symbol.number r.to r.moves).1 in
+    let rest : i + 1 + length r.behind ≡ 2 * cells A.problem = omega (arith, w.long, r.long, ap length r.whole, length-append r.before (r.symbol ∷ r.behind)) in
+    let before = (came c i r.from (omega (arith, less))).1 (record { word = r.before; long = r.long; leads = r.there; held = held_front H 0 r.before (r.symbol ∷ r.behind) held }) in
+    let behind = (goes_on c (2 * cells A.problem - (i + 1)) (i + 1) (omega (arith, less)) r.to within).1 (record { word = r.behind; long = rest; end = w.end; leads = r.on; held = held_from H (0 + length r.before + 1) (i + 1) r.behind next later.1 }) in
+    let P : Symbol → Type 0 = λ z. IsTrue (has_on sets i z.number) in
+    (subst P same here, (step_by r.from r.symbol r.to, (c.automaton.stepped r.from r.symbol r.to).1 r.moves, same, before, behind))
+  where
+    same_got : (y z : Symbol) → Some y ≡ Some z → y ≡ z
+    same_got y z e = cc

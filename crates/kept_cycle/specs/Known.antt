@@ -6,6 +6,7 @@ use Rattle.refutation_terms.specs.Word.{Domains}
 use Rattle.refutation_terms.specs.Sharp.{NoWordHas}
 use Rattle.domain_store.specs.Sets.{has_symbol}
 use Rattle.domain_store.specs.Store.{Store, BelongsTo, domain_at}
+use Rattle.rule_automaton.specs.Automata.{RuleAutomaton}
 
 pub record KnownCycle : Type 0 where
   pub problem : Instance
@@ -13,6 +14,10 @@ pub record KnownCycle : Type 0 where
   pub rules : List ℕ
   -- for each position the ascending numbers of the symbols of its domain
   pub sets : List (List ℕ)
+
+-- the cycle of an automaton and these domains
+abbrev pub known : RuleAutomaton → List (List ℕ) → KnownCycle
+known A sets = record { problem = A.problem; rules = A.rules; sets = sets }
 
 -- whether the known domain of the position has the symbol
 abbrev pub knows_symbol : KnownCycle → Domains

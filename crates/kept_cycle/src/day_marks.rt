@@ -1,17 +1,17 @@
-// Marks for all days of a word.
+// Sets of states for all places between days.
 ghost use Rattle.std.specs.Prelude.{◌≡◌, ◌≢◌, ◌↔◌, ℕ, ◌+◌, ◌*◌, ◌<◌, ◌≤◌, false, true, length, replicate, slice_set, IfOk, IsTrue};
 ghost use Rattle.domain_store.specs.Sets.{has_symbol};
-ghost use Rattle.kept_cycle.specs.Marks.{row_at, from_of, to_of, IsWide, IsPass, MendsFront, MendsBack, FitsInto, AllFitInto};
+ghost use Rattle.kept_cycle.specs.Marks.{row_at, IsWide, IsPass, MendsFront, MendsBack, FitsInto};
 
-use crate::marks::Marks;
+use crate::marks::{Marks, Way};
 use domain_store::SymbolSet;
-use layered_cycle::Layer;
+use rule_automaton::Step;
 use rwsp_terms::limits::MOST_CELLS;
 use std::alloc::{AllocError, Global};
 use std::marker::Model;
 use std::mem;
 
-// For each day of a word, and for its end, which nodes are marked; with room for one row more.
+// For each day, and for the end of the last, which states are marked; with room for one row more.
 #[derive(Drop)]
 pub struct DayMarks {
     rows: Vec<Marks>,
@@ -19,10 +19,10 @@ pub struct DayMarks {
 }
 
 impl Model for DayMarks {
-    ghost use Rattle.std.specs.Prelude.{List, Bool, length};
+    ghost use Rattle.std.specs.Prelude.{List, ℕ, length};
     ghost use Rattle.kept_cycle.specs.Marks.{IsWide};
 
-    ghost Value = { List (List Bool) };
+    ghost Value = { List (List ℕ) };
 
     ghost view = { λ d. d.rows.items };
 
@@ -30,15 +30,15 @@ impl Model for DayMarks {
 }
 
 impl DayMarks {
-    // No node is marked on any of `days` days.
+    // No state is marked on any of `days` days. Each row has so many words.
     #[tactic(auto, using(std::proofs::lemmas::List::replicate_more))]
-    pub fn none(alloc: Global, days: usize, nodes: usize) -> Result<DayMarks, AllocError>
-        ensures { IfOk result (λ rows. rows ≡ replicate days (replicate nodes false)) }
+    pub fn none(alloc: Global, days: usize, words: usize) -> Result<DayMarks, AllocError>
+        ensures { IfOk result (λ rows. rows ≡ replicate days (replicate words 0)) }
     {
-        let spare = Marks::of(alloc, nodes, false)?;
+        let spare = Marks::none(alloc, words)?;
         let mut rows = Vec::with_capacity(alloc, days)?;
         for _ in 0..days {
-            rows.push(Marks::of(alloc, nodes, false)?)?;
+            rows.push(Marks::none(alloc, words)?)?;
         }
         Ok(DayMarks { rows, spare })
     }
@@ -60,53 +60,39 @@ impl DayMarks {
         self.rows[day] = row;
     }
 
-    // Marks what is behind a day by its symbols. Whether that has changed the marks there.
-    fn go_on(&mut self, layer: &Layer, set: &SymbolSet, day: usize) -> bool
-        requires day { day + 1 < length self.old }
-        requires wide { (width : ℕ) × IsWide self.old width × FitsInto width layer.now }
-        ensures step { IsPass from_of to_of layer.now (has_symbol set.now) (row_at self.new day)
-            (row_at self.new (day + 1)) }
-        ensures others { (i : ℕ) → i ≢ day + 1 → row_at self.new i ≡ row_at self.old i }
+    // Marks in one row what leads there this way from another, by the symbols of the set. Whether that has changed the
+    // marks there.
+    fn renew(
+        &mut self,
+        steps: &[Step],
+        set: &SymbolSet,
+        way: Way,
+        here: usize,
+        there: usize,
+    ) -> bool
+        requires apart { (here < length self.old) × (there < length self.old) × (here ≢ there) }
+        requires wide { (width : ℕ) × IsWide self.old width × FitsInto width steps.now }
+        ensures step { IsPass way steps.now (has_symbol set.now) (row_at self.new here) (row_at self.new there) }
+        ensures others { (i : ℕ) → i ≢ there → row_at self.new i ≡ row_at self.old i }
         ensures unchanged { result ≡ false → self.new ≡ self.old }
         ensures long { length self.new ≡ length self.old }
         ensures wide { (width : ℕ) → IsWide self.old width → IsWide self.new width }
     {
-        self.spare.put_behind(layer.steps(), set, &self.rows[day]);
-        if self.spare.is_same(&self.rows[day + 1]) {
+        self.spare.put_behind(steps, set, way, &self.rows[here]);
+        if self.spare.is_same(&self.rows[there]) {
             return false;
         }
-        mem::swap(&mut self.spare, &mut self.rows[day + 1]);
-        true
-    }
-
-    // Marks what leads on from a day by its symbols. Whether that has changed the marks there.
-    fn go_back(&mut self, layer: &Layer, set: &SymbolSet, day: usize) -> bool
-        requires day { day + 1 < length self.old }
-        requires wide { (width : ℕ) × IsWide self.old width × FitsInto width layer.now }
-        ensures step { IsPass to_of from_of layer.now (has_symbol set.now) (row_at self.new (day + 1))
-            (row_at self.new day) }
-        ensures others { (i : ℕ) → i ≢ day → row_at self.new i ≡ row_at self.old i }
-        ensures unchanged { result ≡ false → self.new ≡ self.old }
-        ensures long { length self.new ≡ length self.old }
-        ensures wide { (width : ℕ) → IsWide self.old width → IsWide self.new width }
-    {
-        self.spare
-            .put_before(layer.steps(), set, &self.rows[day + 1]);
-        if self.spare.is_same(&self.rows[day]) {
-            return false;
-        }
-        mem::swap(&mut self.spare, &mut self.rows[day]);
+        mem::swap(&mut self.spare, &mut self.rows[there]);
         true
     }
 
     // Mends the steps behind a day whose domain has changed, until a day keeps its marks: all further ones depend on
     // these alone. Gives the last day whose marks may be others now.
-    pub fn mend_front(&mut self, layers: &[Layer], sets: &[SymbolSet], day: usize) -> usize
+    pub fn mend_front(&mut self, steps: &[Step], sets: &[SymbolSet], day: usize) -> usize
         requires some { 0 < length sets.now }
         requires day { day + 1 < length self.old }
-        requires wide { (width : ℕ) × IsWide self.old width × AllFitInto width layers.now }
-        requires long { length self.old ≡ length layers.now + 1 }
-        ensures steps { MendsFront layers.now sets.now day self.old self.new }
+        requires wide { (width : ℕ) × IsWide self.old width × FitsInto width steps.now }
+        ensures steps { MendsFront steps.now sets.now day self.old self.new }
         ensures first { row_at self.new 0 ≡ row_at self.old 0 }
         ensures reach { (day ≤ result) × (result < length self.old) }
         ensures before { (i : ℕ) → i ≤ day → row_at self.new i ≡ row_at self.old i }
@@ -115,7 +101,7 @@ impl DayMarks {
         ensures wide { (width : ℕ) → IsWide self.old width → IsWide self.new width }
     {
         for i in day..self.rows.len() - 1 {
-            if !self.go_on(&layers[i], &sets[i % sets.len()], i) {
+            if !self.renew(steps, &sets[i % sets.len()], Way::On, i, i + 1) {
                 return i;
             }
         }
@@ -124,13 +110,12 @@ impl DayMarks {
 
     // Mends the steps before a day whose domain has changed, back until a day keeps its marks. Gives that day: behind
     // it the marks may be others now.
-    pub fn mend_back(&mut self, layers: &[Layer], sets: &[SymbolSet], day: usize) -> usize
+    pub fn mend_back(&mut self, steps: &[Step], sets: &[SymbolSet], day: usize) -> usize
         requires some { 0 < length sets.now }
         requires day { day + 1 < length self.old }
         requires few { length self.old ≤ 2 * MOST_CELLS + 1 }
-        requires wide { (width : ℕ) × IsWide self.old width × AllFitInto width layers.now }
-        requires long { length self.old ≡ length layers.now + 1 }
-        ensures steps { MendsBack layers.now sets.now day self.old self.new }
+        requires wide { (width : ℕ) × IsWide self.old width × FitsInto width steps.now }
+        ensures steps { MendsBack steps.now sets.now day self.old self.new }
         ensures last { (i : ℕ) → day < i → row_at self.new i ≡ row_at self.old i }
         ensures reach { result ≤ day }
         ensures before { (i : ℕ) → i < result → row_at self.new (i + 1) ≡ row_at self.old (i + 1) }
@@ -140,7 +125,7 @@ impl DayMarks {
         let mut i = day + 1;
         while 0 < i {
             i -= 1;
-            if !self.go_back(&layers[i], &sets[i % sets.len()], i) {
+            if !self.renew(steps, &sets[i % sets.len()], Way::Back, i + 1, i) {
                 return i;
             }
         }

@@ -1,12 +1,11 @@
-//! The clean words of two turns round the cycle, kept while domains change: layers that are made once, and marks of
-//! what the domains leave of them.
+//! The clean words of two turns round the cycle, kept while domains change: the automaton of their rules, and for each
+//! place between days which of its states the domains leave.
 #![tactic(auto)]
 
 mod cycle;
 mod cycle_cut;
-mod cycle_prop;
 mod day_marks;
 mod marks;
 
 pub use cycle::Cycle;
-pub use cycle_prop::CycleProp;
+pub use cycle_cut::first_unsupported;

@@ -15,6 +15,8 @@ mod roster_checker_tests;
 #[cfg(test)]
 mod roster_print_tests;
 #[cfg(test)]
+mod rule_automaton_tests;
+#[cfg(test)]
 mod rwsp_file_tests;
 #[cfg(test)]
 mod rwsp_io_tests;

@@ -53,7 +53,7 @@ fn lines_end_in(block: &[u8], size: usize) -> usize
 // Where the block ends that begins at a place: behind its last byte, or at the end.
 fn block_end(long: usize, at: usize) -> usize
     requires { at < long }
-    ensures { (at < result) × (result ≤ long) × (result ≤ at + 240) }
+    ensures { (at < result) × (result ≤ long) × (result ≤ at + BLOCK) }
 {
     if long - at <= BLOCK { long } else { at + BLOCK }
 }
@@ -91,7 +91,7 @@ fn count_feeds(bytes: &[u8]) -> usize
 // Adds without a branch, so that many bytes are counted at once.
 #[tactic(auto, using(crate::proofs::Feeds::fed_or_not, crate::proofs::Feeds::fed_in_all))]
 fn feeds_in_block(block: &[u8]) -> u8
-    requires { length block.now ≤ 240 }
+    requires { length block.now ≤ BLOCK }
     ensures value { result ≡ feeds block.now }
     ensures few { result ≤ length block.now }
 {

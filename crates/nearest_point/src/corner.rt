@@ -1,6 +1,7 @@
 // Vectors of whole numbers, and the pair of them between which a part of a mix is best moved.
 ghost use Rattle.std.specs.Prelude.{◌≡◌, ◌<◌, ◌≤◌, length, slice_index, IfSome};
 
+use crate::squares::Squares;
 use std::marker::Model;
 
 // Whole numbers, one for each coordinate. Further coordinates are 0.
@@ -45,16 +46,6 @@ pub fn product(a: &[i64], b: &[i64]) -> i64 {
     sum
 }
 
-// The square of the distance.
-pub fn square_distance(a: &[i64], b: &[i64]) -> u64 {
-    let mut sum: u64 = 0;
-    for i in 0..a.len().max(b.len()) {
-        let apart = entry(a, i).wrapping_sub(entry(b, i)).unsigned_abs();
-        sum = sum.saturating_add(apart.saturating_mul(apart));
-    }
-    sum
-}
-
 // A part to be moved from one vector to another.
 #[derive(Clone, Copy, Drop)]
 pub struct Move {
@@ -89,8 +80,13 @@ fn gain(more: u64, square: u64) -> (u128, u64) {
 }
 
 // The move to the vector that pulls most which brings the mix nearest; from those that have no part there is none.
-// Cost: for each vector with a part, a pass over its coordinates.
-pub fn best_move(vectors: &[Vector], parts: &[u32], pulls: &[i64]) -> Option<Move>
+// Cost: a look at each vector.
+pub fn best_move(
+    vectors: &[Vector],
+    squares: &Squares,
+    parts: &[u32],
+    pulls: &[i64],
+) -> Option<Move>
     requires { length vectors.now ≡ length parts.now }
     ensures gaining { IfSome result (λ m. m.gaining < length vectors.now) }
     ensures losing { IfSome result (λ m. m.losing < length vectors.now) }
@@ -107,7 +103,7 @@ pub fn best_move(vectors: &[Vector], parts: &[u32], pulls: &[i64]) -> Option<Mov
             continue;
         }
         let more = entry(pulls, gaining).saturating_sub(entry(pulls, losing));
-        let square = square_distance(vectors[gaining].entries(), vectors[losing].entries());
+        let square = squares.between(gaining, losing);
         let (taken_off, useful) = gain(more.unsigned_abs(), square);
         let amount = useful.min(u64::from(*part)) as u32;
         if amount > 0 && taken_off > most {

@@ -3,6 +3,7 @@ ghost use Rattle.std.specs.Prelude.{◌≡◌, ℕ, ◌+◌, ◌<◌, ◌≤◌,
 ghost use Rattle.nearest_point.specs.Hull.{first_part};
 
 use crate::corner::{Move, Vector, best_move, entry, product};
+use crate::squares::Squares;
 use std::alloc::{AllocError, Global};
 use std::marker::Model;
 
@@ -22,6 +23,7 @@ pub struct Hull {
     low: Vec<i64>,
     high: Vec<i64>,
     vectors: Vec<Vector>,
+    squares: Squares,
     parts: Vec<u32>,
     mix: Vec<i64>,
     // What leads from the mix to the nearest point of the box.
@@ -54,6 +56,7 @@ impl Hull {
             low,
             high,
             vectors: Vec::new(alloc),
+            squares: Squares::new(alloc),
             parts: Vec::new(alloc),
             mix,
             off,
@@ -114,6 +117,7 @@ impl Hull {
         ensures parts { OnOk result (self.new.parts ≡ self.old.parts ++ part ∷ []) }
         ensures kept { OnErr result (self.new ≡ self.old) }
     {
+        self.squares.put(&self.vectors, &vector)?;
         self.pulls.push(0)?;
         self.parts.push(part)?;
         add(&mut self.mix, &vector, part);
@@ -144,7 +148,7 @@ impl Hull {
         ensures count { length self.new.parts ≡ length self.old.parts }
     {
         measure(&mut self.pulls, &self.vectors, &self.off);
-        let Some(best) = best_move(&self.vectors, &self.parts, &self.pulls) else {
+        let Some(best) = best_move(&self.vectors, &self.squares, &self.parts, &self.pulls) else {
             return false;
         };
         move_part(&mut self.parts, best);
@@ -161,6 +165,7 @@ impl Hull {
         ensures kept { IfNone result (self.new ≡ self.old) }
     {
         let k = first_unused(&self.parts)?;
+        self.squares.take_out(k);
         self.vectors.remove(k);
         self.parts.remove(k);
         Some(k)

@@ -3,5 +3,6 @@
 
 mod corner;
 mod hull;
+mod squares;
 
 pub use hull::{Hull, SCALE};

@@ -45,7 +45,8 @@ pub struct Demand {
 }
 
 impl Demand {
-    pub fn of(alloc: Global, problem: &Problem) -> Result<Demand, AllocError> {
+    // That of the problem, and with a goal a least number of free weekends.
+    pub fn of(alloc: Global, problem: &Problem, goal: Option<u32>) -> Result<Demand, AllocError> {
         let mut low = Vec::new(alloc);
         let mut high = Vec::new(alloc);
         for i in 0..problem.days() {
@@ -55,15 +56,10 @@ impl Demand {
                 high.push(i64::from(problem.demand_greatest(x, i + 1)))?;
             }
         }
-        Ok(Demand { low, high })
-    }
-
-    // The same with a least number of free weekends.
-    pub fn with_goal(&self, problem: &Problem, goal: u32) -> Result<Demand, AllocError> {
-        let mut low = self.low.clone()?;
-        let mut high = self.high.clone()?;
-        low.push(i64::from(goal))?;
-        high.push(i64::from(problem.weeks().max(goal)))?;
+        if let Some(goal) = goal {
+            low.push(i64::from(goal))?;
+            high.push(i64::from(problem.weeks().max(goal)))?;
+        }
         Ok(Demand { low, high })
     }
 

@@ -1,78 +1,66 @@
 // A bound leaf or a free leaf, after an exact test.
-ghost use Rattle.std.specs.Prelude.{◌≡◌, ◌*◌, ◌<◌, ◌≤◌, ◌+◌, IfOk, IfSome, OnOk, None, pos, neg_ℤ, ◌≤ℤ◌};
+ghost use Rattle.std.specs.Prelude.{◌*◌, ◌≤◌, ◌+◌, ◌≡◌, IfOk, IfSome, OnOk, Some, None, pos, neg_ℤ, ◌≤ℤ◌};
 ghost use Rattle.rwsp_terms.specs.Instance.{cells, IsDay};
-ghost use Rattle.rwsp_terms.specs.Rules.{NamesShortOnly};
-ghost use Rattle.rwsp_terms.specs.declared.limits.TheConstants.{GREATEST_REWARD};
-ghost use Rattle.refutation_terms.specs.Log.{AreRules, AreWeightsOf, GoalFits};
-ghost use Rattle.domain_store.specs.Store.{BelongsTo, has_domain};
-ghost use Rattle.propagator_terms.specs.Leaves.{IsHoldingLeafFor};
-ghost use Rattle.nearest_weights.specs.Found.{IsHoldingFreeLeaf, IsHoldingLeaf};
+ghost use Rattle.rwsp_terms.specs.declared.limits.TheConstants.{GREATEST_REWARD, LONGEST_WORD};
+ghost use Rattle.refutation_terms.specs.Log.{AreWeightsOf};
+ghost use Rattle.nearest_weights.specs.Fields.{IsField, IsLeafIn};
 
 use crate::demand::Shape;
-use domain_store::Domains;
-use potential_bounds::{bound_escape, free_escape};
+use crate::field::Field;
+use potential_bounds::{FreeClaim, bound_escape, free_escape};
 use refutation_terms::Line;
 use rwsp_model::Problem;
 use rwsp_terms::limits::{GREATEST_REWARD, GREATEST_WEIGHT, LONGEST_WORD};
 use rwsp_terms::{Symbol, Weights};
 use std::alloc::{AllocError, Global};
-use word_tail::TailRules;
 
-// The leaf of these weights, one for each coordinate, where it holds: a bound leaf, or a free leaf of a log with this
-// goal.
+// The leaf of these weights, one for each coordinate, where it holds: a bound leaf, or a free leaf of a log with the
+// field's goal.
 pub fn leaf_of(
     alloc: Global,
-    problem: &Problem,
-    tails: &TailRules,
-    doms: &Domains,
-    goal: Option<u32>,
-    p: u32,
+    field: &Field<'_>,
     turns: u32,
     weights: &[i64],
 ) -> Result<Option<Line>, AllocError>
-    requires same { tails.now.problem ≡ problem.now }
-    requires rules { AreRules problem.now tails.now.rules }
-    requires short { NamesShortOnly problem.now tails.now.rules }
-    requires belongs { BelongsTo problem.now doms.now }
-    requires goal { GoalFits problem.now None goal }
-    requires position { p < cells problem.now }
+    requires field { IsField field.now }
     requires some { 1 ≤ turns }
-    requires few { turns * cells problem.now ≤ LONGEST_WORD }
-    ensures { IfOk result (λ found. IfSome found (IsHoldingLeafFor problem.now goal (has_domain doms.now))) }
+    requires few { turns * cells field.now.automaton.now.problem ≤ LONGEST_WORD }
+    ensures { IfOk result (λ found. IfSome found (IsLeafIn field.now)) }
 {
-    match goal {
-        Some(goal) => free_leaf_of(alloc, problem, tails, doms, goal, turns, weights),
-        None => bound_leaf_of(alloc, problem, tails, doms, p, turns, weights),
+    match field.goal {
+        Some(goal) => free_leaf_of(alloc, field, goal, turns, weights),
+        None => bound_leaf_of(alloc, field, turns, weights),
     }
 }
 
 // The free leaf of these weights, where it holds. The weight behind those of days and symbols is the reward.
 fn free_leaf_of(
     alloc: Global,
-    problem: &Problem,
-    tails: &TailRules,
-    doms: &Domains,
+    field: &Field<'_>,
     goal: u32,
     turns: u32,
     weights: &[i64],
 ) -> Result<Option<Line>, AllocError>
-    requires same { tails.now.problem ≡ problem.now }
-    requires rules { AreRules problem.now tails.now.rules }
-    requires short { NamesShortOnly problem.now tails.now.rules }
-    requires belongs { BelongsTo problem.now doms.now }
-    requires week { problem.now.days ≡ 7 }
-    requires goal { goal ≤ problem.now.weeks + 1 }
+    requires field { IsField field.now }
+    requires goal { field.now.goal ≡ Some goal }
     requires some { 1 ≤ turns }
-    requires few { turns * cells problem.now ≤ LONGEST_WORD }
-    ensures { IfOk result (λ found. IfSome found (IsHoldingFreeLeaf problem.now goal (has_domain doms.now))) }
+    requires few { turns * cells field.now.automaton.now.problem ≤ LONGEST_WORD }
+    ensures { IfOk result (λ found. IfSome found (IsLeafIn field.now)) }
 {
+    let problem = field.automaton.problem();
     problem.prove_limits();
     let reward = reward_of(problem, weights);
     let weights = weights_of(alloc, problem, weights)?;
-    if let Some(_) = free_escape(alloc, problem, tails, doms, goal, turns, reward, &weights)? {
+    let claim = FreeClaim {
+        goal,
+        turns,
+        reward,
+        weights: &weights,
+    };
+    if let Some(_) = free_escape(alloc, field.automaton, field.doms, claim)? {
         return Ok(None);
     }
-    let rules = tails.rules().copy()?;
+    let rules = field.automaton.rules().copy()?;
     Ok(Some(Line::Free {
         turns,
         reward,
@@ -94,28 +82,24 @@ fn reward_of(problem: &Problem, weights: &[i64]) -> u32
 // The bound leaf of these weights, one for each coordinate, where it holds.
 fn bound_leaf_of(
     alloc: Global,
-    problem: &Problem,
-    tails: &TailRules,
-    doms: &Domains,
-    p: u32,
+    field: &Field<'_>,
     turns: u32,
     weights: &[i64],
 ) -> Result<Option<Line>, AllocError>
-    requires same { tails.now.problem ≡ problem.now }
-    requires rules { AreRules problem.now tails.now.rules }
-    requires short { NamesShortOnly problem.now tails.now.rules }
-    requires belongs { BelongsTo problem.now doms.now }
-    requires position { p < cells problem.now }
+    requires field { IsField field.now }
+    requires goal { field.now.goal ≡ None }
     requires some { 1 ≤ turns }
-    requires few { turns * cells problem.now ≤ LONGEST_WORD }
-    ensures { IfOk result (λ found. IfSome found (IsHoldingLeaf problem.now (has_domain doms.now))) }
+    requires few { turns * cells field.now.automaton.now.problem ≤ LONGEST_WORD }
+    ensures { IfOk result (λ found. IfSome found (IsLeafIn field.now)) }
 {
+    let problem = field.automaton.problem();
     problem.prove_limits();
+    let p = field.place.position;
     let weights = weights_of(alloc, problem, weights)?;
-    if let Some(_) = bound_escape(alloc, problem, tails, doms, p, turns, &weights)? {
+    if let Some(_) = bound_escape(alloc, field.automaton, field.doms, p, turns, &weights)? {
         return Ok(None);
     }
-    let rules = tails.rules().copy()?;
+    let rules = field.automaton.rules().copy()?;
     Ok(Some(Line::Bound {
         p,
         turns,

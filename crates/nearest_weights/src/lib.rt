@@ -3,11 +3,11 @@
 
 mod closing;
 mod demand;
+mod field;
 mod leaf;
 mod nearest_weights;
 mod search;
 mod small;
 mod sweep;
-mod words;
 
 pub use nearest_weights::NearestWeights;

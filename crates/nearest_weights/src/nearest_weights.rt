@@ -1,34 +1,39 @@
-// Bound leaves by nearest points.
-ghost use Rattle.std.specs.Prelude.{◌≡◌, ◌*◌, ◌≤◌, ◌<◌, length, IfOk, IfSome, None};
+// Leaves by nearest points.
+ghost use Rattle.std.specs.Prelude.{◌≡◌, ◌*◌, ◌≤◌, ◌<◌, ◌+◌, IfOk, IfSome, Option, None};
 ghost use Rattle.rwsp_terms.specs.Instance.{cells};
+ghost use Rattle.rwsp_terms.specs.declared.limits.TheConstants.{LONGEST_WORD};
+ghost use Rattle.refutation_terms.specs.Log.{GoalFits};
 ghost use Rattle.domain_store.specs.Store.{BelongsTo, has_domain};
-ghost use Rattle.nearest_weights.specs.Found.{HasRules};
+ghost use Rattle.propagator_terms.specs.Cycles.{AreShortRules};
+ghost use Rattle.propagator_terms.specs.Leaves.{IsHoldingLeafFor};
 
 use crate::closing::found_leaf;
 use crate::demand::{Demand, Shape};
-use crate::search::{Effort, Field, Turns};
-use crate::sweep::{MOST_CHOICES, Place};
-use crate::words::Words;
+use crate::field::Field;
+use crate::search::Effort;
+use crate::sweep::Place;
 use domain_store::Domains;
 use refutation_terms::Line;
-use rwsp_model::{Problem, short_rules};
+use rule_automaton::Automaton;
+use rwsp_model::Problem;
 use rwsp_terms::limits::LONGEST_WORD;
 use std::alloc::{AllocError, Global};
 use std::marker::Model;
-use word_tail::TailRules;
-
-const AT_TOP: Effort = Effort {
-    rounds: 200,
-    steps: 300,
-};
-
-const WITHIN: Effort = Effort {
-    rounds: 40,
-    steps: 60,
-};
 
 // Words at the top have about this many days: the longer a word, the less its free ends weigh in.
 const DAYS_AT_TOP: u32 = 1500;
+
+const ROUNDS_AT_TOP: u32 = 200;
+
+const STEPS_AT_TOP: u32 = 300;
+
+// Words within a tree have one turn.
+const WITHIN: Effort = Effort {
+    first_turns: 1,
+    most_turns: 1,
+    rounds: 40,
+    steps: 60,
+};
 
 // Within a tree no leaf is looked for where a roster has more cells.
 const MOST_CELLS_WITHIN: u32 = 700;
@@ -36,7 +41,7 @@ const MOST_CELLS_WITHIN: u32 = 700;
 // Within a tree words begin in the middle of the first decided positions; at most this many of them count.
 const MOST_DECIDED: u32 = 28;
 
-/// A search for bound leaves and free leaves of a problem, with all its short rules.
+/// A search for bound leaves and free leaves, with the short rules of an automaton.
 ///
 /// A bound leaf of some weights says that no clean word has the demanded numbers of weeks, not even on average. Such
 /// weights are a plane between the demand and the hull of what clean words have. The search for it goes to the nearest
@@ -44,250 +49,146 @@ const MOST_DECIDED: u32 = 28;
 /// the next weights lead from the nearest mix of the corners to the demand. For a free leaf the number of free weekends
 /// is one count more, and the goal its demand.
 #[derive(Drop)]
-pub struct NearestWeights {
-    problem: Problem,
-    tails: TailRules,
-    words: Option<Words>,
-    demand: Demand,
-    // The weights with which the last search at the top ended: for a bound leaf, and for a free leaf.
+pub struct NearestWeights<'a> {
+    automaton: &'a Automaton,
+    // The weights with which the last search at the top ended.
     top: Vec<i64>,
-    free_top: Vec<i64>,
 }
 
-impl Model for NearestWeights {
-    ghost use Rattle.std.specs.Prelude.{◌≡◌};
-    ghost use Rattle.nearest_weights.specs.Found.{Searcher, HasRules};
+impl<'a> Model for NearestWeights<'a> {
+    ghost use Rattle.nearest_weights.specs.Found.{Searcher};
+    ghost use Rattle.propagator_terms.specs.Cycles.{AreShortRules};
 
     ghost Value = { Searcher };
 
-    ghost view = { λ n. record { problem = n.problem } };
+    ghost view = { λ n. record { problem = n.automaton.now.problem } };
 
-    ghost invariant = { λ n. HasRules n.problem n.tails };
+    ghost invariant = { λ n. AreShortRules n.automaton.now.problem n.automaton.now.rules };
 }
 
-impl NearestWeights {
-    ghost use Rattle.std.specs.Prelude.{◌+◌};
-    ghost use Rattle.refutation_terms.specs.Log.{GoalFits};
-    ghost use Rattle.propagator_terms.specs.Leaves.{IsHoldingLeafFor};
-    ghost use Rattle.nearest_weights.specs.Found.{IsHoldingFreeLeaf, IsHoldingLeaf};
-
-    /// A search for the problem, of which it keeps a copy.
-    pub fn new(alloc: Global, problem: &Problem) -> Result<NearestWeights, AllocError>
-        ensures { IfOk result (λ n. n.problem ≡ problem.now) }
+impl<'a> NearestWeights<'a> {
+    /// A search with the rules of the automaton, which are all short rules of its problem.
+    pub fn new(alloc: Global, automaton: &'a Automaton) -> NearestWeights<'a>
+        requires short { AreShortRules automaton.now.problem automaton.now.rules }
+        ensures { result.problem ≡ automaton.now.problem }
     {
-        let (demand, top, free_top) = demand_and_weights(alloc, problem)?;
-        let copy = problem.copy()?;
-        let (tails, words) = rules_and_words(alloc, problem)?;
-        Ok(NearestWeights {
-            problem: copy,
-            tails,
-            words,
-            demand,
-            top,
-            free_top,
-        })
+        NearestWeights {
+            automaton,
+            top: Vec::new(alloc),
+        }
     }
 
-    /// A bound leaf at the top of a tree, where one is found: words of many turns from position 0 on.
-    /// None says nothing. The weights are whole numbers as small as they can easily be made.
-    pub fn leaf_at_top(&mut self, alloc: Global, doms: &Domains) -> Result<Option<Line>, AllocError>
-        requires { BelongsTo self.old.problem doms.now }
+    /// A leaf at the top of a tree, where one is found: a bound leaf, or with a goal a free leaf. Its words have many
+    /// turns, from position 0 on. None says nothing. The weights are whole numbers as small as they can easily be made.
+    pub fn leaf_at_top(
+        &mut self,
+        alloc: Global,
+        doms: &Domains,
+        goal: Option<u32>,
+    ) -> Result<Option<Line>, AllocError>
+        requires belongs { BelongsTo self.old.problem doms.now }
+        requires goal { GoalFits self.old.problem None goal }
         ensures same { self.new ≡ self.old }
-        ensures leaf { IfOk result (λ found. IfSome found (IsHoldingLeaf self.old.problem (has_domain doms.now))) }
+        ensures leaf { IfOk result
+            (λ found. IfSome found (IsHoldingLeafFor self.old.problem goal (has_domain doms.now))) }
     {
-        let (line, last) = self.at_top(alloc, doms, None, &self.demand)?;
+        let weights = Vec::new(alloc);
+        let (line, last) = leaf_from(alloc, self.automaton, doms, goal, Start::Top, weights)?;
         self.top = last;
         Ok(line)
     }
 
-    /// A free leaf of a log with this goal at the top of a tree, where one is found, as `leaf_at_top` finds a bound
-    /// leaf.
-    pub fn free_leaf_at_top(
+    /// A leaf within a tree, where one is found: a bound leaf, or with a goal a free leaf. Its words have one turn.
+    /// Those of a bound leaf begin and end among the first positions, where these are decided. The search begins with
+    /// the weights with which the last one at the top ended. None says nothing.
+    pub fn leaf_within(
         &mut self,
         alloc: Global,
         doms: &Domains,
-        goal: u32,
+        goal: Option<u32>,
     ) -> Result<Option<Line>, AllocError>
         requires belongs { BelongsTo self.old.problem doms.now }
-        requires week { self.old.problem.days ≡ 7 }
-        requires goal { goal ≤ self.old.problem.weeks + 1 }
+        requires goal { GoalFits self.old.problem None goal }
         ensures same { self.new ≡ self.old }
-        ensures leaf { IfOk result (λ found.
-            IfSome found (IsHoldingFreeLeaf self.old.problem goal (has_domain doms.now))) }
+        ensures leaf { IfOk result
+            (λ found. IfSome found (IsHoldingLeafFor self.old.problem goal (has_domain doms.now))) }
     {
-        let demand = self.demand.with_goal(&self.problem, goal)?;
-        let (line, last) = self.at_top(alloc, doms, Some(goal), &demand)?;
-        self.free_top = last;
-        Ok(line)
-    }
-
-    // A leaf at the top of a tree, and the weights with which the search ended.
-    fn at_top(
-        &self,
-        alloc: Global,
-        doms: &Domains,
-        goal: Option<u32>,
-        demand: &Demand,
-    ) -> Result<(Option<Line>, Vec<i64>), AllocError>
-        requires belongs { BelongsTo self.now.problem doms.now }
-        requires goal { GoalFits self.now.problem None goal }
-        ensures { IfOk result (λ r. IfSome r.0 (IsHoldingLeafFor self.now.problem goal (has_domain doms.now))) }
-    {
-        let weights = vec![in alloc; 0i64; demand.low.len()]?;
-        let Some(words) = &self.words else {
-            return Ok((None, weights));
-        };
-        self.problem.prove_limits();
-        let most = turns_within(words, &self.problem);
-        if most == 0 {
-            return Ok((None, weights));
-        }
-        let first = (DAYS_AT_TOP / self.problem.cells()).max(1).min(most);
-        let place = Place::of(alloc, Shape::of(&self.problem), doms, 0)?;
-        found_leaf(
-            alloc,
-            &self.problem,
-            &self.tails,
-            doms,
-            goal,
-            Field {
-                words,
-                place: &place,
-                demand,
-            },
-            weights,
-            Turns { first, most },
-            AT_TOP,
-        )
-    }
-
-    /// A bound leaf within a tree, where one is found: words of one turn that begin and end among the first positions,
-    /// where these are decided. The search begins with the weights with which the last one at the top ended.
-    /// None says nothing.
-    pub fn leaf_within(&mut self, alloc: Global, doms: &Domains) -> Result<Option<Line>, AllocError>
-        requires { BelongsTo self.old.problem doms.now }
-        ensures same { self.new ≡ self.old }
-        ensures leaf { IfOk result (λ found. IfSome found (IsHoldingLeaf self.old.problem (has_domain doms.now))) }
-    {
-        let start = start_within(&self.problem, doms);
-        self.within(alloc, doms, None, &self.demand, &self.top, start)
-    }
-
-    /// A free leaf of a log with this goal within a tree, where one is found, as `leaf_within` finds a bound leaf, here
-    /// for words from position 0 on.
-    pub fn free_leaf_within(
-        &mut self,
-        alloc: Global,
-        doms: &Domains,
-        goal: u32,
-    ) -> Result<Option<Line>, AllocError>
-        requires belongs { BelongsTo self.old.problem doms.now }
-        requires week { self.old.problem.days ≡ 7 }
-        requires goal { goal ≤ self.old.problem.weeks + 1 }
-        ensures same { self.new ≡ self.old }
-        ensures leaf { IfOk result (λ found.
-            IfSome found (IsHoldingFreeLeaf self.old.problem goal (has_domain doms.now))) }
-    {
-        self.problem.prove_limits();
-        let demand = self.demand.with_goal(&self.problem, goal)?;
-        self.within(alloc, doms, Some(goal), &demand, &self.free_top, 0)
-    }
-
-    // A leaf within a tree, for words of one turn from a position on, by a search that begins with these weights.
-    fn within(
-        &self,
-        alloc: Global,
-        doms: &Domains,
-        goal: Option<u32>,
-        demand: &Demand,
-        weights: &Vec<i64>,
-        start: u32,
-    ) -> Result<Option<Line>, AllocError>
-        requires belongs { BelongsTo self.now.problem doms.now }
-        requires goal { GoalFits self.now.problem None goal }
-        requires start { start < cells self.now.problem }
-        ensures { IfOk result (λ found. IfSome found (IsHoldingLeafFor self.now.problem goal (has_domain doms.now))) }
-    {
-        let Some(words) = &self.words else {
-            return Ok(None);
-        };
-        let cells = self.problem.cells();
-        if cells > MOST_CELLS_WITHIN || turns_within(words, &self.problem) == 0 {
+        if self.automaton.problem().cells() > MOST_CELLS_WITHIN {
             return Ok(None);
         }
-        let place = Place::of(alloc, Shape::of(&self.problem), doms, start)?;
-        let (line, _) = found_leaf(
-            alloc,
-            &self.problem,
-            &self.tails,
-            doms,
-            goal,
-            Field {
-                words,
-                place: &place,
-                demand,
-            },
-            weights.clone()?,
-            Turns { first: 1, most: 1 },
-            WITHIN,
-        )?;
+        let weights = self.top.clone()?;
+        let (line, _) = leaf_from(alloc, self.automaton, doms, goal, Start::Within, weights)?;
         Ok(line)
     }
 }
 
-// What the words are weighed against, and the first weights: for a bound leaf, and for a free leaf.
-fn demand_and_weights(
+// Where a search begins.
+#[derive(Clone, Copy)]
+enum Start {
+    Top,
+    Within,
+}
+
+// The leaf that a search finds which begins with these weights, and the weights with which it ended.
+fn leaf_from(
     alloc: Global,
-    problem: &Problem,
-) -> Result<(Demand, Vec<i64>, Vec<i64>), AllocError> {
-    let demand = Demand::of(alloc, problem)?;
-    let size = Shape::of(problem).size();
-    let top = vec![in alloc; 0i64; size]?;
-    let free_top = vec![in alloc; 0i64; size.saturating_add(1)]?;
-    Ok((demand, top, free_top))
-}
-
-// All short rules, and the words that are clean by them.
-fn rules_and_words(
-    alloc: Global,
-    problem: &Problem,
-) -> Result<(TailRules, Option<Words>), AllocError>
-    ensures { IfOk result (λ r. HasRules problem.now r.0) }
+    automaton: &Automaton,
+    doms: &Domains,
+    goal: Option<u32>,
+    start: Start,
+    weights: Vec<i64>,
+) -> Result<(Option<Line>, Vec<i64>), AllocError>
+    requires short { AreShortRules automaton.now.problem automaton.now.rules }
+    requires belongs { BelongsTo automaton.now.problem doms.now }
+    requires goal { GoalFits automaton.now.problem None goal }
+    ensures { IfOk result
+        (λ r. IfSome r.0 (IsHoldingLeafFor automaton.now.problem goal (has_domain doms.now))) }
 {
-    let tails = tails_of(alloc, problem)?;
-    match Words::of(alloc, &tails) {
-        Ok(words) => Ok((tails, words)),
-        Err(error) => {
-            drop(tails);
-            Err(error)
-        }
-    }
+    let problem = automaton.problem();
+    let demand = Demand::of(alloc, problem, goal)?;
+    let position = position_of(problem, doms, goal, start);
+    let place = Place::of(alloc, Shape::of(problem), doms, position)?;
+    let field = Field {
+        automaton,
+        doms,
+        goal,
+        place: &place,
+        demand: &demand,
+    };
+    found_leaf(alloc, &field, weights, effort_of(problem, start))
 }
 
-// Tail rules with all short rules of the problem.
-fn tails_of(alloc: Global, problem: &Problem) -> Result<TailRules, AllocError>
-    ensures { IfOk result (HasRules problem.now) }
-{
-    let rules = short_rules(alloc, problem)?;
-    TailRules::of(alloc, problem, &rules)
-}
-
-// How many turns there are layers and room for.
-fn turns_within(words: &Words, problem: &Problem) -> u32
-    ensures { result * cells problem.now ≤ LONGEST_WORD }
+// How far a search goes.
+fn effort_of(problem: &Problem, start: Start) -> Effort
+    ensures some { (1 ≤ result.first_turns) × (result.first_turns ≤ result.most_turns) }
+    ensures few { result.most_turns * cells problem.now ≤ LONGEST_WORD }
 {
     problem.prove_limits();
-    let room = MOST_CHOICES / words.nodes().max(1);
-    room.min(words.days()).min(LONGEST_WORD) / problem.cells()
+    match start {
+        Start::Within => WITHIN,
+        Start::Top => {
+            let most_turns = LONGEST_WORD / problem.cells();
+            Effort {
+                first_turns: (DAYS_AT_TOP / problem.cells()).max(1).min(most_turns),
+                most_turns,
+                rounds: ROUNDS_AT_TOP,
+                steps: STEPS_AT_TOP,
+            }
+        }
+    }
 }
 
-// In the middle of the first positions that have one symbol each, so that words from there begin and end among them.
-fn start_within(problem: &Problem, doms: &Domains) -> u32
+// Where words begin: those of a bound leaf within a tree in the middle of the first positions that have one symbol each,
+// so that they begin and end among them.
+fn position_of(problem: &Problem, doms: &Domains, goal: Option<u32>, start: Start) -> u32
     requires { BelongsTo problem.now doms.now }
     ensures { result < cells problem.now }
 {
     problem.prove_limits();
-    decided(doms) / 2
+    match (start, goal) {
+        (Start::Within, None) => decided(doms) / 2,
+        _ => 0,
+    }
 }
 
 // How many positions have one symbol, counted from the first to one that has more, or up to `MOST_DECIDED`.

@@ -2,77 +2,43 @@
 ghost use Rattle.std.specs.Prelude.{◌≤◌, IfOk, IfSome};
 
 use crate::demand::{Demand, times};
-use crate::sweep::{Place, Sweep};
-use crate::words::Words;
+use crate::field::Field;
+use crate::sweep::Sweep;
 use nearest_point::{Hull, SCALE};
 use rwsp_terms::limits::GREATEST_WEIGHT;
 use std::alloc::{AllocError, Global};
 
-// How many words are tried, and how many steps are taken toward the demand after each.
+// How many turns words have at first and at most, how many words are tried, and how many steps are taken toward the
+// demand after each.
 #[derive(Clone, Copy, Drop)]
 pub struct Effort {
+    pub first_turns: u32,
+    pub most_turns: u32,
     pub rounds: u32,
     pub steps: u32,
-}
-
-// How many turns words have at first, and at most.
-#[derive(Clone, Copy, Drop)]
-pub struct Turns {
-    pub first: u32,
-    pub most: u32,
 }
 
 // After this many rounds, more turns are tried with the present weights.
 const ROUNDS_PER_TRY: u32 = 16;
 
-// In one search no more steps of layers are looked at than this.
+// In one search no more steps of the automaton are looked at than this.
 const MOST_LOOKS: u64 = 100_000_000;
 
-// What a search goes over: the words, where they lie, and the demand.
-#[derive(Clone, Copy)]
-pub struct Field<'a> {
-    pub words: &'a Words,
-    pub place: &'a Place,
-    pub demand: &'a Demand,
-}
-
-impl<'a> Field<'a> {
-    // What the heaviest word of `turns` turns weighs. None where there is no word.
-    fn heaviest(&self, sweep: &mut Sweep, weights: &[i64], turns: u32) -> Option<i64> {
-        let days = turns.wrapping_mul(self.place.shape.cells);
-        sweep.heaviest(self.words, self.place, days, weights)
-    }
-
-    // Whether a word of `turns` turns weighs less than the demand asks for.
-    fn is_light(&self, word: i64, weights: &[i64], turns: u32) -> bool {
-        word < self.demand.total(weights).wrapping_mul(i64::from(turns))
-    }
-
-    // Whether there are words of `turns` turns, and each weighs less than the demand asks for.
-    pub fn closes(&self, sweep: &mut Sweep, weights: &[i64], turns: u32) -> bool {
-        match self.heaviest(sweep, weights, turns) {
-            Some(word) => self.is_light(word, weights, turns),
-            None => false,
-        }
-    }
-}
-
-// Looks for weights whose bound holds for `turns.first` turns or more, beginning with these weights. Answers how many
+// Looks for weights whose bound holds for `first_turns` turns or more, beginning with these weights. Answers how many
 // turns it is, and leaves the weights there; no proof says that the bound holds. Each round finds the heaviest word by
 // the weights, and the next weights lead from the nearest mix of the words so far to the demand (C. Holloway, 1974).
 pub fn search(
     alloc: Global,
-    field: Field<'_>,
+    field: &Field<'_>,
     sweep: &mut Sweep,
     weights: &mut Vec<i64>,
-    turns: Turns,
     effort: Effort,
 ) -> Result<Option<u32>, AllocError>
-    requires { (1 ≤ turns.first) × (turns.first ≤ turns.most) }
-    ensures { IfOk result (λ found. IfSome found (λ t. (1 ≤ t) × (t ≤ turns.most))) }
+    requires { (1 ≤ effort.first_turns) × (effort.first_turns ≤ effort.most_turns) }
+    ensures { IfOk result (λ found. IfSome found (λ t. (1 ≤ t) × (t ≤ effort.most_turns))) }
 {
-    let mut hull = hull_of(alloc, field.demand, turns.first)?;
-    search_by(alloc, field, sweep, &mut hull, weights, turns, effort)
+    let mut hull = hull_of(alloc, field.demand, effort.first_turns)?;
+    search_by(alloc, field, sweep, &mut hull, weights, effort)
 }
 
 // The hull of no words, and how far it is from the demand for `turns` turns.
@@ -85,30 +51,31 @@ fn hull_of(alloc: Global, demand: &Demand, turns: u32) -> Result<Hull, AllocErro
 // The same search by a hull, which is owned above, so that no round has it to drop.
 fn search_by(
     alloc: Global,
-    field: Field<'_>,
+    field: &Field<'_>,
     sweep: &mut Sweep,
     hull: &mut Hull,
     weights: &mut Vec<i64>,
-    turns: Turns,
     effort: Effort,
 ) -> Result<Option<u32>, AllocError>
-    requires { (1 ≤ turns.first) × (turns.first ≤ turns.most) }
-    ensures { IfOk result (λ found. IfSome found (λ t. (1 ≤ t) × (t ≤ turns.most))) }
+    requires { (1 ≤ effort.first_turns) × (effort.first_turns ≤ effort.most_turns) }
+    ensures { IfOk result (λ found. IfSome found (λ t. (1 ≤ t) × (t ≤ effort.most_turns))) }
 {
-    let days = turns.first.wrapping_mul(field.place.shape.cells);
-    for round in 0..rounds_within(field, days, effort) {
-        let Some(word) = field.heaviest(sweep, weights, turns.first) else {
+    let turns = effort.first_turns;
+    let days = field.days(turns);
+    for round in 0..rounds_within(sweep, days, effort) {
+        let Some(word) = field.heaviest(sweep, weights, turns) else {
             return Ok(None);
         };
-        if field.is_light(word, weights, turns.first) {
-            return Ok(Some(turns.first));
+        if field.is_light(word, weights, turns) {
+            return Ok(Some(turns));
         }
-        let counts = sweep.counts(alloc, field.words, field.place, days, weights.len())?;
+        let size = field.demand.low.len();
+        let counts = sweep.counts(alloc, field.automaton, field.place, days, size)?;
         if !turn(alloc, hull, counts, effort.steps, weights)? {
             return Ok(None);
         }
         if round % ROUNDS_PER_TRY == ROUNDS_PER_TRY - 1 {
-            let more = more_turns(field, sweep, weights, turns);
+            let more = more_turns(field, sweep, weights, effort);
             if more.is_some() {
                 return Ok(more);
             }
@@ -139,22 +106,22 @@ fn turn(
 }
 
 // As many rounds as look at no more than `MOST_LOOKS` steps.
-fn rounds_within(field: Field<'_>, days: u32, effort: Effort) -> u32 {
-    let looks = field.words.steps_within(days).max(1);
+fn rounds_within(sweep: &Sweep, days: u32, effort: Effort) -> u32 {
+    let looks = sweep.looks(days).max(1);
     u64::from(effort.rounds).min(MOST_LOOKS / looks) as u32
 }
 
 // Four times as many turns, and so on up to the most, whose bound holds with these weights.
-fn more_turns(field: Field<'_>, sweep: &mut Sweep, weights: &[i64], turns: Turns) -> Option<u32>
-    requires { (1 ≤ turns.first) × (turns.first ≤ turns.most) }
-    ensures { IfSome result (λ t. (1 ≤ t) × (t ≤ turns.most)) }
+fn more_turns(field: &Field<'_>, sweep: &mut Sweep, weights: &[i64], effort: Effort) -> Option<u32>
+    requires { (1 ≤ effort.first_turns) × (effort.first_turns ≤ effort.most_turns) }
+    ensures { IfSome result (λ t. (1 ≤ t) × (t ≤ effort.most_turns)) }
 {
-    let mut more = turns.first;
+    let mut more = effort.first_turns;
     for _ in 0..8 {
-        if more >= turns.most {
+        if more >= effort.most_turns {
             return None;
         }
-        more = more.saturating_mul(4).min(turns.most);
+        more = more.saturating_mul(4).min(effort.most_turns);
         if field.closes(sweep, weights, more) {
             return Some(more);
         }

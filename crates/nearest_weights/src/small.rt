@@ -1,7 +1,8 @@
 // Weights and turns that a reader can follow.
 ghost use Rattle.std.specs.Prelude.{◌≤◌};
 
-use crate::search::{Field, greatest};
+use crate::field::Field;
+use crate::search::greatest;
 use crate::sweep::Sweep;
 use std::alloc::{AllocError, Global};
 
@@ -11,7 +12,7 @@ const SCALES: [i64; 8] = [1, 2, 3, 5, 8, 12, 20, 50];
 // The first scaled weights whose bound still holds, where some do.
 pub fn small_weights(
     alloc: Global,
-    field: Field<'_>,
+    field: &Field<'_>,
     sweep: &mut Sweep,
     weights: &[i64],
     turns: u32,
@@ -45,7 +46,7 @@ fn scaled(alloc: Global, weights: &[i64], scale: i64) -> Result<Vec<i64>, AllocE
 }
 
 // The least of 1, 2, 4, .. turns whose bound holds, or these turns.
-pub fn few_turns(field: Field<'_>, sweep: &mut Sweep, weights: &[i64], turns: u32) -> u32
+pub fn few_turns(field: &Field<'_>, sweep: &mut Sweep, weights: &[i64], turns: u32) -> u32
     requires { 1 ≤ turns }
     ensures some { 1 ≤ result }
     ensures few { result ≤ turns }

@@ -2,17 +2,20 @@
 ghost use Rattle.std.specs.Prelude.{◌≡◌, ◌<◌, length, IfOk};
 
 use crate::demand::Shape;
-use crate::words::Words;
 use domain_store::Domains;
-use layered_cycle::Step;
+use rule_automaton::Automaton;
 use rwsp_terms::Symbol;
+use rwsp_terms::limits::MOST_SYMBOLS;
 use std::alloc::{AllocError, Global};
 use std::mem;
 
-// No more choices are kept for a pass.
-pub const MOST_CHOICES: u32 = 2_000_000;
+// Less than any word weighs, and what is below half of it too.
+const NEVER: i64 = -(1 << 60);
 
-// Where words lie: from a position on, over domains, for a number of days.
+// The place of what a day off gains behind a day off, behind what the symbols gain.
+const OFF_AGAIN: usize = MOST_SYMBOLS as usize;
+
+// Where words lie: from a position on, over domains.
 #[derive(Drop)]
 pub struct Place {
     pub shape: Shape,
@@ -68,95 +71,229 @@ fn mask_of(doms: &Domains, p: u32) -> u16
     let mut mask: u16 = 0;
     for number in 0..doms.shifts() + 1 {
         if doms.has(p, Symbol { number }) {
-            mask |= bit(Symbol { number });
+            mask |= bit(number);
         }
     }
     mask
 }
 
-fn bit(x: Symbol) -> u16 {
-    1u16.wrapping_shl(u32::from(x.number))
+fn bit(number: u8) -> u16 {
+    1u16.wrapping_shl(u32::from(number))
 }
 
-// The room for passes: what the words from each node of a layer to the end weigh at most, for the present layer and for
-// the next; and for each day and node which step comes first.
+// A step of the automaton.
+#[derive(Clone, Copy)]
+struct Move {
+    from: usize,
+    to: usize,
+}
+
+// Steps that gain the same on each day, and their symbol.
+#[derive(Drop)]
+struct Moves {
+    symbol: u8,
+    moves: Vec<Move>,
+}
+
+// The room for passes over days.
 #[derive(Drop)]
 pub struct Sweep {
-    now: Vec<Option<i64>>,
-    next: Vec<Option<i64>>,
-    choices: Vec<usize>,
-    width: u32,
+    // The number of steps.
+    steps: u64,
+    // The steps, by the place of what they gain.
+    moves: Vec<Moves>,
+    // For each state, whether the words to it end with the day off.
+    offs: Vec<bool>,
+    // What the words from each state to the end weigh at most, on one day and on the next.
+    now: Vec<i64>,
+    next: Vec<i64>,
+    // What the symbols gain on the present day, and a day off behind a day off.
+    gains: Vec<i64>,
+    // By day and state: the symbol of a heaviest word. There is room for the first days alone.
+    choices: Vec<u8>,
 }
 
 impl Sweep {
-    // Room for words of at most `days` days.
-    pub fn of(alloc: Global, words: &Words, days: u32) -> Result<Sweep, AllocError> {
-        let width = words.nodes();
+    // Room for passes, with the symbols of heaviest words of at most `days` days.
+    pub fn of(alloc: Global, automaton: &Automaton, days: u32) -> Result<Sweep, AllocError> {
+        let states = automaton.states();
+        let offs = offs_of(alloc, automaton)?;
+        let moves = moves_of(alloc, automaton, &offs)?;
         Ok(Sweep {
-            now: vec![in alloc; None; width as usize]?,
-            next: vec![in alloc; None; width as usize]?,
-            choices: vec![in alloc; 0usize; width.wrapping_mul(days) as usize]?,
-            width,
+            steps: automaton.steps().len() as u64,
+            moves,
+            offs,
+            now: vec![in alloc; NEVER; states]?,
+            next: vec![in alloc; NEVER; states]?,
+            gains: vec![in alloc; NEVER; OFF_AGAIN + 1]?,
+            choices: vec![in alloc; 0u8; states.saturating_mul(days as usize)]?,
         })
     }
 
     // What the heaviest word of `days` days weighs, by dynamic programming (R. Bellman, 1957). None where there is no
     // word.
-    // Cost: a step each for each step of each day.
-    pub fn heaviest(
-        &mut self,
-        words: &Words,
-        place: &Place,
-        days: u32,
-        weights: &[i64],
-    ) -> Option<i64> {
-        self.next.fill(Some(0));
+    // Cost: a look at each step on each day.
+    pub fn heaviest(&mut self, place: &Place, days: u32, weights: &[i64]) -> Option<i64> {
+        self.next.fill(0);
         for i in 0..days {
             let day = days - 1 - i;
-            self.now.fill(None);
-            let part = Day {
-                steps: words.steps(day),
-                mask: place.mask(day),
-                coordinate: place.day_start(day),
-                ends_off: words.ends_off(day),
-                reward: if place.ends_weekend(day) {
-                    weights.get(place.shape.size()).copied().unwrap_or(0)
-                } else {
-                    0
-                },
-                choices: day.wrapping_mul(self.width) as usize,
-            };
-            sweep_day(&mut self.now, &self.next, &mut self.choices, part, weights);
+            self.set_gains(place, day, weights);
+            self.weigh_day(day);
             mem::swap(&mut self.now, &mut self.next);
         }
-        self.next.first().copied().flatten()
+        match self.next.first() {
+            Some(weight) if *weight > NEVER / 2 => Some(*weight),
+            _ => None,
+        }
     }
 
-    // How often each symbol is on each day of the week in the heaviest word, after a pass, and how many free weekends
-    // it has.
+    // What each symbol gains on a day: nothing that a word could make up for where the symbol isn't left.
+    fn set_gains(&mut self, place: &Place, day: u32, weights: &[i64]) {
+        let mask = place.mask(day);
+        let start = place.day_start(day);
+        for number in 0..MOST_SYMBOLS as u8 {
+            let coordinate = start.wrapping_add(usize::from(number));
+            let gain = if mask & bit(number) == 0 {
+                NEVER
+            } else {
+                entry_or(weights, coordinate, 0)
+            };
+            put(&mut self.gains, usize::from(number), gain);
+        }
+        let reward = if place.ends_weekend(day) {
+            entry_or(weights, place.shape.size(), 0)
+        } else {
+            0
+        };
+        let off_again = entry_or(&self.gains, 0, NEVER).wrapping_add(reward);
+        put(&mut self.gains, OFF_AGAIN, off_again);
+    }
+
+    // One day of a pass.
+    fn weigh_day(&mut self, day: u32) {
+        let row = (day as usize).saturating_mul(self.offs.len());
+        self.now.fill(NEVER);
+        for (moves, gain) in self.moves.iter().zip(self.gains.iter()) {
+            if *gain > NEVER / 2 {
+                let offer = Offer { gain: *gain, row };
+                weigh_moves(&mut self.now, &mut self.choices, &self.next, moves, offer);
+            }
+        }
+    }
+
+    // How often each symbol is on each day of the week in the heaviest word, after a pass over no more days than there
+    // is room for, and how many free weekends it has.
     pub fn counts(
         &self,
         alloc: Global,
-        words: &Words,
+        automaton: &Automaton,
         place: &Place,
         days: u32,
         size: usize,
     ) -> Result<Vec<i64>, AllocError> {
         let mut counts = vec![in alloc; 0i64; size]?;
-        let mut node = 0u32;
+        let mut state = 0u32;
         for day in 0..days {
-            let at = day.wrapping_mul(self.width).wrapping_add(node) as usize;
-            let choice = self.choices.get(at).copied().unwrap_or(0);
-            if let Some(step) = words.steps(day).get(choice) {
-                let number = usize::from(step.symbol.number);
-                add_one(&mut counts, place.day_start(day).wrapping_add(number));
-                if place.ends_weekend(day) && stays_off(words.ends_off(day), *step) {
-                    add_one(&mut counts, place.shape.size());
-                }
-                node = step.to;
+            let number = self.choice(day, state);
+            add_one(
+                &mut counts,
+                place.day_start(day).wrapping_add(usize::from(number)),
+            );
+            let was_off = entry_or(&self.offs, state as usize, false);
+            if number == 0 && was_off && place.ends_weekend(day) {
+                add_one(&mut counts, place.shape.size());
             }
+            state = followed(automaton, state, number);
         }
         Ok(counts)
+    }
+
+    fn choice(&self, day: u32, state: u32) -> u8 {
+        let row = (day as usize).saturating_mul(self.offs.len());
+        entry_or(&self.choices, row.saturating_add(state as usize), 0)
+    }
+
+    // The number of steps in a pass over `days` days.
+    pub fn looks(&self, days: u32) -> u64 {
+        u64::from(days).saturating_mul(self.steps)
+    }
+}
+
+// For each state, whether the words to it end with the day off.
+fn offs_of(alloc: Global, automaton: &Automaton) -> Result<Vec<bool>, AllocError> {
+    let mut offs = Vec::new(alloc);
+    automaton.prove_facts();
+    for state in 0..automaton.states() as u32 {
+        offs.push(automaton.is_off(state))?;
+    }
+    Ok(offs)
+}
+
+// The steps, by the place of what they gain.
+fn moves_of(alloc: Global, automaton: &Automaton, offs: &[bool]) -> Result<Vec<Moves>, AllocError> {
+    let mut all = Vec::new(alloc);
+    for place in 0..OFF_AGAIN + 1 {
+        let moves = moves_at(alloc, automaton, offs, place)?;
+        let symbol = if place < OFF_AGAIN { place as u8 } else { 0 };
+        all.push(Moves { symbol, moves })?;
+    }
+    Ok(all)
+}
+
+// The steps of one such place.
+fn moves_at(
+    alloc: Global,
+    automaton: &Automaton,
+    offs: &[bool],
+    place: usize,
+) -> Result<Vec<Move>, AllocError> {
+    let mut moves = Vec::new(alloc);
+    for step in automaton.steps() {
+        let from = step.from as usize;
+        if place_of(step.symbol, entry_or(offs, from, false)) == place {
+            moves.push(Move {
+                from,
+                to: step.to as usize,
+            })?;
+        }
+    }
+    Ok(moves)
+}
+
+// The place of what a symbol gains behind a day that is off or not.
+fn place_of(symbol: Symbol, was_off: bool) -> usize {
+    if symbol.number == 0 && was_off {
+        OFF_AGAIN
+    } else {
+        usize::from(symbol.number)
+    }
+}
+
+// What steps of one symbol gain on a day, and where the choices of this day begin.
+#[derive(Clone, Copy)]
+struct Offer {
+    gain: i64,
+    row: usize,
+}
+
+// The heaviest words from each state that begin with one of the steps, where they are heavier than those before.
+fn weigh_moves(now: &mut [i64], choices: &mut [u8], next: &[i64], moves: &Moves, offer: Offer) {
+    for step in &moves.moves {
+        let weight = entry_or(next, step.to, NEVER).wrapping_add(offer.gain);
+        if weight > entry_or(now, step.from, NEVER) {
+            put(now, step.from, weight);
+            put(choices, offer.row.saturating_add(step.from), moves.symbol);
+        }
+    }
+}
+
+// Where the symbol of a number leads from a state; the state of the empty word where it leads nowhere.
+fn followed(automaton: &Automaton, state: u32, number: u8) -> u32 {
+    let is_known = (state as usize) < automaton.states() && u32::from(number) < MOST_SYMBOLS;
+    if is_known {
+        automaton.follow(state, Symbol { number }).unwrap_or(0)
+    } else {
+        0
     }
 }
 
@@ -166,71 +303,15 @@ fn add_one(counts: &mut [i64], coordinate: usize) {
     }
 }
 
-// Whether the step is by the day off and the day before is off too.
-fn stays_off(ends_off: &[bool], step: Step) -> bool {
-    step.symbol.number == 0 && ends_off.get(step.from as usize).copied().unwrap_or(false)
-}
-
-// What a pass needs of a day.
-#[derive(Clone, Copy)]
-struct Day<'a> {
-    steps: &'a [Step],
-    // The symbols that are left.
-    mask: u16,
-    // The coordinate of symbol 0.
-    coordinate: usize,
-    // For each node before it, whether the day before is off.
-    ends_off: &'a [bool],
-    // What it weighs that this day is off and the day before.
-    reward: i64,
-    // Where the choices of its nodes begin.
-    choices: usize,
-}
-
-// One day of a pass.
-fn sweep_day(
-    now: &mut [Option<i64>],
-    next: &[Option<i64>],
-    choices: &mut [usize],
-    day: Day<'_>,
-    weights: &[i64],
-) {
-    for (k, step) in day.steps.iter().enumerate() {
-        if day.mask & bit(step.symbol) == 0 {
-            continue;
-        }
-        let Some(after) = next.get(step.to as usize).copied().flatten() else {
-            continue;
-        };
-        let coordinate = day.coordinate.wrapping_add(usize::from(step.symbol.number));
-        let mut gain = weights.get(coordinate).copied().unwrap_or(0);
-        if day.reward != 0 && stays_off(day.ends_off, *step) {
-            gain = gain.wrapping_add(day.reward);
-        }
-        let from = step.from as usize;
-        if offer(now, from, after.wrapping_add(gain)) {
-            put(choices, day.choices.wrapping_add(from), k);
-        }
+fn entry_or<T: Copy>(list: &[T], place: usize, other: T) -> T {
+    match list.get(place) {
+        Some(entry) => *entry,
+        None => other,
     }
 }
 
-// Puts the weight there, unless one is there that is no lighter; whether it did.
-fn offer(row: &mut [Option<i64>], node: usize, weight: i64) -> bool {
-    if node >= row.len() {
-        return false;
-    }
-    let better = match row[node] {
-        Some(before) => before < weight,
-        None => true,
-    };
-    if better {
-        row[node] = Some(weight);
-    }
-    better
-}
-
-fn put(choices: &mut [usize], place: usize, choice: usize) {
-    if place < choices.len() {
-        choices[place] = choice;
+fn put<T: Copy + Drop>(list: &mut [T], place: usize, value: T) {
+    if let Some(entry) = list.get_mut(place) {
+        *entry = value;
     }
 }

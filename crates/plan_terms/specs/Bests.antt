@@ -21,6 +21,17 @@ abbrev pub goal_above : Option Schedule → ℕ
 goal_above None = 0
 goal_above (Some s) = free_weekends s.cells + 1
 
+-- the same of what a search for the most found
+abbrev pub goal_of : BestFound → ℕ
+goal_of (Best s g) = goal_above (Some s)
+goal_of (NoRoster g) = 0
+goal_of (Undecided s g) = goal_above s
+
+-- the next goal behind what was found with one: one above the free weekends of the roster, where there is one
+abbrev pub goal_behind : ℕ → Found → ℕ
+goal_behind goal (Roster s) = free_weekends s.cells + 1
+goal_behind goal found = goal
+
 -- a log that passes with this goal, within the budget, and is sharp
 abbrev pub IsFreeProof : Instance → ℕ → ℕ → Log → Type 0
 IsFreeProof P budget goal g = FreePasses P goal g × (size g ≤ budget) × IsFreeSharp P goal g

@@ -1,5 +1,5 @@
 //! What a search asks of its propagators: whether domains are closed by a leaf, and which symbols a leaf takes away.
-//! The propagators themselves are in `propagators` and `kept_cycle`.
+//! The propagators themselves are in `propagators`.
 #![tactic(auto)]
 
 mod look;

@@ -1,3 +1,4 @@
+mod CycleLooks
 mod CutCounts
 mod Cuts
 mod Over

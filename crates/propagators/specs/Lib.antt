@@ -1,3 +1,4 @@
 pub mod Days
 pub mod Windows
 pub mod TopBounds
+pub mod ShortCycles

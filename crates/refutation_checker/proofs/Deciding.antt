@@ -1,7 +1,10 @@
 -- A line that fits the problem holds, or has a cause: it can't be without both.
-use Rattle.std.proofs.Common.{◌≡◌, ◌≢◌, ◌⊎◌, ◌==◌, ◌&&◌, ℕ, zero, suc, ◌+◌, ◌*◌, ◌%◌, ◌<◌, ◌≤◌, List, [], ◌∷◌, length, refl, ap, sym, ◌∙◌, subst, arith, inl, inr, Some, pos, negsuc, ℤ}
+use Rattle.std.proofs.Common.{◌≡◌, ◌≢◌, ◌⊎◌, ◌==◌, ◌&&◌, ℕ, zero, suc, ◌+◌, ◌*◌, ◌%◌, ◌<◌, ◌≤◌, List, [], ◌∷◌, length, refl, ap, sym, ◌∙◌, subst, arith, inl, inr, false, Option, Some, None, pos, negsuc, ℤ}
 use Rattle.std.specs.Prelude.{Contains, ◌≤ℤ◌, ◌<ℤ◌, ◌+ℤ◌, ◌*ℤ◌}
-use Rattle.std.specs.List.{AllByRecursion}
+use Rattle.std.specs.List.{AllByRecursion, range_with_len}
+use Rattle.std.proofs.Math.Nat.{mul-le-mul}
+use Rattle.std.proofs.lemmas.List.FromFn.{length-range_with_len}
+use Rattle.std.proofs.lemmas.List.Sums.{count_by-le-length}
 use Rattle.std.proofs.lemmas.Bool.{cases_lt, cases_Bool, eqb-true, eqb-false}
 use Rattle.std.proofs.lemmas.Int.{ints}
 use Rattle.rwsp_terms.specs.declared.data.Symbol.{Symbol}
@@ -22,13 +25,15 @@ use Rattle.refutation_terms.specs.declared.lines.Line.TheVariants.{Split, Window
 use Rattle.refutation_terms.specs.declared.lines.LogRefusal.{LogRefusal}
 use Rattle.refutation_terms.specs.declared.lines.LogRefusal.TheVariants as Refusals
 use Rattle.refutation_terms.specs.Word.{Domains, weight, total}
-use Rattle.refutation_terms.specs.Leaf.{IsTooLight}
+use Rattle.refutation_terms.specs.FreeWeekends.{free_weekends, is_free_weekend, free_weight}
+use Rattle.refutation_terms.specs.FreeLeaves.{free_total, IsTooLightFree}
+use Rattle.refutation_terms.specs.Leaf.{IsDead, IsTooLight}
 use Rattle.refutation_terms.specs.Tree.{is_idle}
-use Rattle.refutation_terms.specs.Log.{LineFits, Cites, CitesOnlyNamed, Holds, ListsShortOnly}
-use Rattle.refutation_terms.specs.Escape.{ComesFirst, IsCleanOver, IsHeaviest, IsLeastHeaviest}
-use Rattle.refutation_terms.specs.Verdict.{IsLeast, IsUnnamed, IsLongIn, ListsLong}
+use Rattle.refutation_terms.specs.Log.{LineFitsFor, AreWeightsOf, HasWeight, Cites, CitesOnlyNamed, HoldsFor, ListsShortOnly}
+use Rattle.refutation_terms.specs.Escape.{ComesFirst, IsCleanOver, IsLeastClean, IsHeaviestBy, IsLeastHeaviestBy}
+use Rattle.refutation_terms.specs.Verdict.{IsLeast, IsUnnamed, IsLongIn, ListsLong, EscapesFor}
 use Rattle.refutation_terms.proofs.Named.{named-IsRule}
-use Rattle.refutation_checker.specs.LineVerdicts.{IsSound, LineCause}
+use Rattle.refutation_checker.specs.LineVerdicts.{IsSoundFor, LineCauseFor}
 
 -- where no number is the least with a property, none has it
 pub least_number : (A : ℕ → Type 0) → ((k : ℕ) → IsLeast A k → ⊥) → (k : ℕ) → A k → ⊥
@@ -60,17 +65,24 @@ weighed_is_day P (e ∷ y) j x h ne =
       | inr past ↦ weighed_is_day P y j x h.1 (λ z. ne (weight_past e y j x past ∙ z))
     ]
 
-cited_is_rule : (P : Instance) (line : Line) (r : Rule) → LineFits P line → Cites P line r → IsRule P r
-cited_is_rule P (Split p x) r fits c = absurd c
-cited_is_rule P (Window number p len) r fits c = named-IsRule P (number ∷ []) r c
-cited_is_rule P (Day j x over) r fits c = subst (IsRule P) (sym c) fits.0
-cited_is_rule P (Dead p len R) r fits c = named-IsRule P R r c
-cited_is_rule P (Bound p turns R y) r fits (inl c) = named-IsRule P R r c
-cited_is_rule P (Bound p turns R y) r fits (inr c) =
-    subst (IsRule P) (sym c.2) (weighed_is_day P y c.0 c.1.0 (all_to (λ e. IsDay P e.day × IsSymbol P e.symbol) y fits.3.1) c.1.1)
-cited_is_rule P Unfinished r fits c = absurd c
-cited_is_rule P Few r fits c = absurd c
-cited_is_rule P (Free turns reward R y) r fits c = absurd fits
+-- the rule of a day that has a weight
+weighed_is_rule : (P : Instance) (y : List Weight) (r : Rule) → AreWeightsOf P y → (j : ℕ) × HasWeight y j × (r ≡ TheRules.Day j) → IsRule P r
+weighed_is_rule P y r own c =
+    subst (IsRule P) (sym c.2) (weighed_is_day P y c.0 c.1.0 (all_to (λ e. IsDay P e.day × IsSymbol P e.symbol) y own.1) c.1.1)
+
+cited_is_rule : (P : Instance) (goal : Option ℕ) (line : Line) (r : Rule) → LineFitsFor P goal line → Cites P line r → IsRule P r
+cited_is_rule P goal (Split p x) r fits c = absurd c
+cited_is_rule P goal (Window number p len) r fits c = named-IsRule P (number ∷ []) r c
+cited_is_rule P goal (Day j x over) r fits c = subst (IsRule P) (sym c) fits.0
+cited_is_rule P goal (Dead p len R) r fits c = named-IsRule P R r c
+cited_is_rule P None (Bound p turns R y) r fits (inl c) = named-IsRule P R r c
+cited_is_rule P None (Bound p turns R y) r fits (inr c) = weighed_is_rule P y r fits.3 c
+cited_is_rule P (Some goal) (Bound p turns R y) r fits c = absurd fits
+cited_is_rule P goal Unfinished r fits c = absurd c
+cited_is_rule P goal Few r fits c = absurd c
+cited_is_rule P None (Free turns reward R y) r fits c = absurd fits
+cited_is_rule P (Some goal) (Free turns reward R y) r fits (inl c) = named-IsRule P R r c
+cited_is_rule P (Some goal) (Free turns reward R y) r fits (inr c) = weighed_is_rule P y r fits.3 c
 
 pub cited_is_named : (P : Instance) (named : List ℕ) (Cited : Rule → Type 0) (r : Rule) → IsRule P r → ((k : ℕ) → IsUnnamed P named Cited k → ⊥) → Cited r → Names P named r
 cited_is_named P named Cited r is none cites =
@@ -171,70 +183,110 @@ through t u v a b = omega (arith, ints)
 before : (t u v : ℤ) → t ≤ℤ u → u <ℤ v → t ≤ℤ v
 before t u v a b = omega (arith, ints)
 
--- no word weighs t or more where no least of the heaviest does
-abbrev NoneWeighs : Instance → Domains → ℕ → ℕ → List ℕ → List Weight → ℤ → Type 0
-NoneWeighs P D p len R y t = (w : List Symbol) → IsLeastHeaviest P D p len R y w → t ≤ℤ weight P y p w → ⊥
+-- words are weighed somehow, and none of these weighs t or more where no least of the heaviest does
+abbrev NoneWeighs : Instance → Domains → ℕ → ℕ → List ℕ → (List Symbol → ℤ) → ℤ → Type 0
+NoneWeighs P D p len R weighs t = (w : List Symbol) → IsLeastHeaviestBy P D p len R weighs w → t ≤ℤ weighs w → ⊥
 
-no_heaviest : (P : Instance) (D : Domains) (p len : ℕ) (R : List ℕ) (y : List Weight) (t : ℤ) → NoneWeighs P D p len R y t → (u : List Symbol) → IsHeaviest P D p len R y u → t ≤ℤ weight P y p u → ⊥
-no_heaviest P D p len R y t none u h le =
-    least_word len (IsHeaviest P D p len R y) (λ w k. k.clean.long)
-    (λ w k first. none w (record { heavy = k; least = first }) (through t (weight P y p u) (weight P y p w) le (k.heaviest u h.clean))) u h
+abbrev WeighAtMost : Instance → Domains → ℕ → ℕ → List ℕ → (List Symbol → ℤ) → ℕ → Type 0
+WeighAtMost P D p len R weighs b = (u : List Symbol) → IsCleanOver P D p len R u → weighs u ≤ℤ pos b
 
-none_weighs : (P : Instance) (D : Domains) (p len : ℕ) (R : List ℕ) (y : List Weight) (t : ℤ) → AllByRecursion IsWeight y → NoneWeighs P D p len R y t → (n : ℕ) (u : List Symbol) → IsCleanOver P D p len R u → t ≤ℤ weight P y p u → pos (most len) ≤ℤ (weight P y p u +ℤ pos n) → ⊥
-none_weighs P D p len R y t small none zero u clean le near =
-    no_heaviest P D p len R y t none u
-    (record { clean = clean; heaviest = λ v k. at_most (weight P y p v) (weight P y p u) (pos (most len)) (subst (λ n. weight P y p v ≤ℤ pos (most n)) k.long (weight_few P y p v small)) near }) le
-none_weighs P D p len R y t small none (suc n) u clean le near =
-    no_heaviest P D p len R y t none u
+no_heaviest : (P : Instance) (D : Domains) (p len : ℕ) (R : List ℕ) (weighs : List Symbol → ℤ) (t : ℤ) → NoneWeighs P D p len R weighs t → (u : List Symbol) → IsHeaviestBy P D p len R weighs u → t ≤ℤ weighs u → ⊥
+no_heaviest P D p len R weighs t none u h le =
+    least_word len (IsHeaviestBy P D p len R weighs) (λ w k. k.clean.long)
+    (λ w k first. none w (record { heavy = k; least = first }) (through t (weighs u) (weighs w) le (k.heaviest u h.clean))) u h
+
+none_weighs : (P : Instance) (D : Domains) (p len : ℕ) (R : List ℕ) (weighs : List Symbol → ℤ) (t : ℤ) (b : ℕ) → WeighAtMost P D p len R weighs b → NoneWeighs P D p len R weighs t → (n : ℕ) (u : List Symbol) → IsCleanOver P D p len R u → t ≤ℤ weighs u → pos b ≤ℤ (weighs u +ℤ pos n) → ⊥
+none_weighs P D p len R weighs t b few none zero u clean le near =
+    no_heaviest P D p len R weighs t none u (record { clean = clean; heaviest = λ v k. at_most (weighs v) (weighs u) (pos b) (few v k) near }) le
+none_weighs P D p len R weighs t b few none (suc n) u clean le near =
+    no_heaviest P D p len R weighs t none u
     (record {
       clean = clean;
       heaviest = λ v k.
-          elim (le_or_lt (weight P y p v) (weight P y p u)) [
-            | inl few ↦ few
-            | inr more ↦ absurd (none_weighs P D p len R y t small none n v k (before t (weight P y p u) (weight P y p v) le more) (nearer (weight P y p v) (weight P y p u) (pos (most len)) n near more))
+          elim (le_or_lt (weighs v) (weighs u)) [
+            | inl less ↦ less
+            | inr more ↦ absurd (none_weighs P D p len R weighs t b few none n v k (before t (weighs u) (weighs v) le more) (nearer (weighs v) (weighs u) (pos b) n near more))
           ];
     }) le
 
-too_light : (P : Instance) (D : Domains) (p turns : ℕ) (R : List ℕ) (y : List Weight) → AllByRecursion IsWeight y → NoneWeighs P D p (turns * cells P) R y (pos turns *ℤ total P y) → IsTooLight P D p turns R y
-too_light P D p turns R y small none u long over clean =
-    elim (le_or_lt (pos turns *ℤ total P y) (weight P y p u)) [
+all_light : (P : Instance) (D : Domains) (p len : ℕ) (R : List ℕ) (weighs : List Symbol → ℤ) (t : ℤ) (b : ℕ) → WeighAtMost P D p len R weighs b → NoneWeighs P D p len R weighs t → (u : List Symbol) → IsCleanOver P D p len R u → weighs u <ℤ t
+all_light P D p len R weighs t b few none u clean =
+    elim (le_or_lt t (weighs u)) [
       | inr light ↦ light
-      | inl heavy ↦ (let far = enough (weight P y p u) (most (turns * cells P)) in
-          absurd (none_weighs P D p (turns * cells P) R y (pos turns *ℤ total P y) small none far.0 u (record { long = long; over = over; clean = clean }) heavy far.1))
+      | inl heavy ↦ (let far = enough (weighs u) b in absurd (none_weighs P D p len R weighs t b few none far.0 u clean heavy far.1))
     ]
+
+too_light : (P : Instance) (D : Domains) (p turns : ℕ) (R : List ℕ) (y : List Weight) → AllByRecursion IsWeight y → NoneWeighs P D p (turns * cells P) R (weight P y p) (pos turns *ℤ total P y) → IsTooLight P D p turns R y
+too_light P D p turns R y small none u long over clean =
+    all_light P D p (turns * cells P) R (weight P y p) (pos turns *ℤ total P y) (most (turns * cells P))
+    (λ v k. subst (λ n. weight P y p v ≤ℤ pos (most n)) k.long (weight_few P y p v small)) none u (record { long = long; over = over; clean = clean })
+
+-- with a reward for each free weekend, of which a word has no more than days
+
+reward_few : (w : ℤ) (m r b : ℕ) → w ≤ℤ pos m → r ≤ b → (w +ℤ pos r) ≤ℤ pos (m + b)
+reward_few w m r b h k = omega (arith, ints)
+
+free_few : (P : Instance) (y : List Weight) (reward : ℕ) (u : List Symbol) → AllByRecursion IsWeight y → free_weight P y reward 0 u ≤ℤ pos (most (length u) + reward * length u)
+free_few P y reward u small =
+    let days : free_weekends u ≤ length u = omega (arith, count_by-le-length (is_free_weekend u) (range_with_len 0 (length u)), length-range_with_len 0 (length u)) in
+    let same : reward ≤ reward = omega arith in
+    reward_few (weight P y 0 u) (most (length u)) (reward * free_weekends u) (reward * length u) (weight_few P y 0 u small) (mul-le-mul same days)
+
+too_light_free : (P : Instance) (goal : ℕ) (D : Domains) (turns reward : ℕ) (R : List ℕ) (y : List Weight) → AllByRecursion IsWeight y → NoneWeighs P D 0 (turns * cells P) R (free_weight P y reward 0) (pos turns *ℤ free_total P y reward goal) → IsTooLightFree P goal D turns reward R y
+too_light_free P goal D turns reward R y small none u long over clean =
+    let len : ℕ = turns * cells P in
+    all_light P D 0 len R (free_weight P y reward 0) (pos turns *ℤ free_total P y reward goal) (most len + reward * len)
+    (λ v k. subst (λ n. free_weight P y reward 0 v ≤ℤ pos (most n + reward * n)) k.long (free_few P y reward v small)) none u (record { long = long; over = over; clean = clean })
 
 -- a line without a cause holds
 
-abbrev HasNoCause : Instance → List ℕ → Domains → ℕ → Line → Type 0
-HasNoCause P named D n line = (why : LogRefusal) → LineCause P named D n line why → ⊥
+abbrev HasNoCause : Instance → Option ℕ → List ℕ → Domains → ℕ → Line → Type 0
+HasNoCause P goal named D n line = (why : LogRefusal) → LineCauseFor P goal named D n line why → ⊥
 
-lists_short : (P : Instance) (named : List ℕ) (D : Domains) (n : ℕ) (line : Line) → HasNoCause P named D n line → CitesOnlyNamed P named line → ListsShortOnly P line
-lists_short P named D n (Split p x) none all = tt
-lists_short P named D n (Window number p len) none all = tt
-lists_short P named D n (Day j x over) none all = tt
-lists_short P named D n (Dead p len R) none all = names_short P R (least_number (ListsLong P (Dead p len R)) (λ k least. none (Refusals.Long n k) (refl, all, least)))
-lists_short P named D n (Bound p turns R y) none all = names_short P R (least_number (ListsLong P (Bound p turns R y)) (λ k least. none (Refusals.Long n k) (refl, all, least)))
-lists_short P named D n Unfinished none all = tt
-lists_short P named D n Few none all = tt
-lists_short P named D n (Free turns reward R y) none all = names_short P R (least_number (ListsLong P (Free turns reward R y)) (λ k least. none (Refusals.Long n k) (refl, all, least)))
+lists_short : (P : Instance) (goal : Option ℕ) (named : List ℕ) (D : Domains) (n : ℕ) (line : Line) → HasNoCause P goal named D n line → CitesOnlyNamed P named line → ListsShortOnly P line
+lists_short P goal named D n (Split p x) none all = tt
+lists_short P goal named D n (Window number p len) none all = tt
+lists_short P goal named D n (Day j x over) none all = tt
+lists_short P goal named D n (Dead p len R) none all = names_short P R (least_number (ListsLong P (Dead p len R)) (λ k least. none (Refusals.Long n k) (refl, all, least)))
+lists_short P goal named D n (Bound p turns R y) none all = names_short P R (least_number (ListsLong P (Bound p turns R y)) (λ k least. none (Refusals.Long n k) (refl, all, least)))
+lists_short P goal named D n Unfinished none all = tt
+lists_short P goal named D n Few none all = tt
+lists_short P goal named D n (Free turns reward R y) none all = names_short P R (least_number (ListsLong P (Free turns reward R y)) (λ k least. none (Refusals.Long n k) (refl, all, least)))
 
-line_holds : (P : Instance) (named : List ℕ) (D : Domains) (n : ℕ) (line : Line) → LineFits P line → HasNoCause P named D n line → CitesOnlyNamed P named line → ListsShortOnly P line → (Holds P D line → ⊥) → ⊥
-line_holds P named D n (Split p x) fits none all short goes = elim (cases_Bool (is_idle P D p x.number)) [ inl idle ↦ none (Refusals.Idle n) (refl, idle) | inr useful ↦ goes useful ]
-line_holds P named D n (Window number p len) fits none all short goes = none (Refusals.Fails n) (refl, all, tt, goes)
-line_holds P named D n (Day j x over) fits none all short goes = none (Refusals.Fails n) (refl, all, tt, goes)
-line_holds P named D n (Dead p len R) fits none all short goes =
-    goes (λ u long over clean.
-    least_word len (IsCleanOver P D p len R) (λ w h. h.long) (λ w h first. none (Refusals.Escape n w) (refl, all, short, record { clean = h; least = first }))
-    u (record { long = long; over = over; clean = clean }))
-line_holds P named D n (Bound p turns R y) fits none all short goes =
+split_holds : (P : Instance) (goal : Option ℕ) (D : Domains) (p : ℕ) (x : Symbol) → is_idle P D p x.number ≡ false → HoldsFor P goal D (Split p x)
+split_holds P None D p x h = h
+split_holds P (Some goal) D p x h = h
+
+dead_holds : (P : Instance) (goal : Option ℕ) (D : Domains) (p len : ℕ) (R : List ℕ) → IsDead P D p len R → HoldsFor P goal D (Dead p len R)
+dead_holds P None D p len R h = h
+dead_holds P (Some goal) D p len R h = h
+
+dead_escapes : (P : Instance) (goal : Option ℕ) (D : Domains) (p len : ℕ) (R : List ℕ) (w : List Symbol) → IsLeastClean P D p len R w → EscapesFor P goal D (Dead p len R) w
+dead_escapes P None D p len R w h = h
+dead_escapes P (Some goal) D p len R w h = h
+
+line_holds : (P : Instance) (goal : Option ℕ) (named : List ℕ) (D : Domains) (n : ℕ) (line : Line) → LineFitsFor P goal line → HasNoCause P goal named D n line → CitesOnlyNamed P named line → ListsShortOnly P line → (HoldsFor P goal D line → ⊥) → ⊥
+line_holds P goal named D n (Split p x) fits none all short goes =
+    elim (cases_Bool (is_idle P D p x.number)) [ inl idle ↦ none (Refusals.Idle n) (refl, idle) | inr useful ↦ goes (split_holds P goal D p x useful) ]
+line_holds P goal named D n (Window number p len) fits none all short goes = none (Refusals.Fails n) (refl, all, tt, goes)
+line_holds P goal named D n (Day j x over) fits none all short goes = none (Refusals.Fails n) (refl, all, tt, goes)
+line_holds P goal named D n (Dead p len R) fits none all short goes =
+    goes (dead_holds P goal D p len R (λ u long over clean.
+    least_word len (IsCleanOver P D p len R) (λ w h. h.long)
+    (λ w h first. none (Refusals.Escape n w) (refl, all, short, dead_escapes P goal D p len R w (record { clean = h; least = first })))
+    u (record { long = long; over = over; clean = clean })))
+line_holds P None named D n (Bound p turns R y) fits none all short goes =
     goes (too_light P D p turns R y (all_to IsWeight y fits.3.0.small) (λ w heavy le. none (Refusals.Escape n w) (refl, all, short, (heavy, le))))
-line_holds P named D n Unfinished fits none all short goes = none (Refusals.Unfinished n) (refl, refl)
-line_holds P named D n Few fits none all short goes = absurd fits
-line_holds P named D n (Free turns reward R y) fits none all short goes = absurd fits
+line_holds P (Some goal) named D n (Bound p turns R y) fits none all short goes = absurd fits
+line_holds P goal named D n Unfinished fits none all short goes = none (Refusals.Unfinished n) (refl, refl)
+line_holds P goal named D n Few fits none all short goes = none (Refusals.Fails n) (refl, all, tt, goes)
+line_holds P None named D n (Free turns reward R y) fits none all short goes = absurd fits
+line_holds P (Some goal) named D n (Free turns reward R y) fits none all short goes =
+    goes (too_light_free P goal D turns reward R y (all_to IsWeight y fits.3.0.small) (λ w heavy le. none (Refusals.Escape n w) (refl, all, short, (heavy, le))))
 
-pub line_stands : (P : Instance) (named : List ℕ) (D : Domains) (n : ℕ) (line : Line) → LineFits P line → HasNoCause P named D n line → (IsSound P named D line → ⊥) → ⊥
-line_stands P named D n line fits none goes =
+pub line_stands : (P : Instance) (goal : Option ℕ) (named : List ℕ) (D : Domains) (n : ℕ) (line : Line) → LineFitsFor P goal line → HasNoCause P goal named D n line → (IsSoundFor P goal named D line → ⊥) → ⊥
+line_stands P goal named D n line fits none goes =
     let all : CitesOnlyNamed P named line = λ r c.
-    cited_is_named P named (Cites P line) r (cited_is_rule P line r fits c) (least_number (IsUnnamed P named (Cites P line)) (λ k least. none (Refusals.Unnamed n k) (refl, least))) c in
-    let short : ListsShortOnly P line = lists_short P named D n line none all in
-    line_holds P named D n line fits none all short (λ h. goes (record { named_all = all; short = short; holds = h }))
+    cited_is_named P named (Cites P line) r (cited_is_rule P goal line r fits c) (least_number (IsUnnamed P named (Cites P line)) (λ k least. none (Refusals.Unnamed n k) (refl, least))) c in
+    let short : ListsShortOnly P line = lists_short P goal named D n line none all in
+    line_holds P goal named D n line fits none all short (λ h. goes (record { named_all = all; short = short; holds = h }))

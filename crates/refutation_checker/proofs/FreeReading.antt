@@ -63,11 +63,11 @@ read_more P R goal J body left bytes rest w w' lines line is so some e reads =
     }
 
 -- the log of the lines so far is refused for nothing
-sound_front : (P : Instance) (R : List ℕ) (goal : ℕ) (lines : List Line) → AreRules P R → GoalFits P None (Some goal) → AreSoundBehindFor P (Some goal) R None [] lines → IsSoundSoFarFor P (Some goal) (free_log_with R goal lines)
+pub sound_front : (P : Instance) (R : List ℕ) (goal : ℕ) (lines : List Line) → AreRules P R → GoalFits P None (Some goal) → AreSoundBehindFor P (Some goal) R None [] lines → IsSoundSoFarFor P (Some goal) (free_log_with R goal lines)
 sound_front P R goal lines rules fits sound =
     sound_so_far_for P (Some goal) R None lines rules tt fits (record { named_day = λ r h. absurd h; allowed = tt }) sound
 
-text_so_far : (P : Instance) (R : List ℕ) (goal : ℕ) (body left : List ℕ) (lines : List Line) → body ≡ lines_text P lines ++ left → free_header_text R goal ++ body ≡ (free_header_text R goal ++ lines_text P lines) ++ left
+pub text_so_far : (P : Instance) (R : List ℕ) (goal : ℕ) (body left : List ℕ) (lines : List Line) → body ≡ lines_text P lines ++ left → free_header_text R goal ++ body ≡ (free_header_text R goal ++ lines_text P lines) ++ left
 text_so_far P R goal body left lines e =
     ap (λ t. free_header_text R goal ++ t) e ∙ sym (append_assoc (free_header_text R goal) (lines_text P lines) left)
 
@@ -78,7 +78,7 @@ never_ends P FreeVersioned line h = h
 never_ends P (BeforeGoal R) line h = h
 never_ends P (ReadingFree goal g) line h = elim h [ inl extra ↦ extra.1 | inr other ↦ other.1 ]
 
-refused_at_line : (P : Instance) (text : List ℕ) (why : LogRefusal) → IsRefusedFreeLine P text why → IsFreeRefused P text why
+pub refused_at_line : (P : Instance) (text : List ℕ) (why : LogRefusal) → IsRefusedFreeLine P text why → IsFreeRefused P text why
 refused_at_line P text (Refusals.Form i) h = h
 refused_at_line P text (Refusals.Name i) h = h
 refused_at_line P text (Refusals.Unnamed i k) h = h

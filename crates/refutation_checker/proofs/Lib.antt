@@ -12,3 +12,4 @@ pub mod SomeVerdict
 pub mod LeafJudging
 pub mod ShortTails
 pub mod FreeReading
+pub mod SomeFreeVerdict

@@ -15,15 +15,14 @@ use Rattle.refutation_terms.specs.declared.lines.LogRefusal.{LogRefusal}
 use Rattle.refutation_terms.specs.declared.lines.LogRefusal.TheVariants as Refusals
 use Rattle.refutation_terms.specs.Tree.{IsTree, domains_at}
 use Rattle.refutation_terms.specs.Log.{Log, AreRules}
-use Rattle.refutation_terms.specs.LogText.{RawLine, IsWritten, line_of, raw, line_text, version_text, rules_text, turn_text}
+use Rattle.refutation_terms.specs.LogText.{RawLine, IsWrittenFor, line_of, raw, line_text, version_text, rules_text, turn_text}
 use Rattle.rwsp_text.specs.Lines.{IsNextLine}
-use Rattle.refutation_terms.specs.Verdict.{Start, Versioned, BeforeTurn, Reading, header_lines, Cause, Spells, SpellsTurn, IsUnnamed, IsVerdict}
-use Rattle.refutation_terms.proofs.Spelled.{spelled_lines_fit, symbol_of-name}
+use Rattle.refutation_terms.specs.Verdict.{Start, Versioned, BeforeTurn, header_lines_for, Cause, CauseBehindFor, SpellsFor, SpellsTurn, IsUnnamed, IsVerdict}
+use Rattle.refutation_terms.proofs.Spelled.{spelled_lines_fit_for, symbol_of-name}
 use Rattle.refutation_log.specs.Printing.{lines_text}
-use Rattle.refutation_log.specs.ReadLog.{log_with}
 use Rattle.refutation_checker.specs.Headers.{HasHeader}
-use Rattle.refutation_checker.specs.ChunkVerdicts.{AreSoundBehind}
-use Rattle.refutation_checker.specs.LineTexts.{IsSoundNext}
+use Rattle.refutation_checker.specs.ChunkVerdicts.{AreSoundBehindFor}
+use Rattle.refutation_checker.specs.LineTexts.{IsSoundNextFor}
 use Rattle.refutation_checker.specs.Laws.{TextsHaveAVerdict}
 use Rattle.refutation_checker.proofs.HeaderFaults.{refused_at_line}
 use Rattle.refutation_checker.proofs.Judging.{cause_of_text}
@@ -34,12 +33,12 @@ abbrev HasNoVerdict : Instance → List ℕ → Type 0
 HasNoVerdict P text = (verdict : Result Log LogRefusal) → IsVerdict P text verdict → ⊥
 
 -- the first line of some bytes
-record FirstLine (bytes : List ℕ) : Type 0 where
-  line : List ℕ
-  rest : List ℕ
-  whole : bytes ≡ line ++ rest
-  is_line : IsNextLine line rest
-  shorter : length rest < length bytes
+pub record FirstLine (bytes : List ℕ) : Type 0 where
+  pub line : List ℕ
+  pub rest : List ℕ
+  pub whole : bytes ≡ line ++ rest
+  pub is_line : IsNextLine line rest
+  pub shorter : length rest < length bytes
 
 longer_line : (b : ℕ) (line rest : List ℕ) → b ≢ 10 → IsNextLine line rest → IsNextLine (b ∷ line) rest
 longer_line b line rest ne (inl h) = inl (b ∷ h.0, All-cons (λ c. c ≢ 10) b h.0 ne h.1, ap (λ t. b ∷ t) h.2)
@@ -63,7 +62,7 @@ line_with b c bytes (inr e) more = record {
   shorter = (let less = more.shorter in omega (arith, less));
 }
 
-first_line : (b : ℕ) (bytes : List ℕ) → FirstLine (b ∷ bytes)
+pub first_line : (b : ℕ) (bytes : List ℕ) → FirstLine (b ∷ bytes)
 first_line b [] = last_line b (cases_Bool (b == 10))
 first_line b (c ∷ bytes) = line_with b c bytes (cases_Bool (b == 10)) (first_line c bytes)
 
@@ -78,55 +77,72 @@ text_on P body left line rest lines l text whole spelled =
     ∙ sym (append_assoc front (own ++ []) rest)
     ∙ ap (λ t. t ++ rest) (sym (lines_joined P lines (l ∷ [])))
 
-abbrev RefusesNone : Instance → List ℕ → Option Turn → List Line → List ℕ → Type 0
-RefusesNone P R turn lines line = (why : LogRefusal) → Cause P (Reading (log_with R turn lines)) line why → ⊥
+abbrev log_on : Option ℕ → List ℕ → Option Turn → List Line → Log
+log_on goal R turn lines = record { named = R; turn = turn; goal = goal; lines = lines }
 
-abbrev Takes : Instance → List ℕ → Option Turn → List Line → List ℕ → Line → Type 0
-Takes P R turn lines line l = (line ≡ line_text P (raw P l)) × IsSoundNext P R turn lines l
+abbrev RefusesNone : Instance → Option ℕ → List ℕ → Option Turn → List Line → List ℕ → Type 0
+RefusesNone P goal R turn lines line = (why : LogRefusal) → CauseBehindFor P goal (log_on goal R turn lines) line why → ⊥
+
+abbrev Takes : Instance → Option ℕ → List ℕ → Option Turn → List Line → List ℕ → Line → Type 0
+Takes P goal R turn lines line l = (line ≡ line_text P (raw P l)) × IsSoundNextFor P goal R turn lines l
 
 -- a line that is refused for no cause is a sound next line
-spelled_stands : (P : Instance) (R : List ℕ) (turn : Option Turn) (lines : List Line) (line : List ℕ) (written : RawLine) → RefusesNone P R turn lines line → ((l : Line) → Takes P R turn lines line l → ⊥) → (IsTree lines → ⊥) → IsWritten P line written → (o : Option Line) → line_of P written ≡ o → ⊥
-spelled_stands P R turn lines line written none goes part w None e = none (Refusals.Name (header_lines turn + length lines + 1)) (inr (part, (refl, (written, w, e))))
-spelled_stands P R turn lines line written none goes part w (Some l) e =
-    let n = header_lines turn + length lines + 1 in
+spelled_stands : (P : Instance) (goal : Option ℕ) (R : List ℕ) (turn : Option Turn) (lines : List Line) (line : List ℕ) (written : RawLine) → RefusesNone P goal R turn lines line → ((l : Line) → Takes P goal R turn lines line l → ⊥) → (IsTree lines → ⊥) → IsWrittenFor P goal line written → (o : Option Line) → line_of P written ≡ o → ⊥
+spelled_stands P goal R turn lines line written none goes part w None e = none (Refusals.Name (header_lines_for goal turn + length lines + 1)) (inr (part, (refl, (written, w, e))))
+spelled_stands P goal R turn lines line written none goes part w (Some l) e =
+    let n = header_lines_for goal turn + length lines + 1 in
     let D = domains_at P turn lines (length lines) in
-    let spells : Spells P line l = (written, w, e) in
-    let fits = spelled_lines_fit P line l spells in
-    line_stands P R D n l fits.0 (λ why c. none why (inr (part, cause_of_text P None R D n line l why spells c)))
+    let spells : SpellsFor P goal line l = (written, w, e) in
+    let fits = spelled_lines_fit_for P goal line l spells in
+    line_stands P goal R D n l fits.0 (λ why c. none why (inr (part, cause_of_text P goal R D n line l why spells c)))
     (λ sound. goes l (fits.1, record { in_tree = part; fits = fits.0; sound = sound }))
 
-line_read : (P : Instance) (R : List ℕ) (turn : Option Turn) (lines : List Line) (line : List ℕ) → RefusesNone P R turn lines line → ((l : Line) → Takes P R turn lines line l → ⊥) → ⊥
-line_read P R turn lines line none goes =
-    let n = header_lines turn + length lines + 1 in
+line_read : (P : Instance) (goal : Option ℕ) (R : List ℕ) (turn : Option Turn) (lines : List Line) (line : List ℕ) → RefusesNone P goal R turn lines line → ((l : Line) → Takes P goal R turn lines line l → ⊥) → ⊥
+line_read P goal R turn lines line none goes =
+    let n = header_lines_for goal turn + length lines + 1 in
     let part : IsTree lines → ⊥ = λ t. none (Refusals.Extra n) (inl (t, refl)) in
-    none (Refusals.Form n) (inr (part, (refl, λ written w. spelled_stands P R turn lines line written none goes part w (line_of P written) refl)))
+    none (Refusals.Form n) (inr (part, (refl, λ written w. spelled_stands P goal R turn lines line written none goes part w (line_of P written) refl)))
+
+-- no sound lines of a body are all of it, whole or not, and none of them stand before a line with a cause
+pub record HasNoEnd (P : Instance) (goal : Option ℕ) (R : List ℕ) (turn : Option Turn) (body : List ℕ) : Type 0 where
+  pub all : (lines : List Line) → AreSoundBehindFor P goal R turn [] lines → body ≡ lines_text P lines → IsTree lines → ⊥
+  pub early : (lines : List Line) → AreSoundBehindFor P goal R turn [] lines → body ≡ lines_text P lines → (IsTree lines → ⊥) → ⊥
+  pub refused : (lines : List Line) (line rest : List ℕ) (why : LogRefusal) → AreSoundBehindFor P goal R turn [] lines → body ≡ lines_text P lines ++ (line ++ rest) → IsNextLine line rest → CauseBehindFor P goal (log_on goal R turn lines) line why → ⊥
 
 -- the lines behind a header, some of which have been read
-lines_on : (P : Instance) (text R body : List ℕ) (turn : Option Turn) → HasHeader P text R turn body → HasNoVerdict P text → (n : ℕ) (lines : List Line) (left : List ℕ) → length left < n → AreSoundBehind P R turn [] lines → body ≡ lines_text P lines ++ left → ⊥
-lines_on P text R body turn h none zero lines left few sound e = omega (arith, few)
-lines_on P text R body turn h none (suc n) lines [] few sound e =
+lines_on : (P : Instance) (goal : Option ℕ) (R body : List ℕ) (turn : Option Turn) → HasNoEnd P goal R turn body → (n : ℕ) (lines : List Line) (left : List ℕ) → length left < n → AreSoundBehindFor P goal R turn [] lines → body ≡ lines_text P lines ++ left → ⊥
+lines_on P goal R body turn none zero lines left few sound e = omega (arith, few)
+lines_on P goal R body turn none (suc n) lines [] few sound e =
     let all : body ≡ lines_text P lines = e ∙ append-nil (lines_text P lines) in
-    let part : IsTree lines → ⊥ = λ t.
-    (let passes = accepted P R text body turn h (record { lines = lines; sound = sound; text = all; tree = (λ _. t, λ _. refl) }) in none (Ok passes.0) passes.1) in
-    none (Err Refusals.Ends) (ends P R text body turn h (record { lines = lines; sound = sound; text = all; tree = (λ f. absurd (cc), λ t. absurd (part t)) }))
-lines_on P text R body turn h none (suc n) lines (b ∷ left) few sound e =
+    none.early lines sound all (none.all lines sound all)
+lines_on P goal R body turn none (suc n) lines (b ∷ left) few sound e =
     let next = first_line b left in
-    line_read P R turn lines next.line
-    (λ why c. none (Err why) (refused P R text body turn why h (record {
-      lines = lines;
-      line = next.line;
-      rest = next.rest;
-      sound = sound;
-      text = e ∙ ap (λ t. lines_text P lines ++ t) next.whole ∙ sym (append_assoc (lines_text P lines) next.line next.rest);
-      is_line = next.is_line;
-      cause = c;
-    })))
+    line_read P goal R turn lines next.line
+    (λ why c. none.refused lines next.line next.rest why sound (e ∙ ap (λ t. lines_text P lines ++ t) next.whole) next.is_line c)
     (λ l takes.
-    lines_on P text R body turn h none n (lines ++ l ∷ []) next.rest (let less = next.shorter in omega (arith, few, less)) (sound_joined P None R turn [] lines (l ∷ []) sound (takes.1, tt))
+    lines_on P goal R body turn none n (lines ++ l ∷ []) next.rest (let less = next.shorter in omega (arith, few, less)) (sound_joined P goal R turn [] lines (l ∷ []) sound (takes.1, tt))
     (text_on P body (b ∷ left) next.line next.rest lines l e next.whole takes.0))
 
+pub no_body : (P : Instance) (goal : Option ℕ) (R body : List ℕ) (turn : Option Turn) → HasNoEnd P goal R turn body → ⊥
+no_body P goal R body turn none = lines_on P goal R body turn none (length body + 1) [] body (omega arith) tt refl
+
 body_on : (P : Instance) (text R body : List ℕ) (turn : Option Turn) → HasHeader P text R turn body → HasNoVerdict P text → ⊥
-body_on P text R body turn h none = lines_on P text R body turn h none (length body + 1) [] body (omega arith) tt refl
+body_on P text R body turn h none = no_body P None R body turn (record {
+  all = λ lines sound all tree.
+      (let passes = accepted P R text body turn h (record { lines = lines; sound = sound; text = all; tree = (λ _. tree, λ _. refl) }) in none (Ok passes.0) passes.1);
+  early = λ lines sound all part.
+      none (Err Refusals.Ends) (ends P R text body turn h (record { lines = lines; sound = sound; text = all; tree = (λ f. absurd (cc), λ t. absurd (part t)) }));
+  refused = λ lines line rest why sound cut next c.
+      none (Err why) (refused P R text body turn why h (record {
+        lines = lines;
+        line = line;
+        rest = rest;
+        sound = sound;
+        text = cut ∙ sym (append_assoc (lines_text P lines) line rest);
+        is_line = next;
+        cause = c;
+      }));
+})
 
 -- the header
 

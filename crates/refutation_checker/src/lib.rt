@@ -20,7 +20,7 @@ mod word_leaves;
 mod workers;
 
 pub use free_check::check_free;
-pub use laws::texts_have_a_verdict;
+pub use laws::{texts_have_a_free_verdict, texts_have_a_verdict};
 pub use leaf_judge::{LeafJudge, go_past};
 pub use log_check::check_log;
 pub use potential_bounds::{Gate, NoGate};

@@ -30,6 +30,9 @@ pub fn lines_of_header(turn: Option<Turn>) -> u32
     }
 }
 
+/// The number of lines of the header of a log with a goal.
+pub const FREE_HEADER_LINES: u32 = 3;
+
 /// What is in front of a log's lines, and the bytes of these lines.
 #[derive(Drop)]
 pub struct Header<'a> {

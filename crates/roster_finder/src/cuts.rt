@@ -1,5 +1,5 @@
 // Cuts round parts of the steady layer that a fractional roster hardly leaves.
-use crate::grid::{Grid, rest, whole};
+use crate::grid::{Grid, entry_or, put, rest, whole};
 use crate::quotas::Quota;
 use crate::setting::Setting;
 use crate::steady_layer::SteadyLayer;
@@ -27,31 +27,45 @@ struct Flow {
     leaving: i64,
 }
 
-// The parts that the layer's nodes are joined to on each weekday.
+// The parts that the layer's nodes are joined to on each weekday, as trees (union-find: B. Galler and M. Fischer, 1964).
 #[derive(Drop)]
 struct Parts {
     weekdays: usize,
     nodes: usize,
-    // By weekday and node: the number of the part.
-    numbers: Grid<usize>,
+    // For each weekday and node, by `place`, another one of its part; for the root of the part itself.
+    above: Vec<usize>,
 }
 
 impl Parts {
     // A part for each node on each weekday.
     fn new(alloc: Global, layer: &SteadyLayer, weekdays: usize) -> Result<Parts, AllocError> {
         let nodes = layer.nodes();
-        let mut numbers = Grid::new(alloc, weekdays, nodes, 0)?;
-        for weekday in 0..weekdays {
-            for node in 0..nodes {
-                let number = weekday.wrapping_mul(nodes).wrapping_add(node);
-                numbers.set(weekday, node, number);
-            }
+        let mut above = Vec::new(alloc);
+        for place in 0..weekdays.saturating_mul(nodes) {
+            above.push(place)?;
         }
         Ok(Parts {
             weekdays,
             nodes,
-            numbers,
+            above,
         })
+    }
+
+    fn place(&self, weekday: usize, node: usize) -> usize {
+        weekday.wrapping_mul(self.nodes).wrapping_add(node)
+    }
+
+    // The root of a part. Takes few steps, as each join leads roots to roots.
+    fn root(&self, place: usize) -> usize {
+        let mut at = place;
+        for _ in 0..self.above.len() {
+            let above = entry_or(&self.above, at, at);
+            if above == at {
+                break;
+            }
+            at = above;
+        }
+        at
     }
 
     // The parts that a step leads from and to.
@@ -59,21 +73,19 @@ impl Parts {
         let next = rest(weekday.wrapping_add(1), self.weekdays);
         match layer.step(number) {
             Some(step) => (
-                self.numbers.at(weekday, step.from),
-                self.numbers.at(next, step.to),
+                self.root(self.place(weekday, step.from)),
+                self.root(self.place(next, step.to)),
             ),
             None => (0, 0),
         }
     }
 
-    // Joins one part to another. Costs a look at each node on each weekday.
+    // Joins one part to another, both by their roots, and leads each place right to its root.
     fn join(&mut self, part: usize, to: usize) {
-        for weekday in 0..self.weekdays {
-            for node in 0..self.nodes {
-                if self.numbers.at(weekday, node) == part {
-                    self.numbers.set(weekday, node, to);
-                }
-            }
+        put(&mut self.above, part, to);
+        for place in 0..self.above.len() {
+            let root = self.root(place);
+            put(&mut self.above, place, root);
         }
     }
 
@@ -131,7 +143,7 @@ impl Parts {
     fn join_along(
         &mut self,
         alloc: Global,
-        setting: &Setting,
+        setting: &Setting<'_>,
         used: &[Used],
         one_use: i64,
         quotas: &mut Vec<Quota>,
@@ -140,15 +152,15 @@ impl Parts {
         let days = one_use.wrapping_mul(whole(setting.demand.days.max(FEWEST_DAYS)));
         let before = quotas.len();
         for step in used {
-            let (from, to) = self.ends(&setting.layer, step.weekday, step.number);
+            let (from, to) = self.ends(setting.layer, step.weekday, step.number);
             if from == to {
                 continue;
             }
             self.join(from, to);
-            let flow = self.flow(&setting.layer, used, to);
+            let flow = self.flow(setting.layer, used, to);
             let is_large = flow.held >= days && all.wrapping_sub(flow.held) >= days;
             if is_large && flow.leaving < one_use.wrapping_mul(3) / 4 {
-                self.add_cut(alloc, &setting.layer, to, quotas)?;
+                self.add_cut(alloc, setting.layer, to, quotas)?;
             }
             if quotas.len().saturating_sub(before) >= MOST_CUTS {
                 break;
@@ -159,7 +171,11 @@ impl Parts {
 }
 
 // The steps that have a share, those of the greatest shares first.
-fn used_steps(alloc: Global, setting: &Setting, uses: &Grid<i64>) -> Result<Vec<Used>, AllocError> {
+fn used_steps(
+    alloc: Global,
+    setting: &Setting<'_>,
+    uses: &Grid<i64>,
+) -> Result<Vec<Used>, AllocError> {
     let mut used = Vec::new(alloc);
     for weekday in 0..setting.demand.days {
         for number in 0..setting.layer.steps.len() {
@@ -192,7 +208,7 @@ fn whole_flow(used: &[Used]) -> i64 {
 /// each weekday.
 pub(crate) fn add_cuts(
     alloc: Global,
-    setting: &Setting,
+    setting: &Setting<'_>,
     uses: &Grid<i64>,
     one_use: i64,
     quotas: &mut Vec<Quota>,
@@ -208,12 +224,12 @@ pub(crate) fn add_cuts(
 // Adds the cuts round the parts that the steps join.
 fn add_cuts_along(
     alloc: Global,
-    setting: &Setting,
+    setting: &Setting<'_>,
     used: &[Used],
     one_use: i64,
     quotas: &mut Vec<Quota>,
 ) -> Result<(), AllocError> {
-    let mut parts = Parts::new(alloc, &setting.layer, setting.demand.days)?;
+    let mut parts = Parts::new(alloc, setting.layer, setting.demand.days)?;
     let added = parts.join_along(alloc, setting, used, one_use, quotas);
     drop(parts);
     added

@@ -20,7 +20,7 @@ pub(crate) struct Draft {
 }
 
 impl Draft {
-    pub fn new(alloc: Global, setting: &Setting) -> Result<Draft, AllocError> {
+    pub fn new(alloc: Global, setting: &Setting<'_>) -> Result<Draft, AllocError> {
         let demand = &setting.demand;
         let walk = Walk::new(alloc, demand.days, demand.cells());
         let (walk, counters) = both(walk, Counters::new(alloc, demand))?;

@@ -5,6 +5,7 @@ ghost use Rattle.refutation_terms.specs.FreeWeekends.{free_weekends};
 ghost use Rattle.roster_finder.specs.Found.{IsRosterWith};
 
 use crate::counters::Reweighing;
+use crate::demand::Demand;
 use crate::draft::{Draft, Window};
 use crate::grid::rest;
 use crate::made::{both, with};
@@ -13,18 +14,23 @@ use crate::random::Random;
 use crate::setting::Setting;
 use crate::shares::Shares;
 use crate::start::{Due, Manner, Starter};
+use crate::steady_layer::SteadyLayer;
 use crate::window::Mover;
 use roster_checker::{first_broken, free_weekends};
 use rwsp_model::{Problem, Roster};
 use rwsp_terms::Symbol;
 use std::alloc::{AllocError, Global};
+use std::marker::Model;
 use std::mem;
 
 /// Rosters of fewer days are left to searches that distinguish cases.
 const FEWEST_CELLS: u32 = 14;
 
 /// The most windows that are rewritten.
-const MOST_MOVES: usize = 320_000;
+const MOST_MOVES: usize = 160_000;
+
+/// The most of a search that is to end soon.
+const MOST_SHORT_MOVES: usize = 16_000;
 
 /// Where a layer has many steps, this divided by their number, since each move looks at each step.
 const MOST_STEP_MOVES: usize = 36_000_000;
@@ -59,10 +65,18 @@ const PATIENCE: usize = 200;
 /// The search ends when the words that met the demand and broke a rule of long blocks have this many cells in all.
 const MOST_REFUSED: usize = 10_000_000;
 
+/// How long a search goes on that has found nothing.
+#[derive(Clone, Copy)]
+pub enum Patience {
+    /// Most rosters that can be found are found by then.
+    Short,
+    Long,
+}
+
 /// A search, as far as it is.
 #[derive(Drop)]
-struct Finder {
-    setting: Setting,
+struct Search<'a> {
+    setting: Setting<'a>,
     shares: Shares,
     random: Random,
     draft: Draft,
@@ -75,14 +89,13 @@ struct Finder {
     since: usize,
 }
 
-impl Finder {
+impl<'a> Search<'a> {
     // A search without a word yet. None where there are no shares.
-    fn new(alloc: Global, problem: &Problem, free: u32) -> Result<Option<Finder>, AllocError> {
-        let setting = Setting::of(alloc, problem, free)?;
+    fn new(alloc: Global, setting: Setting<'a>) -> Result<Option<Search<'a>>, AllocError> {
         let mut random = Random::new();
         let parts = parts_for(alloc, &setting, &mut random);
         match with(setting, parts)? {
-            Some((setting, (shares, ((draft, other), (starter, mover))))) => Ok(Some(Finder {
+            Some((setting, (shares, ((draft, other), (starter, mover))))) => Ok(Some(Search {
                 setting,
                 shares,
                 random,
@@ -232,28 +245,29 @@ impl Finder {
     }
 
     // At most this many moves are made.
-    fn most_moves(&self) -> usize {
-        let most = if self.shares.hang_together {
-            MOST_MOVES
-        } else {
-            MOST_LOOSE_MOVES
+    fn most_moves(&self, patience: Patience) -> usize {
+        let most = match patience {
+            Patience::Short => MOST_SHORT_MOVES,
+            Patience::Long if self.shares.hang_together => MOST_MOVES,
+            Patience::Long => MOST_LOOSE_MOVES,
         };
         let affordable = MOST_STEP_MOVES.checked_div(self.setting.layer.steps.len());
         affordable.unwrap_or(0).min(most)
     }
 
     // Rewrites windows until the word is a roster that meets every rule and has `free` free weekends at least.
-    fn search(
+    fn run(
         &mut self,
         alloc: Global,
         problem: &Problem,
         free: u32,
+        patience: Patience,
     ) -> Result<Option<Roster>, AllocError>
         requires { 0 < free → problem.now.days ≡ 7 }
         ensures { IfOk result (λ found. IfSome found (IsRosterWith problem.now free)) }
     {
         let mut refused: usize = 0;
-        for turn in 0..self.most_moves() {
+        for turn in 0..self.most_moves(patience) {
             self.renew_shares(alloc, turn)?;
             if !self.renew_word(turn) || refused > MOST_REFUSED {
                 return Ok(None);
@@ -277,7 +291,7 @@ type Room = ((Draft, Draft), (Starter, Mover));
 // The first shares, and room to search. None where there are no shares.
 fn parts_for(
     alloc: Global,
-    setting: &Setting,
+    setting: &Setting<'_>,
     random: &mut Random,
 ) -> Result<Option<(Shares, Room)>, AllocError> {
     if setting.layer.nodes() == 0 {
@@ -290,7 +304,7 @@ fn parts_for(
 }
 
 // Two words to be written, and room for start words and moves.
-fn room_for(alloc: Global, setting: &Setting) -> Result<Room, AllocError> {
+fn room_for(alloc: Global, setting: &Setting<'_>) -> Result<Room, AllocError> {
     both(
         both(Draft::new(alloc, setting), Draft::new(alloc, setting)),
         both(Starter::new(alloc, setting), Mover::new(alloc, setting)),
@@ -304,7 +318,7 @@ fn set_block_ranges(draft: &mut Draft, shares: &Shares) {
 }
 
 // The roster of these symbols, where it meets every rule and has `free` free weekends at least.
-fn met_roster(
+pub(crate) fn met_roster(
     alloc: Global,
     problem: &Problem,
     free: u32,
@@ -362,46 +376,80 @@ fn roster_of(problem: &Problem, cells: Vec<Symbol>) -> Option<Roster>
     Some(Roster::of(problem, cells))
 }
 
-/// A roster that meets every rule, or None. None says nothing: another search may find one.
+/// A search for rosters of a problem that distinguishes no cases.
 ///
 /// A fractional roster is found first, that is, how often each step of clean words is taken on each weekday in the
 /// mean (G. Dantzig and P. Wolfe's generation of columns, 1960). Words that follow it meet the demand nearly; windows
 /// of them are then rewritten, each by the clean word that fits best, until the demand is met. The same problem gives
-/// the same answer each time. Costs at most some seconds.
-pub fn find_roster(alloc: Global, problem: &Problem) -> Result<Option<Roster>, AllocError>
-    ensures { IfOk result (λ found.
-        IfSome found (λ s. (s.days ≡ problem.now.days) × MeetsAll problem.now s.cells)) }
-{
-    find(alloc, problem, 0)
+/// the same answer each time.
+#[derive(Drop)]
+pub struct RosterFinder<'a> {
+    problem: &'a Problem,
+    layer: SteadyLayer,
 }
 
-/// A roster that meets every rule and has at least `free` free weekends, or None. None says nothing: another search may
-/// find one. It is looked for as `find_roster` does, with free weekends as one more count.
-pub fn find_roster_with(
-    alloc: Global,
-    problem: &Problem,
-    free: u32,
-) -> Result<Option<Roster>, AllocError>
-    requires { problem.now.days ≡ 7 }
-    ensures { IfOk result (λ found. IfSome found (λ s.
-        (s.days ≡ problem.now.days) × MeetsAll problem.now s.cells × (free ≤ free_weekends s.cells))) }
-{
-    find(alloc, problem, free)
+impl<'a> Model for RosterFinder<'a> {
+    ghost use Rattle.rwsp_terms.specs.Instance.{Instance};
+
+    ghost Value = { Instance };
+
+    ghost view = { λ f. f.problem.now };
 }
 
-fn find(alloc: Global, problem: &Problem, free: u32) -> Result<Option<Roster>, AllocError>
-    requires { 0 < free → problem.now.days ≡ 7 }
-    ensures { IfOk result (λ found. IfSome found (IsRosterWith problem.now free)) }
-{
-    if problem.cells() < FEWEST_CELLS {
-        return Ok(None);
+impl<'a> RosterFinder<'a> {
+    /// A search for rosters of the problem.
+    pub fn new(alloc: Global, problem: &'a Problem) -> Result<RosterFinder<'a>, AllocError>
+        ensures { IfOk result (λ f. f ≡ problem.now) }
+    {
+        Ok(RosterFinder {
+            problem,
+            layer: SteadyLayer::of(alloc, problem)?,
+        })
     }
-    match Finder::new(alloc, problem, free)? {
-        Some(mut finder) => {
-            let found = finder.search(alloc, problem, free);
-            drop(finder);
-            found
+
+    /// The problem.
+    pub fn problem(&self) -> &Problem
+        ensures { result.now ≡ self.now }
+    {
+        self.problem
+    }
+
+    /// A roster that meets every rule and has at least `free` free weekends, or None. None says nothing: another search
+    /// may find one. Costs at most some seconds.
+    pub fn find(
+        &self,
+        alloc: Global,
+        free: u32,
+        patience: Patience,
+    ) -> Result<Option<Roster>, AllocError>
+        requires { 0 < free → self.now.days ≡ 7 }
+        ensures { IfOk result (λ found. IfSome found (IsRosterWith self.now free)) }
+    {
+        if self.problem.cells() < FEWEST_CELLS {
+            return Ok(None);
         }
-        None => Ok(None),
+        let setting = Setting {
+            layer: &self.layer,
+            demand: Demand::of(alloc, self.problem, free)?,
+        };
+        match Search::new(alloc, setting)? {
+            Some(mut search) => {
+                let found = search.run(alloc, self.problem, free, patience);
+                drop(search);
+                found
+            }
+            None => Ok(None),
+        }
     }
+}
+
+/// A roster that meets every rule, or None, as `RosterFinder` finds it.
+pub fn find_roster(alloc: Global, problem: &Problem) -> Result<Option<Roster>, AllocError>
+    ensures { IfOk result (λ found. IfSome found (λ s.
+        (s.days ≡ problem.now.days) × MeetsAll problem.now s.cells)) }
+{
+    let finder = RosterFinder::new(alloc, problem)?;
+    let found = finder.find(alloc, 0, Patience::Long);
+    drop(finder);
+    found
 }

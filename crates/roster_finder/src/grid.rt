@@ -41,6 +41,17 @@ impl<T: Copy + Drop> Grid<T> {
         put(&mut self.entries, place, value);
     }
 
+    /// The values of a row; none outside of the table.
+    pub fn row(&self, row: usize) -> &[T] {
+        let first = row.saturating_mul(self.columns);
+        let end = first.saturating_add(self.columns);
+        if first <= end && end <= self.entries.len() {
+            &self.entries[first..end]
+        } else {
+            &[]
+        }
+    }
+
     /// Writes the outside's value everywhere.
     pub fn clear(&mut self) {
         set_all(&mut self.entries, self.outside);

@@ -9,6 +9,8 @@ mod draft;
 mod finding;
 mod grid;
 mod heavy_word;
+#[cfg(test)]
+mod layer_tests;
 mod made;
 mod mixture;
 mod prices;
@@ -18,9 +20,7 @@ mod setting;
 mod shares;
 mod start;
 mod steady_layer;
-mod tail_classes;
-mod tail_graph;
 mod walk;
 mod window;
 
-pub use finding::{find_roster, find_roster_with};
+pub use finding::{Patience, RosterFinder, find_roster};

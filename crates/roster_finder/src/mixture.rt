@@ -10,16 +10,22 @@ use nearest_point::{Hull, SCALE};
 use std::alloc::{AllocError, Global};
 use std::mem;
 
-/// About how many days a word has: enough that its free ends matter little.
-const WORD_DAYS: usize = 3_000;
+/// About how many days a word has: enough that it comes back to a node, and a part of it leads round.
+const WORD_DAYS: usize = 448;
 
-/// How often a word goes through all weeks at least.
-const FEWEST_TURNS: usize = 2;
+/// The fewest weeks of a word.
+const FEWEST_WEEKS: usize = 24;
+
+/// About how many days a word has that is to say that none is heavy enough: so many that its free ends matter little.
+const LONG_WORD_DAYS: usize = 3_000;
+
+/// About how many days the coordinates of a word count.
+const COUNTED_DAYS: usize = 16_800;
 
 /// The most words that are weighed for a first mixture, and for one with new cuts.
 const FIRST_ROUNDS: usize = 200;
 
-const CUT_ROUNDS: usize = 40;
+const CUT_ROUNDS: usize = 80;
 
 /// About the most steps that are looked at for a mixture.
 const MOST_LOOKS: usize = 400_000_000;
@@ -34,7 +40,15 @@ const MANY_WORDS: usize = 100;
 const GREATEST_STEP_WEIGHT: i64 = 100_000;
 
 /// A mixture is near the demand where each of its numbers is off by less than this.
-const NEAR: i64 = SCALE as i64 / 64;
+const NEAR: i64 = SCALE as i64 / 16;
+
+/// What came of a word that was to be added.
+#[derive(Clone, Copy)]
+enum Addition {
+    Added,
+    Known,
+    TooLight,
+}
 
 /// Words, and a mixture of them.
 #[derive(Drop)]
@@ -43,8 +57,11 @@ pub(crate) struct Mixture {
     pub quotas: Vec<Quota>,
     // How many words are weighed at most.
     rounds: usize,
-    // How often each word goes through all weeks.
+    // For how many turns through all weeks the coordinates of words count.
     turns: usize,
+    // The weeks of a word, and of a long one.
+    word_weeks: usize,
+    long_weeks: usize,
     words: Vec<HeavyWord>,
     hull: Hull,
     weigher: Weigher,
@@ -54,22 +71,22 @@ pub(crate) struct Mixture {
 
 impl Mixture {
     /// No words yet, and no cuts.
-    pub fn new(alloc: Global, setting: &Setting) -> Result<Mixture, AllocError> {
-        let Setting { layer, demand } = setting;
-        let turns = WORD_DAYS
-            .checked_div(demand.cells())
-            .unwrap_or(0)
-            .max(FEWEST_TURNS);
+    pub fn new(alloc: Global, setting: &Setting<'_>) -> Result<Mixture, AllocError> {
+        let demand = &setting.demand;
+        let turns = times_within(COUNTED_DAYS, demand.cells()).max(1);
+        let word_weeks = times_within(WORD_DAYS, demand.days).max(FEWEST_WEEKS);
+        let long_weeks = times_within(LONG_WORD_DAYS, demand.days).max(word_weeks);
         let quotas = first_quotas(alloc, setting)?;
         let hull = hull_of(alloc, demand, turns, &quotas);
         let goal = both(Ok(quotas), hull);
-        let len = demand.cells().saturating_mul(turns);
-        let weights = Grid::new(alloc, demand.days, layer.steps.len(), 0);
-        let room = both(Weigher::new(alloc, setting, len), weights);
+        let weights = Grid::new(alloc, demand.days, setting.layer.steps.len(), 0);
+        let room = both(Weigher::new(alloc, setting, long_weeks), weights);
         let ((quotas, hull), (weigher, weights)) = both(goal, room)?;
         Ok(Mixture {
             rounds: FIRST_ROUNDS,
             turns,
+            word_weeks,
+            long_weeks,
             words: Vec::new(alloc),
             hull,
             weigher,
@@ -83,7 +100,7 @@ impl Mixture {
     pub fn approach(
         &mut self,
         alloc: Global,
-        setting: &Setting,
+        setting: &Setting<'_>,
         random: &mut Random,
         noise: usize,
     ) -> Result<bool, AllocError> {
@@ -101,25 +118,51 @@ impl Mixture {
         Ok(true)
     }
 
-    // Adds the heaviest word. Some where it isn't added: false where it isn't heavy enough, true where it is there
-    // already.
+    // Adds a heaviest word that leads round. Some where none is added: false where none is heavy enough, true where it is
+    // there already.
     fn add_heaviest(
         &mut self,
         alloc: Global,
-        setting: &Setting,
+        setting: &Setting<'_>,
         far: i64,
     ) -> Result<Option<bool>, AllocError> {
-        let word = self.weigher.heaviest(alloc, &setting.layer, &self.weights)?;
-        if word.weight < self.wanted_weight(&setting.demand, far) {
-            drop(word);
-            return Ok(Some(false));
+        let wanted = self.wanted_weight(&setting.demand, far);
+        if let Addition::Added = self.add_from(alloc, setting, self.word_weeks, wanted)? {
+            return Ok(None);
         }
-        let is_new = self.add_word(alloc, setting, word)?;
-        Ok(if is_new { None } else { Some(true) })
+        match self.add_from(alloc, setting, self.long_weeks, wanted)? {
+            Addition::Added => Ok(None),
+            Addition::Known => Ok(Some(true)),
+            Addition::TooLight => Ok(Some(false)),
+        }
     }
 
-    fn rounds(&self, setting: &Setting) -> usize {
-        let days = setting.demand.cells().saturating_mul(self.turns);
+    // Adds the word that leads round of the heaviest of `weeks` weeks, if it is heavy enough.
+    fn add_from(
+        &mut self,
+        alloc: Global,
+        setting: &Setting<'_>,
+        weeks: usize,
+        wanted: i64,
+    ) -> Result<Addition, AllocError> {
+        let word = self
+            .weigher
+            .heaviest(alloc, setting.layer, &self.weights, weeks)?;
+        let weight = word.weight.wrapping_mul(whole(setting.demand.weeks));
+        if weight < wanted.wrapping_mul(whole(word.weeks)) {
+            drop(word);
+            return Ok(Addition::TooLight);
+        }
+        if self.add_word(alloc, setting, word)? {
+            Ok(Addition::Added)
+        } else {
+            Ok(Addition::Known)
+        }
+    }
+
+    // How many words may be weighed.
+    fn rounds(&self, setting: &Setting<'_>) -> usize {
+        let days = setting.demand.days.saturating_mul(self.word_weeks);
         let looks = days.saturating_mul(setting.layer.steps.len());
         let affordable = MOST_LOOKS.checked_div(looks).unwrap_or(0);
         affordable.min(self.rounds)
@@ -129,10 +172,10 @@ impl Mixture {
     fn add_word(
         &mut self,
         alloc: Global,
-        setting: &Setting,
+        setting: &Setting<'_>,
         word: HeavyWord,
     ) -> Result<bool, AllocError> {
-        match self.add_row(alloc, setting, &word.uses) {
+        match self.add_row(alloc, setting, &word) {
             Ok(true) => self.words.push(word)?,
             other => {
                 drop(word);
@@ -150,10 +193,10 @@ impl Mixture {
     fn add_row(
         &mut self,
         alloc: Global,
-        setting: &Setting,
-        uses: &Grid<i64>,
+        setting: &Setting<'_>,
+        word: &HeavyWord,
     ) -> Result<bool, AllocError> {
-        let row = row_of(alloc, setting, &self.quotas, uses)?;
+        let row = row_of(alloc, setting, &self.quotas, word, self.turns)?;
         if self.hull.contains(&row) {
             return Ok(false);
         }
@@ -175,7 +218,7 @@ impl Mixture {
         quotient(off.wrapping_mul(GREATEST_STEP_WEIGHT), far)
     }
 
-    fn set_weights(&mut self, setting: &Setting, random: &mut Random, noise: usize, far: i64) {
+    fn set_weights(&mut self, setting: &Setting<'_>, random: &mut Random, noise: usize, far: i64) {
         for weekday in 0..setting.demand.days {
             self.set_day_weights(setting, random, noise, far, weekday);
         }
@@ -189,7 +232,7 @@ impl Mixture {
 
     fn set_day_weights(
         &mut self,
-        setting: &Setting,
+        setting: &Setting<'_>,
         random: &mut Random,
         noise: usize,
         far: i64,
@@ -204,7 +247,7 @@ impl Mixture {
         }
     }
 
-    // What each word weighs at least that meets the demand and the quotas, as it goes through all weeks.
+    // What each word of all weeks weighs at least that meets the demand and the quotas.
     fn wanted_weight(&self, demand: &Demand, far: i64) -> i64 {
         let mut sum: i64 = 0;
         for weekday in 0..demand.days {
@@ -214,7 +257,7 @@ impl Mixture {
             let weight = self.weight(quota_coordinate(demand, place), far);
             sum = sum.wrapping_add(weight.wrapping_mul(quota.least));
         }
-        sum.wrapping_mul(whole(self.turns))
+        sum
     }
 
     fn wanted_on(&self, demand: &Demand, far: i64, weekday: usize) -> i64 {
@@ -237,32 +280,37 @@ impl Mixture {
     pub fn uses(
         &self,
         alloc: Global,
-        setting: &Setting,
+        setting: &Setting<'_>,
         one_use: i64,
     ) -> Result<Grid<i64>, AllocError> {
         let steps = setting.layer.steps.len();
+        let weeks = setting.demand.weeks;
         let mut uses = Grid::new(alloc, setting.demand.days, steps, 0)?;
         for weekday in 0..setting.demand.days {
             for number in 0..steps {
-                uses.set(weekday, number, self.mixed_uses(weekday, number, one_use));
+                uses.set(
+                    weekday,
+                    number,
+                    self.mixed_uses(weekday, number, weeks, one_use),
+                );
             }
         }
         Ok(uses)
     }
 
-    fn mixed_uses(&self, weekday: usize, number: usize, one_use: i64) -> i64 {
+    fn mixed_uses(&self, weekday: usize, number: usize, weeks: usize, one_use: i64) -> i64 {
         let mut sum: i64 = 0;
         for (place, word) in self.words.iter().enumerate() {
             let part = entry_or(self.hull.parts(), place, 0);
-            let times = word.uses.at(weekday, number);
-            sum = sum.wrapping_add(times.wrapping_mul(i64::from(part)));
+            let uses = word.uses.at(weekday, number).wrapping_mul(one_use);
+            let mean = in_weeks(uses, word, weeks);
+            sum = sum.wrapping_add(mean.wrapping_mul(i64::from(part)));
         }
-        let turns = i64::from(SCALE).wrapping_mul(whole(self.turns));
-        quotient(sum.wrapping_mul(one_use), turns)
+        quotient(sum, i64::from(SCALE))
     }
 
     /// Takes new cuts into account. Each word keeps its part.
-    pub fn renew(&mut self, alloc: Global, setting: &Setting) -> Result<(), AllocError> {
+    pub fn renew(&mut self, alloc: Global, setting: &Setting<'_>) -> Result<(), AllocError> {
         let mut hull = hull_of(alloc, &setting.demand, self.turns, &self.quotas)?;
         let put = self.put_words(alloc, setting, &mut hull);
         let hull = kept(hull, put)?;
@@ -275,12 +323,12 @@ impl Mixture {
     fn put_words(
         &self,
         alloc: Global,
-        setting: &Setting,
+        setting: &Setting<'_>,
         hull: &mut Hull,
     ) -> Result<(), AllocError> {
         for (place, word) in self.words.iter().enumerate() {
             let part = entry_or(self.hull.parts(), place, 0);
-            let row = row_of(alloc, setting, &self.quotas, &word.uses)?;
+            let row = row_of(alloc, setting, &self.quotas, word, self.turns)?;
             hull.push_part(row, part)?;
         }
         Ok(())
@@ -307,7 +355,7 @@ fn furthest(numbers: &[i64]) -> i64 {
 }
 
 // The quota of free weekends, where some are wanted.
-fn first_quotas(alloc: Global, setting: &Setting) -> Result<Vec<Quota>, AllocError> {
+fn first_quotas(alloc: Global, setting: &Setting<'_>) -> Result<Vec<Quota>, AllocError> {
     if setting.demand.free == 0 {
         return Ok(Vec::new(alloc));
     }
@@ -367,37 +415,49 @@ fn put_range(
     Ok(())
 }
 
-// The coordinates of a word: how often it has each symbol on each weekday, and what it has of each quota.
+// The coordinates of a word, as it goes through all weeks `turns` times in the mean: how often it has each symbol on each
+// weekday, and what it has of each quota.
 fn row_of(
     alloc: Global,
-    setting: &Setting,
+    setting: &Setting<'_>,
     quotas: &[Quota],
-    uses: &Grid<i64>,
+    word: &HeavyWord,
+    turns: usize,
 ) -> Result<Vec<i64>, AllocError> {
     let mut row = Vec::new(alloc);
-    let put = put_row(setting, quotas, uses, &mut row);
+    let put = put_row(setting, quotas, word, turns, &mut row);
     kept(row, put)
 }
 
 // Puts the coordinates of a word behind those that are there.
 fn put_row(
-    setting: &Setting,
+    setting: &Setting<'_>,
     quotas: &[Quota],
-    uses: &Grid<i64>,
+    word: &HeavyWord,
+    turns: usize,
     row: &mut Vec<i64>,
 ) -> Result<(), AllocError> {
+    let weeks = setting.demand.weeks.saturating_mul(turns);
     for symbol in 0..setting.demand.symbols {
         for weekday in 0..setting.demand.days {
-            row.push(count_of(setting, uses, symbol, weekday))?;
+            let count = count_of(setting, &word.uses, symbol, weekday);
+            row.push(in_weeks(count, word, weeks))?;
         }
     }
     for quota in quotas {
-        row.push(quota.uses(uses))?;
+        row.push(in_weeks(quota.uses(&word.uses), word, weeks))?;
     }
     Ok(())
 }
 
-fn count_of(setting: &Setting, uses: &Grid<i64>, symbol: usize, weekday: usize) -> i64 {
+// What a count within a word is within `weeks` weeks in the mean, rounded.
+fn in_weeks(count: i64, word: &HeavyWord, weeks: usize) -> i64 {
+    let of = whole(word.weeks);
+    let half = quotient(of, 2);
+    quotient(count.wrapping_mul(whole(weeks)).wrapping_add(half), of)
+}
+
+fn count_of(setting: &Setting<'_>, uses: &Grid<i64>, symbol: usize, weekday: usize) -> i64 {
     let mut sum: i64 = 0;
     for (number, step) in setting.layer.steps.iter().enumerate() {
         if step.symbol == symbol {
@@ -405,4 +465,9 @@ fn count_of(setting: &Setting, uses: &Grid<i64>, symbol: usize, weekday: usize) 
         }
     }
     sum
+}
+
+// A whole quotient; 0 for a divisor of 0.
+fn times_within(number: usize, divisor: usize) -> usize {
+    number.checked_div(divisor).unwrap_or(0)
 }

@@ -40,7 +40,7 @@ pub(crate) struct Prices {
 }
 
 impl Prices {
-    pub fn new(alloc: Global, setting: &Setting) -> Result<Prices, AllocError> {
+    pub fn new(alloc: Global, setting: &Setting<'_>) -> Result<Prices, AllocError> {
         let symbols = setting.demand.symbols;
         let weekdays = setting.demand.days;
         let none = Hand {

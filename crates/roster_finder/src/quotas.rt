@@ -12,7 +12,7 @@ pub(crate) struct Quota {
 
 impl Quota {
     /// Free weekends: the steps on the last day of a week that is off like the day before.
-    pub fn of_weekends(alloc: Global, setting: &Setting) -> Result<Quota, AllocError> {
+    pub fn of_weekends(alloc: Global, setting: &Setting<'_>) -> Result<Quota, AllocError> {
         let mut steps = Vec::new(alloc);
         for weekday in 0..setting.demand.days {
             for (number, step) in setting.layer.steps.iter().enumerate() {

@@ -36,7 +36,7 @@ impl Shares {
     /// that is led over all cuts.
     pub fn of(
         alloc: Global,
-        setting: &Setting,
+        setting: &Setting<'_>,
         random: &mut Random,
         noise: usize,
     ) -> Result<Option<Shares>, AllocError> {
@@ -49,7 +49,7 @@ impl Shares {
     // Those of a mixture that has no words yet.
     fn of_mixture(
         alloc: Global,
-        setting: &Setting,
+        setting: &Setting<'_>,
         random: &mut Random,
         noise: usize,
         mixture: &mut Mixture,
@@ -65,7 +65,7 @@ impl Shares {
 
     fn from_uses(
         alloc: Global,
-        setting: &Setting,
+        setting: &Setting<'_>,
         uses: Grid<i64>,
         hang_together: bool,
     ) -> Result<Shares, AllocError> {
@@ -99,7 +99,7 @@ impl Shares {
 // the last one that was led over those before.
 fn lead_over_cuts(
     alloc: Global,
-    setting: &Setting,
+    setting: &Setting<'_>,
     random: &mut Random,
     noise: usize,
     mixture: &mut Mixture,
@@ -120,7 +120,7 @@ fn lead_over_cuts(
 }
 
 // The whole numbers next to the number of a symbol's blocks.
-fn block_range(setting: &Setting, uses: &Grid<i64>, symbol: usize) -> Range {
+fn block_range(setting: &Setting<'_>, uses: &Grid<i64>, symbol: usize) -> Range {
     let mut sum: i64 = 0;
     for weekday in 0..setting.demand.days {
         sum = sum.wrapping_add(blocks_on(setting, uses, symbol, weekday));
@@ -133,7 +133,7 @@ fn block_range(setting: &Setting, uses: &Grid<i64>, symbol: usize) -> Range {
 }
 
 // How many blocks of a symbol begin on a weekday.
-fn blocks_on(setting: &Setting, uses: &Grid<i64>, symbol: usize, weekday: usize) -> i64 {
+fn blocks_on(setting: &Setting<'_>, uses: &Grid<i64>, symbol: usize, weekday: usize) -> i64 {
     let mut sum: i64 = 0;
     for (number, step) in setting.layer.steps.iter().enumerate() {
         if step.begins && step.symbol == symbol {

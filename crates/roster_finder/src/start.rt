@@ -45,32 +45,42 @@ pub(crate) struct Starter {
     closes: Grid<bool>,
     // By weekday and step: how often it was taken.
     taken: Grid<i64>,
+    // How the present start word is written.
+    manner: Manner,
 }
 
 impl Starter {
-    pub fn new(alloc: Global, setting: &Setting) -> Result<Starter, AllocError> {
+    pub fn new(alloc: Global, setting: &Setting<'_>) -> Result<Starter, AllocError> {
         let days = setting.demand.cells().saturating_add(1);
         let closes = Grid::new(alloc, days, setting.layer.nodes(), false);
         let taken = Grid::new(alloc, setting.demand.days, setting.layer.steps.len(), 0);
         let (closes, taken) = both(closes, taken)?;
-        Ok(Starter { closes, taken })
+        Ok(Starter {
+            closes,
+            taken,
+            manner: Manner {
+                due: Due::InAll,
+                noise: 0,
+            },
+        })
     }
 
     /// Writes a start word and counts it. False where each of the first nodes that were drawn has no closed walk.
     pub fn start(
         &mut self,
-        setting: &Setting,
+        setting: &Setting<'_>,
         shares: &Shares,
         draft: &mut Draft,
         random: &mut Random,
         manner: Manner,
     ) -> bool {
+        self.manner = manner;
         for _ in 0..DRAWS {
-            let first = drawn_node(&setting.layer, shares, random);
-            self.mark_closing(&setting.layer, draft.walk.cells(), first);
+            let first = drawn_node(setting.layer, shares, random);
+            self.mark_closing(setting.layer, draft.walk.cells(), first);
             if self.closes.at(0, first) {
                 draft.walk.set_node(0, first);
-                self.write(setting, shares, draft, random, manner);
+                self.write(setting, shares, draft, random);
                 draft.count_all();
                 return true;
             }
@@ -99,17 +109,16 @@ impl Starter {
     // Writes the word day by day from its first node, and counts the symbols.
     fn write(
         &mut self,
-        setting: &Setting,
+        setting: &Setting<'_>,
         shares: &Shares,
         draft: &mut Draft,
         random: &mut Random,
-        manner: Manner,
     ) {
         self.taken.clear();
         draft.counters.clear_counts();
         for day in 0..draft.walk.cells() {
-            if let Some(number) = self.best_step(setting, shares, draft, random, manner, day) {
-                self.take(&setting.layer, draft, day, number);
+            if let Some(number) = self.best_step(setting, shares, draft, random, day) {
+                self.take(setting.layer, draft, day, number);
             }
         }
     }
@@ -129,24 +138,23 @@ impl Starter {
     // The number of the step that is most due among those after which the walk can be closed.
     fn best_step(
         &self,
-        setting: &Setting,
+        setting: &Setting<'_>,
         shares: &Shares,
         draft: &Draft,
         random: &mut Random,
-        manner: Manner,
         day: usize,
     ) -> Option<usize> {
         let node = draft.walk.node(day);
         let mut most = i64::MIN;
         let mut best = None;
         for symbol in 0..setting.layer.symbols {
-            let Some(number) = self.closing_step(&setting.layer, day, node, symbol) else {
+            let Some(number) = self.closing_step(setting.layer, day, node, symbol) else {
                 continue;
             };
             let due = self
-                .due_uses(shares, &draft.walk, manner.due, day, number)
+                .due_uses(shares, &draft.walk, day, number)
                 .wrapping_add(due_weeks(draft, day, symbol))
-                .wrapping_add(random.noise(manner.noise));
+                .wrapping_add(random.noise(self.manner.noise));
             if due > most {
                 most = due;
                 best = Some(number);
@@ -173,7 +181,7 @@ impl Starter {
     }
 
     // What a step counts on a day by its share and by how often it was taken.
-    fn due_uses(&self, shares: &Shares, walk: &Walk, due: Due, day: usize, number: usize) -> i64 {
+    fn due_uses(&self, shares: &Shares, walk: &Walk, day: usize, number: usize) -> i64 {
         let weekday = walk.weekday(day);
         let share = shares.uses(weekday, number);
         let taken = STEP_DUE.wrapping_mul(self.taken.at(weekday, number));
@@ -181,7 +189,7 @@ impl Starter {
             return taken.wrapping_neg().wrapping_sub(NO_SHARE);
         }
         let in_all = quotient(STEP_DUE.wrapping_mul(share), ONE_USE);
-        let wanted = match due {
+        let wanted = match self.manner.due {
             Due::InAll => in_all,
             Due::SoFar => {
                 let days = whole(day.wrapping_add(1));

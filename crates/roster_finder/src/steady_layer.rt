@@ -1,10 +1,10 @@
 // The one layer that long clean words pass through day by day.
-use crate::grid::{Grid, entry_or};
-use crate::made::kept;
-use crate::tail_classes::{TailClasses, last_of};
-use crate::tail_graph::TailGraph;
+use crate::grid::{Grid, entry_or, put};
+use crate::made::{both, kept};
+use rule_automaton::{Automaton, Told};
+use rwsp_model::Problem;
 use std::alloc::{AllocError, Global};
-use word_tail::TailRules;
+use std::mem;
 
 /// The last weekday of a weekend, which has two days.
 pub(crate) const LAST_OF_WEEKEND: usize = 6;
@@ -28,8 +28,9 @@ impl Step {
     }
 }
 
-/// The nodes that clean words without end pass through, and the steps between them. A node stands for all tails that
-/// end in one symbol and have one future, so a closed walk through nodes is a clean cyclic word.
+/// The nodes that clean words without beginning and end pass through, and the steps between them. A node is a state of
+/// the automaton of the short rules, where each state tells the last symbol. A part of a clean word is clean, so a closed
+/// walk through nodes is a clean cyclic word.
 #[derive(Drop)]
 pub(crate) struct SteadyLayer {
     /// The number of symbols, the day off among them.
@@ -43,68 +44,87 @@ pub(crate) struct SteadyLayer {
 }
 
 impl SteadyLayer {
-    pub fn of(alloc: Global, rules: &TailRules, shifts: u8) -> Result<SteadyLayer, AllocError> {
-        let graph = TailGraph::of(alloc, rules, shifts)?;
-        let layer = SteadyLayer::of_graph(alloc, &graph);
-        drop(graph);
+    /// The layer of a problem's words.
+    pub fn of(alloc: Global, problem: &Problem) -> Result<SteadyLayer, AllocError> {
+        let automaton = Automaton::of_short_rules(alloc, problem, Told::LastSymbol)?;
+        let symbols = usize::from(problem.shifts()) + 1;
+        let layer = SteadyLayer::of_automaton(alloc, &automaton, symbols);
+        drop(automaton);
         layer
     }
 
-    // The layer of the tails of a graph.
-    fn of_graph(alloc: Global, graph: &TailGraph) -> Result<SteadyLayer, AllocError> {
-        let classes = TailClasses::of(alloc, graph)?;
-        let layer = SteadyLayer::of_classes(alloc, graph, &classes);
-        drop(classes);
-        layer
-    }
-
-    // The layer that has a node for each class.
-    fn of_classes(
+    // The layer of the states that words without beginning and end pass through.
+    fn of_automaton(
         alloc: Global,
-        graph: &TailGraph,
-        classes: &TailClasses,
+        automaton: &Automaton,
+        symbols: usize,
     ) -> Result<SteadyLayer, AllocError> {
-        let out = Grid::new(alloc, classes.tails.len(), graph.symbols, None)?;
+        let passed = passed_states(alloc, automaton)?;
+        let layer = SteadyLayer::of_states(alloc, automaton, symbols, &passed);
+        drop(passed);
+        layer
+    }
+
+    // The layer that has a node for each of these states.
+    fn of_states(
+        alloc: Global,
+        automaton: &Automaton,
+        symbols: usize,
+        states: &[bool],
+    ) -> Result<SteadyLayer, AllocError> {
+        let nodes = numbers_of(alloc, states)?;
+        let count = states.iter().filter(|is_passed| **is_passed).count();
+        let room = both(
+            vec![in alloc; 0; count],
+            Grid::new(alloc, count, symbols, None),
+        );
+        let (last, out) = room?;
         let mut layer = SteadyLayer {
-            symbols: graph.symbols,
+            symbols,
             steps: Vec::new(alloc),
-            last: Vec::new(alloc),
+            last,
             out,
         };
-        let added = layer.add_nodes(graph, classes);
+        layer.set_last_symbols(automaton, &nodes);
+        let added = layer.add_steps(automaton, &nodes);
         kept(layer, added)
     }
 
-    // Adds the node of each class, with its steps.
-    fn add_nodes(&mut self, graph: &TailGraph, classes: &TailClasses) -> Result<(), AllocError> {
-        for place in &classes.tails {
-            self.add_node(graph, classes, *place)?;
+    // Notes the last symbol of each node: that of each step which leads there.
+    fn set_last_symbols(&mut self, automaton: &Automaton, nodes: &[Option<usize>]) {
+        for step in automaton.steps() {
+            if let Some(to) = entry_or(nodes, step.to as usize, None) {
+                put(&mut self.last, to, usize::from(step.symbol.number));
+            }
+        }
+    }
+
+    // Adds the steps between nodes.
+    fn add_steps(
+        &mut self,
+        automaton: &Automaton,
+        nodes: &[Option<usize>],
+    ) -> Result<(), AllocError> {
+        for step in automaton.steps() {
+            let from = entry_or(nodes, step.from as usize, None);
+            let to = entry_or(nodes, step.to as usize, None);
+            if let (Some(from), Some(to)) = (from, to) {
+                self.add_step(from, to, usize::from(step.symbol.number))?;
+            }
         }
         Ok(())
     }
 
-    // The node of the next class, with its steps.
-    fn add_node(
-        &mut self,
-        graph: &TailGraph,
-        classes: &TailClasses,
-        place: usize,
-    ) -> Result<(), AllocError> {
-        let node = self.last.len();
-        let last = graph.tail(place).map_or(0, last_of);
-        self.last.push(last)?;
-        for symbol in 0..graph.symbols {
-            if let Some(to) = classes.class_after(graph, place, symbol) {
-                self.out.set(node, symbol, Some(self.steps.len()));
-                self.steps.push(Step {
-                    from: node,
-                    to,
-                    symbol,
-                    begins: symbol != last,
-                    stays_off: symbol == 0 && last == 0,
-                })?;
-            }
-        }
+    fn add_step(&mut self, from: usize, to: usize, symbol: usize) -> Result<(), AllocError> {
+        let last = self.last(from);
+        self.out.set(from, symbol, Some(self.steps.len()));
+        self.steps.push(Step {
+            from,
+            to,
+            symbol,
+            begins: symbol != last,
+            stays_off: symbol == 0 && last == 0,
+        })?;
         Ok(())
     }
 
@@ -133,4 +153,67 @@ impl SteadyLayer {
         let step = self.step(self.step_number(node, symbol)?)?;
         Some(step.to)
     }
+}
+
+// For each state that is marked, its number among them.
+fn numbers_of(alloc: Global, marks: &[bool]) -> Result<Vec<Option<usize>>, AllocError> {
+    let mut numbers = Vec::new(alloc);
+    let mut next: usize = 0;
+    for is_marked in marks {
+        if *is_marked {
+            numbers.push(Some(next))?;
+            next = next.wrapping_add(1);
+        } else {
+            numbers.push(None)?;
+        }
+    }
+    Ok(numbers)
+}
+
+// The states that words without beginning and end pass through: states are left out until a step enters and a step
+// leaves each of those that are left. Costs a look at each step for each time that some are left out.
+fn passed_states(alloc: Global, automaton: &Automaton) -> Result<Vec<bool>, AllocError> {
+    let mut passed = vec![in alloc; true; automaton.states()]?;
+    let cleared = clear_ends(alloc, automaton, &mut passed);
+    kept(passed, cleared)
+}
+
+fn clear_ends(
+    alloc: Global,
+    automaton: &Automaton,
+    passed: &mut Vec<bool>,
+) -> Result<(), AllocError> {
+    for _ in 0..passed.len() {
+        let still = still_passed(alloc, automaton, passed)?;
+        let is_stable = still == *passed;
+        drop(mem::replace(passed, still));
+        if is_stable {
+            break;
+        }
+    }
+    Ok(())
+}
+
+// The states that a step enters and a step leaves, of the steps between states that are passed.
+fn still_passed(
+    alloc: Global,
+    automaton: &Automaton,
+    passed: &[bool],
+) -> Result<Vec<bool>, AllocError> {
+    let states = passed.len();
+    let marks = both(vec![in alloc; false; states], vec![in alloc; false; states]);
+    let (mut entered, mut left) = marks?;
+    for step in automaton.steps() {
+        let (from, to) = (step.from as usize, step.to as usize);
+        if entry_or(passed, from, false) && entry_or(passed, to, false) {
+            put(&mut left, from, true);
+            put(&mut entered, to, true);
+        }
+    }
+    for state in 0..states {
+        let is_passed = entry_or(&entered, state, false) && entry_or(&left, state, false);
+        put(&mut entered, state, is_passed);
+    }
+    drop(left);
+    Ok(entered)
 }

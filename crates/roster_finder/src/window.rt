@@ -28,7 +28,7 @@ pub(crate) struct Mover {
 }
 
 impl Mover {
-    pub fn new(alloc: Global, setting: &Setting) -> Result<Mover, AllocError> {
+    pub fn new(alloc: Global, setting: &Setting<'_>) -> Result<Mover, AllocError> {
         let nodes = setting.layer.nodes();
         let costs = both(vec![in alloc; FAR; nodes], vec![in alloc; FAR; nodes]);
         let parents = Grid::new(alloc, LONGEST_WINDOW, nodes, 0);
@@ -48,7 +48,7 @@ impl Mover {
     /// Costs a look at each step of the layer on each day of the window.
     pub fn rewrite(
         &mut self,
-        setting: &Setting,
+        setting: &Setting<'_>,
         shares: &Shares,
         draft: &mut Draft,
         random: &mut Random,
@@ -73,7 +73,7 @@ impl Mover {
     }
 
     // Finds the least costs of the walks from the node before the window to each node behind it (R. Bellman, 1957).
-    fn sweep(&mut self, setting: &Setting, shares: &Shares, walk: &Walk, window: Window) {
+    fn sweep(&mut self, setting: &Setting<'_>, shares: &Shares, walk: &Walk, window: Window) {
         set_all(&mut self.costs, FAR);
         put(&mut self.costs, walk.node(window.start), 0);
         let mut at = window.start;
@@ -85,7 +85,7 @@ impl Mover {
         }
     }
 
-    fn sweep_day(&mut self, setting: &Setting, shares: &Shares, weekday: usize, day: usize) {
+    fn sweep_day(&mut self, setting: &Setting<'_>, shares: &Shares, weekday: usize, day: usize) {
         for (number, step) in setting.layer.steps.iter().enumerate() {
             let before = entry_or(&self.costs, step.from, FAR);
             if before == FAR {
@@ -115,14 +115,14 @@ impl Mover {
     }
 
     // The node behind the window that costs least among those from which the word can continue as it is.
-    fn best_end(&self, setting: &Setting, walk: &Walk, window: Window) -> Option<usize> {
+    fn best_end(&self, setting: &Setting<'_>, walk: &Walk, window: Window) -> Option<usize> {
         let behind = walk.later(window.start, window.len);
         let kept = walk.cells().saturating_sub(window.len);
         let mut least = FAR;
         let mut best = None;
         for (node, cost) in self.costs.iter().enumerate() {
             let sum = cost.wrapping_add(self.price_behind(setting, walk, behind, node));
-            if *cost < FAR && sum < least && walk.joins(&setting.layer, node, behind, kept) {
+            if *cost < FAR && sum < least && walk.joins(setting.layer, node, behind, kept) {
                 least = sum;
                 best = Some(node);
             }
@@ -131,7 +131,7 @@ impl Mover {
     }
 
     // What the beginning of a block right behind the window costs, or the end of a free weekend.
-    fn price_behind(&self, setting: &Setting, walk: &Walk, behind: usize, node: usize) -> i64 {
+    fn price_behind(&self, setting: &Setting<'_>, walk: &Walk, behind: usize, node: usize) -> i64 {
         let symbol = walk.symbol(behind);
         if setting.layer.last(node) != symbol {
             self.prices.of_block(symbol)
@@ -143,7 +143,7 @@ impl Mover {
     }
 
     // Writes the walk of least cost to an end into the window and keeps the old symbols.
-    fn write(&mut self, setting: &Setting, walk: &mut Walk, window: Window, end: usize) {
+    fn write(&mut self, setting: &Setting<'_>, walk: &mut Walk, window: Window, end: usize) {
         let mut node = end;
         for day in (0..window.len).rev() {
             let at = walk.later(window.start, day);
@@ -151,15 +151,15 @@ impl Mover {
             walk.set_symbol(at, setting.layer.last(node));
             node = self.parents.at(day, node);
         }
-        walk.retrace(&setting.layer, window.start, window.len);
+        walk.retrace(setting.layer, window.start, window.len);
     }
 
     // Writes the old symbols back.
-    fn undo(&self, setting: &Setting, walk: &mut Walk, window: Window) {
+    fn undo(&self, setting: &Setting<'_>, walk: &mut Walk, window: Window) {
         for day in 0..window.len {
             let at = walk.later(window.start, day);
             walk.set_symbol(at, entry_or(&self.old, day, 0));
         }
-        walk.retrace(&setting.layer, window.start, window.len);
+        walk.retrace(setting.layer, window.start, window.len);
     }
 }

@@ -1,6 +1,7 @@
 // The reasons by which the search of a plan closes cases.
 ghost use Rattle.std.specs.Prelude.{◌≡◌, IfOk, Ok};
 ghost use Rattle.refutation_terms.specs.Log.{TurnFits};
+ghost use Rattle.propagator_terms.specs.Cycles.{AreShortRules};
 ghost use Rattle.roster_planner.specs.Reasons.{AreReasons};
 
 use case_reasons::{CaseReasons, case_reasons};
@@ -8,35 +9,37 @@ use potential_bounds::Gate;
 use propagator_terms::{Pair, Propagator};
 use propagators::RootBounds;
 use refutation_terms::Turn;
-use rwsp_model::Problem;
+use rule_automaton::Automaton;
 use std::alloc::{AllocError, Global};
 use std::thread::Threads;
 use tree_walk::Walk;
 
 // The workers among whom the plain bounds are shared out.
-const WORKERS: u32 = 4;
+const WORKERS: u32 = rwsp_terms::limits::USUAL_WORKERS;
 
 /// The reasons of cases, and bounds at the top.
-pub type Reasons = Pair<CaseReasons, RootBounds>;
+pub type Reasons<'a> = Pair<CaseReasons<'a>, RootBounds<'a>>;
 
-/// The reasons of a plan, whose search begins with the turn. The workers pass the gate.
-pub fn reasons_of<R: Threads + Sync, G: Gate>(
+/// The reasons of a plan of the automaton's problem, whose search begins with the turn. The workers pass the gate.
+pub fn reasons_of<'a, R: Threads + Sync, G: Gate>(
     rt: &R,
     alloc: Global,
-    problem: &Problem,
+    automaton: &'a Automaton,
     turn: Option<Turn>,
     gate: &G,
-) -> Result<Reasons, AllocError>
-    requires { TurnFits problem.now turn }
-    ensures serves { IfOk result (λ r. ⟦<Reasons as Propagator>⟧.serves r problem.now) }
-    ensures reasons { IfOk result (λ r.
-        AreReasons problem.now turn (⟦<Reasons as Propagator>⟧.leaves r) (⟦<Reasons as Propagator>⟧.spent r)) }
+) -> Result<Reasons<'a>, AllocError>
+    requires short { AreShortRules automaton.now.problem automaton.now.rules }
+    requires turn { TurnFits automaton.now.problem turn }
+    ensures serves { IfOk result (λ r. ⟦<Reasons<'a> as Propagator>⟧.serves r automaton.now.problem) }
+    ensures reasons { IfOk result (λ r. AreReasons automaton.now.problem turn
+        (⟦<Reasons<'a> as Propagator>⟧.leaves r) (⟦<Reasons<'a> as Propagator>⟧.spent r)) }
 {
+    let problem = automaton.problem();
     problem.prove_limits();
     let walk = Walk::new(alloc, problem, turn)?;
     let doms = walk.domains();
-    let bounds = RootBounds::new(rt, alloc, problem, doms, WORKERS, gate);
-    let cases = case_reasons(alloc, problem, doms);
+    let bounds = RootBounds::new(rt, alloc, automaton, doms, WORKERS, gate);
+    let cases = case_reasons(alloc, automaton, doms);
     // No value of these large types is dropped in this body, which keeps its proof small.
     drop(walk);
     let (cases, bounds) = both(cases, bounds)?;

@@ -1,24 +1,27 @@
 -- How many leaves a tree can have: no more than there are words over the domains.
-use Rattle.std.proofs.Common.{◌≡◌, ◌≢◌, ◌⊎◌, ℕ, zero, suc, ◌+◌, ◌*◌, ◌^◌, ◌<◌, ◌≤◌, [], ◌++◌, length, Option, Some, refl, ap, sym, ◌∙◌, subst, arith, length-append, inl, inr, cond, Bool, true, false, IsTrue, ◌&&◌, ◌||◌, ◌==◌, not, count_by}
+use Rattle.std.proofs.Common.{◌≡◌, ◌≢◌, ◌⊎◌, ℕ, zero, suc, ◌+◌, ◌*◌, ◌^◌, ◌<◌, ◌≤◌, [], ◌++◌, length, Option, Some, refl, ap, sym, ◌∙◌, subst, arith, length-append, inl, inr, cond, Bool, true, false, List, ◌∷◌, IsTrue, ◌&&◌, ◌||◌, ◌==◌, not, count_by}
 use Rattle.std.specs.List.{range_with_len}
 use Rattle.std.proofs.Math.Nat.{mul-add, add-mul, mul-le-mul, mul-pos, pow-suc, pow-zero}
 use Rattle.std.proofs.Math.Bool.{and-true}
 use Rattle.std.proofs.lemmas.Bool.{cases_eq, cases_lt, ne_eqb, eq-eqb}
 use Rattle.std.proofs.lemmas.List.FromFn.{length-range_with_len}
-use Rattle.std.proofs.lemmas.List.Sums.{count_by-le-length}
+use Rattle.std.proofs.lemmas.List.Sums.{count_by-le-length, sum_by-append, sum_by-cons}
+use Rattle.std.proofs.lemmas.Option.{slice_get_within}
 use Rattle.rwsp_terms.specs.declared.data.Symbol.{Symbol}
 use Rattle.rwsp_terms.specs.Instance.{Instance, cells, shift_count}
 use Rattle.rwsp_terms.proofs.Counting.{count_same, count_next}
 use Rattle.refutation_terms.specs.declared.lines.Line.{Line}
 use Rattle.refutation_terms.specs.declared.lines.Line.TheVariants.{Split, Unfinished}
+use Rattle.refutation_terms.specs.declared.lines.Turn.{Turn}
 use Rattle.refutation_terms.specs.Word.{Domains}
-use Rattle.refutation_terms.specs.Tree.{Tree, Leaf, Node, lines_in, First, Second, lines_leave, narrowed, opening, domains_at, is_idle}
-use Rattle.refutation_terms.specs.Log.{Log, LineFits, LineFitsFor, IsSpentFor}
+use Rattle.refutation_terms.specs.Tree.{Tree, IsTree, IsLeaf, Leaf, Node, lines_in, First, Second, lines_leave, narrowed, opening, domains_at, is_idle}
+use Rattle.refutation_terms.specs.Log.{Log, TurnFits, LineFits, LineFitsFor, FitsFor, IsSpentFor}
+use Rattle.refutation_terms.specs.Laws.{HasNoIdleSplit}
 use Rattle.refutation_terms.proofs.Tests.{both, left_of}
 use Rattle.refutation_terms.proofs.InWords.{there, another}
 use Rattle.refutation_terms.proofs.NeverEmpty.{domains_never_empty}
 use Rattle.refutation_terms.proofs.TreeDomains.{EachLine, EachInOrder, in_tree}
-use Rattle.roster_search.specs.Laws.{SpentBudgetsAreSmall}
+use Rattle.roster_search.specs.Laws.{is_leaf, TreesHaveFewLeaves, SpentBudgetsAreSmall}
 use Rattle.roster_search.proofs.Reaching.{fitting_split, holding_split}
 
 -- the product of the first n numbers
@@ -174,31 +177,69 @@ leaves_are_few P (Node p x a b) D each some =
 size_small : (last : ℕ) (D : Domains) (q : ℕ) → size_at last D q ≤ last + 1
 size_small last D q = omega (arith, count_by-le-length (D q) (range_with_len 0 (last + 1)), length-range_with_len 0 (last + 1))
 
-useful_splits : (P : Instance) (goal : Option ℕ) (g : Log) (budget : ℕ) → IsSpentFor P goal g budget → EachInOrder (IsUseful P) (opening P g.turn) g.lines
-useful_splits P goal g budget s k line e p x is = (
-  fitting_split P goal p x (subst (LineFitsFor P goal) is (s.grounded.fits.lines k line e)),
-  elim (cases_lt k budget) as (λ (h : (k < budget) ⊎ (budget ≤ k)). is_idle P (domains_at P g.turn g.lines k) p x.number ≡ false) [
-    | inl early ↦ holding_split P goal (domains_at P g.turn g.lines k) p x (s.holds k (Split p x) early (e ∙ ap (λ (l : Line). Some l) is))
-    | inr late ↦ let clash : Split p x ≡ Unfinished = sym is ∙ s.rest k line late e in absurd (cc)
-  ],
+-- the lines of a tree
+
+some_lines : (t : Tree) → 0 < length (lines_in t)
+some_lines (Leaf line h) = omega arith
+some_lines (Node p x a b) = omega arith
+
+leaf_passes : (line : Line) → IsLeaf line → is_leaf line ≡ true
+leaf_passes (Split p x) h = absurd h
+leaf_passes line h = refl
+
+leaves_counted : (t : Tree) → count_by is_leaf (lines_in t) ≡ leaf_count t
+leaves_counted (Leaf line h) = sum_by-cons (λ l. cond (is_leaf l) 1 0) line [] ∙ ap (λ b. cond b 1 0 + 0) (leaf_passes line h)
+leaves_counted (Node p x a b) =
+    let split : count_by is_leaf (lines_in (Node p x a b)) ≡ 0 + count_by is_leaf (lines_in a ++ lines_in b) = sum_by-cons (λ l. cond (is_leaf l) 1 0) (Split p x) (lines_in a ++ lines_in b) in
+    let sides : count_by is_leaf (lines_in a ++ lines_in b) ≡ count_by is_leaf (lines_in a) + count_by is_leaf (lines_in b) = sum_by-append (λ l. cond (is_leaf l) 1 0) (lines_in a) (lines_in b) in
+    let first : count_by is_leaf (lines_in a) ≡ leaf_count a = leaves_counted a in
+    let second : count_by is_leaf (lines_in b) ≡ leaf_count b = leaves_counted b in
+    omega (arith, split, sides, first, second)
+
+useful_splits : (P : Instance) (goal : Option ℕ) (g : Log) → FitsFor P goal g → HasNoIdleSplit P g.turn g.lines (length g.lines) → EachInOrder (IsUseful P) (opening P g.turn) g.lines
+useful_splits P goal g fits none k line e p x is = (
+  fitting_split P goal p x (subst (LineFitsFor P goal) is (fits.lines k line e)),
+  none k p x (slice_get_within g.lines k line e) (e ∙ ap (λ (l : Line). Some l) is),
 )
 
-opening_has_some : (P : Instance) (goal : Option ℕ) (g : Log) (budget : ℕ) → IsSpentFor P goal g budget → HasSome P (opening P g.turn)
-opening_has_some P goal g budget s q lt =
-    let D : Domains = opening P g.turn in
-    let all = domains_never_empty P g.turn g.lines 0 s.grounded.fits.turn s.tree (omega (arith, s.unfinished)) (λ i p x less. absurd (omega (arith, less))) in
-    let one = all.some q lt in
-    let small : one.0 ≤ shift_count P = all.symbols q one.0 lt one.1 in
+opening_has_some : (P : Instance) (turn : Option Turn) (lines : List Line) → TurnFits P turn → IsTree lines → 0 < length lines → HasSome P (opening P turn)
+opening_has_some P turn lines fits tree lt q inside =
+    let D : Domains = opening P turn in
+    let all = domains_never_empty P turn lines 0 fits tree lt (λ i p x less. absurd (omega (arith, less))) in
+    let one = all.some q inside in
+    let small : one.0 ≤ shift_count P = all.symbols q one.0 inside one.1 in
     count_some (D q) 0 (shift_count P + 1) one.0 (omega arith) (omega (arith, small)) (left_of (D q one.0) (lines_leave [] q one.0) one.1)
+
+-- at most as many leaves as there are assignments
+tree_is_small : (P : Instance) (goal : Option ℕ) (g : Log) (tree : IsTree g.lines) → FitsFor P goal g → HasNoIdleSplit P g.turn g.lines (length g.lines) → leaf_count tree.0 ≤ (shift_count P + 1) ^ cells P
+tree_is_small P goal g tree fits none =
+    let t : Tree = tree.0 in
+    let D : Domains = opening P g.turn in
+    let each : EachLine (IsUseful P) D t = in_tree (IsUseful P) D t (subst (EachInOrder (IsUseful P) D) (sym tree.1) (useful_splits P goal g fits none)) in
+    let lines : 0 < length g.lines = subst (λ (ls : List Line). 0 < length ls) tree.1 (some_lines t) in
+    let few : leaf_count t ≤ product (size_at (shift_count P) D) (cells P) = leaves_are_few P t D each (opening_has_some P g.turn g.lines fits.turn tree lines) in
+    let most : product (size_at (shift_count P) D) (cells P) ≤ (shift_count P + 1) ^ cells P = product_most (size_at (shift_count P) D) (shift_count P + 1) (cells P) (size_small (shift_count P) D) in
+    omega (arith, few, most)
+
+pub few_leaves : TreesHaveFewLeaves
+few_leaves P goal g fits tree none =
+    let counted : count_by is_leaf (lines_in tree.0) ≡ leaf_count tree.0 = leaves_counted tree.0 in
+    let same : count_by is_leaf (lines_in tree.0) ≡ count_by is_leaf g.lines = ap (count_by is_leaf) tree.1 in
+    let few = tree_is_small P goal g tree fits none in
+    omega (arith, counted, same, few)
+
+-- no split of a spent log is idle: it holds, or is unfinished and no split
+spent_none_idle : (P : Instance) (goal : Option ℕ) (g : Log) (budget : ℕ) → IsSpentFor P goal g budget → HasNoIdleSplit P g.turn g.lines (length g.lines)
+spent_none_idle P goal g budget s k p x inside at =
+    elim (cases_lt k budget) [
+      | inl early ↦ holding_split P goal (domains_at P g.turn g.lines k) p x (s.holds k (Split p x) early at)
+      | inr late ↦ let clash : Split p x ≡ Unfinished = s.rest k (Split p x) late at in absurd (cc)
+    ]
 
 pub spent_budgets_small : SpentBudgetsAreSmall
 spent_budgets_small P goal g budget s =
-    let t : Tree = s.tree.0 in
-    let D : Domains = opening P g.turn in
-    let each : EachLine (IsUseful P) D t = in_tree (IsUseful P) D t (subst (EachInOrder (IsUseful P) D) (sym s.tree.1) (useful_splits P goal g budget s)) in
-    let few : leaf_count t ≤ product (size_at (shift_count P) D) (cells P) = leaves_are_few P t D each (opening_has_some P goal g budget s) in
-    let most : product (size_at (shift_count P) D) (cells P) ≤ (shift_count P + 1) ^ cells P = product_most (size_at (shift_count P) D) (shift_count P + 1) (cells P) (size_small (shift_count P) D) in
-    let lines : length (lines_in t) + 1 ≡ 2 * leaf_count t = line_count t in
-    let same : length (lines_in t) ≡ length g.lines = ap length s.tree.1 in
+    let few = tree_is_small P goal g s.tree s.grounded.fits (spent_none_idle P goal g budget s) in
+    let lines : length (lines_in s.tree.0) + 1 ≡ 2 * leaf_count s.tree.0 = line_count s.tree.0 in
+    let same : length (lines_in s.tree.0) ≡ length g.lines = ap length s.tree.1 in
     let more : budget < length g.lines = s.unfinished in
-    omega (arith, few, most, lines, same, more)
+    omega (arith, few, lines, same, more)

@@ -13,6 +13,6 @@ mod searching;
 mod sight;
 
 pub use guide::{Guide, NoGuide};
-pub use laws::spent_budgets_are_small;
+pub use laws::{spent_budgets_are_small, trees_have_few_leaves};
 pub use order::{NextSplit, chronological};
 pub use searching::{guided_search, search};

@@ -1,5 +1,5 @@
 -- Tables of classes.
-use Rattle.std.proofs.Common.{◌≡◌, ◌⊎◌, ℕ, zero, suc, ◌+◌, ◌<◌, ◌≤◌, ◌^◌, List, [], ◌∷◌, ◌++◌, length, get_or, map, Option, Some, None, Bool, false, true, eqb, Decides, refl, ap, sym, ◌∙◌, subst, inl, inr, arith}
+use Rattle.std.proofs.Common.{◌≡◌, ◌⊎◌, ℕ, zero, suc, ◌+◌, ◌<◌, ◌≤◌, List, [], ◌∷◌, length, get_or, map, Option, Some, None, Bool, false, true, eqb, Decides, refl, ap, sym, ◌∙◌, inl, inr, arith}
 use Rattle.std.specs.Prelude.{slice_index}
 use Rattle.std.specs.Option.{option_map, option_eq}
 use Rattle.std.specs.Cmp.Lexicographic.{pointwise}
@@ -11,9 +11,7 @@ use Rattle.std.proofs.lemmas.Bool.Decides.{Decides-eqb}
 use Rattle.std.proofs.lemmas.Option.{same_Some}
 use Rattle.rwsp_terms.specs.declared.data.Symbol.{Symbol}
 use Rattle.rwsp_terms.specs.Instance.{Instance, shift_count}
-use Rattle.refutation_terms.specs.Word.{Clean}
-use Rattle.rule_automaton.specs.Moves.{Moves, move_at, lead, off_behind}
-use Rattle.rule_automaton.specs.Automata.{HasSymbolsOf}
+use Rattle.rule_automaton.specs.Moves.{Moves, move_at, lead}
 use Rattle.rule_automaton.specs.Tables.{IsReader, IsKept, HasStates}
 use Rattle.rule_automaton.specs.declared.table.Table.{Table}
 use Rattle.rule_automaton.proofs.Leading.{lead_nowhere, lead_inside, moves_from}

@@ -1,9 +1,9 @@
 -- Where words lead.
-use Rattle.std.proofs.Common.{◌≡◌, ℕ, ◌<◌, ◌≤◌, List, [], ◌∷◌, length, get_or, Option, Some, None, refl, ap, sym, ◌∙◌, inl, inr, ◌⊎◌}
+use Rattle.std.proofs.Common.{◌≡◌, ℕ, ◌<◌, ◌≤◌, List, [], ◌∷◌, length, get_or, Option, Some, None, refl, ap, inl, inr, ◌⊎◌}
 use Rattle.std.proofs.lemmas.Bool.{cases_lt}
 use Rattle.std.proofs.lemmas.List.{get_or_past}
 use Rattle.rwsp_terms.specs.declared.data.Symbol.{Symbol}
-use Rattle.rule_automaton.specs.Moves.{Moves, move_at, after, lead}
+use Rattle.rule_automaton.specs.Moves.{Moves, move_at, lead}
 
 pub lead_nowhere : (moves : Moves) (u : List Symbol) → lead moves None u ≡ None
 lead_nowhere moves [] = refl

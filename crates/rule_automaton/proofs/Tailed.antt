@@ -1,10 +1,9 @@
 -- The words that lead to a state of tails.
-use Rattle.std.proofs.Common.{◌≡◌, ◌⊎◌, ℕ, ◌+◌, ◌<◌, ◌≤◌, ◌^◌, List, [], ◌∷◌, ◌++◌, length, get_or, map, Option, Some, None, Bool, false, ◌==◌, refl, ap, sym, ◌∙◌, subst, inl, inr, arith, append_assoc, length-append}
-use Rattle.std.specs.Prelude.{MatchOption}
-use Rattle.std.proofs.lemmas.List.{append-nil, get_or_append_left, get_or_default, get_or-map, length-map, get_or_past}
+use Rattle.std.proofs.Common.{◌≡◌, ◌⊎◌, ℕ, ◌+◌, ◌<◌, ◌≤◌, List, [], ◌∷◌, ◌++◌, length, get_or, map, Option, Some, None, Bool, false, ◌==◌, refl, ap, sym, ◌∙◌, subst, inl, inr, arith, append_assoc}
+use Rattle.std.proofs.lemmas.List.{append-nil, get_or-map, length-map}
 use Rattle.std.proofs.lemmas.Option.{MatchOption-at_some, MatchOption-at_none}
 use Rattle.rwsp_terms.specs.declared.data.Symbol.{Symbol}
-use Rattle.rwsp_terms.specs.Instance.{Instance, shift_count, symbol_numbered}
+use Rattle.rwsp_terms.specs.Instance.{shift_count, symbol_numbered}
 use Rattle.refutation_terms.specs.Word.{Clean}
 use Rattle.refutation_terms.proofs.Windows.{clean-part}
 use Rattle.word_tail.specs.Listed.{Listed}
@@ -14,10 +13,10 @@ use Rattle.word_tail.proofs.Lists.{ends}
 use Rattle.word_tail.proofs.Parts.{last_longer}
 use Rattle.rule_automaton.specs.Moves.{Moves, move_at, lead, off_behind}
 use Rattle.rule_automaton.specs.Automata.{HasSymbolsOf}
-use Rattle.rule_automaton.specs.States.{StandsAt, Extends, Judges, IsRow, AreStates, ends_off}
+use Rattle.rule_automaton.specs.States.{StandsAt, IsRow, AreStates, ends_off}
 use Rattle.rule_automaton.specs.Tables.{IsReader}
 use Rattle.rule_automaton.proofs.Leading.{lead_nowhere, moves_from}
-use Rattle.rule_automaton.proofs.Growing.{stands_here, stands_once}
+use Rattle.rule_automaton.proofs.Growing.{stands_here}
 
 abbrev IsClean : Listed → List Symbol → Type 0
 IsClean T w = Clean T.problem T.rules w

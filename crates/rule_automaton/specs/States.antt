@@ -1,5 +1,5 @@
 -- The tails of clean words as states.
-use Rattle.std.specs.Prelude.{◌≡◌, ℕ, ◌+◌, ◌<◌, ◌≤◌, ◌^◌, List, [], ◌∷◌, ◌++◌, length, Option, Some, None, Bool, false, ◌==◌, slice_index_or, MatchOption}
+use Rattle.std.specs.Prelude.{◌≡◌, ℕ, ◌<◌, ◌≤◌, ◌^◌, List, [], ◌∷◌, ◌++◌, length, Option, Some, None, Bool, false, ◌==◌, slice_index_or, MatchOption}
 use Rattle.rwsp_terms.specs.declared.data.Symbol.{Symbol}
 use Rattle.refutation_terms.specs.Word.{Clean}
 use Rattle.word_tail.specs.Listed.{Listed}
@@ -21,7 +21,7 @@ pub record Judges (T : Listed) (tails : List Tail) (tail : Tail) (x : Symbol) (s
   pub words :
       (w : List Symbol)
       → Clean T.problem T.rules w → tail_of w ≡ tail → MatchOption state (Clean T.problem T.rules (w ++ x ∷ []) → ⊥)
-        (λ to. Clean T.problem T.rules (w ++ x ∷ []) × StandsAt tails to (tail_of (w ++ x ∷ [])))
+      (λ to. Clean T.problem T.rules (w ++ x ∷ []) × StandsAt tails to (tail_of (w ++ x ∷ [])))
 
 -- the moves of a tail by the symbols below a number, and none by others
 pub record IsRow (T : Listed) (tails : List Tail) (tail : Tail) (symbols : ℕ) (row : List (Option ℕ)) : Type 0 where

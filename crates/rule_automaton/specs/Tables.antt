@@ -1,5 +1,5 @@
 -- Tables of moves.
-use Rattle.std.specs.Prelude.{◌≡◌, ◌⊎◌, ◌↔◌, ℕ, ◌<◌, ◌≤◌, ◌^◌, List, [], length, Option, Some, None, Bool, false, map, slice_index, slice_index_or, AllPairs, Contains}
+use Rattle.std.specs.Prelude.{◌≡◌, ◌⊎◌, ℕ, ◌<◌, ◌≤◌, ◌^◌, List, [], length, Some, Bool, false, map, slice_index, slice_index_or, AllPairs, Contains}
 use Rattle.std.specs.Option.{option_map}
 use Rattle.rwsp_terms.specs.declared.data.Symbol.{Symbol}
 use Rattle.rwsp_terms.specs.Instance.{Instance, shift_count}

@@ -7,15 +7,15 @@ use std::alloc::{AllocError, Global};
 use std::collections::HashMap;
 use word_tail::Tail;
 
-// An odd number with as many ones as zeros, so that each bit of a product depends on all lower ones.
+// The multiplier of a hash of words. It is odd, so that no two numbers have the same product in 64 bits.
 const MULTIPLIER: u64 = 0x517c_c1b7_2722_0a95;
 
-// What the state of a tail tells, as a number.
+// What the state of a tail tells, as a number. The empty word doesn't end with the day off, and has no last symbol.
 fn told_by(tail: Tail, told: Told) -> u32 {
     match (told, tail.last) {
         (_, None) => 1,
         (Told::DayOff, Some(x)) => if x.number == 0 { 0 } else { 1 },
-        (Told::LastSymbol, Some(x)) => x.number as u32 + 2,
+        (Told::LastSymbol, Some(x)) => u32::from(x.number) + 2,
     }
 }
 
@@ -35,8 +35,8 @@ struct Classes {
     count: usize,
 }
 
-// A number for a state's class and the classes that its moves lead to. States that differ in these have different
-// numbers, but for rare ones (hashing by words, after P. Hsieh's and Firefox's multiplicative hashes).
+// A number for a state's class and the classes that its moves lead to. Where these differ the numbers differ too, but
+// for rare ones: then states are joined that differ, which is seen when the table of the classes is compared.
 fn fingerprint(class: u32, row: &Row, classes: &[u32]) -> u64 {
     let mut print = u64::from(class);
     for to in row {

@@ -4,6 +4,7 @@ ghost use Rattle.domain_store.specs.Store.{BelongsTo};
 use domain_store::Domains;
 use nearest_weights::NearestWeights;
 use refutation_terms::Line;
+use rule_automaton::{Automaton, Told};
 use rwsp_model::Problem;
 use rwsp_terms::{Symbol, Weight};
 use small_problems::{D, HALF_OF_FOUR, MOST_OF_FOUR, OFF, problem_of, take_away};
@@ -48,16 +49,16 @@ fn position_of(leaf: &Option<Line>) -> Option<u32> {
 // The leaf at the top of a tree, or within.
 fn leaf_of(
     alloc: Global,
-    nearest: &mut NearestWeights,
+    nearest: &mut NearestWeights<'_>,
     doms: &Domains,
     is_within: bool,
 ) -> Result<Option<u32>, AllocError>
     requires { BelongsTo nearest.old.problem doms.now }
 {
     let leaf = if is_within {
-        nearest.leaf_within(alloc, doms)?
+        nearest.leaf_within(alloc, doms, None)?
     } else {
-        nearest.leaf_at_top(alloc, doms)?
+        nearest.leaf_at_top(alloc, doms, None)?
     };
     Ok(position_of(&leaf))
 }
@@ -70,7 +71,8 @@ fn leaf_under(
 ) -> Result<Option<u32>, AllocError>
     requires { BelongsTo problem.now doms.now }
 {
-    let mut nearest = NearestWeights::new(alloc, problem)?;
+    let automaton = Automaton::of_short_rules(alloc, problem, Told::DayOff)?;
+    let mut nearest = NearestWeights::new(alloc, &automaton);
     leaf_of(alloc, &mut nearest, doms, is_within)
 }
 

@@ -5,10 +5,9 @@ ghost use Rattle.rwsp_terms.specs.declared.limits.TheConstants.{MOST_WORKERS};
 ghost use Rattle.domain_store.specs.Store.{BelongsTo};
 
 use domain_store::Domains;
-use kept_cycle::CycleProp;
 use potential_bounds::NoGate;
 use propagator_terms::{Look, Pair, Propagator};
-use propagators::{DayProp, RootBounds, WindowProp};
+use propagators::{CycleProp, DayProp, RootBounds, WindowProp};
 use refutation_terms::Line;
 use rule_automaton::{Automaton, Told};
 use rwsp_model::Problem;
@@ -114,7 +113,8 @@ fn bounds_see<R: Threads + Sync>(
 fn cycle_sees(alloc: Global, problem: &Problem, doms: &Domains) -> Result<Seen, AllocError>
     requires { BelongsTo problem.now doms.now }
 {
-    let cycle = CycleProp::new(alloc, problem, doms)?;
+    let automaton = Automaton::of_short_rules(alloc, problem, Told::DayOff)?;
+    let cycle = CycleProp::new(alloc, &automaton, doms)?;
     sees(cycle, alloc, problem, doms)
 }
 

@@ -1,4 +1,4 @@
-use roster_finder::{find_roster, find_roster_with};
+use roster_finder::{Patience, RosterFinder, find_roster};
 use rwsp_model::{Problem, Roster};
 use rwsp_terms::Symbol;
 use small_problems::{ALL_OF_FOUR_WEEKS, D, MOST_OF_FOUR_WEEKS, problem_of};
@@ -48,9 +48,10 @@ fn none_is_found_where_there_is_none(rt: HostRuntime) -> Result<(), Fail> {
 fn weekends_are_free_where_the_demand_lets_them(rt: HostRuntime) -> Result<(), Fail> {
     let problem = problem_of(rt.alloc(), MOST_OF_FOUR_WEEKS)?;
     assert!(rt; problem.days() == 7);
+    let finder = RosterFinder::new(rt.alloc(), &problem)?;
     // at most two weeks have a day off
     for (free, is_found) in [(0, true), (1, true), (2, true), (3, false)] {
-        let found = find_roster_with(rt.alloc(), &problem, free)?;
+        let found = finder.find(rt.alloc(), free, Patience::Long)?;
         assert!(rt; found.is_some() == is_found, "{free}");
     }
     Ok(())

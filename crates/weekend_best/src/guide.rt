@@ -1,23 +1,27 @@
 // What guides a search for a roster with a goal of free weekends.
 ghost use Rattle.std.specs.Prelude.{◌≡◌, ◌+◌, ◌≤◌, Some, IfOk};
+ghost use Rattle.refutation_terms.specs.Log.{GoalFits};
 ghost use Rattle.domain_store.specs.Store.{BelongsTo};
+ghost use Rattle.propagator_terms.specs.Cycles.{AreShortRules};
 ghost use Rattle.roster_search.specs.Guides.{IsLeafGiven};
 
 use domain_store::Domains;
 use nearest_weights::NearestWeights;
 use refutation_terms::Line;
-use roster_finder::find_roster_with;
+use roster_finder::{Patience, RosterFinder};
 use roster_search::{Guide, NextSplit, chronological};
-use rwsp_model::{Problem, Roster};
+use rule_automaton::Automaton;
+use rwsp_model::Roster;
 use std::alloc::{AllocError, Global};
 
 /// The guide of a search with a goal. It closes cases by weights with a reward for each free weekend, looks for a
 /// roster by other means before the first split, first for one with more free weekends, and splits in the order of the
 /// days.
 #[derive(Drop)]
-pub struct BestGuide {
-    problem: Problem,
-    weights: NearestWeights,
+pub struct BestGuide<'a> {
+    automaton: &'a Automaton,
+    finder: &'a RosterFinder<'a>,
+    weights: NearestWeights<'a>,
     goal: u32,
     // More free weekends, which are asked for first.
     wish: u32,
@@ -25,32 +29,36 @@ pub struct BestGuide {
     has_begun: bool,
 }
 
-impl BestGuide {
+impl<'a> BestGuide<'a> {
     /// A guide for searches with this goal, which asks first for a roster with `wish` free weekends, where these are
     /// more.
     pub fn new(
         alloc: Global,
-        problem: &Problem,
+        automaton: &'a Automaton,
+        finder: &'a RosterFinder<'a>,
         goal: u32,
         wish: u32,
-    ) -> Result<BestGuide, AllocError>
-        requires week { problem.now.days ≡ 7 }
-        requires goal { goal ≤ problem.now.weeks + 1 }
-        ensures { IfOk result (λ g. ⟦<BestGuide as Guide>⟧.serves g problem.now (Some goal)) }
+    ) -> BestGuide<'a>
+        requires short { AreShortRules automaton.now.problem automaton.now.rules }
+        requires same { finder.now ≡ automaton.now.problem }
+        requires week { automaton.now.problem.days ≡ 7 }
+        requires goal { goal ≤ automaton.now.problem.weeks + 1 }
+        ensures { ⟦<BestGuide<'a> as Guide>⟧.serves result automaton.now.problem (Some goal) }
     {
-        Ok(BestGuide {
-            problem: problem.copy()?,
-            weights: NearestWeights::new(alloc, problem)?,
+        BestGuide {
+            automaton,
+            finder,
+            weights: NearestWeights::new(alloc, automaton),
             goal,
             wish,
             has_begun: false,
-        })
+        }
     }
 }
 
-impl Guide for BestGuide {
-    ghost serves = { λ g P goal. (g.problem ≡ P) × (g.weights.problem ≡ P) × (goal ≡ Some g.goal)
-        × (P.days ≡ 7) × (g.goal ≤ P.weeks + 1) };
+impl<'a> Guide for BestGuide<'a> {
+    ghost serves = { λ g P goal. (g.automaton.now.problem ≡ P) × (g.finder.now ≡ P) × (g.weights.problem ≡ P)
+        × (goal ≡ Some g.goal) × (P.days ≡ 7) × (g.goal ≤ P.weeks + 1) };
 
     fn leaf(&mut self, alloc: Global, doms: &Domains) -> Result<Option<Line>, AllocError> {
         let is_within = self.has_begun;
@@ -60,16 +68,16 @@ impl Guide for BestGuide {
 
     fn roster(&mut self, alloc: Global, _doms: &Domains) -> Result<Option<Roster>, AllocError> {
         if self.goal < self.wish {
-            let found = find_roster_with(alloc, &self.problem, self.wish)?;
+            let found = self.finder.find(alloc, self.wish, Patience::Long)?;
             if found.is_some() {
                 return Ok(found);
             }
         }
-        find_roster_with(alloc, &self.problem, self.goal)
+        self.finder.find(alloc, self.goal, Patience::Long)
     }
 
     fn split(&mut self, doms: &Domains) -> Option<NextSplit> {
-        chronological(&self.problem, doms, 0)
+        chronological(self.automaton.problem(), doms, 0)
     }
 }
 
@@ -77,7 +85,7 @@ impl Guide for BestGuide {
 #[tactic(auto, using(roster_search::proofs::Given::given_of_holding))]
 fn leaf_by_weights(
     alloc: Global,
-    weights: &mut NearestWeights,
+    weights: &mut NearestWeights<'_>,
     goal: u32,
     doms: &Domains,
     is_within: bool,
@@ -89,8 +97,8 @@ fn leaf_by_weights(
     ensures leaf { IfOk result (IsLeafGiven weights.old.problem (Some goal) doms.now) }
 {
     if is_within {
-        weights.free_leaf_within(alloc, doms, goal)
+        weights.leaf_within(alloc, doms, Some(goal))
     } else {
-        weights.free_leaf_at_top(alloc, doms, goal)
+        weights.leaf_at_top(alloc, doms, Some(goal))
     }
 }

@@ -1,28 +1,35 @@
 // How many free weekends are worth asking for.
-ghost use Rattle.std.specs.Prelude.{◌≡◌, ◌+◌, ◌≤◌, IfOk, IsTrue};
+ghost use Rattle.std.specs.Prelude.{◌≡◌, ◌+◌, ◌≤◌, Some, IfOk, IsTrue};
 ghost use Rattle.refutation_terms.specs.declared.lines.Line.{Line};
 ghost use Rattle.domain_store.specs.Store.{BelongsTo, has_domain};
-ghost use Rattle.nearest_weights.specs.Found.{IsHoldingFreeLeaf};
+ghost use Rattle.propagator_terms.specs.Cycles.{AreShortRules};
+ghost use Rattle.propagator_terms.specs.Leaves.{IsHoldingLeafFor};
 
 use domain_store::Domains;
 use nearest_weights::NearestWeights;
+use rule_automaton::Automaton;
 use rwsp_model::Problem;
 use std::alloc::{AllocError, Global};
 
 /// The most free weekends, by halving, for which no free leaf is found at the top. It says nothing of the rosters, but
 /// mostly one has as many.
-pub fn likely_most(alloc: Global, problem: &Problem) -> Result<u32, AllocError>
-    requires { problem.now.days ≡ 7 }
-    ensures { IfOk result (λ n. n ≤ problem.now.weeks) }
+pub fn likely_most(alloc: Global, automaton: &Automaton) -> Result<u32, AllocError>
+    requires short { AreShortRules automaton.now.problem automaton.now.rules }
+    requires week { automaton.now.problem.days ≡ 7 }
+    ensures { IfOk result (λ n. n ≤ automaton.now.problem.weeks) }
 {
-    let mut weights = NearestWeights::new(alloc, problem)?;
-    let most = halved(alloc, problem, &mut weights);
+    let mut weights = NearestWeights::new(alloc, automaton);
+    let most = halved(alloc, automaton.problem(), &mut weights);
     drop(weights);
     most
 }
 
 // The same by these weights.
-fn halved(alloc: Global, problem: &Problem, weights: &mut NearestWeights) -> Result<u32, AllocError>
+fn halved(
+    alloc: Global,
+    problem: &Problem,
+    weights: &mut NearestWeights<'_>,
+) -> Result<u32, AllocError>
     requires week { problem.now.days ≡ 7 }
     requires problem { weights.old.problem ≡ problem.now }
     ensures same { weights.new ≡ weights.old }
@@ -46,7 +53,7 @@ fn halved(alloc: Global, problem: &Problem, weights: &mut NearestWeights) -> Res
 // Whether a free leaf with this goal is found at the top.
 fn has_leaf(
     alloc: Global,
-    weights: &mut NearestWeights,
+    weights: &mut NearestWeights<'_>,
     doms: &Domains,
     goal: u32,
 ) -> Result<bool, AllocError>
@@ -54,10 +61,10 @@ fn has_leaf(
     requires week { weights.old.problem.days ≡ 7 }
     requires goal { goal ≤ weights.old.problem.weeks + 1 }
     ensures same { weights.new ≡ weights.old }
-    ensures leaf { IfOk result (λ has. IsTrue has
-        → (line : Line) × IsHoldingFreeLeaf weights.old.problem goal (has_domain doms.now) line) }
+    ensures leaf { IfOk result (λ has. IsTrue has → (line : Line)
+        × IsHoldingLeafFor weights.old.problem (Some goal) (has_domain doms.now) line) }
 {
-    let leaf = weights.free_leaf_at_top(alloc, doms, goal)?;
+    let leaf = weights.leaf_at_top(alloc, doms, Some(goal))?;
     let has = leaf.is_some();
     drop(leaf);
     Ok(has)

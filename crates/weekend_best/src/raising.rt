@@ -2,21 +2,23 @@
 ghost use Rattle.std.specs.Prelude.{◌≡◌, ℕ, ◌+◌, ◌*◌, ◌^◌, ◌<◌, ◌≤◌, IfOk};
 ghost use Rattle.std.specs.Option.{IfSome};
 ghost use Rattle.rwsp_terms.specs.Instance.{Instance, cells, shift_count};
-ghost use Rattle.plan_terms.specs.Bests.{IsMeeting, IsFreeProof, IsBestFound, IsUndecided, goal_above};
+ghost use Rattle.propagator_terms.specs.Cycles.{AreShortRules};
+ghost use Rattle.plan_terms.specs.Bests.{IsMeeting, IsFreeProof, IsBestFound, IsUndecided, goal_above, goal_of};
 
 use crate::likely_most::likely_most;
-use crate::one_goal::search_with;
+use crate::one_goal::RisingGoal;
 use plan_terms::{BestFound, Found};
 use refutation_log::Log;
-use roster_checker::free_weekends;
+use roster_finder::RosterFinder;
+use rule_automaton::{Automaton, Told};
 use rwsp_model::{Problem, Roster};
 use rwsp_terms::limits::GREATEST_BUDGET;
 use std::alloc::{AllocError, Global};
 
 /// The most free weekends that a roster of the problem can have: a roster with them, and the free log for one more.
 ///
-/// The goal is 0 at first, and one above the free weekends of each roster that is found. With each goal, a roster with
-/// as many as seem likely is looked for first. The budget is for the lines of each log.
+/// Where the budget is spent, it is the roster with the most free weekends of all that were found. With each goal, a
+/// roster with as many as seem likely is looked for first. The budget is for the lines of each log.
 pub fn best(alloc: Global, problem: &Problem, budget: u32) -> Result<BestFound, AllocError>
     requires week { problem.now.days ≡ 7 }
     requires budget { (1 ≤ budget) × (budget ≤ GREATEST_BUDGET) }
@@ -24,16 +26,50 @@ pub fn best(alloc: Global, problem: &Problem, budget: u32) -> Result<BestFound, 
     ensures complete { IfOk result (λ found.
         IsUndecided found → budget + 1 < 2 * (shift_count problem.now + 1) ^ cells problem.now) }
 {
+    let automaton = Automaton::of_short_rules(alloc, problem, Told::DayOff)?;
+    let finder = RosterFinder::new(alloc, automaton.problem());
+    let found = match finder {
+        Ok(finder) => {
+            let mut rising = RisingGoal::new();
+            let found = best_by(alloc, &automaton, &finder, &mut rising, budget);
+            drop(finder);
+            found
+        }
+        Err(error) => Err(error),
+    };
+    drop(automaton);
+    found
+}
+
+// The same with the automaton of all short rules of its problem, and by these searches: the roster is the one with the
+// most free weekends of all that they found.
+fn best_by(
+    alloc: Global,
+    automaton: &Automaton,
+    finder: &RosterFinder<'_>,
+    rising: &mut RisingGoal,
+    budget: u32,
+) -> Result<BestFound, AllocError>
+    requires short { AreShortRules automaton.now.problem automaton.now.rules }
+    requires same { finder.now ≡ automaton.now.problem }
+    requires week { automaton.now.problem.days ≡ 7 }
+    requires first { rising.old ≡ 0 }
+    requires budget { (1 ≤ budget) × (budget ≤ GREATEST_BUDGET) }
+    ensures found { IfOk result (IsBestFound automaton.now.problem budget) }
+    ensures most { IfOk result (λ found. rising.new ≡ goal_of found) }
+    ensures complete { IfOk result (λ found. IsUndecided found
+        → budget + 1 < 2 * (shift_count automaton.now.problem + 1) ^ cells automaton.now.problem) }
+{
+    let problem = automaton.problem();
     problem.prove_limits();
     let mut kept = None;
-    let mut goal = 0;
-    let mut wish = likely_most(alloc, problem)?;
+    let mut wish = likely_most(alloc, automaton)?;
     let mut too_many = wish + 1;
     loop {
-        match search_with(alloc, problem, goal, wish, budget)? {
+        match rising.search(alloc, automaton, finder, wish, budget)? {
             Found::Roster(roster) => {
-                goal = free_weekends(problem, &roster) + 1;
                 kept = Some(roster);
+                let goal = rising.goal();
                 // Where the wish wasn't met, half of what is between is wished for next.
                 if goal <= wish {
                     too_many = wish;
@@ -65,6 +101,7 @@ fn ended(kept: Option<Roster>, proof: Log) -> BestFound
     ensures decided { IsUndecided result → ⊥ }
     ensures found { (P : Instance) (budget : ℕ) → IfSome kept (IsMeeting P)
         → IsFreeProof P budget (goal_above kept) proof → IsBestFound P budget result }
+    ensures most { goal_of result ≡ goal_above kept }
 {
     match kept {
         Some(roster) => BestFound::Best { roster, proof },

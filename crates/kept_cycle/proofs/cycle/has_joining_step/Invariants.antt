@@ -1,8 +1,7 @@
 use Rattle.std.proofs.Common.{ℕ, ◌<◌, ◌≡◌}
 use Rattle.std.specs.Prelude.{IsTrue}
-use Rattle.layered_cycle.specs.declared.step.Step.{Step}
-use Rattle.layered_cycle.specs.Grown.{StandsAt}
-use Rattle.kept_cycle.specs.Marks.{is_marked}
+use Rattle.rule_automaton.specs.declared.step.Step.{Step}
+use Rattle.kept_cycle.specs.Marks.{is_marked, StandsAt}
 use Rattle.kept_cycle.proofs.cycle.has_joining_step.Given as goal
 
 abbrev pub invariant-loop-step : goal.invariant-loop-step

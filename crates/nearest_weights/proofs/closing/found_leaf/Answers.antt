@@ -8,7 +8,7 @@ few_days turns most n longest fewer few = let shorter = mul-le-mul_right n fewer
 
 pub small_leaf-requires-clause-few : goal.small_leaf-requires-clause-few
 small_leaf-requires-clause-few c =
-    let found : (1 ≤ c.in-Some.turns) × (c.in-Some.turns ≤ c.args.turns.most) = rw c.in-Some.is at c.in_ok-found.ensures in
+    let found : (1 ≤ c.in-Some.turns) × (c.in-Some.turns ≤ c.args.effort.most_turns) = rw c.in-Some.is at c.in_ok-found.ensures in
     few_days _ _ _ _ found.1 c.requires.few
 
 pub returns : goal.returns

@@ -1,4 +1,4 @@
-use Rattle.std.proofs.Common.{◌<◌, [], false, length, arith, rules, sym, ◌∙◌, ap}
+use Rattle.std.proofs.Common.{◌<◌, [], false, length, arith, rules}
 use Rattle.std.proofs.lemmas.List.{get_or_read}
 use Rattle.rule_automaton.proofs.Images.{kept_by, not_differ}
 use Rattle.rule_automaton.proofs.image.is_kept.Goals as goal

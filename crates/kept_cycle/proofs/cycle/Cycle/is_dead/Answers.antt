@@ -1,4 +1,4 @@
--- The first node of the first day leads nowhere.
+-- The first state of the first day leads nowhere.
 use Rattle.std.proofs.Common.{◌∙◌, ◌*◌, ap, subst, IsTrue, not}
 use Rattle.std.specs.Prelude.{◌↔◌}
 use Rattle.rwsp_terms.specs.Instance.{cells}
@@ -11,4 +11,4 @@ use Rattle.kept_cycle.proofs.cycle.Cycle.is_dead.Goals as goal
 pub returns : goal.returns
 returns c =
     let P : KnownCycle → Type 0 = λ C. IsTrue (not c.has.result) ↔ IsDead C.problem (knows_symbol C) 0 (2 * cells C.problem) C.rules in
-    subst P c.self.view_is (dead_by c.self.inside.tails c.self.inside.layers.layers c.self.inside.sets.items c.self.inside.front c.self.inside.back c.self.inside.width c.has.result c.self.invariant.0 (c.has.ensures ∙ ap (λ r. is_marked r 0) c.row.ensures))
+    subst P c.self.view_is (dead_by c.self.invariant.0 c.has.result (c.has.ensures ∙ ap (λ r. is_marked r 0) c.row.ensures))

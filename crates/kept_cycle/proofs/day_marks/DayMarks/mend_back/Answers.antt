@@ -1,42 +1,40 @@
 -- One day more is mended, and where its marks stay, all are.
-use Rattle.std.proofs.Common.{◌≡◌, ◌+◌, ◌-◌, ◌<◌, ◌∙◌, length, arith, ap}
-use Rattle.kept_cycle.proofs.Mending.{back_step_read, back_unmended, back_more, back_stays, fits_here}
+use Rattle.std.proofs.Common.{◌≡◌, ◌+◌, ◌-◌, ◌∙◌, arith, ap}
+use Rattle.kept_cycle.proofs.Mending.{step_read, back_unmended, back_more, back_stays, fits_here}
+use Rattle.kept_cycle.specs.declared.marks.Way.TheVariants.{Back}
 use Rattle.kept_cycle.specs.Marks.{row_at}
 use Rattle.kept_cycle.proofs.day_marks.DayMarks.mend_back.Goals as goal
 
-pub go_back-requires-clause-wide : goal.go_back-requires-clause-wide
-go_back-requires-clause-wide c =
-    let within : c.loop-i.i - 1 < length c.args.layers.now = omega (arith, c.loop-i-test.true, c.loop-i.invariant.within, c.requires.day, c.requires.long) in
-    fits_here c.args.layers.now c.args.self.now c.loop-i.self (c.loop-i.i - 1) c.index-layers-i.result within c.index-layers-i.is c.requires.wide c.loop-i.invariant.wide
+pub renew-requires-clause-wide : goal.renew-requires-clause-wide
+renew-requires-clause-wide c =
+    fits_here c.args.steps.now c.args.self.now c.loop-i.self c.requires.wide c.loop-i.invariant.wide
 
-pub returns-then-not-go_back-clause-wide : goal.returns-then-not-go_back-clause-wide
-returns-then-not-go_back-clause-wide c = λ width w. c.go_back.ensures.wide width (c.loop-i.invariant.wide width w)
+pub returns-then-not-renew-clause-wide : goal.returns-then-not-renew-clause-wide
+returns-then-not-renew-clause-wide c = λ width w. c.renew.ensures.wide width (c.loop-i.invariant.wide width w)
 
-pub returns-then-not-go_back-clause-steps : goal.returns-then-not-go_back-clause-steps
-returns-then-not-go_back-clause-steps c =
-    let layers = c.args.layers.now in
+pub returns-then-not-renew-clause-steps : goal.returns-then-not-renew-clause-steps
+returns-then-not-renew-clause-steps c =
+    let steps = c.args.steps.now in
     let sets = c.args.sets.now in
     let next : c.loop-i.i ≡ c.loop-i.i - 1 + 1 = omega (arith, c.loop-i-test.true) in
-    let within : c.loop-i.i - 1 < length c.args.layers.now = omega (arith, c.loop-i-test.true, c.loop-i.invariant.within, c.requires.day, c.requires.long) in
-    back_stays layers sets c.args.day c.args.self.now c.loop-i.self c.go_back.new.self (c.loop-i.i - 1) c.loop-i.i next c.loop-i.invariant
-    (back_step_read layers sets c.go_back.new.self (c.loop-i.i - 1) c.index-layers-i.result c.index-sets-i.result within c.index-layers-i.is c.requires.some c.index-sets-i.is c.go_back.ensures.step)
-    (c.go_back.ensures.unchanged c.if-not-go_back.true)
+    back_stays steps sets c.args.day c.args.self.now c.loop-i.self c.renew.new.self (c.loop-i.i - 1) c.loop-i.i next c.loop-i.invariant
+    (step_read Back steps sets (c.loop-i.i - 1) (row_at c.renew.new.self (c.loop-i.i - 1 + 1)) (row_at c.renew.new.self (c.loop-i.i - 1)) c.index-sets-i.result c.requires.some c.index-sets-i.is c.renew.ensures.step)
+    (c.renew.ensures.unchanged c.if-not-renew.true)
 
 pub loop-i-preserved : goal.loop-i-preserved
 loop-i-preserved c =
-    let layers = c.args.layers.now in
+    let steps = c.args.steps.now in
     let sets = c.args.sets.now in
     let next : c.loop-i.i ≡ c.loop-i.i - 1 + 1 = omega (arith, c.loop-i-test.true) in
-    let within : c.loop-i.i - 1 < length c.args.layers.now = omega (arith, c.loop-i-test.true, c.loop-i.invariant.within, c.requires.day, c.requires.long) in
-    back_more layers sets c.args.day c.args.self.now c.loop-i.self c.go_back.new.self (c.loop-i.i - 1) c.loop-i.i next c.loop-i.invariant
-    (back_step_read layers sets c.go_back.new.self (c.loop-i.i - 1) c.index-layers-i.result c.index-sets-i.result within c.index-layers-i.is c.requires.some c.index-sets-i.is c.go_back.ensures.step)
-    c.go_back.ensures.others c.go_back.ensures.long c.go_back.ensures.wide
+    back_more steps sets c.args.day c.args.self.now c.loop-i.self c.renew.new.self (c.loop-i.i - 1) c.loop-i.i next c.loop-i.invariant
+    (step_read Back steps sets (c.loop-i.i - 1) (row_at c.renew.new.self (c.loop-i.i - 1 + 1)) (row_at c.renew.new.self (c.loop-i.i - 1)) c.index-sets-i.result c.requires.some c.index-sets-i.is c.renew.ensures.step)
+    c.renew.ensures.others c.renew.ensures.long c.renew.ensures.wide
 
-pub returns-then-not-go_back-clause-before : goal.returns-then-not-go_back-clause-before
-returns-then-not-go_back-clause-before c i less = ap (λ r. row_at r (i + 1)) (c.go_back.ensures.unchanged c.if-not-go_back.true) ∙ c.loop-i.invariant.before (i + 1) (omega (arith, less))
+pub returns-then-not-renew-clause-before : goal.returns-then-not-renew-clause-before
+returns-then-not-renew-clause-before c i less = ap (λ r. row_at r (i + 1)) (c.renew.ensures.unchanged c.if-not-renew.true) ∙ c.loop-i.invariant.before (i + 1) (omega (arith, less))
 
 pub loop-i-init : goal.loop-i-init
-loop-i-init c = back_unmended c.args.layers.now c.args.sets.now c.args.day c.args.self.now
+loop-i-init c = back_unmended c.args.steps.now c.args.sets.now c.args.day c.args.self.now
 
 pub returns-clause-steps : goal.returns-clause-steps
-returns-clause-steps c i within old = c.loop-i.invariant.steps i within (λ e. omega (arith, e, c.loop-i-test.false)) old
+returns-clause-steps c i within old = c.loop-i.invariant.mended i within (λ e. omega (arith, e, c.loop-i-test.false)) old

@@ -1,10 +1,9 @@
-use Rattle.std.proofs.Common.{◌≡◌, ◌⊎◌, inl, inr, false, ℕ, ◌<◌, ap, get_or, length, subst, sym, ◌∙◌}
-use Rattle.std.proofs.lemmas.List.{length-set}
+use Rattle.std.proofs.Common.{◌≡◌, ◌⊎◌, inl, inr, false, ℕ, IsTrue, ap, get_or, sym, subst, ◌∙◌}
+use Rattle.std.specs.Prelude.{◌↔◌}
 use Rattle.domain_store.specs.Sets.{has_symbol}
-use Rattle.layered_cycle.specs.declared.step.Step.{Step}
-use Rattle.layered_cycle.proofs.Growing.{stands_here}
-use Rattle.kept_cycle.specs.Marks.{is_marked, from_of, to_of}
-use Rattle.kept_cycle.proofs.Marking.{passes_put, passes_over}
+use Rattle.rule_automaton.specs.declared.step.Step.{Step}
+use Rattle.kept_cycle.specs.Marks.{is_marked, here_of}
+use Rattle.kept_cycle.proofs.Marking.{stands_here, passes_put, passes_over}
 use Rattle.kept_cycle.proofs.marks.Marks.put_behind.Goals as goal
 use Rattle.kept_cycle.proofs.marks.Marks.put_behind.Goals.{then-not-has-via-then-not-has, then-not-has-via-else-not-has+then-not-has-2}
 
@@ -13,12 +12,12 @@ loop-step-preserved c =
     let i = c.loop-step.step-index in
     let none : Step = record { from = 0; symbol = record { number = 0 }; to = 0 } in
     let s = get_or c.args.steps.now i none in
-    let within : to_of s < length c.loop-step.self = subst (λ (n : ℕ). to_of s < n) (sym c.loop-step.invariant.long) (c.requires i none c.loop-step-test.true) in
+    let marked = ap (is_marked c.args.before.now) (sym c.here.ensures) ∙ sym c.has.ensures ∙ c.if-not-has.false in
+    let Puts : ℕ → Type 0 = λ k. (t : ℕ) → IsTrue (is_marked c.put.new.self t) ↔ (IsTrue (is_marked c.loop-step.self t) ⊎ (k ≡ t)) in
     record {
-      long = ap length c.put.ensures ∙ length-set c.loop-step.self _ _ ∙ c.loop-step.invariant.long;
-      passes = rw c.put.ensures
-          (passes_put from_of to_of c.args.steps.now (has_symbol c.args.set.now) c.args.before.now c.loop-step.self i s (stands_here c.args.steps.now i none c.loop-step-test.true)
-          (sym c.has.ensures ∙ c.if-not-has.false) (sym c.has-else-not-has.ensures ∙ c.if-not-has-2.false) within c.loop-step.invariant.passes);
+      long = c.put.ensures.long ∙ c.loop-step.invariant.long;
+      passes = passes_put c.args.way c.args.steps.now (has_symbol c.args.set.now) c.args.before.now c.loop-step.self c.put.new.self i s (stands_here c.args.steps.now i none c.loop-step-test.true)
+          marked (sym c.has-else-not-has.ensures ∙ c.if-not-has-2.false) (subst Puts c.there.ensures c.put.ensures.marks) c.loop-step.invariant.passes;
     }
 
 pub loop-step-preserved-then-not-has : goal.loop-step-preserved-then-not-has
@@ -26,12 +25,12 @@ loop-step-preserved-then-not-has c =
     let i = c.loop-step.step-index in
     let none : Step = record { from = 0; symbol = record { number = 0 }; to = 0 } in
     let s = get_or c.args.steps.now i none in
-    let fails : (is_marked c.args.before.now (from_of s) ≡ false) ⊎ (has_symbol c.args.set.now s.symbol.number ≡ false) =
+    let fails : (is_marked c.args.before.now (here_of c.args.way s) ≡ false) ⊎ (has_symbol c.args.set.now s.symbol.number ≡ false) =
     elim c.then-not-has.branch [
-      | then-not-has-via-then-not-has w ↦ inl (sym c.has.ensures ∙ w.if-not-has.true)
+      | then-not-has-via-then-not-has w ↦ inl (ap (is_marked c.args.before.now) (sym c.here.ensures) ∙ sym c.has.ensures ∙ w.if-not-has.true)
       | then-not-has-via-else-not-has+then-not-has-2 w ↦ inr (sym w.has-else-not-has.ensures ∙ w.if-not-has-2.true)
     ] in
     record {
       long = c.loop-step.invariant.long;
-      passes = passes_over from_of to_of c.args.steps.now (has_symbol c.args.set.now) c.args.before.now c.loop-step.self i s (stands_here c.args.steps.now i none c.loop-step-test.true) fails c.loop-step.invariant.passes;
+      passes = passes_over c.args.way c.args.steps.now (has_symbol c.args.set.now) c.args.before.now c.loop-step.self i s (stands_here c.args.steps.now i none c.loop-step-test.true) fails c.loop-step.invariant.passes;
     }

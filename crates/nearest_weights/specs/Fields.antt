@@ -1,0 +1,20 @@
+-- What a search goes over, and what it finds there.
+use Rattle.std.specs.Prelude.{ℕ, ◌<◌, Option, None}
+use Rattle.rwsp_terms.specs.Instance.{cells}
+use Rattle.refutation_terms.specs.declared.lines.Line.{Line}
+use Rattle.refutation_terms.specs.Log.{GoalFits}
+use Rattle.domain_store.specs.Store.{BelongsTo, has_domain}
+use Rattle.propagator_terms.specs.Cycles.{AreShortRules}
+use Rattle.propagator_terms.specs.Leaves.{IsHoldingLeafFor}
+use Rattle.nearest_weights.specs.declared.field.Field.{Field}
+
+-- what holds of each field
+pub record IsField (f : Field) : Type 0 where
+  pub rules : AreShortRules f.automaton.now.problem f.automaton.now.rules
+  pub belongs : BelongsTo f.automaton.now.problem f.doms.now
+  pub goal : GoalFits f.automaton.now.problem None f.goal
+  pub position : f.place.now.position < cells f.automaton.now.problem
+
+-- a leaf that holds there
+abbrev pub IsLeafIn : Field → Line → Type 0
+IsLeafIn f line = IsHoldingLeafFor f.automaton.now.problem f.goal (has_domain f.doms.now) line

@@ -1,0 +1,105 @@
+-- No text is without a verdict as a free log, for weeks of seven days.
+use Rattle.std.proofs.Common.{◌≡◌, ℕ, List, [], ◌∷◌, ◌++◌, refl, ap, sym, ◌∙◌, append_assoc, None, Some}
+use Rattle.std.specs.Prelude.{Ok, Err, Result}
+use Rattle.std.proofs.lemmas.List.{append-nil}
+use Rattle.rwsp_terms.specs.declared.limits.TheConstants.{DAYS_OF_WEEK}
+use Rattle.rwsp_terms.specs.Instance.{Instance}
+use Rattle.refutation_terms.specs.declared.lines.LogRefusal.{LogRefusal}
+use Rattle.refutation_terms.specs.declared.lines.LogRefusal.TheVariants as Refusals
+use Rattle.refutation_terms.specs.Log.{Log, AreRules, GoalFits}
+use Rattle.refutation_terms.specs.LogText.{free_version_text, rules_text, goal_text, free_header_text}
+use Rattle.refutation_terms.specs.FreeVerdict.{FreeStart, FreeVersioned, BeforeGoal, ReadingFree, IsFreeVerdict}
+use Rattle.refutation_log.specs.Printing.{lines_text}
+use Rattle.refutation_checker.specs.FreeLines.{free_log_with}
+use Rattle.refutation_checker.specs.Laws.{TextsHaveAFreeVerdict}
+use Rattle.refutation_checker.proofs.FreeReading.{sound_front, text_so_far, refused_at_line}
+use Rattle.refutation_checker.proofs.SomeVerdict.{first_line, no_body}
+
+abbrev HasNoFreeVerdict : Instance → List ℕ → Type 0
+HasNoFreeVerdict P text = (verdict : Result Log LogRefusal) → IsFreeVerdict P text verdict → ⊥
+
+free_body_on : (P : Instance) (text R body : List ℕ) (goal : ℕ) → AreRules P R → GoalFits P None (Some goal) → text ≡ free_header_text R goal ++ body → HasNoFreeVerdict P text → ⊥
+free_body_on P text R body goal rules fits whole none =
+    let header : List ℕ = free_header_text R goal in
+    no_body P (Some goal) R body None (record {
+      all = λ lines sound all tree.
+          (let front = sound_front P R goal lines rules fits sound in
+          none (Ok (free_log_with R goal lines)) (goal, whole ∙ ap (λ t. header ++ t) all, record { grounded = front.grounded; tree = tree; holds = front.holds }));
+      early = λ lines sound all part.
+          none (Err Refusals.Ends) (record {
+            front = ReadingFree goal (free_log_with R goal lines);
+            no_cause = sound_front P R goal lines rules fits sound;
+            whole = whole ∙ ap (λ t. header ++ t) all;
+            not_whole = part;
+          });
+      refused = λ lines line rest why sound cut next c.
+          none (Err why) (refused_at_line P text why (record {
+            front = ReadingFree goal (free_log_with R goal lines);
+            line = line;
+            rest = rest;
+            no_cause = sound_front P R goal lines rules fits sound;
+            whole = whole ∙ text_so_far P R goal body (line ++ rest) lines cut ∙ sym (append_assoc (header ++ lines_text P lines) line rest);
+            is_line = next;
+            cause = c;
+          }));
+    })
+
+-- the header
+
+goal_on : (P : Instance) (text R rest : List ℕ) → P.days ≡ DAYS_OF_WEEK → HasNoFreeVerdict P text → AreRules P R → text ≡ (free_version_text ++ rules_text R) ++ rest → ⊥
+goal_on P text R [] week none rules whole =
+    none (Err Refusals.Ends) (record { front = BeforeGoal R; no_cause = rules; whole = whole ∙ append-nil (free_version_text ++ rules_text R); not_whole = λ t. t })
+goal_on P text R (b ∷ rest) week none rules whole =
+    let front : List ℕ = free_version_text ++ rules_text R in
+    let next = first_line b rest in
+    let cut : text ≡ front ++ (next.line ++ next.rest) = whole ∙ ap (λ t. front ++ t) next.whole in
+    none (Err (Refusals.Form 3))
+    (record {
+      front = BeforeGoal R;
+      line = next.line;
+      rest = next.rest;
+      no_cause = rules;
+      whole = cut ∙ sym (append_assoc front next.line next.rest);
+      is_line = next.is_line;
+      cause = (
+        refl,
+        λ goal few own.
+            free_body_on P text R next.rest goal rules (refl, week, few)
+            (cut ∙ ap (λ t. front ++ (t ++ next.rest)) own ∙ sym (append_assoc front (goal_text goal) next.rest)) none,
+      );
+    })
+
+rules_on : (P : Instance) (text rest : List ℕ) → P.days ≡ DAYS_OF_WEEK → HasNoFreeVerdict P text → text ≡ free_version_text ++ rest → ⊥
+rules_on P text [] week none whole =
+    none (Err Refusals.Ends) (record { front = FreeVersioned; no_cause = tt; whole = whole ∙ append-nil free_version_text; not_whole = λ t. t })
+rules_on P text (b ∷ rest) week none whole =
+    let next = first_line b rest in
+    let cut : text ≡ free_version_text ++ (next.line ++ next.rest) = whole ∙ ap (λ t. free_version_text ++ t) next.whole in
+    none (Err (Refusals.Form 2))
+    (record {
+      front = FreeVersioned;
+      line = next.line;
+      rest = next.rest;
+      no_cause = tt;
+      whole = cut ∙ sym (append_assoc free_version_text next.line next.rest);
+      is_line = next.is_line;
+      cause = (
+        refl,
+        λ R rules own. goal_on P text R next.rest week none rules (cut ∙ ap (λ t. free_version_text ++ (t ++ next.rest)) own ∙ sym (append_assoc free_version_text (rules_text R) next.rest)),
+      );
+    })
+
+pub some_free_verdict : TextsHaveAFreeVerdict
+some_free_verdict P [] week none = none (Err Refusals.Ends) (record { front = FreeStart; no_cause = tt; whole = refl; not_whole = λ t. t })
+some_free_verdict P (b ∷ text) week none =
+    let next = first_line b text in
+    none (Err (Refusals.Form 1))
+    (record {
+      front = FreeStart;
+      line = next.line;
+      rest = next.rest;
+      no_cause = tt;
+      whole = next.whole;
+      is_line = next.is_line;
+      cause = (refl, λ own. rules_on P (b ∷ text) next.rest week none (next.whole ∙ ap (λ t. t ++ next.rest) own));
+    })
