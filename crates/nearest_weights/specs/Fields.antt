@@ -1,5 +1,5 @@
 -- What a search goes over, and what it finds there.
-use Rattle.std.specs.Prelude.{ℕ, ◌<◌, Option, None}
+use Rattle.std.specs.Prelude.{◌<◌, None}
 use Rattle.rwsp_terms.specs.Instance.{cells}
 use Rattle.refutation_terms.specs.declared.lines.Line.{Line}
 use Rattle.refutation_terms.specs.Log.{GoalFits}

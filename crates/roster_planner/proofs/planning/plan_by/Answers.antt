@@ -4,7 +4,8 @@ use Rattle.roster_planner.proofs.planning.plan_by.Goals as goal
 
 pub returns : goal.returns
 returns c =
-    let P = c.args.problem.now in
+    let P = c.args.automaton.now.problem in
+    let is = c.problem-problem.ensures in
     let reasons = c.requires.reasons in
     plan_found
     P
@@ -14,10 +15,10 @@ returns c =
     _
     reasons.cases.rules
     c.guided_search-found.result
-    c.prove_limits.ensures
+    (rw is at c.prove_limits.ensures)
     c.requires.budget.0
     c.requires.turn
     reasons.cases.short
     reasons
-    c.guided_search-found.ensures.found
-    c.guided_search-found.ensures.complete
+    (rw is at c.guided_search-found.ensures.found)
+    (rw is at c.guided_search-found.ensures.complete)

@@ -14,14 +14,16 @@ pub returns-clause-serves : goal.returns-clause-serves
 returns-clause-serves g c =
     let cases = rw c.in_ok-cases.ensures.0 at c.case_reasons-cases.ensures.serves in
     let bounds = rw c.in_ok-cases.ensures.1 at c.new-bounds.ensures.serves in
-    (c.new-2.ensures.serves c.args.problem.now).1 (cases, bounds)
+    (c.new-2.ensures.serves c.args.automaton.now.problem).1 (cases, bounds)
 
 pub returns-clause-reasons : goal.returns-clause-reasons
 returns-clause-reasons g c =
-    let P = c.args.problem.now in
+    let P = c.args.automaton.now.problem in
+    let is = c.problem-problem.ensures in
+    let limits = rw is at c.prove_limits.ensures in
     let turn = c.args.turn in
     let start = c.domains-doms.result.now in
-    let opened : AreSame P (has_domain start) (opening P turn) = at_first P turn [] (has_domain start) (c.domains-doms.ensures.has P turn [] c.in_ok-walk.ensures.starts) in
+    let opened : AreSame P (has_domain start) (opening P turn) = at_first P turn [] (has_domain start) (c.domains-doms.ensures.has P turn [] (rw is at c.in_ok-walk.ensures.starts)) in
     let cases = rw c.in_ok-cases.ensures.0 at c.case_reasons-cases.ensures.reasons in
     let none_spent = rw c.in_ok-cases.ensures.1 at c.new-bounds.ensures.none_spent in
     let leaves = rw c.in_ok-cases.ensures.1 at c.new-bounds.ensures.leaves in
@@ -44,6 +46,6 @@ returns-clause-reasons g c =
       };
       top = λ S line same bound. (c.new-2.ensures.leaves S line).1 (inr ((leaves S line).1 (record {
         same = λ p x inside. same p x inside ∙ sym (opened p x inside);
-        bound = same_top P (opening P turn) (has_domain start) line (some_cells P c.prove_limits.ensures) (turned_round P (has_domain start) (opening P turn) opened) bound;
+        bound = same_top P (opening P turn) (has_domain start) line (some_cells P limits) (turned_round P (has_domain start) (opening P turn) opened) bound;
       })));
     }
