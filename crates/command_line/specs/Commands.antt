@@ -2,7 +2,7 @@
 use Rattle.std.specs.Prelude.{◌≡◌, ◌≢◌, ℕ, ◌+◌, ◌<◌, ◌≤◌, List, [], ◌∷◌, length, slice_index, slice_get, Option, Some, None, MatchOption, String, codes}
 use Rattle.std.specs.String.{string_bytes}
 use Rattle.std.specs.declared.alloc.Global.{Global}
-use Rattle.rwsp_terms.specs.declared.limits.TheConstants.{MOST_WEEKS, USUAL_BUDGET, GREATEST_BUDGET, LONGEST_CALENDAR, USUAL_WORKERS, MOST_WORKERS, MOST_SIZES, USUAL_STAFF_BUDGET, GREATEST_STAFF_BUDGET, USUAL_BEST_BUDGET}
+use Rattle.rwsp_terms.specs.declared.limits.TheConstants.{MOST_WEEKS, USUAL_BUDGET, GREATEST_BUDGET, LONGEST_CALENDAR, USUAL_WORKERS, MOST_WORKERS, MOST_SIZES, USUAL_STAFF_BUDGET, GREATEST_STAFF_BUDGET, USUAL_BEST_BUDGET, DAYS_OF_WEEK}
 use Rattle.rwsp_text.specs.Numbers.{number_of}
 use Rattle.rwsp_terms.specs.Instance.{Instance}
 use Rattle.calendar_dates.specs.Calendar.{Date, IsDateWord, FitsDates}
@@ -150,8 +150,8 @@ AsksNoCalendar command = Unit {0}
 
 -- the week of the instance has as many days as the command asks for
 abbrev pub HasDaysFor : Command → Instance → Type 0
-HasDaysFor CheckFree P = P.days ≡ 7
-HasDaysFor (Best budget) P = P.days ≡ 7
+HasDaysFor CheckFree P = P.days ≡ DAYS_OF_WEEK
+HasDaysFor (Best budget) P = P.days ≡ DAYS_OF_WEEK
 HasDaysFor command P = Unit {0}
 
 -- the bytes of a word, where there is one

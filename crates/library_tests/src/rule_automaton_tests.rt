@@ -1,5 +1,6 @@
 use rule_automaton::{Automaton, Told};
 use rwsp_terms::Symbol;
+use rwsp_terms::limits::MOST_SYMBOLS;
 use small_problems::{D, DAYS_AND_NIGHTS, N, OFF, problem_of};
 use std::test::Fail;
 
@@ -37,6 +38,9 @@ fn automata_are_small(rt: HostRuntime) -> Result<(), Fail> {
 fn lead(automaton: &Automaton, word: &[Symbol]) -> Option<u32> {
     let mut state = 0;
     for x in word {
+        if state as usize >= automaton.states() || u32::from(x.number) >= MOST_SYMBOLS {
+            return None;
+        }
         state = automaton.follow(state, *x)?;
     }
     Some(state)
@@ -50,8 +54,9 @@ fn automata_read_words(rt: HostRuntime) -> Result<(), Fail> {
     assert_eq!(rt; automaton.rules().len(), 8);
     assert_eq!(rt; lead(&automaton, &[D, OFF, D]), None);
     assert_eq!(rt; lead(&automaton, &[D, D, N]), None);
-    let off = lead(&automaton, &[D, OFF, OFF, D, D, D, OFF]);
-    assert_eq!(rt; off.map(|state| automaton.is_off(state)), Some(true));
+    let state = lead(&automaton, &[D, OFF, OFF, D, D, D, OFF]).unwrap_or(u32::MAX);
+    assert!(rt; (state as usize) < automaton.states());
+    assert!(rt; automaton.is_off(state));
     assert!(rt; automaton.steps().len() >= automaton.states());
     Ok(())
 }

@@ -2,6 +2,7 @@ use rwsp_terms::Symbol;
 use small_problems::{
     D, D_ON_BOTH_DAYS, DAYS_AND_NIGHTS, N, OFF, TWOS_IN_SIX, all_rules, one_rule, problem_of,
 };
+use std::alloc::Global;
 use std::test::Fail;
 use word_tail::{Tail, TailRules};
 
@@ -58,19 +59,36 @@ fn words_by_their_tails(rt: HostRuntime) -> Result<(), Fail> {
     Ok(())
 }
 
-// Words by one rule, and by all rules where all of them are of blocks of two days.
+// The first place whose symbol makes the word unclean, by one rule of a problem or by all its short rules.
+fn unclean_by(
+    alloc: Global,
+    problem: &[u8],
+    rule: Option<u32>,
+    word: &[u8],
+) -> Result<Option<usize>, Fail> {
+    let problem = problem_of(alloc, problem)?;
+    let rules = match rule {
+        Some(number) => one_rule(alloc, &problem, number)?,
+        None => all_rules(alloc, &problem)?,
+    };
+    Ok(first_unclean(&rules, word))
+}
+
+// Rule 1 is the greatest length of D, and rule 4 the least of days off.
 #[test]
 fn words_by_some_rules(rt: HostRuntime) -> Result<(), Fail> {
-    let alloc = rt.alloc();
-    let twos = problem_of(alloc, TWOS_IN_SIX)?;
-    let min_off = one_rule(alloc, &twos, 4)?;
-    assert_eq!(rt; first_unclean(&min_off, b"-D"), None);
-    assert_eq!(rt; first_unclean(&min_off, b"D-D"), Some(2));
-    let single = problem_of(alloc, D_ON_BOTH_DAYS)?;
-    let max_shift = one_rule(alloc, &single, 1)?;
-    assert_eq!(rt; first_unclean(&max_shift, b"DD"), Some(1));
-    let all = all_rules(alloc, &twos)?;
-    assert_eq!(rt; first_unclean(&all, b"D--DD-"), None);
-    assert_eq!(rt; first_unclean(&all, b"D--DD-D"), Some(6));
+    for (problem, rule, word, want) in [
+        (TWOS_IN_SIX, Some(4), b"-D".as_slice(), None),
+        (TWOS_IN_SIX, Some(4), b"D-D", Some(2)),
+        (D_ON_BOTH_DAYS, Some(1), b"DD", Some(1)),
+        (TWOS_IN_SIX, None, b"D--DD-", None),
+        (TWOS_IN_SIX, None, b"D--DD-D", Some(6)),
+    ] {
+        assert_eq!(rt;
+            unclean_by(rt.alloc(), problem, rule, word)?,
+            want,
+            "{word:?}"
+        );
+    }
     Ok(())
 }

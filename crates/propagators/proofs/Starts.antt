@@ -13,7 +13,7 @@ use Rattle.rwsp_terms.specs.declared.data.Rule.{Rule}
 use Rattle.rwsp_terms.specs.Instance.{Instance, cells, shift_count, IsDay, IsSymbol}
 use Rattle.rwsp_terms.specs.Rules.{rules, rule_of, Names, NamesShortRules}
 use Rattle.rwsp_terms.specs.Weights.{AreWeights, IsWeight}
-use Rattle.rwsp_terms.specs.declared.limits.TheConstants.{MOST_CELLS}
+use Rattle.rwsp_terms.specs.declared.limits.TheConstants.{MOST_CELLS, SEARCHED_ROUNDS}
 use Rattle.rwsp_terms.proofs.SameLists.{same_rule_lists, HoldSame}
 use Rattle.rwsp_model.specs.Validity.{KeepsLimits}
 use Rattle.rwsp_model.proofs.Limits.{some_cells}
@@ -139,7 +139,7 @@ searched_fit P D R zero y is = subst (AreWeightsOf P) (sym is) (no_weights P)
 searched_fit P D R (suc k) y is = is.2.stepped.are_weights
 
 -- where no plain bound holds: what the search finds
-pub searched_answer : (P : Instance) (D : Domains) (R : List ℕ) (y : Option (List Weight)) → IsFirstHolding (HoldsAtTop P D R) 0 (plain_bounds P) None → IsFirstSearched P D R 32 y → IsTopAnswer P D R y
+pub searched_answer : (P : Instance) (D : Domains) (R : List ℕ) (y : Option (List Weight)) → IsFirstHolding (HoldsAtTop P D R) 0 (plain_bounds P) None → IsFirstSearched P D R SEARCHED_ROUNDS y → IsTopAnswer P D R y
 searched_answer P D R None none searched = record {
   plain = λ k y is.
       let H : List Weight → Type 0 = λ z. HoldsAtTop P D R z → ⊥ in

@@ -1,6 +1,7 @@
 -- The bounds of one turn from position 0 on, with all short rules.
 use Rattle.std.specs.Prelude.{◌≡◌, ◌⊎◌, ℕ, ◌<◌, List, slice_get, Option, Some, None}
 use Rattle.rwsp_terms.specs.declared.data.Weight.{Weight}
+use Rattle.rwsp_terms.specs.declared.limits.TheConstants.{SEARCHED_ROUNDS}
 use Rattle.rwsp_terms.specs.Instance.{Instance}
 use Rattle.refutation_terms.specs.declared.lines.Line.{Line}
 use Rattle.refutation_terms.specs.declared.lines.Line.TheVariants.{Bound}
@@ -10,10 +11,10 @@ use Rattle.refutation_terms.specs.Sharp.{plain_bounds, IsSearched, HoldsAtTop, N
 use Rattle.domain_store.specs.Store.{Store, BelongsTo, has_domain}
 use Rattle.propagator_terms.specs.Cycles.{AreShortRules}
 
--- the weights of a plain bound, or of one of the first 32 rounds of the search
+-- the weights of a plain bound, or of a round of the search
 abbrev pub AreTopWeights : Instance → Domains → List ℕ → List Weight → Type 0
 AreTopWeights P D R y = ((k : ℕ) × (slice_get (plain_bounds P) k ≡ Some y))
-    ⊎ ((k : ℕ) × (k < 32) × IsSearched P D R k y)
+    ⊎ ((k : ℕ) × (k < SEARCHED_ROUNDS) × IsSearched P D R k y)
 
 -- a bound of one turn from position 0 on, by all short rules and such weights
 abbrev pub IsTopBound : Instance → Domains → Line → Type 0

@@ -23,7 +23,7 @@ use std::marker::Model;
 use std::thread::Threads;
 
 // The rounds of the search for weights.
-const ROUNDS: u32 = 32;
+const ROUNDS: u32 = rwsp_terms::limits::SEARCHED_ROUNDS;
 
 /// Closes the domains that it was made with where a bound of one turn from position 0 on holds there: a plain bound,
 /// or one of the first 32 searched weights. It closes no others, and takes no symbol away.

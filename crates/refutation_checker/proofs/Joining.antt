@@ -1,9 +1,7 @@
 -- The answers of chunks, put together.
-use Rattle.std.proofs.Common.{◌≡◌, ◌≢◌, ◌⊎◌, ℕ, suc, ◌+◌, ◌<◌, List, [], ◌∷◌, ◌++◌, length, get_or, refl, ap, sym, ◌∙◌, append_assoc, length-append, subst, arith, Option, None, inl, inr, Bool, IsTrue}
+use Rattle.std.proofs.Common.{◌≡◌, ◌≢◌, ◌⊎◌, ℕ, suc, ◌<◌, List, [], ◌∷◌, ◌++◌, length, get_or, ap, sym, ◌∙◌, append_assoc, subst, arith, Option, None, inl, inr, Bool, IsTrue}
 use Rattle.std.specs.Prelude.{Result, Ok, Err, ◌↔◌}
-use Rattle.std.specs.List.{join_with_byte}
 use Rattle.std.proofs.lemmas.List.{append-nil}
-use Rattle.std.proofs.lemmas.List.Elements.{All-head, All-tail}
 use Rattle.rwsp_terms.specs.Instance.{Instance}
 use Rattle.rwsp_model.specs.declared.fail.Fail.{Fail}
 use Rattle.rwsp_model.specs.declared.fail.Fail.TheVariants.{Refused, Memory}
@@ -11,8 +9,7 @@ use Rattle.refutation_terms.specs.declared.lines.Line.{Line}
 use Rattle.refutation_terms.specs.declared.lines.Turn.{Turn}
 use Rattle.refutation_terms.specs.declared.lines.LogRefusal.{LogRefusal}
 use Rattle.refutation_terms.specs.Tree.{IsTree}
-use Rattle.refutation_terms.specs.LogText.{raw, line_text, raw_fields}
-use Rattle.rwsp_text.specs.Lines.{HasNoFeed, IsNextLine}
+use Rattle.rwsp_text.specs.Lines.{IsNextLine}
 use Rattle.refutation_terms.specs.Verdict.{Cause, Reading}
 use Rattle.refutation_log.specs.Printing.{lines_text, EachFits}
 use Rattle.refutation_log.specs.ReadLog.{log_with}
@@ -21,7 +18,6 @@ use Rattle.log_chunks.specs.Chunks.{AreChunks, EndWithFeed}
 use Rattle.log_chunks.proofs.LastFeed.{no_feed_at_end}
 use Rattle.refutation_checker.specs.ChunkVerdicts.{AreSoundBehind, AreAllSound, IsChunkRefused, IsJudged, joined_from}
 use Rattle.refutation_checker.proofs.SoundLines.{lines_joined, sound_joined}
-use Rattle.refutation_log.proofs.LogLines.{some_bytes}
 
 abbrev pub Answer : Type 0
 Answer = Result Bool (Fail LogRefusal)

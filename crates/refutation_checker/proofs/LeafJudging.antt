@@ -1,5 +1,5 @@
 -- Dead and bound leaves, judged apart from their log.
-use Rattle.std.proofs.Common.{ℕ, Option, Some, None, IsTrue, true, false, refl, arith}
+use Rattle.std.proofs.Common.{ℕ, Option, Some, None, subst, IsTrue, true, false, refl, arith}
 use Rattle.std.specs.Prelude.{◌↔◌, MatchOption, IfOk, Result, Ok, Err}
 use Rattle.std.specs.declared.alloc.AllocError.{AllocError}
 use Rattle.rwsp_terms.specs.declared.data.Symbol.{Symbol}
@@ -8,11 +8,12 @@ use Rattle.rwsp_terms.specs.Instance.{Instance}
 use Rattle.refutation_terms.specs.declared.lines.Line.{Line}
 use Rattle.refutation_terms.specs.declared.lines.Line.TheVariants.{Split, Window, Day, Dead, Bound, Few, Free, Unfinished}
 use Rattle.refutation_terms.specs.Word.{Domains, AreSame}
-use Rattle.refutation_terms.specs.Log.{LineFits}
+use Rattle.rwsp_terms.specs.Rules.{NamesShortOnly}
+use Rattle.refutation_terms.specs.Log.{LineFits, ListsShortOnly}
 use Rattle.refutation_terms.specs.Verdict.{Escapes, EscapesFor}
 use Rattle.refutation_terms.proofs.Causes.{escaped_not_holding}
 use Rattle.refutation_terms.proofs.SameDomains.{same_holds, turned_round}
-use Rattle.refutation_checker.specs.LineVerdicts.{HoldsByWords, HoldsByWordsFor}
+use Rattle.refutation_checker.specs.LineVerdicts.{HasList, HasNoList, HoldsByWords, HoldsByWordsFor}
 
 pub same_by_words : (P : Instance) (D E : Domains) (line : Line) → LineFits P line → AreSame P D E → HoldsByWords P D line → HoldsByWords P E line
 same_by_words P D E (Split p x) fits same h = tt
@@ -61,3 +62,26 @@ fails_there P D E line w fits same e = (
   λ no. absurd (cc),
   λ there. absurd (escaped_by_words P D line w e (same_by_words P E D line fits (turned_round P D E same) there)),
 )
+
+-- the list of a line
+
+pub its_short_rules : (P : Instance) (line : Line) (list : List ℕ) → HasList line list → ListsShortOnly P line → NamesShortOnly P list
+its_short_rules P (Split p x) list has short = absurd has
+its_short_rules P (Window number p len) list has short = absurd has
+its_short_rules P (Day j x over) list has short = absurd has
+its_short_rules P (Dead p len R) list has short = subst (NamesShortOnly P) has short
+its_short_rules P (Bound p turns R y) list has short = subst (NamesShortOnly P) has short
+its_short_rules P Unfinished list has short = absurd has
+its_short_rules P Few list has short = absurd has
+its_short_rules P (Free turns reward R y) list has short = subst (NamesShortOnly P) has short
+
+-- nothing is said by words of a line without one
+pub without_list : (P : Instance) (goal : Option ℕ) (D : Domains) (line : Line) → HasNoList line → HoldsByWordsFor P goal D line
+without_list P goal D (Split p x) none = tt
+without_list P goal D (Window number p len) none = tt
+without_list P goal D (Day j x over) none = tt
+without_list P goal D (Dead p len R) none = absurd none
+without_list P goal D (Bound p turns R y) none = absurd none
+without_list P goal D Unfinished none = tt
+without_list P goal D Few none = tt
+without_list P goal D (Free turns reward R y) none = absurd none

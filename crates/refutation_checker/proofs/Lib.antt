@@ -10,5 +10,6 @@ pub mod Joining
 pub mod Deciding
 pub mod SomeVerdict
 pub mod LeafJudging
+pub mod ShortTails
 pub mod FreeReading
 pub mod SomeFreeVerdict

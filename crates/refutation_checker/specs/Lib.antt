@@ -1,6 +1,7 @@
 pub mod Outside
 pub mod LineVerdicts
 pub mod LineTexts
+pub mod ShortWords
 pub mod FreeLines
 pub mod Turns
 pub mod LogVerdicts

@@ -1,6 +1,6 @@
 // The verdict on the text of a free log.
 ghost use Rattle.std.specs.Prelude.{◌≡◌, ◌≤◌, ◌+◌, ◌++◌, [], length, None, Some};
-ghost use Rattle.rwsp_terms.specs.declared.limits.TheConstants.{LONGEST_LOG};
+ghost use Rattle.rwsp_terms.specs.declared.limits.TheConstants.{LONGEST_LOG, DAYS_OF_WEEK};
 ghost use Rattle.rwsp_model.specs.Refusals.{MatchAnswer};
 ghost use Rattle.refutation_terms.specs.Log.{AreRules, GoalFits};
 ghost use Rattle.refutation_terms.specs.LogText.{free_header_text};
@@ -9,7 +9,7 @@ ghost use Rattle.tree_walk.specs.States.{IsStateOf};
 ghost use Rattle.refutation_checker.specs.FreeLines.{ArePassingLines};
 
 use crate::judge::Judge;
-use refutation_log::{FreeHeader, LineReader, Log, read_free_header};
+use refutation_log::{FREE_HEADER_LINES, FreeHeader, LineReader, Log, read_free_header};
 use refutation_terms::{Line, LogRefusal};
 use rwsp_model::{Fail, Problem};
 use std::alloc::Global;
@@ -18,7 +18,7 @@ use tree_walk::Walk;
 /// The verdict on a text: the free log where it is the text of one that passes, else the first line with a cause to
 /// refuse it, and on that line the lowest cause. Only for weeks of seven days.
 pub fn check_free(alloc: Global, problem: &Problem, bytes: &[u8]) -> Result<Log, Fail<LogRefusal>>
-    requires days { problem.now.days ≡ 7 }
+    requires days { problem.now.days ≡ DAYS_OF_WEEK }
     requires long { length bytes.now ≤ LONGEST_LOG }
     ensures { MatchAnswer result (IsFreeAccepted problem.now bytes.now) (IsFreeRefused problem.now bytes.now) }
 {
@@ -76,7 +76,7 @@ fn judged_lines(
     let mut reader = LineReader::new(header.body);
     let mut lines = Vec::new(alloc);
     while let Some(bytes) = reader.next() {
-        let number = lines.len() as u32 + 4;
+        let number = FREE_HEADER_LINES + lines.len() as u32 + 1;
         let line = match judge.read_line(alloc, walk, bytes, number) {
             Ok(line) => line,
             Err(fail) => return Err(fail),

@@ -1,5 +1,5 @@
 // The lines of a log's tree, judged one after the other.
-ghost use Rattle.std.specs.Prelude.{◌≡◌, ◌+◌, List, [], ◌∷◌, ◌++◌, length, Option, IfOk, MatchOption, None, false};
+ghost use Rattle.std.specs.Prelude.{◌≡◌, ◌+◌, List, [], ◌∷◌, ◌++◌, length, Option, IfOk, IsTrue, MatchOption, None, false};
 ghost use Rattle.refutation_terms.specs.declared.lines.Line.{Line};
 ghost use Rattle.refutation_terms.specs.declared.lines.Turn.{Turn};
 ghost use Rattle.refutation_terms.specs.Tree.{domains_at};
@@ -11,9 +11,10 @@ ghost use Rattle.tree_walk.specs.States.{IsStateOf};
 ghost use Rattle.refutation_checker.specs.LineVerdicts.{HoldsByWordsFor, IsSoundFor, LineCauseFor};
 ghost use Rattle.refutation_checker.specs.LineTexts.{IsLineRead, IsLineReadAs, IsSpellingRefusal, StillWalks};
 
-use crate::kept_automaton::automaton_of;
+use crate::kept::{automaton_of, tails_of};
 use crate::line_walk::step;
 use crate::plain_causes::plain_refusal;
+use crate::short_words::is_plainly_dead;
 use crate::word_leaves::{escape_of, list_of};
 use domain_store::Domains;
 use refutation_log::{LineRefusal, read_line, read_line_for};
@@ -24,14 +25,16 @@ use rwsp_terms::{RuleList, Word};
 use std::alloc::{AllocError, Global};
 use std::marker::Model;
 use tree_walk::Walk;
+use word_tail::TailRules;
 
-/// Judges lines of a log with a goal or none, under the rules that its header names. The automaton that was made for the
-/// list of a line serves the next lines with the same list.
+/// Judges lines of a log with a goal or none, under the rules that its header names. What was made for the list of a line
+/// serves the next lines with the same list: tail rules at once, and the automaton where it was needed.
 #[derive(Drop)]
 pub struct Judge<'a> {
     problem: &'a Problem,
     named: &'a RuleList,
     goal: Option<u32>,
+    tails: Option<TailRules>,
     automaton: Option<Automaton>,
 }
 
@@ -44,8 +47,9 @@ impl<'a> Model for Judge<'a> {
 
     ghost view = { λ j. record { problem = j.problem.now; named = j.named.now; goal = j.goal } };
 
-    ghost invariant = { λ j. IfSome j.automaton (λ automaton. automaton.problem ≡ j.problem.now)
-        × GoalFits j.problem.now None j.goal };
+    ghost invariant = { λ j. IfSome j.tails (λ tails. tails.problem ≡ j.problem.now)
+        × GoalFits j.problem.now None j.goal
+        × IfSome j.automaton (λ automaton. automaton.problem ≡ j.problem.now) };
 }
 
 impl<'a> Judge<'a> {
@@ -60,6 +64,7 @@ impl<'a> Judge<'a> {
             problem,
             named,
             goal,
+            tails: None,
             automaton: None,
         }
     }
@@ -213,10 +218,45 @@ impl<'a> Judge<'a> {
         let Some(list) = list_of(line) else {
             return Ok(None);
         };
+        if self.holds_plainly(alloc, doms, line)? {
+            return Ok(None);
+        }
         let automaton = automaton_of(alloc, self.problem, self.automaton.take(), list)?;
         let found = escape_of(alloc, &automaton, doms, self.goal, line);
         self.keep(automaton);
         found
+    }
+
+    // Whether it is plain that a dead leaf holds. Then no automaton is needed, which costs more than many short leaves
+    // where the list changes from line to line.
+    fn holds_plainly(
+        &mut self,
+        alloc: Global,
+        doms: &Domains,
+        line: &Line,
+    ) -> Result<bool, AllocError>
+        requires domains { BelongsTo self.old.problem doms.now }
+        requires line { LineFitsFor self.old.problem self.old.goal line.now }
+        requires short { ListsShortOnly self.old.problem line.now }
+        ensures same { self.new ≡ self.old }
+        ensures plain { IfOk result (λ plain. IsTrue plain
+            → HoldsByWordsFor self.old.problem self.old.goal (has_domain doms.now) line.now) }
+    {
+        let Line::Dead { p, len, rules } = line else {
+            return Ok(false);
+        };
+        let tails = tails_of(alloc, self.problem, self.tails.take(), rules)?;
+        let plain = is_plainly_dead(alloc, &tails, doms, *p, *len);
+        self.keep_tails(tails);
+        plain
+    }
+
+    // Keeps the tail rules for the next lines.
+    fn keep_tails(&mut self, tails: TailRules)
+        requires { tails.problem ≡ self.old.problem }
+        ensures { self.new ≡ self.old }
+    {
+        self.tails = Some(tails);
     }
 
     // Keeps the automaton for the next lines.

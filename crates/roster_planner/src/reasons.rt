@@ -15,7 +15,7 @@ use std::thread::Threads;
 use tree_walk::Walk;
 
 // The workers among whom the plain bounds are shared out.
-const WORKERS: u32 = 4;
+const WORKERS: u32 = rwsp_terms::limits::USUAL_WORKERS;
 
 /// The reasons of cases, and bounds at the top.
 pub type Reasons<'a> = Pair<CaseReasons<'a>, RootBounds<'a>>;

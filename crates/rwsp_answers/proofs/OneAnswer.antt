@@ -15,7 +15,7 @@ use Rattle.rwsp_answers.specs.Answers.{IsAnswerOn, IsAnswerTo, IsFileAnswer, IsS
 use Rattle.rwsp_answers.specs.Texts.{answer_text, HasFixedText, IsPrintable, IsCalendarOf, IsCalendarText, IsReplyText}
 use Rattle.rwsp_answers.specs.Trials.{IsTrialAnswer, IsProblemOfTrial}
 use Rattle.problem_generator.proofs.OneProblem.{same_generated}
-use Rattle.rwsp_answers.specs.Laws.{AnswersAreOne, TextsAreOne, ProblemsAreAnswered, RefutationsAreAccepted, AgreeInSearch, RostersMeet, ReductionsAreAccepted, WorkersMakeNoDifference, StaffTextsAreAccepted, BestRostersAreBest, BestProofsAreAccepted, IsProofOf, AgreeInBest}
+use Rattle.rwsp_answers.specs.Laws.{AnswersAreOne, TextsAreOne, ProblemsAreAnswered, RefutationsAreAccepted, AgreeInSearch, RostersMeet, ReductionsAreAccepted, WorkersMakeNoDifference, StaffTextsAreAccepted, BestRostersAreBest, BestRostersMeet, BestProofsAreAccepted, IsProofOf, AgreeInBest}
 use Rattle.command_line.specs.declared.command.Command.{Command}
 use Rattle.command_line.specs.declared.command.Command.TheVariants.{Plan, Check, Verify, Reduce, Show, Trial, Crew as CrewCommand, Staff as StaffCommand, CheckStaff, CheckFree, Best as BestCommand}
 use Rattle.rwsp_answers.specs.declared.answer.InputKind.TheVariants as Kinds
@@ -25,7 +25,7 @@ use Rattle.rwsp_answers.specs.Staffs.{IsStaffAnswer}
 use Rattle.crew_size.proofs.Decided.{searches_agree, printed_accepted, accepted_decide}
 use Rattle.crew_size.specs.Sizes.{IsSize}
 use Rattle.rwsp_answers.proofs.Logs.{accepted, free_accepted, exclusive}
-use Rattle.rwsp_answers.proofs.Bests.{bests_agree, below_goal}
+use Rattle.rwsp_answers.proofs.Bests.{bests_agree, best_meets, below_goal}
 use Rattle.rwsp_answers.specs.Bests.{IsBestAnswer}
 use Rattle.refutation_terms.specs.LogText.{free_log_text}
 use Rattle.rwsp_answers.specs.Plans.{IsPlanAnswer}
@@ -221,12 +221,17 @@ kept file P bytes h a spells reduced short answer =
 at_most : (m n : ℕ) → m < n + 1 → m ≤ n
 at_most m n h = omega (arith, h)
 
--- a best roster meets every rule, and none has more free weekends
+-- the roster that such a search finds meets every rule
+pub best_verified : BestRostersMeet
+best_verified file P budget found s a spells best is h =
+    let meets = best_meets P budget found s best is in
+    let roster = meets.is_roster in
+    one_second Verify P (roster_text P s.cells) a Meets (valid_keeps P spells.valid) h (printed_is_short P s.cells spells.valid roster, (s.cells, printed_is_spelled P s.cells spells.valid roster, meets))
+
+-- where it is a best one, none has more free weekends
 pub best_is_best : BestRostersAreBest
 best_is_best file P budget s g a spells best h =
-    let roster = best.0.1.is_roster in
-    let meets = one_second Verify P (roster_text P s.cells) a Meets (valid_keeps P spells.valid) h (printed_is_short P s.cells spells.valid roster, (s.cells, printed_is_spelled P s.cells spells.valid roster, best.0.1)) in
-    (meets, λ t met. at_most (free_weekends t) (free_weekends s.cells) (below_goal P (free_weekends s.cells + 1) g t best.1.0 met))
+    (best_verified file P budget (Best s g) s a spells best refl h, λ t met. at_most (free_weekends t) (free_weekends s.cells) (below_goal P (free_weekends s.cells + 1) g t best.1.0 met))
 
 -- the proof of a search for the most free weekends is accepted
 

@@ -1,5 +1,6 @@
 -- What each answer says.
 use Rattle.std.specs.Prelude.{◌≡◌, ◌≢◌, ◌⊎◌, ℕ, ◌<◌, ◌≤◌, List, Option, Some, None}
+use Rattle.rwsp_terms.specs.declared.limits.TheConstants.{DAYS_OF_WEEK}
 use Rattle.rwsp_io.specs.Told.{Told, Rose}
 use Rattle.rwsp_terms.specs.Instance.{Instance}
 use Rattle.rwsp_terms.specs.Roster.{MeetsAll}
@@ -205,7 +206,7 @@ IsSecondAnswer command answer P bytes = ⊥
 
 -- what an answer says to a command for weeks of seven days: the instance has others, or it has these and this is said
 abbrev pub IsWeekly : Instance → Answer → Type 0 → Type 0
-IsWeekly P answer Says = ((P.days ≢ 7) × (answer ≡ NotWeekly P.days)) ⊎ ((P.days ≡ 7) × Says)
+IsWeekly P answer Says = ((P.days ≢ DAYS_OF_WEEK) × (answer ≡ NotWeekly P.days)) ⊎ ((P.days ≡ DAYS_OF_WEEK) × Says)
 
 -- what the answer to a command says of the instance that the first file spells, and of what the second file tells
 abbrev pub IsAnswerOn : Command → Told → Instance → Answer → Type 0

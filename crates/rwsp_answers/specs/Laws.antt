@@ -140,6 +140,14 @@ BestRostersAreBest =
     → IsRosterAnswer a P (roster_text P s.cells)
     → (a ≡ Meets) × ((t : List Symbol) → MeetsAll P t → free_weekends t ≤ free_weekends s.cells)
 
+-- the roster that `best` finds meets every rule by `verify`, also where the budget was spent
+abbrev pub BestRostersMeet : Type 0
+BestRostersMeet =
+    (file : List ℕ) (P : Instance) (budget : ℕ) (found : Answer) (s : RosterValue) (a : Answer)
+    → SpellsProblem file P → IsBestAnswer P budget found → best_roster found ≡ Some s
+    → IsRosterAnswer a P (roster_text P s.cells)
+    → a ≡ Meets
+
 -- the goal and the log of what `best` proves
 abbrev pub IsProofOf : Answer → ℕ → Log → Type 0
 IsProofOf (Best s g) goal h = (goal ≡ free_weekends s.cells + 1) × (h ≡ g)

@@ -2,6 +2,7 @@
 use Rattle.std.specs.Prelude.{◌≡◌, ◌⊎◌, ℕ, List, [], ◌∷◌, ◌++◌, codes, Option, Some, None, All, length}
 use Rattle.std.specs.List.{flat_map, sum_by, range_with_len}
 use Rattle.std.specs.Fmt.{decimal}
+use Rattle.rwsp_terms.specs.declared.limits.TheConstants.{DAYS_OF_WEEK}
 use Rattle.rwsp_io.specs.Told.{Told}
 use Rattle.rwsp_terms.specs.Instance.{Instance, IsSymbol, shift_count, shift_demand, name_of}
 use Rattle.rwsp_terms.specs.Roster.{IsRoster}
@@ -127,7 +128,7 @@ staff_refusal_text P Failures.Ends = codes "staff refused: ends"
 
 abbrev pub usage_text : List ℕ
 usage_text =
-    codes "usage: rwsp plan FILE [--budget B] | check FILE LOG [--workers N] | verify FILE ROSTER | reduce FILE LOG | show FILE | trial NUMBER WEEKS | crew FILE ROSTER DATE DAYS [EMPLOYEE] | staff FILE LOW HIGH [--budget B] | check-staff FILE TEXT | best FILE [--budget B] | check-free FILE LOG"
+    codes "usage: rwsp plan FILE [--budget B] | check FILE LOG [--workers N] | verify FILE ROSTER | reduce FILE LOG | show FILE | trial NUMBER WEEKS | best FILE [--budget B] | check-free FILE LOG | staff FILE LOW HIGH [--budget B] | check-staff FILE TEXT | crew FILE ROSTER DATE DAYS [EMPLOYEE]"
 
 abbrev pub kind_text : InputKind → List ℕ
 kind_text Kinds.Problem = codes "too long: problem"
@@ -245,7 +246,7 @@ NamesItsOwn P why = Unit {0}
 
 -- a roster is one of the instance, whose week has seven days
 abbrev pub IsWeeklyRoster : Instance → RosterValue → Type 0
-IsWeeklyRoster P s = (P.days ≡ 7) × (s.days ≡ P.days) × IsRoster P s.cells
+IsWeeklyRoster P s = (P.days ≡ DAYS_OF_WEEK) × (s.days ≡ P.days) × IsRoster P s.cells
 
 -- the same where there is one
 abbrev pub IsRosterFound : Instance → Option RosterValue → Type 0

@@ -1,5 +1,5 @@
 // Laws of the definitions. Each function's contract is the law.
-ghost use Rattle.rwsp_answers.specs.Laws.{AnswersAreOne, TextsAreOne, ProblemsAreAnswered, RefutationsAreAccepted, RostersMeet, ReductionsAreAccepted, StaffTextsAreAccepted, BestRostersAreBest, BestProofsAreAccepted, WorkersMakeNoDifference};
+ghost use Rattle.rwsp_answers.specs.Laws.{AnswersAreOne, TextsAreOne, ProblemsAreAnswered, RefutationsAreAccepted, RostersMeet, ReductionsAreAccepted, StaffTextsAreAccepted, BestRostersAreBest, BestRostersMeet, BestProofsAreAccepted, WorkersMakeNoDifference};
 
 /// What is said of each answer fits no other answer, except those that a search is free to choose. So an answer
 /// comes exactly where what is said of it is true: no other can come but want of memory, and a fault that the counts
@@ -43,6 +43,11 @@ pub fn staff_texts_are_accepted()
 /// What `best` writes as a roster meets every rule by `verify` over the same file, and no other has more free weekends.
 pub fn best_rosters_are_best()
     ensures { BestRostersAreBest }
+{}
+
+/// What `best` writes as a roster meets every rule by `verify` over the same file, also where it has spent its budget.
+pub fn best_rosters_meet()
+    ensures { BestRostersMeet }
 {}
 
 /// What `best` writes as a proof is accepted by `check-free` over the same file.

@@ -11,9 +11,9 @@ mod trial_text;
 
 pub use answer::{Answer, InputKind, Outcome, Stop, TrialResult};
 pub use laws::{
-    answers_are_one, best_proofs_are_accepted, best_rosters_are_best, problems_are_answered,
-    reductions_are_accepted, refutations_are_accepted, rosters_meet, staff_texts_are_accepted,
-    texts_are_one, workers_make_no_difference,
+    answers_are_one, best_proofs_are_accepted, best_rosters_are_best, best_rosters_meet,
+    problems_are_answered, reductions_are_accepted, refutations_are_accepted, rosters_meet,
+    staff_texts_are_accepted, texts_are_one, workers_make_no_difference,
 };
 pub use text::{fixed_text, text_on};
 pub use trial_text::text_of_trial;

@@ -21,7 +21,7 @@ use rwsp_terms::Rule;
 use std::alloc::{AllocError, Global};
 
 const USAGE: &str =
-    "usage: rwsp plan FILE [--budget B] | check FILE LOG [--workers N] | verify FILE ROSTER | reduce FILE LOG | show FILE | trial NUMBER WEEKS | crew FILE ROSTER DATE DAYS [EMPLOYEE] | staff FILE LOW HIGH [--budget B] | check-staff FILE TEXT | best FILE [--budget B] | check-free FILE LOG\n";
+    "usage: rwsp plan FILE [--budget B] | check FILE LOG [--workers N] | verify FILE ROSTER | reduce FILE LOG | show FILE | trial NUMBER WEEKS | best FILE [--budget B] | check-free FILE LOG | staff FILE LOW HIGH [--budget B] | check-staff FILE TEXT | crew FILE ROSTER DATE DAYS [EMPLOYEE]\n";
 
 #[tactic(auto, using(crate::proofs::Appends::regroup))]
 fn range_line(alloc: Global, number: u32, limit: u32) -> Result<String, AllocError>

@@ -1,5 +1,6 @@
 // A roster with the most free weekends, and why none has more.
 ghost use Rattle.std.specs.Prelude.{◌≡◌, ◌≤◌, IfOk};
+ghost use Rattle.rwsp_terms.specs.declared.limits.TheConstants.{DAYS_OF_WEEK};
 ghost use Rattle.rwsp_answers.specs.Bests.{IsBestAnswer, best_answer_of};
 ghost use Rattle.rwsp_answers.specs.Texts.{IsPrintable};
 
@@ -12,7 +13,7 @@ use weekend_best::best;
 
 /// What is found of the most free weekends of the problem, with the budget for each goal.
 pub fn best_found(alloc: Global, problem: &Problem, budget: u32) -> Result<Answer, AllocError>
-    requires weekly { problem.now.days ≡ 7 }
+    requires weekly { problem.now.days ≡ DAYS_OF_WEEK }
     requires budget { (1 ≤ budget) × (budget ≤ GREATEST_BUDGET) }
     ensures answer { IfOk result (IsBestAnswer problem.now budget) }
     ensures printable { IfOk result (IsPrintable problem.now) }

@@ -15,11 +15,9 @@ use refutation_log::{Log, read_log};
 use rule_reducer::reduce_in_place;
 use rwsp_answers::Answer;
 use rwsp_model::{Fail, Problem};
+use rwsp_terms::limits::USUAL_WORKERS;
 use std::alloc::{AllocError, Global};
 use std::thread::Threads;
-
-/// The workers that look for the first line with a cause, where a text isn't that of a log.
-const WORKERS: u32 = 4;
 
 /// The answer of a reduction to the bytes of a log. Once they are read as a log, they are let go.
 pub fn reduction<R: Threads + Sync, G: Gate>(
@@ -74,7 +72,7 @@ fn first_refusal<R: Threads + Sync, G: Gate>(
     ensures printable { IfOk result (IsPrintable problem.now) }
 {
     problem.prove_limits();
-    match check_with(rt, alloc, problem, bytes, WORKERS, gate) {
+    match check_with(rt, alloc, problem, bytes, USUAL_WORKERS, gate) {
         Ok(_) => unreachable!(),
         Err(Fail::Refused(why)) => Ok(Answer::LogRefused(why)),
         Err(Fail::Memory) => Err(AllocError),

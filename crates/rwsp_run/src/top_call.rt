@@ -20,12 +20,9 @@ use rwsp_answers::{Answer, Outcome, Stop};
 use rwsp_io::{Shelf, Sink, write_all};
 use rwsp_model::Problem;
 use rwsp_replies::{Exit, Reply, crew_reply, fixed, printed, problem_in};
-use rwsp_terms::limits::MOST_WEEKS;
+use rwsp_terms::limits::{DAYS_OF_WEEK, MOST_WEEKS};
 use std::alloc::Global;
 use std::thread::Threads;
-
-/// The days of a week that has a weekend.
-const DAYS_OF_WEEK: u32 = 7;
 
 /// Answers the words of a command line, over the files of the shelf. The words are looked at first, then the problem's
 /// file, then the second file; a file behind an earlier refusal isn't read. The answer's whole text is composed before

@@ -1,5 +1,6 @@
 // Whether a free log passes.
 ghost use Rattle.std.specs.Prelude.{◌≡◌, IfOk};
+ghost use Rattle.rwsp_terms.specs.declared.limits.TheConstants.{DAYS_OF_WEEK};
 ghost use Rattle.refutation_terms.specs.FreeVerdict.{IsFreeAccepted};
 ghost use Rattle.rwsp_answers.specs.Inputs.{IsWithinLimit};
 ghost use Rattle.rwsp_answers.specs.Answers.{IsFreeAnswer, IsOfFreeLog};
@@ -14,7 +15,7 @@ use std::alloc::{AllocError, Global};
 
 /// The answer to the bytes of a free log.
 pub fn free_verdict(alloc: Global, problem: &Problem, bytes: &[u8]) -> Result<Answer, AllocError>
-    requires weekly { problem.now.days ≡ 7 }
+    requires weekly { problem.now.days ≡ DAYS_OF_WEEK }
     requires short { IsWithinLimit Kinds.Log bytes.now }
     ensures answer { IfOk result (λ a. IsFreeAnswer a problem.now bytes.now) }
     ensures kind { IfOk result IsOfFreeLog }
