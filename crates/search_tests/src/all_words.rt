@@ -1,20 +1,20 @@
 // A trial of the definitions: `escape` and `heaviest` against a look at all words, where what is bad for a rule and
 // what a word weighs are written anew.
-ghost use Rattle.std.specs.Prelude.{◌≡◌, ◌*◌, ◌≤◌, ◌<◌, ◌≤ℤ◌, negsuc, pos, IfOk};
+ghost use Rattle.std.specs.Prelude.{◌≡◌, ◌≤◌, ◌<◌, ◌≤ℤ◌, negsuc, pos, IfOk};
 ghost use Rattle.rwsp_terms.specs.declared.limits.TheConstants.{LONGEST_WORD};
 ghost use Rattle.rwsp_terms.specs.Instance.{cells};
 ghost use Rattle.domain_store.specs.Store.{BelongsTo};
 
+use clean_words::{CleanWords, HeavyWord, escape};
 use domain_store::Domains;
-use layered_cycle::escape;
-use potential_bounds::{HeavyWord, Weights, heaviest};
+use potential_bounds::{Weights, heaviest};
+use rule_automaton::{Automaton, Told};
 use rwsp_model::Problem;
 use rwsp_terms::{Bounds, Class, Symbol, Word};
-use small_problems::{D, OFF, TWO_IN_FOUR, TWOS_IN_SIX, all_rules, problem_of, take_away};
+use small_problems::{D, OFF, TWO_IN_FOUR, TWOS_IN_SIX, problem_of, take_away};
 use std::alloc::{AllocError, Global};
 use std::process::Abort;
 use std::test::Fail;
-use word_tail::TailRules;
 
 // What a symbol weighs on a day: from -3 to 3.
 fn value(day: u32, x: Symbol) -> i32
@@ -260,45 +260,49 @@ fn domains_of(alloc: Global, problem: &Problem, working: Option<u32>) -> Result<
     }
 }
 
-// Whether the least clean word of a length is that of all words.
+// The clean words of a case of this length.
+fn words_of<'a>(
+    automaton: &'a Automaton,
+    domains: &'a Domains,
+    case: &Case,
+    days: u32,
+) -> CleanWords<'a>
+    requires belongs { BelongsTo automaton.now.problem domains.now }
+    requires position { case.now.first < cells automaton.now.problem }
+    requires few { days ≤ LONGEST_WORD }
+    ensures automaton { result.automaton.now ≡ automaton.now }
+{
+    CleanWords {
+        automaton,
+        domains,
+        position: case.first,
+        days,
+    }
+}
+
+// Whether the least of the words is that of all words.
 fn is_least(
     alloc: Global,
     problem: &Problem,
-    tails: &TailRules,
-    doms: &Domains,
+    words: &CleanWords<'_>,
     case: &Case,
-    len: u32,
-) -> Result<bool, AllocError>
-    requires belongs { BelongsTo tails.now.problem doms.now }
-    requires position { case.now.first < cells tails.now.problem }
-    requires long { (1 ≤ len) × (len ≤ LONGEST_WORD) }
-{
-    let word = escape(alloc, tails, doms, case.first, len)?;
+) -> Result<bool, AllocError> {
+    let word = escape(alloc, words)?;
     let found = word.map(|word| HeavyWord { weight: 0, word });
-    let best = heaviest_of_all(alloc, problem, case, len, 0)?;
+    let best = heaviest_of_all(alloc, problem, case, words.days, 0)?;
     Ok(is_same(&found, &best))
 }
 
-// Whether the heaviest word of the turns is that of all words.
+// Whether the heaviest of the words is that of all words.
 fn is_heaviest(
     alloc: Global,
     problem: &Problem,
-    tails: &TailRules,
-    doms: &Domains,
+    words: &CleanWords<'_>,
     case: &Case,
-) -> Result<bool, AllocError>
-    requires same { tails.now.problem ≡ problem.now }
-    requires belongs { BelongsTo problem.now doms.now }
-    requires position { case.now.first < cells problem.now }
-    requires some { 1 ≤ case.now.turns }
-    requires few { case.now.turns * cells problem.now ≤ LONGEST_WORD }
-{
+) -> Result<bool, AllocError> {
     let weights = weights_of(alloc, problem)?;
-    let found = heaviest(
-        alloc, problem, tails, doms, case.first, case.turns, &weights,
-    )?;
-    let len = case.turns.wrapping_mul(problem.cells());
-    let best = heaviest_of_all(alloc, problem, case, len, 1)?;
+    let found = heaviest(alloc, words, &weights)?;
+    let best = heaviest_of_all(alloc, problem, case, words.days, 1)?;
     Ok(is_same(&found, &best))
 }
 
@@ -307,27 +311,29 @@ fn compare(
     rt: &impl Abort,
     alloc: Global,
     problem: &Problem,
-    tails: &TailRules,
+    automaton: &Automaton,
     doms: &Domains,
     case: &Case,
 ) -> Result<(), Fail>
-    requires same { tails.now.problem ≡ problem.now }
+    requires same { automaton.now.problem ≡ problem.now }
     requires belongs { BelongsTo problem.now doms.now }
 {
     problem.prove_limits();
     assert!(rt; case.first < problem.cells());
     for len in 1..10 {
-        assert!(rt; is_least(alloc, problem, tails, doms, case, len)?, "{len}");
+        let words = words_of(automaton, doms, case, len);
+        assert!(rt; is_least(alloc, problem, &words, case)?, "{len}");
     }
     assert!(rt; case.turns == 1 || case.turns == 2);
-    assert!(rt; is_heaviest(alloc, problem, tails, doms, case)?);
+    let words = words_of(automaton, doms, case, case.turns * problem.cells());
+    assert!(rt; is_heaviest(alloc, problem, &words, case)?);
     Ok(())
 }
 
 fn compare_on(rt: &impl Abort, alloc: Global, problem: &Problem, case: &Case) -> Result<(), Fail> {
-    let tails = all_rules(alloc, problem)?;
+    let automaton = Automaton::of_short_rules(alloc, problem, Told::DayOff)?;
     let doms = domains_of(alloc, problem, case.working)?;
-    compare(rt, alloc, problem, &tails, &doms, case)
+    compare(rt, alloc, problem, &automaton, &doms, case)
 }
 
 #[test]
