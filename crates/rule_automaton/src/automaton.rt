@@ -77,11 +77,13 @@ impl Automaton {
         ensures problem { IfOk result (λ a. a.problem ≡ problem.now) }
         ensures rules { IfOk result (λ a. a.rules ≡ rules.now) }
     {
-        let table = small_table(alloc, &TailRules::of(alloc, problem, rules)?, told)?;
+        let tails = TailRules::of(alloc, problem, rules)?;
+        let table = small_table(alloc, &tails, told)?;
         let steps = steps_of(alloc, &table.moves)?;
+        let (problem, list) = tails.into_parts();
         Ok(Automaton {
-            problem: problem.copy()?,
-            list: rules.copy()?,
+            problem,
+            list,
             moves: table.moves,
             offs: table.offs,
             steps,

@@ -61,6 +61,14 @@ impl TailRules {
         &self.list
     }
 
+    /// The problem and the list of rules, by themselves.
+    pub fn into_parts(self) -> (Problem, RuleList)
+        ensures problem { result.0 ≡ self.problem }
+        ensures rules { result.1 ≡ self.rules }
+    {
+        (self.problem, self.list)
+    }
+
     /// The tail of a clean word with one symbol more, by the tail of the word; None where the longer word
     /// isn't clean.
     /// A run that the word begins with is never too short, since it may have begun before the word.
