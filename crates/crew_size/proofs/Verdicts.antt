@@ -211,7 +211,7 @@ pub goes_on : (P : Instance) (text : List ℕ) (sizes : Option (ℕ × ℕ)) (li
 goes_on P text sizes line last bytes more is at =
     let last_is = last_of at.low at.logs sizes last at.known is in
     let written = last_is_written P at.low at.logs last at.stands.passing last_is in
-    let one : feeds (none_line last) ≡ 1 = feeds_of_heading (codes "none to ") last [] written.1 refl refl in
+    let one : feeds (none_line last) ≡ 1 = feeds_of_heading (NoneTo last) written in
     let all = feeds_append (sections_text P at.low at.logs) (none_line last) in
     let number : line ≡ feeds (sections_text P at.low at.logs) + 1 = at.number in
     record {
