@@ -1,21 +1,24 @@
 -- Behind one section more.
-use Rattle.std.proofs.Common.{◌≡◌, ℕ, zero, suc, ◌+◌, ◌^◌, ◌<◌, List, [], ◌∷◌, ◌++◌, length, take, get_or, true, false, cond, Option, Some, refl, ap, sym, ◌∙◌, subst, arith, inl, inr, ⊎_elim, length-append}
-use Rattle.std.specs.Prelude.{◌⊎◌, slice_get, count_by, ◌==◌, codes}
-use Rattle.std.specs.List.{list_all}
-use Rattle.std.specs.Char.{is_ascii_digit}
-use Rattle.std.specs.Fmt.{decimal}
-use Rattle.std.proofs.lemmas.Bool.{and_parts, ne_eqb}
+use Rattle.std.proofs.Common.{◌≡◌, ◌≢◌, ℕ, zero, suc, ◌+◌, ◌^◌, ◌<◌, List, [], ◌∷◌, ◌++◌, length, take, get_or, cond, Option, Some, refl, ap, sym, ◌∙◌, subst, arith, inl, inr, ⊎_elim, length-append}
+use Rattle.std.specs.Prelude.{◌⊎◌, slice_get, count_by, ◌==◌}
+use Rattle.std.specs.List.{join_with_byte}
+use Rattle.std.proofs.lemmas.Bool.{ne_eqb}
 use Rattle.std.proofs.lemmas.List.{append-nil, append_assoc, take_more, length-take-le}
+use Rattle.std.proofs.lemmas.List.Elements.{All-head, All-tail}
 use Rattle.std.proofs.lemmas.List.Sums.{sum_by-append}
-use Rattle.rwsp_text.proofs.Printed.{digits_printed}
+use Rattle.rwsp_text.specs.Lines.{HasNoFeed}
+use Rattle.rwsp_text.proofs.LineLaws.{join_no_feed}
 use Rattle.rwsp_terms.specs.Instance.{Instance}
 use Rattle.refutation_terms.specs.Log.{Log, Passes}
 use Rattle.refutation_terms.specs.LogText.{log_text}
 use Rattle.crew_size.specs.Sizes.{with_weeks, IsSize}
-use Rattle.crew_size.specs.Texts.{heading, refuted_line, section_text, sections_text}
+use Rattle.crew_size.specs.Texts.{refuted_line, section_text, sections_text}
 use Rattle.crew_size.specs.Sections.{ArePassing, StandsBehindLogs, IsHeadingsPlace, BeginsAsHeading, AreUpToHeading, IsNextSize, IsLastSize, line_behind}
-use Rattle.crew_size.specs.Places.{AreSizes, IsNextOf, IsLastOf}
+use Rattle.crew_size.specs.Places.{AreSizes, IsNextOf, IsLastOf, IsHeadingNumber, heading_line}
+use Rattle.crew_size.specs.declared.heading.Heading.{Heading}
+use Rattle.crew_size.specs.declared.heading.Heading.TheVariants.{Refuted}
 use Rattle.crew_size.proofs.Cuts.{rest_of_cut}
+use Rattle.crew_size.proofs.Headings.{heading_fields, heading_written, heading_words}
 
 -- a list with one more at its end
 pub pushed_at : {X : Type 0} (xs : List X) (x y : X) (k : ℕ) → slice_get (xs ++ x ∷ []) k ≡ Some y → (slice_get xs k ≡ Some y) ⊎ ((k ≡ length xs) × (x ≡ y))
@@ -63,24 +66,18 @@ feeds bytes = count_by (λ b. b == 10) bytes
 pub feeds_append : (xs ys : List ℕ) → feeds (xs ++ ys) ≡ feeds xs + feeds ys
 feeds_append xs ys = sum_by-append (λ b. cond (b == 10) 1 0) xs ys
 
-digit_is_no_feed : (b : ℕ) → is_ascii_digit b ≡ true → (b == 10) ≡ false
-digit_is_no_feed b h = ne_eqb b 10 (λ e. let no : is_ascii_digit 10 ≡ true = subst (λ c. is_ascii_digit c ≡ true) e h in absurd (cc))
+no_feeds : (bytes : List ℕ) → HasNoFeed bytes → feeds bytes ≡ 0
+no_feeds [] h = refl
+no_feeds (b ∷ bytes) h =
+    let rest = no_feeds bytes (All-tail (λ b. b ≢ 10) b bytes h) in
+    let first : feeds (b ∷ []) ≡ 0 = ap (λ t. 0 + cond t 1 0) (ne_eqb b 10 (All-head (λ b. b ≢ 10) b bytes h)) in
+    omega (arith, rest, first, feeds_append (b ∷ []) bytes)
 
-feeds_of_digits : (w : List ℕ) → list_all is_ascii_digit w ≡ true → feeds w ≡ 0
-feeds_of_digits [] h = refl
-feeds_of_digits (b ∷ w) h =
-    let p = and_parts (is_ascii_digit b) (list_all is_ascii_digit w) h in
-    let rest : feeds w ≡ 0 = feeds_of_digits w p.1 in
-    let first : feeds (b ∷ []) ≡ 0 = ap (λ t. 0 + cond t 1 0) (digit_is_no_feed b p.0) in
-    omega (arith, rest, first, feeds_append (b ∷ []) w)
-
-pub feeds_of_heading : (word : List ℕ) (m : ℕ) (what : List ℕ) → m < 10 ^ 9 → feeds word ≡ 0 → feeds what ≡ 0 → feeds (heading word m what) ≡ 1
-feeds_of_heading word m what small none none' =
-    let digits = feeds_of_digits (decimal m) (digits_printed m small) in
-    let a = feeds_append word (decimal m ++ (what ++ 10 ∷ [])) in
-    let b = feeds_append (decimal m) (what ++ 10 ∷ []) in
-    let c = feeds_append what (10 ∷ []) in
-    omega (arith, digits, a, b, c, none, none')
+pub feeds_of_heading : (h : Heading) → IsHeadingNumber h → feeds (heading_line h) ≡ 1
+feeds_of_heading h w =
+    let body : List ℕ = join_with_byte 32 (heading_fields h) in
+    let none = no_feeds body (join_no_feed (heading_fields h) (heading_words h w).1) in
+    omega (arith, none, ap feeds (heading_written h), feeds_append body (10 ∷ []))
 
 pub size_is_short : (P : Instance) (m : ℕ) → IsSize P m → m < 10 ^ 9
 size_is_short P m size = omega (arith, size.few)
@@ -109,7 +106,7 @@ line_behind_one_more P low m logs g log e size spelled =
     let all : feeds (sections_text P low (logs ++ g ∷ [])) ≡ feeds (sections_text P low logs ++ (refuted_line m ++ log)) = ap feeds (sections_push P low logs g ∙ ap (λ t. sections_text P low logs ++ t) section) in
     let front = feeds_append (sections_text P low logs) (refuted_line m ++ log) in
     let behind = feeds_append (refuted_line m) log in
-    let line : feeds (refuted_line m) ≡ 1 = feeds_of_heading (codes "weeks ") m (codes " none") (size_is_short P m size) refl refl in
+    let line : feeds (refuted_line m) ≡ 1 = feeds_of_heading (Refuted m) (size.some, size_is_short P m size) in
     omega (arith, all, front, behind, line)
 
 abbrev pair : ℕ → ℕ → ℕ × ℕ

@@ -1,14 +1,18 @@
--- The numbers of headings, written and read.
+-- The numbers of headings, written and read, and headings as lines of words.
 use Rattle.std.proofs.Common.{◌≡◌, ◌≢◌, ℕ, ◌^◌, ◌<◌, ◌≤◌, List, [], ◌∷◌, ◌++◌, length, get_or, Bool, true, false, cond, ◌&&◌, Option, Some, None, refl, ap, sym, ◌∙◌, subst, arith, inl, inr, lit<}
 use Rattle.std.specs.Prelude.{nat_le, codes, MatchOption}
 use Rattle.std.specs.List.{list_all}
 use Rattle.std.specs.Char.{is_ascii_digit}
 use Rattle.std.specs.Fmt.{decimal}
 use Rattle.std.proofs.lemmas.Bool.{and_parts, leb-true}
-use Rattle.std.proofs.lemmas.Fmt.{decimal_digit, first_decimal, decimal-digits_value}
-use Rattle.std.proofs.lemmas.List.{append-nil, append_cancel_left, append_cancel_right}
+use Rattle.std.proofs.lemmas.Fmt.{decimal_digit, first_decimal, decimal-digits_value, decimal_injective}
+use Rattle.std.proofs.lemmas.List.{append-nil, append_assoc, append_cancel_left, append_cancel_right}
 use Rattle.std.proofs.lemmas.Str.Parse.{digits_value_short}
+use Rattle.rwsp_text.specs.Fields.{Words, text_of}
+use Rattle.rwsp_text.specs.Lines.{AreWords, IsNextLine}
 use Rattle.rwsp_text.specs.Numbers.{number_of, value_of}
+use Rattle.rwsp_text.proofs.KindLaws.{decimal_blankless, word_blankless}
+use Rattle.rwsp_text.proofs.LineLaws.{same_words, text_is_line}
 use Rattle.rwsp_text.proofs.Printed.{ascii_digits_model, printed_is_read}
 use Rattle.crew_size.specs.Sections.{BeginsAsHeading}
 use Rattle.crew_size.specs.Places.{heading_line, IsHeadingNumber, HasNumber, HasNoNumber}
@@ -72,3 +76,35 @@ no_heading line a b c (NoneTo m) w = c m w.0 w.1
 pub no_beginning : (bytes : List ℕ) → ((rest : List ℕ) → bytes ≢ codes "weeks " ++ rest) → ((rest : List ℕ) → bytes ≢ codes "none " ++ rest) → BeginsAsHeading bytes → ⊥
 no_beginning bytes a b (inl h) = a h.0 h.1
 no_beginning bytes a b (inr h) = b h.0 h.1
+
+-- a heading is a line of words
+
+abbrev pub heading_fields : Heading → Words
+heading_fields (Refuted m) = codes "weeks" ∷ decimal m ∷ codes "none" ∷ []
+heading_fields (Found m) = codes "weeks" ∷ decimal m ∷ codes "roster" ∷ []
+heading_fields (NoneTo m) = codes "none" ∷ codes "to" ∷ decimal m ∷ []
+
+pub heading_written : (h : Heading) → heading_line h ≡ text_of (heading_fields h)
+heading_written (Refuted m) = ap (λ t. codes "weeks " ++ t) (sym (append_assoc (decimal m) (codes " none") (10 ∷ [])))
+heading_written (Found m) = ap (λ t. codes "weeks " ++ t) (sym (append_assoc (decimal m) (codes " roster") (10 ∷ [])))
+heading_written (NoneTo m) = refl
+
+pub heading_words : (h : Heading) → IsHeadingNumber h → AreWords (heading_fields h)
+heading_words (Refuted m) w = (omega arith, (word_blankless (codes "weeks") refl, (decimal_blankless m (omega (arith, w.1)), (word_blankless (codes "none") refl, tt))))
+heading_words (Found m) w = (omega arith, (word_blankless (codes "weeks") refl, (decimal_blankless m (omega (arith, w.1)), (word_blankless (codes "roster") refl, tt))))
+heading_words (NoneTo m) w = (omega arith, (word_blankless (codes "none") refl, (word_blankless (codes "to") refl, (decimal_blankless m (omega (arith, w.1)), tt))))
+
+pub heading_is_line : (h : Heading) (rest : List ℕ) → IsHeadingNumber h → IsNextLine (heading_line h) rest
+heading_is_line h rest w = subst (λ line. IsNextLine line rest) (sym (heading_written h)) (text_is_line (heading_fields h) rest (heading_words h w).1)
+
+-- headings are told apart
+fields_once : (h k : Heading) → IsHeadingNumber h → IsHeadingNumber k → heading_fields h ≡ heading_fields k → h ≡ k
+fields_once (Refuted m) (Refuted k) w v e = let same : decimal m ≡ decimal k = cc in ap (λ (n : ℕ). Refuted n) (decimal_injective m k (omega (arith, w.1)) (omega (arith, v.1)) same)
+fields_once (Found m) (Found k) w v e = let same : decimal m ≡ decimal k = cc in ap (λ (n : ℕ). Found n) (decimal_injective m k (omega (arith, w.1)) (omega (arith, v.1)) same)
+fields_once (NoneTo m) (NoneTo k) w v e = let same : decimal m ≡ decimal k = cc in ap (λ (n : ℕ). NoneTo n) (decimal_injective m k (omega (arith, w.1)) (omega (arith, v.1)) same)
+fields_once h k w v e = absurd (cc)
+
+pub headings_once : (h k : Heading) (t u : List ℕ) → IsHeadingNumber h → IsHeadingNumber k → heading_line h ++ t ≡ heading_line k ++ u → (h ≡ k) × (t ≡ u)
+headings_once h k t u w v e =
+    let once = same_words (heading_fields h) (heading_fields k) t u (heading_words h w) (heading_words k v) (ap (λ l. l ++ t) (sym (heading_written h)) ∙ e ∙ ap (λ l. l ++ u) (heading_written k)) in
+    (fields_once h k w v once.0, once.1)

@@ -11,7 +11,7 @@ use Rattle.crew_size.specs.Sizes.{with_weeks, IsSize}
 use Rattle.crew_size.specs.Texts.{refuted_line, roster_line, none_line, section_text, sections_text}
 use Rattle.crew_size.specs.Sections.{BeginsAsHeading, AreUpToHeading, ArePassing, StandsBehindLogs, IsHeadingsPlace, IsNextSize, IsLastSize, IsHeading, line_behind}
 use Rattle.crew_size.specs.Verdict.{IsStaffVerdict}
-use Rattle.crew_size.specs.Places.{AreSizes, IsNextOf, MayFollow, heading_line, first_size}
+use Rattle.crew_size.specs.Places.{AreSizes, IsNextOf, MayFollow, IsHeadingNumber, heading_number, heading_line, first_size}
 use Rattle.crew_size.specs.Laws.{StaffTextsHaveOneVerdict}
 use Rattle.crew_size.specs.declared.heading.Heading.{Heading}
 use Rattle.crew_size.specs.declared.heading.Heading.TheVariants.{Refuted, Found, NoneTo}
@@ -24,7 +24,8 @@ use Rattle.crew_size.proofs.Fronts.{feeds, feeds_append, feeds_of_heading, size_
 use Rattle.crew_size.proofs.Verdicts.{last_is_written}
 use Rattle.crew_size.proofs.Decided.{sized_keeps}
 use Rattle.crew_size.proofs.LogCuts.{logs_are_cut_whole}
-use Rattle.crew_size.proofs.Heads.{Outcome, refused, OfRest, refuted_once, rest_once}
+use Rattle.crew_size.proofs.Heads.{Outcome, refused, OfRoster, OfEnd, OfHeading, OfRest, rest_once}
+use Rattle.crew_size.proofs.Headings.{heading_is_line, headings_once}
 
 -- the sizes of sections
 abbrev sizes_of : ℕ → List Log → Option (ℕ × ℕ)
@@ -65,37 +66,31 @@ first_of_none : (low last : ℕ) (logs : List Log) → IsLastSize low logs last 
 first_of_none low last [] h = absurd (omega (arith, h.0))
 first_of_none low last (g ∷ logs) h = refl
 
+-- what is said of a heading is said of the text
+heading_said : (P : Instance) (text : List ℕ) (low : ℕ) (logs : List Log) (h : Heading) (rest bytes : List ℕ) (o : Outcome) → StandsBehindLogs P text low logs rest → rest ≡ heading_line h ++ bytes → IsHeadingNumber h → MayFollow P (sizes_of low logs) h → OfHeading P (sizes_of low logs) (line_of P low logs) h bytes o → IsSaid P text o
+heading_said P text low logs h rest bytes o stands e w may of = record {
+  low = low;
+  logs = logs;
+  rest = rest;
+  stands = stands;
+  said = inr (heading_line h, bytes, e, heading_is_line h bytes w, inr (h, refl, w, may, of));
+}
+
+found_said : (P : Instance) (text : List ℕ) (low : ℕ) (logs : List Log) (m : ℕ) (bytes : List ℕ) (o : Outcome) → StandsBehindLogs P text low logs (roster_line m ++ bytes) → IsNextSize P low logs m → OfRoster P (first_size (sizes_of low logs) m) m (line_of P low logs) bytes o → IsSaid P text o
+found_said P text low logs m bytes o stands next of =
+    heading_said P text low logs (Found m) (roster_line m ++ bytes) bytes o stands refl (written_next P low logs m next) (next_is P low logs m next) of
+
+none_said : (P : Instance) (text : List ℕ) (low : ℕ) (logs : List Log) (last : ℕ) (rest bytes : List ℕ) (o : Outcome) → StandsBehindLogs P text low logs rest → rest ≡ none_line last ++ bytes → IsLastSize low logs last → OfEnd (first_size (sizes_of low logs) last) last (line_of P low logs) bytes o → IsSaid P text o
+none_said P text low logs last rest bytes o stands e is of =
+    heading_said P text low logs (NoneTo last) rest bytes o stands e (last_is_written P low logs last stands.passing is) (is_last low logs (sizes_of low logs) last (are_sizes low logs) is) of
+
 accepted_said : (P : Instance) (text : List ℕ) (staffed : Staffed) → IsStaffVerdict P text (Ok staffed) → IsSaid P text (Some (Ok staffed))
 accepted_said P text (Sizes.Least low m) h =
-    let next = next_is P low h.logs m h.ends.next in
-    record {
-      low = low;
-      logs = h.logs;
-      rest = roster_line m ++ h.bytes;
-      stands = h.ends.stands;
-      said = inr (inr (
-        Found m,
-        h.bytes,
-        refl,
-        written_next P low h.logs m h.ends.next,
-        next,
-        (next, inr (h.ends.short, inr (inr (h.right.0, h.right.1, h.right.2, ap (λ (n : ℕ). Some (Ok (Sizes.Least n m))) (first_of_least P low m h.logs h.size))))),
-      ));
-    }
-accepted_said P text (Sizes.NoneTo low last) h = record {
-  low = low;
-  logs = h.logs;
-  rest = none_line last;
-  stands = h.stands;
-  said = inr (inr (
-    NoneTo last,
-    [],
-    sym (append-nil (none_line last)),
-    last_is_written P low h.logs last h.stands.passing h.last_size,
-    is_last low h.logs (sizes_of low h.logs) last (are_sizes low h.logs) h.last_size,
-    inl (refl, ap (λ (n : ℕ). Some (Ok (Sizes.NoneTo n last))) (first_of_none low last h.logs h.last_size)),
-  ));
-}
+    found_said P text low h.logs m h.bytes (Some (Ok (Sizes.Least low m))) h.ends.stands h.ends.next
+    (inr (h.ends.short, inr (h.right.0, h.right.1, inr (h.right.2, ap (λ (n : ℕ). Some (Ok (Sizes.Least n m))) (first_of_least P low m h.logs h.size)))))
+accepted_said P text (Sizes.NoneTo low last) h =
+    none_said P text low h.logs last (none_line last) [] (Some (Ok (Sizes.NoneTo low last))) h.stands (sym (append-nil (none_line last))) h.last_size
+    (inl (refl, ap (λ (n : ℕ). Some (Ok (Sizes.NoneTo n last))) (first_of_none low last h.logs h.last_size)))
 
 refused_said : (P : Instance) (text : List ℕ) (why : StaffRefusal) → IsStaffVerdict P text (Err why) → IsSaid P text (refused why)
 refused_said P text (Refusals.Form n) (inl h) = record {
@@ -103,98 +98,22 @@ refused_said P text (Refusals.Form n) (inl h) = record {
   logs = h.logs;
   rest = h.line ++ h.rest;
   stands = h.stands;
-  said = inr (inl (
-    h.line,
-    h.rest,
-    refl,
-    h.is_line,
-    λ k w may e. h.no_heading (stands_as P h.low h.logs k h.line may e),
-    ap (λ (i : ℕ). refused (Refusals.Form i)) h.number,
-  ));
+  said = inr (h.line, h.rest, refl, h.is_line, inl (λ k w may e. h.no_heading (stands_as P h.low h.logs k h.line may e), ap (λ (i : ℕ). refused (Refusals.Form i)) h.number));
 }
 refused_said P text (Refusals.Form n) (inr (inl h)) =
-    let written = last_is_written P h.low h.logs h.last h.stands.passing h.last_size in
-    let one : feeds (none_line h.last) ≡ 1 = feeds_of_heading (codes "none to ") h.last [] written.1 refl refl in
+    let one = feeds_of_heading (NoneTo h.last) (last_is_written P h.low h.logs h.last h.stands.passing h.last_size) in
     let all = feeds_append (sections_text P h.low h.logs) (none_line h.last) in
     let number : n ≡ line_of P h.low h.logs + 1 = omega (arith, one, all, h.number) in
-    record {
-      low = h.low;
-      logs = h.logs;
-      rest = none_line h.last ++ h.rest;
-      stands = h.stands;
-      said = inr (inr (
-        NoneTo h.last,
-        h.rest,
-        refl,
-        written,
-        is_last h.low h.logs (sizes_of h.low h.logs) h.last (are_sizes h.low h.logs) h.last_size,
-        inr (h.more, ap (λ (i : ℕ). refused (Refusals.Form i)) number),
-      ));
-    }
+    none_said P text h.low h.logs h.last (none_line h.last ++ h.rest) h.rest (refused (Refusals.Form n)) h.stands refl h.last_size (inr (h.more, ap (λ (i : ℕ). refused (Refusals.Form i)) number))
 refused_said P text (Refusals.Form n) (inr (inr h)) =
-    let next = next_is P h.low h.logs h.m h.next in
-    record {
-      low = h.low;
-      logs = h.logs;
-      rest = roster_line h.m ++ h.bytes;
-      stands = h.stands;
-      said = inr (inr (
-        Found h.m,
-        h.bytes,
-        refl,
-        written_next P h.low h.logs h.m h.next,
-        next,
-        (next, inl (h.long, ap (λ (i : ℕ). refused (Refusals.Form i)) h.number)),
-      ));
-    }
+    found_said P text h.low h.logs h.m h.bytes (refused (Refusals.Form n)) h.stands h.next (inl (h.long, ap (λ (i : ℕ). refused (Refusals.Form i)) h.number))
 refused_said P text (Refusals.Log m why) h =
-    let next = next_is P h.low h.logs m h.next in
-    record {
-      low = h.low;
-      logs = h.logs;
-      rest = refuted_line m ++ h.bytes ++ h.rest;
-      stands = h.stands;
-      said = inr (inr (
-        Refuted m,
-        h.bytes ++ h.rest,
-        append_assoc (refuted_line m) h.bytes h.rest,
-        written_next P h.low h.logs m h.next,
-        next,
-        (next, record { log = h.bytes; rest = h.rest; whole = refl; cut = h.log; said = inl (why, h.refused, refl) }),
-      ));
-    }
+    heading_said P text h.low h.logs (Refuted m) (refuted_line m ++ h.bytes ++ h.rest) (h.bytes ++ h.rest) (refused (Refusals.Log m why)) h.stands (append_assoc (refuted_line m) h.bytes h.rest) (written_next P h.low h.logs m h.next) (next_is P h.low h.logs m h.next)
+    (record { log = h.bytes; rest = h.rest; whole = refl; cut = h.log; verdict = Err why; said = h.refused; outcome = refl })
 refused_said P text (Refusals.Roster m why) h =
-    let next = next_is P h.low h.logs m h.ends.next in
-    record {
-      low = h.low;
-      logs = h.logs;
-      rest = roster_line m ++ h.bytes;
-      stands = h.ends.stands;
-      said = inr (inr (
-        Found m,
-        h.bytes,
-        refl,
-        written_next P h.low h.logs m h.ends.next,
-        next,
-        (next, inr (h.ends.short, inl (why, h.refused, refl))),
-      ));
-    }
+    found_said P text h.low h.logs m h.bytes (refused (Refusals.Roster m why)) h.ends.stands h.ends.next (inr (h.ends.short, inl (why, h.refused, refl)))
 refused_said P text (Refusals.Breaks m broken) h =
-    let next = next_is P h.low h.logs m h.ends.next in
-    record {
-      low = h.low;
-      logs = h.logs;
-      rest = roster_line m ++ h.bytes;
-      stands = h.ends.stands;
-      said = inr (inr (
-        Found m,
-        h.bytes,
-        refl,
-        written_next P h.low h.logs m h.ends.next,
-        next,
-        (next, inr (h.ends.short, inr (inl (h.cells, broken, h.spelled, h.breaks, refl)))),
-      ));
-    }
+    found_said P text h.low h.logs m h.bytes (refused (Refusals.Breaks m broken)) h.ends.stands h.ends.next (inr (h.ends.short, inr (h.cells, h.spelled, inl (broken, h.breaks, refl))))
 refused_said P text Refusals.Ends h = record { low = h.low; logs = h.logs; rest = []; stands = h.stands; said = inl (refl, refl) }
 
 -- a section follows whose log passes, for the size m
@@ -211,23 +130,30 @@ log_cut P m g rest limits size passes place = logs_are_cut_whole (with_weeks P m
 
 -- where one follows nothing else is said
 follows_said : (P : Instance) (sizes : Option (ℕ × ℕ)) (m n : ℕ) (rest : List ℕ) → KeepsLimits P → IsNextOf P sizes m → Follows P m rest → OfRest P sizes n rest None
-follows_said P sizes m n rest limits next f = inr (inr (
-  Refuted m,
-  log_text (with_weeks P m) f.log ++ f.behind,
-  f.whole,
-  (f.size.some, size_is_short P m f.size),
-  next,
-  (
-    next,
-    record {
-      log = log_text (with_weeks P m) f.log;
-      rest = f.behind;
-      whole = refl;
-      cut = log_cut P m f.log f.behind limits f.size f.passes f.place;
-      said = inr (f.log, (refl, f.passes), refl);
-    },
-  ),
-))
+follows_said P sizes m n rest limits next f =
+    let text : List ℕ = log_text (with_weeks P m) f.log in
+    let w : IsHeadingNumber (Refuted m) = (f.size.some, size_is_short P m f.size) in
+    inr (
+      refuted_line m,
+      text ++ f.behind,
+      f.whole,
+      heading_is_line (Refuted m) (text ++ f.behind) w,
+      inr (
+        Refuted m,
+        refl,
+        w,
+        next,
+        record {
+          log = text;
+          rest = f.behind;
+          whole = refl;
+          cut = log_cut P m f.log f.behind limits f.size f.passes f.place;
+          verdict = Ok f.log;
+          said = (refl, f.passes);
+          outcome = refl;
+        },
+      ),
+    )
 
 tail_passing : (P : Instance) (low : ℕ) (g : Log) (logs : List Log) → ArePassing P low (g ∷ logs) → ArePassing P (low + 1) logs
 tail_passing P low g logs are = record {
@@ -349,10 +275,11 @@ one_by P text low (g ∷ logs) rest high [] other v w limits s t said said' =
 one_by P text low (g ∷ logs) rest high (h ∷ others) other v w limits s t said said' =
     let first = first_log P low g logs s.passing in
     let first' = first_log P high h others t.passing in
-    let once = refuted_once low high (log_text (with_weeks P low) g ++ (sections_text P (low + 1) logs ++ rest)) (log_text (with_weeks P high) h ++ (sections_text P (high + 1) others ++ other)) (size_is_short P low first.0) (size_is_short P high first'.0)
+    let once = headings_once (Refuted low) (Refuted high) (log_text (with_weeks P low) g ++ (sections_text P (low + 1) logs ++ rest)) (log_text (with_weeks P high) h ++ (sections_text P (high + 1) others ++ other)) (first.0.some, size_is_short P low first.0) (first'.0.some, size_is_short P high first'.0)
     (sym (first_section P low g logs rest) ∙ sym s.whole ∙ t.whole ∙ first_section P high h others other) in
-    let t' : StandsBehindLogs P text low (h ∷ others) other = subst (λ n. StandsBehindLogs P text n (h ∷ others) other) (sym once.0) t in
-    let said_here : SaidOf P low (h ∷ others) other w = subst (λ n. SaidOf P n (h ∷ others) other w) (sym once.0) said' in
+    let same : low ≡ high = ap heading_number once.0 in
+    let t' : StandsBehindLogs P text low (h ∷ others) other = subst (λ n. StandsBehindLogs P text n (h ∷ others) other) (sym same) t in
+    let said_here : SaidOf P low (h ∷ others) other w = subst (λ n. SaidOf P n (h ∷ others) other w) (sym same) said' in
     one_low P low g h logs others rest other v w limits s.passing t'.passing s.place t'.place (sym s.whole ∙ t'.whole) said said_here
 
 is_said : (P : Instance) (text : List ℕ) (v : Result Staffed StaffRefusal) → IsStaffVerdict P text v → IsSaid P text (Some v)

@@ -94,34 +94,43 @@ no_heading_here P text place line more h e next none = record {
   number = h.line;
 }
 
--- the log of a section
+-- the first size is known from the next one, where there is no section too
+record IsSettled (P : Instance) (text : List ℕ) (low : ℕ) (logs : List Log) (m first : ℕ) (rest : List ℕ) : Type 0 where
+  stands : StandsBehindLogs P text first logs rest
+  size : m ≡ first + length logs
+  next : IsNextSize P first logs m
+  same : sections_text P low logs ≡ sections_text P first logs
 
-log_passed_by : (P : Instance) (text : List ℕ) (sizes : Option (ℕ × ℕ)) (line m : ℕ) (bytes log rest : List ℕ) (place : Place) (low : ℕ) (logs : List Log) (g : Log) → IsAccepted (with_weeks P m) log g → IsNextOf P sizes m → bytes ≡ log ++ rest → AreUpToHeading log rest → place.sizes ≡ Some (first_size sizes m, m + 1) → place.rest ≡ rest → place.line ≡ line + (1 + feeds log) → StandsBehindLogs P text low logs (refuted_line m ++ bytes) → AreSizes low logs sizes → line ≡ line_behind (sections_text P low logs) → IsPlace P text place
-log_passed_by P text sizes line m bytes log rest place low [] g accepted next e cut a b c stands are number =
-    let size : IsSize P m = next_of P low [] sizes m are next in
-    let here : m ≡ m + 0 = omega arith in
-    let whole : text ≡ [] ++ (refuted_line m ++ (log ++ rest)) = stands.whole ∙ ap (λ t. [] ++ (refuted_line m ++ t)) e in
-    record {
-      low = m;
-      logs = g ∷ [];
-      stands = subst (StandsBehindLogs P text m (g ∷ [])) (sym b) (one_more_stands P text m m [] g log rest (none_passing P m) here size accepted.0 accepted.1 whole cut);
-      sizes = a ∙ ap (λ (s : Option (ℕ × ℕ)). Some (first_size s m, m + 1)) are ∙ sizes_one_more m m [] g here;
-      line = c ∙ ap (λ n. n + (1 + feeds log)) number ∙ sym (line_behind_one_more P m m [] g log here size accepted.0);
-    }
-log_passed_by P text sizes line m bytes log rest place low (h ∷ logs) g accepted next e cut a b c stands are number =
+settled : (P : Instance) (text : List ℕ) (sizes : Option (ℕ × ℕ)) (m low : ℕ) (logs : List Log) (rest : List ℕ) → AreSizes low logs sizes → IsNextOf P sizes m → StandsBehindLogs P text low logs rest → IsSettled P text low logs m (first_size sizes m) rest
+settled P text sizes m low [] rest are next stands =
+    subst (λ (s : Option (ℕ × ℕ)). IsSettled P text low [] m (first_size s m) rest) (sym are)
+    (record {
+      stands = record { passing = none_passing P m; whole = stands.whole; place = tt };
+      size = omega arith;
+      next = next_of P low [] sizes m are next;
+      same = refl;
+    })
+settled P text sizes m low (h ∷ logs) rest are next stands =
     let is : IsNextSize P low (h ∷ logs) m = next_of P low (h ∷ logs) sizes m are next in
-    let whole : text ≡ sections_text P low (h ∷ logs) ++ (refuted_line m ++ (log ++ rest)) = stands.whole ∙ ap (λ t. sections_text P low (h ∷ logs) ++ (refuted_line m ++ t)) e in
-    record {
-      low = low;
-      logs = (h ∷ logs) ++ g ∷ [];
-      stands = subst (StandsBehindLogs P text low ((h ∷ logs) ++ g ∷ [])) (sym b) (one_more_stands P text low m (h ∷ logs) g log rest stands.passing is.1 is.0 accepted.0 accepted.1 whole cut);
-      sizes = a ∙ ap (λ (s : Option (ℕ × ℕ)). Some (first_size s m, m + 1)) are ∙ sizes_one_more low m (h ∷ logs) g is.1;
-      line = c ∙ ap (λ n. n + (1 + feeds log)) number ∙ sym (line_behind_one_more P low m (h ∷ logs) g log is.1 is.0 accepted.0);
-    }
+    subst (λ (s : Option (ℕ × ℕ)). IsSettled P text low (h ∷ logs) m (first_size s m) rest) (sym are) (record { stands = stands; size = is.1; next = is; same = refl })
+
+-- the log of a section
 
 pub log_passed : (P : Instance) (text : List ℕ) (sizes : Option (ℕ × ℕ)) (line m : ℕ) (bytes log rest : List ℕ) (place : Place) (g : Log) → IsAccepted (with_weeks P m) log g → IsNextOf P sizes m → bytes ≡ log ++ rest → AreUpToHeading log rest → place.sizes ≡ Some (first_size sizes m, m + 1) → place.rest ≡ rest → place.line ≡ line + (1 + feeds log) → IsAt P text sizes line (refuted_line m) bytes → IsPlace P text place
 log_passed P text sizes line m bytes log rest place g accepted next e cut a b c at =
-    log_passed_by P text sizes line m bytes log rest place at.low at.logs g accepted next e cut a b c at.stands at.known at.number
+    let first : ℕ = first_size sizes m in
+    let settle = settled P text sizes m at.low at.logs (refuted_line m ++ bytes) at.known next at.stands in
+    let size = size_behind P first at.logs m settle.next in
+    let whole = settle.stands.whole ∙ ap (λ t. sections_text P first at.logs ++ (refuted_line m ++ t)) e in
+    record {
+      low = first;
+      logs = at.logs ++ g ∷ [];
+      stands = subst (StandsBehindLogs P text first (at.logs ++ g ∷ [])) (sym b) (one_more_stands P text first m at.logs g log rest settle.stands.passing settle.size size accepted.0 accepted.1 whole cut);
+      sizes = subst (AreSizes first (at.logs ++ g ∷ [])) (sym a) (sizes_one_more first m at.logs g settle.size);
+      line =
+          c ∙ ap (λ n. n + (1 + feeds log)) (at.number ∙ ap line_behind settle.same)
+          ∙ sym (line_behind_one_more P first m at.logs g log settle.size size accepted.0);
+    }
 
 pub log_refused : (P : Instance) (text : List ℕ) (sizes : Option (ℕ × ℕ)) (line m : ℕ) (bytes log rest : List ℕ) (why : LogRefusal) → IsRefused (with_weeks P m) log why → IsNextOf P sizes m → bytes ≡ log ++ rest → AreUpToHeading log rest → IsAt P text sizes line (refuted_line m) bytes → HasRefusedLog P text m why
 log_refused P text sizes line m bytes log rest why refused next e cut at = record {
@@ -176,34 +185,16 @@ roster_broken P text sizes line m bytes cells broken short next spelled breaks a
   breaks = breaks;
 }
 
-right_by : (P : Instance) (text : List ℕ) (sizes : Option (ℕ × ℕ)) (m : ℕ) (bytes : List ℕ) (low : ℕ) (logs : List Log) → length bytes ≤ LONGEST_FILE → IsNextOf P sizes m → SpellsRightFor P m bytes → StandsBehindLogs P text low logs (roster_line m ++ bytes) → AreSizes low logs sizes → EndsWithRight P text (first_size sizes m) m
-right_by P text sizes m bytes low [] short next right stands are =
-    subst (λ (s : Option (ℕ × ℕ)). EndsWithRight P text (first_size s m) m) (sym are)
-    (record {
-      logs = [];
-      bytes = bytes;
-      size = omega arith;
-      ends = record {
-        stands = record { passing = none_passing P m; whole = stands.whole; place = tt };
-        next = next_of P low [] sizes m are next;
-        short = short;
-      };
-      right = right;
-    })
-right_by P text sizes m bytes low (h ∷ logs) short next right stands are =
-    let is : IsNextSize P low (h ∷ logs) m = next_of P low (h ∷ logs) sizes m are next in
-    subst (λ (s : Option (ℕ × ℕ)). EndsWithRight P text (first_size s m) m) (sym are)
-    (record {
-      logs = h ∷ logs;
-      bytes = bytes;
-      size = is.1;
-      ends = record { stands = stands; next = is; short = short };
-      right = right;
-    })
-
 pub roster_right : (P : Instance) (text : List ℕ) (sizes : Option (ℕ × ℕ)) (line m : ℕ) (bytes : List ℕ) (cells : List Symbol) → length bytes ≤ LONGEST_FILE → IsNextOf P sizes m → SpellsRoster (with_weeks P m) bytes cells → MeetsAll (with_weeks P m) cells → IsAt P text sizes line (roster_line m) bytes → EndsWithRight P text (first_size sizes m) m
 roster_right P text sizes line m bytes cells short next spelled meets at =
-    right_by P text sizes m bytes at.low at.logs short next (cells, spelled, meets) at.stands at.known
+    let settle = settled P text sizes m at.low at.logs (roster_line m ++ bytes) at.known next at.stands in
+    record {
+      logs = at.logs;
+      bytes = bytes;
+      size = settle.size;
+      ends = record { stands = settle.stands; next = settle.next; short = short };
+      right = (cells, spelled, meets);
+    }
 
 -- an end without a roster
 
@@ -211,7 +202,7 @@ pub goes_on : (P : Instance) (text : List ℕ) (sizes : Option (ℕ × ℕ)) (li
 goes_on P text sizes line last bytes more is at =
     let last_is = last_of at.low at.logs sizes last at.known is in
     let written = last_is_written P at.low at.logs last at.stands.passing last_is in
-    let one : feeds (none_line last) ≡ 1 = feeds_of_heading (codes "none to ") last [] written.1 refl refl in
+    let one : feeds (none_line last) ≡ 1 = feeds_of_heading (NoneTo last) written in
     let all = feeds_append (sections_text P at.low at.logs) (none_line last) in
     let number : line ≡ feeds (sections_text P at.low at.logs) + 1 = at.number in
     record {

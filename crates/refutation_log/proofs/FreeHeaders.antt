@@ -30,16 +30,7 @@ front_stops P front text left Refusals.Ends none partial whole e = record {
   whole = whole ∙ ap (λ t. free_front_text P front ++ t) e ∙ append-nil (free_front_text P front);
   not_whole = partial;
 }
-front_stops P front text left (Refusals.Form i) none partial whole s = line_stops P front text left s.0 s.1 (Refusals.Form i) none whole s.2 s.3 s.4
-front_stops P front text left (Refusals.Name i) none partial whole s = line_stops P front text left s.0 s.1 (Refusals.Name i) none whole s.2 s.3 s.4
-front_stops P front text left (Refusals.Unnamed i k) none partial whole s = line_stops P front text left s.0 s.1 (Refusals.Unnamed i k) none whole s.2 s.3 s.4
-front_stops P front text left (Refusals.Idle i) none partial whole s = line_stops P front text left s.0 s.1 (Refusals.Idle i) none whole s.2 s.3 s.4
-front_stops P front text left (Refusals.Long i k) none partial whole s = line_stops P front text left s.0 s.1 (Refusals.Long i k) none whole s.2 s.3 s.4
-front_stops P front text left (Refusals.Fails i) none partial whole s = line_stops P front text left s.0 s.1 (Refusals.Fails i) none whole s.2 s.3 s.4
-front_stops P front text left (Refusals.Escape i w) none partial whole s = line_stops P front text left s.0 s.1 (Refusals.Escape i w) none whole s.2 s.3 s.4
-front_stops P front text left (Refusals.Unfinished i) none partial whole s = line_stops P front text left s.0 s.1 (Refusals.Unfinished i) none whole s.2 s.3 s.4
-front_stops P front text left (Refusals.Extra i) none partial whole s = line_stops P front text left s.0 s.1 (Refusals.Extra i) none whole s.2 s.3 s.4
-front_stops P front text left (Refusals.Turn i) none partial whole s = line_stops P front text left s.0 s.1 (Refusals.Turn i) none whole s.2 s.3 s.4
+front_stops P front text left why none partial whole s = line_stops P front text left s.0 s.1 why none whole s.2 s.3 s.4
 
 -- the header's three lines, of which each text begins where the one before ends
 pub goal_unread : (P : Instance) (old line rest : List ℕ) → old ≡ line ++ rest → IsNextLine line rest → SpellsGoal P line None → StopsFor (GoalCause P) old (Refusals.Form 3)

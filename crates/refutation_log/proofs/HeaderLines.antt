@@ -50,15 +50,7 @@ rules_stop P has_turn old Refusals.Ends e =
     ends_both P (version_text has_turn ++ old) (Versioned has_turn) tt tt (ended (version_text has_turn) old e) (λ h. h)
 rules_stop P has_turn old (Refusals.Form i) s =
     line_both P (version_text has_turn ++ old) (Refusals.Form i) (Versioned has_turn) s.0 s.1 tt tt (goes_on (version_text has_turn) old s.0 s.1 s.2) s.3 s.4 tt
-rules_stop P has_turn old (Refusals.Name i) s = absurd s.4
-rules_stop P has_turn old (Refusals.Unnamed i k) s = absurd s.4
-rules_stop P has_turn old (Refusals.Idle i) s = absurd s.4
-rules_stop P has_turn old (Refusals.Long i k) s = absurd s.4
-rules_stop P has_turn old (Refusals.Fails i) s = absurd s.4
-rules_stop P has_turn old (Refusals.Escape i w) s = absurd s.4
-rules_stop P has_turn old (Refusals.Unfinished i) s = absurd s.4
-rules_stop P has_turn old (Refusals.Extra i) s = absurd s.4
-rules_stop P has_turn old (Refusals.Turn i) s = absurd s.4
+rules_stop P has_turn old why s = absurd s.4
 
 pub ends_before_turn : (P : Instance) (R old : List ℕ) → AreRules P R → old ≡ [] → IsHeaderRefused P (version_text true ++ rules_text R ++ old) Refusals.Ends
 ends_before_turn P R old are e =

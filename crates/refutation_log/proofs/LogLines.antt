@@ -172,15 +172,7 @@ line_unread P named turn old left bytes rest lines count n (Refusals.Name i) a b
   cause = inr (not_whole lines count so.walk some, (h.0 ∙ num, h.1));
   by_reading = tt;
 }
-line_unread P named turn old left bytes rest lines count n (Refusals.Unnamed i k) a b so some e next num h = absurd h
-line_unread P named turn old left bytes rest lines count n (Refusals.Idle i) a b so some e next num h = absurd h
-line_unread P named turn old left bytes rest lines count n (Refusals.Long i k) a b so some e next num h = absurd h
-line_unread P named turn old left bytes rest lines count n (Refusals.Fails i) a b so some e next num h = absurd h
-line_unread P named turn old left bytes rest lines count n (Refusals.Escape i w) a b so some e next num h = absurd h
-line_unread P named turn old left bytes rest lines count n (Refusals.Unfinished i) a b so some e next num h = absurd h
-line_unread P named turn old left bytes rest lines count n Refusals.Ends a b so some e next num h = absurd h
-line_unread P named turn old left bytes rest lines count n (Refusals.Extra i) a b so some e next num h = absurd h
-line_unread P named turn old left bytes rest lines count n (Refusals.Turn i) a b so some e next num h = absurd h
+line_unread P named turn old left bytes rest lines count n why a b so some e next num h = absurd h
 
 pub line_extra : (P : Instance) (text : List ℕ) (named : List ℕ) (turn : Option Turn) (old left bytes rest : List ℕ) (lines : List Line) (n : ℕ) → text ≡ header_text P named turn ++ old → IsReadSoFar P (log_with named turn lines) → IsTree lines → old ≡ lines_text P lines ++ left → left ≡ bytes ++ rest → IsNextLine bytes rest → n ≡ header_lines turn + length lines + 1 → IsUnread P text (Refusals.Extra n)
 line_extra P text named turn old left bytes rest lines n t read tree e f next num = record {

@@ -1,4 +1,4 @@
--- Symbols have names, and no two logs have one text.
+-- Symbols have names, and no two lists of lines have one text.
 use Rattle.std.proofs.Common.{◌≡◌, ◌≢◌, ℕ, ◌≤◌, List, [], ◌∷◌, ◌++◌, length, refl, ap, sym, ◌∙◌, subst, append-nil, None, false}
 use Rattle.std.specs.List.{join_with_byte}
 use Rattle.std.proofs.lemmas.List.Elements.{All-weaker}
@@ -10,11 +10,10 @@ use Rattle.rwsp_terms.specs.Instance.{Instance, name_numbered}
 use Rattle.rwsp_model.proofs.Names.{symbol_named, symbol_word}
 use Rattle.rwsp_model.specs.Validity.{KeepsLimits, breaks_name}
 use Rattle.refutation_terms.specs.declared.lines.Line.{Line}
-use Rattle.refutation_terms.specs.Log.{Log, Fits, LineFits}
-use Rattle.refutation_terms.specs.LogText.{raw, raw_fields, line_text, log_text}
+use Rattle.refutation_terms.specs.Log.{LineFits}
+use Rattle.refutation_terms.specs.LogText.{raw, raw_fields, line_text}
 use Rattle.refutation_terms.specs.TextLaws.{HasNames, IsWritable}
 use Rattle.refutation_terms.proofs.Texts.{lines_fields, line_words, lines_words, lines_longer}
-use Rattle.refutation_terms.proofs.Fronts.{texts_distinct}
 use Rattle.refutation_log.specs.Printing.{lines_text, EachFits}
 use Rattle.refutation_log.proofs.LineTexts as LineTexts
 
@@ -65,6 +64,3 @@ one_list P ls ms limits f g e =
     nothing : (more : List Line) → [] ≡ lines_fields P more → more ≡ []
     nothing [] e = refl
     nothing (l ∷ ls) e = absurd (cc)
-
-pub one_text : (P : Instance) (g h : Log) → KeepsLimits P → Fits P g → Fits P h → log_text P g ≡ log_text P h → g ≡ h
-one_text P g h limits f k e = texts_distinct P g h (is_writable P limits) (has_names P limits) f k e

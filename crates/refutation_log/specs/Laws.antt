@@ -1,24 +1,19 @@
 -- Laws of the text of logs of valid problems.
-use Rattle.std.specs.Prelude.{◌≡◌, ℕ, List, Option, Some, Result}
+use Rattle.std.specs.Prelude.{◌≡◌, ℕ, List, Option, Result}
 use Rattle.rwsp_terms.specs.Instance.{Instance}
 use Rattle.rwsp_model.specs.Validity.{KeepsLimits}
 use Rattle.refutation_terms.specs.declared.lines.LogRefusal.{LogRefusal}
 use Rattle.refutation_terms.specs.Tree.{IsTree}
 use Rattle.refutation_terms.specs.Log.{Log, Fits, FitsFor}
-use Rattle.refutation_terms.specs.LogText.{log_text, free_log_text, log_text_for}
+use Rattle.refutation_terms.specs.LogText.{log_text, log_text_for}
 use Rattle.refutation_terms.specs.Verdict.{IsVerdict}
 use Rattle.refutation_log.specs.ReadLog.{IsUnread}
 
--- no two logs that fit a problem have one text
+-- no two logs that fit a problem, with goals or without, have one text
 abbrev pub LogsHaveOneText : Type 0
-LogsHaveOneText = (P : Instance) (g h : Log) → KeepsLimits P → Fits P g → Fits P h → log_text P g ≡ log_text P h → g ≡ h
-
--- a free log that fits a problem shares its text with no other log that fits it
-abbrev pub FreeLogsHaveOneText : Type 0
-FreeLogsHaveOneText =
-    (P : Instance) (goal : ℕ) (other : Option ℕ) (g h : Log) → KeepsLimits P → FitsFor P (Some goal) g
-    → FitsFor P other h
-    → free_log_text P goal g ≡ log_text_for P other h → g ≡ h
+LogsHaveOneText =
+    (P : Instance) (goal other : Option ℕ) (g h : Log) → KeepsLimits P → FitsFor P goal g → FitsFor P other h
+    → log_text_for P goal g ≡ log_text_for P other h → g ≡ h
 
 -- the text of a whole log that fits is not refused by reading
 abbrev pub TextsOfLogsAreRead : Type 0

@@ -3,7 +3,7 @@ ghost use Rattle.std.specs.Prelude.{◌≡◌, ◌⊎◌, ◌↔◌, ℕ, Option
 ghost use Rattle.rwsp_terms.specs.declared.data.Rule.{Rule};
 ghost use Rattle.rwsp_terms.specs.Instance.{IsDay};
 ghost use Rattle.rwsp_terms.specs.Rules.{Names};
-ghost use Rattle.refutation_terms.specs.Log.{LineFits, LineFitsFor, Cites, TurnCites, WeightsFit};
+ghost use Rattle.refutation_terms.specs.Log.{LineFitsFor, Cites, TurnCites, WeightsFit};
 ghost use Rattle.refutation_log.specs.Printing.{FitsSomeLog};
 ghost use Rattle.refutation_log.specs.Cited.{Adds, AddsSome, IsCited, IsDayRule, IsWeighedDayRule};
 
@@ -12,9 +12,10 @@ use rwsp_model::{Problem, number_of};
 use rwsp_terms::{Rule, RuleList, Weights};
 use std::alloc::AllocError;
 
-/// Puts the rules that the line cites into the list. After want of memory some of them may have been added.
+/// Puts the rules that the line of a log with a goal or without cites into the list. After want of memory some of them
+/// may have been added.
 pub fn put_cited(rules: &mut RuleList, problem: &Problem, line: &Line) -> Result<(), AllocError>
-    requires { LineFits problem.now line.now }
+    requires { (goal : Option ℕ) × LineFitsFor problem.now goal line.now }
     ensures ok { OnOk result (Adds rules.old rules.new (IsCited problem.now (Cites problem.now line.now))) }
     ensures names { OnOk result ((r : Rule) → Names problem.now rules.new r
         ↔ (Names problem.now rules.old r ⊎ Cites problem.now line.now r)) }
@@ -23,8 +24,7 @@ pub fn put_cited(rules: &mut RuleList, problem: &Problem, line: &Line) -> Result
     put_line_cited(rules, problem, line)
 }
 
-/// Puts the rules that the line of a log with a goal or without cites into the list. After want of memory some of them
-/// may have been added.
+/// The same by another name.
 pub fn put_cited_for(rules: &mut RuleList, problem: &Problem, line: &Line) -> Result<(), AllocError>
     requires { (goal : Option ℕ) × LineFitsFor problem.now goal line.now }
     ensures ok { OnOk result (Adds rules.old rules.new (IsCited problem.now (Cites problem.now line.now))) }
@@ -32,7 +32,7 @@ pub fn put_cited_for(rules: &mut RuleList, problem: &Problem, line: &Line) -> Re
         ↔ (Names problem.now rules.old r ⊎ Cites problem.now line.now r)) }
     ensures err { OnErr result (AddsSome rules.old rules.new (IsCited problem.now (Cites problem.now line.now))) }
 {
-    put_line_cited(rules, problem, line)
+    put_cited(rules, problem, line)
 }
 
 fn put_line_cited(rules: &mut RuleList, problem: &Problem, line: &Line) -> Result<(), AllocError>

@@ -1,14 +1,9 @@
 // Laws of the text of logs. Each function's contract is the law.
-ghost use Rattle.refutation_log.specs.Laws.{LogsHaveOneText, FreeLogsHaveOneText, TextsOfLogsAreRead, TextsHaveOneVerdict, UnreadTextsHaveOneCause};
+ghost use Rattle.refutation_log.specs.Laws.{LogsHaveOneText, TextsOfLogsAreRead, TextsHaveOneVerdict, UnreadTextsHaveOneCause};
 
-/// No two logs that fit a problem have one text.
+/// No two logs that fit a problem, with goals or without, have one text.
 pub fn logs_have_one_text()
     ensures { LogsHaveOneText }
-{}
-
-/// A free log that fits a problem shares its text with no other log that fits it, free or not.
-pub fn free_logs_have_one_text()
-    ensures { FreeLogsHaveOneText }
 {}
 
 /// The text of a whole log that fits is not refused by reading. So it is read, and as this log, unless there is no

@@ -17,8 +17,7 @@ pub use header::{
     FREE_HEADER_LINES, FreeHeader, Header, lines_of_header, read_free_header, read_header,
 };
 pub use laws::{
-    free_logs_have_one_text, logs_have_one_text, texts_have_one_verdict, texts_of_logs_are_read,
-    unread_texts_have_one_cause,
+    logs_have_one_text, texts_have_one_verdict, texts_of_logs_are_read, unread_texts_have_one_cause,
 };
 pub use line::{read_line, read_line_for};
 pub use log::{Log, copy_line};

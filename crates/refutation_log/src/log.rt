@@ -34,6 +34,23 @@ impl Model for Log {
 impl Log {
     ghost use Rattle.refutation_terms.specs.Log.{Log as LogValue};
 
+    /// The log of these rules, this turn, this goal and these lines.
+    pub fn new(named: RuleList, turn: Option<Turn>, goal: Option<u32>, lines: Vec<Line>) -> Log
+        requires tree { IsTree lines.items }
+        requires few { length lines.items ≤ MOST_LINES }
+        ensures named { result.named ≡ named }
+        ensures turn { result.turn ≡ turn }
+        ensures goal { result.goal ≡ goal }
+        ensures lines { result.lines ≡ lines.items }
+    {
+        Log {
+            named,
+            turn,
+            goal,
+            lines,
+        }
+    }
+
     /// The log of these rules, this turn and these lines, without a goal.
     pub fn of(named: RuleList, turn: Option<Turn>, lines: Vec<Line>) -> Log
         requires tree { IsTree lines.items }
@@ -43,12 +60,7 @@ impl Log {
         ensures goal { result.goal ≡ None }
         ensures lines { result.lines ≡ lines.items }
     {
-        Log {
-            named,
-            turn,
-            goal: None,
-            lines,
-        }
+        Log::new(named, turn, None, lines)
     }
 
     /// The free log of these rules, this goal and these lines. It has no turn.
@@ -60,12 +72,7 @@ impl Log {
         ensures goal { result.goal ≡ Some goal }
         ensures lines { result.lines ≡ lines.items }
     {
-        Log {
-            named,
-            turn: None,
-            goal: Some(goal),
-            lines,
-        }
+        Log::new(named, None, Some(goal), lines)
     }
 
     /// The rules that it names.

@@ -6,8 +6,8 @@ ghost use Rattle.rwsp_terms.specs.Instance.{cells, IsSymbol, name_of};
 ghost use Rattle.rwsp_terms.specs.declared.data.Symbol.{Symbol};
 ghost use Rattle.rwsp_terms.specs.declared.data.Weight.{Weight};
 ghost use Rattle.refutation_terms.specs.declared.lines.Line.{Line};
-ghost use Rattle.refutation_terms.specs.Log.{Fits, FitsFor, TurnFits, WeightsFit};
-ghost use Rattle.refutation_terms.specs.LogText.{RawSplit, RawWindow, RawDay, RawDead, RawBound, RawFree, raw, raw_fields, line_text, log_text, log_text_for, header_text, free_header_text, rules_text, goal_text, turn_text, place_words, named_weight, way};
+ghost use Rattle.refutation_terms.specs.Log.{FitsFor, TurnFits, WeightsFit};
+ghost use Rattle.refutation_terms.specs.LogText.{RawSplit, RawWindow, RawDay, RawDead, RawBound, RawFree, raw, raw_fields, line_text, log_text_for, header_text, free_header_text, rules_text, goal_text, turn_text, place_words, named_weight, way};
 ghost use Rattle.rwsp_text.specs.Fields.{numbers, weight_fields};
 ghost use Rattle.refutation_log.specs.Printing.{spaced, lines_text, weight_words, header_text_for, FitsSomeLog};
 
@@ -18,13 +18,13 @@ use rwsp_terms::{Symbol, Weight};
 use rwsp_text::{put_number, put_signed};
 use std::alloc::{AllocError, Global};
 
-/// The text of the log, which has no goal.
+/// The text of the log, with a goal or without.
 pub fn print_log(alloc: Global, problem: &Problem, log: &Log) -> Result<Vec<u8>, AllocError>
-    requires { Fits problem.now log.now }
-    ensures { IfOk result (λ v. v.items ≡ log_text problem.now log.now) }
+    requires { (goal : Option ℕ) × FitsFor problem.now goal log.now }
+    ensures { IfOk result (λ v. v.items ≡ log_text_for problem.now log.now.goal log.now) }
 {
     let mut out = Vec::new(alloc);
-    put_header(&mut out, problem, log.named().numbers(), log.turn())?;
+    put_header(&mut out, problem, log)?;
     put_lines(&mut out, problem, log.lines())?;
     Ok(out)
 }
@@ -34,16 +34,7 @@ pub fn print_free(alloc: Global, problem: &Problem, log: &Log) -> Result<Vec<u8>
     requires { (goal : ℕ) × FitsFor problem.now (Some goal) log.now }
     ensures { IfOk result (λ v. v.items ≡ log_text_for problem.now log.now.goal log.now) }
 {
-    let mut out = Vec::new(alloc);
-    put_header_for(
-        &mut out,
-        problem,
-        log.named().numbers(),
-        log.turn(),
-        log.goal(),
-    )?;
-    put_lines(&mut out, problem, log.lines())?;
-    Ok(out)
+    print_log(alloc, problem, log)
 }
 
 /// Appends the text of the line, with its LF.
@@ -66,24 +57,19 @@ fn put_lines(out: &mut Vec<u8>, problem: &Problem, lines: &[Line]) -> Result<(),
     Ok(())
 }
 
-// The header of a log, by its goal.
-fn put_header_for(
-    out: &mut Vec<u8>,
-    problem: &Problem,
-    named: &[u32],
-    turn: Option<Turn>,
-    goal: Option<u32>,
-) -> Result<(), AllocError>
-    requires { TurnFits problem.now turn }
-    ensures { OnOk result (out.new.items ≡ out.old.items ++ header_text_for problem.now named.now turn goal) }
+// Appends the header: the version, the named rules, and the turn or the goal, if there is one.
+fn put_header(out: &mut Vec<u8>, problem: &Problem, log: &Log) -> Result<(), AllocError>
+    requires { TurnFits problem.now log.now.turn }
+    ensures { OnOk result (out.new.items ≡ out.old.items
+        ++ header_text_for problem.now log.now.named log.now.turn log.now.goal) }
 {
-    match goal {
-        None => put_header(out, problem, named, turn),
+    let named = log.named().numbers();
+    match log.goal() {
         Some(goal) => put_free_header(out, named, goal),
+        None => put_plain_header(out, problem, named, log.turn()),
     }
 }
 
-/// Appends the header of a free log.
 fn put_free_header(out: &mut Vec<u8>, named: &[u32], goal: u32) -> Result<(), AllocError>
     ensures { OnOk result (out.new.items ≡ out.old.items ++ free_header_text named.now goal) }
 {
@@ -102,7 +88,7 @@ fn put_goal(out: &mut Vec<u8>, goal: u32) -> Result<(), AllocError>
     Ok(())
 }
 
-fn put_header(
+fn put_plain_header(
     out: &mut Vec<u8>,
     problem: &Problem,
     named: &[u32],

@@ -1,7 +1,0 @@
-use Rattle.std.proofs.Common.{Some}
-use Rattle.refutation_terms.proofs.Fronts.{texts_distinct_for}
-use Rattle.refutation_log.proofs.OneText.{is_writable, has_names}
-use Rattle.refutation_log.proofs.laws.free_logs_have_one_text.Goals as goal
-
-pub returns : goal.returns
-returns c P goal other g h limits = texts_distinct_for P (Some goal) other g h (is_writable P limits) (has_names P limits)
