@@ -1,7 +1,7 @@
 -- Where the log of a section is cut off.
 use Rattle.std.proofs.Common.{◌≡◌, ℕ, ◌+◌, ◌-◌, ◌<◌, ◌≤◌, List, [], ◌∷◌, ◌++◌, length, take, drop, get_or, refl, ap, sym, ◌∙◌, subst, arith, inl, inr, ⊎_elim, take-append-drop, length-append}
 use Rattle.std.specs.Prelude.{◌⊎◌}
-use Rattle.std.proofs.lemmas.List.{take_more, drop_all, length-take-le, get_or-take}
+use Rattle.std.proofs.lemmas.List.{drop_all, length-take-le, get_or-take}
 use Rattle.std.proofs.lemmas.List.{append_cancel_left}
 use Rattle.std.proofs.lemmas.Bool.{cases_lt}
 use Rattle.std.proofs.Math.Seq.{take-append_seam, drop-append_seam}
@@ -56,15 +56,6 @@ rest_of_cut bytes rest (inl e) = inl e
 rest_of_cut bytes rest (inr h) = inr (subst BeginsAsHeading (drop-append_seam bytes rest) h.1)
 
 -- lines begin at the start, and behind LF
-
-pub first_line_begins : (bytes : List ℕ) (n : ℕ) → n ≡ 0 → AreWholeLines (take n bytes)
-first_line_begins bytes n e = inl (ap (λ k. take k bytes) e)
-
-pub line_begins : (bytes : List ℕ) (n : ℕ) → n < length bytes → (n ≡ 0 → ⊥) → get_or bytes (n - 1) 0 ≡ 10 → AreWholeLines (take n bytes)
-line_begins bytes n less some e =
-    let same : n ≡ n - 1 + 1 = omega (arith, some) in
-    let lt : n - 1 < length bytes = omega (arith, less) in
-    inr (take (n - 1) bytes, ap (λ k. take k bytes) same ∙ take_more bytes (n - 1) 0 lt ∙ ap (λ b. take (n - 1) bytes ++ b ∷ []) e)
 
 last_of : (body : List ℕ) (b : ℕ) → get_or (body ++ b ∷ []) (length body) 0 ≡ b
 last_of [] b = refl

@@ -1,5 +1,5 @@
 -- The numbers of headings, written and read, and headings as lines of words.
-use Rattle.std.proofs.Common.{◌≡◌, ◌≢◌, ℕ, ◌^◌, ◌<◌, ◌≤◌, List, [], ◌∷◌, ◌++◌, length, get_or, Bool, true, false, cond, ◌&&◌, Option, Some, None, refl, ap, sym, ◌∙◌, subst, arith, inl, inr, lit<}
+use Rattle.std.proofs.Common.{◌≡◌, ◌≢◌, ℕ, ◌^◌, ◌<◌, ◌≤◌, List, [], ◌∷◌, ◌++◌, length, get_or, Bool, true, false, cond, ◌&&◌, Option, Some, None, refl, ap, sym, ◌∙◌, subst, arith, lit<}
 use Rattle.std.specs.Prelude.{nat_le, codes, MatchOption}
 use Rattle.std.specs.List.{list_all}
 use Rattle.std.specs.Char.{is_ascii_digit}
@@ -14,7 +14,6 @@ use Rattle.rwsp_text.specs.Numbers.{number_of, value_of}
 use Rattle.rwsp_text.proofs.KindLaws.{decimal_blankless, word_blankless}
 use Rattle.rwsp_text.proofs.LineLaws.{same_words, text_is_line}
 use Rattle.rwsp_text.proofs.Printed.{ascii_digits_model, printed_is_read}
-use Rattle.crew_size.specs.Sections.{BeginsAsHeading}
 use Rattle.crew_size.specs.Places.{heading_line, IsHeadingNumber, HasNumber, HasNoNumber}
 use Rattle.crew_size.specs.declared.heading.Heading.{Heading}
 use Rattle.crew_size.specs.declared.heading.Heading.TheVariants.{Refuted, Found, NoneTo}
@@ -54,9 +53,6 @@ zero_in_front w rest e = λ m a b f.
     omega (arith, first, same)
 
 -- between a word and what closes the line
-pub no_word : (line word close : List ℕ) → ((rest : List ℕ) → line ≢ word ++ rest) → HasNoNumber line word close
-no_word line word close h = λ m a b e. h (decimal m ++ close) e
-
 pub no_close : (line word close rest : List ℕ) → line ≡ word ++ rest → ((front : List ℕ) → rest ≢ front ++ close) → HasNoNumber line word close
 no_close line word close rest e h = λ m a b f. h (decimal m) (append_cancel_left word rest (decimal m ++ close) (sym e ∙ f))
 
@@ -72,10 +68,6 @@ pub no_heading : (line : List ℕ) → HasNoNumber line (codes "weeks ") (codes 
 no_heading line a b c (Refuted m) w = a m w.0 w.1
 no_heading line a b c (Found m) w = b m w.0 w.1
 no_heading line a b c (NoneTo m) w = c m w.0 w.1
-
-pub no_beginning : (bytes : List ℕ) → ((rest : List ℕ) → bytes ≢ codes "weeks " ++ rest) → ((rest : List ℕ) → bytes ≢ codes "none " ++ rest) → BeginsAsHeading bytes → ⊥
-no_beginning bytes a b (inl h) = a h.0 h.1
-no_beginning bytes a b (inr h) = b h.0 h.1
 
 -- a heading is a line of words
 

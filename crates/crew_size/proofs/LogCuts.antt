@@ -1,18 +1,18 @@
 -- What follows the text of a log as a heading doesn't cut it short.
-use Rattle.std.proofs.Common.{◌≡◌, ◌≢◌, ℕ, zero, suc, ◌+◌, ◌-◌, ◌<◌, ◌≤◌, List, [], ◌∷◌, ◌++◌, length, take, get_or, Bool, true, false, ◌&&◌, ◌||◌, ◌==◌, Option, Some, None, refl, ap, sym, ◌∙◌, subst, arith, inl, inr, ⊎_elim, length-append}
+use Rattle.std.proofs.Common.{◌≡◌, ℕ, zero, suc, ◌+◌, ◌-◌, ◌<◌, ◌≤◌, List, [], ◌∷◌, ◌++◌, length, take, get_or, Bool, true, false, ◌&&◌, ◌||◌, ◌==◌, Option, Some, None, refl, ap, sym, ◌∙◌, subst, arith, inl, inr, ⊎_elim, length-append}
 use Rattle.std.specs.Prelude.{◌⊎◌}
 use Rattle.std.specs.List.{join_with_byte, AllByRecursion}
 use Rattle.std.proofs.lemmas.Bool.{cases_lt}
 use Rattle.std.proofs.lemmas.List.{append-nil, append_assoc, get_or_append_left}
 use Rattle.std.proofs.Math.Seq.{take-append-add, drop-append-add, take-append_seam, drop-append_seam}
 use Rattle.rwsp_text.specs.Fields.{Words, text_of}
-use Rattle.rwsp_text.specs.Lines.{AreWords, AreLines, HasNoFeed, text_of_lines}
+use Rattle.rwsp_text.specs.Lines.{AreWords, AreLines, text_of_lines}
 use Rattle.rwsp_text.proofs.LineLaws.{join_no_feed}
 use Rattle.rwsp_terms.specs.Instance.{Instance}
 use Rattle.refutation_terms.specs.declared.lines.Line.{Line}
 use Rattle.refutation_terms.specs.declared.lines.Line.TheVariants.{Split}
 use Rattle.refutation_terms.specs.declared.lines.Turn.{Turn}
-use Rattle.refutation_terms.specs.LogText.{raw, raw_fields, line_text}
+use Rattle.refutation_terms.specs.LogText.{raw, line_text}
 use Rattle.refutation_terms.proofs.LineTables.{rules_fields}
 use Rattle.refutation_terms.proofs.Texts.{header_fields, lines_fields, log_fields, log_written, log_words}
 use Rattle.refutation_log.proofs.OneText.{is_writable, has_names}

@@ -20,7 +20,7 @@ use Rattle.crew_size.specs.declared.verdict.Staffed.TheVariants as Sizes
 use Rattle.crew_size.specs.declared.verdict.StaffRefusal.{StaffRefusal}
 use Rattle.crew_size.specs.declared.verdict.StaffRefusal.TheVariants as Refusals
 use Rattle.crew_size.proofs.Cuts.{cut_once}
-use Rattle.crew_size.proofs.Fronts.{feeds, feeds_append, feeds_of_heading, size_is_short, next_of, is_next, last_of, is_last, size_behind}
+use Rattle.crew_size.proofs.Fronts.{feeds_append, feeds_of_heading, size_is_short, next_of, is_next, last_of, is_last, size_behind}
 use Rattle.crew_size.proofs.Verdicts.{last_is_written}
 use Rattle.crew_size.proofs.Decided.{sized_keeps}
 use Rattle.crew_size.proofs.LogCuts.{logs_are_cut_whole}

@@ -1,6 +1,5 @@
 -- What is answered at a heading's place.
 use Rattle.std.proofs.Common.{◌≡◌, ◌≢◌, ℕ, ◌+◌, ◌^◌, ◌<◌, ◌≤◌, List, [], ◌∷◌, ◌++◌, length, get_or, Option, Some, None, refl, ap, sym, ◌∙◌, subst, arith, inl, inr, length-append}
-use Rattle.std.specs.Prelude.{codes}
 use Rattle.std.proofs.lemmas.List.{append-nil, append_assoc}
 use Rattle.std.proofs.lemmas.Option.{slice_get-get_or}
 use Rattle.rwsp_terms.specs.declared.limits.TheConstants.{LONGEST_FILE}
@@ -16,10 +15,10 @@ use Rattle.refutation_terms.specs.declared.lines.LogRefusal.{LogRefusal}
 use Rattle.refutation_terms.specs.Log.{Log}
 use Rattle.rwsp_text.specs.Lines.{IsNextLine}
 use Rattle.refutation_terms.specs.Verdict.{IsRefused, IsAccepted}
-use Rattle.crew_size.specs.Sizes.{with_weeks, IsSize}
+use Rattle.crew_size.specs.Sizes.{with_weeks}
 use Rattle.crew_size.specs.Texts.{refuted_line, roster_line, none_line, sections_text}
 use Rattle.crew_size.specs.Sections.{ArePassing, StandsBehindLogs, AreUpToHeading, IsNextSize, IsLastSize, IsHeading, line_behind}
-use Rattle.crew_size.specs.Verdict.{EndsWithRoster, EndsWithRight, EndsWithNone, SpellsRightFor, HasNoHeadingAt, GoesOnAt, HasLongRosterAt, HasRefusedLog, HasRefusedRoster, HasBrokenRoster, EndsTooEarly}
+use Rattle.crew_size.specs.Verdict.{EndsWithRoster, EndsWithRight, EndsWithNone, HasNoHeadingAt, GoesOnAt, HasLongRosterAt, HasRefusedLog, HasRefusedRoster, HasBrokenRoster, EndsTooEarly}
 use Rattle.crew_size.specs.Places.{Place, IsPlace, IsAt, AreSizes, IsNextOf, IsLastOf, MayFollow, IsHeadingNumber, heading_line, first_size}
 use Rattle.crew_size.specs.declared.heading.Heading.{Heading}
 use Rattle.crew_size.specs.declared.heading.Heading.TheVariants.{Refuted, Found, NoneTo}

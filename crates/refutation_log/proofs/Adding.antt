@@ -11,9 +11,6 @@ use Rattle.refutation_log.specs.Cited.{Adds, AddsSome, IsDayRule, IsWeighedDayRu
 abbrev pub AddsTo : List ℕ → List ℕ → (ℕ → ℕ → Type 0) → ℕ → Type 0
 AddsTo old now Is i = (k : ℕ) → Contains now k ↔ (Contains old k ⊎ ((m : ℕ) × (m < i) × Is m k))
 
-pub adds_none : (old : List ℕ) (Is : ℕ → ℕ → Type 0) → AddsTo old old Is 0
-adds_none old Is k = (λ h. inl h, λ h. ⊎_elim (λ (c : Contains old k). c) (λ (q : (m : ℕ) × (m < 0) × Is m k). absurd (omega (arith, q.1))) h)
-
 pub adds_more : (old mid new : List ℕ) (Is : ℕ → ℕ → Type 0) (i : ℕ) → AddsTo old mid Is i → Adds mid new (Is i) → AddsTo old new Is (i + 1)
 adds_more old mid new Is i so here k = (
   λ h. ⊎_elim
@@ -48,9 +45,6 @@ pub adds_some : (old mid new : List ℕ) (Is : ℕ → ℕ → Type 0) (i : ℕ)
 adds_some old mid new Is i A h some e =
     subst (λ z. AddsSome old z A) (sym e)
     (λ k. (λ o. (h k).1 (inl o), λ c. ⊎_elim (λ (o : Contains old k). inl o) (λ (q : (m : ℕ) × (m < i) × Is m k). inr (some k q.0 q.1 q.2)) ((h k).0 c)))
-
-pub unchanged_some : (old new : List ℕ) (A : ℕ → Type 0) → new ≡ old → AddsSome old new A
-unchanged_some old new A e = subst (λ z. AddsSome old z A) (sym e) (λ k. (λ o. o, λ c. inl c))
 
 -- one list after another
 pub adds_both : (old mid new : List ℕ) (A B : ℕ → Type 0) → Adds old mid A → Adds mid new B → Adds old new (λ k. A k ⊎ B k)
@@ -128,10 +122,6 @@ on_err (Err e) A B f h = f h
 pub err_from : {T E : Type 0} (r : Result T E) (A : Type 0) → A → OnErr r A
 err_from (Ok x) A h = tt
 err_from (Err e) A h = h
-
-pub ok_from : {T E : Type 0} (r : Result T E) (A : Type 0) → A → OnOk r A
-ok_from (Ok x) A h = h
-ok_from (Err e) A h = tt
 
 pub some_same : (old new : List ℕ) (A B : ℕ → Type 0) → AddsSome old new A → ((k : ℕ) → A k ↔ B k) → AddsSome old new B
 some_same old new A B h same k = (λ o. (h k).0 o, λ c. ⊎_elim (λ (o : Contains old k). inl o) (λ (a : A k). inr ((same k).0 a)) ((h k).1 c))

@@ -1,5 +1,5 @@
 -- What is put behind all others.
-use Rattle.std.proofs.Common.{◌≡◌, ℕ, ◌-◌, ◌<◌, ◌≤◌, List, [], ◌∷◌, ◌++◌, length, get_or, refl, ap, sym, ◌∙◌, subst, arith, ◌⊎◌, inl, inr, ⊎_elim, Some, None, Bool, true, false, IsTrue, length-append}
+use Rattle.std.proofs.Common.{◌≡◌, ℕ, ◌-◌, ◌<◌, ◌≤◌, List, [], ◌∷◌, ◌++◌, length, get_or, refl, ap, sym, ◌∙◌, subst, arith, ◌⊎◌, inl, inr, ⊎_elim, Some, Bool, true, false, IsTrue, length-append}
 use Rattle.std.specs.Prelude.{slice_get, MatchBool, Contains, ◌↔◌, AllPairs, All, ℤ, nat_lt}
 use Rattle.std.specs.List.Sorted.{IsStrictlyIncreasing}
 use Rattle.std.proofs.lemmas.Bool.{cases_lt}
@@ -49,10 +49,6 @@ before_last z e pairs k d less =
     let there : ComesBefore (get_or (z ++ e ∷ []) k d) (get_or (z ++ e ∷ []) (length z) d) = pairs k (length z) d less (omega (arith, length-append z (e ∷ []))) in
     subst (ComesBefore (get_or z k d)) (seam z e d)
     (subst (λ b. ComesBefore b (get_or (z ++ e ∷ []) (length z) d)) (get_or_append_left z (e ∷ []) d k less) there)
-
-pub none_before : (z : List Weight) (e : Weight) → slice_get z (length z - 1) ≡ None → AllPairs ComesBefore (z ++ e ∷ [])
-none_before [] e h = λ i j d lt less. absurd (omega (arith, lt, less))
-none_before (a ∷ z) e h = let some = slice_get-get_or (a ∷ z) (length (a ∷ z) - 1) a (omega arith) in absurd (cc)
 
 pub one_behind : (z : List Weight) (a e : Weight) (b : Bool) → AllPairs ComesBefore z → true ≡ nat_lt 0 (length z) → a ≡ get_or z (length z - 1) a → IsTrue b ↔ ComesBefore a e → MatchBool b (AllPairs ComesBefore (z ++ e ∷ [])) (AllPairs ComesBefore (z ++ e ∷ []) → ⊥)
 one_behind [] a e b pairs some last test = absurd (cc)

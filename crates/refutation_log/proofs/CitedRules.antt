@@ -1,6 +1,6 @@
 -- The numbers of the rules that a line cites.
-use Rattle.std.proofs.Common.{◌≡◌, ◌≢◌, ℕ, zero, suc, ◌+◌, ◌<◌, ◌≤◌, List, [], ◌∷◌, length, get_or, refl, ap, sym, ◌∙◌, subst, arith, ◌⊎◌, inl, inr, ⊎_elim, Some, Bool, true, false, pos}
-use Rattle.std.specs.Prelude.{Contains, ◌↔◌, slice_get, AllPairs}
+use Rattle.std.proofs.Common.{◌≡◌, ◌≢◌, ℕ, zero, suc, ◌+◌, ◌<◌, ◌≤◌, List, [], ◌∷◌, length, get_or, refl, ap, sym, ◌∙◌, subst, arith, ◌⊎◌, inl, inr, ⊎_elim, Some, None, Bool, true, false, pos}
+use Rattle.std.specs.Prelude.{Contains, ◌↔◌, slice_get, AllPairs, Result, OnOk, OnErr}
 use Rattle.std.proofs.lemmas.Option.{slice_get-get_or, same_Some}
 use Rattle.std.proofs.lemmas.List.Elements.{All-contains}
 use Rattle.std.proofs.lemmas.Bool.{false_from_ne_true}
@@ -16,11 +16,13 @@ use Rattle.rwsp_terms.proofs.Ascending.{Contains-cons, Contains-first, weight_pa
 use Rattle.rwsp_model.proofs.Numbering.{one_number, number_at_place}
 use Rattle.rwsp_model.specs.RuleNumbers.{place_of}
 use Rattle.refutation_terms.specs.declared.lines.Line.{Line}
-use Rattle.refutation_terms.specs.declared.lines.Line.TheVariants.{Split, Window, Day as DayLeaf, Dead, Bound, Few, Free, Unfinished}
+use Rattle.refutation_terms.specs.declared.lines.Line.TheVariants.{Window, Day as DayLeaf, Dead, Bound, Free}
 use Rattle.refutation_terms.specs.declared.lines.Turn.{Turn}
 use Rattle.refutation_terms.specs.Log.{LineFits, Cites, TurnCites, HasWeight, AreRules, WeightsFit}
 use Rattle.refutation_log.specs.Printing.{FitsSomeLog}
-use Rattle.refutation_log.specs.Cited.{Adds, IsCited, IsDayRule, IsWeighedDayRule}
+use Rattle.refutation_log.specs.Cited.{Adds, AddsSome, IsCited, IsDayRule, IsWeighedDayRule}
+use Rattle.refutation_log.proofs.Adding.{on_ok, on_err, adds_same, some_same}
+use Rattle.refutation_log.proofs.Named.{fits_some}
 
 pub rule_there : (P : Instance) (k : ℕ) → 0 < k → k ≤ length (rules P) → (r : Rule) × (rule_of P k ≡ Some r)
 rule_there P zero some within = absurd (omega (arith, some))
@@ -128,16 +130,26 @@ weighed_cited P R y are small k = (
       q.2,
 )
 
-pub bound_cited : (P : Instance) (p turns : ℕ) (R : List ℕ) (y : List Weight) → LineFits P (Bound p turns R y) → TellsCited P (Bound p turns R y) (λ k. Contains R k ⊎ IsWeighedDayRule P y k)
+-- what makes a number that of a rule of the list or of a day of the weights
+abbrev pub ListedOrWeighed : Instance → List ℕ → List Weight → ℕ → Type 0
+ListedOrWeighed P R y k = Contains R k ⊎ IsWeighedDayRule P y k
+
+pub bound_cited : (P : Instance) (p turns : ℕ) (R : List ℕ) (y : List Weight) → LineFits P (Bound p turns R y) → TellsCited P (Bound p turns R y) (ListedOrWeighed P R y)
 bound_cited P p turns R y fits k = weighed_cited P R y fits.2 fits.3.0 k
 
-pub free_cited : (P : Instance) (turns reward : ℕ) (R : List ℕ) (y : List Weight) → FitsSomeLog P (Free turns reward R y) → TellsCited P (Free turns reward R y) (λ k. Contains R k ⊎ IsWeighedDayRule P y k)
+pub free_cited : (P : Instance) (turns reward : ℕ) (R : List ℕ) (y : List Weight) → FitsSomeLog P (Free turns reward R y) → TellsCited P (Free turns reward R y) (ListedOrWeighed P R y)
 free_cited P turns reward R y fits k = weighed_cited P R y fits.2 fits.3.0 k
 
--- the same of a line of a log with a goal or without
-pub cited_in_some : (P : Instance) (line base : Line) (A : ℕ → Type 0) → line ≡ base → (FitsSomeLog P base → TellsCited P base A) → FitsSomeLog P line → TellsCited P line A
+-- the numbers that are added are those that a line cites, of a log with a goal or without
+cited_in_some : (P : Instance) (line base : Line) (A : ℕ → Type 0) → line ≡ base → (FitsSomeLog P base → TellsCited P base A) → FitsSomeLog P line → TellsCited P line A
 cited_in_some P line base A e f fits =
     subst (λ (l : Line). TellsCited P l A) (sym e) (f (subst (FitsSomeLog P) e fits))
+
+pub adds_cited : {T E : Type 0} (P : Instance) (line base : Line) (A : ℕ → Type 0) (r : Result T E) (old new : List ℕ) → line ≡ base → (FitsSomeLog P base → TellsCited P base A) → FitsSomeLog P line → OnOk r (Adds old new A) → OnOk r (Adds old new (IsCited P (Cites P line)))
+adds_cited P line base A r old new e tells fits = on_ok r (Adds old new A) (Adds old new (IsCited P (Cites P line))) (λ h. adds_same old new A (IsCited P (Cites P line)) h (cited_in_some P line base A e tells fits))
+
+pub adds_some_cited : {T E : Type 0} (P : Instance) (line base : Line) (A : ℕ → Type 0) (r : Result T E) (old new : List ℕ) → line ≡ base → (FitsSomeLog P base → TellsCited P base A) → FitsSomeLog P line → OnErr r (AddsSome old new A) → OnErr r (AddsSome old new (IsCited P (Cites P line)))
+adds_some_cited P line base A r old new e tells fits = on_err r (AddsSome old new A) (AddsSome old new (IsCited P (Cites P line))) (λ h. some_same old new A (IsCited P (Cites P line)) h (cited_in_some P line base A e tells fits))
 
 -- names
 
@@ -167,21 +179,16 @@ weighed_numbered P R y fit r c =
     day_numbered P d.0 r (subst (IsDay P) e.4 day) d.2)
     c
 
-pub line_numbered : (P : Instance) (line : Line) → LineFits P line → (r : Rule) → Cites P line r → (k : ℕ) × (rule_of P k ≡ Some r)
-line_numbered P (Split p x) fits r c = absurd c
-line_numbered P (Window number p len) fits r c = (c.0, c.2)
-line_numbered P (DayLeaf j x over) fits r c = day_numbered P j r fits.0 c
-line_numbered P (Dead p len R) fits r c = (c.0, c.2)
-line_numbered P (Bound p turns R y) fits r c =
-    weighed_numbered P R y fits.3.1 r c
-line_numbered P Unfinished fits r c = absurd c
-line_numbered P Few fits r c = absurd c
-line_numbered P (Free turns reward R y) fits r c = absurd fits
-
 pub some_numbered : (P : Instance) (line : Line) → FitsSomeLog P line → (r : Rule) → Cites P line r → (k : ℕ) × (rule_of P k ≡ Some r)
-some_numbered P Few fits r c = absurd c
+some_numbered P (Window number p len) fits r c = (c.0, c.2)
+some_numbered P (DayLeaf j x over) fits r c = day_numbered P j r fits.0 c
+some_numbered P (Dead p len R) fits r c = (c.0, c.2)
+some_numbered P (Bound p turns R y) fits r c = weighed_numbered P R y fits.3.1 r c
 some_numbered P (Free turns reward R y) fits r c = weighed_numbered P R y fits.3.1 r c
-some_numbered P line fits r c = line_numbered P line fits r c
+some_numbered P line fits r c = absurd c
+
+pub line_numbered : (P : Instance) (line : Line) → LineFits P line → (r : Rule) → Cites P line r → (k : ℕ) × (rule_of P k ≡ Some r)
+line_numbered P line fits = some_numbered P line (fits_some P None line fits)
 
 pub turn_numbered : (P : Instance) (t : Turn) → IsDay P t.day → (r : Rule) → TurnCites (Some t) r → (k : ℕ) × (rule_of P k ≡ Some r)
 turn_numbered P t is r c = day_numbered P t.day r is c

@@ -1,15 +1,13 @@
 -- Why the text of a free log is refused at its header.
-use Rattle.std.proofs.Common.{◌≡◌, ℕ, ◌+◌, ◌≤◌, List, ◌++◌, refl, ap, sym, ◌∙◌, append_assoc, None}
+use Rattle.std.proofs.Common.{◌≡◌, ℕ, List, ◌++◌, ap, sym, ◌∙◌, append_assoc}
 use Rattle.std.proofs.lemmas.List.{append-nil}
 use Rattle.rwsp_terms.specs.Instance.{Instance}
 use Rattle.refutation_terms.specs.declared.lines.LogRefusal.{LogRefusal}
 use Rattle.refutation_terms.specs.declared.lines.LogRefusal.TheVariants as Refusals
-use Rattle.refutation_terms.specs.Log.{AreRules}
-use Rattle.refutation_terms.specs.LogText.{free_version_text, rules_text, goal_text}
+use Rattle.refutation_terms.specs.LogText.{free_version_text, rules_text}
 use Rattle.rwsp_text.specs.Lines.{IsNextLine}
-use Rattle.refutation_terms.specs.FreeVerdict.{FreeFront, free_front_text, HasNoFreeCause, IsWholeFree, FreeCause, GoalCause, IsRefusedFreeLine, IsFreeRefused}
-use Rattle.refutation_log.specs.Refusals.{SpellsGoal}
-use Rattle.refutation_log.specs.ReadLog.{StopsFor, BeginsWithFreeHeader}
+use Rattle.refutation_terms.specs.FreeVerdict.{FreeFront, free_front_text, HasNoFreeCause, IsWholeFree, FreeCause, IsRefusedFreeLine, IsFreeRefused}
+use Rattle.refutation_log.specs.ReadLog.{StopsFor}
 
 -- a text that stops behind a front is refused
 line_stops : (P : Instance) (front : FreeFront) (text left line rest : List ℕ) (why : LogRefusal) → HasNoFreeCause P front → text ≡ free_front_text P front ++ left → left ≡ line ++ rest → IsNextLine line rest → FreeCause P front line why → IsRefusedFreeLine P text why
@@ -33,18 +31,6 @@ front_stops P front text left Refusals.Ends none partial whole e = record {
 front_stops P front text left why none partial whole s = line_stops P front text left s.0 s.1 why none whole s.2 s.3 s.4
 
 -- the header's three lines, of which each text begins where the one before ends
-pub goal_unread : (P : Instance) (old line rest : List ℕ) → old ≡ line ++ rest → IsNextLine line rest → SpellsGoal P line None → StopsFor (GoalCause P) old (Refusals.Form 3)
-goal_unread P old line rest e next h = (line, rest, e, next, (refl, h))
-
 pub rules_behind : (text R one two : List ℕ) → text ≡ free_version_text ++ one → one ≡ rules_text R ++ two → text ≡ (free_version_text ++ rules_text R) ++ two
 rules_behind text R one two e f =
     e ∙ ap (λ t. free_version_text ++ t) f ∙ sym (append_assoc free_version_text (rules_text R) two)
-
-pub free_header : (P : Instance) (text R one two three rest : List ℕ) (goal : ℕ) → text ≡ free_version_text ++ one → AreRules P R → one ≡ rules_text R ++ two → goal ≤ P.weeks + 1 → two ≡ goal_text goal ++ three → rest ≡ three → BeginsWithFreeHeader P text R goal rest
-free_header P text R one two three rest goal e are f le g h =
-    let front = free_version_text ++ rules_text R in (
-      are,
-      le,
-      rules_behind text R one two e f ∙ ap (λ z. front ++ z) (g ∙ ap (λ z. goal_text goal ++ z) (sym h))
-          ∙ sym (append_assoc front (goal_text goal) rest),
-    )

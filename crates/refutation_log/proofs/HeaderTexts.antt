@@ -64,9 +64,6 @@ goal_answered P bytes body (Some goal) k e h =
     let f = goal_found P (words_of body) goal (line_found (goal_kinds P) (words_of body) goal (sym (goal_is P (words_of body)) ∙ h)) in
     (f.1, words_text bytes body (goal_fields goal) e f.0)
 
-pub goal_no_feed : (P : Instance) (bytes : List ℕ) → ((body : List ℕ) → bytes ≢ body ++ 10 ∷ []) → SpellsGoal P bytes None
-goal_no_feed P bytes none goal le f = none (join_with_byte 32 (goal_fields goal)) f
-
 -- turns
 
 turn_is : (P : Instance) (ws : Words) → turn_at P ws ≡ read_line (turn_kinds P) ws

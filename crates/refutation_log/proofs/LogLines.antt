@@ -74,18 +74,6 @@ pub record LinesSoFar (P : Instance) (old left : List ℕ) (lines : List Line) (
   pub few : count ≤ length lines + 1
   pub short : length lines + length left ≤ length old
 
-pub lines_none : (P : Instance) (old : List ℕ) (lines : List Line) → lines ≡ [] → LinesSoFar P old old lines 1
-lines_none P old lines e =
-    subst (λ ls. LinesSoFar P old old ls 1) (sym e)
-    (record {
-      text = refl;
-      fits = tt;
-      walk = λ more. refl;
-      parts = λ k lt. absurd (omega (arith, lt));
-      few = omega arith;
-      short = omega arith;
-    })
-
 parts_more : (lines : List Line) (line : Line) (k : ℕ) → ((k : ℕ) → k < length lines → IsTree (take k lines) → ⊥) → (IsTree lines → ⊥) → k < length (lines ++ line ∷ []) → IsTree (take k (lines ++ line ∷ [])) → ⊥
 parts_more lines line k parts whole lt tree =
     let long = length-append lines (line ∷ []) in

@@ -1,6 +1,6 @@
 -- The answer to a bound or a free leaf, from what its parts were read as.
 use Rattle.std.proofs.Common.{◌≡◌, ℕ, List, refl, ap, sym, ◌∙◌, subst, Option, Some, None, Result, Ok, Err}
-use Rattle.std.specs.Prelude.{codes}
+use Rattle.std.specs.Prelude.{codes, ◌↔◌, AllPairs}
 use Rattle.std.specs.Option.{option_map}
 use Rattle.rwsp_terms.specs.Instance.{Instance}
 use Rattle.rwsp_terms.specs.declared.data.Weight.{Weight}
@@ -8,7 +8,8 @@ use Rattle.rwsp_model.specs.declared.fail.Fail.{Fail}
 use Rattle.rwsp_model.specs.declared.fail.Fail.TheVariants.{Refused, Memory}
 use Rattle.refutation_terms.specs.declared.lines.Line.{Line}
 use Rattle.refutation_terms.specs.declared.lines.Line.TheVariants.{Bound, Free}
-use Rattle.refutation_terms.specs.LogText.{RawLine, RawBound, RawFree}
+use Rattle.rwsp_terms.specs.Weights.{ComesBefore}
+use Rattle.refutation_terms.specs.LogText.{RawLine, RawBound, RawFree, weights_of, line_of, WeightsAscend}
 use Rattle.rwsp_text.specs.Fields.{NamedWeight, word_at}
 use Rattle.refutation_terms.specs.LineKinds.{most_turns}
 use Rattle.refutation_log.specs.declared.refusal.LineRefusal.{LineRefusal}
@@ -56,22 +57,26 @@ abbrev pub made_of : (List ℕ → List Weight → Line) → Weighed → Result 
 made_of make (Ok v) = Ok (make v.0 v.1)
 made_of make (Err fail) = Err fail
 
--- a bound, by what was read behind its head
-abbrev raw_bound : ℕ → ℕ → Option Read → Option RawLine
-raw_bound p turns o = option_map (λ (v : Read). RawBound p turns v.0 v.1) o
+-- a line that is made of rules and weights, and how it is written
+record IsMade (P : Instance) (written : List ℕ → List NamedWeight → RawLine) (make : List ℕ → List Weight → Line) : Type 0 where
+  known : (R : List ℕ) (y : List NamedWeight) → line_of P (written R y) ≡ option_map (λ (z : List Weight). make R z) (weights_of P y)
+  ascends : (R : List ℕ) (z : List Weight) → AllPairs ComesBefore z ↔ WeightsAscend (make R z)
 
-bound_by : (P : Instance) (p turns : ℕ) (o : Option Read) (result : Weighed) → AnswersWeighed P o result → Answers P (raw_bound p turns o) (made_of (Bound p turns) result)
-bound_by P p turns None (Ok v) a = absurd a
-bound_by P p turns (Some v) (Ok w) a =
-    (ap (λ o. option_map (λ (z : List Weight). Bound p turns v.0 z) o) a.1 ∙ ap (λ R. Some (Bound p turns R w.1)) a.0, a.2)
-bound_by P p turns o (Err Memory) a = tt
-bound_by P p turns None (Err (Refused Form)) a = tt
-bound_by P p turns None (Err (Refused Name)) a = absurd a
-bound_by P p turns (Some v) (Err (Refused Form)) a =
-    (Bound p turns v.0 a.0, ap (λ o. option_map (λ (z : List Weight). Bound p turns v.0 z) o) a.1, a.2)
-bound_by P p turns (Some v) (Err (Refused Name)) a = ap (λ o. option_map (λ (z : List Weight). Bound p turns v.0 z) o) a
+abbrev written_of : (List ℕ → List NamedWeight → RawLine) → Option Read → Option RawLine
+written_of written o = option_map (λ (v : Read). written v.0 v.1) o
 
-behind_bound : (P : Instance) (ws h : List (List ℕ)) (p turns : ℕ) (o : Option Read) → head_at P (most_turns P) ws ≡ Some ((p, turns), h) → weighed_at P h ≡ o → bound_at P ws ≡ raw_bound p turns o
+made_by : (P : Instance) (written : List ℕ → List NamedWeight → RawLine) (make : List ℕ → List Weight → Line) (o : Option Read) (result : Weighed) → IsMade P written make → AnswersWeighed P o result → Answers P (written_of written o) (made_of make result)
+made_by P written make None (Ok v) is a = absurd a
+made_by P written make (Some v) (Ok w) is a =
+    (is.known v.0 v.1 ∙ ap (λ o. option_map (λ (z : List Weight). make v.0 z) o) a.1 ∙ ap (λ R. Some (make R w.1)) a.0, (is.ascends w.0 w.1).0 a.2)
+made_by P written make o (Err Memory) is a = tt
+made_by P written make None (Err (Refused Form)) is a = tt
+made_by P written make None (Err (Refused Name)) is a = absurd a
+made_by P written make (Some v) (Err (Refused Form)) is a =
+    (make v.0 a.0, is.known v.0 v.1 ∙ ap (λ o. option_map (λ (z : List Weight). make v.0 z) o) a.1, λ up. a.2 ((is.ascends v.0 a.0).1 up))
+made_by P written make (Some v) (Err (Refused Name)) is a = is.known v.0 v.1 ∙ ap (λ o. option_map (λ (z : List Weight). make v.0 z) o) a
+
+behind_bound : (P : Instance) (ws h : List (List ℕ)) (p turns : ℕ) (o : Option Read) → head_at P (most_turns P) ws ≡ Some ((p, turns), h) → weighed_at P h ≡ o → bound_at P ws ≡ written_of (RawBound p turns) o
 unfolding bound_at
 behind_bound P ws h p turns None a b = rw (a, b) refl
 behind_bound P ws h p turns (Some v) a b = rw (a, b) refl
@@ -79,24 +84,9 @@ behind_bound P ws h p turns (Some v) a b = rw (a, b) refl
 pub bound_answered : (P : Instance) (high : ℕ) (ws h : List (List ℕ)) (p turns : ℕ) (result : Weighed) → high ≡ most_turns P → head_at P high ws ≡ Some ((p, turns), h) → AnswersWeighed P (weighed_at P h) result → Answers P (bound_at P ws) (made_of (Bound p turns) result)
 bound_answered P high ws h p turns result e a w =
     subst (λ o. Answers P o (made_of (Bound p turns) result)) (sym (behind_bound P ws h p turns (weighed_at P h) (ap (λ n. head_at P n ws) (sym e) ∙ a) refl))
-    (bound_by P p turns (weighed_at P h) result w)
+    (made_by P (RawBound p turns) (Bound p turns) (weighed_at P h) result (record { known = λ R y. refl; ascends = λ R z. (λ up. up, λ up. up) }) w)
 
--- and a free leaf
-abbrev raw_free : ℕ → ℕ → Option Read → Option RawLine
-raw_free turns reward o = option_map (λ (v : Read). RawFree turns reward v.0 v.1) o
-
-free_by : (P : Instance) (turns reward : ℕ) (o : Option Read) (result : Weighed) → AnswersWeighed P o result → Answers P (raw_free turns reward o) (made_of (Free turns reward) result)
-free_by P turns reward None (Ok v) a = absurd a
-free_by P turns reward (Some v) (Ok w) a =
-    (ap (λ o. option_map (λ (z : List Weight). Free turns reward v.0 z) o) a.1 ∙ ap (λ R. Some (Free turns reward R w.1)) a.0, a.2)
-free_by P turns reward o (Err Memory) a = tt
-free_by P turns reward None (Err (Refused Form)) a = tt
-free_by P turns reward None (Err (Refused Name)) a = absurd a
-free_by P turns reward (Some v) (Err (Refused Form)) a =
-    (Free turns reward v.0 a.0, ap (λ o. option_map (λ (z : List Weight). Free turns reward v.0 z) o) a.1, a.2)
-free_by P turns reward (Some v) (Err (Refused Name)) a = ap (λ o. option_map (λ (z : List Weight). Free turns reward v.0 z) o) a
-
-behind_free : (P : Instance) (ws h : List (List ℕ)) (turns reward : ℕ) (o : Option Read) → free_head_at P ws ≡ Some ((turns, reward), h) → weighed_at P h ≡ o → free_at P ws ≡ raw_free turns reward o
+behind_free : (P : Instance) (ws h : List (List ℕ)) (turns reward : ℕ) (o : Option Read) → free_head_at P ws ≡ Some ((turns, reward), h) → weighed_at P h ≡ o → free_at P ws ≡ written_of (RawFree turns reward) o
 unfolding free_at
 behind_free P ws h turns reward None a b = rw (a, b) refl
 behind_free P ws h turns reward (Some v) a b = rw (a, b) refl
@@ -104,4 +94,4 @@ behind_free P ws h turns reward (Some v) a b = rw (a, b) refl
 pub free_answered : (P : Instance) (ws h : List (List ℕ)) (turns reward : ℕ) (result : Weighed) → free_head_at P ws ≡ Some ((turns, reward), h) → AnswersWeighed P (weighed_at P h) result → Answers P (free_at P ws) (made_of (Free turns reward) result)
 free_answered P ws h turns reward result a w =
     subst (λ o. Answers P o (made_of (Free turns reward) result)) (sym (behind_free P ws h turns reward (weighed_at P h) a refl))
-    (free_by P turns reward (weighed_at P h) result w)
+    (made_by P (RawFree turns reward) (Free turns reward) (weighed_at P h) result (record { known = λ R y. refl; ascends = λ R z. (λ up. up, λ up. up) }) w)
