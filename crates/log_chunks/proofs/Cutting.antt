@@ -6,10 +6,10 @@ use Rattle.std.proofs.lemmas.List.Elements.{All-nil, All-cons, All-append}
 use Rattle.rwsp_terms.specs.Instance.{Instance}
 use Rattle.refutation_terms.specs.declared.lines.Line.{Line}
 use Rattle.refutation_terms.specs.declared.lines.Turn.{Turn}
-use Rattle.refutation_log.specs.Printing.{lines_text, EachFits}
+use Rattle.refutation_log.specs.Printing.{lines_text}
 use Rattle.tree_walk.specs.States.{State, IsStateOf}
 use Rattle.log_chunks.specs.Starts.{Start, StandsBehind}
-use Rattle.log_chunks.specs.UnreadSplits.{UnreadSplit, EndInside}
+use Rattle.log_chunks.specs.UnreadSplits.{UnreadSplit, EachFits, EndInside}
 use Rattle.log_chunks.specs.Chunks.{feeds, line_count, EndsLines, IsCutOff, AreChunks, IsJudgeable, IsFew}
 use Rattle.log_chunks.proofs.Feeds.{lines_of_both, some_line}
 use Rattle.refutation_log.proofs.LogLines.{some_bytes}
@@ -54,13 +54,13 @@ last_lines P (d ∷ chunks) c lines are =
     }
 
 -- the chunks so far, and the splits that are open behind them, where the rest begins
-pub record IsOpen (P : Instance) (size : ℕ) (turn : Option Turn) (bytes : List ℕ) (before : List UnreadSplit) (chunks : List Start) (rest : Start) : Type 0 where
-  pub inside : (lines : List Line) → AreLinesOf P chunks lines → EndInside P before lines × StandsBehind P turn lines rest
-  pub goes_on : (more : List Start) → ((lines : List Line) → AreLinesOf P chunks lines → AreChunks P turn size lines rest.bytes more) → AreChunks P turn size [] bytes (chunks ++ more)
+pub record IsOpen (P : Instance) (size : ℕ) (goal : Option ℕ) (turn : Option Turn) (bytes : List ℕ) (before : List UnreadSplit) (chunks : List Start) (rest : Start) : Type 0 where
+  pub inside : (lines : List Line) → AreLinesOf P chunks lines → EndInside P before lines × StandsBehind P goal turn lines rest
+  pub goes_on : (more : List Start) → ((lines : List Line) → AreLinesOf P chunks lines → AreChunks P goal turn size lines rest.bytes more) → AreChunks P goal turn size [] bytes (chunks ++ more)
 
-abbrev pub IsOpenOrDone : Instance → ℕ → Option Turn → List ℕ → List UnreadSplit → List Start → Option Start → Type 0
-IsOpenOrDone P size turn bytes before chunks None = AreChunks P turn size [] bytes chunks
-IsOpenOrDone P size turn bytes before chunks (Some rest) = IsOpen P size turn bytes before chunks rest
+abbrev pub IsOpenOrDone : Instance → ℕ → Option ℕ → Option Turn → List ℕ → List UnreadSplit → List Start → Option Start → Type 0
+IsOpenOrDone P size goal turn bytes before chunks None = AreChunks P goal turn size [] bytes chunks
+IsOpenOrDone P size goal turn bytes before chunks (Some rest) = IsOpen P size goal turn bytes before chunks rest
 
 abbrev pub bytes_left : Option Start → List ℕ
 bytes_left None = []
@@ -76,7 +76,7 @@ pub record CutSoFar (P : Instance) (size : ℕ) (all : Start) (before : List Unr
   pub short : length chunks + length (bytes_left rest) ≤ length all.bytes
   pub count : AreFewSoFar size all.bytes (length chunks) (bytes_left rest)
   pub each : All (IsJudgeable P) chunks
-  pub parts : (turn : Option Turn) → StandsBehind P turn [] all → IsOpenOrDone P size turn all.bytes before chunks rest
+  pub parts : (goal : Option ℕ) (turn : Option Turn) → StandsBehind P goal turn [] all → IsOpenOrDone P size goal turn all.bytes before chunks rest
 
 -- nothing was cut off
 pub cut_none : (P : Instance) (size : ℕ) (all : Start) (before : List UnreadSplit) (chunks : List Start) → IsJudgeable P all → all.bytes ≢ [] → before ≡ [] → chunks ≡ [] → CutSoFar P size all before chunks (Some all)
@@ -88,43 +88,43 @@ cut_none P size all before chunks h some none empty =
       short = omega arith;
       count = inr (omega arith);
       each = All-nil (IsJudgeable P);
-      parts = λ turn st. record {
-        inside = λ lines are. (are, subst (λ ls. StandsBehind P turn ls all) (sym are) st);
+      parts = λ goal turn st. record {
+        inside = λ lines are. (are, subst (λ ls. StandsBehind P goal turn ls all) (sym are) st);
         goes_on = λ more f. f [] refl;
       };
     }))
 
 -- a chunk begins where what it was cut off began
-same_place : (P : Instance) (turn : Option Turn) (earlier : List Line) (old chunk : Start) → chunk.walk ≡ old.walk → chunk.first ≡ old.first → StandsBehind P turn earlier old → StandsBehind P turn earlier chunk
-same_place P turn earlier old chunk e f h = record { state = subst (IsStateOf P turn earlier) (sym e) h.state; counted = f ∙ h.counted }
+same_place : (P : Instance) (goal : Option ℕ) (turn : Option Turn) (earlier : List Line) (old chunk : Start) → chunk.walk ≡ old.walk → chunk.first ≡ old.first → StandsBehind P goal turn earlier old → StandsBehind P goal turn earlier chunk
+same_place P goal turn earlier old chunk e f h = record { state = subst (IsStateOf P turn earlier) (sym e) h.state; counted = f ∙ h.counted }
 
-cut_last : (P : Instance) (size : ℕ) (turn : Option Turn) (bytes : List ℕ) (start : State) (before after : List UnreadSplit) (chunks : List Start) (old chunk : Start) → IsStateOf P turn [] start → IsOpen P size turn bytes before chunks old → IsCutOff P size start before after old chunk None → AreChunks P turn size [] bytes (chunks ++ chunk ∷ [])
-cut_last P size turn bytes start before after chunks old chunk st o c =
+cut_last : (P : Instance) (size : ℕ) (goal : Option ℕ) (turn : Option Turn) (bytes : List ℕ) (start : State) (before after : List UnreadSplit) (chunks : List Start) (old chunk : Start) → IsStateOf P turn [] start → IsOpen P size goal turn bytes before chunks old → IsCutOff P size start before after old chunk None → AreChunks P goal turn size [] bytes (chunks ++ chunk ∷ [])
+cut_last P size goal turn bytes start before after chunks old chunk st o c =
     o.goes_on (chunk ∷ []) (λ lines are.
     let i = o.inside lines are in
     let same : chunk.bytes ≡ old.bytes = ap (λ (s : Start). s.bytes) c.0 in (
-      subst (StandsBehind P turn lines) (sym c.0) i.1,
+      subst (StandsBehind P goal turn lines) (sym c.0) i.1,
       record { end = c.1.0; lines = c.1.1; cut = inr (same, c.1.2 turn lines st i.0) },
       [],
       sym same ∙ sym (append-nil chunk.bytes),
       inl (refl, refl),
     ))
 
-cut_on : (P : Instance) (size : ℕ) (turn : Option Turn) (bytes : List ℕ) (start : State) (before after : List UnreadSplit) (chunks : List Start) (old chunk rest : Start) → IsStateOf P turn [] start → IsOpen P size turn bytes before chunks old → IsCutOff P size start before after old chunk (Some rest) → IsOpen P size turn bytes after (chunks ++ chunk ∷ []) rest
-cut_on P size turn bytes start before after chunks old chunk rest st o c = record {
+cut_on : (P : Instance) (size : ℕ) (goal : Option ℕ) (turn : Option Turn) (bytes : List ℕ) (start : State) (before after : List UnreadSplit) (chunks : List Start) (old chunk rest : Start) → IsStateOf P turn [] start → IsOpen P size goal turn bytes before chunks old → IsCutOff P size start before after old chunk (Some rest) → IsOpen P size goal turn bytes after (chunks ++ chunk ∷ []) rest
+cut_on P size goal turn bytes start before after chunks old chunk rest st o c = record {
   inside = λ lines are.
       let last = last_lines P chunks chunk lines are in
       let i = o.inside last.front last.are in
       let to = c.8.passed last.front last.more i.0 last.fit last.text in
       let size_now : length (last.front ++ last.more) ≡ length last.front + length last.more = length-append last.front last.more in
-      subst (λ ls. EndInside P after ls × StandsBehind P turn ls rest) (sym last.both) (
+      subst (λ ls. EndInside P after ls × StandsBehind P goal turn ls rest) (sym last.both) (
         to.1,
         record { state = c.8.walk turn (last.front ++ last.more) st to.1; counted = omega (arith, to.0, c.1, i.1.counted, size_now) },
       );
   goes_on = λ more f.
-      subst (AreChunks P turn size [] bytes) (sym (append_assoc chunks (chunk ∷ []) more))
+      subst (AreChunks P goal turn size [] bytes) (sym (append_assoc chunks (chunk ∷ []) more))
       (o.goes_on (chunk ∷ more) (λ lines are. (
-        same_place P turn lines old chunk c.0 c.1 (o.inside lines are).1,
+        same_place P goal turn lines old chunk c.0 c.1 (o.inside lines are).1,
         record { end = c.6.0; lines = c.6.1; cut = inl c.6.2 },
         rest.bytes,
         c.2,
@@ -182,9 +182,9 @@ next_on : (P : Instance) (size : ℕ) (start : State) (before after : List Unrea
 next_on P size start before after old chunk None c = tt
 next_on P size start before after old chunk (Some rest) c = (c.7, c.4)
 
-part_on : (P : Instance) (size : ℕ) (turn : Option Turn) (bytes : List ℕ) (start : State) (before after : List UnreadSplit) (chunks : List Start) (old chunk : Start) (rest : Option Start) → IsStateOf P turn [] start → IsOpen P size turn bytes before chunks old → IsCutOff P size start before after old chunk rest → IsOpenOrDone P size turn bytes after (chunks ++ chunk ∷ []) rest
-part_on P size turn bytes start before after chunks old chunk None st o c = cut_last P size turn bytes start before after chunks old chunk st o c
-part_on P size turn bytes start before after chunks old chunk (Some rest) st o c = cut_on P size turn bytes start before after chunks old chunk rest st o c
+part_on : (P : Instance) (size : ℕ) (goal : Option ℕ) (turn : Option Turn) (bytes : List ℕ) (start : State) (before after : List UnreadSplit) (chunks : List Start) (old chunk : Start) (rest : Option Start) → IsStateOf P turn [] start → IsOpen P size goal turn bytes before chunks old → IsCutOff P size start before after old chunk rest → IsOpenOrDone P size goal turn bytes after (chunks ++ chunk ∷ []) rest
+part_on P size goal turn bytes start before after chunks old chunk None st o c = cut_last P size goal turn bytes start before after chunks old chunk st o c
+part_on P size goal turn bytes start before after chunks old chunk (Some rest) st o c = cut_on P size goal turn bytes start before after chunks old chunk rest st o c
 
 pub cut_more : (P : Instance) (size : ℕ) (all : Start) (start : State) (before after : List UnreadSplit) (chunks more : List Start) (old chunk : Start) (rest : Option Start) → start ≡ all.walk → CutSoFar P size all before chunks (Some old) → IsCutOff P size start before after old chunk rest → more ≡ chunks ++ chunk ∷ [] → CutSoFar P size all after more rest
 cut_more P size all start before after chunks more old chunk rest begun so c is =
@@ -199,7 +199,7 @@ cut_more P size all start before after chunks more old chunk rest begun so c is 
           subst (λ n. AreFewSoFar size all.bytes n (bytes_left rest)) (sym count)
           (few_on P size (length chunks) all.bytes start before after old chunk rest so.count so.next.1 c);
       each = All-append (IsJudgeable P) chunks (chunk ∷ []) so.each (All-cons (IsJudgeable P) chunk [] this (All-nil (IsJudgeable P)));
-      parts = λ turn st. part_on P size turn all.bytes start before after chunks old chunk rest (subst (IsStateOf P turn []) (sym begun) st.state) (so.parts turn st) c;
+      parts = λ goal turn st. part_on P size goal turn all.bytes start before after chunks old chunk rest (subst (IsStateOf P turn []) (sym begun) st.state) (so.parts goal turn st) c;
     })
 
 pub cut_smaller : (P : Instance) (size : ℕ) (start : State) (before after : List UnreadSplit) (left : Option Start) (old chunk : Start) (rest : Option Start) → left ≡ Some old → old.bytes ≢ [] → IsCutOff P size start before after old chunk rest → length (bytes_left rest) < length (bytes_left left)

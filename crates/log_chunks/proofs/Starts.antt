@@ -1,6 +1,6 @@
 -- Walks to where chunks start.
 use Rattle.std.proofs.Common.{◌≡◌, ◌≢◌, ℕ, suc, ◌+◌, ◌-◌, ◌^◌, ◌<◌, ◌≤◌, List, [], ◌∷◌, ◌++◌, length, drop, take, get_or, refl, ap, sym, ◌∙◌, append_assoc, subst, arith, Option, Some, None, inl, inr, Bool, true, false, cond}
-use Rattle.std.specs.Prelude.{MatchBool, IfSome}
+use Rattle.std.specs.Prelude.{MatchBool}
 use Rattle.std.proofs.Math.Seq.{drop-cons}
 use Rattle.std.proofs.lemmas.List.{append-nil, drop_all, take_more, take-append-drop, length-take-le, length-drop}
 use Rattle.rwsp_terms.specs.declared.data.Symbol.{Symbol}
@@ -13,7 +13,6 @@ use Rattle.refutation_terms.specs.Tree.{IsTree, domains_at, is_idle}
 use Rattle.refutation_terms.specs.LogText.{raw, line_text}
 use Rattle.rwsp_text.specs.Lines.{IsNextLine}
 use Rattle.refutation_terms.specs.Verdict.{Spells}
-use Rattle.refutation_terms.specs.LogText.{WeightsAscend}
 use Rattle.refutation_terms.proofs.Causes.{not_unknown}
 use Rattle.refutation_log.specs.Refusals.{IsLineRefused}
 use Rattle.refutation_log.specs.declared.refusal.LineRefusal.{LineRefusal}
@@ -21,7 +20,7 @@ use Rattle.refutation_log.specs.declared.refusal.LineRefusal.TheVariants.{Form, 
 use Rattle.refutation_log.proofs.Named.{spelled_fits}
 use Rattle.refutation_log.proofs.LogLines.{some_bytes}
 use Rattle.refutation_log.proofs.OneText.{has_names, one_list, is_writable}
-use Rattle.refutation_terms.proofs.Spelled.{spell_for}
+use Rattle.refutation_terms.proofs.Spelled.{fitting_lines_are_spelled}
 use Rattle.refutation_log.specs.Printing.{lines_text}
 use Rattle.domain_store.specs.Store.{Store, IsStore}
 use Rattle.tree_walk.specs.Splits.{IsFirstSide}
@@ -35,41 +34,39 @@ use Rattle.log_chunks.proofs.Unread.{PassedSoFar, tree_passed}
 
 -- lines that are spelled
 
-pub spelled : (P : Instance) (bytes : List ℕ) (l : Line) → KeepsLimits P → IsLineText P bytes l → Spells P bytes l
-spelled P bytes l limits h =
-    let t = spell_for P None l (has_names P limits) h.fits in
-    (raw P l, record { spelled = h.text; in_range = t.0; ascends = subst (λ o. IfSome o WeightsAscend) (sym t.1) t.2 }, t.1)
+-- the text of a split spells it in any log
+spelled : (P : Instance) (bytes : List ℕ) (p : ℕ) (x : Symbol) → KeepsLimits P → IsLineText P bytes (Split p x) → Spells P bytes (Split p x)
+spelled P bytes p x limits h =
+    subst (λ b. Spells P b (Split p x)) (sym h.text) (fitting_lines_are_spelled P (Split p x) (has_names P limits) h.fits.1)
 
-pub text_spelled : (P : Instance) (bytes : List ℕ) (l : Line) → Spells P bytes l → IsLineText P bytes l
-text_spelled P bytes l h = let s = spelled_fits P bytes l h in record { fits = s.1; text = s.0 }
-
-pub same_text : (P : Instance) (bytes : List ℕ) (a b : Line) → KeepsLimits P → IsLineText P bytes a → IsLineText P bytes b → a ≡ b
-same_text P bytes a b limits f g =
-    let one : lines_text P (a ∷ []) ≡ lines_text P (b ∷ []) =
-    append-nil (line_text P (raw P a)) ∙ sym f.text ∙ g.text ∙ sym (append-nil (line_text P (raw P b))) in
-    let same : a ∷ [] ≡ b ∷ [] = one_list P (a ∷ []) (b ∷ []) limits (f.fits, tt) (g.fits, tt) one in
+same_text : (P : Instance) (bytes : List ℕ) (line : Line) (p : ℕ) (x : Symbol) → KeepsLimits P → Spells P bytes line → IsLineText P bytes (Split p x) → line ≡ Split p x
+same_text P bytes line p x limits spells g =
+    let f = spelled_fits P bytes line spells in
+    let one : lines_text P (line ∷ []) ≡ lines_text P (Split p x ∷ []) =
+    append-nil (line_text P (raw P line)) ∙ sym f.0 ∙ g.text ∙ sym (append-nil (line_text P (raw P (Split p x)))) in
+    let same : line ∷ [] ≡ Split p x ∷ [] = one_list P (line ∷ []) (Split p x ∷ []) limits (f.1, tt) (g.fits.1, tt) one in
     cc
 
-pub not_refused : (P : Instance) (bytes : List ℕ) (l : Line) (why : LineRefusal) → KeepsLimits P → IsLineText P bytes l → IsLineRefused P bytes why → ⊥
-not_refused P bytes l Form limits h refused = let s = spelled P bytes l limits h in refused s.0 s.1
-not_refused P bytes l Name limits h refused = not_unknown P bytes l (is_writable P limits) (spelled P bytes l limits h) refused
+not_refused : (P : Instance) (bytes : List ℕ) (p : ℕ) (x : Symbol) (why : LineRefusal) → KeepsLimits P → IsLineText P bytes (Split p x) → IsLineRefused P bytes why → ⊥
+not_refused P bytes p x Form limits h refused = let s = spelled P bytes p x limits h in refused s.0 s.1
+not_refused P bytes p x Name limits h refused = not_unknown P bytes (Split p x) (is_writable P limits) (spelled P bytes p x limits h) refused
 
 -- a split that was spelled is at a position
 pub split_within : (P : Instance) (w : State) (S : Store) (bytes : List ℕ) (line : Line) (p : ℕ) (x : Symbol) → S ≡ w.store → IsStore S → (turn : Option Turn) × (earlier : List Line) × IsStateOf P turn earlier w → Spells P bytes line → line ≡ Split p x → p < length w.store.sets
 split_within P w S bytes line p x is store h spells split =
-    let text = text_spelled P bytes (Split p x) (subst (Spells P bytes) split spells) in
+    let text = spelled_fits P bytes (Split p x) (subst (Spells P bytes) split spells) in
     let long : length w.store.sets ≡ cells P = positions_of P w.store (subst IsStore is store) h.2.belongs in
-    omega (arith, long, text.fits.0)
+    omega (arith, long, text.1.0)
 
 -- entering splits
 
 pub refused_entry : (P : Instance) (u : UnreadSplit) (old new : State) (bytes : List ℕ) (why : LineRefusal) → KeepsLimits P → bytes ≡ u.line → IsLineRefused P bytes why → IsEntered P u old new false
 refused_entry P u old new bytes why limits is refused turn lines first p x state text side =
-    absurd (not_refused P bytes (Split p x) why limits (subst (λ b. IsLineText P b (Split p x)) (sym is) text) refused)
+    absurd (not_refused P bytes p x why limits (subst (λ b. IsLineText P b (Split p x)) (sym is) text) refused)
 
 pub no_entry : (P : Instance) (u : UnreadSplit) (old new : State) (bytes : List ℕ) (line : Line) → KeepsLimits P → bytes ≡ u.line → Spells P bytes line → ((p : ℕ) (x : Symbol) → line ≡ Split p x → ⊥) → IsEntered P u old new false
 no_entry P u old new bytes line limits is spells other turn lines first p x state text side =
-    absurd (other p x (same_text P bytes line (Split p x) limits (text_spelled P bytes line spells) (subst (λ b. IsLineText P b (Split p x)) (sym is) text)))
+    absurd (other p x (same_text P bytes line p x limits spells (subst (λ b. IsLineText P b (Split p x)) (sym is) text)))
 
 same_split : (p q : ℕ) (x y : Symbol) → Split p x ≡ Split q y → (p ≡ q) × (x ≡ y)
 same_split p q x y e = (let f : p ≡ q = cc in f, let g : x ≡ y = cc in g)
@@ -78,7 +75,7 @@ pub entry : (P : Instance) (u : UnreadSplit) (old new : State) (bytes : List ℕ
     → ((R : Instance) (turn : Option Turn) (lines first : List Line) → IsStateOf R turn lines old → IsFirstSide in_second first → MatchBool entered (IsStateOf R turn (lines ++ Split q y ∷ first) new) (is_idle R (domains_at R turn lines (length lines)) q y.number ≡ true))
     → IsEntered P u old new entered
 entry P u old new bytes line q y in_second entered limits is side_is spells split goes turn lines first p x state text side =
-    let same : line ≡ Split p x = same_text P bytes line (Split p x) limits (text_spelled P bytes line spells) (subst (λ b. IsLineText P b (Split p x)) (sym is) text) in
+    let same : line ≡ Split p x = same_text P bytes line p x limits spells (subst (λ b. IsLineText P b (Split p x)) (sym is) text) in
     let parts = same_split q p y x (sym split ∙ same) in
     subst (λ r. MatchBool entered (IsStateOf P turn (lines ++ Split r x ∷ first) new) (is_idle P (domains_at P turn lines (length lines)) r x.number ≡ true)) parts.0
     (subst (λ (z : Symbol). MatchBool entered (IsStateOf P turn (lines ++ Split q z ∷ first) new) (is_idle P (domains_at P turn lines (length lines)) q z.number ≡ true)) parts.1

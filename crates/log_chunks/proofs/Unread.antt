@@ -8,14 +8,16 @@ use Rattle.rwsp_model.specs.Validity.{KeepsLimits}
 use Rattle.refutation_terms.specs.declared.lines.Line.{Line}
 use Rattle.refutation_terms.specs.declared.lines.Line.TheVariants.{Split, Window, Day, Dead, Bound, Few, Free, Unfinished}
 use Rattle.refutation_terms.specs.Tree.{IsLeaf, IsTree, Node, lines_in}
-use Rattle.refutation_terms.specs.LogText.{raw, line_text}
+use Rattle.refutation_terms.specs.LogText.{raw, raw_fields, line_text}
 use Rattle.rwsp_text.specs.Lines.{IsNextLine}
-use Rattle.refutation_log.specs.Printing.{lines_text, EachFits}
-use Rattle.rwsp_text.proofs.LineLaws.{cut}
-use Rattle.refutation_log.proofs.OneText.{body, body_feedless}
+use Rattle.refutation_log.specs.Printing.{lines_text}
+use Rattle.rwsp_text.proofs.LineLaws.{cut, join_no_feed}
+use Rattle.refutation_log.proofs.OneText.{body, has_names, is_writable}
+use Rattle.refutation_terms.proofs.Texts.{line_words}
+use Rattle.rwsp_text.specs.Lines.{HasNoFeed}
 use Rattle.tree_walk.specs.Splits.{IsFirstSide, NoLines}
 use Rattle.tree_walk.proofs.Moves.{leaf_is_tree}
-use Rattle.log_chunks.specs.UnreadSplits.{UnreadSplit, IsLineText, LeadInto, EndInside, HasTree}
+use Rattle.log_chunks.specs.UnreadSplits.{UnreadSplit, FitsALog, EachFits, IsLineText, LeadInto, EndInside, HasTree}
 use Rattle.log_chunks.proofs.LastFeed.{not_at_end}
 use Rattle.refutation_log.proofs.LogLines.{some_bytes}
 
@@ -120,6 +122,10 @@ leaf_passed P bytes t splits earlier l e is_leaf h text =
     grows P NoLines IsTree (l ∷ []) (λ ls none. subst (λ k. IsTree (k ++ l ∷ [])) (sym none) (leaf_is_tree l leaf)) splits earlier h
 
 -- the first line of a text of lines
+
+pub body_feedless : (P : Instance) (line : Line) → KeepsLimits P → FitsALog P line → HasNoFeed (body P line)
+body_feedless P line limits fits =
+    join_no_feed (raw_fields P (raw P line)) (line_words P fits.0 line (is_writable P limits) (has_names P limits) fits.1).1
 
 pub record HasFirst (P : Instance) (lines : List Line) (bytes left : List ℕ) : Type 0 where
   pub line : Line

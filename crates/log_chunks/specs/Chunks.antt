@@ -3,10 +3,10 @@ use Rattle.std.specs.Prelude.{◌≡◌, ◌≢◌, ◌⊎◌, ℕ, ◌+◌, ◌
 use Rattle.rwsp_terms.specs.Instance.{Instance}
 use Rattle.refutation_terms.specs.declared.lines.Line.{Line}
 use Rattle.refutation_terms.specs.declared.lines.Turn.{Turn}
-use Rattle.refutation_log.specs.Printing.{lines_text, EachFits}
+use Rattle.refutation_log.specs.Printing.{lines_text}
 use Rattle.tree_walk.specs.States.{State, IsStateOf}
 use Rattle.log_chunks.specs.Starts.{Start, StandsBehind}
-use Rattle.log_chunks.specs.UnreadSplits.{UnreadSplit, EndInside, IsEndedOrIdle, IsInto}
+use Rattle.log_chunks.specs.UnreadSplits.{UnreadSplit, EachFits, EndInside, IsEndedOrIdle, IsInto}
 
 -- how many LF the bytes hold
 abbrev pub feeds : List ℕ → ℕ
@@ -66,15 +66,15 @@ IsCutOff P size start before after all chunk (Some rest) =
 
 -- the chunks, of `size` lines each, hold the bytes behind the earlier lines, one after another. Each begins behind the
 -- lines of those before it, whatever these are: where they are none, nothing is said of it
-abbrev pub AreChunks : Instance → Option Turn → ℕ → List Line → List ℕ → List Start → Type 0
-AreChunks P turn size earlier bytes [] = bytes ≡ []
-AreChunks P turn size earlier bytes (chunk ∷ chunks) =
-    StandsBehind P turn earlier chunk
+abbrev pub AreChunks : Instance → Option ℕ → Option Turn → ℕ → List Line → List ℕ → List Start → Type 0
+AreChunks P goal turn size earlier bytes [] = bytes ≡ []
+AreChunks P goal turn size earlier bytes (chunk ∷ chunks) =
+    StandsBehind P goal turn earlier chunk
     × HasFirstLines P turn earlier size bytes chunk
     × (below : List ℕ) × (bytes ≡ chunk.bytes ++ below)
     × (((below ≡ []) × (chunks ≡ [])) ⊎ (EndWithFeed chunk.bytes
     × ((lines : List Line) → EachFits P lines → chunk.bytes ≡ lines_text P lines
-    → AreChunks P turn size (earlier ++ lines) below chunks)))
+    → AreChunks P goal turn size (earlier ++ lines) below chunks)))
 
 -- no more chunks than the bytes need at `size` lines each, where the last chunk may have fewer
 abbrev pub IsFew : ℕ → ℕ → List ℕ → Type 0

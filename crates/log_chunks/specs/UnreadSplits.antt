@@ -1,14 +1,15 @@
 -- Splits whose lines were passed without being read, and the lines that lead into them.
 use Rattle.std.specs.Prelude.{◌≡◌, ◌⊎◌, ℕ, List, [], ◌∷◌, ◌++◌, length, Bool, true, MatchBool, Option, Some, None}
+use Rattle.std.specs.List.{AllByRecursion}
 use Rattle.rwsp_terms.specs.declared.data.Symbol.{Symbol}
 use Rattle.rwsp_terms.specs.Instance.{Instance}
 use Rattle.refutation_terms.specs.declared.lines.Line.{Line}
 use Rattle.refutation_terms.specs.declared.lines.Line.TheVariants.{Split}
 use Rattle.refutation_terms.specs.declared.lines.Turn.{Turn}
-use Rattle.refutation_terms.specs.Log.{LineFits}
+use Rattle.refutation_terms.specs.Log.{LineFitsFor}
 use Rattle.refutation_terms.specs.Tree.{IsTree, domains_at, is_idle}
 use Rattle.refutation_terms.specs.LogText.{raw, line_text}
-use Rattle.refutation_log.specs.Printing.{lines_text, EachFits}
+use Rattle.refutation_log.specs.Printing.{lines_text}
 use Rattle.tree_walk.specs.Splits.{IsFirstSide, NoLines}
 use Rattle.tree_walk.specs.States.{State, IsStateOf}
 
@@ -17,9 +18,17 @@ pub record UnreadSplit : Type 0 where
   pub line : List ℕ
   pub in_second : Bool
 
+-- the line fits the problem in a log with some goal or none
+abbrev pub FitsALog : Instance → Line → Type 0
+FitsALog P line = (goal : Option ℕ) × LineFitsFor P goal line
+
+-- each line does
+abbrev pub EachFits : Instance → List Line → Type 0
+EachFits P lines = AllByRecursion (FitsALog P) lines
+
 -- the bytes are the text of this line, which fits the problem
 pub record IsLineText (P : Instance) (bytes : List ℕ) (line : Line) : Type 0 where
-  pub fits : LineFits P line
+  pub fits : FitsALog P line
   pub text : bytes ≡ line_text P (raw P line)
 
 -- the lines lead into these splits, the outermost first, and there are followed by lines as Q says

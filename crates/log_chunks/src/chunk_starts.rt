@@ -11,7 +11,7 @@ ghost use Rattle.refutation_terms.specs.declared.lines.Line.{Line as TheLine};
 ghost use Rattle.refutation_terms.specs.declared.lines.Line.TheVariants.{Split};
 ghost use Rattle.refutation_terms.specs.declared.lines.Turn.{Turn};
 ghost use Rattle.refutation_terms.specs.Tree.{domains_at, is_idle};
-ghost use Rattle.refutation_log.specs.Printing.{lines_text, EachFits};
+ghost use Rattle.refutation_log.specs.Printing.{lines_text};
 ghost use Rattle.tree_walk.specs.Splits.{IsFirstSide};
 ghost use Rattle.tree_walk.specs.States.{IsStateOf};
 ghost use Rattle.log_chunks.specs.Starts.{StandsBehind};
@@ -265,8 +265,9 @@ fn chunks_of<'a>(
     requires part { all.walk.whole ≡ false }
     requires some { all.bytes ≢ [] }
     requires size { 1 ≤ size }
-    ensures chunks { IfOk result (λ v. (turn : Option Turn) → StandsBehind problem.now turn [] all.entry →
-        AreChunks problem.now turn size [] all.entry.bytes v.items) }
+    ensures chunks { IfOk result (λ v. (goal : Option ℕ) (turn : Option Turn)
+        → StandsBehind problem.now goal turn [] all.entry →
+        AreChunks problem.now goal turn size [] all.entry.bytes v.items) }
     ensures each { IfOk result (λ v. All (IsJudgeable problem.now) v.items) }
     ensures few { IfOk result (λ v. IsFew (length v.items) size all.entry.bytes) }
 {
@@ -294,8 +295,9 @@ pub fn chunks_for<'a>(
     requires part { all.walk.whole ≡ false }
     requires some { all.bytes ≢ [] }
     requires workers { 1 ≤ workers }
-    ensures chunks { IfOk result (λ v. (turn : Option Turn) → StandsBehind problem.now turn [] all.entry →
-        AreChunks problem.now turn (div_ceil (line_count all.entry.bytes) workers) [] all.entry.bytes v.items) }
+    ensures chunks { IfOk result (λ v. (goal : Option ℕ) (turn : Option Turn)
+        → StandsBehind problem.now goal turn [] all.entry →
+        AreChunks problem.now goal turn (div_ceil (line_count all.entry.bytes) workers) [] all.entry.bytes v.items) }
     ensures each { IfOk result (λ v. All (IsJudgeable problem.now) v.items) }
     ensures few { IfOk result (λ v. length v.items ≤ workers) }
 {

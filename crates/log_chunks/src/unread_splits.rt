@@ -4,7 +4,7 @@ ghost use Rattle.rwsp_terms.specs.Instance.{Instance};
 ghost use Rattle.rwsp_model.specs.Validity.{KeepsLimits};
 ghost use Rattle.refutation_terms.specs.declared.lines.Line.{Line};
 ghost use Rattle.refutation_terms.specs.Tree.{IsTree};
-ghost use Rattle.refutation_log.specs.Printing.{lines_text, EachFits};
+ghost use Rattle.refutation_log.specs.Printing.{lines_text};
 ghost use Rattle.log_chunks.specs.UnreadSplits.{IsLineText, LeadInto, EndInside, HasTree};
 
 use refutation_log::LineReader;

@@ -1,111 +1,104 @@
 -- Judging the lines of a chunk one after another.
-use Rattle.std.proofs.Common.{◌≡◌, ◌≢◌, ℕ, ◌+◌, ◌≤◌, List, [], ◌∷◌, ◌++◌, length, ap, sym, ◌∙◌, append_assoc, length-append, subst, arith, Option, None, Bool, IsTrue}
-use Rattle.std.specs.Prelude.{◌↔◌}
+use Rattle.std.proofs.Common.{◌≡◌, ◌≢◌, ℕ, ◌+◌, ◌≤◌, List, [], ◌∷◌, ◌++◌, length, ap, sym, ◌∙◌, append_assoc, length-append, subst, arith, Option, Bool, IsTrue}
+use Rattle.std.specs.Prelude.{◌↔◌, Err, Ok}
 use Rattle.std.proofs.lemmas.List.{append-nil}
 use Rattle.rwsp_terms.specs.Instance.{Instance}
+use Rattle.rwsp_model.specs.Refusals.{MatchAnswer}
+use Rattle.rwsp_model.specs.declared.fail.Fail.{Fail}
+use Rattle.rwsp_model.specs.declared.fail.Fail.TheVariants.{Refused, Memory}
 use Rattle.refutation_terms.specs.declared.lines.Line.{Line}
 use Rattle.refutation_terms.specs.declared.lines.Turn.{Turn}
 use Rattle.refutation_terms.specs.declared.lines.LogRefusal.{LogRefusal}
 use Rattle.refutation_terms.specs.Tree.{IsTree}
 use Rattle.refutation_terms.specs.LogText.{raw, line_text}
 use Rattle.rwsp_text.specs.Lines.{IsNextLine}
-use Rattle.refutation_terms.specs.Verdict.{Cause, Reading, header_lines}
+use Rattle.refutation_terms.specs.Verdict.{header_lines_for}
 use Rattle.refutation_log.specs.Printing.{lines_text}
-use Rattle.refutation_log.specs.ReadLog.{log_with}
 use Rattle.tree_walk.specs.States.{State, IsStateOf}
-use Rattle.refutation_checker.specs.LineTexts.{Judging, IsLineRead}
+use Rattle.refutation_checker.specs.LineTexts.{Judging, ReadsNext, RefusesNext}
 use Rattle.log_chunks.specs.Starts.{Start, StandsBehind}
-use Rattle.refutation_checker.specs.ChunkVerdicts.{AreSoundBehind, AreAllSound, IsChunkRefused}
+use Rattle.refutation_checker.specs.ChunkVerdicts.{AreSoundBehind, IsAnswerTo}
 use Rattle.refutation_checker.proofs.SoundLines.{lines_joined, sound_joined}
 use Rattle.refutation_log.proofs.LogLines.{some_bytes}
 
+-- some lines lead to where the walk is
+abbrev pub IsSomewhere : Instance → State → Type 0
+IsSomewhere P w = (turn : Option Turn) × (lines : List Line) × IsStateOf P turn lines w
+
 -- sound lines have been read, as far as what is left
-pub record JudgedUpTo (P : Instance) (R : List ℕ) (turn : Option Turn) (earlier : List Line) (bytes left : List ℕ) (w : State) (number : ℕ) : Type 0 where
+pub record JudgedUpTo (J : Judging) (turn : Option Turn) (earlier : List Line) (bytes left : List ℕ) (w : State) (number : ℕ) : Type 0 where
   pub lines : List Line
-  pub sound : AreSoundBehind P R turn earlier lines
-  pub text : bytes ≡ lines_text P lines ++ left
-  pub state : IsStateOf P turn (earlier ++ lines) w
-  pub counted : number ≡ header_lines turn + length (earlier ++ lines) + 1
+  pub sound : AreSoundBehind J turn earlier lines
+  pub text : bytes ≡ lines_text J.problem lines ++ left
+  pub state : IsStateOf J.problem turn (earlier ++ lines) w
+  pub counted : number ≡ header_lines_for J.goal turn + length (earlier ++ lines) + 1
 
-pub record JudgedSoFar (P : Instance) (R : List ℕ) (s : Start) (left : List ℕ) (w : State) (number : ℕ) : Type 0 where
+pub record JudgedSoFar (J : Judging) (s : Start) (left : List ℕ) (w : State) (number : ℕ) : Type 0 where
   pub few : number + length left ≤ s.first + length s.bytes
-  pub each : (turn : Option Turn) (earlier : List Line) → StandsBehind P turn earlier s → JudgedUpTo P R turn earlier s.bytes left w number
+  pub each : (turn : Option Turn) (earlier : List Line) → StandsBehind J.problem J.goal turn earlier s → JudgedUpTo J turn earlier s.bytes left w number
 
-pub judged_none : (P : Instance) (R : List ℕ) (s : Start) (left : List ℕ) (w : State) (number : ℕ) → left ≡ s.bytes → w ≡ s.walk → number ≡ s.first → JudgedSoFar P R s left w number
-judged_none P R s left w number e f g = record {
+pub judged_none : (J : Judging) (s : Start) (left : List ℕ) (w : State) (number : ℕ) → left ≡ s.bytes → w ≡ s.walk → number ≡ s.first → JudgedSoFar J s left w number
+judged_none J s left w number e f g = record {
   few = omega (arith, g, ap length e);
   each = λ turn earlier h. record {
     lines = [];
     sound = tt;
     text = sym e;
-    state = subst (λ ls. IsStateOf P turn ls w) (sym (append-nil earlier)) (subst (IsStateOf P turn earlier) (sym f) h.state);
-    counted = g ∙ h.counted ∙ ap (λ ls. header_lines turn + length ls + 1) (sym (append-nil earlier));
+    state = subst (λ ls. IsStateOf J.problem turn ls w) (sym (append-nil earlier)) (subst (IsStateOf J.problem turn earlier) (sym f) h.state);
+    counted = g ∙ h.counted ∙ ap (λ ls. header_lines_for J.goal turn + length ls + 1) (sym (append-nil earlier));
   };
 }
 
--- what a judge says of a line that it reads
-abbrev pub Reads : Judging → State → State → List ℕ → ℕ → Type 0
-Reads J w w' bytes number =
-    (turn : Option Turn) (lines : List Line) → IsStateOf J.problem turn lines w → number ≡ header_lines turn + length lines + 1 → IsLineRead J.problem J.named turn lines bytes w'
-
-abbrev pub Refuses : Judging → State → List ℕ → ℕ → LogRefusal → Type 0
-Refuses J w bytes number why =
-    (turn : Option Turn) (lines : List Line) → IsStateOf J.problem turn lines w → number ≡ header_lines turn + length lines + 1 → Cause J.problem (Reading (log_with J.named turn lines)) bytes why
-
-judge_of : Instance → List ℕ → Judging
-judge_of P R = record { problem = P; named = R; goal = None }
-
-read_on : (P : Instance) (R : List ℕ) (turn : Option Turn) (earlier : List Line) (all left bytes rest : List ℕ) (w w' : State) (number : ℕ) → JudgedUpTo P R turn earlier all left w number → left ≡ bytes ++ rest → Reads (judge_of P R) w w' bytes number → JudgedUpTo P R turn earlier all rest w' (number + 1)
-unfolding judge_of
-read_on P R turn earlier all left bytes rest w w' number so e reads =
-    let read = reads turn (earlier ++ so.lines) so.state so.counted in
-    let one : lines_text P (read.line ∷ []) ≡ bytes = append-nil (line_text P (raw P read.line)) ∙ sym read.spelled in
-    let longer : (earlier ++ so.lines) ++ read.line ∷ [] ≡ earlier ++ (so.lines ++ read.line ∷ []) = append_assoc earlier so.lines (read.line ∷ []) in
-    let count : length ((earlier ++ so.lines) ++ read.line ∷ []) ≡ length (earlier ++ so.lines) + 1 = length-append (earlier ++ so.lines) (read.line ∷ []) in
+read_on : (J : Judging) (turn : Option Turn) (earlier : List Line) (all left bytes rest : List ℕ) (w new : State) (number : ℕ) (line : Line) → JudgedUpTo J turn earlier all left w number → left ≡ bytes ++ rest → ReadsNext J w bytes new line → JudgedUpTo J turn earlier all rest new (number + 1)
+read_on J turn earlier all left bytes rest w new number line so e reads =
+    let P = J.problem in
+    let read = reads turn (earlier ++ so.lines) so.state in
+    let one : lines_text P (line ∷ []) ≡ bytes = append-nil (line_text P (raw P line)) ∙ sym read.spelled in
+    let longer : (earlier ++ so.lines) ++ line ∷ [] ≡ earlier ++ (so.lines ++ line ∷ []) = append_assoc earlier so.lines (line ∷ []) in
+    let count : length ((earlier ++ so.lines) ++ line ∷ []) ≡ length (earlier ++ so.lines) + 1 = length-append (earlier ++ so.lines) (line ∷ []) in
     record {
-      lines = so.lines ++ read.line ∷ [];
-      sound = sound_joined P None R turn earlier so.lines (read.line ∷ []) so.sound (read.sound, tt);
+      lines = so.lines ++ line ∷ [];
+      sound = sound_joined J turn earlier so.lines (line ∷ []) so.sound (read.sound, tt);
       text =
           so.text ∙ ap (λ t. lines_text P so.lines ++ t) (e ∙ ap (λ t. t ++ rest) (sym one))
-          ∙ sym (append_assoc (lines_text P so.lines) (lines_text P (read.line ∷ [])) rest)
-          ∙ ap (λ t. t ++ rest) (sym (lines_joined P so.lines (read.line ∷ [])));
-      state = subst (λ ls. IsStateOf P turn ls w') longer read.walked;
+          ∙ sym (append_assoc (lines_text P so.lines) (lines_text P (line ∷ [])) rest)
+          ∙ ap (λ t. t ++ rest) (sym (lines_joined P so.lines (line ∷ [])));
+      state = subst (λ ls. IsStateOf P turn ls new) longer read.walked;
       counted = omega (arith, so.counted, count, ap length longer);
     }
 
-pub judged_more : (P : Instance) (R : List ℕ) (J : Judging) (s : Start) (left bytes rest : List ℕ) (w w' : State) (number : ℕ) → J ≡ record { problem = P; named = R; goal = None } → JudgedSoFar P R s left w number → bytes ≢ [] → left ≡ bytes ++ rest → Reads J w w' bytes number → JudgedSoFar P R s rest w' (number + 1)
-unfolding judge_of
-judged_more P R J s left bytes rest w w' number is so some e reads =
+pub judged_more : (J : Judging) (s : Start) (left bytes rest : List ℕ) (w new : State) (number : ℕ) (line : Line) → JudgedSoFar J s left w number → bytes ≢ [] → left ≡ bytes ++ rest → ReadsNext J w bytes new line → JudgedSoFar J s rest new (number + 1)
+judged_more J s left bytes rest w new number line so some e reads =
     let size : length left ≡ length bytes + length rest = ap length e ∙ length-append bytes rest in
     let one = some_bytes bytes some in
     record {
       few = omega (arith, so.few, size, one);
-      each = λ turn earlier h. read_on P R turn earlier s.bytes left bytes rest w w' number (so.each turn earlier h) e (subst (λ (K : Judging). Reads K w w' bytes number) is reads);
+      each = λ turn earlier h. read_on J turn earlier s.bytes left bytes rest w new number line (so.each turn earlier h) e reads;
     }
 
-pub judged_refused : (P : Instance) (R : List ℕ) (J : Judging) (s : Start) (left bytes rest : List ℕ) (w : State) (number : ℕ) (why : LogRefusal) → J ≡ record { problem = P; named = R; goal = None } → JudgedSoFar P R s left w number → left ≡ bytes ++ rest → IsNextLine bytes rest → Refuses J w bytes number why → (turn : Option Turn) (earlier : List Line) → StandsBehind P turn earlier s → IsChunkRefused P R turn earlier s.bytes why
-judged_refused P R J s left bytes rest w number why is so e next refuses turn earlier h =
+pub read_somewhere : (J : Judging) (bytes : List ℕ) (w new : State) (line : Line) → IsSomewhere J.problem w → ReadsNext J w bytes new line → IsSomewhere J.problem new
+read_somewhere J bytes w new line h reads = (h.0, h.1 ++ line ∷ [], (reads h.0 h.1 h.2).walked)
+
+pub judged_failed : {S : Type 0} (J : Judging) (s : Start) (left bytes rest : List ℕ) (w : State) (number : ℕ) (fail : Fail LogRefusal) (A : S → Type 0) → JudgedSoFar J s left w number → left ≡ bytes ++ rest → IsNextLine bytes rest → MatchAnswer (Err fail) A (RefusesNext J w bytes number) → IsAnswerTo J s (Err fail)
+judged_failed J s left bytes rest w number Memory A so e next refuses = λ turn earlier h. tt
+judged_failed J s left bytes rest w number (Refused why) A so e next refuses = λ turn earlier h.
     let up = so.each turn earlier h in
-    let here = subst (λ (K : Judging). Refuses K w bytes number why) is refuses in
     record {
       lines = up.lines;
       line = bytes;
       rest = rest;
       sound = up.sound;
-      text = up.text ∙ ap (λ t. lines_text P up.lines ++ t) e ∙ sym (append_assoc (lines_text P up.lines) bytes rest);
+      text = up.text ∙ ap (λ t. lines_text J.problem up.lines ++ t) e ∙ sym (append_assoc (lines_text J.problem up.lines) bytes rest);
       is_line = next;
-      cause = here turn (earlier ++ up.lines) up.state up.counted;
+      cause = refuses turn (earlier ++ up.lines) up.state up.counted;
     }
 
-pub judged_all : (P : Instance) (R : List ℕ) (s : Start) (left : List ℕ) (w : State) (number : ℕ) (whole : Bool) → JudgedSoFar P R s left w number → left ≡ [] → ((turn : Option Turn) (lines : List Line) → IsStateOf P turn lines w → IsTrue whole ↔ IsTree lines) → (turn : Option Turn) (earlier : List Line) → StandsBehind P turn earlier s → AreAllSound P R turn earlier s.bytes whole
-judged_all P R s left w number whole so e tree turn earlier h =
+pub judged_all : (J : Judging) (s : Start) (left : List ℕ) (w : State) (number : ℕ) (whole : Bool) → JudgedSoFar J s left w number → left ≡ [] → ((turn : Option Turn) (lines : List Line) → IsStateOf J.problem turn lines w → IsTrue whole ↔ IsTree lines) → IsAnswerTo J s (Ok whole)
+judged_all J s left w number whole so e tree turn earlier h =
     let up = so.each turn earlier h in
     record {
       lines = up.lines;
       sound = up.sound;
-      text = up.text ∙ ap (λ t. lines_text P up.lines ++ t) e ∙ append-nil (lines_text P up.lines);
+      text = up.text ∙ ap (λ t. lines_text J.problem up.lines ++ t) e ∙ append-nil (lines_text J.problem up.lines);
       tree = tree turn (earlier ++ up.lines) up.state;
     }
-
-pub judge_is : (P : Instance) (R : List ℕ) (J : Judging) → J.problem ≡ P → J.named ≡ R → J.goal ≡ None → J ≡ record { problem = P; named = R; goal = None }
-judge_is P R J e f g = ap (λ p. record { problem = p; named = J.named; goal = J.goal }) e ∙ ap (λ r. record { problem = P; named = r; goal = J.goal }) f ∙ ap (λ o. record { problem = P; named = R; goal = o }) g

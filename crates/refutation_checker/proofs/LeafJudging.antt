@@ -6,7 +6,7 @@ use Rattle.rwsp_terms.specs.declared.data.Symbol.{Symbol}
 use Rattle.std.proofs.Common.{List}
 use Rattle.rwsp_terms.specs.Instance.{Instance}
 use Rattle.refutation_terms.specs.declared.lines.Line.{Line}
-use Rattle.refutation_terms.specs.declared.lines.Line.TheVariants.{Split, Window, Day, Dead, Bound, Few, Free, Unfinished}
+use Rattle.refutation_terms.specs.declared.lines.Line.TheVariants.{Dead, Bound, Free}
 use Rattle.refutation_terms.specs.Word.{Domains, AreSame}
 use Rattle.rwsp_terms.specs.Rules.{NamesShortOnly}
 use Rattle.refutation_terms.specs.Log.{LineFits, ListsShortOnly}
@@ -16,24 +16,14 @@ use Rattle.refutation_terms.proofs.SameDomains.{same_holds, turned_round}
 use Rattle.refutation_checker.specs.LineVerdicts.{HasList, HasNoList, HoldsByWords, HoldsByWordsFor}
 
 pub same_by_words : (P : Instance) (D E : Domains) (line : Line) → LineFits P line → AreSame P D E → HoldsByWords P D line → HoldsByWords P E line
-same_by_words P D E (Split p x) fits same h = tt
-same_by_words P D E (Window number p len) fits same h = tt
-same_by_words P D E (Day j x over) fits same h = tt
 same_by_words P D E (Dead p len R) fits same h = same_holds P D E (Dead p len R) (omega (arith, fits.0)) fits same h
 same_by_words P D E (Bound p turns R y) fits same h = same_holds P D E (Bound p turns R y) (omega (arith, fits.0)) fits same h
-same_by_words P D E Unfinished fits same h = tt
-same_by_words P D E Few fits same h = tt
-same_by_words P D E (Free turns reward R y) fits same h = tt
+same_by_words P D E line fits same h = tt
 
 pub escaped_by_words : (P : Instance) (D : Domains) (line : Line) (w : List Symbol) → Escapes P D line w → HoldsByWords P D line → ⊥
-escaped_by_words P D (Split p x) w e h = absurd e
-escaped_by_words P D (Window number p len) w e h = absurd e
-escaped_by_words P D (Day j x over) w e h = absurd e
 escaped_by_words P D (Dead p len R) w e h = escaped_not_holding P D (Dead p len R) w e h
 escaped_by_words P D (Bound p turns R y) w e h = escaped_not_holding P D (Bound p turns R y) w e h
-escaped_by_words P D Unfinished w e h = absurd e
-escaped_by_words P D Few w e h = absurd e
-escaped_by_words P D (Free turns reward R y) w e h = absurd e
+escaped_by_words P D line w e h = absurd e
 
 -- a word that escapes a line of a log without a goal escapes it in each log
 escapes_for : (P : Instance) (goal : Option ℕ) (D : Domains) (line : Line) (w : List Symbol) → Escapes P D line w → EscapesFor P goal D line w
@@ -66,22 +56,14 @@ fails_there P D E line w fits same e = (
 -- the list of a line
 
 pub its_short_rules : (P : Instance) (line : Line) (list : List ℕ) → HasList line list → ListsShortOnly P line → NamesShortOnly P list
-its_short_rules P (Split p x) list has short = absurd has
-its_short_rules P (Window number p len) list has short = absurd has
-its_short_rules P (Day j x over) list has short = absurd has
 its_short_rules P (Dead p len R) list has short = subst (NamesShortOnly P) has short
 its_short_rules P (Bound p turns R y) list has short = subst (NamesShortOnly P) has short
-its_short_rules P Unfinished list has short = absurd has
-its_short_rules P Few list has short = absurd has
 its_short_rules P (Free turns reward R y) list has short = subst (NamesShortOnly P) has short
+its_short_rules P line list has short = absurd has
 
 -- nothing is said by words of a line without one
 pub without_list : (P : Instance) (goal : Option ℕ) (D : Domains) (line : Line) → HasNoList line → HoldsByWordsFor P goal D line
-without_list P goal D (Split p x) none = tt
-without_list P goal D (Window number p len) none = tt
-without_list P goal D (Day j x over) none = tt
 without_list P goal D (Dead p len R) none = absurd none
 without_list P goal D (Bound p turns R y) none = absurd none
-without_list P goal D Unfinished none = tt
-without_list P goal D Few none = tt
 without_list P goal D (Free turns reward R y) none = absurd none
+without_list P goal D line none = tt

@@ -1,14 +1,14 @@
 -- The lines of a log, judged one after the other.
-use Rattle.std.proofs.Common.{◌≡◌, ℕ, suc, ◌+◌, ◌<◌, ◌≤◌, List, [], ◌∷◌, ◌++◌, length, take, drop, refl, ap, sym, ◌∙◌, subst, arith, Option, Some, None, Result, Ok, Err, inl, inr, false, ◌&&◌, append_assoc}
+use Rattle.std.proofs.Common.{◌≡◌, ℕ, suc, ◌+◌, ◌<◌, ◌≤◌, List, [], ◌∷◌, ◌++◌, length, take, drop, refl, ap, sym, ◌∙◌, subst, arith, Option, Some, None, Result, Ok, Err, inl, inr, false, append_assoc}
 use Rattle.std.specs.Prelude.{MatchOption, IfOk, slice_get, Contains, codes}
 use Rattle.std.specs.List.{join_with_byte, flat_map}
 use Rattle.std.specs.Fmt.{decimal}
 use Rattle.std.specs.declared.alloc.AllocError.{AllocError}
-use Rattle.std.proofs.Math.Seq.{drop-cons, take-length}
-use Rattle.std.proofs.lemmas.Bool.{cases_lt, cases_Bool}
-use Rattle.std.proofs.lemmas.List.{take_more, length-take-le, take-append-drop, take-append-le, get_or-take}
+use Rattle.std.proofs.Math.Seq.{drop-cons}
+use Rattle.std.proofs.lemmas.Bool.{cases_Bool}
+use Rattle.std.proofs.lemmas.List.{take_more, length-take-le, take-append-drop}
 use Rattle.std.proofs.lemmas.List.Concat.{flat_map-append}
-use Rattle.std.proofs.lemmas.Option.{same_Some, slice_get_within, slice_get-get_or, get_or_from_slice_get}
+use Rattle.std.proofs.lemmas.Option.{slice_get_within, get_or_from_slice_get}
 use Rattle.rwsp_terms.specs.declared.data.Rule.{Rule}
 use Rattle.rwsp_terms.specs.declared.data.Rule.TheVariants as TheRules
 use Rattle.rwsp_terms.specs.Instance.{Instance, name_of}
@@ -18,26 +18,28 @@ use Rattle.refutation_terms.specs.declared.lines.Line.{Line}
 use Rattle.refutation_terms.specs.declared.lines.Turn.{Turn}
 use Rattle.refutation_terms.specs.declared.lines.LogRefusal.{LogRefusal}
 use Rattle.refutation_terms.specs.declared.lines.LogRefusal.TheVariants as Refusals
-use Rattle.refutation_terms.specs.Word.{Domains}
-use Rattle.refutation_terms.specs.Tree.{IsTree, after_trees, lines_in, opening, lines_leave, domains_at}
-use Rattle.refutation_terms.specs.Log.{Log, Fits, LineFits, TurnFits, TurnCites, AreRules, Passes, Holds}
+use Rattle.refutation_terms.specs.Tree.{IsTree, after_trees, lines_in, opening, domains_at}
+use Rattle.refutation_terms.specs.Log.{Log, Fits, FitsFor, LineFitsFor, TurnFits, TurnCites, AreRules, Passes}
 use Rattle.refutation_terms.specs.LogText.{raw, line_text, log_text, header_text, turn_text, raw_fields}
-use Rattle.refutation_terms.specs.Verdict.{Reading, BeforeTurn, IsSoundSoFar, IsRefusedLine, IsRefused, TurnCause, TreeCause, header_lines}
-use Rattle.refutation_terms.proofs.Spelled.{fitting_lines_are_spelled}
+use Rattle.refutation_terms.specs.Verdict.{BeforeTurn, IsRefusedLine, IsRefused, TurnCause, header_lines_for}
+use Rattle.refutation_terms.proofs.Spelled.{fitting_lines_are_spelled_for}
 use Rattle.refutation_terms.proofs.Trees.{part_is_not_whole, tree_is_whole}
 use Rattle.refutation_log.specs.Printing.{lines_text}
 use Rattle.refutation_log.proofs.HeaderTexts.{turn_visible}
 use Rattle.refutation_log.proofs.LineTexts.{small_from}
 use Rattle.rwsp_model.proofs.Names.{symbol_named}
-use Rattle.refutation_log.proofs.OneText.{name_there, body_feedless, feedless_words, has_names}
+use Rattle.refutation_log.proofs.OneText.{name_there, feedless_words, has_names}
+use Rattle.log_chunks.proofs.Unread.{body_feedless}
 use Rattle.refutation_log.proofs.PrintedTexts.{line_piece, joined_lines}
 use Rattle.tree_walk.specs.States.{State, IsStateOf}
 use Rattle.tree_walk.proofs.Stack.{read_is_tree}
-use Rattle.refutation_checker.specs.LineVerdicts.{IsSound, LineCause}
+use Rattle.refutation_checker.specs.LineTexts.{Judging, log_of, HasCause, IsSoundNext, PassesNext, HasCauseNext}
+use Rattle.refutation_checker.specs.ChunkVerdicts.{AreSoundBehind, IsChunkRefused}
+use Rattle.refutation_checker.specs.Headers.{HasHeader, without_goal}
 use Rattle.refutation_checker.specs.Turns.{IsSoundTurn, TurnFault, IsTurnFault}
-use Rattle.refutation_checker.specs.LogVerdicts.{AreSound, IsPassed, IsRefusedAt}
-use Rattle.refutation_checker.proofs.Judging.{cause_of_text}
-use Rattle.refutation_log.specs.ReadLog.{log_with}
+use Rattle.refutation_checker.specs.LogVerdicts.{IsPassed, IsRefusedAt}
+use Rattle.refutation_checker.proofs.Judging.{refused_next}
+use Rattle.refutation_checker.proofs.SoundLines.{sound_joined, passes, refused}
 
 -- turns
 
@@ -60,95 +62,33 @@ still_part P turn lines w state part =
       | inr e ↦ e
     ]
 
--- the domains behind the first lines
-behind : (P : Instance) (turn : Option Turn) (lines : List Line) (k : ℕ) → domains_at P turn (take k lines) (length (take k lines)) ≡ domains_at P turn lines k
-behind P turn lines k =
-    let under : List Line → Domains = λ ls p z. opening P turn p z && lines_leave ls p z in
-    ap under (take-length (take k lines))
-
 -- one line more
 
-sound_more : (P : Instance) (g : Log) (i : ℕ) (line : Line) → AreSound P g i → slice_get g.lines i ≡ Some line → IsSound P g.named (domains_at P g.turn g.lines i) line → AreSound P g (i + 1)
-sound_more P g i line before here sound k other less there =
-    elim (cases_lt k i) [
-      | inl lt ↦ before k other lt there
-      | inr le ↦
-          let same : k ≡ i = omega (arith, less, le) in
-          let e : line ≡ other = same_Some line other (sym here ∙ ap (slice_get g.lines) (sym same) ∙ there) in
-          subst (λ j. IsSound P g.named (domains_at P g.turn g.lines j) other) (sym same)
-          (subst (IsSound P g.named (domains_at P g.turn g.lines i)) e sound)
-    ]
-
-pub passed_next : (P : Instance) (g : Log) (i number : ℕ) (line : Line) (w new : State) (answer : Result (Option LogRefusal) AllocError)
-    → slice_get g.lines i ≡ Some line → IsPassed P g i w → number ≡ header_lines g.turn + i + 1
-    → IfOk answer (λ found. (turn : Option Turn) (lines : List Line) → IsStateOf P turn lines w → MatchOption found
-    (IsSound P g.named (domains_at P turn lines (length lines)) line × IsStateOf P turn (lines ++ line ∷ []) new)
-    (LineCause P g.named (domains_at P turn lines (length lines)) number line))
-    → IfOk answer (λ found. MatchOption found (IsPassed P g (i + 1) new) (IsRefusedAt P g i))
-passed_next P g i number line w new (Ok None) here before is h =
-    let next = h g.turn (take i g.lines) before.walked in
+pub passed_next : (J : Judging) (g : Log) (i number : ℕ) (line : Line) (w new : State) (answer : Result (Option LogRefusal) AllocError)
+    → IsTree g.lines → LineFitsFor J.problem J.goal line → slice_get g.lines i ≡ Some line → IsPassed J g i w → number ≡ header_lines_for J.goal g.turn + i + 1
+    → IfOk answer (λ found. MatchOption found (PassesNext J w line new) (HasCauseNext J w number line))
+    → IfOk answer (λ found. MatchOption found (IsPassed J g (i + 1) new) (IsRefusedAt J g i))
+passed_next J g i number line w new (Ok None) tree fits here before is h =
+    let front = take i g.lines in
+    let next = h g.turn front before.walked in
     let less = slice_get_within g.lines i line here in
-    let sound : IsSound P g.named (domains_at P g.turn g.lines i) line = subst (λ D. IsSound P g.named D line) (behind P g.turn g.lines i) next.0 in
-    let more : take (i + 1) g.lines ≡ take i g.lines ++ line ∷ [] = take_more g.lines i line less ∙ ap (λ l. take i g.lines ++ l ∷ []) (get_or_from_slice_get g.lines i line line here) in
+    let more : take (i + 1) g.lines ≡ front ++ line ∷ [] = take_more g.lines i line less ∙ ap (λ l. front ++ l ∷ []) (get_or_from_slice_get g.lines i line line here) in
+    let one : IsSoundNext J g.turn front line = record { in_tree = no_front g.lines i tree less; fits = fits; sound = next.0 } in
     record {
-      walked = subst (λ ls. IsStateOf P g.turn ls new) (sym more) next.1;
-      sound = sound_more P g i line before.sound here sound;
+      walked = subst (λ ls. IsStateOf J.problem g.turn ls new) (sym more) next.1;
+      sound = subst (λ ls. AreSoundBehind J g.turn [] ls) (sym more) (sound_joined J g.turn [] front (line ∷ []) before.sound (one, tt));
     }
-passed_next P g i number line w new (Ok (Some why)) here before is h =
-    let cause = h g.turn (take i g.lines) before.walked in
+passed_next J g i number line w new (Ok (Some why)) tree fits here before is h =
+    let front = take i g.lines in
     record {
       line = line;
       here = here;
       sound = before.sound;
-      cause = subst (λ n. LineCause P g.named (domains_at P g.turn g.lines i) n line why) is (subst (λ D. LineCause P g.named D number line why) (behind P g.turn g.lines i) cause);
+      cause = subst (λ n. HasCause J (domains_at J.problem g.turn front (length front)) n line why) is (h g.turn front before.walked);
     }
-passed_next P g i number line w new (Err e) here before is h = tt
+passed_next J g i number line w new (Err e) tree fits here before is h = tt
 
--- what the whole log is
-
-passes_all : (P : Instance) (g : Log) → Fits P g → IsTree g.lines → IsSoundTurn P g.named g.turn → AreSound P g (length g.lines) → Passes P g
-passes_all P g fits tree turn sound = record {
-  grounded = record {
-    fits = fits;
-    turn = turn.allowed;
-    turn_named = turn.named_day;
-    named = λ k line r here. (sound k line (slice_get_within g.lines k line here) here).named_all r;
-    short = λ k line here. (sound k line (slice_get_within g.lines k line here) here).short;
-  };
-  tree = tree;
-  holds = λ k line here. (sound k line (slice_get_within g.lines k line here) here).holds;
-}
-
-at_take : (lines : List Line) (i k : ℕ) (line : Line) → i ≤ length lines → slice_get (take i lines) k ≡ Some line → (k < i) × (slice_get lines k ≡ Some line)
-at_take lines i k line le here =
-    let less : k < i = omega (arith, slice_get_within (take i lines) k line here, length-take-le i lines le) in
-    (less, slice_get-get_or lines k line (omega (arith, less, le)) ∙ ap (λ l. Some l) (sym (get_or-take i lines k line less) ∙ get_or_from_slice_get (take i lines) k line line here))
-
-take_take : (lines : List Line) (i k : ℕ) → k ≤ i → i ≤ length lines → take k (take i lines) ≡ take k lines
-take_take lines i k le within =
-    sym (take-append-le k (take i lines) (drop i lines) (omega (arith, le, length-take-le i lines within))) ∙ ap (take k) (take-append-drop i lines)
-
-sound_front : (P : Instance) (g : Log) (i : ℕ) → Fits P g → IsTree g.lines → IsSoundTurn P g.named g.turn → AreSound P g i → i < length g.lines → IsSoundSoFar P (log_with g.named g.turn (take i g.lines))
-sound_front P g i fits tree turn sound less =
-    let within : i ≤ length g.lines = omega (arith, less) in
-    let at : (k : ℕ) (line : Line) → slice_get (take i g.lines) k ≡ Some line → IsSound P g.named (domains_at P g.turn g.lines k) line =
-    λ k line here. let there = at_take g.lines i k line within here in sound k line there.0 there.1 in
-    record {
-      grounded = record {
-        fits = record { named = fits.named; turn = fits.turn; is_goal = refl; goal_fits = tt; lines = λ k line here. fits.lines k line (at_take g.lines i k line within here).1 };
-        turn = turn.allowed;
-        turn_named = turn.named_day;
-        named = λ k line r here. (at k line here).named_all r;
-        short = λ k line here. (at k line here).short;
-      };
-      holds = λ k line here.
-          let there = at_take g.lines i k line within here in
-          let under : List Line → Domains = λ ls p z. opening P g.turn p z && lines_leave ls p z in
-          subst (λ D. Holds P D line) (ap under (sym (take_take g.lines i k (omega (arith, there.0)) within))) (at k line here).holds;
-      in_tree = λ k lt.
-          let short : k < i = omega (arith, lt, length-take-le i g.lines within) in
-          λ front. no_front g.lines k tree (omega (arith, short, within)) (subst IsTree (take_take g.lines i k (omega (arith, short)) within) front);
-    }
+-- the text of the lines at which a log is refused
 
 lines_cut : (P : Instance) (lines : List Line) (i : ℕ) (line : Line) → slice_get lines i ≡ Some line → lines_text P lines ≡ lines_text P (take i lines) ++ (line_text P (raw P line) ++ lines_text P (drop (suc i) lines))
 lines_cut P lines i line here =
@@ -162,45 +102,24 @@ lines_cut P lines i line here =
     ∙ ap (λ t. t ++ (f line ++ flat_map f after)) (joined_lines P before)
     ∙ ap (λ t. lines_text P before ++ (f line ++ t)) (joined_lines P after)
 
-refused_line : (P : Instance) (g : Log) (i : ℕ) (why : LogRefusal) → KeepsLimits P → Fits P g → IsTree g.lines → IsSoundTurn P g.named g.turn → IsRefusedAt P g i why → IsRefusedLine P (log_text P g) why
-refused_line P g i why limits fits tree turn at =
-    let less = slice_get_within g.lines i at.line at.here in
-    let front = log_with g.named g.turn (take i g.lines) in
+refused_at : (J : Judging) (g : Log) (i : ℕ) (why : LogRefusal) → KeepsLimits J.problem → FitsFor J.problem J.goal g → IsTree g.lines → IsRefusedAt J g i why → IsChunkRefused J g.turn [] (lines_text J.problem g.lines) why
+refused_at J g i why limits fits tree at =
+    let P = J.problem in
+    let front = take i g.lines in
     let bytes = line_text P (raw P at.line) in
-    let rest = lines_text P (drop (suc i) g.lines) in
-    let fit : LineFits P at.line = fits.lines i at.line at.here in
-    let long : length (take i g.lines) ≡ i = length-take-le i g.lines (omega (arith, less)) in
-    let cause : TreeCause P g.named (domains_at P g.turn g.lines i) (header_lines g.turn + i + 1) bytes why =
-    cause_of_text P None g.named (domains_at P g.turn g.lines i) (header_lines g.turn + i + 1) bytes at.line why (fitting_lines_are_spelled P at.line (has_names P limits) fit) at.cause in
+    let less = slice_get_within g.lines i at.line at.here in
+    let fit = fits.lines i at.line at.here in
+    let long : length front ≡ i = length-take-le i g.lines (omega (arith, less)) in
     record {
-      front = Reading front;
+      lines = front;
       line = bytes;
-      rest = rest;
-      no_cause = sound_front P g i fits tree turn at.sound less;
-      whole =
-          ap (λ t. header_text P g.named g.turn ++ t) (lines_cut P g.lines i at.line at.here)
-          ∙ sym (append_assoc (header_text P g.named g.turn) (lines_text P (take i g.lines)) (bytes ++ rest))
-          ∙ sym (append_assoc (header_text P g.named g.turn ++ lines_text P (take i g.lines)) bytes rest);
-      is_line = inl (join_with_byte 32 (raw_fields P (raw P at.line)), body_feedless P at.line limits fit, refl);
-      cause = inr (
-        no_front g.lines i tree less,
-        subst (λ n. TreeCause P g.named (domains_at P g.turn (take i g.lines) (length (take i g.lines))) (header_lines g.turn + n + 1) bytes why) (sym long)
-            (subst (λ D. TreeCause P g.named D (header_lines g.turn + i + 1) bytes why) (sym (behind P g.turn g.lines i)) cause),
-      );
+      rest = lines_text P (drop (suc i) g.lines);
+      sound = at.sound;
+      text = lines_cut P g.lines i at.line at.here ∙ sym (append_assoc (lines_text P front) bytes (lines_text P (drop (suc i) g.lines)));
+      is_line = inl (join_with_byte 32 (raw_fields P (raw P at.line)), body_feedless P at.line limits (J.goal, fit), refl);
+      cause = refused_next J g.turn front bytes at.line (header_lines_for J.goal g.turn + i + 1) why (fitting_lines_are_spelled_for P J.goal at.line (has_names P limits) fit)
+          (no_front g.lines i tree less) (ap (λ n. header_lines_for J.goal g.turn + n + 1) (sym long)) at.cause;
     }
-
-refused_at : (P : Instance) (g : Log) (i : ℕ) (why : LogRefusal) → KeepsLimits P → Fits P g → IsTree g.lines → IsSoundTurn P g.named g.turn → IsRefusedAt P g i why → IsRefused P (log_text P g) why
-refused_at P g i (Refusals.Form n) limits fits tree turn at = refused_line P g i (Refusals.Form n) limits fits tree turn at
-refused_at P g i (Refusals.Name n) limits fits tree turn at = refused_line P g i (Refusals.Name n) limits fits tree turn at
-refused_at P g i (Refusals.Unnamed n k) limits fits tree turn at = refused_line P g i (Refusals.Unnamed n k) limits fits tree turn at
-refused_at P g i (Refusals.Idle n) limits fits tree turn at = refused_line P g i (Refusals.Idle n) limits fits tree turn at
-refused_at P g i (Refusals.Long n k) limits fits tree turn at = refused_line P g i (Refusals.Long n k) limits fits tree turn at
-refused_at P g i (Refusals.Fails n) limits fits tree turn at = refused_line P g i (Refusals.Fails n) limits fits tree turn at
-refused_at P g i (Refusals.Escape n w) limits fits tree turn at = refused_line P g i (Refusals.Escape n w) limits fits tree turn at
-refused_at P g i (Refusals.Unfinished n) limits fits tree turn at = refused_line P g i (Refusals.Unfinished n) limits fits tree turn at
-refused_at P g i Refusals.Ends limits fits tree turn at = absurd at.cause
-refused_at P g i (Refusals.Extra n) limits fits tree turn at = refused_line P g i (Refusals.Extra n) limits fits tree turn at
-refused_at P g i (Refusals.Turn n) limits fits tree turn at = refused_line P g i (Refusals.Turn n) limits fits tree turn at
 
 turn_line : (P : Instance) (named : List ℕ) (t : Turn) (rest : List ℕ) (why : LogRefusal) → KeepsLimits P → AreRules P named → TurnFits P (Some t) → TurnCause P named (turn_text (name_of P t.x) t.day) why → IsRefusedLine P (header_text P named (Some t) ++ rest) why
 turn_line P named t rest why limits are fits cause =
@@ -217,30 +136,32 @@ turn_line P named t rest why limits are fits cause =
     }
 
 turn_fault_refused : (P : Instance) (named : List ℕ) (t : Turn) (rest : List ℕ) (why : LogRefusal) → KeepsLimits P → AreRules P named → TurnFits P (Some t) → TurnFault P named t why → IsRefused P (header_text P named (Some t) ++ rest) why
-turn_fault_refused P named t rest (Refusals.Form n) limits are fits h = absurd h
-turn_fault_refused P named t rest (Refusals.Name n) limits are fits h = absurd h
 turn_fault_refused P named t rest (Refusals.Unnamed n k) limits are fits h =
     turn_line P named t rest (Refusals.Unnamed n k) limits are fits
     (h.0, (t.day, t.x, (name_of P t.x, (name_there P t.x.number limits fits.1, fits.0, refl), symbol_named P t.x limits fits.1), h.1))
-turn_fault_refused P named t rest (Refusals.Idle n) limits are fits h = absurd h
-turn_fault_refused P named t rest (Refusals.Long n k) limits are fits h = absurd h
-turn_fault_refused P named t rest (Refusals.Fails n) limits are fits h = absurd h
-turn_fault_refused P named t rest (Refusals.Escape n w) limits are fits h = absurd h
-turn_fault_refused P named t rest (Refusals.Unfinished n) limits are fits h = absurd h
-turn_fault_refused P named t rest Refusals.Ends limits are fits h = absurd h
-turn_fault_refused P named t rest (Refusals.Extra n) limits are fits h = absurd h
 turn_fault_refused P named t rest (Refusals.Turn n) limits are fits h =
     turn_line P named t rest (Refusals.Turn n) limits are fits
     (h.0, (t.day, t.x, (name_of P t.x, (name_there P t.x.number limits fits.1, fits.0, refl), symbol_named P t.x limits fits.1), h.1, h.2))
+turn_fault_refused P named t rest why limits are fits h = absurd h
 
 pub turn_refused : (P : Instance) (named : List ℕ) (turn : Option Turn) (rest : List ℕ) (why : LogRefusal) → KeepsLimits P → AreRules P named → TurnFits P turn → IsTurnFault P named turn why → IsRefused P (header_text P named turn ++ rest) why
 turn_refused P named None rest why limits are fits h = absurd h
 turn_refused P named (Some t) rest why limits are fits h = turn_fault_refused P named t rest why limits are fits h
 
 -- what the judging of all lines found
+header_of : (P : Instance) (g : Log) → Fits P g → IsSoundTurn P g.named g.turn → HasHeader (without_goal P g.named) (log_text P g) g.turn (lines_text P g.lines)
+header_of P g fits turn = record { rules = fits.named; fits = fits.turn; weeks = tt; sound = turn; whole = refl }
+
+as_judged : (P : Instance) (g : Log) → Fits P g → log_of (without_goal P g.named) g.turn g.lines ≡ g
+as_judged P g fits = ap (λ (o : Option ℕ). log_of (record { problem = P; named = g.named; goal = o }) g.turn g.lines) (sym fits.is_goal)
+
 pub tree_judged : (P : Instance) (g : Log) (answer : Result (Option LogRefusal) AllocError) → KeepsLimits P → Fits P g → IsTree g.lines → IsSoundTurn P g.named g.turn
-    → IfOk answer (λ found. MatchOption found (AreSound P g (length g.lines)) (λ why. (i : ℕ) × IsRefusedAt P g i why))
+    → IfOk answer (λ found. MatchOption found (AreSoundBehind (without_goal P g.named) g.turn [] g.lines) (λ why. (i : ℕ) × IsRefusedAt (without_goal P g.named) g i why))
     → IfOk answer (λ found. MatchOption found (Passes P g) (IsRefused P (log_text P g)))
-tree_judged P g (Ok None) limits fits tree turn h = passes_all P g fits tree turn h
-tree_judged P g (Ok (Some why)) limits fits tree turn h = refused_at P g h.0 why limits fits tree turn h.1
+tree_judged P g (Ok None) limits fits tree turn h =
+    subst (λ (l : Log). Passes P l) (as_judged P g fits)
+    (passes (without_goal P g.named) (log_text P g) (lines_text P g.lines) g.turn g.lines (header_of P g fits turn) h tree)
+tree_judged P g (Ok (Some why)) limits fits tree turn h =
+    let J : Judging = without_goal P g.named in
+    refused J (log_text P g) (lines_text P g.lines) g.turn why (header_of P g fits turn) (refused_at J g h.0 why limits fits tree h.1)
 tree_judged P g (Err e) limits fits tree turn h = tt

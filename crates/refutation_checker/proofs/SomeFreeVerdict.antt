@@ -1,48 +1,21 @@
 -- No text is without a verdict as a free log, for weeks of seven days.
-use Rattle.std.proofs.Common.{◌≡◌, ℕ, List, [], ◌∷◌, ◌++◌, refl, ap, sym, ◌∙◌, append_assoc, None, Some}
+use Rattle.std.proofs.Common.{◌≡◌, ℕ, List, [], ◌∷◌, ◌++◌, refl, ap, sym, ◌∙◌, append_assoc, None}
 use Rattle.std.specs.Prelude.{Ok, Err, Result}
 use Rattle.std.proofs.lemmas.List.{append-nil}
 use Rattle.rwsp_terms.specs.declared.limits.TheConstants.{DAYS_OF_WEEK}
 use Rattle.rwsp_terms.specs.Instance.{Instance}
 use Rattle.refutation_terms.specs.declared.lines.LogRefusal.{LogRefusal}
 use Rattle.refutation_terms.specs.declared.lines.LogRefusal.TheVariants as Refusals
-use Rattle.refutation_terms.specs.Log.{Log, AreRules, GoalFits}
-use Rattle.refutation_terms.specs.LogText.{free_version_text, rules_text, goal_text, free_header_text}
-use Rattle.refutation_terms.specs.FreeVerdict.{FreeStart, FreeVersioned, BeforeGoal, ReadingFree, IsFreeVerdict}
-use Rattle.refutation_log.specs.Printing.{lines_text}
-use Rattle.refutation_checker.specs.FreeLines.{free_log_with}
+use Rattle.refutation_terms.specs.Log.{Log, AreRules}
+use Rattle.refutation_terms.specs.LogText.{free_version_text, rules_text, goal_text}
+use Rattle.refutation_terms.specs.FreeVerdict.{FreeStart, FreeVersioned, BeforeGoal, IsFreeVerdict}
+use Rattle.refutation_checker.specs.Headers.{with_goal}
 use Rattle.refutation_checker.specs.Laws.{TextsHaveAFreeVerdict}
-use Rattle.refutation_checker.proofs.FreeReading.{sound_front, text_so_far, refused_at_line}
-use Rattle.refutation_checker.proofs.SomeVerdict.{first_line, no_body}
+use Rattle.refutation_checker.proofs.HeaderFaults.{refused_at_free_line}
+use Rattle.refutation_checker.proofs.SomeVerdict.{first_line, body_on}
 
 abbrev HasNoFreeVerdict : Instance → List ℕ → Type 0
 HasNoFreeVerdict P text = (verdict : Result Log LogRefusal) → IsFreeVerdict P text verdict → ⊥
-
-free_body_on : (P : Instance) (text R body : List ℕ) (goal : ℕ) → AreRules P R → GoalFits P None (Some goal) → text ≡ free_header_text R goal ++ body → HasNoFreeVerdict P text → ⊥
-free_body_on P text R body goal rules fits whole none =
-    let header : List ℕ = free_header_text R goal in
-    no_body P (Some goal) R body None (record {
-      all = λ lines sound all tree.
-          (let front = sound_front P R goal lines rules fits sound in
-          none (Ok (free_log_with R goal lines)) (goal, whole ∙ ap (λ t. header ++ t) all, record { grounded = front.grounded; tree = tree; holds = front.holds }));
-      early = λ lines sound all part.
-          none (Err Refusals.Ends) (record {
-            front = ReadingFree goal (free_log_with R goal lines);
-            no_cause = sound_front P R goal lines rules fits sound;
-            whole = whole ∙ ap (λ t. header ++ t) all;
-            not_whole = part;
-          });
-      refused = λ lines line rest why sound cut next c.
-          none (Err why) (refused_at_line P text why (record {
-            front = ReadingFree goal (free_log_with R goal lines);
-            line = line;
-            rest = rest;
-            no_cause = sound_front P R goal lines rules fits sound;
-            whole = whole ∙ text_so_far P R goal body (line ++ rest) lines cut ∙ sym (append_assoc (header ++ lines_text P lines) line rest);
-            is_line = next;
-            cause = c;
-          }));
-    })
 
 -- the header
 
@@ -64,8 +37,14 @@ goal_on P text R (b ∷ rest) week none rules whole =
       cause = (
         refl,
         λ goal few own.
-            free_body_on P text R next.rest goal rules (refl, week, few)
-            (cut ∙ ap (λ t. front ++ (t ++ next.rest)) own ∙ sym (append_assoc front (goal_text goal) next.rest)) none,
+            body_on (with_goal P R goal) text next.rest None (record {
+              rules = rules;
+              fits = tt;
+              weeks = (refl, week, few);
+              sound = record { named_day = λ r h. absurd h; allowed = tt };
+              whole = cut ∙ ap (λ t. front ++ (t ++ next.rest)) own ∙ sym (append_assoc front (goal_text goal) next.rest);
+            })
+            (λ g passes. none (Ok g) (goal, passes.0, passes.1), λ why h. none (Err why) h),
       );
     })
 

@@ -20,12 +20,12 @@ use Rattle.rwsp_text.specs.Lines.{IsNextLine}
 use Rattle.refutation_terms.specs.Verdict.{Start, Versioned, BeforeTurn, header_lines_for, Cause, CauseBehindFor, SpellsFor, SpellsTurn, IsUnnamed, IsVerdict}
 use Rattle.refutation_terms.proofs.Spelled.{spelled_lines_fit_for, symbol_of-name}
 use Rattle.refutation_log.specs.Printing.{lines_text}
-use Rattle.refutation_checker.specs.Headers.{HasHeader}
-use Rattle.refutation_checker.specs.ChunkVerdicts.{AreSoundBehindFor}
-use Rattle.refutation_checker.specs.LineTexts.{IsSoundNextFor}
+use Rattle.refutation_checker.specs.Headers.{HasHeader, IsAcceptedFor, IsRefusedFor, without_goal}
+use Rattle.refutation_checker.specs.ChunkVerdicts.{AreSoundBehind}
+use Rattle.refutation_checker.specs.LineTexts.{Judging, log_of, IsSoundNext}
 use Rattle.refutation_checker.specs.Laws.{TextsHaveAVerdict}
 use Rattle.refutation_checker.proofs.HeaderFaults.{refused_at_line}
-use Rattle.refutation_checker.proofs.Judging.{cause_of_text}
+use Rattle.refutation_checker.proofs.Judging.{refused_next}
 use Rattle.refutation_checker.proofs.SoundLines.{lines_joined, sound_joined, accepted, ends, refused}
 use Rattle.refutation_checker.proofs.Deciding.{least_number, cited_is_named, line_stands}
 
@@ -77,72 +77,62 @@ text_on P body left line rest lines l text whole spelled =
     ∙ sym (append_assoc front (own ++ []) rest)
     ∙ ap (λ t. t ++ rest) (sym (lines_joined P lines (l ∷ [])))
 
-abbrev log_on : Option ℕ → List ℕ → Option Turn → List Line → Log
-log_on goal R turn lines = record { named = R; turn = turn; goal = goal; lines = lines }
+abbrev RefusesNone : Judging → Option Turn → List Line → List ℕ → Type 0
+RefusesNone J turn lines line = (why : LogRefusal) → CauseBehindFor J.problem J.goal (log_of J turn lines) line why → ⊥
 
-abbrev RefusesNone : Instance → Option ℕ → List ℕ → Option Turn → List Line → List ℕ → Type 0
-RefusesNone P goal R turn lines line = (why : LogRefusal) → CauseBehindFor P goal (log_on goal R turn lines) line why → ⊥
-
-abbrev Takes : Instance → Option ℕ → List ℕ → Option Turn → List Line → List ℕ → Line → Type 0
-Takes P goal R turn lines line l = (line ≡ line_text P (raw P l)) × IsSoundNextFor P goal R turn lines l
+abbrev Takes : Judging → Option Turn → List Line → List ℕ → Line → Type 0
+Takes J turn lines line l = (line ≡ line_text J.problem (raw J.problem l)) × IsSoundNext J turn lines l
 
 -- a line that is refused for no cause is a sound next line
-spelled_stands : (P : Instance) (goal : Option ℕ) (R : List ℕ) (turn : Option Turn) (lines : List Line) (line : List ℕ) (written : RawLine) → RefusesNone P goal R turn lines line → ((l : Line) → Takes P goal R turn lines line l → ⊥) → (IsTree lines → ⊥) → IsWrittenFor P goal line written → (o : Option Line) → line_of P written ≡ o → ⊥
-spelled_stands P goal R turn lines line written none goes part w None e = none (Refusals.Name (header_lines_for goal turn + length lines + 1)) (inr (part, (refl, (written, w, e))))
-spelled_stands P goal R turn lines line written none goes part w (Some l) e =
-    let n = header_lines_for goal turn + length lines + 1 in
-    let D = domains_at P turn lines (length lines) in
-    let spells : SpellsFor P goal line l = (written, w, e) in
-    let fits = spelled_lines_fit_for P goal line l spells in
-    line_stands P goal R D n l fits.0 (λ why c. none why (inr (part, cause_of_text P goal R D n line l why spells c)))
+spelled_stands : (J : Judging) (turn : Option Turn) (lines : List Line) (line : List ℕ) (written : RawLine) → RefusesNone J turn lines line → ((l : Line) → Takes J turn lines line l → ⊥) → (IsTree lines → ⊥) → IsWrittenFor J.problem J.goal line written → (o : Option Line) → line_of J.problem written ≡ o → ⊥
+spelled_stands J turn lines line written none goes part w None e = none (Refusals.Name (header_lines_for J.goal turn + length lines + 1)) (inr (part, (refl, (written, w, e))))
+spelled_stands J turn lines line written none goes part w (Some l) e =
+    let n = header_lines_for J.goal turn + length lines + 1 in
+    let D = domains_at J.problem turn lines (length lines) in
+    let spells : SpellsFor J.problem J.goal line l = (written, w, e) in
+    let fits = spelled_lines_fit_for J.problem J.goal line l spells in
+    line_stands J.problem J.goal J.named D n l fits.0 (λ why c. none why (refused_next J turn lines line l n why spells part refl c))
     (λ sound. goes l (fits.1, record { in_tree = part; fits = fits.0; sound = sound }))
 
-line_read : (P : Instance) (goal : Option ℕ) (R : List ℕ) (turn : Option Turn) (lines : List Line) (line : List ℕ) → RefusesNone P goal R turn lines line → ((l : Line) → Takes P goal R turn lines line l → ⊥) → ⊥
-line_read P goal R turn lines line none goes =
-    let n = header_lines_for goal turn + length lines + 1 in
+line_read : (J : Judging) (turn : Option Turn) (lines : List Line) (line : List ℕ) → RefusesNone J turn lines line → ((l : Line) → Takes J turn lines line l → ⊥) → ⊥
+line_read J turn lines line none goes =
+    let n = header_lines_for J.goal turn + length lines + 1 in
     let part : IsTree lines → ⊥ = λ t. none (Refusals.Extra n) (inl (t, refl)) in
-    none (Refusals.Form n) (inr (part, (refl, λ written w. spelled_stands P goal R turn lines line written none goes part w (line_of P written) refl)))
+    none (Refusals.Form n) (inr (part, (refl, λ written w. spelled_stands J turn lines line written none goes part w (line_of J.problem written) refl)))
 
--- no sound lines of a body are all of it, whole or not, and none of them stand before a line with a cause
-pub record HasNoEnd (P : Instance) (goal : Option ℕ) (R : List ℕ) (turn : Option Turn) (body : List ℕ) : Type 0 where
-  pub all : (lines : List Line) → AreSoundBehindFor P goal R turn [] lines → body ≡ lines_text P lines → IsTree lines → ⊥
-  pub early : (lines : List Line) → AreSoundBehindFor P goal R turn [] lines → body ≡ lines_text P lines → (IsTree lines → ⊥) → ⊥
-  pub refused : (lines : List Line) (line rest : List ℕ) (why : LogRefusal) → AreSoundBehindFor P goal R turn [] lines → body ≡ lines_text P lines ++ (line ++ rest) → IsNextLine line rest → CauseBehindFor P goal (log_on goal R turn lines) line why → ⊥
+-- there is no verdict on the text of a log with this goal or none
+abbrev pub HasNoVerdictFor : Instance → Option ℕ → List ℕ → Type 0
+HasNoVerdictFor P goal text = ((g : Log) → IsAcceptedFor P goal text g → ⊥) × ((why : LogRefusal) → IsRefusedFor P goal text why → ⊥)
 
 -- the lines behind a header, some of which have been read
-lines_on : (P : Instance) (goal : Option ℕ) (R body : List ℕ) (turn : Option Turn) → HasNoEnd P goal R turn body → (n : ℕ) (lines : List Line) (left : List ℕ) → length left < n → AreSoundBehindFor P goal R turn [] lines → body ≡ lines_text P lines ++ left → ⊥
-lines_on P goal R body turn none zero lines left few sound e = omega (arith, few)
-lines_on P goal R body turn none (suc n) lines [] few sound e =
-    let all : body ≡ lines_text P lines = e ∙ append-nil (lines_text P lines) in
-    none.early lines sound all (none.all lines sound all)
-lines_on P goal R body turn none (suc n) lines (b ∷ left) few sound e =
+lines_on : (J : Judging) (text body : List ℕ) (turn : Option Turn) → HasHeader J text turn body → HasNoVerdictFor J.problem J.goal text → (n : ℕ) (lines : List Line) (left : List ℕ) → length left < n → AreSoundBehind J turn [] lines → body ≡ lines_text J.problem lines ++ left → ⊥
+lines_on J text body turn h none zero lines left few sound e = omega (arith, few)
+lines_on J text body turn h none (suc n) lines [] few sound e =
+    let all : body ≡ lines_text J.problem lines = e ∙ append-nil (lines_text J.problem lines) in
+    let part : IsTree lines → ⊥ = λ tree. let passes = accepted J text body turn h (record { lines = lines; sound = sound; text = all; tree = (λ _. tree, λ _. refl) }) in none.0 passes.0 passes.1 in
+    none.1 Refusals.Ends (ends J text body turn h (record { lines = lines; sound = sound; text = all; tree = (λ f. absurd (cc), λ t. absurd (part t)) }))
+lines_on J text body turn h none (suc n) lines (b ∷ left) few sound e =
     let next = first_line b left in
-    line_read P goal R turn lines next.line
-    (λ why c. none.refused lines next.line next.rest why sound (e ∙ ap (λ t. lines_text P lines ++ t) next.whole) next.is_line c)
+    let front = lines_text J.problem lines in
+    line_read J turn lines next.line
+    (λ why c. none.1 why (refused J text body turn why h (record {
+      lines = lines;
+      line = next.line;
+      rest = next.rest;
+      sound = sound;
+      text = e ∙ ap (λ t. front ++ t) next.whole ∙ sym (append_assoc front next.line next.rest);
+      is_line = next.is_line;
+      cause = c;
+    })))
     (λ l takes.
-    lines_on P goal R body turn none n (lines ++ l ∷ []) next.rest (let less = next.shorter in omega (arith, few, less)) (sound_joined P goal R turn [] lines (l ∷ []) sound (takes.1, tt))
-    (text_on P body (b ∷ left) next.line next.rest lines l e next.whole takes.0))
+    lines_on J text body turn h none n (lines ++ l ∷ []) next.rest (let less = next.shorter in omega (arith, few, less)) (sound_joined J turn [] lines (l ∷ []) sound (takes.1, tt))
+    (text_on J.problem body (b ∷ left) next.line next.rest lines l e next.whole takes.0))
 
-pub no_body : (P : Instance) (goal : Option ℕ) (R body : List ℕ) (turn : Option Turn) → HasNoEnd P goal R turn body → ⊥
-no_body P goal R body turn none = lines_on P goal R body turn none (length body + 1) [] body (omega arith) tt refl
+pub body_on : (J : Judging) (text body : List ℕ) (turn : Option Turn) → HasHeader J text turn body → HasNoVerdictFor J.problem J.goal text → ⊥
+body_on J text body turn h none = lines_on J text body turn h none (length body + 1) [] body (omega arith) tt refl
 
-body_on : (P : Instance) (text R body : List ℕ) (turn : Option Turn) → HasHeader P text R turn body → HasNoVerdict P text → ⊥
-body_on P text R body turn h none = no_body P None R body turn (record {
-  all = λ lines sound all tree.
-      (let passes = accepted P R text body turn h (record { lines = lines; sound = sound; text = all; tree = (λ _. tree, λ _. refl) }) in none (Ok passes.0) passes.1);
-  early = λ lines sound all part.
-      none (Err Refusals.Ends) (ends P R text body turn h (record { lines = lines; sound = sound; text = all; tree = (λ f. absurd (cc), λ t. absurd (part t)) }));
-  refused = λ lines line rest why sound cut next c.
-      none (Err why) (refused P R text body turn why h (record {
-        lines = lines;
-        line = line;
-        rest = rest;
-        sound = sound;
-        text = cut ∙ sym (append_assoc (lines_text P lines) line rest);
-        is_line = next;
-        cause = c;
-      }));
-})
+none_for : (P : Instance) (text : List ℕ) → HasNoVerdict P text → HasNoVerdictFor P None text
+none_for P text none = (λ g passes. none (Ok g) passes, λ why h. none (Err why) h)
 
 -- the header
 
@@ -168,21 +158,20 @@ turn_on P text R line rest name day none refuses rules whole spells (Some x) e =
     elim (demanded_or_not (least P x.number day)) [
       | inr less ↦ refuses (Refusals.Turn 3) (refl, (day, x, (name, spells, e), named, less))
       | inl allowed ↦
-          body_on P text R rest (Some (turn_of day x))
+          body_on (without_goal P R) text rest (Some (turn_of day x))
           (record {
-            read = record {
-              rules = rules;
-              fits = (spells.1, symbol.0);
-              whole = whole ∙ ap (λ t. (version_text true ++ rules_text R) ++ (t ++ rest)) own ∙ sym (append_assoc (version_text true ++ rules_text R) (turn_text (name_of P x) day) rest);
-            };
+            rules = rules;
+            fits = (spells.1, symbol.0);
+            weeks = tt;
+            whole = whole ∙ ap (λ t. (version_text true ++ rules_text R) ++ (t ++ rest)) own ∙ sym (append_assoc (version_text true ++ rules_text R) (turn_text (name_of P x) day) rest);
             sound = record { named_day = λ r c. subst (Names P R) (sym c) named; allowed = allowed };
           })
-          none
+          (none_for P text none)
     ]
 
 rules_on : (P : Instance) (text R rest : List ℕ) (has_turn : Bool) → HasNoVerdict P text → AreRules P R → text ≡ (version_text has_turn ++ rules_text R) ++ rest → ⊥
 rules_on P text R rest false none rules whole =
-    body_on P text R rest None (record { read = record { rules = rules; fits = tt; whole = whole }; sound = record { named_day = λ r c. absurd c; allowed = tt } }) none
+    body_on (without_goal P R) text rest None (record { rules = rules; fits = tt; weeks = tt; whole = whole; sound = record { named_day = λ r c. absurd c; allowed = tt } }) (none_for P text none)
 rules_on P text R [] true none rules whole =
     none (Err Refusals.Ends) (record { front = BeforeTurn R; no_cause = rules; whole = whole ∙ append-nil (version_text true ++ rules_text R); not_whole = λ t. t })
 rules_on P text R (b ∷ rest) true none rules whole =

@@ -1,10 +1,12 @@
 -- The lines of a log, judged one after the other.
-use Rattle.std.specs.Prelude.{◌≡◌, ℕ, ◌<◌, false, List, [], ◌∷◌, ◌++◌, length, Option, Some, None}
+use Rattle.std.specs.Prelude.{◌≡◌, ℕ, ◌+◌, ◌<◌, false, List, [], ◌∷◌, ◌++◌, length, Option}
 use Rattle.rwsp_terms.specs.Instance.{Instance}
 use Rattle.refutation_terms.specs.declared.lines.Line.{Line}
 use Rattle.refutation_terms.specs.declared.lines.Turn.{Turn}
 use Rattle.refutation_terms.specs.Tree.{IsTree, domains_at}
-use Rattle.refutation_terms.specs.Log.{LineFitsFor}
+use Rattle.refutation_terms.specs.Word.{Domains}
+use Rattle.refutation_terms.specs.Log.{Log, LineFitsFor}
+use Rattle.refutation_terms.specs.Verdict.{CauseBehindFor, header_lines_for}
 use Rattle.refutation_terms.specs.LogText.{raw, line_text}
 use Rattle.refutation_terms.specs.declared.lines.Line.TheVariants.{Split}
 use Rattle.refutation_terms.specs.declared.lines.LogRefusal.{LogRefusal}
@@ -14,7 +16,7 @@ use Rattle.refutation_log.specs.declared.refusal.LineRefusal.TheVariants as Line
 use Rattle.domain_store.specs.Store.{Store}
 use Rattle.tree_walk.specs.Splits.{is_idle_in}
 use Rattle.tree_walk.specs.States.{State, IsStateOf}
-use Rattle.refutation_checker.specs.LineVerdicts.{IsSoundFor}
+use Rattle.refutation_checker.specs.LineVerdicts.{IsSoundFor, LineCauseFor}
 
 -- the problem of a judge, the rules that the header names, and the goal of the log if it has one
 pub record Judging : Type 0 where
@@ -22,31 +24,56 @@ pub record Judging : Type 0 where
   pub named : List ℕ
   pub goal : Option ℕ
 
--- the line behind these, in a log with this goal or none, is refused for no cause
-pub record IsSoundNextFor (P : Instance) (goal : Option ℕ) (named : List ℕ) (turn : Option Turn) (lines : List Line)
-    (line : Line) : Type 0 where
-  pub in_tree : IsTree lines → ⊥
-  pub fits : LineFitsFor P goal line
-  pub sound : IsSoundFor P goal named (domains_at P turn lines (length lines)) line
+-- the log with such a header, this turn and these lines
+abbrev pub log_of : Judging → Option Turn → List Line → Log
+log_of J turn lines = record { named = J.named; turn = turn; goal = J.goal; lines = lines }
 
--- the same in a log without a goal
-abbrev pub IsSoundNext : Instance → List ℕ → Option Turn → List Line → Line → Type 0
-IsSoundNext P named turn lines line = IsSoundNextFor P None named turn lines line
+-- the line has no cause under these domains
+abbrev pub IsSoundUnder : Judging → Domains → Line → Type 0
+IsSoundUnder J D line = IsSoundFor J.problem J.goal J.named D line
+
+-- the lowest cause to refuse it there as text line n
+abbrev pub HasCause : Judging → Domains → ℕ → Line → LogRefusal → Type 0
+HasCause J D n line why = LineCauseFor J.problem J.goal J.named D n line why
+
+-- the line behind these is refused for no cause
+pub record IsSoundNext (J : Judging) (turn : Option Turn) (lines : List Line) (line : Line) : Type 0 where
+  pub in_tree : IsTree lines → ⊥
+  pub fits : LineFitsFor J.problem J.goal line
+  pub sound : IsSoundUnder J (domains_at J.problem turn lines (length lines)) line
 
 -- the bytes are the text of such a line, which is this one, and the walk has read it
-pub record IsLineReadAs (P : Instance) (goal : Option ℕ) (named : List ℕ) (turn : Option Turn) (lines : List Line)
-    (bytes : List ℕ) (w : State) (line : Line) : Type 0 where
-  pub spelled : bytes ≡ line_text P (raw P line)
-  pub sound : IsSoundNextFor P goal named turn lines line
-  pub walked : IsStateOf P turn (lines ++ line ∷ []) w
+pub record IsLineRead (J : Judging) (turn : Option Turn) (lines : List Line) (bytes : List ℕ) (w : State)
+    (line : Line) : Type 0 where
+  pub spelled : bytes ≡ line_text J.problem (raw J.problem line)
+  pub sound : IsSoundNext J turn lines line
+  pub walked : IsStateOf J.problem turn (lines ++ line ∷ []) w
 
--- the bytes are the text of such a line in a log without a goal, and the walk has read it
-pub record IsLineRead (P : Instance) (named : List ℕ) (turn : Option Turn) (lines : List Line) (bytes : List ℕ)
-    (w : State) : Type 0 where
-  pub line : Line
-  pub spelled : bytes ≡ line_text P (raw P line)
-  pub sound : IsSoundNext P named turn lines line
-  pub walked : IsStateOf P turn (lines ++ line ∷ []) w
+-- whatever lines the walk had read, the bytes are the text of this line, which is refused for no cause there, and the
+-- walk has read it too
+abbrev pub ReadsNext : Judging → State → List ℕ → State → Line → Type 0
+ReadsNext J old bytes new line =
+    (turn : Option Turn) (lines : List Line) → IsStateOf J.problem turn lines old → IsLineRead J turn lines bytes new line
+
+-- whatever lines it had read, the bytes are refused there for this cause, as text line n
+abbrev pub RefusesNext : Judging → State → List ℕ → ℕ → LogRefusal → Type 0
+RefusesNext J old bytes n why =
+    (turn : Option Turn) (lines : List Line) → IsStateOf J.problem turn lines old
+    → n ≡ header_lines_for J.goal turn + length lines + 1
+    → CauseBehindFor J.problem J.goal (log_of J turn lines) bytes why
+
+-- whatever lines it had read, this line has no cause there, and the walk has read it too
+abbrev pub PassesNext : Judging → State → Line → State → Type 0
+PassesNext J old line new =
+    (turn : Option Turn) (lines : List Line) → IsStateOf J.problem turn lines old
+    → IsSoundUnder J (domains_at J.problem turn lines (length lines)) line
+    × IsStateOf J.problem turn (lines ++ line ∷ []) new
+
+-- whatever lines it had read, this line has this cause there, as text line n
+abbrev pub HasCauseNext : Judging → State → ℕ → Line → LogRefusal → Type 0
+HasCauseNext J old n line why =
+    (turn : Option Turn) (lines : List Line) → IsStateOf J.problem turn lines old
+    → HasCause J (domains_at J.problem turn lines (length lines)) n line why
 
 -- a leaf, or a split that isn't idle under the domains of the store
 abbrev pub MayStep : Store → Line → Type 0
@@ -57,8 +84,3 @@ MayStep S leaf = Unit {0}
 abbrev pub IsSpellingRefusal : LineRefusal → ℕ → LogRefusal → Type 0
 IsSpellingRefusal Lines.Form n why = why ≡ Refusals.Form n
 IsSpellingRefusal Lines.Name n why = why ≡ Refusals.Name n
-
--- where there is no cause, some lines lead to where the walk is
-abbrev pub StillWalks : Instance → State → Option LogRefusal → Type 0
-StillWalks P w None = (turn : Option Turn) × (lines : List Line) × IsStateOf P turn lines w
-StillWalks P w (Some why) = Unit {0}

@@ -1,5 +1,5 @@
 -- What can be judged of a line without searching for a word.
-use Rattle.std.specs.Prelude.{◌≡◌, ℕ, List, true, Option, None}
+use Rattle.std.specs.Prelude.{◌≡◌, ℕ, List, true, Option}
 use Rattle.rwsp_terms.specs.Instance.{Instance}
 use Rattle.refutation_terms.specs.declared.lines.Line.{Line}
 use Rattle.refutation_terms.specs.declared.lines.Line.TheVariants.{Split, Dead, Bound, Few, Free, Unfinished}
@@ -84,10 +84,3 @@ abbrev pub LineCauseFor : Instance → Option ℕ → List ℕ → Domains → �
 LineCauseFor P goal named D n line (Refusals.Escape i w) =
     (i ≡ n) × CitesOnlyNamed P named line × ListsShortOnly P line × EscapesFor P goal D line w
 LineCauseFor P goal named D n line why = PlainCause P goal named D n line why
-
--- the same without a goal
-abbrev pub IsSound : Instance → List ℕ → Domains → Line → Type 0
-IsSound P named D line = IsSoundFor P None named D line
-
-abbrev pub LineCause : Instance → List ℕ → Domains → ℕ → Line → LogRefusal → Type 0
-LineCause P named D n line why = LineCauseFor P None named D n line why

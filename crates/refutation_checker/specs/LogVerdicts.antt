@@ -1,27 +1,27 @@
 -- The lines of a log, judged without their text.
-use Rattle.std.specs.Prelude.{◌≡◌, ℕ, ◌+◌, ◌<◌, take, slice_get, Some}
-use Rattle.rwsp_terms.specs.Instance.{Instance}
+use Rattle.std.specs.Prelude.{◌≡◌, ℕ, ◌+◌, List, [], length, take, slice_get, Some}
 use Rattle.refutation_terms.specs.declared.lines.Line.{Line}
 use Rattle.refutation_terms.specs.declared.lines.LogRefusal.{LogRefusal}
 use Rattle.refutation_terms.specs.Tree.{domains_at}
 use Rattle.refutation_terms.specs.Log.{Log}
-use Rattle.refutation_terms.specs.Verdict.{header_lines}
+use Rattle.refutation_terms.specs.Verdict.{header_lines_for}
 use Rattle.tree_walk.specs.States.{State, IsStateOf}
-use Rattle.refutation_checker.specs.LineVerdicts.{IsSound, LineCause}
+use Rattle.refutation_checker.specs.LineTexts.{Judging, HasCause}
+use Rattle.refutation_checker.specs.ChunkVerdicts.{AreSoundBehind}
 
--- none of the first i lines has a cause
-abbrev pub AreSound : Instance → Log → ℕ → Type 0
-AreSound P g i = (k : ℕ) (line : Line) → k < i → slice_get g.lines k ≡ Some line
-    → IsSound P g.named (domains_at P g.turn g.lines k) line
+-- the first i lines have no cause
+abbrev pub AreSoundTo : Judging → Log → ℕ → Type 0
+AreSoundTo J g i = AreSoundBehind J g.turn [] (take i g.lines)
 
 -- and the walk has read them
-pub record IsPassed (P : Instance) (g : Log) (i : ℕ) (w : State) : Type 0 where
-  pub walked : IsStateOf P g.turn (take i g.lines) w
-  pub sound : AreSound P g i
+pub record IsPassed (J : Judging) (g : Log) (i : ℕ) (w : State) : Type 0 where
+  pub walked : IsStateOf J.problem g.turn (take i g.lines) w
+  pub sound : AreSoundTo J g i
 
 -- the line behind the first i lines has this cause, and they have none
-pub record IsRefusedAt (P : Instance) (g : Log) (i : ℕ) (why : LogRefusal) : Type 0 where
+pub record IsRefusedAt (J : Judging) (g : Log) (i : ℕ) (why : LogRefusal) : Type 0 where
   pub line : Line
   pub here : slice_get g.lines i ≡ Some line
-  pub sound : AreSound P g i
-  pub cause : LineCause P g.named (domains_at P g.turn g.lines i) (header_lines g.turn + i + 1) line why
+  pub sound : AreSoundTo J g i
+  pub cause : HasCause J (domains_at J.problem g.turn (take i g.lines) (length (take i g.lines)))
+      (header_lines_for J.goal g.turn + i + 1) line why

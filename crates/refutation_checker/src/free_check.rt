@@ -7,8 +7,9 @@ ghost use Rattle.refutation_terms.specs.LogText.{free_header_text};
 ghost use Rattle.refutation_terms.specs.FreeVerdict.{IsFreeAccepted, IsFreeRefused};
 ghost use Rattle.tree_walk.specs.States.{IsStateOf};
 ghost use Rattle.refutation_checker.specs.FreeLines.{ArePassingLines};
+ghost use Rattle.refutation_checker.specs.Headers.{with_goal};
 
-use crate::judge::Judge;
+use crate::judge::{Judge, Judging};
 use refutation_log::{FREE_HEADER_LINES, FreeHeader, LineReader, Log, read_free_header};
 use refutation_terms::{Line, LogRefusal};
 use rwsp_model::{Fail, Problem};
@@ -49,7 +50,13 @@ fn passing_lines(
         Ok(walk) => walk,
         Err(_) => return Err(Fail::Memory),
     };
-    let mut judge = Judge::new(problem, &header.named, Some(header.goal));
+    let judging = Judging {
+        problem,
+        named: &header.named,
+        goal: Some(header.goal),
+    };
+    let mut judge = Judge::new(&judging);
+    drop(judging);
     let lines = judged_lines(alloc, problem, header, &mut walk, &mut judge);
     drop(judge);
     drop(walk);
@@ -68,7 +75,7 @@ fn judged_lines(
     requires goal { GoalFits problem.now None (Some header.now.goal) }
     requires long { length header.now.body.now ≤ LONGEST_LOG }
     requires walk { IsStateOf problem.now None [] walk.old }
-    requires judge { judge.old ≡ record { problem = problem.now; named = header.now.named; goal = Some header.now.goal } }
+    requires judge { judge.old ≡ with_goal problem.now header.now.named header.now.goal }
     ensures { MatchAnswer result
         (λ lines. ArePassingLines problem.now header.now.named header.now.goal header.now.body.now lines.items)
         (IsFreeRefused problem.now (free_header_text header.now.named header.now.goal ++ header.now.body.now)) }
@@ -77,7 +84,7 @@ fn judged_lines(
     let mut lines = Vec::new(alloc);
     while let Some(bytes) = reader.next() {
         let number = FREE_HEADER_LINES + lines.len() as u32 + 1;
-        let line = match judge.read_line(alloc, walk, bytes, number) {
+        let line = match judge.read(alloc, walk, bytes, number) {
             Ok(line) => line,
             Err(fail) => return Err(fail),
         };

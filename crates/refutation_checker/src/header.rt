@@ -1,11 +1,12 @@
 // The header of a log's text, judged.
+ghost use Rattle.std.specs.Prelude.{◌≡◌, ◌≤◌};
 ghost use Rattle.rwsp_model.specs.Refusals.{MatchAnswer};
-ghost use Rattle.refutation_terms.specs.Verdict.{IsRefused};
-ghost use Rattle.refutation_checker.specs.Headers.{HasHeader};
+ghost use Rattle.refutation_terms.specs.Verdict.{IsRefused, header_lines_for};
+ghost use Rattle.refutation_checker.specs.Headers.{HasHeader, without_goal};
 
 use crate::turn::turn_refusal;
-use refutation_log::{Header, read_header};
-use refutation_terms::LogRefusal;
+use refutation_log::{FREE_HEADER_LINES, Header, lines_of_header, read_header};
+use refutation_terms::{LogRefusal, Turn};
 use rwsp_model::{Fail, Problem};
 use std::alloc::Global;
 
@@ -16,7 +17,7 @@ pub fn judge_header<'a>(
     bytes: &'a [u8],
 ) -> Result<Header<'a>, Fail<LogRefusal>>
     ensures { MatchAnswer result
-        (λ h. HasHeader problem.now bytes.now h.named h.turn h.body.now)
+        (λ h. HasHeader (without_goal problem.now h.named) bytes.now h.turn h.body.now)
         (IsRefused problem.now bytes.now) }
 {
     problem.prove_limits();
@@ -27,5 +28,16 @@ pub fn judge_header<'a>(
     match turn_refusal(problem, &header.named, header.turn) {
         None => Ok(header),
         Some(why) => Err(Fail::Refused(why)),
+    }
+}
+
+/// The number of lines of the header of a log with this goal or none.
+pub fn header_lines(goal: Option<u32>, turn: Option<Turn>) -> u32
+    ensures value { result ≡ header_lines_for goal turn }
+    ensures few { result ≤ 3 }
+{
+    match goal {
+        None => lines_of_header(turn),
+        Some(_) => FREE_HEADER_LINES,
     }
 }

@@ -1,15 +1,14 @@
 // The lines of a log's tree, judged one after the other.
-ghost use Rattle.std.specs.Prelude.{◌≡◌, ◌+◌, List, [], ◌∷◌, ◌++◌, length, Option, IfOk, IsTrue, MatchOption, None, false};
+ghost use Rattle.std.specs.Prelude.{◌≡◌, List, Option, IfOk, IsTrue, MatchOption, false};
 ghost use Rattle.refutation_terms.specs.declared.lines.Line.{Line};
 ghost use Rattle.refutation_terms.specs.declared.lines.Turn.{Turn};
-ghost use Rattle.refutation_terms.specs.Tree.{domains_at};
-ghost use Rattle.refutation_terms.specs.Log.{GoalFits, LineFitsFor, ListsShortOnly};
-ghost use Rattle.refutation_terms.specs.Verdict.{Cause, CauseBehindFor, Reading, EscapesFor, header_lines, header_lines_for};
+ghost use Rattle.refutation_terms.specs.Log.{LineFitsFor, ListsShortOnly};
+ghost use Rattle.refutation_terms.specs.Verdict.{EscapesFor};
 ghost use Rattle.rwsp_model.specs.Refusals.{MatchAnswer};
 ghost use Rattle.domain_store.specs.Store.{BelongsTo, has_domain};
 ghost use Rattle.tree_walk.specs.States.{IsStateOf};
-ghost use Rattle.refutation_checker.specs.LineVerdicts.{HoldsByWordsFor, IsSoundFor, LineCauseFor};
-ghost use Rattle.refutation_checker.specs.LineTexts.{IsLineRead, IsLineReadAs, IsSpellingRefusal, StillWalks};
+ghost use Rattle.refutation_checker.specs.LineVerdicts.{HoldsByWordsFor};
+ghost use Rattle.refutation_checker.specs.LineTexts.{IsSoundUnder, HasCause, ReadsNext, RefusesNext, PassesNext, HasCauseNext, IsSpellingRefusal};
 
 use crate::kept::{automaton_of, tails_of};
 use crate::line_walk::step;
@@ -17,7 +16,7 @@ use crate::plain_causes::plain_refusal;
 use crate::short_words::is_plainly_dead;
 use crate::word_leaves::{escape_of, list_of};
 use domain_store::Domains;
-use refutation_log::{LineRefusal, read_line, read_line_for};
+use refutation_log::{LineRefusal, read_line_for};
 use refutation_terms::{Line, LogRefusal};
 use rule_automaton::Automaton;
 use rwsp_model::{Fail, Problem};
@@ -26,6 +25,27 @@ use std::alloc::{AllocError, Global};
 use std::marker::Model;
 use tree_walk::Walk;
 use word_tail::TailRules;
+
+/// What lines are judged by: the problem, the rules that the header of their log names, and the goal of the log if it
+/// has one.
+#[derive(Drop)]
+pub struct Judging<'a> {
+    pub problem: &'a Problem,
+    pub named: &'a RuleList,
+    pub goal: Option<u32>,
+}
+
+impl<'a> Model for Judging<'a> {
+    ghost use Rattle.std.specs.Prelude.{None};
+    ghost use Rattle.refutation_terms.specs.Log.{GoalFits};
+    ghost use Rattle.refutation_checker.specs.LineTexts.{Judging};
+
+    ghost Value = { Judging };
+
+    ghost view = { λ j. record { problem = j.problem.now; named = j.named.now; goal = j.goal } };
+
+    ghost invariant = { λ j. GoalFits j.problem.now None j.goal };
+}
 
 /// Judges lines of a log with a goal or none, under the rules that its header names. What was made for the list of a line
 /// serves the next lines with the same list: tail rules at once, and the automaton where it was needed.
@@ -53,61 +73,23 @@ impl<'a> Model for Judge<'a> {
 }
 
 impl<'a> Judge<'a> {
-    /// A judge of lines of this problem, under these rules, in a log with this goal or none.
-    pub fn new(problem: &'a Problem, named: &'a RuleList, goal: Option<u32>) -> Judge<'a>
-        requires { GoalFits problem.now None goal }
-        ensures problem { result.problem ≡ problem.now }
-        ensures named { result.named ≡ named.now }
-        ensures goal { result.goal ≡ goal }
+    /// A judge that has judged no line.
+    pub fn new(judging: &Judging<'a>) -> Judge<'a>
+        ensures { result ≡ judging.now }
     {
         Judge {
-            problem,
-            named,
-            goal,
+            problem: judging.problem,
+            named: judging.named,
+            goal: judging.goal,
             tails: None,
             automaton: None,
-        }
-    }
-
-    /// Reads the next line of the tree of a log without a goal from its text, line `number` of all, and judges it under
-    /// the domains there: None where it is refused for no cause, and then the walk has read it.
-    /// After a refusal or want of memory the walk can't be used any longer.
-    pub fn read(
-        &mut self,
-        alloc: Global,
-        walk: &mut Walk,
-        bytes: &[u8],
-        number: u32,
-    ) -> Result<Option<LogRefusal>, AllocError>
-        requires plain { self.old.goal ≡ None }
-        requires state { (turn : Option Turn) × (lines : List Line) × IsStateOf self.old.problem turn lines walk.old }
-        ensures same { self.new ≡ self.old }
-        ensures read { IfOk result (λ found. (turn : Option Turn) (lines : List Line)
-            → IsStateOf self.old.problem turn lines walk.old → number ≡ header_lines turn + length lines + 1 →
-            MatchOption found
-            (IsLineRead self.old.problem self.old.named turn lines bytes.now walk.new)
-            (λ why. Cause self.old.problem
-            (Reading (record { named = self.old.named; turn = turn; goal = None; lines = lines })) bytes.now why)) }
-        ensures walks { IfOk result (StillWalks self.old.problem walk.new) }
-    {
-        if walk.is_whole() {
-            return Ok(Some(LogRefusal::Extra(number)));
-        }
-        match read_line(alloc, self.problem, bytes) {
-            Ok(line) => {
-                let found = self.pass(alloc, walk, &line, number);
-                drop(line);
-                found
-            }
-            Err(Fail::Memory) => Err(AllocError),
-            Err(Fail::Refused(why)) => Ok(Some(spelling_refusal(why, number))),
         }
     }
 
     /// Reads the next line of a log's tree from its text, line `number` of all, and judges it under the domains there.
     /// The walk has read the line where it is refused for no cause; after a refusal or want of memory it can't be used
     /// any longer.
-    pub fn read_line(
+    pub fn read(
         &mut self,
         alloc: Global,
         walk: &mut Walk,
@@ -117,12 +99,8 @@ impl<'a> Judge<'a> {
         requires state { (turn : Option Turn) × (lines : List Line) × IsStateOf self.old.problem turn lines walk.old }
         ensures same { self.new ≡ self.old }
         ensures read { MatchAnswer result
-            (λ line. (turn : Option Turn) (lines : List Line) → IsStateOf self.old.problem turn lines walk.old →
-            IsLineReadAs self.old.problem self.old.goal self.old.named turn lines bytes.now walk.new line)
-            (λ why. (turn : Option Turn) (lines : List Line) → IsStateOf self.old.problem turn lines walk.old →
-            number ≡ header_lines_for self.old.goal turn + length lines + 1 →
-            CauseBehindFor self.old.problem self.old.goal
-            (record { named = self.old.named; turn = turn; goal = self.old.goal; lines = lines }) bytes.now why) }
+            (ReadsNext self.old walk.old bytes.now walk.new)
+            (RefusesNext self.old walk.old bytes.now number) }
     {
         if walk.is_whole() {
             return Err(Fail::Refused(LogRefusal::Extra(number)));
@@ -158,13 +136,9 @@ impl<'a> Judge<'a> {
         requires part { walk.old.whole ≡ false }
         requires line { LineFitsFor self.old.problem self.old.goal line.now }
         ensures same { self.new ≡ self.old }
-        ensures passed { IfOk result (λ found. (turn : Option Turn) (lines : List Line)
-            → IsStateOf self.old.problem turn lines walk.old →
-            MatchOption found
-            (IsSoundFor self.old.problem self.old.goal self.old.named (domains_at self.old.problem turn lines
-            (length lines)) line.now × IsStateOf self.old.problem turn (lines ++ line.now ∷ []) walk.new)
-            (LineCauseFor self.old.problem self.old.goal self.old.named
-            (domains_at self.old.problem turn lines (length lines)) number line.now)) }
+        ensures passed { IfOk result (λ found. MatchOption found
+            (PassesNext self.old walk.old line.now walk.new)
+            (HasCauseNext self.old walk.old number line.now)) }
     {
         self.problem.prove_limits();
         walk.domains().prove_facts();
@@ -187,8 +161,8 @@ impl<'a> Judge<'a> {
         requires line { LineFitsFor self.old.problem self.old.goal line.now }
         ensures same { self.new ≡ self.old }
         ensures cause { IfOk result (λ found. MatchOption found
-            (IsSoundFor self.old.problem self.old.goal self.old.named (has_domain doms.now) line.now)
-            (LineCauseFor self.old.problem self.old.goal self.old.named (has_domain doms.now) number line.now)) }
+            (IsSoundUnder self.old (has_domain doms.now) line.now)
+            (HasCause self.old (has_domain doms.now) number line.now)) }
     {
         if let Some(why) = plain_refusal(self.problem, self.named, self.goal, doms, line, number) {
             return Ok(Some(why));

@@ -7,7 +7,7 @@ ghost use Rattle.refutation_terms.specs.Log.{LineFits, ListsShortOnly, Holds};
 ghost use Rattle.tree_walk.specs.States.{IsStateOf};
 ghost use Rattle.refutation_checker.specs.LineVerdicts.{HoldsByWords};
 
-use crate::judge::Judge;
+use crate::judge::{Judge, Judging};
 use crate::line_walk::step;
 use refutation_terms::Line;
 use rwsp_model::Problem;
@@ -39,9 +39,14 @@ impl<'a> LeafJudge<'a> {
     pub fn new(problem: &'a Problem, named: &'a RuleList) -> LeafJudge<'a>
         ensures { result ≡ problem.now }
     {
-        LeafJudge {
-            judge: Judge::new(problem, named, None),
-        }
+        let judging = Judging {
+            problem,
+            named,
+            goal: None,
+        };
+        let judge = Judge::new(&judging);
+        drop(judging);
+        LeafJudge { judge }
     }
 
     /// Whether the leaf holds as the next line behind those that the walk has read. Of lines that are neither a dead

@@ -24,4 +24,4 @@ pub use laws::{texts_have_a_free_verdict, texts_have_a_verdict};
 pub use leaf_judge::{LeafJudge, go_past};
 pub use log_check::check_log;
 pub use potential_bounds::{Gate, NoGate};
-pub use verdict::{check, check_with};
+pub use verdict::{PassedGoal, check, check_free_with, check_with};

@@ -1,15 +1,18 @@
 // The verdict on a log without its text.
-ghost use Rattle.std.specs.Prelude.{◌≡◌, ℕ, ◌+◌, ◌<◌, ◌≤◌, length, None, IfOk, MatchOption};
+ghost use Rattle.std.specs.Prelude.{◌≡◌, ℕ, ◌+◌, ◌<◌, ◌≤◌, [], length, IfOk, MatchOption};
 ghost use Rattle.rwsp_model.specs.Refusals.{MatchAnswer};
 ghost use Rattle.refutation_terms.specs.Tree.{IsTree};
-ghost use Rattle.refutation_terms.specs.Log.{Fits, Passes};
+ghost use Rattle.refutation_terms.specs.Log.{Fits, FitsFor, Passes};
 ghost use Rattle.refutation_terms.specs.LogText.{log_text};
 ghost use Rattle.refutation_terms.specs.Verdict.{IsRefused};
-ghost use Rattle.refutation_checker.specs.LogVerdicts.{AreSound, IsPassed, IsRefusedAt};
+ghost use Rattle.refutation_checker.specs.LogVerdicts.{AreSoundTo, IsPassed, IsRefusedAt};
+ghost use Rattle.refutation_checker.specs.ChunkVerdicts.{AreSoundBehind};
+ghost use Rattle.refutation_checker.specs.Headers.{without_goal};
 
-use crate::judge::Judge;
+use crate::header::header_lines;
+use crate::judge::{Judge, Judging};
 use crate::turn::turn_refusal;
-use refutation_log::{Log, lines_of_header};
+use refutation_log::Log;
 use refutation_terms::LogRefusal;
 use rwsp_model::{Fail, Problem};
 use std::alloc::{AllocError, Global};
@@ -55,12 +58,18 @@ fn tree_refusal(
     requires { Fits problem.now log.now }
     ensures tree { IsTree log.now.lines }
     ensures refusal { IfOk result (λ found. MatchOption found
-        (AreSound problem.now log.now (length log.now.lines))
-        (λ why. (i : ℕ) × IsRefusedAt problem.now log.now i why)) }
+        (AreSoundBehind (without_goal problem.now log.now.named) log.now.turn [] log.now.lines)
+        (λ why. (i : ℕ) × IsRefusedAt (without_goal problem.now log.now.named) log.now i why)) }
 {
     let lines = log.lines();
     let mut walk = Walk::new(alloc, problem, log.turn())?;
-    let mut judge = Judge::new(problem, log.named(), None);
+    let judging = Judging {
+        problem,
+        named: log.named(),
+        goal: None,
+    };
+    let mut judge = Judge::new(&judging);
+    drop(judging);
     let found = first_refusal(alloc, &mut judge, &mut walk, log, lines.len());
     drop(judge);
     drop(walk);
@@ -76,13 +85,11 @@ fn first_refusal(
     count: usize,
 ) -> Result<Option<LogRefusal>, AllocError>
     requires count { count ≤ length log.now.lines }
-    requires fits { Fits judge.old.problem log.now }
-    requires named { judge.old.named ≡ log.now.named }
-    requires plain { judge.old.goal ≡ None }
-    requires before { IsPassed judge.old.problem log.now 0 walk.old }
+    requires fits { FitsFor judge.old.problem judge.old.goal log.now }
+    requires before { IsPassed judge.old log.now 0 walk.old }
     ensures { IfOk result (λ found. MatchOption found
-        (AreSound judge.old.problem log.now count)
-        (λ why. (i : ℕ) × IsRefusedAt judge.old.problem log.now i why)) }
+        (AreSoundTo judge.old log.now count)
+        (λ why. (i : ℕ) × IsRefusedAt judge.old log.now i why)) }
 {
     for i in 0..count {
         if let Some(why) = pass_at(alloc, judge, walk, log, i)? {
@@ -101,20 +108,14 @@ fn pass_at(
     i: usize,
 ) -> Result<Option<LogRefusal>, AllocError>
     requires place { i < length log.now.lines }
-    requires fits { Fits judge.old.problem log.now }
-    requires named { judge.old.named ≡ log.now.named }
-    requires plain { judge.old.goal ≡ None }
-    requires before { IsPassed judge.old.problem log.now i walk.old }
+    requires fits { FitsFor judge.old.problem judge.old.goal log.now }
+    requires before { IsPassed judge.old log.now i walk.old }
     ensures same { judge.new ≡ judge.old }
     ensures passed { IfOk result (λ found. MatchOption found
-        (IsPassed judge.old.problem log.now (i + 1) walk.new)
-        (IsRefusedAt judge.old.problem log.now i)) }
+        (IsPassed judge.old log.now (i + 1) walk.new)
+        (IsRefusedAt judge.old log.now i)) }
 {
     let lines = log.lines();
-    judge.pass(
-        alloc,
-        walk,
-        &lines[i],
-        lines_of_header(log.turn()) + i as u32 + 1,
-    )
+    let number = header_lines(log.goal(), log.turn()) + i as u32 + 1;
+    judge.pass(alloc, walk, &lines[i], number)
 }

@@ -1,19 +1,20 @@
-// The verdict on a whole log.
-ghost use Rattle.std.specs.Prelude.{◌≡◌, ◌≤◌, length, [], IfOk, false};
-ghost use Rattle.rwsp_terms.specs.declared.limits.TheConstants.{LONGEST_LOG, MOST_WORKERS};
+// The verdict on the text of a log, with a goal or without.
+ghost use Rattle.std.specs.Prelude.{◌≡◌, ◌≤◌, length, [], IfOk, false, Some};
+ghost use Rattle.rwsp_terms.specs.declared.limits.TheConstants.{LONGEST_LOG, MOST_WORKERS, DAYS_OF_WEEK};
 ghost use Rattle.rwsp_model.specs.Refusals.{MatchAnswer};
 ghost use Rattle.refutation_terms.specs.Log.{Log as LogValue, TurnFits};
 ghost use Rattle.refutation_terms.specs.Verdict.{IsAccepted, IsRefused};
+ghost use Rattle.refutation_terms.specs.FreeVerdict.{IsFreeAccepted, IsFreeRefused};
 ghost use Rattle.log_chunks.specs.Starts.{StandsBehind};
-ghost use Rattle.refutation_checker.specs.ChunkVerdicts.{IsJudged};
 
 use crate::chunk::judge_chunk;
-use crate::header::judge_header;
+use crate::header::{header_lines, judge_header};
+use crate::judge::Judging;
 use crate::workers::judge_by_workers;
 use log_chunks::Chunk;
 use potential_bounds::Gate;
-use refutation_log::{Header, lines_of_header};
-use refutation_terms::LogRefusal;
+use refutation_log::read_free_header;
+use refutation_terms::{LogRefusal, Turn};
 use rwsp_model::{Fail, Problem};
 use rwsp_terms::RuleList;
 use std::alloc::{AllocError, Global};
@@ -22,59 +23,10 @@ use tree_walk::Walk;
 
 /// The verdict on a text: the rules that its header names where it is the text of a log that passes, else the first
 /// line with a cause to refuse it, and on that line the lowest cause.
-pub fn check(alloc: Global, problem: &Problem, bytes: &[u8]) -> Result<RuleList, Fail<LogRefusal>>
-    requires { length bytes.now ≤ LONGEST_LOG }
-    ensures { MatchAnswer result
-        (λ named. (g : LogValue) × IsAccepted problem.now bytes.now g × (g.named ≡ named))
-        (IsRefused problem.now bytes.now) }
-{
-    let header = match judge_header(alloc, problem, bytes) {
-        Ok(header) => header,
-        Err(fail) => return Err(fail),
-    };
-    match judge_body(alloc, problem, &header) {
-        Ok(true) => Ok(header.named),
-        Ok(false) => Err(Fail::Refused(LogRefusal::Ends)),
-        Err(fail) => Err(fail),
-    }
-}
-
-// Whether the lines below a header are those of one whole tree, where none of them is refused.
-fn judge_body(alloc: Global, problem: &Problem, header: &Header) -> Result<bool, Fail<LogRefusal>>
-    requires fits { TurnFits problem.now header.now.turn }
-    requires few { length header.now.body.now ≤ LONGEST_LOG }
-    ensures { IsJudged problem.now header.now.named header.now.turn [] header.now.body.now result }
-{
-    match body_of(alloc, problem, header) {
-        Ok(body) => judge_chunk(alloc, problem, &header.named, body),
-        Err(_) => Err(Fail::Memory),
-    }
-}
-
-// All lines below a header.
-fn body_of<'a>(
-    alloc: Global,
-    problem: &Problem,
-    header: &Header<'a>,
-) -> Result<Chunk<'a>, AllocError>
-    requires fits { TurnFits problem.now header.now.turn }
-    ensures start { IfOk result (λ body. StandsBehind problem.now header.now.turn [] body) }
-    ensures part { IfOk result (λ body. body.walk.whole ≡ false) }
-    ensures bytes { IfOk result (λ body. body.bytes ≡ header.now.body.now) }
-    ensures first { IfOk result (λ body. body.first ≤ 4) }
-{
-    let walk = Walk::new(alloc, problem, header.turn)?;
-    Ok(Chunk {
-        number: 1,
-        walk,
-        bytes: header.body,
-        first: lines_of_header(header.turn) + 1,
-    })
-}
-
-/// The verdict of `check`, with the lines below the header cut into chunks of equal length, of which the last may be
-/// shorter: at most one for each worker, and fewer where there are fewer lines. The gate is passed once for each chunk,
-/// before its first line; chunks count from 1.
+///
+/// The lines below the header are cut into chunks of equal length, of which the last may be shorter: at most one for
+/// each worker, and fewer where there are fewer lines. The gate is passed once for each chunk, before its first line;
+/// chunks count from 1.
 pub fn check_with<R: Threads + Sync, G: Gate>(
     rt: &R,
     alloc: Global,
@@ -93,32 +45,118 @@ pub fn check_with<R: Threads + Sync, G: Gate>(
         Ok(header) => header,
         Err(fail) => return Err(fail),
     };
-    match judge_body_with(rt, alloc, problem, &header, workers, gate) {
+    let Ok(lines) = lines_below(alloc, problem, None, header.turn, header.body) else {
+        return Err(Fail::Memory);
+    };
+    let judging = Judging {
+        problem,
+        named: &header.named,
+        goal: None,
+    };
+    let judged = judge_by_workers(rt, alloc, &judging, lines, workers, gate);
+    drop(judging);
+    match judged {
         Ok(true) => Ok(header.named),
         Ok(false) => Err(Fail::Refused(LogRefusal::Ends)),
         Err(fail) => Err(fail),
     }
 }
 
-// What `judge_body` answers, by several workers. Where no line is left there is no chunk.
-fn judge_body_with<R: Threads + Sync, G: Gate>(
+/// The same verdict, worked out on one thread.
+pub fn check(alloc: Global, problem: &Problem, bytes: &[u8]) -> Result<RuleList, Fail<LogRefusal>>
+    requires { length bytes.now ≤ LONGEST_LOG }
+    ensures { MatchAnswer result
+        (λ named. (g : LogValue) × IsAccepted problem.now bytes.now g × (g.named ≡ named))
+        (IsRefused problem.now bytes.now) }
+{
+    let header = match judge_header(alloc, problem, bytes) {
+        Ok(header) => header,
+        Err(fail) => return Err(fail),
+    };
+    let Ok(lines) = lines_below(alloc, problem, None, header.turn, header.body) else {
+        return Err(Fail::Memory);
+    };
+    let judging = Judging {
+        problem,
+        named: &header.named,
+        goal: None,
+    };
+    let judged = judge_chunk(alloc, &judging, lines);
+    drop(judging);
+    match judged {
+        Ok(true) => Ok(header.named),
+        Ok(false) => Err(Fail::Refused(LogRefusal::Ends)),
+        Err(fail) => Err(fail),
+    }
+}
+
+/// What a free log that passes shows: no roster that meets these rules has as many free weekends as the goal.
+#[derive(Drop)]
+pub struct PassedGoal {
+    pub goal: u32,
+    pub named: RuleList,
+}
+
+/// The same verdict on the text of a free log. Only for weeks of seven days.
+pub fn check_free_with<R: Threads + Sync, G: Gate>(
     rt: &R,
     alloc: Global,
     problem: &Problem,
-    header: &Header,
+    bytes: &[u8],
     workers: u32,
     gate: &G,
-) -> Result<bool, Fail<LogRefusal>>
-    requires fits { TurnFits problem.now header.now.turn }
-    requires few { length header.now.body.now ≤ LONGEST_LOG }
+) -> Result<PassedGoal, Fail<LogRefusal>>
+    requires days { problem.now.days ≡ DAYS_OF_WEEK }
+    requires long { length bytes.now ≤ LONGEST_LOG }
     requires workers { (1 ≤ workers) × (workers ≤ MOST_WORKERS) }
-    ensures { IsJudged problem.now header.now.named header.now.turn [] header.now.body.now result }
+    ensures { MatchAnswer result
+        (λ passed. (g : LogValue) × IsFreeAccepted problem.now bytes.now g × (g.named ≡ passed.named)
+        × (g.goal ≡ Some passed.goal))
+        (IsFreeRefused problem.now bytes.now) }
 {
-    if header.body.is_empty() {
-        return Ok(false);
+    let header = match read_free_header(alloc, problem, bytes) {
+        Ok(header) => header,
+        Err(fail) => return Err(fail),
+    };
+    let Ok(lines) = lines_below(alloc, problem, Some(header.goal), None, header.body) else {
+        return Err(Fail::Memory);
+    };
+    let judging = Judging {
+        problem,
+        named: &header.named,
+        goal: Some(header.goal),
+    };
+    let judged = judge_by_workers(rt, alloc, &judging, lines, workers, gate);
+    drop(judging);
+    match judged {
+        Ok(true) => Ok(PassedGoal {
+            goal: header.goal,
+            named: header.named,
+        }),
+        Ok(false) => Err(Fail::Refused(LogRefusal::Ends)),
+        Err(fail) => Err(fail),
     }
-    match body_of(alloc, problem, header) {
-        Ok(body) => judge_by_workers(rt, alloc, problem, &header.named, body, workers, gate),
-        Err(_) => Err(Fail::Memory),
-    }
+}
+
+// All lines below a header.
+fn lines_below<'a>(
+    alloc: Global,
+    problem: &Problem,
+    goal: Option<u32>,
+    turn: Option<Turn>,
+    bytes: &'a [u8],
+) -> Result<Chunk<'a>, AllocError>
+    requires fits { TurnFits problem.now turn }
+    ensures start { IfOk result (λ lines. StandsBehind problem.now goal turn [] lines) }
+    ensures part { IfOk result (λ lines. lines.walk.whole ≡ false) }
+    ensures bytes { IfOk result (λ lines. lines.bytes ≡ bytes.now) }
+    ensures first { IfOk result (λ lines. lines.first ≤ 4) }
+{
+    let walk = Walk::new(alloc, problem, turn)?;
+    Ok(Chunk {
+        number: 1,
+        walk,
+        bytes,
+        first: header_lines(goal, turn) + 1,
+    })
 }

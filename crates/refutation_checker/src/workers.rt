@@ -1,55 +1,54 @@
 // The lines of a log, judged by several workers.
-ghost use Rattle.std.specs.Prelude.{◌≡◌, ◌≢◌, ◌≤◌, List, [], Option, false};
+ghost use Rattle.std.specs.Prelude.{◌≡◌, ◌≤◌, [], Option, false};
 ghost use Rattle.rwsp_terms.specs.declared.limits.TheConstants.{MOST_WORKERS};
-ghost use Rattle.refutation_terms.specs.declared.lines.Line.{Line};
 ghost use Rattle.refutation_terms.specs.declared.lines.Turn.{Turn};
 ghost use Rattle.log_chunks.specs.Starts.{StandsBehind};
 ghost use Rattle.log_chunks.specs.Chunks.{IsJudgeable};
-ghost use Rattle.refutation_checker.specs.ChunkVerdicts.{IsJudged, joined_from};
+ghost use Rattle.refutation_checker.specs.ChunkVerdicts.{IsAnswerTo, IsJudged, joined_from};
 
 use crate::chunk::judge_chunk;
+use crate::judge::Judging;
 use log_chunks::{Chunk, chunks_for};
 use potential_bounds::Gate;
 use refutation_terms::LogRefusal;
-use rwsp_model::{Fail, Problem};
-use rwsp_terms::RuleList;
+use rwsp_model::Fail;
 use std::alloc::Global;
 use std::thread;
 use std::thread::Threads;
 
-/// What `judge_chunk` answers to all lines, which are cut into chunks of equal length: at most one for each worker. The
-/// gate is passed once for each chunk, before its first line. One worker has all lines, and they needn't be counted.
+/// What `judge_chunk` answers to all lines, which are cut into chunks of equal length: at most one for each worker, and
+/// none where there is no line. The gate is passed once for each chunk, before its first line. One worker has all
+/// lines, and they needn't be counted.
 pub fn judge_by_workers<R: Threads + Sync, G: Gate>(
     rt: &R,
     alloc: Global,
-    problem: &Problem,
-    named: &RuleList,
+    judging: &Judging,
     all: Chunk,
     workers: u32,
     gate: &G,
 ) -> Result<bool, Fail<LogRefusal>>
-    requires start { IsJudgeable problem.now all }
+    requires start { IsJudgeable judging.now.problem all }
     requires part { all.walk.whole ≡ false }
-    requires some { all.bytes ≢ [] }
     requires workers { (1 ≤ workers) × (workers ≤ MOST_WORKERS) }
-    ensures { (turn : Option Turn) → StandsBehind problem.now turn [] all.entry →
-        IsJudged problem.now named.now turn [] all.entry.bytes result }
+    ensures { (turn : Option Turn) → StandsBehind judging.now.problem judging.now.goal turn [] all.entry →
+        IsJudged judging.now turn [] all.entry.bytes result }
 {
-    if workers == 1 {
-        return judge_behind_gate(alloc, problem, named, gate, all);
+    if all.bytes.is_empty() {
+        return Ok(false);
     }
-    let Ok(chunks) = chunks_for(alloc, problem, all, workers) else {
+    if workers == 1 {
+        return judge_behind_gate(alloc, judging, gate, all);
+    }
+    let Ok(chunks) = chunks_for(alloc, judging.problem, all, workers) else {
         return Err(Fail::Memory);
     };
     let answers = thread::map_vec(
         rt,
         chunks,
         &|chunk: Chunk| -> Result<bool, Fail<LogRefusal>>
-            requires { IsJudgeable problem.now chunk }
-            ensures { (turn : Option Turn) (earlier : List Line)
-                → StandsBehind problem.entry.now turn earlier chunk.entry →
-                IsJudged problem.entry.now named.entry.now turn earlier chunk.entry.bytes result }
-        { judge_behind_gate(alloc, problem, named, gate, chunk) },
+            requires { IsJudgeable judging.now.problem chunk }
+            ensures { IsAnswerTo judging.entry.now chunk.entry result }
+        { judge_behind_gate(alloc, judging, gate, chunk) },
     );
     match answers {
         Ok(answers) => joined(answers),
@@ -60,17 +59,15 @@ pub fn judge_by_workers<R: Threads + Sync, G: Gate>(
 // What `judge_chunk` answers to a chunk, behind the gate.
 fn judge_behind_gate<G: Gate>(
     alloc: Global,
-    problem: &Problem,
-    named: &RuleList,
+    judging: &Judging,
     gate: &G,
     chunk: Chunk,
 ) -> Result<bool, Fail<LogRefusal>>
-    requires { IsJudgeable problem.now chunk }
-    ensures { (turn : Option Turn) (earlier : List Line) → StandsBehind problem.now turn earlier chunk.entry →
-        IsJudged problem.now named.now turn earlier chunk.entry.bytes result }
+    requires { IsJudgeable judging.now.problem chunk }
+    ensures { IsAnswerTo judging.now chunk.entry result }
 {
     gate.enter(chunk.number);
-    judge_chunk(alloc, problem, named, chunk)
+    judge_chunk(alloc, judging, chunk)
 }
 
 // The first failure among answers, or else the last answer.

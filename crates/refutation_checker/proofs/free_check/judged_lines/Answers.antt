@@ -1,4 +1,6 @@
 use Rattle.std.proofs.Common.{List, None, ◌∙◌, sym, subst, refl, arith, IsTrue, false}
+use Rattle.refutation_checker.specs.Headers.{with_goal}
+use Rattle.refutation_checker.specs.LineTexts.{Judging, ReadsNext}
 use Rattle.refutation_terms.specs.declared.lines.Line.{Line}
 use Rattle.refutation_checker.proofs.FreeReading.{ReadSoFar, read_more, fail_read, read_all, read_ends}
 use Rattle.log_chunks.proofs.Unread.{shorter}
@@ -6,21 +8,29 @@ use Rattle.refutation_checker.proofs.free_check.judged_lines.Goals as goal
 
 pub returns-in-Err : goal.returns-in-Err
 returns-in-Err c =
+    let P = c.args.problem.now in
     let h = c.args.header.now in
     let so = c.loop-bytes.invariant.read in
-    fail_read c.args.problem.now h.named h.goal c.loop-bytes.judge h.body.now c.loop-bytes.reader c.in-Some.bytes.now c.next.new.self c.loop-bytes.walk c.read_line.new.walk c.loop-bytes.lines.items _ c.in-Err.fail _
-    c.requires.rules c.requires.goal c.loop-bytes.invariant.judge so c.in-Some.ensures.line.1 c.in-Some.ensures.end
-    (omega (arith, c.len.ensures, so.few, c.requires.long)) c.in-Err.ensures.read
+    let w = c.loop-bytes.walk in
+    let bytes = c.in-Some.bytes.now in
+    fail_read P h.named h.goal c.loop-bytes.judge h.body.now c.loop-bytes.reader bytes c.next.new.self w c.read.new.walk c.loop-bytes.lines.items _ c.in-Err.fail _
+    c.requires.rules c.requires.goal so c.in-Some.ensures.line.1 c.in-Some.ensures.end
+    (omega (arith, c.len.ensures, so.few, c.requires.long))
+    c.loop-bytes.invariant.judge c.in-Err.ensures.read
 
 pub loop-bytes-preserved : goal.loop-bytes-preserved
 loop-bytes-preserved c =
-    let P = c.args.problem.now in
     let h = c.args.header.now in
-    let more = read_more P h.named h.goal c.loop-bytes.judge h.body.now c.loop-bytes.reader c.in-Some.bytes.now c.next.new.self c.loop-bytes.walk c.read_line.new.walk c.loop-bytes.lines.items c.in-Ok.line
-    c.loop-bytes.invariant.judge c.loop-bytes.invariant.read c.in-Some.ensures.line.0 c.in-Some.ensures.line.1 c.in-Ok.ensures.read in
+    let J : Judging = with_goal c.args.problem.now h.named h.goal in
+    let w = c.loop-bytes.walk in
+    let bytes = c.in-Some.bytes.now in
+    let new = c.read.new.walk in
+    let line = c.in-Ok.line in
+    let reads : ReadsNext J w bytes new line = subst (λ (K : Judging). ReadsNext K w bytes new line) c.loop-bytes.invariant.judge c.in-Ok.ensures.read in
+    let more = read_more J h.body.now c.loop-bytes.reader bytes c.next.new.self w new c.loop-bytes.lines.items line c.loop-bytes.invariant.read c.in-Some.ensures.line.0 c.in-Some.ensures.line.1 reads in
     record {
-      judge = c.read_line.ensures.same ∙ c.loop-bytes.invariant.judge;
-      read = subst (λ (ls : List Line). ReadSoFar P h.named h.goal h.body.now c.next.new.self c.read_line.new.walk ls) (sym c.in_default-push.ensures.items) more;
+      judge = c.read.ensures.same ∙ c.loop-bytes.invariant.judge;
+      read = subst (λ (ls : List Line). ReadSoFar J h.body.now c.next.new.self new ls) (sym c.in_default-push.ensures.items) more;
     }
 
 pub returns-then-is_whole : goal.returns-then-is_whole

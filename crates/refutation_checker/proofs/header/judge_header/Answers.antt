@@ -13,7 +13,9 @@ pub turn_refusal-requires : goal.turn_refusal-requires
 turn_refusal-requires c = c.in-Ok.ensures.fits
 
 pub returns-in-None : goal.returns-in-None
-returns-in-None c = record { read = c.in-Ok.ensures; sound = c.in-None.ensures }
+returns-in-None c =
+    let read = c.in-Ok.ensures in
+    record { rules = read.rules; fits = read.fits; weeks = tt; sound = c.in-None.ensures; whole = read.whole }
 
 pub returns : goal.returns
 returns c =

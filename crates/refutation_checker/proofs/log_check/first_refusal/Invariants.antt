@@ -5,5 +5,5 @@ use Rattle.refutation_checker.proofs.log_check.first_refusal.Given as goal
 abbrev pub invariant-loop-i : goal.invariant-loop-i
 invariant-loop-i l = record {
   judge : l.judge ≡ l.fn.judge;
-  passed : IsPassed l.fn.judge.problem l.log l.i l.walk;
+  passed : IsPassed l.fn.judge l.log l.i l.walk;
 }

@@ -1,9 +1,10 @@
-use Rattle.std.proofs.Common.{◌≡◌, ℕ, Option, sym, List, length, get_or, take, refl, ap, subst, arith, Some}
+use Rattle.std.proofs.Common.{◌≡◌, ℕ, Option, ◌∙◌, List, length, get_or, take, refl, ap, subst, arith, Some}
 use Rattle.std.specs.Prelude.{slice_get}
 use Rattle.std.proofs.lemmas.Option.{slice_get_read}
 use Rattle.refutation_terms.specs.declared.lines.Line.{Line}
 use Rattle.refutation_terms.specs.Log.{LineFitsFor}
-use Rattle.refutation_terms.specs.Verdict.{header_lines}
+use Rattle.refutation_terms.specs.declared.lines.Turn.{Turn}
+use Rattle.refutation_terms.specs.Verdict.{header_lines_for}
 use Rattle.refutation_checker.proofs.Passing.{no_front, still_part, passed_next}
 use Rattle.refutation_checker.proofs.log_check.pass_at.Goals as goal
 
@@ -17,13 +18,15 @@ pass-requires-clause-line c =
     let g = c.args.log.now in
     let line = c.index-lines-i.result in
     let read : line ≡ get_or g.lines c.args.i line = subst (λ (ls : List Line). line ≡ get_or ls c.args.i line) c.lines-lines.ensures.value c.index-lines-i.is in
-    subst (λ (o : Option ℕ). LineFitsFor c.args.judge.now.problem o line) (sym c.requires.plain) (c.requires.fits.lines c.args.i line (slice_get_read g.lines (length g.lines) c.args.i line refl c.requires.place read))
+    c.requires.fits.lines c.args.i line (slice_get_read g.lines (length g.lines) c.args.i line refl c.requires.place read)
 
 pub returns-clause-passed : goal.returns-clause-passed
 returns-clause-passed c =
     let g = c.args.log.now in
+    let J = c.args.judge.now in
     let line = c.index-lines-i.result in
     let read : line ≡ get_or g.lines c.args.i line = subst (λ (ls : List Line). line ≡ get_or ls c.args.i line) c.lines-lines.ensures.value c.index-lines-i.is in
     let here : slice_get g.lines c.args.i ≡ Some line = slice_get_read g.lines (length g.lines) c.args.i line refl c.requires.place read in
-    passed_next c.args.judge.now.problem g c.args.i _ line c.args.walk.now c.pass.new.walk c.pass.result here c.requires.before (omega (arith, c.lines_of_header.ensures.value, ap header_lines c.turn.ensures))
-    (rw (c.requires.named, c.requires.plain) at c.pass.ensures.passed)
+    let header : c.header_lines.result ≡ header_lines_for J.goal g.turn =
+    c.header_lines.ensures.value ∙ ap (λ (o : Option ℕ). header_lines_for o c.turn.result) (c.goal.ensures ∙ c.requires.fits.is_goal) ∙ ap (λ (t : Option Turn). header_lines_for J.goal t) c.turn.ensures in
+    passed_next J g c.args.i _ line c.args.walk.now c.pass.new.walk c.pass.result c.lines-lines.ensures.tree (c.requires.fits.lines c.args.i line here) here c.requires.before (omega (arith, header)) c.pass.ensures.passed
