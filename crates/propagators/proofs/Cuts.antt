@@ -6,7 +6,7 @@ use Rattle.std.proofs.lemmas.Bool.{cases_eq}
 use Rattle.std.proofs.lemmas.Nat.{div_below, mod_below, div-add-mod'}
 use Rattle.rwsp_terms.specs.declared.data.Symbol.{Symbol}
 use Rattle.rwsp_terms.specs.Instance.{Instance, cells, shift_count, least, greatest, IsDay, symbol_numbered}
-use Rattle.refutation_terms.specs.declared.lines.Line.TheVariants.{Split, Window, Day, Dead, Bound, Few, Free, Unfinished}
+use Rattle.refutation_terms.specs.declared.lines.Line.TheVariants.{Split, Day}
 use Rattle.refutation_terms.specs.Word.{Domains}
 use Rattle.refutation_terms.specs.Leaf.{fixed, possible, HasTooMany, HasTooFew}
 use Rattle.refutation_terms.specs.Tree.{First, narrowed, is_idle}
@@ -182,14 +182,8 @@ closing_day P S j x over first =
     (fits, record { leaf = tt; fits = fits; short = tt; holds = holds_where_overrun P (has_domain S) j x over first.first.holds })
 
 pub none_closes : (P : Instance) (S : Store) → ((j z : ℕ) → IsDay P j → z ≤ shift_count P → IsWithinDemand P (has_domain S) j z) → Closes P (IsDayLeaf P) S → ⊥
-none_closes P S within (Split p x, among, holds) = among
-none_closes P S within (Window number p len, among, holds) = among
 none_closes P S within (Day j x over, among, holds) = holds_nowhere P (has_domain S) j x over (within j x.number among.0 among.1) holds
-none_closes P S within (Dead p len R, among, holds) = among
-none_closes P S within (Bound p turns R y, among, holds) = among
-none_closes P S within (Unfinished, among, holds) = among
-none_closes P S within (Few, among, holds) = among
-none_closes P S within (Free turns reward R y, among, holds) = among
+none_closes P S within (line, among, holds) = absurd among
 
 pub cut_day : (P : Instance) (S : Store) (p : ℕ) (x : Symbol) (j : ℕ) (counted : Symbol) (over : Bool) → IsDayCut P (has_domain S) p x j counted over → IsCut P (IsDaySpent P (has_domain S)) S p x (Day j counted over)
 cut_day P S p x j counted over cut = record {

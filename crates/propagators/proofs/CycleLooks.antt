@@ -7,7 +7,7 @@ use Rattle.rwsp_terms.specs.declared.limits.TheConstants.{MOST_CELLS}
 use Rattle.rwsp_terms.specs.declared.data.Symbol.{Symbol}
 use Rattle.rwsp_terms.specs.Instance.{Instance, cells, symbol_numbered}
 use Rattle.refutation_terms.specs.declared.lines.Line.{Line}
-use Rattle.refutation_terms.specs.declared.lines.Line.TheVariants.{Split, Window, Day, Dead, Bound, Few, Free, Unfinished}
+use Rattle.refutation_terms.specs.declared.lines.Line.TheVariants.{Split, Dead}
 use Rattle.refutation_terms.specs.Word.{Domains, Over}
 use Rattle.refutation_terms.specs.Leaf.{IsDead}
 use Rattle.refutation_terms.specs.Tree.{First, narrowed}
@@ -103,14 +103,8 @@ same_dead C S p len R h start turns short dead =
     (dead_for_all C.problem (has_domain S) 0 (2 * cells C.problem) C.rules R h.short.all_short (all_are_short C.problem R short.all_short) (subst Q turns (subst P start dead)))
 
 pub none_closes : (C : KnownCycle) (S : Store) → IsShortCycle C S → (IsDead C.problem (knows_symbol C) 0 (2 * cells C.problem) C.rules → ⊥) → Closes C.problem (IsCycleLeaf C.problem) S → ⊥
-none_closes C S h alive (Split p x, among, holds) = among
-none_closes C S h alive (Window number p len, among, holds) = among
-none_closes C S h alive (Day j x over, among, holds) = among
 none_closes C S h alive (Dead p len R, among, holds) = alive (same_dead C S p len R h among.0 among.1 among.2 holds)
-none_closes C S h alive (Bound p turns R y, among, holds) = among
-none_closes C S h alive (Unfinished, among, holds) = among
-none_closes C S h alive (Few, among, holds) = among
-none_closes C S h alive (Free turns reward R y, among, holds) = among
+none_closes C S h alive (line, among, holds) = absurd among
 
 pub cut_cycle : (C : KnownCycle) (S : Store) (p : ℕ) (x : Symbol) (line : Line) → line ≡ Dead 0 (2 * cells C.problem) C.rules → IsShortCycle C S → 0 < cells C.problem → cells C.problem ≤ MOST_CELLS → IsUnsupported C S p x
     → IsCut C.problem (IsCycleSpent C.problem (has_domain S)) S p x line

@@ -6,7 +6,7 @@ use Rattle.std.proofs.lemmas.List.{length-set, length-replicate, ext_get_or, get
 use Rattle.rwsp_terms.specs.declared.data.Symbol.{Symbol}
 use Rattle.rwsp_terms.specs.Instance.{Instance, cells}
 use Rattle.rwsp_terms.specs.declared.limits.TheConstants.{MOST_SHIFTS}
-use Rattle.refutation_terms.specs.declared.lines.Line.TheVariants.{Split, Window, Day, Dead, Bound, Few, Free, Unfinished}
+use Rattle.refutation_terms.specs.declared.lines.Line.TheVariants.{Window}
 use Rattle.refutation_terms.specs.Word.{Domains, Over}
 use Rattle.refutation_terms.specs.Leaf.{IsBlocked}
 use Rattle.refutation_terms.specs.Log.{LineFits}
@@ -170,13 +170,6 @@ all_awaited P S sets pending n belongs store tests same n_is all = record {
 
 -- where no position has to be looked at, no window holds
 pub none_awaited : (w : WindowWatch) (S : Store) → IsWatch w → w.sets ≡ S.sets → ((q : ℕ) → q < cells w.problem → get_or w.pending q false ≡ false) → Closes w.problem (IsWindowLeaf w.problem) S → ⊥
-none_awaited w S watch same none (Split p x, among, holds) = among
-none_awaited w S watch same none (Day j x over, among, holds) = among
-none_awaited w S watch same none (Dead p len R, among, holds) = among
-none_awaited w S watch same none (Bound p turns R y, among, holds) = among
-none_awaited w S watch same none (Unfinished, among, holds) = among
-none_awaited w S watch same none (Few, among, holds) = among
-none_awaited w S watch same none (Free turns reward R y, among, holds) = among
 none_awaited w S watch same none (Window number p len, among, holds) =
     let known : IsBlocked w.problem (has_known w.sets) number p len = subst (λ t. IsBlocked w.problem (has_known t) number p len) (sym same) holds in
     let q = watch.awaited number p len among known in
@@ -184,6 +177,7 @@ none_awaited w S watch same none (Window number p len, among, holds) =
     let inside : (p + q.2.0) % cells w.problem < cells w.problem = omega (arith, some) in
     let within : q.0 < cells w.problem = subst (λ k. k < cells w.problem) q.2.2 inside in
     unlike (get_or w.pending q.0 false) q.1 (none q.0 within)
+none_awaited w S watch same none (line, among, holds) = absurd among
 
 -- one position was taken over, and the others were the same
 pub same_once_taken : (sets : List (List ℕ)) (S : Store) (p : ℕ) → length sets ≡ length S.sets → p < length S.sets → ((q : ℕ) → q ≢ p → get_or sets q [] ≡ domain_at S q) → set sets p (domain_at S p) ≡ S.sets

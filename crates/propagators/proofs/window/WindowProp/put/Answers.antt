@@ -3,7 +3,7 @@ use Rattle.std.proofs.Common.{◌≡◌, ◌∙◌, ◌<◌, List, ℕ, length, 
 use Rattle.std.proofs.lemmas.List.{get_or_read}
 use Rattle.std.proofs.lemmas.Bool.{not-false}
 use Rattle.domain_store.specs.Sets.{has_symbol}
-use Rattle.propagators.specs.Windows.{WindowWatch, IsWatch}
+use Rattle.propagators.specs.Windows.{IsWatch}
 use Rattle.propagators.proofs.Watching.{taken_over, span_widened}
 use Rattle.propagators.proofs.window.WindowProp.put.Goals as goal
 
