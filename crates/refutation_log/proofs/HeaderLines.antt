@@ -7,22 +7,22 @@ use Rattle.refutation_terms.specs.declared.lines.LogRefusal.{LogRefusal}
 use Rattle.refutation_terms.specs.declared.lines.LogRefusal.TheVariants as Refusals
 use Rattle.refutation_terms.specs.Log.{AreRules, TurnFits}
 use Rattle.refutation_terms.specs.LogText.{version_text, free_version_text, rules_text, goal_text, turn_text}
-use Rattle.refutation_terms.specs.Verdict.{Front, Start, Versioned, BeforeTurn, front_text, HasNoCause, IsWhole, Cause, RulesCause, TurnCause, VersionCause, TurnsTo}
+use Rattle.refutation_terms.specs.Verdict.{Front, Start, Versioned, BeforeTurn, front_text, HasNoCause, IsWhole, RulesCause, TurnCause, VersionCause, TurnsTo}
 use Rattle.refutation_terms.specs.FreeVerdict.{FreeFront, FreeStart, FreeVersioned, BeforeGoal, free_front_text, HasNoFreeCause, IsWholeFree, FreeCause, IsFreeRefused}
 use Rattle.refutation_terms.proofs.Spelled.{symbol_of-name}
 use Rattle.refutation_log.specs.declared.header.Version.{Version}
 use Rattle.refutation_log.specs.declared.header.Version.TheVariants.{Plain, Turned, Free}
-use Rattle.refutation_log.specs.ReadLog.{IsReadCause, IsRead, IsHeaderRefused, StopsFor}
+use Rattle.refutation_log.specs.ReadLog.{IsReadCause, IsRead, ReadCause, IsHeaderRefused, StopsFor}
 use Rattle.refutation_log.specs.Headers.{BeginsFor, IsRefusedAtHeader, IsVersionOf, first_text, FirstCause, TurnReadCause, StopsAtThird, IsThird, SpellsVersion}
 
 -- a text that stops behind a front is refused, by reading and as the verdict is
-plain_stops : (P : Instance) (front : Front) (text left : List ℕ) (why : LogRefusal) → IsRead P front → HasNoCause P front → (IsWhole front → ⊥) → text ≡ front_text P front ++ left → StopsFor (λ line w. Cause P front line w × IsReadCause w) left why → IsHeaderRefused P text why
+plain_stops : (P : Instance) (front : Front) (text left : List ℕ) (why : LogRefusal) → IsRead P front → HasNoCause P front → (IsWhole front → ⊥) → text ≡ front_text P front ++ left → StopsFor (ReadCause P front) left why → IsHeaderRefused P text why
 plain_stops P front text left Refusals.Ends read none partial whole e =
     let all = whole ∙ ap (λ t. front_text P front ++ t) e ∙ append-nil (front_text P front) in
-    (record { front = front; read = read; whole = all; not_whole = partial }, record { front = front; no_cause = none; whole = all; not_whole = partial })
+    (record { front = front; no_cause = read; whole = all; not_whole = partial }, record { front = front; no_cause = none; whole = all; not_whole = partial })
 plain_stops P front text left why read none partial whole s =
     let all = whole ∙ ap (λ t. front_text P front ++ t) s.2 ∙ sym (append_assoc (front_text P front) s.0 s.1) in (
-      record { front = front; line = s.0; rest = s.1; read = read; whole = all; is_line = s.3; cause = s.4.0; by_reading = s.4.1 },
+      record { front = front; line = s.0; rest = s.1; no_cause = read; whole = all; is_line = s.3; cause = s.4 },
       record { front = front; line = s.0; rest = s.1; no_cause = none; whole = all; is_line = s.3; cause = s.4.0 },
     )
 
