@@ -10,7 +10,6 @@ pub mod HeaderTexts
 pub mod LogLines
 pub mod Named
 pub mod HeaderLines
-pub mod FreeHeaders
 pub mod OneText
 pub mod OneCause
 pub mod NotRefused

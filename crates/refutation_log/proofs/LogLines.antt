@@ -18,10 +18,10 @@ use Rattle.refutation_terms.specs.Tree.{IsTree, after_trees}
 use Rattle.refutation_terms.specs.Log.{Log, Fits, LineFits, AreRules, TurnFits}
 use Rattle.refutation_terms.specs.LogText.{raw, line_text, log_text, header_text}
 use Rattle.rwsp_text.specs.Lines.{IsNextLine}
-use Rattle.refutation_terms.specs.Verdict.{Spells, Reading, header_lines}
+use Rattle.refutation_terms.specs.Verdict.{Spells, Reading, front_text, header_lines, IsRefusedBehindFront}
 use Rattle.refutation_terms.proofs.Trees.{tree_is_whole, whole_is_tree}
 use Rattle.refutation_log.specs.Printing.{lines_text, EachFits}
-use Rattle.refutation_log.specs.ReadLog.{IsReadSoFar, IsUnread, EndsUnread, IsTreeLineRefused, open_after, log_with}
+use Rattle.refutation_log.specs.ReadLog.{IsReadSoFar, IsRead, ReadCause, IsUnread, IsTreeLineRefused, open_after, log_with}
 use Rattle.refutation_log.proofs.PrintedTexts.{line_piece, joined_lines}
 use Rattle.refutation_log.proofs.Named.{spelled_fits}
 
@@ -122,10 +122,10 @@ tree_read lines count walk e =
 headed : (h t left old : List ℕ) → old ≡ t ++ left → h ++ old ≡ (h ++ t) ++ left
 headed h t left old e = ap (λ z. h ++ z) e ∙ sym (append_assoc h t left)
 
-pub lines_end : (P : Instance) (named : List ℕ) (turn : Option Turn) (old left : List ℕ) (lines : List Line) (count : ℕ) → AreRules P named → TurnFits P turn → LinesSoFar P old left lines count → 0 < count → left ≡ [] → EndsUnread P (header_text P named turn ++ old)
+pub lines_end : (P : Instance) (named : List ℕ) (turn : Option Turn) (old left : List ℕ) (lines : List Line) (count : ℕ) → AreRules P named → TurnFits P turn → LinesSoFar P old left lines count → 0 < count → left ≡ [] → IsUnread P (header_text P named turn ++ old) Refusals.Ends
 lines_end P named turn old left lines count a b so some e = record {
   front = Reading (log_with named turn lines);
-  read = is_read P named turn old left lines count a b so;
+  no_cause = is_read P named turn old left lines count a b so;
   whole =
       headed (header_text P named turn) (lines_text P lines) left old so.text
       ∙ ap (λ t. (header_text P named turn ++ lines_text P lines) ++ t) e
@@ -139,40 +139,27 @@ behind P named turn old left bytes rest lines e f =
     ∙ ap (λ t. (header_text P named turn ++ lines_text P lines) ++ t) f
     ∙ sym (append_assoc (header_text P named turn ++ lines_text P lines) bytes rest)
 
+line_cut : (P : Instance) (text : List ℕ) (named : List ℕ) (turn : Option Turn) (old left bytes rest : List ℕ) (lines : List Line) (why : LogRefusal) → text ≡ header_text P named turn ++ old → IsReadSoFar P (log_with named turn lines) → old ≡ lines_text P lines ++ left → left ≡ bytes ++ rest → IsNextLine bytes rest → ReadCause P (Reading (log_with named turn lines)) bytes why → IsRefusedBehindFront (front_text P) (IsRead P) (ReadCause P) text why
+line_cut P text named turn old left bytes rest lines why t read e f next cause = record {
+  front = Reading (log_with named turn lines);
+  line = bytes;
+  rest = rest;
+  no_cause = read;
+  whole = t ∙ behind P named turn old left bytes rest lines e f;
+  is_line = next;
+  cause = cause;
+}
+
 pub line_unread : (P : Instance) (named : List ℕ) (turn : Option Turn) (old left bytes rest : List ℕ) (lines : List Line) (count n : ℕ) (why : LogRefusal) → AreRules P named → TurnFits P turn → LinesSoFar P old left lines count → 0 < count → left ≡ bytes ++ rest → IsNextLine bytes rest → n ≡ header_lines turn + length lines + 1 → IsTreeLineRefused P bytes n why → IsUnread P (header_text P named turn ++ old) why
-line_unread P named turn old left bytes rest lines count n (Refusals.Form i) a b so some e next num h = record {
-  front = Reading (log_with named turn lines);
-  line = bytes;
-  rest = rest;
-  read = is_read P named turn old left lines count a b so;
-  whole = behind P named turn old left bytes rest lines so.text e;
-  is_line = next;
-  cause = inr (not_whole lines count so.walk some, (h.0 ∙ num, h.1));
-  by_reading = tt;
-}
-line_unread P named turn old left bytes rest lines count n (Refusals.Name i) a b so some e next num h = record {
-  front = Reading (log_with named turn lines);
-  line = bytes;
-  rest = rest;
-  read = is_read P named turn old left lines count a b so;
-  whole = behind P named turn old left bytes rest lines so.text e;
-  is_line = next;
-  cause = inr (not_whole lines count so.walk some, (h.0 ∙ num, h.1));
-  by_reading = tt;
-}
+line_unread P named turn old left bytes rest lines count n (Refusals.Form i) a b so some e next num h =
+    line_cut P (header_text P named turn ++ old) named turn old left bytes rest lines (Refusals.Form i) refl (is_read P named turn old left lines count a b so) so.text e next (inr (not_whole lines count so.walk some, (h.0 ∙ num, h.1)), tt)
+line_unread P named turn old left bytes rest lines count n (Refusals.Name i) a b so some e next num h =
+    line_cut P (header_text P named turn ++ old) named turn old left bytes rest lines (Refusals.Name i) refl (is_read P named turn old left lines count a b so) so.text e next (inr (not_whole lines count so.walk some, (h.0 ∙ num, h.1)), tt)
 line_unread P named turn old left bytes rest lines count n why a b so some e next num h = absurd h
 
 pub line_extra : (P : Instance) (text : List ℕ) (named : List ℕ) (turn : Option Turn) (old left bytes rest : List ℕ) (lines : List Line) (n : ℕ) → text ≡ header_text P named turn ++ old → IsReadSoFar P (log_with named turn lines) → IsTree lines → old ≡ lines_text P lines ++ left → left ≡ bytes ++ rest → IsNextLine bytes rest → n ≡ header_lines turn + length lines + 1 → IsUnread P text (Refusals.Extra n)
-line_extra P text named turn old left bytes rest lines n t read tree e f next num = record {
-  front = Reading (log_with named turn lines);
-  line = bytes;
-  rest = rest;
-  read = read;
-  whole = t ∙ behind P named turn old left bytes rest lines e f;
-  is_line = next;
-  cause = inl (tree, num);
-  by_reading = tt;
-}
+line_extra P text named turn old left bytes rest lines n t read tree e f next num =
+    line_cut P text named turn old left bytes rest lines (Refusals.Extra n) t read e f next (inl (tree, num), tt)
 
 pub log_read : (P : Instance) (text : List ℕ) (named : List ℕ) (turn : Option Turn) (old left : List ℕ) (lines : List Line) → text ≡ header_text P named turn ++ old → old ≡ lines_text P lines ++ left → left ≡ [] → text ≡ log_text P (log_with named turn lines)
 log_read P text named turn old left lines t e f =

@@ -1,8 +1,7 @@
 -- A text that is refused by reading has one cause, and the text of a whole log has none.
-use Rattle.std.proofs.Common.{◌≡◌, ◌⊎◌, ℕ, ◌+◌, ◌<◌, List, [], ◌∷◌, ◌++◌, length, take, refl, ap, sym, ◌∙◌, subst, append_assoc, arith, inl, inr, Some, None, length-append}
+use Rattle.std.proofs.Common.{◌≡◌, ℕ, ◌+◌, ◌<◌, List, [], ◌∷◌, ◌++◌, length, take, refl, ap, sym, ◌∙◌, subst, arith, inl, inr, Some, None, length-append}
 use Rattle.std.proofs.Math.Seq.{take-append_seam}
-use Rattle.rwsp_text.specs.Lines.{IsRefusedBehind, AreFronts}
-use Rattle.rwsp_text.proofs.LineLaws.{same_lines, whole_not_refused, refused_same}
+use Rattle.rwsp_text.specs.Lines.{AreFronts}
 use Rattle.rwsp_terms.specs.Instance.{Instance, name_of, symbol_of}
 use Rattle.rwsp_model.specs.Validity.{KeepsLimits}
 use Rattle.refutation_terms.specs.declared.lines.Line.{Line}
@@ -13,19 +12,16 @@ use Rattle.refutation_terms.specs.Word.{Domains}
 use Rattle.refutation_terms.specs.Tree.{IsTree, after_trees, lines_in, domains_at}
 use Rattle.refutation_terms.specs.Log.{Log, Fits, LineFits, TurnFits}
 use Rattle.refutation_terms.specs.LogText.{raw, line_text, log_text, turn_text}
-use Rattle.refutation_terms.specs.Verdict.{Front, Reading, front_text, IsWhole, Cause, header_lines}
+use Rattle.refutation_terms.specs.Verdict.{Reading, front_text, IsWhole, header_lines}
 use Rattle.refutation_terms.proofs.Spelled.{fitting_lines_are_spelled}
 use Rattle.refutation_terms.proofs.Trees.{tree_is_whole, part_is_not_whole}
 use Rattle.refutation_terms.proofs.Fronts.{front_fields, front_written, fronts}
 use Rattle.refutation_terms.proofs.Causes.{not_unknown, Reason, OfName, OfIdle, OfLong, OfFail, OfEscape, OfOpen, Level, Nothing, Unknown, Known, level_of, turns_same, TurnReason, NoTurn, NoName, NoDay, NoDemand, turn_reason}
+use Rattle.refutation_terms.proofs.OneRefusal.{IsAtEndOrLine, refusals_same, whole_has_none}
 use Rattle.refutation_terms.proofs.Unique.{got_seam, version_refutes, rules_refutes, cause_same}
-use Rattle.refutation_log.specs.ReadLog.{IsReadCause, IsReadSoFar, IsRead, IsUnreadLine, EndsUnread, IsUnread}
+use Rattle.refutation_log.specs.ReadLog.{IsReadCause, IsReadSoFar, IsRead, ReadCause, IsUnread}
 use Rattle.refutation_log.specs.Laws.{UnreadTextsHaveOneCause, TextsOfLogsAreRead}
 use Rattle.refutation_log.proofs.OneText.{is_writable, has_names}
-
--- a cause that reading alone finds
-abbrev ReadCause : Instance → Front → List ℕ → LogRefusal → Type 0
-ReadCause P F line why = Cause P F line why × IsReadCause why
 
 -- the line of a turn that fits has none
 turn_fine : (P : Instance) (R : List ℕ) (t : Turn) (why : LogRefusal) → KeepsLimits P → TurnFits P (Some t) → TurnReason P R (turn_text (name_of P t.x) t.day) why → IsReadCause why → ⊥
@@ -71,33 +67,14 @@ read_fronts P limits =
     (λ f line more why h c. line_fine P f line more why limits h c)
     (λ F line why other a b. cause_same P F line why other w n a.0 b.0)
 
-refused_behind : (P : Instance) (text : List ℕ) (why : LogRefusal) → IsUnreadLine P text why → IsRefusedBehind (front_fields P) (IsRead P) (ReadCause P) text why
-refused_behind P text why r = record {
-  front = r.front;
-  line = r.line;
-  rest = r.rest;
-  good = r.read;
-  whole = r.whole ∙ append_assoc (front_text P r.front) r.line r.rest ∙ ap (λ t. t ++ (r.line ++ r.rest)) (front_written P r.front);
-  is_line = r.is_line;
-  cause = (r.cause, r.by_reading);
-}
-
-front_not_refused : (P : Instance) (text : List ℕ) (g : Front) (why : LogRefusal) → KeepsLimits P → IsRead P g → text ≡ front_text P g → IsUnreadLine P text why → ⊥
-front_not_refused P text g why limits h e r = whole_not_refused (front_fields P) (IsRead P) (ReadCause P) (read_fronts P limits) text g why h (e ∙ front_written P g) (refused_behind P text why r)
-
 -- a refusal is at the end or at a line
-end_or_line : (P : Instance) (text : List ℕ) (why : LogRefusal) → IsUnread P text why → (EndsUnread P text × (why ≡ Refusals.Ends)) ⊎ IsUnreadLine P text why
+end_or_line : (P : Instance) (text : List ℕ) (why : LogRefusal) → IsUnread P text why → IsAtEndOrLine (front_text P) (IsRead P) (ReadCause P) IsWhole text why
 end_or_line P text Refusals.Ends h = inl (h, refl)
 end_or_line P text why h = inr h
 
-refusals_same : (P : Instance) (text : List ℕ) (why other : LogRefusal) → KeepsLimits P → (EndsUnread P text × (why ≡ Refusals.Ends)) ⊎ IsUnreadLine P text why → (EndsUnread P text × (other ≡ Refusals.Ends)) ⊎ IsUnreadLine P text other → why ≡ other
-refusals_same P text why other limits (inl a) (inl b) = a.1 ∙ sym b.1
-refusals_same P text why other limits (inl a) (inr b) = absurd (front_not_refused P text a.0.front other limits a.0.read a.0.whole b)
-refusals_same P text why other limits (inr a) (inl b) = absurd (front_not_refused P text b.0.front why limits b.0.read b.0.whole a)
-refusals_same P text why other limits (inr a) (inr b) = refused_same (front_fields P) (IsRead P) (ReadCause P) (read_fronts P limits) text why other (refused_behind P text why a) (refused_behind P text other b)
-
 pub one_cause : UnreadTextsHaveOneCause
-one_cause P text why other limits a b = refusals_same P text why other limits (end_or_line P text why a) (end_or_line P text other b)
+one_cause P text why other limits a b =
+    refusals_same (front_text P) (IsRead P) (ReadCause P) IsWhole (front_fields P) (front_written P) (read_fronts P limits) text why other (end_or_line P text why a) (end_or_line P text other b)
 
 -- a whole log that fits is read
 whole_read : (P : Instance) (g : Log) → Fits P g → IsTree g.lines → IsReadSoFar P g
@@ -110,14 +87,7 @@ whole_read P g fits tree = record {
       let clash : None ≡ Some [] = sym none ∙ some in cc;
 }
 
-not_refused_by : (P : Instance) (g : Log) (why : LogRefusal) → KeepsLimits P → Fits P g → IsTree g.lines → (EndsUnread P (log_text P g) × (why ≡ Refusals.Ends)) ⊎ IsUnreadLine P (log_text P g) why → ⊥
-not_refused_by P g why limits fits tree (inl b) =
-    let read = whole_read P g fits tree in
-    let all = read_fronts P limits in
-    let lines : front_fields P (Reading g) ≡ front_fields P b.0.front =
-    same_lines (front_fields P (Reading g)) (front_fields P b.0.front) (all.written (Reading g) read) (all.written b.0.front b.0.read) (sym (front_written P (Reading g)) ∙ b.0.whole ∙ front_written P b.0.front) in
-    b.0.not_whole (subst IsWhole (sym (all.same b.0.front (Reading g) b.0.read read lines)) tree)
-not_refused_by P g why limits fits tree (inr b) = front_not_refused P (log_text P g) (Reading g) why limits (whole_read P g fits tree) refl b
-
 pub texts_read : TextsOfLogsAreRead
-texts_read P g why limits fits tree u = not_refused_by P g why limits fits tree (end_or_line P (log_text P g) why u)
+texts_read P g why limits fits tree u =
+    whole_has_none (front_text P) (IsRead P) (ReadCause P) IsWhole (front_fields P) (front_written P) (read_fronts P limits)
+    (log_text P g) (Reading g) why (whole_read P g fits tree) tree refl (end_or_line P (log_text P g) why u)

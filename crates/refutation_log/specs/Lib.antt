@@ -1,5 +1,6 @@
 pub mod Cited
 pub mod Gathering
+pub mod Headers
 pub mod Laws
 pub mod Printing
 pub mod Reading

@@ -10,8 +10,10 @@ use Rattle.refutation_terms.specs.declared.lines.LogRefusal.TheVariants as Refus
 use Rattle.refutation_terms.specs.Tree.{IsTree}
 use Rattle.refutation_terms.specs.Log.{Log, Fits, AreRules, TurnFits}
 use Rattle.refutation_terms.specs.LogText.{header_text, free_header_text}
+use Rattle.rwsp_terms.specs.declared.limits.TheConstants.{LONGEST_LOG}
 use Rattle.rwsp_text.specs.Lines.{IsNextLine}
-use Rattle.refutation_terms.specs.Verdict.{Front, Start, Versioned, BeforeTurn, Reading, front_text, IsWhole, Cause, IsRefused}
+use Rattle.refutation_terms.specs.Verdict.{Front, Start, Versioned, BeforeTurn, Reading, front_text, IsWhole, Cause, IsRefused, IsRefusedBehindFront, EndsWithFront}
+use Rattle.refutation_log.specs.Printing.{lines_text}
 use Rattle.refutation_log.specs.Refusals.{IsLineRefused}
 use Rattle.refutation_log.specs.declared.refusal.LineRefusal.TheVariants as Lines
 
@@ -34,28 +36,14 @@ IsRead P (Versioned has_turn) = Unit {0}
 IsRead P (BeforeTurn named) = AreRules P named
 IsRead P (Reading g) = IsReadSoFar P g
 
--- the text continues behind such a front with a line that has this cause
-pub record IsUnreadLine (P : Instance) (text : List ℕ) (why : LogRefusal) : Type 0 where
-  pub front : Front
-  pub line : List ℕ
-  pub rest : List ℕ
-  pub read : IsRead P front
-  pub whole : text ≡ front_text P front ++ line ++ rest
-  pub is_line : IsNextLine line rest
-  pub cause : Cause P front line why
-  pub by_reading : IsReadCause why
-
--- the text ends with such a front that isn't a whole log
-pub record EndsUnread (P : Instance) (text : List ℕ) : Type 0 where
-  pub front : Front
-  pub read : IsRead P front
-  pub whole : text ≡ front_text P front
-  pub not_whole : IsWhole front → ⊥
+-- reading alone finds this cause in the line behind the front
+abbrev pub ReadCause : Instance → Front → List ℕ → LogRefusal → Type 0
+ReadCause P front line why = Cause P front line why × IsReadCause why
 
 -- the text is refused by reading, for this cause
 abbrev pub IsUnread : Instance → List ℕ → LogRefusal → Type 0
-IsUnread P text Refusals.Ends = EndsUnread P text
-IsUnread P text why = IsUnreadLine P text why
+IsUnread P text Refusals.Ends = EndsWithFront (front_text P) (IsRead P) IsWhole text
+IsUnread P text why = IsRefusedBehindFront (front_text P) (IsRead P) (ReadCause P) text why
 
 -- the text is refused at its header, by reading and as the verdict is
 abbrev pub IsHeaderRefused : Instance → List ℕ → LogRefusal → Type 0
@@ -79,6 +67,16 @@ pub record BeginsWithHeader (P : Instance) (text : List ℕ) (named : List ℕ) 
   pub fits : TurnFits P turn
   pub whole : text ≡ header_text P named turn ++ body
 
+-- the log of these rules, this turn and these lines, without a goal
+abbrev pub log_with : List ℕ → Option Turn → List Line → Log
+log_with named turn lines = record { named = named; turn = turn; goal = None; lines = lines }
+
+-- what is left behind a header begins with these lines, which are one whole tree, and the rest follows them
+abbrev pub AreReadLines : Instance → List ℕ → Option Turn → List Line → (left rest : List ℕ) → Type 0
+AreReadLines P named turn lines left rest =
+    IsTree lines × IsReadSoFar P (log_with named turn lines) × (left ≡ lines_text P lines ++ rest)
+    × (length lines ≤ LONGEST_LOG)
+
 -- why a line of the tree isn't read, as text line n
 abbrev pub IsTreeLineRefused : Instance → List ℕ → ℕ → LogRefusal → Type 0
 IsTreeLineRefused P bytes n (Refusals.Form i) = (i ≡ n) × IsLineRefused P bytes Lines.Form
@@ -89,7 +87,3 @@ IsTreeLineRefused P bytes n why = ⊥
 abbrev pub open_after : ℕ → Line → ℕ
 open_after n (Split p x) = n + 1
 open_after n leaf = n - 1
-
--- the log of these rules, this turn and these lines, without a goal
-abbrev pub log_with : List ℕ → Option Turn → List Line → Log
-log_with named turn lines = record { named = named; turn = turn; goal = None; lines = lines }

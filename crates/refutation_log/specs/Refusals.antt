@@ -1,7 +1,7 @@
 -- Why a line of text is no line of a log.
-use Rattle.std.specs.Prelude.{◌≡◌, ◌≢◌, ℕ, ◌+◌, ◌≤◌, List, Option, None, Some, Bool}
+use Rattle.std.specs.Prelude.{◌≡◌, ◌≢◌, ℕ, ◌+◌, ◌≤◌, List, Option, None, Some}
 use Rattle.rwsp_terms.specs.Instance.{Instance}
-use Rattle.refutation_terms.specs.LogText.{rules_text, version_text, goal_text}
+use Rattle.refutation_terms.specs.LogText.{rules_text, goal_text}
 use Rattle.refutation_terms.specs.Log.{AreRules}
 use Rattle.refutation_terms.specs.Verdict.{SpellsNothingFor, SpellsUnknownFor, SpellsNoTurn, TurnsToUnknown}
 use Rattle.refutation_log.specs.declared.refusal.LineRefusal.{LineRefusal}
@@ -25,11 +25,6 @@ IsTurnRefused P bytes Name = TurnsToUnknown P bytes
 abbrev pub SpellsRules : Instance → List ℕ → Option (List ℕ) → Type 0
 SpellsRules P bytes None = (R : List ℕ) → AreRules P R → bytes ≢ rules_text R
 SpellsRules P bytes (Some R) = AreRules P R × (bytes ≡ rules_text R)
-
--- the same of the version
-abbrev pub SpellsVersion : List ℕ → Option Bool → Type 0
-SpellsVersion bytes None = (has_turn : Bool) → bytes ≢ version_text has_turn
-SpellsVersion bytes (Some has_turn) = bytes ≡ version_text has_turn
 
 -- the bytes spell this goal, or none
 abbrev pub SpellsGoal : Instance → List ℕ → Option ℕ → Type 0

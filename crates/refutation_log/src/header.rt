@@ -1,15 +1,16 @@
 // The header of a log's text: its version, the rules that it names, and its turn.
-ghost use Rattle.std.specs.Prelude.{◌≡◌, ◌≤◌, ◌+◌, ◌++◌, Option, Some, None, IfOk, MatchOption, MatchResult, true};
-ghost use Rattle.rwsp_terms.specs.Instance.{Instance, name_of};
+ghost use Rattle.std.specs.Prelude.{◌≡◌, ◌≤◌, ◌+◌, ◌++◌, Some, None, IfOk, MatchOption, MatchResult};
+ghost use Rattle.rwsp_terms.specs.Instance.{name_of};
 ghost use Rattle.rwsp_model.specs.Refusals.{MatchAnswer};
 ghost use Rattle.refutation_terms.specs.Log.{AreRules, TurnFits};
-ghost use Rattle.refutation_terms.specs.LogText.{version_text, free_version_text, rules_text, goal_text, turn_text};
+ghost use Rattle.refutation_terms.specs.LogText.{rules_text, goal_text, turn_text};
 ghost use Rattle.refutation_terms.specs.Verdict.{header_lines, TurnsTo, RulesCause};
-ghost use Rattle.refutation_terms.specs.FreeVerdict.{IsFreeRefused, FreeVersionCause, GoalCause};
+ghost use Rattle.refutation_terms.specs.FreeVerdict.{IsFreeRefused, GoalCause};
 ghost use Rattle.rwsp_text.specs.Lines.{words_of};
-ghost use Rattle.refutation_log.specs.Refusals.{SpellsVersion, SpellsRules, SpellsGoal, IsTurnRefused};
+ghost use Rattle.refutation_log.specs.Refusals.{SpellsRules, SpellsGoal, IsTurnRefused};
 ghost use Rattle.refutation_log.specs.Reading.{named_at, goal_at, turn_at};
 ghost use Rattle.refutation_log.specs.ReadLog.{IsHeaderRefused, BeginsWithHeader, BeginsWithFreeHeader, StopsFor};
+ghost use Rattle.refutation_log.specs.Headers.{BeginsFor, IsRefusedAtHeader, IsVersionOf, first_text, FirstCause, IsThird, StopsAtThird, TurnReadCause, SpellsVersion};
 
 use crate::LineRefusal;
 use crate::line::{body_of, rule_numbers};
@@ -38,11 +39,52 @@ pub const FREE_HEADER_LINES: u32 = 3;
 pub struct Header<'a> {
     pub named: RuleList,
     pub turn: Option<Turn>,
+    pub goal: Option<u32>,
     pub body: &'a [u8],
 }
 
-/// The header of a text. Refused are a line that isn't spelled as it should be, a turn to a name that is no symbol's,
-/// and a text that ends before its header does; what the turn says isn't looked at.
+/// What the first line of a log says of the third: that there is none, that it is a turn, or that it is a goal.
+#[derive(Clone, Copy)]
+pub enum Version {
+    Plain,
+    Turned,
+    Free,
+}
+
+/// The header of a text, as that of a free log or as that of a log without a goal. Refused are a line that isn't
+/// spelled as it should be, a turn to a name that is no symbol's, and a text that ends before its header does; what the
+/// turn says isn't looked at.
+pub fn read_header_for<'a>(
+    alloc: Global,
+    problem: &Problem,
+    is_free: bool,
+    bytes: &'a [u8],
+) -> Result<Header<'a>, Fail<LogRefusal>>
+    ensures { MatchAnswer result
+        (λ h. BeginsFor problem.now is_free bytes.now h.named h.turn h.goal h.body.now)
+        (IsRefusedAtHeader problem.now is_free bytes.now) }
+{
+    let mut reader = LineReader::new(bytes);
+    let version = match version_line(&mut reader, is_free) {
+        Ok(version) => version,
+        Err(why) => return Err(Fail::Refused(why)),
+    };
+    let named = match rules_line(alloc, problem, &mut reader) {
+        Ok(named) => named,
+        Err(fail) => return Err(fail),
+    };
+    match third_line(problem, version, &mut reader) {
+        Ok((turn, goal)) => Ok(Header {
+            named,
+            turn,
+            goal,
+            body: reader.rest(),
+        }),
+        Err(why) => Err(Fail::Refused(why)),
+    }
+}
+
+/// The header of a text, as that of a log without a goal.
 pub fn read_header<'a>(
     alloc: Global,
     problem: &Problem,
@@ -52,30 +94,7 @@ pub fn read_header<'a>(
         (λ h. BeginsWithHeader problem.now bytes.now h.named h.turn h.body.now)
         (IsHeaderRefused problem.now bytes.now) }
 {
-    let mut reader = LineReader::new(bytes);
-    let has_turn = match version_line(&mut reader) {
-        Ok(has_turn) => has_turn,
-        Err(why) => return Err(Fail::Refused(why)),
-    };
-    let named = match rules_line(alloc, problem, &mut reader) {
-        Ok(named) => named,
-        Err(fail) => return Err(fail),
-    };
-    if !has_turn {
-        return Ok(Header {
-            named,
-            turn: None,
-            body: reader.rest(),
-        });
-    }
-    match turn_line(problem, &mut reader, &named) {
-        Ok(turn) => Ok(Header {
-            named,
-            turn: Some(turn),
-            body: reader.rest(),
-        }),
-        Err(why) => Err(Fail::Refused(why)),
-    }
+    read_header_for(alloc, problem, false, bytes)
 }
 
 /// What is in front of a free log's lines, and the bytes of these lines.
@@ -86,8 +105,7 @@ pub struct FreeHeader<'a> {
     pub body: &'a [u8],
 }
 
-/// The header of a free log's text, which has three lines. Refused are a line that isn't spelled as it should be, and a
-/// text that ends before its header does.
+/// The header of a free log's text, which has three lines.
 pub fn read_free_header<'a>(
     alloc: Global,
     problem: &Problem,
@@ -97,36 +115,55 @@ pub fn read_free_header<'a>(
         (λ h. BeginsWithFreeHeader problem.now bytes.now h.named h.goal h.body.now)
         (IsFreeRefused problem.now bytes.now) }
 {
-    let mut reader = LineReader::new(bytes);
-    if let Err(why) = free_version_line(&mut reader) {
-        return Err(Fail::Refused(why));
-    }
-    let named = match rules_line(alloc, problem, &mut reader) {
-        Ok(named) => named,
+    let header = match read_header_for(alloc, problem, true, bytes) {
+        Ok(header) => header,
         Err(fail) => return Err(fail),
     };
-    match goal_line(problem, &mut reader) {
-        Ok(goal) => Ok(FreeHeader {
-            named,
+    match header.goal {
+        None => unreachable!(),
+        Some(goal) => Ok(FreeHeader {
+            named: header.named,
             goal,
-            body: reader.rest(),
+            body: header.body,
         }),
-        Err(why) => Err(Fail::Refused(why)),
     }
 }
 
-// The first line of a free log.
-fn free_version_line(reader: &mut LineReader) -> Result<(), LogRefusal>
-    ensures { MatchResult result (λ v. reader.old ≡ free_version_text
-        ++ reader.new) (StopsFor FreeVersionCause reader.old) }
+// What the first line says.
+fn version_line(reader: &mut LineReader, is_free: bool) -> Result<Version, LogRefusal>
+    ensures { MatchResult result
+        (λ v. IsVersionOf is_free v × (reader.old ≡ first_text v ++ reader.new))
+        (StopsFor (FirstCause is_free) reader.old) }
 {
     let Some(bytes) = reader.next() else {
         return Err(LogRefusal::Ends);
     };
-    if bytes == b"rwsp-free 1\n".as_slice() {
-        Ok(())
-    } else {
-        Err(LogRefusal::Form(1))
+    match read_version(is_free, bytes) {
+        None => Err(LogRefusal::Form(1)),
+        Some(version) => Ok(version),
+    }
+}
+
+// The turn or the goal of the third line, or neither where there is none.
+fn third_line(
+    problem: &Problem,
+    version: Version,
+    reader: &mut LineReader,
+) -> Result<(Option<Turn>, Option<u32>), LogRefusal>
+    ensures { MatchResult result
+        (λ r. IsThird problem.now version r.0 r.1 reader.old reader.new)
+        (StopsAtThird problem.now version reader.old) }
+{
+    match version {
+        Version::Plain => Ok((None, None)),
+        Version::Turned => match turn_line(problem, reader) {
+            Ok(turn) => Ok((Some(turn), None)),
+            Err(why) => Err(why),
+        },
+        Version::Free => match goal_line(problem, reader) {
+            Ok(goal) => Ok((None, Some(goal))),
+            Err(why) => Err(why),
+        },
     }
 }
 
@@ -142,20 +179,6 @@ fn goal_line(problem: &Problem, reader: &mut LineReader) -> Result<u32, LogRefus
     match read_goal(problem, bytes) {
         None => Err(LogRefusal::Form(3)),
         Some(goal) => Ok(goal),
-    }
-}
-
-// Whether the first line says that there is a turn.
-fn version_line(reader: &mut LineReader) -> Result<bool, LogRefusal>
-    ensures { (P : Instance) → MatchResult result (λ v. reader.old ≡ version_text v
-        ++ reader.new) (IsHeaderRefused P reader.old) }
-{
-    let Some(bytes) = reader.next() else {
-        return Err(LogRefusal::Ends);
-    };
-    match read_version(bytes) {
-        None => Err(LogRefusal::Form(1)),
-        Some(has_turn) => Ok(has_turn),
     }
 }
 
@@ -180,15 +203,10 @@ fn rules_line(
 }
 
 // The turn of the third line.
-fn turn_line(
-    problem: &Problem,
-    reader: &mut LineReader,
-    named: &RuleList,
-) -> Result<Turn, LogRefusal>
-    requires { AreRules problem.now named.now }
+fn turn_line(problem: &Problem, reader: &mut LineReader) -> Result<Turn, LogRefusal>
     ensures { MatchResult result
         (λ t. TurnFits problem.now (Some t) × (reader.old ≡ turn_text (name_of problem.now t.x) t.day ++ reader.new))
-        (IsHeaderRefused problem.now (version_text true ++ rules_text named.now ++ reader.old)) }
+        (StopsFor (TurnReadCause problem.now) reader.old) }
 {
     problem.prove_limits();
     let Some(bytes) = reader.next() else {
@@ -201,14 +219,20 @@ fn turn_line(
     }
 }
 
-// Whether the log has a turn, as its first line says; None where the line spells no version.
-fn read_version(bytes: &[u8]) -> Option<bool>
-    ensures { SpellsVersion bytes.now result }
+// What the first line says; None where it spells no version of the kind that is asked for.
+fn read_version(is_free: bool, bytes: &[u8]) -> Option<Version>
+    ensures { SpellsVersion is_free bytes.now result }
 {
+    if is_free {
+        if bytes == b"rwsp-free 1\n".as_slice() {
+            return Some(Version::Free);
+        }
+        return None;
+    }
     if bytes == b"rwsp-log 1\n".as_slice() {
-        Some(false)
+        Some(Version::Plain)
     } else if bytes == b"rwsp-log 2\n".as_slice() {
-        Some(true)
+        Some(Version::Turned)
     } else {
         None
     }

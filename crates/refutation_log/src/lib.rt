@@ -15,6 +15,7 @@ mod turn;
 pub use cited::{put_cited, put_cited_for, put_turn_cited};
 pub use header::{
     FREE_HEADER_LINES, FreeHeader, Header, lines_of_header, read_free_header, read_header,
+    read_header_for,
 };
 pub use laws::{
     logs_have_one_text, texts_have_one_verdict, texts_of_logs_are_read, unread_texts_have_one_cause,

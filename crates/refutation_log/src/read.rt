@@ -6,11 +6,10 @@ ghost use Rattle.refutation_terms.specs.Tree.{IsTree};
 ghost use Rattle.refutation_terms.specs.Log.{Fits, AreRules, TurnFits};
 ghost use Rattle.refutation_terms.specs.LogText.{log_text, header_text};
 ghost use Rattle.refutation_terms.specs.Verdict.{Spells};
-ghost use Rattle.refutation_log.specs.Printing.{lines_text};
-ghost use Rattle.refutation_log.specs.ReadLog.{IsUnread, IsReadSoFar, IsTreeLineRefused, open_after, log_with};
+ghost use Rattle.refutation_log.specs.ReadLog.{IsUnread, AreReadLines, IsTreeLineRefused, open_after};
 
 use crate::header::{Header, lines_of_header, read_header};
-use crate::line::read_line;
+use crate::line::read_line_for;
 use crate::{LineRefusal, Log};
 use refutation_terms::{Line, LogRefusal};
 use rwsp_model::{Fail, Problem};
@@ -52,10 +51,7 @@ fn read_lines(
     requires turn { TurnFits problem.now header.now.turn }
     requires few { length reader.old ≤ LONGEST_LOG }
     ensures { MatchAnswer result
-        (λ v. IsTree v.items
-        × IsReadSoFar problem.now (log_with header.now.named header.now.turn v.items)
-        × (reader.old ≡ lines_text problem.now v.items ++ reader.new)
-        × (length v.items ≤ LONGEST_LOG))
+        (λ v. AreReadLines problem.now header.now.named header.now.turn v.items reader.old reader.new)
         (IsUnread problem.now (header_text problem.now header.now.named header.now.turn ++ reader.old)) }
 {
     problem.prove_limits();
@@ -94,7 +90,7 @@ fn tree_line(
 ) -> Result<Line, Fail<LogRefusal>>
     ensures { MatchAnswer result (Spells problem.now bytes.now) (IsTreeLineRefused problem.now bytes.now n) }
 {
-    match read_line(alloc, problem, bytes) {
+    match read_line_for(alloc, problem, None, bytes) {
         Ok(line) => Ok(line),
         Err(Fail::Memory) => Err(Fail::Memory),
         Err(Fail::Refused(LineRefusal::Form)) => Err(Fail::Refused(LogRefusal::Form(n))),
