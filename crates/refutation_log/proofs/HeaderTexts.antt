@@ -3,19 +3,17 @@ use Rattle.std.proofs.Common.{◌≡◌, ◌≢◌, ℕ, ◌+◌, ◌≤◌, Lis
 use Rattle.std.specs.Prelude.{codes}
 use Rattle.std.specs.List.{join_with_byte}
 use Rattle.std.specs.Fmt.{decimal}
-use Rattle.rwsp_text.specs.Fields.{Words, IsName}
-use Rattle.rwsp_text.specs.Kinds.{AreBlankless, IsLine, read_line}
+use Rattle.rwsp_text.specs.Fields.{Words, IsName, text_of}
+use Rattle.rwsp_text.specs.Kinds.{Kind, AreBlankless, IsLine, IsReadable, read_line}
 use Rattle.rwsp_text.specs.Lines.{words_of}
-use Rattle.rwsp_text.proofs.KindLaws.{line_found, line_only, one_kind, no_words}
+use Rattle.rwsp_text.proofs.KindLaws.{line_found, line_only, lines_are_words, one_kind, no_words}
 use Rattle.rwsp_text.proofs.LineLaws.{text_words, words_text}
 use Rattle.rwsp_terms.specs.Instance.{Instance, IsDay}
 use Rattle.rwsp_model.specs.Validity.{KeepsLimits}
-use Rattle.refutation_terms.specs.Log.{AreRules}
-use Rattle.refutation_terms.specs.LogText.{rules_text, goal_text}
 use Rattle.refutation_terms.specs.LineKinds.{rules_kind, rules_kinds, turn_kind, turn_kinds, goal_kind, goal_kinds}
 use Rattle.refutation_terms.specs.Verdict.{SpellsTurn}
 use Rattle.refutation_terms.specs.TextLaws.{IsWritable}
-use Rattle.refutation_terms.proofs.LineTables.{rules_fields, turn_fields, rules_line, turn_line, rules_found, turn_found as turn_line_found, rules_readable, turn_readable, rules_words, turn_words, goal_fields, goal_line, goal_readable, goal_words}
+use Rattle.refutation_terms.proofs.LineTables.{rules_fields, turn_fields, rules_line, turn_line, rules_found, turn_found as turn_line_found, rules_readable, turn_readable, turn_words, goal_fields, goal_line, goal_readable}
 use Rattle.refutation_log.specs.Refusals.{SpellsRules, SpellsGoal}
 use Rattle.refutation_log.specs.Reading.{named_at, goal_at, turn_at}
 use Rattle.refutation_log.proofs.LineTexts.{is_writable}
@@ -23,19 +21,20 @@ use Rattle.refutation_log.proofs.LineTexts.{is_writable}
 pub turn_visible : (P : Instance) (name : List ℕ) (day : ℕ) → IsWritable P → IsName name → IsDay P day → AreBlankless (turn_fields name day)
 turn_visible P name day w n d = (turn_words P name day w n d).1
 
+-- what is spelled is read
+pub line_spelled : {X : Type 0} (table : List (Kind X)) (fields : Words) (x : X) (bytes body : List ℕ) → IsReadable table → IsLine table fields x → bytes ≡ body ++ 10 ∷ [] → bytes ≡ text_of fields → read_line table (words_of body) ≡ Some x
+line_spelled table fields x bytes body s l e f =
+    ap (read_line table) (text_words bytes body fields (lines_are_words table fields x s l) e f) ∙ line_only table fields x s l
+
 -- rules
 
 named_is : (P : Instance) (ws : Words) → named_at P ws ≡ read_line (rules_kinds P) ws
 unfolding named_at
 named_is P ws = sym (one_kind (rules_kind P) ws)
 
-pub rules_spelled : (P : Instance) (bytes body R : List ℕ) → IsWritable P → bytes ≡ body ++ 10 ∷ [] → AreRules P R → bytes ≡ rules_text R → named_at P (words_of body) ≡ Some R
-rules_spelled P bytes body R w e are f =
-    named_is P (words_of body) ∙ ap (read_line (rules_kinds P)) (text_words bytes body (rules_fields R) (rules_words P R w are) e f)
-    ∙ line_only (rules_kinds P) (rules_fields R) R (rules_readable P w) (rules_line P R are)
-
 pub rules_answered : (P : Instance) (bytes body : List ℕ) (o : Option (List ℕ)) → KeepsLimits P → bytes ≡ body ++ 10 ∷ [] → named_at P (words_of body) ≡ o → SpellsRules P bytes o
-rules_answered P bytes body None k e h = λ R are f. let w = rules_spelled P bytes body R (is_writable P k) e are f in absurd (cc)
+rules_answered P bytes body None k e h = λ R are f.
+    let w = named_is P (words_of body) ∙ line_spelled (rules_kinds P) (rules_fields R) R bytes body (rules_readable P (is_writable P k)) (rules_line P R are) e f in absurd (cc)
 rules_answered P bytes body (Some R) k e h =
     let f = rules_found P (words_of body) R (line_found (rules_kinds P) (words_of body) R (sym (named_is P (words_of body)) ∙ h)) in
     (f.1, words_text bytes body (rules_fields R) e f.0)
@@ -53,13 +52,9 @@ goal_found P (w ∷ ws) goal (inl l) =
     subst (λ n. (w ∷ ws ≡ goal_fields n) × (n ≤ P.weeks + 1)) s.made (ap (λ z. z ∷ ws) l.0 ∙ ap (λ us. codes "goal" ∷ us) s.spelled, s.keeps.0.1)
 goal_found P (w ∷ ws) goal (inr l) = absurd l
 
-goal_spelled : (P : Instance) (bytes body : List ℕ) (goal : ℕ) → IsWritable P → bytes ≡ body ++ 10 ∷ [] → goal ≤ P.weeks + 1 → bytes ≡ goal_text goal → goal_at P (words_of body) ≡ Some goal
-goal_spelled P bytes body goal w e le f =
-    goal_is P (words_of body) ∙ ap (read_line (goal_kinds P)) (text_words bytes body (goal_fields goal) (goal_words P goal w le) e f)
-    ∙ line_only (goal_kinds P) (goal_fields goal) goal (goal_readable P w) (goal_line P goal le)
-
 pub goal_answered : (P : Instance) (bytes body : List ℕ) (o : Option ℕ) → KeepsLimits P → bytes ≡ body ++ 10 ∷ [] → goal_at P (words_of body) ≡ o → SpellsGoal P bytes o
-goal_answered P bytes body None k e h = λ goal le f. let w = goal_spelled P bytes body goal (is_writable P k) e le f in absurd (cc)
+goal_answered P bytes body None k e h = λ goal le f.
+    let w = goal_is P (words_of body) ∙ line_spelled (goal_kinds P) (goal_fields goal) goal bytes body (goal_readable P (is_writable P k)) (goal_line P goal le) e f in absurd (cc)
 goal_answered P bytes body (Some goal) k e h =
     let f = goal_found P (words_of body) goal (line_found (goal_kinds P) (words_of body) goal (sym (goal_is P (words_of body)) ∙ h)) in
     (f.1, words_text bytes body (goal_fields goal) e f.0)
@@ -75,14 +70,9 @@ turn_found P bytes body name day e h =
     let f = turn_line_found P (words_of body) name day (line_found (turn_kinds P) (words_of body) (name, day) (sym (turn_is P (words_of body)) ∙ h)) in
     (f.1, f.2, words_text bytes body (turn_fields name day) e f.0)
 
-pub turn_spelled_read : (P : Instance) (bytes body name : List ℕ) (day : ℕ) → IsWritable P → bytes ≡ body ++ 10 ∷ [] → SpellsTurn P bytes name day → turn_at P (words_of body) ≡ Some (name, day)
-turn_spelled_read P bytes body name day w e spells =
-    turn_is P (words_of body) ∙ ap (read_line (turn_kinds P)) (text_words bytes body (turn_fields name day) (turn_words P name day w spells.0 spells.1) e spells.2)
-    ∙ line_only (turn_kinds P) (turn_fields name day) (name, day) (turn_readable P w) (turn_line P name day spells.0 spells.1)
-
 pub turn_missed : (P : Instance) (bytes body : List ℕ) → KeepsLimits P → bytes ≡ body ++ 10 ∷ [] → turn_at P (words_of body) ≡ None → (name : List ℕ) (day : ℕ) → SpellsTurn P bytes name day → ⊥
 turn_missed P bytes body k e h name day spells =
-    let read : turn_at P (words_of body) ≡ Some (name, day) = turn_spelled_read P bytes body name day (is_writable P k) e spells in
+    let read = turn_is P (words_of body) ∙ line_spelled (turn_kinds P) (turn_fields name day) (name, day) bytes body (turn_readable P (is_writable P k)) (turn_line P name day spells.0 spells.1) e spells.2 in
     cc
 
 pub turn_no_feed : (P : Instance) (bytes : List ℕ) → ((body : List ℕ) → bytes ≢ body ++ 10 ∷ []) → (name : List ℕ) (day : ℕ) → SpellsTurn P bytes name day → ⊥
