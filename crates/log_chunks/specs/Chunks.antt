@@ -76,6 +76,12 @@ AreChunks P goal turn size earlier bytes (chunk ∷ chunks) =
     × ((lines : List Line) → EachFits P lines → chunk.bytes ≡ lines_text P lines
     → AreChunks P goal turn size (earlier ++ lines) below chunks)))
 
+-- that is so of all lines of a text, which have this start
+abbrev pub AreAllChunks : Instance → ℕ → Start → List Start → Type 0
+AreAllChunks P size all chunks =
+    (goal : Option ℕ) (turn : Option Turn) → StandsBehind P goal turn [] all
+    → AreChunks P goal turn size [] all.bytes chunks
+
 -- no more chunks than the bytes need at `size` lines each, where the last chunk may have fewer
 abbrev pub IsFew : ℕ → ℕ → List ℕ → Type 0
 IsFew chunks size bytes = chunks * size < line_count bytes + size

@@ -43,6 +43,12 @@ LeadInto P Q (u ∷ splits) lines =
 abbrev pub EndInside : Instance → List UnreadSplit → List Line → Type 0
 EndInside P splits lines = LeadInto P NoLines splits lines
 
+-- behind lines that end inside splits a line was passed: they end inside other splits with it, or are a whole tree
+abbrev pub IsLinePassed : List UnreadSplit → List UnreadSplit → List ℕ → Bool → Type 0
+IsLinePassed before after bytes more =
+    (P : Instance) (earlier : List Line) (line : Line) → EndInside P before earlier → IsLineText P bytes line
+    → MatchBool more (EndInside P after (earlier ++ line ∷ [])) (IsTree (earlier ++ line ∷ []))
+
 -- a front of the lines is a whole tree
 abbrev pub HasTree : List Line → Type 0
 HasTree lines = (front : List Line) × (rest : List Line) × (lines ≡ front ++ rest) × IsTree front
@@ -77,6 +83,20 @@ ArePassed P start before after bytes None =
 ArePassed P start before after bytes (Some count) =
     (done lines : List Line) → EndInside P before done → EachFits P lines → bytes ≡ lines_text P lines
     → (count ≡ length lines) × EndInside P after (done ++ lines)
+
+-- bytes were passed; where that says how many lines they are, the walk is behind them too
+abbrev pub IsBehind : Instance → State → List UnreadSplit → List UnreadSplit → List ℕ → Option (ℕ × State) → Type 0
+IsBehind P start before after bytes None = ArePassed P start before after bytes None
+IsBehind P start before after bytes (Some next) =
+    ArePassed P start before after bytes (Some next.0) × IsInto P start after (Some next.1)
+
+-- a walk goes by a split, and by its first side if that was passed too; or it is an idle split
+abbrev pub AreEntered : ℕ → Symbol → Bool → State → State → Bool → Type 0
+AreEntered p x in_second old new entered =
+    (P : Instance) (turn : Option Turn) (lines first : List Line) → IsStateOf P turn lines old
+    → IsFirstSide in_second first → MatchBool entered
+    (IsStateOf P turn (lines ++ Split p x ∷ first) new)
+    (is_idle P (domains_at P turn lines (length lines)) p x.number ≡ true)
 
 -- a walk goes by the line of a split, if it is spelled, and by its first side if that was passed too; or it is an idle
 -- split

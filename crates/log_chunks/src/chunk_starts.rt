@@ -3,20 +3,16 @@
 // The lines in front of a chunk are passed without being read: it only counts which of them are splits, and so which
 // splits are open at its start. These alone are read then. A line that isn't spelled is refused by its own chunk, and
 // so the answers to later chunks, whose walks may be wrong, count for nothing.
-ghost use Rattle.std.specs.Prelude.{◌≡◌, ◌≢◌, ◌+◌, ◌^◌, ◌<◌, ◌≤◌, ◌++◌, ◌∷◌, ℕ, List, [], length, Option, None, Some, All, IfOk, IfSome, MatchBool, MatchOption, true, false};
+ghost use Rattle.std.specs.Prelude.{◌≡◌, ◌≢◌, ◌+◌, ◌^◌, ◌<◌, ◌≤◌, ℕ, List, [], length, Option, None, Some, All, IfOk, IfSome, MatchOption, true, false};
 ghost use Rattle.std.specs.Int.{div_ceil};
-ghost use Rattle.rwsp_terms.specs.Instance.{Instance};
 ghost use Rattle.rwsp_terms.specs.declared.data.Symbol.{Symbol as TheSymbol};
 ghost use Rattle.refutation_terms.specs.declared.lines.Line.{Line as TheLine};
 ghost use Rattle.refutation_terms.specs.declared.lines.Line.TheVariants.{Split};
 ghost use Rattle.refutation_terms.specs.declared.lines.Turn.{Turn};
-ghost use Rattle.refutation_terms.specs.Tree.{domains_at, is_idle};
-ghost use Rattle.refutation_log.specs.Printing.{lines_text};
-ghost use Rattle.tree_walk.specs.Splits.{IsFirstSide};
+ghost use Rattle.refutation_terms.specs.Tree.{is_idle};
 ghost use Rattle.tree_walk.specs.States.{IsStateOf};
-ghost use Rattle.log_chunks.specs.Starts.{StandsBehind};
-ghost use Rattle.log_chunks.specs.Chunks.{IsCutOff, AreChunks, IsJudgeable, IsFew, line_count};
-ghost use Rattle.log_chunks.specs.UnreadSplits.{IsEntered, IsInto, ArePassed};
+ghost use Rattle.log_chunks.specs.Chunks.{IsCutOff, AreAllChunks, IsJudgeable, IsFew, line_count};
+ghost use Rattle.log_chunks.specs.UnreadSplits.{AreEntered, IsEntered, IsInto, ArePassed, IsBehind};
 
 use crate::chunk::Chunk;
 use crate::line_ends::{count_lines, lines_end};
@@ -37,10 +33,7 @@ fn enter_split(walk: &mut Walk, p: u32, x: Symbol, in_second: bool) -> Result<bo
     requires part { walk.old.whole ≡ false }
     requires position { p < length walk.old.store.sets }
     ensures part { IfOk result (λ entered. entered ≡ true → walk.new.whole ≡ false) }
-    ensures entered { IfOk result (λ entered. (P : Instance) (turn : Option Turn) (lines first : List TheLine) →
-        IsStateOf P turn lines walk.old → IsFirstSide in_second first → MatchBool entered
-        (IsStateOf P turn (lines ++ Split p x ∷ first) walk.new)
-        (is_idle P (domains_at P turn lines (length lines)) p x.number ≡ true)) }
+    ensures entered { IfOk result (AreEntered p x in_second walk.old walk.new) }
 {
     if walk.is_idle(p, x) {
         return Ok(false);
@@ -181,10 +174,7 @@ fn walk_behind<'a>(
     ensures few { IfOk result (λ found. IfSome found (λ next. next.0 ≤ length bytes.now)) }
     ensures state { IfOk result (λ found. IfSome found (λ next.
         (turn : Option Turn) × (lines : List TheLine) × IsStateOf problem.now turn lines next.1)) }
-    ensures behind { IfOk result (λ found. MatchOption found
-        (ArePassed problem.now start.now splits.old.items splits.new.items bytes.now None)
-        (λ next. ArePassed problem.now start.now splits.old.items splits.new.items bytes.now (Some next.0)
-        × IsInto problem.now start.now splits.new.items (Some next.1))) }
+    ensures behind { IfOk result (IsBehind problem.now start.now splits.old.items splits.new.items bytes.now) }
 {
     let Some(count) = pass_lines(alloc, problem, start, splits, bytes)? else {
         return Ok(None);
@@ -265,9 +255,7 @@ fn chunks_of<'a>(
     requires part { all.walk.whole ≡ false }
     requires some { all.bytes ≢ [] }
     requires size { 1 ≤ size }
-    ensures chunks { IfOk result (λ v. (goal : Option ℕ) (turn : Option Turn)
-        → StandsBehind problem.now goal turn [] all.entry →
-        AreChunks problem.now goal turn size [] all.entry.bytes v.items) }
+    ensures chunks { IfOk result (λ v. AreAllChunks problem.now size all.entry v.items) }
     ensures each { IfOk result (λ v. All (IsJudgeable problem.now) v.items) }
     ensures few { IfOk result (λ v. IsFew (length v.items) size all.entry.bytes) }
 {
@@ -295,9 +283,8 @@ pub fn chunks_for<'a>(
     requires part { all.walk.whole ≡ false }
     requires some { all.bytes ≢ [] }
     requires workers { 1 ≤ workers }
-    ensures chunks { IfOk result (λ v. (goal : Option ℕ) (turn : Option Turn)
-        → StandsBehind problem.now goal turn [] all.entry →
-        AreChunks problem.now goal turn (div_ceil (line_count all.entry.bytes) workers) [] all.entry.bytes v.items) }
+    ensures chunks { IfOk result (λ v.
+        AreAllChunks problem.now (div_ceil (line_count all.entry.bytes) workers) all.entry v.items) }
     ensures each { IfOk result (λ v. All (IsJudgeable problem.now) v.items) }
     ensures few { IfOk result (λ v. length v.items ≤ workers) }
 {

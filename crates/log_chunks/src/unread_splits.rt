@@ -1,11 +1,9 @@
 // Splits whose lines are passed without being read, to find which of them are open at a place.
-ghost use Rattle.std.specs.Prelude.{◌≡◌, ◌<◌, ◌≤◌, ◌++◌, ◌∷◌, [], List, length, vec_len, vec_capacity, slice_index, ◌==◌, IfOk, IfSome, MatchBool, MatchOption};
+ghost use Rattle.std.specs.Prelude.{◌≡◌, ◌<◌, ◌++◌, ◌∷◌, [], List, length, vec_len, vec_capacity, slice_index, ◌==◌, IfOk, MatchBool};
 ghost use Rattle.rwsp_terms.specs.Instance.{Instance};
-ghost use Rattle.rwsp_model.specs.Validity.{KeepsLimits};
 ghost use Rattle.refutation_terms.specs.declared.lines.Line.{Line};
 ghost use Rattle.refutation_terms.specs.Tree.{IsTree};
-ghost use Rattle.refutation_log.specs.Printing.{lines_text};
-ghost use Rattle.log_chunks.specs.UnreadSplits.{IsLineText, LeadInto, EndInside, HasTree};
+ghost use Rattle.log_chunks.specs.UnreadSplits.{LeadInto, EndInside, IsLinePassed};
 
 use refutation_log::LineReader;
 use std::alloc::AllocError;
@@ -66,9 +64,7 @@ fn pass_leaf(splits: &mut Vec<UnreadSplit>) -> bool
 /// Passes a line: a split is opened, and any other line is taken for a leaf. Whether the tree continues behind it.
 pub fn pass_line<'a>(splits: &mut Vec<UnreadSplit<'a>>, line: &'a [u8]) -> Result<bool, AllocError>
     requires { 0 < length line.now }
-    ensures { IfOk result (λ more. (P : Instance) (earlier : List Line) (l : Line) →
-        EndInside P splits.old.items earlier → IsLineText P line.now l →
-        MatchBool more (EndInside P splits.new.items (earlier ++ l ∷ [])) (IsTree (earlier ++ l ∷ []))) }
+    ensures { IfOk result (IsLinePassed splits.old.items splits.new.items line.now) }
 {
     if !begins_as_split(line) {
         return Ok(pass_leaf(splits));

@@ -244,14 +244,10 @@ abbrev HasNoCause : Instance → Option ℕ → List ℕ → Domains → ℕ →
 HasNoCause P goal named D n line = (why : LogRefusal) → LineCauseFor P goal named D n line why → ⊥
 
 lists_short : (P : Instance) (goal : Option ℕ) (named : List ℕ) (D : Domains) (n : ℕ) (line : Line) → HasNoCause P goal named D n line → CitesOnlyNamed P named line → ListsShortOnly P line
-lists_short P goal named D n (Split p x) none all = tt
-lists_short P goal named D n (Window number p len) none all = tt
-lists_short P goal named D n (Day j x over) none all = tt
 lists_short P goal named D n (Dead p len R) none all = names_short P R (least_number (ListsLong P (Dead p len R)) (λ k least. none (Refusals.Long n k) (refl, all, least)))
 lists_short P goal named D n (Bound p turns R y) none all = names_short P R (least_number (ListsLong P (Bound p turns R y)) (λ k least. none (Refusals.Long n k) (refl, all, least)))
-lists_short P goal named D n Unfinished none all = tt
-lists_short P goal named D n Few none all = tt
 lists_short P goal named D n (Free turns reward R y) none all = names_short P R (least_number (ListsLong P (Free turns reward R y)) (λ k least. none (Refusals.Long n k) (refl, all, least)))
+lists_short P goal named D n line none all = tt
 
 split_holds : (P : Instance) (goal : Option ℕ) (D : Domains) (p : ℕ) (x : Symbol) → is_idle P D p x.number ≡ false → HoldsFor P goal D (Split p x)
 split_holds P None D p x h = h

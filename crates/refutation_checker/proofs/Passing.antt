@@ -1,5 +1,5 @@
 -- The lines of a log, judged one after the other.
-use Rattle.std.proofs.Common.{◌≡◌, ℕ, suc, ◌+◌, ◌<◌, ◌≤◌, List, [], ◌∷◌, ◌++◌, length, take, drop, refl, ap, sym, ◌∙◌, subst, arith, Option, Some, None, Result, Ok, Err, inl, inr, false, append_assoc}
+use Rattle.std.proofs.Common.{◌≡◌, ℕ, suc, ◌+◌, ◌<◌, List, [], ◌∷◌, ◌++◌, length, take, drop, refl, ap, sym, ◌∙◌, subst, arith, Option, Some, None, Result, Ok, Err, inl, inr, false, append_assoc}
 use Rattle.std.specs.Prelude.{MatchOption, IfOk, slice_get, Contains, codes}
 use Rattle.std.specs.List.{join_with_byte, flat_map}
 use Rattle.std.specs.Fmt.{decimal}
@@ -37,7 +37,7 @@ use Rattle.refutation_checker.specs.LineTexts.{Judging, log_of, HasCause, IsSoun
 use Rattle.refutation_checker.specs.ChunkVerdicts.{AreSoundBehind, IsChunkRefused}
 use Rattle.refutation_checker.specs.Headers.{HasHeader, without_goal}
 use Rattle.refutation_checker.specs.Turns.{IsSoundTurn, TurnFault, IsTurnFault}
-use Rattle.refutation_checker.specs.LogVerdicts.{IsPassed, IsRefusedAt}
+use Rattle.refutation_checker.specs.LogVerdicts.{IsPassed, IsRefusedAt, IsTreeJudged}
 use Rattle.refutation_checker.proofs.Judging.{refused_next}
 use Rattle.refutation_checker.proofs.SoundLines.{sound_joined, passes, refused}
 
@@ -156,7 +156,7 @@ as_judged : (P : Instance) (g : Log) → Fits P g → log_of (without_goal P g.n
 as_judged P g fits = ap (λ (o : Option ℕ). log_of (record { problem = P; named = g.named; goal = o }) g.turn g.lines) (sym fits.is_goal)
 
 pub tree_judged : (P : Instance) (g : Log) (answer : Result (Option LogRefusal) AllocError) → KeepsLimits P → Fits P g → IsTree g.lines → IsSoundTurn P g.named g.turn
-    → IfOk answer (λ found. MatchOption found (AreSoundBehind (without_goal P g.named) g.turn [] g.lines) (λ why. (i : ℕ) × IsRefusedAt (without_goal P g.named) g i why))
+    → IfOk answer (IsTreeJudged P g)
     → IfOk answer (λ found. MatchOption found (Passes P g) (IsRefused P (log_text P g)))
 tree_judged P g (Ok None) limits fits tree turn h =
     subst (λ (l : Log). Passes P l) (as_judged P g fits)

@@ -11,7 +11,6 @@ use Rattle.refutation_terms.specs.LogText.{free_version_text, rules_text, goal_t
 use Rattle.refutation_terms.specs.FreeVerdict.{FreeStart, FreeVersioned, BeforeGoal, IsFreeVerdict}
 use Rattle.refutation_checker.specs.Headers.{with_goal}
 use Rattle.refutation_checker.specs.Laws.{TextsHaveAFreeVerdict}
-use Rattle.refutation_checker.proofs.HeaderFaults.{refused_at_free_line}
 use Rattle.refutation_checker.proofs.SomeVerdict.{first_line, body_on}
 
 abbrev HasNoFreeVerdict : Instance → List ℕ → Type 0

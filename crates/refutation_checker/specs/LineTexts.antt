@@ -1,12 +1,13 @@
 -- The lines of a log, judged one after the other.
-use Rattle.std.specs.Prelude.{◌≡◌, ℕ, ◌+◌, ◌<◌, false, List, [], ◌∷◌, ◌++◌, length, Option}
+use Rattle.std.specs.Prelude.{◌≡◌, ◌↔◌, Bool, IsTrue, ℕ, ◌+◌, ◌<◌, false, List, [], ◌∷◌, ◌++◌, length, Option}
+use Rattle.rwsp_terms.specs.declared.data.Symbol.{Symbol}
 use Rattle.rwsp_terms.specs.Instance.{Instance}
 use Rattle.refutation_terms.specs.declared.lines.Line.{Line}
 use Rattle.refutation_terms.specs.declared.lines.Turn.{Turn}
 use Rattle.refutation_terms.specs.Tree.{IsTree, domains_at}
 use Rattle.refutation_terms.specs.Word.{Domains}
 use Rattle.refutation_terms.specs.Log.{Log, LineFitsFor}
-use Rattle.refutation_terms.specs.Verdict.{CauseBehindFor, header_lines_for}
+use Rattle.refutation_terms.specs.Verdict.{CauseBehindFor, EscapesFor, header_lines_for}
 use Rattle.refutation_terms.specs.LogText.{raw, line_text}
 use Rattle.refutation_terms.specs.declared.lines.Line.TheVariants.{Split}
 use Rattle.refutation_terms.specs.declared.lines.LogRefusal.{LogRefusal}
@@ -16,7 +17,7 @@ use Rattle.refutation_log.specs.declared.refusal.LineRefusal.TheVariants as Line
 use Rattle.domain_store.specs.Store.{Store}
 use Rattle.tree_walk.specs.Splits.{is_idle_in}
 use Rattle.tree_walk.specs.States.{State, IsStateOf}
-use Rattle.refutation_checker.specs.LineVerdicts.{IsSoundFor, LineCauseFor}
+use Rattle.refutation_checker.specs.LineVerdicts.{HoldsByWords, HoldsByWordsFor, IsSoundFor, LineCauseFor}
 
 -- the problem of a judge, the rules that the header names, and the goal of the log if it has one
 pub record Judging : Type 0 where
@@ -35,6 +36,20 @@ IsSoundUnder J D line = IsSoundFor J.problem J.goal J.named D line
 -- the lowest cause to refuse it there as text line n
 abbrev pub HasCause : Judging → Domains → ℕ → Line → LogRefusal → Type 0
 HasCause J D n line why = LineCauseFor J.problem J.goal J.named D n line why
+
+-- as far as words tell, the line holds there
+abbrev pub HoldsByWordsUnder : Judging → Domains → Line → Type 0
+HoldsByWordsUnder J D line = HoldsByWordsFor J.problem J.goal D line
+
+-- this word escapes it there
+abbrev pub EscapesUnder : Judging → Domains → Line → List Symbol → Type 0
+EscapesUnder J D line w = EscapesFor J.problem J.goal D line w
+
+-- whether a leaf holds by words behind whatever lines the walk had read, in a log without a goal
+abbrev pub TellsLeaf : Instance → State → Line → Bool → Type 0
+TellsLeaf P w leaf told =
+    (turn : Option Turn) (lines : List Line) → IsStateOf P turn lines w
+    → IsTrue told ↔ HoldsByWords P (domains_at P turn lines (length lines)) leaf
 
 -- the line behind these is refused for no cause
 pub record IsSoundNext (J : Judging) (turn : Option Turn) (lines : List Line) (line : Line) : Type 0 where

@@ -1,5 +1,6 @@
 -- The lines of a log, judged without their text.
-use Rattle.std.specs.Prelude.{◌≡◌, ℕ, ◌+◌, List, [], length, take, slice_get, Some}
+use Rattle.std.specs.Prelude.{◌≡◌, ℕ, ◌+◌, List, [], length, take, slice_get, Option, Some, MatchOption}
+use Rattle.rwsp_terms.specs.Instance.{Instance}
 use Rattle.refutation_terms.specs.declared.lines.Line.{Line}
 use Rattle.refutation_terms.specs.declared.lines.LogRefusal.{LogRefusal}
 use Rattle.refutation_terms.specs.Tree.{domains_at}
@@ -8,6 +9,7 @@ use Rattle.refutation_terms.specs.Verdict.{header_lines_for}
 use Rattle.tree_walk.specs.States.{State, IsStateOf}
 use Rattle.refutation_checker.specs.LineTexts.{Judging, HasCause}
 use Rattle.refutation_checker.specs.ChunkVerdicts.{AreSoundBehind}
+use Rattle.refutation_checker.specs.Headers.{without_goal}
 
 -- the first i lines have no cause
 abbrev pub AreSoundTo : Judging → Log → ℕ → Type 0
@@ -25,3 +27,9 @@ pub record IsRefusedAt (J : Judging) (g : Log) (i : ℕ) (why : LogRefusal) : Ty
   pub sound : AreSoundTo J g i
   pub cause : HasCause J (domains_at J.problem g.turn (take i g.lines) (length (take i g.lines)))
       (header_lines_for J.goal g.turn + i + 1) line why
+
+-- what was found in the tree of a log without a goal: nothing, or the first line that has a cause
+abbrev pub IsTreeJudged : Instance → Log → Option LogRefusal → Type 0
+IsTreeJudged P g found =
+    let J : Judging = without_goal P g.named in
+    MatchOption found (AreSoundBehind J g.turn [] g.lines) (λ why. (i : ℕ) × IsRefusedAt J g i why)

@@ -3,12 +3,10 @@ ghost use Rattle.std.specs.Prelude.{◌≡◌, List, Option, IfOk, IsTrue, Match
 ghost use Rattle.refutation_terms.specs.declared.lines.Line.{Line};
 ghost use Rattle.refutation_terms.specs.declared.lines.Turn.{Turn};
 ghost use Rattle.refutation_terms.specs.Log.{LineFitsFor, ListsShortOnly};
-ghost use Rattle.refutation_terms.specs.Verdict.{EscapesFor};
 ghost use Rattle.rwsp_model.specs.Refusals.{MatchAnswer};
 ghost use Rattle.domain_store.specs.Store.{BelongsTo, has_domain};
 ghost use Rattle.tree_walk.specs.States.{IsStateOf};
-ghost use Rattle.refutation_checker.specs.LineVerdicts.{HoldsByWordsFor};
-ghost use Rattle.refutation_checker.specs.LineTexts.{IsSoundUnder, HasCause, ReadsNext, RefusesNext, PassesNext, HasCauseNext, IsSpellingRefusal};
+ghost use Rattle.refutation_checker.specs.LineTexts.{HoldsByWordsUnder, EscapesUnder, IsSoundUnder, HasCause, ReadsNext, RefusesNext, PassesNext, HasCauseNext, IsSpellingRefusal};
 
 use crate::kept::{automaton_of, tails_of};
 use crate::line_walk::step;
@@ -186,8 +184,8 @@ impl<'a> Judge<'a> {
         requires short { ListsShortOnly self.old.problem line.now }
         ensures same { self.new ≡ self.old }
         ensures escape { IfOk result (λ found. MatchOption found
-            (HoldsByWordsFor self.old.problem self.old.goal (has_domain doms.now) line.now)
-            (EscapesFor self.old.problem self.old.goal (has_domain doms.now) line.now)) }
+            (HoldsByWordsUnder self.old (has_domain doms.now) line.now)
+            (EscapesUnder self.old (has_domain doms.now) line.now)) }
     {
         let Some(list) = list_of(line) else {
             return Ok(None);
@@ -214,7 +212,7 @@ impl<'a> Judge<'a> {
         requires short { ListsShortOnly self.old.problem line.now }
         ensures same { self.new ≡ self.old }
         ensures plain { IfOk result (λ plain. IsTrue plain
-            → HoldsByWordsFor self.old.problem self.old.goal (has_domain doms.now) line.now) }
+            → HoldsByWordsUnder self.old (has_domain doms.now) line.now) }
     {
         let Line::Dead { p, len, rules } = line else {
             return Ok(false);

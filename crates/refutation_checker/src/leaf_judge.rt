@@ -1,11 +1,11 @@
 // Single lines of a log whose other lines are known to hold.
-ghost use Rattle.std.specs.Prelude.{◌≡◌, ◌↔◌, ◌∷◌, [], ◌++◌, List, length, Option, IsTrue, false, IfOk};
+ghost use Rattle.std.specs.Prelude.{◌≡◌, ◌∷◌, [], ◌++◌, List, length, Option, false, IfOk};
 ghost use Rattle.refutation_terms.specs.declared.lines.Line.{Line};
 ghost use Rattle.refutation_terms.specs.declared.lines.Turn.{Turn};
 ghost use Rattle.refutation_terms.specs.Tree.{domains_at};
 ghost use Rattle.refutation_terms.specs.Log.{LineFits, ListsShortOnly, Holds};
 ghost use Rattle.tree_walk.specs.States.{IsStateOf};
-ghost use Rattle.refutation_checker.specs.LineVerdicts.{HoldsByWords};
+ghost use Rattle.refutation_checker.specs.LineTexts.{TellsLeaf};
 
 use crate::judge::{Judge, Judging};
 use crate::line_walk::step;
@@ -56,9 +56,7 @@ impl<'a> LeafJudge<'a> {
         requires fits { LineFits self.old leaf.now }
         requires short { ListsShortOnly self.old leaf.now }
         ensures same { self.new ≡ self.old }
-        ensures holds { IfOk result (λ yes. (turn : Option Turn) (lines : List Line)
-            → IsStateOf self.old turn lines walk.now →
-            IsTrue yes ↔ HoldsByWords self.old (domains_at self.old turn lines (length lines)) leaf.now) }
+        ensures holds { IfOk result (TellsLeaf self.old walk.now leaf.now) }
     {
         if let Some(_word) = self.judge.leaf_escape(alloc, walk.domains(), leaf)? {
             return Ok(false);

@@ -1,13 +1,11 @@
 // The verdict on a log without its text.
-ghost use Rattle.std.specs.Prelude.{◌≡◌, ℕ, ◌+◌, ◌<◌, ◌≤◌, [], length, IfOk, MatchOption};
+ghost use Rattle.std.specs.Prelude.{◌≡◌, ℕ, ◌+◌, ◌<◌, ◌≤◌, length, IfOk, MatchOption};
 ghost use Rattle.rwsp_model.specs.Refusals.{MatchAnswer};
 ghost use Rattle.refutation_terms.specs.Tree.{IsTree};
 ghost use Rattle.refutation_terms.specs.Log.{Fits, FitsFor, Passes};
 ghost use Rattle.refutation_terms.specs.LogText.{log_text};
 ghost use Rattle.refutation_terms.specs.Verdict.{IsRefused};
-ghost use Rattle.refutation_checker.specs.LogVerdicts.{AreSoundTo, IsPassed, IsRefusedAt};
-ghost use Rattle.refutation_checker.specs.ChunkVerdicts.{AreSoundBehind};
-ghost use Rattle.refutation_checker.specs.Headers.{without_goal};
+ghost use Rattle.refutation_checker.specs.LogVerdicts.{AreSoundTo, IsPassed, IsRefusedAt, IsTreeJudged};
 
 use crate::header::header_lines;
 use crate::judge::{Judge, Judging};
@@ -57,9 +55,7 @@ fn tree_refusal(
 ) -> Result<Option<LogRefusal>, AllocError>
     requires { Fits problem.now log.now }
     ensures tree { IsTree log.now.lines }
-    ensures refusal { IfOk result (λ found. MatchOption found
-        (AreSoundBehind (without_goal problem.now log.now.named) log.now.turn [] log.now.lines)
-        (λ why. (i : ℕ) × IsRefusedAt (without_goal problem.now log.now.named) log.now i why)) }
+    ensures refusal { IfOk result (IsTreeJudged problem.now log.now) }
 {
     let lines = log.lines();
     let mut walk = Walk::new(alloc, problem, log.turn())?;

@@ -1,5 +1,5 @@
 -- When a log that passes still passes without one rule.
-use Rattle.std.proofs.Common.{◌≡◌, ◌≢◌, ℕ, ◌<◌, ◌≤◌, List, [], ◌∷◌, length, take, get_or, refl, ap, sym, ◌∙◌, subst, inl, inr, ⊎_elim, Some, None, Option, Bool, IsTrue, true, false, cond, not, ◌==◌}
+use Rattle.std.proofs.Common.{◌≡◌, ◌≢◌, ℕ, ◌<◌, ◌≤◌, List, [], ◌∷◌, length, take, get_or, refl, ap, sym, ◌∙◌, subst, inl, inr, ⊎_elim, Some, Option, Bool, IsTrue, true, false, cond, not, ◌==◌}
 use Rattle.std.specs.Prelude.{All, Contains, ◌↔◌, slice_get, MatchBool}
 use Rattle.std.proofs.lemmas.Bool.Decides.{eqb_tells}
 use Rattle.std.proofs.lemmas.List.{take_all, get_or_default}
@@ -88,28 +88,15 @@ none_left_out n (m ∷ R) none =
 -- what a stripped line cites
 
 weighed_before : (P : Instance) (o : Option Rule) (y : List Weight) (i : ℕ) → AreWeights y → HasWeight (without_day o y) i → HasWeight y i
-weighed_before P None y i are h = h
 weighed_before P (Some (TheRules.Day j)) y i are h = (weight_left y j i are h).0
-weighed_before P (Some (TheRules.MaxShift x)) y i are h = h
-weighed_before P (Some (TheRules.MinShift x)) y i are h = h
-weighed_before P (Some TheRules.MaxOff) y i are h = h
-weighed_before P (Some TheRules.MinOff) y i are h = h
-weighed_before P (Some TheRules.MaxWork) y i are h = h
-weighed_before P (Some TheRules.MinWork) y i are h = h
-weighed_before P (Some (TheRules.Pair k)) y i are h = h
-weighed_before P (Some (TheRules.Triple k)) y i are h = h
+weighed_before P other y i are h = h
 
 -- a rule that a stripped line cites was cited before
 pub cited_before : (P : Instance) (n : ℕ) (line : Line) (r : Rule) → LineFits P line → Cites P (strip_line P n line) r → Cites P line r
-cited_before P n (Split p x) r fits c = c
-cited_before P n (Window number p len) r fits c = c
-cited_before P n (Day j x over) r fits c = c
 cited_before P n (Dead p len R) r fits c = (c.0, (was_listed n R c.0 c.1).0, c.2)
 cited_before P n (Bound p turns R y) r fits (inl c) = inl (c.0, (was_listed n R c.0 c.1).0, c.2)
 cited_before P n (Bound p turns R y) r fits (inr c) = inr (c.0, weighed_before P (rule_of P n) y c.0 fits.3.0 c.1, c.2)
-cited_before P n Few r fits c = c
-cited_before P n (Free turns reward R y) r fits c = c
-cited_before P n Unfinished r fits c = c
+cited_before P n line r fits c = c
 
 not_in_list : (P : Instance) (n : ℕ) (r : Rule) (R : List ℕ) → rule_of P n ≡ Some r → Names P (without_rule n R) r → ⊥
 not_in_list P n r R is named = (was_listed n R named.0 named.1).1 (one_number P named.0 n r named.2 is)
@@ -131,27 +118,15 @@ stripped_cites_not P n Unfinished r is fits other c = c
 
 same_weights_for : (r : Rule) (y : List Weight) → AreWeights y → ((j : ℕ) → HasWeight y j → r ≡ TheRules.Day j → ⊥) → without_day (Some r) y ≡ y
 same_weights_for (TheRules.Day j) y are none = no_day_lost y j are (λ has. none j has refl)
-same_weights_for (TheRules.MaxShift x) y are none = refl
-same_weights_for (TheRules.MinShift x) y are none = refl
-same_weights_for TheRules.MaxOff y are none = refl
-same_weights_for TheRules.MinOff y are none = refl
-same_weights_for TheRules.MaxWork y are none = refl
-same_weights_for TheRules.MinWork y are none = refl
-same_weights_for (TheRules.Pair k) y are none = refl
-same_weights_for (TheRules.Triple k) y are none = refl
+same_weights_for other y are none = refl
 
 -- a line that doesn't cite the rule is the same without it
 pub same_stripped : (P : Instance) (n : ℕ) (line : Line) (r : Rule) → rule_of P n ≡ Some r → LineFits P line → (Cites P line r → ⊥) → strip_line P n line ≡ line
-same_stripped P n (Split p x) r is fits none = refl
-same_stripped P n (Window number p len) r is fits none = refl
-same_stripped P n (Day j x over) r is fits none = refl
 same_stripped P n (Dead p len R) r is fits none = ap (Dead p len) (none_left_out n R (λ c. none (n, c, is)))
 same_stripped P n (Bound p turns R y) r is fits none =
     ap (λ l. Bound p turns l (without_day (rule_of P n) y)) (none_left_out n R (λ c. none (inl (n, c, is))))
     ∙ ap (Bound p turns R) (ap (λ o. without_day o y) is ∙ same_weights_for r y fits.3.0 (λ j has e. none (inr (j, has, e))))
-same_stripped P n Few r is fits none = refl
-same_stripped P n (Free turns reward R y) r is fits none = refl
-same_stripped P n Unfinished r is fits none = refl
+same_stripped P n line r is fits none = refl
 
 -- what tells that a strip can't change a line
 
@@ -171,23 +146,12 @@ same_bound P n p turns R y r line e is none same =
 
 pub plain_stays : (P : Instance) (n : ℕ) (line : Line) → is_plain (strip_line P n line) ≡ is_plain line
 plain_stays P n (Split p x) = refl
-plain_stays P n (Window number p len) = refl
-plain_stays P n (Day j x over) = refl
-plain_stays P n (Dead p len R) = refl
-plain_stays P n (Bound p turns R y) = refl
-plain_stays P n Few = refl
-plain_stays P n (Free turns reward R y) = refl
-plain_stays P n Unfinished = refl
+plain_stays P n line = refl
 
 pub plain_same : (P : Instance) (n : ℕ) (line : Line) → is_plain line ≡ true → strip_line P n line ≡ line
-plain_same P n (Split p x) e = refl
-plain_same P n (Window number p len) e = refl
-plain_same P n (Day j x over) e = refl
 plain_same P n (Dead p len R) e = absurd (cc)
 plain_same P n (Bound p turns R y) e = absurd (cc)
-plain_same P n Few e = refl
-plain_same P n (Free turns reward R y) e = refl
-plain_same P n Unfinished e = refl
+plain_same P n line e = refl
 
 -- the test
 
@@ -200,14 +164,9 @@ still_named P n r z named is ne names =
     (names.0, still_listed n named names.0 names.1 (λ e. ne (other_rule P n names.0 r z is e names.2)), names.2)
 
 short_still : (P : Instance) (n : ℕ) (line : Line) → ListsShortOnly P line → ListsShortOnly P (strip_line P n line)
-short_still P n (Split p x) h = h
-short_still P n (Window number p len) h = h
-short_still P n (Day j x over) h = h
 short_still P n (Dead p len R) h = λ r c. h r (c.0, (was_listed n R c.0 c.1).0, c.2)
 short_still P n (Bound p turns R y) h = λ r c. h r (c.0, (was_listed n R c.0 c.1).0, c.2)
-short_still P n Few h = h
-short_still P n (Free turns reward R y) h = h
-short_still P n Unfinished h = h
+short_still P n line h = h
 
 pub short_stripped : (P : Instance) (n : ℕ) (line : Line) → ListsShortOnly P line → ListsShortOnly P (strip_line P n line)
 short_stripped P n line h = short_still P n line h

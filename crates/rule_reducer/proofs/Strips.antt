@@ -13,7 +13,7 @@ use Rattle.rwsp_terms.specs.Instance.{Instance, IsDay, IsSymbol}
 use Rattle.rwsp_terms.specs.Rules.{rule_of, rules}
 use Rattle.rwsp_terms.specs.Weights.{ComesBefore, IsWeight}
 use Rattle.refutation_terms.specs.declared.lines.Line.{Line}
-use Rattle.refutation_terms.specs.declared.lines.Line.TheVariants.{Split, Window, Day, Dead, Bound, Few, Free, Unfinished}
+use Rattle.refutation_terms.specs.declared.lines.Line.TheVariants.{Split, Day, Dead, Bound}
 use Rattle.refutation_terms.specs.declared.lines.Turn.{Turn}
 use Rattle.refutation_terms.specs.Tree.{IsLeaf, Tree, Leaf, Node, lines_in, IsTree, after_trees, Side, side, side_of, line_leaves, lines_leave, opening, domains_at}
 use Rattle.refutation_terms.specs.Log.{Log, AreRules, AreWeightsOf, LineFits, Fits}
@@ -24,13 +24,7 @@ use Rattle.refutation_terms.proofs.TreeDomains.{same_domains}
 
 leaf_stays : (P : Instance) (n : ℕ) (line : Line) → IsLeaf line → IsLeaf (strip_line P n line)
 leaf_stays P n (Split p x) h = h
-leaf_stays P n (Window r p len) h = h
-leaf_stays P n (Day j x over) h = h
-leaf_stays P n (Dead p len R) h = h
-leaf_stays P n (Bound p turns R y) h = h
-leaf_stays P n Few h = h
-leaf_stays P n (Free turns reward R y) h = h
-leaf_stays P n Unfinished h = h
+leaf_stays P n line h = h
 
 mapped_append : (f : Line → Line) (xs ys : List Line) → map f (xs ++ ys) ≡ map f xs ++ map f ys
 mapped_append f [] ys = refl
@@ -56,13 +50,7 @@ after_stays : (P : Instance) (n count : ℕ) (lines : List Line) → after_trees
 after_stays P n zero lines = refl
 after_stays P n (suc count) [] = refl
 after_stays P n (suc count) (Split p x ∷ lines) = after_stays P n (suc (suc count)) lines
-after_stays P n (suc count) (Window r p len ∷ lines) = after_stays P n count lines
-after_stays P n (suc count) (Day j x over ∷ lines) = after_stays P n count lines
-after_stays P n (suc count) (Dead p len R ∷ lines) = after_stays P n count lines
-after_stays P n (suc count) (Bound p turns R y ∷ lines) = after_stays P n count lines
-after_stays P n (suc count) (Few ∷ lines) = after_stays P n count lines
-after_stays P n (suc count) (Free turns reward R y ∷ lines) = after_stays P n count lines
-after_stays P n (suc count) (Unfinished ∷ lines) = after_stays P n count lines
+after_stays P n (suc count) (line ∷ lines) = after_stays P n count lines
 
 side_of_mapped : (f : List Line → List Line) (one two : Option (List Line)) → side_of (option_map f one) (option_map f two) ≡ side_of one two
 side_of_mapped f None two = refl
@@ -78,13 +66,7 @@ side_stays P n between =
 
 line_leaves_same : (P : Instance) (n : ℕ) (line : Line) (s : Side) (p z : ℕ) → line_leaves (strip_line P n line) s p z ≡ line_leaves line s p z
 line_leaves_same P n (Split q x) s p z = refl
-line_leaves_same P n (Window r q len) s p z = refl
-line_leaves_same P n (Day j x over) s p z = refl
-line_leaves_same P n (Dead q len R) s p z = refl
-line_leaves_same P n (Bound q turns R y) s p z = refl
-line_leaves_same P n Few s p z = refl
-line_leaves_same P n (Free turns reward R y) s p z = refl
-line_leaves_same P n Unfinished s p z = refl
+line_leaves_same P n line s p z = refl
 
 lines_leave_same : (P : Instance) (n : ℕ) (lines : List Line) (p z : ℕ) → lines_leave (map (strip_line P n) lines) p z ≡ lines_leave lines p z
 lines_leave_same P n [] p z = refl
@@ -134,26 +116,13 @@ weights_filtered P keep y are = (
 )
 
 weights_stay : (P : Instance) (r : Option Rule) (y : List Weight) → AreWeightsOf P y → AreWeightsOf P (without_day r y)
-weights_stay P None y are = are
 weights_stay P (Some (TheRules.Day j)) y are = weights_filtered P (λ (e : Weight). not (e.day == j)) y are
-weights_stay P (Some (TheRules.MaxShift x)) y are = are
-weights_stay P (Some (TheRules.MinShift x)) y are = are
-weights_stay P (Some TheRules.MaxOff) y are = are
-weights_stay P (Some TheRules.MinOff) y are = are
-weights_stay P (Some TheRules.MaxWork) y are = are
-weights_stay P (Some TheRules.MinWork) y are = are
-weights_stay P (Some (TheRules.Pair k)) y are = are
-weights_stay P (Some (TheRules.Triple k)) y are = are
+weights_stay P other y are = are
 
 pub line_fits_still : (P : Instance) (n : ℕ) (line : Line) → LineFits P line → LineFits P (strip_line P n line)
-line_fits_still P n (Split p x) h = h
-line_fits_still P n (Window r p len) h = h
-line_fits_still P n (Day j x over) h = h
 line_fits_still P n (Dead p len R) h = (h.0, h.1, rules_stay P n R h.2)
 line_fits_still P n (Bound p turns R y) h = (h.0, h.1, rules_stay P n R h.2, weights_stay P (rule_of P n) y h.3)
-line_fits_still P n Few h = h
-line_fits_still P n (Free turns reward R y) h = h
-line_fits_still P n Unfinished h = h
+line_fits_still P n line h = h
 
 pub fits_still : (P : Instance) (n : ℕ) (g : Log) → Fits P g → Fits P (strip P n g)
 fits_still P n g fits = record {

@@ -1,5 +1,5 @@
 -- A log that passes without some window rules passes without the first of them alone.
-use Rattle.std.proofs.Common.{◌≡◌, ◌≢◌, ℕ, ◌<◌, ◌≤◌, List, [], ◌∷◌, length, refl, sym, subst, inl, inr, Some, None, Option, true, false}
+use Rattle.std.proofs.Common.{◌≡◌, ◌≢◌, ℕ, ◌<◌, ◌≤◌, List, [], ◌∷◌, length, refl, sym, subst, inl, inr, Some, Option}
 use Rattle.std.specs.Prelude.{All, Contains, slice_get}
 use Rattle.std.proofs.lemmas.List.Elements.{All-contains, All-head, All-tail, All-weaker}
 use Rattle.rwsp_terms.specs.declared.data.Weight.{Weight}
@@ -49,14 +49,9 @@ list_stays P n named R h = (
 )
 
 lists_stay : (P : Instance) (n : ℕ) (named : List ℕ) (line : Line) → ListsAreNamed P named line → ListsAreNamed P (without_rule n named) (strip_line P n line)
-lists_stay P n named (Split p x) h = h
-lists_stay P n named (Window r p len) h = h
-lists_stay P n named (Day j x over) h = h
 lists_stay P n named (Dead p len R) h = list_stays P n named R h
 lists_stay P n named (Bound p turns R y) h = list_stays P n named R h
-lists_stay P n named Few h = h
-lists_stay P n named (Free turns reward R y) h = h
-lists_stay P n named Unfinished h = h
+lists_stay P n named line h = h
 
 laid_out_still : (P : Instance) (n : ℕ) (g : Log) → IsLaidOut P g → IsLaidOut P (strip P n g)
 laid_out_still P n g laid = record {
@@ -76,14 +71,9 @@ list_named P named R are h k c =
     subst (Contains named) (one_number P m.0 k r.0 m.2 r.1) m.1
 
 lists_named : (P : Instance) (named : List ℕ) (line : Line) → LineFits P line → ((r : Rule) → Cites P line r → Names P named r) → ListsShortOnly P line → ListsAreNamed P named line
-lists_named P named (Split p x) fits h short = tt
-lists_named P named (Window r p len) fits h short = tt
-lists_named P named (Day j x over) fits h short = tt
 lists_named P named (Dead p len R) fits h short = (list_named P named R fits.2 h, short)
 lists_named P named (Bound p turns R y) fits h short = (list_named P named R fits.2 (λ r c. h r (inl c)), short)
-lists_named P named Few fits h short = tt
-lists_named P named (Free turns reward R y) fits h short = tt
-lists_named P named Unfinished fits h short = tt
+lists_named P named line fits h short = tt
 
 passing_laid_out : (P : Instance) (g : Log) → Passes P g → IsLaidOut P g
 passing_laid_out P g passes = record {
@@ -95,16 +85,8 @@ passing_laid_out P g passes = record {
 
 -- a window rule takes no weights along
 no_day : (r : Option Rule) (y : List Weight) → ((j : ℕ) → r ≢ Some (TheRules.Day j)) → without_day r y ≡ y
-no_day None y h = refl
 no_day (Some (TheRules.Day j)) y h = absurd (h j refl)
-no_day (Some (TheRules.MaxShift x)) y h = refl
-no_day (Some (TheRules.MinShift x)) y h = refl
-no_day (Some TheRules.MaxOff) y h = refl
-no_day (Some TheRules.MinOff) y h = refl
-no_day (Some TheRules.MaxWork) y h = refl
-no_day (Some TheRules.MinWork) y h = refl
-no_day (Some (TheRules.Pair k)) y h = refl
-no_day (Some (TheRules.Triple k)) y h = refl
+no_day other y h = refl
 
 -- the rules that a line cites are named where those are that it cites without one rule
 line_named : (P : Instance) (n : ℕ) (named : List ℕ) (line : Line) → IsWindowRule P n → ListsAreNamed P named line → ((r : Rule) → Cites P (strip_line P n line) r → Names P (without_rule n named) r) → (r : Rule) → Cites P line r → Names P named r
@@ -120,28 +102,18 @@ line_named P n named (Free turns reward R y) window lists h r c = more_named P n
 line_named P n named Unfinished window lists h r c = absurd c
 
 lists_short : (P : Instance) (named : List ℕ) (line : Line) → LineFits P line → ListsAreNamed P named line → ListsShortOnly P line
-lists_short P named (Split p x) fits h = h
-lists_short P named (Window r p len) fits h = h
-lists_short P named (Day j x over) fits h = h
 lists_short P named (Dead p len R) fits h = h.1
 lists_short P named (Bound p turns R y) fits h = h.1
-lists_short P named Few fits h = h
 lists_short P named (Free turns reward R y) fits h = absurd fits
-lists_short P named Unfinished fits h = h
+lists_short P named line fits h = h
 
 -- a line that holds without a window rule holds with it
 holds_with : (P : Instance) (n : ℕ) (D : Domains) (line : Line) → IsWindowRule P n → Holds P D (strip_line P n line) → Holds P D line
-holds_with P n D (Split p x) window h = h
-holds_with P n D (Window r p len) window h = h
-holds_with P n D (Day j x true) window h = h
-holds_with P n D (Day j x false) window h = h
 holds_with P n D (Dead p len R) window h = λ u long over clean. h u long over (clean-fewer P R (without_rule n R) u (λ k c. (was_listed n R k c).0) clean)
 holds_with P n D (Bound p turns R y) window h = λ u long over clean.
     let light : IsTooLight P D p turns (without_rule n R) y = subst (λ z. IsTooLight P D p turns (without_rule n R) z) (no_day (rule_of P n) y window) h in
     light u long over (clean-fewer P R (without_rule n R) u (λ k c. (was_listed n R k c).0) clean)
-holds_with P n D Few window h = h
-holds_with P n D (Free turns reward R y) window h = h
-holds_with P n D Unfinished window h = h
+holds_with P n D line window h = h
 
 passes_with : (P : Instance) (n : ℕ) (g : Log) → IsLaidOut P g → IsWindowRule P n → Passes P (strip P n g) → Passes P g
 passes_with P n g laid window passes = record {

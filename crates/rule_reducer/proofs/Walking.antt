@@ -7,7 +7,7 @@ use Rattle.std.proofs.lemmas.List.{take_more}
 use Rattle.std.proofs.lemmas.Option.{same_Some, slice_get_within, slice_get_read, get_or_from_slice_get}
 use Rattle.rwsp_terms.specs.Instance.{Instance}
 use Rattle.refutation_terms.specs.declared.lines.Line.{Line}
-use Rattle.refutation_terms.specs.declared.lines.Line.TheVariants.{Split, Window, Day, Dead, Bound, Few, Free, Unfinished}
+use Rattle.refutation_terms.specs.declared.lines.Line.TheVariants.{Dead, Bound}
 use Rattle.refutation_terms.specs.declared.lines.Turn.{Turn}
 use Rattle.refutation_terms.specs.Word.{Domains}
 use Rattle.refutation_terms.specs.Tree.{opening, lines_leave, domains_at}
@@ -46,14 +46,9 @@ walked_more P turn lines i line w here state =
 
 -- a dead or a bound leaf holds by its words
 by_words : (P : Instance) (D : Domains) (n : ℕ) (line : Line) → HasList line → HoldsByWords P D (strip_line P n line) ↔ Holds P D (strip_line P n line)
-by_words P D n (Split p x) has = absurd has
-by_words P D n (Window number p len) has = absurd has
-by_words P D n (Day j x over) has = absurd has
 by_words P D n (Dead p len R) has = (λ h. h, λ h. h)
 by_words P D n (Bound p turns R y) has = (λ h. h, λ h. h)
-by_words P D n Few has = absurd has
-by_words P D n (Free turns reward R y) has = absurd has
-by_words P D n Unfinished has = absurd has
+by_words P D n line has = absurd has
 
 pub judged : (P : Instance) (D : Domains) (n : ℕ) (line : Line) (b : Bool) → HasList line → IsTrue b ↔ HoldsByWords P D (strip_line P n line)
     → MatchBool (not b) (Holds P D (strip_line P n line) → ⊥) (Holds P D (strip_line P n line))

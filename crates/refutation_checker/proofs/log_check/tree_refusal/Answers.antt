@@ -1,4 +1,4 @@
-use Rattle.std.proofs.Common.{ℕ, List, [], length, take, ap, subst, arith}
+use Rattle.std.proofs.Common.{ℕ, List, [], length, ap, subst, arith}
 use Rattle.std.specs.Prelude.{IfOk, MatchOption}
 use Rattle.std.proofs.lemmas.List.{take_all}
 use Rattle.refutation_terms.specs.declared.lines.Line.{Line}
