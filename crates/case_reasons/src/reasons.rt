@@ -14,8 +14,11 @@ use rule_automaton::Automaton;
 use rwsp_model::Problem;
 use std::alloc::{AllocError, Global};
 
+// Windows and days, asked in this order.
+type PlainReasons<'a> = Pair<WindowProp<'a>, DayProp<'a>>;
+
 /// Windows, days and words of two turns, asked in this order.
-pub type CaseReasons<'a> = Pair<Pair<WindowProp, DayProp>, CycleProp<'a>>;
+pub type CaseReasons<'a> = Pair<PlainReasons<'a>, CycleProp<'a>>;
 
 /// The reasons of an automaton's problem that weigh no words, for any search. Its rules are all short ones.
 pub fn case_reasons<'a>(
@@ -36,17 +39,17 @@ pub fn case_reasons<'a>(
 }
 
 // Windows and days, asked in this order.
-fn plain_reasons(
+fn plain_reasons<'a>(
     alloc: Global,
-    problem: &Problem,
+    problem: &'a Problem,
     doms: &Domains,
-) -> Result<Pair<WindowProp, DayProp>, AllocError>
+) -> Result<PlainReasons<'a>, AllocError>
     requires { BelongsTo problem.now doms.now }
-    ensures serves { IfOk result (λ r. ⟦<Pair<WindowProp, DayProp> as Propagator>⟧.serves r problem.now) }
-    ensures leaves { IfOk result (λ r. HasPlainLeaves problem.now (⟦<Pair<WindowProp, DayProp> as Propagator>⟧.leaves r)) }
-    ensures unweighed { IfOk result (λ r. WeighNoWords (⟦<Pair<WindowProp, DayProp> as Propagator>⟧.leaves r)) }
+    ensures serves { IfOk result (λ r. ⟦<PlainReasons<'a> as Propagator>⟧.serves r problem.now) }
+    ensures leaves { IfOk result (λ r. HasPlainLeaves problem.now (⟦<PlainReasons<'a> as Propagator>⟧.leaves r)) }
+    ensures unweighed { IfOk result (λ r. WeighNoWords (⟦<PlainReasons<'a> as Propagator>⟧.leaves r)) }
     ensures spent { IfOk result (λ r. (S : Store) (p : ℕ) (x : Symbol)
-        → ⟦<Pair<WindowProp, DayProp> as Propagator>⟧.spent r S p x ↔ IsDaySpent problem.now (has_domain S) p x) }
+        → ⟦<PlainReasons<'a> as Propagator>⟧.spent r S p x ↔ IsDaySpent problem.now (has_domain S) p x) }
 {
     let windows = WindowProp::new(alloc, problem, doms)?;
     let days = DayProp::new(alloc, problem, doms)?;

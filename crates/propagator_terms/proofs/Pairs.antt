@@ -16,19 +16,18 @@ neither_closes P l m S first second h =
     ]
 
 closed_by : (P : Instance) (l m : Line → Type 0) (S : Store) (line : Line) → IsClosing P l S line → IsClosing P (λ line. l line ⊎ m line) S line
-closed_by P l m S line is = record { is_leaf = is.is_leaf; among = inl is.among; holds = is.holds }
+closed_by P l m S line is = (inl is.0, is.1)
 
 closed_too : (P : Instance) (l m : Line → Type 0) (S : Store) (line : Line) → IsClosing P m S line → IsClosing P (λ line. l line ⊎ m line) S line
-closed_too P l m S line is = record { is_leaf = is.is_leaf; among = inr is.among; holds = is.holds }
+closed_too P l m S line is = (inr is.0, is.1)
 
 cut_by : (P : Instance) (s t : ℕ → Symbol → Type 0) (S : Store) (p : ℕ) (x : Symbol) (line : Line) → IsCut P s S p x line → IsCut P (λ p x. s p x ⊎ t p x) S p x line
 cut_by P s t S p x line is = record {
   is_spent = inl is.is_spent;
   position = is.position;
   useful = is.useful;
-  is_leaf = is.is_leaf;
   unweighed = is.unweighed;
-  holds = is.holds;
+  leaf = is.leaf;
 }
 
 cut_too : (P : Instance) (s t : ℕ → Symbol → Type 0) (S : Store) (p : ℕ) (x : Symbol) (line : Line) → IsCut P t S p x line → IsCut P (λ p x. s p x ⊎ t p x) S p x line
@@ -36,9 +35,8 @@ cut_too P s t S p x line is = record {
   is_spent = inr is.is_spent;
   position = is.position;
   useful = is.useful;
-  is_leaf = is.is_leaf;
   unweighed = is.unweighed;
-  holds = is.holds;
+  leaf = is.leaf;
 }
 
 neither_spent : (s t : ℕ → Symbol → Type 0) → ((p : ℕ) (x : Symbol) → s p x → ⊥) → ((p : ℕ) (x : Symbol) → t p x → ⊥) → (p : ℕ) (x : Symbol) → s p x ⊎ t p x → ⊥

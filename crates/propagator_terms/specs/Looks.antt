@@ -1,24 +1,19 @@
 -- What a propagator says of domains.
-use Rattle.std.specs.Prelude.{◌≡◌, ◌≢◌, ◌↔◌, ℕ, ◌<◌, Bool, false, IsTrue}
+use Rattle.std.specs.Prelude.{◌≡◌, ◌≢◌, ◌↔◌, ℕ, ◌<◌, Bool, false, None, IsTrue}
 use Rattle.rwsp_terms.specs.declared.data.Symbol.{Symbol}
 use Rattle.rwsp_terms.specs.Instance.{Instance, cells}
 use Rattle.refutation_terms.specs.declared.lines.Line.{Line}
 use Rattle.refutation_terms.specs.declared.lines.Line.TheVariants.{Split, Window, Day, Bound, Free}
-use Rattle.refutation_terms.specs.Tree.{IsLeaf, First, narrowed, is_idle}
-use Rattle.refutation_terms.specs.Log.{Holds, LineFits, ListsShortOnly}
+use Rattle.refutation_terms.specs.Tree.{First, narrowed, is_idle}
+use Rattle.refutation_terms.specs.Log.{Holds, LineFits}
 use Rattle.domain_store.specs.Store.{Store, BelongsTo, HasSameShape, domain_at, has_domain}
+use Rattle.propagator_terms.specs.Leaves.{IsHoldingLeafFor}
 use Rattle.propagator_terms.specs.declared.look.Look.{Look}
 use Rattle.propagator_terms.specs.declared.look.Look.TheVariants.{Quiet, Closed, Cut}
 
 -- some leaf of these holds under the domains: they are closed
 abbrev pub Closes : Instance → (Line → Type 0) → Store → Type 0
 Closes P leaves S = (line : Line) × leaves line × Holds P (has_domain S) line
-
--- a leaf with its numbers in their ranges, and with short rules only in its list
-pub record IsLeafOf (P : Instance) (line : Line) : Type 0 where
-  pub leaf : IsLeaf line
-  pub fits : LineFits P line
-  pub short : ListsShortOnly P line
 
 -- a line that weighs no words
 abbrev pub IsUnweighed : Line → Type 0
@@ -27,10 +22,8 @@ IsUnweighed (Free turns reward R y) = ⊥
 IsUnweighed line = Unit {0}
 
 -- one of the leaves, and it holds
-pub record IsClosing (P : Instance) (leaves : Line → Type 0) (S : Store) (line : Line) : Type 0 where
-  pub is_leaf : IsLeafOf P line
-  pub among : leaves line
-  pub holds : Holds P (has_domain S) line
+abbrev pub IsClosing : Instance → (Line → Type 0) → Store → Line → Type 0
+IsClosing P leaves S line = leaves line × IsHoldingLeafFor P None (has_domain S) line
 
 -- a spent symbol, which is in the domain of its position beside another, and a leaf that holds once it is alone there
 -- and weighs no words
@@ -39,9 +32,8 @@ pub record IsCut (P : Instance) (spent : ℕ → Symbol → Type 0) (S : Store)
   pub is_spent : spent p x
   pub position : p < cells P
   pub useful : is_idle P (has_domain S) p x.number ≡ false
-  pub is_leaf : IsLeafOf P line
   pub unweighed : IsUnweighed line
-  pub holds : Holds P (narrowed (has_domain S) (Split p x) First) line
+  pub leaf : IsHoldingLeafFor P None (narrowed (has_domain S) (Split p x) First) line
 
 -- closed exactly where a leaf holds; a cut exactly where none does and a symbol is spent; quiet where there is
 -- neither
@@ -72,13 +64,12 @@ abbrev pub AreSpentBesideAnother : (Instance → Type 0) → (Store → ℕ → 
 AreSpentBesideAnother serves spent = (P : Instance) (S : Store) (p : ℕ) (x : Symbol) → serves P
     → BelongsTo P S → spent S p x → IsBesideAnother P S p x
 
--- before and now the same problems are served, with the same leaves and the same spent symbols
-pub record SameReasons (serves_before serves_now : Instance → Type 0)
-    (leaves_before leaves_now : Store → Line → Type 0)
-    (spent_before spent_now : Store → ℕ → Symbol → Type 0) : Type 0 where
-  pub serves : (P : Instance) → serves_before P ↔ serves_now P
-  pub leaves : (S : Store) (line : Line) → leaves_before S line ↔ leaves_now S line
-  pub spent : (S : Store) (p : ℕ) (x : Symbol) → spent_before S p x ↔ spent_now S p x
+-- two states of a propagator serve the same problems, with the same leaves and the same spent symbols
+pub record IsSame {A : Type 0} (served : A → Instance → Type 0) (lines : A → Store → Line → Type 0)
+    (symbols : A → Store → ℕ → Symbol → Type 0) (old new : A) : Type 0 where
+  pub serves : (P : Instance) → served old P ↔ served new P
+  pub leaves : (S : Store) (line : Line) → lines old S line ↔ lines new S line
+  pub spent : (S : Store) (p : ℕ) (x : Symbol) → symbols old S p x ↔ symbols new S p x
 
 -- the domains differ at one position at most, and there some symbols of the domain before are left
 pub record IsNarrowedAt (before now : Store) (p : ℕ) : Type 0 where

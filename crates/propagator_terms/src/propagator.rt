@@ -4,7 +4,7 @@ ghost use Rattle.rwsp_terms.specs.declared.data.Symbol.{Symbol};
 ghost use Rattle.rwsp_terms.specs.Instance.{Instance};
 ghost use Rattle.refutation_terms.specs.declared.lines.Line.{Line};
 ghost use Rattle.domain_store.specs.Store.{Store, BelongsTo};
-ghost use Rattle.propagator_terms.specs.Looks.{IsLook, IsNarrowedAt, SameReasons, AreSpentBesideAnother};
+ghost use Rattle.propagator_terms.specs.Looks.{IsLook, IsNarrowedAt, IsSame, AreSpentBesideAnother};
 
 use crate::Look;
 use domain_store::Domains;
@@ -39,8 +39,7 @@ pub trait Propagator {
         ensures look { IfOk result (λ look. (P : Instance) → serves self.old P
             → IsLook P (leaves self.old doms.now) (spent self.old doms.now) doms.now look) }
         ensures tracks { (S : Store) → tracks self.old S ↔ tracks self.new S }
-        ensures same { SameReasons (serves self.old) (serves self.new) (leaves self.old) (leaves self.new)
-            (spent self.old) (spent self.new) };
+        ensures same { IsSame serves leaves spent self.old self.new };
 
     /// Tracks the present domains, which differ from tracked ones at position `p` alone, where symbols were taken
     /// away.
@@ -49,13 +48,11 @@ pub trait Propagator {
         requires position { p < length doms.now.sets }
         requires tracked { (before : Store) × tracks self.old before × IsNarrowedAt before doms.now p }
         ensures tracks { tracks self.new doms.now }
-        ensures same { SameReasons (serves self.old) (serves self.new) (leaves self.old) (leaves self.new)
-            (spent self.old) (spent self.new) };
+        ensures same { IsSame serves leaves spent self.old self.new };
 
     /// Tracks the present domains, whichever domains of its problem it tracked before.
     fn undone(&mut self, doms: &Domains)
         requires problem { (P : Instance) × serves self.old P × BelongsTo P doms.now }
         ensures tracks { tracks self.new doms.now }
-        ensures same { SameReasons (serves self.old) (serves self.new) (leaves self.old) (leaves self.new)
-            (spent self.old) (spent self.new) };
+        ensures same { IsSame serves leaves spent self.old self.new };
 }

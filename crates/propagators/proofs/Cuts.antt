@@ -179,11 +179,7 @@ one_symbol_more P D j n before here z less =
 pub closing_day : (P : Instance) (S : Store) (j : ℕ) (x : Symbol) (over : Bool) → IsFirstOverrun P (has_domain S) j x.number over → IsClosing P (IsDayLeaf P) S (Day j x over)
 closing_day P S j x over first =
     let fits : LineFits P (Day j x over) = (first.day, first.first.symbol) in
-    record {
-      is_leaf = record { leaf = tt; fits = fits; short = tt };
-      among = fits;
-      holds = holds_where_overrun P (has_domain S) j x over first.first.holds;
-    }
+    (fits, record { leaf = tt; fits = fits; short = tt; holds = holds_where_overrun P (has_domain S) j x over first.first.holds })
 
 pub none_closes : (P : Instance) (S : Store) → ((j z : ℕ) → IsDay P j → z ≤ shift_count P → IsWithinDemand P (has_domain S) j z) → Closes P (IsDayLeaf P) S → ⊥
 none_closes P S within (Split p x, among, holds) = among
@@ -200,7 +196,6 @@ cut_day P S p x j counted over cut = record {
   is_spent = record { position = cut.position; useful = cut.useful; closes = (j, counted, over, cut.fits, cut.holds) };
   position = cut.position;
   useful = cut.useful;
-  is_leaf = record { leaf = tt; fits = cut.fits; short = tt };
   unweighed = tt;
-  holds = cut.holds;
+  leaf = record { leaf = tt; fits = cut.fits; short = tt; holds = cut.holds };
 }

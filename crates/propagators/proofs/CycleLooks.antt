@@ -1,5 +1,5 @@
 -- What is seen by the words of two turns: the dead leaf, and the one that holds once a symbol is alone.
-use Rattle.std.proofs.Common.{◌≡◌, ℕ, zero, suc, ◌+◌, ◌*◌, ◌%◌, ◌<◌, ◌≤◌, List, [], ◌∷◌, length, get_or, refl, ap, sym, ◌∙◌, subst, arith, Bool, true, false, not, IsTrue, Some}
+use Rattle.std.proofs.Common.{◌≡◌, ℕ, zero, suc, ◌+◌, ◌*◌, ◌%◌, ◌<◌, ◌≤◌, List, [], ◌∷◌, length, get_or, refl, ap, sym, ◌∙◌, subst, arith, Bool, true, false, not, IsTrue, Some, None}
 use Rattle.std.specs.Prelude.{◌&&◌, ◌||◌, ◌==◌, slice_get}
 use Rattle.std.proofs.lemmas.Bool.{eqb-true, eq-eqb}
 use Rattle.std.proofs.lemmas.Nat.{mod-mul-add}
@@ -15,7 +15,8 @@ use Rattle.refutation_terms.specs.Sharp.{NoWordHas}
 use Rattle.refutation_terms.proofs.ExampleShort.{clean_for_some, dead_for_all, all_are_short}
 use Rattle.domain_store.specs.Sets.{has_symbol}
 use Rattle.domain_store.specs.Store.{Store, has_domain}
-use Rattle.propagator_terms.specs.Looks.{Closes, IsClosing, IsCut, IsLeafOf}
+use Rattle.propagator_terms.specs.Leaves.{IsHoldingLeafFor}
+use Rattle.propagator_terms.specs.Looks.{Closes, IsClosing, IsCut}
 use Rattle.propagator_terms.specs.Cycles.{AreShortRules, IsCycleLeaf, IsCycleSpent}
 use Rattle.kept_cycle.specs.Known.{KnownCycle, knows_symbol}
 use Rattle.kept_cycle.specs.CycleCuts.{IsUnsupported}
@@ -78,20 +79,21 @@ dead_once_alone P D R p x within none u long over clean =
 
 -- what the looks say
 
-pub cycle_leaf : (C : KnownCycle) → 0 < cells C.problem → cells C.problem ≤ MOST_CELLS → AreShortRules C.problem C.rules → IsLeafOf C.problem (Dead 0 (2 * cells C.problem) C.rules)
-cycle_leaf C some few short = record {
+cycle_leaf : (C : KnownCycle) (D : Domains) → 0 < cells C.problem → cells C.problem ≤ MOST_CELLS → AreShortRules C.problem C.rules → IsDead C.problem D 0 (2 * cells C.problem) C.rules
+    → IsHoldingLeafFor C.problem None D (Dead 0 (2 * cells C.problem) C.rules)
+cycle_leaf C D some few short dead = record {
   leaf = tt;
   fits = (some, (omega (arith, some), omega (arith, few)), short.are_rules);
   short = all_are_short C.problem C.rules short.all_short;
+  holds = dead;
 }
 
 pub closed_cycle : (C : KnownCycle) (S : Store) (line : Line) → line ≡ Dead 0 (2 * cells C.problem) C.rules → IsShortCycle C S → 0 < cells C.problem → cells C.problem ≤ MOST_CELLS → IsDead C.problem (knows_symbol C) 0 (2 * cells C.problem) C.rules
     → IsClosing C.problem (IsCycleLeaf C.problem) S line
-closed_cycle C S line is h some few dead = subst (λ (l : Line). IsClosing C.problem (IsCycleLeaf C.problem) S l) (sym is) (record {
-  is_leaf = cycle_leaf C some few h.short;
-  among = (refl, refl, h.short);
-  holds = dead_in_store C S (2 * cells C.problem) h.stands.sets dead;
-})
+closed_cycle C S line is h some few dead = subst (λ (l : Line). IsClosing C.problem (IsCycleLeaf C.problem) S l) (sym is) (
+  (refl, refl, h.short),
+  cycle_leaf C (has_domain S) some few h.short (dead_in_store C S (2 * cells C.problem) h.stands.sets dead),
+)
 
 same_dead : (C : KnownCycle) (S : Store) (p len : ℕ) (R : List ℕ) → IsShortCycle C S → p ≡ 0 → len ≡ 2 * cells C.problem → AreShortRules C.problem R → IsDead C.problem (has_domain S) p len R → IsDead C.problem (knows_symbol C) 0 (2 * cells C.problem) C.rules
 same_dead C S p len R h start turns short dead =
@@ -116,9 +118,8 @@ cut_cycle C S p x line is h some few u = subst (λ (l : Line). IsCut C.problem (
   is_spent = record { position = u.position; useful = u.useful; short = C.rules; all_short = h.short.all_short; nowhere = u.nowhere };
   position = u.position;
   useful = u.useful;
-  is_leaf = cycle_leaf C some few h.short;
   unweighed = tt;
-  holds = dead_once_alone C.problem (has_domain S) C.rules p x u.position u.nowhere;
+  leaf = cycle_leaf C (narrowed (has_domain S) (Split p x) First) some few h.short (dead_once_alone C.problem (has_domain S) C.rules p x u.position u.nowhere);
 })
 
 pub none_spent : (C : KnownCycle) (S : Store) → IsShortCycle C S → ((p : ℕ) (x : Symbol) → IsUnsupported C S p x → ⊥) → (p : ℕ) (x : Symbol) → IsCycleSpent C.problem (has_domain S) p x → ⊥

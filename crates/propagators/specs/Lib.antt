@@ -1,4 +1,5 @@
 pub mod Days
+pub mod DayCuts
 pub mod Windows
 pub mod TopBounds
 pub mod ShortCycles

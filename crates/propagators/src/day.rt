@@ -23,45 +23,46 @@ use std::marker::Model;
 /// takes away what would lead there at once. It keeps counts of the domains that it tracks: a look takes a step for
 /// each day and symbol, and one for each week where a symbol is taken away.
 #[derive(Drop)]
-pub struct DayProp {
-    problem: Problem,
+pub struct DayProp<'a> {
+    problem: &'a Problem,
     counts: Counts,
 }
 
-impl Model for DayProp {
+impl<'a> Model for DayProp<'a> {
     ghost use Rattle.propagators.specs.Days.{DayWatch};
 
     ghost Value = { DayWatch };
 
     ghost use Rattle.demand_counts.specs.Counted.{CountsFor};
 
-    ghost view = { λ d. record { problem = d.problem; counts = d.counts } };
+    ghost view = { λ d. record { problem = d.problem.now; counts = d.counts } };
 
-    ghost invariant = { λ d. CountsFor d.problem d.counts };
+    ghost invariant = { λ d. CountsFor d.problem.now d.counts };
 }
 
-impl DayProp {
+impl<'a> DayProp<'a> {
     /// Tracks the domains. Its leaves are all day leaves of the problem.
-    pub fn new(alloc: Global, problem: &Problem, doms: &Domains) -> Result<DayProp, AllocError>
+    pub fn new(
+        alloc: Global,
+        problem: &'a Problem,
+        doms: &Domains,
+    ) -> Result<DayProp<'a>, AllocError>
         requires { BelongsTo problem.now doms.now }
-        ensures serves { IfOk result (λ d. ⟦<DayProp as Propagator>⟧.serves d problem.now) }
-        ensures tracks { IfOk result (λ d. ⟦<DayProp as Propagator>⟧.tracks d doms.now) }
+        ensures serves { IfOk result (λ d. ⟦<DayProp<'a> as Propagator>⟧.serves d problem.now) }
+        ensures tracks { IfOk result (λ d. ⟦<DayProp<'a> as Propagator>⟧.tracks d doms.now) }
         ensures leaves { IfOk result (λ d. (S : Store) (j : ℕ) (x : Symbol) (over : Bool)
-            → LineFits problem.now (Day j x over) → ⟦<DayProp as Propagator>⟧.leaves d S (Day j x over)) }
+            → LineFits problem.now (Day j x over) → ⟦<DayProp<'a> as Propagator>⟧.leaves d S (Day j x over)) }
         ensures days_only { IfOk result (λ d. (S : Store) (line : Line)
-            → ⟦<DayProp as Propagator>⟧.leaves d S line → IsDayLeaf problem.now line) }
+            → ⟦<DayProp<'a> as Propagator>⟧.leaves d S line → IsDayLeaf problem.now line) }
         ensures spent { IfOk result (λ d. (S : Store) (p : ℕ) (x : Symbol)
-            → ⟦<DayProp as Propagator>⟧.spent d S p x ↔ IsDaySpent problem.now (has_domain S) p x) }
+            → ⟦<DayProp<'a> as Propagator>⟧.spent d S p x ↔ IsDaySpent problem.now (has_domain S) p x) }
     {
         let counts = Counts::new(alloc, problem, doms)?;
-        Ok(DayProp {
-            problem: problem.copy()?,
-            counts,
-        })
+        Ok(DayProp { problem, counts })
     }
 }
 
-impl Propagator for DayProp {
+impl<'a> Propagator for DayProp<'a> {
     ghost serves = { λ d P. d.problem ≡ P };
 
     ghost tracks = { λ d S. StandsFor d.counts S };
@@ -73,7 +74,7 @@ impl Propagator for DayProp {
     fn prove_spent(&self) {}
 
     fn look(&mut self, _alloc: Global, doms: &Domains) -> Result<Look, AllocError> {
-        Ok(seen(&self.problem, &self.counts, doms))
+        Ok(seen(self.problem, &self.counts, doms))
     }
 
     fn narrowed(&mut self, doms: &Domains, p: u32) {

@@ -5,6 +5,7 @@ ghost use Rattle.refutation_terms.specs.Leaf.{fixed, possible};
 ghost use Rattle.domain_store.specs.Store.{has_domain, BelongsTo};
 ghost use Rattle.refutation_terms.specs.declared.lines.Line.TheVariants.{Day};
 ghost use Rattle.propagator_terms.specs.declared.look.Look.TheVariants.{Cut};
+ghost use Rattle.propagators.specs.DayCuts.{TakesNoneOn, TakesNoneAtAll};
 ghost use Rattle.propagators.specs.Days.{AreCountsOf, TakesNone, IsSaturation, IsNeighbour, IsPlaceAnswer, IsDayCut};
 
 use demand_counts::Counts;
@@ -47,8 +48,7 @@ impl DayCut {
 pub fn first_cut(problem: &Problem, counts: &Counts, doms: &Domains) -> Option<DayCut>
     requires { AreCountsOf problem.now doms.now counts.now }
     ensures { MatchOption result
-        ((j z : ℕ) → IsDay problem.now j → z ≤ shift_count problem.now
-        → TakesNone problem.now (has_domain doms.now) j z)
+        (TakesNoneAtAll problem.now (has_domain doms.now))
         (λ cut. IsDayCut problem.now (has_domain doms.now) cut.p cut.x cut.day cut.counted cut.over) }
 {
     for day in 1..problem.days() + 1 {
@@ -64,7 +64,7 @@ fn cut_on_day(problem: &Problem, counts: &Counts, doms: &Domains, day: u32) -> O
     requires counts { AreCountsOf problem.now doms.now counts.now }
     requires day { IsDay problem.now day }
     ensures { MatchOption result
-        ((z : ℕ) → z ≤ shift_count problem.now → TakesNone problem.now (has_domain doms.now) day z)
+        (TakesNoneOn problem.now (has_domain doms.now) day)
         (λ cut. IsDayCut problem.now (has_domain doms.now) cut.p cut.x cut.day cut.counted cut.over) }
 {
     for number in 0..problem.shifts() + 1 {

@@ -1,5 +1,5 @@
 // The leaves of windows.
-ghost use Rattle.std.specs.Prelude.{◌≡◌, ℕ, ◌<◌, ◌≤◌, ◌↔◌, length, IfOk, MatchOption, IsTrue, true, false, [], slice_set, slice_index_or};
+ghost use Rattle.std.specs.Prelude.{◌≡◌, ℕ, ◌<◌, ◌≤◌, length, IfOk, MatchOption, true, false, slice_set, slice_index_or};
 ghost use Rattle.rwsp_terms.specs.declared.data.Symbol.{Symbol};
 ghost use Rattle.rwsp_terms.specs.declared.limits.TheConstants.{MOST_CELLS, MOST_SHIFTS};
 ghost use Rattle.rwsp_terms.specs.Instance.{cells};
@@ -11,7 +11,7 @@ ghost use Rattle.domain_store.specs.Store.{Store, BelongsTo, domain_at};
 ghost use Rattle.propagators.specs.Windows.{IsWindowLeaf, IsWatch, IsSpan, IsWindow};
 
 use crate::window_over::{WindowLeaf, window_over};
-use domain_store::{Domains, SymbolSet};
+use domain_store::{Domains, KeptSets, SymbolSet};
 use propagator_terms::{Look, Propagator};
 use refutation_terms::Line;
 use rwsp_model::Problem;
@@ -26,49 +26,53 @@ use std::marker::Model;
 /// rule and each day of its bound, and of one for each position between two of them; what an undoing gives back costs
 /// nothing at the next look.
 #[derive(Drop)]
-pub struct WindowProp {
-    problem: Problem,
-    sets: Vec<SymbolSet>,
+pub struct WindowProp<'a> {
+    problem: &'a Problem,
+    sets: KeptSets,
     pending: Vec<bool>,
     // all pending positions come from the first on and before the end
     first: u32,
     end: u32,
 }
 
-impl Model for WindowProp {
+impl<'a> Model for WindowProp<'a> {
     ghost use Rattle.propagators.specs.Windows.{WindowWatch};
 
     ghost Value = { WindowWatch };
 
     ghost use Rattle.propagators.specs.Windows.{IsWatch, IsSpan};
 
-    ghost view = { λ w. record { problem = w.problem; sets = w.sets.items; pending = w.pending.items } };
+    ghost view = { λ w. record { problem = w.problem.now; sets = w.sets; pending = w.pending.items } };
 
     ghost invariant = { λ w. IsWatch
-        (record { problem = w.problem; sets = w.sets.items; pending = w.pending.items })
+        (record { problem = w.problem.now; sets = w.sets; pending = w.pending.items })
         × IsSpan w.pending.items w.first w.end };
 }
 
-impl WindowProp {
+impl<'a> WindowProp<'a> {
     /// Tracks the domains. Its leaves are all window leaves of the problem.
-    pub fn new(alloc: Global, problem: &Problem, doms: &Domains) -> Result<WindowProp, AllocError>
+    pub fn new(
+        alloc: Global,
+        problem: &'a Problem,
+        doms: &Domains,
+    ) -> Result<WindowProp<'a>, AllocError>
         requires { BelongsTo problem.now doms.now }
-        ensures serves { IfOk result (λ w. ⟦<WindowProp as Propagator>⟧.serves w problem.now) }
-        ensures tracks { IfOk result (λ w. ⟦<WindowProp as Propagator>⟧.tracks w doms.now) }
+        ensures serves { IfOk result (λ w. ⟦<WindowProp<'a> as Propagator>⟧.serves w problem.now) }
+        ensures tracks { IfOk result (λ w. ⟦<WindowProp<'a> as Propagator>⟧.tracks w doms.now) }
         ensures leaves { IfOk result (λ w. (S : Store) (number p len : ℕ)
             → LineFits problem.now (Window number p len)
-            → ⟦<WindowProp as Propagator>⟧.leaves w S (Window number p len)) }
+            → ⟦<WindowProp<'a> as Propagator>⟧.leaves w S (Window number p len)) }
         ensures windows_only { IfOk result (λ w. (S : Store) (line : Line)
-            → ⟦<WindowProp as Propagator>⟧.leaves w S line → IsWindowLeaf problem.now line) }
+            → ⟦<WindowProp<'a> as Propagator>⟧.leaves w S line → IsWindowLeaf problem.now line) }
         ensures none_spent { IfOk result (λ w. (S : Store) (p : ℕ) (x : Symbol)
-            → ⟦<WindowProp as Propagator>⟧.spent w S p x → ⊥) }
+            → ⟦<WindowProp<'a> as Propagator>⟧.spent w S p x → ⊥) }
     {
         doms.prove_facts();
         let cells = problem.cells();
-        let sets = copied_sets(alloc, doms)?;
+        let sets = KeptSets::of(alloc, doms)?;
         let pending = vec![in alloc; true; cells as usize]?;
         Ok(WindowProp {
-            problem: problem.copy()?,
+            problem,
             sets,
             pending,
             first: 0,
@@ -132,7 +136,7 @@ impl WindowProp {
         if !self.pending[p as usize] {
             return None;
         }
-        let Some(leaf) = window_over(&self.problem, doms, p) else {
+        let Some(leaf) = window_over(self.problem, doms, p) else {
             self.pending[p as usize] = false;
             return None;
         };
@@ -147,19 +151,9 @@ impl WindowProp {
         ensures sets { self.new.sets ≡ slice_set self.old.sets p (domain_at doms.now p) }
     {
         doms.prove_facts();
-        let set = doms.set(p);
-        if !self.has_set(p, set) {
-            self.put(p, *set);
+        if let Some(set) = self.sets.changed(doms, p) {
+            self.put(p, set);
         }
-    }
-
-    // Whether the position has the domain.
-    fn has_set(&self, p: u32, set: &SymbolSet) -> bool
-        requires { p < length self.now.sets }
-        ensures { IsTrue result ↔ (slice_index_or self.now.sets p [] ≡ set.now) }
-    {
-        let known = &self.sets[p as usize];
-        known.is_same(set)
     }
 
     // Gives the position another domain. Where that lacks a symbol, the position has to be looked at.
@@ -170,17 +164,17 @@ impl WindowProp {
         ensures problem { self.new.problem ≡ self.old.problem }
         ensures sets { self.new.sets ≡ slice_set self.old.sets p set }
     {
-        let is_lost = !is_part(&self.sets[p as usize], &set);
+        let is_lost = !is_part(self.sets.at(p), &set);
         let was_pending = self.pending[p as usize];
         let (first, end) = widened(self.first, self.end, p, is_lost);
         self.pending[p as usize] = was_pending | is_lost;
-        self.sets[p as usize] = set;
+        self.sets.put(p, set);
         self.first = first;
         self.end = end;
     }
 }
 
-impl Propagator for WindowProp {
+impl<'a> Propagator for WindowProp<'a> {
     ghost serves = { λ w P. w.problem ≡ P };
 
     ghost tracks = { λ w S. w.sets ≡ S.sets };
@@ -243,15 +237,4 @@ fn is_part(part: &SymbolSet, whole: &SymbolSet) -> bool
         }
     }
     true
-}
-
-fn copied_sets(alloc: Global, doms: &Domains) -> Result<Vec<SymbolSet>, AllocError>
-    ensures { IfOk result (λ v. v.items ≡ doms.now.sets) }
-{
-    let cells = doms.cells();
-    let mut sets = Vec::with_capacity(alloc, cells as usize)?;
-    for p in 0..cells {
-        sets.push(*doms.set(p))?;
-    }
-    Ok(sets)
 }

@@ -15,6 +15,7 @@ use Rattle.domain_store.specs.Store.{Store}
 use Rattle.tree_walk.specs.declared.open_split.OpenSplit.{OpenSplit}
 use Rattle.tree_walk.specs.Splits.{InSplits, NoLines, HasRead, second_sides_to_come}
 use Rattle.tree_walk.specs.States.{State, IsStateOf, open_trees}
+use Rattle.roster_search.specs.declared.aim.Aim.{Aim}
 use Rattle.roster_search.specs.declared.progress.Progress.{Progress}
 use Rattle.roster_search.specs.Written.{Stands, IsCitedIn, IsProgress}
 use Rattle.roster_search.proofs.Growing.{EachAt, one_more, got_in, got_one}
@@ -58,11 +59,10 @@ one_open P turn w part h =
     omega arith
 
 pub record IsNext (P : Instance) (a b : Progress) (line : Line) : Type 0 where
-  pub turn : b.turn ≡ a.turn
-  pub goal : b.goal ≡ a.goal
+  pub aim : b.aim ≡ a.aim
   pub lines : b.lines.items ≡ a.lines.items ++ line ∷ []
-  pub state : IsStateOf P a.turn (a.lines.items ++ line ∷ []) b.walk
-  pub stands : Stands P a.goal (domains_at P a.turn a.lines.items (length a.lines.items)) line
+  pub state : IsStateOf P a.aim.turn (a.lines.items ++ line ∷ []) b.walk
+  pub stands : Stands P a.aim.goal (domains_at P a.aim.turn a.lines.items (length a.lines.items)) line
   pub named : (r : Rule) → Names P b.named r ↔ (Names P a.named r ⊎ Cites P line r)
   pub numbers : (k : ℕ) → Contains b.named k → (r : Rule) × (rule_of P k ≡ Some r)
   pub opened : open_trees b.walk ≤ open_trees a.walk + 1
@@ -72,21 +72,19 @@ pub written_next : (P : Instance) (a b : Progress) (line : Line) → IsProgress 
 written_next P a b line w n =
     let all : List Line = a.lines.items ++ line ∷ [] in
     let long : length b.lines.items ≡ length all = ap length n.lines in
-    let state : IsStateOf P b.turn b.lines.items b.walk = subst (λ t. IsStateOf P t b.lines.items b.walk) (sym n.turn) (subst (λ l. IsStateOf P a.turn l b.walk) (sym n.lines) n.state) in
-    let stand : EachAt (Stands P b.goal) P b.turn b.lines.items =
-    subst (λ (g : Option ℕ). EachAt (Stands P g) P b.turn b.lines.items) (sym n.goal)
-    (subst (λ t. EachAt (Stands P a.goal) P t b.lines.items) (sym n.turn)
-    (subst (EachAt (Stands P a.goal) P a.turn) (sym n.lines) (one_more (Stands P a.goal) P a.turn a.lines.items line w.stand n.stands))) in
-    let cited : (r : Rule) → Names P b.named r ↔ IsCitedIn P a.turn all r = λ r. (
-      λ named. more_cited P a.turn a.lines.items line r (elim ((n.named r).0 named) as (λ (h : Names P a.named r ⊎ Cites P line r). IsCitedIn P a.turn a.lines.items r ⊎ Cites P line r) [ inl old ↦ inl ((w.cited r).0 old) | inr new ↦ inr new ]),
-      λ c. (n.named r).1 (elim (cited_more P a.turn a.lines.items line r c) as (λ (h : IsCitedIn P a.turn a.lines.items r ⊎ Cites P line r). Names P a.named r ⊎ Cites P line r) [ inl old ↦ inl ((w.cited r).1 old) | inr new ↦ inr new ]),
+    let IsStateFor : Aim → List Line → Type 0 = λ m ls. IsStateOf P m.turn ls b.walk in
+    let StandFor : Aim → List Line → Type 0 = λ m ls. EachAt (Stands P m.goal) P m.turn ls in
+    let IsCitedFor : Aim → List Line → Type 0 = λ m ls. (r : Rule) → Names P b.named r ↔ IsCitedIn P m.turn ls r in
+    let cited : (r : Rule) → Names P b.named r ↔ IsCitedIn P a.aim.turn all r = λ r. (
+      λ named. more_cited P a.aim.turn a.lines.items line r (elim ((n.named r).0 named) as (λ (h : Names P a.named r ⊎ Cites P line r). IsCitedIn P a.aim.turn a.lines.items r ⊎ Cites P line r) [ inl old ↦ inl ((w.cited r).0 old) | inr new ↦ inr new ]),
+      λ c. (n.named r).1 (elim (cited_more P a.aim.turn a.lines.items line r c) as (λ (h : IsCitedIn P a.aim.turn a.lines.items r ⊎ Cites P line r). Names P a.named r ⊎ Cites P line r) [ inl old ↦ inl ((w.cited r).1 old) | inr new ↦ inr new ]),
     ) in
     record {
-      state = state;
-      turn_fits = subst (TurnFits P) (sym n.turn) w.turn_fits;
-      goal_fits = subst (λ (g : Option ℕ). GoalFits P b.turn g) (sym n.goal) (subst (λ (t : Option Turn). GoalFits P t a.goal) (sym n.turn) w.goal_fits);
-      stand = stand;
-      cited = λ r. subst (λ t. Names P b.named r ↔ IsCitedIn P t b.lines.items r) (sym n.turn) (subst (λ l. Names P b.named r ↔ IsCitedIn P a.turn l r) (sym n.lines) (cited r));
+      state = subst (λ m. IsStateFor m b.lines.items) (sym n.aim) (subst (IsStateFor a.aim) (sym n.lines) n.state);
+      turn_fits = subst (λ (m : Aim). TurnFits P m.turn) (sym n.aim) w.turn_fits;
+      goal_fits = subst (λ (m : Aim). GoalFits P m.turn m.goal) (sym n.aim) w.goal_fits;
+      stand = subst (λ m. StandFor m b.lines.items) (sym n.aim) (subst (StandFor a.aim) (sym n.lines) (one_more (Stands P a.aim.goal) P a.aim.turn a.lines.items line w.stand n.stands));
+      cited = subst (λ m. IsCitedFor m b.lines.items) (sym n.aim) (subst (IsCitedFor a.aim) (sym n.lines) cited);
       numbers = n.numbers;
       few_open = let few = w.few_open in let more = n.opened in let one : length all ≡ length a.lines.items + 1 = length_one a.lines.items line in omega arith;
     }

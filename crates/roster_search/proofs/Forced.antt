@@ -1,22 +1,24 @@
 -- Splits as the propagator says, with more lines and with an equal propagator.
-use Rattle.std.proofs.Common.{◌≡◌, ℕ, ◌<◌, ◌≤◌, List, [], ◌∷◌, ◌++◌, length, Option, Some, refl, ap, sym, ◌∙◌, subst}
-use Rattle.std.specs.Prelude.{◌↔◌}
+use Rattle.std.proofs.Common.{◌≡◌, ℕ, ◌+◌, ◌<◌, ◌≤◌, List, [], ◌∷◌, ◌++◌, length, Option, Some, refl, ap, sym, ◌∙◌, subst, arith, length-append, inl, inr}
+use Rattle.std.specs.Prelude.{replicate, slice_get}
+use Rattle.std.proofs.lemmas.List.{length_push}
 use Rattle.rwsp_terms.specs.declared.data.Symbol.{Symbol}
 use Rattle.rwsp_terms.specs.Instance.{Instance, cells}
 use Rattle.refutation_terms.specs.declared.lines.Line.{Line}
-use Rattle.refutation_terms.specs.declared.lines.Line.TheVariants.{Split, Few}
+use Rattle.refutation_terms.specs.declared.lines.Line.TheVariants.{Split, Few, Unfinished}
 use Rattle.refutation_terms.specs.declared.lines.Turn.{Turn}
 use Rattle.refutation_terms.specs.Word.{Domains, AreSame}
 use Rattle.refutation_terms.specs.Tree.{IsLeaf, domains_at}
 use Rattle.refutation_terms.specs.Log.{HoldsFor}
 use Rattle.domain_store.specs.Store.{Store, IsStore, has_domain}
-use Rattle.propagator_terms.specs.Looks.{Closes}
-use Rattle.roster_search.specs.Guides.{IsOpen}
+use Rattle.roster_search.specs.declared.aim.Aim.{Aim}
 use Rattle.roster_search.specs.declared.progress.Progress.{Progress}
-use Rattle.roster_search.specs.Founds.{IsForced, AreForced, FewHoldsAtNoSplit}
-use Rattle.roster_search.specs.Written.{IsProgress, IsSplitOff, IsUnderWay}
+use Rattle.roster_search.specs.Founds.{IsForced, AtEachSplit}
+use Rattle.roster_search.specs.Guides.{IsOpen}
+use Rattle.roster_search.specs.Written.{IsProgress, IsSplitWithLeaf, IsSplitOff, IsUnderWay}
+use Rattle.roster_search.proofs.Growing.{EachAt, one_more, split_more, got_in, domains_before}
+use Rattle.roster_search.proofs.Logs.{open_rest}
 use Rattle.roster_search.proofs.Reaching.{no_few_for}
-use Rattle.roster_search.proofs.Growing.{EachAt, one_more, split_more}
 
 abbrev pub Leaves : Type 1
 Leaves = Store → Line → Type 0
@@ -24,110 +26,106 @@ Leaves = Store → Line → Type 0
 abbrev pub Spent : Type 1
 Spent = Store → ℕ → Symbol → Type 0
 
-abbrev IsForcedLine : Instance → Leaves → Spent → Domains → Line → Type 0
-IsForcedLine P leaves spent D line = (p : ℕ) (x : Symbol) → line ≡ Split p x → IsForced P leaves spent D p x
+-- what is said of splits
 
-each_forced : (P : Instance) (leaves : Leaves) (spent : Spent) (turn : Option Turn) (ls : List Line) → AreForced P leaves spent turn ls → EachAt (IsForcedLine P leaves spent) P turn ls
-each_forced P leaves spent turn ls h k line e p x is = h k p x (e ∙ ap (λ (l : Line). Some l) is)
+abbrev Said : Type 1
+Said = Domains → ℕ → Symbol → Type 0
 
-forced_each : (P : Instance) (leaves : Leaves) (spent : Spent) (turn : Option Turn) (ls : List Line) → EachAt (IsForcedLine P leaves spent) P turn ls → AreForced P leaves spent turn ls
-forced_each P leaves spent turn ls h k p x e = h k (Split p x) e p x refl
+abbrev OfLine : Said → Domains → Line → Type 0
+OfLine Q D line = (p : ℕ) (x : Symbol) → line ≡ Split p x → Q D p x
 
-leaf_is_forced : (P : Instance) (leaves : Leaves) (spent : Spent) (D : Domains) (leaf : Line) → IsLeaf leaf → IsForcedLine P leaves spent D leaf
-leaf_is_forced P leaves spent D leaf h p x e = absurd (subst IsLeaf e h)
+each_line : (Q : Said) (P : Instance) (turn : Option Turn) (ls : List Line) → AtEachSplit Q P turn ls → EachAt (OfLine Q) P turn ls
+each_line Q P turn ls h k line e p x is = h k p x (e ∙ ap (λ (l : Line). Some l) is)
 
-same_forced : (P : Instance) (leaves : Leaves) (spent : Spent) (D : Domains) (p q : ℕ) (x y : Symbol) → Split p x ≡ Split q y → IsForced P leaves spent D p x → IsForced P leaves spent D q y
-same_forced P leaves spent D p q x y e h =
+each_split : (Q : Said) (P : Instance) (turn : Option Turn) (ls : List Line) → EachAt (OfLine Q) P turn ls → AtEachSplit Q P turn ls
+each_split Q P turn ls h k p x e = h k (Split p x) e p x refl
+
+of_leaf : (Q : Said) (D : Domains) (leaf : Line) → IsLeaf leaf → OfLine Q D leaf
+of_leaf Q D leaf h p x e = absurd (subst IsLeaf e h)
+
+of_split : (Q : Said) (D : Domains) (p : ℕ) (x : Symbol) → Q D p x → OfLine Q D (Split p x)
+of_split Q D p x h q y e =
     let ep : p ≡ q = cc in
     let ex : x ≡ y = cc in
-    subst (λ r. IsForced P leaves spent D r y) ep (subst (IsForced P leaves spent D p) ex h)
+    subst (λ r. Q D r y) ep (subst (Q D p) ex h)
 
--- the same of the leaf of few weeks
+-- with a leaf more
+leaf_said : (Q : Said) (P : Instance) (turn : Option Turn) (ls : List Line) (line : Line) → IsLeaf line → AtEachSplit Q P turn ls → AtEachSplit Q P turn (ls ++ line ∷ [])
+leaf_said Q P turn ls line leaf h =
+    each_split Q P turn (ls ++ line ∷ [])
+    (one_more (OfLine Q) P turn ls line (each_line Q P turn ls h) (of_leaf Q (domains_at P turn ls (length ls)) line leaf))
 
-abbrev IsNoFewLine : Instance → Option ℕ → Domains → Line → Type 0
-IsNoFewLine P goal D line = (p : ℕ) (x : Symbol) → line ≡ Split p x → HoldsFor P goal D Few → ⊥
+-- with a split more
+split_said : (Q : Said) (P : Instance) (turn : Option Turn) (ls added : List Line) (p : ℕ) (x : Symbol) → IsSplitWithLeaf p x added → AtEachSplit Q P turn ls → Q (domains_at P turn ls (length ls)) p x → AtEachSplit Q P turn (ls ++ added)
+split_said Q P turn ls added p x split h here =
+    each_split Q P turn (ls ++ added)
+    (split_more (OfLine Q) P turn ls added p x (each_line Q P turn ls h) (of_split Q (domains_at P turn ls (length ls)) p x here) (of_leaf Q) split)
 
-each_no_few : (P : Instance) (goal : Option ℕ) (turn : Option Turn) (ls : List Line) → FewHoldsAtNoSplit P goal turn ls → EachAt (IsNoFewLine P goal) P turn ls
-each_no_few P goal turn ls h k line e p x is = h k p x (e ∙ ap (λ (l : Line). Some l) is)
+-- with unfinished lines
+pub rest_said : (Q : Said) (P : Instance) (turn : Option Turn) (ls : List Line) (n : ℕ) → AtEachSplit Q P turn ls → AtEachSplit Q P turn (ls ++ replicate n Unfinished)
+rest_said Q P turn ls n h k p x e = elim (got_in ls (replicate n Unfinished) k (Split p x) e) [
+  | inl at ↦
+      let le : k ≤ length ls = omega (arith, at.0) in
+      subst (λ D. Q D p x) (sym (domains_before P turn ls (replicate n Unfinished) k le)) (h k p x at.1)
+  | inr at ↦ let clash : Split p x ≡ Unfinished = open_rest n at.0 (Split p x) at.2 in absurd (cc)
+]
 
-no_few_each : (P : Instance) (goal : Option ℕ) (turn : Option Turn) (ls : List Line) → EachAt (IsNoFewLine P goal) P turn ls → FewHoldsAtNoSplit P goal turn ls
-no_few_each P goal turn ls h k p x e = h k (Split p x) e p x refl
+-- before the first line
+pub none_said : (Q : Said) (P : Instance) (turn : Option Turn) (ls : List Line) → ls ≡ [] → AtEachSplit Q P turn ls
+none_said Q P turn ls none k p x e =
+    let got : slice_get [] k ≡ Some (Split p x) = ap (λ (l : List Line). slice_get l k) (sym none) ∙ e in
+    absurd (cc)
 
-leaf_is_no_few : (P : Instance) (goal : Option ℕ) (D : Domains) (leaf : Line) → IsLeaf leaf → IsNoFewLine P goal D leaf
-leaf_is_no_few P goal D leaf h p x e = absurd (subst IsLeaf e h)
+-- the same of a search
+
+-- few weeks can't be free
+abbrev pub NotFew : Instance → Option ℕ → Domains → ℕ → Symbol → Type 0
+NotFew P goal D p x = HoldsFor P goal D Few → ⊥
+
+-- of lines of the same search
+same_said : (Q : Aim → Said) (P : Instance) (a b : Aim) (ls more : List Line) → b ≡ a → more ≡ ls → AtEachSplit (Q a) P a.turn ls → AtEachSplit (Q b) P b.turn more
+same_said Q P a b ls more same lines h =
+    subst (λ (m : Aim). AtEachSplit (Q m) P m.turn more) (sym same) (subst (AtEachSplit (Q a) P a.turn) (sym lines) h)
 
 -- behind a leaf
-pub leaf_under_way : (P : Instance) (turn : Option Turn) (goal : Option ℕ) (budget : ℕ) (leaves : Leaves) (spent : Spent) (a b : Progress) (line : Line) → IsUnderWay P turn goal budget leaves spent a → IsProgress P b → IsLeaf line → b.turn ≡ a.turn → b.goal ≡ a.goal → b.lines.items ≡ a.lines.items ++ line ∷ [] → length b.lines.items ≤ budget → IsUnderWay P turn goal budget leaves spent b
-leaf_under_way P turn goal budget leaves spent a b line u w leaf same same_goal lines few = record {
-  written = w;
-  same_turn = same ∙ u.same_turn;
-  same_goal = same_goal ∙ u.same_goal;
-  forced = subst (AreForced P leaves spent turn) (sym lines)
-      (forced_each P leaves spent turn (a.lines.items ++ line ∷ [])
-      (one_more (IsForcedLine P leaves spent) P turn a.lines.items line (each_forced P leaves spent turn a.lines.items u.forced) (leaf_is_forced P leaves spent (domains_at P turn a.lines.items (length a.lines.items)) line leaf)));
-  no_few = subst (FewHoldsAtNoSplit P goal turn) (sym lines)
-      (no_few_each P goal turn (a.lines.items ++ line ∷ [])
-      (one_more (IsNoFewLine P goal) P turn a.lines.items line (each_no_few P goal turn a.lines.items u.no_few) (leaf_is_no_few P goal (domains_at P turn a.lines.items (length a.lines.items)) line leaf)));
-  few = few;
-}
-
--- behind a split
-pub split_under_way : (P : Instance) (turn : Option Turn) (goal : Option ℕ) (budget : ℕ) (leaves : Leaves) (spent : Spent) (a b : Progress) (p : ℕ) (x : Symbol) → IsUnderWay P turn goal budget leaves spent a → IsSplitOff P a b p x → length b.lines.items ≤ budget → IsStore a.walk.store → AreSame P (has_domain a.walk.store) (domains_at P a.turn a.lines.items (length a.lines.items)) → (Closes P (leaves a.walk.store) a.walk.store → ⊥) → (HoldsFor P goal (domains_at P a.turn a.lines.items (length a.lines.items)) Few → ⊥) → ((q : ℕ) (z : Symbol) → spent a.walk.store q z → spent a.walk.store p x) → IsUnderWay P turn goal budget leaves spent b
-split_under_way P turn goal budget leaves spent a b p x u off few store same not_closed no_few forced =
-    let here : IsForced P leaves spent (domains_at P turn a.lines.items (length a.lines.items)) p x = record {
-      store = a.walk.store;
-      is_store = store;
-      belongs = u.written.state.belongs;
-      agrees = subst (λ t. AreSame P (has_domain a.walk.store) (domains_at P t a.lines.items (length a.lines.items))) u.same_turn same;
-      not_closed = not_closed;
-      forced = forced;
-    } in
-    let none_here : HoldsFor P goal (domains_at P turn a.lines.items (length a.lines.items)) Few → ⊥ =
-    subst (λ (t : Option Turn). HoldsFor P goal (domains_at P t a.lines.items (length a.lines.items)) Few → ⊥) u.same_turn no_few in
+pub leaf_under_way : (P : Instance) (leaves : Leaves) (spent : Spent) (a b : Progress) (line : Line) → IsUnderWay P leaves spent a → IsProgress P b → IsLeaf line → b.aim ≡ a.aim → b.lines.items ≡ a.lines.items ++ line ∷ [] → length a.lines.items < a.aim.budget → IsUnderWay P leaves spent b
+leaf_under_way P leaves spent a b line u w leaf same lines room =
+    let few : length b.lines.items ≤ a.aim.budget = omega (arith, ap length lines ∙ length_push a.lines.items line, room) in
     record {
-      written = off.written;
-      same_turn = off.same_turn ∙ u.same_turn;
-      same_goal = off.same_goal ∙ u.same_goal;
-      forced = subst (AreForced P leaves spent turn) (sym off.lines)
-          (forced_each P leaves spent turn (a.lines.items ++ off.added)
-          (split_more (IsForcedLine P leaves spent) P turn a.lines.items off.added p x (each_forced P leaves spent turn a.lines.items u.forced)
-          (λ q y e. same_forced P leaves spent (domains_at P turn a.lines.items (length a.lines.items)) p q x y e here)
-          (leaf_is_forced P leaves spent) off.split));
-      no_few = subst (FewHoldsAtNoSplit P goal turn) (sym off.lines)
-          (no_few_each P goal turn (a.lines.items ++ off.added)
-          (split_more (IsNoFewLine P goal) P turn a.lines.items off.added p x (each_no_few P goal turn a.lines.items u.no_few)
-          (λ q y e. none_here) (leaf_is_no_few P goal) off.split));
-      few = few;
+      written = w;
+      forced = same_said (λ m. IsForced P leaves spent) P a.aim b.aim (a.lines.items ++ line ∷ []) b.lines.items same lines (leaf_said (IsForced P leaves spent) P a.aim.turn a.lines.items line leaf u.forced);
+      no_few = same_said (λ m. NotFew P m.goal) P a.aim b.aim (a.lines.items ++ line ∷ []) b.lines.items same lines (leaf_said (NotFew P a.aim.goal) P a.aim.turn a.lines.items line leaf u.no_few);
+      few = subst (λ (m : Aim). length b.lines.items ≤ m.budget) (sym same) few;
     }
 
 -- behind a split of open domains
-pub open_under_way : (P : Instance) (budget : ℕ) (leaves : Leaves) (spent : Spent) (a b : Progress) (p : ℕ) (x : Symbol) → 0 < cells P → IsUnderWay P a.turn a.goal budget leaves spent a → IsSplitOff P a b p x → length b.lines.items ≤ budget → IsStore a.walk.store → AreSame P (has_domain a.walk.store) (domains_at P a.turn a.lines.items (length a.lines.items)) → IsOpen P a.goal (leaves a.walk.store) a.walk.store → ((q : ℕ) (z : Symbol) → spent a.walk.store q z → spent a.walk.store p x) → IsUnderWay P a.turn a.goal budget leaves spent b
-open_under_way P budget leaves spent a b p x some u off few store same unclosed forced =
-    split_under_way P a.turn a.goal budget leaves spent a b p x u off few store same unclosed.0
-    (no_few_for P a.turn a.goal (has_domain a.walk.store) (domains_at P a.turn a.lines.items (length a.lines.items)) some u.written.goal_fits same unclosed.1) forced
+pub split_under_way : (P : Instance) (leaves : Leaves) (spent : Spent) (a b : Progress) (p : ℕ) (x : Symbol) → 0 < cells P → IsUnderWay P leaves spent a → IsSplitOff P a b p x → length b.lines.items ≤ a.aim.budget → IsStore a.walk.store → AreSame P (has_domain a.walk.store) (domains_at P a.aim.turn a.lines.items (length a.lines.items)) → IsOpen P a.aim.goal (leaves a.walk.store) a.walk.store → ((q : ℕ) (z : Symbol) → spent a.walk.store q z → spent a.walk.store p x) → IsUnderWay P leaves spent b
+split_under_way P leaves spent a b p x some u off few store same unclosed forced =
+    let here = domains_at P a.aim.turn a.lines.items (length a.lines.items) in
+    let forced_here : IsForced P leaves spent (domains_at P a.aim.turn a.lines.items (length a.lines.items)) p x = record {
+      store = a.walk.store;
+      is_store = store;
+      belongs = u.written.state.belongs;
+      agrees = same;
+      not_closed = unclosed.0;
+      forced = forced;
+    } in
+    let not_few = no_few_for P a.aim.turn a.aim.goal (has_domain a.walk.store) here some u.written.goal_fits same unclosed.1 in
+    record {
+      written = off.written;
+      forced = same_said (λ m. IsForced P leaves spent) P a.aim b.aim (a.lines.items ++ off.added) b.lines.items off.same_aim off.lines
+          (split_said (IsForced P leaves spent) P a.aim.turn a.lines.items off.added p x off.split u.forced forced_here);
+      no_few = same_said (λ m. NotFew P m.goal) P a.aim b.aim (a.lines.items ++ off.added) b.lines.items off.same_aim off.lines
+          (split_said (NotFew P a.aim.goal) P a.aim.turn a.lines.items off.added p x off.split u.no_few not_few);
+      few = subst (λ (m : Aim). length b.lines.items ≤ m.budget) (sym off.same_aim) few;
+    }
 
--- under tests that say the same
-pub under_way_by : (P : Instance) (turn : Option Turn) (goal : Option ℕ) (budget : ℕ) (leaves leaves' : Leaves) (spent spent' : Spent) (s : Progress) → ((S : Store) (line : Line) → leaves S line ↔ leaves' S line) → ((S : Store) (p : ℕ) (x : Symbol) → spent S p x ↔ spent' S p x) → IsUnderWay P turn goal budget leaves spent s → IsUnderWay P turn goal budget leaves' spent' s
-under_way_by P turn goal budget leaves leaves' spent spent' s l t u = record {
-  written = u.written;
-  same_turn = u.same_turn;
-  same_goal = u.same_goal;
-  no_few = u.no_few;
-  forced = λ k p x e. (
-      let f = u.forced k p x e in
-      record {
-        store = f.store;
-        is_store = f.is_store;
-        belongs = f.belongs;
-        agrees = f.agrees;
-        not_closed = λ c. f.not_closed (c.0, (l f.store c.0).1 c.1, c.2);
-        forced = λ q z h. (t f.store p x).0 (f.forced q z ((t f.store q z).1 h));
-      }
-      );
-  few = u.few;
-}
-
--- and back
-pub under_way_back : (P : Instance) (turn : Option Turn) (goal : Option ℕ) (budget : ℕ) (leaves leaves' : Leaves) (spent spent' : Spent) (s : Progress) → ((S : Store) (line : Line) → leaves S line ↔ leaves' S line) → ((S : Store) (p : ℕ) (x : Symbol) → spent S p x ↔ spent' S p x) → IsUnderWay P turn goal budget leaves' spent' s → IsUnderWay P turn goal budget leaves spent s
-under_way_back P turn goal budget leaves leaves' spent spent' s l t u =
-    under_way_by P turn goal budget leaves' leaves spent' spent s (λ S line. ((l S line).1, (l S line).0)) (λ S p x. ((t S p x).1, (t S p x).0)) u
+-- a split is a line more
+pub split_off_longer : (P : Instance) (a b : Progress) (p : ℕ) (x : Symbol) → IsSplitOff P a b p x → length a.lines.items < length b.lines.items
+split_off_longer P a b p x off =
+    let long : length b.lines.items ≡ length a.lines.items + length off.added = ap length off.lines ∙ length-append a.lines.items off.added in
+    let some : 0 < length off.added = elim off.split as (λ (h : IsSplitWithLeaf p x off.added). 0 < length off.added) [
+      | inl e ↦ subst (λ (ls : List Line). 0 < length ls) (sym e) (omega arith)
+      | inr h ↦ subst (λ (ls : List Line). 0 < length ls) (sym h.2) (omega arith)
+    ] in
+    omega (arith, long, some)

@@ -40,7 +40,7 @@ abbrev pub AreOpen : List Line → Type 0
 AreOpen rest = (m : ℕ) (line : Line) → slice_get rest m ≡ Some line → line ≡ Unfinished
 
 abbrev pub log_of : Progress → List Line → Log
-log_of s rest = record { named = s.named; turn = s.turn; goal = s.goal; lines = s.lines.items ++ rest }
+log_of s rest = record { named = s.named; turn = s.aim.turn; goal = s.aim.goal; lines = s.lines.items ++ rest }
 
 each_in : (Q : Line → Type 0) (ls rest : List Line) → ((k : ℕ) (line : Line) → slice_get ls k ≡ Some line → Q line) → Q Unfinished → AreOpen rest → (k : ℕ) (line : Line) → slice_get (ls ++ rest) k ≡ Some line → Q line
 each_in Q ls rest each here opened k line e = elim (got_in ls rest k line e) [
@@ -48,14 +48,14 @@ each_in Q ls rest each here opened k line e = elim (got_in ls rest k line e) [
   | inr at ↦ subst Q (sym (opened at.0 line at.2)) here
 ]
 
-grounded : (P : Instance) (s : Progress) (rest : List Line) → IsProgress P s → IsAllowed P s.turn → IsStrictlyIncreasing s.named → AreOpen rest → IsGroundedFor P s.goal (log_of s rest)
+grounded : (P : Instance) (s : Progress) (rest : List Line) → IsProgress P s → IsAllowed P s.aim.turn → IsStrictlyIncreasing s.named → AreOpen rest → IsGroundedFor P s.aim.goal (log_of s rest)
 grounded P s rest w allowed up opened = record {
   fits = record {
     named = are_rules P s.named up w.numbers;
     turn = w.turn_fits;
     is_goal = refl;
     goal_fits = w.goal_fits;
-    lines = each_in (LineFitsFor P s.goal) s.lines.items rest (λ k line e. (w.stand k line e).fits) (open_fits P s.goal) opened;
+    lines = each_in (LineFitsFor P s.aim.goal) s.lines.items rest (λ k line e. (w.stand k line e).fits) (open_fits P s.aim.goal) opened;
   };
   turn = allowed;
   turn_named = λ r h. (w.cited r).1 (inl h);
@@ -63,13 +63,13 @@ grounded P s rest w allowed up opened = record {
   short = each_in (ListsShortOnly P) s.lines.items rest (λ k line e. (w.stand k line e).short) tt opened;
 }
 
-holds_before : (P : Instance) (s : Progress) (rest : List Line) → IsProgress P s → (k : ℕ) (line : Line) → k < length s.lines.items → slice_get (s.lines.items ++ rest) k ≡ Some line → HoldsAtFor P s.goal (log_of s rest) k line
+holds_before : (P : Instance) (s : Progress) (rest : List Line) → IsProgress P s → (k : ℕ) (line : Line) → k < length s.lines.items → slice_get (s.lines.items ++ rest) k ≡ Some line → HoldsAtFor P s.aim.goal (log_of s rest) k line
 holds_before P s rest w k line lt e = elim (got_in s.lines.items rest k line e) [
-  | inl at ↦ subst (λ D. HoldsFor P s.goal D line) (sym (domains_before P s.turn s.lines.items rest k (omega (arith, lt)))) (w.stand k line at.1).holds
+  | inl at ↦ subst (λ D. HoldsFor P s.aim.goal D line) (sym (domains_before P s.aim.turn s.lines.items rest k (omega (arith, lt)))) (w.stand k line at.1).holds
   | inr at ↦ absurd (omega (arith, lt, at.1))
 ]
 
-is_log_of_turn : (P : Instance) (s : Progress) (rest : List Line) → IsProgress P s → IsLogOfTurn P s.turn (log_of s rest)
+is_log_of_turn : (P : Instance) (s : Progress) (rest : List Line) → IsProgress P s → IsLogOfTurn P s.aim.turn (log_of s rest)
 is_log_of_turn P s rest w = record {
   same_turn = refl;
   cited = λ r n. elim ((w.cited r).0 n) [
@@ -92,20 +92,20 @@ none_open : AreOpen none
 none_open m line e = absurd (cc)
 
 -- a whole tree passes
-pub passing_end : (P : Instance) (s : Progress) (budget : ℕ) (g : Log) → IsProgress P s → IsAllowed P s.turn → IsStrictlyIncreasing s.named → IsTree s.lines.items → length s.lines.items ≤ budget → g.named ≡ s.named → g.turn ≡ s.turn → g.goal ≡ s.goal → g.lines ≡ s.lines.items → IsEnded P s.turn s.goal budget s.lines.items (NoRoster g)
-passing_end P s budget g w allowed up tree few a b d c =
+pub passing_end : (P : Instance) (s : Progress) (g : Log) → IsProgress P s → IsAllowed P s.aim.turn → IsStrictlyIncreasing s.named → IsTree s.lines.items → length s.lines.items ≤ s.aim.budget → g.named ≡ s.named → g.turn ≡ s.aim.turn → g.goal ≡ s.aim.goal → g.lines ≡ s.lines.items → IsEnded P s.aim s.lines.items (NoRoster g)
+passing_end P s g w allowed up tree few a b d c =
     let whole : s.lines.items ++ none ≡ s.lines.items = append-nil s.lines.items in
     let is : log_of s none ≡ g = sym (same_log g (log_of s none) a b d (c ∙ sym whole)) in
     let worked : size g ≤ length g.lines = count_by-le-length is_worked g.lines in
     let long : length g.lines ≡ length s.lines.items = ap length c in
-    let passes : PassesFor P s.goal (log_of s none) = record {
+    let passes : PassesFor P s.aim.goal (log_of s none) = record {
       grounded = grounded P s none w allowed up none_open;
       tree = subst IsTree (sym whole) tree;
       holds = λ k line e. holds_before P s none w k line (omega (arith, slice_get_within (s.lines.items ++ none) k line e, ap length whole)) e;
     } in (
-      subst (PassesFor P s.goal) is passes,
+      subst (PassesFor P s.aim.goal) is passes,
       omega (arith, worked, long, few),
-      subst (IsLogOfTurn P s.turn) is (is_log_of_turn P s none w),
+      subst (IsLogOfTurn P s.aim.turn) is (is_log_of_turn P s none w),
       c,
     )
 
@@ -125,20 +125,20 @@ pub some_open : (w : State) → w.whole ≡ false → 1 ≤ open_trees w
 some_open w part = let e : open_trees w ≡ second_sides_to_come w.splits + 1 = ap (λ b. cond b 0 (second_sides_to_come w.splits + 1)) part in omega arith
 
 -- lines that have used up the budget, with the rest left open
-pub spent_end : (P : Instance) (s : Progress) (budget n : ℕ) (g : Log) → IsProgress P s → IsAllowed P s.turn → IsStrictlyIncreasing s.named → IsTree (s.lines.items ++ replicate n Unfinished) → length s.lines.items ≤ budget → budget ≤ length s.lines.items → 1 ≤ n → g.named ≡ s.named → g.turn ≡ s.turn → g.goal ≡ s.goal → g.lines ≡ s.lines.items ++ replicate n Unfinished → IsEnded P s.turn s.goal budget s.lines.items (Undecided g)
-spent_end P s budget n g w allowed up tree few all some a b d c =
+pub spent_end : (P : Instance) (s : Progress) (n : ℕ) (g : Log) → IsProgress P s → IsAllowed P s.aim.turn → IsStrictlyIncreasing s.named → IsTree (s.lines.items ++ replicate n Unfinished) → length s.lines.items ≤ s.aim.budget → s.aim.budget ≤ length s.lines.items → 1 ≤ n → g.named ≡ s.named → g.turn ≡ s.aim.turn → g.goal ≡ s.aim.goal → g.lines ≡ s.lines.items ++ replicate n Unfinished → IsEnded P s.aim s.lines.items (Undecided g)
+spent_end P s n g w allowed up tree few all some a b d c =
     let rest : List Line = replicate n Unfinished in
     let is : log_of s rest ≡ g = sym (same_log g (log_of s rest) a b d c) in
     let long : length (s.lines.items ++ rest) ≡ length s.lines.items + length rest = length-append s.lines.items rest in
     let many : length rest ≡ n = length-replicate n Unfinished in
-    let spent : IsSpentFor P s.goal (log_of s rest) budget = record {
+    let spent : IsSpentFor P s.aim.goal (log_of s rest) s.aim.budget = record {
       grounded = grounded P s rest w allowed up (open_rest n);
       tree = tree;
       holds = λ k line lt e. holds_before P s rest w k line (omega (arith, lt, all)) e;
       rest = λ k line le e. elim (got_in s.lines.items rest k line e) [ inl at ↦ absurd (omega (arith, at.0, le, few)) | inr at ↦ open_rest n at.0 line at.2 ];
       unfinished = omega (arith, long, many, few, some);
     } in (
-      subst (λ l. IsSpentFor P s.goal l budget) is spent,
-      subst (IsLogOfTurn P s.turn) is (is_log_of_turn P s rest w),
+      subst (λ l. IsSpentFor P s.aim.goal l s.aim.budget) is spent,
+      subst (IsLogOfTurn P s.aim.turn) is (is_log_of_turn P s rest w),
       (n, c),
     )

@@ -10,8 +10,9 @@ use Rattle.refutation_terms.specs.Log.{LineFits, LineFitsFor, GoalFits, Holds, H
 use Rattle.refutation_terms.proofs.SameDomains as SameDomains
 use Rattle.refutation_terms.proofs.SameDomains.{turned_round, same_holds}
 use Rattle.domain_store.specs.Store.{Store}
-use Rattle.propagator_terms.specs.Looks.{IsLeafOf, IsUnweighed}
-use Rattle.roster_search.specs.Guides.{IsLeafFor, AreUnweighedFor}
+use Rattle.propagator_terms.specs.Leaves.{IsHoldingLeafFor}
+use Rattle.propagator_terms.specs.Looks.{IsUnweighed}
+use Rattle.roster_search.specs.Guides.{AreUnweighedFor}
 
 -- a line that weighs no words is one of a free log too
 
@@ -52,18 +53,18 @@ holding_split P (Some goal) D p x h = h
 pub open_fits : (P : Instance) (goal : Option ℕ) → LineFitsFor P goal Unfinished
 open_fits P goal = plain_fits P goal Unfinished tt tt
 
-pub unweighed_leaf : (P : Instance) (goal : Option ℕ) (line : Line) → IsLeafOf P line → IsUnweighed line → IsLeafFor P goal line
-unweighed_leaf P goal line h light = record { leaf = h.leaf; fits = plain_fits P goal line h.fits light; short = h.short }
+pub unweighed_leaf : (P : Instance) (goal : Option ℕ) (D : Domains) (line : Line) → IsHoldingLeafFor P None D line → IsUnweighed line → IsHoldingLeafFor P goal D line
+unweighed_leaf P goal D line h light = record { leaf = h.leaf; fits = plain_fits P goal line h.fits light; short = h.short; holds = plain_holds P goal D line h.holds }
 
 -- a leaf of the propagator
-pub given_leaf : (P : Instance) (goal : Option ℕ) (leaves : Store → Line → Type 0) (S : Store) (line : Line) → AreUnweighedFor goal leaves → leaves S line → IsLeafOf P line → IsLeafFor P goal line
-given_leaf P None leaves S line light among h = record { leaf = h.leaf; fits = h.fits; short = h.short }
-given_leaf P (Some goal) leaves S line light among h = unweighed_leaf P (Some goal) line h (light S line among)
+pub given_leaf : (P : Instance) (goal : Option ℕ) (leaves : Store → Line → Type 0) (S : Store) (D : Domains) (line : Line) → AreUnweighedFor goal leaves → leaves S line → IsHoldingLeafFor P None D line → IsHoldingLeafFor P goal D line
+given_leaf P None leaves S D line light among h = h
+given_leaf P (Some goal) leaves S D line light among h = unweighed_leaf P (Some goal) D line h (light S line among)
 
 -- the leaf of few weeks
-pub few_leaf : (P : Instance) (goal : Option ℕ) (D : Domains) → HoldsFor P goal D Few → IsLeafFor P goal Few
+pub few_leaf : (P : Instance) (goal : Option ℕ) (D : Domains) → HoldsFor P goal D Few → IsHoldingLeafFor P goal D Few
 few_leaf P None D h = absurd h
-few_leaf P (Some goal) D h = record { leaf = tt; fits = tt; short = tt }
+few_leaf P (Some goal) D h = record { leaf = tt; fits = tt; short = tt; holds = h }
 
 pub unweighed_by : (goal : Option ℕ) (leaves leaves' : Store → Line → Type 0) → ((S : Store) (line : Line) → leaves' S line → leaves S line) → AreUnweighedFor goal leaves → AreUnweighedFor goal leaves'
 unweighed_by None leaves leaves' back light = tt
@@ -75,9 +76,12 @@ pub weekend_within : (P : Instance) (i : ℕ) → P.days ≡ 7 → i < P.weeks �
 weekend_within P i week less = subst (λ d. i * 7 + 6 < P.weeks * d) (sym week) (omega (arith, less))
 
 -- a line that holds under the one holds under the other
-pub same_holds_for : (P : Instance) (turn : Option Turn) (goal : Option ℕ) (D E : Domains) (line : Line) → 0 < cells P → GoalFits P turn goal → LineFitsFor P goal line → AreSame P D E → HoldsFor P goal D line → HoldsFor P goal E line
+same_holds_for : (P : Instance) (turn : Option Turn) (goal : Option ℕ) (D E : Domains) (line : Line) → 0 < cells P → GoalFits P turn goal → LineFitsFor P goal line → AreSame P D E → HoldsFor P goal D line → HoldsFor P goal E line
 same_holds_for P turn None D E line some goal_fits fits same h = same_holds P D E line some fits same h
 same_holds_for P turn (Some goal) D E line some goal_fits fits same h = SameDomains.same_holds_for P (Some goal) D E line some (refl, goal_fits.1, goal_fits.2) fits same h
+
+pub same_leaf : (P : Instance) (turn : Option Turn) (goal : Option ℕ) (D E : Domains) (line : Line) → 0 < cells P → GoalFits P turn goal → AreSame P D E → IsHoldingLeafFor P goal D line → IsHoldingLeafFor P goal E line
+same_leaf P turn goal D E line some goal_fits same h = record { leaf = h.leaf; fits = h.fits; short = h.short; holds = same_holds_for P turn goal D E line some goal_fits h.fits same h.holds }
 
 -- few weeks don't hold under the other either
 pub no_few_for : (P : Instance) (turn : Option Turn) (goal : Option ℕ) (D E : Domains) → 0 < cells P → GoalFits P turn goal → AreSame P D E → (HoldsFor P goal D Few → ⊥) → HoldsFor P goal E Few → ⊥

@@ -2,16 +2,15 @@
 use Rattle.std.specs.Prelude.{◌≡◌, ℕ, ◌≤◌, List, slice_get, Option, Some, None}
 use Rattle.rwsp_terms.specs.declared.data.Symbol.{Symbol}
 use Rattle.rwsp_terms.specs.Instance.{Instance}
-use Rattle.rwsp_terms.specs.Roster.{MeetsAll}
 use Rattle.refutation_terms.specs.declared.lines.Line.{Line}
 use Rattle.refutation_terms.specs.declared.lines.Line.TheVariants.{Split, Few}
 use Rattle.refutation_terms.specs.declared.lines.Turn.{Turn}
 use Rattle.refutation_terms.specs.Word.{Domains, AreSame}
 use Rattle.refutation_terms.specs.Tree.{domains_at}
 use Rattle.refutation_terms.specs.Log.{Log, HoldsFor, PassesFor, IsSpentFor, NamesOnlyCited, size}
-use Rattle.refutation_terms.specs.Laws.{HasGoal}
 use Rattle.domain_store.specs.Store.{Store, BelongsTo, IsStore, has_domain}
 use Rattle.propagator_terms.specs.Looks.{Closes}
+use Rattle.roster_search.specs.Guides.{IsRosterFor}
 use Rattle.plan_terms.specs.declared.found.Found.{Found}
 use Rattle.plan_terms.specs.declared.found.Found.TheVariants.{Roster, NoRoster, Undecided}
 
@@ -26,18 +25,19 @@ pub record IsForced (P : Instance) (leaves : Store → Line → Type 0) (spent :
   pub not_closed : Closes P (leaves store) store → ⊥
   pub forced : (q : ℕ) (z : Symbol) → spent store q z → spent store p x
 
+-- this is said of each split, by the domains at it, its position and its symbol
+abbrev pub AtEachSplit : (Domains → ℕ → Symbol → Type 0) → Instance → Option Turn → List Line → Type 0
+AtEachSplit Said P turn lines =
+    (k p : ℕ) (x : Symbol) → slice_get lines k ≡ Some (Split p x) → Said (domains_at P turn lines k) p x
+
 -- each split is as the propagator says
 abbrev pub AreForced : Instance → (Store → Line → Type 0) → (Store → ℕ → Symbol → Type 0) → Option Turn → List Line
     → Type 0
-AreForced P leaves spent turn lines =
-    (k p : ℕ) (x : Symbol) → slice_get lines k ≡ Some (Split p x)
-    → IsForced P leaves spent (domains_at P turn lines k) p x
+AreForced P leaves spent turn lines = AtEachSplit (IsForced P leaves spent) P turn lines
 
 -- with a goal, at each split as many weeks as that can still have a free weekend
 abbrev pub FewHoldsAtNoSplit : Instance → Option ℕ → Option Turn → List Line → Type 0
-FewHoldsAtNoSplit P goal turn lines =
-    (k p : ℕ) (x : Symbol) → slice_get lines k ≡ Some (Split p x)
-    → HoldsFor P goal (domains_at P turn lines k) Few → ⊥
+FewHoldsAtNoSplit P goal turn lines = AtEachSplit (λ D p x. HoldsFor P goal D Few → ⊥) P turn lines
 
 -- a log with this turn that names what it cites and no more
 pub record IsLogOfTurn (P : Instance) (turn : Option Turn) (g : Log) : Type 0 where
@@ -60,8 +60,7 @@ IsSearchLog P turn leaves spent g = IsSearchLogFor P turn None leaves spent g
 -- of at most the budget's size; or one that has spent the budget
 abbrev pub IsFoundFor : Instance → Option Turn → Option ℕ → ℕ → (Store → Line → Type 0)
     → (Store → ℕ → Symbol → Type 0) → Found → Type 0
-IsFoundFor P turn goal budget leaves spent (Roster s) =
-    (s.days ≡ P.days) × MeetsAll P s.cells × HasGoal goal s.cells
+IsFoundFor P turn goal budget leaves spent (Roster s) = IsRosterFor P goal s
 IsFoundFor P turn goal budget leaves spent (NoRoster g) =
     PassesFor P goal g × (size g ≤ budget) × IsSearchLogFor P turn goal leaves spent g
 IsFoundFor P turn goal budget leaves spent (Undecided g) =

@@ -4,33 +4,26 @@ use Rattle.std.specs.Option.{IfSome}
 use Rattle.rwsp_terms.specs.declared.data.Symbol.{Symbol}
 use Rattle.rwsp_terms.specs.Instance.{Instance}
 use Rattle.rwsp_terms.specs.Roster.{MeetsAll}
+use Rattle.rwsp_model.specs.Schedule.{Schedule}
 use Rattle.refutation_terms.specs.declared.lines.Line.{Line}
 use Rattle.refutation_terms.specs.declared.lines.Line.TheVariants.{Few}
-use Rattle.refutation_terms.specs.Tree.{IsLeaf}
-use Rattle.refutation_terms.specs.Log.{LineFitsFor, ListsShortOnly, HoldsFor}
+use Rattle.refutation_terms.specs.Log.{HoldsFor}
 use Rattle.refutation_terms.specs.Laws.{HasGoal}
 use Rattle.domain_store.specs.Store.{Store, has_domain}
 use Rattle.tree_walk.specs.Splits.{is_idle_in}
+use Rattle.propagator_terms.specs.Leaves.{IsHoldingLeafFor}
 use Rattle.propagator_terms.specs.Looks.{IsUnweighed, Closes, IsCut}
 use Rattle.roster_search.specs.declared.order.NextSplit.{NextSplit}
 use Rattle.roster_search.specs.declared.sight.Sight.{Sight}
 use Rattle.roster_search.specs.declared.sight.Sight.TheVariants.{Leaf, Roster, Cut, Quiet}
 
--- a leaf of a log with this goal, or without one: with its numbers in their ranges, and with short rules only in its
--- list
-pub record IsLeafFor (P : Instance) (goal : Option ℕ) (line : Line) : Type 0 where
-  pub leaf : IsLeaf line
-  pub fits : LineFitsFor P goal line
-  pub short : ListsShortOnly P line
-
--- such a leaf, and it holds under the domains
-pub record IsLeafUnder (P : Instance) (goal : Option ℕ) (S : Store) (line : Line) : Type 0 where
-  pub is_leaf : IsLeafFor P goal line
-  pub holds : HoldsFor P goal (has_domain S) line
-
--- such a leaf, or none
+-- a leaf that holds under the domains, or none
 abbrev pub IsLeafGiven : Instance → Option ℕ → Store → Option Line → Type 0
-IsLeafGiven P goal S line = IfSome line (IsLeafUnder P goal S)
+IsLeafGiven P goal S line = IfSome line (IsHoldingLeafFor P goal (has_domain S))
+
+-- a roster of the problem's days that meets every rule and has as many free weekends as the goal, where there is one
+abbrev pub IsRosterFor : Instance → Option ℕ → Schedule → Type 0
+IsRosterFor P goal s = (s.days ≡ P.days) × MeetsAll P s.cells × HasGoal goal s.cells
 
 -- where there is a goal, no leaf of the propagator is a bound
 abbrev pub AreUnweighedFor : Option ℕ → (Store → Line → Type 0) → Type 0
@@ -47,8 +40,8 @@ IsEmpty S p = (x : ℕ) → x ≤ S.shifts → has_domain S p x ≡ false
 
 -- a leaf or a roster that a guide gave
 abbrev pub IsGiven : Instance → Option ℕ → Store → Sight → Type 0
-IsGiven P goal S (Leaf line) = IsLeafUnder P goal S line
-IsGiven P goal S (Roster s) = (s.days ≡ P.days) × MeetsAll P s.cells × HasGoal goal s.cells
+IsGiven P goal S (Leaf line) = IsHoldingLeafFor P goal (has_domain S) line
+IsGiven P goal S (Roster s) = IsRosterFor P goal s
 IsGiven P goal S sight = ⊥
 
 -- no leaf of the propagator holds, and with a goal, as many weeks as that can still have a free weekend

@@ -1,5 +1,5 @@
 -- What a search has written so far.
-use Rattle.std.specs.Prelude.{◌≡◌, ◌⊎◌, ◌↔◌, ℕ, ◌+◌, ◌≤◌, List, [], ◌∷◌, ◌++◌, length, slice_get, replicate, Option, Some, Contains}
+use Rattle.std.specs.Prelude.{◌≡◌, ◌⊎◌, ◌↔◌, ℕ, ◌+◌, ◌<◌, ◌≤◌, List, [], ◌∷◌, ◌++◌, length, slice_get, replicate, Option, Some, false, Contains}
 use Rattle.rwsp_terms.specs.declared.data.Symbol.{Symbol}
 use Rattle.rwsp_terms.specs.declared.data.Rule.{Rule}
 use Rattle.rwsp_terms.specs.Instance.{Instance}
@@ -12,8 +12,10 @@ use Rattle.refutation_terms.specs.Tree.{IsLeaf, domains_at}
 use Rattle.refutation_terms.specs.Log.{LineFitsFor, TurnFits, GoalFits, HoldsFor, Cites, TurnCites, ListsShortOnly, PassesFor, IsSpentFor, size}
 use Rattle.domain_store.specs.Store.{Store}
 use Rattle.tree_walk.specs.States.{IsStateOf, open_trees}
-use Rattle.propagator_terms.specs.Looks.{IsNarrowedAt}
+use Rattle.propagator_terms.specs.Looks.{HasPlainLeaves, IsNarrowedAt}
 use Rattle.roster_search.specs.Founds.{AreForced, FewHoldsAtNoSplit, IsLogOfTurn}
+use Rattle.roster_search.specs.Guides.{AreUnweighedFor}
+use Rattle.roster_search.specs.declared.aim.Aim.{Aim}
 use Rattle.roster_search.specs.declared.progress.Progress.{Progress}
 use Rattle.plan_terms.specs.declared.found.Found.{Found}
 use Rattle.plan_terms.specs.declared.found.Found.TheVariants.{Roster, NoRoster, Undecided}
@@ -32,12 +34,12 @@ IsCitedIn P turn lines r =
 -- the lines hold and fit under the domains at them (`Stands`), the walk is behind them, and what they and the turn cite
 -- is named
 pub record IsProgress (P : Instance) (s : Progress) : Type 0 where
-  pub state : IsStateOf P s.turn s.lines.items s.walk
-  pub turn_fits : TurnFits P s.turn
-  pub goal_fits : GoalFits P s.turn s.goal
+  pub state : IsStateOf P s.aim.turn s.lines.items s.walk
+  pub turn_fits : TurnFits P s.aim.turn
+  pub goal_fits : GoalFits P s.aim.turn s.aim.goal
   pub stand : (k : ℕ) (line : Line) → slice_get s.lines.items k ≡ Some line
-      → Stands P s.goal (domains_at P s.turn s.lines.items k) line
-  pub cited : (r : Rule) → Names P s.named r ↔ IsCitedIn P s.turn s.lines.items r
+      → Stands P s.aim.goal (domains_at P s.aim.turn s.lines.items k) line
+  pub cited : (r : Rule) → Names P s.named r ↔ IsCitedIn P s.aim.turn s.lines.items r
   pub numbers : (k : ℕ) → Contains s.named k → (r : Rule) × (rule_of P k ≡ Some r)
   pub few_open : open_trees s.walk ≤ length s.lines.items + 1
 
@@ -48,27 +50,43 @@ IsSplitWithLeaf p x added = (added ≡ Split p x ∷ []) ⊎ ((leaf : Line) × I
 -- such lines were written, and only the domain of their position became smaller
 pub record IsSplitOff (P : Instance) (before after : Progress) (p : ℕ) (x : Symbol) : Type 0 where
   pub written : IsProgress P after
-  pub same_turn : after.turn ≡ before.turn
-  pub same_goal : after.goal ≡ before.goal
+  pub same_aim : after.aim ≡ before.aim
   pub added : List Line
   pub split : IsSplitWithLeaf p x added
   pub lines : after.lines.items ≡ before.lines.items ++ added
   pub narrowed : IsNarrowedAt before.walk.store after.walk.store p
 
--- the lines of a search with this turn, goal and budget, whose splits are as the propagator says
-pub record IsUnderWay (P : Instance) (turn : Option Turn) (goal : Option ℕ) (budget : ℕ)
-    (leaves : Store → Line → Type 0) (spent : Store → ℕ → Symbol → Type 0) (s : Progress) : Type 0 where
+-- the lines of a search within its budget, whose splits are as the propagator says
+pub record IsUnderWay (P : Instance) (leaves : Store → Line → Type 0) (spent : Store → ℕ → Symbol → Type 0)
+    (s : Progress) : Type 0 where
   pub written : IsProgress P s
-  pub same_turn : s.turn ≡ turn
-  pub same_goal : s.goal ≡ goal
-  pub forced : AreForced P leaves spent turn s.lines.items
-  pub no_few : FewHoldsAtNoSplit P goal turn s.lines.items
-  pub few : length s.lines.items ≤ budget
+  pub forced : AreForced P leaves spent s.aim.turn s.lines.items
+  pub no_few : FewHoldsAtNoSplit P s.aim.goal s.aim.turn s.lines.items
+  pub few : length s.lines.items ≤ s.aim.budget
+
+-- a search between two lines: the propagator serves it and tracks the domains behind its lines
+pub record IsSearching {A : Type 0} (P : Instance) (served : A → Instance → Type 0) (tracked : A → Store → Type 0)
+    (lines : A → Store → Line → Type 0) (symbols : A → Store → ℕ → Symbol → Type 0) (propagator : A) (s : Progress)
+    : Type 0 where
+  pub serves : served propagator P
+  pub tracks : tracked propagator s.walk.store
+  pub plain : HasPlainLeaves P (lines propagator)
+  pub unweighed : AreUnweighedFor s.aim.goal (lines propagator)
+  pub under_way : IsUnderWay P (lines propagator) (symbols propagator) s
+
+-- a tree is still open, and the budget has room for one more line
+abbrev pub HasRoom : Progress → Type 0
+HasRoom s = (s.walk.whole ≡ false) × (length s.lines.items < s.aim.budget)
+
+-- more lines of the same search
+abbrev pub IsLonger : Progress → Progress → Type 0
+IsLonger before after = (after.aim ≡ before.aim) × (length before.lines.items < length after.lines.items)
 
 -- the log of these lines: one that passes, or one that has spent the budget and leaves the rest unfinished
-abbrev pub IsEnded : Instance → Option Turn → Option ℕ → ℕ → List Line → Found → Type 0
-IsEnded P turn goal budget lines (Roster s) = ⊥
-IsEnded P turn goal budget lines (NoRoster g) =
-    PassesFor P goal g × (size g ≤ budget) × IsLogOfTurn P turn g × (g.lines ≡ lines)
-IsEnded P turn goal budget lines (Undecided g) =
-    IsSpentFor P goal g budget × IsLogOfTurn P turn g × ((n : ℕ) × (g.lines ≡ lines ++ replicate n Unfinished))
+abbrev pub IsEnded : Instance → Aim → List Line → Found → Type 0
+IsEnded P aim lines (Roster s) = ⊥
+IsEnded P aim lines (NoRoster g) =
+    PassesFor P aim.goal g × (size g ≤ aim.budget) × IsLogOfTurn P aim.turn g × (g.lines ≡ lines)
+IsEnded P aim lines (Undecided g) =
+    IsSpentFor P aim.goal g aim.budget × IsLogOfTurn P aim.turn g
+    × ((n : ℕ) × (g.lines ≡ lines ++ replicate n Unfinished))

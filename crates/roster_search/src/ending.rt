@@ -7,10 +7,11 @@ ghost use Rattle.refutation_terms.specs.Tree.{IsTree};
 ghost use Rattle.refutation_terms.specs.Log.{IsAllowed, GoalFits};
 ghost use Rattle.roster_search.specs.Written.{IsProgress, IsEnded};
 
+use crate::Aim;
 use crate::progress::Progress;
 use plan_terms::Found;
 use refutation_log::Log;
-use refutation_terms::{Line, Turn};
+use refutation_terms::Line;
 use rwsp_model::Problem;
 use rwsp_terms::RuleList;
 use rwsp_terms::limits::GREATEST_BUDGET;
@@ -18,17 +19,16 @@ use std::alloc::AllocError;
 
 /// The log of the lines, once they are a whole tree or the budget is spent. What is open then is left
 /// unfinished.
-pub fn end(problem: &Problem, budget: u32, progress: Progress) -> Result<Found, AllocError>
+pub fn end(problem: &Problem, progress: Progress) -> Result<Found, AllocError>
     requires written { IsProgress problem.now progress }
-    requires allowed { IsAllowed problem.now progress.turn }
-    requires few { length progress.lines.items ≤ budget }
-    requires budget { budget ≤ GREATEST_BUDGET }
-    requires spent { progress.walk.whole ≡ false → budget ≤ length progress.lines.items }
-    ensures { IfOk result (λ found. IsEnded problem.now progress.turn progress.goal budget progress.lines.items found) }
+    requires allowed { IsAllowed problem.now progress.aim.turn }
+    requires few { length progress.lines.items ≤ progress.aim.budget }
+    requires budget { progress.aim.budget ≤ GREATEST_BUDGET }
+    requires spent { progress.walk.whole ≡ false → progress.aim.budget ≤ length progress.lines.items }
+    ensures { IfOk result (IsEnded problem.now progress.aim progress.lines.items) }
 {
     let Progress {
-        turn,
-        goal,
+        aim,
         walk,
         mut lines,
         named,
@@ -39,25 +39,25 @@ pub fn end(problem: &Problem, budget: u32, progress: Progress) -> Result<Found, 
     let count = walk.open_count();
     drop(walk);
     if is_whole {
-        return Ok(Found::NoRoster(log_of(named, turn, goal, lines)));
+        return Ok(Found::NoRoster(log_of(named, aim, lines)));
     }
     leave_open(&mut lines, count)?;
-    Ok(Found::Undecided(log_of(named, turn, goal, lines)))
+    Ok(Found::Undecided(log_of(named, aim, lines)))
 }
 
 // The log of these rules and lines, with the turn or the goal.
-fn log_of(named: RuleList, turn: Option<Turn>, goal: Option<u32>, lines: Vec<Line>) -> Log
-    requires goal { (P : Instance) × GoalFits P turn goal }
+fn log_of(named: RuleList, aim: Aim, lines: Vec<Line>) -> Log
+    requires goal { (P : Instance) × GoalFits P aim.turn aim.goal }
     requires tree { IsTree lines.items }
     requires few { length lines.items ≤ MOST_LINES }
     ensures named { result.named ≡ named }
-    ensures turn { result.turn ≡ turn }
-    ensures goal { result.goal ≡ goal }
+    ensures turn { result.turn ≡ aim.turn }
+    ensures goal { result.goal ≡ aim.goal }
     ensures lines { result.lines ≡ lines.items }
 {
-    match goal {
+    match aim.goal {
         Some(goal) => Log::with_goal(named, goal, lines),
-        None => Log::of(named, turn, lines),
+        None => Log::of(named, aim.turn, lines),
     }
 }
 

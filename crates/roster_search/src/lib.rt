@@ -1,6 +1,7 @@
 //! A search for a roster that writes down its cases: a roster, or the log of a refutation.
 #![tactic(auto)]
 
+mod aim;
 mod decided;
 mod ending;
 mod guide;
@@ -12,6 +13,7 @@ mod search_step;
 mod searching;
 mod sight;
 
+pub use aim::Aim;
 pub use guide::{Guide, NoGuide};
 pub use laws::{spent_budgets_are_small, trees_have_few_leaves};
 pub use order::{NextSplit, chronological};

@@ -4,14 +4,15 @@ ghost use Rattle.rwsp_terms.specs.Instance.{Instance, cells};
 ghost use Rattle.refutation_terms.specs.declared.lines.Line.TheVariants.{Split};
 ghost use Rattle.refutation_terms.specs.Word.{AreSame};
 ghost use Rattle.refutation_terms.specs.Tree.{First, narrowed, domains_at, is_idle};
-ghost use Rattle.refutation_terms.specs.Log.{TurnFits, GoalFits, HoldsFor, TurnCites};
+ghost use Rattle.refutation_terms.specs.Log.{TurnFits, GoalFits, TurnCites};
 ghost use Rattle.rwsp_terms.specs.Rules.{rule_of, Names};
 ghost use Rattle.rwsp_terms.specs.declared.data.Rule.{Rule};
 ghost use Rattle.domain_store.specs.Store.{has_domain, IsStore, HasDomains};
 ghost use Rattle.tree_walk.specs.Splits.{is_idle_in};
-ghost use Rattle.roster_search.specs.Guides.{IsLeafFor};
-ghost use Rattle.roster_search.specs.Written.{IsProgress, IsSplitOff};
+ghost use Rattle.propagator_terms.specs.Leaves.{IsHoldingLeafFor};
+ghost use Rattle.roster_search.specs.Written.{IsProgress, IsSplitOff, HasRoom};
 
+use crate::Aim;
 use refutation_log::{put_cited_for, put_turn_cited};
 use refutation_terms::{Line, Turn};
 use rwsp_model::Problem;
@@ -22,8 +23,7 @@ use tree_walk::Walk;
 /// The lines that were written, the domains behind them, and the rules that they and the turn cite.
 #[derive(Drop)]
 pub struct Progress {
-    pub turn: Option<Turn>,
-    pub goal: Option<u32>,
+    pub aim: Aim,
     pub walk: Walk,
     pub lines: Vec<Line>,
     pub named: RuleList,
@@ -31,24 +31,17 @@ pub struct Progress {
 
 impl Progress {
     /// No line yet.
-    pub fn new(
-        alloc: Global,
-        problem: &Problem,
-        turn: Option<Turn>,
-        goal: Option<u32>,
-    ) -> Result<Progress, AllocError>
-        requires turn { TurnFits problem.now turn }
-        requires goal { GoalFits problem.now turn goal }
+    pub fn new(alloc: Global, problem: &Problem, aim: Aim) -> Result<Progress, AllocError>
+        requires turn { TurnFits problem.now aim.turn }
+        requires goal { GoalFits problem.now aim.turn aim.goal }
         ensures written { IfOk result (λ s. IsProgress problem.now s) }
-        ensures turn { IfOk result (λ s. s.turn ≡ turn) }
-        ensures goal { IfOk result (λ s. s.goal ≡ goal) }
+        ensures aim { IfOk result (λ s. s.aim ≡ aim) }
         ensures none { IfOk result (λ s. s.lines.items ≡ []) }
     {
-        let walk = Walk::new(alloc, problem, turn)?;
-        let named = turn_rules(alloc, problem, turn)?;
+        let walk = Walk::new(alloc, problem, aim.turn)?;
+        let named = turn_rules(alloc, problem, aim.turn)?;
         Ok(Progress {
-            turn,
-            goal,
+            aim,
             walk,
             lines: Vec::new(alloc),
             named,
@@ -56,17 +49,17 @@ impl Progress {
     }
 
     /// Whether the budget has room for one more line.
-    pub fn has_room(&self, budget: u32) -> bool
-        ensures { IsTrue result ↔ (length self.now.lines.items < budget) }
+    pub fn has_room(&self) -> bool
+        ensures { IsTrue result ↔ (length self.now.lines.items < self.now.aim.budget) }
     {
-        self.lines.len() < budget as usize
+        self.lines.len() < self.aim.budget as usize
     }
 
     /// Whether a tree is still open and the budget has room for one more line.
-    pub fn goes_on(&self, budget: u32) -> bool
-        ensures { IsTrue result ↔ ((self.now.walk.whole ≡ false) × (length self.now.lines.items < budget)) }
+    pub fn goes_on(&self) -> bool
+        ensures { IsTrue result ↔ HasRoom self.now }
     {
-        !self.walk.is_whole() && self.has_room(budget)
+        !self.walk.is_whole() && self.has_room()
     }
 
     /// Brings into a proof what holds of the domains at the next line. Does nothing when run.
@@ -75,7 +68,7 @@ impl Progress {
         ensures tests { HasDomains self.now.walk.store }
         ensures same { (P : Instance) → IsProgress P self.now
             → AreSame P (has_domain self.now.walk.store)
-            (domains_at P self.now.turn self.now.lines.items (length self.now.lines.items)) }
+            (domains_at P self.now.aim.turn self.now.lines.items (length self.now.lines.items)) }
     {
         self.walk.domains().prove_facts();
     }
@@ -84,12 +77,10 @@ impl Progress {
     pub fn close(&mut self, problem: &Problem, line: Line) -> Result<(), AllocError>
         requires part { self.old.walk.whole ≡ false }
         requires written { IsProgress problem.now self.old }
-        requires leaf { IsLeafFor problem.now self.old.goal line }
-        requires holds { HoldsFor problem.now self.old.goal
-            (domains_at problem.now self.old.turn self.old.lines.items (length self.old.lines.items)) line }
+        requires leaf { IsHoldingLeafFor problem.now self.old.aim.goal
+            (domains_at problem.now self.old.aim.turn self.old.lines.items (length self.old.lines.items)) line }
         ensures written { IfOk result (λ _. IsProgress problem.now self.new) }
-        ensures turn { self.new.turn ≡ self.old.turn }
-        ensures goal { self.new.goal ≡ self.old.goal }
+        ensures aim { self.new.aim ≡ self.old.aim }
         ensures lines { IfOk result (λ _. self.new.lines.items ≡ self.old.lines.items ++ line ∷ []) }
     {
         put_cited_for(&mut self.named, problem, &line)?;
@@ -106,8 +97,7 @@ impl Progress {
         ensures off { IfOk result (λ _. (P : Instance) → IsProgress P self.old → IsSplitOff P self.old self.new p x) }
         ensures lines { IfOk result (λ _. self.new.lines.items ≡ self.old.lines.items ++ Split p x ∷ []) }
         ensures part { IfOk result (λ _. self.new.walk.whole ≡ false) }
-        ensures turn { self.new.turn ≡ self.old.turn }
-        ensures goal { self.new.goal ≡ self.old.goal }
+        ensures aim { self.new.aim ≡ self.old.aim }
     {
         self.prove_domains();
         self.lines.push(Line::Split { p, x })?;
@@ -121,31 +111,27 @@ impl Progress {
     pub fn cut(
         &mut self,
         problem: &Problem,
-        budget: u32,
         p: u32,
         x: Symbol,
         line: Line,
     ) -> Result<(), AllocError>
-        requires part { self.old.walk.whole ≡ false }
+        requires room { HasRoom self.old }
         requires written { IsProgress problem.now self.old }
-        requires room { length self.old.lines.items < budget }
         requires position { p < cells problem.now }
         requires useful { is_idle problem.now (has_domain self.old.walk.store) p x.number ≡ false }
-        requires leaf { IsLeafFor problem.now self.old.goal line }
-        requires holds { HoldsFor problem.now self.old.goal
+        requires leaf { IsHoldingLeafFor problem.now self.old.aim.goal
             (narrowed (has_domain self.old.walk.store) (Split p x) First) line }
         ensures off { IfOk result (λ _. IsSplitOff problem.now self.old self.new p x) }
-        ensures few { IfOk result (λ _. length self.new.lines.items ≤ budget) }
+        ensures few { IfOk result (λ _. length self.new.lines.items ≤ self.old.aim.budget) }
         ensures leaf { IfOk result (λ _.
-            length self.old.lines.items + 1 < budget
+            length self.old.lines.items + 1 < self.old.aim.budget
             → self.new.lines.items ≡ self.old.lines.items ++ Split p x ∷ line ∷ []) }
-        ensures turn { self.new.turn ≡ self.old.turn }
-        ensures goal { self.new.goal ≡ self.old.goal }
+        ensures aim { self.new.aim ≡ self.old.aim }
     {
         problem.prove_limits();
         self.prove_domains();
         self.split(p, x)?;
-        if self.has_room(budget) {
+        if self.has_room() {
             self.close(problem, line)?;
             self.prove_domains();
         }

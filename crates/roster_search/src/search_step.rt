@@ -1,15 +1,12 @@
 // One turn of a search.
-ghost use Rattle.std.specs.Prelude.{◌≡◌, ℕ, ◌<◌, ◌≤◌, ◌↔◌, length, Option, false, IfOk, IfSome, MatchOption, None};
+ghost use Rattle.std.specs.Prelude.{◌≡◌, ℕ, ◌↔◌, Option, IfOk, IfSome, MatchOption, None};
 ghost use Rattle.rwsp_terms.specs.declared.data.Symbol.{Symbol};
 ghost use Rattle.rwsp_terms.specs.Instance.{Instance};
-ghost use Rattle.rwsp_terms.specs.Roster.{MeetsAll};
-ghost use Rattle.refutation_terms.specs.declared.lines.Line.{Line};
-ghost use Rattle.refutation_terms.specs.declared.lines.Turn.{Turn};
-ghost use Rattle.refutation_terms.specs.Laws.{HasGoal};
-ghost use Rattle.domain_store.specs.Store.{Store, BelongsTo, IsDecided};
-ghost use Rattle.propagator_terms.specs.Looks.{HasPlainLeaves, IsCut, SameReasons};
-ghost use Rattle.roster_search.specs.Guides.{IsSplitIn, AreUnweighedFor, IsLeafUnder, IsOpen, IsSight};
-ghost use Rattle.roster_search.specs.Written.{IsUnderWay};
+ghost use Rattle.domain_store.specs.Store.{BelongsTo, IsDecided, has_domain};
+ghost use Rattle.propagator_terms.specs.Leaves.{IsHoldingLeafFor};
+ghost use Rattle.propagator_terms.specs.Looks.{IsCut, IsSame};
+ghost use Rattle.roster_search.specs.Guides.{IsSplitIn, IsRosterFor, IsOpen, IsSight};
+ghost use Rattle.roster_search.specs.Written.{IsSearching, HasRoom, IsLonger};
 
 use crate::decided::met_roster;
 use crate::order::chronological;
@@ -29,85 +26,58 @@ use std::alloc::{AllocError, Global};
 pub fn step<A: Propagator, G: Guide>(
     alloc: Global,
     problem: &Problem,
-    budget: u32,
     propagator: &mut A,
     guide: &mut G,
     arrival: &mut Arrival,
     progress: &mut Progress,
 ) -> Result<Option<Roster>, AllocError>
-    requires under_way { IsUnderWay problem.now progress.old.turn progress.old.goal budget
-        (A.leaves propagator.old) (A.spent propagator.old) progress.old }
-    requires part { progress.old.walk.whole ≡ false }
-    requires room { length progress.old.lines.items < budget }
-    requires serves { A.serves propagator.old problem.now }
-    requires tracks { A.tracks propagator.old progress.old.walk.store }
-    requires plain { HasPlainLeaves problem.now (A.leaves propagator.old) }
-    requires unweighed { AreUnweighedFor progress.old.goal (A.leaves propagator.old) }
-    requires guide { G.serves guide.old problem.now progress.old.goal }
-    ensures under_way { IfOk result (λ found.
-        found ≡ None → IsUnderWay problem.now progress.old.turn progress.old.goal budget
-        (A.leaves propagator.old) (A.spent propagator.old) progress.new) }
-    ensures longer { IfOk result (λ found.
-        found ≡ None → length progress.old.lines.items < length progress.new.lines.items) }
-    ensures tracks { IfOk result (λ found. found ≡ None → A.tracks propagator.new progress.new.walk.store) }
-    ensures roster { IfOk result (λ found.
-        IfSome found (λ s.
-        (s.days ≡ problem.now.days) × MeetsAll problem.now s.cells × HasGoal progress.old.goal s.cells)) }
-    ensures same { SameReasons (A.serves propagator.old) (A.serves propagator.new)
-        (A.leaves propagator.old) (A.leaves propagator.new) (A.spent propagator.old) (A.spent propagator.new) }
+    requires searching { IsSearching problem.now A.serves A.tracks A.leaves A.spent propagator.old progress.old }
+    requires room { HasRoom progress.old }
+    requires guide { G.serves guide.old problem.now progress.old.aim.goal }
+    ensures searching { IfOk result (λ found. found ≡ None
+        → IsSearching problem.now A.serves A.tracks A.leaves A.spent propagator.new progress.new) }
+    ensures longer { IfOk result (λ found. found ≡ None → IsLonger progress.old progress.new) }
+    ensures roster { IfOk result (λ found. IfSome found (IsRosterFor problem.now progress.old.aim.goal)) }
+    ensures same { IsSame A.serves A.leaves A.spent propagator.old propagator.new }
     ensures guide { (P : Instance) (goal : Option ℕ) → G.serves guide.old P goal ↔ G.serves guide.new P goal }
 {
-    let goal = progress.goal;
-    let doms = progress.walk.domains();
-    let sight = see(alloc, problem, goal, propagator, guide, *arrival, doms)?;
+    let sight = see(alloc, problem, propagator, guide, *arrival, progress)?;
     *arrival = sight.next_arrival();
-    write_seen(problem, budget, propagator, guide, progress, sight)
+    write_seen(problem, propagator, guide, progress, sight)
 }
 
 // Writes what was seen, and tells the propagator, or gives the roster that was seen; where nothing was seen it goes on
 // by choice.
 fn write_seen<A: Propagator, G: Guide>(
     problem: &Problem,
-    budget: u32,
     propagator: &mut A,
     guide: &mut G,
     progress: &mut Progress,
     sight: Sight,
 ) -> Result<Option<Roster>, AllocError>
-    requires under_way { IsUnderWay problem.now progress.old.turn progress.old.goal budget
-        (A.leaves propagator.old) (A.spent propagator.old) progress.old }
-    requires part { progress.old.walk.whole ≡ false }
-    requires room { length progress.old.lines.items < budget }
-    requires serves { A.serves propagator.old problem.now }
-    requires tracks { A.tracks propagator.old progress.old.walk.store }
-    requires plain { HasPlainLeaves problem.now (A.leaves propagator.old) }
-    requires guide { G.serves guide.old problem.now progress.old.goal }
-    requires sight { IsSight problem.now progress.old.goal (A.leaves propagator.old progress.old.walk.store)
-        (A.spent propagator.old progress.old.walk.store) progress.old.walk.store sight }
-    ensures under_way { IfOk result (λ found.
-        found ≡ None → IsUnderWay problem.now progress.old.turn progress.old.goal budget
-        (A.leaves propagator.old) (A.spent propagator.old) progress.new) }
-    ensures longer { IfOk result (λ found.
-        found ≡ None → length progress.old.lines.items < length progress.new.lines.items) }
-    ensures tracks { IfOk result (λ found. found ≡ None → A.tracks propagator.new progress.new.walk.store) }
-    ensures roster { IfOk result (λ found.
-        IfSome found (λ s.
-        (s.days ≡ problem.now.days) × MeetsAll problem.now s.cells × HasGoal progress.old.goal s.cells)) }
-    ensures same { SameReasons (A.serves propagator.old) (A.serves propagator.new)
-        (A.leaves propagator.old) (A.leaves propagator.new) (A.spent propagator.old) (A.spent propagator.new) }
+    requires searching { IsSearching problem.now A.serves A.tracks A.leaves A.spent propagator.old progress.old }
+    requires room { HasRoom progress.old }
+    requires guide { G.serves guide.old problem.now progress.old.aim.goal }
+    requires sight { let S = progress.old.walk.store in
+        IsSight problem.now progress.old.aim.goal (A.leaves propagator.old S) (A.spent propagator.old S) S sight }
+    ensures searching { IfOk result (λ found. found ≡ None
+        → IsSearching problem.now A.serves A.tracks A.leaves A.spent propagator.new progress.new) }
+    ensures longer { IfOk result (λ found. found ≡ None → IsLonger progress.old progress.new) }
+    ensures roster { IfOk result (λ found. IfSome found (IsRosterFor problem.now progress.old.aim.goal)) }
+    ensures same { IsSame A.serves A.leaves A.spent propagator.old propagator.new }
     ensures guide { (P : Instance) (goal : Option ℕ) → G.serves guide.old P goal ↔ G.serves guide.new P goal }
 {
     match sight {
         Sight::Roster(roster) => Ok(Some(roster)),
         Sight::Leaf(line) => {
-            write_leaf(problem, budget, propagator, progress, line)?;
+            write_leaf(problem, propagator, progress, line)?;
             Ok(None)
         }
         Sight::Cut { p, x, line } => {
-            write_cut(problem, budget, propagator, progress, p, x, line)?;
+            write_cut(problem, propagator, progress, p, x, line)?;
             Ok(None)
         }
-        Sight::Quiet => write_choice(problem, budget, propagator, guide, progress),
+        Sight::Quiet => write_choice(problem, propagator, guide, progress),
     }
 }
 
@@ -115,64 +85,46 @@ fn write_seen<A: Propagator, G: Guide>(
 // their roster.
 fn write_choice<A: Propagator, G: Guide>(
     problem: &Problem,
-    budget: u32,
     propagator: &mut A,
     guide: &mut G,
     progress: &mut Progress,
 ) -> Result<Option<Roster>, AllocError>
-    requires under_way { IsUnderWay problem.now progress.old.turn progress.old.goal budget
-        (A.leaves propagator.old) (A.spent propagator.old) progress.old }
-    requires part { progress.old.walk.whole ≡ false }
-    requires room { length progress.old.lines.items < budget }
-    requires serves { A.serves propagator.old problem.now }
-    requires tracks { A.tracks propagator.old progress.old.walk.store }
-    requires plain { HasPlainLeaves problem.now (A.leaves propagator.old) }
-    requires guide { G.serves guide.old problem.now progress.old.goal }
-    requires is_open { IsOpen problem.now progress.old.goal (A.leaves propagator.old progress.old.walk.store)
+    requires searching { IsSearching problem.now A.serves A.tracks A.leaves A.spent propagator.old progress.old }
+    requires room { HasRoom progress.old }
+    requires guide { G.serves guide.old problem.now progress.old.aim.goal }
+    requires is_open { IsOpen problem.now progress.old.aim.goal (A.leaves propagator.old progress.old.walk.store)
         progress.old.walk.store }
     requires unspent { (p : ℕ) (x : Symbol) → A.spent propagator.old progress.old.walk.store p x → ⊥ }
-    ensures under_way { IfOk result (λ found.
-        found ≡ None → IsUnderWay problem.now progress.old.turn progress.old.goal budget
-        (A.leaves propagator.old) (A.spent propagator.old) progress.new) }
-    ensures longer { IfOk result (λ found.
-        found ≡ None → length progress.old.lines.items < length progress.new.lines.items) }
-    ensures tracks { IfOk result (λ found. found ≡ None → A.tracks propagator.new progress.new.walk.store) }
-    ensures roster { IfOk result (λ found.
-        IfSome found (λ s.
-        (s.days ≡ problem.now.days) × MeetsAll problem.now s.cells × HasGoal progress.old.goal s.cells)) }
-    ensures same { SameReasons (A.serves propagator.old) (A.serves propagator.new)
-        (A.leaves propagator.old) (A.leaves propagator.new) (A.spent propagator.old) (A.spent propagator.new) }
+    ensures searching { IfOk result (λ found. found ≡ None
+        → IsSearching problem.now A.serves A.tracks A.leaves A.spent propagator.new progress.new) }
+    ensures longer { IfOk result (λ found. found ≡ None → IsLonger progress.old progress.new) }
+    ensures roster { IfOk result (λ found. IfSome found (IsRosterFor problem.now progress.old.aim.goal)) }
+    ensures same { IsSame A.serves A.leaves A.spent propagator.old propagator.new }
     ensures guide { (P : Instance) (goal : Option ℕ) → G.serves guide.old P goal ↔ G.serves guide.new P goal }
 {
     match next_split(problem, guide, progress.walk.domains()) {
         Some(split) => {
-            write_split(problem, budget, propagator, progress, split)?;
+            write_split(problem, propagator, progress, split)?;
             Ok(None)
         }
-        None => Ok(Some(met_roster(problem, progress.goal, progress.walk.domains())?)),
+        None => Ok(Some(met_roster(problem, progress.aim.goal, progress.walk.domains())?)),
     }
 }
 
 // Writes a leaf that holds under the domains, and tells the propagator.
 fn write_leaf<A: Propagator>(
     problem: &Problem,
-    budget: u32,
     propagator: &mut A,
     progress: &mut Progress,
     line: Line,
 ) -> Result<(), AllocError>
-    requires under_way { IsUnderWay problem.now progress.old.turn progress.old.goal budget
-        (A.leaves propagator.old) (A.spent propagator.old) progress.old }
-    requires part { progress.old.walk.whole ≡ false }
-    requires room { length progress.old.lines.items < budget }
-    requires serves { A.serves propagator.old problem.now }
-    requires leaf { IsLeafUnder problem.now progress.old.goal progress.old.walk.store line }
-    ensures under_way { IfOk result (λ _. IsUnderWay problem.now progress.old.turn progress.old.goal budget
-        (A.leaves propagator.old) (A.spent propagator.old) progress.new) }
-    ensures longer { IfOk result (λ _. length progress.old.lines.items < length progress.new.lines.items) }
-    ensures tracks { IfOk result (λ _. A.tracks propagator.new progress.new.walk.store) }
-    ensures same { SameReasons (A.serves propagator.old) (A.serves propagator.new)
-        (A.leaves propagator.old) (A.leaves propagator.new) (A.spent propagator.old) (A.spent propagator.new) }
+    requires searching { IsSearching problem.now A.serves A.tracks A.leaves A.spent propagator.old progress.old }
+    requires room { HasRoom progress.old }
+    requires leaf { IsHoldingLeafFor problem.now progress.old.aim.goal (has_domain progress.old.walk.store) line }
+    ensures searching { IfOk result (λ _.
+        IsSearching problem.now A.serves A.tracks A.leaves A.spent propagator.new progress.new) }
+    ensures longer { IfOk result (λ _. IsLonger progress.old progress.new) }
+    ensures same { IsSame A.serves A.leaves A.spent propagator.old propagator.new }
 {
     problem.prove_limits();
     progress.prove_domains();
@@ -184,32 +136,25 @@ fn write_leaf<A: Propagator>(
 // Writes a split of a spent symbol of open domains, with the leaf of its first side, and tells the propagator.
 fn write_cut<A: Propagator>(
     problem: &Problem,
-    budget: u32,
     propagator: &mut A,
     progress: &mut Progress,
     p: u32,
     x: Symbol,
     line: Line,
 ) -> Result<(), AllocError>
-    requires under_way { IsUnderWay problem.now progress.old.turn progress.old.goal budget
-        (A.leaves propagator.old) (A.spent propagator.old) progress.old }
-    requires part { progress.old.walk.whole ≡ false }
-    requires room { length progress.old.lines.items < budget }
-    requires serves { A.serves propagator.old problem.now }
-    requires tracks { A.tracks propagator.old progress.old.walk.store }
-    requires is_open { IsOpen problem.now progress.old.goal (A.leaves propagator.old progress.old.walk.store)
+    requires searching { IsSearching problem.now A.serves A.tracks A.leaves A.spent propagator.old progress.old }
+    requires room { HasRoom progress.old }
+    requires is_open { IsOpen problem.now progress.old.aim.goal (A.leaves propagator.old progress.old.walk.store)
         progress.old.walk.store }
     requires cut { IsCut problem.now (A.spent propagator.old progress.old.walk.store) progress.old.walk.store p x line }
-    ensures under_way { IfOk result (λ _. IsUnderWay problem.now progress.old.turn progress.old.goal budget
-        (A.leaves propagator.old) (A.spent propagator.old) progress.new) }
-    ensures longer { IfOk result (λ _. length progress.old.lines.items < length progress.new.lines.items) }
-    ensures tracks { IfOk result (λ _. A.tracks propagator.new progress.new.walk.store) }
-    ensures same { SameReasons (A.serves propagator.old) (A.serves propagator.new)
-        (A.leaves propagator.old) (A.leaves propagator.new) (A.spent propagator.old) (A.spent propagator.new) }
+    ensures searching { IfOk result (λ _.
+        IsSearching problem.now A.serves A.tracks A.leaves A.spent propagator.new progress.new) }
+    ensures longer { IfOk result (λ _. IsLonger progress.old progress.new) }
+    ensures same { IsSame A.serves A.leaves A.spent propagator.old propagator.new }
 {
     problem.prove_limits();
     progress.prove_domains();
-    progress.cut(problem, budget, p, x, line)?;
+    progress.cut(problem, p, x, line)?;
     propagator.narrowed(progress.walk.domains(), p);
     Ok(())
 }
@@ -217,27 +162,20 @@ fn write_cut<A: Propagator>(
 // Writes a split of open domains that have no spent symbol, and tells the propagator.
 fn write_split<A: Propagator>(
     problem: &Problem,
-    budget: u32,
     propagator: &mut A,
     progress: &mut Progress,
     split: NextSplit,
 ) -> Result<(), AllocError>
-    requires under_way { IsUnderWay problem.now progress.old.turn progress.old.goal budget
-        (A.leaves propagator.old) (A.spent propagator.old) progress.old }
-    requires part { progress.old.walk.whole ≡ false }
-    requires room { length progress.old.lines.items < budget }
-    requires serves { A.serves propagator.old problem.now }
-    requires tracks { A.tracks propagator.old progress.old.walk.store }
-    requires is_open { IsOpen problem.now progress.old.goal (A.leaves propagator.old progress.old.walk.store)
+    requires searching { IsSearching problem.now A.serves A.tracks A.leaves A.spent propagator.old progress.old }
+    requires room { HasRoom progress.old }
+    requires is_open { IsOpen problem.now progress.old.aim.goal (A.leaves propagator.old progress.old.walk.store)
         progress.old.walk.store }
     requires unspent { (p : ℕ) (x : Symbol) → A.spent propagator.old progress.old.walk.store p x → ⊥ }
     requires split { IsSplitIn progress.old.walk.store split }
-    ensures under_way { IfOk result (λ _. IsUnderWay problem.now progress.old.turn progress.old.goal budget
-        (A.leaves propagator.old) (A.spent propagator.old) progress.new) }
-    ensures longer { IfOk result (λ _. length progress.old.lines.items < length progress.new.lines.items) }
-    ensures tracks { IfOk result (λ _. A.tracks propagator.new progress.new.walk.store) }
-    ensures same { SameReasons (A.serves propagator.old) (A.serves propagator.new)
-        (A.leaves propagator.old) (A.leaves propagator.new) (A.spent propagator.old) (A.spent propagator.new) }
+    ensures searching { IfOk result (λ _.
+        IsSearching problem.now A.serves A.tracks A.leaves A.spent propagator.new progress.new) }
+    ensures longer { IfOk result (λ _. IsLonger progress.old progress.new) }
+    ensures same { IsSame A.serves A.leaves A.spent propagator.old propagator.new }
 {
     problem.prove_limits();
     progress.prove_domains();

@@ -1,17 +1,17 @@
 // What is seen before a line is written.
 ghost use Rattle.std.specs.Prelude.{◌≡◌, ◌⊎◌, ℕ, ◌↔◌, Option, IsTrue, IfOk};
 ghost use Rattle.std.specs.Option.{IfSome};
-ghost use Rattle.rwsp_terms.specs.declared.data.Symbol.{Symbol};
 ghost use Rattle.rwsp_terms.specs.Instance.{Instance};
-ghost use Rattle.refutation_terms.specs.declared.lines.Line.{Line};
 ghost use Rattle.refutation_terms.specs.declared.lines.Line.TheVariants.{Few};
 ghost use Rattle.refutation_terms.specs.declared.lines.Turn.{Turn};
 ghost use Rattle.refutation_terms.specs.Log.{GoalFits, HoldsFor};
-ghost use Rattle.domain_store.specs.Store.{Store, BelongsTo, has_domain};
-ghost use Rattle.propagator_terms.specs.Looks.{SameReasons};
-ghost use Rattle.roster_search.specs.Guides.{IsLeafGiven, IsGiven, IsSight, AreUnweighedFor};
+ghost use Rattle.domain_store.specs.Store.{BelongsTo, has_domain};
+ghost use Rattle.propagator_terms.specs.Looks.{IsSame};
+ghost use Rattle.roster_search.specs.Guides.{IsLeafGiven, IsGiven, IsSight};
+ghost use Rattle.roster_search.specs.Written.{IsSearching};
 
 use crate::Guide;
+use crate::progress::Progress;
 use domain_store::Domains;
 use plain_leaves::few_holds;
 use propagator_terms::{Look, Propagator};
@@ -82,26 +82,21 @@ impl Sight {
 pub fn see<A: Propagator, G: Guide>(
     alloc: Global,
     problem: &Problem,
-    goal: Option<u32>,
     propagator: &mut A,
     guide: &mut G,
     arrival: Arrival,
-    doms: &Domains,
+    progress: &Progress,
 ) -> Result<Sight, AllocError>
-    requires serves { A.serves propagator.old problem.now }
-    requires guide { G.serves guide.old problem.now goal }
-    requires belongs { BelongsTo problem.now doms.now }
-    requires goal { (turn : Option Turn) × GoalFits problem.now turn goal }
-    requires tracked { A.tracks propagator.old doms.now }
-    requires unweighed { AreUnweighedFor goal (A.leaves propagator.old) }
-    ensures sight { IfOk result (λ sight.
-        IsSight problem.now goal (A.leaves propagator.old doms.now) (A.spent propagator.old doms.now) doms.now sight) }
-    ensures tracks { A.tracks propagator.new doms.now }
-    ensures same { SameReasons (A.serves propagator.old) (A.serves propagator.new)
-        (A.leaves propagator.old) (A.leaves propagator.new) (A.spent propagator.old) (A.spent propagator.new) }
-    ensures guide { (P : Instance) (g : Option ℕ) → G.serves guide.old P g ↔ G.serves guide.new P g }
+    requires searching { IsSearching problem.now A.serves A.tracks A.leaves A.spent propagator.old progress.now }
+    requires guide { G.serves guide.old problem.now progress.now.aim.goal }
+    ensures searching { IsSearching problem.now A.serves A.tracks A.leaves A.spent propagator.new progress.now }
+    ensures sight { let S = progress.now.walk.store in
+        IfOk result (IsSight problem.now progress.now.aim.goal (A.leaves propagator.new S) (A.spent propagator.new S) S) }
+    ensures same { IsSame A.serves A.leaves A.spent propagator.old propagator.new }
+    ensures guide { (P : Instance) (goal : Option ℕ) → G.serves guide.old P goal ↔ G.serves guide.new P goal }
 {
-    if is_short_of(problem, goal, doms) {
+    let doms = progress.walk.domains();
+    if is_short_of(problem, progress.aim.goal, doms) {
         return Ok(Sight::Leaf(Line::Few));
     }
     match propagator.look(alloc, doms)? {

@@ -11,13 +11,20 @@ use potential_bounds::NoGate;
 use propagator_terms::{Look, Pair, Propagator};
 use propagators::{DayProp, RootBounds, WindowProp};
 use refutation_terms::Line;
-use roster_search::{Guide, NextSplit, NoGuide, chronological, guided_search, search};
+use roster_search::{Aim, Guide, NextSplit, NoGuide, chronological, search};
 use rule_automaton::Automaton;
 use rwsp_model::{Problem, Roster};
 use small_problems::{CROWDED_TWOS_IN_SIX, D_ON_DAY_1, D_ON_EITHER_DAY, problem_of};
 use std::alloc::{AllocError, Global};
 use std::test::Fail;
 use std::thread::Threads;
+
+// A roster with any number of free weekends, within 100 splits and leaves.
+const ANY_ROSTER: Aim = Aim {
+    turn: None,
+    goal: None,
+    budget: 100,
+};
 
 // A propagator that counts how often it looks, and how often it hears of a change.
 #[derive(Drop)]
@@ -57,10 +64,14 @@ impl<A: Propagator> Propagator for Told<A> {
 }
 
 // The windows and the days of the problem, which have heard of no change yet.
-fn reasons(alloc: Global, problem: &Problem) -> Result<Told<Pair<WindowProp, DayProp>>, AllocError>
-    ensures serves { IfOk result (λ t. ⟦<Told<Pair<WindowProp, DayProp>> as Propagator>⟧.serves t problem.now) }
+fn reasons<'a>(
+    alloc: Global,
+    problem: &'a Problem,
+) -> Result<Told<Pair<WindowProp<'a>, DayProp<'a>>>, AllocError>
+    ensures serves { IfOk result
+        (λ t. ⟦<Told<Pair<WindowProp<'a>, DayProp<'a>>> as Propagator>⟧.serves t problem.now) }
     ensures plain { IfOk result
-        (λ t. HasPlainLeaves problem.now (⟦<Told<Pair<WindowProp, DayProp>> as Propagator>⟧.leaves t)) }
+        (λ t. HasPlainLeaves problem.now (⟦<Told<Pair<WindowProp<'a>, DayProp<'a>>> as Propagator>⟧.leaves t)) }
 {
     let doms = Domains::new(alloc, problem)?;
     let windows = WindowProp::new(alloc, problem, &doms)?;
@@ -109,7 +120,7 @@ fn found_by<A: Propagator>(
     ensures days { IfOk result (λ found. IfSome found (λ s. s.days ≡ problem.now.days)) }
     ensures meets { IfOk result (λ found. IfSome found (λ s. MeetsAll problem.now s.cells)) }
 {
-    match search(alloc, problem, None, propagator, 100)? {
+    match search(alloc, problem, ANY_ROSTER, propagator, &mut NoGuide)? {
         Found::Roster(roster) => Ok(Some(roster)),
         _ => Ok(None),
     }
@@ -199,7 +210,7 @@ fn guided_end<A: Propagator, G: Guide>(
     requires plain { HasPlainLeaves problem.now (A.leaves propagator.old) }
     requires guide { G.serves guide.old problem.now None }
 {
-    let found = guided_search(alloc, problem, None, None, propagator, guide, 100)?;
+    let found = search(alloc, problem, ANY_ROSTER, propagator, guide)?;
     Ok(end_of(&found))
 }
 
@@ -223,7 +234,7 @@ fn unguided_end<A: Propagator>(
     requires serves { A.serves propagator.old problem.now }
     requires plain { HasPlainLeaves problem.now (A.leaves propagator.old) }
 {
-    let found = search(alloc, problem, None, propagator, 100)?;
+    let found = search(alloc, problem, ANY_ROSTER, propagator, &mut NoGuide)?;
     Ok(end_of(&found))
 }
 

@@ -14,8 +14,8 @@ returns-then-is_whole c =
     let P = c.args.problem.now in
     let s = c.args.progress in
     let up : IsStrictlyIncreasing s.named = subst IsStrictlyIncreasing c.numbers.ensures.value c.numbers.ensures.ascends in
-    passing_end P s c.args.budget c.log_of.result c.requires.written c.requires.allowed up
-    ((c.is_whole-is_whole.ensures.tree P s.turn s.lines.items c.requires.written.state).0 c.if-is_whole.true)
+    passing_end P s c.log_of.result c.requires.written c.requires.allowed up
+    ((c.is_whole-is_whole.ensures.tree P s.aim.turn s.lines.items c.requires.written.state).0 c.if-is_whole.true)
     c.requires.few c.log_of.ensures.named c.log_of.ensures.turn c.log_of.ensures.goal c.log_of.ensures.lines
 
 pub log_of-requires-2-clause-tree : goal.log_of-requires-2-clause-tree
@@ -23,7 +23,7 @@ log_of-requires-2-clause-tree c =
     let P = c.args.problem.now in
     let s = c.args.progress in
     let n : ℕ = c.open_count-count.result in
-    subst IsTree (sym c.in_ok-leave_open.ensures) (rest_ends s.lines.items n (c.open_count-count.ensures.trees P s.turn s.lines.items (replicate n Unfinished) c.requires.written.state))
+    subst IsTree (sym c.in_ok-leave_open.ensures) (rest_ends s.lines.items n (c.open_count-count.ensures.trees P s.aim.turn s.lines.items (replicate n Unfinished) c.requires.written.state))
 
 pub returns : goal.returns
 returns c =
@@ -33,8 +33,8 @@ returns c =
     let up : IsStrictlyIncreasing s.named = subst IsStrictlyIncreasing c.numbers.ensures.value c.numbers.ensures.ascends in
     let part : s.walk.whole ≡ false = sym c.is_whole-is_whole.ensures.value ∙ c.if-is_whole.false in
     let some : 1 ≤ open_trees s.walk = some_open s.walk part in
-    spent_end P s c.args.budget n c.log_of-2.result c.requires.written c.requires.allowed up
-    (rest_ends s.lines.items n (c.open_count-count.ensures.trees P s.turn s.lines.items (replicate n Unfinished) c.requires.written.state))
+    spent_end P s n c.log_of-2.result c.requires.written c.requires.allowed up
+    (rest_ends s.lines.items n (c.open_count-count.ensures.trees P s.aim.turn s.lines.items (replicate n Unfinished) c.requires.written.state))
     c.requires.few (c.requires.spent part) (omega (arith, some, c.open_count-count.ensures.value)) c.log_of-2.ensures.named c.log_of-2.ensures.turn c.log_of-2.ensures.goal (c.log_of-2.ensures.lines ∙ c.in_ok-leave_open.ensures)
 
 pub log_of-requires-2-clause-few : goal.log_of-requires-2-clause-few

@@ -1,4 +1,4 @@
-use Rattle.std.proofs.Common.{◌≡◌, ℕ, ◌<◌, ◌≤◌, false, IsTrue, MatchOption}
+use Rattle.std.proofs.Common.{◌≡◌, ℕ, ◌<◌, false, IsTrue, MatchOption}
 use Rattle.domain_store.specs.Store.{has_domain}
 use Rattle.roster_search.proofs.need.most_needed.Given as goal
 

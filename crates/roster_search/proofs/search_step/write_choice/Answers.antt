@@ -9,10 +9,10 @@ pub met_roster-requires-clause-windows : goal.met_roster-requires-clause-windows
 met_roster-requires-clause-windows g c number p len fits holds =
     let S = c.args.progress.now.walk.store in
     c.requires.is_open.0
-    (Window number p len, c.requires.plain.windows S number p len fits, subst (λ (T : Store). Holds c.args.problem.now (has_domain T) (Window number p len)) c.domains-in-None.ensures.value holds)
+    (Window number p len, c.requires.searching.plain.windows S number p len fits, subst (λ (T : Store). Holds c.args.problem.now (has_domain T) (Window number p len)) c.domains-in-None.ensures.value holds)
 
 pub met_roster-requires-clause-days : goal.met_roster-requires-clause-days
 met_roster-requires-clause-days g c j x over fits holds =
     let S = c.args.progress.now.walk.store in
     c.requires.is_open.0
-    (Day j x over, c.requires.plain.days S j x over fits, subst (λ (T : Store). Holds c.args.problem.now (has_domain T) (Day j x over)) c.domains-in-None.ensures.value holds)
+    (Day j x over, c.requires.searching.plain.days S j x over fits, subst (λ (T : Store). Holds c.args.problem.now (has_domain T) (Day j x over)) c.domains-in-None.ensures.value holds)

@@ -10,7 +10,7 @@ pub returns-clause-look : goal.returns-clause-look
 returns-clause-look c P serves =
     let S = c.args.doms.now in
     let kept = c.args.self.now.problem in
-    let same : c.self.inside.problem ≡ c.args.self.now.problem = ap (λ (w : DayWatch). w.problem) c.self.view_is in
+    let same : c.self.inside.problem.now ≡ c.args.self.now.problem = ap (λ (w : DayWatch). w.problem) c.self.view_is in
     let IsSeen : Instance → Type 0 = λ Q. IsLook Q (IsDayLeaf Q) (IsDaySpent Q (has_domain S)) S c.seen.result in
     let IsSeenFor : Instance → Type 0 = λ Q. IsLook Q (IsDayLeaf kept) (IsDaySpent kept (has_domain S)) S c.seen.result in
     subst IsSeenFor serves (subst IsSeen same c.seen.ensures)

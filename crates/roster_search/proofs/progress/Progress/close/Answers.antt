@@ -13,11 +13,10 @@ returns-clause-written c =
     let P = c.args.problem.now in
     let a = c.args.self.now in
     written_next P a _ c.args.line c.requires.written (record {
-      turn = refl;
-      goal = refl;
+      aim = refl;
       lines = c.in_ok-push.ensures.items;
-      state = c.read_leaf.ensures.ends P a.turn a.lines.items c.args.line c.requires.written.state c.requires.leaf.leaf;
-      stands = record { holds = c.requires.holds; fits = c.requires.leaf.fits; short = c.requires.leaf.short };
+      state = c.read_leaf.ensures.ends P a.aim.turn a.lines.items c.args.line c.requires.written.state c.requires.leaf.leaf;
+      stands = record { holds = c.requires.leaf.holds; fits = c.requires.leaf.fits; short = c.requires.leaf.short };
       named = c.in_ok-put_cited_for.ensures.names;
       numbers = λ k h. elim ((c.in_ok-put_cited_for.ensures.ok k).0 h) as (λ (o : Contains a.named k ⊎ IsCited P (Cites P c.args.line) k). (x : Rule) × (rule_of P k ≡ Some x)) [
         | inl old ↦ c.requires.written.numbers k old
@@ -27,4 +26,4 @@ returns-clause-written c =
     })
 
 pub put_cited_for-requires : goal.put_cited_for-requires
-put_cited_for-requires c = (c.args.self.now.goal, c.requires.leaf.fits)
+put_cited_for-requires c = (c.args.self.now.aim.goal, c.requires.leaf.fits)
