@@ -1,13 +1,11 @@
 -- The words that lead through the trellis are the clean words.
 use Rattle.std.proofs.Common.{◌≡◌, ◌⊎◌, ℕ, ◌+◌, ◌%◌, List, [], ◌∷◌, ◌++◌, length, refl, ap, sym, ◌∙◌, subst, arith, inl, inr, length-append, Bool, false, ◌==◌, Option, Some, None, ℤ}
-use Rattle.std.specs.Prelude.{◌<ℤ◌, ◌+ℤ◌, IsTrue, IfSome, MatchBool, slice_index_or}
-use Rattle.std.specs.Option.{is_some}
+use Rattle.std.specs.Prelude.{◌<ℤ◌, ◌+ℤ◌, IsTrue, IfSome, slice_index_or}
 use Rattle.std.proofs.lemmas.Int.{ints}
 use Rattle.rwsp_terms.specs.declared.data.Symbol.{Symbol}
 use Rattle.rwsp_terms.specs.Instance.{cells}
 use Rattle.refutation_terms.specs.Word.{Over}
 use Rattle.refutation_terms.specs.Escape.{ComesFirst}
-use Rattle.refutation_terms.specs.Leaf.{IsDead}
 use Rattle.rule_automaton.specs.Moves.{Moves, move_at, after, lead, off_behind}
 use Rattle.rule_automaton.specs.Automata.{HasSymbolsOf}
 use Rattle.clean_words.specs.Courses.{gained, Course, IsOf, word_gain, IsNoWorse, IsBestOf, AreBelow}
@@ -116,9 +114,6 @@ clean_leads T reader u w leads =
 pub greatest_at : (T : Trellis) (row : Row) (o : Option ℤ) → IsReader T → IsRow T 0 row → o ≡ gain_at row 0 → IsGreatest T 0 0 o
 greatest_at T row o reader is_row here = subst (IsGreatest T 0 0) (sym here) (is_row.greatest 0 reader.automaton.some)
 
-pub dead_found : (T : Trellis) → IsReader T → IsGreatest T 0 0 None → IsDead T.automaton.problem T.domains T.position T.days T.automaton.rules
-dead_found T reader none = λ u long over clean. none u _ (leads_clean T reader u (record { long = long; over = over; clean = clean }))
-
 pub best_found : (T : Trellis) → IsReader T → (u : List Symbol) (w : ℤ) → IsBest T 0 0 u w → IsBestOf (course_of T) T.days w u
 best_found T reader u w best =
     let clean = clean_leads T reader u w best.leads in
@@ -134,7 +129,3 @@ best_found T reader u w best =
 pub below_found : (T : Trellis) → IsReader T → (o : Option ℤ) (least : ℤ) → IsGreatest T 0 0 o → IfSome o (λ w. w <ℤ least) → AreBelow (course_of T) T.days least
 below_found T reader None least none below = λ u clean. absurd (none u _ (leads_clean T reader u clean))
 below_found T reader (Some w) least greatest below = λ u clean. omega (arith, ints, below, greatest.1 u _ (leads_clean T reader u clean))
-
-pub alive_found : (T : Trellis) → IsReader T → (o : Option ℤ) → IsGreatest T 0 0 o → MatchBool (is_some o) ((u : List Symbol) × IsOf (course_of T) T.days u) (IsDead T.automaton.problem T.domains T.position T.days T.automaton.rules)
-alive_found T reader None none = dead_found T reader none
-alive_found T reader (Some w) greatest = (greatest.0.0, (clean_leads T reader greatest.0.0 w greatest.0.1).0)

@@ -1,27 +1,12 @@
 // The least clean words.
-ghost use Rattle.std.specs.Prelude.{List, IfOk, MatchBool, MatchOption, pos};
-ghost use Rattle.rwsp_terms.specs.declared.data.Symbol.{Symbol};
+ghost use Rattle.std.specs.Prelude.{IfOk, MatchOption, pos};
 ghost use Rattle.refutation_terms.specs.Leaf.{IsDead};
-ghost use Rattle.refutation_terms.specs.Escape.{IsCleanOver, IsLeastClean};
+ghost use Rattle.refutation_terms.specs.Escape.{IsLeastClean};
 ghost use Rattle.domain_store.specs.Store.{has_domain};
 
-use crate::kept_rows::kept_rows;
 use crate::{CleanWords, Gain, HeavyWord, heaviest};
 use rwsp_terms::{Symbol, Word};
 use std::alloc::{AllocError, Global};
-
-/// Whether there is a clean word.
-pub fn is_alive(alloc: Global, words: &CleanWords<'_>) -> Result<bool, AllocError>
-    ensures { let A = words.now.automaton.now in let doms = words.now.domains.now in
-        let p = words.now.position in let days = words.now.days in
-        IfOk result (λ alive. MatchBool alive
-        ((u : List Symbol) × IsCleanOver A.problem (has_domain doms) p days A.rules u)
-        (IsDead A.problem (has_domain doms) p days A.rules)) }
-{
-    words.prove_facts();
-    let rows = kept_rows(alloc, words, &NoGain)?;
-    Ok(rows.first.at(0).is_some())
-}
 
 /// The least of the words; None exactly where there is none.
 pub fn escape(alloc: Global, words: &CleanWords<'_>) -> Result<Option<Word>, AllocError>
@@ -31,7 +16,7 @@ pub fn escape(alloc: Global, words: &CleanWords<'_>) -> Result<Option<Word>, All
         (IsDead A.problem (has_domain doms) p days A.rules)
         (λ w. IsLeastClean A.problem (has_domain doms) p days A.rules w)) }
 {
-    match heaviest(alloc, words, &NoGain)? {
+    match heaviest(alloc, words, &NoGain, 0)? {
         Some(HeavyWord { weight: _, word }) => Ok(Some(word)),
         None => Ok(None),
     }

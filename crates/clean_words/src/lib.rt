@@ -1,4 +1,4 @@
-//! The clean words over domains, from a position on: whether there is one, the least, and the heaviest. All are found by
+//! The clean words over domains, from a position on: the least, and the heaviest. All are found by
 //! passes over the days with the automaton of the rules.
 #![tactic(auto)]
 
@@ -15,6 +15,6 @@ mod walk;
 mod words;
 
 pub use gain::Gain;
-pub use heavy_words::{HeavyWord, heaviest, heaviest_reaching};
-pub use least_words::{escape, is_alive};
+pub use heavy_words::{HeavyWord, heaviest};
+pub use least_words::escape;
 pub use words::CleanWords;

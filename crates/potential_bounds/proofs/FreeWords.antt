@@ -110,17 +110,9 @@ all_ended (x ∷ u) =
 abbrev pub Weighs : (ℕ → Bool → Symbol → ℤ) → (List Symbol → ℤ) → Type 0
 Weighs gain weighs = (u : List Symbol) → gained gain 0 false u ≡ weighs u
 
--- without a reward
-pub plain_weighs : (P : Instance) (y : List Weight) (p : ℕ) → Weighs (free_gain y p P.days 0) (weight P y p)
-plain_weighs P y p u =
+pub free_weighs : (P : Instance) (y : List Weight) (p reward : ℕ) → Weighs (free_gain y p P.days reward) (free_weight P y reward p)
+free_weighs P y p reward u =
     let here : p + 0 ≡ p = omega arith in
-    let none : 0 * ended 0 false u ≡ 0 = omega arith in
-    omega (arith, ints, gained_free P y p 0 0 false u, ap (λ (q : ℕ). weight P y q u) here, none)
-
--- with one, from day 1 on
-pub free_weighs : (P : Instance) (y : List Weight) (p reward : ℕ) → p ≡ 0 → Weighs (free_gain y p P.days reward) (free_weight P y reward 0)
-free_weighs P y p reward first u =
-    let here : p + 0 ≡ 0 = omega (arith, first) in
     gained_free P y p reward 0 false u
     ∙ ap (λ (q : ℕ). weight P y q u +ℤ pos (reward * ended 0 false u)) here
-    ∙ ap (λ (n : ℕ). weight P y 0 u +ℤ pos (reward * n)) (all_ended u)
+    ∙ ap (λ (n : ℕ). weight P y p u +ℤ pos (reward * n)) (all_ended u)

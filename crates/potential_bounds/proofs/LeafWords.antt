@@ -1,73 +1,59 @@
 -- What the heaviest clean words say of a bound leaf and of a free leaf.
-use Rattle.std.proofs.Common.{◌≡◌, ℕ, ◌*◌, List, subst, sym, refl, ◌∙◌, arith, Option, Some, None}
-use Rattle.std.specs.Prelude.{ℤ, pos, ◌*ℤ◌, ◌≤ℤ◌, ◌<ℤ◌, MatchOption}
+use Rattle.std.proofs.Common.{◌≡◌, ℕ, ◌+◌, ◌*◌, ◌≤◌, List, length, subst, sym, refl, ap, ◌∙◌, arith, Option, Some, None}
+use Rattle.std.specs.Prelude.{ℤ, pos, ◌+ℤ◌, ◌*ℤ◌, ◌≤ℤ◌, ◌<ℤ◌, MatchOption, unwrap_or}
 use Rattle.std.proofs.lemmas.Int.{ints}
 use Rattle.rwsp_terms.specs.declared.data.Symbol.{Symbol}
 use Rattle.rwsp_terms.specs.declared.data.Weight.{Weight}
 use Rattle.rwsp_terms.specs.Instance.{Instance, cells}
-use Rattle.refutation_terms.specs.declared.lines.Line.TheVariants.{Bound, Free}
-use Rattle.refutation_terms.specs.Word.{weight, total}
-use Rattle.refutation_terms.specs.Leaf.{IsTooLight}
-use Rattle.refutation_terms.specs.FreeWeekends.{free_weight}
-use Rattle.refutation_terms.specs.FreeLeaves.{IsTooLightFree, free_total}
-use Rattle.refutation_terms.specs.Verdict.{Escapes, EscapesFree}
-use Rattle.domain_store.specs.Store.{Store, has_domain}
-use Rattle.rule_automaton.specs.Automata.{RuleAutomaton}
-use Rattle.clean_words.specs.Courses.{IsBestOf, AreBelow}
+use Rattle.refutation_terms.specs.declared.lines.Line.{Line}
+use Rattle.refutation_terms.specs.Word.{Domains, Over, Clean, weight, total}
+use Rattle.refutation_terms.specs.FreeWeekends.{free_weekends, free_weight}
+use Rattle.refutation_terms.specs.FreeLeaves.{free_total}
+use Rattle.refutation_terms.specs.Escape.{IsHeaviestBy, IsLeastHeaviestBy}
+use Rattle.refutation_terms.specs.Log.{HoldsFor}
+use Rattle.refutation_terms.specs.Verdict.{EscapesFor}
 use Rattle.clean_words.specs.declared.heavy_words.HeavyWord.{HeavyWord}
-use Rattle.potential_bounds.specs.Gains.{weighed}
-use Rattle.potential_bounds.specs.Heaviest.{IsHeaviestFoundBy}
-use Rattle.potential_bounds.proofs.FreeWords.{plain_weighs, free_weighs}
-use Rattle.potential_bounds.proofs.HeavyWords.{heaviest_by_best}
+use Rattle.potential_bounds.specs.Heaviest.{IsHeaviestFound}
+use Rattle.potential_bounds.specs.Claims.{weighed_leaf, IsClaimOf}
+use Rattle.potential_bounds.specs.Searched.{IsTopEscape}
 
--- what is asked of the words of a bound leaf
-abbrev IsAsked : Instance → ℕ → List Weight → ℤ → Type 0
-IsAsked P turns y least = least ≡ pos turns *ℤ total P y
+abbrev IsSame : (List Symbol → ℤ) → (List Symbol → ℤ) → Type 0
+IsSame W V = (u : List Symbol) → W u ≡ V u
 
--- the leaf holds where all clean words weigh less
-too_light : (A : RuleAutomaton) (S : Store) (p turns len : ℕ) (y : List Weight) (least : ℤ) → len ≡ turns * cells A.problem → IsAsked A.problem turns y least
-    → AreBelow (weighed A S p y 0) len least → IsTooLight A.problem (has_domain S) p turns A.rules y
-too_light A S p turns len y least size is below v long over clean =
-    omega (arith, ints, is, below v (record { long = long ∙ sym size; over = over; clean = clean }), plain_weighs A.problem y p v)
+heavy_same : (P : Instance) (D : Domains) (p len : ℕ) (R : List ℕ) (W V : List Symbol → ℤ) (u : List Symbol) → IsSame W V → IsHeaviestBy P D p len R W u → IsHeaviestBy P D p len R V u
+heavy_same P D p len R W V u same h = record { clean = h.clean; heaviest = λ v clean. omega (arith, ints, h.heaviest v clean, same u, same v) }
 
--- and a heaviest one that doesn't escapes it
-escapes : (A : RuleAutomaton) (S : Store) (p turns len : ℕ) (y : List Weight) (least : ℤ) (h : HeavyWord) → len ≡ turns * cells A.problem → IsAsked A.problem turns y least
-    → IsBestOf (weighed A S p y 0) len h.weight h.word → least ≤ℤ h.weight → Escapes A.problem (has_domain S) (Bound p turns A.rules y) h.word
-escapes A S p turns len y least h size is best enough =
-    let L : ℕ → Type 0 = λ n. IsHeaviestFoundBy A.problem (has_domain S) p n A.rules (weight A.problem y p) (Some h) in
-    let found : L (turns * cells A.problem) = subst L size (heaviest_by_best (weighed A S p y 0) len (weight A.problem y p) h (plain_weighs A.problem y p) best) in
-    (found.0, omega (arith, ints, is, found.1, enough))
+-- words that weigh this, and a total of one turn
+said : (P : Instance) (D : Domains) (p len turns : ℕ) (R : List ℕ) (W V : List Symbol → ℤ) (least sum : ℤ) (found : Option HeavyWord) → IsSame W V → len ≡ turns * cells P → least ≡ pos turns *ℤ sum → IsHeaviestFound P D p len R W least found
+    → MatchOption found ((u : List Symbol) → length u ≡ turns * cells P → Over P D p u → Clean P R u → V u <ℤ (pos turns *ℤ sum)) (λ h. IsLeastHeaviestBy P D p (turns * cells P) R V h.word × ((pos turns *ℤ sum) ≤ℤ V h.word))
+said P D p len turns R W V least sum None same size is light = λ u long over clean. omega (arith, ints, is, same u, light u (record { long = long ∙ sym size; over = over; clean = clean }))
+said P D p len turns R W V least sum (Some h) same size is heavy =
+    let L : ℕ → Type 0 = λ n. IsLeastHeaviestBy P D p n R V h.word in
+    let here : L len = record { heavy = heavy_same P D p len R W V h.word same heavy.0.heavy; least = λ v other. heavy.0.least v (heavy_same P D p len R V W v (λ u. sym (same u)) other) } in
+    (subst L size here, omega (arith, ints, is, same h.word, heavy.1, heavy.2))
 
--- by the number that was asked, as it is read back
-pub bound_said : (A : RuleAutomaton) (S : Store) (p turns len : ℕ) (y : List Weight) (least asked : ℤ) (found : Option HeavyWord) → len ≡ turns * cells A.problem → asked ≡ least → IsAsked A.problem turns y least
-    → MatchOption found (AreBelow (weighed A S p y 0) len asked) (λ h. IsBestOf (weighed A S p y 0) len h.weight h.word × (asked ≤ℤ h.weight))
-    → MatchOption found (IsTooLight A.problem (has_domain S) p turns A.rules y) (λ h. Escapes A.problem (has_domain S) (Bound p turns A.rules y) h.word)
-bound_said A S p turns len y least asked None size read is below = too_light A S p turns len y asked size (read ∙ is) below
-bound_said A S p turns len y least asked (Some h) size read is best = escapes A S p turns len y asked h size (read ∙ is) best.0 best.1
+-- what is found says of the leaf whether it holds
+abbrev pub IsSaid : Instance → Domains → Option ℕ → Line → Option HeavyWord → Type 0
+IsSaid P D goal leaf found = MatchOption found (HoldsFor P goal D leaf) (λ h. EscapesFor P goal D leaf h.word)
 
--- the same of a free leaf
-abbrev IsAskedFree : Instance → ℕ → ℕ → List Weight → ℕ → ℤ → Type 0
-IsAskedFree P turns reward y goal least = least ≡ pos turns *ℤ free_total P y reward goal
+pub claim_said : (P : Instance) (D : Domains) (goal : Option ℕ) (p len turns reward : ℕ) (R : List ℕ) (y : List Weight) (least : ℤ) (found : Option HeavyWord) → IsClaimOf P goal p reward → len ≡ turns * cells P → least ≡ pos turns *ℤ free_total P y reward (unwrap_or goal 0)
+    → IsHeaviestFound P D p len R (free_weight P y reward p) least found → IsSaid P D goal (weighed_leaf goal p turns reward R y) found
+claim_said P D None p len turns reward R y least found plain size is heavy =
+    let sum : free_total P y reward 0 ≡ total P y = omega (arith, ints) in
+    let here : IsSame (free_weight P y reward p) (weight P y p) = λ u. let zero : 0 * free_weekends u ≡ 0 = omega arith in let none : reward * free_weekends u ≡ 0 = ap (λ (n : ℕ). n * free_weekends u) plain ∙ zero in omega (arith, ints, none) in
+    said P D p len turns R (free_weight P y reward p) (weight P y p) least (total P y) found here size (is ∙ ap (λ (z : ℤ). pos turns *ℤ z) sum) heavy
+claim_said P D (Some goal) p len turns reward R y least found first size is heavy =
+    let F : ℕ → Type 0 = λ q. IsHeaviestFound P D q len R (free_weight P y reward q) least found in
+    said P D 0 len turns R (free_weight P y reward 0) (free_weight P y reward 0) least (free_total P y reward goal) found (λ u. refl) size is (subst F first.1 heavy)
 
-too_light_free : (A : RuleAutomaton) (S : Store) (goal turns reward len : ℕ) (y : List Weight) (least : ℤ) → len ≡ turns * cells A.problem → IsAskedFree A.problem turns reward y goal least
-    → AreBelow (weighed A S 0 y reward) len least → IsTooLightFree A.problem goal (has_domain S) turns reward A.rules y
-too_light_free A S goal turns reward len y least size is below v long over clean =
-    let light = below v (record { long = long ∙ sym size; over = over; clean = clean }) in
-    let weighs = free_weighs A.problem y 0 reward refl v in
-    let a : free_weight A.problem y reward 0 v <ℤ least = subst (λ (z : ℤ). z <ℤ least) weighs light in
-    subst (λ (z : ℤ). free_weight A.problem y reward 0 v <ℤ z) is a
+-- what is asked of the words, by the total that was worked out
+pub asked_by : (P Q : Instance) (y : List Weight) (turns reward n : ℕ) (goal : Option ℕ) (asked least sum : ℤ) → asked ≡ least → least ≡ pos turns *ℤ sum → sum ≡ free_total Q y reward n → Q ≡ P → n ≡ unwrap_or goal 0 → asked ≡ pos turns *ℤ free_total P y reward (unwrap_or goal 0)
+asked_by P Q y turns reward n goal asked least sum read is value same number = read ∙ is ∙ ap (λ (z : ℤ). pos turns *ℤ z) (value ∙ ap (λ I. free_total I y reward n) same ∙ ap (λ (k : ℕ). free_total P y reward k) number)
 
-escapes_free : (A : RuleAutomaton) (S : Store) (goal turns reward len : ℕ) (y : List Weight) (least : ℤ) (h : HeavyWord) → len ≡ turns * cells A.problem → IsAskedFree A.problem turns reward y goal least
-    → IsBestOf (weighed A S 0 y reward) len h.weight h.word → least ≤ℤ h.weight → EscapesFree A.problem goal (has_domain S) (Free turns reward A.rules y) h.word
-escapes_free A S goal turns reward len y least h size is best enough =
-    let W : List Symbol → ℤ = free_weight A.problem y reward 0 in
-    let L : ℕ → Type 0 = λ n. IsHeaviestFoundBy A.problem (has_domain S) 0 n A.rules W (Some h) in
-    let found : L (turns * cells A.problem) = subst L size (heaviest_by_best (weighed A S 0 y reward) len W h (free_weighs A.problem y 0 reward refl) best) in
-    let weighs : least ≤ℤ W h.word = subst (λ (z : ℤ). least ≤ℤ z) found.1 enough in
-    (found.0, subst (λ (z : ℤ). z ≤ℤ W h.word) is weighs)
-
-pub free_said : (A : RuleAutomaton) (S : Store) (goal turns reward len : ℕ) (y : List Weight) (least asked : ℤ) (found : Option HeavyWord) → len ≡ turns * cells A.problem → asked ≡ least → IsAskedFree A.problem turns reward y goal least
-    → MatchOption found (AreBelow (weighed A S 0 y reward) len asked) (λ h. IsBestOf (weighed A S 0 y reward) len h.weight h.word × (asked ≤ℤ h.weight))
-    → MatchOption found (IsTooLightFree A.problem goal (has_domain S) turns reward A.rules y) (λ h. EscapesFree A.problem goal (has_domain S) (Free turns reward A.rules y) h.word)
-free_said A S goal turns reward len y least asked None size read is below = too_light_free A S goal turns reward len y asked size (read ∙ is) below
-free_said A S goal turns reward len y least asked (Some h) size read is best = escapes_free A S goal turns reward len y asked h size (read ∙ is) best.0 best.1
+-- the same of one turn from position 0 on
+pub top_escape : (P : Instance) (D : Domains) (R : List ℕ) (y : List Weight) (found : Option (List Symbol)) → MatchOption found (HoldsFor P None D (weighed_leaf None 0 1 0 R y)) (λ w. EscapesFor P None D (weighed_leaf None 0 1 0 R y) w) → IsTopEscape P D R y found
+top_escape P D R y None holds = holds
+top_escape P D R y (Some w) heavy =
+    let once : 1 * cells P ≡ cells P = omega arith in
+    let L : ℕ → Type 0 = λ n. IsLeastHeaviestBy P D 0 n R (weight P y 0) w in
+    (λ holds. omega (arith, ints, heavy.1, holds w heavy.0.heavy.clean.long heavy.0.heavy.clean.over heavy.0.heavy.clean.clean), subst L once heavy.0)

@@ -1,19 +1,15 @@
 -- The weights of a round are one, and the search continues from round to round.
-use Rattle.std.proofs.Common.{◌≡◌, ℕ, zero, suc, ◌+◌, ◌≤◌, List, [], ap, sym, ◌∙◌, subst, arith, ⊎_elim, below_more, Some, Bool, false}
-use Rattle.std.specs.Prelude.{◌↔◌, IsTrue}
+use Rattle.std.proofs.Common.{◌≡◌, ℕ, zero, suc, ◌+◌, ◌≤◌, List, [], ap, sym, ◌∙◌, subst, arith, ⊎_elim, below_more, Option, Some}
 use Rattle.std.proofs.lemmas.Int.{ints}
 use Rattle.rwsp_terms.specs.declared.data.Symbol.{Symbol}
 use Rattle.rwsp_terms.specs.declared.data.Weight.{Weight}
-use Rattle.rwsp_terms.specs.Instance.{Instance, cells}
+use Rattle.rwsp_terms.specs.Instance.{Instance}
 use Rattle.rwsp_terms.specs.Weights.{weight_at}
 use Rattle.rwsp_terms.proofs.SameLists.{same_weights}
 use Rattle.refutation_terms.specs.Word.{Domains}
-use Rattle.refutation_terms.specs.Escape.{IsLeastHeaviest}
 use Rattle.refutation_terms.specs.Sharp.{step, AreStepped, IsNext, IsSearched, HoldsAtTop}
 use Rattle.refutation_terms.proofs.Causes.{first_same}
-use Rattle.clean_words.specs.declared.heavy_words.HeavyWord.{HeavyWord}
-use Rattle.potential_bounds.specs.Heaviest.{IsHeaviestFound}
-use Rattle.potential_bounds.specs.Searched.{NoneHolds, IsFollowing, AreValuesWithin}
+use Rattle.potential_bounds.specs.Searched.{NoneHolds, IsTopEscape, IsFollowing, AreValuesWithin}
 use Rattle.potential_bounds.proofs.Stepping.{IsInside, inside_or_not, zero_outside, stepped_within}
 
 next_same : (P : Instance) (D : Domains) (R : List ℕ) (y a b : List Weight) → IsNext P D R y a → IsNext P D R y b → a ≡ b
@@ -67,29 +63,11 @@ reached_more P D R k y next h is =
     }
 
 -- the weights a step on by the least of the heaviest words of one turn follow, where the bound doesn't hold
-pub followed : (P Q : Instance) (D : Domains) (p len : ℕ) (R : List ℕ) (y : List Weight) (h : HeavyWord) (word : List Symbol) (light : Bool) (next : List Weight) → p ≡ 0 → len ≡ cells P → IsHeaviestFound P D p len R y (Some h) → IsTrue light ↔ HoldsAtTop P D R y → light ≡ false → Q ≡ P → word ≡ h.word → AreStepped Q y word next → IsFollowing P D R y (Some next)
-followed P Q D p len R y h word light next first once is test fails same letters stepped = (never, record { word = h.word; is_heaviest = heaviest; stepped = here })
-  where
-    never : HoldsAtTop P D R y → ⊥
-    never holds =
-        let T : Bool → Type 0 = IsTrue in
-        let none : IsTrue false = subst T fails (test.1 holds) in
-        false_never none
-      where
-        false_never : IsTrue false → ⊥
-        false_never t = cc
-
-    heaviest : IsLeastHeaviest P D 0 (cells P) R y h.word
-    heaviest =
-        let S : ℕ → Type 0 = λ q. IsLeastHeaviest P D q len R y h.word in
-        let L : ℕ → Type 0 = λ n. IsLeastHeaviest P D 0 n R y h.word in
-        subst L once (subst S first is.0)
-
-    here : AreStepped P y h.word next
-    here =
-        let A : Instance → Type 0 = λ I. AreStepped I y word next in
-        let B : List Symbol → Type 0 = λ w. AreStepped P y w next in
-        subst B letters (subst A same stepped)
+pub followed : (P Q : Instance) (D : Domains) (R : List ℕ) (y : List Weight) (found : Option (List Symbol)) (word letters : List Symbol) (next : List Weight) → IsTopEscape P D R y found → found ≡ Some word → Q ≡ P → letters ≡ word → AreStepped Q y letters next → IsFollowing P D R y (Some next)
+followed P Q D R y found word letters next escapes is same spelled stepped =
+    let here = subst (IsTopEscape P D R y) is escapes in
+    let stepped_here : AreStepped P y word next = subst (λ (u : List Symbol). AreStepped P y u next) spelled (subst (λ (I : Instance). AreStepped I y letters next) same stepped) in
+    (here.0, record { word = word; is_heaviest = here.1; stepped = stepped_here })
 
 pub values_within : (n m : ℕ) (y : List Weight) → n ≤ m → AreValuesWithin n y → AreValuesWithin m y
 values_within n m y le within j x = (omega (arith, ints, le, (within j x).0), omega (arith, ints, le, (within j x).1))

@@ -1,5 +1,6 @@
 -- What a symbol gains, with a reward where it makes a weekend free.
 use Rattle.std.specs.Prelude.{ℕ, ◌+◌, ◌%◌, ◌==◌, ◌&&◌, Bool, ℤ, pos, ◌+ℤ◌, if◌then◌else◌, List}
+use Rattle.rwsp_terms.specs.declared.limits.TheConstants.{DAYS_OF_WEEK, SUNDAY}
 use Rattle.rwsp_terms.specs.declared.data.Symbol.{Symbol}
 use Rattle.rwsp_terms.specs.declared.data.Weight.{Weight}
 use Rattle.rwsp_terms.specs.Weights.{weight_at}
@@ -7,9 +8,9 @@ use Rattle.domain_store.specs.Store.{Store}
 use Rattle.rule_automaton.specs.Automata.{RuleAutomaton}
 use Rattle.clean_words.specs.Courses.{Course, course}
 
--- day 7 of a week, the days counted from 0, with the day off there and on the day before
+-- the Sunday of a week, the days counted from 0, with the day off there and on the day before
 abbrev pub ends_free : ℕ → Bool → Symbol → Bool
-ends_free day behind_off x = (day % 7 == 6) && (behind_off && (x.number == 0))
+ends_free day behind_off x = (day % DAYS_OF_WEEK == SUNDAY) && (behind_off && (x.number == 0))
 
 -- the reward, where a free weekend ends
 abbrev pub reward_behind : ℕ → ℕ → Bool → Symbol → ℕ

@@ -4,3 +4,4 @@ pub mod First
 pub mod Searched
 pub mod WeightTables
 pub mod Gains
+pub mod Claims

@@ -2,9 +2,10 @@
 use Rattle.std.specs.Prelude.{◌≡◌, ℕ, ◌<◌, ◌≤◌, List, Option, Some, None, neg_ℤ, pos, ◌≤ℤ◌}
 use Rattle.rwsp_terms.specs.declared.data.Symbol.{Symbol}
 use Rattle.rwsp_terms.specs.declared.data.Weight.{Weight}
-use Rattle.rwsp_terms.specs.Instance.{Instance, shift_count}
+use Rattle.rwsp_terms.specs.Instance.{Instance, cells, shift_count}
 use Rattle.rwsp_terms.specs.Weights.{weight_at}
 use Rattle.refutation_terms.specs.Word.{Domains}
+use Rattle.refutation_terms.specs.Escape.{IsLeastHeaviest}
 use Rattle.refutation_terms.specs.Sharp.{step, IsNext, IsSearched, HoldsAtTop}
 
 -- none of the first `rounds` rounds has weights whose bound holds
@@ -16,6 +17,11 @@ abbrev pub IsFirstSearched : Instance → Domains → List ℕ → ℕ → Optio
 IsFirstSearched P D R rounds None = NoneHolds P D R rounds
 IsFirstSearched P D R rounds (Some y) = (k : ℕ) × (k < rounds) × IsSearched P D R k y × HoldsAtTop P D R y
     × NoneHolds P D R k
+
+-- the least of the heaviest words where the bound doesn't hold, or none where it holds
+abbrev pub IsTopEscape : Instance → Domains → List ℕ → List Weight → Option (List Symbol) → Type 0
+IsTopEscape P D R y None = HoldsAtTop P D R y
+IsTopEscape P D R y (Some word) = (HoldsAtTop P D R y → ⊥) × IsLeastHeaviest P D 0 (cells P) R y word
 
 -- the weights that follow where the bound doesn't hold, or none where it holds
 abbrev pub IsFollowing : Instance → Domains → List ℕ → List Weight → Option (List Weight) → Type 0

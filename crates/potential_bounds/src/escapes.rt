@@ -1,24 +1,76 @@
-// The words that escape a bound leaf and a free leaf.
+// The words that escape a bound leaf or a free leaf.
 ghost use Rattle.std.specs.Prelude.{◌≡◌, ◌+◌, ◌*◌, ◌<◌, ◌≤◌, IfOk, MatchOption, pos, neg_ℤ, ◌*ℤ◌, ◌≤ℤ◌};
 ghost use Rattle.rwsp_terms.specs.Instance.{cells};
 ghost use Rattle.rwsp_terms.specs.declared.limits.TheConstants.{GREATEST_REWARD, GREATEST_WEIGHT, LONGEST_WORD, MOST_DAYS, MOST_SHIFTS, MOST_SYMBOLS, MOST_WEEKS};
 ghost use Rattle.refutation_terms.specs.declared.lines.Line.TheVariants.{Bound, Free};
 ghost use Rattle.refutation_terms.specs.Leaf.{IsTooLight};
 ghost use Rattle.refutation_terms.specs.FreeLeaves.{IsTooLightFree};
-ghost use Rattle.refutation_terms.specs.Verdict.{Escapes, EscapesFree};
+ghost use Rattle.refutation_terms.specs.Log.{HoldsFor};
+ghost use Rattle.refutation_terms.specs.Verdict.{Escapes, EscapesFor, EscapesFree};
 ghost use Rattle.domain_store.specs.Store.{BelongsTo, has_domain};
+ghost use Rattle.potential_bounds.specs.Claims.{claimed, IsClaimOf};
 
-use crate::heavy::heaviest_reaching;
-use crate::{free_total, total};
+use crate::{heaviest, total};
 use clean_words::CleanWords;
 use domain_store::Domains;
 use rule_automaton::Automaton;
 use rwsp_terms::{Weights, Word};
 use std::alloc::{AllocError, Global};
 
-/// The least of the heaviest words of `turns` turns over the domains from position `p` on that are clean for the rules
-/// of the automaton, where it weighs at least `turns` times the total; None exactly where it weighs less or there is no
-/// clean word: the bound leaf of these rules holds.
+/// What a bound leaf says, or in a log with a goal a free leaf: words that are clean for its rules weigh less than a
+/// roster, with so many free weekends.
+#[derive(Clone, Copy)]
+pub struct Claim<'a> {
+    /// The goal of the log, in free weekends.
+    pub goal: Option<u32>,
+    /// The position of the words' first day; 0 where there is a goal.
+    pub position: u32,
+    /// The length of the words, in turns.
+    pub turns: u32,
+    /// What each free weekend weighs; 0 where there is no goal.
+    pub reward: u32,
+    /// What the symbols weigh on the days.
+    pub weights: &'a Weights,
+}
+
+/// The least of the heaviest words of the claim's turns over the domains that are clean for the rules of the automaton,
+/// where it weighs at least as many times the total; None exactly where the leaf of these rules holds.
+pub fn claim_escape(
+    alloc: Global,
+    automaton: &Automaton,
+    doms: &Domains,
+    claim: Claim<'_>,
+) -> Result<Option<Word>, AllocError>
+    requires belongs { BelongsTo automaton.now.problem doms.now }
+    requires position { claim.position < cells automaton.now.problem }
+    requires some { 1 ≤ claim.turns }
+    requires few { claim.turns * cells automaton.now.problem ≤ LONGEST_WORD }
+    requires reward { claim.reward ≤ GREATEST_REWARD }
+    requires goal { IsClaimOf automaton.now.problem claim.goal claim.position claim.reward }
+    ensures { let P = automaton.now.problem in let D = has_domain doms.now in
+        let goal = claim.entry.goal in let leaf = claimed claim.entry automaton.now.rules in
+        IfOk result (λ found. MatchOption found (HoldsFor P goal D leaf) (EscapesFor P goal D leaf)) }
+{
+    let problem = automaton.problem();
+    problem.prove_limits();
+    let words = CleanWords {
+        automaton,
+        domains: doms,
+        position: claim.position,
+        days: claim.turns * problem.cells(),
+    };
+    let goal = claim.goal.unwrap_or(0);
+    let least = times(
+        claim.turns,
+        total(problem, claim.weights, claim.reward, goal),
+    );
+    match heaviest(alloc, &words, claim.weights, claim.reward, least)? {
+        Some(heavy) => Ok(Some(heavy.word)),
+        None => Ok(None),
+    }
+}
+
+/// The same of a bound leaf.
 pub fn bound_escape(
     alloc: Global,
     automaton: &Automaton,
@@ -36,22 +88,17 @@ pub fn bound_escape(
         (IsTooLight P D p turns R weights.now)
         (Escapes P D (Bound p turns R weights.now))) }
 {
-    let problem = automaton.problem();
-    problem.prove_limits();
-    let words = CleanWords {
-        automaton,
-        domains: doms,
+    let claim = Claim {
+        goal: None,
         position: p,
-        days: turns * problem.cells(),
+        turns,
+        reward: 0,
+        weights,
     };
-    let least = times(turns, total(problem, weights));
-    match heaviest_reaching(alloc, &words, weights, 0, least)? {
-        Some(heavy) => Ok(Some(heavy.word)),
-        None => Ok(None),
-    }
+    claim_escape(alloc, automaton, doms, claim)
 }
 
-/// What a free leaf says: words that are clean for its rules weigh less than a roster with so many free weekends.
+/// What a free leaf says.
 #[derive(Clone, Copy)]
 pub struct FreeClaim<'a> {
     /// The free weekends of the roster.
@@ -64,9 +111,7 @@ pub struct FreeClaim<'a> {
     pub weights: &'a Weights,
 }
 
-/// The least of the heaviest words of the claim's turns over the domains from day 1 on that are clean for the rules of
-/// the automaton, with the reward for each free weekend, where it weighs at least as many times the total with the
-/// reward for as many as the goal; None exactly where the free leaf of these rules holds.
+/// The same of a free leaf.
 pub fn free_escape(
     alloc: Global,
     automaton: &Automaton,
@@ -86,20 +131,15 @@ pub fn free_escape(
         (IsTooLightFree P goal D turns reward R y)
         (EscapesFree P goal D (Free turns reward R y))) }
 {
-    let problem = automaton.problem();
-    problem.prove_limits();
-    let words = CleanWords {
-        automaton,
-        domains: doms,
+    automaton.problem().prove_limits();
+    let claim = Claim {
+        goal: Some(claim.goal),
         position: 0,
-        days: claim.turns * problem.cells(),
+        turns: claim.turns,
+        reward: claim.reward,
+        weights: claim.weights,
     };
-    let once = free_total(problem, claim.weights, claim.reward, claim.goal);
-    let least = times(claim.turns, once);
-    match heaviest_reaching(alloc, &words, claim.weights, claim.reward, least)? {
-        Some(heavy) => Ok(Some(heavy.word)),
-        None => Ok(None),
-    }
+    claim_escape(alloc, automaton, doms, claim)
 }
 
 // `turns` times the total.

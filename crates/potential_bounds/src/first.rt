@@ -1,15 +1,13 @@
 // The first plain bound that holds, with the bounds shared out among workers.
 ghost use Rattle.std.specs.Prelude.{◌≡◌, ℕ, ◌+◌, ◌-◌, ◌*◌, ◌/◌, ◌^◌, ◌<◌, ◌≤◌, length, IfOk};
-ghost use Rattle.rwsp_terms.specs.Instance.{cells};
 ghost use Rattle.rwsp_terms.specs.declared.limits.TheConstants.{MOST_SHIFTS, MOST_WORKERS};
 ghost use Rattle.refutation_terms.specs.Sharp.{HoldsAtTop, plain_bounds};
 ghost use Rattle.domain_store.specs.Store.{has_domain, BelongsTo};
 ghost use Rattle.potential_bounds.specs.First.{IsFirstHolding, first_answer};
 
 use crate::gate::Gate;
-use crate::heavy::holds_at_top;
 use crate::plain::plain_bounds;
-use clean_words::CleanWords;
+use crate::top::Top;
 use domain_store::Domains;
 use rule_automaton::Automaton;
 use rwsp_terms::Weights;
@@ -37,13 +35,11 @@ pub fn first_plain<R: Threads + Sync, G: Gate>(
     let problem = automaton.problem();
     problem.prove_limits();
     let bounds = plain_bounds(alloc, problem)?;
-    let turn = CleanWords {
+    let top = Top {
         automaton,
         domains: doms,
-        position: 0,
-        days: problem.cells(),
     };
-    let found = first_holding(rt, alloc, &turn, &bounds, workers, gate);
+    let found = first_holding(rt, alloc, &top, &bounds, workers, gate);
     drop(bounds);
     found
 }
@@ -52,19 +48,17 @@ pub fn first_plain<R: Threads + Sync, G: Gate>(
 fn first_holding<R: Threads + Sync, G: Gate>(
     rt: &R,
     alloc: Global,
-    turn: &CleanWords<'_>,
+    top: &Top<'_>,
     bounds: &[Weights],
     workers: u32,
     gate: &G,
 ) -> Result<Option<usize>, AllocError>
-    requires first { turn.now.position ≡ 0 }
-    requires once { turn.now.days ≡ cells turn.now.automaton.now.problem }
     requires some { 0 < length bounds.now }
     requires few { length bounds.now ≤ 2 * (MOST_SHIFTS + 1) }
     requires workers { (1 ≤ workers) × (workers ≤ MOST_WORKERS) }
-    ensures { let A = turn.now.automaton.now in
+    ensures { let A = top.now.automaton.now in
         IfOk result (λ found. IsFirstHolding
-        (HoldsAtTop A.problem (has_domain turn.now.domains.now) A.rules) 0 bounds.now found) }
+        (HoldsAtTop A.problem (has_domain top.now.domains.now) A.rules) 0 bounds.now found) }
 {
     let size = bounds.len().div_ceil(workers as usize);
     let answers = thread::map_chunks(
@@ -73,13 +67,12 @@ fn first_holding<R: Threads + Sync, G: Gate>(
         bounds,
         size,
         &|start: usize, chunk: &[Weights]| -> Result<Option<usize>, AllocError>
-            requires { (0 < size) × (start + length chunk.now < 2 ^ 31) × (turn.now.position ≡ 0)
-                × (turn.now.days ≡ cells turn.now.automaton.now.problem) }
+            requires { (0 < size) × (start + length chunk.now < 2 ^ 31) }
             ensures { IfOk result
-                (λ found. IsFirstHolding (HoldsAtTop turn.entry.now.automaton.now.problem
-                (has_domain turn.entry.now.domains.now) turn.entry.now.automaton.now.rules)
+                (λ found. IsFirstHolding (HoldsAtTop top.entry.now.automaton.now.problem
+                (has_domain top.entry.now.domains.now) top.entry.now.automaton.now.rules)
                 start chunk.entry.now found) }
-        { first_of_chunk(alloc, turn, gate, (start / size) as u32 + 1, start, chunk) },
+        { first_of_chunk(alloc, top, gate, (start / size) as u32 + 1, start, chunk) },
     )?;
     first_answer(&answers)
 }
@@ -87,22 +80,20 @@ fn first_holding<R: Threads + Sync, G: Gate>(
 // The first bound of a chunk that holds, by its index among all.
 fn first_of_chunk<G: Gate>(
     alloc: Global,
-    turn: &CleanWords<'_>,
+    top: &Top<'_>,
     gate: &G,
     chunk: u32,
     start: usize,
     bounds: &[Weights],
 ) -> Result<Option<usize>, AllocError>
-    requires first { turn.now.position ≡ 0 }
-    requires once { turn.now.days ≡ cells turn.now.automaton.now.problem }
     requires few { start + length bounds.now < 2 ^ 31 }
-    ensures { let A = turn.now.automaton.now in
+    ensures { let A = top.now.automaton.now in
         IfOk result (λ found. IsFirstHolding
-        (HoldsAtTop A.problem (has_domain turn.now.domains.now) A.rules) start bounds.now found) }
+        (HoldsAtTop A.problem (has_domain top.now.domains.now) A.rules) start bounds.now found) }
 {
     gate.enter(chunk);
     for (i, weights) in bounds.iter().enumerate() {
-        if holds_at_top(alloc, turn, weights)? {
+        if top.holds(alloc, weights)? {
             return Ok(Some(start + i));
         }
     }

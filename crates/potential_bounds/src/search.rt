@@ -7,8 +7,7 @@ ghost use Rattle.refutation_terms.specs.Sharp.{step, AreStepped};
 ghost use Rattle.domain_store.specs.Store.{has_domain, BelongsTo};
 ghost use Rattle.potential_bounds.specs.Searched.{IsFirstSearched, IsFollowing, AreValuesWithin, AreSteppedOn};
 
-use crate::heavy::{heaviest, is_light};
-use clean_words::CleanWords;
+use crate::top::Top;
 use domain_store::Domains;
 use rule_automaton::Automaton;
 use rwsp_model::{Problem, weeks_with};
@@ -33,32 +32,13 @@ pub fn search_weights(
     ensures { let A = automaton.now in
         IfOk result (λ found. IsFirstSearched A.problem (has_domain doms.now) A.rules rounds found) }
 {
-    let problem = automaton.problem();
-    problem.prove_limits();
-    let turn = CleanWords {
+    let top = Top {
         automaton,
         domains: doms,
-        position: 0,
-        days: problem.cells(),
     };
-    search_in(alloc, &turn, rounds)
-}
-
-// The first of the weights of `rounds` rounds whose bound of one turn holds, by the words of the turn.
-fn search_in(
-    alloc: Global,
-    turn: &CleanWords<'_>,
-    rounds: u32,
-) -> Result<Option<Weights>, AllocError>
-    requires first { turn.now.position ≡ 0 }
-    requires once { turn.now.days ≡ cells turn.now.automaton.now.problem }
-    requires few { rounds ≤ GREATEST_WEIGHT }
-    ensures { let A = turn.now.automaton.now in
-        IfOk result (λ found. IsFirstSearched A.problem (has_domain turn.now.domains.now) A.rules rounds found) }
-{
     let mut weights = Weights::new(alloc);
     for round in 0..rounds {
-        match following(alloc, turn, &weights)? {
+        match following(alloc, &top, &weights)? {
             Some(next) => weights = next,
             None => return Ok(Some(weights)),
         }
@@ -67,25 +47,15 @@ fn search_in(
 }
 
 // The weights that follow where the bound of these doesn't hold; None exactly where it holds.
-fn following(
-    alloc: Global,
-    turn: &CleanWords<'_>,
-    weights: &Weights,
-) -> Result<Option<Weights>, AllocError>
-    requires first { turn.now.position ≡ 0 }
-    requires once { turn.now.days ≡ cells turn.now.automaton.now.problem }
+fn following(alloc: Global, top: &Top<'_>, weights: &Weights) -> Result<Option<Weights>, AllocError>
     requires within { AreValuesWithin (GREATEST_WEIGHT - 1) weights.now }
-    ensures { let A = turn.now.automaton.now in
-        IfOk result (λ next. IsFollowing A.problem (has_domain turn.now.domains.now) A.rules weights.now next) }
+    ensures { let A = top.now.automaton.now in
+        IfOk result (λ next. IsFollowing A.problem (has_domain top.now.domains.now) A.rules weights.now next) }
 {
-    let Some(heavy) = heaviest(alloc, turn, weights)? else {
+    let Some(word) = top.escape(alloc, weights)? else {
         return Ok(None);
     };
-    if is_light(turn, weights, &heavy) {
-        return Ok(None);
-    }
-    let problem = turn.automaton.problem();
-    let next = next_weights(alloc, problem, weights, heavy.word.symbols())?;
+    let next = next_weights(alloc, top.automaton.problem(), weights, word.symbols())?;
     Ok(Some(next))
 }
 

@@ -4,28 +4,15 @@ ghost use Rattle.rwsp_terms.specs.declared.limits.TheConstants.{GREATEST_REWARD,
 ghost use Rattle.std.specs.List.{range_with_len};
 ghost use Rattle.rwsp_terms.specs.Instance.{IsDay, IsSymbol, shift_count};
 ghost use Rattle.rwsp_terms.specs.Weights.{weight_at};
-ghost use Rattle.refutation_terms.specs.Word.{int_sum_by, least_weight, total};
+ghost use Rattle.refutation_terms.specs.Word.{int_sum_by, least_weight};
 ghost use Rattle.refutation_terms.specs.FreeLeaves.{free_total};
 
 use rwsp_model::Problem;
 use rwsp_terms::{Symbol, Weights};
 
-/// The least that a roster can weigh which meets the demand: the sum over all days and symbols.
-pub fn total(problem: &Problem, weights: &Weights) -> i64
-    ensures value { result ≡ total problem.now weights.now }
-    ensures above { neg_ℤ (pos (MOST_DAYS * (MOST_SYMBOLS * (GREATEST_WEIGHT * (MOST_SHIFTS * MOST_WEEKS))))) ≤ℤ
-        result }
-    ensures below { result ≤ℤ pos (MOST_DAYS * (MOST_SYMBOLS * (GREATEST_WEIGHT * (MOST_SHIFTS * MOST_WEEKS)))) }
-{
-    let mut sum = 0;
-    for i in 0..problem.days() {
-        sum += day_total(problem, weights, i + 1);
-    }
-    sum
-}
-
-/// The least that a roster can weigh which meets the demand and has as many free weekends as the goal.
-pub fn free_total(problem: &Problem, weights: &Weights, reward: u32, goal: u32) -> i64
+/// The least that a roster can weigh which meets the demand and has as many free weekends as the goal, with the reward
+/// for each.
+pub fn total(problem: &Problem, weights: &Weights, reward: u32, goal: u32) -> i64
     requires reward { reward ≤ GREATEST_REWARD }
     requires goal { goal ≤ MOST_WEEKS + 1 }
     ensures value { result ≡ free_total problem.now weights.now reward goal }
@@ -34,10 +21,14 @@ pub fn free_total(problem: &Problem, weights: &Weights, reward: u32, goal: u32) 
     ensures below { result ≤ℤ pos (MOST_DAYS * (MOST_SYMBOLS * (GREATEST_WEIGHT * (MOST_SHIFTS * MOST_WEEKS)))
         + GREATEST_REWARD * (MOST_WEEKS + 1)) }
 {
-    total(problem, weights) + i64::from(reward) * i64::from(goal)
+    let mut sum = 0;
+    for i in 0..problem.days() {
+        sum += day_total(problem, weights, i + 1);
+    }
+    sum + i64::from(reward) * i64::from(goal)
 }
 
-// The sum over the symbols of one day.
+// The sum of the least weights of the symbols of one day.
 fn day_total(problem: &Problem, weights: &Weights, day: u32) -> i64
     requires { IsDay problem.now day }
     ensures value { result ≡ int_sum_by

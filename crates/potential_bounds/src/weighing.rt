@@ -7,6 +7,7 @@ ghost use Rattle.potential_bounds.specs.WeightTables.{HoldsWeights};
 
 use crate::weight_table::weight_in;
 use clean_words::Gain;
+use rwsp_terms::limits::{DAYS_OF_WEEK, SUNDAY};
 use rwsp_terms::{Symbol, Weights};
 
 // What the symbols of a word weigh that begins at a position, with the reward where a free weekend ends: on day 7 of a
@@ -53,7 +54,7 @@ fn reward_behind(reward: u32, day: u32, behind_off: bool, symbol: Symbol) -> i32
     ensures low { pos 0 ≤ℤ result }
     ensures high { result ≤ℤ pos GREATEST_REWARD }
 {
-    if day % 7 == 6 && behind_off && symbol.number == 0 {
+    if day % DAYS_OF_WEEK == SUNDAY && behind_off && symbol.number == 0 {
         reward as i32
     } else {
         0

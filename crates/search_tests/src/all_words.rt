@@ -301,7 +301,7 @@ fn is_heaviest(
     case: &Case,
 ) -> Result<bool, AllocError> {
     let weights = weights_of(alloc, problem)?;
-    let found = heaviest(alloc, words, &weights)?;
+    let found = heaviest(alloc, words, &weights, 0, i64::MIN)?;
     let best = heaviest_of_all(alloc, problem, case, words.days, 1)?;
     Ok(is_same(&found, &best))
 }

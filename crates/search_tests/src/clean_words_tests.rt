@@ -2,7 +2,7 @@
 ghost use Rattle.std.specs.Prelude.{◌≡◌, ◌≤◌, IfOk};
 ghost use Rattle.domain_store.specs.Store.{BelongsTo};
 
-use clean_words::{CleanWords, HeavyWord, escape, is_alive};
+use clean_words::{CleanWords, HeavyWord, escape};
 use domain_store::Domains;
 use potential_bounds::{Weights, heaviest};
 use rule_automaton::{Automaton, Told};
@@ -32,7 +32,7 @@ fn heaviest_of_two_turns(
     for day in 1..problem.days() + 1 {
         weights.put(day, D, 1)?;
     }
-    heaviest(alloc, &words, &weights)
+    heaviest(alloc, &words, &weights, 0, i64::MIN)
 }
 
 #[test]
@@ -55,13 +55,13 @@ fn begins_with_d(alloc: Global, problem: &Problem) -> Result<Domains, Fail>
     Ok(doms)
 }
 
-// Whether there is a clean word of these days from position 0 on, and the least.
+// The least clean word of these days from position 0 on.
 fn least_of(
     alloc: Global,
     problem: &Problem,
     doms: &Domains,
     days: u32,
-) -> Result<(bool, Option<Vec<Symbol>>), Fail>
+) -> Result<Option<Vec<Symbol>>, Fail>
     requires belongs { BelongsTo problem.now doms.now }
     requires few { days ≤ 7 }
 {
@@ -73,10 +73,9 @@ fn least_of(
         position: 0,
         days,
     };
-    let alive = is_alive(alloc, &words)?;
     match escape(alloc, &words)? {
-        Some(word) => Ok((alive, Some(word.symbols().to_vec(alloc)?))),
-        None => Ok((alive, None)),
+        Some(word) => Ok(Some(word.symbols().to_vec(alloc)?)),
+        None => Ok(None),
     }
 }
 
@@ -84,12 +83,10 @@ fn least_of(
 fn a_dead_word(rt: HostRuntime) -> Result<(), Fail> {
     let problem = problem_of(rt.alloc(), TWOS_IN_SIX)?;
     let doms = begins_with_d(rt.alloc(), &problem)?;
-    let (alive, word) = least_of(rt.alloc(), &problem, &doms, 6)?;
-    assert!(rt; alive);
+    let word = least_of(rt.alloc(), &problem, &doms, 6)?;
     let least: [Symbol; 6] = [D, OFF, OFF, D, D, OFF];
     assert_eq!(rt; word.ok_or("no clean word")?.as_slice(), least.as_slice());
-    let (alive, word) = least_of(rt.alloc(), &problem, &doms, 7)?;
-    assert!(rt; !alive);
+    let word = least_of(rt.alloc(), &problem, &doms, 7)?;
     assert!(rt; word.is_none());
     Ok(())
 }

@@ -6,7 +6,7 @@ ghost use Rattle.domain_store.specs.Store.{BelongsTo};
 use clean_words::CleanWords;
 use domain_store::Domains;
 use potential_bounds::{
-    Gate, NoGate, Weights, first_plain, heaviest_free, plain_bounds, search_weights,
+    Gate, NoGate, Weights, first_plain, heaviest, plain_bounds, search_weights,
 };
 use rule_automaton::{Automaton, Told};
 use rwsp_terms::{Symbol, Weight};
@@ -32,7 +32,7 @@ fn weight_under(alloc: Global, automaton: &Automaton, doms: &Domains) -> Result<
         days: 21,
     };
     let weights = Weights::new(alloc);
-    match heaviest_free(alloc, &words, &weights, 1)? {
+    match heaviest(alloc, &words, &weights, 1, 0)? {
         Some(found) => Ok(Some(found.weight)),
         None => Ok(None),
     }

@@ -1,7 +1,6 @@
 //! The most free weekends that a roster can have: a roster with them, and a free log of why there are no more.
 #![tactic(auto)]
 
-mod guide;
 mod likely_most;
 mod one_goal;
 mod raising;

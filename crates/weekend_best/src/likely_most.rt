@@ -1,5 +1,6 @@
 // How many free weekends are worth asking for.
 ghost use Rattle.std.specs.Prelude.{◌≡◌, ◌+◌, ◌≤◌, Some, IfOk, IsTrue};
+ghost use Rattle.rwsp_terms.specs.declared.limits.TheConstants.{DAYS_OF_WEEK};
 ghost use Rattle.refutation_terms.specs.declared.lines.Line.{Line};
 ghost use Rattle.domain_store.specs.Store.{BelongsTo, has_domain};
 ghost use Rattle.propagator_terms.specs.Cycles.{AreShortRules};
@@ -15,7 +16,7 @@ use std::alloc::{AllocError, Global};
 /// mostly one has as many.
 pub fn likely_most(alloc: Global, automaton: &Automaton) -> Result<u32, AllocError>
     requires short { AreShortRules automaton.now.problem automaton.now.rules }
-    requires week { automaton.now.problem.days ≡ 7 }
+    requires week { automaton.now.problem.days ≡ DAYS_OF_WEEK }
     ensures { IfOk result (λ n. n ≤ automaton.now.problem.weeks) }
 {
     let mut weights = NearestWeights::new(alloc, automaton);
@@ -30,7 +31,7 @@ fn halved(
     problem: &Problem,
     weights: &mut NearestWeights<'_>,
 ) -> Result<u32, AllocError>
-    requires week { problem.now.days ≡ 7 }
+    requires week { problem.now.days ≡ DAYS_OF_WEEK }
     requires problem { weights.old.problem ≡ problem.now }
     ensures same { weights.new ≡ weights.old }
     ensures most { IfOk result (λ n. n ≤ problem.now.weeks) }
@@ -58,7 +59,7 @@ fn has_leaf(
     goal: u32,
 ) -> Result<bool, AllocError>
     requires belongs { BelongsTo weights.old.problem doms.now }
-    requires week { weights.old.problem.days ≡ 7 }
+    requires week { weights.old.problem.days ≡ DAYS_OF_WEEK }
     requires goal { goal ≤ weights.old.problem.weeks + 1 }
     ensures same { weights.new ≡ weights.old }
     ensures leaf { IfOk result (λ has. IsTrue has → (line : Line)

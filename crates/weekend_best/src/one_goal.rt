@@ -1,5 +1,6 @@
 // A search with one goal, and the goal of the next.
 ghost use Rattle.std.specs.Prelude.{◌≡◌, ◌+◌, ◌*◌, ◌^◌, ◌<◌, ◌≤◌, Some, IfOk};
+ghost use Rattle.rwsp_terms.specs.declared.limits.TheConstants.{DAYS_OF_WEEK};
 ghost use Rattle.rwsp_terms.specs.Instance.{cells, shift_count};
 ghost use Rattle.propagator_terms.specs.Cycles.{AreShortRules};
 ghost use Rattle.case_reasons.specs.Reasons.{AreCaseReasons, WeighNoWords};
@@ -7,7 +8,6 @@ ghost use Rattle.roster_search.specs.Founds.{HasSpentBudget};
 ghost use Rattle.plan_terms.specs.Bests.{IsFoundWith, goal_behind};
 ghost use Rattle.plan_terms.specs.FreeSharp.{FailsFreeAtTop};
 
-use crate::guide::BestGuide;
 use crate::top_leaf::proof_at_top;
 use case_reasons::{CaseReasons, case_reasons};
 use domain_store::Domains;
@@ -15,10 +15,11 @@ use plan_terms::Found;
 use propagator_terms::Propagator;
 use roster_checker::free_weekends;
 use roster_finder::RosterFinder;
-use roster_search::{Guide, guided_search};
+use roster_search::Aim;
 use rule_automaton::Automaton;
 use rwsp_model::Problem;
 use rwsp_terms::limits::GREATEST_BUDGET;
+use search_guide::planner_search;
 use std::alloc::{AllocError, Global};
 use std::marker::Model;
 
@@ -64,7 +65,7 @@ impl RisingGoal {
     ) -> Result<Found, AllocError>
         requires short { AreShortRules automaton.now.problem automaton.now.rules }
         requires same { finder.now ≡ automaton.now.problem }
-        requires week { automaton.now.problem.days ≡ 7 }
+        requires week { automaton.now.problem.days ≡ DAYS_OF_WEEK }
         requires goal { self.old ≤ automaton.now.problem.weeks + 1 }
         requires budget { (1 ≤ budget) × (budget ≤ GREATEST_BUDGET) }
         ensures found { IfOk result (IsFoundWith automaton.now.problem budget self.old) }
@@ -94,7 +95,7 @@ fn search_with(
 ) -> Result<Found, AllocError>
     requires short { AreShortRules automaton.now.problem automaton.now.rules }
     requires same { finder.now ≡ automaton.now.problem }
-    requires week { automaton.now.problem.days ≡ 7 }
+    requires week { automaton.now.problem.days ≡ DAYS_OF_WEEK }
     requires goal { goal ≤ automaton.now.problem.weeks + 1 }
     requires budget { (1 ≤ budget) × (budget ≤ GREATEST_BUDGET) }
     ensures found { IfOk result (IsFoundWith automaton.now.problem budget goal) }
@@ -103,66 +104,39 @@ fn search_with(
 {
     match proof_at_top(alloc, automaton, goal)? {
         Some(proof) => Ok(Found::NoRoster(proof)),
-        None => {
-            let guide = BestGuide::new(alloc, automaton, finder, goal, wish);
-            split_cases(alloc, automaton, goal, guide, budget)
-        }
+        None => split_cases(alloc, automaton, finder, goal, wish, budget),
     }
 }
 
-// The same with this guide, where the free leaf of one turn doesn't hold at the top.
-fn split_cases<G: Guide + Drop>(
+// The same where the free leaf of one turn doesn't hold at the top.
+fn split_cases(
     alloc: Global,
     automaton: &Automaton,
+    finder: &RosterFinder<'_>,
     goal: u32,
-    guide: G,
+    wish: u32,
     budget: u32,
 ) -> Result<Found, AllocError>
     requires short { AreShortRules automaton.now.problem automaton.now.rules }
-    requires week { automaton.now.problem.days ≡ 7 }
+    requires same { finder.now ≡ automaton.now.problem }
+    requires week { automaton.now.problem.days ≡ DAYS_OF_WEEK }
     requires goal { goal ≤ automaton.now.problem.weeks + 1 }
     requires budget { (1 ≤ budget) × (budget ≤ GREATEST_BUDGET) }
     requires top { FailsFreeAtTop automaton.now.problem goal }
-    requires guide { G.serves guide automaton.now.problem (Some goal) }
     ensures found { IfOk result (IsFoundWith automaton.now.problem budget goal) }
     ensures complete { IfOk result (λ found. HasSpentBudget found
         → budget + 1 < 2 * (shift_count automaton.now.problem + 1) ^ cells automaton.now.problem) }
 {
-    let reasons = full_reasons(alloc, automaton)?;
-    search_by(alloc, automaton.problem(), goal, reasons, guide, budget)
-}
-
-// The same by these reasons. Their type and the guide's are left open, since nothing else of them matters here.
-fn search_by<A: Propagator + Drop, G: Guide + Drop>(
-    alloc: Global,
-    problem: &Problem,
-    goal: u32,
-    mut reasons: A,
-    mut guide: G,
-    budget: u32,
-) -> Result<Found, AllocError>
-    requires week { problem.now.days ≡ 7 }
-    requires goal { goal ≤ problem.now.weeks + 1 }
-    requires budget { (1 ≤ budget) × (budget ≤ GREATEST_BUDGET) }
-    requires top { FailsFreeAtTop problem.now goal }
-    requires serves { A.serves reasons problem.now }
-    requires reasons { AreCaseReasons problem.now (A.leaves reasons) (A.spent reasons) }
-    requires unweighed { WeighNoWords (A.leaves reasons) }
-    requires guide { G.serves guide problem.now (Some goal) }
-    ensures found { IfOk result (IsFoundWith problem.now budget goal) }
-    ensures complete { IfOk result (λ found.
-        HasSpentBudget found → budget + 1 < 2 * (shift_count problem.now + 1) ^ cells problem.now) }
-{
-    problem.prove_limits();
-    guided_search(
-        alloc,
-        problem,
-        None,
-        Some(goal),
-        &mut reasons,
-        &mut guide,
+    automaton.problem().prove_limits();
+    let mut reasons = full_reasons(alloc, automaton)?;
+    let aim = Aim {
+        turn: None,
+        goal: Some(goal),
         budget,
-    )
+    };
+    let found = planner_search(alloc, automaton, finder, aim, wish, &mut reasons);
+    drop(reasons);
+    found
 }
 
 // The reasons of cases, for a search that begins with full domains.

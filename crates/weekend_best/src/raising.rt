@@ -1,6 +1,7 @@
 // A roster with the most free weekends, and why none has more.
 ghost use Rattle.std.specs.Prelude.{◌≡◌, ℕ, ◌+◌, ◌*◌, ◌^◌, ◌<◌, ◌≤◌, IfOk};
 ghost use Rattle.std.specs.Option.{IfSome};
+ghost use Rattle.rwsp_terms.specs.declared.limits.TheConstants.{DAYS_OF_WEEK};
 ghost use Rattle.rwsp_terms.specs.Instance.{Instance, cells, shift_count};
 ghost use Rattle.propagator_terms.specs.Cycles.{AreShortRules};
 ghost use Rattle.plan_terms.specs.Bests.{IsMeeting, IsFreeProof, IsBestFound, IsUndecided, goal_above, goal_of};
@@ -20,7 +21,7 @@ use std::alloc::{AllocError, Global};
 /// Where the budget is spent, it is the roster with the most free weekends of all that were found. With each goal, a
 /// roster with as many as seem likely is looked for first. The budget is for the lines of each log.
 pub fn best(alloc: Global, problem: &Problem, budget: u32) -> Result<BestFound, AllocError>
-    requires week { problem.now.days ≡ 7 }
+    requires week { problem.now.days ≡ DAYS_OF_WEEK }
     requires budget { (1 ≤ budget) × (budget ≤ GREATEST_BUDGET) }
     ensures found { IfOk result (IsBestFound problem.now budget) }
     ensures complete { IfOk result (λ found.
@@ -52,7 +53,7 @@ fn best_by(
 ) -> Result<BestFound, AllocError>
     requires short { AreShortRules automaton.now.problem automaton.now.rules }
     requires same { finder.now ≡ automaton.now.problem }
-    requires week { automaton.now.problem.days ≡ 7 }
+    requires week { automaton.now.problem.days ≡ DAYS_OF_WEEK }
     requires first { rising.old ≡ 0 }
     requires budget { (1 ≤ budget) × (budget ≤ GREATEST_BUDGET) }
     ensures found { IfOk result (IsBestFound automaton.now.problem budget) }

@@ -1,11 +1,12 @@
 // The free leaf of one turn at the top: each free weekend weighs 1, and nothing else weighs.
 ghost use Rattle.std.specs.Prelude.{◌≡◌, ◌↔◌, ◌+◌, ◌≤◌, IfOk, IsTrue, MatchOption};
+ghost use Rattle.rwsp_terms.specs.declared.limits.TheConstants.{DAYS_OF_WEEK};
 ghost use Rattle.propagator_terms.specs.Cycles.{AreShortRules};
 ghost use Rattle.plan_terms.specs.Bests.{IsFreeProof};
 ghost use Rattle.plan_terms.specs.FreeSharp.{HoldsFreeAtTop, FailsFreeAtTop};
 
 use domain_store::Domains;
-use potential_bounds::{FreeClaim, free_escape};
+use potential_bounds::{Claim, claim_escape};
 use refutation_log::Log;
 use refutation_terms::Line;
 use rule_automaton::Automaton;
@@ -20,7 +21,7 @@ pub fn proof_at_top(
     goal: u32,
 ) -> Result<Option<Log>, AllocError>
     requires short { AreShortRules automaton.now.problem automaton.now.rules }
-    requires week { automaton.now.problem.days ≡ 7 }
+    requires week { automaton.now.problem.days ≡ DAYS_OF_WEEK }
     requires goal { goal ≤ automaton.now.problem.weeks + 1 }
     ensures { let P = automaton.now.problem in
         IfOk result (λ found. MatchOption found (FailsFreeAtTop P goal) (IsFreeProof P 1 goal)) }
@@ -35,7 +36,7 @@ pub fn proof_at_top(
 // Whether the leaf holds by the rules of the automaton.
 fn holds_at_top(alloc: Global, automaton: &Automaton, goal: u32) -> Result<bool, AllocError>
     requires short { AreShortRules automaton.now.problem automaton.now.rules }
-    requires week { automaton.now.problem.days ≡ 7 }
+    requires week { automaton.now.problem.days ≡ DAYS_OF_WEEK }
     requires goal { goal ≤ automaton.now.problem.weeks + 1 }
     ensures { IfOk result
         (λ holds. IsTrue holds ↔ HoldsFreeAtTop automaton.now.problem goal automaton.now.rules) }
@@ -44,13 +45,14 @@ fn holds_at_top(alloc: Global, automaton: &Automaton, goal: u32) -> Result<bool,
     problem.prove_limits();
     let doms = Domains::new(alloc, problem)?;
     let weights = Weights::new(alloc);
-    let claim = FreeClaim {
-        goal,
+    let claim = Claim {
+        goal: Some(goal),
+        position: 0,
         turns: 1,
         reward: 1,
         weights: &weights,
     };
-    match free_escape(alloc, automaton, &doms, claim)? {
+    match claim_escape(alloc, automaton, &doms, claim)? {
         Some(_) => Ok(false),
         None => Ok(true),
     }
@@ -59,7 +61,7 @@ fn holds_at_top(alloc: Global, automaton: &Automaton, goal: u32) -> Result<bool,
 // The log of this leaf, where it holds.
 fn log_of_top(alloc: Global, automaton: &Automaton, goal: u32) -> Result<Log, AllocError>
     requires short { AreShortRules automaton.now.problem automaton.now.rules }
-    requires week { automaton.now.problem.days ≡ 7 }
+    requires week { automaton.now.problem.days ≡ DAYS_OF_WEEK }
     requires goal { goal ≤ automaton.now.problem.weeks + 1 }
     requires holds { HoldsFreeAtTop automaton.now.problem goal automaton.now.rules }
     ensures { IfOk result (IsFreeProof automaton.now.problem 1 goal) }

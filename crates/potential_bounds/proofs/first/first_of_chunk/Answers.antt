@@ -5,4 +5,4 @@ use Rattle.potential_bounds.proofs.first.first_of_chunk.Goals as goal
 
 pub loop-i-preserved : goal.loop-i-preserved
 loop-i-preserved g c =
-    not_more (HoldsAtTop c.args.turn.now.automaton.now.problem (has_domain c.args.turn.now.domains.now) c.args.turn.now.automaton.now.rules) _ _ _ _ c.loop-i.invariant c.loop-i-test.true c.index-bounds-i.is c.in_ok-holds_at_top.ensures c.if-branch.false
+    not_more (HoldsAtTop c.args.top.now.automaton.now.problem (has_domain c.args.top.now.domains.now) c.args.top.now.automaton.now.rules) _ _ _ _ c.loop-i.invariant c.loop-i-test.true c.index-bounds-i.is c.in_ok-holds.ensures c.if-branch.false

@@ -4,4 +4,4 @@ use Rattle.domain_store.specs.Store.{has_domain}
 use Rattle.potential_bounds.proofs.first.first_of_chunk.Given as goal
 
 abbrev pub invariant-loop-i : goal.invariant-loop-i
-invariant-loop-i g l = (k : ℕ) → k < l.i → HoldsAtTop l.turn.automaton.now.problem (has_domain l.turn.domains.now) l.turn.automaton.now.rules (get_or l.bounds k []) → ⊥
+invariant-loop-i g l = (k : ℕ) → k < l.i → HoldsAtTop l.top.automaton.now.problem (has_domain l.top.domains.now) l.top.automaton.now.rules (get_or l.bounds k []) → ⊥

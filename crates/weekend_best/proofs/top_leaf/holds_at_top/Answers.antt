@@ -21,7 +21,7 @@ returns-in-Some c =
     let limits = rw is at c.prove_limits.ensures in
     let has = rw is at c.in_ok-doms.ensures.has in
     let same : AreSame P D (full P) = λ p x inside. has p x inside in
-    let found : EscapesFree P g D (Free 1 1 R c.new-weights.result) w = rw c.in-Some.is at c.in_ok-free_escape.ensures in
+    let found : EscapesFree P g D (Free 1 1 R c.new-weights.result) w = rw c.in-Some.is at c.in_ok-claim_escape.ensures in
     let unweighed = subst (λ (y : List Weight). EscapesFree P g D (Free 1 1 R y) w) c.new-weights.ensures found in
     (λ e. absurd (cc e), λ k. absurd (fails_by_escape P g R D w limits (refl, c.requires.week, c.requires.goal) c.requires.short.are_rules same unweighed k))
 
@@ -35,6 +35,6 @@ returns c =
     let limits = rw is at c.prove_limits.ensures in
     let has = rw is at c.in_ok-doms.ensures.has in
     let same : AreSame P D (full P) = λ p x inside. has p x inside in
-    let found : IsTooLightFree P g D 1 1 R c.new-weights.result = rw c.in-None.is at c.in_ok-free_escape.ensures in
+    let found : IsTooLightFree P g D 1 1 R c.new-weights.result = rw c.in-None.is at c.in_ok-claim_escape.ensures in
     let unweighed = subst (λ (y : List Weight). IsTooLightFree P g D 1 1 R y) c.new-weights.ensures found in
     (λ e. holds_without_escape P g R D limits (refl, c.requires.week, c.requires.goal) c.requires.short.are_rules same unweighed, λ k. refl)
