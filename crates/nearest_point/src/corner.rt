@@ -1,7 +1,6 @@
 // Vectors of whole numbers, and the pair of them between which a part of a mix is best moved.
 ghost use Rattle.std.specs.Prelude.{◌≡◌, ◌<◌, ◌≤◌, length, slice_index, IfSome};
 
-use crate::squares::Squares;
 use std::marker::Model;
 
 // Whole numbers, one for each coordinate. Further coordinates are 0.
@@ -46,6 +45,16 @@ pub fn product(a: &[i64], b: &[i64]) -> i64 {
     sum
 }
 
+// The square of the distance of two vectors of as many coordinates.
+fn square_distance(a: &[i64], b: &[i64]) -> u64 {
+    let mut sum: u64 = 0;
+    for (x, y) in a.iter().zip(b.iter()) {
+        let apart = x.wrapping_sub(*y).unsigned_abs();
+        sum = sum.wrapping_add(apart.wrapping_mul(apart));
+    }
+    sum
+}
+
 // A part to be moved from one vector to another.
 #[derive(Clone, Copy, Drop)]
 pub struct Move {
@@ -69,51 +78,46 @@ pub fn furthest(pulls: &[i64]) -> Option<usize>
     best
 }
 
-// About how much the best move from one vector to another takes off the square of the distance to the box, and the size
-// of that move. The one pulls by `more` more than the other, and `square` is the square of the distance between them.
-fn gain(more: u64, square: u64) -> (u128, u64) {
-    if square == 0 {
-        return (0, 0);
+// The vector that lies nearest of those that have a part: the first of these.
+fn nearest_used(parts: &[u32], pulls: &[i64]) -> Option<usize>
+    ensures { IfSome result (λ k. k < length parts.now) }
+{
+    let mut best: Option<usize> = None;
+    let mut least = i64::MAX;
+    for (k, part) in parts.iter().enumerate() {
+        let pull = entry(pulls, k);
+        if *part > 0 && (best.is_none() || pull < least) {
+            best = Some(k);
+            least = pull;
+        }
     }
-    let wide = u128::from(more);
-    (wide.wrapping_mul(wide) / u128::from(square), more / square)
+    best
 }
 
-// The move to the vector that pulls most which brings the mix nearest; from those that have no part there is none.
+// The move from the vector that pulls least, of those that have a part, to the one that pulls most, by the amount that
+// brings the mix nearest to where it is to go. None where no amount does.
 // Cost: a look at each vector.
-pub fn best_move(
-    vectors: &[Vector],
-    squares: &Squares,
-    parts: &[u32],
-    pulls: &[i64],
-) -> Option<Move>
+pub fn best_move(vectors: &[Vector], parts: &[u32], pulls: &[i64]) -> Option<Move>
     requires { length vectors.now ≡ length parts.now }
     ensures gaining { IfSome result (λ m. m.gaining < length vectors.now) }
     ensures losing { IfSome result (λ m. m.losing < length vectors.now) }
     ensures amount { IfSome result (λ m. m.amount ≤ slice_index parts.now m.losing) }
 {
     let gaining = furthest(pulls)?;
+    let losing = nearest_used(parts, pulls)?;
     if gaining >= vectors.len() {
         return None;
     }
-    let mut best: Option<Move> = None;
-    let mut most: u128 = 0;
-    for (losing, part) in parts.iter().enumerate() {
-        if *part == 0 {
-            continue;
-        }
-        let more = entry(pulls, gaining).saturating_sub(entry(pulls, losing));
-        let square = squares.between(gaining, losing);
-        let (taken_off, useful) = gain(more.unsigned_abs(), square);
-        let amount = useful.min(u64::from(*part)) as u32;
-        if amount > 0 && taken_off > most {
-            most = taken_off;
-            best = Some(Move {
-                gaining,
-                losing,
-                amount,
-            });
-        }
+    let more = entry(pulls, gaining).saturating_sub(entry(pulls, losing));
+    let square = square_distance(vectors[gaining].entries(), vectors[losing].entries());
+    let useful = more.unsigned_abs().checked_div(square)?;
+    let amount = useful.min(u64::from(parts[losing])) as u32;
+    if amount == 0 {
+        return None;
     }
-    best
+    Some(Move {
+        gaining,
+        losing,
+        amount,
+    })
 }

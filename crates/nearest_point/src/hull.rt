@@ -2,8 +2,7 @@
 ghost use Rattle.std.specs.Prelude.{◌≡◌, ℕ, ◌+◌, ◌<◌, ◌≤◌, List, [], ◌∷◌, ◌++◌, length, sum, IfOk, OnOk, OnErr, IsTrue, ◌↔◌, Contains, IfSome, IfNone, slice_index, slice_get, Some, None, remove, All, ◌≢◌};
 ghost use Rattle.nearest_point.specs.Hull.{first_part};
 
-use crate::corner::{Move, Vector, best_move, entry, product};
-use crate::squares::Squares;
+use crate::corner::{Move, Vector, best_move, product};
 use std::alloc::{AllocError, Global};
 use std::marker::Model;
 
@@ -15,15 +14,15 @@ pub const SCALE: u32 = 1 << 20;
 /// The mix is the sum of the vectors, each times its part; so it is `SCALE` times a point of their hull, as long as
 /// the parts sum to `SCALE`. The box has a least and a greatest number for each coordinate.
 ///
-/// Each step moves a part from one vector to the one that lies furthest toward the box (E. Gilbert, 1966; B. Mitchell,
-/// V. Dem'yanov, V. Malozemov, 1974). With the furthest of all vectors pushed in turn, whose hull need not be written
+/// Each step moves a part to the vector that lies furthest toward the box from the one that lies least so, of those that
+/// have a part (B. Mitchell, V. Dem'yanov, V. Malozemov, 1974). With the furthest of all vectors pushed in turn, whose hull need not be written
 /// out, this finds the nearest point of that hull, or a plane between it and the box.
 #[derive(Drop)]
 pub struct Hull {
+    // The ends of the box, times `SCALE`.
     low: Vec<i64>,
     high: Vec<i64>,
     vectors: Vec<Vector>,
-    squares: Squares,
     parts: Vec<u32>,
     mix: Vec<i64>,
     // What leads from the mix to the nearest point of the box.
@@ -53,10 +52,9 @@ impl Hull {
         let mix = vec![in alloc; 0i64; low.len()]?;
         let off = vec![in alloc; 0i64; low.len()]?;
         Ok(Hull {
-            low,
-            high,
+            low: scaled(alloc, &low)?,
+            high: scaled(alloc, &high)?,
             vectors: Vec::new(alloc),
-            squares: Squares::new(alloc),
             parts: Vec::new(alloc),
             mix,
             off,
@@ -117,7 +115,6 @@ impl Hull {
         ensures parts { OnOk result (self.new.parts ≡ self.old.parts ++ part ∷ []) }
         ensures kept { OnErr result (self.new ≡ self.old) }
     {
-        self.squares.put(&self.vectors, &vector)?;
         self.pulls.push(0)?;
         self.parts.push(part)?;
         add(&mut self.mix, &vector, part);
@@ -148,7 +145,7 @@ impl Hull {
         ensures count { length self.new.parts ≡ length self.old.parts }
     {
         measure(&mut self.pulls, &self.vectors, &self.off);
-        let Some(best) = best_move(&self.vectors, &self.squares, &self.parts, &self.pulls) else {
+        let Some(best) = best_move(&self.vectors, &self.parts, &self.pulls) else {
             return false;
         };
         move_part(&mut self.parts, best);
@@ -165,11 +162,19 @@ impl Hull {
         ensures kept { IfNone result (self.new ≡ self.old) }
     {
         let k = first_unused(&self.parts)?;
-        self.squares.take_out(k);
         self.vectors.remove(k);
         self.parts.remove(k);
         Some(k)
     }
+}
+
+// Each number times `SCALE`.
+fn scaled(alloc: Global, numbers: &[i64]) -> Result<Vec<i64>, AllocError> {
+    let mut products = Vec::new(alloc);
+    for number in numbers {
+        products.push(number.saturating_mul(i64::from(SCALE)))?;
+    }
+    Ok(products)
 }
 
 // Whether the vector is among these.
@@ -238,22 +243,11 @@ fn move_mix(mix: &mut [i64], vectors: &[Vector], best: Move)
     add(mix, vectors[best.gaining].entries(), best.amount);
 }
 
-// What leads from the mix to the nearest point of the box.
+// What leads from the mix to the nearest point of the box, whose ends are given times `SCALE`.
 fn aim(off: &mut [i64], mix: &[i64], low: &[i64], high: &[i64]) {
-    for (i, lead) in off.iter_mut().enumerate() {
-        *lead = lead_of(entry(mix, i), entry(low, i), entry(high, i));
-    }
-}
-
-// The same for one coordinate.
-fn lead_of(mix: i64, low: i64, high: i64) -> i64 {
-    let least = low.saturating_mul(i64::from(SCALE));
-    let greatest = high.saturating_mul(i64::from(SCALE));
-    if mix < least {
-        least.saturating_sub(mix)
-    } else if greatest < mix {
-        greatest.saturating_sub(mix)
-    } else {
-        0
+    let ends = low.iter().zip(high.iter());
+    for (lead, (sum, (least, greatest))) in off.iter_mut().zip(mix.iter().zip(ends)) {
+        let nearest = (*sum).max(*least).min(*greatest);
+        *lead = nearest.wrapping_sub(*sum);
     }
 }

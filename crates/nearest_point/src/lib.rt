@@ -3,6 +3,5 @@
 
 mod corner;
 mod hull;
-mod squares;
 
 pub use hull::{Hull, SCALE};

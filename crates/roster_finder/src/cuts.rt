@@ -2,8 +2,8 @@
 use crate::grid::{Grid, entry_or, put, rest, whole};
 use crate::quotas::Quota;
 use crate::setting::Setting;
-use crate::steady_layer::SteadyLayer;
-use std::alloc::{AllocError, Global};
+use crate::shares::ONE_USE;
+use std::alloc::AllocError;
 
 /// The most new cuts that are made at a time.
 const MOST_CUTS: usize = 20;
@@ -29,30 +29,26 @@ struct Flow {
 
 // The parts that the layer's nodes are joined to on each weekday, as trees (union-find: B. Galler and M. Fischer, 1964).
 #[derive(Drop)]
-struct Parts {
-    weekdays: usize,
-    nodes: usize,
+struct Parts<'a> {
+    setting: Setting<'a>,
     // For each weekday and node, by `place`, another one of its part; for the root of the part itself.
     above: Vec<usize>,
 }
 
-impl Parts {
+impl<'a> Parts<'a> {
     // A part for each node on each weekday.
-    fn new(alloc: Global, layer: &SteadyLayer, weekdays: usize) -> Result<Parts, AllocError> {
-        let nodes = layer.nodes();
-        let mut above = Vec::new(alloc);
-        for place in 0..weekdays.saturating_mul(nodes) {
+    fn new(setting: Setting<'a>) -> Result<Parts<'a>, AllocError> {
+        let mut above = Vec::new(setting.alloc);
+        for place in 0..setting.demand.days.saturating_mul(setting.layer.nodes()) {
             above.push(place)?;
         }
-        Ok(Parts {
-            weekdays,
-            nodes,
-            above,
-        })
+        Ok(Parts { setting, above })
     }
 
     fn place(&self, weekday: usize, node: usize) -> usize {
-        weekday.wrapping_mul(self.nodes).wrapping_add(node)
+        weekday
+            .wrapping_mul(self.setting.layer.nodes())
+            .wrapping_add(node)
     }
 
     // The root of a part. Takes few steps, as each join leads roots to roots.
@@ -69,9 +65,9 @@ impl Parts {
     }
 
     // The parts that a step leads from and to.
-    fn ends(&self, layer: &SteadyLayer, weekday: usize, number: usize) -> (usize, usize) {
-        let next = rest(weekday.wrapping_add(1), self.weekdays);
-        match layer.step(number) {
+    fn ends(&self, weekday: usize, number: usize) -> (usize, usize) {
+        let next = rest(weekday.wrapping_add(1), self.setting.demand.days);
+        match self.setting.layer.step(number) {
             Some(step) => (
                 self.root(self.place(weekday, step.from)),
                 self.root(self.place(next, step.to)),
@@ -90,13 +86,13 @@ impl Parts {
     }
 
     // How much a part holds and how much leaves it.
-    fn flow(&self, layer: &SteadyLayer, used: &[Used], part: usize) -> Flow {
+    fn flow(&self, used: &[Used], part: usize) -> Flow {
         let mut flow = Flow {
             held: 0,
             leaving: 0,
         };
         for step in used {
-            let (from, to) = self.ends(layer, step.weekday, step.number);
+            let (from, to) = self.ends(step.weekday, step.number);
             if from == part {
                 flow.held = flow.held.wrapping_add(step.share);
             }
@@ -109,11 +105,11 @@ impl Parts {
 
     // The steps that leave a part. A roster that has days in the part and days outside of it takes one of them at
     // least.
-    fn cut(&self, alloc: Global, layer: &SteadyLayer, part: usize) -> Result<Quota, AllocError> {
-        let mut steps = Vec::new(alloc);
-        for weekday in 0..self.weekdays {
-            for number in 0..layer.steps.len() {
-                let (from, to) = self.ends(layer, weekday, number);
+    fn cut(&self, part: usize) -> Result<Quota, AllocError> {
+        let mut steps = Vec::new(self.setting.alloc);
+        for weekday in 0..self.setting.demand.days {
+            for number in 0..self.setting.layer.steps.len() {
+                let (from, to) = self.ends(weekday, number);
                 if from == part && to != part {
                     steps.push((weekday, number))?;
                 }
@@ -122,45 +118,24 @@ impl Parts {
         Ok(Quota { steps, least: 1 })
     }
 
-    // Adds the cut round a part, where it isn't there yet.
-    fn add_cut(
-        &self,
-        alloc: Global,
-        layer: &SteadyLayer,
-        part: usize,
-        quotas: &mut Vec<Quota>,
-    ) -> Result<(), AllocError> {
-        let cut = self.cut(alloc, layer, part)?;
-        if quotas.contains(&cut) {
-            drop(cut);
-            return Ok(());
-        }
-        quotas.push(cut)?;
-        Ok(())
-    }
-
-    // Joins the parts by each step, and adds the cuts round them, until there are many new ones.
-    fn join_along(
-        &mut self,
-        alloc: Global,
-        setting: &Setting<'_>,
-        used: &[Used],
-        one_use: i64,
-        quotas: &mut Vec<Quota>,
-    ) -> Result<(), AllocError> {
+    // Joins the parts by each step, and adds the cuts round them that aren't there yet, until there are many new ones.
+    fn join_along(&mut self, used: &[Used], quotas: &mut Vec<Quota>) -> Result<(), AllocError> {
         let all = whole_flow(used);
-        let days = one_use.wrapping_mul(whole(setting.demand.days.max(FEWEST_DAYS)));
+        let days = ONE_USE.wrapping_mul(whole(self.setting.demand.days.max(FEWEST_DAYS)));
         let before = quotas.len();
         for step in used {
-            let (from, to) = self.ends(setting.layer, step.weekday, step.number);
+            let (from, to) = self.ends(step.weekday, step.number);
             if from == to {
                 continue;
             }
             self.join(from, to);
-            let flow = self.flow(setting.layer, used, to);
+            let flow = self.flow(used, to);
             let is_large = flow.held >= days && all.wrapping_sub(flow.held) >= days;
-            if is_large && flow.leaving < one_use.wrapping_mul(3) / 4 {
-                self.add_cut(alloc, setting.layer, to, quotas)?;
+            if is_large && flow.leaving < ONE_USE * 3 / 4 {
+                let cut = self.cut(to)?;
+                if !quotas.contains(&cut) {
+                    quotas.push(cut)?;
+                }
             }
             if quotas.len().saturating_sub(before) >= MOST_CUTS {
                 break;
@@ -171,12 +146,8 @@ impl Parts {
 }
 
 // The steps that have a share, those of the greatest shares first.
-fn used_steps(
-    alloc: Global,
-    setting: &Setting<'_>,
-    uses: &Grid<i64>,
-) -> Result<Vec<Used>, AllocError> {
-    let mut used = Vec::new(alloc);
+fn used_steps(setting: Setting<'_>, uses: &Grid<i64>) -> Result<Vec<Used>, AllocError> {
+    let mut used = Vec::new(setting.alloc);
     for weekday in 0..setting.demand.days {
         for number in 0..setting.layer.steps.len() {
             let share = uses.at(weekday, number);
@@ -202,35 +173,18 @@ fn whole_flow(used: &[Used]) -> i64 {
     sum
 }
 
-/// Adds cuts round the parts that hold and leave days enough and are left by less than three quarters of a use
-/// (subtours: G. Dantzig, R. Fulkerson and S. Johnson, 1954). Nodes are joined to parts by the steps of the greatest
+/// Adds connectivity cuts round the parts that hold and leave days enough and are left by less than three quarters of a
+/// use (subtours: G. Dantzig, R. Fulkerson and S. Johnson, 1954). Nodes are joined to parts by the steps of the greatest
 /// shares first. Whether there are new cuts. Costs for each step with a share a look at all of them and at each node on
 /// each weekday.
 pub(crate) fn add_cuts(
-    alloc: Global,
-    setting: &Setting<'_>,
+    setting: Setting<'_>,
     uses: &Grid<i64>,
-    one_use: i64,
     quotas: &mut Vec<Quota>,
 ) -> Result<bool, AllocError> {
-    let used = used_steps(alloc, setting, uses)?;
     let before = quotas.len();
-    let added = add_cuts_along(alloc, setting, &used, one_use, quotas);
-    drop(used);
-    added?;
+    let used = used_steps(setting, uses)?;
+    let mut parts = Parts::new(setting)?;
+    parts.join_along(&used, quotas)?;
     Ok(quotas.len() > before)
-}
-
-// Adds the cuts round the parts that the steps join.
-fn add_cuts_along(
-    alloc: Global,
-    setting: &Setting<'_>,
-    used: &[Used],
-    one_use: i64,
-    quotas: &mut Vec<Quota>,
-) -> Result<(), AllocError> {
-    let mut parts = Parts::new(alloc, setting.layer, setting.demand.days)?;
-    let added = parts.join_along(alloc, setting, used, one_use, quotas);
-    drop(parts);
-    added
 }

@@ -2,7 +2,7 @@
 ghost use Rattle.std.specs.Prelude.{◌≤◌};
 ghost use Rattle.rwsp_terms.specs.Instance.{shift_count};
 
-use crate::grid::Grid;
+use crate::grid::{Grid, whole};
 use rwsp_model::Problem;
 use rwsp_terms::Symbol;
 use std::alloc::{AllocError, Global};
@@ -52,6 +52,14 @@ impl Demand {
     /// The days of a roster.
     pub fn cells(&self) -> usize {
         self.days.saturating_mul(self.weeks)
+    }
+
+    /// How many weekends should be free.
+    pub fn weekends(&self) -> Range {
+        Range {
+            least: whole(self.free),
+            greatest: whole(self.cells()),
+        }
     }
 
     pub fn range(&self, symbol: usize, weekday: usize) -> Range {

@@ -1,9 +1,8 @@
 // Words that are on their way to a roster, with their counters.
 use crate::counters::Counters;
-use crate::made::both;
 use crate::setting::Setting;
 use crate::walk::Walk;
-use std::alloc::{AllocError, Global};
+use std::alloc::AllocError;
 
 /// A window of a cyclic word: some days from a position on.
 #[derive(Clone, Copy)]
@@ -20,46 +19,41 @@ pub(crate) struct Draft {
 }
 
 impl Draft {
-    pub fn new(alloc: Global, setting: &Setting<'_>) -> Result<Draft, AllocError> {
-        let demand = &setting.demand;
-        let walk = Walk::new(alloc, demand.days, demand.cells());
-        let (walk, counters) = both(walk, Counters::new(alloc, demand))?;
-        Ok(Draft { walk, counters })
+    pub fn new(setting: Setting<'_>) -> Result<Draft, AllocError> {
+        let Setting { alloc, demand, .. } = setting;
+        Ok(Draft {
+            walk: Walk::new(alloc, demand.days, demand.cells())?,
+            counters: Counters::new(alloc, demand)?,
+        })
     }
 
-    /// Counts the days of a window, and the blocks that begin and free weekends that end in it or right behind it, each
-    /// `times` times.
+    /// Counts the days of a window, and the free weekends that end in it or right behind it, each `times` times.
     pub fn count(&mut self, window: Window, times: i64) {
         let mut at = window.start;
         for _ in 0..window.len {
-            let weekday = self.walk.weekday(at);
-            self.counters
-                .add_to_cell(self.walk.symbol(at), weekday, times);
-            self.count_change(at, times);
+            self.count_day(at, times);
             at = self.walk.next(at);
         }
-        self.count_change(at, times);
+        if self.walk.ends_weekend(at) {
+            self.counters.add_to_weekends(times);
+        }
     }
 
-    // Counts the block that begins at a position, if one does, or the free weekend that ends there.
-    fn count_change(&mut self, position: usize, times: i64) {
+    // Counts a day, and the free weekend that ends on it, if one does.
+    fn count_day(&mut self, position: usize, times: i64) {
+        let weekday = self.walk.weekday(position);
+        self.counters
+            .add_to_cell(self.walk.symbol(position), weekday, times);
         if self.walk.ends_weekend(position) {
             self.counters.add_to_weekends(times);
         }
-        if self.walk.begins(position) {
-            self.counters
-                .add_to_blocks(self.walk.symbol(position), times);
-        }
     }
 
-    /// Counts all days, blocks and free weekends anew.
+    /// Counts all days and free weekends anew.
     pub fn count_all(&mut self) {
         self.counters.clear_counts();
         for position in 0..self.walk.cells() {
-            let weekday = self.walk.weekday(position);
-            self.counters
-                .add_to_cell(self.walk.symbol(position), weekday, 1);
-            self.count_change(position, 1);
+            self.count_day(position, 1);
         }
     }
 }

@@ -1,21 +1,17 @@
 // The search for a roster.
 ghost use Rattle.std.specs.Prelude.{◌≡◌, ◌<◌, ◌≤◌, IfOk, IfSome, IsTrue};
-ghost use Rattle.rwsp_terms.specs.Roster.{MeetsAll, IsRoster};
+ghost use Rattle.rwsp_terms.specs.Roster.{IsRoster};
 ghost use Rattle.refutation_terms.specs.FreeWeekends.{free_weekends};
 ghost use Rattle.roster_finder.specs.Found.{IsRosterWith};
 
-use crate::counters::Reweighing;
 use crate::demand::Demand;
 use crate::draft::{Draft, Window};
-use crate::grid::rest;
-use crate::made::{both, with};
-use crate::prices::LONGEST_WINDOW;
 use crate::random::Random;
 use crate::setting::Setting;
 use crate::shares::Shares;
-use crate::start::{Due, Manner, Starter};
+use crate::start::Starter;
 use crate::steady_layer::SteadyLayer;
-use crate::window::Mover;
+use crate::window::{LONGEST_WINDOW, Mover};
 use roster_checker::{first_broken, free_weekends};
 use rwsp_model::{Problem, Roster};
 use rwsp_terms::Symbol;
@@ -56,9 +52,6 @@ const FIRST_NOISE: usize = 300;
 /// By how much this bound grows with each further start word.
 const MORE_NOISE: usize = 200;
 
-/// What a block too many or too few counts in the choice of start words, where a cell counts 1.
-const BLOCK_OFF: i64 = 30;
-
 /// After this many moves without a new best the counters that are off weigh more.
 const PATIENCE: usize = 200;
 
@@ -82,47 +75,43 @@ struct Search<'a> {
     draft: Draft,
     // Another word: the best start word so far.
     other: Draft,
-    starter: Starter,
-    mover: Mover,
-    // The least deviation of the word, and the moves since it was found.
+    starter: Starter<'a>,
+    mover: Mover<'a>,
+    // The least deviation of the word (of the incumbent), and the moves since it was found.
     least: i64,
     since: usize,
 }
 
 impl<'a> Search<'a> {
     // A search without a word yet. None where there are no shares.
-    fn new(alloc: Global, setting: Setting<'a>) -> Result<Option<Search<'a>>, AllocError> {
-        let mut random = Random::new();
-        let parts = parts_for(alloc, &setting, &mut random);
-        match with(setting, parts)? {
-            Some((setting, (shares, ((draft, other), (starter, mover))))) => Ok(Some(Search {
-                setting,
-                shares,
-                random,
-                draft,
-                other,
-                starter,
-                mover,
-                least: i64::MAX,
-                since: 0,
-            })),
-            None => Ok(None),
+    fn new(setting: Setting<'a>) -> Result<Option<Search<'a>>, AllocError> {
+        if setting.layer.nodes() == 0 {
+            return Ok(None);
         }
+        let mut random = Random::new();
+        let Some(shares) = Shares::of(setting, &mut random, 0)? else {
+            return Ok(None);
+        };
+        Ok(Some(Search {
+            setting,
+            shares,
+            random,
+            draft: Draft::new(setting)?,
+            other: Draft::new(setting)?,
+            starter: Starter::new(setting)?,
+            mover: Mover::new(setting)?,
+            least: i64::MAX,
+            since: 0,
+        }))
     }
 
     // Makes new shares where their turn has come. Where there are none this time, the old ones stay.
-    fn renew_shares(&mut self, alloc: Global, turn: usize) -> Result<(), AllocError> {
-        if turn % SHARES_FOR != 0 {
-            return Ok(());
-        }
-        if turn > 0 {
-            let blurred = Shares::of(alloc, &self.setting, &mut self.random, SHARES_NOISE)?;
-            if let Some(shares) = blurred {
-                drop(mem::replace(&mut self.shares, shares));
+    fn renew_shares(&mut self, turn: usize) -> Result<(), AllocError> {
+        if turn > 0 && turn % SHARES_FOR == 0 {
+            if let Some(shares) = Shares::of(self.setting, &mut self.random, SHARES_NOISE)? {
+                self.shares = shares;
             }
         }
-        set_block_ranges(&mut self.draft, &self.shares);
-        set_block_ranges(&mut self.other, &self.shares);
         Ok(())
     }
 
@@ -133,54 +122,28 @@ impl<'a> Search<'a> {
         }
         let mut least = i64::MAX;
         for number in 0..STARTS {
-            if self.start(number) && self.start_deviation() < least {
-                least = self.start_deviation();
+            let noise = FIRST_NOISE.saturating_add(number.saturating_mul(MORE_NOISE));
+            let has_word = self
+                .starter
+                .start(&self.shares, &mut self.draft, &mut self.random, noise);
+            let deviation = self.draft.counters.deviation();
+            if has_word && deviation < least {
+                least = deviation;
                 mem::swap(&mut self.draft, &mut self.other);
             }
         }
         mem::swap(&mut self.draft, &mut self.other);
-        self.draft.counters.reweigh(Reweighing::Alike);
+        self.draft.counters.weigh_alike();
         self.least = i64::MAX;
         self.since = 0;
         least < i64::MAX
     }
 
-    // Writes the start word of a number.
-    fn start(&mut self, number: usize) -> bool {
-        let manner = Manner {
-            due: if number % 2 == 0 {
-                Due::InAll
-            } else {
-                Due::SoFar
-            },
-            noise: FIRST_NOISE.saturating_add(number.saturating_mul(MORE_NOISE)),
-        };
-        self.starter.start(
-            &self.setting,
-            &self.shares,
-            &mut self.draft,
-            &mut self.random,
-            manner,
-        )
-    }
-
-    // How far a start word is off.
-    fn start_deviation(&self) -> i64 {
-        let counters = &self.draft.counters;
-        let blocks = counters.block_deviation().saturating_mul(BLOCK_OFF);
-        counters.deviation().saturating_add(blocks)
-    }
-
     // Rewrites a window, and lets counters weigh more where that hasn't helped for long.
     fn rewrite(&mut self) {
         let window = self.drawn_window();
-        self.mover.rewrite(
-            &self.setting,
-            &self.shares,
-            &mut self.draft,
-            &mut self.random,
-            window,
-        );
+        self.mover
+            .rewrite(&mut self.draft, &mut self.random, window);
         let deviation = self.draft.counters.deviation();
         if deviation < self.least {
             self.least = deviation;
@@ -189,59 +152,19 @@ impl<'a> Search<'a> {
         }
         self.since = self.since.saturating_add(1);
         if self.since % PATIENCE == 0 {
-            self.draft.counters.reweigh(Reweighing::MoreWhereOff);
+            self.draft.counters.weigh_more_where_off();
         }
     }
 
-    // A window of at most a week or of more, each in half of the cases; anywhere, or on a day that is off.
+    // A window of a week at most, anywhere.
     fn drawn_window(&mut self) -> Window {
         let cells = self.draft.walk.cells();
-        let len = self.drawn_len().saturating_add(1).min(cells / 2);
-        let start = if self.random.is_heads() {
-            self.random.below(cells)
-        } else {
-            let within = self.random.below(len);
-            let day = self.drawn_day_off();
-            self.draft.walk.later(day, cells.saturating_sub(within))
-        };
-        Window { start, len }
-    }
-
-    // The days of a window but one.
-    fn drawn_len(&mut self) -> usize {
-        let week = self.setting.demand.days;
-        if week >= LONGEST_WINDOW {
-            self.random.below(LONGEST_WINDOW)
-        } else if self.random.is_heads() {
-            self.random.below(week)
-        } else {
-            self.random
-                .below(LONGEST_WINDOW - week)
-                .saturating_add(week)
+        let longest = self.setting.demand.days.min(LONGEST_WINDOW);
+        let len = self.random.below(longest).saturating_add(1);
+        Window {
+            start: self.random.below(cells),
+            len: len.min(cells / 2),
         }
-    }
-
-    // A position on a weekday whose counters are off, if there is one.
-    fn drawn_day_off(&mut self) -> usize {
-        let weekday = self.drawn_weekday_off();
-        let week = self.random.below(self.setting.demand.weeks);
-        let first = week.wrapping_mul(self.setting.demand.days);
-        rest(first.wrapping_add(weekday), self.draft.walk.cells())
-    }
-
-    // A weekday whose counters are off, if there is one.
-    fn drawn_weekday_off(&mut self) -> usize {
-        let mut drawn = 0;
-        let mut seen: usize = 0;
-        for weekday in 0..self.setting.demand.days {
-            if self.draft.counters.is_off_on(weekday) {
-                seen = seen.saturating_add(1);
-                if self.random.below(seen) == 0 {
-                    drawn = weekday;
-                }
-            }
-        }
-        drawn
     }
 
     // At most this many moves are made.
@@ -258,7 +181,6 @@ impl<'a> Search<'a> {
     // Rewrites windows until the word is a roster that meets every rule and has `free` free weekends at least.
     fn run(
         &mut self,
-        alloc: Global,
         problem: &Problem,
         free: u32,
         patience: Patience,
@@ -268,13 +190,14 @@ impl<'a> Search<'a> {
     {
         let mut refused: usize = 0;
         for turn in 0..self.most_moves(patience) {
-            self.renew_shares(alloc, turn)?;
+            self.renew_shares(turn)?;
             if !self.renew_word(turn) || refused > MOST_REFUSED {
                 return Ok(None);
             }
             if self.draft.counters.deviation() == 0 {
                 let symbols = self.draft.walk.symbols();
-                if let Some(roster) = met_roster(alloc, problem, free, symbols)? {
+                let met = met_roster(self.setting.alloc, problem, free, symbols)?;
+                if let Some(roster) = met {
                     return Ok(Some(roster));
                 }
                 refused = refused.saturating_add(self.draft.walk.cells());
@@ -282,38 +205,6 @@ impl<'a> Search<'a> {
             self.rewrite();
         }
         Ok(None)
-    }
-}
-
-// Two words, and room for start words and moves.
-type Room = ((Draft, Draft), (Starter, Mover));
-
-// The first shares, and room to search. None where there are no shares.
-fn parts_for(
-    alloc: Global,
-    setting: &Setting<'_>,
-    random: &mut Random,
-) -> Result<Option<(Shares, Room)>, AllocError> {
-    if setting.layer.nodes() == 0 {
-        return Ok(None);
-    }
-    match Shares::of(alloc, setting, random, 0)? {
-        Some(shares) => Ok(Some(both(Ok(shares), room_for(alloc, setting))?)),
-        None => Ok(None),
-    }
-}
-
-// Two words to be written, and room for start words and moves.
-fn room_for(alloc: Global, setting: &Setting<'_>) -> Result<Room, AllocError> {
-    both(
-        both(Draft::new(alloc, setting), Draft::new(alloc, setting)),
-        both(Starter::new(alloc, setting), Mover::new(alloc, setting)),
-    )
-}
-
-fn set_block_ranges(draft: &mut Draft, shares: &Shares) {
-    for (symbol, range) in shares.blocks.iter().enumerate() {
-        draft.counters.set_block_range(symbol, *range);
     }
 }
 
@@ -378,8 +269,8 @@ fn roster_of(problem: &Problem, cells: Vec<Symbol>) -> Option<Roster>
 
 /// A search for rosters of a problem that distinguishes no cases.
 ///
-/// A fractional roster is found first, that is, how often each step of clean words is taken on each weekday in the
-/// mean (G. Dantzig and P. Wolfe's generation of columns, 1960). Words that follow it meet the demand nearly; windows
+/// A fractional flow is found first, that is, how often each step of clean words is taken on each weekday in the mean
+/// (G. Dantzig and P. Wolfe's generation of columns, 1960). It is rounded to words that meet the demand nearly; windows
 /// of them are then rewritten, each by the clean word that fits best, until the demand is met. The same problem gives
 /// the same answer each time.
 #[derive(Drop)]
@@ -428,28 +319,15 @@ impl<'a> RosterFinder<'a> {
         if self.problem.cells() < FEWEST_CELLS {
             return Ok(None);
         }
+        let demand = Demand::of(alloc, self.problem, free)?;
         let setting = Setting {
+            alloc,
             layer: &self.layer,
-            demand: Demand::of(alloc, self.problem, free)?,
+            demand: &demand,
         };
-        match Search::new(alloc, setting)? {
-            Some(mut search) => {
-                let found = search.run(alloc, self.problem, free, patience);
-                drop(search);
-                found
-            }
-            None => Ok(None),
-        }
+        let Some(mut search) = Search::new(setting)? else {
+            return Ok(None);
+        };
+        search.run(self.problem, free, patience)
     }
-}
-
-/// A roster that meets every rule, or None, as `RosterFinder` finds it.
-pub fn find_roster(alloc: Global, problem: &Problem) -> Result<Option<Roster>, AllocError>
-    ensures { IfOk result (λ found. IfSome found (λ s.
-        (s.days ≡ problem.now.days) × MeetsAll problem.now s.cells)) }
-{
-    let finder = RosterFinder::new(alloc, problem)?;
-    let found = finder.find(alloc, 0, Patience::Long);
-    drop(finder);
-    found
 }

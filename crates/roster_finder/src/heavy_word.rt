@@ -1,9 +1,8 @@
 // Heavy clean words: those of many weeks, and the parts of them that lead round.
 use crate::grid::{Grid, entry_or, put, rest, set_all, whole};
-use crate::made::both;
 use crate::setting::Setting;
-use crate::steady_layer::{SteadyLayer, Step};
-use std::alloc::{AllocError, Global};
+use crate::steady_layer::Step;
+use std::alloc::AllocError;
 use std::mem;
 
 /// Less than any word weighs.
@@ -20,8 +19,8 @@ pub(crate) struct HeavyWord {
 
 /// Room to weigh words.
 #[derive(Drop)]
-pub(crate) struct Weigher {
-    weekdays: usize,
+pub(crate) struct Weigher<'a> {
+    setting: Setting<'a>,
     // The greatest weight of the words to each node, on one day and on the next.
     weights: Vec<i64>,
     next_weights: Vec<i64>,
@@ -29,20 +28,20 @@ pub(crate) struct Weigher {
     last_steps: Grid<u32>,
 }
 
-impl Weigher {
+impl<'a> Weigher<'a> {
     /// Room for words of `weeks` weeks at most.
-    pub fn new(alloc: Global, setting: &Setting<'_>, weeks: usize) -> Result<Weigher, AllocError> {
-        let weekdays = setting.demand.days;
-        let nodes = setting.layer.nodes();
-        let days = weekdays.saturating_mul(weeks);
-        let weights = both(vec![in alloc; 0; nodes], vec![in alloc; 0; nodes]);
-        let made = both(weights, Grid::new(alloc, days, nodes, 0));
-        let ((weights, next_weights), last_steps) = made?;
+    pub fn new(setting: Setting<'a>, weeks: usize) -> Result<Weigher<'a>, AllocError> {
+        let Setting {
+            alloc,
+            layer,
+            demand,
+        } = setting;
+        let days = demand.days.saturating_mul(weeks);
         Ok(Weigher {
-            weekdays,
-            weights,
-            next_weights,
-            last_steps,
+            setting,
+            weights: vec![in alloc; 0; layer.nodes()]?,
+            next_weights: vec![in alloc; 0; layer.nodes()]?,
+            last_steps: Grid::new(alloc, days, layer.nodes(), 0)?,
         })
     }
 
@@ -50,30 +49,23 @@ impl Weigher {
     /// weighs on each weekday, from any node to any node (R. Bellman, 1957): the part that weighs most for its weeks.
     /// Where there is none, the whole word.
     /// Costs a look at each step on each day.
-    pub fn heaviest(
-        &mut self,
-        alloc: Global,
-        layer: &SteadyLayer,
-        weights: &Grid<i64>,
-        weeks: usize,
-    ) -> Result<HeavyWord, AllocError> {
-        let days = weeks.saturating_mul(self.weekdays);
+    pub fn heaviest(&mut self, weights: &Grid<i64>, weeks: usize) -> Result<HeavyWord, AllocError> {
+        let weekdays = self.setting.demand.days;
+        let days = weeks.saturating_mul(weekdays);
         set_all(&mut self.weights, 0);
         for day in 0..days {
-            self.weigh_day(layer, weights.row(rest(day, self.weekdays)), day);
+            self.weigh_day(weights.row(rest(day, weekdays)), day);
             mem::swap(&mut self.weights, &mut self.next_weights);
         }
-        let taken = self.traced(alloc, layer, days)?;
-        let part = self.part_of(alloc, layer, weights, &taken);
-        drop(taken);
-        part
+        let taken = self.traced(days)?;
+        self.part_of(weights, &taken)
     }
 
     // One day, on which the steps have these weights.
-    fn weigh_day(&mut self, layer: &SteadyLayer, weights: &[i64], day: usize) {
+    fn weigh_day(&mut self, weights: &[i64], day: usize) {
         set_all(&mut self.next_weights, NEVER);
         let mut number: u32 = 0;
-        for (step, weight) in layer.steps.iter().zip(weights.iter()) {
+        for (step, weight) in self.setting.layer.steps.iter().zip(weights.iter()) {
             let before = entry_or(&self.weights, step.from, NEVER);
             let weight = before.wrapping_add(*weight);
             if weight > entry_or(&self.next_weights, step.to, NEVER) {
@@ -98,48 +90,60 @@ impl Weigher {
     }
 
     // The steps of the heaviest word, the last one first.
-    fn traced(
-        &self,
-        alloc: Global,
-        layer: &SteadyLayer,
-        days: usize,
-    ) -> Result<Vec<usize>, AllocError> {
-        let mut taken = Vec::new(alloc);
+    fn traced(&self, days: usize) -> Result<Vec<usize>, AllocError> {
+        let mut taken = Vec::new(self.setting.alloc);
         let mut node = self.heaviest_end();
         for day in (0..days).rev() {
             let number = self.last_steps.at(day, node) as usize;
             taken.push(number)?;
-            node = layer.step(number).map_or(0, |step| step.from);
+            node = self.setting.layer.step(number).map_or(0, |step| step.from);
         }
         Ok(taken)
     }
 
     // The part that leads round and weighs most for its weeks, of the word of these steps, the last one first.
-    fn part_of(
-        &self,
-        alloc: Global,
-        layer: &SteadyLayer,
-        weights: &Grid<i64>,
-        taken: &[usize],
-    ) -> Result<HeavyWord, AllocError> {
-        let places = places_of(alloc, layer, weights, taken, self.weekdays)?;
-        let (first, last) = best_part(&places);
-        let weight = weight_at(&places, last).wrapping_sub(weight_at(&places, first));
-        drop(places);
-        let mut uses = Grid::new(alloc, self.weekdays, layer.steps.len(), 0i64)?;
-        let days = taken.len();
-        for day in first.wrapping_mul(self.weekdays)..last.wrapping_mul(self.weekdays) {
-            let back = days.wrapping_sub(day).wrapping_sub(1);
+    fn part_of(&self, weights: &Grid<i64>, taken: &[usize]) -> Result<HeavyWord, AllocError> {
+        let Setting {
+            alloc,
+            layer,
+            demand,
+        } = self.setting;
+        let part = best_part(&self.places_of(weights, taken)?);
+        let mut uses = Grid::new(alloc, demand.days, layer.steps.len(), 0i64)?;
+        let first = part.first.wrapping_mul(demand.days);
+        for day in first..part.last.wrapping_mul(demand.days) {
+            let back = taken.len().wrapping_sub(day).wrapping_sub(1);
             let number = entry_or(taken, back, 0);
-            let weekday = rest(day, self.weekdays);
-            let times = uses.at(weekday, number);
-            uses.set(weekday, number, times.wrapping_add(1));
+            let weekday = rest(day, demand.days);
+            uses.set(weekday, number, uses.at(weekday, number).wrapping_add(1));
         }
         Ok(HeavyWord {
-            weeks: last.wrapping_sub(first),
-            weight,
+            weeks: part.last.wrapping_sub(part.first),
+            weight: part.weight,
             uses,
         })
+    }
+
+    // The places between the weeks of the word of these steps, the last one first: before its first week, and behind
+    // each.
+    fn places_of(&self, weights: &Grid<i64>, taken: &[usize]) -> Result<Vec<Place>, AllocError> {
+        let mut places = Vec::new(self.setting.alloc);
+        let mut weight: i64 = 0;
+        let mut weekday: usize = 0;
+        for number in taken.iter().rev() {
+            let Some(Step { from, to, .. }) = self.setting.layer.step(*number) else {
+                break;
+            };
+            if places.is_empty() {
+                places.push(Place { node: from, weight })?;
+            }
+            weight = weight.wrapping_add(weights.at(weekday, *number));
+            weekday = rest(weekday.wrapping_add(1), self.setting.demand.days);
+            if weekday == 0 {
+                places.push(Place { node: to, weight })?;
+            }
+        }
+        Ok(places)
     }
 }
 
@@ -148,61 +152,6 @@ impl Weigher {
 struct Place {
     node: usize,
     weight: i64,
-}
-
-// The places between the weeks of the word of these steps, the last one first: before its first week, and behind each.
-fn places_of(
-    alloc: Global,
-    layer: &SteadyLayer,
-    weights: &Grid<i64>,
-    taken: &[usize],
-    weekdays: usize,
-) -> Result<Vec<Place>, AllocError> {
-    let mut places = Vec::new(alloc);
-    let mut weight: i64 = 0;
-    let mut weekday: usize = 0;
-    for number in taken.iter().rev() {
-        let Some(Step { from, to, .. }) = layer.step(*number) else {
-            break;
-        };
-        if places.is_empty() {
-            places.push(Place { node: from, weight })?;
-        }
-        weight = weight.wrapping_add(weights.at(weekday, *number));
-        weekday = rest(weekday.wrapping_add(1), weekdays);
-        if weekday == 0 {
-            places.push(Place { node: to, weight })?;
-        }
-    }
-    Ok(places)
-}
-
-fn weight_at(places: &[Place], number: usize) -> i64 {
-    places.get(number).map_or(0, |place| place.weight)
-}
-
-// Two places with one node between which the word weighs most for its weeks; the first and the last place, where there
-// are none. Costs a look at each pair of places.
-fn best_part(places: &[Place]) -> (usize, usize) {
-    let mut best = None;
-    for (last, end) in places.iter().enumerate() {
-        for (first, start) in places.iter().take(last).enumerate() {
-            if start.node == end.node {
-                let part = Part {
-                    first,
-                    last,
-                    weight: end.weight.wrapping_sub(start.weight),
-                };
-                if part.is_heavier(best) {
-                    best = Some(part);
-                }
-            }
-        }
-    }
-    match best {
-        Some(part) => (part.first, part.last),
-        None => (0, places.len().saturating_sub(1)),
-    }
 }
 
 // A part of a word, from the place of one number to that of another.
@@ -214,6 +163,17 @@ struct Part {
 }
 
 impl Part {
+    // That between these places.
+    fn between(places: &[Place], first: usize, last: usize) -> Part {
+        let start = places.get(first).map_or(0, |place| place.weight);
+        let end = places.get(last).map_or(0, |place| place.weight);
+        Part {
+            first,
+            last,
+            weight: end.wrapping_sub(start),
+        }
+    }
+
     fn weeks(self) -> i64 {
         whole(self.last.saturating_sub(self.first))
     }
@@ -226,5 +186,23 @@ impl Part {
             }
             None => true,
         }
+    }
+}
+
+// The part between two places with one node that weighs most for its weeks; the whole word, where there is none.
+// Costs a look at each pair of places.
+fn best_part(places: &[Place]) -> Part {
+    let mut best = None;
+    for (last, end) in places.iter().enumerate() {
+        for (first, start) in places.iter().take(last).enumerate() {
+            let part = Part::between(places, first, last);
+            if start.node == end.node && part.is_heavier(best) {
+                best = Some(part);
+            }
+        }
+    }
+    match best {
+        Some(part) => part,
+        None => Part::between(places, 0, places.len().saturating_sub(1)),
     }
 }

@@ -157,15 +157,17 @@ fn use_steps(layer: &SteadyLayer, uses: &mut Grid<i64>, node: usize, first: usiz
 // The numbers of steps of the cuts round two such weeks, one of which begins a day later than the other.
 fn cuts_of_weeks(alloc: Global, problem: &Problem) -> Result<Vec<usize>, AllocError> {
     let layer = SteadyLayer::of(alloc, problem)?;
+    let demand = Demand::of(alloc, problem, 0)?;
     let setting = Setting {
+        alloc,
         layer: &layer,
-        demand: Demand::of(alloc, problem, 0)?,
+        demand: &demand,
     };
     let mut uses = Grid::new(alloc, 7, layer.steps.len(), 0i64)?;
     use_week(&layer, &mut uses, 0);
     use_week(&layer, &mut uses, 1);
     let mut quotas: Vec<Quota> = Vec::new(alloc);
-    add_cuts(alloc, &setting, &uses, ONE_USE, &mut quotas)?;
+    add_cuts(setting, &uses, &mut quotas)?;
     let mut sizes = Vec::new(alloc);
     for quota in &quotas {
         sizes.push(quota.steps.len())?;

@@ -11,9 +11,7 @@ mod grid;
 mod heavy_word;
 #[cfg(test)]
 mod layer_tests;
-mod made;
 mod mixture;
-mod prices;
 mod quotas;
 mod random;
 mod setting;
@@ -23,4 +21,4 @@ mod steady_layer;
 mod walk;
 mod window;
 
-pub use finding::{Patience, RosterFinder, find_roster};
+pub use finding::{Patience, RosterFinder};

@@ -1,14 +1,12 @@
-// Mixtures of clean words that come near to the demand.
-use crate::demand::{Demand, Range};
+// The restricted master of column generation: a mixture of clean words, its columns, that comes near to the demand.
+use crate::demand::Range;
 use crate::grid::{Grid, entry_or, quotient, whole};
 use crate::heavy_word::{HeavyWord, Weigher};
-use crate::made::{both, kept};
 use crate::quotas::Quota;
 use crate::random::Random;
 use crate::setting::Setting;
 use nearest_point::{Hull, SCALE};
 use std::alloc::{AllocError, Global};
-use std::mem;
 
 /// About how many days a word has: enough that it comes back to a node, and a part of it leads round.
 const WORD_DAYS: usize = 448;
@@ -43,7 +41,7 @@ const GREATEST_STEP_WEIGHT: i64 = 100_000;
 const NEAR: i64 = SCALE as i64 / 16;
 
 /// What came of a word that was to be added.
-#[derive(Clone, Copy)]
+#[derive(Clone, Copy, PartialEq, Eq)]
 enum Addition {
     Added,
     Known,
@@ -52,9 +50,14 @@ enum Addition {
 
 /// Words, and a mixture of them.
 #[derive(Drop)]
-pub(crate) struct Mixture {
+pub(crate) struct Mixture<'a> {
+    setting: Setting<'a>,
+    // Weights are blurred by random numbers below this.
+    noise: usize,
     /// What else the mixture has to come to: free weekends, and cuts that it is led over.
     pub quotas: Vec<Quota>,
+    // The ranges of the coordinates: those of the demand first, and then those of the quotas.
+    ranges: Vec<Range>,
     // How many words are weighed at most.
     rounds: usize,
     // For how many turns through all weeks the coordinates of words count.
@@ -64,144 +67,93 @@ pub(crate) struct Mixture {
     long_weeks: usize,
     words: Vec<HeavyWord>,
     hull: Hull,
-    weigher: Weigher,
+    weigher: Weigher<'a>,
     // By weekday and step.
     weights: Grid<i64>,
 }
 
-impl Mixture {
+impl<'a> Mixture<'a> {
     /// No words yet, and no cuts.
-    pub fn new(alloc: Global, setting: &Setting<'_>) -> Result<Mixture, AllocError> {
-        let demand = &setting.demand;
+    pub fn new(setting: Setting<'a>, noise: usize) -> Result<Mixture<'a>, AllocError> {
+        let Setting {
+            alloc,
+            layer,
+            demand,
+        } = setting;
         let turns = times_within(COUNTED_DAYS, demand.cells()).max(1);
         let word_weeks = times_within(WORD_DAYS, demand.days).max(FEWEST_WEEKS);
         let long_weeks = times_within(LONG_WORD_DAYS, demand.days).max(word_weeks);
-        let quotas = first_quotas(alloc, setting)?;
-        let hull = hull_of(alloc, demand, turns, &quotas);
-        let goal = both(Ok(quotas), hull);
-        let weights = Grid::new(alloc, demand.days, setting.layer.steps.len(), 0);
-        let room = both(Weigher::new(alloc, setting, long_weeks), weights);
-        let ((quotas, hull), (weigher, weights)) = both(goal, room)?;
+        let quotas = first_quotas(setting)?;
+        let ranges = ranges_of(setting, &quotas)?;
         Ok(Mixture {
+            setting,
+            noise,
+            hull: hull_of(alloc, &ranges, turns)?,
+            quotas,
+            ranges,
             rounds: FIRST_ROUNDS,
             turns,
             word_weeks,
             long_weeks,
             words: Vec::new(alloc),
-            hull,
-            weigher,
-            weights,
-            quotas,
+            weigher: Weigher::new(setting, long_weeks)?,
+            weights: Grid::new(alloc, demand.days, layer.steps.len(), 0)?,
         })
     }
 
     /// Brings the mixture near to the demand and over the cuts. False where none comes there, since no word is heavy
-    /// enough by some weights (E. Gilbert, 1966). Weights are blurred by random numbers below `noise`.
-    pub fn approach(
-        &mut self,
-        alloc: Global,
-        setting: &Setting<'_>,
-        random: &mut Random,
-        noise: usize,
-    ) -> Result<bool, AllocError> {
+    /// enough by some weights (G. Dantzig and P. Wolfe's generation of columns, 1960).
+    pub fn approach(&mut self, random: &mut Random) -> Result<bool, AllocError> {
         self.hull.descend(BETTERINGS);
-        for _ in 0..self.rounds(setting) {
+        for _ in 0..self.affordable_rounds() {
             let far = furthest(self.hull.off());
             if far < NEAR && !self.words.is_empty() {
                 return Ok(true);
             }
-            self.set_weights(setting, random, noise, far);
-            if let Some(is_near) = self.add_heaviest(alloc, setting, far)? {
-                return Ok(is_near);
+            self.set_weights(random, far);
+            let addition = self.add_heaviest(far)?;
+            if addition != Addition::Added {
+                return Ok(addition == Addition::Known);
             }
         }
         Ok(true)
     }
 
-    // Adds a heaviest word that leads round. Some where none is added: false where none is heavy enough, true where it is
-    // there already.
-    fn add_heaviest(
-        &mut self,
-        alloc: Global,
-        setting: &Setting<'_>,
-        far: i64,
-    ) -> Result<Option<bool>, AllocError> {
-        let wanted = self.wanted_weight(&setting.demand, far);
-        if let Addition::Added = self.add_from(alloc, setting, self.word_weeks, wanted)? {
-            return Ok(None);
+    // How many words may be weighed.
+    fn affordable_rounds(&self) -> usize {
+        let days = self.setting.demand.days.saturating_mul(self.word_weeks);
+        let looks = days.saturating_mul(self.setting.layer.steps.len());
+        times_within(MOST_LOOKS, looks).min(self.rounds)
+    }
+
+    // Adds a heaviest word that leads round, a long one where a short one adds nothing.
+    fn add_heaviest(&mut self, far: i64) -> Result<Addition, AllocError> {
+        let wanted = self.wanted_weight(far);
+        let addition = self.add_from(self.word_weeks, wanted)?;
+        if addition == Addition::Added {
+            return Ok(addition);
         }
-        match self.add_from(alloc, setting, self.long_weeks, wanted)? {
-            Addition::Added => Ok(None),
-            Addition::Known => Ok(Some(true)),
-            Addition::TooLight => Ok(Some(false)),
-        }
+        self.add_from(self.long_weeks, wanted)
     }
 
     // Adds the word that leads round of the heaviest of `weeks` weeks, if it is heavy enough.
-    fn add_from(
-        &mut self,
-        alloc: Global,
-        setting: &Setting<'_>,
-        weeks: usize,
-        wanted: i64,
-    ) -> Result<Addition, AllocError> {
-        let word = self
-            .weigher
-            .heaviest(alloc, setting.layer, &self.weights, weeks)?;
-        let weight = word.weight.wrapping_mul(whole(setting.demand.weeks));
+    fn add_from(&mut self, weeks: usize, wanted: i64) -> Result<Addition, AllocError> {
+        let word = self.weigher.heaviest(&self.weights, weeks)?;
+        let weight = word.weight.wrapping_mul(whole(self.setting.demand.weeks));
         if weight < wanted.wrapping_mul(whole(word.weeks)) {
-            drop(word);
             return Ok(Addition::TooLight);
         }
-        if self.add_word(alloc, setting, word)? {
-            Ok(Addition::Added)
-        } else {
-            Ok(Addition::Known)
+        let row = self.row_of(&word)?;
+        if self.hull.contains(&row) {
+            return Ok(Addition::Known);
         }
-    }
-
-    // How many words may be weighed.
-    fn rounds(&self, setting: &Setting<'_>) -> usize {
-        let days = setting.demand.days.saturating_mul(self.word_weeks);
-        let looks = days.saturating_mul(setting.layer.steps.len());
-        let affordable = MOST_LOOKS.checked_div(looks).unwrap_or(0);
-        affordable.min(self.rounds)
-    }
-
-    // Adds a word and betters the mixture. False where the word is there already.
-    fn add_word(
-        &mut self,
-        alloc: Global,
-        setting: &Setting<'_>,
-        word: HeavyWord,
-    ) -> Result<bool, AllocError> {
-        match self.add_row(alloc, setting, &word) {
-            Ok(true) => self.words.push(word)?,
-            other => {
-                drop(word);
-                return other;
-            }
-        }
+        self.hull.push(row)?;
+        self.words.push(word)?;
         self.hull.descend(BETTERINGS);
         if self.words.len() > MANY_WORDS {
             self.drop_unused();
         }
-        Ok(true)
-    }
-
-    // Adds the coordinates of a word. False where they are there already.
-    fn add_row(
-        &mut self,
-        alloc: Global,
-        setting: &Setting<'_>,
-        word: &HeavyWord,
-    ) -> Result<bool, AllocError> {
-        let row = row_of(alloc, setting, &self.quotas, word, self.turns)?;
-        if self.hull.contains(&row) {
-            return Ok(false);
-        }
-        self.hull.push(row)?;
-        Ok(true)
+        Ok(Addition::Added)
     }
 
     fn drop_unused(&mut self) {
@@ -212,137 +164,119 @@ impl Mixture {
         }
     }
 
+    // The coordinate of a symbol on a weekday. Those of the quotas are behind all of these.
+    fn coordinate(&self, symbol: usize, weekday: usize) -> usize {
+        symbol
+            .wrapping_mul(self.setting.demand.days)
+            .wrapping_add(weekday)
+    }
+
     // The weight of a coordinate, by how far it is off and how far off the furthest is.
     fn weight(&self, coordinate: usize, far: i64) -> i64 {
         let off = entry_or(self.hull.off(), coordinate, 0);
         quotient(off.wrapping_mul(GREATEST_STEP_WEIGHT), far)
     }
 
-    fn set_weights(&mut self, setting: &Setting<'_>, random: &mut Random, noise: usize, far: i64) {
-        for weekday in 0..setting.demand.days {
-            self.set_day_weights(setting, random, noise, far, weekday);
+    fn set_weights(&mut self, random: &mut Random, far: i64) {
+        for weekday in 0..self.setting.demand.days {
+            for (number, step) in self.setting.layer.steps.iter().enumerate() {
+                let weight = self.weight(self.coordinate(step.symbol, weekday), far);
+                let blurred = weight.wrapping_add(random.noise(self.noise));
+                self.weights.set(weekday, number, blurred);
+            }
         }
+        let first = self.coordinate(self.setting.demand.symbols, 0);
         for (place, quota) in self.quotas.iter().enumerate() {
-            let coordinate = quota_coordinate(&setting.demand, place);
-            let off = entry_or(self.hull.off(), coordinate, 0);
+            let off = entry_or(self.hull.off(), first.wrapping_add(place), 0);
             let weight = quotient(off.wrapping_mul(GREATEST_STEP_WEIGHT), far);
             quota.add_weight(&mut self.weights, weight);
         }
     }
 
-    fn set_day_weights(
-        &mut self,
-        setting: &Setting<'_>,
-        random: &mut Random,
-        noise: usize,
-        far: i64,
-        weekday: usize,
-    ) {
-        for (number, step) in setting.layer.steps.iter().enumerate() {
-            let coordinate = cell_coordinate(&setting.demand, step.symbol, weekday);
-            let weight = self
-                .weight(coordinate, far)
-                .wrapping_add(random.noise(noise));
-            self.weights.set(weekday, number, weight);
-        }
-    }
-
     // What each word of all weeks weighs at least that meets the demand and the quotas.
-    fn wanted_weight(&self, demand: &Demand, far: i64) -> i64 {
+    fn wanted_weight(&self, far: i64) -> i64 {
         let mut sum: i64 = 0;
+        for (coordinate, range) in self.ranges.iter().enumerate() {
+            let weight = self.weight(coordinate, far);
+            let least = weight.wrapping_mul(range.least);
+            sum = sum.wrapping_add(least.min(weight.wrapping_mul(range.greatest)));
+        }
+        sum
+    }
+
+    /// How often the mixture takes each step on each weekday as it goes through all weeks once, by weekday and step, in
+    /// parts of a use: one use counts `one_use`.
+    pub fn uses(&self, one_use: i64) -> Result<Grid<i64>, AllocError> {
+        let Setting {
+            alloc,
+            layer,
+            demand,
+        } = self.setting;
+        let mut uses = Grid::new(alloc, demand.days, layer.steps.len(), 0)?;
         for weekday in 0..demand.days {
-            sum = sum.wrapping_add(self.wanted_on(demand, far, weekday));
-        }
-        for (place, quota) in self.quotas.iter().enumerate() {
-            let weight = self.weight(quota_coordinate(demand, place), far);
-            sum = sum.wrapping_add(weight.wrapping_mul(quota.least));
-        }
-        sum
-    }
-
-    fn wanted_on(&self, demand: &Demand, far: i64, weekday: usize) -> i64 {
-        let mut sum: i64 = 0;
-        for symbol in 0..demand.symbols {
-            let weight = self.weight(cell_coordinate(demand, symbol, weekday), far);
-            let range = demand.range(symbol, weekday);
-            let weeks = if weight > 0 {
-                range.least
-            } else {
-                range.greatest
-            };
-            sum = sum.wrapping_add(weight.wrapping_mul(weeks));
-        }
-        sum
-    }
-
-    /// How often the mixture takes each step on each weekday as it goes through all weeks once, by weekday and step.
-    /// One use counts `one_use`.
-    pub fn uses(
-        &self,
-        alloc: Global,
-        setting: &Setting<'_>,
-        one_use: i64,
-    ) -> Result<Grid<i64>, AllocError> {
-        let steps = setting.layer.steps.len();
-        let weeks = setting.demand.weeks;
-        let mut uses = Grid::new(alloc, setting.demand.days, steps, 0)?;
-        for weekday in 0..setting.demand.days {
-            for number in 0..steps {
-                uses.set(
-                    weekday,
-                    number,
-                    self.mixed_uses(weekday, number, weeks, one_use),
-                );
+            for number in 0..layer.steps.len() {
+                uses.set(weekday, number, self.mixed_uses(weekday, number, one_use));
             }
         }
         Ok(uses)
     }
 
-    fn mixed_uses(&self, weekday: usize, number: usize, weeks: usize, one_use: i64) -> i64 {
+    fn mixed_uses(&self, weekday: usize, number: usize, one_use: i64) -> i64 {
         let mut sum: i64 = 0;
-        for (place, word) in self.words.iter().enumerate() {
-            let part = entry_or(self.hull.parts(), place, 0);
+        for (word, part) in self.words.iter().zip(self.hull.parts().iter()) {
             let uses = word.uses.at(weekday, number).wrapping_mul(one_use);
-            let mean = in_weeks(uses, word, weeks);
-            sum = sum.wrapping_add(mean.wrapping_mul(i64::from(part)));
+            let mean = in_weeks(uses, word, self.setting.demand.weeks);
+            sum = sum.wrapping_add(mean.wrapping_mul(i64::from(*part)));
         }
         quotient(sum, i64::from(SCALE))
     }
 
     /// Takes new cuts into account. Each word keeps its part.
-    pub fn renew(&mut self, alloc: Global, setting: &Setting<'_>) -> Result<(), AllocError> {
-        let mut hull = hull_of(alloc, &setting.demand, self.turns, &self.quotas)?;
-        let put = self.put_words(alloc, setting, &mut hull);
-        let hull = kept(hull, put)?;
-        drop(mem::replace(&mut self.hull, hull));
+    pub fn renew(&mut self) -> Result<(), AllocError> {
+        let ranges = ranges_of(self.setting, &self.quotas)?;
+        let mut hull = hull_of(self.setting.alloc, &ranges, self.turns)?;
+        for (word, part) in self.words.iter().zip(self.hull.parts().iter()) {
+            hull.push_part(self.row_of(word)?, *part)?;
+        }
+        self.ranges = ranges;
+        self.hull = hull;
         self.rounds = CUT_ROUNDS;
         Ok(())
     }
 
-    // Puts the words into a hull, each with its part.
-    fn put_words(
-        &self,
-        alloc: Global,
-        setting: &Setting<'_>,
-        hull: &mut Hull,
-    ) -> Result<(), AllocError> {
-        for (place, word) in self.words.iter().enumerate() {
-            let part = entry_or(self.hull.parts(), place, 0);
-            let row = row_of(alloc, setting, &self.quotas, word, self.turns)?;
-            hull.push_part(row, part)?;
+    // The coordinates of a word, as it goes through all weeks `turns` times in the mean: how often it has each symbol on
+    // each weekday, and what it has of each quota.
+    fn row_of(&self, word: &HeavyWord) -> Result<Vec<i64>, AllocError> {
+        let Setting { alloc, demand, .. } = self.setting;
+        let weeks = demand.weeks.saturating_mul(self.turns);
+        let mut row = Vec::new(alloc);
+        for symbol in 0..demand.symbols {
+            for weekday in 0..demand.days {
+                let count = self.count_of(word, symbol, weekday);
+                row.push(in_weeks(count, word, weeks))?;
+            }
         }
-        Ok(())
+        for quota in &self.quotas {
+            row.push(in_weeks(quota.uses(&word.uses), word, weeks))?;
+        }
+        Ok(row)
     }
-}
 
-// The coordinate of a symbol on a weekday.
-fn cell_coordinate(demand: &Demand, symbol: usize, weekday: usize) -> usize {
-    symbol.wrapping_mul(demand.days).wrapping_add(weekday)
-}
-
-// The coordinate of a quota.
-fn quota_coordinate(demand: &Demand, place: usize) -> usize {
-    cell_coordinate(demand, demand.symbols, place)
+    fn count_of(&self, word: &HeavyWord, symbol: usize, weekday: usize) -> i64 {
+        let mut sum: i64 = 0;
+        for (step, uses) in self
+            .setting
+            .layer
+            .steps
+            .iter()
+            .zip(word.uses.row(weekday).iter())
+        {
+            if step.symbol == symbol {
+                sum = sum.wrapping_add(*uses);
+            }
+        }
+        sum
+    }
 }
 
 // The greatest of the numbers without their signs.
@@ -355,99 +289,41 @@ fn furthest(numbers: &[i64]) -> i64 {
 }
 
 // The quota of free weekends, where some are wanted.
-fn first_quotas(alloc: Global, setting: &Setting<'_>) -> Result<Vec<Quota>, AllocError> {
-    if setting.demand.free == 0 {
-        return Ok(Vec::new(alloc));
+fn first_quotas(setting: Setting<'_>) -> Result<Vec<Quota>, AllocError> {
+    let mut quotas = Vec::new(setting.alloc);
+    if setting.demand.free > 0 {
+        quotas.push(Quota::of_weekends(setting)?)?;
     }
-    let quota = Quota::of_weekends(alloc, setting)?;
-    let mut quotas = Vec::new(alloc);
-    quotas.push(quota)?;
     Ok(quotas)
 }
 
-// No words yet, and the box that they should come to: the demand and the quotas, for each turn.
-fn hull_of(
-    alloc: Global,
-    demand: &Demand,
-    turns: usize,
-    quotas: &[Quota],
-) -> Result<Hull, AllocError> {
-    let mut low = Vec::new(alloc);
-    let mut high = Vec::new(alloc);
-    let put = put_box(demand, turns, quotas, &mut low, &mut high);
-    let (low, high) = kept((low, high), put)?;
-    Hull::new(alloc, low, high)
-}
-
-// Puts the ends of the box: those of the demand first, and then those of the quotas.
-fn put_box(
-    demand: &Demand,
-    turns: usize,
-    quotas: &[Quota],
-    low: &mut Vec<i64>,
-    high: &mut Vec<i64>,
-) -> Result<(), AllocError> {
-    let times = whole(turns);
+// The ranges of all coordinates.
+fn ranges_of(setting: Setting<'_>, quotas: &[Quota]) -> Result<Vec<Range>, AllocError> {
+    let Setting { alloc, demand, .. } = setting;
+    let mut ranges = Vec::new(alloc);
     for symbol in 0..demand.symbols {
         for weekday in 0..demand.days {
-            put_range(low, high, demand.range(symbol, weekday), times)?;
+            ranges.push(demand.range(symbol, weekday))?;
         }
     }
     for quota in quotas {
-        let range = Range {
+        ranges.push(Range {
             least: quota.least,
             greatest: whole(demand.cells()),
-        };
-        put_range(low, high, range, times)?;
+        })?;
     }
-    Ok(())
+    Ok(ranges)
 }
 
-// Puts the ends of a range, `times` times.
-fn put_range(
-    low: &mut Vec<i64>,
-    high: &mut Vec<i64>,
-    range: Range,
-    times: i64,
-) -> Result<(), AllocError> {
-    low.push(range.least.wrapping_mul(times))?;
-    high.push(range.greatest.wrapping_mul(times))?;
-    Ok(())
-}
-
-// The coordinates of a word, as it goes through all weeks `turns` times in the mean: how often it has each symbol on each
-// weekday, and what it has of each quota.
-fn row_of(
-    alloc: Global,
-    setting: &Setting<'_>,
-    quotas: &[Quota],
-    word: &HeavyWord,
-    turns: usize,
-) -> Result<Vec<i64>, AllocError> {
-    let mut row = Vec::new(alloc);
-    let put = put_row(setting, quotas, word, turns, &mut row);
-    kept(row, put)
-}
-
-// Puts the coordinates of a word behind those that are there.
-fn put_row(
-    setting: &Setting<'_>,
-    quotas: &[Quota],
-    word: &HeavyWord,
-    turns: usize,
-    row: &mut Vec<i64>,
-) -> Result<(), AllocError> {
-    let weeks = setting.demand.weeks.saturating_mul(turns);
-    for symbol in 0..setting.demand.symbols {
-        for weekday in 0..setting.demand.days {
-            let count = count_of(setting, &word.uses, symbol, weekday);
-            row.push(in_weeks(count, word, weeks))?;
-        }
+// No words yet, and the box of the ranges, each `turns` times.
+fn hull_of(alloc: Global, ranges: &[Range], turns: usize) -> Result<Hull, AllocError> {
+    let mut low = Vec::new(alloc);
+    let mut high = Vec::new(alloc);
+    for range in ranges {
+        low.push(range.least.wrapping_mul(whole(turns)))?;
+        high.push(range.greatest.wrapping_mul(whole(turns)))?;
     }
-    for quota in quotas {
-        row.push(in_weeks(quota.uses(&word.uses), word, weeks))?;
-    }
-    Ok(())
+    Hull::new(alloc, low, high)
 }
 
 // What a count within a word is within `weeks` weeks in the mean, rounded.
@@ -455,16 +331,6 @@ fn in_weeks(count: i64, word: &HeavyWord, weeks: usize) -> i64 {
     let of = whole(word.weeks);
     let half = quotient(of, 2);
     quotient(count.wrapping_mul(whole(weeks)).wrapping_add(half), of)
-}
-
-fn count_of(setting: &Setting<'_>, uses: &Grid<i64>, symbol: usize, weekday: usize) -> i64 {
-    let mut sum: i64 = 0;
-    for (number, step) in setting.layer.steps.iter().enumerate() {
-        if step.symbol == symbol {
-            sum = sum.wrapping_add(uses.at(weekday, number));
-        }
-    }
-    sum
 }
 
 // A whole quotient; 0 for a divisor of 0.

@@ -1,7 +1,7 @@
 // Steps of which a roster takes a least number.
 use crate::grid::{Grid, whole};
 use crate::setting::Setting;
-use std::alloc::{AllocError, Global};
+use std::alloc::AllocError;
 
 /// Steps, each with its weekday, and how often a roster takes one of them at least.
 #[derive(Drop, PartialEq, Eq)]
@@ -12,8 +12,8 @@ pub(crate) struct Quota {
 
 impl Quota {
     /// Free weekends: the steps on the last day of a week that is off like the day before.
-    pub fn of_weekends(alloc: Global, setting: &Setting<'_>) -> Result<Quota, AllocError> {
-        let mut steps = Vec::new(alloc);
+    pub fn of_weekends(setting: Setting<'_>) -> Result<Quota, AllocError> {
+        let mut steps = Vec::new(setting.alloc);
         for weekday in 0..setting.demand.days {
             for (number, step) in setting.layer.steps.iter().enumerate() {
                 if step.ends_weekend(weekday) {

@@ -1,10 +1,12 @@
-// What a search is about.
+// What a search goes over.
 use crate::demand::Demand;
 use crate::steady_layer::SteadyLayer;
+use std::alloc::Global;
 
 /// The steps that clean words take, and the demand that they should meet.
-#[derive(Drop)]
+#[derive(Clone, Copy)]
 pub(crate) struct Setting<'a> {
+    pub alloc: Global,
     pub layer: &'a SteadyLayer,
-    pub demand: Demand,
+    pub demand: &'a Demand,
 }

@@ -1,20 +1,14 @@
 // Start words: closed walks that follow the shares.
-use crate::counters::Counter;
 use crate::draft::Draft;
-use crate::grid::{Grid, quotient, whole};
-use crate::made::both;
+use crate::grid::{Grid, quotient};
 use crate::random::Random;
 use crate::setting::Setting;
 use crate::shares::{ONE_USE, Shares};
-use crate::steady_layer::{SteadyLayer, Step};
-use crate::walk::Walk;
-use std::alloc::{AllocError, Global};
+use crate::steady_layer::Step;
+use std::alloc::AllocError;
 
 /// What a step counts that is still due.
 const STEP_DUE: i64 = 1_000;
-
-/// What it counts that a symbol lacks one more week on a weekday, both to the least and to the greatest number.
-const SYMBOL_DUE: i64 = 500;
 
 /// What counts against a step that no share takes.
 const NO_SHARE: i64 = 1_000_000;
@@ -22,65 +16,46 @@ const NO_SHARE: i64 = 1_000_000;
 /// So often a first node is drawn at most.
 const DRAWS: usize = 20;
 
-/// Which uses of a step are due.
-#[derive(Clone, Copy)]
-pub(crate) enum Due {
-    /// Those of the whole roster.
-    InAll,
-    /// Those of the part of the roster that is written, with the next day.
-    SoFar,
-}
-
-/// How a start word is written: by which uses, and how far it is led by chance.
-#[derive(Clone, Copy)]
-pub(crate) struct Manner {
-    pub due: Due,
-    pub noise: usize,
-}
-
 /// Room for start words.
 #[derive(Drop)]
-pub(crate) struct Starter {
+pub(crate) struct Starter<'a> {
+    setting: Setting<'a>,
     // By day and node: whether the walk can be closed from there.
     closes: Grid<bool>,
     // By weekday and step: how often it was taken.
     taken: Grid<i64>,
-    // How the present start word is written.
-    manner: Manner,
 }
 
-impl Starter {
-    pub fn new(alloc: Global, setting: &Setting<'_>) -> Result<Starter, AllocError> {
-        let days = setting.demand.cells().saturating_add(1);
-        let closes = Grid::new(alloc, days, setting.layer.nodes(), false);
-        let taken = Grid::new(alloc, setting.demand.days, setting.layer.steps.len(), 0);
-        let (closes, taken) = both(closes, taken)?;
+impl<'a> Starter<'a> {
+    pub fn new(setting: Setting<'a>) -> Result<Starter<'a>, AllocError> {
+        let Setting {
+            alloc,
+            layer,
+            demand,
+        } = setting;
+        let days = demand.cells().saturating_add(1);
         Ok(Starter {
-            closes,
-            taken,
-            manner: Manner {
-                due: Due::InAll,
-                noise: 0,
-            },
+            setting,
+            closes: Grid::new(alloc, days, layer.nodes(), false)?,
+            taken: Grid::new(alloc, demand.days, layer.steps.len(), 0)?,
         })
     }
 
-    /// Writes a start word and counts it. False where each of the first nodes that were drawn has no closed walk.
+    /// Rounds the shares to a word and counts it, led also by random numbers below `noise`. False where each of the
+    /// first nodes that were drawn has no closed walk.
     pub fn start(
         &mut self,
-        setting: &Setting<'_>,
         shares: &Shares,
         draft: &mut Draft,
         random: &mut Random,
-        manner: Manner,
+        noise: usize,
     ) -> bool {
-        self.manner = manner;
         for _ in 0..DRAWS {
-            let first = drawn_node(setting.layer, shares, random);
-            self.mark_closing(setting.layer, draft.walk.cells(), first);
+            let first = self.drawn_node(shares, random);
+            self.mark_closing(first);
             if self.closes.at(0, first) {
                 draft.walk.set_node(0, first);
-                self.write(setting, shares, draft, random);
+                self.write(shares, draft, random, noise);
                 draft.count_all();
                 return true;
             }
@@ -88,48 +63,59 @@ impl Starter {
         false
     }
 
+    // A node to begin with: that of a step on the first weekday, drawn by the shares.
+    fn drawn_node(&self, shares: &Shares, random: &mut Random) -> usize {
+        let mut sum: i64 = 0;
+        for share in shares.uses.row(0) {
+            sum = sum.wrapping_add(*share);
+        }
+        let mut drawn = random.noise(usize::try_from(sum).unwrap_or(0));
+        for (step, share) in self
+            .setting
+            .layer
+            .steps
+            .iter()
+            .zip(shares.uses.row(0).iter())
+        {
+            if drawn < *share {
+                return step.from;
+            }
+            drawn = drawn.wrapping_sub(*share);
+        }
+        random.below(self.setting.layer.nodes())
+    }
+
     // Marks on each day the nodes from which the first node is reached in the end.
     // Costs a look at each step on each day.
-    fn mark_closing(&mut self, layer: &SteadyLayer, cells: usize, first: usize) {
+    fn mark_closing(&mut self, first: usize) {
+        let cells = self.setting.demand.cells();
         self.closes.clear();
         self.closes.set(cells, first, true);
         for day in (0..cells).rev() {
-            self.mark_day(layer, day);
-        }
-    }
-
-    fn mark_day(&mut self, layer: &SteadyLayer, day: usize) {
-        for step in &layer.steps {
-            if self.closes.at(day.wrapping_add(1), step.to) {
-                self.closes.set(day, step.from, true);
+            for step in &self.setting.layer.steps {
+                if self.closes.at(day.wrapping_add(1), step.to) {
+                    self.closes.set(day, step.from, true);
+                }
             }
         }
     }
 
-    // Writes the word day by day from its first node, and counts the symbols.
-    fn write(
-        &mut self,
-        setting: &Setting<'_>,
-        shares: &Shares,
-        draft: &mut Draft,
-        random: &mut Random,
-    ) {
+    // Writes the word day by day from its first node.
+    fn write(&mut self, shares: &Shares, draft: &mut Draft, random: &mut Random, noise: usize) {
         self.taken.clear();
-        draft.counters.clear_counts();
         for day in 0..draft.walk.cells() {
-            if let Some(number) = self.best_step(setting, shares, draft, random, day) {
-                self.take(setting.layer, draft, day, number);
+            if let Some(number) = self.best_step(shares, draft, random, day, noise) {
+                self.take(draft, day, number);
             }
         }
     }
 
     // Takes a step on a day.
-    fn take(&mut self, layer: &SteadyLayer, draft: &mut Draft, day: usize, number: usize) {
+    fn take(&mut self, draft: &mut Draft, day: usize, number: usize) {
         let weekday = draft.walk.weekday(day);
         let taken = self.taken.at(weekday, number);
         self.taken.set(weekday, number, taken.wrapping_add(1));
-        if let Some(step) = layer.step(number) {
-            draft.counters.add_to_cell(step.symbol, weekday, 1);
+        if let Some(step) = self.setting.layer.step(number) {
             draft.walk.set_symbol(day, step.symbol);
             draft.walk.set_node(day.wrapping_add(1), step.to);
         }
@@ -138,41 +124,33 @@ impl Starter {
     // The number of the step that is most due among those after which the walk can be closed.
     fn best_step(
         &self,
-        setting: &Setting<'_>,
         shares: &Shares,
         draft: &Draft,
         random: &mut Random,
         day: usize,
+        noise: usize,
     ) -> Option<usize> {
-        let node = draft.walk.node(day);
+        let weekday = draft.walk.weekday(day);
         let mut most = i64::MIN;
         let mut best = None;
-        for symbol in 0..setting.layer.symbols {
-            let Some(number) = self.closing_step(setting.layer, day, node, symbol) else {
-                continue;
-            };
-            let due = self
-                .due_uses(shares, &draft.walk, day, number)
-                .wrapping_add(due_weeks(draft, day, symbol))
-                .wrapping_add(random.noise(self.manner.noise));
-            if due > most {
-                most = due;
-                best = Some(number);
+        for symbol in 0..self.setting.layer.symbols {
+            if let Some(number) = self.closing_step(day, draft.walk.node(day), symbol) {
+                let due = self
+                    .due(shares, weekday, number)
+                    .wrapping_add(random.noise(noise));
+                if due > most {
+                    most = due;
+                    best = Some(number);
+                }
             }
         }
         best
     }
 
     // The number of the step by a symbol, if the walk can be closed after it.
-    fn closing_step(
-        &self,
-        layer: &SteadyLayer,
-        day: usize,
-        node: usize,
-        symbol: usize,
-    ) -> Option<usize> {
-        let number = layer.step_number(node, symbol)?;
-        let Step { to, .. } = layer.step(number)?;
+    fn closing_step(&self, day: usize, node: usize, symbol: usize) -> Option<usize> {
+        let number = self.setting.layer.step_number(node, symbol)?;
+        let Step { to, .. } = self.setting.layer.step(number)?;
         if self.closes.at(day.wrapping_add(1), to) {
             Some(number)
         } else {
@@ -180,51 +158,15 @@ impl Starter {
         }
     }
 
-    // What a step counts on a day by its share and by how often it was taken.
-    fn due_uses(&self, shares: &Shares, walk: &Walk, day: usize, number: usize) -> i64 {
-        let weekday = walk.weekday(day);
-        let share = shares.uses(weekday, number);
+    // What a step counts on a weekday by its share and by how often it was taken.
+    fn due(&self, shares: &Shares, weekday: usize, number: usize) -> i64 {
+        let share = shares.uses.at(weekday, number);
         let taken = STEP_DUE.wrapping_mul(self.taken.at(weekday, number));
-        if share == 0 {
-            return taken.wrapping_neg().wrapping_sub(NO_SHARE);
-        }
-        let in_all = quotient(STEP_DUE.wrapping_mul(share), ONE_USE);
-        let wanted = match self.manner.due {
-            Due::InAll => in_all,
-            Due::SoFar => {
-                let days = whole(day.wrapping_add(1));
-                quotient(in_all.wrapping_mul(days), whole(walk.cells()))
-            }
+        let wanted = if share == 0 {
+            -NO_SHARE
+        } else {
+            quotient(STEP_DUE.wrapping_mul(share), ONE_USE)
         };
         wanted.wrapping_sub(taken)
     }
-}
-
-// What a symbol counts on a day by the weeks that it lacks on that weekday, shared out among the weeks that are left.
-fn due_weeks(draft: &Draft, day: usize, symbol: usize) -> i64 {
-    let Counter { count, range, .. } = draft.counters.cell(symbol, draft.walk.weekday(day));
-    let to_least = range.least.wrapping_sub(count);
-    let to_greatest = range.greatest.wrapping_sub(count);
-    let days_left = whole(draft.walk.cells().wrapping_sub(day));
-    let week = whole(draft.walk.days());
-    let weeks_left = quotient(days_left.wrapping_add(week).wrapping_sub(1), week).max(1);
-    let lacking = to_least.wrapping_add(to_greatest);
-    quotient(SYMBOL_DUE.wrapping_mul(lacking), weeks_left)
-}
-
-// A node to begin with: that of a step on the first weekday, drawn by the shares.
-fn drawn_node(layer: &SteadyLayer, shares: &Shares, random: &mut Random) -> usize {
-    let mut sum: i64 = 0;
-    for number in 0..layer.steps.len() {
-        sum = sum.wrapping_add(shares.uses(0, number));
-    }
-    let mut drawn = random.noise(usize::try_from(sum).unwrap_or(0));
-    for (number, step) in layer.steps.iter().enumerate() {
-        let share = shares.uses(0, number);
-        if drawn < share {
-            return step.from;
-        }
-        drawn = drawn.wrapping_sub(share);
-    }
-    random.below(layer.nodes())
 }

@@ -1,10 +1,8 @@
 // The one layer that long clean words pass through day by day.
 use crate::grid::{Grid, entry_or, put};
-use crate::made::{both, kept};
 use rule_automaton::{Automaton, Told};
 use rwsp_model::Problem;
 use std::alloc::{AllocError, Global};
-use std::mem;
 
 /// The last weekday of a weekend, which has two days.
 pub(crate) const LAST_OF_WEEKEND: usize = 6;
@@ -15,8 +13,6 @@ pub(crate) struct Step {
     pub from: usize,
     pub to: usize,
     pub symbol: usize,
-    /// Whether a block of the symbol begins.
-    pub begins: bool,
     /// Whether the symbol is the day off, like the one before.
     pub stays_off: bool,
 }
@@ -47,47 +43,18 @@ impl SteadyLayer {
     /// The layer of a problem's words.
     pub fn of(alloc: Global, problem: &Problem) -> Result<SteadyLayer, AllocError> {
         let automaton = Automaton::of_short_rules(alloc, problem, Told::LastSymbol)?;
+        let nodes = numbers_of(alloc, &passed_states(alloc, &automaton)?)?;
+        let count = nodes.iter().filter(|node| node.is_some()).count();
         let symbols = usize::from(problem.shifts()) + 1;
-        let layer = SteadyLayer::of_automaton(alloc, &automaton, symbols);
-        drop(automaton);
-        layer
-    }
-
-    // The layer of the states that words without beginning and end pass through.
-    fn of_automaton(
-        alloc: Global,
-        automaton: &Automaton,
-        symbols: usize,
-    ) -> Result<SteadyLayer, AllocError> {
-        let passed = passed_states(alloc, automaton)?;
-        let layer = SteadyLayer::of_states(alloc, automaton, symbols, &passed);
-        drop(passed);
-        layer
-    }
-
-    // The layer that has a node for each of these states.
-    fn of_states(
-        alloc: Global,
-        automaton: &Automaton,
-        symbols: usize,
-        states: &[bool],
-    ) -> Result<SteadyLayer, AllocError> {
-        let nodes = numbers_of(alloc, states)?;
-        let count = states.iter().filter(|is_passed| **is_passed).count();
-        let room = both(
-            vec![in alloc; 0; count],
-            Grid::new(alloc, count, symbols, None),
-        );
-        let (last, out) = room?;
         let mut layer = SteadyLayer {
             symbols,
             steps: Vec::new(alloc),
-            last,
-            out,
+            last: vec![in alloc; 0; count]?,
+            out: Grid::new(alloc, count, symbols, None)?,
         };
-        layer.set_last_symbols(automaton, &nodes);
-        let added = layer.add_steps(automaton, &nodes);
-        kept(layer, added)
+        layer.set_last_symbols(&automaton, &nodes);
+        layer.add_steps(&automaton, &nodes)?;
+        Ok(layer)
     }
 
     // Notes the last symbol of each node: that of each step which leads there.
@@ -109,22 +76,17 @@ impl SteadyLayer {
             let from = entry_or(nodes, step.from as usize, None);
             let to = entry_or(nodes, step.to as usize, None);
             if let (Some(from), Some(to)) = (from, to) {
-                self.add_step(from, to, usize::from(step.symbol.number))?;
+                let symbol = usize::from(step.symbol.number);
+                let stays_off = symbol == 0 && self.last(from) == 0;
+                self.out.set(from, symbol, Some(self.steps.len()));
+                self.steps.push(Step {
+                    from,
+                    to,
+                    symbol,
+                    stays_off,
+                })?;
             }
         }
-        Ok(())
-    }
-
-    fn add_step(&mut self, from: usize, to: usize, symbol: usize) -> Result<(), AllocError> {
-        let last = self.last(from);
-        self.out.set(from, symbol, Some(self.steps.len()));
-        self.steps.push(Step {
-            from,
-            to,
-            symbol,
-            begins: symbol != last,
-            stays_off: symbol == 0 && last == 0,
-        })?;
         Ok(())
     }
 
@@ -173,25 +135,17 @@ fn numbers_of(alloc: Global, marks: &[bool]) -> Result<Vec<Option<usize>>, Alloc
 // The states that words without beginning and end pass through: states are left out until a step enters and a step
 // leaves each of those that are left. Costs a look at each step for each time that some are left out.
 fn passed_states(alloc: Global, automaton: &Automaton) -> Result<Vec<bool>, AllocError> {
-    let mut passed = vec![in alloc; true; automaton.states()]?;
-    let cleared = clear_ends(alloc, automaton, &mut passed);
-    kept(passed, cleared)
-}
-
-fn clear_ends(
-    alloc: Global,
-    automaton: &Automaton,
-    passed: &mut Vec<bool>,
-) -> Result<(), AllocError> {
-    for _ in 0..passed.len() {
-        let still = still_passed(alloc, automaton, passed)?;
-        let is_stable = still == *passed;
-        drop(mem::replace(passed, still));
+    let states = automaton.states();
+    let mut passed = vec![in alloc; true; states]?;
+    for _ in 0..states {
+        let still = still_passed(alloc, automaton, &passed)?;
+        let is_stable = still == passed;
+        passed = still;
         if is_stable {
             break;
         }
     }
-    Ok(())
+    Ok(passed)
 }
 
 // The states that a step enters and a step leaves, of the steps between states that are passed.
@@ -200,9 +154,8 @@ fn still_passed(
     automaton: &Automaton,
     passed: &[bool],
 ) -> Result<Vec<bool>, AllocError> {
-    let states = passed.len();
-    let marks = both(vec![in alloc; false; states], vec![in alloc; false; states]);
-    let (mut entered, mut left) = marks?;
+    let mut entered = vec![in alloc; false; passed.len()]?;
+    let mut left = vec![in alloc; false; passed.len()]?;
     for step in automaton.steps() {
         let (from, to) = (step.from as usize, step.to as usize);
         if entry_or(passed, from, false) && entry_or(passed, to, false) {
@@ -210,10 +163,8 @@ fn still_passed(
             put(&mut entered, to, true);
         }
     }
-    for state in 0..states {
-        let is_passed = entry_or(&entered, state, false) && entry_or(&left, state, false);
-        put(&mut entered, state, is_passed);
+    for (is_entered, is_left) in entered.iter_mut().zip(left.iter()) {
+        *is_entered = *is_entered && *is_left;
     }
-    drop(left);
     Ok(entered)
 }

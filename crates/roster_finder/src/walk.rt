@@ -78,11 +78,6 @@ impl Walk {
         self.symbol(day_before)
     }
 
-    /// Whether a block begins at a position.
-    pub fn begins(&self, position: usize) -> bool {
-        self.symbol_before(position) != self.symbol(position)
-    }
-
     /// Whether a position is the last day of a weekend and that is off, like the day before.
     pub fn ends_weekend(&self, position: usize) -> bool {
         self.weekday(position) == LAST_OF_WEEKEND

@@ -1,8 +1,8 @@
-use roster_finder::{Patience, RosterFinder, find_roster};
+use roster_finder::{Patience, RosterFinder};
 use rwsp_model::{Problem, Roster};
 use rwsp_terms::Symbol;
 use small_problems::{ALL_OF_FOUR_WEEKS, D, MOST_OF_FOUR_WEEKS, problem_of};
-use std::alloc::Global;
+use std::alloc::{AllocError, Global};
 use std::test::Fail;
 
 // How many weeks hold D on a day.
@@ -12,6 +12,10 @@ fn working(cells: &[Symbol], day: usize) -> usize {
         .enumerate()
         .filter(|(i, x)| i % 7 == day && **x == D)
         .count()
+}
+
+fn find_roster(alloc: Global, problem: &Problem) -> Result<Option<Roster>, AllocError> {
+    RosterFinder::new(alloc, problem)?.find(alloc, 0, Patience::Long)
 }
 
 fn roster_found(alloc: Global, problem: &Problem) -> Result<Roster, Fail> {
