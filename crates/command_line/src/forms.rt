@@ -1,5 +1,5 @@
 // The forms of command lines. Each function reads what is behind the word of its form.
-ghost use Rattle.std.specs.Prelude.{◌≡◌, List, ℕ, IfSome};
+ghost use Rattle.std.specs.Prelude.{◌≡◌, [], IfSome};
 ghost use Rattle.rwsp_text.specs.Reads.{Reads};
 ghost use Rattle.command_line.specs.Forms.{form_at, named_at};
 ghost use Rattle.command_line.specs.Commands.{IsCommandOf, IsInRange, IsFilesTaskInRange, usage_text, forms, plan_form, check_form, files_form, show_form, trial_form, best_form, staff_form, crew_form};
@@ -78,10 +78,10 @@ fn check<'a>(words: &mut Words<'a>) -> Option<Command<'a>>
     Some(Command::OnFiles { file, second, task })
 }
 
-// A form of two files and nothing else.
+// A form of two files and nothing else, whatever its word is and what the second file is called.
 fn on_files<'a>(words: &mut Words<'a>, task: FilesTask) -> Option<Command<'a>>
     requires { IsFilesTaskInRange task }
-    ensures form { (word label : List ℕ) → Reads (form_at (files_form word label task) words.old) result words.new }
+    ensures form { Reads (form_at (files_form [] [] task) words.old) result words.new }
     ensures range { IfSome result IsInRange }
 {
     let file = words.file()?;
