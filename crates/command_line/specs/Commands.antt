@@ -101,7 +101,7 @@ abbrev pub IsCommandOf : CommandWords → Option Command → Type 0
 IsCommandOf words answer = MatchOption answer (HasNoForm words) (IsForm words)
 
 -- the line of usage
-abbrev pub usage_text : List ℕ
+unfoldable pub usage_text : List ℕ
 usage_text = codes "usage: rwsp " ++ forms_text forms
 
 -- the name of the problem's file

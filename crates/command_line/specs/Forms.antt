@@ -96,7 +96,7 @@ named_at [] w ws = None
 named_at (form ∷ forms) w ws = cond (bytes_eq w form.word) (form_at form ws) (named_at forms w ws)
 
 -- what the words say that are a form of the table, to their end
-abbrev pub said_by : {X : Type 0} → List (Form X) → Words → Option X
+unfoldable pub said_by : {X : Type 0} → List (Form X) → Words → Option X
 said_by forms [] = None
 said_by forms (w ∷ ws) = named_at forms w ws >>= (λ x. done_at x.0 x.1)
 

@@ -15,6 +15,7 @@ const USAGE: &str =
     "usage: rwsp plan FILE [--budget B] | check FILE LOG [--workers N] | verify FILE ROSTER | reduce FILE LOG | show FILE | trial NUMBER WEEKS | best FILE [--budget B] | check-free FILE LOG | staff FILE LOW HIGH [--budget B] | check-staff FILE TEXT | crew FILE ROSTER DATE DAYS [EMPLOYEE]";
 
 /// The line that lists all forms, without its LF.
+#[tactic(auto, unfolding(crate::specs::Commands::usage_text))]
 pub fn usage() -> &'static str
     ensures { result.now ≡ usage_text }
 {
@@ -22,6 +23,7 @@ pub fn usage() -> &'static str
 }
 
 /// The command that the words are a form of; None exactly where they are a form of none. Takes no memory.
+#[tactic(auto, unfolding(crate::specs::Forms::said_by))]
 pub fn command_of<'a>(words: &'a Vec<String>) -> Option<Command<'a>>
     ensures form { IsCommandOf words.now.items result }
     ensures range { IfSome result IsInRange }
