@@ -54,9 +54,9 @@ unfoldable pub file_at : Words → Option (List ℕ × Words)
 file_at [] = None
 file_at (w ∷ ws) = if is_file_word w then Some (w, ws) else None
 
-unfoldable pub number_at : ℕ → ℕ → Words → Option (ℕ × Words)
-number_at least greatest [] = None
-number_at least greatest (w ∷ ws) = option_map (λ n. (n, ws)) (number_of w >>= within least greatest)
+unfoldable pub digits_at : ℕ → ℕ → Words → Option (ℕ × Words)
+digits_at least greatest [] = None
+digits_at least greatest (w ∷ ws) = option_map (λ n. (n, ws)) (number_of w >>= within least greatest)
 
 unfoldable pub date_at : Words → Option (Date × Words)
 date_at [] = None
@@ -64,18 +64,18 @@ date_at (w ∷ ws) = option_map (λ d. (d, ws)) (date_in w)
 
 unfoldable pub range_at : ℕ → ℕ → Words → Option ((ℕ × ℕ) × Words)
 range_at greatest most ws =
-    number_at 1 greatest ws >>= (λ low.
-    number_at low.0 (min greatest (low.0 + most - 1)) low.1 >>= (λ high.
+    digits_at 1 greatest ws >>= (λ low.
+    digits_at low.0 (min greatest (low.0 + most - 1)) low.1 >>= (λ high.
     Some ((low.0, high.0), high.1)))
 
 unfoldable pub setting_at : List ℕ → ℕ → ℕ → Words → Option (ℕ × Words)
 setting_at word usual greatest [] = Some (usual, [])
 setting_at word usual greatest (w ∷ ws) =
-    if bytes_eq w word then number_at 1 greatest ws else Some (usual, w ∷ ws)
+    if bytes_eq w word then digits_at 1 greatest ws else Some (usual, w ∷ ws)
 
 abbrev pub field_at : (field : Field) → Words → Option (Value field × Words)
 field_at (File label) ws = file_at ws
-field_at (Number label least greatest) ws = number_at least greatest ws
+field_at (Number label least greatest) ws = digits_at least greatest ws
 field_at (Day label) ws = date_at ws
 field_at (Range first last greatest most) ws = range_at greatest most ws
 field_at (Setting word label usual greatest) ws = setting_at word usual greatest ws

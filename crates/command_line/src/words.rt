@@ -4,7 +4,7 @@ ghost use Rattle.std.specs.String.{string_bytes};
 ghost use Rattle.rwsp_text.specs.Reads.{Reads};
 ghost use Rattle.rwsp_text.specs.Lines.{rest_of};
 ghost use Rattle.calendar_dates.proofs.DateWords.{date_in};
-ghost use Rattle.command_line.specs.Forms.{is_file_word, file_at, number_at, date_at, range_at, setting_at};
+ghost use Rattle.command_line.specs.Forms.{is_file_word, file_at, digits_at, date_at, range_at, setting_at};
 
 use calendar_dates::{CivilDate, date_of};
 use rwsp_text::number;
@@ -86,9 +86,9 @@ impl<'a> Words<'a> {
     }
 
     /// The number of the next word, from the least to the greatest.
-    #[tactic(auto, unfolding(crate::specs::Forms::number_at))]
+    #[tactic(auto, unfolding(crate::specs::Forms::digits_at))]
     pub fn number(&mut self, least: u32, greatest: u32) -> Option<u32>
-        ensures reads { Reads (number_at least greatest self.old) result self.new }
+        ensures reads { Reads (digits_at least greatest self.old) result self.new }
         ensures range { IfSome result (λ n. (least ≤ n) × (n ≤ greatest)) }
     {
         let word = self.next()?;
