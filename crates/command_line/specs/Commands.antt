@@ -140,7 +140,7 @@ IsProblemTaskInRange (Staff low high budget) =
 -- the number of an employee, where one is asked for
 abbrev pub IsEmployeeNumber : Option ℕ → Type 0
 IsEmployeeNumber None = Unit {0}
-IsEmployeeNumber (Some e) = IsUpTo MOST_WEEKS e
+IsEmployeeNumber (Some e) = 1 ≤ e
 
 -- the numbers of a task on two files are in their ranges
 abbrev pub IsFilesTaskInRange : FilesTask → Type 0
