@@ -1,90 +1,96 @@
 -- The command lines that are accepted.
-use Rattle.std.specs.Prelude.{◌≡◌, ◌≢◌, ℕ, ◌+◌, ◌<◌, ◌≤◌, List, [], ◌∷◌, length, slice_index, slice_get, Option, Some, None, MatchOption, String, codes}
+use Rattle.std.specs.Prelude.{◌≡◌, ℕ, ◌+◌, ◌<◌, ◌≤◌, List, [], ◌∷◌, ◌++◌, map, Option, Some, None, MatchOption, String, codes}
 use Rattle.std.specs.String.{string_bytes}
 use Rattle.std.specs.declared.alloc.Global.{Global}
 use Rattle.rwsp_terms.specs.declared.limits.TheConstants.{MOST_WEEKS, USUAL_BUDGET, GREATEST_BUDGET, LONGEST_CALENDAR, USUAL_WORKERS, MOST_WORKERS, MOST_SIZES, USUAL_STAFF_BUDGET, GREATEST_STAFF_BUDGET, USUAL_BEST_BUDGET, DAYS_OF_WEEK}
-use Rattle.rwsp_text.specs.Numbers.{number_of}
 use Rattle.rwsp_terms.specs.Instance.{Instance}
-use Rattle.calendar_dates.specs.Calendar.{Date, IsDateWord, FitsDates}
+use Rattle.calendar_dates.specs.Calendar.{FitsDates}
+use Rattle.command_line.specs.Forms.{Field, File, Number, Day, Range, Setting, Perhaps, Form, said_by, forms_text}
+use Rattle.command_line.specs.declared.command.TheConstants.{GREATEST_NUMBER}
 use Rattle.command_line.specs.declared.command.Command.{Command}
-use Rattle.command_line.specs.declared.command.Command.TheVariants.{Plan, Check, Verify, Reduce, Show, Trial, Crew, Staff, CheckStaff, CheckFree, Best}
+use Rattle.command_line.specs.declared.command.Command.TheVariants.{Trial, OnProblem, OnFiles}
+use Rattle.command_line.specs.declared.command.ProblemTask.{ProblemTask}
+use Rattle.command_line.specs.declared.command.ProblemTask.TheVariants.{Plan, Show, Best, Staff}
+use Rattle.command_line.specs.declared.command.FilesTask.{FilesTask}
+use Rattle.command_line.specs.declared.command.FilesTask.TheVariants.{Check, Verify, Reduce, CheckFree, CheckStaff, Crew}
 
 -- the words behind the program's name
 abbrev pub CommandWords : Type 0
 CommandWords = List (String Global)
 
--- a word that names a file: it isn't empty and doesn't begin with `-`
-abbrev pub IsFileWord : List ℕ → Type 0
-IsFileWord word = (0 < length word) × (slice_index word 0 ≢ 45)
+-- the problem's file
+abbrev pub problem_file : Field
+problem_file = File (codes "FILE")
 
--- a number of 1 to 9 digits, from 1 to a limit
-abbrev pub IsCount : List ℕ → ℕ → ℕ → Type 0
-IsCount word limit n = (number_of word ≡ Some n) × (1 ≤ n) × (n ≤ limit)
+-- the budget, in lines of a log
+abbrev pub budget : (usual greatest : ℕ) → Field
+budget usual greatest = Setting (codes "--budget") (codes "B") usual greatest
 
--- a roster's calendar from a date on, for n days
-abbrev pub IsCrewForm : (word file second date days : List ℕ) → (first : Date) → ℕ → Type 0
-IsCrewForm word file second date days first n =
-    (word ≡ codes "crew") × IsFileWord file × IsFileWord second × IsDateWord date first
-    × IsCount days LONGEST_CALENDAR n
+abbrev pub plan_form : Form Command
+plan_form = record {
+  word = codes "plan";
+  fields = problem_file ∷ budget USUAL_BUDGET GREATEST_BUDGET ∷ [];
+  make = λ v. OnProblem v.0 (Plan v.1.0);
+}
 
--- the same of words as they are given
-abbrev pub IsCalendarForm : (word file second date days : String Global) → (first : Date) → ℕ → Type 0
-IsCalendarForm word file second date days first n =
-    IsCrewForm (string_bytes word) (string_bytes file) (string_bytes second) (string_bytes date) (string_bytes days)
-    first n
+abbrev pub check_form : Form Command
+check_form = record {
+  word = codes "check";
+  fields = problem_file ∷ File (codes "LOG") ∷ Setting (codes "--workers") (codes "N") USUAL_WORKERS MOST_WORKERS ∷ [];
+  make = λ v. OnFiles v.0 v.1.0 (Check v.1.1.0);
+}
 
--- crews of the first to the last number of weeks, of which there are not too many
-abbrev pub IsStaffForm : (word file low high : List ℕ) → (first last : ℕ) → Type 0
-IsStaffForm word file low high first last =
-    (word ≡ codes "staff") × IsFileWord file × IsCount low MOST_WEEKS first × IsCount high MOST_WEEKS last
-    × (first ≤ last) × (last < first + MOST_SIZES)
+-- a form of two files and nothing else
+abbrev pub files_form : (word label : List ℕ) → FilesTask → Form Command
+files_form word label task =
+    record { word = word; fields = problem_file ∷ File label ∷ []; make = λ v. OnFiles v.0 v.1.0 task }
 
--- the same of words as they are given
-abbrev pub AreSizesForm : (word file low high : String Global) → (first last : ℕ) → Type 0
-AreSizesForm word file low high first last =
-    IsStaffForm (string_bytes word) (string_bytes file) (string_bytes low) (string_bytes high) first last
+abbrev pub show_form : Form Command
+show_form = record { word = codes "show"; fields = problem_file ∷ []; make = λ v. OnProblem v.0 Show }
+
+abbrev pub trial_form : Form Command
+trial_form = record {
+  word = codes "trial";
+  fields = Number (codes "NUMBER") 0 GREATEST_NUMBER ∷ Number (codes "WEEKS") 1 MOST_WEEKS ∷ [];
+  make = λ v. Trial v.0 v.1.0;
+}
+
+abbrev pub best_form : Form Command
+best_form = record {
+  word = codes "best";
+  fields = problem_file ∷ budget USUAL_BEST_BUDGET GREATEST_BUDGET ∷ [];
+  make = λ v. OnProblem v.0 (Best v.1.0);
+}
+
+abbrev pub staff_form : Form Command
+staff_form = record {
+  word = codes "staff";
+  fields =
+      problem_file ∷ Range (codes "LOW") (codes "HIGH") MOST_WEEKS MOST_SIZES
+      ∷ budget USUAL_STAFF_BUDGET GREATEST_STAFF_BUDGET ∷ [];
+  make = λ v. OnProblem v.0 (Staff v.1.0.0 v.1.0.1 v.1.1.0);
+}
+
+abbrev pub crew_form : Form Command
+crew_form = record {
+  word = codes "crew";
+  fields =
+      problem_file ∷ File (codes "ROSTER") ∷ Day (codes "DATE") ∷ Number (codes "DAYS") 1 LONGEST_CALENDAR
+      ∷ Perhaps (Number (codes "EMPLOYEE") 1 MOST_WEEKS) ∷ [];
+  make = λ v. OnFiles v.0 v.1.0 (Crew v.1.1.0 v.1.1.1.0 v.1.1.1.1.0);
+}
+
+-- the table, in the order of the line of usage
+abbrev pub forms : List (Form Command)
+forms =
+    plan_form ∷ check_form ∷ files_form (codes "verify") (codes "ROSTER") Verify
+    ∷ files_form (codes "reduce") (codes "LOG") Reduce ∷ show_form ∷ trial_form ∷ best_form
+    ∷ files_form (codes "check-free") (codes "LOG") CheckFree ∷ staff_form
+    ∷ files_form (codes "check-staff") (codes "TEXT") CheckStaff ∷ crew_form ∷ []
 
 -- the words are a form of the command
 abbrev pub IsForm : CommandWords → Command → Type 0
-IsForm (word ∷ file ∷ []) Show = (string_bytes word ≡ codes "show") × IsFileWord (string_bytes file)
-IsForm (word ∷ file ∷ []) (Plan budget) =
-    (string_bytes word ≡ codes "plan") × IsFileWord (string_bytes file) × (budget ≡ USUAL_BUDGET)
-IsForm (word ∷ file ∷ second ∷ []) Verify =
-    (string_bytes word ≡ codes "verify") × IsFileWord (string_bytes file) × IsFileWord (string_bytes second)
-IsForm (word ∷ file ∷ second ∷ []) Reduce =
-    (string_bytes word ≡ codes "reduce") × IsFileWord (string_bytes file) × IsFileWord (string_bytes second)
-IsForm (word ∷ file ∷ second ∷ []) (Check workers) =
-    (string_bytes word ≡ codes "check") × IsFileWord (string_bytes file) × IsFileWord (string_bytes second)
-    × (workers ≡ USUAL_WORKERS)
-IsForm (word ∷ number_word ∷ weeks_word ∷ []) (Trial number weeks) =
-    (string_bytes word ≡ codes "trial") × (number_of (string_bytes number_word) ≡ Some number)
-    × IsCount (string_bytes weeks_word) MOST_WEEKS weeks
-IsForm (word ∷ file ∷ option ∷ number ∷ []) (Plan budget) =
-    (string_bytes word ≡ codes "plan") × IsFileWord (string_bytes file) × (string_bytes option ≡ codes "--budget")
-    × IsCount (string_bytes number) GREATEST_BUDGET budget
-IsForm (word ∷ file ∷ second ∷ option ∷ number ∷ []) (Check workers) =
-    (string_bytes word ≡ codes "check") × IsFileWord (string_bytes file) × IsFileWord (string_bytes second)
-    × (string_bytes option ≡ codes "--workers") × IsCount (string_bytes number) MOST_WORKERS workers
-IsForm (word ∷ file ∷ second ∷ date ∷ days ∷ []) (Crew first n employee) =
-    IsCalendarForm word file second date days first n × (employee ≡ None)
-IsForm (word ∷ file ∷ second ∷ date ∷ days ∷ number ∷ []) (Crew first n employee) =
-    IsCalendarForm word file second date days first n
-    × ((e : ℕ) × IsCount (string_bytes number) MOST_WEEKS e × (employee ≡ Some e))
-IsForm (word ∷ file ∷ low ∷ high ∷ []) (Staff first last budget) =
-    AreSizesForm word file low high first last × (budget ≡ USUAL_STAFF_BUDGET)
-IsForm (word ∷ file ∷ low ∷ high ∷ option ∷ number ∷ []) (Staff first last budget) =
-    AreSizesForm word file low high first last
-    × (string_bytes option ≡ codes "--budget") × IsCount (string_bytes number) GREATEST_STAFF_BUDGET budget
-IsForm (word ∷ file ∷ second ∷ []) CheckStaff =
-    (string_bytes word ≡ codes "check-staff") × IsFileWord (string_bytes file) × IsFileWord (string_bytes second)
-IsForm (word ∷ file ∷ second ∷ []) CheckFree =
-    (string_bytes word ≡ codes "check-free") × IsFileWord (string_bytes file) × IsFileWord (string_bytes second)
-IsForm (word ∷ file ∷ []) (Best budget) =
-    (string_bytes word ≡ codes "best") × IsFileWord (string_bytes file) × (budget ≡ USUAL_BEST_BUDGET)
-IsForm (word ∷ file ∷ option ∷ number ∷ []) (Best budget) =
-    (string_bytes word ≡ codes "best") × IsFileWord (string_bytes file) × (string_bytes option ≡ codes "--budget")
-    × IsCount (string_bytes number) GREATEST_BUDGET budget
-IsForm words command = ⊥
+IsForm words command = said_by forms (map string_bytes words) ≡ Some command
 
 -- the words are a form of no command
 abbrev pub HasNoForm : CommandWords → Type 0
@@ -94,20 +100,20 @@ HasNoForm words = (command : Command) → IsForm words command → ⊥
 abbrev pub IsCommandOf : CommandWords → Option Command → Type 0
 IsCommandOf words answer = MatchOption answer (HasNoForm words) (IsForm words)
 
--- the first date and the number of days that the words of a calendar give, or none where they aren't such words
-abbrev pub AreDatesOf : (word file second date days : String Global) → Option (Date × ℕ) → Type 0
-AreDatesOf word file second date days answer =
-    MatchOption answer
-    ((first : Date) (n : ℕ) → IsCalendarForm word file second date days first n → ⊥)
-    (λ both. IsCalendarForm word file second date days both.0 both.1)
+-- the line of usage
+unfoldable pub usage_text : List ℕ
+usage_text = codes "usage: rwsp " ++ forms_text forms
 
--- the first and the last number of weeks that the words of a search for the least crew give, or none where they aren't
--- such words
-abbrev pub AreSizesOf : (word file low high : String Global) → Option (ℕ × ℕ) → Type 0
-AreSizesOf word file low high answer =
-    MatchOption answer
-    ((first last : ℕ) → AreSizesForm word file low high first last → ⊥)
-    (λ both. AreSizesForm word file low high both.0 both.1)
+-- the name of the problem's file
+abbrev pub file_of : Command → List ℕ
+file_of (Trial number weeks) = []
+file_of (OnProblem file task) = file
+file_of (OnFiles file second task) = file
+
+-- the name of the second file
+abbrev pub second_of : Command → List ℕ
+second_of (OnFiles file second task) = second
+second_of command = []
 
 -- the command reads a problem's file
 abbrev pub ReadsProblem : Command → Type 0
@@ -116,53 +122,45 @@ ReadsProblem command = Unit {0}
 
 -- the command reads a second file
 abbrev pub ReadsSecond : Command → Type 0
-ReadsSecond Verify = Unit {0}
-ReadsSecond Reduce = Unit {0}
-ReadsSecond (Check workers) = Unit {0}
-ReadsSecond (Crew date days employee) = Unit {0}
-ReadsSecond CheckStaff = Unit {0}
-ReadsSecond CheckFree = Unit {0}
+ReadsSecond (OnFiles file second task) = Unit {0}
 ReadsSecond command = ⊥
 
--- the workers of the command, where it has some, are from one to the most that may be
-abbrev pub HasFewWorkers : Command → Type 0
-HasFewWorkers (Check workers) = (1 ≤ workers) × (workers ≤ MOST_WORKERS)
-HasFewWorkers command = Unit {0}
+-- n is from 1 to a limit
+abbrev pub IsUpTo : (limit n : ℕ) → Type 0
+IsUpTo limit n = (1 ≤ n) × (n ≤ limit)
 
--- a calendar that the command asks for ends by 9999-12-31, with all duties
-abbrev pub IsWithinHorizon : Command → Type 0
-IsWithinHorizon (Crew date days employee) = FitsDates date days
-IsWithinHorizon command = Unit {0}
+-- the numbers of a task on a problem are in their ranges
+abbrev pub IsProblemTaskInRange : ProblemTask → Type 0
+IsProblemTaskInRange Show = Unit {0}
+IsProblemTaskInRange (Plan budget) = IsUpTo GREATEST_BUDGET budget
+IsProblemTaskInRange (Best budget) = IsUpTo GREATEST_BUDGET budget
+IsProblemTaskInRange (Staff low high budget) =
+    (1 ≤ low) × (low ≤ high) × (high ≤ MOST_WEEKS) × (high < low + MOST_SIZES) × IsUpTo GREATEST_STAFF_BUDGET budget
 
--- the days of a calendar, and the number of an employee
+-- the number of an employee, where one is asked for
 abbrev pub IsEmployeeNumber : Option ℕ → Type 0
 IsEmployeeNumber None = Unit {0}
 IsEmployeeNumber (Some e) = 1 ≤ e
 
-abbrev pub HasFewDays : Command → Type 0
-HasFewDays (Crew date days employee) = (days ≤ LONGEST_CALENDAR) × IsEmployeeNumber employee
-HasFewDays command = Unit {0}
+-- the numbers of a task on two files are in their ranges
+abbrev pub IsFilesTaskInRange : FilesTask → Type 0
+IsFilesTaskInRange (Check workers) = IsUpTo MOST_WORKERS workers
+IsFilesTaskInRange (Crew date days employee) = IsUpTo LONGEST_CALENDAR days × IsEmployeeNumber employee
+IsFilesTaskInRange task = Unit {0}
 
--- the command asks for no calendar
-abbrev pub AsksNoCalendar : Command → Type 0
-AsksNoCalendar (Crew date days employee) = ⊥
-AsksNoCalendar command = Unit {0}
+-- the numbers of a command are in their ranges
+abbrev pub IsInRange : Command → Type 0
+IsInRange (Trial number weeks) = IsUpTo MOST_WEEKS weeks
+IsInRange (OnProblem file task) = IsProblemTaskInRange task
+IsInRange (OnFiles file second task) = IsFilesTaskInRange task
+
+-- a calendar that the command asks for ends by 9999-12-31, with all duties
+abbrev pub IsWithinHorizon : Command → Type 0
+IsWithinHorizon (OnFiles file second (Crew date days employee)) = FitsDates date days
+IsWithinHorizon command = Unit {0}
 
 -- the week of the instance has as many days as the command asks for
 abbrev pub HasDaysFor : Command → Instance → Type 0
-HasDaysFor CheckFree P = P.days ≡ DAYS_OF_WEEK
-HasDaysFor (Best budget) P = P.days ≡ DAYS_OF_WEEK
+HasDaysFor (OnProblem file (Best budget)) P = P.days ≡ DAYS_OF_WEEK
+HasDaysFor (OnFiles file second CheckFree) P = P.days ≡ DAYS_OF_WEEK
 HasDaysFor command P = Unit {0}
-
--- the bytes of a word, where there is one
-abbrev pub word_bytes : Option (String Global) → List ℕ
-word_bytes None = []
-word_bytes (Some word) = string_bytes word
-
--- the name of the problem's file
-abbrev pub problem_name : CommandWords → List ℕ
-problem_name words = word_bytes (slice_get words 1)
-
--- the name of the second file
-abbrev pub second_name : CommandWords → List ℕ
-second_name words = word_bytes (slice_get words 2)

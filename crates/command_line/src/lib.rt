@@ -2,5 +2,11 @@
 #![tactic(auto)]
 
 mod command;
+mod forms;
+mod laws;
+mod words;
 
-pub use command::{Command, command_of, is_within_horizon, word_at};
+pub use command::{Command, FilesTask, GREATEST_NUMBER, ProblemTask, is_within_horizon};
+pub use forms::{command_of, usage};
+pub use laws::dates_are_named;
+pub use words::FileName;

@@ -1,2 +1,3 @@
 pub mod FirstBroken
 pub mod Places
+pub mod BreaksText

@@ -3,3 +3,4 @@ pub mod Refusal
 pub mod Reading
 pub mod RuleText
 pub mod Laws
+pub mod RefusalText

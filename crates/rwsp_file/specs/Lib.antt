@@ -3,3 +3,4 @@ pub mod Reading
 pub mod Text
 pub mod Laws
 pub mod Reads
+pub mod RefusalText

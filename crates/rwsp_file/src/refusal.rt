@@ -1,3 +1,9 @@
+ghost use Rattle.std.specs.Prelude.{Some};
+ghost use Rattle.rwsp_file.specs.RefusalText.{file_refusal_text};
+
+use std::error::Error;
+use std::fmt;
+
 /// Why bytes are no problem file. The first number is the line, counted from 1; the second of a range is the number of
 /// the limit that is broken.
 #[derive(Clone, Copy, Debug, PartialEq, Eq)]
@@ -26,3 +32,23 @@ pub enum FileRefusal {
     /// A word behind the last sequence.
     Extra(u32),
 }
+
+impl fmt::Display for FileRefusal {
+    ghost output = { λ refusal. Some (file_refusal_text refusal) };
+
+    fn fmt<W: fmt::Write>(&self, f: &mut fmt::Formatter<W>) -> fmt::Result {
+        match self {
+            FileRefusal::Ends(line) => write!(f, "file refused: ends line {line}"),
+            FileRefusal::Number(line) => write!(f, "file refused: number line {line}"),
+            FileRefusal::Range(line, limit) => {
+                write!(f, "file refused: range {limit} line {line}")
+            }
+            FileRefusal::Row(line) => write!(f, "file refused: row line {line}"),
+            FileRefusal::Name(line) => write!(f, "file refused: name line {line}"),
+            FileRefusal::Unknown(line) => write!(f, "file refused: unknown line {line}"),
+            FileRefusal::Extra(line) => write!(f, "file refused: extra line {line}"),
+        }
+    }
+}
+
+impl Error for FileRefusal {}
