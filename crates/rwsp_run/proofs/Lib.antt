@@ -1,5 +1,6 @@
-pub mod Printable
-pub mod Found
+pub mod Files
+pub mod Numbers
 pub mod Replies
-pub mod Seconds
-pub mod Unread
+pub mod OneAnswer
+pub mod OneText
+pub mod Accepted
