@@ -45,24 +45,24 @@ told bytes e = absurd (cc)
 
 -- where no other answer agrees with it
 decided : (x : JobAnswer) (a : Answer) → ((y : JobAnswer) → JobsAgree x y → ⊥) → (Job x ≡ a) ⊎ AgreeInSearch (Job x) a → a ≡ Job x
-decided x a no (inl e) = sym e
-decided x (Job y) no (inr h) = absurd (no y h)
-decided x a no (inr h) = absurd h
+decided x a only (inl e) = sym e
+decided x (Job y) only (inr h) = absurd (only y h)
+decided x a only (inr h) = absurd h
 
 -- an answer that is right on a text is the only one
 settled : (command : Command) (P : Instance) (text : List ℕ) (kind : SecondKind) (x : JobAnswer) (a : Answer) → KeepsLimits P → HasDaysFor command P → second_kind command ≡ Some kind → IsWithinLimit kind text → ((y : JobAnswer) → JobsAgree x y → ⊥) → IsJobAnswer command P text x → IsAnswerOn command (Bytes text) P a → a ≡ Job x
-settled command P text kind x a limits days e short no right h =
-    decided x a no (one_on command P (Bytes text) (Job x) a limits (λ other f. told text) (days, (text, subst (λ (o : Option SecondKind). IsSecond o (Bytes text) text) (sym e) (refl, short), right)) h)
+settled command P text kind x a limits days e short only right h =
+    decided x a only (one_on command P (Bytes text) (Job x) a limits (λ other f. told text) (days, (text, subst (λ (o : Option SecondKind). IsSecond o (Bytes text) text) (sym e) (refl, short), right)) h)
 
 -- a roster that meets every rule meets every rule by `verify`
 meets : (P : Instance) (file : List ℕ) (s : List Symbol) (a : Answer) → SpellsProblem file P → MeetsAll P s → IsAnswerOn Commands.Verify (Bytes (roster_text P s)) P a → a ≡ Job (Jobs.Verify Verifies.Meets)
 meets P file s a spells right h =
-    settled Commands.Verify P (roster_text P s) Kinds.Roster (Jobs.Verify Verifies.Meets) a (valid_keeps P spells.valid) tt refl (printed_is_short P s spells.valid right.is_roster) (λ y no. no) (s, printed_is_spelled P s spells.valid right.is_roster, right) h
+    settled Commands.Verify P (roster_text P s) Kinds.Roster (Jobs.Verify Verifies.Meets) a (valid_keeps P spells.valid) tt refl (printed_is_short P s spells.valid right.is_roster) (λ y h. h) (s, printed_is_spelled P s spells.valid right.is_roster, right) h
 
 -- a log that passes is accepted by `check`
 checks : (P : Instance) (file : List ℕ) (workers : ℕ) (g : Log) (a : Answer) → SpellsProblem file P → Passes P g → IsWithinLimit Kinds.Log (log_text P g) → IsAnswerOn (Commands.Check workers) (Bytes (log_text P g)) P a → a ≡ Job (Jobs.Check (Checks.Accepted g.named))
 checks P file workers g a spells passes short h =
-    settled (Commands.Check workers) P (log_text P g) Kinds.Log (Jobs.Check (Checks.Accepted g.named)) a (valid_keeps P spells.valid) tt refl short (λ y no. no) (accepted P (log_text P g) g.named (g, (refl, passes), refl)) h
+    settled (Commands.Check workers) P (log_text P g) Kinds.Log (Jobs.Check (Checks.Accepted g.named)) a (valid_keeps P spells.valid) tt refl short (λ y h. h) (accepted P (log_text P g) g.named (g, (refl, passes), refl)) h
 
 pub rosters_meet : RostersMeet
 rosters_meet file P budget told s a spells planned h = meets P file s.cells a spells planned.1.2.1 h
@@ -79,7 +79,7 @@ staff_accepted file P low high budget told run staffed a spells sizes answer dec
     let says = answer.1.2 in
     let fits : IsSize P high = record { some = omega (arith, sizes); few = sizes.2; few_cells = says.1 } in
     let right = printed_accepted P low high budget run staffed limits sizes.0 sizes.1 fits says.2 decides in
-    settled Commands.CheckStaff P (staff_text P run) Kinds.Log (Jobs.CheckStaff (StaffChecks.Accepted staffed)) a limits tt refl short (λ y no. no) (right, accepted_decide P (staff_text P run) staffed right) h
+    settled Commands.CheckStaff P (staff_text P run) Kinds.Log (Jobs.CheckStaff (StaffChecks.Accepted staffed)) a limits tt refl short (λ y h. h) (right, accepted_decide P (staff_text P run) staffed right) h
 
 pub best_rosters_meet : BestRostersMeet
 best_rosters_meet file P budget told found s a spells best is h = meets P file s.cells a spells (best_meets P budget found s best.1.2 is) h
@@ -104,7 +104,7 @@ pub best_proofs_accepted : BestProofsAreAccepted
 best_proofs_accepted file P budget goal told found g a spells best proof short h =
     let passes = proof_passes P budget goal found g best.1.2 proof in
     let text = free_log_text P goal g in
-    settled Commands.CheckFree P text Kinds.Log (Jobs.CheckFree (Frees.Accepted goal g.named)) a (valid_keeps P spells.valid) best.0 refl short (λ y no. no) (free_accepted P text g goal (goal, refl, passes) passes.grounded.fits.is_goal) h
+    settled Commands.CheckFree P text Kinds.Log (Jobs.CheckFree (Frees.Accepted goal g.named)) a (valid_keeps P spells.valid) best.0 refl short (λ y h. h) (free_accepted P text g goal (goal, refl, passes) passes.grounded.fits.is_goal) h
 
 pub same_for_workers : WorkersMakeNoDifference
 same_for_workers m n told P (Refused (NotWeekly days)) h = h

@@ -1,6 +1,6 @@
 -- What is known of files whose bytes are told.
-use Rattle.std.proofs.Common.{◌≡◌, ℕ, ◌<◌, ◌≤◌, List, length, refl, subst, inl, inr, sym, ◌∙◌, arith}
-use Rattle.std.specs.Prelude.{◌≢◌, ◌⊎◌, Option, Some, None}
+use Rattle.std.proofs.Common.{◌≡◌, ℕ, ◌<◌, ◌≤◌, List, length, refl, subst, sym, ◌∙◌, arith}
+use Rattle.std.specs.Prelude.{◌≢◌, Option, Some, None}
 use Rattle.rwsp_io.specs.Told.{Told, Silent, Missing, Bytes}
 use Rattle.rwsp_terms.specs.Instance.{Instance}
 use Rattle.rwsp_model.specs.Validity.{KeepsLimits}
@@ -9,13 +9,6 @@ use Rattle.rwsp_file.specs.Laws.{TextsSpellOne}
 use Rattle.commands.specs.Files.{WhereTold, IsSecond, IsShort, IsTooLong}
 use Rattle.commands.specs.ProblemFile.{IsProblemOf}
 use Rattle.commands.specs.declared.second_file.SecondKind.{SecondKind}
-
--- where a file isn't there, nothing holds of its bytes
-pub at_missing : (told : Told) (Q : List ℕ → Type 0) → told ≡ Missing → WhereTold told Q → ⊥
-at_missing told Q e h = subst (λ (t : Told). WhereTold t Q) e h
-
-pub at_bytes : (told : Told) (bytes : List ℕ) (Q : List ℕ → Type 0) → told ≡ Bytes bytes → WhereTold told Q → Q bytes
-at_bytes told bytes Q e h = subst (λ (t : Told). WhereTold t Q) e h
 
 -- two facts about a file of which something is told are about the same bytes
 pub same_bytes : (told : Told) (Q R : List ℕ → Type 0) (Same : Type 0) → told ≢ Silent → ((bytes : List ℕ) → Q bytes → R bytes → Same) → WhereTold told Q → WhereTold told R → Same

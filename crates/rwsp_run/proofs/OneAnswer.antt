@@ -146,7 +146,7 @@ not_trial command number weeks e reads = subst ReadsProblem e reads
 
 -- nor is one that asks for a calendar past the horizon
 not_late : (command : Command) (number weeks : ℕ) → command ≡ Commands.Trial number weeks → (IsWithinHorizon command → ⊥) → ⊥
-not_late command number weeks e late = subst (λ (c : Command). IsWithinHorizon c → ⊥) e late tt
+not_late command number weeks e out = subst (λ (c : Command). IsWithinHorizon c → ⊥) e out tt
 
 -- two trials of one number and one count of weeks
 trials_agree : (m n v w : ℕ) (x y : TrialAnswer) (a b : Answer) → Commands.Trial m v ≡ Commands.Trial n w → IsTrial m v x → IsTrial n w y → a ≡ Trial x → b ≡ Trial y → AgreeInSearch a b

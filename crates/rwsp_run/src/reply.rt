@@ -1,5 +1,5 @@
 // Answers with their texts.
-ghost use Rattle.std.specs.Prelude.{◌≡◌, ◌≤◌, ◌×◌, IfOk};
+ghost use Rattle.std.specs.Prelude.{◌≡◌, ◌≤◌, IfOk};
 ghost use Rattle.std.specs.String.{string_bytes};
 ghost use Rattle.commands.specs.Trial.{IsTrial, IsTrialText};
 ghost use Rattle.rwsp_run.specs.Texts.{refusal_line, job_text, IsPrintable};

@@ -93,6 +93,7 @@ fn reply_to<R: Threads + Sync, S: Shelf, G: Gate>(
 }
 
 // The reply of a command that reads files.
+#[tactic(auto, using(crate::proofs::Numbers::has_numbers, crate::proofs::Files::short_second))]
 fn reply_on_files<R: Threads + Sync, S: Shelf, G: Gate>(
     rt: &R,
     alloc: Global,
@@ -131,8 +132,9 @@ fn reply_on<R: Threads + Sync, G: Gate>(
         × IsJobAnswer command inputs.problem inputs.bytes.items a × IsPrintable inputs.problem a
         × (r.text.items ≡ job_text inputs.problem a)) }
 {
-    let answer = answer_on(rt, alloc, &inputs.problem, inputs.bytes, command, gate)?;
-    printed(alloc, &inputs.problem, answer)
+    let Inputs { problem, bytes } = inputs;
+    let answer = answer_on(rt, alloc, &problem, bytes, command, gate)?;
+    printed(alloc, &problem, answer)
 }
 
 // The answer of a command on a problem and the bytes of its second file.
