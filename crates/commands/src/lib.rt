@@ -1,5 +1,5 @@
-//! The commands, a module each: what it answers, the texts and statuses of its answers, and its job on a problem and the
-//! bytes of its second file.
+//! The commands, a module each: what it answers, the texts and statuses of its answers, and its job on a problem and
+//! the bytes of its second file.
 #![tactic(auto)]
 
 pub mod best;

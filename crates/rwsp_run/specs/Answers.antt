@@ -84,7 +84,8 @@ IsAnswer held words answer = (command : Command) × IsAsked words command × IsA
 -- the command reads a second file, whose count has risen
 abbrev pub SecondRose : Command → (before now : List ℕ → ℕ) → CommandWords → Type 0
 SecondRose command before now words =
-    ((kind : SecondKind) × (second_kind command ≡ Some kind)) × Rose (before (second_name words)) (now (second_name words))
+    ((kind : SecondKind) × (second_kind command ≡ Some kind))
+    × Rose (before (second_name words)) (now (second_name words))
 
 -- the second file could not be read, and the first spells a problem for the command
 abbrev pub IsSecondFault : (List ℕ → Told) → (before now : List ℕ → ℕ) → CommandWords → Command → Type 0

@@ -129,7 +129,8 @@ BestRostersMeet =
     → best_roster found ≡ Some s → IsAnswerOn Commands.Verify (Bytes (roster_text P s.cells)) P a
     → a ≡ Job (Jobs.Verify Verifies.Meets)
 
--- the roster that `best` finds with a proof meets every rule by `verify`, and no roster that does has more free weekends
+-- the roster that `best` finds with a proof meets every rule by `verify`, and no roster that does has more free
+-- weekends
 abbrev pub BestRostersAreBest : Type 0
 BestRostersAreBest =
     (file : List ℕ) (P : Instance) (budget : ℕ) (told : Told) (s : Roster) (g : Log) (a : Answer)

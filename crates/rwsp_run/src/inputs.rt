@@ -85,8 +85,10 @@ fn bytes_for<S: Shelf>(
     ensures bytes { IfOk result (λ read. IfOk read (λ bytes.
         IsSecond (second_kind command) (S.held shelf.old (second_name words.now.items)) bytes.items)) }
     ensures long { IfOk result (λ read. IfErr read (λ kind.
-        (second_kind command ≡ Some kind) × WhereTold (S.held shelf.old (second_name words.now.items)) (IsTooLong kind))) }
-    ensures stop { IfErr result (IsStop (SecondRose command (S.faults shelf.old) (S.faults shelf.new) words.now.items)) }
+        (second_kind command ≡ Some kind)
+        × WhereTold (S.held shelf.old (second_name words.now.items)) (IsTooLong kind))) }
+    ensures stop { IfErr result (IsStop
+        (SecondRose command (S.faults shelf.old) (S.faults shelf.new) words.now.items)) }
     ensures faults { NeverFall (S.faults shelf.old) (S.faults shelf.new) }
 {
     let Some(kind) = second_kind(command) else {

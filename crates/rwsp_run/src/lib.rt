@@ -1,4 +1,5 @@
-//! `run`, the one call that answers a command line: it reads the files, has the command do its job and writes the answer.
+//! `run`, the one call that answers a command line: it reads the files, has the command do its job and writes the
+//! answer.
 #![tactic(auto)]
 
 mod answer;
