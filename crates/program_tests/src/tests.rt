@@ -14,8 +14,7 @@ ghost use Rattle.std.specs.Prelude.{◌<◌};
 
 use memory_files::{MemoryShelf, MemorySink};
 use potential_bounds::{Gate, NoGate};
-use rwsp_answers::Outcome;
-use rwsp_run::run;
+use rwsp_run::{Outcome, run};
 use std::alloc::{AllocError, Global};
 use std::test::Fail;
 use std::thread::Threads;

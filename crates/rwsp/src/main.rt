@@ -1,10 +1,10 @@
 //! Plans, checks and proves rotating workforce schedules.
 #![tactic(auto)]
 
+use commands::Stop;
 use potential_bounds::NoGate;
-use rwsp_answers::Outcome;
 use rwsp_io::{RealShelf, RealSink, WordsFail, command_words};
-use rwsp_run::run;
+use rwsp_run::{Outcome, run};
 use std::process::ExitCode;
 
 /// The status where a word of the command line is no text.
@@ -14,7 +14,9 @@ fn main(rt: HostRuntime) -> ExitCode {
     let words = match command_words(&rt) {
         Ok(words) => words,
         Err(WordsFail::NoText) => return ExitCode::from(NO_TEXT),
-        Err(WordsFail::Memory) => return ExitCode::from(Outcome::Memory.into_status()),
+        Err(WordsFail::Memory) => return ExitCode::from(Outcome::Stopped(
+            Stop::Memory,
+        ).into_status()),
     };
     let mut shelf = RealShelf::new(&rt);
     let mut out = RealSink::new(&rt);

@@ -1,5 +1,5 @@
-pub mod Printable
-pub mod Found
-pub mod Replies
-pub mod Seconds
-pub mod Unread
+pub mod Files
+pub mod Numbers
+pub mod OneAnswer
+pub mod OneText
+pub mod Accepted

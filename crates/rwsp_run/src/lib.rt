@@ -1,12 +1,17 @@
-//! The jobs that look for a roster or a log, and `run`, the one call that answers a command line.
+//! `run`, the one call that answers a command line: it reads the files, has the command do its job and writes the
+//! answer.
 #![tactic(auto)]
 
-mod best;
-mod plan;
-mod reduce;
-mod second_file;
-mod staff;
+mod answer;
+mod inputs;
+mod laws;
+mod reply;
 mod top_call;
-mod trial;
 
+pub use answer::{Answer, JobAnswer, Outcome, Refusal};
+pub use laws::{
+    answers_are_one, best_proofs_are_accepted, best_rosters_are_best, best_rosters_meet,
+    problems_are_answered, reductions_are_accepted, refutations_are_accepted, rosters_meet,
+    staff_texts_are_accepted, texts_are_one, workers_make_no_difference,
+};
 pub use top_call::run;

@@ -1,27 +1,23 @@
 // One call that answers a command line.
-ghost use Rattle.std.specs.Prelude.{◌≡◌, ◌↔◌, ℕ, ◌≤◌, List, length, take, IfOk, IfErr, IsErrOf, IsTrue};
+ghost use Rattle.std.specs.Prelude.{◌≡◌, ℕ, ◌≤◌, List, length, take, IfOk, IsErrOf};
 ghost use Rattle.std.specs.Io.KnownBytes.{Appends, Keeps};
-ghost use Rattle.rwsp_io.specs.Told.{Rose, NeverFall, Missing};
-ghost use Rattle.rwsp_answers.specs.Answers.{IsAnswer, IsAnswerOn, IsReadFault};
-ghost use Rattle.command_line.specs.Commands.{IsForm, ReadsProblem, ReadsSecond, IsWithinHorizon, HasDaysFor, AsksNoCalendar, problem_name, second_name};
-ghost use Rattle.rwsp_answers.specs.Trials.{IsTrialAnswer};
-ghost use Rattle.rwsp_answers.specs.Texts.{IsTextOf, IsReplyText, IsTextOfTrial, IsPrintable};
-ghost use Rattle.rwsp_answers.specs.declared.answer.Answer.{Answer};
-ghost use Rattle.rwsp_replies.specs.Exits.{IsStop};
+ghost use Rattle.rwsp_io.specs.Told.{Rose, Missing};
+ghost use Rattle.command_line.specs.Commands.{ReadsProblem, IsWithinHorizon, HasDaysFor, problem_name};
+ghost use Rattle.commands.specs.Files.{IsShort};
+ghost use Rattle.rwsp_run.specs.Answers.{IsAnswer, IsAsked, IsJobAnswer, IsReadFault, HasItsNumbers, second_kind};
+ghost use Rattle.rwsp_run.specs.Texts.{IsTextOf, IsPrintable, job_text};
+ghost use Rattle.rwsp_run.specs.declared.answer.JobAnswer.{JobAnswer as AnswerOfJob};
+ghost use Rattle.rwsp_run.specs.declared.answer.Answer.TheVariants as Answers;
 
-use crate::best::best_found;
-use crate::plan::planned;
-use crate::second_file::second_answer;
-use crate::staff::staffed;
-use crate::trial::run_trial;
-use command_line::{Command, command_of, is_within_horizon, word_at};
+use crate::answer::{Answer, JobAnswer, Outcome, Refusal};
+use crate::inputs::{Inputs, inputs_of};
+use crate::reply::{Reply, printed, refused, tried};
+use command_line::{Command, command_of, is_within_horizon};
+use commands::{Stop, best, check, check_free, check_staff, crew, plan, reduce, staff, verify};
 use potential_bounds::Gate;
-use rwsp_answers::{Answer, Outcome, Stop};
 use rwsp_io::{Shelf, Sink, write_all};
 use rwsp_model::Problem;
-use rwsp_replies::{Exit, Reply, crew_reply, fixed, printed, problem_in};
-use rwsp_terms::limits::{DAYS_OF_WEEK, MOST_WEEKS};
-use std::alloc::Global;
+use std::alloc::{AllocError, Global};
 use std::thread::Threads;
 
 /// Answers the words of a command line, over the files of the shelf. The words are looked at first, then the problem's
@@ -50,18 +46,16 @@ pub fn run<R: Threads + Sync, S: Shelf, K: Sink, G: Gate>(
     ensures write_fault { (a : Answer) → result ≡ Outcome.WriteFault a → Rose (K.faults out.old) (K.faults out.new) }
 
     // Where a file couldn't be read, or there was no memory, nothing was written.
-    ensures read_fault { result ≡ Outcome.ReadFault
+    ensures read_fault { result ≡ Outcome.Stopped Stop.ReadFault
         → IsReadFault (S.held shelf.old) (S.faults shelf.old) (S.faults shelf.new) words.now.items }
-    ensures missing { (command : Command) → IsForm words.now.items command → IsWithinHorizon command
-        → ReadsProblem command → S.held shelf.old (problem_name words.now.items) ≡ Missing
-        → result ≡ Outcome.ReadFault }
-    ensures silent_at_fault { result ≡ Outcome.ReadFault → Keeps (K.got out.old) (K.got out.new) }
-    ensures silent_without_memory { result ≡ Outcome.Memory → Keeps (K.got out.old) (K.got out.new) }
+    ensures missing { (command : Command) → IsAsked words.now.items command
+        → S.held shelf.old (problem_name words.now.items) ≡ Missing
+        → result ≡ Outcome.Stopped Stop.ReadFault }
+    ensures silent { (stop : Stop) → result ≡ Outcome.Stopped stop → Keeps (K.got out.old) (K.got out.new) }
 {
     let reply = match reply_to(rt, alloc, words, shelf, gate) {
         Ok(reply) => reply,
-        Err(Stop::ReadFault) => return Outcome::ReadFault,
-        Err(Stop::Memory) => return Outcome::Memory,
+        Err(stop) => return Outcome::Stopped(stop),
     };
     let written = write_all(out, &reply.text);
     match written {
@@ -71,7 +65,6 @@ pub fn run<R: Threads + Sync, S: Shelf, K: Sink, G: Gate>(
 }
 
 // The answer to the words, with its text.
-#[tactic(auto, using(crate::proofs::Replies::trial_answer, crate::proofs::Replies::trial_text))]
 fn reply_to<R: Threads + Sync, S: Shelf, G: Gate>(
     rt: &R,
     alloc: Global,
@@ -81,26 +74,27 @@ fn reply_to<R: Threads + Sync, S: Shelf, G: Gate>(
 ) -> Result<Reply, Stop>
     ensures answer { IfOk result (λ r. IsAnswer (S.held shelf.old) words.now.items r.answer) }
     ensures text { IfOk result (λ r. IsTextOf (S.held shelf.old) words.now.items r.answer r.text.items) }
-    ensures missing { (command : Command) → IsForm words.now.items command → IsWithinHorizon command
-        → ReadsProblem command → S.held shelf.old (problem_name words.now.items) ≡ Missing
+    ensures missing { (command : Command) → IsAsked words.now.items command
+        → S.held shelf.old (problem_name words.now.items) ≡ Missing
         → IsErrOf result Stop.ReadFault }
     ensures fault { IsErrOf result Stop.ReadFault
         → IsReadFault (S.held shelf.old) (S.faults shelf.old) (S.faults shelf.new) words.now.items }
 {
     let Some(command) = command_of(words) else {
-        return fixed(alloc, Answer::Usage);
+        return Ok(refused(alloc, Refusal::Usage)?);
     };
     if !is_within_horizon(&command) {
-        return fixed(alloc, Answer::Horizon);
+        return Ok(refused(alloc, Refusal::Horizon)?);
     }
     match command {
-        Command::Trial { number, weeks } => tried(rt, alloc, number, weeks, gate),
-        _ => reply_on_file(rt, alloc, words, shelf, command, gate),
+        Command::Trial { number, weeks } => Ok(tried(rt, alloc, number, weeks, gate)?),
+        _ => reply_on_files(rt, alloc, words, shelf, command, gate),
     }
 }
 
-// The reply of a command that reads a problem's file.
-fn reply_on_file<R: Threads + Sync, S: Shelf, G: Gate>(
+// The reply of a command that reads files.
+#[tactic(auto, using(crate::proofs::Numbers::has_numbers, crate::proofs::Files::short_second))]
+fn reply_on_files<R: Threads + Sync, S: Shelf, G: Gate>(
     rt: &R,
     alloc: Global,
     words: &Vec<String>,
@@ -108,124 +102,100 @@ fn reply_on_file<R: Threads + Sync, S: Shelf, G: Gate>(
     command: Command,
     gate: &G,
 ) -> Result<Reply, Stop>
-    requires form { IsForm words.now.items command }
-    requires horizon { IsWithinHorizon command }
-    requires reads { ReadsProblem command }
+    requires { IsAsked words.now.items command }
     ensures answer { IfOk result (λ r. IsAnswer (S.held shelf.old) words.now.items r.answer) }
     ensures text { IfOk result (λ r. IsTextOf (S.held shelf.old) words.now.items r.answer r.text.items) }
     ensures missing { S.held shelf.old (problem_name words.now.items) ≡ Missing → IsErrOf result Stop.ReadFault }
     ensures fault { IsErrOf result Stop.ReadFault
         → IsReadFault (S.held shelf.old) (S.faults shelf.old) (S.faults shelf.new) words.now.items }
 {
-    let problem = match problem_in(alloc, shelf, word_at(words, 1)) {
-        Ok(problem) => problem,
-        Err(Exit::Answer(answer)) => return fixed(alloc, answer),
-        Err(Exit::Stop(stop)) => return Err(stop),
-    };
-    on_problem(rt, alloc, words, shelf, &problem, command, gate)
+    match inputs_of(alloc, words, shelf, command)? {
+        Ok(inputs) => Ok(reply_on(rt, alloc, inputs, command, gate)?),
+        Err(why) => Ok(refused(alloc, why)?),
+    }
 }
 
-// The reply to a command, for its problem.
-fn on_problem<R: Threads + Sync, S: Shelf, G: Gate>(
+// The reply of a command to what it works on.
+fn reply_on<R: Threads + Sync, G: Gate>(
     rt: &R,
     alloc: Global,
-    words: &Vec<String>,
-    shelf: &mut S,
-    problem: &Problem,
+    inputs: Inputs,
     command: Command,
     gate: &G,
-) -> Result<Reply, Stop>
-    requires form { IsForm words.now.items command }
+) -> Result<Reply, AllocError>
+    requires asked { ReadsProblem command }
+    requires numbers { HasItsNumbers command }
     requires horizon { IsWithinHorizon command }
-    requires reads { ReadsProblem command }
-    ensures answer { IfOk result (λ r.
-        IsAnswerOn command (S.held shelf.old (second_name words.now.items)) problem.now r.answer) }
-    ensures text { IfOk result (λ r.
-        IsReplyText command (S.held shelf.old (second_name words.now.items)) problem.now r.answer r.text.items) }
-    ensures stop { IfErr result (IsStop (ReadsSecond command × HasDaysFor command problem.now
-        × Rose (S.faults shelf.old (second_name words.now.items)) (S.faults shelf.new (second_name words.now.items)))) }
-    ensures faults { NeverFall (S.faults shelf.old) (S.faults shelf.new) }
+    requires days { HasDaysFor command inputs.problem }
+    requires short { IsShort (second_kind command) inputs.bytes.items }
+    ensures { IfOk result (λ r. (a : AnswerOfJob) × (r.answer ≡ Answers.Job a)
+        × IsJobAnswer command inputs.problem inputs.bytes.items a × IsPrintable inputs.problem a
+        × (r.text.items ≡ job_text inputs.problem a)) }
 {
-    if let Command::Crew {
-        date,
-        days,
-        employee,
-    } = command
-    {
-        return crew_reply(
-            alloc,
-            shelf,
-            problem,
-            word_at(words, 2),
+    let Inputs { problem, bytes } = inputs;
+    let answer = answer_on(rt, alloc, &problem, bytes, command, gate)?;
+    printed(alloc, &problem, answer)
+}
+
+// The answer of a command on a problem and the bytes of its second file.
+fn answer_on<R: Threads + Sync, G: Gate>(
+    rt: &R,
+    alloc: Global,
+    problem: &Problem,
+    bytes: Vec<u8>,
+    command: Command,
+    gate: &G,
+) -> Result<JobAnswer, AllocError>
+    requires asked { ReadsProblem command }
+    requires numbers { HasItsNumbers command }
+    requires horizon { IsWithinHorizon command }
+    requires days { HasDaysFor command problem.now }
+    requires short { IsShort (second_kind command) bytes.items }
+    ensures answer { IfOk result (IsJobAnswer command problem.now bytes.items) }
+    ensures printable { IfOk result (IsPrintable problem.now) }
+{
+    match command {
+        Command::Show => Ok(JobAnswer::Show),
+        Command::Plan { budget } => {
+            let found = plan::job(rt, alloc, problem, budget, gate)?;
+            Ok(JobAnswer::Plan(found))
+        }
+        Command::Best { budget } => {
+            let found = best::job(alloc, problem, budget)?;
+            Ok(JobAnswer::Best(found))
+        }
+        Command::Staff { low, high, budget } => {
+            let answer = staff::job(rt, alloc, problem, low, high, budget, gate)?;
+            Ok(JobAnswer::Staff(answer))
+        }
+        Command::Verify => {
+            let answer = verify::job(alloc, problem, &bytes)?;
+            Ok(JobAnswer::Verify(answer))
+        }
+        Command::Check { workers } => {
+            let answer = check::job(rt, alloc, problem, &bytes, workers, gate)?;
+            Ok(JobAnswer::Check(answer))
+        }
+        Command::CheckFree => {
+            let answer = check_free::job(alloc, problem, &bytes)?;
+            Ok(JobAnswer::CheckFree(answer))
+        }
+        Command::CheckStaff => {
+            let answer = check_staff::job(rt, alloc, problem, &bytes, gate)?;
+            Ok(JobAnswer::CheckStaff(answer))
+        }
+        Command::Reduce => {
+            let answer = reduce::job(rt, alloc, problem, bytes, gate)?;
+            Ok(JobAnswer::Reduce(answer))
+        }
+        Command::Crew {
             date,
             days,
             employee,
-        );
-    }
-    let answer = answer_on(rt, alloc, words, shelf, problem, command, gate)?;
-    printed(alloc, problem, answer)
-}
-
-// The answer to a command, for its problem.
-fn answer_on<R: Threads + Sync, S: Shelf, G: Gate>(
-    rt: &R,
-    alloc: Global,
-    words: &Vec<String>,
-    shelf: &mut S,
-    problem: &Problem,
-    command: Command,
-    gate: &G,
-) -> Result<Answer, Stop>
-    requires form { IsForm words.now.items command }
-    requires reads { ReadsProblem command }
-    requires other { AsksNoCalendar command }
-    ensures answer { IfOk result (IsAnswerOn command (S.held shelf.old (second_name words.now.items)) problem.now) }
-    ensures printable { IfOk result (IsPrintable problem.now) }
-    ensures stop { IfErr result (IsStop (ReadsSecond command × HasDaysFor command problem.now
-        × Rose (S.faults shelf.old (second_name words.now.items)) (S.faults shelf.new (second_name words.now.items)))) }
-    ensures faults { NeverFall (S.faults shelf.old) (S.faults shelf.new) }
-{
-    if !has_days_for(&command, problem) {
-        return Ok(Answer::NotWeekly(problem.days()));
-    }
-    match command {
-        Command::Plan { budget } => Ok(planned(rt, alloc, problem, budget, gate)?),
-        Command::Show => Ok(Answer::Shown),
-        Command::Staff { low, high, budget } => {
-            Ok(staffed(rt, alloc, problem, low, high, budget, gate)?)
+        } => {
+            let answer = crew::job(alloc, problem, &bytes, date, days, employee)?;
+            Ok(JobAnswer::Crew(answer))
         }
-        Command::Best { budget } => Ok(best_found(alloc, problem, budget)?),
-        _ => second_answer(rt, alloc, shelf, problem, word_at(words, 2), command, gate),
-    }
-}
-
-// The reply of a trial.
-#[tactic(auto, using(crate::proofs::Replies::is_trial))]
-fn tried<R: Threads + Sync, G: Gate>(
-    rt: &R,
-    alloc: Global,
-    number: u32,
-    weeks: u32,
-    gate: &G,
-) -> Result<Reply, Stop>
-    requires { (1 ≤ weeks) × (weeks ≤ MOST_WEEKS) }
-    ensures answer { IfOk result (λ r. IsTrialAnswer number weeks r.answer) }
-    ensures text { IfOk result (λ r. IsTextOfTrial r.answer r.text.items) }
-    ensures fault { IsErrOf result Stop.ReadFault → ⊥ }
-{
-    let trial = run_trial(rt, alloc, number, weeks, gate)?;
-    Ok(Reply {
-        answer: Answer::Trial(trial.result),
-        text: trial.text,
-    })
-}
-
-// Whether the week of the problem has as many days as the command asks for.
-fn has_days_for(command: &Command, problem: &Problem) -> bool
-    ensures { IsTrue result ↔ HasDaysFor command.now problem.now }
-{
-    match command {
-        Command::CheckFree | Command::Best { .. } => problem.days() == DAYS_OF_WEEK,
-        _ => true,
+        Command::Trial { .. } => unreachable!(),
     }
 }

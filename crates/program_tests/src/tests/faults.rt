@@ -5,9 +5,10 @@ use super::logs::{SPLIT, TURN, TWOS};
 use super::plans::THREE_OF_FIVE;
 use super::staffs::{NONE_TO_THREE, TWO_OF_FOUR};
 use super::{NINE_WEEKS, NINE_WEEKS_ROSTER, TWO_DAYS, outcome_of, ran, shelf_of, words_of};
+use commands::verify;
 use memory_files::MemorySink;
 use potential_bounds::NoGate;
-use rwsp_answers::{Answer, Outcome};
+use rwsp_run::{Answer, JobAnswer, Outcome};
 use std::alloc::{AllocError, Global};
 use std::test::Fail;
 use std::thread::Threads;
@@ -155,8 +156,8 @@ enum Meets {
 
 fn meets_in(outcome: &Outcome) -> Meets {
     match outcome {
-        Outcome::Done(Answer::Meets) => Meets::Whole,
-        Outcome::WriteFault(Answer::Meets) => Meets::Part,
+        Outcome::Done(Answer::Job(JobAnswer::Verify(verify::Answer::Meets))) => Meets::Whole,
+        Outcome::WriteFault(Answer::Job(JobAnswer::Verify(verify::Answer::Meets))) => Meets::Part,
         _ => Meets::NotSaid,
     }
 }

@@ -6,8 +6,8 @@ use memory_files::MemorySink;
 use plan_terms::Found;
 use potential_bounds::NoGate;
 use problem_generator::gen_problem;
-use rwsp_answers::{Answer, Outcome};
 use rwsp_file::print_problem;
+use rwsp_run::{Answer, Outcome};
 use std::test::Fail;
 
 const ONE_WEEK: &str =

@@ -1,0 +1,45 @@
+-- What is said of the most free weekends.
+use Rattle.std.proofs.Common.{◌≡◌, ℕ, ◌+◌, ◌<◌, ◌≤◌, List, Option, Some, None, arith, subst, refl}
+use Rattle.rwsp_terms.specs.Instance.{Instance}
+use Rattle.rwsp_terms.specs.Roster.{MeetsAll}
+use Rattle.rwsp_terms.specs.declared.data.Symbol.{Symbol}
+use Rattle.rwsp_model.specs.declared.roster.Roster.{Roster}
+use Rattle.refutation_terms.specs.Log.{Log, FreePasses}
+use Rattle.refutation_terms.specs.FreeWeekends.{free_weekends}
+use Rattle.refutation_terms.proofs.Sound.{passing_leaves_none_for}
+use Rattle.refutation_terms.proofs.Named.{named-IsRule}
+use Rattle.plan_terms.specs.declared.best_found.BestFound.{BestFound}
+use Rattle.plan_terms.specs.declared.best_found.BestFound.TheVariants.{Best, NoRoster, Undecided}
+use Rattle.commands.specs.Best.{IsBestAnswer, best_roster, StaysBelow, Bounds, BestsAgree}
+
+below : (goal n : ℕ) → (goal ≤ n → ⊥) → n < goal
+below goal n h = omega (arith, h)
+
+-- a roster that meets every rule has fewer free weekends than the goal of a free log that passes
+pub below_goal : (P : Instance) (goal : ℕ) (g : Log) (t : List Symbol) → FreePasses P goal g → MeetsAll P t → free_weekends t < goal
+below_goal P goal g t passes meets = below goal (free_weekends t) (λ many. passing_leaves_none_for P (Some goal) g t passes (record { is_roster = meets.is_roster; rules = λ r n. meets.rules r (named-IsRule P g.named r n) }) many)
+
+-- which rosters such a search has meets every rule
+
+pub best_meets : (P : Instance) (budget : ℕ) (a : BestFound) (t : Roster) → IsBestAnswer P budget a → best_roster a ≡ Some t → MeetsAll P t.cells
+best_meets P budget (Best s g) t h e = let same : s ≡ t = cc in subst (λ (u : Roster). MeetsAll P u.cells) same h.0.0.1
+best_meets P budget (NoRoster g) t h e = absurd (cc)
+best_meets P budget (Undecided None g) t h e = absurd (cc)
+best_meets P budget (Undecided (Some s) g) t h e = let same : s ≡ t = cc in subst (λ (u : Roster). MeetsAll P u.cells) same h.0.0.1
+
+stays_below : (P : Instance) (goal : ℕ) (g : Log) (found : Option Roster) → FreePasses P goal g → ((t : Roster) → found ≡ Some t → MeetsAll P t.cells) → StaysBelow found goal
+stays_below P goal g None passes meets = tt
+stays_below P goal g (Some s) passes meets = below_goal P goal g s.cells passes (meets s refl)
+
+bounds : (P : Instance) (budget : ℕ) (a b : BestFound) → IsBestAnswer P budget a → IsBestAnswer P budget b → Bounds a b
+bounds P budget (Best s g) b h k = stays_below P (free_weekends s.cells + 1) g (best_roster b) h.0.1.0 (λ t e. best_meets P budget b t k e)
+bounds P budget (NoRoster g) b h k = stays_below P 0 g (best_roster b) h.0.0 (λ t e. best_meets P budget b t k e)
+bounds P budget (Undecided s g) b h k = tt
+
+same_count : (m n : ℕ) → m < n + 1 → n < m + 1 → m ≡ n
+same_count m n h k = omega (arith, h, k)
+
+pub bests_agree : (P : Instance) (budget : ℕ) (a b : BestFound) → IsBestAnswer P budget a → IsBestAnswer P budget b → BestsAgree a b
+bests_agree P budget (Best s g) (Best t h) x y =
+    same_count (free_weekends s.cells) (free_weekends t.cells) (bounds P budget (Best t h) (Best s g) y x) (bounds P budget (Best s g) (Best t h) x y)
+bests_agree P budget a b x y = (bounds P budget a b x y, bounds P budget b a y x)

@@ -1,0 +1,13 @@
+pub mod Appends
+pub mod Demand
+pub mod Refusals
+pub mod Reductions
+pub mod Unread
+pub mod Tried
+pub mod Owned
+pub mod ProblemFiles
+pub mod Rosters
+pub mod Logs
+pub mod Bests
+pub mod Staffs
+pub mod Calendars

@@ -1,0 +1,14 @@
+pub mod Lines
+pub mod Files
+pub mod ProblemFile
+pub mod LogRefusals
+pub mod Plan
+pub mod Verify
+pub mod Check
+pub mod CheckFree
+pub mod Reduce
+pub mod Crew
+pub mod Trial
+pub mod Best
+pub mod Staff
+pub mod CheckStaff

@@ -1,0 +1,45 @@
+-- What is said of a problem's file by itself.
+use Rattle.std.specs.Prelude.{◌≡◌, ℕ, ◌<◌, ◌≤◌, List, ◌++◌, length, codes, Some, Result, Ok, Err}
+use Rattle.std.specs.Fmt.{decimal}
+use Rattle.rwsp_terms.specs.declared.limits.TheConstants.{LONGEST_FILE}
+use Rattle.rwsp_terms.specs.Instance.{Instance}
+use Rattle.rwsp_io.specs.Told.{Told}
+use Rattle.rwsp_file.specs.Spelling.{SpellsProblem}
+use Rattle.rwsp_file.specs.Reading.{file_refusal}
+use Rattle.rwsp_file.specs.declared.refusal.FileRefusal.{FileRefusal}
+use Rattle.rwsp_file.specs.declared.refusal.FileRefusal.TheVariants.{Ends, Number, Range, Row, Name, Unknown, Extra}
+use Rattle.commands.specs.Lines.{line, at_line}
+use Rattle.commands.specs.Files.{WhereTold}
+use Rattle.commands.specs.declared.problem_file.ProblemRefusal.{ProblemRefusal}
+use Rattle.commands.specs.declared.problem_file.ProblemRefusal.TheVariants.{TooLong, Refused}
+
+-- a problem's file that isn't too long
+abbrev pub IsShortFile : List ℕ → Type 0
+IsShortFile file = length file ≤ LONGEST_FILE
+
+-- why the bytes of a problem's file are refused
+abbrev pub IsProblemRefusal : List ℕ → ProblemRefusal → Type 0
+IsProblemRefusal file TooLong = LONGEST_FILE < length file
+IsProblemRefusal file (Refused why) = IsShortFile file × (file_refusal file ≡ Some why)
+
+-- the file isn't too long and spells the problem, where its bytes are known
+abbrev pub IsProblemOf : Told → Instance → Type 0
+IsProblemOf told P = WhereTold told (λ file. IsShortFile file × SpellsProblem file P)
+
+-- what was read of a problem's file: the problem, or why the file is refused
+abbrev pub IsProblemRead : Told → Result Instance ProblemRefusal → Type 0
+IsProblemRead told (Ok P) = IsProblemOf told P
+IsProblemRead told (Err why) = WhereTold told (λ file. IsProblemRefusal file why)
+
+abbrev pub file_refusal_text : FileRefusal → List ℕ
+file_refusal_text (Ends number) = at_line (codes "file refused: ends") number
+file_refusal_text (Number number) = at_line (codes "file refused: number") number
+file_refusal_text (Range number limit) = at_line (codes "file refused: range " ++ decimal limit) number
+file_refusal_text (Row number) = at_line (codes "file refused: row") number
+file_refusal_text (Name number) = at_line (codes "file refused: name") number
+file_refusal_text (Unknown number) = at_line (codes "file refused: unknown") number
+file_refusal_text (Extra number) = at_line (codes "file refused: extra") number
+
+abbrev pub problem_refusal_line : ProblemRefusal → List ℕ
+problem_refusal_line TooLong = line (codes "too long: problem")
+problem_refusal_line (Refused why) = line (file_refusal_text why)

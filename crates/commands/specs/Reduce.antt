@@ -1,0 +1,36 @@
+-- What `reduce` answers.
+use Rattle.std.specs.Prelude.{ℕ, List}
+use Rattle.rwsp_terms.specs.Instance.{Instance}
+use Rattle.refutation_terms.specs.Log.{Log, Fits, Passes}
+use Rattle.refutation_terms.specs.LogText.{log_text}
+use Rattle.refutation_terms.specs.Strip.{IsReduced}
+use Rattle.refutation_terms.specs.Verdict.{IsAccepted, IsRefused}
+use Rattle.plan_terms.specs.Needs.{NeedsEach, NeedsTogether}
+use Rattle.commands.specs.Lines.{line}
+use Rattle.commands.specs.LogRefusals.{log_refusal_text, HasSymbols}
+use Rattle.commands.specs.declared.reduce.Answer.{Answer}
+use Rattle.commands.specs.declared.reduce.Answer.TheVariants.{Reduced, Refused}
+
+-- a log that passes, and can't do without any rule that it names, nor without several window rules
+pub record IsSparing (P : Instance) (g : Log) : Type 0 where
+  pub passes : Passes P g
+  pub each : NeedsEach P g
+  pub together : NeedsTogether P g
+
+-- what an answer says of the bytes of a log: reduced is the log that passes
+abbrev pub IsReduction : Instance → List ℕ → Answer → Type 0
+IsReduction P bytes (Reduced h) = ((g : Log) × IsAccepted P bytes g × IsReduced P g h) × IsSparing P h
+IsReduction P bytes (Refused why) = IsRefused P bytes why
+
+abbrev pub reduce_text : Instance → Answer → List ℕ
+reduce_text P (Reduced g) = log_text P g
+reduce_text P (Refused why) = line (log_refusal_text P why)
+
+-- what the answer names is the instance's
+abbrev pub IsReductionOf : Instance → Answer → Type 0
+IsReductionOf P (Reduced g) = Fits P g
+IsReductionOf P (Refused why) = HasSymbols P why
+
+abbrev pub reduce_status : Answer → ℕ
+reduce_status (Reduced g) = 0
+reduce_status (Refused why) = 5

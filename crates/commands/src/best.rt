@@ -1,0 +1,49 @@
+// A roster with the most free weekends, and why none has more.
+ghost use Rattle.std.specs.Prelude.{◌≡◌, ◌≤◌, IfOk};
+ghost use Rattle.rwsp_terms.specs.declared.limits.TheConstants.{DAYS_OF_WEEK};
+ghost use Rattle.commands.specs.Best.{IsBestAnswer, IsBestOf, best_text, best_status};
+
+mod texts;
+
+use plan_terms::BestFound;
+use refutation_log::print_free;
+use rwsp_model::Problem;
+use rwsp_terms::limits::GREATEST_BUDGET;
+use std::alloc::{AllocError, Global};
+use texts::{best_text, undecided_text};
+use weekend_best::best;
+
+/// What is found of the most free weekends of the problem, with the budget for each goal.
+pub fn job(alloc: Global, problem: &Problem, budget: u32) -> Result<BestFound, AllocError>
+    requires weekly { problem.now.days ≡ DAYS_OF_WEEK }
+    requires budget { (1 ≤ budget) × (budget ≤ GREATEST_BUDGET) }
+    ensures says { IfOk result (IsBestAnswer problem.now budget) }
+    ensures own { IfOk result (IsBestOf problem.now) }
+{
+    best(alloc, problem, budget)
+}
+
+/// The text of what was found: a roster with the number of its free weekends, and a free log.
+pub fn text(alloc: Global, problem: &Problem, found: &BestFound) -> Result<Vec<u8>, AllocError>
+    requires { IsBestOf problem.now found.now }
+    ensures { IfOk result (λ v. v.items ≡ best_text problem.now found.now) }
+{
+    match found {
+        BestFound::Best { roster, proof } => best_text(alloc, problem, roster, proof),
+        BestFound::NoRoster(log) => print_free(alloc, problem, log),
+        BestFound::Undecided { roster, partial } => {
+            undecided_text(alloc, problem, roster, partial)
+        }
+    }
+}
+
+/// The status of what was found.
+pub fn status(found: &BestFound) -> u8
+    ensures { result ≡ best_status found.now }
+{
+    match found {
+        BestFound::Best { .. } => 0,
+        BestFound::NoRoster(_) => 1,
+        BestFound::Undecided { .. } => 4,
+    }
+}

@@ -1,0 +1,69 @@
+// The texts of what a search for the most free weekends found.
+ghost use Rattle.std.specs.Prelude.{◌≡◌, ◌++◌, IfOk, OnOk, Some};
+ghost use Rattle.refutation_terms.specs.LogText.{log_text_for};
+ghost use Rattle.commands.specs.Best.{counted_text, found_text, IsWeeklyRoster, IsRosterFound, FitsFree};
+
+use crate::put::put_labelled;
+use refutation_log::{Log, print_free};
+use roster_checker::free_weekends;
+use roster_print::print_roster;
+use rwsp_model::{Problem, Roster};
+use std::alloc::{AllocError, Global};
+
+// Appends how many free weekends the roster has, and the roster.
+fn put_counted(out: &mut Vec<u8>, problem: &Problem, roster: &Roster) -> Result<(), AllocError>
+    requires { IsWeeklyRoster problem.now roster.now }
+    ensures { OnOk result (out.new.items ≡ out.old.items ++ counted_text problem.now roster.now) }
+{
+    put_labelled(out, b"free ".as_slice(), free_weekends(problem, roster))?;
+    out.push(b'\n')?;
+    let text = print_roster(*out.allocator(), problem, roster)?;
+    out.extend_from_slice(&text)?;
+    Ok(())
+}
+
+// Appends the free log.
+fn put_free_log(out: &mut Vec<u8>, problem: &Problem, log: &Log) -> Result<(), AllocError>
+    requires { FitsFree problem.now log.now }
+    ensures { OnOk result (out.new.items ≡ out.old.items ++ log_text_for problem.now log.now.goal log.now) }
+{
+    let text = print_free(*out.allocator(), problem, log)?;
+    out.extend_from_slice(&text)?;
+    Ok(())
+}
+
+/// The text of the best roster and of the proof that none is better.
+pub fn best_text(
+    alloc: Global,
+    problem: &Problem,
+    roster: &Roster,
+    proof: &Log,
+) -> Result<Vec<u8>, AllocError>
+    requires roster { IsWeeklyRoster problem.now roster.now }
+    requires fits { FitsFree problem.now proof.now }
+    ensures { IfOk result (λ v.
+        v.items ≡ counted_text problem.now roster.now ++ log_text_for problem.now proof.now.goal proof.now) }
+{
+    let mut out = Vec::new(alloc);
+    put_counted(&mut out, problem, roster)?;
+    put_free_log(&mut out, problem, proof)?;
+    Ok(out)
+}
+
+/// The text of what is known where the budget was spent.
+pub fn undecided_text(
+    alloc: Global,
+    problem: &Problem,
+    roster: &Option<Roster>,
+    partial: &Log,
+) -> Result<Vec<u8>, AllocError>
+    requires roster { IsRosterFound problem.now roster.now }
+    requires fits { FitsFree problem.now partial.now }
+    ensures { IfOk result (λ v.
+        v.items ≡ found_text problem.now roster.now ++ log_text_for problem.now partial.now.goal partial.now) }
+{
+    match roster {
+        Some(roster) => best_text(alloc, problem, roster, partial),
+        None => print_free(alloc, problem, partial),
+    }
+}

@@ -1,0 +1,24 @@
+//! The commands, a module each: what it answers, the texts and statuses of its answers, and its job on a problem and
+//! the bytes of its second file.
+#![tactic(auto)]
+
+pub mod best;
+pub mod check;
+pub mod check_free;
+pub mod check_staff;
+pub mod crew;
+mod log_refusal;
+pub mod plan;
+mod problem_file;
+mod put;
+pub mod reduce;
+mod second_file;
+pub mod staff;
+mod stop;
+pub mod trial;
+pub mod verify;
+
+pub use problem_file::{ProblemRefusal, problem_in, problem_refusal_line};
+pub use put::not_weekly_line;
+pub use second_file::{SecondKind, second_in, too_long_line};
+pub use stop::Stop;

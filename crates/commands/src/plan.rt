@@ -1,0 +1,51 @@
+// A roster for a problem, or a refutation.
+ghost use Rattle.std.specs.Prelude.{◌≡◌, ◌≤◌, IfOk};
+ghost use Rattle.plan_terms.specs.Planned.{IsPlanned};
+ghost use Rattle.commands.specs.Plan.{plan_text, plan_status, IsPlanOf};
+
+use plan_terms::Found;
+use potential_bounds::Gate;
+use refutation_log::print_log;
+use roster_planner::plan_roster;
+use roster_print::print_roster;
+use rwsp_model::Problem;
+use rwsp_terms::limits::GREATEST_BUDGET;
+use std::alloc::{AllocError, Global};
+use std::thread::Threads;
+
+/// The plan of the problem within the budget.
+pub fn job<R: Threads + Sync, G: Gate>(
+    rt: &R,
+    alloc: Global,
+    problem: &Problem,
+    budget: u32,
+    gate: &G,
+) -> Result<Found, AllocError>
+    requires { (1 ≤ budget) × (budget ≤ GREATEST_BUDGET) }
+    ensures found { IfOk result (IsPlanned problem.now budget) }
+    ensures own { IfOk result (IsPlanOf problem.now) }
+{
+    plan_roster(rt, alloc, problem, budget, gate)
+}
+
+/// The text of a plan: a roster, or a log.
+pub fn text(alloc: Global, problem: &Problem, found: &Found) -> Result<Vec<u8>, AllocError>
+    requires { IsPlanOf problem.now found.now }
+    ensures { IfOk result (λ v. v.items ≡ plan_text problem.now found.now) }
+{
+    match found {
+        Found::Roster(roster) => print_roster(alloc, problem, roster),
+        Found::NoRoster(log) | Found::Undecided(log) => print_log(alloc, problem, log),
+    }
+}
+
+/// The status of a plan.
+pub fn status(found: &Found) -> u8
+    ensures { result ≡ plan_status found.now }
+{
+    match found {
+        Found::Roster(_) => 0,
+        Found::NoRoster(_) => 1,
+        Found::Undecided(_) => 4,
+    }
+}

@@ -1,0 +1,88 @@
+// The problem's file, read and understood.
+ghost use Rattle.std.specs.Prelude.{◌≡◌, ℕ, List, IfOk, IfErr, IsErrOf};
+ghost use Rattle.std.specs.String.{string_bytes};
+ghost use Rattle.rwsp_io.specs.Told.{NeverFall, Rose, Missing, Bytes};
+ghost use Rattle.rwsp_file.specs.Spelling.{SpellsProblem};
+ghost use Rattle.commands.specs.Lines.{line};
+ghost use Rattle.commands.specs.Files.{IsStop};
+ghost use Rattle.commands.specs.ProblemFile.{IsProblemRead, IsShortFile, IsProblemRefusal, file_refusal_text, problem_refusal_line};
+
+use crate::stop::Stop;
+use rwsp_file::{FileRefusal, read_problem};
+use rwsp_io::{ReadFail, Shelf, read_all};
+use rwsp_model::{Fail, Problem};
+use rwsp_terms::limits::LONGEST_FILE;
+use std::alloc::{AllocError, Global};
+
+/// Why the problem's file is refused.
+#[derive(Clone, Copy)]
+pub enum ProblemRefusal {
+    /// It has more bytes than a problem may have.
+    TooLong,
+    /// It spells no problem.
+    Refused(FileRefusal),
+}
+
+/// The problem that a file spells, or why the file is refused.
+pub fn problem_in<S: Shelf>(
+    alloc: Global,
+    shelf: &mut S,
+    name: &str,
+) -> Result<Result<Problem, ProblemRefusal>, Stop>
+    ensures read { IfOk result (IsProblemRead (S.held shelf.old name.now)) }
+    ensures stop { IfErr result (IsStop (Rose (S.faults shelf.old name.now) (S.faults shelf.new name.now))) }
+    ensures missing { S.held shelf.old name.now ≡ Missing → IsErrOf result Stop.ReadFault }
+    ensures held { (other : List ℕ) → S.held shelf.new other ≡ S.held shelf.old other }
+    ensures faults { NeverFall (S.faults shelf.old) (S.faults shelf.new) }
+{
+    match read_all(alloc, shelf, name, LONGEST_FILE as usize) {
+        Ok(text) => problem_of(alloc, &text),
+        Err(ReadFail::Fault) => Err(Stop::ReadFault),
+        Err(ReadFail::TooLong) => Ok(Err(ProblemRefusal::TooLong)),
+        Err(ReadFail::Memory) => Err(Stop::Memory),
+    }
+}
+
+// The problem that bytes spell, or why they are refused.
+fn problem_of(alloc: Global, text: &[u8]) -> Result<Result<Problem, ProblemRefusal>, Stop>
+    requires { IsShortFile text.now }
+    ensures read { IfOk result (IsProblemRead (Bytes text.now)) }
+    ensures fault { IsErrOf result Stop.ReadFault → ⊥ }
+{
+    match read_problem(alloc, text) {
+        Ok(problem) => Ok(Ok(problem)),
+        Err(Fail::Refused(refusal)) => Ok(Err(ProblemRefusal::Refused(refusal))),
+        Err(Fail::Memory) => Err(Stop::Memory),
+    }
+}
+
+#[tactic(auto, using(crate::proofs::Appends::regroup))]
+fn range_line(alloc: Global, number: u32, limit: u32) -> Result<String, AllocError>
+    ensures { IfOk result (λ t. string_bytes t ≡ line (file_refusal_text (FileRefusal.Range number limit))) }
+{
+    format!(in alloc; "file refused: range {limit} line {number}\n")
+}
+
+fn file_refusal_line(alloc: Global, refusal: FileRefusal) -> Result<String, AllocError>
+    ensures { IfOk result (λ t. string_bytes t ≡ line (file_refusal_text refusal)) }
+{
+    match refusal {
+        FileRefusal::Ends(line) => format!(in alloc; "file refused: ends line {line}\n"),
+        FileRefusal::Number(line) => format!(in alloc; "file refused: number line {line}\n"),
+        FileRefusal::Range(line, limit) => range_line(alloc, line, limit),
+        FileRefusal::Row(line) => format!(in alloc; "file refused: row line {line}\n"),
+        FileRefusal::Name(line) => format!(in alloc; "file refused: name line {line}\n"),
+        FileRefusal::Unknown(line) => format!(in alloc; "file refused: unknown line {line}\n"),
+        FileRefusal::Extra(line) => format!(in alloc; "file refused: extra line {line}\n"),
+    }
+}
+
+/// The line that says why a problem's file is refused.
+pub fn problem_refusal_line(alloc: Global, refusal: ProblemRefusal) -> Result<String, AllocError>
+    ensures { IfOk result (λ t. string_bytes t ≡ problem_refusal_line refusal) }
+{
+    match refusal {
+        ProblemRefusal::TooLong => String::from_str(alloc, "too long: problem\n"),
+        ProblemRefusal::Refused(refusal) => file_refusal_line(alloc, refusal),
+    }
+}

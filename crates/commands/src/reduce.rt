@@ -1,0 +1,105 @@
+// A log without the rules that it can do without.
+ghost use Rattle.std.specs.Prelude.{◌≡◌, IfOk};
+ghost use Rattle.refutation_terms.specs.Log.{Fits};
+ghost use Rattle.refutation_terms.specs.LogText.{log_text};
+ghost use Rattle.refutation_terms.specs.declared.lines.LogRefusal.{LogRefusal as Why};
+ghost use Rattle.refutation_log.specs.ReadLog.{IsUnread};
+ghost use Rattle.commands.specs.Files.{IsWithinLimit};
+ghost use Rattle.commands.specs.Reduce.{IsReduction, IsReductionOf, reduce_text, reduce_status};
+ghost use Rattle.commands.specs.declared.second_file.SecondKind.TheVariants as Kinds;
+
+use crate::log_refusal::log_refusal_line;
+use potential_bounds::Gate;
+use refutation_checker::check_with;
+use refutation_log::{Log, LogRefusal, print_log, read_log};
+use rule_reducer::reduce_in_place;
+use rwsp_model::{Fail, Problem};
+use rwsp_terms::limits::USUAL_WORKERS;
+use std::alloc::{AllocError, Global};
+use std::thread::Threads;
+
+/// What is left of a log.
+#[derive(Drop)]
+pub enum Answer {
+    /// The log without the rules that it can do without.
+    Reduced(Log),
+    /// It doesn't pass: its first line with a cause, and the lowest cause there.
+    Refused(LogRefusal),
+}
+
+/// The answer of a reduction to the bytes of a log. Once they are read as a log, they are let go.
+pub fn job<R: Threads + Sync, G: Gate>(
+    rt: &R,
+    alloc: Global,
+    problem: &Problem,
+    bytes: Vec<u8>,
+    gate: &G,
+) -> Result<Answer, AllocError>
+    requires { IsWithinLimit Kinds.Log bytes.items }
+    ensures says { IfOk result (IsReduction problem.now bytes.items) }
+    ensures own { IfOk result (IsReductionOf problem.now) }
+{
+    match read_log(alloc, problem, &bytes) {
+        Ok(log) => {
+            drop(bytes);
+            reduced(alloc, problem, log)
+        }
+        Err(Fail::Refused(_)) => first_refusal(rt, alloc, problem, &bytes, gate),
+        Err(Fail::Memory) => Err(AllocError),
+    }
+}
+
+// The log without the rules that it can do without.
+fn reduced(alloc: Global, problem: &Problem, log: Log) -> Result<Answer, AllocError>
+    requires { Fits problem.now log }
+    ensures says { IfOk result (IsReduction problem.now (log_text problem.now log)) }
+    ensures own { IfOk result (IsReductionOf problem.now) }
+{
+    match reduce_in_place(alloc, problem, log) {
+        Ok(log) => Ok(Answer::Reduced(log)),
+        Err(Fail::Refused(why)) => Ok(Answer::Refused(why)),
+        Err(Fail::Memory) => Err(AllocError),
+    }
+}
+
+// Why bytes are refused that spell no log: a line before the first that isn't spelled may have a cause too.
+fn first_refusal<R: Threads + Sync, G: Gate>(
+    rt: &R,
+    alloc: Global,
+    problem: &Problem,
+    bytes: &[u8],
+    gate: &G,
+) -> Result<Answer, AllocError>
+    requires short { IsWithinLimit Kinds.Log bytes.now }
+    requires unread { (why : Why) × IsUnread problem.now bytes.now why }
+    ensures says { IfOk result (IsReduction problem.now bytes.now) }
+    ensures own { IfOk result (IsReductionOf problem.now) }
+{
+    problem.prove_limits();
+    match check_with(rt, alloc, problem, bytes, USUAL_WORKERS, gate) {
+        Ok(_) => unreachable!(),
+        Err(Fail::Refused(why)) => Ok(Answer::Refused(why)),
+        Err(Fail::Memory) => Err(AllocError),
+    }
+}
+
+/// The text of what is left, or the line of the refusal.
+pub fn text(alloc: Global, problem: &Problem, answer: &Answer) -> Result<Vec<u8>, AllocError>
+    requires { IsReductionOf problem.now answer.now }
+    ensures { IfOk result (λ v. v.items ≡ reduce_text problem.now answer.now) }
+{
+    match answer {
+        Answer::Reduced(log) => print_log(alloc, problem, log),
+        Answer::Refused(why) => log_refusal_line(alloc, problem, why),
+    }
+}
+
+/// The status of the answer.
+pub fn status(answer: &Answer) -> u8
+    ensures { result ≡ reduce_status answer.now }
+{
+    match answer {
+        Answer::Reduced(_) => 0,
+        Answer::Refused(_) => 5,
+    }
+}

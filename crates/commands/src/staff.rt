@@ -1,0 +1,90 @@
+// The least crew.
+ghost use Rattle.std.specs.Prelude.{◌≡◌, ◌++◌, ◌<◌, ◌+◌, ◌≤◌, IfOk, codes};
+ghost use Rattle.std.specs.Fmt.{decimal};
+ghost use Rattle.commands.specs.Lines.{line};
+ghost use Rattle.rwsp_terms.specs.declared.limits.TheConstants.{MOST_WEEKS, MOST_SIZES, GREATEST_STAFF_BUDGET};
+ghost use Rattle.commands.specs.Staff.{IsStaffAnswer, IsStaffAnswerOf, staff_answer_text, end_status, staff_status};
+
+use crate::put::put_labelled;
+use crew_size::{StaffEnd, StaffRun, print_staff};
+use potential_bounds::Gate;
+use roster_planner::staff;
+use rwsp_model::Problem;
+use rwsp_terms::limits::MOST_CELLS;
+use std::alloc::{AllocError, Global};
+use std::thread::Threads;
+
+/// What is found of the least crew.
+#[derive(Drop)]
+pub enum Answer {
+    /// The least crew, or that there is none up to the last size, or how far the search came.
+    Run(StaffRun),
+    /// The problem would have too many cells with this number of weeks.
+    Range(u32),
+}
+
+/// The answer to `staff`: each number of weeks from `low` to `high` is planned within the budget, until one has a
+/// roster.
+pub fn job<R: Threads + Sync, G: Gate>(
+    rt: &R,
+    alloc: Global,
+    problem: &Problem,
+    low: u32,
+    high: u32,
+    budget: u32,
+    gate: &G,
+) -> Result<Answer, AllocError>
+    requires some { 1 ≤ low }
+    requires sizes { (low ≤ high) × (high ≤ MOST_WEEKS) × (high < low + MOST_SIZES) }
+    requires budget { (1 ≤ budget) × (budget ≤ GREATEST_STAFF_BUDGET) }
+    ensures says { IfOk result (IsStaffAnswer problem.now low high budget) }
+    ensures own { IfOk result (IsStaffAnswerOf problem.now) }
+{
+    if high * problem.days() > MOST_CELLS {
+        return Ok(Answer::Range(high));
+    }
+    let run = staff(rt, alloc, problem, low, high, budget, gate)?;
+    Ok(Answer::Run(run))
+}
+
+/// The text of the answer: a staff text, or a line.
+pub fn text(alloc: Global, problem: &Problem, answer: &Answer) -> Result<Vec<u8>, AllocError>
+    requires { IsStaffAnswerOf problem.now answer.now }
+    ensures { IfOk result (λ v. v.items ≡ staff_answer_text problem.now answer.now) }
+{
+    match answer {
+        Answer::Run(run) => print_staff(alloc, problem, run),
+        Answer::Range(weeks) => range_line(alloc, *weeks),
+    }
+}
+
+// The line that says that a number of weeks gives too many cells.
+fn range_line(alloc: Global, weeks: u32) -> Result<Vec<u8>, AllocError>
+    ensures { IfOk result (λ v. v.items ≡ line (codes "staff range: weeks " ++ decimal weeks)) }
+{
+    let mut out = Vec::new(alloc);
+    put_labelled(&mut out, b"staff range: weeks ".as_slice(), weeks)?;
+    out.push(b'\n')?;
+    Ok(out)
+}
+
+/// The status of the answer.
+pub fn status(answer: &Answer) -> u8
+    ensures { result ≡ staff_status answer.now }
+{
+    match answer {
+        Answer::Run(run) => end_status(run.end()),
+        Answer::Range(_) => 3,
+    }
+}
+
+// The status where the sizes of a crew ended in this way.
+fn end_status(end: &StaffEnd) -> u8
+    ensures { result ≡ end_status end.now }
+{
+    match end {
+        StaffEnd::Least(_) => 0,
+        StaffEnd::NoneTo => 1,
+        StaffEnd::Undecided(_) => 4,
+    }
+}

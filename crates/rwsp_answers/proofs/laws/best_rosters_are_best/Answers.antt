@@ -1,5 +1,0 @@
-use Rattle.rwsp_answers.proofs.OneAnswer.{best_is_best}
-use Rattle.rwsp_answers.proofs.laws.best_rosters_are_best.Goals as goal
-
-pub returns : goal.returns
-returns c = best_is_best

@@ -1,6 +1,0 @@
-use Rattle.rwsp_file.proofs.TextLaws.{texts_spell_one, texts_spell_or_fail}
-use Rattle.rwsp_answers.proofs.OneAnswer.{answered}
-use Rattle.rwsp_answers.proofs.laws.problems_are_answered.Goals as goal
-
-pub returns : goal.returns
-returns c = answered texts_spell_one texts_spell_or_fail

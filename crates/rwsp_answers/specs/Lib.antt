@@ -1,9 +1,0 @@
-pub mod Inputs
-pub mod Plans
-pub mod Trials
-pub mod Staffs
-pub mod Bests
-pub mod Answers
-pub mod Texts
-pub mod Status
-pub mod Laws

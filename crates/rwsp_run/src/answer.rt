@@ -1,0 +1,131 @@
+// What a run ends with.
+ghost use Rattle.std.specs.Prelude.{◌≡◌};
+ghost use Rattle.rwsp_run.specs.Status.{status_of_stop};
+
+use commands::{
+    ProblemRefusal, SecondKind, Stop, best, check, check_free, check_staff, crew, plan, reduce,
+    staff, trial, verify,
+};
+use plan_terms::{BestFound, Found};
+
+/// Why a command's job isn't begun.
+#[derive(Clone, Copy)]
+pub enum Refusal {
+    /// The words are no command.
+    Usage,
+    /// The calendar would go past 9999-12-31.
+    Horizon,
+    /// The first file is no problem.
+    Problem(ProblemRefusal),
+    /// The problem's week has this number of days, and the command is for weeks of seven.
+    NotWeekly(u32),
+    /// The second file is longer than its kind may be.
+    TooLong(SecondKind),
+}
+
+/// The answer to a command on a problem, as its module in `commands` has it.
+#[derive(Drop)]
+pub enum JobAnswer {
+    /// The problem was printed in its canonical form.
+    Show,
+    Plan(Found),
+    Best(BestFound),
+    Staff(staff::Answer),
+    Verify(verify::Answer),
+    Check(check::Answer),
+    CheckFree(check_free::Answer),
+    CheckStaff(check_staff::Answer),
+    Reduce(reduce::Answer),
+    Crew(crew::Answer),
+}
+
+/// The answer to a command line.
+#[derive(Drop)]
+pub enum Answer {
+    Refused(Refusal),
+    Trial(trial::Answer),
+    Job(JobAnswer),
+}
+
+/// How a run ended.
+#[derive(Drop)]
+pub enum Outcome {
+    /// The text of the answer was written.
+    Done(Answer),
+    /// A prefix of the answer's text was written, and then the output failed.
+    WriteFault(Answer),
+    /// There is no answer; nothing was written.
+    Stopped(Stop),
+}
+
+impl Outcome {
+    ghost use Rattle.rwsp_run.specs.Status.{status_of};
+
+    /// The status that the program ends with.
+    pub fn status(&self) -> u8
+        ensures { result ≡ status_of self.now }
+    {
+        match self {
+            Outcome::Done(answer) => answer.status(),
+            Outcome::WriteFault(_) => 7,
+            Outcome::Stopped(stop) => status_of_stop(*stop),
+        }
+    }
+
+    /// The status that the program ends with, where nothing else is asked of the outcome.
+    pub fn into_status(self) -> u8
+        ensures { result ≡ status_of self }
+    {
+        let status = self.status();
+        drop(self);
+        status
+    }
+}
+
+// The status where there is no answer.
+fn status_of_stop(stop: Stop) -> u8
+    ensures { result ≡ status_of_stop stop }
+{
+    match stop {
+        Stop::ReadFault => 6,
+        Stop::Memory => 8,
+    }
+}
+
+impl Answer {
+    ghost use Rattle.rwsp_run.specs.Status.{status_of_answer};
+
+    // The status where its text was written.
+    fn status(&self) -> u8
+        ensures { result ≡ status_of_answer self.now }
+    {
+        match self {
+            Answer::Refused(Refusal::Usage) => 2,
+            Answer::Refused(_) => 3,
+            Answer::Trial(_) => 0,
+            Answer::Job(answer) => answer.status(),
+        }
+    }
+}
+
+impl JobAnswer {
+    ghost use Rattle.rwsp_run.specs.Status.{job_status};
+
+    // The status where its text was written.
+    fn status(&self) -> u8
+        ensures { result ≡ job_status self.now }
+    {
+        match self {
+            JobAnswer::Show => 0,
+            JobAnswer::Plan(found) => plan::status(found),
+            JobAnswer::Best(found) => best::status(found),
+            JobAnswer::Staff(answer) => staff::status(answer),
+            JobAnswer::Verify(answer) => verify::status(answer),
+            JobAnswer::Check(answer) => check::status(answer),
+            JobAnswer::CheckFree(answer) => check_free::status(answer),
+            JobAnswer::CheckStaff(answer) => check_staff::status(answer),
+            JobAnswer::Reduce(answer) => reduce::status(answer),
+            JobAnswer::Crew(answer) => crew::status(answer),
+        }
+    }
+}

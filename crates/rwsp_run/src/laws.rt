@@ -1,0 +1,61 @@
+// Laws of the definitions. Each function's contract is the law.
+ghost use Rattle.rwsp_run.specs.Laws.{AnswersAreOne, TextsAreOne, ProblemsAreAnswered, RefutationsAreAccepted, RostersMeet, ReductionsAreAccepted, StaffTextsAreAccepted, BestRostersAreBest, BestRostersMeet, BestProofsAreAccepted, WorkersMakeNoDifference};
+
+/// What is said of each answer fits no other answer, except those that a search is free to choose. So an answer
+/// comes exactly where what is said of it is true: no other can come but want of memory, and a fault that the counts
+/// show.
+pub fn answers_are_one()
+    ensures { AnswersAreOne }
+{}
+
+/// An answer has one text.
+pub fn texts_are_one()
+    ensures { TextsAreOne }
+{}
+
+/// A command over a file that spells a problem has an answer of its own: `plan` a roster, a refutation, or a log that
+/// has spent the whole budget.
+pub fn problems_are_answered()
+    ensures { ProblemsAreAnswered }
+{}
+
+/// What `plan` writes as a refutation is accepted by `check` over the same file.
+pub fn refutations_are_accepted()
+    ensures { RefutationsAreAccepted }
+{}
+
+/// What `plan` writes as a roster meets every rule by `verify` over the same file.
+pub fn rosters_meet()
+    ensures { RostersMeet }
+{}
+
+/// What `reduce` writes is accepted by `check` over the same file.
+pub fn reductions_are_accepted()
+    ensures { ReductionsAreAccepted }
+{}
+
+/// What `staff` writes with a least crew, or with none up to the last size, is accepted by `check-staff` over the same
+/// file.
+pub fn staff_texts_are_accepted()
+    ensures { StaffTextsAreAccepted }
+{}
+
+/// What `best` writes as a roster meets every rule by `verify` over the same file, and no other has more free weekends.
+pub fn best_rosters_are_best()
+    ensures { BestRostersAreBest }
+{}
+
+/// What `best` writes as a roster meets every rule by `verify` over the same file, also where it has spent its budget.
+pub fn best_rosters_meet()
+    ensures { BestRostersMeet }
+{}
+
+/// What `best` writes as a proof is accepted by `check-free` over the same file.
+pub fn best_proofs_are_accepted()
+    ensures { BestProofsAreAccepted }
+{}
+
+/// The answer of `check` is the same for every number of workers.
+pub fn workers_make_no_difference()
+    ensures { WorkersMakeNoDifference }
+{}

@@ -1,0 +1,112 @@
+// Answers with their texts.
+ghost use Rattle.std.specs.Prelude.{◌≡◌, ◌≤◌, IfOk};
+ghost use Rattle.std.specs.String.{string_bytes};
+ghost use Rattle.commands.specs.Trial.{IsTrial, IsTrialText};
+ghost use Rattle.rwsp_run.specs.Texts.{refusal_line, job_text, IsPrintable};
+ghost use Rattle.rwsp_run.specs.declared.answer.Answer.TheVariants as Answers;
+ghost use Rattle.commands.specs.declared.trial.Answer.{Answer as TrialAnswer};
+
+use crate::answer::{Answer, JobAnswer, Refusal};
+use commands::{
+    best, check, check_free, check_staff, crew, not_weekly_line, plan, problem_refusal_line,
+    reduce, staff, too_long_line, trial, verify,
+};
+use potential_bounds::Gate;
+use rwsp_file::print_problem;
+use rwsp_model::Problem;
+use rwsp_terms::limits::MOST_WEEKS;
+use std::alloc::{AllocError, Global};
+use std::thread::Threads;
+
+/// An answer and its whole text.
+#[derive(Drop)]
+pub struct Reply {
+    pub answer: Answer,
+    pub text: Vec<u8>,
+}
+
+const USAGE: &str =
+    "usage: rwsp plan FILE [--budget B] | check FILE LOG [--workers N] | verify FILE ROSTER | reduce FILE LOG | show FILE | trial NUMBER WEEKS | best FILE [--budget B] | check-free FILE LOG | staff FILE LOW HIGH [--budget B] | check-staff FILE TEXT | crew FILE ROSTER DATE DAYS [EMPLOYEE]\n";
+
+fn refusal_line(alloc: Global, why: Refusal) -> Result<String, AllocError>
+    ensures { IfOk result (λ t. string_bytes t ≡ refusal_line why) }
+{
+    match why {
+        Refusal::Usage => String::from_str(alloc, USAGE),
+        Refusal::Horizon => String::from_str(alloc, "horizon refused\n"),
+        Refusal::Problem(why) => problem_refusal_line(alloc, why),
+        Refusal::NotWeekly(days) => not_weekly_line(alloc, days),
+        Refusal::TooLong(kind) => too_long_line(alloc, kind),
+    }
+}
+
+/// The reply of a refusal.
+pub fn refused(alloc: Global, why: Refusal) -> Result<Reply, AllocError>
+    ensures answer { IfOk result (λ r. r.answer ≡ Answers.Refused why) }
+    ensures text { IfOk result (λ r. r.text.items ≡ refusal_line why) }
+{
+    let text = refusal_line(alloc, why)?;
+    let text = Vec::from_slice(alloc, text.as_bytes())?;
+    Ok(Reply {
+        answer: Answer::Refused(why),
+        text,
+    })
+}
+
+/// The reply of a trial.
+pub fn tried<R: Threads + Sync, G: Gate>(
+    rt: &R,
+    alloc: Global,
+    number: u32,
+    weeks: u32,
+    gate: &G,
+) -> Result<Reply, AllocError>
+    requires { (1 ≤ weeks) × (weeks ≤ MOST_WEEKS) }
+    ensures { IfOk result (λ r. (trial : TrialAnswer) × (r.answer ≡ Answers.Trial trial)
+        × IsTrial number weeks trial × IsTrialText trial r.text.items) }
+{
+    let trial = trial::job(rt, alloc, number, weeks, gate)?;
+    Ok(Reply {
+        answer: Answer::Trial(trial.answer),
+        text: trial.text,
+    })
+}
+
+/// The reply of an answer on a problem.
+pub fn printed(alloc: Global, problem: &Problem, answer: JobAnswer) -> Result<Reply, AllocError>
+    requires { IsPrintable problem.now answer }
+    ensures answer { IfOk result (λ r. r.answer ≡ Answers.Job answer) }
+    ensures text { IfOk result (λ r. r.text.items ≡ job_text problem.now answer) }
+{
+    match text_of(alloc, problem, &answer) {
+        Ok(text) => Ok(Reply {
+            answer: Answer::Job(answer),
+            text,
+        }),
+        Err(AllocError) => Err(without_memory(answer)),
+    }
+}
+
+// The end of a run that has an answer, of any type, and no memory for its text.
+fn without_memory<A: Drop>(_answer: A) -> AllocError {
+    AllocError
+}
+
+// The text of an answer on a problem.
+fn text_of(alloc: Global, problem: &Problem, answer: &JobAnswer) -> Result<Vec<u8>, AllocError>
+    requires { IsPrintable problem.now answer.now }
+    ensures { IfOk result (λ v. v.items ≡ job_text problem.now answer.now) }
+{
+    match answer {
+        JobAnswer::Show => print_problem(alloc, problem),
+        JobAnswer::Plan(found) => plan::text(alloc, problem, found),
+        JobAnswer::Best(found) => best::text(alloc, problem, found),
+        JobAnswer::Staff(answer) => staff::text(alloc, problem, answer),
+        JobAnswer::Verify(answer) => verify::text(alloc, problem, answer),
+        JobAnswer::Check(answer) => check::text(alloc, problem, answer),
+        JobAnswer::CheckFree(answer) => check_free::text(alloc, problem, answer),
+        JobAnswer::CheckStaff(answer) => check_staff::text(alloc, problem, answer),
+        JobAnswer::Reduce(answer) => reduce::text(alloc, problem, answer),
+        JobAnswer::Crew(answer) => crew::text(alloc, problem, answer),
+    }
+}
