@@ -2,7 +2,7 @@
 use Rattle.std.proofs.Common.{◌≡◌, ℕ, suc, ◌+◌, ◌^◌, ◌<◌, ◌≤◌, List, [], ◌∷◌, ◌++◌, length, Option, Some, None, refl, ap, sym, ◌∙◌, subst, arith, inl, inr}
 use Rattle.std.specs.Prelude.{◌⊎◌, codes, Result, Ok, Err}
 use Rattle.std.specs.Fmt.{decimal}
-use Rattle.std.proofs.lemmas.List.{append-nil, append_assoc, append_cancel_left}
+use Rattle.std.proofs.lemmas.List.{append-nil, append_assoc}
 use Rattle.rwsp_terms.specs.Instance.{Instance}
 use Rattle.rwsp_model.specs.Validity.{KeepsLimits}
 use Rattle.refutation_terms.specs.Log.{Log, Passes}
@@ -20,11 +20,11 @@ use Rattle.crew_size.specs.declared.verdict.Staffed.TheVariants as Sizes
 use Rattle.crew_size.specs.declared.verdict.StaffRefusal.{StaffRefusal}
 use Rattle.crew_size.specs.declared.verdict.StaffRefusal.TheVariants as Refusals
 use Rattle.crew_size.proofs.Cuts.{cut_once}
-use Rattle.crew_size.proofs.Fronts.{feeds_append, feeds_of_heading, size_is_short, next_of, is_next, last_of, is_last, size_behind}
+use Rattle.crew_size.proofs.Fronts.{feeds, feeds_append, feeds_of_heading, size_is_short, next_of, is_next, last_of, is_last, size_behind}
 use Rattle.crew_size.proofs.Verdicts.{last_is_written}
 use Rattle.crew_size.proofs.Decided.{sized_keeps}
 use Rattle.crew_size.proofs.LogCuts.{logs_are_cut_whole}
-use Rattle.crew_size.proofs.Heads.{Outcome, refused, OfRoster, OfEnd, OfHeading, OfRest, rest_once}
+use Rattle.crew_size.proofs.Heads.{Outcome, refused, OfLog, OfRoster, OfEnd, OfHeading, OfRest, rest_once}
 use Rattle.crew_size.proofs.Headings.{heading_is_line, headings_once}
 
 -- the sizes of sections
@@ -116,44 +116,24 @@ refused_said P text (Refusals.Breaks m broken) h =
     found_said P text h.low h.logs m h.bytes (refused (Refusals.Breaks m broken)) h.ends.stands h.ends.next (inr (h.ends.short, inr (h.cells, h.spelled, inl (broken, h.breaks, refl))))
 refused_said P text Refusals.Ends h = record { low = h.low; logs = h.logs; rest = []; stands = h.stands; said = inl (refl, refl) }
 
--- a section follows whose log passes, for the size m
-record Follows (P : Instance) (m : ℕ) (rest : List ℕ) : Type 0 where
-  log : Log
-  behind : List ℕ
+-- the text goes on with a section of size m behind sections of these sizes
+record Follows (P : Instance) (sizes : Option (ℕ × ℕ)) (m : ℕ) (log : Log) (text behind : List ℕ) : Type 0 where
+  next : IsNextOf P sizes m
   size : IsSize P m
   passes : Passes (with_weeks P m) log
-  whole : rest ≡ refuted_line m ++ (log_text (with_weeks P m) log ++ behind)
+  whole : text ≡ refuted_line m ++ (log_text (with_weeks P m) log ++ behind)
   place : (behind ≡ []) ⊎ BeginsAsHeading behind
 
 log_cut : (P : Instance) (m : ℕ) (g : Log) (rest : List ℕ) → KeepsLimits P → IsSize P m → Passes (with_weeks P m) g → (rest ≡ []) ⊎ BeginsAsHeading rest → AreUpToHeading (log_text (with_weeks P m) g) rest
 log_cut P m g rest limits size passes place = logs_are_cut_whole (with_weeks P m) g rest (sized_keeps P m limits size) passes.grounded.fits place
 
 -- where one follows nothing else is said
-follows_said : (P : Instance) (sizes : Option (ℕ × ℕ)) (m n : ℕ) (rest : List ℕ) → KeepsLimits P → IsNextOf P sizes m → Follows P m rest → OfRest P sizes n rest None
-follows_said P sizes m n rest limits next f =
-    let text : List ℕ = log_text (with_weeks P m) f.log in
+follows_said : (P : Instance) (sizes : Option (ℕ × ℕ)) (m n : ℕ) (log : Log) (text behind : List ℕ) → KeepsLimits P → Follows P sizes m log text behind → OfRest P sizes n text None
+follows_said P sizes m n log text behind limits f =
+    let bytes : List ℕ = log_text (with_weeks P m) log in
     let w : IsHeadingNumber (Refuted m) = (f.size.some, size_is_short P m f.size) in
-    inr (
-      refuted_line m,
-      text ++ f.behind,
-      f.whole,
-      heading_is_line (Refuted m) (text ++ f.behind) w,
-      inr (
-        Refuted m,
-        refl,
-        w,
-        next,
-        record {
-          log = text;
-          rest = f.behind;
-          whole = refl;
-          cut = log_cut P m f.log f.behind limits f.size f.passes f.place;
-          verdict = Ok f.log;
-          said = (refl, f.passes);
-          outcome = refl;
-        },
-      ),
-    )
+    let of : OfLog P m (bytes ++ behind) None = record { log = bytes; rest = behind; whole = refl; cut = log_cut P m log behind limits f.size f.passes f.place; verdict = Ok log; said = (refl, f.passes); outcome = refl } in
+    inr (refuted_line m, bytes ++ behind, f.whole, heading_is_line (Refuted m) (bytes ++ behind) w, inr (Refuted m, refl, w, f.next, of))
 
 tail_passing : (P : Instance) (low : ℕ) (g : Log) (logs : List Log) → ArePassing P low (g ∷ logs) → ArePassing P (low + 1) logs
 tail_passing P low g logs are = record {
@@ -181,106 +161,79 @@ first_section P m g logs rest =
     append_assoc (section_text P m g) (sections_text P (m + 1) logs) rest
     ∙ append_assoc (refuted_line m) (log_text (with_weeks P m) g) (sections_text P (m + 1) logs ++ rest)
 
-follows_first : (P : Instance) (m : ℕ) (g : Log) (logs : List Log) (rest whole : List ℕ) → ArePassing P m (g ∷ logs) → IsHeadingsPlace (g ∷ logs) rest → whole ≡ sections_text P m (g ∷ logs) ++ rest → Follows P m whole
-follows_first P m g logs rest whole are place e =
+follows_first : (P : Instance) (sizes : Option (ℕ × ℕ)) (m : ℕ) (g : Log) (logs : List Log) (rest text : List ℕ) → IsNextOf P sizes m → ArePassing P m (g ∷ logs) → IsHeadingsPlace (g ∷ logs) rest → text ≡ sections_text P m (g ∷ logs) ++ rest → Follows P sizes m g text (sections_text P (m + 1) logs ++ rest)
+follows_first P sizes m g logs rest text next are place e =
     let first = first_log P m g logs are in
-    record {
-      log = g;
-      behind = sections_text P (m + 1) logs ++ rest;
-      size = first.0;
-      passes = first.1;
-      whole = e ∙ first_section P m g logs rest;
-      place = rest_place P (m + 1) g logs rest place;
-    }
+    record { next = next; size = first.0; passes = first.1; whole = e ∙ first_section P m g logs rest; place = rest_place P (m + 1) g logs rest place }
 
--- the sections of one text are the same, or some follow behind those of the one or the other
-abbrev AreSame : Instance → ℕ → List Log → List ℕ → List Log → List ℕ → Type 0
-AreSame P m logs rest others other = (length logs ≡ length others) × (sections_text P m logs ≡ sections_text P m others) × (rest ≡ other)
+-- from line n on, behind sections of these sizes, the text has sections of these logs, and then this verdict
+abbrev Says : Instance → Option (ℕ × ℕ) → ℕ → List ℕ → List Log → Result Staffed StaffRefusal → Type 0
+Says P sizes n text [] v = OfRest P sizes n text (Some v)
+Says P sizes n text (g ∷ logs) v =
+    (m : ℕ) × (behind : List ℕ) × Follows P sizes m g text behind
+    × Says P (Some (first_size sizes m, m + 1)) (n + (1 + feeds (log_text (with_weeks P m) g))) behind logs v
 
-fronts : (P : Instance) (m : ℕ) (logs : List Log) (rest : List ℕ) (others : List Log) (other : List ℕ) → KeepsLimits P → ArePassing P m logs → ArePassing P m others → IsHeadingsPlace logs rest → IsHeadingsPlace others other → sections_text P m logs ++ rest ≡ sections_text P m others ++ other → AreSame P m logs rest others other ⊎ (Follows P (m + length logs) rest ⊎ Follows P (m + length others) other)
-fronts P m [] rest [] other limits are are' place place' e = inl (refl, refl, e)
-fronts P m [] rest (g ∷ others) other limits are are' place place' e =
-    let here : m ≡ m + 0 = omega arith in
-    inr (inl (subst (λ n. Follows P n rest) here (follows_first P m g others other rest are' place' e)))
-fronts P m (g ∷ logs) rest [] other limits are are' place place' e =
-    let here : m ≡ m + 0 = omega arith in
-    inr (inr (subst (λ n. Follows P n other) here (follows_first P m g logs rest other are place (sym e))))
-fronts P m (g ∷ logs) rest (h ∷ others) other limits are are' place place' e =
-    let first = first_log P m g logs are in
-    let first' = first_log P m h others are' in
-    let behind = append_cancel_left (refuted_line m) (log_text (with_weeks P m) g ++ (sections_text P (m + 1) logs ++ rest)) (log_text (with_weeks P m) h ++ (sections_text P (m + 1) others ++ other)) (sym (first_section P m g logs rest) ∙ e ∙ first_section P m h others other) in
-    let once = cut_once (log_text (with_weeks P m) g) (log_text (with_weeks P m) h) (sections_text P (m + 1) logs ++ rest) (sections_text P (m + 1) others ++ other)
-    (log_cut P m g (sections_text P (m + 1) logs ++ rest) limits first.0 first.1 (rest_place P (m + 1) g logs rest place))
-    (log_cut P m h (sections_text P (m + 1) others ++ other) limits first'.0 first'.1 (rest_place P (m + 1) h others other place'))
-    behind in
-    step (fronts P (m + 1) logs rest others other limits (tail_passing P m g logs are) (tail_passing P m h others are') (tail_place g logs rest place) (tail_place h others other place') once.1) once.0
-  where
-    step : AreSame P (m + 1) logs rest others other ⊎ (Follows P (m + 1 + length logs) rest ⊎ Follows P (m + 1 + length others) other) → log_text (with_weeks P m) g ≡ log_text (with_weeks P m) h → AreSame P m (g ∷ logs) rest (h ∷ others) other ⊎ (Follows P (m + length (g ∷ logs)) rest ⊎ Follows P (m + length (h ∷ others)) other)
-    step (inl same) log = inl (
-      ap (λ n. suc n) same.0,
-      ap (λ t. (refuted_line m ++ t) ++ sections_text P (m + 1) logs) log ∙ ap (λ t. section_text P m h ++ t) same.1,
-      same.2,
+some_or_none : (v : Result Staffed StaffRefusal) → Some v ≡ None → ⊥
+some_or_none v e = cc
+
+some_once : (v w : Result Staffed StaffRefusal) → Some v ≡ Some w → v ≡ w
+some_once v w e = cc
+
+says_once : (P : Instance) (sizes : Option (ℕ × ℕ)) (n : ℕ) (text : List ℕ) (logs others : List Log) (v w : Result Staffed StaffRefusal) → KeepsLimits P → Says P sizes n text logs v → Says P sizes n text others w → v ≡ w
+says_once P sizes n text [] [] v w limits a b = some_once v w (rest_once P sizes n text (Some v) (Some w) limits a b)
+says_once P sizes n text [] (h ∷ others) v w limits a b = absurd (some_or_none v (rest_once P sizes n text (Some v) None limits a (follows_said P sizes b.0 n h text b.1 limits b.2)))
+says_once P sizes n text (g ∷ logs) [] v w limits a b = absurd (some_or_none w (rest_once P sizes n text (Some w) None limits b (follows_said P sizes a.0 n g text a.1 limits a.2)))
+says_once P sizes n text (g ∷ logs) (h ∷ others) v w limits (m, rest, f, more) (k, other, f', more') =
+    let log : List ℕ = log_text (with_weeks P m) g in
+    let log' : List ℕ = log_text (with_weeks P k) h in
+    let one = headings_once (Refuted m) (Refuted k) (log ++ rest) (log' ++ other) (f.size.some, size_is_short P m f.size) (f'.size.some, size_is_short P k f'.size) (sym f.whole ∙ f'.whole) in
+    let same : m ≡ k = ap heading_number one.0 in
+    let cut = cut_once log log' rest other (log_cut P m g rest limits f.size f.passes f.place) (log_cut P k h other limits f'.size f'.passes f'.place) one.1 in
+    says_once P (Some (first_size sizes m, m + 1)) (n + (1 + feeds log)) rest logs others v w limits more
+    (subst (λ (i : ℕ). Says P (Some (first_size sizes i, i + 1)) (n + (1 + feeds log)) rest others w) (sym same)
+    (subst (λ (t : List ℕ). Says P (Some (first_size sizes k, k + 1)) (n + (1 + feeds t)) rest others w) (sym cut.0)
+    (subst (λ (t : List ℕ). Says P (Some (first_size sizes k, k + 1)) (n + (1 + feeds log')) t others w) (sym cut.1) more')))
+
+-- a verdict is what a text says
+
+feeds_of_section : (P : Instance) (m : ℕ) (g : Log) (logs : List Log) → IsSize P m → feeds (sections_text P m (g ∷ logs)) ≡ 1 + feeds (log_text (with_weeks P m) g) + feeds (sections_text P (m + 1) logs)
+feeds_of_section P m g logs size =
+    let line = feeds_of_heading (Refuted m) (size.some, size_is_short P m size) in
+    omega (arith, line, feeds_append (section_text P m g) (sections_text P (m + 1) logs), feeds_append (refuted_line m) (log_text (with_weeks P m) g))
+
+said_at : (P : Instance) (sizes other : ℕ × ℕ) (n k : ℕ) (text rest : List ℕ) (v : Result Staffed StaffRefusal) → sizes.0 ≡ other.0 → sizes.1 ≡ other.1 → n ≡ k → text ≡ rest → OfRest P (Some sizes) n text (Some v) → OfRest P (Some other) k rest (Some v)
+said_at P (a, b) other n k text rest v e f g h said =
+    subst (λ (i : ℕ). OfRest P (Some (i, other.1)) k rest (Some v)) e
+    (subst (λ (i : ℕ). OfRest P (Some (a, i)) k rest (Some v)) f
+    (subst (λ i. OfRest P (Some (a, b)) i rest (Some v)) g (subst (λ (t : List ℕ). OfRest P (Some (a, b)) n t (Some v)) h said)))
+
+says_more : (P : Instance) (first m n : ℕ) (text : List ℕ) (logs : List Log) (rest : List ℕ) (v : Result Staffed StaffRefusal) → ArePassing P m logs → IsHeadingsPlace logs rest → text ≡ sections_text P m logs ++ rest → OfRest P (Some (first, m + length logs)) (n + feeds (sections_text P m logs)) rest (Some v) → Says P (Some (first, m)) n text logs v
+says_more P first m n text [] rest v are place e said = said_at P (first, m + 0) (first, m) (n + 0) n rest text v refl (omega arith) (omega arith) (sym e) said
+says_more P first m n text (g ∷ logs) rest v are place e said =
+    let behind : List ℕ = sections_text P (m + 1) logs ++ rest in
+    let log : List ℕ = log_text (with_weeks P m) g in
+    let size = (first_log P m g logs are).0 in
+    let lines = feeds_of_section P m g logs size in (
+      m,
+      behind,
+      follows_first P (Some (first, m)) m g logs rest text (size, refl) are place e,
+      says_more P first (m + 1) (n + (1 + feeds log)) behind logs rest v (tail_passing P m g logs are) (tail_place g logs rest place) refl
+          (said_at P (first, m + length (g ∷ logs)) (first, m + 1 + length logs) (n + feeds (sections_text P m (g ∷ logs))) (n + (1 + feeds log) + feeds (sections_text P (m + 1) logs)) rest rest v refl (omega arith) (omega (arith, lines)) refl said),
     )
-    step (inr (inl f)) log = let there : m + 1 + length logs ≡ m + length (g ∷ logs) = omega arith in inr (inl (subst (λ n. Follows P n rest) there f))
-    step (inr (inr f)) log = let there : m + 1 + length others ≡ m + length (h ∷ others) = omega arith in inr (inr (subst (λ n. Follows P n other) there f))
 
--- two verdicts on one text
-
-some_or_none : (v : Result Staffed StaffRefusal) (o : Outcome) → o ≡ Some v → o ≡ None → ⊥
-some_or_none v o e f = cc
-
-abbrev SaidOf : Instance → ℕ → List Log → List ℕ → Result Staffed StaffRefusal → Type 0
-SaidOf P low logs rest v = OfRest P (sizes_of low logs) (line_of P low logs) rest (Some v)
-
-not_said : (P : Instance) (low : ℕ) (logs : List Log) (m : ℕ) (rest : List ℕ) (v : Result Staffed StaffRefusal) → KeepsLimits P → IsNextOf P (sizes_of low logs) m → Follows P m rest → SaidOf P low logs rest v → ⊥
-not_said P low logs m rest v limits next f said =
-    some_or_none v (Some v) refl (rest_once P (sizes_of low logs) (line_of P low logs) rest (Some v) None limits said (follows_said P (sizes_of low logs) m (line_of P low logs) rest limits next f))
-
-some_once : (v w : Result Staffed StaffRefusal) (o p : Outcome) → o ≡ Some v → p ≡ Some w → o ≡ p → v ≡ w
-some_once v w o p e f g = cc
-
-at_one_place : (P : Instance) (low : ℕ) (g h : Log) (logs others : List Log) (rest other : List ℕ) (v w : Result Staffed StaffRefusal) → KeepsLimits P → AreSame P low (g ∷ logs) rest (h ∷ others) other → SaidOf P low (g ∷ logs) rest v → SaidOf P low (h ∷ others) other w → v ≡ w
-at_one_place P low g h logs others rest other v w limits same said said' =
-    let sizes : Option (ℕ × ℕ) = Some (low, low + length (g ∷ logs)) in
-    let n : ℕ = line_of P low (g ∷ logs) in
-    let here : OfRest P sizes n rest (Some w) =
-    subst (λ (l : ℕ). OfRest P (Some (low, low + l)) n rest (Some w)) (sym same.0)
-    (subst (λ (t : List ℕ). OfRest P (Some (low, low + length (h ∷ others))) (line_behind t) rest (Some w)) (sym same.1)
-    (subst (λ (t : List ℕ). OfRest P (Some (low, low + length (h ∷ others))) (line_of P low (h ∷ others)) t (Some w)) (sym same.2) said')) in
-    some_once v w (Some v) (Some w) refl refl (rest_once P sizes n rest (Some v) (Some w) limits said here)
-
-next_behind : (P : Instance) (low : ℕ) (g : Log) (logs : List Log) (rest : List ℕ) → Follows P (low + length (g ∷ logs)) rest → IsNextOf P (sizes_of low (g ∷ logs)) (low + length (g ∷ logs))
-next_behind P low g logs rest f = (f.size, refl)
-
-one_low : (P : Instance) (low : ℕ) (g h : Log) (logs others : List Log) (rest other : List ℕ) (v w : Result Staffed StaffRefusal) → KeepsLimits P → ArePassing P low (g ∷ logs) → ArePassing P low (h ∷ others) → IsHeadingsPlace (g ∷ logs) rest → IsHeadingsPlace (h ∷ others) other → sections_text P low (g ∷ logs) ++ rest ≡ sections_text P low (h ∷ others) ++ other → SaidOf P low (g ∷ logs) rest v → SaidOf P low (h ∷ others) other w → v ≡ w
-one_low P low g h logs others rest other v w limits are are' place place' e said said' =
-    by (fronts P low (g ∷ logs) rest (h ∷ others) other limits are are' place place' e)
-  where
-    by : AreSame P low (g ∷ logs) rest (h ∷ others) other ⊎ (Follows P (low + length (g ∷ logs)) rest ⊎ Follows P (low + length (h ∷ others)) other) → v ≡ w
-    by (inl same) = at_one_place P low g h logs others rest other v w limits same said said'
-    by (inr (inl f)) = absurd (not_said P low (g ∷ logs) (low + length (g ∷ logs)) rest v limits (next_behind P low g logs rest f) f said)
-    by (inr (inr f)) = absurd (not_said P low (h ∷ others) (low + length (h ∷ others)) other w limits (next_behind P low h others other f) f said')
-
-one_by : (P : Instance) (text : List ℕ) (low : ℕ) (logs : List Log) (rest : List ℕ) (high : ℕ) (others : List Log) (other : List ℕ) (v w : Result Staffed StaffRefusal) → KeepsLimits P → StandsBehindLogs P text low logs rest → StandsBehindLogs P text high others other → SaidOf P low logs rest v → SaidOf P high others other w → v ≡ w
-one_by P text low [] rest high [] other v w limits s t said said' =
-    let same : rest ≡ other = sym s.whole ∙ t.whole in
-    let here : OfRest P None (line_behind []) rest (Some w) = subst (λ (r : List ℕ). OfRest P None (line_behind []) r (Some w)) (sym same) said' in
-    some_once v w (Some v) (Some w) refl refl (rest_once P None (line_behind []) rest (Some v) (Some w) limits said here)
-one_by P text low [] rest high (h ∷ others) other v w limits s t said said' =
-    let f : Follows P high rest = follows_first P high h others other rest t.passing t.place (sym s.whole ∙ t.whole) in
-    absurd (not_said P low [] high rest v limits f.size f said)
-one_by P text low (g ∷ logs) rest high [] other v w limits s t said said' =
-    let f : Follows P low other = follows_first P low g logs rest other s.passing s.place (sym t.whole ∙ s.whole) in
-    absurd (not_said P high [] low other w limits f.size f said')
-one_by P text low (g ∷ logs) rest high (h ∷ others) other v w limits s t said said' =
-    let first = first_log P low g logs s.passing in
-    let first' = first_log P high h others t.passing in
-    let once = headings_once (Refuted low) (Refuted high) (log_text (with_weeks P low) g ++ (sections_text P (low + 1) logs ++ rest)) (log_text (with_weeks P high) h ++ (sections_text P (high + 1) others ++ other)) (first.0.some, size_is_short P low first.0) (first'.0.some, size_is_short P high first'.0)
-    (sym (first_section P low g logs rest) ∙ sym s.whole ∙ t.whole ∙ first_section P high h others other) in
-    let same : low ≡ high = ap heading_number once.0 in
-    let t' : StandsBehindLogs P text low (h ∷ others) other = subst (λ n. StandsBehindLogs P text n (h ∷ others) other) (sym same) t in
-    let said_here : SaidOf P low (h ∷ others) other w = subst (λ n. SaidOf P n (h ∷ others) other w) (sym same) said' in
-    one_low P low g h logs others rest other v w limits s.passing t'.passing s.place t'.place (sym s.whole ∙ t'.whole) said said_here
+says : (P : Instance) (text : List ℕ) (low : ℕ) (logs : List Log) (rest : List ℕ) (v : Result Staffed StaffRefusal) → StandsBehindLogs P text low logs rest → OfRest P (sizes_of low logs) (line_of P low logs) rest (Some v) → Says P None 1 text logs v
+says P text low [] rest v stands said = subst (λ (t : List ℕ). OfRest P None 1 t (Some v)) (sym stands.whole) said
+says P text low (g ∷ logs) rest v stands said =
+    let behind : List ℕ = sections_text P (low + 1) logs ++ rest in
+    let log : List ℕ = log_text (with_weeks P low) g in
+    let size = (first_log P low g logs stands.passing).0 in
+    let lines = feeds_of_section P low g logs size in (
+      low,
+      behind,
+      follows_first P None low g logs rest text size stands.passing stands.place stands.whole,
+      says_more P low (low + 1) (1 + (1 + feeds log)) behind logs rest v (tail_passing P low g logs stands.passing) (tail_place g logs rest stands.place) refl
+          (said_at P (low, low + length (g ∷ logs)) (low, low + 1 + length logs) (line_of P low (g ∷ logs)) (1 + (1 + feeds log) + feeds (sections_text P (low + 1) logs)) rest rest v refl (omega arith) (omega (arith, lines)) refl said),
+    )
 
 is_said : (P : Instance) (text : List ℕ) (v : Result Staffed StaffRefusal) → IsStaffVerdict P text v → IsSaid P text (Some v)
 is_said P text (Ok staffed) h = accepted_said P text staffed h
@@ -290,4 +243,4 @@ pub one_verdict : StaffTextsHaveOneVerdict
 one_verdict P text v w limits h k =
     let a = is_said P text v h in
     let b = is_said P text w k in
-    one_by P text a.low a.logs a.rest b.low b.logs b.rest v w limits a.stands b.stands a.said b.said
+    says_once P None 1 text a.logs b.logs v w limits (says P text a.low a.logs a.rest v a.stands a.said) (says P text b.low b.logs b.rest w b.stands b.said)
