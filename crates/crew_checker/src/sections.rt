@@ -24,6 +24,14 @@ use std::alloc::Global;
 use std::marker::Model;
 use std::thread::Threads;
 
+// Who judges logs: so many workers at most, who pass the gate.
+#[derive(Drop)]
+struct Workers<'a, R, G> {
+    rt: &'a R,
+    count: u32,
+    gate: &'a G,
+}
+
 /// What is left of a staff text behind the sections that have been judged.
 #[derive(Drop)]
 pub struct Sections<'a> {
@@ -81,7 +89,14 @@ impl<'a> Sections<'a> {
         let bytes = reader.rest();
         match heading {
             Heading::Refuted(weeks) => {
-                self.pass_log(rt, alloc, problem, weeks, bytes, workers, gate)
+                let judges = Workers {
+                    rt,
+                    count: workers,
+                    gate,
+                };
+                let passed = self.pass_log(&judges, alloc, problem, weeks, bytes);
+                drop(judges);
+                passed
             }
             Heading::Found(weeks) => {
                 roster_end(alloc, problem, self.sizes, self.line, weeks, bytes)
@@ -93,25 +108,23 @@ impl<'a> Sections<'a> {
     // Judges the log of this number of weeks, with which the bytes behind its heading begin.
     fn pass_log<R: Threads + Sync, G: Gate>(
         &mut self,
-        rt: &R,
+        workers: &Workers<R, G>,
         alloc: Global,
         problem: &Problem,
         weeks: u32,
         bytes: &'a [u8],
-        workers: u32,
-        gate: &G,
     ) -> Result<Option<Staffed>, Fail<StaffRefusal>>
         requires short { IsShortPlace self.old }
         requires behind { length bytes.now < length self.old.rest }
         requires next { IsNextOf problem.now self.old.sizes weeks }
-        requires workers { (1 ≤ workers) × (workers ≤ MOST_WORKERS) }
+        requires workers { (1 ≤ workers.now.count) × (workers.now.count ≤ MOST_WORKERS) }
         ensures verdict { (text : List ℕ)
             → IsAt problem.now text self.old.sizes self.old.line (refuted_line weeks) bytes.now →
             IsHeadingAnswer problem.now text self.new result }
         ensures further { IfOk result (λ found. MatchOption found (IsFurther self.new self.old) (λ _. Unit {0})) }
     {
         let (log, rest) = bytes.split_at(section_end(bytes));
-        match check_log(rt, alloc, problem, weeks, log, workers, gate) {
+        match check_log(workers, alloc, problem, weeks, log) {
             Err(Fail::Memory) => Err(Fail::Memory),
             Err(Fail::Refused(why)) => Err(Fail::Refused(StaffRefusal::Log(weeks, why))),
             Ok(()) => {
@@ -126,24 +139,22 @@ impl<'a> Sections<'a> {
 
 // Checks the log for the problem with this number of weeks.
 fn check_log<R: Threads + Sync, G: Gate>(
-    rt: &R,
+    workers: &Workers<R, G>,
     alloc: Global,
     problem: &Problem,
     weeks: u32,
     log: &[u8],
-    workers: u32,
-    gate: &G,
 ) -> Result<(), Fail<LogRefusal>>
     requires size { IsSize problem.now weeks }
     requires long { length log.now ≤ LONGEST_LOG }
-    requires workers { (1 ≤ workers) × (workers ≤ MOST_WORKERS) }
+    requires workers { (1 ≤ workers.now.count) × (workers.now.count ≤ MOST_WORKERS) }
     ensures { MatchAnswer result (λ _. (g : Log) × IsAccepted (with_weeks problem.now weeks) log.now g)
         (IsRefused (with_weeks problem.now weeks) log.now) }
 {
     let Ok(sized) = with_weeks(problem, weeks) else {
         return Err(Fail::Memory);
     };
-    let checked = check_with(rt, alloc, &sized, log, workers, gate);
+    let checked = check_with(workers.rt, alloc, &sized, log, workers.count, workers.gate);
     drop(sized);
     match checked {
         Ok(accepted) => {
