@@ -31,10 +31,11 @@ use Rattle.commands.specs.declared.check_free.Answer.TheVariants as Frees
 use Rattle.commands.specs.declared.check_staff.Answer.TheVariants as StaffChecks
 use Rattle.commands.proofs.Logs.{accepted, free_accepted}
 use Rattle.commands.proofs.Bests.{best_meets, below_goal}
-use Rattle.rwsp_run.specs.Answers.{IsAnswerOn, IsJobAnswer, second_kind}
+use Rattle.rwsp_run.specs.Answers.{IsAnswerOn}
+use Rattle.rwsp_run.specs.Commands.{IsJobAnswer, second_kind}
 use Rattle.rwsp_run.specs.Laws.{RostersMeet, RefutationsAreAccepted, ReductionsAreAccepted, StaffTextsAreAccepted, BestRostersMeet, BestRostersAreBest, BestProofsAreAccepted, IsProofOf, WorkersMakeNoDifference, AgreeInSearch, JobsAgree}
-use Rattle.rwsp_run.specs.declared.answer.JobAnswer.{JobAnswer}
-use Rattle.rwsp_run.specs.declared.answer.JobAnswer.TheVariants as Jobs
+use Rattle.rwsp_run.specs.declared.jobs.JobAnswer.{JobAnswer}
+use Rattle.rwsp_run.specs.declared.jobs.JobAnswer.TheVariants as Jobs
 use Rattle.rwsp_run.specs.declared.answer.Refusal.TheVariants.{NotWeekly, TooLong}
 use Rattle.rwsp_run.specs.declared.answer.Answer.{Answer}
 use Rattle.rwsp_run.specs.declared.answer.Answer.TheVariants.{Refused, Job}

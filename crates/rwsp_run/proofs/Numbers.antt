@@ -4,7 +4,7 @@ use Rattle.std.specs.Prelude.{Some, None}
 use Rattle.command_line.specs.Commands.{CommandWords, IsForm}
 use Rattle.command_line.specs.declared.command.Command.{Command}
 use Rattle.command_line.specs.declared.command.Command.TheVariants.{Plan, Check, Verify, Reduce, Show, Trial, Crew, Staff, CheckStaff, CheckFree, Best}
-use Rattle.rwsp_run.specs.Answers.{HasItsNumbers}
+use Rattle.rwsp_run.specs.Commands.{HasItsNumbers}
 
 pub has_numbers : (words : CommandWords) (command : Command) → IsForm words command → HasItsNumbers command
 has_numbers words Show form = tt

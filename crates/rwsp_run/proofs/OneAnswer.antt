@@ -17,53 +17,15 @@ use Rattle.commands.specs.declared.second_file.SecondKind.{SecondKind}
 use Rattle.commands.specs.declared.problem_file.ProblemRefusal.{ProblemRefusal}
 use Rattle.commands.specs.declared.trial.Answer.{Answer as TrialAnswer}
 use Rattle.commands.proofs.ProblemFiles.{one_refusal, not_refused}
-use Rattle.commands.proofs.Rosters.{one_verified}
-use Rattle.commands.proofs.Logs.{one_checked, one_checked_free, one_reduction, plans_agree}
-use Rattle.commands.proofs.Staffs.{one_checked_staff, staffs_agree}
-use Rattle.commands.proofs.Bests.{bests_agree}
-use Rattle.commands.proofs.Calendars.{one_crew}
-use Rattle.rwsp_run.specs.Answers.{IsAnswer, IsAnswerOn, IsAnswerTo, IsJobAnswer, IsAsked, second_kind}
+use Rattle.rwsp_run.specs.Answers.{IsAnswer, IsAnswerOn, IsAnswerTo, IsAsked}
+use Rattle.rwsp_run.specs.Commands.{IsJobAnswer, second_kind}
 use Rattle.rwsp_run.specs.Laws.{AnswersAreOne, ProblemsAreAnswered, AgreeInSearch, JobsAgree}
-use Rattle.rwsp_run.specs.declared.answer.JobAnswer.{JobAnswer}
-use Rattle.rwsp_run.specs.declared.answer.JobAnswer.TheVariants as Jobs
+use Rattle.rwsp_run.specs.declared.jobs.JobAnswer.{JobAnswer}
 use Rattle.rwsp_run.specs.declared.answer.Refusal.TheVariants.{Usage, Horizon, Problem, NotWeekly, TooLong}
 use Rattle.rwsp_run.specs.declared.answer.Answer.{Answer}
 use Rattle.rwsp_run.specs.declared.answer.Answer.TheVariants.{Refused, Trial, Job}
+use Rattle.rwsp_run.proofs.OneJob.{one_job}
 use Rattle.rwsp_run.proofs.Files.{same_bytes, same_problem, keeps_limits, same_second, not_too_long}
-
--- two answers to a command on a problem and the bytes of its second file
-pub one_job : (command : Command) (P : Instance) (bytes : List ℕ) (a b : JobAnswer) → KeepsLimits P → IsJobAnswer command P bytes a → IsJobAnswer command P bytes b → (a ≡ b) ⊎ JobsAgree a b
-one_job Commands.Show P bytes Jobs.Show Jobs.Show limits h k = inl refl
-one_job Commands.Show P bytes Jobs.Show b limits h k = absurd k
-one_job Commands.Show P bytes a b limits h k = absurd h
-one_job (Commands.Plan budget) P bytes (Jobs.Plan x) (Jobs.Plan y) limits h k = inr (plans_agree P budget x y h k)
-one_job (Commands.Plan budget) P bytes (Jobs.Plan x) b limits h k = absurd k
-one_job (Commands.Plan budget) P bytes a b limits h k = absurd h
-one_job (Commands.Best budget) P bytes (Jobs.Best x) (Jobs.Best y) limits h k = inr (bests_agree P budget x y h k)
-one_job (Commands.Best budget) P bytes (Jobs.Best x) b limits h k = absurd k
-one_job (Commands.Best budget) P bytes a b limits h k = absurd h
-one_job (Commands.Staff low high budget) P bytes (Jobs.Staff x) (Jobs.Staff y) limits h k = inr (staffs_agree P low high budget x y h k)
-one_job (Commands.Staff low high budget) P bytes (Jobs.Staff x) b limits h k = absurd k
-one_job (Commands.Staff low high budget) P bytes a b limits h k = absurd h
-one_job Commands.Verify P bytes (Jobs.Verify x) (Jobs.Verify y) limits h k = inl (ap Jobs.Verify (one_verified P bytes x y h k))
-one_job Commands.Verify P bytes (Jobs.Verify x) b limits h k = absurd k
-one_job Commands.Verify P bytes a b limits h k = absurd h
-one_job (Commands.Check workers) P bytes (Jobs.Check x) (Jobs.Check y) limits h k = inl (ap Jobs.Check (one_checked P bytes x y limits h k))
-one_job (Commands.Check workers) P bytes (Jobs.Check x) b limits h k = absurd k
-one_job (Commands.Check workers) P bytes a b limits h k = absurd h
-one_job Commands.CheckFree P bytes (Jobs.CheckFree x) (Jobs.CheckFree y) limits h k = inl (ap Jobs.CheckFree (one_checked_free P bytes x y limits h k))
-one_job Commands.CheckFree P bytes (Jobs.CheckFree x) b limits h k = absurd k
-one_job Commands.CheckFree P bytes a b limits h k = absurd h
-one_job Commands.CheckStaff P bytes (Jobs.CheckStaff x) (Jobs.CheckStaff y) limits h k = inl (ap Jobs.CheckStaff (one_checked_staff P bytes x y limits h k))
-one_job Commands.CheckStaff P bytes (Jobs.CheckStaff x) b limits h k = absurd k
-one_job Commands.CheckStaff P bytes a b limits h k = absurd h
-one_job Commands.Reduce P bytes (Jobs.Reduce x) (Jobs.Reduce y) limits h k = inl (ap Jobs.Reduce (one_reduction P bytes x y limits h k))
-one_job Commands.Reduce P bytes (Jobs.Reduce x) b limits h k = absurd k
-one_job Commands.Reduce P bytes a b limits h k = absurd h
-one_job (Commands.Crew date days employee) P bytes (Jobs.Crew x) (Jobs.Crew y) limits h k = inl (ap Jobs.Crew (one_crew P bytes date days employee x y limits h k))
-one_job (Commands.Crew date days employee) P bytes (Jobs.Crew x) b limits h k = absurd k
-one_job (Commands.Crew date days employee) P bytes a b limits h k = absurd h
-one_job (Commands.Trial number weeks) P bytes a b limits h k = absurd h
 
 as_answers : (a b : JobAnswer) → (a ≡ b) ⊎ JobsAgree a b → (Job a ≡ Job b) ⊎ AgreeInSearch (Job a) (Job b)
 as_answers a b (inl e) = inl (ap Job e)

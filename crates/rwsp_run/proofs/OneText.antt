@@ -6,7 +6,7 @@ use Rattle.rwsp_file.specs.Laws.{TextsSpellOne}
 use Rattle.problem_generator.proofs.OneProblem.{same_generated}
 use Rattle.command_line.specs.Commands.{CommandWords, problem_name}
 use Rattle.commands.specs.Trial.{trial_text}
-use Rattle.rwsp_run.specs.Texts.{job_text}
+use Rattle.rwsp_run.specs.Commands.{job_text}
 use Rattle.rwsp_run.specs.Laws.{TextsAreOne}
 use Rattle.rwsp_run.specs.declared.answer.Answer.TheVariants.{Refused, Trial, Job}
 use Rattle.rwsp_run.proofs.Files.{same_problem}

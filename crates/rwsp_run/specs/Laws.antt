@@ -33,10 +33,11 @@ use Rattle.commands.specs.declared.check.Answer.TheVariants as Checks
 use Rattle.commands.specs.declared.check_free.Answer.TheVariants as Frees
 use Rattle.commands.specs.declared.check_staff.Answer.TheVariants as StaffChecks
 use Rattle.commands.specs.declared.reduce.Answer.TheVariants as Reductions
-use Rattle.rwsp_run.specs.Answers.{IsAnswer, IsAnswerOn, IsAsked, second_kind}
-use Rattle.rwsp_run.specs.Texts.{IsTextOf, job_text}
-use Rattle.rwsp_run.specs.declared.answer.JobAnswer.{JobAnswer}
-use Rattle.rwsp_run.specs.declared.answer.JobAnswer.TheVariants as Jobs
+use Rattle.rwsp_run.specs.Answers.{IsAnswer, IsAnswerOn, IsAsked}
+use Rattle.rwsp_run.specs.Texts.{IsTextOf}
+use Rattle.rwsp_run.specs.Commands.{job_text, second_kind}
+use Rattle.rwsp_run.specs.declared.jobs.JobAnswer.{JobAnswer}
+use Rattle.rwsp_run.specs.declared.jobs.JobAnswer.TheVariants as Jobs
 use Rattle.rwsp_run.specs.declared.answer.Answer.{Answer}
 use Rattle.rwsp_run.specs.declared.answer.Answer.TheVariants.{Trial, Job}
 

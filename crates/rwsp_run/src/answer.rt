@@ -2,11 +2,8 @@
 ghost use Rattle.std.specs.Prelude.{◌≡◌};
 ghost use Rattle.rwsp_run.specs.Status.{status_of_stop};
 
-use commands::{
-    ProblemRefusal, SecondKind, Stop, best, check, check_free, check_staff, crew, plan, reduce,
-    staff, trial, verify,
-};
-use plan_terms::{BestFound, Found};
+use crate::jobs::JobAnswer;
+use commands::{ProblemRefusal, SecondKind, Stop, trial};
 
 /// Why a command's job isn't begun.
 #[derive(Clone, Copy)]
@@ -21,22 +18,6 @@ pub enum Refusal {
     NotWeekly(u32),
     /// The second file is longer than its kind may be.
     TooLong(SecondKind),
-}
-
-/// The answer to a command on a problem, as its module in `commands` has it.
-#[derive(Drop)]
-pub enum JobAnswer {
-    /// The problem was printed in its canonical form.
-    Show,
-    Plan(Found),
-    Best(BestFound),
-    Staff(staff::Answer),
-    Verify(verify::Answer),
-    Check(check::Answer),
-    CheckFree(check_free::Answer),
-    CheckStaff(check_staff::Answer),
-    Reduce(reduce::Answer),
-    Crew(crew::Answer),
 }
 
 /// The answer to a command line.
@@ -104,28 +85,6 @@ impl Answer {
             Answer::Refused(_) => 3,
             Answer::Trial(_) => 0,
             Answer::Job(answer) => answer.status(),
-        }
-    }
-}
-
-impl JobAnswer {
-    ghost use Rattle.rwsp_run.specs.Status.{job_status};
-
-    // The status where its text was written.
-    fn status(&self) -> u8
-        ensures { result ≡ job_status self.now }
-    {
-        match self {
-            JobAnswer::Show => 0,
-            JobAnswer::Plan(found) => plan::status(found),
-            JobAnswer::Best(found) => best::status(found),
-            JobAnswer::Staff(answer) => staff::status(answer),
-            JobAnswer::Verify(answer) => verify::status(answer),
-            JobAnswer::Check(answer) => check::status(answer),
-            JobAnswer::CheckFree(answer) => check_free::status(answer),
-            JobAnswer::CheckStaff(answer) => check_staff::status(answer),
-            JobAnswer::Reduce(answer) => reduce::status(answer),
-            JobAnswer::Crew(answer) => crew::status(answer),
         }
     }
 }

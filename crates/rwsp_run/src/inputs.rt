@@ -1,18 +1,19 @@
 // What a command works on, read.
-ghost use Rattle.std.specs.Prelude.{◌≡◌, ◌↔◌, ℕ, List, IfOk, IfErr, IsErrOf, IsTrue, Some};
+ghost use Rattle.std.specs.Prelude.{◌≡◌, ℕ, List, IfOk, IfErr, IsErrOf, Some};
 ghost use Rattle.rwsp_io.specs.Told.{NeverFall, Missing};
 ghost use Rattle.command_line.specs.Commands.{IsForm, HasDaysFor, problem_name, second_name};
 ghost use Rattle.commands.specs.Files.{IsStop, IsSecond, WhereTold, IsTooLong};
 ghost use Rattle.commands.specs.ProblemFile.{IsProblemOf};
-ghost use Rattle.rwsp_run.specs.Answers.{IsAnswer, IsAnswerOn, IsAsked, IsReadFault, SecondRose, second_kind};
+ghost use Rattle.rwsp_run.specs.Commands.{second_kind};
+ghost use Rattle.rwsp_run.specs.Answers.{IsAnswer, IsAnswerOn, IsAsked, IsReadFault, SecondRose};
 ghost use Rattle.rwsp_run.specs.declared.answer.Answer.TheVariants.{Refused};
 
 use crate::answer::Refusal;
+use crate::jobs::{has_days_for, second_kind};
 use command_line::{Command, word_at};
 use commands::{SecondKind, Stop, problem_in, second_in};
 use rwsp_io::Shelf;
 use rwsp_model::Problem;
-use rwsp_terms::limits::DAYS_OF_WEEK;
 use std::alloc::Global;
 
 /// A problem, and the bytes of a second file, none where the command reads none.
@@ -97,27 +98,5 @@ fn bytes_for<S: Shelf>(
     match second_in(alloc, shelf, word_at(words, 2), kind)? {
         Some(bytes) => Ok(Ok(bytes)),
         None => Ok(Err(kind)),
-    }
-}
-
-// The kind of the command's second file, where it reads one.
-fn second_kind(command: Command) -> Option<SecondKind>
-    ensures { result ≡ second_kind command }
-{
-    match command {
-        Command::Verify | Command::Crew { .. } => Some(SecondKind::Roster),
-        Command::Check { .. } | Command::Reduce => Some(SecondKind::Log),
-        Command::CheckStaff | Command::CheckFree => Some(SecondKind::Log),
-        _ => None,
-    }
-}
-
-// Whether the week of the problem has as many days as the command asks for.
-fn has_days_for(command: &Command, problem: &Problem) -> bool
-    ensures { IsTrue result ↔ HasDaysFor command.now problem.now }
-{
-    match command {
-        Command::CheckFree | Command::Best { .. } => problem.days() == DAYS_OF_WEEK,
-        _ => true,
     }
 }

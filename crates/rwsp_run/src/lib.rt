@@ -4,11 +4,13 @@
 
 mod answer;
 mod inputs;
+mod jobs;
 mod laws;
 mod reply;
 mod top_call;
 
-pub use answer::{Answer, JobAnswer, Outcome, Refusal};
+pub use answer::{Answer, Outcome, Refusal};
+pub use jobs::JobAnswer;
 pub use laws::{
     answers_are_one, best_proofs_are_accepted, best_rosters_are_best, best_rosters_meet,
     problems_are_answered, reductions_are_accepted, refutations_are_accepted, rosters_meet,

@@ -2,17 +2,15 @@
 ghost use Rattle.std.specs.Prelude.{◌≡◌, ◌≤◌, IfOk};
 ghost use Rattle.std.specs.String.{string_bytes};
 ghost use Rattle.commands.specs.Trial.{IsTrial, IsTrialText};
-ghost use Rattle.rwsp_run.specs.Texts.{refusal_line, job_text, IsPrintable};
+ghost use Rattle.rwsp_run.specs.Texts.{refusal_line};
+ghost use Rattle.rwsp_run.specs.Commands.{job_text, IsPrintable};
 ghost use Rattle.rwsp_run.specs.declared.answer.Answer.TheVariants as Answers;
 ghost use Rattle.commands.specs.declared.trial.Answer.{Answer as TrialAnswer};
 
-use crate::answer::{Answer, JobAnswer, Refusal};
-use commands::{
-    best, check, check_free, check_staff, crew, not_weekly_line, plan, problem_refusal_line,
-    reduce, staff, too_long_line, trial, verify,
-};
+use crate::answer::{Answer, Refusal};
+use crate::jobs::{JobAnswer, text_of};
+use commands::{not_weekly_line, problem_refusal_line, too_long_line, trial};
 use potential_bounds::Gate;
-use rwsp_file::print_problem;
 use rwsp_model::Problem;
 use rwsp_terms::limits::MOST_WEEKS;
 use std::alloc::{AllocError, Global};
@@ -90,23 +88,4 @@ pub fn printed(alloc: Global, problem: &Problem, answer: JobAnswer) -> Result<Re
 // The end of a run that has an answer, of any type, and no memory for its text.
 fn without_memory<A: Drop>(_answer: A) -> AllocError {
     AllocError
-}
-
-// The text of an answer on a problem.
-fn text_of(alloc: Global, problem: &Problem, answer: &JobAnswer) -> Result<Vec<u8>, AllocError>
-    requires { IsPrintable problem.now answer.now }
-    ensures { IfOk result (λ v. v.items ≡ job_text problem.now answer.now) }
-{
-    match answer {
-        JobAnswer::Show => print_problem(alloc, problem),
-        JobAnswer::Plan(found) => plan::text(alloc, problem, found),
-        JobAnswer::Best(found) => best::text(alloc, problem, found),
-        JobAnswer::Staff(answer) => staff::text(alloc, problem, answer),
-        JobAnswer::Verify(answer) => verify::text(alloc, problem, answer),
-        JobAnswer::Check(answer) => check::text(alloc, problem, answer),
-        JobAnswer::CheckFree(answer) => check_free::text(alloc, problem, answer),
-        JobAnswer::CheckStaff(answer) => check_staff::text(alloc, problem, answer),
-        JobAnswer::Reduce(answer) => reduce::text(alloc, problem, answer),
-        JobAnswer::Crew(answer) => crew::text(alloc, problem, answer),
-    }
 }

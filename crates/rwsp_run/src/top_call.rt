@@ -4,19 +4,20 @@ ghost use Rattle.std.specs.Io.KnownBytes.{Appends, Keeps};
 ghost use Rattle.rwsp_io.specs.Told.{Rose, Missing};
 ghost use Rattle.command_line.specs.Commands.{ReadsProblem, IsWithinHorizon, HasDaysFor, problem_name};
 ghost use Rattle.commands.specs.Files.{IsShort};
-ghost use Rattle.rwsp_run.specs.Answers.{IsAnswer, IsAsked, IsJobAnswer, IsReadFault, HasItsNumbers, second_kind};
-ghost use Rattle.rwsp_run.specs.Texts.{IsTextOf, IsPrintable, job_text};
-ghost use Rattle.rwsp_run.specs.declared.answer.JobAnswer.{JobAnswer as AnswerOfJob};
+ghost use Rattle.rwsp_run.specs.Commands.{IsJobAnswer, IsPrintable, HasItsNumbers, job_text, second_kind};
+ghost use Rattle.rwsp_run.specs.Answers.{IsAnswer, IsAsked, IsReadFault};
+ghost use Rattle.rwsp_run.specs.Texts.{IsTextOf};
+ghost use Rattle.rwsp_run.specs.declared.jobs.JobAnswer.{JobAnswer as AnswerOfJob};
 ghost use Rattle.rwsp_run.specs.declared.answer.Answer.TheVariants as Answers;
 
-use crate::answer::{Answer, JobAnswer, Outcome, Refusal};
+use crate::answer::{Answer, Outcome, Refusal};
 use crate::inputs::{Inputs, inputs_of};
+use crate::jobs::answer_on;
 use crate::reply::{Reply, printed, refused, tried};
 use command_line::{Command, command_of, is_within_horizon};
-use commands::{Stop, best, check, check_free, check_staff, crew, plan, reduce, staff, verify};
+use commands::Stop;
 use potential_bounds::Gate;
 use rwsp_io::{Shelf, Sink, write_all};
-use rwsp_model::Problem;
 use std::alloc::{AllocError, Global};
 use std::thread::Threads;
 
@@ -135,67 +136,4 @@ fn reply_on<R: Threads + Sync, G: Gate>(
     let Inputs { problem, bytes } = inputs;
     let answer = answer_on(rt, alloc, &problem, bytes, command, gate)?;
     printed(alloc, &problem, answer)
-}
-
-// The answer of a command on a problem and the bytes of its second file.
-fn answer_on<R: Threads + Sync, G: Gate>(
-    rt: &R,
-    alloc: Global,
-    problem: &Problem,
-    bytes: Vec<u8>,
-    command: Command,
-    gate: &G,
-) -> Result<JobAnswer, AllocError>
-    requires asked { ReadsProblem command }
-    requires numbers { HasItsNumbers command }
-    requires horizon { IsWithinHorizon command }
-    requires days { HasDaysFor command problem.now }
-    requires short { IsShort (second_kind command) bytes.items }
-    ensures answer { IfOk result (IsJobAnswer command problem.now bytes.items) }
-    ensures printable { IfOk result (IsPrintable problem.now) }
-{
-    match command {
-        Command::Show => Ok(JobAnswer::Show),
-        Command::Plan { budget } => {
-            let found = plan::job(rt, alloc, problem, budget, gate)?;
-            Ok(JobAnswer::Plan(found))
-        }
-        Command::Best { budget } => {
-            let found = best::job(alloc, problem, budget)?;
-            Ok(JobAnswer::Best(found))
-        }
-        Command::Staff { low, high, budget } => {
-            let answer = staff::job(rt, alloc, problem, low, high, budget, gate)?;
-            Ok(JobAnswer::Staff(answer))
-        }
-        Command::Verify => {
-            let answer = verify::job(alloc, problem, &bytes)?;
-            Ok(JobAnswer::Verify(answer))
-        }
-        Command::Check { workers } => {
-            let answer = check::job(rt, alloc, problem, &bytes, workers, gate)?;
-            Ok(JobAnswer::Check(answer))
-        }
-        Command::CheckFree => {
-            let answer = check_free::job(alloc, problem, &bytes)?;
-            Ok(JobAnswer::CheckFree(answer))
-        }
-        Command::CheckStaff => {
-            let answer = check_staff::job(rt, alloc, problem, &bytes, gate)?;
-            Ok(JobAnswer::CheckStaff(answer))
-        }
-        Command::Reduce => {
-            let answer = reduce::job(rt, alloc, problem, bytes, gate)?;
-            Ok(JobAnswer::Reduce(answer))
-        }
-        Command::Crew {
-            date,
-            days,
-            employee,
-        } => {
-            let answer = crew::job(alloc, problem, &bytes, date, days, employee)?;
-            Ok(JobAnswer::Crew(answer))
-        }
-        Command::Trial { .. } => unreachable!(),
-    }
 }

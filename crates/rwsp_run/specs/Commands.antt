@@ -1,0 +1,97 @@
+-- What each command reads, answers, prints and ends with: a line each, from the definitions of the command.
+use Rattle.std.specs.Prelude.{ℕ, ◌<◌, ◌+◌, ◌≤◌, List, Option, Some, None}
+use Rattle.rwsp_terms.specs.declared.limits.TheConstants.{GREATEST_BUDGET, MOST_WEEKS, MOST_SIZES, GREATEST_STAFF_BUDGET, MOST_WORKERS, LONGEST_CALENDAR}
+use Rattle.rwsp_terms.specs.Instance.{Instance}
+use Rattle.rwsp_file.specs.Text.{problem_text}
+use Rattle.plan_terms.specs.Planned.{IsPlanned}
+use Rattle.command_line.specs.Commands.{IsEmployeeNumber}
+use Rattle.command_line.specs.declared.command.Command.{Command}
+use Rattle.command_line.specs.declared.command.Command.TheVariants as Commands
+use Rattle.commands.specs.Plan.{plan_text, plan_status, IsPlanOf}
+use Rattle.commands.specs.Best.{IsBestAnswer, best_text, best_status, IsBestOf}
+use Rattle.commands.specs.Staff.{IsStaffAnswer, staff_answer_text, staff_status, IsStaffAnswerOf}
+use Rattle.commands.specs.Verify.{IsVerified, verify_text, verify_status, IsVerifiedOf}
+use Rattle.commands.specs.Check.{IsChecked, check_text, check_status, IsCheckedOf}
+use Rattle.commands.specs.CheckFree.{IsCheckedFree, check_free_text, check_free_status, IsCheckedFreeOf}
+use Rattle.commands.specs.CheckStaff.{IsCheckedStaff, check_staff_text, check_staff_status, IsCheckedStaffOf}
+use Rattle.commands.specs.Reduce.{IsReduction, reduce_text, reduce_status, IsReductionOf}
+use Rattle.commands.specs.Crew.{IsCrewAnswer, crew_text, crew_status, IsCrewAnswerOf}
+use Rattle.commands.specs.declared.second_file.SecondKind.{SecondKind}
+use Rattle.commands.specs.declared.second_file.SecondKind.TheVariants as Kinds
+use Rattle.rwsp_run.specs.declared.jobs.JobAnswer.{JobAnswer}
+use Rattle.rwsp_run.specs.declared.jobs.JobAnswer.TheVariants as Jobs
+
+-- the kind of a command's second file, where it reads one
+abbrev pub second_kind : Command → Option SecondKind
+second_kind Commands.Verify = Some Kinds.Roster
+second_kind (Commands.Crew date days employee) = Some Kinds.Roster
+second_kind (Commands.Check workers) = Some Kinds.Log
+second_kind Commands.Reduce = Some Kinds.Log
+second_kind Commands.CheckStaff = Some Kinds.Log
+second_kind Commands.CheckFree = Some Kinds.Log
+second_kind command = None
+
+-- the numbers of a command are as its form has them
+abbrev pub HasItsNumbers : Command → Type 0
+HasItsNumbers (Commands.Plan budget) = (1 ≤ budget) × (budget ≤ GREATEST_BUDGET)
+HasItsNumbers (Commands.Best budget) = (1 ≤ budget) × (budget ≤ GREATEST_BUDGET)
+HasItsNumbers (Commands.Check workers) = (1 ≤ workers) × (workers ≤ MOST_WORKERS)
+HasItsNumbers (Commands.Crew date days employee) = (days ≤ LONGEST_CALENDAR) × IsEmployeeNumber employee
+HasItsNumbers (Commands.Trial number weeks) = (1 ≤ weeks) × (weeks ≤ MOST_WEEKS)
+HasItsNumbers (Commands.Staff low high budget) =
+    (1 ≤ low) × ((low ≤ high) × (high ≤ MOST_WEEKS) × (high < low + MOST_SIZES))
+    × ((1 ≤ budget) × (budget ≤ GREATEST_STAFF_BUDGET))
+HasItsNumbers command = Unit {0}
+
+-- what the answer to a command says of the problem and of the bytes of the second file
+abbrev pub IsJobAnswer : Command → Instance → List ℕ → JobAnswer → Type 0
+IsJobAnswer Commands.Show P bytes Jobs.Show = Unit {0}
+IsJobAnswer (Commands.Plan budget) P bytes (Jobs.Plan found) = IsPlanned P budget found
+IsJobAnswer (Commands.Best budget) P bytes (Jobs.Best found) = IsBestAnswer P budget found
+IsJobAnswer (Commands.Staff low high budget) P bytes (Jobs.Staff a) = IsStaffAnswer P low high budget a
+IsJobAnswer Commands.Verify P bytes (Jobs.Verify a) = IsVerified P bytes a
+IsJobAnswer (Commands.Check workers) P bytes (Jobs.Check a) = IsChecked P bytes a
+IsJobAnswer Commands.CheckFree P bytes (Jobs.CheckFree a) = IsCheckedFree P bytes a
+IsJobAnswer Commands.CheckStaff P bytes (Jobs.CheckStaff a) = IsCheckedStaff P bytes a
+IsJobAnswer Commands.Reduce P bytes (Jobs.Reduce a) = IsReduction P bytes a
+IsJobAnswer (Commands.Crew date days employee) P bytes (Jobs.Crew a) = IsCrewAnswer P bytes date days employee a
+IsJobAnswer command P bytes answer = ⊥
+
+-- the text of an answer to a command on a problem
+abbrev pub job_text : Instance → JobAnswer → List ℕ
+job_text P Jobs.Show = problem_text P
+job_text P (Jobs.Plan found) = plan_text P found
+job_text P (Jobs.Best found) = best_text P found
+job_text P (Jobs.Staff a) = staff_answer_text P a
+job_text P (Jobs.Verify a) = verify_text P a
+job_text P (Jobs.Check a) = check_text P a
+job_text P (Jobs.CheckFree a) = check_free_text P a
+job_text P (Jobs.CheckStaff a) = check_staff_text P a
+job_text P (Jobs.Reduce a) = reduce_text P a
+job_text P (Jobs.Crew a) = crew_text P a
+
+-- what the answer names is the problem's
+abbrev pub IsPrintable : Instance → JobAnswer → Type 0
+IsPrintable P Jobs.Show = Unit {0}
+IsPrintable P (Jobs.Plan found) = IsPlanOf P found
+IsPrintable P (Jobs.Best found) = IsBestOf P found
+IsPrintable P (Jobs.Staff a) = IsStaffAnswerOf P a
+IsPrintable P (Jobs.Verify a) = IsVerifiedOf P a
+IsPrintable P (Jobs.Check a) = IsCheckedOf P a
+IsPrintable P (Jobs.CheckFree a) = IsCheckedFreeOf P a
+IsPrintable P (Jobs.CheckStaff a) = IsCheckedStaffOf P a
+IsPrintable P (Jobs.Reduce a) = IsReductionOf P a
+IsPrintable P (Jobs.Crew a) = IsCrewAnswerOf P a
+
+-- the status where the text was written
+abbrev pub job_status : JobAnswer → ℕ
+job_status Jobs.Show = 0
+job_status (Jobs.Plan found) = plan_status found
+job_status (Jobs.Best found) = best_status found
+job_status (Jobs.Staff a) = staff_status a
+job_status (Jobs.Verify a) = verify_status a
+job_status (Jobs.Check a) = check_status a
+job_status (Jobs.CheckFree a) = check_free_status a
+job_status (Jobs.CheckStaff a) = check_staff_status a
+job_status (Jobs.Reduce a) = reduce_status a
+job_status (Jobs.Crew a) = crew_status a
