@@ -1,6 +1,7 @@
 // Whether a free log passes.
-ghost use Rattle.std.specs.Prelude.{◌≡◌, IfOk};
+ghost use Rattle.std.specs.Prelude.{◌≡◌, Some, IfOk};
 ghost use Rattle.rwsp_terms.specs.declared.limits.TheConstants.{DAYS_OF_WEEK};
+ghost use Rattle.refutation_terms.specs.Log.{Log as LogValue};
 ghost use Rattle.refutation_terms.specs.FreeVerdict.{IsFreeAccepted};
 ghost use Rattle.commands.specs.Lines.{line};
 ghost use Rattle.commands.specs.Files.{IsWithinLimit};
@@ -9,11 +10,14 @@ ghost use Rattle.commands.specs.declared.second_file.SecondKind.TheVariants as K
 
 use crate::log_refusal::log_refusal_line;
 use crate::put::{put_labelled, put_numbers};
-use refutation_checker::check_free;
-use refutation_log::{Log, LogRefusal};
+use potential_bounds::Gate;
+use refutation_checker::{PassedGoal, check_free_with};
+use refutation_log::LogRefusal;
 use rwsp_model::{Fail, Problem};
 use rwsp_terms::RuleList;
+use rwsp_terms::limits::USUAL_WORKERS;
 use std::alloc::{AllocError, Global};
+use std::thread::Threads;
 
 /// Whether a free log passes.
 #[derive(Drop)]
@@ -24,31 +28,37 @@ pub enum Answer {
     Refused(LogRefusal),
 }
 
-/// The answer to the bytes of a free log.
-pub fn job(alloc: Global, problem: &Problem, bytes: &[u8]) -> Result<Answer, AllocError>
+/// The answer to the bytes of a free log, worked out by as many threads as for `check` where nothing is said.
+pub fn job<R: Threads + Sync, G: Gate>(
+    rt: &R,
+    alloc: Global,
+    problem: &Problem,
+    bytes: &[u8],
+    gate: &G,
+) -> Result<Answer, AllocError>
     requires weekly { problem.now.days ≡ DAYS_OF_WEEK }
     requires short { IsWithinLimit Kinds.Log bytes.now }
     ensures says { IfOk result (IsCheckedFree problem.now bytes.now) }
     ensures own { IfOk result (IsCheckedFreeOf problem.now) }
 {
-    match check_free(alloc, problem, bytes) {
-        Ok(log) => Ok(accepted(problem, bytes, log)),
+    match check_free_with(rt, alloc, problem, bytes, USUAL_WORKERS, gate) {
+        Ok(passed) => Ok(accepted(problem, bytes, passed)),
         Err(Fail::Refused(why)) => Ok(Answer::Refused(why)),
         Err(Fail::Memory) => Err(AllocError),
     }
 }
 
 // The answer to a log that the bytes spell and that passes.
-fn accepted(problem: &Problem, bytes: &[u8], log: Log) -> Answer
-    requires { IsFreeAccepted problem.now bytes.now log }
+fn accepted(problem: &Problem, bytes: &[u8], passed: PassedGoal) -> Answer
+    requires { (g : LogValue) × IsFreeAccepted problem.now bytes.now g × (g.named ≡ passed.named)
+        × (g.goal ≡ Some passed.goal) }
     ensures says { IsCheckedFree problem.now bytes.now result }
     ensures own { IsCheckedFreeOf problem.now result }
 {
-    let Some(goal) = log.goal() else {
-        unreachable!()
-    };
-    let (rules, _, _, _) = log.into_parts();
-    Answer::Accepted { goal, rules }
+    Answer::Accepted {
+        goal: passed.goal,
+        rules: passed.named,
+    }
 }
 
 /// The line of the answer.

@@ -94,7 +94,7 @@ pub fn answer_on<R: Threads + Sync, G: Gate>(
             Ok(JobAnswer::Check(answer))
         }
         Command::CheckFree => {
-            let answer = check_free::job(alloc, problem, &bytes)?;
+            let answer = check_free::job(rt, alloc, problem, &bytes, gate)?;
             Ok(JobAnswer::CheckFree(answer))
         }
         Command::CheckStaff => {
