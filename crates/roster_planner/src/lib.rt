@@ -2,10 +2,9 @@
 //! the least crew: plans for one number of weeks after the other.
 #![tactic(auto)]
 
-mod guide;
 mod planning;
 mod reasons;
 mod staffing;
 
 pub use planning::plan_roster;
-pub use staffing::staff;
+pub use staffing::{Sizes, least_crew, staff};

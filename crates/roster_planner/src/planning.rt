@@ -1,22 +1,18 @@
 // A roster for a problem, or a refutation.
 ghost use Rattle.std.specs.Prelude.{◌≡◌, ◌≤◌, IfOk};
-ghost use Rattle.refutation_terms.specs.Sharp.{IsFirstTurn};
 ghost use Rattle.propagator_terms.specs.Cycles.{AreShortRules};
 ghost use Rattle.plan_terms.specs.Planned.{IsPlanned};
-ghost use Rattle.roster_planner.specs.Reasons.{AreReasons};
 
-use crate::guide::PlanGuide;
-use crate::reasons::{Reasons, reasons_of};
+use crate::reasons::reasons_of;
 use plan_terms::Found;
 use potential_bounds::Gate;
-use propagator_terms::Propagator;
 use refutation_log::first_turn;
-use refutation_terms::Turn;
 use roster_finder::{Patience, RosterFinder};
-use roster_search::guided_search;
+use roster_search::Aim;
 use rule_automaton::{Automaton, Told};
 use rwsp_model::Problem;
 use rwsp_terms::limits::GREATEST_BUDGET;
+use search_guide::planner_search;
 use std::alloc::{AllocError, Global};
 use std::thread::Threads;
 
@@ -63,7 +59,7 @@ fn plan_or_find<R: Threads + Sync, G: Gate>(
     found
 }
 
-// What a search finds that distinguishes cases.
+// What a search finds that distinguishes cases, by reasons for the turn with which it begins.
 fn plan_cases<R: Threads + Sync, G: Gate>(
     rt: &R,
     alloc: Global,
@@ -77,35 +73,16 @@ fn plan_cases<R: Threads + Sync, G: Gate>(
     requires budget { (1 ≤ budget) × (budget ≤ GREATEST_BUDGET) }
     ensures { IfOk result (IsPlanned automaton.now.problem budget) }
 {
-    let turn = first_turn(automaton.problem());
-    let mut reasons = reasons_of(rt, alloc, automaton, turn, gate)?;
-    let found = plan_by(alloc, automaton, finder, turn, &mut reasons, budget);
-    drop(reasons);
-    found
-}
-
-// The same by these reasons, which hold for the search that begins with the turn.
-fn plan_by<'a>(
-    alloc: Global,
-    automaton: &Automaton,
-    finder: &RosterFinder<'_>,
-    turn: Option<Turn>,
-    reasons: &mut Reasons<'a>,
-    budget: u32,
-) -> Result<Found, AllocError>
-    requires short { AreShortRules automaton.now.problem automaton.now.rules }
-    requires same { finder.now ≡ automaton.now.problem }
-    requires budget { (1 ≤ budget) × (budget ≤ GREATEST_BUDGET) }
-    requires turn { IsFirstTurn automaton.now.problem turn }
-    requires serves { ⟦<Reasons<'a> as Propagator>⟧.serves reasons.old automaton.now.problem }
-    requires reasons { AreReasons automaton.now.problem turn (⟦<Reasons<'a> as Propagator>⟧.leaves reasons.old)
-        (⟦<Reasons<'a> as Propagator>⟧.spent reasons.old) }
-    ensures { IfOk result (IsPlanned automaton.now.problem budget) }
-{
     let problem = automaton.problem();
     problem.prove_limits();
-    let mut guide = PlanGuide::new(alloc, automaton, finder, turn);
-    let found = guided_search(alloc, problem, turn, None, reasons, &mut guide, budget);
-    drop(guide);
+    let turn = first_turn(problem);
+    let mut reasons = reasons_of(rt, alloc, automaton, turn, gate)?;
+    let aim = Aim {
+        turn,
+        goal: None,
+        budget,
+    };
+    let found = planner_search(alloc, automaton, finder, aim, 0, &mut reasons);
+    drop(reasons);
     found
 }

@@ -14,8 +14,45 @@ use rwsp_model::Problem;
 use std::alloc::{AllocError, Global};
 use std::thread::Threads;
 
-/// Plans the problem for `low` weeks, and for one more as long as there is a refutation, up to `high` weeks; each
-/// number of weeks has the whole budget. The workers of a plan pass the gate.
+/// The numbers of weeks that are tried, from the first to the last.
+#[derive(Clone, Copy)]
+pub struct Sizes {
+    pub low: u32,
+    pub high: u32,
+}
+
+/// Plans the problem for the lowest number of weeks, and for one more as long as there is a refutation, up to the
+/// highest; each number of weeks has the whole budget. The workers of a plan pass the gate.
+pub fn least_crew<R: Threads + Sync, G: Gate>(
+    rt: &R,
+    alloc: Global,
+    problem: &Problem,
+    sizes: Sizes,
+    budget: u32,
+    gate: &G,
+) -> Result<StaffRun, AllocError>
+    requires sizes { (1 ≤ sizes.low) × (sizes.low ≤ sizes.high) }
+    requires most { IsSize problem.now sizes.high }
+    requires budget { (1 ≤ budget) × (budget ≤ GREATEST_STAFF_BUDGET) }
+    ensures staffed { IfOk result (IsStaffed problem.now sizes.low sizes.high budget) }
+    ensures fits { IfOk result (FitsSizes problem.now) }
+{
+    let mut logs = Vec::new(alloc);
+    for weeks in sizes.low..sizes.high + 1 {
+        match plan_for(rt, alloc, problem, weeks, budget, gate)? {
+            Found::NoRoster(log) => logs.push(log)?,
+            Found::Roster(roster) => {
+                return Ok(StaffRun::of(sizes.low, logs, StaffEnd::Least(roster)));
+            }
+            Found::Undecided(log) => {
+                return Ok(StaffRun::of(sizes.low, logs, StaffEnd::Undecided(log)));
+            }
+        }
+    }
+    Ok(StaffRun::of(sizes.low, logs, StaffEnd::NoneTo))
+}
+
+/// The same, with the numbers of weeks one by one.
 pub fn staff<R: Threads + Sync, G: Gate>(
     rt: &R,
     alloc: Global,
@@ -31,15 +68,7 @@ pub fn staff<R: Threads + Sync, G: Gate>(
     ensures staffed { IfOk result (IsStaffed problem.now low high budget) }
     ensures fits { IfOk result (FitsSizes problem.now) }
 {
-    let mut logs = Vec::new(alloc);
-    for weeks in low..high + 1 {
-        match plan_for(rt, alloc, problem, weeks, budget, gate)? {
-            Found::NoRoster(log) => logs.push(log)?,
-            Found::Roster(roster) => return Ok(StaffRun::of(low, logs, StaffEnd::Least(roster))),
-            Found::Undecided(log) => return Ok(StaffRun::of(low, logs, StaffEnd::Undecided(log))),
-        }
-    }
-    Ok(StaffRun::of(low, logs, StaffEnd::NoneTo))
+    least_crew(rt, alloc, problem, Sizes { low, high }, budget, gate)
 }
 
 // The plan for this number of weeks.

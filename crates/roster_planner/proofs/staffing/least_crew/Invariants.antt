@@ -1,9 +1,9 @@
 use Rattle.std.proofs.Common.{◌≡◌, ◌+◌, length}
 use Rattle.crew_size.proofs.Searches.{AreRefuted}
-use Rattle.roster_planner.proofs.staffing.staff.Given as goal
+use Rattle.roster_planner.proofs.staffing.least_crew.Given as goal
 
 abbrev pub invariant-loop-weeks : goal.invariant-loop-weeks
 invariant-loop-weeks g l = record {
-  size : l.low + length l.logs.items ≡ l.weeks;
-  refuted : AreRefuted l.problem l.budget l.low l.logs.items;
+  size : l.sizes.low + length l.logs.items ≡ l.weeks;
+  refuted : AreRefuted l.problem l.budget l.sizes.low l.logs.items;
 }
