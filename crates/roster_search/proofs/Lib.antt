@@ -8,4 +8,3 @@ pub mod OneWord
 pub mod Finding
 pub mod Volume
 pub mod Reasons
-pub mod Given

@@ -17,4 +17,4 @@ pub use aim::Aim;
 pub use guide::{Guide, NoGuide};
 pub use laws::{spent_budgets_are_small, trees_have_few_leaves};
 pub use order::{NextSplit, chronological};
-pub use searching::{guided_search, search};
+pub use searching::search;

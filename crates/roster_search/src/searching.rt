@@ -14,7 +14,6 @@ use crate::sight::Arrival;
 use crate::{Aim, Guide};
 use plan_terms::Found;
 use propagator_terms::Propagator;
-use refutation_terms::Turn;
 use rwsp_model::{Problem, Roster};
 use rwsp_terms::limits::GREATEST_BUDGET;
 use std::alloc::{AllocError, Global};
@@ -56,34 +55,6 @@ pub fn search<A: Propagator, G: Guide>(
             Err(error)
         }
     }
-}
-
-/// `search` with the parts of its aim one by one.
-pub fn guided_search<A: Propagator, G: Guide>(
-    alloc: Global,
-    problem: &Problem,
-    turn: Option<Turn>,
-    goal: Option<u32>,
-    propagator: &mut A,
-    guide: &mut G,
-    budget: u32,
-) -> Result<Found, AllocError>
-    requires budget { (1 ≤ budget) × (budget ≤ GREATEST_BUDGET) }
-    requires turn { TurnFits problem.now turn × IsAllowed problem.now turn }
-    requires goal { GoalFits problem.now turn goal }
-    requires serves { A.serves propagator.old problem.now }
-    requires plain { HasPlainLeaves problem.now (A.leaves propagator.old) }
-    requires unweighed { AreUnweighedFor goal (A.leaves propagator.old) }
-    requires guide { G.serves guide.old problem.now goal }
-    ensures found { IfOk result (λ found.
-        IsFoundFor problem.now turn goal budget (A.leaves propagator.old) (A.spent propagator.old) found) }
-    ensures complete { IfOk result (λ found.
-        HasSpentBudget found → budget + 1 < 2 * (shift_count problem.now + 1) ^ cells problem.now) }
-    ensures same { IsSame A.serves A.leaves A.spent propagator.old propagator.new }
-    ensures guide { (P : Instance) (g : Option ℕ) → G.serves guide.old P g ↔ G.serves guide.new P g }
-{
-    let aim = Aim { turn, goal, budget };
-    search(alloc, problem, aim, propagator, guide)
 }
 
 // Writes lines until they are a whole tree or the budget is spent, or gives the roster that it meets before.
