@@ -12,7 +12,7 @@ use Rattle.refutation_terms.specs.Word.{Domains, Over}
 use Rattle.refutation_terms.specs.Leaf.{IsDead}
 use Rattle.refutation_terms.specs.Tree.{First, narrowed}
 use Rattle.refutation_terms.specs.Sharp.{NoWordHas}
-use Rattle.refutation_terms.proofs.ExampleShort.{clean_for_some, dead_for_all, all_are_short}
+use Rattle.refutation_terms.proofs.Named.{clean_for_some, dead_for_all, all_are_short}
 use Rattle.domain_store.specs.Sets.{has_symbol}
 use Rattle.domain_store.specs.Store.{Store, has_domain}
 use Rattle.propagator_terms.specs.Leaves.{IsHoldingLeafFor}

@@ -254,9 +254,6 @@ one_level P goal named D n bytes why other w m (Known line a q) (Known line' b r
 pub tree_cause_same_for : (P : Instance) (goal : Option ℕ) (named : List ℕ) (D : Domains) (n : ℕ) (bytes : List ℕ) (why other : LogRefusal) → IsWritable P → HasNames P → TreeCauseFor P goal named D n bytes why → TreeCauseFor P goal named D n bytes other → why ≡ other
 tree_cause_same_for P goal named D n bytes why other w m a b = one_level P goal named D n bytes why other w m (level_of_for P goal named D n bytes why a) (level_of_for P goal named D n bytes other b)
 
-pub tree_cause_same : (P : Instance) (named : List ℕ) (D : Domains) (n : ℕ) (bytes : List ℕ) (why other : LogRefusal) → IsWritable P → HasNames P → TreeCause P named D n bytes why → TreeCause P named D n bytes other → why ≡ other
-tree_cause_same P named D n bytes why other w m a b = tree_cause_same_for P None named D n bytes why other w m a b
-
 abbrev pub Level : Instance → List ℕ → Domains → ℕ → List ℕ → LogRefusal → Type 0
 Level P named D n bytes why = LevelFor P None named D n bytes why
 

@@ -14,7 +14,7 @@ use Rattle.refutation_terms.specs.FreeVerdict.{FreeFront, FreeStart, FreeVersion
 use Rattle.refutation_terms.specs.TextLaws.{IsWritable, HasNames, FreeVerdictIsUnique}
 use Rattle.refutation_terms.proofs.LineTables.{rules_fields, rules_words, rules_same, free_version_fields, goal_fields, free_version_words}
 use Rattle.refutation_terms.proofs.Texts.{lines_fields, free_log_fields, log_written_for, log_words_for}
-use Rattle.refutation_terms.proofs.Fronts.{free_goes_on, free_log_same, texts_distinct_for}
+use Rattle.refutation_terms.proofs.Fronts.{goes_on, log_same, texts_distinct_for}
 use Rattle.refutation_terms.proofs.Causes.{rules_cause}
 use Rattle.refutation_terms.proofs.OneRefusal.{IsAtEndOrLine, refusals_same, whole_has_none}
 use Rattle.refutation_terms.proofs.Unique.{rules_refutes, next_line_fine, cause_behind_same, passing_sound}
@@ -56,8 +56,10 @@ same_front P w n (ReadingFree goal f) FreeStart hf hg e = absurd (cc)
 same_front P w n (ReadingFree goal f) FreeVersioned hf hg e = absurd (cc)
 same_front P w n (ReadingFree goal f) (BeforeGoal R) hf hg e = absurd (cc)
 same_front P w n (ReadingFree goal f) (ReadingFree other g) hf hg e =
-    let s = free_log_same P goal other f g w n hf.grounded.fits hg.grounded.fits e in
-    ap (λ o. ReadingFree o f) s.0 ∙ ap (ReadingFree other) s.1
+    let s = log_same P (Some goal) (Some other) f g w n hf.grounded.fits hg.grounded.fits e in
+    let goals : Some goal ≡ Some other = s.0 in
+    let same : goal ≡ other = cc in
+    ap (λ o. ReadingFree o f) same ∙ ap (ReadingFree other) s.1
 
 version_cause : (bytes : List ℕ) (why : LogRefusal) → FreeVersionCause bytes why → why ≡ Refusals.Form 1
 version_cause bytes (Refusals.Form i) h = ap Refusals.Form h.0
@@ -100,9 +102,9 @@ fine P w n (ReadingFree goal f) FreeStart z zs why hf hg e c = cc
 fine P w n (ReadingFree goal f) FreeVersioned z zs why hf hg e c = cc
 fine P w n (ReadingFree goal f) (BeforeGoal R) z zs why hf hg e c = cc
 fine P w n (ReadingFree goal f) (ReadingFree other g) z zs why hf hg e c =
-    let s = free_goes_on P goal other f g (z ∷ zs) w n hf.grounded.fits hg.grounded.fits e in
+    let s = goes_on P (Some goal) (Some other) f g (z ∷ zs) w n hf.grounded.fits hg.grounded.fits e in
     goes_fine P goal f z zs s.more why w n s.written
-    (subst (IsSoundSoFarFor P (Some goal)) s.longer (subst (λ o. IsSoundSoFarFor P (Some o) g) (sym s.same_goal) hg)) c
+    (subst (IsSoundSoFarFor P (Some goal)) s.longer (subst (λ o. IsSoundSoFarFor P o g) (sym s.same_goal) hg)) c
 
 cause_same : (P : Instance) → IsWritable P → HasNames P → (F : FreeFront) (line : List ℕ) (why other : LogRefusal) → FreeCause P F line why → FreeCause P F line other → why ≡ other
 cause_same P w n FreeStart line why other a b = version_cause line why a ∙ sym (version_cause line other b)

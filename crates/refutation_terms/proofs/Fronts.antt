@@ -1,5 +1,5 @@
 -- A text begins with one front of a number of lines, and the line behind it is one of the same text's other fronts.
-use Rattle.std.proofs.Common.{◌≡◌, ℕ, List, [], ◌∷◌, ◌++◌, get_or, refl, ap, sym, ◌∙◌, subst, append-nil, arith, Bool, true, false, Option, Some, None}
+use Rattle.std.proofs.Common.{◌≡◌, ℕ, List, [], ◌∷◌, ◌++◌, get_or, refl, ap, sym, ◌∙◌, subst, append-nil, append_assoc, arith, Bool, true, false, Option, Some, None}
 use Rattle.std.specs.Prelude.{codes}
 use Rattle.std.specs.List.{AllByRecursion}
 use Rattle.rwsp_text.specs.Fields.{Words, text_of}
@@ -19,106 +19,98 @@ use Rattle.refutation_terms.proofs.Texts.{header_fields, lines_fields, log_field
 versions_differ : version_fields true ≡ version_fields false → ⊥
 versions_differ e = let clash : true ≡ false = version_same true false e in cc
 
--- a log that continues where another ends
-record GoesOn (P : Instance) (named : List ℕ) (turn : Option Turn) (lines : List Line) (named' : List ℕ) (turn' : Option Turn) (lines' : List Line) (zs : List Words) : Type 0 where
-  more : List Line
-  same_named : named ≡ named'
-  same_turn : turn ≡ turn'
-  longer : lines' ≡ lines ++ more
-  written : zs ≡ lines_fields P more
-
-goes_on : (P : Instance) (named : List ℕ) (turn : Option Turn) (lines : List Line) (named' : List ℕ) (turn' : Option Turn) (lines' : List Line) (zs : List Words) → IsWritable P → HasNames P → AreRules P named → AreRules P named' → TurnFits P turn → TurnFits P turn' → AllByRecursion (LineFitsFor P None) lines → AllByRecursion (LineFitsFor P None) lines' → header_fields P named' turn' ++ lines_fields P lines' ≡ header_fields P named turn ++ lines_fields P lines ++ zs → GoesOn P named turn lines named' turn' lines' zs
-goes_on P named None lines named' None lines' zs w n hr hq ht hu hl hm e =
-    let rules : rules_fields named ≡ rules_fields named' = cc in
-    let rest : lines_fields P lines' ≡ lines_fields P lines ++ zs = cc in
-    let m = lines_longer P None lines lines' zs w n hl hm rest in
-    record { more = m.0; same_named = rules_same P named named' w hr hq rules; same_turn = refl; longer = m.1; written = m.2 }
-goes_on P named None lines named' (Some u) lines' zs w n hr hq ht hu hl hm e =
-    let clash : version_fields true ≡ version_fields false = cc in absurd (versions_differ clash)
-goes_on P named (Some t) lines named' None lines' zs w n hr hq ht hu hl hm e =
-    let clash : version_fields false ≡ version_fields true = cc in absurd (versions_differ (sym clash))
-goes_on P named (Some t) lines named' (Some u) lines' zs w n hr hq ht hu hl hm e =
-    let rules : rules_fields named ≡ rules_fields named' = cc in
-    let turn : turn_fields (name_of P t.x) t.day ≡ turn_fields (name_of P u.x) u.day = cc in
-    let rest : lines_fields P lines' ≡ lines_fields P lines ++ zs = cc in
-    let m = lines_longer P None lines lines' zs w n hl hm rest in
-    record { more = m.0; same_named = rules_same P named named' w hr hq rules; same_turn = ap Some (turn_same P t u w n ht hu turn); longer = m.1; written = m.2 }
-
-pub log_goes_on : (P : Instance) (g h : Log) (zs : List Words) → IsWritable P → HasNames P → Fits P g → Fits P h → log_fields P h ≡ log_fields P g ++ zs → (more : List Line) × (h ≡ record { named = g.named; turn = g.turn; goal = g.goal; lines = g.lines ++ more }) × (zs ≡ lines_fields P more)
-log_goes_on P g h zs w n hg hh e =
-    let s = goes_on P g.named g.turn g.lines h.named h.turn h.lines zs w n hg.named hh.named hg.turn hh.turn (each_fits P None g.lines hg.lines) (each_fits P None h.lines hh.lines) e in (
-      s.more,
-      ap (λ i. record { named = i; turn = h.turn; goal = h.goal; lines = h.lines }) (sym s.same_named) ∙ ap (λ i. record { named = g.named; turn = i; goal = h.goal; lines = h.lines }) (sym s.same_turn)
-          ∙ ap (λ i. record { named = g.named; turn = g.turn; goal = i; lines = h.lines }) (hh.is_goal ∙ sym hg.is_goal) ∙ ap (λ i. record { named = g.named; turn = g.turn; goal = g.goal; lines = i }) s.longer,
-      s.written,
-    )
-
-nothing_more : (P : Instance) (more : List Line) → [] ≡ lines_fields P more → more ≡ []
-nothing_more P [] e = refl
-nothing_more P (l ∷ ls) e = absurd (cc)
-
-pub log_same : (P : Instance) (g h : Log) → IsWritable P → HasNames P → Fits P g → Fits P h → log_fields P h ≡ log_fields P g → g ≡ h
-log_same P g h w n hg hh e =
-    let s = log_goes_on P g h [] w n hg hh (e ∙ sym (append-nil (log_fields P g))) in
-    let none : s.0 ≡ [] = nothing_more P s.0 s.2 in
-    let lines : g.lines ++ s.0 ≡ g.lines = ap (λ m. g.lines ++ m) none ∙ append-nil g.lines in
-    sym (s.1 ∙ ap (λ i. record { named = g.named; turn = g.turn; goal = g.goal; lines = i }) lines)
-
--- a free log that continues where another ends
-pub record FreeGoesOn (P : Instance) (goal other : ℕ) (g h : Log) (zs : List Words) : Type 0 where
-  pub more : List Line
-  pub same_goal : goal ≡ other
-  pub longer : h ≡ record { named = g.named; turn = g.turn; goal = g.goal; lines = g.lines ++ more }
-  pub written : zs ≡ lines_fields P more
-
-pub free_goes_on : (P : Instance) (goal other : ℕ) (g h : Log) (zs : List Words) → IsWritable P → HasNames P → FitsFor P (Some goal) g → FitsFor P (Some other) h → free_log_fields P other h ≡ free_log_fields P goal g ++ zs → FreeGoesOn P goal other g h zs
-free_goes_on P goal other g h zs w n hg hh e =
-    let rules : rules_fields g.named ≡ rules_fields h.named = cc in
-    let goals : goal_fields goal ≡ goal_fields other = cc in
-    let rest : lines_fields P h.lines ≡ lines_fields P g.lines ++ zs = cc in
-    let named : h.named ≡ g.named = sym (rules_same P g.named h.named w hg.named hh.named rules) in
-    let turn : h.turn ≡ g.turn = hh.goal_fits.0 ∙ sym hg.goal_fits.0 in
-    let same : goal ≡ other = goal_same P goal other w hg.goal_fits.2 hh.goal_fits.2 goals in
-    let goal_is : h.goal ≡ g.goal = hh.is_goal ∙ ap Some (sym same) ∙ sym hg.is_goal in
-    let m = lines_longer P (Some goal) g.lines h.lines zs w n (each_fits P (Some goal) g.lines hg.lines)
-    (subst (λ o. AllByRecursion (LineFitsFor P (Some o)) h.lines) (sym same) (each_fits P (Some other) h.lines hh.lines)) rest in
-    record {
-      more = m.0;
-      same_goal = same;
-      longer =
-          ap (λ i. record { named = i; turn = h.turn; goal = h.goal; lines = h.lines }) named ∙ ap (λ i. record { named = g.named; turn = i; goal = h.goal; lines = h.lines }) turn
-          ∙ ap (λ i. record { named = g.named; turn = g.turn; goal = i; lines = h.lines }) goal_is ∙ ap (λ i. record { named = g.named; turn = g.turn; goal = g.goal; lines = i }) m.1;
-      written = m.2;
-    }
-
--- a free log whose lines are those of another
-pub free_log_same : (P : Instance) (goal other : ℕ) (g h : Log) → IsWritable P → HasNames P → FitsFor P (Some goal) g → FitsFor P (Some other) h → free_log_fields P other h ≡ free_log_fields P goal g → (goal ≡ other) × (g ≡ h)
-free_log_same P goal other g h w n hg hh e =
-    let s = free_goes_on P goal other g h [] w n hg hh (e ∙ sym (append-nil (free_log_fields P goal g))) in
-    let none : s.more ≡ [] = nothing_more P s.more s.written in
-    let lines : g.lines ++ s.more ≡ g.lines = ap (λ m. g.lines ++ m) none ∙ append-nil g.lines in
-    (s.same_goal, sym (s.longer ∙ ap (λ i. record { named = g.named; turn = g.turn; goal = g.goal; lines = i }) lines))
-
 kinds_differ : (b : Bool) → version_fields b ≡ free_version_fields → ⊥
 kinds_differ b e =
     let words : codes "rwsp-log" ≡ codes "rwsp-free" = cc in
     let letters : get_or (codes "rwsp-log") 5 0 ≡ get_or (codes "rwsp-free") 5 0 = ap (λ w. get_or w 5 0) words in
     let clash : 108 ≡ 102 = letters in omega (arith, clash)
 
-logs_differ : (P : Instance) (named : List ℕ) (turn : Option Turn) (lines : List Line) (other : ℕ) (h : Log) → header_fields P named turn ++ lines_fields P lines ≡ free_log_fields P other h → ⊥
-logs_differ P named None lines other h e = let first : version_fields false ≡ free_version_fields = cc in kinds_differ false first
-logs_differ P named (Some t) lines other h e = let first : version_fields true ≡ free_version_fields = cc in kinds_differ true first
+-- the first two lines of a log without a goal
+record Header (P : Instance) (g : Log) : Type 0 where
+  has_turn : Bool
+  rest : List Words
+  whole : log_fields P g ≡ version_fields has_turn ∷ rules_fields g.named ∷ rest
 
-log_same_for : (P : Instance) (goal other : Option ℕ) (g h : Log) → IsWritable P → HasNames P → FitsFor P goal g → FitsFor P other h → log_fields_for P other h ≡ log_fields_for P goal g → g ≡ h
-log_same_for P None None g h w n hg hh e = log_same P g h w n hg hh e
-log_same_for P None (Some other) g h w n hg hh e = absurd (logs_differ P g.named g.turn g.lines other h (sym e))
-log_same_for P (Some goal) None g h w n hg hh e = absurd (logs_differ P h.named h.turn h.lines goal g e)
-log_same_for P (Some goal) (Some other) g h w n hg hh e = (free_log_same P goal other g h w n hg hh e).1
+header_by : (P : Instance) (named : List ℕ) (turn : Option Turn) (goal : Option ℕ) (lines : List Line) → Header P (record { named = named; turn = turn; goal = goal; lines = lines })
+header_by P named None goal lines = record { has_turn = false; rest = lines_fields P lines; whole = refl }
+header_by P named (Some t) goal lines = record { has_turn = true; rest = turn_fields (name_of P t.x) t.day ∷ lines_fields P lines; whole = refl }
+
+header_of : (P : Instance) (g : Log) → Header P g
+header_of P g = header_by P g.named g.turn g.goal g.lines
+
+-- a header that begins as another is that one
+same_turns : (P : Instance) (named : List ℕ) (turn : Option Turn) (lines : List Words) (named' : List ℕ) (turn' : Option Turn) (lines' : List Words) → IsWritable P → HasNames P → AreRules P named → AreRules P named' → TurnFits P turn → TurnFits P turn' → header_fields P named' turn' ++ lines' ≡ header_fields P named turn ++ lines → (named' ≡ named) × (turn' ≡ turn) × (lines' ≡ lines)
+same_turns P named None lines named' None lines' w n hr hq ht hu e =
+    let rules : rules_fields named' ≡ rules_fields named = cc in
+    let rest : lines' ≡ lines = cc in
+    (rules_same P named' named w hq hr rules, refl, rest)
+same_turns P named None lines named' (Some u) lines' w n hr hq ht hu e =
+    let clash : version_fields true ≡ version_fields false = cc in absurd (versions_differ clash)
+same_turns P named (Some t) lines named' None lines' w n hr hq ht hu e =
+    let clash : version_fields false ≡ version_fields true = cc in absurd (versions_differ (sym clash))
+same_turns P named (Some t) lines named' (Some u) lines' w n hr hq ht hu e =
+    let rules : rules_fields named' ≡ rules_fields named = cc in
+    let turn : turn_fields (name_of P u.x) u.day ≡ turn_fields (name_of P t.x) t.day = cc in
+    let rest : lines' ≡ lines = cc in
+    (rules_same P named' named w hq hr rules, ap Some (turn_same P u t w n hu ht turn), rest)
+
+same_header : (P : Instance) (goal other : Option ℕ) (g h : Log) (zs : List Words) → IsWritable P → HasNames P → FitsFor P goal g → FitsFor P other h → log_fields_for P other h ≡ log_fields_for P goal g ++ zs → (h.named ≡ g.named) × (h.turn ≡ g.turn) × (goal ≡ other) × (lines_fields P h.lines ≡ lines_fields P g.lines ++ zs)
+same_header P None None g h zs w n hg hh e =
+    let whole = e ∙ append_assoc (header_fields P g.named g.turn) (lines_fields P g.lines) zs in
+    let s = same_turns P g.named g.turn (lines_fields P g.lines ++ zs) h.named h.turn (lines_fields P h.lines) w n hg.named hh.named hg.turn hh.turn whole in
+    (s.0, s.1, refl, s.2)
+same_header P None (Some other) g h zs w n hg hh e =
+    let k = header_of P g in
+    let both : free_log_fields P other h ≡ version_fields k.has_turn ∷ rules_fields g.named ∷ k.rest ++ zs = e ∙ ap (λ ls. ls ++ zs) k.whole in
+    let first : version_fields k.has_turn ≡ free_version_fields = cc in
+    absurd (kinds_differ k.has_turn first)
+same_header P (Some goal) None g h zs w n hg hh e =
+    let k = header_of P h in
+    let both : version_fields k.has_turn ∷ rules_fields h.named ∷ k.rest ≡ free_log_fields P goal g ++ zs = sym k.whole ∙ e in
+    let first : version_fields k.has_turn ≡ free_version_fields = cc in
+    absurd (kinds_differ k.has_turn first)
+same_header P (Some goal) (Some other) g h zs w n hg hh e =
+    let rules : rules_fields h.named ≡ rules_fields g.named = cc in
+    let goals : goal_fields goal ≡ goal_fields other = cc in
+    let rest : lines_fields P h.lines ≡ lines_fields P g.lines ++ zs = cc in
+    (rules_same P h.named g.named w hh.named hg.named rules, hh.goal_fits.0 ∙ sym hg.goal_fits.0, ap Some (goal_same P goal other w hg.goal_fits.2 hh.goal_fits.2 goals), rest)
+
+-- a log that continues where another ends
+pub record GoesOn (P : Instance) (goal other : Option ℕ) (g h : Log) (zs : List Words) : Type 0 where
+  pub more : List Line
+  pub same_goal : goal ≡ other
+  pub longer : h ≡ record { named = g.named; turn = g.turn; goal = g.goal; lines = g.lines ++ more }
+  pub written : zs ≡ lines_fields P more
+
+pub goes_on : (P : Instance) (goal other : Option ℕ) (g h : Log) (zs : List Words) → IsWritable P → HasNames P → FitsFor P goal g → FitsFor P other h → log_fields_for P other h ≡ log_fields_for P goal g ++ zs → GoesOn P goal other g h zs
+goes_on P goal other g h zs w n hg hh e =
+    let s = same_header P goal other g h zs w n hg hh e in
+    let m = lines_longer P goal g.lines h.lines zs w n (each_fits P goal g.lines hg.lines)
+    (subst (λ o. AllByRecursion (LineFitsFor P o) h.lines) (sym s.2) (each_fits P other h.lines hh.lines)) s.3 in
+    record {
+      more = m.0;
+      same_goal = s.2;
+      longer =
+          ap (λ i. record { named = i; turn = h.turn; goal = h.goal; lines = h.lines }) s.0 ∙ ap (λ i. record { named = g.named; turn = i; goal = h.goal; lines = h.lines }) s.1
+          ∙ ap (λ i. record { named = g.named; turn = g.turn; goal = i; lines = h.lines }) (hh.is_goal ∙ sym s.2 ∙ sym hg.is_goal) ∙ ap (λ i. record { named = g.named; turn = g.turn; goal = g.goal; lines = i }) m.1;
+      written = m.2;
+    }
+
+nothing_more : (P : Instance) (more : List Line) → [] ≡ lines_fields P more → more ≡ []
+nothing_more P [] e = refl
+nothing_more P (l ∷ ls) e = absurd (cc)
+
+-- logs of the same lines are one
+pub log_same : (P : Instance) (goal other : Option ℕ) (g h : Log) → IsWritable P → HasNames P → FitsFor P goal g → FitsFor P other h → log_fields_for P other h ≡ log_fields_for P goal g → (goal ≡ other) × (g ≡ h)
+log_same P goal other g h w n hg hh e =
+    let s = goes_on P goal other g h [] w n hg hh (e ∙ sym (append-nil (log_fields_for P goal g))) in
+    let lines : g.lines ++ s.more ≡ g.lines = ap (λ m. g.lines ++ m) (nothing_more P s.more s.written) ∙ append-nil g.lines in
+    (s.same_goal, sym (s.longer ∙ ap (λ i. record { named = g.named; turn = g.turn; goal = g.goal; lines = i }) lines))
 
 pub texts_distinct_for : TextsAreDistinct
 texts_distinct_for P goal other g h w n hg hh e =
-    log_same_for P goal other g h w n hg hh
-    (sym (same_lines (log_fields_for P goal g) (log_fields_for P other h) (log_words_for P goal g w n hg) (log_words_for P other h w n hh) (sym (log_written_for P goal g) ∙ e ∙ log_written_for P other h)))
+    (log_same P goal other g h w n hg hh
+    (sym (same_lines (log_fields_for P goal g) (log_fields_for P other h) (log_words_for P goal g w n hg) (log_words_for P other h w n hh) (sym (log_written_for P goal g) ∙ e ∙ log_written_for P other h)))).1
 
 pub texts_distinct : (P : Instance) (g h : Log) → IsWritable P → HasNames P → Fits P g → Fits P h → log_text P g ≡ log_text P h → g ≡ h
 texts_distinct P g h w n hg hh e = texts_distinct_for P None None g h w n hg hh e
@@ -135,19 +127,6 @@ front_written P Start = refl
 front_written P (Versioned b) = version_written b ∙ sym (append-nil (text_of (version_fields b)))
 front_written P (BeforeTurn R) = ap (λ t. version_text true ++ t) (sym (append-nil (rules_text R)))
 front_written P (Reading g) = log_written P g
-
--- the first two lines of a log
-record Header (P : Instance) (g : Log) : Type 0 where
-  has_turn : Bool
-  rest : List Words
-  whole : log_fields P g ≡ version_fields has_turn ∷ rules_fields g.named ∷ rest
-
-header_by : (P : Instance) (named : List ℕ) (turn : Option Turn) (goal : Option ℕ) (lines : List Line) → Header P (record { named = named; turn = turn; goal = goal; lines = lines })
-header_by P named None goal lines = record { has_turn = false; rest = lines_fields P lines; whole = refl }
-header_by P named (Some t) goal lines = record { has_turn = true; rest = turn_fields (name_of P t.x) t.day ∷ lines_fields P lines; whole = refl }
-
-header_of : (P : Instance) (g : Log) → Header P g
-header_of P g = header_by P g.named g.turn g.goal g.lines
 
 -- behind two lines of version 2 a log has a turn
 record TurnNext (P : Instance) (turn : Option Turn) (lines : List Line) (zs : List Words) : Type 0 where
@@ -189,7 +168,7 @@ module _ (P : Instance) (w : IsWritable P) (n : HasNames P) (Good : Front → Ty
   same_front (Reading f) Start hf hg e = let h = header_of P f in let clash : [] ≡ version_fields h.has_turn ∷ rules_fields f.named ∷ h.rest = e ∙ h.whole in absurd (cc)
   same_front (Reading f) (Versioned b) hf hg e = let h = header_of P f in let clash : version_fields b ∷ [] ≡ version_fields h.has_turn ∷ rules_fields f.named ∷ h.rest = e ∙ h.whole in absurd (cc)
   same_front (Reading f) (BeforeTurn R) hf hg e = let t = turn_next P f.named R f.turn f.lines [] (sym e) in let clash : [] ≡ turn_fields (name_of P t.turned.x) t.turned.day ∷ lines_fields P f.lines = t.whole in absurd (cc)
-  same_front (Reading f) (Reading g) hf hg e = ap Reading (log_same P f g w n (fits f hf) (fits g hg) e)
+  same_front (Reading f) (Reading g) hf hg e = ap Reading (log_same P None None f g w n (fits f hf) (fits g hg) e).1
 
   -- where the lines of a good front have no cause there, no front continues with a line that has one
   module _ (C : Front → List ℕ → LogRefusal → Type 0)
@@ -233,8 +212,8 @@ module _ (P : Instance) (w : IsWritable P) (n : HasNames P) (Good : Front → Ty
         let h = header_of P f in let clash : version_fields b ∷ [] ≡ version_fields h.has_turn ∷ rules_fields f.named ∷ h.rest ++ z ∷ zs = e ∙ ap (λ ls. ls ++ z ∷ zs) h.whole in cc
     fine (Reading f) (BeforeTurn R) z zs why hf hg e c = too_long P f.named R f.turn f.lines z zs e
     fine (Reading f) (Reading g) z zs why hf hg e c =
-        let s = log_goes_on P f g (z ∷ zs) w n (fits f hf) (fits g hg) e in
-        going_on s.0 s.2 (subst (λ k. Good (Reading k)) s.1 hg)
+        let s = goes_on P None None f g (z ∷ zs) w n (fits f hf) (fits g hg) e in
+        going_on s.more s.written (subst (λ k. Good (Reading k)) s.longer hg)
       where
         going_on : (more : List Line) → z ∷ zs ≡ lines_fields P more → Good (Reading (record { named = f.named; turn = f.turn; goal = f.goal; lines = f.lines ++ more })) → ⊥
         going_on [] e' h = cc

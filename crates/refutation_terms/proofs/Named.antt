@@ -1,12 +1,15 @@
--- The rules of an instance are those of its numbers.
+-- The rules of an instance are those of its numbers, and lists of its short rules.
 use Rattle.std.proofs.Common.{◌≡◌, ℕ, zero, suc, ◌+◌, ◌<◌, ◌≤◌, List, [], ◌∷◌, ◌++◌, length, subst, arith, Some, map}
 use Rattle.std.specs.Prelude.{slice_get}
 use Rattle.std.specs.List.{range_with_len, flat_map, AllByRecursion}
+use Rattle.rwsp_terms.specs.declared.data.Symbol.{Symbol}
 use Rattle.rwsp_terms.specs.declared.data.Rule.{Rule}
 use Rattle.rwsp_terms.specs.declared.data.Rule.TheVariants.{MaxOff, MinOff, MaxWork, MinWork, Pair, Triple, Day}
 use Rattle.rwsp_terms.specs.Instance.{Instance, shift_count}
 use Rattle.rwsp_terms.specs.Roster.{IsRule}
-use Rattle.rwsp_terms.specs.Rules.{rules, rule_of, shift_rules, Names}
+use Rattle.rwsp_terms.specs.Rules.{rules, rule_of, shift_rules, Names, NamesShortOnly, NamesShortRules}
+use Rattle.refutation_terms.specs.Word.{Domains, Clean}
+use Rattle.refutation_terms.specs.Leaf.{IsDead}
 
 all_append : (P : Rule → Type 0) (xs ys : List Rule) → AllByRecursion P xs → AllByRecursion P ys → AllByRecursion P (xs ++ ys)
 all_append P [] ys h k = k
@@ -50,3 +53,14 @@ rule_of-IsRule P (suc k) r e = all_got (IsRule P) (rules P) k r (rules_are P) e
 
 pub named-IsRule : (P : Instance) (R : List ℕ) (r : Rule) → Names P R r → IsRule P r
 named-IsRule P R r n = rule_of-IsRule P n.0 r n.2
+
+-- what is clean for all short rules is clean for some of them, and for another list of all
+pub clean_for_some : (P : Instance) (short R : List ℕ) (u : List Symbol) → NamesShortRules P short → NamesShortOnly P R → Clean P short u → Clean P R u
+clean_for_some P short R u all only clean before part after e r named bad =
+    clean before part after e r ((all r).1 (named-IsRule P R r named, only r named)) bad
+
+pub dead_for_all : (P : Instance) (D : Domains) (p len : ℕ) (short R : List ℕ) → NamesShortRules P short → NamesShortOnly P R → IsDead P D p len R → IsDead P D p len short
+dead_for_all P D p len short R all only dead u long over clean = dead u long over (clean_for_some P short R u all only clean)
+
+pub all_are_short : (P : Instance) (short : List ℕ) → NamesShortRules P short → NamesShortOnly P short
+all_are_short P short all r named = ((all r).0 named).1

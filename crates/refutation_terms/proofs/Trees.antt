@@ -58,9 +58,6 @@ pub tree_has_lines : (t : Tree) → 0 < length (lines_in t)
 tree_has_lines (Leaf line h) = omega arith
 tree_has_lines (Node p x a b) = omega arith
 
-nothing_whole : (n : ℕ) → after_trees (suc n) [] ≡ None
-nothing_whole n = refl
-
 part_is_not_whole_by : (a b : List Line) (n k : ℕ) → ((k : ℕ) → k < length a → after_trees (suc (suc n)) (take k a) ≡ None) → ((rest : List Line) → after_trees (suc (suc n)) (a ++ rest) ≡ after_trees (suc n) rest) → ((k : ℕ) → k < length b → after_trees (suc n) (take k b) ≡ None) → k < length (a ++ b) → (k < length a) ⊎ (length a ≤ k) → after_trees (suc (suc n)) (take k (a ++ b)) ≡ None
 part_is_not_whole_by a b n k in_a past_a in_b lt (inl less) =
     ap (after_trees (suc (suc n))) (take-append-le k a b (omega (arith, less))) ∙ in_a k less

@@ -2,22 +2,32 @@
 use Rattle.std.proofs.Common.{◌≡◌, ◌⊎◌, ℕ, zero, suc, ◌+◌, ◌<◌, ◌≤◌, List, [], ◌∷◌, ◌++◌, length, Some, None, Bool, true, false, refl, ap, sym, ◌∙◌, inl, inr, append_assoc, arith, eqb}
 use Rattle.std.specs.Prelude.{All, slice_get}
 use Rattle.std.specs.List.{suffix_len, list_all}
+use Rattle.std.proofs.lemmas.Bool.{eqb-true, eq-eqb, ltb-true, lt-ltb}
 use Rattle.rwsp_terms.specs.declared.data.Symbol.{Symbol}
 use Rattle.rwsp_terms.specs.declared.data.Class.{Class}
 use Rattle.rwsp_terms.specs.declared.data.Class.TheVariants.{Shift, Off, Work}
 use Rattle.rwsp_terms.specs.declared.data.Rule.TheVariants.{Pair, Triple}
-use Rattle.rwsp_terms.specs.Instance.{Instance, bounds}
+use Rattle.rwsp_terms.specs.Instance.{Instance, bounds, symbol_numbered}
 use Rattle.rwsp_terms.specs.Window.{Bad, InClass, TooLong, TooShort}
 use Rattle.word_tail.specs.Tails.{is_same, is_shift, last_of, before_last_of}
 use Rattle.word_tail.specs.Ends.{max_rule, min_rule, EndsBadly}
 use Rattle.word_tail.proofs.Lists.{Passes, front_same, last_same, ends, reverse_longer, end_block, end_long, end_taken, end_split, not_all}
-use Rattle.refutation_terms.proofs.Decide.{in_class-true, passes_class}
 
 -- the class as a test
 abbrev pub in_class : Class → Symbol → Bool
 in_class (Shift x) y = is_same x y
 in_class Off y = eqb y.number 0
 in_class Work y = is_shift y
+
+in_class-true : (c : Class) (y : Symbol) → in_class c y ≡ true → InClass c y
+in_class-true (Shift x) y h = ap symbol_numbered (eqb-true y.number x.number h)
+in_class-true Off y h = eqb-true y.number 0 h
+in_class-true Work y h = ltb-true 0 y.number h
+
+passes_class : (c : Class) (y : Symbol) → InClass c y → in_class c y ≡ true
+passes_class (Shift x) y h = eq-eqb y.number x.number (ap (λ (z : Symbol). z.number) h)
+passes_class Off y h = eq-eqb y.number 0 h
+passes_class Work y h = lt-ltb 0 y.number h
 
 pub outside : (c : Class) (y : Symbol) → ¬ InClass c y → in_class c y ≡ false
 outside c y h = by (in_class c y) refl
