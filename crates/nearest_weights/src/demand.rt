@@ -66,21 +66,12 @@ impl Demand {
     // What a roster that meets the demand weighs at least.
     pub fn total(&self, weights: &[i64]) -> i64 {
         let mut sum: i64 = 0;
-        for (coordinate, weight) in weights.iter().enumerate() {
-            sum = sum.wrapping_add(self.least_of(coordinate, *weight));
+        let ends = self.low.iter().zip(self.high.iter());
+        for (weight, (low, high)) in weights.iter().zip(ends) {
+            let least = weight.wrapping_mul(*low).min(weight.wrapping_mul(*high));
+            sum = sum.wrapping_add(least);
         }
         sum
-    }
-
-    // What the weeks of one coordinate weigh at least; 0 where there is no such coordinate.
-    fn least_of(&self, coordinate: usize, weight: i64) -> i64 {
-        let Some(low) = self.low.get(coordinate) else {
-            return 0;
-        };
-        let Some(high) = self.high.get(coordinate) else {
-            return 0;
-        };
-        weight.wrapping_mul(*low).min(weight.wrapping_mul(*high))
     }
 }
 

@@ -31,7 +31,7 @@ const STEPS_AT_TOP: u32 = 300;
 const WITHIN: Effort = Effort {
     first_turns: 1,
     most_turns: 1,
-    rounds: 40,
+    rounds: 24,
     steps: 60,
 };
 
@@ -51,8 +51,9 @@ const MOST_DECIDED: u32 = 28;
 #[derive(Drop)]
 pub struct NearestWeights<'a> {
     automaton: &'a Automaton,
-    // The weights with which the last search at the top ended.
-    top: Vec<i64>,
+    // The weights to begin with within a tree: those with which the last search ended that was at the top or found a
+    // leaf.
+    last: Vec<i64>,
 }
 
 impl<'a> Model for NearestWeights<'a> {
@@ -74,7 +75,7 @@ impl<'a> NearestWeights<'a> {
     {
         NearestWeights {
             automaton,
-            top: Vec::new(alloc),
+            last: Vec::new(alloc),
         }
     }
 
@@ -94,13 +95,13 @@ impl<'a> NearestWeights<'a> {
     {
         let weights = Vec::new(alloc);
         let (line, last) = leaf_from(alloc, self.automaton, doms, goal, Start::Top, weights)?;
-        self.top = last;
+        self.last = last;
         Ok(line)
     }
 
     /// A leaf within a tree, where one is found: a bound leaf, or with a goal a free leaf. Its words have one turn.
     /// Those of a bound leaf begin and end among the first positions, where these are decided. The search begins with
-    /// the weights with which the last one at the top ended. None says nothing.
+    /// the weights with which the last one ended that was at the top or found a leaf. None says nothing.
     pub fn leaf_within(
         &mut self,
         alloc: Global,
@@ -116,8 +117,11 @@ impl<'a> NearestWeights<'a> {
         if self.automaton.problem().cells() > MOST_CELLS_WITHIN {
             return Ok(None);
         }
-        let weights = self.top.clone()?;
-        let (line, _) = leaf_from(alloc, self.automaton, doms, goal, Start::Within, weights)?;
+        let weights = self.last.clone()?;
+        let (line, last) = leaf_from(alloc, self.automaton, doms, goal, Start::Within, weights)?;
+        if line.is_some() {
+            self.last = last;
+        }
         Ok(line)
     }
 }

@@ -1,7 +1,7 @@
 // The search for weights by the nearest point of the counts of words to the demand.
 ghost use Rattle.std.specs.Prelude.{◌≤◌, IfOk, IfSome};
 
-use crate::demand::{Demand, times};
+use crate::demand::times;
 use crate::field::Field;
 use crate::sweep::Sweep;
 use nearest_point::{Hull, SCALE};
@@ -37,30 +37,10 @@ pub fn search(
     requires { (1 ≤ effort.first_turns) × (effort.first_turns ≤ effort.most_turns) }
     ensures { IfOk result (λ found. IfSome found (λ t. (1 ≤ t) × (t ≤ effort.most_turns))) }
 {
-    let mut hull = hull_of(alloc, field.demand, effort.first_turns)?;
-    search_by(alloc, field, sweep, &mut hull, weights, effort)
-}
-
-// The hull of no words, and how far it is from the demand for `turns` turns.
-fn hull_of(alloc: Global, demand: &Demand, turns: u32) -> Result<Hull, AllocError> {
-    let low = times(alloc, &demand.low, turns)?;
-    let high = times(alloc, &demand.high, turns)?;
-    Hull::new(alloc, low, high)
-}
-
-// The same search by a hull, which is owned above, so that no round has it to drop.
-fn search_by(
-    alloc: Global,
-    field: &Field<'_>,
-    sweep: &mut Sweep,
-    hull: &mut Hull,
-    weights: &mut Vec<i64>,
-    effort: Effort,
-) -> Result<Option<u32>, AllocError>
-    requires { (1 ≤ effort.first_turns) × (effort.first_turns ≤ effort.most_turns) }
-    ensures { IfOk result (λ found. IfSome found (λ t. (1 ≤ t) × (t ≤ effort.most_turns))) }
-{
     let turns = effort.first_turns;
+    let low = times(alloc, &field.demand.low, turns)?;
+    let high = times(alloc, &field.demand.high, turns)?;
+    let mut hull = Hull::new(alloc, low, high)?;
     let days = field.days(turns);
     for round in 0..rounds_within(sweep, days, effort) {
         let Some(word) = field.heaviest(sweep, weights, turns) else {
@@ -70,8 +50,8 @@ fn search_by(
             return Ok(Some(turns));
         }
         let size = field.demand.low.len();
-        let counts = sweep.counts(alloc, field.automaton, field.place, days, size)?;
-        if !turn(alloc, hull, counts, effort.steps, weights)? {
+        let counts = sweep.counts(alloc, field.place, days, size)?;
+        if !turn(alloc, &mut hull, counts, effort.steps, weights)? {
             return Ok(None);
         }
         if round % ROUNDS_PER_TRY == ROUNDS_PER_TRY - 1 {

@@ -32,11 +32,7 @@ fn scaled(alloc: Global, weights: &[i64], scale: i64) -> Result<Vec<i64>, AllocE
     let mut scaled = Vec::new(alloc);
     for weight in weights {
         let doubled = weight.saturating_mul(scale).saturating_mul(2);
-        let half = if *weight < 0 {
-            most.saturating_neg()
-        } else {
-            most
-        };
+        let half = most.saturating_mul(weight.signum());
         let rounded = doubled
             .saturating_add(half)
             .checked_div(most.saturating_mul(2));

@@ -81,18 +81,18 @@ fn bit(number: u8) -> u16 {
     1u16.wrapping_shl(u32::from(number))
 }
 
-// A step of the automaton.
-#[derive(Clone, Copy)]
+// A step from a state: where it leads, and the place of what it gains.
+#[derive(Clone, Copy, Drop)]
 struct Move {
-    from: usize,
     to: usize,
+    place: usize,
 }
 
-// Steps that gain the same on each day, and their symbol.
-#[derive(Drop)]
-struct Moves {
-    symbol: u8,
-    moves: Vec<Move>,
+// A step that a heaviest word begins with, by its number among those from a state, and what the word weighs.
+#[derive(Clone, Copy)]
+struct Choice {
+    number: u8,
+    weight: i64,
 }
 
 // The room for passes over days.
@@ -100,29 +100,24 @@ struct Moves {
 pub struct Sweep {
     // The number of steps.
     steps: u64,
-    // The steps, by the place of what they gain.
-    moves: Vec<Moves>,
-    // For each state, whether the words to it end with the day off.
-    offs: Vec<bool>,
+    // The steps from each state.
+    moves: Vec<Vec<Move>>,
     // What the words from each state to the end weigh at most, on one day and on the next.
     now: Vec<i64>,
     next: Vec<i64>,
     // What the symbols gain on the present day, and a day off behind a day off.
     gains: Vec<i64>,
-    // By day and state: the symbol of a heaviest word. There is room for the first days alone.
+    // By day and state: the number of a heaviest word's first step. There is room for the first days alone.
     choices: Vec<u8>,
 }
 
 impl Sweep {
-    // Room for passes, with the symbols of heaviest words of at most `days` days.
+    // Room for passes, with the steps of heaviest words of at most `days` days.
     pub fn of(alloc: Global, automaton: &Automaton, days: u32) -> Result<Sweep, AllocError> {
         let states = automaton.states();
-        let offs = offs_of(alloc, automaton)?;
-        let moves = moves_of(alloc, automaton, &offs)?;
         Ok(Sweep {
             steps: automaton.steps().len() as u64,
-            moves,
-            offs,
+            moves: moves_of(alloc, automaton)?,
             now: vec![in alloc; NEVER; states]?,
             next: vec![in alloc; NEVER; states]?,
             gains: vec![in alloc; NEVER; OFF_AGAIN + 1]?,
@@ -171,13 +166,12 @@ impl Sweep {
 
     // One day of a pass.
     fn weigh_day(&mut self, day: u32) {
-        let row = (day as usize).saturating_mul(self.offs.len());
-        self.now.fill(NEVER);
-        for (moves, gain) in self.moves.iter().zip(self.gains.iter()) {
-            if *gain > NEVER / 2 {
-                let offer = Offer { gain: *gain, row };
-                weigh_moves(&mut self.now, &mut self.choices, &self.next, moves, offer);
-            }
+        let mut place = (day as usize).saturating_mul(self.moves.len());
+        for (moves, weight) in self.moves.iter().zip(self.now.iter_mut()) {
+            let best = heaviest_choice(moves, &self.next, &self.gains);
+            *weight = best.weight;
+            put(&mut self.choices, place, best.number);
+            place = place.saturating_add(1);
         }
     }
 
@@ -186,31 +180,32 @@ impl Sweep {
     pub fn counts(
         &self,
         alloc: Global,
-        automaton: &Automaton,
         place: &Place,
         days: u32,
         size: usize,
     ) -> Result<Vec<i64>, AllocError> {
         let mut counts = vec![in alloc; 0i64; size]?;
-        let mut state = 0u32;
+        let mut state = 0;
         for day in 0..days {
-            let number = self.choice(day, state);
-            add_one(
-                &mut counts,
-                place.day_start(day).wrapping_add(usize::from(number)),
-            );
-            let was_off = entry_or(&self.offs, state as usize, false);
-            if number == 0 && was_off && place.ends_weekend(day) {
+            let Some(step) = self.first_step(day, state) else {
+                break;
+            };
+            let is_off_again = step.place == OFF_AGAIN;
+            let symbol = if is_off_again { 0 } else { step.place };
+            add_one(&mut counts, place.day_start(day).wrapping_add(symbol));
+            if is_off_again && place.ends_weekend(day) {
                 add_one(&mut counts, place.shape.size());
             }
-            state = followed(automaton, state, number);
+            state = step.to;
         }
         Ok(counts)
     }
 
-    fn choice(&self, day: u32, state: u32) -> u8 {
-        let row = (day as usize).saturating_mul(self.offs.len());
-        entry_or(&self.choices, row.saturating_add(state as usize), 0)
+    // The first step of a heaviest word from a state on a day.
+    fn first_step(&self, day: u32, state: usize) -> Option<Move> {
+        let row = (day as usize).saturating_mul(self.moves.len());
+        let number = entry_or(&self.choices, row.saturating_add(state), 0);
+        self.moves.get(state)?.get(usize::from(number)).copied()
     }
 
     // The number of steps in a pass over `days` days.
@@ -219,82 +214,60 @@ impl Sweep {
     }
 }
 
-// For each state, whether the words to it end with the day off.
-fn offs_of(alloc: Global, automaton: &Automaton) -> Result<Vec<bool>, AllocError> {
-    let mut offs = Vec::new(alloc);
+// The steps from each state.
+fn moves_of(alloc: Global, automaton: &Automaton) -> Result<Vec<Vec<Move>>, AllocError> {
+    let mut all = Vec::new(alloc);
     automaton.prove_facts();
     for state in 0..automaton.states() as u32 {
-        offs.push(automaton.is_off(state))?;
-    }
-    Ok(offs)
-}
-
-// The steps, by the place of what they gain.
-fn moves_of(alloc: Global, automaton: &Automaton, offs: &[bool]) -> Result<Vec<Moves>, AllocError> {
-    let mut all = Vec::new(alloc);
-    for place in 0..OFF_AGAIN + 1 {
-        let moves = moves_at(alloc, automaton, offs, place)?;
-        let symbol = if place < OFF_AGAIN { place as u8 } else { 0 };
-        all.push(Moves { symbol, moves })?;
+        all.push(moves_from(alloc, automaton, state)?)?;
     }
     Ok(all)
 }
 
-// The steps of one such place.
-fn moves_at(
-    alloc: Global,
-    automaton: &Automaton,
-    offs: &[bool],
-    place: usize,
-) -> Result<Vec<Move>, AllocError> {
+// The steps from one state. A day off behind a day off has a place of its own, behind the symbols.
+fn moves_from(alloc: Global, automaton: &Automaton, state: u32) -> Result<Vec<Move>, AllocError>
+    requires { state < length automaton.now.moves }
+{
+    let was_off = automaton.is_off(state);
     let mut moves = Vec::new(alloc);
-    for step in automaton.steps() {
-        let from = step.from as usize;
-        if place_of(step.symbol, entry_or(offs, from, false)) == place {
+    for number in 0..MOST_SYMBOLS as u8 {
+        if was_off && number == 0 {
+            continue;
+        }
+        if let Some(to) = automaton.follow(state, Symbol { number }) {
             moves.push(Move {
-                from,
-                to: step.to as usize,
+                to: to as usize,
+                place: usize::from(number),
+            })?;
+        }
+    }
+    if was_off {
+        if let Some(to) = automaton.follow(state, Symbol { number: 0 }) {
+            moves.push(Move {
+                to: to as usize,
+                place: OFF_AGAIN,
             })?;
         }
     }
     Ok(moves)
 }
 
-// The place of what a symbol gains behind a day that is off or not.
-fn place_of(symbol: Symbol, was_off: bool) -> usize {
-    if symbol.number == 0 && was_off {
-        OFF_AGAIN
-    } else {
-        usize::from(symbol.number)
-    }
-}
-
-// What steps of one symbol gain on a day, and where the choices of this day begin.
-#[derive(Clone, Copy)]
-struct Offer {
-    gain: i64,
-    row: usize,
-}
-
-// The heaviest words from each state that begin with one of the steps, where they are heavier than those before.
-fn weigh_moves(now: &mut [i64], choices: &mut [u8], next: &[i64], moves: &Moves, offer: Offer) {
-    for step in &moves.moves {
-        let weight = entry_or(next, step.to, NEVER).wrapping_add(offer.gain);
-        if weight > entry_or(now, step.from, NEVER) {
-            put(now, step.from, weight);
-            put(choices, offer.row.saturating_add(step.from), moves.symbol);
+// The first step of a heaviest word from a state with these steps, where `next` is what the words behind them weigh.
+fn heaviest_choice(moves: &[Move], next: &[i64], gains: &[i64]) -> Choice {
+    let mut best = Choice {
+        number: 0,
+        weight: NEVER,
+    };
+    let mut number: u8 = 0;
+    for step in moves {
+        let gain = entry_or(gains, step.place, NEVER);
+        let weight = entry_or(next, step.to, NEVER).wrapping_add(gain);
+        if weight > best.weight {
+            best = Choice { number, weight };
         }
+        number = number.wrapping_add(1);
     }
-}
-
-// Where the symbol of a number leads from a state; the state of the empty word where it leads nowhere.
-fn followed(automaton: &Automaton, state: u32, number: u8) -> u32 {
-    let is_known = (state as usize) < automaton.states() && u32::from(number) < MOST_SYMBOLS;
-    if is_known {
-        automaton.follow(state, Symbol { number }).unwrap_or(0)
-    } else {
-        0
-    }
+    best
 }
 
 fn add_one(counts: &mut [i64], coordinate: usize) {
