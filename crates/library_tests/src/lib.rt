@@ -11,6 +11,8 @@ mod problem_generator_tests;
 #[cfg(test)]
 mod refutation_log_tests;
 #[cfg(test)]
+mod refutation_terms_tests;
+#[cfg(test)]
 mod roster_checker_tests;
 #[cfg(test)]
 mod roster_print_tests;
