@@ -6,7 +6,7 @@ use Rattle.rwsp_terms.specs.declared.data.Symbol.{Symbol}
 use Rattle.refutation_terms.specs.Leaf.{IsDead}
 use Rattle.refutation_terms.specs.Escape.{ComesFirst, IsLeastClean}
 use Rattle.domain_store.specs.Store.{Store, has_domain}
-use Rattle.rule_automaton.specs.Automata.{RuleAutomaton}
+use Rattle.clean_words.specs.Automata.{RuleAutomaton}
 use Rattle.clean_words.specs.Courses.{gained, course, IsNoWorse, IsBestOf, AreBelow}
 
 abbrev no_gain : ℕ → Bool → Symbol → ℤ

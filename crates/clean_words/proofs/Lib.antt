@@ -6,3 +6,14 @@ pub mod Made
 pub mod Walks
 pub mod Readings
 pub mod Escapes
+pub mod TailLists
+pub mod Parts
+pub mod RuleTests
+pub mod TailFacts
+pub mod TailWords
+pub mod Layouts
+pub mod Leading
+pub mod Growing
+pub mod Tailed
+pub mod Images
+pub mod StepLists

@@ -6,8 +6,8 @@ use Rattle.rwsp_terms.specs.declared.data.Symbol.{Symbol}
 use Rattle.rwsp_terms.specs.Instance.{cells}
 use Rattle.refutation_terms.specs.Word.{Over}
 use Rattle.refutation_terms.specs.Escape.{ComesFirst}
-use Rattle.rule_automaton.specs.Moves.{Moves, move_at, after, lead, off_behind}
-use Rattle.rule_automaton.specs.Automata.{HasSymbolsOf}
+use Rattle.clean_words.specs.Moves.{Moves, move_at, after, lead, off_behind}
+use Rattle.clean_words.specs.Automata.{HasSymbolsOf}
 use Rattle.clean_words.specs.Courses.{gained, Course, IsOf, word_gain, IsNoWorse, IsBestOf, AreBelow}
 use Rattle.clean_words.specs.Rows.{Row, gain_at}
 use Rattle.clean_words.specs.Trellis.{Trellis, gain_from, Leads, IsGreatest, IsBest, IsRow}

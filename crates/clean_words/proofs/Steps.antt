@@ -8,8 +8,8 @@ use Rattle.rwsp_terms.specs.declared.data.Symbol.{Symbol}
 use Rattle.rwsp_terms.specs.declared.limits.TheConstants.{GREATEST_REWARD, GREATEST_WEIGHT}
 use Rattle.rwsp_terms.specs.Instance.{shift_count, symbol_numbered}
 use Rattle.refutation_terms.specs.Escape.{ComesFirst}
-use Rattle.rule_automaton.specs.Moves.{move_at}
-use Rattle.rule_automaton.specs.Automata.{IsAutomaton}
+use Rattle.clean_words.specs.Moves.{move_at}
+use Rattle.clean_words.specs.Automata.{IsAutomaton}
 use Rattle.clean_words.specs.declared.choice.Choice.{Choice}
 use Rattle.clean_words.specs.declared.day_gains.DayGains.{DayGains}
 use Rattle.clean_words.specs.Rows.{Row, gain_at, IsWithin, AreWithin}

@@ -4,7 +4,7 @@ use Rattle.rwsp_terms.specs.declared.data.Symbol.{Symbol}
 use Rattle.rwsp_terms.specs.declared.limits.TheConstants.{GREATEST_REWARD, GREATEST_WEIGHT}
 use Rattle.rwsp_terms.specs.Instance.{shift_count, symbol_numbered}
 use Rattle.domain_store.specs.Sets.{has_symbol}
-use Rattle.rule_automaton.specs.Moves.{Moves, move_at}
+use Rattle.clean_words.specs.Moves.{Moves, move_at}
 use Rattle.clean_words.specs.declared.choice.Choice.{Choice}
 use Rattle.clean_words.specs.declared.day_gains.DayGains.{DayGains}
 use Rattle.clean_words.specs.Rows.{Row, gain_at, AreWithin}

@@ -5,7 +5,7 @@ use Rattle.rwsp_terms.specs.Instance.{Instance}
 use Rattle.refutation_terms.specs.Word.{Domains}
 use Rattle.refutation_terms.specs.Escape.{ComesFirst, IsCleanOver}
 use Rattle.domain_store.specs.Store.{Store, has_domain}
-use Rattle.rule_automaton.specs.Automata.{RuleAutomaton}
+use Rattle.clean_words.specs.Automata.{RuleAutomaton}
 
 -- what the symbols of a word gain, the first on this day, where the day before is off or not
 abbrev pub gained : (ℕ → Bool → Symbol → ℤ) → ℕ → Bool → List Symbol → ℤ

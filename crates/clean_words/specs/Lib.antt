@@ -3,3 +3,11 @@ pub mod Rows
 pub mod Trellis
 pub mod Choices
 pub mod Kept
+pub mod Tails
+pub mod Ends
+pub mod TailTables
+pub mod Listed
+pub mod Moves
+pub mod Automata
+pub mod States
+pub mod Tables

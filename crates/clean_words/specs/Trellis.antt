@@ -7,8 +7,8 @@ use Rattle.rwsp_terms.specs.Instance.{cells, shift_count}
 use Rattle.refutation_terms.specs.Word.{Domains}
 use Rattle.refutation_terms.specs.Escape.{ComesFirst}
 use Rattle.domain_store.specs.Store.{has_domain}
-use Rattle.rule_automaton.specs.Moves.{move_at}
-use Rattle.rule_automaton.specs.Automata.{RuleAutomaton, IsAutomaton}
+use Rattle.clean_words.specs.Moves.{move_at}
+use Rattle.clean_words.specs.Automata.{RuleAutomaton, IsAutomaton}
 use Rattle.clean_words.specs.declared.words.CleanWords.{CleanWords}
 use Rattle.clean_words.specs.Rows.{Row, gain_at, AreWithin}
 

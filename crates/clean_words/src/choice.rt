@@ -1,12 +1,12 @@
 // What is chosen at a state.
 ghost use Rattle.std.specs.Prelude.{◌≡◌, ◌*◌, ◌-◌, ◌+◌, ◌<◌, ◌≤◌, length};
 ghost use Rattle.rwsp_terms.specs.declared.limits.TheConstants.{GREATEST_REWARD, GREATEST_WEIGHT, LONGEST_WORD, MOST_SYMBOLS};
-ghost use Rattle.rule_automaton.specs.Moves.{move_at};
+ghost use Rattle.clean_words.specs.Moves.{move_at};
 ghost use Rattle.clean_words.specs.Rows.{AreWithin, IsWithin, gain_at};
 ghost use Rattle.clean_words.specs.Choices.{IsChosen, choice_by, choice_with, preferred};
 
+use crate::Automaton;
 use crate::row::Row;
-use rule_automaton::Automaton;
 use rwsp_terms::Symbol;
 
 /// A symbol, the state where it leads, and the greatest gain of the words that begin with it.

@@ -4,8 +4,8 @@ ghost use Rattle.rwsp_terms.specs.declared.limits.TheConstants.{LONGEST_WORD};
 ghost use Rattle.rwsp_terms.specs.Instance.{cells};
 ghost use Rattle.domain_store.specs.Store.{BelongsTo};
 
+use crate::Automaton;
 use domain_store::Domains;
-use rule_automaton::Automaton;
 
 /// The clean words of `days` days over domains, from a position on, round the cycle.
 #[derive(Clone, Copy)]

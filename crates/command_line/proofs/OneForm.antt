@@ -4,8 +4,8 @@ use Rattle.std.specs.Prelude.{MatchOption}
 use Rattle.std.specs.Str.{bytes_eq}
 use Rattle.rwsp_text.specs.Fields.{Words}
 use Rattle.rwsp_text.proofs.Words.{same_bytes}
-use Rattle.calendar_dates.specs.Calendar.{Date, IsDateWord}
-use Rattle.calendar_dates.proofs.DateWords.{date_in, date_found, date_only}
+use Rattle.crew_calendar.specs.Calendar.{Date, IsDateWord}
+use Rattle.crew_calendar.proofs.DateWords.{date_in, date_found, date_only}
 use Rattle.command_line.specs.Forms.{Form, form_at, named_at}
 use Rattle.command_line.specs.Commands.{CommandWords, IsForm}
 use Rattle.command_line.specs.declared.command.Command.{Command}

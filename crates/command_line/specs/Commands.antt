@@ -4,7 +4,7 @@ use Rattle.std.specs.String.{string_bytes}
 use Rattle.std.specs.declared.alloc.Global.{Global}
 use Rattle.rwsp_terms.specs.declared.limits.TheConstants.{MOST_WEEKS, USUAL_BUDGET, GREATEST_BUDGET, LONGEST_CALENDAR, USUAL_WORKERS, MOST_WORKERS, MOST_SIZES, USUAL_STAFF_BUDGET, GREATEST_STAFF_BUDGET, USUAL_BEST_BUDGET, DAYS_OF_WEEK}
 use Rattle.rwsp_terms.specs.Instance.{Instance}
-use Rattle.calendar_dates.specs.Calendar.{FitsDates}
+use Rattle.crew_calendar.specs.Calendar.{FitsDates}
 use Rattle.command_line.specs.Forms.{Field, File, Number, Day, Range, Setting, Perhaps, Form, said_by, forms_text}
 use Rattle.command_line.specs.declared.command.TheConstants.{GREATEST_NUMBER}
 use Rattle.command_line.specs.declared.command.Command.{Command}

@@ -5,8 +5,8 @@ use Rattle.std.specs.Option.{option_map}
 use Rattle.std.specs.Str.{bytes_eq}
 use Rattle.rwsp_text.specs.Numbers.{number_of}
 use Rattle.rwsp_text.specs.Fields.{Words, ◌>>=◌, within, done_at}
-use Rattle.calendar_dates.specs.Calendar.{Date}
-use Rattle.calendar_dates.proofs.DateWords.{date_in}
+use Rattle.crew_calendar.specs.Calendar.{Date}
+use Rattle.crew_calendar.proofs.DateWords.{date_in}
 
 -- what a form may have behind its word, with its name in the line of usage
 pub data Field : Type 0 where

@@ -3,7 +3,7 @@ ghost use Rattle.std.specs.Prelude.{IsTrue, ◌↔◌};
 ghost use Rattle.command_line.specs.Commands.{IsInRange, IsWithinHorizon};
 
 use crate::words::FileName;
-use calendar_dates::{CivilDate, fits};
+use crew_calendar::{CivilDate, fits};
 
 /// The greatest number that nine digits spell.
 pub const GREATEST_NUMBER: u32 = 999_999_999;

@@ -1,7 +1,7 @@
 // Laws of the words of a command line. Each function's contract is the law.
 ghost use Rattle.std.specs.Prelude.{◌≡◌, ◌↔◌, List, ℕ, Some};
-ghost use Rattle.calendar_dates.specs.Calendar.{Date, IsDateWord};
-ghost use Rattle.calendar_dates.proofs.DateWords.{date_in};
+ghost use Rattle.crew_calendar.specs.Calendar.{Date, IsDateWord};
+ghost use Rattle.crew_calendar.proofs.DateWords.{date_in};
 
 /// A word is read as a date exactly where it names it.
 pub fn dates_are_named()

@@ -3,10 +3,10 @@ ghost use Rattle.std.specs.Prelude.{◌≡◌, ◌+◌, ◌<◌, ◌≤◌, ◌^
 ghost use Rattle.std.specs.String.{string_bytes};
 ghost use Rattle.rwsp_text.specs.Reads.{Reads};
 ghost use Rattle.rwsp_text.specs.Lines.{rest_of};
-ghost use Rattle.calendar_dates.proofs.DateWords.{date_in};
+ghost use Rattle.crew_calendar.proofs.DateWords.{date_in};
 ghost use Rattle.command_line.specs.Forms.{is_file_word, file_at, digits_at, date_at, range_at, setting_at};
 
-use calendar_dates::{CivilDate, date_of};
+use crew_calendar::{CivilDate, date_of};
 use rwsp_text::number;
 use std::marker::Model;
 

@@ -8,8 +8,8 @@ use Rattle.refutation_terms.specs.Log.{Log, FreePasses}
 use Rattle.refutation_terms.specs.FreeWeekends.{free_weekends}
 use Rattle.refutation_terms.proofs.Sound.{passing_leaves_none_for}
 use Rattle.refutation_terms.proofs.Named.{named-IsRule}
-use Rattle.plan_terms.specs.declared.best_found.BestFound.{BestFound}
-use Rattle.plan_terms.specs.declared.best_found.BestFound.TheVariants.{Best, NoRoster, Undecided}
+use Rattle.refutation_log.specs.declared.best_found.BestFound.{BestFound}
+use Rattle.refutation_log.specs.declared.best_found.BestFound.TheVariants.{Best, NoRoster, Undecided}
 use Rattle.commands.specs.Best.{IsBestAnswer, best_roster, StaysBelow, Bounds, BestsAgree}
 
 below : (goal n : ℕ) → (goal ≤ n → ⊥) → n < goal

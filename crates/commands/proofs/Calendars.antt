@@ -5,7 +5,7 @@ use Rattle.rwsp_terms.specs.declared.data.Symbol.{Symbol}
 use Rattle.rwsp_model.specs.Validity.{KeepsLimits}
 use Rattle.roster_print.specs.RosterText.{SpellsRoster}
 use Rattle.roster_print.proofs.Spelling.{one_roster}
-use Rattle.calendar_dates.specs.Calendar.{Date}
+use Rattle.crew_calendar.specs.Calendar.{Date}
 use Rattle.crew_calendar.proofs.OneText.{one_table, one_duties}
 use Rattle.commands.specs.Verify.{SpellsRight}
 use Rattle.commands.specs.Crew.{IsCalendarFor, IsCalendarOf, HasEmployee, IsCrewAnswer}

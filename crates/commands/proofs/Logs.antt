@@ -17,9 +17,9 @@ use Rattle.refutation_terms.proofs.Named.{named-IsRule}
 use Rattle.refutation_terms.proofs.Unique.{verdict_unique}
 use Rattle.refutation_terms.proofs.FreeUnique.{free_verdict_unique}
 use Rattle.refutation_log.proofs.OneText.{has_names, is_writable}
-use Rattle.plan_terms.specs.Planned.{IsPlanned}
-use Rattle.plan_terms.specs.declared.found.Found.{Found}
-use Rattle.plan_terms.specs.declared.found.Found.TheVariants as Founds
+use Rattle.refutation_log.specs.Planned.{IsPlanned}
+use Rattle.refutation_log.specs.declared.found.Found.{Found}
+use Rattle.refutation_log.specs.declared.found.Found.TheVariants as Founds
 use Rattle.commands.specs.Plan.{PlansAgree}
 use Rattle.commands.specs.Check.{IsChecked}
 use Rattle.commands.specs.CheckFree.{IsCheckedFree}

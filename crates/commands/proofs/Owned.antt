@@ -3,12 +3,12 @@ use Rattle.std.proofs.Common.{◌≡◌, ℕ, ◌+◌}
 use Rattle.std.specs.Prelude.{Some, None}
 use Rattle.rwsp_terms.specs.Instance.{Instance}
 use Rattle.refutation_terms.specs.FreeWeekends.{free_weekends}
-use Rattle.plan_terms.specs.Planned.{IsPlanned}
-use Rattle.plan_terms.specs.Bests.{IsBestFound}
-use Rattle.plan_terms.specs.declared.found.Found.{Found}
-use Rattle.plan_terms.specs.declared.found.Found.TheVariants as Founds
-use Rattle.plan_terms.specs.declared.best_found.BestFound.{BestFound}
-use Rattle.plan_terms.specs.declared.best_found.BestFound.TheVariants.{Best, NoRoster, Undecided}
+use Rattle.refutation_log.specs.Planned.{IsPlanned}
+use Rattle.refutation_log.specs.Bests.{IsBestFound}
+use Rattle.refutation_log.specs.declared.found.Found.{Found}
+use Rattle.refutation_log.specs.declared.found.Found.TheVariants as Founds
+use Rattle.refutation_log.specs.declared.best_found.BestFound.{BestFound}
+use Rattle.refutation_log.specs.declared.best_found.BestFound.TheVariants.{Best, NoRoster, Undecided}
 use Rattle.commands.specs.Plan.{IsPlanOf}
 use Rattle.commands.specs.Best.{IsBestOf}
 

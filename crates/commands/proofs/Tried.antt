@@ -6,9 +6,9 @@ use Rattle.rwsp_terms.specs.Roster.{MeetsAll}
 use Rattle.problem_generator.specs.Blocks.{roster_of}
 use Rattle.problem_generator.specs.Generated.{IsGenerated}
 use Rattle.problem_generator.specs.Laws.{HiddenRostersMeet}
-use Rattle.plan_terms.specs.Planned.{IsPlanned}
-use Rattle.plan_terms.specs.declared.found.Found.{Found}
-use Rattle.plan_terms.specs.declared.found.Found.TheVariants as Founds
+use Rattle.refutation_log.specs.Planned.{IsPlanned}
+use Rattle.refutation_log.specs.declared.found.Found.{Found}
+use Rattle.refutation_log.specs.declared.found.Found.TheVariants as Founds
 use Rattle.commands.specs.Trial.{IsTried}
 use Rattle.commands.proofs.Logs.{exclusive}
 

@@ -9,9 +9,9 @@ use Rattle.refutation_terms.specs.Log.{Log, FitsFor}
 use Rattle.refutation_terms.specs.LogText.{log_text_for}
 use Rattle.refutation_terms.specs.FreeWeekends.{free_weekends}
 use Rattle.roster_print.specs.RosterText.{roster_text}
-use Rattle.plan_terms.specs.Bests.{IsBestFound, IsUndecided}
-use Rattle.plan_terms.specs.declared.best_found.BestFound.{BestFound}
-use Rattle.plan_terms.specs.declared.best_found.BestFound.TheVariants.{Best, NoRoster, Undecided}
+use Rattle.refutation_log.specs.Bests.{IsBestFound, IsUndecided}
+use Rattle.refutation_log.specs.declared.best_found.BestFound.{BestFound}
+use Rattle.refutation_log.specs.declared.best_found.BestFound.TheVariants.{Best, NoRoster, Undecided}
 use Rattle.commands.specs.Lines.{line}
 
 -- a roster with a proof that none has more free weekends; or a proof that there is no roster; or what is known where

@@ -5,7 +5,7 @@ use Rattle.rwsp_terms.specs.Instance.{Instance}
 use Rattle.rwsp_terms.specs.Roster.{MeetsAll}
 use Rattle.rwsp_terms.specs.declared.data.Symbol.{Symbol}
 use Rattle.roster_print.specs.RosterText.{SpellsRoster}
-use Rattle.calendar_dates.specs.Calendar.{Date}
+use Rattle.crew_calendar.specs.Calendar.{Date}
 use Rattle.crew_calendar.specs.Texts.{IsTable, AreDuties}
 use Rattle.commands.specs.Lines.{line}
 use Rattle.commands.specs.Verify.{SpellsRight, IsRosterFault, fault_line, IsFaultOf, fault_status}

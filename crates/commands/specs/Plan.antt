@@ -5,8 +5,8 @@ use Rattle.rwsp_terms.specs.Roster.{IsRoster}
 use Rattle.refutation_terms.specs.Log.{Fits}
 use Rattle.refutation_terms.specs.LogText.{log_text}
 use Rattle.roster_print.specs.RosterText.{roster_text}
-use Rattle.plan_terms.specs.declared.found.Found.{Found}
-use Rattle.plan_terms.specs.declared.found.Found.TheVariants.{Roster, NoRoster, Undecided}
+use Rattle.refutation_log.specs.declared.found.Found.{Found}
+use Rattle.refutation_log.specs.declared.found.Found.TheVariants.{Roster, NoRoster, Undecided}
 
 abbrev pub plan_text : Instance → Found → List ℕ
 plan_text P (Roster s) = roster_text P s.cells

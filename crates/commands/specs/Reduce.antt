@@ -5,7 +5,7 @@ use Rattle.refutation_terms.specs.Log.{Log, Fits, Passes}
 use Rattle.refutation_terms.specs.LogText.{log_text}
 use Rattle.refutation_terms.specs.Strip.{IsReduced}
 use Rattle.refutation_terms.specs.Verdict.{IsAccepted, IsRefused}
-use Rattle.plan_terms.specs.Needs.{NeedsEach, NeedsTogether}
+use Rattle.refutation_log.specs.Needs.{NeedsEach, NeedsTogether}
 use Rattle.commands.specs.Lines.{line}
 use Rattle.commands.specs.LogRefusals.{log_refusal_text, HasSymbols}
 use Rattle.commands.specs.declared.reduce.Answer.{Answer}

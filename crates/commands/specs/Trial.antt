@@ -9,9 +9,9 @@ use Rattle.refutation_terms.specs.Log.{IsSpent}
 use Rattle.refutation_terms.specs.LogText.{log_text}
 use Rattle.roster_print.specs.RosterText.{roster_text}
 use Rattle.problem_generator.specs.Generated.{IsGenerated}
-use Rattle.plan_terms.specs.declared.found.Found.{Found}
-use Rattle.plan_terms.specs.declared.found.Found.TheVariants.{Roster, NoRoster, Undecided}
-use Rattle.plan_terms.specs.Planned.{IsPlannedLog}
+use Rattle.refutation_log.specs.declared.found.Found.{Found}
+use Rattle.refutation_log.specs.declared.found.Found.TheVariants.{Roster, NoRoster, Undecided}
+use Rattle.refutation_log.specs.Planned.{IsPlannedLog}
 use Rattle.commands.specs.Lines.{line}
 use Rattle.commands.specs.declared.trial.Answer.{Answer}
 

@@ -5,13 +5,12 @@ ghost use Rattle.commands.specs.Best.{IsBestAnswer, IsBestOf, best_text, best_st
 
 mod texts;
 
-use plan_terms::BestFound;
-use refutation_log::print_free;
+use refutation_log::{BestFound, print_free};
+use roster_planner::best;
 use rwsp_model::Problem;
 use rwsp_terms::limits::GREATEST_BUDGET;
 use std::alloc::{AllocError, Global};
 use texts::{best_text, undecided_text};
-use weekend_best::best;
 
 /// What is found of the most free weekends of the problem, with the budget for each goal.
 pub fn job(alloc: Global, problem: &Problem, budget: u32) -> Result<BestFound, AllocError>

@@ -3,7 +3,7 @@ ghost use Rattle.std.specs.Prelude.{◌≡◌, ◌++◌, ◌≤◌, ℕ, List, I
 ghost use Rattle.std.specs.Fmt.{decimal};
 ghost use Rattle.rwsp_terms.specs.Roster.{IsRoster};
 ghost use Rattle.roster_print.specs.RosterText.{SpellsRoster};
-ghost use Rattle.calendar_dates.specs.Calendar.{FitsDates};
+ghost use Rattle.crew_calendar.specs.Calendar.{FitsDates};
 ghost use Rattle.command_line.specs.Commands.{IsEmployeeNumber};
 ghost use Rattle.commands.specs.Lines.{line};
 ghost use Rattle.commands.specs.Files.{IsWithinLimit};
@@ -12,8 +12,7 @@ ghost use Rattle.commands.specs.Crew.{IsCrewAnswer, IsCrewAnswerOf, crew_text, c
 
 use crate::put::put_labelled;
 use crate::verify::{RosterFault, fault_line, fault_status};
-use calendar_dates::CivilDate;
-use crew_calendar::{crew_table, duties};
+use crew_calendar::{CivilDate, crew_table, duties};
 use roster_checker::first_broken;
 use roster_print::read_roster;
 use rwsp_model::{Fail, Problem, Roster};

@@ -1,11 +1,10 @@
 // A roster for a problem, or a refutation.
 ghost use Rattle.std.specs.Prelude.{◌≡◌, ◌≤◌, IfOk};
-ghost use Rattle.plan_terms.specs.Planned.{IsPlanned};
+ghost use Rattle.refutation_log.specs.Planned.{IsPlanned};
 ghost use Rattle.commands.specs.Plan.{plan_text, plan_status, IsPlanOf};
 
-use plan_terms::Found;
 use potential_bounds::Gate;
-use refutation_log::print_log;
+use refutation_log::{Found, print_log};
 use roster_planner::plan_roster;
 use roster_print::print_roster;
 use rwsp_model::Problem;

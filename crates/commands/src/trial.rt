@@ -5,9 +5,9 @@ ghost use Rattle.commands.specs.Trial.{IsTried, IsTrial, IsTrialText};
 
 mod texts;
 
-use plan_terms::Found;
 use potential_bounds::Gate;
 use problem_generator::{gen_problem, hidden_rosters_meet};
+use refutation_log::Found;
 use roster_planner::plan_roster;
 use rwsp_model::Problem;
 use rwsp_terms::limits::{MOST_WEEKS, TRIAL_BUDGET};

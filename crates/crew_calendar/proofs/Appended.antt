@@ -8,7 +8,7 @@ use Rattle.rwsp_terms.specs.Instance.{Instance}
 use Rattle.rwsp_terms.specs.declared.data.ShiftRow.{ShiftRow}
 use Rattle.rwsp_terms.specs.declared.data.Symbol.{Symbol}
 use Rattle.rwsp_terms.proofs.Counting.{range_more}
-use Rattle.calendar_dates.specs.Calendar.{Date, OnCalendar}
+use Rattle.crew_calendar.specs.Calendar.{Date, OnCalendar}
 use Rattle.crew_calendar.specs.Crew.{symbol_on}
 use Rattle.crew_calendar.specs.Texts.{start_in, length_in, shift_line, duty_line_of, duty_line}
 

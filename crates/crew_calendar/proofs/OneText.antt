@@ -8,11 +8,11 @@ use Rattle.rwsp_terms.specs.declared.data.ShiftRow.{ShiftRow}
 use Rattle.rwsp_terms.specs.declared.data.Symbol.{Symbol}
 use Rattle.rwsp_terms.specs.Instance.{Instance, name_of}
 use Rattle.rwsp_model.specs.Validity.{KeepsLimits}
-use Rattle.calendar_dates.specs.declared.dates.TheConstants.{MOST_DAYS_LATER}
+use Rattle.crew_calendar.specs.declared.dates.TheConstants.{MOST_DAYS_LATER}
 use Rattle.crew_calendar.specs.Crew.{symbol_on}
-use Rattle.calendar_dates.specs.Calendar.{Date, date_text, IsCalendar}
+use Rattle.crew_calendar.specs.Calendar.{Date, date_text, IsCalendar}
 use Rattle.crew_calendar.specs.Texts.{crew_text, day_line, day_minutes, clock_text, moment_text, start_in, length_in, start_of, length_of, shift_line, duty_line_of, duty_line, IsTable, AreDuties}
-use Rattle.calendar_dates.proofs.Calendars.{one_text}
+use Rattle.crew_calendar.proofs.Calendars.{one_text}
 
 -- two calendars from one date have the same texts
 agree : (date : Date) (days : ℕ) (on other : ℕ → Date) → IsCalendar date days on → IsCalendar date days other → (t : ℕ) → t < days → date_text (on t) ≡ date_text (other t)

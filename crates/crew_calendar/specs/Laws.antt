@@ -3,7 +3,7 @@ use Rattle.std.specs.Prelude.{◌≡◌, ℕ, List}
 use Rattle.rwsp_terms.specs.Instance.{Instance}
 use Rattle.rwsp_terms.specs.declared.data.Symbol.{Symbol}
 use Rattle.rwsp_model.specs.Validity.{KeepsLimits}
-use Rattle.calendar_dates.specs.Calendar.{Date, IsDateWord}
+use Rattle.crew_calendar.specs.Calendar.{Date, IsDateWord}
 use Rattle.crew_calendar.specs.Texts.{IsTable, AreDuties}
 
 -- a table has one text

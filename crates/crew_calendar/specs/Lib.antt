@@ -2,3 +2,4 @@ pub mod Crew
 pub mod Texts
 pub mod Facts
 pub mod Laws
+pub mod Calendar

@@ -5,8 +5,8 @@ use Rattle.rwsp_terms.specs.Instance.{Instance, name_of}
 use Rattle.rwsp_terms.specs.declared.data.Symbol.{Symbol}
 use Rattle.rwsp_terms.specs.declared.data.ShiftRow.{ShiftRow}
 use Rattle.crew_calendar.specs.Crew.{employees, symbol_on}
-use Rattle.calendar_dates.specs.declared.dates.TheConstants.{MOST_DAYS_LATER}
-use Rattle.calendar_dates.specs.Calendar.{Date, date_text, IsCalendar}
+use Rattle.crew_calendar.specs.declared.dates.TheConstants.{MOST_DAYS_LATER}
+use Rattle.crew_calendar.specs.Calendar.{Date, date_text, IsCalendar}
 
 -- the names of the symbols of all employees on a day, each after a blank
 abbrev pub crew_text : Instance → List Symbol → ℕ → List ℕ

@@ -3,12 +3,12 @@ ghost use Rattle.std.specs.Prelude.{◌≡◌, ◌++◌, ◌∷◌, [], ◌+◌,
 ghost use Rattle.rwsp_terms.specs.Instance.{IsShift};
 ghost use Rattle.rwsp_terms.specs.Roster.{IsRoster};
 ghost use Rattle.crew_calendar.specs.Crew.{IsEmployee};
-ghost use Rattle.calendar_dates.specs.Calendar.{FitsDates, IsWithinDates, OnCalendar};
+ghost use Rattle.crew_calendar.specs.Calendar.{FitsDates, IsWithinDates, OnCalendar};
 ghost use Rattle.crew_calendar.specs.Texts.{day_minutes, two_digits, clock_text, moment_text, start_of, length_of, shift_line, duty_line, AreDuties};
 
 use crate::lines::put_name;
 use crate::places::symbol_on;
-use calendar_dates::{CivilDate, DAY_MINUTES, MOST_DAYS_LATER, date_after, put_date};
+use crate::{CivilDate, DAY_MINUTES, MOST_DAYS_LATER, date_after, put_date};
 use rwsp_model::{Problem, Roster};
 use rwsp_terms::Symbol;
 use rwsp_terms::limits::{GREATEST_BOUND, LONGEST_CALENDAR};

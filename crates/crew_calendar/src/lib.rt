@@ -1,12 +1,15 @@
-//! The crew's calendar of a roster: each employee starts a week behind the one before, and behind the last
-//! week comes the first. A table of all employees by dates, and the duties of one.
+//! The crew's calendar of a roster: who works on which date, and the dates themselves.
 #![tactic(auto)]
 
+mod civil_date;
+mod dates;
 mod duty_lines;
 mod laws;
 mod lines;
 mod places;
 
+pub use civil_date::CivilDate;
+pub use dates::{DAY_MINUTES, MOST_DAYS_LATER, date_after, date_of, fits, put_date};
 pub use duty_lines::duties;
 pub use laws::{
     demand_is_met_daily, duties_are_one, employees_follow_the_cycle, employees_go_round,

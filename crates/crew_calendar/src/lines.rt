@@ -2,12 +2,12 @@
 ghost use Rattle.std.specs.Prelude.{◌≡◌, ◌++◌, ◌∷◌, [], ◌<◌, ◌≤◌, IfOk, OnOk};
 ghost use Rattle.rwsp_terms.specs.Instance.{IsSymbol, name_of};
 ghost use Rattle.rwsp_terms.specs.Roster.{IsRoster, MeetsAll};
-ghost use Rattle.calendar_dates.specs.Calendar.{date_text, FitsDates};
+ghost use Rattle.crew_calendar.specs.Calendar.{date_text, FitsDates};
 ghost use Rattle.crew_calendar.specs.Texts.{crew_text, IsTable};
 ghost use Rattle.crew_calendar.specs.Facts.{MeetsDemandDaily, FollowsCycle, IsClean, GoesRound};
 
 use crate::places::symbol_on;
-use calendar_dates::{CivilDate, date_after, put_date};
+use crate::{CivilDate, date_after, put_date};
 use rwsp_model::{Problem, Roster};
 use rwsp_terms::Symbol;
 use rwsp_terms::limits::LONGEST_CALENDAR;

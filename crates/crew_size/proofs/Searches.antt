@@ -5,8 +5,8 @@ use Rattle.std.proofs.Math.Nat.{mul-le-mul_right}
 use Rattle.std.proofs.lemmas.Option.{slice_get_within}
 use Rattle.rwsp_terms.specs.Instance.{Instance}
 use Rattle.refutation_terms.specs.Log.{Log}
-use Rattle.plan_terms.specs.declared.found.Found.TheVariants as Founds
-use Rattle.plan_terms.specs.Planned.{IsPlanned}
+use Rattle.refutation_log.specs.declared.found.Found.TheVariants as Founds
+use Rattle.refutation_log.specs.Planned.{IsPlanned}
 use Rattle.crew_size.specs.Sizes.{with_weeks, IsSize}
 use Rattle.crew_size.specs.Texts.{Staff, next_size}
 use Rattle.crew_size.specs.Fitting.{EndFits, FitsSizes}

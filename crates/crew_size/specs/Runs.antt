@@ -2,8 +2,8 @@
 use Rattle.std.specs.Prelude.{◌≡◌, ℕ, ◌+◌, ◌≤◌, length, slice_get, Some}
 use Rattle.rwsp_terms.specs.Instance.{Instance}
 use Rattle.refutation_terms.specs.Log.{Log}
-use Rattle.plan_terms.specs.declared.found.Found.TheVariants as Founds
-use Rattle.plan_terms.specs.Planned.{IsPlanned}
+use Rattle.refutation_log.specs.declared.found.Found.TheVariants as Founds
+use Rattle.refutation_log.specs.Planned.{IsPlanned}
 use Rattle.crew_size.specs.Sizes.{with_weeks}
 use Rattle.crew_size.specs.Texts.{Staff}
 use Rattle.crew_size.specs.declared.run.StaffEnd.{StaffEnd}

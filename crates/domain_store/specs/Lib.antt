@@ -2,3 +2,8 @@ pub mod Bits
 pub mod Sets
 pub mod Store
 pub mod Kept
+pub mod Splits
+pub mod States
+pub mod Looks
+pub mod Cycles
+pub mod Leaves

@@ -4,12 +4,11 @@ ghost use Rattle.rwsp_terms.specs.declared.limits.TheConstants.{LONGEST_CALENDAR
 ghost use Rattle.rwsp_terms.specs.Roster.{IsRoster};
 ghost use Rattle.crew_calendar.specs.Crew.{IsEmployee};
 
-use calendar_dates::{date_of, fits};
-use crew_calendar::{crew_table, duties, place};
+use crew_calendar::{crew_table, date_of, duties, fits, place};
 use rwsp_model::{Problem, Roster};
-use small_problems::{problem_of, roster_of};
 use std::alloc::Global;
 use std::test::Fail;
+use test_helpers::{problem_of, roster_of};
 
 // One week of one day, with a shift of these minutes.
 fn one_day(alloc: Global, minutes: &str) -> Result<Problem, Fail> {

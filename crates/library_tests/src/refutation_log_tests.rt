@@ -7,12 +7,12 @@ use refutation_log::{
 };
 use rwsp_model::{Fail as Failure, Problem};
 use rwsp_terms::RuleList;
-use small_problems::{
+use std::alloc::{AllocError, Global};
+use std::test::Fail;
+use test_helpers::{
     D, D_ON_BOTH_DAYS, LONG_BLOCKS, NO_DEMAND, ONE_CELL, THREE_IN_FIVE, TWO_IN_FOUR, TWOS_IN_SIX,
     log_of, problem_of,
 };
-use std::alloc::{AllocError, Global};
-use std::test::Fail;
 
 const TEXTS: [(&[u8], &[u8]); 9] = [
     (

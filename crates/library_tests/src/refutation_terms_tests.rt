@@ -4,10 +4,10 @@ use refutation_checker::{NoGate, check_free, check_with};
 use refutation_terms::LogRefusal;
 use rwsp_model::Fail::Refused;
 use rwsp_terms::RuleList;
-use small_problems::{TWOS_IN_SIX, problem_of};
 use std::alloc::Global;
 use std::test::Fail;
 use std::thread::Threads;
+use test_helpers::{TWOS_IN_SIX, problem_of};
 
 // Single D and single days off by turns can't go round three cells.
 const ODD_CYCLE: &[u8] = b"1\n3\n1\n0..3\nD 360 480 1 1\n1 1\n1 1\n0 0\n";

@@ -1,8 +1,8 @@
 // Rosters worked by hand, and where they break a rule first.
 use roster_checker::{first_broken, free_weekends};
-use small_problems::{DAYS_OR_NIGHTS, problem_of, roster_of};
 use std::alloc::Global;
 use std::test::Fail;
+use test_helpers::{DAYS_OR_NIGHTS, problem_of, roster_of};
 
 // Weeks of two days with D and N in any number, a roster, and the rule, week, day and length where it is broken first.
 const CASES: [(&[u8], &[u8], Option<[u32; 4]>); 5] = [

@@ -1,10 +1,10 @@
 use roster_print::{RosterRefusal, print_roster, put_rule, read_roster};
 use rwsp_model::{Fail as Failure, Problem, number_of, rule_at, rule_count};
-use small_problems::{
-    D, OFF, SEQUENCES, SEQUENCES_IN_TWO_WEEKS, THREE_SHIFTS, problem_of, roster_of,
-};
 use std::alloc::{AllocError, Global};
 use std::test::Fail;
+use test_helpers::{
+    D, OFF, SEQUENCES, SEQUENCES_IN_TWO_WEEKS, THREE_SHIFTS, problem_of, roster_of,
+};
 
 // Why the text spells no roster, if it doesn't.
 fn refusal(alloc: Global, problem: &Problem, text: &[u8]) -> Option<RosterRefusal> {

@@ -1,8 +1,8 @@
-use rule_automaton::{Automaton, Told};
+use clean_words::{Automaton, Told};
 use rwsp_terms::Symbol;
 use rwsp_terms::limits::MOST_SYMBOLS;
-use small_problems::{D, DAYS_AND_NIGHTS, N, OFF, problem_of};
 use std::test::Fail;
+use test_helpers::{D, DAYS_AND_NIGHTS, N, OFF, problem_of};
 
 // Three shifts in blocks of 2 to 6 days, 2 to 4 days off, 4 to 7 days of work.
 const THREE_SHIFTS: &[u8] =

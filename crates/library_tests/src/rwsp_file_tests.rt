@@ -1,9 +1,9 @@
 // Texts of problems, each with the refusal that it has or with its canonical text.
 use rwsp_file::{FileRefusal, print_problem, read_problem};
 use rwsp_model::Fail as Failure;
-use small_problems::{SEQUENCES, THREE_SHIFTS, problem_of};
 use std::alloc::{AllocError, Global};
 use std::test::Fail;
+use test_helpers::{SEQUENCES, THREE_SHIFTS, problem_of};
 
 // Why the text spells no problem, if it doesn't.
 fn refusal(alloc: Global, text: &[u8]) -> Result<Option<FileRefusal>, AllocError> {

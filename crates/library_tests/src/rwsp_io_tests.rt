@@ -1,7 +1,6 @@
 // Faults in mid-stream, and the system's files. What is read and written where no call fails, the clauses say.
 ghost use Rattle.std.specs.Prelude.{◌<◌};
 
-use memory_files::{MemoryShelf, MemorySink};
 use rwsp_io::{
     ReadFail, RealShelf, RealSink, ShelfFault, SinkFault, WriteFault, read_again, read_all,
     write_again, write_all,
@@ -10,6 +9,7 @@ use std::alloc::{AllocError, Global};
 use std::io::{ErrorKind, Read, Write};
 use std::test::Fail;
 use std::{env, fs, io, process};
+use test_helpers::{MemoryShelf, MemorySink};
 
 // A shelf with one file, which gives `step` bytes at a time, and whose call with this number fails.
 fn shelf_of(

@@ -1,9 +1,9 @@
 // Which parts make a problem, and what a problem tells.
 use rwsp_model::{Parts, PartsRefusal, Problem, short_rules};
 use rwsp_terms::{Bounds, DemandRow, Name, ShiftRow, Symbol};
-use small_problems::{D, OFF, THREE_SHIFTS, problem_of};
 use std::alloc::{AllocError, Global};
 use std::test::Fail;
+use test_helpers::{D, OFF, THREE_SHIFTS, problem_of};
 
 // Weeks with one shift, whose demand has as many ranges.
 fn parts_of(

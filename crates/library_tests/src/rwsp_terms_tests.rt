@@ -1,6 +1,6 @@
 use rwsp_terms::{RuleList, Weights};
-use small_problems::{D, N, OFF};
 use std::test::Fail;
+use test_helpers::{D, N, OFF};
 
 #[test]
 fn rules_in_order(rt: HostRuntime) -> Result<(), Fail> {

@@ -1,10 +1,10 @@
+use clean_words::{Tail, TailRules};
 use rwsp_terms::Symbol;
-use small_problems::{
-    D, D_ON_BOTH_DAYS, DAYS_AND_NIGHTS, N, OFF, TWOS_IN_SIX, all_rules, one_rule, problem_of,
-};
 use std::alloc::Global;
 use std::test::Fail;
-use word_tail::{Tail, TailRules};
+use test_helpers::{
+    D, D_ON_BOTH_DAYS, DAYS_AND_NIGHTS, N, OFF, TWOS_IN_SIX, all_rules, one_rule, problem_of,
+};
 
 fn symbol(letter: u8) -> Symbol {
     match letter {

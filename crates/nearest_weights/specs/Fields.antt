@@ -4,8 +4,8 @@ use Rattle.rwsp_terms.specs.Instance.{cells}
 use Rattle.refutation_terms.specs.declared.lines.Line.{Line}
 use Rattle.refutation_terms.specs.Log.{GoalFits}
 use Rattle.domain_store.specs.Store.{BelongsTo, has_domain}
-use Rattle.propagator_terms.specs.Cycles.{AreShortRules}
-use Rattle.propagator_terms.specs.Leaves.{IsHoldingLeafFor}
+use Rattle.domain_store.specs.Cycles.{AreShortRules}
+use Rattle.domain_store.specs.Leaves.{IsHoldingLeafFor}
 use Rattle.nearest_weights.specs.declared.field.Field.{Field}
 
 -- what holds of each field

@@ -1,8 +1,8 @@
 // What a search goes over.
 use crate::demand::{Demand, Shape};
 use crate::sweep::{Place, Sweep};
+use clean_words::Automaton;
 use domain_store::Domains;
-use rule_automaton::Automaton;
 
 // The words of an automaton over domains, where they lie, and what they are weighed against: the demand, and with a goal
 // of free weekends this too.

@@ -4,17 +4,17 @@ ghost use Rattle.rwsp_terms.specs.Instance.{cells};
 ghost use Rattle.rwsp_terms.specs.declared.limits.TheConstants.{LONGEST_WORD};
 ghost use Rattle.refutation_terms.specs.Log.{GoalFits};
 ghost use Rattle.domain_store.specs.Store.{BelongsTo, has_domain};
-ghost use Rattle.propagator_terms.specs.Cycles.{AreShortRules};
-ghost use Rattle.propagator_terms.specs.Leaves.{IsHoldingLeafFor};
+ghost use Rattle.domain_store.specs.Cycles.{AreShortRules};
+ghost use Rattle.domain_store.specs.Leaves.{IsHoldingLeafFor};
 
 use crate::closing::found_leaf;
 use crate::demand::{Demand, Shape};
 use crate::field::Field;
 use crate::search::Effort;
 use crate::sweep::Place;
+use clean_words::Automaton;
 use domain_store::Domains;
 use refutation_terms::Line;
-use rule_automaton::Automaton;
 use rwsp_model::Problem;
 use rwsp_terms::limits::LONGEST_WORD;
 use std::alloc::{AllocError, Global};
@@ -58,7 +58,7 @@ pub struct NearestWeights<'a> {
 
 impl<'a> Model for NearestWeights<'a> {
     ghost use Rattle.nearest_weights.specs.Found.{Searcher};
-    ghost use Rattle.propagator_terms.specs.Cycles.{AreShortRules};
+    ghost use Rattle.domain_store.specs.Cycles.{AreShortRules};
 
     ghost Value = { Searcher };
 

@@ -2,8 +2,8 @@
 ghost use Rattle.std.specs.Prelude.{◌≡◌, ◌<◌, length, IfOk};
 
 use crate::demand::Shape;
+use clean_words::Automaton;
 use domain_store::Domains;
-use rule_automaton::Automaton;
 use rwsp_terms::Symbol;
 use rwsp_terms::limits::MOST_SYMBOLS;
 use std::alloc::{AllocError, Global};

@@ -5,7 +5,7 @@ use Rattle.rwsp_terms.specs.declared.data.Symbol.{Symbol}
 use Rattle.rwsp_terms.specs.declared.data.Weight.{Weight}
 use Rattle.rwsp_terms.specs.Weights.{weight_at}
 use Rattle.domain_store.specs.Store.{Store}
-use Rattle.rule_automaton.specs.Automata.{RuleAutomaton}
+use Rattle.clean_words.specs.Automata.{RuleAutomaton}
 use Rattle.clean_words.specs.Courses.{Course, course}
 
 -- the Sunday of a week, the days counted from 0, with the day off there and on the day before

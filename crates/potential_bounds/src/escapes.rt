@@ -11,9 +11,8 @@ ghost use Rattle.domain_store.specs.Store.{BelongsTo, has_domain};
 ghost use Rattle.potential_bounds.specs.Claims.{claimed, IsClaimOf};
 
 use crate::{heaviest, total};
-use clean_words::CleanWords;
+use clean_words::{Automaton, CleanWords};
 use domain_store::Domains;
-use rule_automaton::Automaton;
 use rwsp_terms::{Weights, Word};
 use std::alloc::{AllocError, Global};
 

@@ -8,8 +8,8 @@ ghost use Rattle.domain_store.specs.Store.{has_domain, BelongsTo};
 ghost use Rattle.potential_bounds.specs.Searched.{IsFirstSearched, IsFollowing, AreValuesWithin, AreSteppedOn};
 
 use crate::top::Top;
+use clean_words::Automaton;
 use domain_store::Domains;
-use rule_automaton::Automaton;
 use rwsp_model::{Problem, weeks_with};
 use rwsp_terms::{Symbol, Weights};
 use std::alloc::{AllocError, Global};

@@ -5,8 +5,8 @@ ghost use Rattle.domain_store.specs.Store.{has_domain, BelongsTo};
 ghost use Rattle.potential_bounds.specs.Searched.{IsTopEscape};
 
 use crate::escapes::{Claim, claim_escape};
+use clean_words::Automaton;
 use domain_store::Domains;
-use rule_automaton::Automaton;
 use rwsp_terms::{Weights, Word};
 use std::alloc::{AllocError, Global};
 

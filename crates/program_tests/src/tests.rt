@@ -12,12 +12,12 @@ mod trials;
 
 ghost use Rattle.std.specs.Prelude.{◌<◌};
 
-use memory_files::{MemoryShelf, MemorySink};
 use potential_bounds::{Gate, NoGate};
 use rwsp_run::{Outcome, run};
 use std::alloc::{AllocError, Global};
 use std::test::Fail;
 use std::thread::Threads;
+use test_helpers::{MemoryShelf, MemorySink};
 
 const NINE_WEEKS: &str =
     "#Length of the schedule\n7\n#Number of Employees\n9\n##Number of Shifts\n3\n# Temporal requirements\n2 2 2 2 2 2 2\n2 2 2 2 2 2 2\n2 2 2 2 2 2 2\n#Name, start, length, least and greatest block\nD 360 480 2 7\nA 840 480 2 6\nN 1320 480 2 5\n# Days-off blocks\n2 4\n# Work blocks\n4 7\n# Forbidden sequences of length two and three\n3 0\nN D\nN A\nA D\n";

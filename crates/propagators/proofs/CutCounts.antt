@@ -16,8 +16,8 @@ use Rattle.refutation_terms.specs.Leaf.{is_only, fixed, possible}
 use Rattle.refutation_terms.specs.Tree.{First, narrowed, is_idle}
 use Rattle.refutation_terms.proofs.Tests.{left_of, passes_by}
 use Rattle.refutation_terms.proofs.Alone.{not_only}
-use Rattle.demand_counts.specs.Tallies.{one_if}
-use Rattle.demand_counts.proofs.TallyLemmas.{count_apart}
+use Rattle.propagators.specs.Tallies.{one_if}
+use Rattle.propagators.proofs.TallyLemmas.{count_apart}
 use Rattle.propagators.specs.Days.{position_in_week}
 
 -- tests

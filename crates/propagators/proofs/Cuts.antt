@@ -12,9 +12,9 @@ use Rattle.refutation_terms.specs.Leaf.{fixed, possible, HasTooMany, HasTooFew}
 use Rattle.refutation_terms.specs.Tree.{First, narrowed, is_idle}
 use Rattle.refutation_terms.specs.Log.{Holds, LineFits}
 use Rattle.domain_store.specs.Store.{Store, has_domain}
-use Rattle.demand_counts.specs.Overruns.{IsWithinDemand, IsFirstOverrun}
-use Rattle.demand_counts.proofs.Standing.{holds_where_overrun, holds_nowhere}
-use Rattle.propagator_terms.specs.Looks.{Closes, IsClosing, IsCut}
+use Rattle.propagators.specs.Overruns.{IsWithinDemand, IsFirstOverrun}
+use Rattle.propagators.proofs.Standing.{holds_where_overrun, holds_nowhere}
+use Rattle.domain_store.specs.Looks.{Closes, IsClosing, IsCut}
 use Rattle.propagators.specs.Days.{IsDayLeaf, IsDaySpent, Saturates, position_in_week, TakesNone, IsPlaceBeside, IsDayCut}
 use Rattle.propagators.proofs.CutCounts.{held, useful, place_within, fixed_elsewhere, possible_elsewhere, fixed_of_symbol, fixed_of_other, possible_of_symbol, possible_of_other}
 

@@ -15,11 +15,11 @@ use Rattle.refutation_terms.specs.Sharp.{NoWordHas}
 use Rattle.refutation_terms.proofs.Named.{clean_for_some, dead_for_all, all_are_short}
 use Rattle.domain_store.specs.Sets.{has_symbol}
 use Rattle.domain_store.specs.Store.{Store, has_domain}
-use Rattle.propagator_terms.specs.Leaves.{IsHoldingLeafFor}
-use Rattle.propagator_terms.specs.Looks.{Closes, IsClosing, IsCut}
-use Rattle.propagator_terms.specs.Cycles.{AreShortRules, IsCycleLeaf, IsCycleSpent}
-use Rattle.kept_cycle.specs.Known.{KnownCycle, knows_symbol}
-use Rattle.kept_cycle.specs.CycleCuts.{IsUnsupported}
+use Rattle.domain_store.specs.Leaves.{IsHoldingLeafFor}
+use Rattle.domain_store.specs.Looks.{Closes, IsClosing, IsCut}
+use Rattle.domain_store.specs.Cycles.{AreShortRules, IsCycleLeaf, IsCycleSpent}
+use Rattle.propagators.specs.Known.{KnownCycle, knows_symbol}
+use Rattle.propagators.specs.CycleCuts.{IsUnsupported}
 use Rattle.propagators.specs.ShortCycles.{IsShortCycle}
 
 pub unlike : (b : Bool) → b ≡ false → IsTrue b → ⊥

@@ -29,7 +29,7 @@ use Rattle.domain_store.specs.Sets.{has_symbol, IsDomain}
 use Rattle.domain_store.specs.Store.{Store, IsStore, domain_at, has_domain}
 use Rattle.potential_bounds.specs.First.{IsFirstHolding}
 use Rattle.potential_bounds.specs.Searched.{IsFirstSearched}
-use Rattle.propagator_terms.specs.Cycles.{AreShortRules}
+use Rattle.domain_store.specs.Cycles.{AreShortRules}
 use Rattle.propagators.proofs.SameWords.{same_searched, same_at_top}
 use Rattle.propagators.specs.TopBounds.{IsTopBound, IsTopAnswer, IsTopWatch, TopWatch, IsBoundLook}
 

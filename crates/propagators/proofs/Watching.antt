@@ -13,7 +13,7 @@ use Rattle.refutation_terms.specs.Log.{LineFits}
 use Rattle.domain_store.specs.Sets.{has_symbol}
 use Rattle.domain_store.specs.Store.{Store, BelongsTo, domain_at, IsStore, HasDomains}
 use Rattle.plain_leaves.proofs.Domains.{positions}
-use Rattle.propagator_terms.specs.Looks.{Closes}
+use Rattle.domain_store.specs.Looks.{Closes}
 use Rattle.propagators.specs.Windows.{IsWindowLeaf, WindowWatch, has_known, LiesOver, IsWatch, IsSpan, NoWindowOver}
 
 -- words over domains that have all symbols of others where the words lie

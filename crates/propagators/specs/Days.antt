@@ -10,7 +10,7 @@ use Rattle.refutation_terms.specs.Tree.{First, narrowed, is_idle}
 use Rattle.refutation_terms.specs.Log.{LineFits, Holds}
 use Rattle.refutation_terms.specs.Sharp.{SomeDayHolds}
 use Rattle.domain_store.specs.Store.{Store, BelongsTo}
-use Rattle.demand_counts.specs.Counted.{Counted, StandsFor}
+use Rattle.propagators.specs.Counted.{Counted, StandsFor}
 
 -- a day leaf of the problem
 abbrev pub IsDayLeaf : Instance → Line → Type 0

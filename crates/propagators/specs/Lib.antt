@@ -3,3 +3,10 @@ pub mod DayCuts
 pub mod Windows
 pub mod TopBounds
 pub mod ShortCycles
+pub mod Counted
+pub mod Tallies
+pub mod Overruns
+pub mod Known
+pub mod Marks
+pub mod KeptCycle
+pub mod CycleCuts

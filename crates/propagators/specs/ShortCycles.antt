@@ -1,7 +1,7 @@
 -- Cycles of the short rules.
 use Rattle.domain_store.specs.Store.{Store}
-use Rattle.propagator_terms.specs.Cycles.{AreShortRules}
-use Rattle.kept_cycle.specs.Known.{KnownCycle, KnowsDomains}
+use Rattle.domain_store.specs.Cycles.{AreShortRules}
+use Rattle.propagators.specs.Known.{KnownCycle, KnowsDomains}
 
 -- a cycle of the domains, for all short rules
 pub record IsShortCycle (C : KnownCycle) (S : Store) : Type 0 where

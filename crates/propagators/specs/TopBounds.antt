@@ -9,7 +9,7 @@ use Rattle.refutation_terms.specs.Word.{Domains, AreSame}
 use Rattle.refutation_terms.specs.Log.{LineFits, AreWeightsOf, Holds}
 use Rattle.refutation_terms.specs.Sharp.{plain_bounds, IsSearched, HoldsAtTop, NoBoundHolds}
 use Rattle.domain_store.specs.Store.{Store, BelongsTo, has_domain}
-use Rattle.propagator_terms.specs.Cycles.{AreShortRules}
+use Rattle.domain_store.specs.Cycles.{AreShortRules}
 
 -- the weights of a plain bound, or of a round of the search
 abbrev pub AreTopWeights : Instance → Domains → List ℕ → List Weight → Type 0

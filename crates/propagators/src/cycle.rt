@@ -3,15 +3,14 @@ ghost use Rattle.std.specs.Prelude.{◌≡◌, ℕ, ◌↔◌, IfOk};
 ghost use Rattle.rwsp_terms.specs.declared.data.Symbol.{Symbol};
 ghost use Rattle.refutation_terms.specs.declared.lines.Line.{Line};
 ghost use Rattle.domain_store.specs.Store.{Store, BelongsTo, has_domain};
-ghost use Rattle.kept_cycle.specs.Known.{KnowsDomains};
-ghost use Rattle.propagator_terms.specs.Cycles.{AreShortRules, IsCycleLeaf, IsCycleSpent};
-ghost use Rattle.propagator_terms.specs.Looks.{IsLook};
+ghost use Rattle.propagators.specs.Known.{KnowsDomains};
+ghost use Rattle.domain_store.specs.Cycles.{AreShortRules, IsCycleLeaf, IsCycleSpent};
+ghost use Rattle.domain_store.specs.Looks.{IsLook};
 ghost use Rattle.propagators.specs.ShortCycles.{IsShortCycle};
 
-use domain_store::Domains;
-use kept_cycle::{Cycle, first_unsupported};
-use propagator_terms::{Look, Propagator};
-use rule_automaton::Automaton;
+use crate::{Cycle, first_unsupported};
+use clean_words::Automaton;
+use domain_store::{Domains, Look, Propagator};
 use std::alloc::{AllocError, Global};
 use std::marker::Model;
 
@@ -23,11 +22,11 @@ pub struct CycleProp<'a> {
 }
 
 impl<'a> Model for CycleProp<'a> {
-    ghost use Rattle.kept_cycle.specs.Known.{KnownCycle};
+    ghost use Rattle.propagators.specs.Known.{KnownCycle};
 
     ghost Value = { KnownCycle };
 
-    ghost use Rattle.propagator_terms.specs.Cycles.{AreShortRules};
+    ghost use Rattle.domain_store.specs.Cycles.{AreShortRules};
 
     ghost view = { λ c. c.cycle };
 

@@ -5,14 +5,13 @@ ghost use Rattle.refutation_terms.specs.declared.lines.Line.{Line};
 ghost use Rattle.refutation_terms.specs.declared.lines.Line.TheVariants.{Day};
 ghost use Rattle.refutation_terms.specs.Log.{LineFits};
 ghost use Rattle.domain_store.specs.Store.{Store, BelongsTo, has_domain};
-ghost use Rattle.demand_counts.specs.Counted.{StandsFor};
+ghost use Rattle.propagators.specs.Counted.{StandsFor};
 ghost use Rattle.propagators.specs.Days.{AreCountsOf, IsDayLeaf, IsDaySpent};
-ghost use Rattle.propagator_terms.specs.Looks.{IsLook};
+ghost use Rattle.domain_store.specs.Looks.{IsLook};
 
+use crate::Counts;
 use crate::day_cut::first_cut;
-use demand_counts::Counts;
-use domain_store::Domains;
-use propagator_terms::{Look, Propagator};
+use domain_store::{Domains, Look, Propagator};
 use refutation_terms::Line;
 use rwsp_model::Problem;
 use rwsp_terms::Symbol;
@@ -33,7 +32,7 @@ impl<'a> Model for DayProp<'a> {
 
     ghost Value = { DayWatch };
 
-    ghost use Rattle.demand_counts.specs.Counted.{CountsFor};
+    ghost use Rattle.propagators.specs.Counted.{CountsFor};
 
     ghost view = { λ d. record { problem = d.problem.now; counts = d.counts } };
 

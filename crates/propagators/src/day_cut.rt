@@ -4,14 +4,13 @@ ghost use Rattle.rwsp_terms.specs.Instance.{IsDay, IsSymbol};
 ghost use Rattle.refutation_terms.specs.Leaf.{fixed, possible};
 ghost use Rattle.domain_store.specs.Store.{has_domain, BelongsTo};
 ghost use Rattle.refutation_terms.specs.declared.lines.Line.TheVariants.{Day};
-ghost use Rattle.propagator_terms.specs.declared.look.Look.TheVariants.{Cut};
+ghost use Rattle.domain_store.specs.declared.look.Look.TheVariants.{Cut};
 ghost use Rattle.propagators.specs.DayCuts.{TakesNoneOn, TakesNoneAtAll};
 ghost use Rattle.propagators.specs.Days.{AreCountsOf, TakesNone, IsSaturation, IsNeighbour, IsPlaceAnswer, IsDayCut};
 
-use demand_counts::Counts;
-use domain_store::Domains;
+use crate::Counts;
+use domain_store::{Domains, Look};
 use plain_leaves::position_of;
-use propagator_terms::Look;
 use refutation_terms::Line;
 use rwsp_model::Problem;
 use rwsp_terms::Symbol;

@@ -8,14 +8,13 @@ ghost use Rattle.rwsp_terms.specs.Weights.{AreWeights};
 ghost use Rattle.refutation_terms.specs.Word.{AreSame};
 ghost use Rattle.refutation_terms.specs.Sharp.{plain_bounds};
 ghost use Rattle.domain_store.specs.Store.{Store, BelongsTo, has_domain};
-ghost use Rattle.propagator_terms.specs.Cycles.{AreShortRules};
+ghost use Rattle.domain_store.specs.Cycles.{AreShortRules};
 ghost use Rattle.propagators.specs.TopBounds.{IsStartBound, IsTopAnswer, IsTopWatch, IsBoundLook};
 
-use domain_store::Domains;
+use clean_words::Automaton;
+use domain_store::{Domains, Look, Propagator};
 use potential_bounds::{Gate, first_plain, plain_bounds, search_weights};
-use propagator_terms::{Look, Propagator};
 use refutation_terms::Line;
-use rule_automaton::Automaton;
 use rwsp_model::Problem;
 use rwsp_terms::Weights;
 use std::alloc::{AllocError, Global};

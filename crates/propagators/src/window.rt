@@ -11,8 +11,7 @@ ghost use Rattle.domain_store.specs.Store.{Store, BelongsTo, domain_at};
 ghost use Rattle.propagators.specs.Windows.{IsWindowLeaf, IsWatch, IsSpan, IsWindow};
 
 use crate::window_over::{WindowLeaf, window_over};
-use domain_store::{Domains, KeptSets, SymbolSet};
-use propagator_terms::{Look, Propagator};
+use domain_store::{Domains, KeptSets, Look, Propagator, SymbolSet};
 use refutation_terms::Line;
 use rwsp_model::Problem;
 use rwsp_terms::limits::MOST_SYMBOLS;

@@ -14,9 +14,9 @@ use Rattle.refutation_terms.specs.LogText.{raw, line_text}
 use Rattle.rwsp_text.specs.Lines.{IsNextLine}
 use Rattle.refutation_terms.specs.Verdict.{header_lines_for}
 use Rattle.refutation_log.specs.Printing.{lines_text}
-use Rattle.tree_walk.specs.States.{State, IsStateOf}
+use Rattle.domain_store.specs.States.{State, IsStateOf}
 use Rattle.refutation_checker.specs.LineTexts.{Judging, ReadsNext, RefusesNext}
-use Rattle.log_chunks.specs.Starts.{Start, StandsBehind}
+use Rattle.refutation_checker.specs.Starts.{Start, StandsBehind}
 use Rattle.refutation_checker.specs.ChunkVerdicts.{AreSoundBehind, IsAnswerTo}
 use Rattle.refutation_checker.proofs.SoundLines.{lines_joined, sound_joined}
 use Rattle.refutation_log.proofs.LogLines.{some_bytes}

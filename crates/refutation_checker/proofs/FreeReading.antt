@@ -15,7 +15,7 @@ use Rattle.refutation_terms.specs.LogText.{raw, line_text, free_header_text}
 use Rattle.rwsp_text.specs.Lines.{IsNextLine}
 use Rattle.refutation_terms.specs.FreeVerdict.{IsFreeRefused}
 use Rattle.refutation_log.specs.Printing.{lines_text}
-use Rattle.tree_walk.specs.States.{State, IsStateOf}
+use Rattle.domain_store.specs.States.{State, IsStateOf}
 use Rattle.refutation_checker.specs.Headers.{HasHeader, with_goal}
 use Rattle.refutation_checker.specs.FreeLines.{ArePassingLines}
 use Rattle.refutation_checker.specs.LineTexts.{Judging, ReadsNext, RefusesNext}

@@ -12,11 +12,11 @@ use Rattle.refutation_terms.specs.Tree.{IsTree}
 use Rattle.rwsp_text.specs.Lines.{IsNextLine}
 use Rattle.refutation_terms.specs.Verdict.{CauseBehindFor}
 use Rattle.refutation_log.specs.Printing.{lines_text}
-use Rattle.log_chunks.specs.UnreadSplits.{EachFits}
+use Rattle.refutation_checker.specs.UnreadSplits.{EachFits}
 use Rattle.refutation_checker.specs.LineTexts.{Judging, log_of}
-use Rattle.log_chunks.specs.Starts.{Start}
-use Rattle.log_chunks.specs.Chunks.{AreChunks, EndWithFeed}
-use Rattle.log_chunks.proofs.LastFeed.{no_feed_at_end}
+use Rattle.refutation_checker.specs.Starts.{Start}
+use Rattle.refutation_checker.specs.Chunks.{AreChunks, EndWithFeed}
+use Rattle.refutation_checker.proofs.LastFeed.{no_feed_at_end}
 use Rattle.refutation_checker.specs.ChunkVerdicts.{AreSoundBehind, AreAllSound, IsChunkRefused, IsJudged, IsAnswerTo, joined_from}
 use Rattle.refutation_checker.proofs.SoundLines.{lines_joined, sound_joined}
 

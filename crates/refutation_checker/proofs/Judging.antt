@@ -14,8 +14,8 @@ use Rattle.refutation_terms.specs.Verdict.{SpellsFor, TreeCauseFor, SplitsIdlyFo
 use Rattle.refutation_terms.proofs.SameDomains.{turned_round, same_idle, same_holds_for, same_escapes_for}
 use Rattle.refutation_terms.proofs.Spelled.{spelled_lines_fit_for}
 use Rattle.domain_store.specs.Store.{Store, BelongsTo, has_domain, IsStore, HasDomains}
-use Rattle.tree_walk.specs.States.{State, IsStateOf}
-use Rattle.tree_walk.proofs.Idle.{idle_in_store}
+use Rattle.domain_store.specs.States.{State, IsStateOf}
+use Rattle.domain_store.proofs.Idle.{idle_in_store}
 use Rattle.refutation_checker.specs.LineVerdicts.{StandsPlainly, IsPlainlySound, IsIdleSplit, PlainCause, HoldsByWordsFor, IsSoundFor, LineCauseFor}
 use Rattle.refutation_checker.specs.LineTexts.{Judging, log_of, IsSoundUnder, HasCause, IsLineRead, MayStep}
 

@@ -13,3 +13,8 @@ pub mod LeafJudging
 pub mod ShortTails
 pub mod FreeReading
 pub mod SomeFreeVerdict
+pub mod LastFeed
+pub mod Unread
+pub mod Starts
+pub mod Feeds
+pub mod Cutting

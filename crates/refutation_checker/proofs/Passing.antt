@@ -29,10 +29,10 @@ use Rattle.refutation_log.proofs.HeaderTexts.{turn_visible}
 use Rattle.refutation_log.proofs.LineTexts.{small_from}
 use Rattle.rwsp_model.proofs.Names.{symbol_named}
 use Rattle.refutation_log.proofs.OneText.{name_there, feedless_words, has_names}
-use Rattle.log_chunks.proofs.Unread.{body_feedless}
+use Rattle.refutation_checker.proofs.Unread.{body_feedless}
 use Rattle.refutation_log.proofs.PrintedTexts.{line_piece, joined_lines}
-use Rattle.tree_walk.specs.States.{State, IsStateOf}
-use Rattle.tree_walk.proofs.Stack.{read_is_tree}
+use Rattle.domain_store.specs.States.{State, IsStateOf}
+use Rattle.domain_store.proofs.Stack.{read_is_tree}
 use Rattle.refutation_checker.specs.LineTexts.{Judging, log_of, HasCause, IsSoundNext, PassesNext, HasCauseNext}
 use Rattle.refutation_checker.specs.ChunkVerdicts.{AreSoundBehind, IsChunkRefused}
 use Rattle.refutation_checker.specs.Headers.{HasHeader, without_goal}

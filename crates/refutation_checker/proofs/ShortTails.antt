@@ -8,10 +8,10 @@ use Rattle.rwsp_terms.specs.Instance.{Instance, cells, shift_count}
 use Rattle.refutation_terms.specs.Word.{Domains, Over, Clean}
 use Rattle.refutation_terms.specs.Leaf.{IsDead}
 use Rattle.refutation_terms.proofs.Windows.{clean-part}
-use Rattle.word_tail.specs.Listed.{Listed}
-use Rattle.word_tail.specs.Tails.{tail_of}
-use Rattle.word_tail.specs.declared.tail.Tail.{Tail}
-use Rattle.word_tail.proofs.Lists.{ends}
+use Rattle.clean_words.specs.Listed.{Listed}
+use Rattle.clean_words.specs.Tails.{tail_of}
+use Rattle.clean_words.specs.declared.tail.Tail.{Tail}
+use Rattle.clean_words.proofs.TailLists.{ends}
 use Rattle.refutation_checker.specs.ShortWords.{GoOn, HaveAll, HaveTails}
 
 -- a word with one symbol more

@@ -21,7 +21,7 @@ use Rattle.refutation_terms.specs.Verdict.{Reading, IsSoundSoFarFor, CauseBehind
 use Rattle.refutation_terms.specs.FreeVerdict.{ReadingFree}
 use Rattle.refutation_log.specs.Printing.{lines_text, header_text_for}
 use Rattle.refutation_log.specs.ReadLog.{BeginsWithFreeHeader}
-use Rattle.log_chunks.specs.Starts.{Start, StandsBehind}
+use Rattle.refutation_checker.specs.Starts.{Start, StandsBehind}
 use Rattle.refutation_checker.specs.Headers.{HasHeader, IsAcceptedFor, IsRefusedFor, with_goal}
 use Rattle.refutation_checker.specs.LineTexts.{Judging, log_of, IsSoundNext}
 use Rattle.refutation_checker.specs.ChunkVerdicts.{AreSoundBehind, AreAllSound, IsChunkRefused, IsJudged}

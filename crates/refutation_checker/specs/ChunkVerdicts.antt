@@ -9,7 +9,7 @@ use Rattle.refutation_terms.specs.Tree.{IsTree}
 use Rattle.rwsp_text.specs.Lines.{IsNextLine}
 use Rattle.refutation_terms.specs.Verdict.{CauseBehindFor}
 use Rattle.refutation_log.specs.Printing.{lines_text}
-use Rattle.log_chunks.specs.Starts.{Start, StandsBehind}
+use Rattle.refutation_checker.specs.Starts.{Start, StandsBehind}
 use Rattle.refutation_checker.specs.LineTexts.{Judging, log_of, IsSoundNext}
 
 -- behind the earlier lines none of the further lines is refused

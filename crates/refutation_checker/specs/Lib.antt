@@ -8,3 +8,6 @@ pub mod LogVerdicts
 pub mod ChunkVerdicts
 pub mod Headers
 pub mod Laws
+pub mod UnreadSplits
+pub mod Starts
+pub mod Chunks

@@ -15,8 +15,8 @@ use Rattle.refutation_terms.specs.declared.lines.LogRefusal.TheVariants as Refus
 use Rattle.refutation_log.specs.declared.refusal.LineRefusal.{LineRefusal}
 use Rattle.refutation_log.specs.declared.refusal.LineRefusal.TheVariants as Lines
 use Rattle.domain_store.specs.Store.{Store}
-use Rattle.tree_walk.specs.Splits.{is_idle_in}
-use Rattle.tree_walk.specs.States.{State, IsStateOf}
+use Rattle.domain_store.specs.Splits.{is_idle_in}
+use Rattle.domain_store.specs.States.{State, IsStateOf}
 use Rattle.refutation_checker.specs.LineVerdicts.{HoldsByWords, HoldsByWordsFor, IsSoundFor, LineCauseFor}
 
 -- the problem of a judge, the rules that the header names, and the goal of the log if it has one

@@ -6,7 +6,7 @@ use Rattle.refutation_terms.specs.declared.lines.LogRefusal.{LogRefusal}
 use Rattle.refutation_terms.specs.Tree.{domains_at}
 use Rattle.refutation_terms.specs.Log.{Log}
 use Rattle.refutation_terms.specs.Verdict.{header_lines_for}
-use Rattle.tree_walk.specs.States.{State, IsStateOf}
+use Rattle.domain_store.specs.States.{State, IsStateOf}
 use Rattle.refutation_checker.specs.LineTexts.{Judging, HasCause}
 use Rattle.refutation_checker.specs.ChunkVerdicts.{AreSoundBehind}
 use Rattle.refutation_checker.specs.Headers.{without_goal}

@@ -3,9 +3,9 @@ use Rattle.std.specs.Prelude.{◌≡◌, ℕ, ◌<◌, List, [], ◌∷◌, ◌+
 use Rattle.rwsp_terms.specs.declared.data.Symbol.{Symbol}
 use Rattle.refutation_terms.specs.Word.{Domains, Clean}
 use Rattle.refutation_terms.specs.Escape.{IsCleanOver}
-use Rattle.word_tail.specs.Listed.{Listed}
-use Rattle.word_tail.specs.Tails.{tail_of}
-use Rattle.word_tail.specs.declared.tail.Tail.{Tail}
+use Rattle.clean_words.specs.Listed.{Listed}
+use Rattle.clean_words.specs.Tails.{tail_of}
+use Rattle.clean_words.specs.declared.tail.Tail.{Tail}
 
 -- each clean word of so many days over the domains from position p on has one of these tails
 abbrev pub HaveTails : Listed → Domains → ℕ → ℕ → List Tail → Type 0

@@ -2,17 +2,17 @@
 ghost use Rattle.std.specs.Prelude.{◌+◌, ◌^◌, ◌<◌, List, length, Option};
 ghost use Rattle.refutation_terms.specs.declared.lines.Line.{Line};
 ghost use Rattle.refutation_terms.specs.declared.lines.Turn.{Turn};
-ghost use Rattle.tree_walk.specs.States.{IsStateOf};
-ghost use Rattle.log_chunks.specs.Chunks.{IsJudgeable};
+ghost use Rattle.domain_store.specs.States.{IsStateOf};
+ghost use Rattle.refutation_checker.specs.Chunks.{IsJudgeable};
 ghost use Rattle.refutation_checker.specs.ChunkVerdicts.{IsAnswerTo};
 
+use crate::Chunk;
 use crate::judge::{Judge, Judging};
-use log_chunks::Chunk;
+use domain_store::Walk;
 use refutation_log::LineReader;
 use refutation_terms::LogRefusal;
 use rwsp_model::Fail;
 use std::alloc::Global;
-use tree_walk::Walk;
 
 /// Whether the tree is whole behind the lines of the chunk, where none of them is refused, or why its first line that
 /// is refused is.

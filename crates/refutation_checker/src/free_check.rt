@@ -5,16 +5,16 @@ ghost use Rattle.rwsp_model.specs.Refusals.{MatchAnswer};
 ghost use Rattle.refutation_terms.specs.Log.{AreRules, GoalFits};
 ghost use Rattle.refutation_terms.specs.LogText.{free_header_text};
 ghost use Rattle.refutation_terms.specs.FreeVerdict.{IsFreeAccepted, IsFreeRefused};
-ghost use Rattle.tree_walk.specs.States.{IsStateOf};
+ghost use Rattle.domain_store.specs.States.{IsStateOf};
 ghost use Rattle.refutation_checker.specs.FreeLines.{ArePassingLines};
 ghost use Rattle.refutation_checker.specs.Headers.{with_goal};
 
 use crate::judge::{Judge, Judging};
+use domain_store::Walk;
 use refutation_log::{FREE_HEADER_LINES, FreeHeader, LineReader, Log, read_free_header};
 use refutation_terms::{Line, LogRefusal};
 use rwsp_model::{Fail, Problem};
 use std::alloc::Global;
-use tree_walk::Walk;
 
 /// The verdict on a text: the free log where it is the text of one that passes, else the first line with a cause to
 /// refuse it, and on that line the lowest cause. Only for weeks of seven days.

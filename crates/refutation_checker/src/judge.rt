@@ -5,7 +5,7 @@ ghost use Rattle.refutation_terms.specs.declared.lines.Turn.{Turn};
 ghost use Rattle.refutation_terms.specs.Log.{LineFitsFor, ListsShortOnly};
 ghost use Rattle.rwsp_model.specs.Refusals.{MatchAnswer};
 ghost use Rattle.domain_store.specs.Store.{BelongsTo, has_domain};
-ghost use Rattle.tree_walk.specs.States.{IsStateOf};
+ghost use Rattle.domain_store.specs.States.{IsStateOf};
 ghost use Rattle.refutation_checker.specs.LineTexts.{HoldsByWordsUnder, EscapesUnder, IsSoundUnder, HasCause, ReadsNext, RefusesNext, PassesNext, HasCauseNext, IsSpellingRefusal};
 
 use crate::kept::{automaton_of, tails_of};
@@ -13,16 +13,14 @@ use crate::line_walk::step;
 use crate::plain_causes::plain_refusal;
 use crate::short_words::is_plainly_dead;
 use crate::word_leaves::{escape_of, list_of};
-use domain_store::Domains;
+use clean_words::{Automaton, TailRules};
+use domain_store::{Domains, Walk};
 use refutation_log::{LineRefusal, read_line_for};
 use refutation_terms::{Line, LogRefusal};
-use rule_automaton::Automaton;
 use rwsp_model::{Fail, Problem};
 use rwsp_terms::{RuleList, Word};
 use std::alloc::{AllocError, Global};
 use std::marker::Model;
-use tree_walk::Walk;
-use word_tail::TailRules;
 
 /// What lines are judged by: the problem, the rules that the header of their log names, and the goal of the log if it
 /// has one.

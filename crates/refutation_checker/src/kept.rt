@@ -2,11 +2,10 @@
 ghost use Rattle.std.specs.Prelude.{◌≡◌, IsTrue, IfOk, IfSome};
 ghost use Rattle.rwsp_terms.specs.Rules.{NamesShortOnly};
 
-use rule_automaton::{Automaton, Told};
+use clean_words::{Automaton, TailRules, Told};
 use rwsp_model::Problem;
 use rwsp_terms::RuleList;
 use std::alloc::{AllocError, Global};
-use word_tail::TailRules;
 
 // Whether the tail rules are of this list.
 fn are_of(tails: &TailRules, list: &RuleList) -> bool

@@ -4,17 +4,17 @@ ghost use Rattle.refutation_terms.specs.declared.lines.Line.{Line};
 ghost use Rattle.refutation_terms.specs.declared.lines.Turn.{Turn};
 ghost use Rattle.refutation_terms.specs.Tree.{domains_at};
 ghost use Rattle.refutation_terms.specs.Log.{LineFits, ListsShortOnly, Holds};
-ghost use Rattle.tree_walk.specs.States.{IsStateOf};
+ghost use Rattle.domain_store.specs.States.{IsStateOf};
 ghost use Rattle.refutation_checker.specs.LineTexts.{TellsLeaf};
 
 use crate::judge::{Judge, Judging};
 use crate::line_walk::step;
+use domain_store::Walk;
 use refutation_terms::Line;
 use rwsp_model::Problem;
 use rwsp_terms::RuleList;
 use std::alloc::{AllocError, Global};
 use std::marker::Model;
-use tree_walk::Walk;
 
 /// Judges dead and bound leaves apart from the other lines of their log. What was made for the list of one leaf serves
 /// the next leaves with the same list.

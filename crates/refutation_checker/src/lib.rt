@@ -1,27 +1,34 @@
-//! The verdict on a refutation's log: that it passes, or its first line that is refused, with the cause.
+//! The verdict on a refutation's log: that it passes, or its first line that is refused, with the cause. A long log is cut
+//! into chunks for several workers.
 #![tactic(auto)]
 
 mod chunk;
+mod chunk_starts;
 mod free_check;
 mod header;
 mod judge;
 mod kept;
 mod laws;
 mod leaf_judge;
+mod line_ends;
 mod line_walk;
 mod log_check;
 mod long_rules;
 mod plain_causes;
 mod short_words;
+mod text_chunk;
 mod turn;
 mod unnamed_rules;
+mod unread_splits;
 mod verdict;
 mod word_leaves;
 mod workers;
 
+pub use chunk_starts::chunks_for;
 pub use free_check::check_free;
 pub use laws::{texts_have_a_free_verdict, texts_have_a_verdict};
 pub use leaf_judge::{LeafJudge, go_past};
 pub use log_check::check_log;
 pub use potential_bounds::{Gate, NoGate};
+pub use text_chunk::Chunk;
 pub use verdict::{PassedGoal, check, check_free_with, check_with};

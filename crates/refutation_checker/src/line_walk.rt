@@ -3,12 +3,12 @@ ghost use Rattle.std.specs.Prelude.{◌≡◌, ◌∷◌, [], ◌++◌, List, Op
 ghost use Rattle.rwsp_terms.specs.Instance.{Instance};
 ghost use Rattle.refutation_terms.specs.declared.lines.Line.{Line};
 ghost use Rattle.refutation_terms.specs.declared.lines.Turn.{Turn};
-ghost use Rattle.tree_walk.specs.States.{IsStateOf};
+ghost use Rattle.domain_store.specs.States.{IsStateOf};
 ghost use Rattle.refutation_checker.specs.LineTexts.{MayStep};
 
+use domain_store::Walk;
 use refutation_terms::Line;
 use std::alloc::AllocError;
-use tree_walk::Walk;
 
 /// The walk reads a line that is no idle split.
 pub fn step(walk: &mut Walk, line: &Line) -> Result<(), AllocError>

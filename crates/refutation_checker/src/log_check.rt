@@ -10,11 +10,11 @@ ghost use Rattle.refutation_checker.specs.LogVerdicts.{AreSoundTo, IsPassed, IsR
 use crate::header::header_lines;
 use crate::judge::{Judge, Judging};
 use crate::turn::turn_refusal;
+use domain_store::Walk;
 use refutation_log::Log;
 use refutation_terms::LogRefusal;
 use rwsp_model::{Fail, Problem};
 use std::alloc::{AllocError, Global};
-use tree_walk::Walk;
 
 /// The verdict on the text of a log, without its text.
 pub fn check_log(alloc: Global, problem: &Problem, log: &Log) -> Result<(), Fail<LogRefusal>>

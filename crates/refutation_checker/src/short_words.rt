@@ -4,13 +4,13 @@ ghost use Rattle.rwsp_terms.specs.Instance.{cells, shift_count};
 ghost use Rattle.rwsp_terms.specs.declared.limits.TheConstants.{LONGEST_WORD};
 ghost use Rattle.refutation_terms.specs.Leaf.{IsDead};
 ghost use Rattle.domain_store.specs.Store.{BelongsTo, has_domain};
-ghost use Rattle.word_tail.specs.declared.tail.Tail.{Tail};
+ghost use Rattle.clean_words.specs.declared.tail.Tail.{Tail};
 ghost use Rattle.refutation_checker.specs.ShortWords.{GoOn, HaveAll};
 
+use clean_words::{Tail, TailRules};
 use domain_store::Domains;
 use rwsp_terms::Symbol;
 use std::alloc::{AllocError, Global};
-use word_tail::{Tail, TailRules};
 
 // The most clean words of one length that are followed.
 const MOST_WORDS: usize = 100;

@@ -5,13 +5,14 @@ ghost use Rattle.rwsp_model.specs.Refusals.{MatchAnswer};
 ghost use Rattle.refutation_terms.specs.Log.{Log as LogValue, TurnFits};
 ghost use Rattle.refutation_terms.specs.Verdict.{IsAccepted, IsRefused};
 ghost use Rattle.refutation_terms.specs.FreeVerdict.{IsFreeAccepted, IsFreeRefused};
-ghost use Rattle.log_chunks.specs.Starts.{StandsBehind};
+ghost use Rattle.refutation_checker.specs.Starts.{StandsBehind};
 
+use crate::Chunk;
 use crate::chunk::judge_chunk;
 use crate::header::{header_lines, judge_header};
 use crate::judge::Judging;
 use crate::workers::judge_by_workers;
-use log_chunks::Chunk;
+use domain_store::Walk;
 use potential_bounds::Gate;
 use refutation_log::read_free_header;
 use refutation_terms::{LogRefusal, Turn};
@@ -19,7 +20,6 @@ use rwsp_model::{Fail, Problem};
 use rwsp_terms::RuleList;
 use std::alloc::{AllocError, Global};
 use std::thread::Threads;
-use tree_walk::Walk;
 
 /// The verdict on a text: the rules that its header names where it is the text of a log that passes, else the first
 /// line with a cause to refuse it, and on that line the lowest cause.

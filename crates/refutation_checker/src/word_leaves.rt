@@ -9,11 +9,10 @@ ghost use Rattle.refutation_terms.specs.Verdict.{EscapesFor};
 ghost use Rattle.domain_store.specs.Store.{BelongsTo, has_domain};
 ghost use Rattle.refutation_checker.specs.LineVerdicts.{HasNoList, HasList, HoldsByWordsFor};
 
-use clean_words::{CleanWords, escape};
+use clean_words::{Automaton, CleanWords, escape};
 use domain_store::Domains;
 use potential_bounds::{FreeClaim, bound_escape, free_escape};
 use refutation_terms::Line;
-use rule_automaton::Automaton;
 use rwsp_terms::{RuleList, Word};
 use std::alloc::{AllocError, Global};
 

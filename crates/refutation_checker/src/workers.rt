@@ -2,13 +2,13 @@
 ghost use Rattle.std.specs.Prelude.{◌≡◌, ◌≤◌, [], Option, false};
 ghost use Rattle.rwsp_terms.specs.declared.limits.TheConstants.{MOST_WORKERS};
 ghost use Rattle.refutation_terms.specs.declared.lines.Turn.{Turn};
-ghost use Rattle.log_chunks.specs.Starts.{StandsBehind};
-ghost use Rattle.log_chunks.specs.Chunks.{IsJudgeable};
+ghost use Rattle.refutation_checker.specs.Starts.{StandsBehind};
+ghost use Rattle.refutation_checker.specs.Chunks.{IsJudgeable};
 ghost use Rattle.refutation_checker.specs.ChunkVerdicts.{IsAnswerTo, IsJudged, joined_from};
 
 use crate::chunk::judge_chunk;
 use crate::judge::Judging;
-use log_chunks::{Chunk, chunks_for};
+use crate::{Chunk, chunks_for};
 use potential_bounds::Gate;
 use refutation_terms::LogRefusal;
 use rwsp_model::Fail;

@@ -7,3 +7,7 @@ pub mod Reading
 pub mod ReadLog
 pub mod Refusals
 pub mod Turns
+pub mod Planned
+pub mod Bests
+pub mod FreeSharp
+pub mod Needs

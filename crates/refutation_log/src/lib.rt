@@ -1,7 +1,9 @@
-//! Logs of refutations: their text, read and printed, and the rules that their lines cite.
+//! Logs of refutations, their texts both ways, and what searches find: a roster, or such a log.
 #![tactic(auto)]
 
+mod best_found;
 mod cited;
+mod found;
 mod gather;
 mod header;
 mod laws;
@@ -12,7 +14,9 @@ mod read;
 mod refusal;
 mod turn;
 
+pub use best_found::BestFound;
 pub use cited::{put_cited, put_cited_for, put_turn_cited};
+pub use found::Found;
 pub use header::{
     FREE_HEADER_LINES, FreeHeader, Header, lines_of_header, read_free_header, read_header,
     read_header_for,

@@ -1,6 +1,6 @@
 // The one layer that long clean words pass through day by day.
 use crate::grid::{Grid, entry_or, put};
-use rule_automaton::{Automaton, Told};
+use clean_words::{Automaton, Told};
 use rwsp_model::Problem;
 use std::alloc::{AllocError, Global};
 

@@ -16,16 +16,16 @@ use Rattle.refutation_terms.specs.Log.{Log}
 use Rattle.refutation_terms.specs.Sharp.{IsFirstTurn, NoBoundHolds, IsUnclosed, HoldsAtTop}
 use Rattle.refutation_terms.proofs.SameDomains.{turned_round}
 use Rattle.domain_store.specs.Store.{Store, has_domain}
-use Rattle.propagator_terms.specs.Looks.{Closes}
-use Rattle.propagator_terms.specs.Cycles.{AreShortRules}
+use Rattle.domain_store.specs.Looks.{Closes}
+use Rattle.domain_store.specs.Cycles.{AreShortRules}
 use Rattle.propagators.specs.TopBounds.{AreTopWeights}
 use Rattle.propagators.proofs.SameWords.{same_at_top}
 use Rattle.roster_search.specs.Founds.{IsForced, IsSearchLog, IsFound, HasSpentBudget}
-use Rattle.plan_terms.specs.declared.found.Found.{Found}
-use Rattle.plan_terms.specs.declared.found.Found.TheVariants.{Roster, NoRoster, Undecided}
-use Rattle.plan_terms.specs.Planned.{IsPlannedLog, IsPlanned}
+use Rattle.refutation_log.specs.declared.found.Found.{Found}
+use Rattle.refutation_log.specs.declared.found.Found.TheVariants.{Roster, NoRoster, Undecided}
+use Rattle.refutation_log.specs.Planned.{IsPlannedLog, IsPlanned}
 use Rattle.roster_planner.specs.Reasons.{AreReasons}
-use Rattle.case_reasons.proofs.SharpSplits.{sharp_split}
+use Rattle.roster_planner.proofs.SharpSplits.{sharp_split}
 
 abbrev Leaves : Type 1
 Leaves = Store → Line → Type 0

@@ -8,7 +8,7 @@ use Rattle.refutation_terms.specs.Word.{AreSame}
 use Rattle.refutation_terms.specs.Tree.{opening}
 use Rattle.domain_store.specs.Store.{Store, has_domain}
 use Rattle.propagators.specs.TopBounds.{IsTopBound}
-use Rattle.case_reasons.specs.Reasons.{AreCaseReasons}
+use Rattle.roster_planner.specs.CaseReasons.{AreCaseReasons}
 
 -- the reasons of cases, and under the opening domains the bounds of one turn
 pub record AreReasons (P : Instance) (turn : Option Turn) (leaves : Store → Line → Type 0)

@@ -1,10 +1,21 @@
-//! Plans of problems: a roster, or a log of why there is none, whose splits are forced where anything forces them. And
-//! the least crew: plans for one number of weeks after the other.
+//! Plans of problems: a roster, or a log of why there is none, whose splits are forced where anything forces them. The
+//! least crew: plans for one number of weeks after the other. And the most free weekends: plans for one goal after the
+//! other.
 #![tactic(auto)]
 
+mod guide;
+mod likely_most;
+mod of_cases;
+mod one_goal;
 mod planning;
+mod raising;
 mod reasons;
+mod searching;
 mod staffing;
+mod top_leaf;
 
+pub use of_cases::{CaseReasons, case_reasons};
 pub use planning::plan_roster;
+pub use raising::best;
+pub use searching::planner_search;
 pub use staffing::{Sizes, least_crew, staff};

@@ -1,18 +1,17 @@
 // A roster for a problem, or a refutation.
 ghost use Rattle.std.specs.Prelude.{◌≡◌, ◌≤◌, IfOk};
-ghost use Rattle.propagator_terms.specs.Cycles.{AreShortRules};
-ghost use Rattle.plan_terms.specs.Planned.{IsPlanned};
+ghost use Rattle.domain_store.specs.Cycles.{AreShortRules};
+ghost use Rattle.refutation_log.specs.Planned.{IsPlanned};
 
+use crate::planner_search;
 use crate::reasons::reasons_of;
-use plan_terms::Found;
+use clean_words::{Automaton, Told};
 use potential_bounds::Gate;
-use refutation_log::first_turn;
+use refutation_log::{Found, first_turn};
 use roster_finder::{Patience, RosterFinder};
 use roster_search::Aim;
-use rule_automaton::{Automaton, Told};
 use rwsp_model::Problem;
 use rwsp_terms::limits::GREATEST_BUDGET;
-use search_guide::planner_search;
 use std::alloc::{AllocError, Global};
 use std::thread::Threads;
 

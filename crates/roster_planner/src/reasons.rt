@@ -1,18 +1,17 @@
 // The reasons by which the search of a plan closes cases.
 ghost use Rattle.std.specs.Prelude.{◌≡◌, IfOk, Ok};
 ghost use Rattle.refutation_terms.specs.Log.{TurnFits};
-ghost use Rattle.propagator_terms.specs.Cycles.{AreShortRules};
+ghost use Rattle.domain_store.specs.Cycles.{AreShortRules};
 ghost use Rattle.roster_planner.specs.Reasons.{AreReasons};
 
-use case_reasons::{CaseReasons, case_reasons};
+use crate::{CaseReasons, case_reasons};
+use clean_words::Automaton;
+use domain_store::{Pair, Propagator, Walk};
 use potential_bounds::Gate;
-use propagator_terms::{Pair, Propagator};
 use propagators::RootBounds;
 use refutation_terms::Turn;
-use rule_automaton::Automaton;
 use std::alloc::{AllocError, Global};
 use std::thread::Threads;
-use tree_walk::Walk;
 
 // The workers among whom the plain bounds are shared out.
 const WORKERS: u32 = rwsp_terms::limits::USUAL_WORKERS;

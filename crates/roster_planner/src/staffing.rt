@@ -1,15 +1,15 @@
 // How few weeks are enough.
 ghost use Rattle.std.specs.Prelude.{◌≤◌, IfOk};
 ghost use Rattle.rwsp_terms.specs.declared.limits.TheConstants.{GREATEST_STAFF_BUDGET};
-ghost use Rattle.plan_terms.specs.Planned.{IsPlanned};
+ghost use Rattle.refutation_log.specs.Planned.{IsPlanned};
 ghost use Rattle.crew_size.specs.Sizes.{IsSize, with_weeks};
 ghost use Rattle.crew_size.specs.Runs.{IsStaffed};
 ghost use Rattle.crew_size.specs.Fitting.{FitsSizes};
 
 use crate::plan_roster;
 use crew_size::{StaffEnd, StaffRun, with_weeks};
-use plan_terms::Found;
 use potential_bounds::Gate;
+use refutation_log::Found;
 use rwsp_model::Problem;
 use std::alloc::{AllocError, Global};
 use std::thread::Threads;

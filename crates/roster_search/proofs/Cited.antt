@@ -12,9 +12,9 @@ use Rattle.refutation_terms.specs.Tree.{opening, domains_at}
 use Rattle.refutation_terms.specs.Log.{TurnFits, GoalFits, TurnCites, Cites}
 use Rattle.refutation_terms.proofs.TreeDomains.{got_left, got_right}
 use Rattle.domain_store.specs.Store.{Store}
-use Rattle.tree_walk.specs.declared.open_split.OpenSplit.{OpenSplit}
-use Rattle.tree_walk.specs.Splits.{InSplits, NoLines, HasRead, second_sides_to_come}
-use Rattle.tree_walk.specs.States.{State, IsStateOf, open_trees}
+use Rattle.domain_store.specs.declared.open_split.OpenSplit.{OpenSplit}
+use Rattle.domain_store.specs.Splits.{InSplits, NoLines, HasRead, second_sides_to_come}
+use Rattle.domain_store.specs.States.{State, IsStateOf, open_trees}
 use Rattle.roster_search.specs.declared.aim.Aim.{Aim}
 use Rattle.roster_search.specs.declared.progress.Progress.{Progress}
 use Rattle.roster_search.specs.Written.{Stands, IsCitedIn, IsProgress}

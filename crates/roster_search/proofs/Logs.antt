@@ -15,10 +15,10 @@ use Rattle.refutation_terms.specs.Tree.{IsTree, after_trees}
 use Rattle.refutation_terms.specs.Log.{Log, LineFitsFor, HoldsFor, HoldsAtFor, Cites, ListsShortOnly, IsAllowed, AreRules, IsGroundedFor, PassesFor, IsSpentFor, size, is_worked}
 use Rattle.refutation_terms.proofs.Trees.{whole_is_tree}
 use Rattle.refutation_terms.proofs.TreeDomains.{got_left}
-use Rattle.tree_walk.specs.Splits.{second_sides_to_come}
-use Rattle.tree_walk.specs.States.{State, open_trees}
+use Rattle.domain_store.specs.Splits.{second_sides_to_come}
+use Rattle.domain_store.specs.States.{State, open_trees}
 use Rattle.roster_search.specs.declared.progress.Progress.{Progress}
-use Rattle.plan_terms.specs.declared.found.Found.TheVariants.{NoRoster, Undecided}
+use Rattle.refutation_log.specs.declared.found.Found.TheVariants.{NoRoster, Undecided}
 use Rattle.roster_search.specs.Founds.{IsLogOfTurn}
 use Rattle.roster_search.specs.Written.{IsProgress, IsEnded}
 use Rattle.roster_search.proofs.Growing.{got_in, domains_before}

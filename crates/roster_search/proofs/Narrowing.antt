@@ -17,8 +17,8 @@ use Rattle.refutation_terms.specs.Tree.{First, narrowed, line_leaves, lines_leav
 use Rattle.refutation_terms.proofs.Tests.{left_of}
 use Rattle.domain_store.specs.Sets.{has_symbol, IsDomain}
 use Rattle.domain_store.specs.Store.{Store, BelongsTo, domain_at, has_domain, IsStore}
-use Rattle.tree_walk.proofs.Idle.{positions_of}
-use Rattle.propagator_terms.specs.Looks.{IsNarrowedAt}
+use Rattle.domain_store.proofs.Idle.{positions_of}
+use Rattle.domain_store.specs.Looks.{IsNarrowedAt}
 use Rattle.roster_search.specs.Written.{IsSplitWithLeaf}
 use Rattle.roster_search.proofs.Growing.{EndNone, domains_behind, split_ends_none, leaf_ends_one, leaf_leaves}
 

@@ -33,7 +33,7 @@ use Rattle.refutation_terms.proofs.FreeCounts.{free_weekends_weeks}
 use Rattle.refutation_terms.proofs.Counts.{in_column}
 use Rattle.refutation_terms.proofs.Tests.{both, left_of, right_of}
 use Rattle.domain_store.specs.Store.{Store, BelongsTo, IsDecided, domain_at, has_domain, IsStore, HasDomains}
-use Rattle.tree_walk.proofs.Idle.{positions_of}
+use Rattle.domain_store.proofs.Idle.{positions_of}
 use Rattle.rwsp_model.proofs.Limits.{some_cells}
 use Rattle.roster_search.proofs.Reaching.{weekend_within}
 

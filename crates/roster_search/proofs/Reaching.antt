@@ -10,8 +10,8 @@ use Rattle.refutation_terms.specs.Log.{LineFits, LineFitsFor, GoalFits, Holds, H
 use Rattle.refutation_terms.proofs.SameDomains as SameDomains
 use Rattle.refutation_terms.proofs.SameDomains.{turned_round, same_holds}
 use Rattle.domain_store.specs.Store.{Store}
-use Rattle.propagator_terms.specs.Leaves.{IsHoldingLeafFor}
-use Rattle.propagator_terms.specs.Looks.{IsUnweighed}
+use Rattle.domain_store.specs.Leaves.{IsHoldingLeafFor}
+use Rattle.domain_store.specs.Looks.{IsUnweighed}
 use Rattle.roster_search.specs.Guides.{AreUnweighedFor}
 
 -- a line that weighs no words is one of a free log too

@@ -3,7 +3,7 @@ use Rattle.std.proofs.Common.{◌≡◌, ℕ, Option, subst, sym}
 use Rattle.rwsp_terms.specs.Instance.{Instance}
 use Rattle.refutation_terms.specs.declared.lines.Line.TheVariants.{Window, Day}
 use Rattle.domain_store.specs.Store.{Store}
-use Rattle.propagator_terms.specs.Looks.{HasPlainLeaves, IsSame}
+use Rattle.domain_store.specs.Looks.{HasPlainLeaves, IsSame}
 use Rattle.roster_search.specs.declared.aim.Aim.{Aim}
 use Rattle.roster_search.specs.declared.progress.Progress.{Progress}
 use Rattle.roster_search.specs.declared.sight.Sight.{Sight}

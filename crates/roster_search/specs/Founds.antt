@@ -9,10 +9,10 @@ use Rattle.refutation_terms.specs.Word.{Domains, AreSame}
 use Rattle.refutation_terms.specs.Tree.{domains_at}
 use Rattle.refutation_terms.specs.Log.{Log, HoldsFor, PassesFor, IsSpentFor, NamesOnlyCited, size}
 use Rattle.domain_store.specs.Store.{Store, BelongsTo, IsStore, has_domain}
-use Rattle.propagator_terms.specs.Looks.{Closes}
+use Rattle.domain_store.specs.Looks.{Closes}
 use Rattle.roster_search.specs.Guides.{IsRosterFor}
-use Rattle.plan_terms.specs.declared.found.Found.{Found}
-use Rattle.plan_terms.specs.declared.found.Found.TheVariants.{Roster, NoRoster, Undecided}
+use Rattle.refutation_log.specs.declared.found.Found.{Found}
+use Rattle.refutation_log.specs.declared.found.Found.TheVariants.{Roster, NoRoster, Undecided}
 
 -- the propagator didn't close the domains at a split, and where a symbol was spent for it the split is of a spent
 -- symbol at its position

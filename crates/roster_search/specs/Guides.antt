@@ -10,9 +10,9 @@ use Rattle.refutation_terms.specs.declared.lines.Line.TheVariants.{Few}
 use Rattle.refutation_terms.specs.Log.{HoldsFor}
 use Rattle.refutation_terms.specs.Laws.{HasGoal}
 use Rattle.domain_store.specs.Store.{Store, has_domain}
-use Rattle.tree_walk.specs.Splits.{is_idle_in}
-use Rattle.propagator_terms.specs.Leaves.{IsHoldingLeafFor}
-use Rattle.propagator_terms.specs.Looks.{IsUnweighed, Closes, IsCut}
+use Rattle.domain_store.specs.Splits.{is_idle_in}
+use Rattle.domain_store.specs.Leaves.{IsHoldingLeafFor}
+use Rattle.domain_store.specs.Looks.{IsUnweighed, Closes, IsCut}
 use Rattle.roster_search.specs.declared.order.NextSplit.{NextSplit}
 use Rattle.roster_search.specs.declared.sight.Sight.{Sight}
 use Rattle.roster_search.specs.declared.sight.Sight.TheVariants.{Leaf, Roster, Cut, Quiet}

@@ -11,14 +11,14 @@ use Rattle.refutation_terms.specs.Word.{Domains}
 use Rattle.refutation_terms.specs.Tree.{IsLeaf, domains_at}
 use Rattle.refutation_terms.specs.Log.{LineFitsFor, TurnFits, GoalFits, HoldsFor, Cites, TurnCites, ListsShortOnly, PassesFor, IsSpentFor, size}
 use Rattle.domain_store.specs.Store.{Store}
-use Rattle.tree_walk.specs.States.{IsStateOf, open_trees}
-use Rattle.propagator_terms.specs.Looks.{HasPlainLeaves, IsNarrowedAt}
+use Rattle.domain_store.specs.States.{IsStateOf, open_trees}
+use Rattle.domain_store.specs.Looks.{HasPlainLeaves, IsNarrowedAt}
 use Rattle.roster_search.specs.Founds.{AreForced, FewHoldsAtNoSplit, IsLogOfTurn}
 use Rattle.roster_search.specs.Guides.{AreUnweighedFor}
 use Rattle.roster_search.specs.declared.aim.Aim.{Aim}
 use Rattle.roster_search.specs.declared.progress.Progress.{Progress}
-use Rattle.plan_terms.specs.declared.found.Found.{Found}
-use Rattle.plan_terms.specs.declared.found.Found.TheVariants.{Roster, NoRoster, Undecided}
+use Rattle.refutation_log.specs.declared.found.Found.{Found}
+use Rattle.refutation_log.specs.declared.found.Found.TheVariants.{Roster, NoRoster, Undecided}
 
 -- a line that holds, with its numbers in their ranges and with short rules only in its list, for this goal or none
 pub record Stands (P : Instance) (goal : Option ℕ) (D : Domains) (line : Line) : Type 0 where

@@ -9,8 +9,7 @@ ghost use Rattle.roster_search.specs.Written.{IsProgress, IsEnded};
 
 use crate::Aim;
 use crate::progress::Progress;
-use plan_terms::Found;
-use refutation_log::Log;
+use refutation_log::{Found, Log};
 use refutation_terms::Line;
 use rwsp_model::Problem;
 use rwsp_terms::RuleList;

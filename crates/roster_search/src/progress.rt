@@ -8,17 +8,17 @@ ghost use Rattle.refutation_terms.specs.Log.{TurnFits, GoalFits, TurnCites};
 ghost use Rattle.rwsp_terms.specs.Rules.{rule_of, Names};
 ghost use Rattle.rwsp_terms.specs.declared.data.Rule.{Rule};
 ghost use Rattle.domain_store.specs.Store.{has_domain, IsStore, HasDomains};
-ghost use Rattle.tree_walk.specs.Splits.{is_idle_in};
-ghost use Rattle.propagator_terms.specs.Leaves.{IsHoldingLeafFor};
+ghost use Rattle.domain_store.specs.Splits.{is_idle_in};
+ghost use Rattle.domain_store.specs.Leaves.{IsHoldingLeafFor};
 ghost use Rattle.roster_search.specs.Written.{IsProgress, IsSplitOff, HasRoom};
 
 use crate::Aim;
+use domain_store::Walk;
 use refutation_log::{put_cited_for, put_turn_cited};
 use refutation_terms::{Line, Turn};
 use rwsp_model::Problem;
 use rwsp_terms::{RuleList, Symbol};
 use std::alloc::{AllocError, Global};
-use tree_walk::Walk;
 
 /// The lines that were written, the domains behind them, and the rules that they and the turn cite.
 #[derive(Drop)]

@@ -3,8 +3,8 @@ ghost use Rattle.std.specs.Prelude.{◌≡◌, ℕ, ◌↔◌, Option, IfOk, IfS
 ghost use Rattle.rwsp_terms.specs.declared.data.Symbol.{Symbol};
 ghost use Rattle.rwsp_terms.specs.Instance.{Instance};
 ghost use Rattle.domain_store.specs.Store.{BelongsTo, IsDecided, has_domain};
-ghost use Rattle.propagator_terms.specs.Leaves.{IsHoldingLeafFor};
-ghost use Rattle.propagator_terms.specs.Looks.{IsCut, IsSame};
+ghost use Rattle.domain_store.specs.Leaves.{IsHoldingLeafFor};
+ghost use Rattle.domain_store.specs.Looks.{IsCut, IsSame};
 ghost use Rattle.roster_search.specs.Guides.{IsSplitIn, IsRosterFor, IsOpen, IsSight};
 ghost use Rattle.roster_search.specs.Written.{IsSearching, HasRoom, IsLonger};
 
@@ -13,8 +13,7 @@ use crate::order::chronological;
 use crate::progress::Progress;
 use crate::sight::{Arrival, Sight, see};
 use crate::{Guide, NextSplit};
-use domain_store::Domains;
-use propagator_terms::Propagator;
+use domain_store::{Domains, Propagator};
 use refutation_terms::Line;
 use rwsp_model::{Problem, Roster};
 use rwsp_terms::Symbol;

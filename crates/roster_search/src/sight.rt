@@ -6,15 +6,14 @@ ghost use Rattle.refutation_terms.specs.declared.lines.Line.TheVariants.{Few};
 ghost use Rattle.refutation_terms.specs.declared.lines.Turn.{Turn};
 ghost use Rattle.refutation_terms.specs.Log.{GoalFits, HoldsFor};
 ghost use Rattle.domain_store.specs.Store.{BelongsTo, has_domain};
-ghost use Rattle.propagator_terms.specs.Looks.{IsSame};
+ghost use Rattle.domain_store.specs.Looks.{IsSame};
 ghost use Rattle.roster_search.specs.Guides.{IsLeafGiven, IsGiven, IsSight};
 ghost use Rattle.roster_search.specs.Written.{IsSearching};
 
 use crate::Guide;
 use crate::progress::Progress;
-use domain_store::Domains;
+use domain_store::{Domains, Look, Propagator};
 use plain_leaves::few_holds;
-use propagator_terms::{Look, Propagator};
 use refutation_terms::Line;
 use rwsp_model::{Problem, Roster};
 use rwsp_terms::Symbol;

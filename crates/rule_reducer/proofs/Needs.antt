@@ -7,7 +7,7 @@ use Rattle.rwsp_terms.specs.Instance.{Instance}
 use Rattle.rwsp_terms.proofs.Ascending.{Contains-cons}
 use Rattle.refutation_terms.specs.Log.{Log, Passes}
 use Rattle.refutation_terms.specs.Strip.{strip, StripsTo, DescendsTo, ReducesIn, IsReduced}
-use Rattle.plan_terms.specs.Needs.{NeedsEach}
+use Rattle.refutation_log.specs.Needs.{NeedsEach}
 use Rattle.rule_reducer.proofs.Kept.{not_longer, shorter}
 
 strips_no_longer : (P : Instance) (list : List ℕ) (g h : Log) → StripsTo P list g h → length h.named ≤ length g.named

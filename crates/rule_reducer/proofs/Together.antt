@@ -17,7 +17,7 @@ use Rattle.refutation_terms.specs.Log.{Log, AreRules, LineFits, Fits, Holds, Has
 use Rattle.refutation_terms.specs.Strip.{without_rule, without_day, strip_line, strip}
 use Rattle.refutation_terms.proofs.Windows.{clean-fewer}
 use Rattle.refutation_log.proofs.CitedRules.{rule_there}
-use Rattle.plan_terms.specs.Needs.{NeedsEach, NeedsTogether, NamesWindowRule, strip_all}
+use Rattle.refutation_log.specs.Needs.{NeedsEach, NeedsTogether, NamesWindowRule, strip_all}
 use Rattle.rule_reducer.proofs.Kept.{was_listed, still_listed}
 use Rattle.rule_reducer.proofs.Strips.{tree_stays, domains_stay, line_after, line_before, fits_still}
 

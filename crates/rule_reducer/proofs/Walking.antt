@@ -15,7 +15,7 @@ use Rattle.refutation_terms.specs.Log.{Log, Holds, Passes}
 use Rattle.refutation_terms.specs.Strip.{strip, strip_line}
 use Rattle.refutation_checker.specs.LineVerdicts.{HoldsByWords}
 use Rattle.refutation_checker.proofs.Passing.{no_front, still_part}
-use Rattle.tree_walk.specs.States.{State, IsStateOf}
+use Rattle.domain_store.specs.States.{State, IsStateOf}
 use Rattle.rule_reducer.specs.Citing.{HasList}
 use Rattle.rule_reducer.specs.Without.{HoldsWithout}
 use Rattle.rule_reducer.proofs.Stripped.{line_without}

@@ -6,7 +6,7 @@ ghost use Rattle.refutation_terms.specs.LogText.{log_text};
 ghost use Rattle.refutation_terms.specs.Strip.{IsReduced};
 ghost use Rattle.refutation_terms.specs.Verdict.{IsRefused};
 ghost use Rattle.rule_reducer.specs.Citing.{AreCited};
-ghost use Rattle.plan_terms.specs.Needs.{NeedsEach, NeedsTogether};
+ghost use Rattle.refutation_log.specs.Needs.{NeedsEach, NeedsTogether};
 
 use crate::citations::{Citations, citations_of};
 use crate::descent::{LastRefusal, descend};

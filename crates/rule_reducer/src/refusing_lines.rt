@@ -6,17 +6,17 @@ ghost use Rattle.refutation_terms.specs.declared.lines.Turn.{Turn};
 ghost use Rattle.refutation_terms.specs.Tree.{domains_at};
 ghost use Rattle.refutation_terms.specs.Log.{LineFits, ListsShortOnly, Holds, Passes};
 ghost use Rattle.refutation_terms.specs.Strip.{strip, strip_line};
-ghost use Rattle.tree_walk.specs.States.{IsStateOf};
+ghost use Rattle.domain_store.specs.States.{IsStateOf};
 ghost use Rattle.rule_reducer.specs.Without.{HoldsWithout};
 
 use crate::shrinking_log::ShrinkingLog;
 use crate::stripped_lines::{lists, strip_line};
+use domain_store::Walk;
 use refutation_checker::{LeafJudge, go_past};
 use refutation_terms::Line;
 use rwsp_model::Problem;
 use rwsp_terms::Rule;
 use std::alloc::{AllocError, Global};
-use tree_walk::Walk;
 
 // Whether the line, which is next for the walk, doesn't hold without the rule. Only a line that lists the rule is
 // judged.

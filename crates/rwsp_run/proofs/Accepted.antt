@@ -13,8 +13,8 @@ use Rattle.refutation_terms.specs.LogText.{log_text, free_log_text}
 use Rattle.refutation_terms.specs.FreeWeekends.{free_weekends}
 use Rattle.roster_print.specs.RosterText.{roster_text}
 use Rattle.roster_print.proofs.Printed.{printed_is_short, printed_is_spelled}
-use Rattle.plan_terms.specs.declared.best_found.BestFound.{BestFound}
-use Rattle.plan_terms.specs.declared.best_found.BestFound.TheVariants as Bests
+use Rattle.refutation_log.specs.declared.best_found.BestFound.{BestFound}
+use Rattle.refutation_log.specs.declared.best_found.BestFound.TheVariants as Bests
 use Rattle.crew_size.specs.Sizes.{IsSize}
 use Rattle.crew_size.specs.Texts.{staff_text}
 use Rattle.crew_size.proofs.Decided.{printed_accepted, accepted_decide}

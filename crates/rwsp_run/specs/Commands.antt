@@ -3,7 +3,7 @@ use Rattle.std.specs.Prelude.{ℕ, ◌<◌, ◌+◌, ◌≤◌, List, Option, So
 use Rattle.rwsp_terms.specs.declared.limits.TheConstants.{GREATEST_BUDGET, MOST_WEEKS, MOST_SIZES, GREATEST_STAFF_BUDGET, MOST_WORKERS, LONGEST_CALENDAR}
 use Rattle.rwsp_terms.specs.Instance.{Instance}
 use Rattle.rwsp_file.specs.Text.{problem_text}
-use Rattle.plan_terms.specs.Planned.{IsPlanned}
+use Rattle.refutation_log.specs.Planned.{IsPlanned}
 use Rattle.command_line.specs.Commands.{IsEmployeeNumber}
 use Rattle.command_line.specs.declared.command.Command.{Command}
 use Rattle.command_line.specs.declared.command.Command.TheVariants as Commands

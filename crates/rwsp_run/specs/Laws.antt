@@ -11,9 +11,9 @@ use Rattle.refutation_terms.specs.Log.{Log}
 use Rattle.refutation_terms.specs.LogText.{free_log_text}
 use Rattle.refutation_terms.specs.FreeWeekends.{free_weekends}
 use Rattle.roster_print.specs.RosterText.{roster_text}
-use Rattle.plan_terms.specs.declared.found.Found.TheVariants as Founds
-use Rattle.plan_terms.specs.declared.best_found.BestFound.{BestFound}
-use Rattle.plan_terms.specs.declared.best_found.BestFound.TheVariants as Bests
+use Rattle.refutation_log.specs.declared.found.Found.TheVariants as Founds
+use Rattle.refutation_log.specs.declared.best_found.BestFound.{BestFound}
+use Rattle.refutation_log.specs.declared.best_found.BestFound.TheVariants as Bests
 use Rattle.crew_size.specs.Texts.{Staff as StaffRun, staff_text}
 use Rattle.crew_size.specs.Laws.{decision_of}
 use Rattle.crew_size.specs.declared.verdict.Staffed.{Staffed}

@@ -8,8 +8,8 @@ use command_line::Command;
 use commands::{
     SecondKind, best, check, check_free, check_staff, crew, plan, reduce, staff, verify,
 };
-use plan_terms::{BestFound, Found};
 use potential_bounds::Gate;
+use refutation_log::{BestFound, Found};
 use rwsp_file::print_problem;
 use rwsp_model::Problem;
 use rwsp_terms::limits::DAYS_OF_WEEK;

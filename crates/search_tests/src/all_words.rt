@@ -5,16 +5,15 @@ ghost use Rattle.rwsp_terms.specs.declared.limits.TheConstants.{LONGEST_WORD};
 ghost use Rattle.rwsp_terms.specs.Instance.{cells};
 ghost use Rattle.domain_store.specs.Store.{BelongsTo};
 
-use clean_words::{CleanWords, HeavyWord, escape};
+use clean_words::{Automaton, CleanWords, HeavyWord, Told, escape};
 use domain_store::Domains;
 use potential_bounds::{Weights, heaviest};
-use rule_automaton::{Automaton, Told};
 use rwsp_model::Problem;
 use rwsp_terms::{Bounds, Class, Symbol, Word};
-use small_problems::{D, OFF, TWO_IN_FOUR, TWOS_IN_SIX, problem_of, take_away};
 use std::alloc::{AllocError, Global};
 use std::process::Abort;
 use std::test::Fail;
+use test_helpers::{D, OFF, TWO_IN_FOUR, TWOS_IN_SIX, problem_of, take_away};
 
 // What a symbol weighs on a day: from -3 to 3.
 fn value(day: u32, x: Symbol) -> i32

@@ -2,15 +2,14 @@
 ghost use Rattle.std.specs.Prelude.{◌≡◌, ◌≤◌, IfOk};
 ghost use Rattle.domain_store.specs.Store.{BelongsTo};
 
-use clean_words::{CleanWords, HeavyWord, escape};
+use clean_words::{Automaton, CleanWords, HeavyWord, Told, escape};
 use domain_store::Domains;
 use potential_bounds::{Weights, heaviest};
-use rule_automaton::{Automaton, Told};
 use rwsp_model::Problem;
 use rwsp_terms::Symbol;
-use small_problems::{D, OFF, TWO_IN_FOUR, TWOS_IN_SIX, problem_of, take_away};
 use std::alloc::{AllocError, Global};
 use std::test::Fail;
+use test_helpers::{D, OFF, TWO_IN_FOUR, TWOS_IN_SIX, problem_of, take_away};
 
 // The heaviest word of two turns from position 0 on, where each D weighs 1.
 fn heaviest_of_two_turns(

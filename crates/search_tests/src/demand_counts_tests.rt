@@ -1,10 +1,10 @@
 // Counts of small problems.
-use demand_counts::Counts;
 use domain_store::Domains;
+use propagators::Counts;
 use rwsp_terms::Symbol;
-use small_problems::{D_ON_DAY_1, OFF, THREE_IN_TWO, problem_of};
 use std::alloc::Global;
 use std::test::Fail;
+use test_helpers::{D_ON_DAY_1, OFF, THREE_IN_TWO, problem_of};
 
 // The first leaf of a day that holds where all symbols are left: its day, its symbol, and whether there are too many.
 fn overrun_in(alloc: Global, text: &[u8]) -> Result<Option<(u32, Symbol, bool)>, Fail> {

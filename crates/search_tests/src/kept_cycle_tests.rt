@@ -1,15 +1,15 @@
 // Small cycles worked by hand.
 ghost use Rattle.std.specs.Prelude.{◌≡◌};
 ghost use Rattle.domain_store.specs.Store.{HasSameShape};
-ghost use Rattle.kept_cycle.specs.Known.{KnowsDomains};
+ghost use Rattle.propagators.specs.Known.{KnowsDomains};
 
 use crate::propagators_tests::{Kind, Seen, seen_by};
+use clean_words::{Automaton, Told};
 use domain_store::Domains;
-use kept_cycle::Cycle;
-use rule_automaton::{Automaton, Told};
+use propagators::Cycle;
 use rwsp_terms::Symbol;
-use small_problems::{D, D_ON_BOTH_DAYS, OFF, TWOS_IN_FOUR, TWOS_IN_SIX, problem_of, take_away};
 use std::test::Fail;
+use test_helpers::{D, D_ON_BOTH_DAYS, OFF, TWOS_IN_FOUR, TWOS_IN_SIX, problem_of, take_away};
 
 // Whether some word has the symbol at the position.
 fn supports(cycle: &Cycle<'_>, p: u32, x: Symbol) -> bool {

@@ -1,15 +1,15 @@
 // Single days of the shift D with single days off between them: D can be on half of the days, and on no more.
 ghost use Rattle.domain_store.specs.Store.{BelongsTo};
 
+use clean_words::{Automaton, Told};
 use domain_store::Domains;
 use nearest_weights::NearestWeights;
 use refutation_terms::Line;
-use rule_automaton::{Automaton, Told};
 use rwsp_model::Problem;
 use rwsp_terms::{Symbol, Weight};
-use small_problems::{D, HALF_OF_FOUR, MOST_OF_FOUR, OFF, problem_of, take_away};
 use std::alloc::{AllocError, Global};
 use std::test::Fail;
+use test_helpers::{D, HALF_OF_FOUR, MOST_OF_FOUR, OFF, problem_of, take_away};
 
 fn weight(symbol: Symbol, value: i32) -> Weight {
     Weight {

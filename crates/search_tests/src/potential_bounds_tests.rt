@@ -3,19 +3,18 @@ ghost use Rattle.std.specs.Prelude.{◌≡◌, ◌≤◌};
 ghost use Rattle.rwsp_terms.specs.declared.limits.TheConstants.{GREATEST_WEIGHT, MOST_WORKERS};
 ghost use Rattle.domain_store.specs.Store.{BelongsTo};
 
-use clean_words::CleanWords;
+use clean_words::{Automaton, CleanWords, Told};
 use domain_store::Domains;
 use potential_bounds::{
     Gate, NoGate, Weights, first_plain, heaviest, plain_bounds, search_weights,
 };
-use rule_automaton::{Automaton, Told};
 use rwsp_terms::{Symbol, Weight};
-use small_problems::{
-    D, D_ON_BOTH_DAYS, LONG_BLOCKS, LONGER_BLOCKS, Meeting, OFF, TWOS_IN_SIX, problem_of,
-};
 use std::alloc::Global;
 use std::test::Fail;
 use std::thread::Threads;
+use test_helpers::{
+    D, D_ON_BOTH_DAYS, LONG_BLOCKS, LONGER_BLOCKS, Meeting, OFF, TWOS_IN_SIX, problem_of,
+};
 
 // What the heaviest word weighs by its free weekends alone, in three weeks of seven days.
 fn weight_under(alloc: Global, automaton: &Automaton, doms: &Domains) -> Result<Option<i64>, Fail>

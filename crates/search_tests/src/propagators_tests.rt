@@ -4,18 +4,17 @@ ghost use Rattle.rwsp_terms.specs.Instance.{Instance};
 ghost use Rattle.rwsp_terms.specs.declared.limits.TheConstants.{MOST_WORKERS};
 ghost use Rattle.domain_store.specs.Store.{BelongsTo};
 
-use domain_store::Domains;
+use clean_words::{Automaton, Told};
+use domain_store::{Domains, Look, Pair, Propagator};
 use potential_bounds::NoGate;
-use propagator_terms::{Look, Pair, Propagator};
 use propagators::{CycleProp, DayProp, RootBounds, WindowProp};
 use refutation_terms::Line;
-use rule_automaton::{Automaton, Told};
 use rwsp_model::Problem;
 use rwsp_terms::Symbol;
-use small_problems::{D_ON_DAY_1, OFF, ONE_CELL, THREE_IN_TWO, problem_of, take_away};
 use std::alloc::{AllocError, Global};
 use std::test::Fail;
 use std::thread::Threads;
+use test_helpers::{D_ON_DAY_1, OFF, ONE_CELL, THREE_IN_TWO, problem_of, take_away};
 
 #[derive(Clone, Copy, Debug, PartialEq, Eq)]
 pub enum Seen {

@@ -6,11 +6,11 @@ use refutation_terms::LogRefusal;
 use rwsp_model::Fail::Refused;
 use rwsp_model::Problem;
 use rwsp_terms::Word;
-use small_problems::{
-    LONG_BLOCKS, Meeting, OFF, ONE_CELL, TWO_IN_FOUR, TWOS_IN_SIX, log_of, problem_of,
-};
 use std::alloc::Global;
 use std::test::Fail;
+use test_helpers::{
+    LONG_BLOCKS, Meeting, OFF, ONE_CELL, TWO_IN_FOUR, TWOS_IN_SIX, log_of, problem_of,
+};
 
 const SPLIT_TWOS: &[u8] =
     b"rwsp-log 1\nrules 1 2 3 4\nsplit 1 1 D\ndead 1 1 7 rules 1 2 3 4\ndead 1 1 7 rules 1 2 3 4\n";

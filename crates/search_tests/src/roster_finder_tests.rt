@@ -1,9 +1,9 @@
 use roster_finder::{Patience, RosterFinder};
 use rwsp_model::{Problem, Roster};
 use rwsp_terms::Symbol;
-use small_problems::{ALL_OF_FOUR_WEEKS, D, MOST_OF_FOUR_WEEKS, problem_of};
 use std::alloc::{AllocError, Global};
 use std::test::Fail;
+use test_helpers::{ALL_OF_FOUR_WEEKS, D, MOST_OF_FOUR_WEEKS, problem_of};
 
 // How many weeks hold D on a day.
 fn working(cells: &[Symbol], day: usize) -> usize {

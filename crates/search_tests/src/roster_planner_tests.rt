@@ -4,10 +4,10 @@ use crew_size::{Staffed, is_size, print_staff, with_weeks};
 use potential_bounds::NoGate;
 use roster_planner::staff;
 use rwsp_model::Problem;
-use small_problems::{TWOS_IN_SIX, problem_of};
 use std::alloc::Global;
 use std::test::Fail;
 use std::thread::Threads;
+use test_helpers::{TWOS_IN_SIX, problem_of};
 
 // The text of a search of two and three weeks.
 fn staff_text<R: Threads + Sync>(

@@ -3,21 +3,20 @@ ghost use Rattle.std.specs.Prelude.{◌≡◌, IfOk, ℕ, None};
 ghost use Rattle.std.specs.Option.{IfSome};
 ghost use Rattle.rwsp_terms.specs.Instance.{Instance};
 ghost use Rattle.rwsp_terms.specs.Roster.{MeetsAll};
-ghost use Rattle.propagator_terms.specs.Looks.{HasPlainLeaves};
+ghost use Rattle.domain_store.specs.Looks.{HasPlainLeaves};
 
-use domain_store::Domains;
-use plan_terms::Found;
+use clean_words::Automaton;
+use domain_store::{Domains, Look, Pair, Propagator};
 use potential_bounds::NoGate;
-use propagator_terms::{Look, Pair, Propagator};
 use propagators::{DayProp, RootBounds, WindowProp};
+use refutation_log::Found;
 use refutation_terms::Line;
 use roster_search::{Aim, Guide, NextSplit, NoGuide, chronological, search};
-use rule_automaton::Automaton;
 use rwsp_model::{Problem, Roster};
-use small_problems::{CROWDED_TWOS_IN_SIX, D_ON_DAY_1, D_ON_EITHER_DAY, problem_of};
 use std::alloc::{AllocError, Global};
 use std::test::Fail;
 use std::thread::Threads;
+use test_helpers::{CROWDED_TWOS_IN_SIX, D_ON_DAY_1, D_ON_EITHER_DAY, problem_of};
 
 // A roster with any number of free weekends, within 100 splits and leaves.
 const ANY_ROSTER: Aim = Aim {
@@ -281,7 +280,7 @@ fn by_bounds<R: Threads + Sync>(
     problem: &Problem,
 ) -> Result<Run, AllocError> {
     let full = Domains::new(alloc, problem)?;
-    let automaton = Automaton::of_short_rules(alloc, problem, rule_automaton::Told::DayOff)?;
+    let automaton = Automaton::of_short_rules(alloc, problem, clean_words::Told::DayOff)?;
     let mut guide = ByLook {
         propagator: RootBounds::new(rt, alloc, &automaton, &full, 1, &NoGate)?,
     };

@@ -5,11 +5,9 @@ use refutation_terms::LogRefusal;
 use rule_reducer::{reduce, strip};
 use rwsp_model::{Fail as Failure, Problem, rule_at, rule_count};
 use rwsp_terms::Word;
-use small_problems::{
-    D, OFF, ONE_CELL, TWO_D_AND_ONE, TWO_IN_FOUR, TWOS_IN_SIX, log_of, problem_of,
-};
 use std::alloc::Global;
 use std::test::Fail;
+use test_helpers::{D, OFF, ONE_CELL, TWO_D_AND_ONE, TWO_IN_FOUR, TWOS_IN_SIX, log_of, problem_of};
 
 const BOUND: &[u8] = b"rwsp-log 1\nrules 1 3 4 7\nbound 1 1 2 rules 1 3 4 weights 1 D 1\n";
 

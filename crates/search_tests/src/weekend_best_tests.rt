@@ -1,11 +1,11 @@
 // The search for the most free weekends by itself.
-use plan_terms::BestFound;
+use refutation_log::BestFound;
 use roster_checker::free_weekends;
+use roster_planner::best;
 use rwsp_model::Problem;
-use small_problems::{LONG_BLOCKS, problem_of};
 use std::alloc::Global;
 use std::test::Fail;
-use weekend_best::best;
+use test_helpers::{LONG_BLOCKS, problem_of};
 
 // How many free weekends the best roster has, and the goal of the log that says that none has more.
 fn most_free(alloc: Global, problem: &Problem) -> Result<Option<(u32, Option<u32>)>, Fail> {

@@ -6,8 +6,7 @@ ghost use Rattle.commands.specs.Trial.{IsTried, demand_on, whole_demand, trial_l
 
 use crate::put::put_labelled;
 use crate::trial::Answer;
-use plan_terms::Found;
-use refutation_log::print_log;
+use refutation_log::{Found, print_log};
 use roster_print::print_roster;
 use rwsp_model::Problem;
 use rwsp_terms::Symbol;

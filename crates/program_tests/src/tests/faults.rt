@@ -6,12 +6,12 @@ use super::plans::THREE_OF_FIVE;
 use super::staffs::{NONE_TO_THREE, TWO_OF_FOUR};
 use super::{NINE_WEEKS, NINE_WEEKS_ROSTER, TWO_DAYS, outcome_of, ran, shelf_of, words_of};
 use commands::verify;
-use memory_files::MemorySink;
 use potential_bounds::NoGate;
 use rwsp_run::{Answer, JobAnswer, Outcome};
 use std::alloc::{AllocError, Global};
 use std::test::Fail;
 use std::thread::Threads;
+use test_helpers::MemorySink;
 
 // Command lines, with the texts of the files that they read: F, and G where there is a second one. A file without a
 // text isn't there, and isn't looked for.

@@ -1,11 +1,11 @@
 // Each limit and the first number beyond it: of command lines, problem files, logs, staff texts, and of their lengths.
 use super::logs::{TWOS, checks};
 use super::{TWO_DAYS, USAGE, ends, line_ends, ran, shelf_of, shows, status_of, words_in};
-use memory_files::MemorySink;
 use potential_bounds::NoGate;
 use std::alloc::Global;
 use std::test::Fail;
 use std::thread::Threads;
+use test_helpers::MemorySink;
 
 // What is a command line finds no file; what isn't is answered by the usage.
 const LINES: [(&str, u8, &str); 66] = [

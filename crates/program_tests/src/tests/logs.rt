@@ -1,10 +1,9 @@
 // Logs checked and reduced: what is printed, to the byte, and the status.
 use super::{NINE_WEEKS, TWO_DAYS, ends, shelf_of, status_of, words_of};
-use memory_files::MemorySink;
-use small_problems::Meeting;
 use std::alloc::{AllocError, Global};
 use std::test::Fail;
 use std::thread::Threads;
+use test_helpers::{Meeting, MemorySink};
 
 // Three days of six, and all blocks are of two days.
 pub const TWOS: &str = "1\n6\n1\n3\nD 360 480 2 2\n2 2\n2 2\n0 0\n";

@@ -1,11 +1,11 @@
 // Rosters and refutations: what `plan` prints is right by `verify` and `check`.
 use super::logs::{BOTH_DAYS, TOO_MANY, TWOS, checks, they_meet};
 use super::{NINE_WEEKS, TWO_DAYS, ends, shelf_of, status_of, verifies, words_of};
-use memory_files::MemorySink;
 use potential_bounds::NoGate;
 use std::alloc::{AllocError, Global};
 use std::test::Fail;
 use std::thread::Threads;
+use test_helpers::MemorySink;
 
 // Three of five days, in twos: there is no roster, and no leaf holds at the first line.
 pub const THREE_OF_FIVE: &str = "1\n5\n1\n3\nD 360 480 2 2\n1 2\n2 2\n0 0\n";

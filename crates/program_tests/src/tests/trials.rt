@@ -2,13 +2,13 @@
 use super::logs::they_meet;
 use super::plans::printed;
 use super::{ends, outcome_of, shelf_of, words_of};
-use memory_files::MemorySink;
-use plan_terms::Found;
 use potential_bounds::NoGate;
 use problem_generator::gen_problem;
+use refutation_log::Found;
 use rwsp_file::print_problem;
 use rwsp_run::{Answer, Outcome};
 use std::test::Fail;
+use test_helpers::MemorySink;
 
 const ONE_WEEK: &str =
     "7\n1\n3\n1 1 0 0 0 0 0\n0 0 1 1 1 0 0\n0 0 0 0 0 0 0\nD 360 480 2 7\nA 840 480 2 6\nN 1320 480 2 5\n2 4\n4 7\n3 0\nN D\nN A\nA D\n";

@@ -1,6 +1,6 @@
 use Rattle.std.proofs.Common.{◌≡◌, ap, sym, ◌∙◌, None}
 use Rattle.std.proofs.lemmas.List.{get_or_default}
-use Rattle.rule_automaton.specs.Moves.{move_at}
+use Rattle.clean_words.specs.Moves.{move_at}
 use Rattle.clean_words.specs.Choices.{choice_by, choice_with}
 use Rattle.clean_words.proofs.Chosen.{chosen_none, chosen_more}
 use Rattle.clean_words.proofs.choice.choose.Goals as goal

@@ -1,4 +1,4 @@
-use Rattle.calendar_dates.proofs.DateWords.{date_found, date_only}
+use Rattle.crew_calendar.proofs.DateWords.{date_found, date_only}
 use Rattle.command_line.proofs.laws.dates_are_named.Goals as goal
 
 pub returns : goal.returns

@@ -1,8 +1,8 @@
 use Rattle.std.proofs.Common.{◌≡◌, ◌+◌, ◌++◌, ap, ◌∙◌, arith}
-use Rattle.calendar_dates.specs.declared.dates.TheConstants.{MOST_DAYS_LATER}
+use Rattle.crew_calendar.specs.declared.dates.TheConstants.{MOST_DAYS_LATER}
 use Rattle.crew_calendar.specs.Texts.{duty_line, duties_text}
 use Rattle.crew_calendar.proofs.Appended.{day_more}
-use Rattle.calendar_dates.proofs.Calendars.{fewer_fit, calendar_from, is_calendar}
+use Rattle.crew_calendar.proofs.Calendars.{fewer_fit, calendar_from, is_calendar}
 use Rattle.crew_calendar.proofs.duty_lines.duties.Goals as goal
 
 pub put_duty-requires-clause-within : goal.put_duty-requires-clause-within

@@ -1,6 +1,6 @@
 use Rattle.std.proofs.Common.{◌≡◌}
 use Rattle.crew_calendar.specs.Texts.{duties_text}
-use Rattle.calendar_dates.proofs.Calendars.{calendar_from}
+use Rattle.crew_calendar.proofs.Calendars.{calendar_from}
 use Rattle.crew_calendar.proofs.duty_lines.duties.Given as goal
 
 abbrev pub invariant-loop-t : goal.invariant-loop-t

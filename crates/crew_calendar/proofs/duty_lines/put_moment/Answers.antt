@@ -1,8 +1,8 @@
 use Rattle.std.proofs.Common.{◌≡◌, ◌/◌, ◌%◌, ◌++◌, ap, sym, ◌∙◌, arith}
-use Rattle.calendar_dates.specs.Calendar.{date_text}
+use Rattle.crew_calendar.specs.Calendar.{date_text}
 use Rattle.crew_calendar.specs.Texts.{day_minutes, clock_text}
 use Rattle.crew_calendar.proofs.Appended.{moment_joined}
-use Rattle.calendar_dates.proofs.Calendars.{one_text}
+use Rattle.crew_calendar.proofs.Calendars.{one_text}
 use Rattle.crew_calendar.proofs.duty_lines.put_moment.Goals as goal
 
 pub returns : goal.returns

@@ -1,7 +1,7 @@
 use Rattle.std.proofs.Common.{◌≡◌, ◌≤◌, ◌+◌, ◌*◌, ◌/◌, ◌++◌, ap, ◌∙◌, arith}
 use Rattle.std.specs.Prelude.{codes}
 use Rattle.rwsp_terms.specs.Instance.{name_of}
-use Rattle.calendar_dates.specs.declared.dates.TheConstants.{MOST_DAYS_LATER}
+use Rattle.crew_calendar.specs.declared.dates.TheConstants.{MOST_DAYS_LATER}
 use Rattle.crew_calendar.specs.Texts.{day_minutes, moment_text, start_of, length_of}
 use Rattle.crew_calendar.proofs.Appended.{shift_joined}
 use Rattle.crew_calendar.proofs.duty_lines.put_shift.Goals as goal

@@ -1,9 +1,9 @@
 use Rattle.std.proofs.Common.{◌≡◌, ◌<◌, ◌+◌, ◌∷◌, [], ◌++◌, ap, sym, ◌∙◌, arith}
-use Rattle.calendar_dates.specs.Calendar.{date_text}
-use Rattle.calendar_dates.specs.declared.dates.TheConstants.{MOST_DAYS_LATER}
+use Rattle.crew_calendar.specs.Calendar.{date_text}
+use Rattle.crew_calendar.specs.declared.dates.TheConstants.{MOST_DAYS_LATER}
 use Rattle.crew_calendar.specs.Texts.{day_line, crew_text, table_text}
 use Rattle.crew_calendar.proofs.Appended.{day_more}
-use Rattle.calendar_dates.proofs.Calendars.{fewer_fit, calendar_from, is_calendar, one_text}
+use Rattle.crew_calendar.proofs.Calendars.{fewer_fit, calendar_from, is_calendar, one_text}
 use Rattle.crew_calendar.proofs.lines.day_lines.Goals as goal
 
 pub date_after-requires-clause-within : goal.date_after-requires-clause-within

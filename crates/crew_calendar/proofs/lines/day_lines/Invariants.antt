@@ -1,6 +1,6 @@
 use Rattle.std.proofs.Common.{◌≡◌}
 use Rattle.crew_calendar.specs.Texts.{table_text}
-use Rattle.calendar_dates.proofs.Calendars.{calendar_from}
+use Rattle.crew_calendar.proofs.Calendars.{calendar_from}
 use Rattle.crew_calendar.proofs.lines.day_lines.Given as goal
 
 abbrev pub invariant-loop-t : goal.invariant-loop-t

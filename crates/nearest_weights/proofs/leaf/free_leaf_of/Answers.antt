@@ -5,7 +5,7 @@ use Rattle.rwsp_model.specs.Validity.{KeepsLimits}
 use Rattle.refutation_terms.specs.declared.lines.Line.TheVariants.{Free}
 use Rattle.refutation_terms.specs.Log.{AreWeightsOf}
 use Rattle.domain_store.specs.Store.{has_domain}
-use Rattle.propagator_terms.specs.Leaves.{IsHoldingLeafFor}
+use Rattle.domain_store.specs.Leaves.{IsHoldingLeafFor}
 use Rattle.nearest_weights.proofs.leaf.free_leaf_of.Goals as goal
 
 pub returns : goal.returns

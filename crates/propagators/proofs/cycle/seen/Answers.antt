@@ -2,7 +2,7 @@
 use Rattle.std.proofs.Common.{◌≡◌, ◌*◌, refl, subst}
 use Rattle.rwsp_terms.specs.Instance.{cells}
 use Rattle.refutation_terms.specs.declared.lines.Line.TheVariants.{Dead}
-use Rattle.kept_cycle.specs.Known.{KnownCycle}
+use Rattle.propagators.specs.Known.{KnownCycle}
 use Rattle.rwsp_model.specs.Validity.{KeepsLimits}
 use Rattle.rwsp_model.proofs.Limits.{some_cells}
 use Rattle.propagators.proofs.CycleLooks.{unlike, closed_cycle, none_closes, cut_cycle, none_spent}

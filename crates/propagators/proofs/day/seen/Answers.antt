@@ -2,8 +2,8 @@
 use Rattle.std.proofs.Common.{◌≤◌, sym, subst, arith}
 use Rattle.rwsp_terms.specs.Instance.{shift_count}
 use Rattle.domain_store.specs.Store.{has_domain}
-use Rattle.propagator_terms.specs.declared.look.Look.{Look}
-use Rattle.propagator_terms.specs.Looks.{IsLook}
+use Rattle.domain_store.specs.declared.look.Look.{Look}
+use Rattle.domain_store.specs.Looks.{IsLook}
 use Rattle.propagators.specs.Days.{IsDayLeaf, IsDaySpent}
 use Rattle.propagators.proofs.CutCounts.{held}
 use Rattle.propagators.proofs.Cuts.{closing_day, none_closes, cut_day, none_spent}

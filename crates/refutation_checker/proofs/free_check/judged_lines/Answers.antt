@@ -3,7 +3,7 @@ use Rattle.refutation_checker.specs.Headers.{with_goal}
 use Rattle.refutation_checker.specs.LineTexts.{Judging, ReadsNext}
 use Rattle.refutation_terms.specs.declared.lines.Line.{Line}
 use Rattle.refutation_checker.proofs.FreeReading.{ReadSoFar, read_more, fail_read, read_all, read_ends}
-use Rattle.log_chunks.proofs.Unread.{shorter}
+use Rattle.refutation_checker.proofs.Unread.{shorter}
 use Rattle.refutation_checker.proofs.free_check.judged_lines.Goals as goal
 
 pub returns-in-Err : goal.returns-in-Err

@@ -5,7 +5,7 @@ use Rattle.refutation_terms.specs.Tree.{domains_at}
 use Rattle.refutation_terms.specs.Log.{Holds}
 use Rattle.refutation_terms.proofs.SameDomains.{same_holds, turned_round}
 use Rattle.domain_store.specs.Store.{IsStore, HasDomains, has_domain}
-use Rattle.tree_walk.proofs.Idle.{positions_of}
+use Rattle.domain_store.proofs.Idle.{positions_of}
 use Rattle.refutation_checker.proofs.Judging.{may_step}
 use Rattle.refutation_checker.proofs.leaf_judge.go_past.Goals as goal
 

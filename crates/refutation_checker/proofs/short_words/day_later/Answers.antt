@@ -1,7 +1,7 @@
 use Rattle.std.proofs.Common.{ℕ, ◌+◌, ◌<◌, get_or, below_more, subst}
 use Rattle.std.proofs.lemmas.List.{get_or_default}
 use Rattle.rwsp_terms.specs.Instance.{shift_count}
-use Rattle.word_tail.specs.declared.tail.Tail.{Tail}
+use Rattle.clean_words.specs.declared.tail.Tail.{Tail}
 use Rattle.domain_store.specs.Store.{has_domain}
 use Rattle.refutation_checker.specs.ShortWords.{GoOn}
 use Rattle.refutation_checker.proofs.ShortTails.{goes_on_with}

@@ -1,6 +1,6 @@
 use Rattle.std.proofs.Common.{ℕ, ◌+◌, ◌<◌, get_or}
 use Rattle.rwsp_terms.specs.Instance.{shift_count}
-use Rattle.word_tail.specs.declared.tail.Tail.{Tail}
+use Rattle.clean_words.specs.declared.tail.Tail.{Tail}
 use Rattle.domain_store.specs.Store.{has_domain}
 use Rattle.refutation_checker.specs.ShortWords.{GoOn}
 use Rattle.refutation_checker.proofs.short_words.day_later.Given as goal

@@ -1,7 +1,7 @@
 use Rattle.std.proofs.Common.{◌≡◌, ◌∙◌, ℕ, ◌+◌, ◌*◌, ◌%◌, ◌<◌, List, length, get_or, ap, subst, arith}
 use Rattle.std.specs.Prelude.{IsTrue}
 use Rattle.rwsp_terms.specs.Instance.{cells, shift_count}
-use Rattle.word_tail.specs.declared.tail.Tail.{Tail}
+use Rattle.clean_words.specs.declared.tail.Tail.{Tail}
 use Rattle.domain_store.specs.Store.{has_domain}
 use Rattle.refutation_checker.specs.ShortWords.{GoOn}
 use Rattle.refutation_checker.proofs.ShortTails.{a_day_later}

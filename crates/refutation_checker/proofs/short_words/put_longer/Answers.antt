@@ -2,7 +2,7 @@ use Rattle.std.proofs.Common.{◌≡◌, ◌∙◌, ◌+◌, List, [], ◌∷◌
 use Rattle.std.specs.Prelude.{Contains}
 use Rattle.std.proofs.lemmas.List.Elements.{Contains-push}
 use Rattle.std.proofs.lemmas.Option.{same_Some}
-use Rattle.word_tail.specs.declared.tail.Tail.{Tail}
+use Rattle.clean_words.specs.declared.tail.Tail.{Tail}
 use Rattle.domain_store.specs.Store.{has_domain}
 use Rattle.refutation_checker.specs.ShortWords.{GoOn, HaveAll}
 use Rattle.refutation_checker.proofs.ShortTails.{all_stay, not_by, by_one}

@@ -1,7 +1,7 @@
 use Rattle.std.proofs.Common.{◌≡◌, [], length, get_or, false, ap, sym, subst, arith, Ok}
 use Rattle.std.specs.Int.{div_ceil}
-use Rattle.log_chunks.specs.Starts.{Start, StandsBehind}
-use Rattle.log_chunks.specs.Chunks.{AreChunks, line_count}
+use Rattle.refutation_checker.specs.Starts.{Start, StandsBehind}
+use Rattle.refutation_checker.specs.Chunks.{AreChunks, line_count}
 use Rattle.refutation_checker.specs.LineTexts.{Judging}
 use Rattle.refutation_checker.specs.ChunkVerdicts.{IsJudged, IsAnswerTo}
 use Rattle.refutation_checker.proofs.Joining.{Answer, answers_to, joined}

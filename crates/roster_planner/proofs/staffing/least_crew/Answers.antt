@@ -1,6 +1,6 @@
 use Rattle.std.proofs.Common.{◌≡◌, ◌+◌, ◌≤◌, subst, arith}
-use Rattle.plan_terms.specs.declared.found.Found.TheVariants as Founds
-use Rattle.plan_terms.specs.Planned.{IsPlanned}
+use Rattle.refutation_log.specs.declared.found.Found.TheVariants as Founds
+use Rattle.refutation_log.specs.Planned.{IsPlanned}
 use Rattle.crew_size.specs.Sizes.{with_weeks}
 use Rattle.crew_size.specs.declared.run.StaffEnd.TheVariants as Ends
 use Rattle.crew_size.proofs.Searches.{size_below, none_refuted, is_staffed, fits_sizes, one_more_refuted, size_of_more}

@@ -5,7 +5,7 @@ use Rattle.std.specs.List.Sorted.{IsStrictlyIncreasing}
 use Rattle.std.proofs.lemmas.List.{length-replicate}
 use Rattle.refutation_terms.specs.declared.lines.Line.TheVariants.{Unfinished}
 use Rattle.refutation_terms.specs.Tree.{IsTree}
-use Rattle.tree_walk.specs.States.{open_trees}
+use Rattle.domain_store.specs.States.{open_trees}
 use Rattle.roster_search.proofs.Logs.{passing_end, spent_end, rest_ends, some_open}
 use Rattle.roster_search.proofs.ending.end.Goals as goal
 

@@ -3,7 +3,7 @@ use Rattle.std.proofs.Common.{◌≡◌, ◌+◌, ◌*◌, ◌^◌, ◌<◌, ref
 use Rattle.std.proofs.lemmas.Result.{IfOk-weaker}
 use Rattle.rwsp_terms.specs.Instance.{cells, shift_count}
 use Rattle.refutation_terms.specs.Log.{IsAllowed}
-use Rattle.plan_terms.specs.declared.found.Found.{Found}
+use Rattle.refutation_log.specs.declared.found.Found.{Found}
 use Rattle.roster_search.specs.declared.aim.Aim.{Aim}
 use Rattle.roster_search.specs.Founds.{IsFoundFor, HasSpentBudget}
 use Rattle.roster_search.specs.Written.{IsEnded}

@@ -1,6 +1,6 @@
 use Rattle.std.proofs.Common.{◌≡◌, ℕ, Option, ◌↔◌, ◌-◌, length}
 use Rattle.rwsp_terms.specs.Instance.{Instance}
-use Rattle.propagator_terms.specs.Looks.{IsSame}
+use Rattle.domain_store.specs.Looks.{IsSame}
 use Rattle.roster_search.specs.Written.{IsSearching}
 use Rattle.roster_search.proofs.searching.write_lines.Given as goal
 

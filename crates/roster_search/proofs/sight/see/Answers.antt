@@ -12,7 +12,7 @@ use Rattle.roster_search.specs.declared.sight.Sight.TheVariants.{Leaf, Roster, C
 use Rattle.roster_search.specs.declared.progress.Progress.{Progress}
 use Rattle.roster_search.specs.Guides.{IsGiven, IsSight}
 use Rattle.roster_search.specs.Written.{IsSearching}
-use Rattle.propagator_terms.specs.Looks.{IsSame}
+use Rattle.domain_store.specs.Looks.{IsSame}
 use Rattle.roster_search.proofs.Forced.{Leaves, Spent}
 use Rattle.roster_search.proofs.Reasons.{sight_by, searching_on}
 use Rattle.roster_search.proofs.sight.see.Goals as goal

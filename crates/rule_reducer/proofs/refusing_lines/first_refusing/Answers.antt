@@ -2,7 +2,7 @@ use Rattle.std.proofs.Common.{◌≡◌, ◌∙◌, length, take, ap, sym, subst
 use Rattle.rwsp_terms.specs.Instance.{Instance}
 use Rattle.rwsp_terms.specs.Rules.{rule_of}
 use Rattle.refutation_terms.specs.Log.{LineFits, ListsShortOnly}
-use Rattle.tree_walk.specs.States.{IsStateOf}
+use Rattle.domain_store.specs.States.{IsStateOf}
 use Rattle.rule_reducer.proofs.Walking.{not_whole, line_at, line_read, walked_more, told_of, tells_refusal, tells_hold, holds_all}
 use Rattle.rule_reducer.proofs.refusing_lines.first_refusing.Goals as goal
 

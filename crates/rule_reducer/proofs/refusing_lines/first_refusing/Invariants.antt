@@ -1,5 +1,5 @@
 use Rattle.std.proofs.Common.{◌≡◌, take}
-use Rattle.tree_walk.specs.States.{IsStateOf}
+use Rattle.domain_store.specs.States.{IsStateOf}
 use Rattle.rule_reducer.proofs.Walking.{HoldWithout}
 use Rattle.rule_reducer.proofs.refusing_lines.first_refusing.Given as goal
 

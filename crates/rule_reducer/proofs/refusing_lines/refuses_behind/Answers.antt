@@ -3,7 +3,7 @@ use Rattle.std.proofs.lemmas.Result.{IfOk-weaker}
 use Rattle.rwsp_terms.specs.Instance.{Instance}
 use Rattle.refutation_terms.specs.Log.{LineFits, ListsShortOnly, Passes}
 use Rattle.refutation_terms.specs.Strip.{strip}
-use Rattle.tree_walk.specs.States.{IsStateOf}
+use Rattle.domain_store.specs.States.{IsStateOf}
 use Rattle.rule_reducer.proofs.Walking.{Tells, line_read, told_of, tells_refusal}
 use Rattle.rule_reducer.proofs.refusing_lines.refuses_behind.Goals as goal
 

@@ -3,7 +3,7 @@ use Rattle.std.proofs.Common.{◌≡◌, List, ℕ, sym, subst}
 use Rattle.std.specs.Prelude.{◌↔◌}
 use Rattle.domain_store.specs.Store.{has_domain}
 use Rattle.rwsp_terms.specs.Instance.{Instance}
-use Rattle.propagator_terms.specs.Cycles.{AreShortRules, IsCycleLeaf, IsCycleSpent}
+use Rattle.domain_store.specs.Cycles.{AreShortRules, IsCycleLeaf, IsCycleSpent}
 use Rattle.propagators.proofs.cycle.CycleProp.new.Goals as goal
 
 still_short : (P Q : Instance) (R S : List ℕ) → Q ≡ P → S ≡ R → AreShortRules P R → AreShortRules Q S

@@ -3,10 +3,10 @@ use Rattle.std.proofs.Common.{Result, Ok, Err, subst}
 use Rattle.std.specs.Prelude.{IfOk}
 use Rattle.rwsp_terms.specs.Instance.{Instance}
 use Rattle.domain_store.specs.Store.{has_domain}
-use Rattle.propagator_terms.specs.declared.look.Look.{Look}
-use Rattle.propagator_terms.specs.Looks.{IsLook}
-use Rattle.propagator_terms.specs.Cycles.{IsCycleLeaf, IsCycleSpent}
-use Rattle.kept_cycle.specs.Known.{KnownCycle}
+use Rattle.domain_store.specs.declared.look.Look.{Look}
+use Rattle.domain_store.specs.Looks.{IsLook}
+use Rattle.domain_store.specs.Cycles.{IsCycleLeaf, IsCycleSpent}
+use Rattle.propagators.specs.Known.{KnownCycle}
 use Rattle.propagators.proofs.cycle.CyclePropPropagator.look.Goals as goal
 
 if_ok : {X E : Type 0} (r : Result X E) (A B : X → Type 0) → ((x : X) → A x → B x) → IfOk r A → IfOk r B

@@ -3,7 +3,7 @@ use Rattle.std.proofs.Common.{◌≡◌, ap, subst}
 use Rattle.rwsp_terms.specs.Instance.{Instance}
 use Rattle.domain_store.specs.Store.{has_domain}
 use Rattle.propagators.specs.Days.{DayWatch, IsDayLeaf, IsDaySpent}
-use Rattle.propagator_terms.specs.Looks.{IsLook}
+use Rattle.domain_store.specs.Looks.{IsLook}
 use Rattle.propagators.proofs.day.DayPropPropagator.look.Goals as goal
 
 pub returns-clause-look : goal.returns-clause-look

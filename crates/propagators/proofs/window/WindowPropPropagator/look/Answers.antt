@@ -1,7 +1,7 @@
 -- No position must yet be looked at.
 use Rattle.std.proofs.Common.{◌≡◌, ◌∙◌, ap, subst, get_or, false}
 use Rattle.rwsp_terms.specs.Instance.{Instance}
-use Rattle.propagator_terms.specs.Looks.{Closes}
+use Rattle.domain_store.specs.Looks.{Closes}
 use Rattle.propagators.specs.Windows.{IsWindowLeaf, WindowWatch}
 use Rattle.propagators.proofs.Watching.{none_awaited}
 use Rattle.propagators.proofs.window.WindowPropPropagator.look.Goals as goal

@@ -9,7 +9,7 @@ use Rattle.refutation_checker.specs.LineVerdicts.{IsSoundFor}
 use Rattle.refutation_checker.specs.LineTexts.{Judging}
 use Rattle.refutation_checker.proofs.Judging.{same_cause, same_sound, may_step}
 use Rattle.refutation_checker.proofs.judge.Judge.pass.Goals as goal
-use Rattle.tree_walk.proofs.Idle.{positions_of}
+use Rattle.domain_store.proofs.Idle.{positions_of}
 use Rattle.rwsp_model.proofs.Limits.{some_cells}
 
 pub returns-in-Some-clause-passed : goal.returns-in-Some-clause-passed

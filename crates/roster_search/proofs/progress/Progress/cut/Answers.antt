@@ -7,8 +7,8 @@ use Rattle.domain_store.specs.Store.{Store, IsStore, BelongsTo, has_domain}
 use Rattle.refutation_terms.specs.declared.lines.Line.{Line}
 use Rattle.refutation_terms.specs.declared.lines.Line.TheVariants.{Split}
 use Rattle.refutation_terms.specs.Tree.{domains_at, narrowed, First}
-use Rattle.propagator_terms.specs.Leaves.{IsHoldingLeafFor}
-use Rattle.tree_walk.proofs.Idle.{positions_of, idle_in_store}
+use Rattle.domain_store.specs.Leaves.{IsHoldingLeafFor}
+use Rattle.domain_store.proofs.Idle.{positions_of, idle_in_store}
 use Rattle.roster_search.specs.declared.aim.Aim.{Aim}
 use Rattle.roster_search.specs.Written.{IsSplitWithLeaf}
 use Rattle.roster_search.proofs.Narrowing.{HasDomainsBehind, narrowed_at, first_side}

@@ -2,7 +2,7 @@
 use Rattle.std.proofs.Common.{◌≡◌, ◌≤◌, List, [], sym, subst, Some, arith, inl, ap, ◌∙◌}
 use Rattle.std.specs.Prelude.{slice_get}
 use Rattle.refutation_terms.specs.declared.lines.Line.{Line}
-use Rattle.tree_walk.specs.States.{IsStateOf, open_trees}
+use Rattle.domain_store.specs.States.{IsStateOf, open_trees}
 use Rattle.roster_search.specs.Written.{IsCitedIn}
 use Rattle.roster_search.proofs.Cited.{one_open, cited_none}
 use Rattle.roster_search.proofs.progress.Progress.new.Goals as goal

@@ -5,8 +5,8 @@ use Rattle.rwsp_terms.specs.Rules.{Names}
 use Rattle.refutation_terms.specs.declared.lines.Line.{Line}
 use Rattle.refutation_terms.specs.declared.lines.Line.TheVariants.{Split}
 use Rattle.refutation_terms.specs.Tree.{domains_at, is_idle}
-use Rattle.tree_walk.specs.Splits.{is_idle_in}
-use Rattle.tree_walk.proofs.Idle.{positions_of, held_where_useful, idle_in_store}
+use Rattle.domain_store.specs.Splits.{is_idle_in}
+use Rattle.domain_store.proofs.Idle.{positions_of, held_where_useful, idle_in_store}
 use Rattle.roster_search.specs.Written.{IsProgress}
 use Rattle.roster_search.proofs.Cited.{written_next}
 use Rattle.roster_search.proofs.Reaching.{plain_holds, split_fits}

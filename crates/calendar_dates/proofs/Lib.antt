@@ -1,2 +1,0 @@
-pub mod DateWords
-pub mod Calendars

@@ -1,2 +1,0 @@
-pub mod SharpSplits
-mod Unweighed

@@ -1,0 +1,5 @@
+use Rattle.clean_words.proofs.TailWords.{empty_clean}
+use Rattle.clean_words.proofs.laws.empty_word_is_clean.Goals as goal
+
+pub returns : goal.returns
+returns c = empty_clean

@@ -1,0 +1,110 @@
+// A table with a state for each class of another's states.
+ghost use Rattle.std.specs.Prelude.{◌≡◌, ℕ, ◌<◌, ◌≤◌, ◌^◌, List, length, map, slice_index, IfOk, IsTrue};
+ghost use Rattle.std.specs.Option.{option_map};
+ghost use Rattle.clean_words.specs.Tables.{IsReader, IsKept, HasStates};
+
+use crate::TailRules;
+use crate::table::{Row, Table};
+use rwsp_terms::limits::MOST_SYMBOLS;
+use std::alloc::{AllocError, Global};
+
+// The class of a state.
+pub fn class_of(classes: &[u32], state: u32) -> u32
+    ensures { result ≡ slice_index classes.now state }
+{
+    match classes.get(state as usize) {
+        Some(class) => *class,
+        None => 0,
+    }
+}
+
+// The class of the state where a move leads.
+fn class_to(classes: &[u32], to: Option<u32>) -> Option<u32>
+    ensures { result ≡ option_map (slice_index classes.now) to }
+{
+    match to {
+        Some(state) => Some(class_of(classes, state)),
+        None => None,
+    }
+}
+
+// The moves to classes in place of those to states.
+fn image_of(classes: &[u32], row: &Row) -> Row
+    ensures { result ≡ map (option_map (slice_index classes.now)) row.now }
+{
+    let mut image = [None; MOST_SYMBOLS as usize];
+    for number in 0..image.len() {
+        image[number] = class_to(classes, row[number]);
+    }
+    image
+}
+
+// The table of the classes, each with the moves of its first state. Classes are numbered in the order of these.
+fn quotient(alloc: Global, table: &Table, classes: &[u32]) -> Result<Table, AllocError>
+    requires few { length table.now.moves.items < 2 ^ 32 }
+    requires long { length table.now.offs.items ≡ length table.now.moves.items }
+    ensures long { IfOk result (λ t. length t.offs.items ≡ length t.moves.items) }
+    ensures few { IfOk result (λ t. length t.moves.items ≤ length table.now.moves.items) }
+    ensures states { IfOk result
+        (λ t. HasStates classes.now (length table.now.moves.items) (length t.moves.items)) }
+{
+    let mut moves = Vec::new(alloc);
+    let mut offs = Vec::new(alloc);
+    for state in 0..table.moves.len() as u32 {
+        if class_of(classes, state) as usize == moves.len() {
+            moves.push(image_of(classes, &table.moves[state as usize]))?;
+            offs.push(table.offs[state as usize])?;
+        }
+    }
+    Ok(Table { moves, offs })
+}
+
+// Whether the class tells what the state tells of the day off, and has moves by the same symbols, to the classes of the
+// states where the state's moves lead.
+fn is_kept(table: &Table, small: &Table, classes: &[u32], state: u32) -> bool
+    requires state { state < length table.now.moves.items }
+    requires long { length table.now.offs.items ≡ length table.now.moves.items }
+    requires small_long { length small.now.offs.items ≡ length small.now.moves.items }
+    ensures { IsTrue result → IsKept table.now small.now classes.now state }
+{
+    let class = class_of(classes, state) as usize;
+    if class >= small.moves.len() || small.offs[class] != table.offs[state as usize] {
+        return false;
+    }
+    small.moves[class] == image_of(classes, &table.moves[state as usize])
+}
+
+// Whether each class is as its states are.
+fn are_kept(table: &Table, small: &Table, classes: &[u32]) -> bool
+    requires few { length table.now.moves.items < 2 ^ 32 }
+    requires long { length table.now.offs.items ≡ length table.now.moves.items }
+    requires small_long { length small.now.offs.items ≡ length small.now.moves.items }
+    ensures { IsTrue result → (k : ℕ) → k < length table.now.moves.items
+        → IsKept table.now small.now classes.now k }
+{
+    for state in 0..table.moves.len() as u32 {
+        if !is_kept(table, small, classes, state) {
+            return false;
+        }
+    }
+    true
+}
+
+// The table of the classes; the table itself where they aren't classes of states that continue together.
+pub fn merged(
+    alloc: Global,
+    rules: &TailRules,
+    table: Table,
+    classes: &[u32],
+) -> Result<Table, AllocError>
+    requires { IsReader rules.now.problem rules.now.rules table.moves.items table.offs.items }
+    ensures { IfOk result (λ t. IsReader rules.now.problem rules.now.rules t.moves.items t.offs.items) }
+{
+    let _ = rules;
+    let small = quotient(alloc, &table, classes)?;
+    if class_of(classes, 0) == 0 && are_kept(&table, &small, classes) {
+        Ok(small)
+    } else {
+        Ok(table)
+    }
+}

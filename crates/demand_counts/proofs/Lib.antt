@@ -1,3 +1,0 @@
-pub mod TallyLemmas
-pub mod OverrunLemmas
-pub mod Standing

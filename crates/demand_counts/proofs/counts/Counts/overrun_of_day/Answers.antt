@@ -1,7 +1,0 @@
--- One symbol more is within the demand.
-use Rattle.demand_counts.proofs.OverrunLemmas.{one_symbol_more}
-use Rattle.demand_counts.proofs.counts.Counts.overrun_of_day.Goals as goal
-
-pub loop-number-preserved : goal.loop-number-preserved
-loop-number-preserved c =
-    one_symbol_more c.args.problem.now c.args.self.now c.args.day c.loop-number.number c.loop-number.invariant c.in_default.ensures

@@ -1,7 +1,0 @@
-use Rattle.std.proofs.Common.{ℕ, ◌<◌}
-use Rattle.demand_counts.specs.Counted.{has_counted}
-use Rattle.demand_counts.specs.Overruns.{IsWithinDemand}
-use Rattle.demand_counts.proofs.counts.Counts.overrun_of_day.Given as goal
-
-abbrev pub invariant-loop-number : goal.invariant-loop-number
-invariant-loop-number l = (y : ℕ) → y < l.number → IsWithinDemand l.problem (has_counted l.self) l.day y

@@ -1,9 +1,0 @@
-//! Counts: how many weeks of a roster certainly hold a symbol on a day, and how many can hold it, kept as domains
-//! change.
-#![tactic(auto)]
-
-mod counts;
-mod overruns;
-mod recount;
-
-pub use counts::Counts;

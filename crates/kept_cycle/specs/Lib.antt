@@ -1,4 +1,0 @@
-pub mod Known
-pub mod Marks
-pub mod KeptCycle
-pub mod CycleCuts

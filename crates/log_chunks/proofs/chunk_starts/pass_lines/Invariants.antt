@@ -1,9 +1,0 @@
-use Rattle.std.proofs.Common.{length}
-use Rattle.log_chunks.proofs.Unread.{PassedSoFar}
-use Rattle.log_chunks.proofs.chunk_starts.pass_lines.Given as goal
-
-abbrev pub invariant-loop-line : goal.invariant-loop-line
-invariant-loop-line l = PassedSoFar l.problem l.fn.splits.items l.splits.items l.bytes l.reader l.count
-
-abbrev pub decreases-loop-line : goal.decreases-loop-line
-decreases-loop-line l = length l.reader

@@ -1,5 +1,0 @@
-use Rattle.log_chunks.proofs.Starts.{IntoSoFar}
-use Rattle.log_chunks.proofs.chunk_starts.walk_into.Given as goal
-
-abbrev pub invariant-loop-split : goal.invariant-loop-split
-invariant-loop-split l = IntoSoFar l.problem l.start l.splits l.split-index l.walk

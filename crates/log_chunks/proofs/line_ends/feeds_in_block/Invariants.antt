@@ -1,6 +1,0 @@
-use Rattle.std.proofs.Common.{◌≡◌, ◌≤◌, take}
-use Rattle.log_chunks.specs.Chunks.{feeds}
-use Rattle.log_chunks.proofs.line_ends.feeds_in_block.Given as goal
-
-abbrev pub invariant-loop-byte : goal.invariant-loop-byte
-invariant-loop-byte l = record { value : l.count ≡ feeds (take l.byte-index l.block); few : l.count ≤ l.byte-index }

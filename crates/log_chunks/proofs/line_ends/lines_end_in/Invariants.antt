@@ -1,6 +1,0 @@
-use Rattle.std.proofs.Common.{◌≡◌, ◌<◌, take}
-use Rattle.log_chunks.specs.Chunks.{feeds}
-use Rattle.log_chunks.proofs.line_ends.lines_end_in.Given as goal
-
-abbrev pub invariant-loop-i : goal.invariant-loop-i
-invariant-loop-i l = (l.count ≡ feeds (take l.i l.block)) × (l.count < l.size)

@@ -1,3 +1,0 @@
-pub mod UnreadSplits
-pub mod Starts
-pub mod Chunks

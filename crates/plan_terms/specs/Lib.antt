@@ -1,4 +1,0 @@
-pub mod Planned
-pub mod Bests
-pub mod FreeSharp
-pub mod Needs

@@ -1,0 +1,82 @@
+// The free leaf of one turn at the top: each free weekend weighs 1, and nothing else weighs.
+ghost use Rattle.std.specs.Prelude.{◌≡◌, ◌↔◌, ◌+◌, ◌≤◌, IfOk, IsTrue, MatchOption};
+ghost use Rattle.rwsp_terms.specs.declared.limits.TheConstants.{DAYS_OF_WEEK};
+ghost use Rattle.domain_store.specs.Cycles.{AreShortRules};
+ghost use Rattle.refutation_log.specs.Bests.{IsFreeProof};
+ghost use Rattle.refutation_log.specs.FreeSharp.{HoldsFreeAtTop, FailsFreeAtTop};
+
+use clean_words::Automaton;
+use domain_store::Domains;
+use potential_bounds::{Claim, claim_escape};
+use refutation_log::Log;
+use refutation_terms::Line;
+use rwsp_terms::Weights;
+use std::alloc::{AllocError, Global};
+
+/// The log of one line that has this leaf, by all short rules, where it holds under full domains: no clean word of one
+/// turn has as many free weekends as the goal.
+pub fn proof_at_top(
+    alloc: Global,
+    automaton: &Automaton,
+    goal: u32,
+) -> Result<Option<Log>, AllocError>
+    requires short { AreShortRules automaton.now.problem automaton.now.rules }
+    requires week { automaton.now.problem.days ≡ DAYS_OF_WEEK }
+    requires goal { goal ≤ automaton.now.problem.weeks + 1 }
+    ensures { let P = automaton.now.problem in
+        IfOk result (λ found. MatchOption found (FailsFreeAtTop P goal) (IsFreeProof P 1 goal)) }
+{
+    if holds_at_top(alloc, automaton, goal)? {
+        Ok(Some(log_of_top(alloc, automaton, goal)?))
+    } else {
+        Ok(None)
+    }
+}
+
+// Whether the leaf holds by the rules of the automaton.
+fn holds_at_top(alloc: Global, automaton: &Automaton, goal: u32) -> Result<bool, AllocError>
+    requires short { AreShortRules automaton.now.problem automaton.now.rules }
+    requires week { automaton.now.problem.days ≡ DAYS_OF_WEEK }
+    requires goal { goal ≤ automaton.now.problem.weeks + 1 }
+    ensures { IfOk result
+        (λ holds. IsTrue holds ↔ HoldsFreeAtTop automaton.now.problem goal automaton.now.rules) }
+{
+    let problem = automaton.problem();
+    problem.prove_limits();
+    let doms = Domains::new(alloc, problem)?;
+    let weights = Weights::new(alloc);
+    let claim = Claim {
+        goal: Some(goal),
+        position: 0,
+        turns: 1,
+        reward: 1,
+        weights: &weights,
+    };
+    match claim_escape(alloc, automaton, &doms, claim)? {
+        Some(_) => Ok(false),
+        None => Ok(true),
+    }
+}
+
+// The log of this leaf, where it holds.
+fn log_of_top(alloc: Global, automaton: &Automaton, goal: u32) -> Result<Log, AllocError>
+    requires short { AreShortRules automaton.now.problem automaton.now.rules }
+    requires week { automaton.now.problem.days ≡ DAYS_OF_WEEK }
+    requires goal { goal ≤ automaton.now.problem.weeks + 1 }
+    requires holds { HoldsFreeAtTop automaton.now.problem goal automaton.now.rules }
+    ensures { IfOk result (IsFreeProof automaton.now.problem 1 goal) }
+{
+    automaton.problem().prove_limits();
+    let named = automaton.rules().copy()?;
+    let rules = automaton.rules().copy()?;
+    let weights = Weights::new(alloc);
+    let lines = vec![in alloc;
+        Line::Free {
+            turns: 1,
+            reward: 1,
+            rules,
+            weights
+        },
+    ]?;
+    Ok(Log::with_goal(named, goal, lines))
+}

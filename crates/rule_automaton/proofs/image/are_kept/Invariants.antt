@@ -1,6 +1,0 @@
-use Rattle.std.proofs.Common.{ℕ, ◌<◌}
-use Rattle.rule_automaton.specs.Tables.{IsKept}
-use Rattle.rule_automaton.proofs.image.are_kept.Given as goal
-
-abbrev pub invariant-loop-state : goal.invariant-loop-state
-invariant-loop-state l = (k : ℕ) → k < l.state → IsKept l.table l.small l.classes k

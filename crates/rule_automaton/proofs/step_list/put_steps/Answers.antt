@@ -1,7 +1,0 @@
-use Rattle.std.proofs.Common.{arith}
-use Rattle.rule_automaton.proofs.StepLists.{steps_next}
-use Rattle.rule_automaton.proofs.step_list.put_steps.Goals as goal
-
-pub returns : goal.returns
-returns c = λ a.
-    steps_next c.args.moves.now c.loop-number.steps.items c.args.state c.loop-number.number (omega (arith, c.told-moves c.args.state c.requires.state)) (c.loop-number.invariant a)

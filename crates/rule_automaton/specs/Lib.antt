@@ -1,4 +1,0 @@
-pub mod Moves
-pub mod Automata
-pub mod States
-pub mod Tables

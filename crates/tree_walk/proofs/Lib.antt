@@ -1,3 +1,0 @@
-pub mod Stack
-pub mod Idle
-pub mod Moves

@@ -1,9 +1,0 @@
--- The store has the instance's positions.
-use Rattle.std.proofs.Common.{◌∙◌, sym, subst}
-use Rattle.tree_walk.specs.States.{IsStateOf}
-use Rattle.tree_walk.proofs.Idle.{positions_of}
-use Rattle.tree_walk.proofs.walk.Walk.cells.Goals as goal
-
-pub returns-clause-value : goal.returns-clause-value
-returns-clause-value c P turn lines w =
-    c.cells.ensures.positions ∙ positions_of P c.self.inside.domains c.prove_facts.ensures.now (subst (IsStateOf P turn lines) (sym c.self.view_is) w).belongs

@@ -1,9 +1,0 @@
--- A whole tree was read, or lines inside one.
-use Rattle.std.proofs.Common.{sym, subst}
-use Rattle.tree_walk.specs.States.{IsStateOf}
-use Rattle.tree_walk.proofs.Moves.{state_whole}
-use Rattle.tree_walk.proofs.walk.Walk.is_whole.Goals as goal
-
-pub returns-clause-tree : goal.returns-clause-tree
-returns-clause-tree c P turn lines w =
-    state_whole P turn lines c.self.inside.domains c.self.inside.splits.items c.self.inside.whole (subst (IsStateOf P turn lines) (sym c.self.view_is) w)

@@ -1,5 +1,0 @@
-use Rattle.std.proofs.Common.{◌≡◌, take}
-use Rattle.tree_walk.proofs.walk.copied_splits.Given as goal
-
-abbrev pub invariant-loop-split : goal.invariant-loop-split
-invariant-loop-split l = l.copies.items ≡ take l.split-index l.splits

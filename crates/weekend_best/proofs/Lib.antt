@@ -1,2 +1,0 @@
-pub mod TopProofs
-pub mod Founds

@@ -1,6 +1,0 @@
-pub mod Lists
-pub mod Parts
-pub mod RuleTests
-pub mod Facts
-pub mod Words
-pub mod Layouts

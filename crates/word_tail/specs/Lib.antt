@@ -1,4 +1,0 @@
-pub mod Tails
-pub mod Ends
-pub mod Tables
-pub mod Listed
