@@ -11,7 +11,6 @@ pub mod Deciding
 pub mod SomeVerdict
 pub mod LeafJudging
 pub mod ShortTails
-pub mod FreeReading
 pub mod SomeFreeVerdict
 pub mod LastFeed
 pub mod Unread

@@ -2,7 +2,6 @@ pub mod Outside
 pub mod LineVerdicts
 pub mod LineTexts
 pub mod ShortWords
-pub mod FreeLines
 pub mod Turns
 pub mod LogVerdicts
 pub mod ChunkVerdicts

@@ -4,7 +4,6 @@
 
 mod chunk;
 mod chunk_starts;
-mod free_check;
 mod header;
 mod judge;
 mod kept;
@@ -25,7 +24,6 @@ mod word_leaves;
 mod workers;
 
 pub use chunk_starts::chunks_for;
-pub use free_check::check_free;
 pub use laws::{texts_have_a_free_verdict, texts_have_a_verdict};
 pub use leaf_judge::{LeafJudge, go_past};
 pub use log_check::check_log;

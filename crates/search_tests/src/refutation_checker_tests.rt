@@ -1,13 +1,14 @@
 // Refutations of small problems, worked by hand. What else is refused and why is said by the clauses, and tried on the
 // program's own tests.
-use refutation_checker::{check, check_free, check_log, check_with};
-use refutation_log::print_free;
+use refutation_checker::{NoGate, PassedGoal, check, check_free_with, check_log, check_with};
 use refutation_terms::LogRefusal;
 use rwsp_model::Fail::Refused;
 use rwsp_model::Problem;
 use rwsp_terms::Word;
+use rwsp_terms::limits::MOST_WORKERS;
 use std::alloc::Global;
 use std::test::Fail;
+use std::thread::Threads;
 use test_helpers::{
     LONG_BLOCKS, Meeting, OFF, ONE_CELL, TWO_IN_FOUR, TWOS_IN_SIX, log_of, problem_of,
 };
@@ -64,21 +65,31 @@ fn workers_are_there_at_once(rt: HostRuntime) -> Result<(), Fail> {
     Ok(())
 }
 
-// The text of a free log that passes, printed anew.
-fn free_text(alloc: Global, problem: &Problem, text: &[u8]) -> Result<Vec<u8>, Fail> {
-    if problem.days() != 7 || text.len() > 1_000 {
+// What a free log shows, by some workers.
+fn free_goal<R: Threads + Sync>(
+    rt: &R,
+    alloc: Global,
+    problem: &Problem,
+    text: &[u8],
+    workers: u32,
+) -> Result<PassedGoal, Fail> {
+    if problem.days() != 7 || text.len() > 1_000 || workers == 0 || workers > MOST_WORKERS {
         return Err(Fail::from("another problem, or a long text"));
     }
-    let log = check_free(alloc, problem, text)?;
-    Ok(print_free(alloc, problem, &log)?)
+    Ok(check_free_with(rt, alloc, problem, text, workers, &NoGate)?)
 }
 
 // The line of a free log that is refused for an escape, and the word.
-fn free_escape(alloc: Global, problem: &Problem, text: &[u8]) -> Result<(u32, Word), Fail> {
+fn free_escape<R: Threads + Sync>(
+    rt: &R,
+    alloc: Global,
+    problem: &Problem,
+    text: &[u8],
+) -> Result<(u32, Word), Fail> {
     if problem.days() != 7 || text.len() > 1_000 {
         return Err(Fail::from("another problem, or a long text"));
     }
-    match check_free(alloc, problem, text) {
+    match check_free_with(rt, alloc, problem, text, 1, &NoGate) {
         Err(Refused(LogRefusal::Escape(line, word))) => Ok((line, word)),
         _ => Err(Fail::from("no escape")),
     }
@@ -93,8 +104,12 @@ const FREE_WITHOUT_5: &[u8] = b"rwsp-free 1\nrules 3 6\ngoal 2\nfree 1 1 rules 3
 fn free_logs_are_judged(rt: HostRuntime) -> Result<(), Fail> {
     let alloc = rt.alloc();
     let problem = problem_of(alloc, LONG_BLOCKS)?;
-    assert_eq!(rt; free_text(alloc, &problem, FREE)?.as_slice(), FREE);
-    let (line, word) = free_escape(alloc, &problem, FREE_WITHOUT_5)?;
+    for workers in [1, 4] {
+        let passed = free_goal(&rt, alloc, &problem, FREE, workers)?;
+        assert_eq!(rt; passed.goal, 2);
+        assert_eq!(rt; passed.named.numbers(), [3, 5, 6].as_slice());
+    }
+    let (line, word) = free_escape(&rt, alloc, &problem, FREE_WITHOUT_5)?;
     assert_eq!(rt; line, 4);
     let mut shown = Vec::new(alloc);
     for symbol in word.symbols() {
