@@ -1,6 +1,6 @@
 // The definitions of refutations tried on small problems: the checker accepts a log exactly where it passes.
 // More logs are judged in `program_tests`.
-use refutation_checker::{NoGate, check_free, check_with};
+use refutation_checker::{NoGate, check_free_with, check_with};
 use refutation_terms::LogRefusal;
 use rwsp_model::Fail::Refused;
 use rwsp_terms::RuleList;
@@ -86,16 +86,25 @@ fn a_log_with_open_sides(rt: HostRuntime) -> Result<(), Fail> {
     Ok(())
 }
 
-// Whether the free log passes.
-fn passes_free(alloc: Global, problem: &[u8], text: &[u8]) -> Result<bool, Fail> {
+// The goal of a free log that passes.
+fn passed_goal<R: Threads + Sync>(
+    rt: &R,
+    alloc: Global,
+    problem: &[u8],
+    text: &[u8],
+) -> Result<u32, Fail> {
     let problem = problem_of(alloc, problem)?;
-    Ok(problem.days() == 7 && text.len() <= 1_000 && check_free(alloc, &problem, text).is_ok())
+    if problem.days() != 7 || text.len() > 1_000 {
+        return Err(Fail::from("another problem, or a long text"));
+    }
+    let passed = check_free_with(rt, alloc, &problem, text, 1, &NoGate)?;
+    Ok(passed.goal)
 }
 
 // No roster of one week has two free weekends, whatever the rules.
 #[test]
 fn a_goal_above_the_weeks(rt: HostRuntime) -> Result<(), Fail> {
     let text = b"rwsp-free 1\nrules\ngoal 2\nfew\n";
-    assert!(rt; passes_free(rt.alloc(), ONE_WEEK, text)?);
+    assert_eq!(rt; passed_goal(&rt, rt.alloc(), ONE_WEEK, text)?, 2);
     Ok(())
 }
