@@ -154,13 +154,25 @@ IsInRange (Trial number weeks) = IsUpTo MOST_WEEKS weeks
 IsInRange (OnProblem file task) = IsProblemTaskInRange task
 IsInRange (OnFiles file second task) = IsFilesTaskInRange task
 
--- a calendar that the command asks for ends by 9999-12-31, with all duties
+-- a calendar that the task asks for ends by 9999-12-31, with all duties
+abbrev pub EndsInTime : FilesTask → Type 0
+EndsInTime (Crew date days employee) = FitsDates date days
+EndsInTime task = Unit {0}
+
 abbrev pub IsWithinHorizon : Command → Type 0
-IsWithinHorizon (OnFiles file second (Crew date days employee)) = FitsDates date days
+IsWithinHorizon (OnFiles file second task) = EndsInTime task
 IsWithinHorizon command = Unit {0}
 
--- the week of the instance has as many days as the command asks for
+-- the week of the instance has as many days as the task asks for
+abbrev pub HasProblemDays : ProblemTask → Instance → Type 0
+HasProblemDays (Best budget) P = P.days ≡ DAYS_OF_WEEK
+HasProblemDays task P = Unit {0}
+
+abbrev pub HasFilesDays : FilesTask → Instance → Type 0
+HasFilesDays CheckFree P = P.days ≡ DAYS_OF_WEEK
+HasFilesDays task P = Unit {0}
+
 abbrev pub HasDaysFor : Command → Instance → Type 0
-HasDaysFor (OnProblem file (Best budget)) P = P.days ≡ DAYS_OF_WEEK
-HasDaysFor (OnFiles file second CheckFree) P = P.days ≡ DAYS_OF_WEEK
+HasDaysFor (OnProblem file task) P = HasProblemDays task P
+HasDaysFor (OnFiles file second task) P = HasFilesDays task P
 HasDaysFor command P = Unit {0}

@@ -27,7 +27,7 @@ use Rattle.crew_size.specs.Verdict.{IsStaffRefused}
 use Rattle.crew_size.specs.declared.verdict.StaffRefusal.{StaffRefusal}
 use Rattle.crew_size.specs.declared.verdict.StaffRefusal.TheVariants as Failures
 use Rattle.commands.specs.LogRefusals.{HasSymbols}
-use Rattle.commands.specs.Verify.{HasBroken}
+use Rattle.roster_checker.specs.BreaksText.{HasBroken}
 use Rattle.commands.specs.CheckStaff.{NamesItsOwn}
 
 -- the symbols of a word over domains that have no others

@@ -2,6 +2,8 @@
 use Rattle.std.specs.Prelude.{ℕ, List, ◌++◌, codes}
 use Rattle.std.specs.Fmt.{decimal}
 use Rattle.rwsp_terms.specs.Instance.{Instance}
+use Rattle.roster_print.specs.RefusalText.{roster_refusal_text}
+use Rattle.roster_checker.specs.BreaksText.{breaks_text, HasBroken}
 use Rattle.crew_size.specs.Laws.{AreSizesDecided}
 use Rattle.crew_size.specs.Verdict.{IsStaffAccepted, IsStaffRefused}
 use Rattle.crew_size.specs.declared.verdict.Staffed.{Staffed}
@@ -10,7 +12,6 @@ use Rattle.crew_size.specs.declared.verdict.StaffRefusal.{StaffRefusal}
 use Rattle.crew_size.specs.declared.verdict.StaffRefusal.TheVariants as Failures
 use Rattle.commands.specs.Lines.{line, at_line}
 use Rattle.commands.specs.LogRefusals.{log_refusal_text, HasSymbols}
-use Rattle.commands.specs.Verify.{roster_refusal_text, breaks_text, HasBroken}
 use Rattle.commands.specs.declared.check_staff.Answer.{Answer}
 use Rattle.commands.specs.declared.check_staff.Answer.TheVariants.{Accepted, Refused}
 

@@ -48,8 +48,3 @@ abbrev pub crew_status : Answer → ℕ
 crew_status (Shown text) = 0
 crew_status (NoEmployee e) = 3
 crew_status (Fails fault) = fault_status fault
-
--- the number of an employee
-abbrev pub IsEmployeeNumber : Option ℕ → Type 0
-IsEmployeeNumber None = Unit {0}
-IsEmployeeNumber (Some e) = 1 ≤ e

@@ -1,5 +1,5 @@
 -- What the files hold that a command names.
-use Rattle.std.specs.Prelude.{◌≡◌, ℕ, ◌<◌, ◌≤◌, List, [], ◌++◌, length, codes, Option, Some, None}
+use Rattle.std.specs.Prelude.{◌≡◌, ℕ, ◌<◌, ◌≤◌, List, length, codes}
 use Rattle.rwsp_terms.specs.declared.limits.TheConstants.{LONGEST_FILE, LONGEST_LOG}
 use Rattle.rwsp_io.specs.Told.{Told, Silent, Missing, Bytes}
 use Rattle.commands.specs.Lines.{line}
@@ -31,15 +31,9 @@ IsWithinLimit kind bytes = length bytes ≤ longest kind
 abbrev pub IsTooLong : SecondKind → List ℕ → Type 0
 IsTooLong kind bytes = longest kind < length bytes
 
--- the bytes of the second file, where there is one, which isn't too long; else there are none
-abbrev pub IsSecond : Option SecondKind → Told → List ℕ → Type 0
-IsSecond None told bytes = bytes ≡ []
-IsSecond (Some kind) told bytes = Holds told bytes × IsWithinLimit kind bytes
-
--- the bytes aren't too long for a second file, where there is one
-abbrev pub IsShort : Option SecondKind → List ℕ → Type 0
-IsShort None bytes = Unit {0}
-IsShort (Some kind) bytes = IsWithinLimit kind bytes
+-- the bytes of a second file, which isn't too long
+abbrev pub IsSecond : SecondKind → Told → List ℕ → Type 0
+IsSecond kind told bytes = Holds told bytes × IsWithinLimit kind bytes
 
 -- the line that says that the second file is too long
 abbrev pub too_long_line : SecondKind → List ℕ

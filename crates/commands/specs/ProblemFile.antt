@@ -1,14 +1,12 @@
 -- What is said of a problem's file by itself.
-use Rattle.std.specs.Prelude.{◌≡◌, ℕ, ◌<◌, ◌≤◌, List, ◌++◌, length, codes, Some, Result, Ok, Err}
-use Rattle.std.specs.Fmt.{decimal}
+use Rattle.std.specs.Prelude.{◌≡◌, ℕ, ◌<◌, ◌≤◌, List, length, codes, Some, Result, Ok, Err}
 use Rattle.rwsp_terms.specs.declared.limits.TheConstants.{LONGEST_FILE}
 use Rattle.rwsp_terms.specs.Instance.{Instance}
 use Rattle.rwsp_io.specs.Told.{Told}
 use Rattle.rwsp_file.specs.Spelling.{SpellsProblem}
 use Rattle.rwsp_file.specs.Reading.{file_refusal}
-use Rattle.rwsp_file.specs.declared.refusal.FileRefusal.{FileRefusal}
-use Rattle.rwsp_file.specs.declared.refusal.FileRefusal.TheVariants.{Ends, Number, Range, Row, Name, Unknown, Extra}
-use Rattle.commands.specs.Lines.{line, at_line}
+use Rattle.rwsp_file.specs.RefusalText.{file_refusal_text}
+use Rattle.commands.specs.Lines.{line}
 use Rattle.commands.specs.Files.{WhereTold}
 use Rattle.commands.specs.declared.problem_file.ProblemRefusal.{ProblemRefusal}
 use Rattle.commands.specs.declared.problem_file.ProblemRefusal.TheVariants.{TooLong, Refused}
@@ -30,15 +28,6 @@ IsProblemOf told P = WhereTold told (λ file. IsShortFile file × SpellsProblem 
 abbrev pub IsProblemRead : Told → Result Instance ProblemRefusal → Type 0
 IsProblemRead told (Ok P) = IsProblemOf told P
 IsProblemRead told (Err why) = WhereTold told (λ file. IsProblemRefusal file why)
-
-abbrev pub file_refusal_text : FileRefusal → List ℕ
-file_refusal_text (Ends number) = at_line (codes "file refused: ends") number
-file_refusal_text (Number number) = at_line (codes "file refused: number") number
-file_refusal_text (Range number limit) = at_line (codes "file refused: range " ++ decimal limit) number
-file_refusal_text (Row number) = at_line (codes "file refused: row") number
-file_refusal_text (Name number) = at_line (codes "file refused: name") number
-file_refusal_text (Unknown number) = at_line (codes "file refused: unknown") number
-file_refusal_text (Extra number) = at_line (codes "file refused: extra") number
 
 abbrev pub problem_refusal_line : ProblemRefusal → List ℕ
 problem_refusal_line TooLong = line (codes "too long: problem")

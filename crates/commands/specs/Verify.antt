@@ -1,20 +1,14 @@
 -- What `verify` answers.
-use Rattle.std.specs.Prelude.{◌≡◌, ℕ, List, [], ◌++◌, codes, Option, Some, None}
-use Rattle.std.specs.Fmt.{decimal}
+use Rattle.std.specs.Prelude.{◌≡◌, ℕ, List, codes, Some}
 use Rattle.rwsp_terms.specs.Instance.{Instance}
 use Rattle.rwsp_terms.specs.Roster.{MeetsAll}
-use Rattle.rwsp_terms.specs.Rules.{rule_of}
 use Rattle.rwsp_terms.specs.declared.data.Symbol.{Symbol}
-use Rattle.rwsp_terms.specs.declared.data.Rule.{Rule}
-use Rattle.rwsp_terms.specs.declared.data.Rule.TheVariants.{Day}
 use Rattle.roster_print.specs.RosterText.{SpellsRoster}
 use Rattle.roster_print.specs.Refusal.{refusal_of_roster}
-use Rattle.roster_print.specs.RuleText.{rule_text}
-use Rattle.roster_print.specs.declared.refusal.RosterRefusal.{RosterRefusal}
-use Rattle.roster_print.specs.declared.refusal.RosterRefusal.TheVariants.{Unknown as UnknownName, Width, Weeks}
+use Rattle.roster_print.specs.RefusalText.{roster_refusal_text}
 use Rattle.roster_checker.specs.FirstBroken.{IsFirstBroken}
-use Rattle.roster_checker.specs.declared.broken.Broken.{Broken}
-use Rattle.commands.specs.Lines.{line, at_line}
+use Rattle.roster_checker.specs.BreaksText.{breaks_text, HasBroken}
+use Rattle.commands.specs.Lines.{line}
 use Rattle.commands.specs.declared.verify.RosterFault.{RosterFault}
 use Rattle.commands.specs.declared.verify.RosterFault.TheVariants.{Refused, Breaks}
 use Rattle.commands.specs.declared.verify.Answer.{Answer}
@@ -34,26 +28,6 @@ abbrev pub IsVerified : Instance → List ℕ → Answer → Type 0
 IsVerified P bytes Meets = SpellsRight P bytes
 IsVerified P bytes (Fails fault) = IsRosterFault P bytes fault
 
-abbrev pub roster_refusal_text : RosterRefusal → List ℕ
-roster_refusal_text (UnknownName number) = at_line (codes "roster refused: unknown") number
-roster_refusal_text (Width number) = at_line (codes "roster refused: width") number
-roster_refusal_text (Weeks count) = codes "roster refused: weeks " ++ decimal count
-
--- where a window begins and how long it is; the rule of a day has no such place
-abbrev pub place_text : Rule → Broken → List ℕ
-place_text (Day day) broken = []
-place_text rule broken =
-    codes " week " ++ decimal broken.week ++ codes " day " ++ decimal broken.day ++ codes " length "
-    ++ decimal broken.length
-
-abbrev pub broken_text : Instance → Option Rule → Broken → List ℕ
-broken_text P None broken = []
-broken_text P (Some rule) broken = rule_text P rule ++ place_text rule broken
-
-abbrev pub breaks_text : Instance → Broken → List ℕ
-breaks_text P broken =
-    codes "breaks rule " ++ decimal broken.rule ++ codes " " ++ broken_text P (rule_of P broken.rule) broken
-
 abbrev pub fault_text : Instance → RosterFault → List ℕ
 fault_text P (Refused why) = roster_refusal_text why
 fault_text P (Breaks broken) = breaks_text P broken
@@ -64,10 +38,6 @@ fault_line P fault = line (fault_text P fault)
 abbrev pub verify_text : Instance → Answer → List ℕ
 verify_text P Meets = line (codes "meets")
 verify_text P (Fails fault) = fault_line P fault
-
--- a rule that is broken is one of the instance's
-abbrev pub HasBroken : Instance → Broken → Type 0
-HasBroken P broken = (r : Rule) × (rule_of P broken.rule ≡ Some r)
 
 abbrev pub IsFaultOf : Instance → RosterFault → Type 0
 IsFaultOf P (Refused why) = Unit {0}

@@ -2,10 +2,8 @@
 ghost use Rattle.std.specs.Prelude.{◌≡◌, ℕ, List, IfOk, IfErr, IsErrOf};
 ghost use Rattle.std.specs.String.{string_bytes};
 ghost use Rattle.rwsp_io.specs.Told.{NeverFall, Rose, Missing, Bytes};
-ghost use Rattle.rwsp_file.specs.Spelling.{SpellsProblem};
-ghost use Rattle.commands.specs.Lines.{line};
 ghost use Rattle.commands.specs.Files.{IsStop};
-ghost use Rattle.commands.specs.ProblemFile.{IsProblemRead, IsShortFile, IsProblemRefusal, file_refusal_text, problem_refusal_line};
+ghost use Rattle.commands.specs.ProblemFile.{IsProblemRead, IsShortFile, problem_refusal_line};
 
 use crate::stop::Stop;
 use rwsp_file::{FileRefusal, read_problem};
@@ -56,33 +54,12 @@ fn problem_of(alloc: Global, text: &[u8]) -> Result<Result<Problem, ProblemRefus
     }
 }
 
-#[tactic(auto, using(crate::proofs::Appends::regroup))]
-fn range_line(alloc: Global, number: u32, limit: u32) -> Result<String, AllocError>
-    ensures { IfOk result (λ t. string_bytes t ≡ line (file_refusal_text (FileRefusal.Range number limit))) }
-{
-    format!(in alloc; "file refused: range {limit} line {number}\n")
-}
-
-fn file_refusal_line(alloc: Global, refusal: FileRefusal) -> Result<String, AllocError>
-    ensures { IfOk result (λ t. string_bytes t ≡ line (file_refusal_text refusal)) }
-{
-    match refusal {
-        FileRefusal::Ends(line) => format!(in alloc; "file refused: ends line {line}\n"),
-        FileRefusal::Number(line) => format!(in alloc; "file refused: number line {line}\n"),
-        FileRefusal::Range(line, limit) => range_line(alloc, line, limit),
-        FileRefusal::Row(line) => format!(in alloc; "file refused: row line {line}\n"),
-        FileRefusal::Name(line) => format!(in alloc; "file refused: name line {line}\n"),
-        FileRefusal::Unknown(line) => format!(in alloc; "file refused: unknown line {line}\n"),
-        FileRefusal::Extra(line) => format!(in alloc; "file refused: extra line {line}\n"),
-    }
-}
-
 /// The line that says why a problem's file is refused.
 pub fn problem_refusal_line(alloc: Global, refusal: ProblemRefusal) -> Result<String, AllocError>
     ensures { IfOk result (λ t. string_bytes t ≡ problem_refusal_line refusal) }
 {
     match refusal {
         ProblemRefusal::TooLong => String::from_str(alloc, "too long: problem\n"),
-        ProblemRefusal::Refused(refusal) => file_refusal_line(alloc, refusal),
+        ProblemRefusal::Refused(refusal) => format!(in alloc; "{refusal}\n"),
     }
 }

@@ -2,7 +2,7 @@
 ghost use Rattle.std.specs.Prelude.{◌≡◌, ℕ, ◌≤◌, List, IfOk, IfErr, MatchOption};
 ghost use Rattle.std.specs.String.{string_bytes};
 ghost use Rattle.rwsp_io.specs.Told.{NeverFall, Rose};
-ghost use Rattle.commands.specs.Files.{WhereTold, Holds, IsWithinLimit, IsTooLong, IsStop, longest, too_long_line};
+ghost use Rattle.commands.specs.Files.{WhereTold, IsSecond, IsTooLong, IsStop, longest, too_long_line};
 ghost use Rattle.commands.specs.declared.second_file.SecondKind.TheVariants as Kinds;
 
 use crate::stop::Stop;
@@ -37,7 +37,7 @@ pub fn second_in<S: Shelf>(
 ) -> Result<Option<Vec<u8>>, Stop>
     ensures read { IfOk result (λ found. MatchOption found
         (WhereTold (S.held shelf.old name.now) (IsTooLong kind))
-        (λ bytes. Holds (S.held shelf.old name.now) bytes.items × IsWithinLimit kind bytes.items)) }
+        (λ bytes. IsSecond kind (S.held shelf.old name.now) bytes.items)) }
     ensures stop { IfErr result (IsStop (Rose (S.faults shelf.old name.now) (S.faults shelf.new name.now))) }
     ensures faults { NeverFall (S.faults shelf.old) (S.faults shelf.new) }
 {

@@ -8,7 +8,8 @@ ghost use Rattle.commands.specs.Staff.{IsStaffAnswer, IsStaffAnswerOf, staff_ans
 use crate::put::put_labelled;
 use crew_size::{StaffEnd, StaffRun, print_staff};
 use potential_bounds::Gate;
-use roster_planner::staff;
+pub use roster_planner::Sizes;
+use roster_planner::least_crew;
 use rwsp_model::Problem;
 use rwsp_terms::limits::MOST_CELLS;
 use std::alloc::{AllocError, Global};
@@ -23,27 +24,26 @@ pub enum Answer {
     Range(u32),
 }
 
-/// The answer to `staff`: each number of weeks from `low` to `high` is planned within the budget, until one has a
-/// roster.
+/// The answer to `staff`: each number of weeks is planned within the budget, from the first to the last, until one has
+/// a roster.
 pub fn job<R: Threads + Sync, G: Gate>(
     rt: &R,
     alloc: Global,
     problem: &Problem,
-    low: u32,
-    high: u32,
+    sizes: Sizes,
     budget: u32,
     gate: &G,
 ) -> Result<Answer, AllocError>
-    requires some { 1 ≤ low }
-    requires sizes { (low ≤ high) × (high ≤ MOST_WEEKS) × (high < low + MOST_SIZES) }
+    requires some { 1 ≤ sizes.low }
+    requires sizes { (sizes.low ≤ sizes.high) × (sizes.high ≤ MOST_WEEKS) × (sizes.high < sizes.low + MOST_SIZES) }
     requires budget { (1 ≤ budget) × (budget ≤ GREATEST_STAFF_BUDGET) }
-    ensures says { IfOk result (IsStaffAnswer problem.now low high budget) }
+    ensures says { IfOk result (IsStaffAnswer problem.now sizes.low sizes.high budget) }
     ensures own { IfOk result (IsStaffAnswerOf problem.now) }
 {
-    if high * problem.days() > MOST_CELLS {
-        return Ok(Answer::Range(high));
+    if sizes.high * problem.days() > MOST_CELLS {
+        return Ok(Answer::Range(sizes.high));
     }
-    let run = staff(rt, alloc, problem, low, high, budget, gate)?;
+    let run = least_crew(rt, alloc, problem, sizes, budget, gate)?;
     Ok(Answer::Run(run))
 }
 

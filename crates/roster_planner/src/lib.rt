@@ -18,4 +18,4 @@ pub use of_cases::{CaseReasons, case_reasons};
 pub use planning::plan_roster;
 pub use raising::best;
 pub use searching::planner_search;
-pub use staffing::{Sizes, least_crew, staff};
+pub use staffing::{Sizes, least_crew};

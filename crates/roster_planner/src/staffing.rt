@@ -52,25 +52,6 @@ pub fn least_crew<R: Threads + Sync, G: Gate>(
     Ok(StaffRun::of(sizes.low, logs, StaffEnd::NoneTo))
 }
 
-/// The same, with the numbers of weeks one by one.
-pub fn staff<R: Threads + Sync, G: Gate>(
-    rt: &R,
-    alloc: Global,
-    problem: &Problem,
-    low: u32,
-    high: u32,
-    budget: u32,
-    gate: &G,
-) -> Result<StaffRun, AllocError>
-    requires sizes { (1 ≤ low) × (low ≤ high) }
-    requires most { IsSize problem.now high }
-    requires budget { (1 ≤ budget) × (budget ≤ GREATEST_STAFF_BUDGET) }
-    ensures staffed { IfOk result (IsStaffed problem.now low high budget) }
-    ensures fits { IfOk result (FitsSizes problem.now) }
-{
-    least_crew(rt, alloc, problem, Sizes { low, high }, budget, gate)
-}
-
 // The plan for this number of weeks.
 fn plan_for<R: Threads + Sync, G: Gate>(
     rt: &R,

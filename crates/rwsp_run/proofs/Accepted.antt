@@ -1,6 +1,6 @@
 -- What one command writes, another accepts.
 use Rattle.std.proofs.Common.{◌≡◌, ℕ, ◌+◌, ◌<◌, ◌≤◌, List, sym, refl, subst, inl, inr, arith}
-use Rattle.std.specs.Prelude.{◌≢◌, ◌⊎◌, Option, Some, None}
+use Rattle.std.specs.Prelude.{◌≢◌, ◌⊎◌, Some}
 use Rattle.rwsp_io.specs.Told.{Told, Silent, Bytes}
 use Rattle.rwsp_terms.specs.Instance.{Instance}
 use Rattle.rwsp_terms.specs.Roster.{MeetsAll}
@@ -18,12 +18,12 @@ use Rattle.refutation_log.specs.declared.best_found.BestFound.TheVariants as Bes
 use Rattle.crew_size.specs.Sizes.{IsSize}
 use Rattle.crew_size.specs.Texts.{staff_text}
 use Rattle.crew_size.proofs.Decided.{printed_accepted, accepted_decide}
-use Rattle.command_line.specs.Commands.{HasDaysFor}
-use Rattle.command_line.specs.declared.command.Command.{Command}
-use Rattle.command_line.specs.declared.command.Command.TheVariants as Commands
-use Rattle.commands.specs.Files.{IsWithinLimit, IsSecond}
+use Rattle.command_line.specs.Commands.{HasFilesDays}
+use Rattle.command_line.specs.declared.command.Command.TheVariants.{OnFiles}
+use Rattle.command_line.specs.declared.command.FilesTask.{FilesTask}
+use Rattle.command_line.specs.declared.command.FilesTask.TheVariants.{Check, Verify, CheckFree, CheckStaff}
+use Rattle.commands.specs.Files.{IsWithinLimit}
 use Rattle.commands.specs.Best.{IsBestAnswer}
-use Rattle.commands.specs.declared.second_file.SecondKind.{SecondKind}
 use Rattle.commands.specs.declared.second_file.SecondKind.TheVariants as Kinds
 use Rattle.commands.specs.declared.verify.Answer.TheVariants as Verifies
 use Rattle.commands.specs.declared.check.Answer.TheVariants as Checks
@@ -31,9 +31,8 @@ use Rattle.commands.specs.declared.check_free.Answer.TheVariants as Frees
 use Rattle.commands.specs.declared.check_staff.Answer.TheVariants as StaffChecks
 use Rattle.commands.proofs.Logs.{accepted, free_accepted}
 use Rattle.commands.proofs.Bests.{best_meets, below_goal}
-use Rattle.rwsp_run.specs.Answers.{IsAnswerOn}
-use Rattle.rwsp_run.specs.Commands.{IsJobAnswer, second_kind}
-use Rattle.rwsp_run.specs.Laws.{RostersMeet, RefutationsAreAccepted, ReductionsAreAccepted, StaffTextsAreAccepted, BestRostersMeet, BestRostersAreBest, BestProofsAreAccepted, IsProofOf, WorkersMakeNoDifference, AgreeInSearch, JobsAgree}
+use Rattle.rwsp_run.specs.Commands.{IsFilesAnswer, second_kind}
+use Rattle.rwsp_run.specs.Laws.{RostersMeet, RefutationsAreAccepted, ReductionsAreAccepted, StaffTextsAreAccepted, BestRostersMeet, BestRostersAreBest, BestProofsAreAccepted, IsProofOf, WorkersMakeNoDifference, AgreeInSearch, JobsAgree, IsAnswerOnFiles}
 use Rattle.rwsp_run.specs.declared.jobs.JobAnswer.{JobAnswer}
 use Rattle.rwsp_run.specs.declared.jobs.JobAnswer.TheVariants as Jobs
 use Rattle.rwsp_run.specs.declared.answer.Refusal.TheVariants.{NotWeekly, TooLong}
@@ -51,46 +50,46 @@ decided x (Job y) only (inr h) = absurd (only y h)
 decided x a only (inr h) = absurd h
 
 -- an answer that is right on a text is the only one
-settled : (command : Command) (P : Instance) (text : List ℕ) (kind : SecondKind) (x : JobAnswer) (a : Answer) → KeepsLimits P → HasDaysFor command P → second_kind command ≡ Some kind → IsWithinLimit kind text → ((y : JobAnswer) → JobsAgree x y → ⊥) → IsJobAnswer command P text x → IsAnswerOn command (Bytes text) P a → a ≡ Job x
-settled command P text kind x a limits days e short only right h =
-    decided x a only (one_on command P (Bytes text) (Job x) a limits (λ other f. told text) (days, (text, subst (λ (o : Option SecondKind). IsSecond o (Bytes text) text) (sym e) (refl, short), right)) h)
+settled : (task : FilesTask) (P : Instance) (text : List ℕ) (x : JobAnswer) (a : Answer) → KeepsLimits P → HasFilesDays task P → IsWithinLimit (second_kind task) text → ((y : JobAnswer) → JobsAgree x y → ⊥) → IsFilesAnswer task P text x → IsAnswerOnFiles task (Bytes text) P a → a ≡ Job x
+settled task P text x a limits days short only right h =
+    decided x a only (one_on (OnFiles h.0 h.1 task) P (Bytes text) (Job x) a limits (λ other. told text) (days, (text, (refl, short), right)) h.2)
 
 -- a roster that meets every rule meets every rule by `verify`
-meets : (P : Instance) (file : List ℕ) (s : List Symbol) (a : Answer) → SpellsProblem file P → MeetsAll P s → IsAnswerOn Commands.Verify (Bytes (roster_text P s)) P a → a ≡ Job (Jobs.Verify Verifies.Meets)
+meets : (P : Instance) (file : List ℕ) (s : List Symbol) (a : Answer) → SpellsProblem file P → MeetsAll P s → IsAnswerOnFiles Verify (Bytes (roster_text P s)) P a → a ≡ Job (Jobs.Verify Verifies.Meets)
 meets P file s a spells right h =
-    settled Commands.Verify P (roster_text P s) Kinds.Roster (Jobs.Verify Verifies.Meets) a (valid_keeps P spells.valid) tt refl (printed_is_short P s spells.valid right.is_roster) (λ y h. h) (s, printed_is_spelled P s spells.valid right.is_roster, right) h
+    settled Verify P (roster_text P s) (Jobs.Verify Verifies.Meets) a (valid_keeps P spells.valid) tt (printed_is_short P s spells.valid right.is_roster) (λ y h. h) (s, printed_is_spelled P s spells.valid right.is_roster, right) h
 
 -- a log that passes is accepted by `check`
-checks : (P : Instance) (file : List ℕ) (workers : ℕ) (g : Log) (a : Answer) → SpellsProblem file P → Passes P g → IsWithinLimit Kinds.Log (log_text P g) → IsAnswerOn (Commands.Check workers) (Bytes (log_text P g)) P a → a ≡ Job (Jobs.Check (Checks.Accepted g.named))
+checks : (P : Instance) (file : List ℕ) (workers : ℕ) (g : Log) (a : Answer) → SpellsProblem file P → Passes P g → IsWithinLimit Kinds.Log (log_text P g) → IsAnswerOnFiles (Check workers) (Bytes (log_text P g)) P a → a ≡ Job (Jobs.Check (Checks.Accepted g.named))
 checks P file workers g a spells passes short h =
-    settled (Commands.Check workers) P (log_text P g) Kinds.Log (Jobs.Check (Checks.Accepted g.named)) a (valid_keeps P spells.valid) tt refl short (λ y h. h) (accepted P (log_text P g) g.named (g, (refl, passes), refl)) h
+    settled (Check workers) P (log_text P g) (Jobs.Check (Checks.Accepted g.named)) a (valid_keeps P spells.valid) tt short (λ y h. h) (accepted P (log_text P g) g.named (g, (refl, passes), refl)) h
 
 pub rosters_meet : RostersMeet
-rosters_meet file P budget told s a spells planned h = meets P file s.cells a spells planned.1.2.1 h
+rosters_meet file P budget s a spells planned h = meets P file s.cells a spells planned.2.1.1 h
 
 pub refutations_accepted : RefutationsAreAccepted
-refutations_accepted file P budget workers told g a spells planned short h = checks P file workers g a spells planned.1.2.0 short h
+refutations_accepted file P budget workers g a spells planned short h = checks P file workers g a spells planned.2.1.0 short h
 
 pub reductions_accepted : ReductionsAreAccepted
-reductions_accepted file P workers told g a spells reduced short h = checks P file workers g a spells reduced.1.2.1.passes short h
+reductions_accepted file P workers told g a spells reduced short h = checks P file workers g a spells reduced.2.1.2.1.passes short h
 
 pub staff_accepted : StaffTextsAreAccepted
-staff_accepted file P low high budget told run staffed a spells sizes answer decides short h =
+staff_accepted file P low high budget run staffed a spells sizes answer decides short h =
     let limits = valid_keeps P spells.valid in
-    let says = answer.1.2 in
+    let says = answer.2.1 in
     let fits : IsSize P high = record { some = omega (arith, sizes); few = sizes.2; few_cells = says.1 } in
     let right = printed_accepted P low high budget run staffed limits sizes.0 sizes.1 fits says.2 decides in
-    settled Commands.CheckStaff P (staff_text P run) Kinds.Log (Jobs.CheckStaff (StaffChecks.Accepted staffed)) a limits tt refl short (λ y h. h) (right, accepted_decide P (staff_text P run) staffed right) h
+    settled CheckStaff P (staff_text P run) (Jobs.CheckStaff (StaffChecks.Accepted staffed)) a limits tt short (λ y h. h) (right, accepted_decide P (staff_text P run) staffed right) h
 
 pub best_rosters_meet : BestRostersMeet
-best_rosters_meet file P budget told found s a spells best is h = meets P file s.cells a spells (best_meets P budget found s best.1.2 is) h
+best_rosters_meet file P budget found s a spells best is h = meets P file s.cells a spells (best_meets P budget found s best.2.1 is) h
 
 at_most : (m n : ℕ) → m < n + 1 → m ≤ n
 at_most m n h = omega (arith, h)
 
 pub best_is_best : BestRostersAreBest
-best_is_best file P budget told s g a spells best h =
-    (best_rosters_meet file P budget told (Bests.Best s g) s a spells best refl h, λ t met. at_most (free_weekends t) (free_weekends s.cells) (below_goal P (free_weekends s.cells + 1) g t best.1.2.0.1.0 met))
+best_is_best file P budget s g a spells best h =
+    (best_rosters_meet file P budget (Bests.Best s g) s a spells best refl h, λ t met. at_most (free_weekends t) (free_weekends s.cells) (below_goal P (free_weekends s.cells + 1) g t best.2.1.0.1.0 met))
 
 -- the proof of a search for the most free weekends is accepted
 
@@ -102,14 +101,14 @@ proof_passes P budget goal (Bests.NoRoster g) h found proof =
 proof_passes P budget goal (Bests.Undecided s g) h found proof = absurd proof
 
 pub best_proofs_accepted : BestProofsAreAccepted
-best_proofs_accepted file P budget goal told found g a spells best proof short h =
-    let passes = proof_passes P budget goal found g best.1.2 proof in
+best_proofs_accepted file P budget goal found g a spells best proof short h =
+    let passes = proof_passes P budget goal found g best.2.1 proof in
     let text = free_log_text P goal g in
-    settled Commands.CheckFree P text Kinds.Log (Jobs.CheckFree (Frees.Accepted goal g.named)) a (valid_keeps P spells.valid) best.0 refl short (λ y h. h) (free_accepted P text g goal (goal, refl, passes) passes.grounded.fits.is_goal) h
+    settled CheckFree P text (Jobs.CheckFree (Frees.Accepted goal g.named)) a (valid_keeps P spells.valid) best.2.0 short (λ y h. h) (free_accepted P text g goal (goal, refl, passes) passes.grounded.fits.is_goal) h
 
 pub same_for_workers : WorkersMakeNoDifference
-same_for_workers m n told P (Refused (NotWeekly days)) h = h
-same_for_workers m n told P (Refused (TooLong kind)) h = h
-same_for_workers m n told P (Job (Jobs.Check a)) h = h
-same_for_workers m n told P (Job a) h = absurd h.1.2
-same_for_workers m n told P a h = absurd h
+same_for_workers m n name second told P (Refused (NotWeekly days)) h = h
+same_for_workers m n name second told P (Refused (TooLong kind)) h = h
+same_for_workers m n name second told P (Job (Jobs.Check a)) h = h
+same_for_workers m n name second told P (Job a) h = absurd h.1.2
+same_for_workers m n name second told P a h = absurd h

@@ -1,12 +1,12 @@
 -- What is known of files whose bytes are told.
 use Rattle.std.proofs.Common.{◌≡◌, ℕ, ◌<◌, ◌≤◌, List, length, refl, subst, sym, ◌∙◌, arith}
-use Rattle.std.specs.Prelude.{◌≢◌, Option, Some, None}
+use Rattle.std.specs.Prelude.{◌≢◌}
 use Rattle.rwsp_io.specs.Told.{Told, Silent, Missing, Bytes}
 use Rattle.rwsp_terms.specs.Instance.{Instance}
 use Rattle.rwsp_model.specs.Validity.{KeepsLimits}
 use Rattle.rwsp_model.proofs.Limits.{valid_keeps}
 use Rattle.rwsp_file.specs.Laws.{TextsSpellOne}
-use Rattle.commands.specs.Files.{WhereTold, IsSecond, IsShort, IsTooLong}
+use Rattle.commands.specs.Files.{WhereTold, IsSecond, IsTooLong}
 use Rattle.commands.specs.ProblemFile.{IsProblemOf}
 use Rattle.commands.specs.declared.second_file.SecondKind.{SecondKind}
 
@@ -23,21 +23,14 @@ same_problem one told P Q there h k = same_bytes told _ _ (P ≡ Q) there (λ fi
 pub keeps_limits : (told : Told) (P : Instance) → told ≢ Silent → IsProblemOf told P → KeepsLimits P
 keeps_limits told P there h = same_bytes told _ _ (KeepsLimits P) there (λ file x y. valid_keeps P x.1.valid) h h
 
--- a second file has one row of bytes, also where it is none
-pub same_second : (kind : Option SecondKind) (told : Told) (a b : List ℕ) → ((k : SecondKind) → kind ≡ Some k → told ≢ Silent) → IsSecond kind told a → IsSecond kind told b → a ≡ b
-same_second None told a b there h k = h ∙ sym k
-same_second (Some kind) told a b there h k = same_bytes told _ _ (a ≡ b) (there kind refl) (λ bytes x y. x ∙ sym y) h.0 k.0
+-- a second file has one row of bytes
+pub same_second : (kind : SecondKind) (told : Told) (a b : List ℕ) → told ≢ Silent → IsSecond kind told a → IsSecond kind told b → a ≡ b
+same_second kind told a b there h k = same_bytes told _ _ (a ≡ b) there (λ bytes x y. x ∙ sym y) h.0 k.0
 
 beyond : (limit : ℕ) (a bytes : List ℕ) → a ≡ bytes → limit < length bytes → length a ≤ limit → ⊥
 beyond limit a bytes e long short = let no : limit < length a = subst (λ (b : List ℕ). limit < length b) (sym e) long in omega (arith, no, short)
 
-pub not_too_long : (kind : Option SecondKind) (k : SecondKind) (told : Told) (a : List ℕ) → kind ≡ Some k → told ≢ Silent → IsSecond kind told a → WhereTold told (IsTooLong k) → ⊥
-not_too_long None k told a e there h long = absurd (cc)
-not_too_long (Some kind) k told a e there h long =
-    let same : kind ≡ k = cc in
-    let short = subst (λ (j : SecondKind). IsSecond (Some j) told a) same h in
+pub not_too_long : (kind k : SecondKind) (told : Told) (a : List ℕ) → k ≡ kind → told ≢ Silent → IsSecond kind told a → WhereTold told (IsTooLong k) → ⊥
+not_too_long kind k told a e there h long =
+    let short = subst (λ (j : SecondKind). IsSecond j told a) (sym e) h in
     same_bytes told _ _ ⊥ there (λ bytes x y. beyond _ _ _ x y short.1) short.0 long
-
-pub short_second : (kind : Option SecondKind) (told : Told) (bytes : List ℕ) → IsSecond kind told bytes → IsShort kind bytes
-short_second None told bytes h = tt
-short_second (Some kind) told bytes h = h.1

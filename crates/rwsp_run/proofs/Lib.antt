@@ -1,5 +1,4 @@
 pub mod Files
-pub mod Numbers
 pub mod OneJob
 pub mod OneAnswer
 pub mod OneText

@@ -1,64 +1,76 @@
 -- What each answer says.
-use Rattle.std.specs.Prelude.{◌≡◌, ◌⊎◌, ℕ, List, Some}
+use Rattle.std.specs.Prelude.{◌≡◌, ◌⊎◌, ℕ, List}
 use Rattle.rwsp_io.specs.Told.{Told, Rose}
 use Rattle.rwsp_terms.specs.Instance.{Instance}
-use Rattle.command_line.specs.Commands.{CommandWords, IsForm, HasNoForm, ReadsProblem, IsWithinHorizon, HasDaysFor, problem_name, second_name}
+use Rattle.command_line.specs.Commands.{CommandWords, IsForm, HasNoForm, ReadsProblem, IsWithinHorizon, HasDaysFor, HasFilesDays, file_of, second_of}
 use Rattle.command_line.specs.declared.command.Command.{Command}
 use Rattle.command_line.specs.declared.command.Command.TheVariants as Commands
+use Rattle.command_line.specs.declared.command.Command.TheVariants.{OnProblem, OnFiles}
+use Rattle.command_line.specs.declared.command.FilesTask.{FilesTask}
 use Rattle.commands.specs.Files.{WhereTold, IsTooLong, IsSecond}
 use Rattle.commands.specs.ProblemFile.{IsProblemOf, IsProblemRefusal}
 use Rattle.commands.specs.Trial.{IsTrial}
 use Rattle.commands.specs.declared.second_file.SecondKind.{SecondKind}
-use Rattle.rwsp_run.specs.Commands.{IsJobAnswer, second_kind}
+use Rattle.rwsp_run.specs.Commands.{IsProblemAnswer, IsFilesAnswer, second_kind}
+use Rattle.rwsp_run.specs.declared.jobs.JobAnswer.{JobAnswer}
 use Rattle.rwsp_run.specs.declared.answer.Refusal.TheVariants.{Usage, Horizon, Problem, NotWeekly, TooLong}
 use Rattle.rwsp_run.specs.declared.answer.Answer.{Answer}
 use Rattle.rwsp_run.specs.declared.answer.Answer.TheVariants.{Refused, Trial, Job}
+
+-- the command reads a second file of the kind, which is too long
+abbrev pub IsTooLongFor : Command → Told → SecondKind → Type 0
+IsTooLongFor (OnFiles file second task) told kind = (kind ≡ second_kind task) × WhereTold told (IsTooLong kind)
+IsTooLongFor command told kind = ⊥
+
+-- the answer of a job on the problem, and on the second file where the command reads one
+abbrev pub IsJobAnswer : Command → Told → Instance → JobAnswer → Type 0
+IsJobAnswer (OnProblem file task) told P answer = IsProblemAnswer task P answer
+IsJobAnswer (OnFiles file second task) told P answer =
+    (bytes : List ℕ) × IsSecond (second_kind task) told bytes × IsFilesAnswer task P bytes answer
+IsJobAnswer command told P answer = ⊥
 
 -- what the answer to a command says of the problem that the first file spells, and of what the second file tells: the
 -- problem has other days than the command asks for, or the second file is too long, or the job was done
 abbrev pub IsAnswerOn : Command → Told → Instance → Answer → Type 0
 IsAnswerOn command told P (Refused (NotWeekly days)) = (HasDaysFor command P → ⊥) × (days ≡ P.days)
-IsAnswerOn command told P (Refused (TooLong kind)) =
-    HasDaysFor command P × (second_kind command ≡ Some kind) × WhereTold told (IsTooLong kind)
-IsAnswerOn command told P (Job answer) =
-    HasDaysFor command P
-    × ((bytes : List ℕ) × IsSecond (second_kind command) told bytes × IsJobAnswer command P bytes answer)
+IsAnswerOn command told P (Refused (TooLong kind)) = HasDaysFor command P × IsTooLongFor command told kind
+IsAnswerOn command told P (Job answer) = HasDaysFor command P × IsJobAnswer command told P answer
 IsAnswerOn command told P answer = ⊥
 
 -- the words ask for a command that reads a problem's file
 abbrev pub IsAsked : CommandWords → Command → Type 0
 IsAsked words command = IsForm words command × IsWithinHorizon command × ReadsProblem command
 
--- the problem's file spells no problem; or it spells one, and this is an answer to the command on it
-abbrev pub IsAnswerTo : Command → (List ℕ → Told) → CommandWords → Answer → Type 0
-IsAnswerTo command held words (Refused (Problem why)) =
-    WhereTold (held (problem_name words)) (λ file. IsProblemRefusal file why)
-IsAnswerTo command held words answer =
-    (P : Instance) × IsProblemOf (held (problem_name words)) P
-    × IsAnswerOn command (held (second_name words)) P answer
+-- the answer to a command: a trial; or the problem's file spells no problem; or it spells one, and this is an answer on
+-- it
+abbrev pub IsAnswerTo : Command → (List ℕ → Told) → Answer → Type 0
+IsAnswerTo (Commands.Trial number weeks) held (Trial trial) = IsTrial number weeks trial
+IsAnswerTo (Commands.Trial number weeks) held answer = ⊥
+IsAnswerTo command held (Refused (Problem why)) =
+    WhereTold (held (file_of command)) (λ file. IsProblemRefusal file why)
+IsAnswerTo command held answer =
+    (P : Instance) × IsProblemOf (held (file_of command)) P
+    × IsAnswerOn command (held (second_of command)) P answer
 
--- what holds where an answer comes
+-- what holds where an answer comes: the words are no command, or one with a calendar past the horizon, or this answers
+-- it
 abbrev pub IsAnswer : (List ℕ → Told) → CommandWords → Answer → Type 0
 IsAnswer held words (Refused Usage) = HasNoForm words
 IsAnswer held words (Refused Horizon) = (command : Command) × IsForm words command × (IsWithinHorizon command → ⊥)
-IsAnswer held words (Trial trial) =
-    (number weeks : ℕ) × IsForm words (Commands.Trial number weeks) × IsTrial number weeks trial
-IsAnswer held words answer = (command : Command) × IsAsked words command × IsAnswerTo command held words answer
+IsAnswer held words answer =
+    (command : Command) × IsForm words command × IsWithinHorizon command × IsAnswerTo command held answer
 
--- the command reads a second file, whose count has risen
-abbrev pub SecondRose : Command → (before now : List ℕ → ℕ) → CommandWords → Type 0
-SecondRose command before now words =
-    ((kind : SecondKind) × (second_kind command ≡ Some kind))
-    × Rose (before (second_name words)) (now (second_name words))
+-- the second file could not be read, and the first spells a problem for the task
+abbrev pub IsSecondFault : (List ℕ → Told) → (before now : List ℕ → ℕ) → Command → Type 0
+IsSecondFault held before now (OnFiles file second task) =
+    Rose (before second) (now second) × ((P : Instance) × IsProblemOf (held file) P × HasFilesDays task P)
+IsSecondFault held before now command = ⊥
 
--- the second file could not be read, and the first spells a problem for the command
-abbrev pub IsSecondFault : (List ℕ → Told) → (before now : List ℕ → ℕ) → CommandWords → Command → Type 0
-IsSecondFault held before now words command =
-    SecondRose command before now words
-    × ((P : Instance) × IsProblemOf (held (problem_name words)) P × HasDaysFor command P)
+-- a file of the command could not be read: the count of the problem's file has risen, or that of the second file
+abbrev pub IsFileFault : (List ℕ → Told) → (before now : List ℕ → ℕ) → Command → Type 0
+IsFileFault held before now command =
+    Rose (before (file_of command)) (now (file_of command)) ⊎ IsSecondFault held before now command
 
--- a file could not be read: the count of the problem's file has risen, or that of the second file
+-- a file that the words ask for could not be read
 abbrev pub IsReadFault : (List ℕ → Told) → (before now : List ℕ → ℕ) → CommandWords → Type 0
-IsReadFault held before now words =
-    (command : Command) × IsAsked words command
-    × (Rose (before (problem_name words)) (now (problem_name words)) ⊎ IsSecondFault held before now words command)
+IsReadFault held before now words = (command : Command) × IsAsked words command × IsFileFault held before now command

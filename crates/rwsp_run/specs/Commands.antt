@@ -1,12 +1,12 @@
 -- What each command reads, answers, prints and ends with: a line each, from the definitions of the command.
-use Rattle.std.specs.Prelude.{ℕ, ◌<◌, ◌+◌, ◌≤◌, List, Option, Some, None}
-use Rattle.rwsp_terms.specs.declared.limits.TheConstants.{GREATEST_BUDGET, MOST_WEEKS, MOST_SIZES, GREATEST_STAFF_BUDGET, MOST_WORKERS, LONGEST_CALENDAR}
+use Rattle.std.specs.Prelude.{ℕ, List}
 use Rattle.rwsp_terms.specs.Instance.{Instance}
 use Rattle.rwsp_file.specs.Text.{problem_text}
 use Rattle.refutation_log.specs.Planned.{IsPlanned}
-use Rattle.command_line.specs.Commands.{IsEmployeeNumber}
-use Rattle.command_line.specs.declared.command.Command.{Command}
-use Rattle.command_line.specs.declared.command.Command.TheVariants as Commands
+use Rattle.command_line.specs.declared.command.ProblemTask.{ProblemTask}
+use Rattle.command_line.specs.declared.command.ProblemTask.TheVariants as ProblemTasks
+use Rattle.command_line.specs.declared.command.FilesTask.{FilesTask}
+use Rattle.command_line.specs.declared.command.FilesTask.TheVariants as FilesTasks
 use Rattle.commands.specs.Plan.{plan_text, plan_status, IsPlanOf}
 use Rattle.commands.specs.Best.{IsBestAnswer, best_text, best_status, IsBestOf}
 use Rattle.commands.specs.Staff.{IsStaffAnswer, staff_answer_text, staff_status, IsStaffAnswerOf}
@@ -21,41 +21,29 @@ use Rattle.commands.specs.declared.second_file.SecondKind.TheVariants as Kinds
 use Rattle.rwsp_run.specs.declared.jobs.JobAnswer.{JobAnswer}
 use Rattle.rwsp_run.specs.declared.jobs.JobAnswer.TheVariants as Jobs
 
--- the kind of a command's second file, where it reads one
-abbrev pub second_kind : Command → Option SecondKind
-second_kind Commands.Verify = Some Kinds.Roster
-second_kind (Commands.Crew date days employee) = Some Kinds.Roster
-second_kind (Commands.Check workers) = Some Kinds.Log
-second_kind Commands.Reduce = Some Kinds.Log
-second_kind Commands.CheckStaff = Some Kinds.Log
-second_kind Commands.CheckFree = Some Kinds.Log
-second_kind command = None
+-- the kind of a task's second file
+abbrev pub second_kind : FilesTask → SecondKind
+second_kind FilesTasks.Verify = Kinds.Roster
+second_kind (FilesTasks.Crew date days employee) = Kinds.Roster
+second_kind task = Kinds.Log
 
--- the numbers of a command are as its form has them
-abbrev pub HasItsNumbers : Command → Type 0
-HasItsNumbers (Commands.Plan budget) = (1 ≤ budget) × (budget ≤ GREATEST_BUDGET)
-HasItsNumbers (Commands.Best budget) = (1 ≤ budget) × (budget ≤ GREATEST_BUDGET)
-HasItsNumbers (Commands.Check workers) = (1 ≤ workers) × (workers ≤ MOST_WORKERS)
-HasItsNumbers (Commands.Crew date days employee) = (days ≤ LONGEST_CALENDAR) × IsEmployeeNumber employee
-HasItsNumbers (Commands.Trial number weeks) = (1 ≤ weeks) × (weeks ≤ MOST_WEEKS)
-HasItsNumbers (Commands.Staff low high budget) =
-    (1 ≤ low) × ((low ≤ high) × (high ≤ MOST_WEEKS) × (high < low + MOST_SIZES))
-    × ((1 ≤ budget) × (budget ≤ GREATEST_STAFF_BUDGET))
-HasItsNumbers command = Unit {0}
+-- what the answer to a task says of the problem
+abbrev pub IsProblemAnswer : ProblemTask → Instance → JobAnswer → Type 0
+IsProblemAnswer ProblemTasks.Show P Jobs.Show = Unit {0}
+IsProblemAnswer (ProblemTasks.Plan budget) P (Jobs.Plan found) = IsPlanned P budget found
+IsProblemAnswer (ProblemTasks.Best budget) P (Jobs.Best found) = IsBestAnswer P budget found
+IsProblemAnswer (ProblemTasks.Staff low high budget) P (Jobs.Staff a) = IsStaffAnswer P low high budget a
+IsProblemAnswer task P answer = ⊥
 
--- what the answer to a command says of the problem and of the bytes of the second file
-abbrev pub IsJobAnswer : Command → Instance → List ℕ → JobAnswer → Type 0
-IsJobAnswer Commands.Show P bytes Jobs.Show = Unit {0}
-IsJobAnswer (Commands.Plan budget) P bytes (Jobs.Plan found) = IsPlanned P budget found
-IsJobAnswer (Commands.Best budget) P bytes (Jobs.Best found) = IsBestAnswer P budget found
-IsJobAnswer (Commands.Staff low high budget) P bytes (Jobs.Staff a) = IsStaffAnswer P low high budget a
-IsJobAnswer Commands.Verify P bytes (Jobs.Verify a) = IsVerified P bytes a
-IsJobAnswer (Commands.Check workers) P bytes (Jobs.Check a) = IsChecked P bytes a
-IsJobAnswer Commands.CheckFree P bytes (Jobs.CheckFree a) = IsCheckedFree P bytes a
-IsJobAnswer Commands.CheckStaff P bytes (Jobs.CheckStaff a) = IsCheckedStaff P bytes a
-IsJobAnswer Commands.Reduce P bytes (Jobs.Reduce a) = IsReduction P bytes a
-IsJobAnswer (Commands.Crew date days employee) P bytes (Jobs.Crew a) = IsCrewAnswer P bytes date days employee a
-IsJobAnswer command P bytes answer = ⊥
+-- what the answer to a task says of the problem and of the bytes of the second file
+abbrev pub IsFilesAnswer : FilesTask → Instance → List ℕ → JobAnswer → Type 0
+IsFilesAnswer FilesTasks.Verify P bytes (Jobs.Verify a) = IsVerified P bytes a
+IsFilesAnswer (FilesTasks.Check workers) P bytes (Jobs.Check a) = IsChecked P bytes a
+IsFilesAnswer FilesTasks.CheckFree P bytes (Jobs.CheckFree a) = IsCheckedFree P bytes a
+IsFilesAnswer FilesTasks.CheckStaff P bytes (Jobs.CheckStaff a) = IsCheckedStaff P bytes a
+IsFilesAnswer FilesTasks.Reduce P bytes (Jobs.Reduce a) = IsReduction P bytes a
+IsFilesAnswer (FilesTasks.Crew date days employee) P bytes (Jobs.Crew a) = IsCrewAnswer P bytes date days employee a
+IsFilesAnswer task P bytes answer = ⊥
 
 -- the text of an answer to a command on a problem
 abbrev pub job_text : Instance → JobAnswer → List ℕ

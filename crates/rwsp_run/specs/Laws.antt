@@ -17,15 +17,18 @@ use Rattle.refutation_log.specs.declared.best_found.BestFound.TheVariants as Bes
 use Rattle.crew_size.specs.Texts.{Staff as StaffRun, staff_text}
 use Rattle.crew_size.specs.Laws.{decision_of}
 use Rattle.crew_size.specs.declared.verdict.Staffed.{Staffed}
-use Rattle.command_line.specs.Commands.{CommandWords, problem_name, second_name}
+use Rattle.command_line.specs.Commands.{CommandWords, ReadsSecond, file_of, second_of}
 use Rattle.command_line.specs.declared.command.Command.{Command}
-use Rattle.command_line.specs.declared.command.Command.TheVariants as Commands
+use Rattle.command_line.specs.declared.command.Command.TheVariants.{OnProblem, OnFiles}
+use Rattle.command_line.specs.declared.command.ProblemTask.{ProblemTask}
+use Rattle.command_line.specs.declared.command.ProblemTask.TheVariants.{Plan, Best, Staff}
+use Rattle.command_line.specs.declared.command.FilesTask.{FilesTask}
+use Rattle.command_line.specs.declared.command.FilesTask.TheVariants.{Check, Verify, Reduce, CheckFree, CheckStaff}
 use Rattle.commands.specs.Files.{IsWithinLimit}
 use Rattle.commands.specs.ProblemFile.{IsShortFile}
 use Rattle.commands.specs.Plan.{PlansAgree}
 use Rattle.commands.specs.Best.{BestsAgree, best_roster}
 use Rattle.commands.specs.Staff.{StaffsAgree}
-use Rattle.commands.specs.declared.second_file.SecondKind.{SecondKind}
 use Rattle.commands.specs.declared.second_file.SecondKind.TheVariants as Kinds
 use Rattle.commands.specs.declared.staff.Answer.TheVariants as Staffs
 use Rattle.commands.specs.declared.verify.Answer.TheVariants as Verifies
@@ -35,19 +38,22 @@ use Rattle.commands.specs.declared.check_staff.Answer.TheVariants as StaffChecks
 use Rattle.commands.specs.declared.reduce.Answer.TheVariants as Reductions
 use Rattle.rwsp_run.specs.Answers.{IsAnswer, IsAnswerOn, IsAsked}
 use Rattle.rwsp_run.specs.Texts.{IsTextOf}
-use Rattle.rwsp_run.specs.Commands.{job_text, second_kind}
+use Rattle.rwsp_run.specs.Commands.{job_text}
 use Rattle.rwsp_run.specs.declared.jobs.JobAnswer.{JobAnswer}
 use Rattle.rwsp_run.specs.declared.jobs.JobAnswer.TheVariants as Jobs
 use Rattle.rwsp_run.specs.declared.answer.Answer.{Answer}
 use Rattle.rwsp_run.specs.declared.answer.Answer.TheVariants.{Trial, Job}
 
--- the shelf tells what the problem's file holds, or that it isn't there, where the words are a form of a command that
--- reads one; and so for the second file
+-- the shelf tells what the problem's file holds, or that it isn't there, where the words ask for a command that reads
+-- one
+abbrev pub IsProblemTold : (List ℕ → Told) → CommandWords → Type 0
+IsProblemTold held words = (command : Command) → IsAsked words command → held (file_of command) ≢ Silent
+
+-- and so for the second file
 abbrev pub AreTold : (List ℕ → Told) → CommandWords → Type 0
 AreTold held words =
-    ((command : Command) → IsAsked words command → held (problem_name words) ≢ Silent)
-    × ((command : Command) (kind : SecondKind) → IsAsked words command → second_kind command ≡ Some kind
-    → held (second_name words) ≢ Silent)
+    IsProblemTold held words
+    × ((command : Command) → IsAsked words command → ReadsSecond command → held (second_of command) ≢ Silent)
 
 -- two answers of a search that may both fit: it is free to choose
 abbrev pub JobsAgree : JobAnswer → JobAnswer → Type 0
@@ -74,69 +80,77 @@ AnswersAreOne =
 abbrev pub TextsAreOne : Type 0
 TextsAreOne =
     (held : List ℕ → Told) (words : CommandWords) (a : Answer) (text other : List ℕ)
-    → held (problem_name words) ≢ Silent → IsTextOf held words a text → IsTextOf held words a other
+    → IsProblemTold held words → IsTextOf held words a text → IsTextOf held words a other
     → text ≡ other
 
 -- where the words ask for a command, and the problem's file spells an instance, an answer is one of the command's there
 abbrev pub ProblemsAreAnswered : Type 0
 ProblemsAreAnswered =
     (held : List ℕ → Told) (words : CommandWords) (command : Command) (file : List ℕ) (P : Instance) (a : Answer)
-    → IsAsked words command → held (problem_name words) ≡ Bytes file → IsShortFile file → SpellsProblem file P
+    → IsAsked words command → held (file_of command) ≡ Bytes file → IsShortFile file → SpellsProblem file P
     → IsAnswer held words a
-    → IsAnswerOn command (held (second_name words)) P a
+    → IsAnswerOn command (held (second_of command)) P a
+
+-- an answer to a task on a problem, whatever its file is called
+abbrev pub IsAnswerOnProblem : ProblemTask → Instance → Answer → Type 0
+IsAnswerOnProblem task P answer = (name : List ℕ) × (told : Told) × IsAnswerOn (OnProblem name task) told P answer
+
+-- the same with what a second file tells
+abbrev pub IsAnswerOnFiles : FilesTask → Told → Instance → Answer → Type 0
+IsAnswerOnFiles task told P answer = (name second : List ℕ) × IsAnswerOn (OnFiles name second task) told P answer
 
 -- the text of a roster that `plan` writes for what a file spells meets every rule by `verify`
 abbrev pub RostersMeet : Type 0
 RostersMeet =
-    (file : List ℕ) (P : Instance) (budget : ℕ) (told : Told) (s : Roster) (a : Answer)
-    → SpellsProblem file P → IsAnswerOn (Commands.Plan budget) told P (Job (Jobs.Plan (Founds.Roster s)))
-    → IsAnswerOn Commands.Verify (Bytes (job_text P (Jobs.Plan (Founds.Roster s)))) P a
+    (file : List ℕ) (P : Instance) (budget : ℕ) (s : Roster) (a : Answer)
+    → SpellsProblem file P → IsAnswerOnProblem (Plan budget) P (Job (Jobs.Plan (Founds.Roster s)))
+    → IsAnswerOnFiles Verify (Bytes (job_text P (Jobs.Plan (Founds.Roster s)))) P a
     → a ≡ Job (Jobs.Verify Verifies.Meets)
 
 -- the text of a refutation that `plan` writes is accepted by `check` over the same file, with the rules that it names
 abbrev pub RefutationsAreAccepted : Type 0
 RefutationsAreAccepted =
-    (file : List ℕ) (P : Instance) (budget workers : ℕ) (told : Told) (g : Log) (a : Answer)
-    → SpellsProblem file P → IsAnswerOn (Commands.Plan budget) told P (Job (Jobs.Plan (Founds.NoRoster g)))
+    (file : List ℕ) (P : Instance) (budget workers : ℕ) (g : Log) (a : Answer)
+    → SpellsProblem file P → IsAnswerOnProblem (Plan budget) P (Job (Jobs.Plan (Founds.NoRoster g)))
     → IsWithinLimit Kinds.Log (job_text P (Jobs.Plan (Founds.NoRoster g)))
-    → IsAnswerOn (Commands.Check workers) (Bytes (job_text P (Jobs.Plan (Founds.NoRoster g)))) P a
+    → IsAnswerOnFiles (Check workers) (Bytes (job_text P (Jobs.Plan (Founds.NoRoster g)))) P a
     → a ≡ Job (Jobs.Check (Checks.Accepted g.named))
 
 -- the text of what `reduce` writes is accepted by `check`, with the rules that it names
 abbrev pub ReductionsAreAccepted : Type 0
 ReductionsAreAccepted =
     (file : List ℕ) (P : Instance) (workers : ℕ) (told : Told) (h : Log) (a : Answer)
-    → SpellsProblem file P → IsAnswerOn Commands.Reduce told P (Job (Jobs.Reduce (Reductions.Reduced h)))
+    → SpellsProblem file P → IsAnswerOnFiles Reduce told P (Job (Jobs.Reduce (Reductions.Reduced h)))
     → IsWithinLimit Kinds.Log (job_text P (Jobs.Reduce (Reductions.Reduced h)))
-    → IsAnswerOn (Commands.Check workers) (Bytes (job_text P (Jobs.Reduce (Reductions.Reduced h)))) P a
+    → IsAnswerOnFiles (Check workers) (Bytes (job_text P (Jobs.Reduce (Reductions.Reduced h)))) P a
     → a ≡ Job (Jobs.Check (Checks.Accepted h.named))
 
 -- the text of what `staff` writes with a least crew, or with none up to the last size, is accepted by `check-staff`,
 -- with what it decides
 abbrev pub StaffTextsAreAccepted : Type 0
 StaffTextsAreAccepted =
-    (file : List ℕ) (P : Instance) (low high budget : ℕ) (told : Told) (run : StaffRun) (staffed : Staffed) (a : Answer)
+    (file : List ℕ) (P : Instance) (low high budget : ℕ) (run : StaffRun) (staffed : Staffed) (a : Answer)
     → SpellsProblem file P → (1 ≤ low) × (low ≤ high) × (high ≤ MOST_WEEKS)
-    → IsAnswerOn (Commands.Staff low high budget) told P (Job (Jobs.Staff (Staffs.Run run)))
+    → IsAnswerOnProblem (Staff low high budget) P (Job (Jobs.Staff (Staffs.Run run)))
     → decision_of run ≡ Some staffed → IsWithinLimit Kinds.Log (staff_text P run)
-    → IsAnswerOn Commands.CheckStaff (Bytes (staff_text P run)) P a
+    → IsAnswerOnFiles CheckStaff (Bytes (staff_text P run)) P a
     → a ≡ Job (Jobs.CheckStaff (StaffChecks.Accepted staffed))
 
 -- the roster that `best` finds meets every rule by `verify`, also where the budget was spent
 abbrev pub BestRostersMeet : Type 0
 BestRostersMeet =
-    (file : List ℕ) (P : Instance) (budget : ℕ) (told : Told) (found : BestFound) (s : Roster) (a : Answer)
-    → SpellsProblem file P → IsAnswerOn (Commands.Best budget) told P (Job (Jobs.Best found))
-    → best_roster found ≡ Some s → IsAnswerOn Commands.Verify (Bytes (roster_text P s.cells)) P a
+    (file : List ℕ) (P : Instance) (budget : ℕ) (found : BestFound) (s : Roster) (a : Answer)
+    → SpellsProblem file P → IsAnswerOnProblem (Best budget) P (Job (Jobs.Best found))
+    → best_roster found ≡ Some s → IsAnswerOnFiles Verify (Bytes (roster_text P s.cells)) P a
     → a ≡ Job (Jobs.Verify Verifies.Meets)
 
 -- the roster that `best` finds with a proof meets every rule by `verify`, and no roster that does has more free
 -- weekends
 abbrev pub BestRostersAreBest : Type 0
 BestRostersAreBest =
-    (file : List ℕ) (P : Instance) (budget : ℕ) (told : Told) (s : Roster) (g : Log) (a : Answer)
-    → SpellsProblem file P → IsAnswerOn (Commands.Best budget) told P (Job (Jobs.Best (Bests.Best s g)))
-    → IsAnswerOn Commands.Verify (Bytes (roster_text P s.cells)) P a
+    (file : List ℕ) (P : Instance) (budget : ℕ) (s : Roster) (g : Log) (a : Answer)
+    → SpellsProblem file P → IsAnswerOnProblem (Best budget) P (Job (Jobs.Best (Bests.Best s g)))
+    → IsAnswerOnFiles Verify (Bytes (roster_text P s.cells)) P a
     → (a ≡ Job (Jobs.Verify Verifies.Meets))
     × ((t : List Symbol) → MeetsAll P t → free_weekends t ≤ free_weekends s.cells)
 
@@ -149,14 +163,14 @@ IsProofOf (Bests.Undecided s g) goal h = ⊥
 -- the log that `best` writes as a proof is accepted by `check-free`, with its goal and the rules that it names
 abbrev pub BestProofsAreAccepted : Type 0
 BestProofsAreAccepted =
-    (file : List ℕ) (P : Instance) (budget goal : ℕ) (told : Told) (found : BestFound) (g : Log) (a : Answer)
-    → SpellsProblem file P → IsAnswerOn (Commands.Best budget) told P (Job (Jobs.Best found))
+    (file : List ℕ) (P : Instance) (budget goal : ℕ) (found : BestFound) (g : Log) (a : Answer)
+    → SpellsProblem file P → IsAnswerOnProblem (Best budget) P (Job (Jobs.Best found))
     → IsProofOf found goal g → IsWithinLimit Kinds.Log (free_log_text P goal g)
-    → IsAnswerOn Commands.CheckFree (Bytes (free_log_text P goal g)) P a
+    → IsAnswerOnFiles CheckFree (Bytes (free_log_text P goal g)) P a
     → a ≡ Job (Jobs.CheckFree (Frees.Accepted goal g.named))
 
 -- the number of workers makes no difference to what is said of an answer
 abbrev pub WorkersMakeNoDifference : Type 0
 WorkersMakeNoDifference =
-    (m n : ℕ) (told : Told) (P : Instance) (a : Answer) → IsAnswerOn (Commands.Check m) told P a
-    → IsAnswerOn (Commands.Check n) told P a
+    (m n : ℕ) (name second : List ℕ) (told : Told) (P : Instance) (a : Answer)
+    → IsAnswerOn (OnFiles name second (Check m)) told P a → IsAnswerOn (OnFiles name second (Check n)) told P a

@@ -1,10 +1,11 @@
-// What each command needs, does, prints and ends with: a line each, for the module of the command.
+// What each task needs, does, prints and ends with: a line each, for the module of the command.
 ghost use Rattle.std.specs.Prelude.{◌≡◌, ◌↔◌, IfOk, IsTrue};
-ghost use Rattle.command_line.specs.Commands.{ReadsProblem, IsWithinHorizon, HasDaysFor};
-ghost use Rattle.commands.specs.Files.{IsShort};
-ghost use Rattle.rwsp_run.specs.Commands.{IsJobAnswer, IsPrintable, HasItsNumbers, job_text, second_kind};
+ghost use Rattle.command_line.specs.Commands.{IsProblemTaskInRange, IsFilesTaskInRange, EndsInTime, HasProblemDays, HasFilesDays};
+ghost use Rattle.commands.specs.Files.{IsWithinLimit};
+ghost use Rattle.rwsp_run.specs.Commands.{IsProblemAnswer, IsFilesAnswer, IsPrintable, job_text, second_kind};
 
-use command_line::Command;
+use command_line::{FilesTask, ProblemTask};
+use commands::staff::Sizes;
 use commands::{
     SecondKind, best, check, check_free, check_staff, crew, plan, reduce, staff, verify,
 };
@@ -32,80 +33,104 @@ pub enum JobAnswer {
     Crew(crew::Answer),
 }
 
-/// The kind of the command's second file, where it reads one.
-pub fn second_kind(command: Command) -> Option<SecondKind>
-    ensures { result ≡ second_kind command }
+/// The kind of the task's second file.
+pub fn second_kind(task: &FilesTask) -> SecondKind
+    ensures { result ≡ second_kind task.now }
 {
-    match command {
-        Command::Verify | Command::Crew { .. } => Some(SecondKind::Roster),
-        Command::Check { .. } | Command::Reduce => Some(SecondKind::Log),
-        Command::CheckStaff | Command::CheckFree => Some(SecondKind::Log),
-        _ => None,
+    match task {
+        FilesTask::Verify | FilesTask::Crew { .. } => SecondKind::Roster,
+        _ => SecondKind::Log,
     }
 }
 
-/// Whether the week of the problem has as many days as the command asks for.
-pub fn has_days_for(command: &Command, problem: &Problem) -> bool
-    ensures { IsTrue result ↔ HasDaysFor command.now problem.now }
+/// Whether the week of the problem has as many days as the task on it asks for.
+pub fn has_problem_days(task: &ProblemTask, problem: &Problem) -> bool
+    ensures { IsTrue result ↔ HasProblemDays task.now problem.now }
 {
-    match command {
-        Command::CheckFree | Command::Best { .. } => problem.days() == DAYS_OF_WEEK,
+    match task {
+        ProblemTask::Best { .. } => problem.days() == DAYS_OF_WEEK,
         _ => true,
     }
 }
 
-/// The answer of a command on a problem and the bytes of its second file.
-pub fn answer_on<R: Threads + Sync, G: Gate>(
+/// Whether the week of the problem has as many days as the task on two files asks for.
+pub fn has_files_days(task: &FilesTask, problem: &Problem) -> bool
+    ensures { IsTrue result ↔ HasFilesDays task.now problem.now }
+{
+    match task {
+        FilesTask::CheckFree => problem.days() == DAYS_OF_WEEK,
+        _ => true,
+    }
+}
+
+/// The answer of a task on a problem.
+pub fn answer_on_problem<R: Threads + Sync, G: Gate>(
+    rt: &R,
+    alloc: Global,
+    problem: &Problem,
+    task: ProblemTask,
+    gate: &G,
+) -> Result<JobAnswer, AllocError>
+    requires range { IsProblemTaskInRange task }
+    requires days { HasProblemDays task problem.now }
+    ensures answer { IfOk result (IsProblemAnswer task problem.now) }
+    ensures printable { IfOk result (IsPrintable problem.now) }
+{
+    match task {
+        ProblemTask::Show => Ok(JobAnswer::Show),
+        ProblemTask::Plan { budget } => {
+            let found = plan::job(rt, alloc, problem, budget, gate)?;
+            Ok(JobAnswer::Plan(found))
+        }
+        ProblemTask::Best { budget } => {
+            let found = best::job(alloc, problem, budget)?;
+            Ok(JobAnswer::Best(found))
+        }
+        ProblemTask::Staff { low, high, budget } => {
+            let answer = staff::job(rt, alloc, problem, Sizes { low, high }, budget, gate)?;
+            Ok(JobAnswer::Staff(answer))
+        }
+    }
+}
+
+/// The answer of a task on a problem and the bytes of its second file.
+pub fn answer_on_files<R: Threads + Sync, G: Gate>(
     rt: &R,
     alloc: Global,
     problem: &Problem,
     bytes: Vec<u8>,
-    command: Command,
+    task: FilesTask,
     gate: &G,
 ) -> Result<JobAnswer, AllocError>
-    requires asked { ReadsProblem command }
-    requires numbers { HasItsNumbers command }
-    requires horizon { IsWithinHorizon command }
-    requires days { HasDaysFor command problem.now }
-    requires short { IsShort (second_kind command) bytes.items }
-    ensures answer { IfOk result (IsJobAnswer command problem.now bytes.items) }
+    requires range { IsFilesTaskInRange task }
+    requires horizon { EndsInTime task }
+    requires days { HasFilesDays task problem.now }
+    requires short { IsWithinLimit (second_kind task) bytes.items }
+    ensures answer { IfOk result (IsFilesAnswer task problem.now bytes.items) }
     ensures printable { IfOk result (IsPrintable problem.now) }
 {
-    match command {
-        Command::Show => Ok(JobAnswer::Show),
-        Command::Plan { budget } => {
-            let found = plan::job(rt, alloc, problem, budget, gate)?;
-            Ok(JobAnswer::Plan(found))
-        }
-        Command::Best { budget } => {
-            let found = best::job(alloc, problem, budget)?;
-            Ok(JobAnswer::Best(found))
-        }
-        Command::Staff { low, high, budget } => {
-            let answer = staff::job(rt, alloc, problem, low, high, budget, gate)?;
-            Ok(JobAnswer::Staff(answer))
-        }
-        Command::Verify => {
+    match task {
+        FilesTask::Verify => {
             let answer = verify::job(alloc, problem, &bytes)?;
             Ok(JobAnswer::Verify(answer))
         }
-        Command::Check { workers } => {
+        FilesTask::Check { workers } => {
             let answer = check::job(rt, alloc, problem, &bytes, workers, gate)?;
             Ok(JobAnswer::Check(answer))
         }
-        Command::CheckFree => {
+        FilesTask::CheckFree => {
             let answer = check_free::job(rt, alloc, problem, &bytes, gate)?;
             Ok(JobAnswer::CheckFree(answer))
         }
-        Command::CheckStaff => {
+        FilesTask::CheckStaff => {
             let answer = check_staff::job(rt, alloc, problem, &bytes, gate)?;
             Ok(JobAnswer::CheckStaff(answer))
         }
-        Command::Reduce => {
+        FilesTask::Reduce => {
             let answer = reduce::job(rt, alloc, problem, bytes, gate)?;
             Ok(JobAnswer::Reduce(answer))
         }
-        Command::Crew {
+        FilesTask::Crew {
             date,
             days,
             employee,
@@ -113,7 +138,6 @@ pub fn answer_on<R: Threads + Sync, G: Gate>(
             let answer = crew::job(alloc, problem, &bytes, date, days, employee)?;
             Ok(JobAnswer::Crew(answer))
         }
-        Command::Trial { .. } => unreachable!(),
     }
 }
 

@@ -9,6 +9,7 @@ ghost use Rattle.commands.specs.declared.trial.Answer.{Answer as TrialAnswer};
 
 use crate::answer::{Answer, Refusal};
 use crate::jobs::{JobAnswer, text_of};
+use command_line::usage;
 use commands::{not_weekly_line, problem_refusal_line, too_long_line, trial};
 use potential_bounds::Gate;
 use rwsp_model::Problem;
@@ -23,14 +24,11 @@ pub struct Reply {
     pub text: Vec<u8>,
 }
 
-const USAGE: &str =
-    "usage: rwsp plan FILE [--budget B] | check FILE LOG [--workers N] | verify FILE ROSTER | reduce FILE LOG | show FILE | trial NUMBER WEEKS | best FILE [--budget B] | check-free FILE LOG | staff FILE LOW HIGH [--budget B] | check-staff FILE TEXT | crew FILE ROSTER DATE DAYS [EMPLOYEE]\n";
-
 fn refusal_line(alloc: Global, why: Refusal) -> Result<String, AllocError>
     ensures { IfOk result (λ t. string_bytes t ≡ refusal_line why) }
 {
     match why {
-        Refusal::Usage => String::from_str(alloc, USAGE),
+        Refusal::Usage => format!(in alloc; "{}\n", usage()),
         Refusal::Horizon => String::from_str(alloc, "horizon refused\n"),
         Refusal::Problem(why) => problem_refusal_line(alloc, why),
         Refusal::NotWeekly(days) => not_weekly_line(alloc, days),

@@ -1,23 +1,24 @@
 // One call that answers a command line.
-ghost use Rattle.std.specs.Prelude.{◌≡◌, ℕ, ◌≤◌, List, length, take, IfOk, IsErrOf};
+ghost use Rattle.std.specs.Prelude.{◌≡◌, ℕ, List, IfOk, IsErrOf};
 ghost use Rattle.std.specs.Io.KnownBytes.{Appends, Keeps};
 ghost use Rattle.rwsp_io.specs.Told.{Rose, Missing};
-ghost use Rattle.command_line.specs.Commands.{ReadsProblem, IsWithinHorizon, HasDaysFor, problem_name};
-ghost use Rattle.commands.specs.Files.{IsShort};
-ghost use Rattle.rwsp_run.specs.Commands.{IsJobAnswer, IsPrintable, HasItsNumbers, job_text, second_kind};
-ghost use Rattle.rwsp_run.specs.Answers.{IsAnswer, IsAsked, IsReadFault};
-ghost use Rattle.rwsp_run.specs.Texts.{IsTextOf};
+ghost use Rattle.command_line.specs.Commands.{IsInRange, IsProblemTaskInRange, IsFilesTaskInRange, HasProblemDays, HasFilesDays, EndsInTime, IsWithinHorizon, ReadsProblem, file_of};
+ghost use Rattle.commands.specs.Files.{IsWithinLimit};
+ghost use Rattle.rwsp_run.specs.Commands.{IsProblemAnswer, IsFilesAnswer, IsPrintable, job_text, second_kind};
+ghost use Rattle.rwsp_run.specs.Answers.{IsAnswer, IsAnswerTo, IsAsked, IsFileFault, IsReadFault};
+ghost use Rattle.rwsp_run.specs.Texts.{IsTextOf, IsTextFor, AppendsPrefix};
 ghost use Rattle.rwsp_run.specs.declared.jobs.JobAnswer.{JobAnswer as AnswerOfJob};
 ghost use Rattle.rwsp_run.specs.declared.answer.Answer.TheVariants as Answers;
 
 use crate::answer::{Answer, Outcome, Refusal};
-use crate::inputs::{Inputs, inputs_of};
-use crate::jobs::answer_on;
+use crate::inputs::{Files, files_for, problem_for};
+use crate::jobs::{answer_on_files, answer_on_problem};
 use crate::reply::{Reply, printed, refused, tried};
-use command_line::{Command, command_of, is_within_horizon};
+use command_line::{Command, FilesTask, ProblemTask, command_of, is_within_horizon};
 use commands::Stop;
 use potential_bounds::Gate;
 use rwsp_io::{Shelf, Sink, write_all};
+use rwsp_model::Problem;
 use std::alloc::{AllocError, Global};
 use std::thread::Threads;
 
@@ -43,14 +44,14 @@ pub fn run<R: Threads + Sync, S: Shelf, K: Sink, G: Gate>(
         × Appends (K.got out.old) (K.got out.new) text }
     ensures prefix { (a : Answer) → result ≡ Outcome.WriteFault a
         → (text : List ℕ) × IsTextOf (S.held shelf.old) words.now.items a text
-        × ((n : ℕ) × (n ≤ length text) × Appends (K.got out.old) (K.got out.new) (take n text)) }
+        × AppendsPrefix (K.got out.old) (K.got out.new) text }
     ensures write_fault { (a : Answer) → result ≡ Outcome.WriteFault a → Rose (K.faults out.old) (K.faults out.new) }
 
     // Where a file couldn't be read, or there was no memory, nothing was written.
     ensures read_fault { result ≡ Outcome.Stopped Stop.ReadFault
         → IsReadFault (S.held shelf.old) (S.faults shelf.old) (S.faults shelf.new) words.now.items }
     ensures missing { (command : Command) → IsAsked words.now.items command
-        → S.held shelf.old (problem_name words.now.items) ≡ Missing
+        → S.held shelf.old (file_of command) ≡ Missing
         → result ≡ Outcome.Stopped Stop.ReadFault }
     ensures silent { (stop : Stop) → result ≡ Outcome.Stopped stop → Keeps (K.got out.old) (K.got out.new) }
 {
@@ -76,7 +77,7 @@ fn reply_to<R: Threads + Sync, S: Shelf, G: Gate>(
     ensures answer { IfOk result (λ r. IsAnswer (S.held shelf.old) words.now.items r.answer) }
     ensures text { IfOk result (λ r. IsTextOf (S.held shelf.old) words.now.items r.answer r.text.items) }
     ensures missing { (command : Command) → IsAsked words.now.items command
-        → S.held shelf.old (problem_name words.now.items) ≡ Missing
+        → S.held shelf.old (file_of command) ≡ Missing
         → IsErrOf result Stop.ReadFault }
     ensures fault { IsErrOf result Stop.ReadFault
         → IsReadFault (S.held shelf.old) (S.faults shelf.old) (S.faults shelf.new) words.now.items }
@@ -84,56 +85,79 @@ fn reply_to<R: Threads + Sync, S: Shelf, G: Gate>(
     let Some(command) = command_of(words) else {
         return Ok(refused(alloc, Refusal::Usage)?);
     };
-    if !is_within_horizon(&command) {
-        return Ok(refused(alloc, Refusal::Horizon)?);
-    }
-    match command {
-        Command::Trial { number, weeks } => Ok(tried(rt, alloc, number, weeks, gate)?),
-        _ => reply_on_files(rt, alloc, words, shelf, command, gate),
+    if is_within_horizon(&command) {
+        reply_on(rt, alloc, shelf, &command, gate)
+    } else {
+        Ok(refused(alloc, Refusal::Horizon)?)
     }
 }
 
-// The reply of a command that reads files.
-#[tactic(auto, using(crate::proofs::Numbers::has_numbers, crate::proofs::Files::short_second))]
-fn reply_on_files<R: Threads + Sync, S: Shelf, G: Gate>(
+// The reply to a command.
+fn reply_on<R: Threads + Sync, S: Shelf, G: Gate>(
     rt: &R,
     alloc: Global,
-    words: &Vec<String>,
     shelf: &mut S,
-    command: Command,
+    command: &Command,
     gate: &G,
 ) -> Result<Reply, Stop>
-    requires { IsAsked words.now.items command }
-    ensures answer { IfOk result (λ r. IsAnswer (S.held shelf.old) words.now.items r.answer) }
-    ensures text { IfOk result (λ r. IsTextOf (S.held shelf.old) words.now.items r.answer r.text.items) }
-    ensures missing { S.held shelf.old (problem_name words.now.items) ≡ Missing → IsErrOf result Stop.ReadFault }
-    ensures fault { IsErrOf result Stop.ReadFault
-        → IsReadFault (S.held shelf.old) (S.faults shelf.old) (S.faults shelf.new) words.now.items }
+    requires range { IsInRange command.now }
+    requires horizon { IsWithinHorizon command.now }
+    ensures answer { IfOk result (λ r. IsAnswerTo command.now (S.held shelf.old) r.answer) }
+    ensures text { IfOk result (λ r. IsTextFor (S.held shelf.old (file_of command.now)) r.answer r.text.items) }
+    ensures missing { ReadsProblem command.now → S.held shelf.old (file_of command.now) ≡ Missing
+        → IsErrOf result Stop.ReadFault }
+    ensures fault { IsErrOf result Stop.ReadFault → ReadsProblem command.now
+        × IsFileFault (S.held shelf.old) (S.faults shelf.old) (S.faults shelf.new) command.now }
 {
-    match inputs_of(alloc, words, shelf, command)? {
-        Ok(inputs) => Ok(reply_on(rt, alloc, inputs, command, gate)?),
-        Err(why) => Ok(refused(alloc, why)?),
+    match command {
+        Command::Trial { number, weeks } => Ok(tried(rt, alloc, *number, *weeks, gate)?),
+        Command::OnProblem { file, task } => match problem_for(alloc, shelf, file, task)? {
+            Ok(problem) => Ok(reply_on_problem(rt, alloc, problem, *task, gate)?),
+            Err(why) => Ok(refused(alloc, why)?),
+        },
+        Command::OnFiles { file, second, task } => {
+            match files_for(alloc, shelf, file, second, task)? {
+                Ok(files) => Ok(reply_on_files(rt, alloc, files, *task, gate)?),
+                Err(why) => Ok(refused(alloc, why)?),
+            }
+        }
     }
 }
 
-// The reply of a command to what it works on.
-fn reply_on<R: Threads + Sync, G: Gate>(
+// The reply of a task on a problem.
+fn reply_on_problem<R: Threads + Sync, G: Gate>(
     rt: &R,
     alloc: Global,
-    inputs: Inputs,
-    command: Command,
+    problem: Problem,
+    task: ProblemTask,
     gate: &G,
 ) -> Result<Reply, AllocError>
-    requires asked { ReadsProblem command }
-    requires numbers { HasItsNumbers command }
-    requires horizon { IsWithinHorizon command }
-    requires days { HasDaysFor command inputs.problem }
-    requires short { IsShort (second_kind command) inputs.bytes.items }
+    requires range { IsProblemTaskInRange task }
+    requires days { HasProblemDays task problem }
     ensures { IfOk result (λ r. (a : AnswerOfJob) × (r.answer ≡ Answers.Job a)
-        × IsJobAnswer command inputs.problem inputs.bytes.items a × IsPrintable inputs.problem a
-        × (r.text.items ≡ job_text inputs.problem a)) }
+        × IsProblemAnswer task problem a × IsPrintable problem a × (r.text.items ≡ job_text problem a)) }
 {
-    let Inputs { problem, bytes } = inputs;
-    let answer = answer_on(rt, alloc, &problem, bytes, command, gate)?;
+    let answer = answer_on_problem(rt, alloc, &problem, task, gate)?;
+    printed(alloc, &problem, answer)
+}
+
+// The reply of a task on a problem and a second file.
+fn reply_on_files<R: Threads + Sync, G: Gate>(
+    rt: &R,
+    alloc: Global,
+    files: Files,
+    task: FilesTask,
+    gate: &G,
+) -> Result<Reply, AllocError>
+    requires range { IsFilesTaskInRange task }
+    requires horizon { EndsInTime task }
+    requires days { HasFilesDays task files.problem }
+    requires short { IsWithinLimit (second_kind task) files.bytes.items }
+    ensures { IfOk result (λ r. (a : AnswerOfJob) × (r.answer ≡ Answers.Job a)
+        × IsFilesAnswer task files.problem files.bytes.items a × IsPrintable files.problem a
+        × (r.text.items ≡ job_text files.problem a)) }
+{
+    let Files { problem, bytes } = files;
+    let answer = answer_on_files(rt, alloc, &problem, bytes, task, gate)?;
     printed(alloc, &problem, answer)
 }

@@ -2,7 +2,7 @@
 use crew_checker::check_staff;
 use crew_size::{Staffed, is_size, print_staff, with_weeks};
 use potential_bounds::NoGate;
-use roster_planner::staff;
+use roster_planner::{Sizes, least_crew};
 use rwsp_model::Problem;
 use std::alloc::Global;
 use std::test::Fail;
@@ -18,7 +18,8 @@ fn staff_text<R: Threads + Sync>(
     if !is_size(problem, 3) {
         return Err(Fail::from("three weeks are too long"));
     }
-    let run = staff(rt, alloc, problem, 2, 3, 2_000, &NoGate)?;
+    let sizes = Sizes { low: 2, high: 3 };
+    let run = least_crew(rt, alloc, problem, sizes, 2_000, &NoGate)?;
     Ok(print_staff(alloc, problem, &run)?)
 }
 

@@ -1,17 +1,18 @@
 // The texts of the answers to a staff text.
 ghost use Rattle.std.specs.Prelude.{◌≡◌, ◌++◌, [], IfOk, OnOk, codes};
 ghost use Rattle.std.specs.Fmt.{decimal};
+ghost use Rattle.roster_print.specs.RefusalText.{roster_refusal_text};
+ghost use Rattle.roster_checker.specs.BreaksText.{breaks_text, HasBroken};
 ghost use Rattle.commands.specs.Lines.{line};
 ghost use Rattle.commands.specs.LogRefusals.{log_refusal_text, HasSymbols};
-ghost use Rattle.commands.specs.Verify.{breaks_text, roster_refusal_text, HasBroken};
 ghost use Rattle.commands.specs.CheckStaff.{staffed_text, staff_refusal_text, at_weeks, NamesItsOwn};
 
 use crate::log_refusal::put_refusal;
 use crate::put::{put_labelled, put_line_number};
-use crate::verify::{put_breaks, put_roster_refusal};
+use crate::verify::put_roster_refusal;
 use crew_size::{StaffRefusal, Staffed};
 use refutation_log::LogRefusal;
-use roster_checker::Broken;
+use roster_checker::{Broken, put_breaks};
 use roster_print::RosterRefusal;
 use rwsp_model::Problem;
 use std::alloc::{AllocError, Global};
