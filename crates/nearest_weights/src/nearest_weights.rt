@@ -28,12 +28,11 @@ const ROUNDS_AT_TOP: u32 = 200;
 const STEPS_AT_TOP: u32 = 300;
 
 // Words within a tree have one turn.
-const WITHIN: Effort = Effort {
-    first_turns: 1,
-    most_turns: 1,
-    rounds: 24,
-    steps: 60,
-};
+const ROUNDS_WITHIN: u32 = 24;
+// The same where the log has a goal: fewer leaves close a case there.
+const ROUNDS_WITHIN_WITH_GOAL: u32 = 40;
+// The steps of a round within a tree.
+const STEPS_WITHIN: u32 = 60;
 
 // Within a tree no leaf is looked for where a roster has more cells.
 const MOST_CELLS_WITHIN: u32 = 700;
@@ -159,17 +158,26 @@ fn leaf_from(
         place: &place,
         demand: &demand,
     };
-    found_leaf(alloc, &field, weights, effort_of(problem, start))
+    found_leaf(alloc, &field, weights, effort_of(problem, goal, start))
 }
 
 // How far a search goes.
-fn effort_of(problem: &Problem, start: Start) -> Effort
+fn effort_of(problem: &Problem, goal: Option<u32>, start: Start) -> Effort
     ensures some { (1 ≤ result.first_turns) × (result.first_turns ≤ result.most_turns) }
     ensures few { result.most_turns * cells problem.now ≤ LONGEST_WORD }
 {
     problem.prove_limits();
     match start {
-        Start::Within => WITHIN,
+        Start::Within => Effort {
+            first_turns: 1,
+            most_turns: 1,
+            rounds: if goal.is_none() {
+                ROUNDS_WITHIN
+            } else {
+                ROUNDS_WITHIN_WITH_GOAL
+            },
+            steps: STEPS_WITHIN,
+        },
         Start::Top => {
             let most_turns = LONGEST_WORD / problem.cells();
             Effort {
