@@ -29,10 +29,14 @@ const STEPS_AT_TOP: u32 = 300;
 
 // Words within a tree have one turn.
 const ROUNDS_WITHIN: u32 = 24;
-// The same where the log has a goal: fewer leaves close a case there.
-const ROUNDS_WITHIN_WITH_GOAL: u32 = 40;
-// The steps of a round within a tree.
+
 const STEPS_WITHIN: u32 = 60;
+
+// The same where the log has a goal. There the nearest point has one coordinate more, and a leaf that is missed costs
+// more lines.
+const ROUNDS_WITHIN_WITH_GOAL: u32 = 80;
+
+const STEPS_WITHIN_WITH_GOAL: u32 = 240;
 
 // Within a tree no leaf is looked for where a roster has more cells.
 const MOST_CELLS_WITHIN: u32 = 700;
@@ -168,16 +172,7 @@ fn effort_of(problem: &Problem, goal: Option<u32>, start: Start) -> Effort
 {
     problem.prove_limits();
     match start {
-        Start::Within => Effort {
-            first_turns: 1,
-            most_turns: 1,
-            rounds: if goal.is_none() {
-                ROUNDS_WITHIN
-            } else {
-                ROUNDS_WITHIN_WITH_GOAL
-            },
-            steps: STEPS_WITHIN,
-        },
+        Start::Within => effort_within(goal),
         Start::Top => {
             let most_turns = LONGEST_WORD / problem.cells();
             Effort {
@@ -187,6 +182,21 @@ fn effort_of(problem: &Problem, goal: Option<u32>, start: Start) -> Effort
                 steps: STEPS_AT_TOP,
             }
         }
+    }
+}
+
+fn effort_within(goal: Option<u32>) -> Effort
+    ensures { (result.first_turns ≡ 1) × (result.most_turns ≡ 1) }
+{
+    let (rounds, steps) = match goal {
+        None => (ROUNDS_WITHIN, STEPS_WITHIN),
+        Some(_) => (ROUNDS_WITHIN_WITH_GOAL, STEPS_WITHIN_WITH_GOAL),
+    };
+    Effort {
+        first_turns: 1,
+        most_turns: 1,
+        rounds,
+        steps,
     }
 }
 
