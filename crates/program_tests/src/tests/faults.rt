@@ -154,10 +154,21 @@ enum Meets {
     NotSaid,
 }
 
+// Whether the answer is that a roster meets every rule.
+fn says_meets(answer: &Answer) -> bool {
+    match answer {
+        Answer::Job(job) => match job {
+            JobAnswer::Verify(verified) => matches!(verified, verify::Answer::Meets),
+            _ => false,
+        },
+        _ => false,
+    }
+}
+
 fn meets_in(outcome: &Outcome) -> Meets {
     match outcome {
-        Outcome::Done(Answer::Job(JobAnswer::Verify(verify::Answer::Meets))) => Meets::Whole,
-        Outcome::WriteFault(Answer::Job(JobAnswer::Verify(verify::Answer::Meets))) => Meets::Part,
+        Outcome::Done(answer) if says_meets(answer) => Meets::Whole,
+        Outcome::WriteFault(answer) if says_meets(answer) => Meets::Part,
         _ => Meets::NotSaid,
     }
 }
