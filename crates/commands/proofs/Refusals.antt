@@ -11,7 +11,8 @@ use Rattle.rwsp_model.specs.declared.fail.Fail.TheVariants.{Refused}
 use Rattle.roster_checker.specs.declared.broken.Broken.{Broken}
 use Rattle.roster_checker.specs.FirstBroken.{IsFirstBroken}
 use Rattle.refutation_terms.specs.declared.lines.Line.{Line}
-use Rattle.refutation_terms.specs.declared.lines.Line.TheVariants.{Dead, Bound, Free}
+use Rattle.refutation_terms.specs.declared.lines.Line.TheVariants.{Closing}
+use Rattle.refutation_terms.specs.declared.lines.Leaf.TheVariants.{Dead, Bound, Free}
 use Rattle.refutation_terms.specs.declared.lines.Turn.{Turn}
 use Rattle.refutation_terms.specs.declared.lines.LogRefusal.{LogRefusal}
 use Rattle.refutation_terms.specs.declared.lines.LogRefusal.TheVariants as Refusals
@@ -40,15 +41,15 @@ known_at : (P : Instance) (turn : Option Turn) (lines : List Line) (k p z : ℕ)
 known_at P turn lines k p z h = leb-true z (shift_count P) (left_of (nat_le z (shift_count P)) (turn_leaves turn p z) (left_of (opening P turn p z) (lines_leave (take k lines) p z) h))
 
 escaping : (P : Instance) (D : Domains) (line : Line) (w : List Symbol) → ((p z : ℕ) → IsTrue (D p z) → z ≤ shift_count P) → Escapes P D line w → All (IsSymbol P) w
-escaping P D (Dead p len R) w known h = symbols_over P D known p w h.clean.over
-escaping P D (Bound p turns R y) w known h = symbols_over P D known p w h.0.heavy.clean.over
+escaping P D (Closing (Dead p len R)) w known h = symbols_over P D known p w h.clean.over
+escaping P D (Closing (Bound p turns R y)) w known h = symbols_over P D known p w h.0.heavy.clean.over
 escaping P D line w known h = absurd h
 
 escaping_for : (P : Instance) (goal : Option ℕ) (D : Domains) (line : Line) (w : List Symbol) → ((p z : ℕ) → IsTrue (D p z) → z ≤ shift_count P) → EscapesFor P goal D line w → All (IsSymbol P) w
 escaping_for P None D line w known h = escaping P D line w known h
-escaping_for P (Some goal) D (Free turns reward R y) w known h = symbols_over P D known 0 w h.0.heavy.clean.over
-escaping_for P (Some goal) D (Dead p len R) w known h = escaping P D (Dead p len R) w known h
-escaping_for P (Some goal) D (Bound p turns R y) w known h = escaping P D (Bound p turns R y) w known h
+escaping_for P (Some goal) D (Closing (Free turns reward R y)) w known h = symbols_over P D known 0 w h.0.heavy.clean.over
+escaping_for P (Some goal) D (Closing (Dead p len R)) w known h = escaping P D (Closing (Dead p len R)) w known h
+escaping_for P (Some goal) D (Closing (Bound p turns R y)) w known h = escaping P D (Closing (Bound p turns R y)) w known h
 escaping_for P (Some goal) D line w known h = absurd h
 
 tree_caused : (P : Instance) (goal : Option ℕ) (g : Log) (bytes : List ℕ) (n i : ℕ) (w : List Symbol) → TreeCauseFor P goal g.named (domains_at P g.turn g.lines (length g.lines)) n bytes (Refusals.Escape i w) → All (IsSymbol P) w

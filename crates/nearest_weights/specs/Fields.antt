@@ -5,7 +5,7 @@ use Rattle.refutation_terms.specs.declared.lines.Line.{Line}
 use Rattle.refutation_terms.specs.Log.{GoalFits}
 use Rattle.domain_store.specs.Store.{BelongsTo, has_domain}
 use Rattle.domain_store.specs.Cycles.{AreShortRules}
-use Rattle.domain_store.specs.Leaves.{IsHoldingLeafFor}
+use Rattle.domain_store.specs.Leaves.{IsHoldingLeaf}
 use Rattle.nearest_weights.specs.declared.field.Field.{Field}
 
 -- what holds of each field
@@ -17,4 +17,4 @@ pub record IsField (f : Field) : Type 0 where
 
 -- a leaf that holds there
 abbrev pub IsLeafIn : Field → Line → Type 0
-IsLeafIn f line = IsHoldingLeafFor f.automaton.now.problem f.goal (has_domain f.doms.now) line
+IsLeafIn f line = IsHoldingLeaf f.automaton.now.problem f.goal (has_domain f.doms.now) line

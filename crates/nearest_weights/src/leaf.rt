@@ -61,12 +61,12 @@ fn free_leaf_of(
         return Ok(None);
     }
     let rules = field.automaton.rules().copy()?;
-    Ok(Some(Line::Free {
+    Ok(Some(Line::Closing(Leaf::Free {
         turns,
         reward,
         rules,
         weights,
-    }))
+    })))
 }
 
 // The reward among the weights of all coordinates.
@@ -100,12 +100,12 @@ fn bound_leaf_of(
         return Ok(None);
     }
     let rules = field.automaton.rules().copy()?;
-    Ok(Some(Line::Bound {
+    Ok(Some(Line::Closing(Leaf::Bound {
         p,
         turns,
         rules,
         weights,
-    }))
+    })))
 }
 
 // The weights by day and symbol.

@@ -5,7 +5,7 @@ ghost use Rattle.rwsp_terms.specs.declared.limits.TheConstants.{LONGEST_WORD};
 ghost use Rattle.refutation_terms.specs.Log.{GoalFits};
 ghost use Rattle.domain_store.specs.Store.{BelongsTo, has_domain};
 ghost use Rattle.domain_store.specs.Cycles.{AreShortRules};
-ghost use Rattle.domain_store.specs.Leaves.{IsHoldingLeafFor};
+ghost use Rattle.domain_store.specs.Leaves.{IsHoldingLeaf};
 
 use crate::closing::found_leaf;
 use crate::demand::{Demand, Shape};
@@ -94,7 +94,7 @@ impl<'a> NearestWeights<'a> {
         requires goal { GoalFits self.old.problem None goal }
         ensures same { self.new ≡ self.old }
         ensures leaf { IfOk result
-            (λ found. IfSome found (IsHoldingLeafFor self.old.problem goal (has_domain doms.now))) }
+            (λ found. IfSome found (IsHoldingLeaf self.old.problem goal (has_domain doms.now))) }
     {
         let weights = Vec::new(alloc);
         let (line, last) = leaf_from(alloc, self.automaton, doms, goal, Start::Top, weights)?;
@@ -115,7 +115,7 @@ impl<'a> NearestWeights<'a> {
         requires goal { GoalFits self.old.problem None goal }
         ensures same { self.new ≡ self.old }
         ensures leaf { IfOk result
-            (λ found. IfSome found (IsHoldingLeafFor self.old.problem goal (has_domain doms.now))) }
+            (λ found. IfSome found (IsHoldingLeaf self.old.problem goal (has_domain doms.now))) }
     {
         if self.automaton.problem().cells() > MOST_CELLS_WITHIN {
             return Ok(None);
@@ -149,7 +149,7 @@ fn leaf_from(
     requires belongs { BelongsTo automaton.now.problem doms.now }
     requires goal { GoalFits automaton.now.problem None goal }
     ensures { IfOk result
-        (λ r. IfSome r.0 (IsHoldingLeafFor automaton.now.problem goal (has_domain doms.now))) }
+        (λ r. IfSome r.0 (IsHoldingLeaf automaton.now.problem goal (has_domain doms.now))) }
 {
     let problem = automaton.problem();
     let demand = Demand::of(alloc, problem, goal)?;

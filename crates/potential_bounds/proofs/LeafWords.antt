@@ -10,8 +10,8 @@ use Rattle.refutation_terms.specs.Word.{Domains, Over, Clean, weight, total}
 use Rattle.refutation_terms.specs.FreeWeekends.{free_weekends, free_weight}
 use Rattle.refutation_terms.specs.FreeLeaves.{free_total}
 use Rattle.refutation_terms.specs.Escape.{IsHeaviestBy, IsLeastHeaviestBy}
-use Rattle.refutation_terms.specs.Log.{HoldsFor}
-use Rattle.refutation_terms.specs.Verdict.{EscapesFor}
+use Rattle.refutation_terms.specs.Log.{Holds}
+use Rattle.refutation_terms.specs.Verdict.{Escapes}
 use Rattle.clean_words.specs.declared.heavy_words.HeavyWord.{HeavyWord}
 use Rattle.potential_bounds.specs.Heaviest.{IsHeaviestFound}
 use Rattle.potential_bounds.specs.Claims.{weighed_leaf, IsClaimOf}
@@ -34,7 +34,7 @@ said P D p len turns R W V least sum (Some h) same size is heavy =
 
 -- what is found says of the leaf whether it holds
 abbrev pub IsSaid : Instance → Domains → Option ℕ → Line → Option HeavyWord → Type 0
-IsSaid P D goal leaf found = MatchOption found (HoldsFor P goal D leaf) (λ h. EscapesFor P goal D leaf h.word)
+IsSaid P D goal leaf found = MatchOption found (Holds P goal D leaf) (λ h. Escapes P goal D leaf h.word)
 
 pub claim_said : (P : Instance) (D : Domains) (goal : Option ℕ) (p len turns reward : ℕ) (R : List ℕ) (y : List Weight) (least : ℤ) (found : Option HeavyWord) → IsClaimOf P goal p reward → len ≡ turns * cells P → least ≡ pos turns *ℤ free_total P y reward (unwrap_or goal 0)
     → IsHeaviestFound P D p len R (free_weight P y reward p) least found → IsSaid P D goal (weighed_leaf goal p turns reward R y) found
@@ -51,7 +51,7 @@ pub asked_by : (P Q : Instance) (y : List Weight) (turns reward n : ℕ) (goal :
 asked_by P Q y turns reward n goal asked least sum read is value same number = read ∙ is ∙ ap (λ (z : ℤ). pos turns *ℤ z) (value ∙ ap (λ I. free_total I y reward n) same ∙ ap (λ (k : ℕ). free_total P y reward k) number)
 
 -- the same of one turn from position 0 on
-pub top_escape : (P : Instance) (D : Domains) (R : List ℕ) (y : List Weight) (found : Option (List Symbol)) → MatchOption found (HoldsFor P None D (weighed_leaf None 0 1 0 R y)) (λ w. EscapesFor P None D (weighed_leaf None 0 1 0 R y) w) → IsTopEscape P D R y found
+pub top_escape : (P : Instance) (D : Domains) (R : List ℕ) (y : List Weight) (found : Option (List Symbol)) → MatchOption found (Holds P None D (weighed_leaf None 0 1 0 R y)) (λ w. Escapes P None D (weighed_leaf None 0 1 0 R y) w) → IsTopEscape P D R y found
 top_escape P D R y None holds = holds
 top_escape P D R y (Some w) heavy =
     let once : 1 * cells P ≡ cells P = omega arith in

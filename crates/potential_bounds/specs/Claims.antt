@@ -3,13 +3,14 @@ use Rattle.std.specs.Prelude.{◌≡◌, ℕ, ◌+◌, ◌≤◌, List, Option, 
 use Rattle.rwsp_terms.specs.declared.data.Weight.{Weight}
 use Rattle.rwsp_terms.specs.Instance.{Instance}
 use Rattle.refutation_terms.specs.declared.lines.Line.{Line}
-use Rattle.refutation_terms.specs.declared.lines.Line.TheVariants.{Bound, Free}
+use Rattle.refutation_terms.specs.declared.lines.Line.TheVariants.{Closing}
+use Rattle.refutation_terms.specs.declared.lines.Leaf.TheVariants.{Bound, Free}
 use Rattle.potential_bounds.specs.declared.escapes.Claim.{Claim}
 
 -- the leaf of these numbers in a log with this goal or none
 abbrev pub weighed_leaf : Option ℕ → ℕ → ℕ → ℕ → List ℕ → List Weight → Line
-weighed_leaf None p turns reward R y = Bound p turns R y
-weighed_leaf (Some goal) p turns reward R y = Free turns reward R y
+weighed_leaf None p turns reward R y = Closing (Bound p turns R y)
+weighed_leaf (Some goal) p turns reward R y = Closing (Free turns reward R y)
 
 -- the leaf that says what is claimed, by a list of rules
 abbrev pub claimed : Claim → List ℕ → Line

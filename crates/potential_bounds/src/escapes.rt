@@ -2,11 +2,12 @@
 ghost use Rattle.std.specs.Prelude.{◌≡◌, ◌+◌, ◌*◌, ◌<◌, ◌≤◌, IfOk, MatchOption, pos, neg_ℤ, ◌*ℤ◌, ◌≤ℤ◌};
 ghost use Rattle.rwsp_terms.specs.Instance.{cells};
 ghost use Rattle.rwsp_terms.specs.declared.limits.TheConstants.{GREATEST_REWARD, GREATEST_WEIGHT, LONGEST_WORD, MOST_DAYS, MOST_SHIFTS, MOST_SYMBOLS, MOST_WEEKS};
-ghost use Rattle.refutation_terms.specs.declared.lines.Line.TheVariants.{Bound, Free};
+ghost use Rattle.refutation_terms.specs.declared.lines.Line.TheVariants.{Closing};
+ghost use Rattle.refutation_terms.specs.declared.lines.Leaf.TheVariants.{Bound, Free};
 ghost use Rattle.refutation_terms.specs.Leaf.{IsTooLight};
 ghost use Rattle.refutation_terms.specs.FreeLeaves.{IsTooLightFree};
-ghost use Rattle.refutation_terms.specs.Log.{HoldsFor};
-ghost use Rattle.refutation_terms.specs.Verdict.{Escapes, EscapesFor, EscapesFree};
+ghost use Rattle.refutation_terms.specs.Log.{Holds};
+ghost use Rattle.refutation_terms.specs.Verdict.{Escapes, EscapesFree};
 ghost use Rattle.domain_store.specs.Store.{BelongsTo, has_domain};
 ghost use Rattle.potential_bounds.specs.Claims.{claimed, IsClaimOf};
 
@@ -48,7 +49,7 @@ pub fn claim_escape(
     requires goal { IsClaimOf automaton.now.problem claim.goal claim.position claim.reward }
     ensures { let P = automaton.now.problem in let D = has_domain doms.now in
         let goal = claim.entry.goal in let leaf = claimed claim.entry automaton.now.rules in
-        IfOk result (λ found. MatchOption found (HoldsFor P goal D leaf) (EscapesFor P goal D leaf)) }
+        IfOk result (λ found. MatchOption found (Holds P goal D leaf) (Escapes P goal D leaf)) }
 {
     let problem = automaton.problem();
     problem.prove_limits();
@@ -85,7 +86,7 @@ pub fn bound_escape(
     ensures { let P = automaton.now.problem in let D = has_domain doms.now in let R = automaton.now.rules in
         IfOk result (λ found. MatchOption found
         (IsTooLight P D p turns R weights.now)
-        (Escapes P D (Bound p turns R weights.now))) }
+        (Escapes P None D (Closing (Bound p turns R weights.now)))) }
 {
     let claim = Claim {
         goal: None,
@@ -128,7 +129,7 @@ pub fn free_escape(
         let reward = claim.entry.reward in let y = claim.entry.weights.now in
         IfOk result (λ found. MatchOption found
         (IsTooLightFree P goal D turns reward R y)
-        (EscapesFree P goal D (Free turns reward R y))) }
+        (EscapesFree P goal D (Closing (Free turns reward R y)))) }
 {
     automaton.problem().prove_limits();
     let claim = Claim {

@@ -3,7 +3,8 @@ ghost use Rattle.std.specs.Prelude.{◌≡◌, ℕ, ◌+◌, ◌-◌, ◌<◌, l
 ghost use Rattle.rwsp_terms.specs.Instance.{IsDay, IsSymbol};
 ghost use Rattle.refutation_terms.specs.Leaf.{fixed, possible};
 ghost use Rattle.domain_store.specs.Store.{has_domain, BelongsTo};
-ghost use Rattle.refutation_terms.specs.declared.lines.Line.TheVariants.{Day};
+ghost use Rattle.refutation_terms.specs.declared.lines.Line.TheVariants.{Closing};
+ghost use Rattle.refutation_terms.specs.declared.lines.Leaf.TheVariants.{Day};
 ghost use Rattle.domain_store.specs.declared.look.Look.TheVariants.{Cut};
 ghost use Rattle.propagators.specs.DayCuts.{TakesNoneOn, TakesNoneAtAll};
 ghost use Rattle.propagators.specs.Days.{AreCountsOf, TakesNone, IsSaturation, IsNeighbour, IsPlaceAnswer, IsDayCut};
@@ -29,16 +30,16 @@ pub struct DayCut {
 impl DayCut {
     /// The cut with its leaf.
     pub fn look(self) -> Look
-        ensures { result ≡ Cut self.p self.x (Day self.day self.counted self.over) }
+        ensures { result ≡ Cut self.p self.x (Closing (Day self.day self.counted self.over)) }
     {
         Look::Cut {
             p: self.p,
             x: self.x,
-            line: Line::Day {
+            line: Line::Closing(Leaf::Day {
                 day: self.day,
                 x: self.counted,
                 over: self.over,
-            },
+            }),
         }
     }
 }

@@ -112,12 +112,12 @@ impl<'a> RootBounds<'a> {
         }
         let rules = self.automaton.rules().copy()?;
         let weights = weights.copy()?;
-        Ok(Some(Line::Bound {
+        Ok(Some(Line::Closing(Leaf::Bound {
             p: 0,
             turns: 1,
             rules,
             weights,
-        }))
+        })))
     }
 }
 

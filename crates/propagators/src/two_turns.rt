@@ -1,7 +1,8 @@
 // The clean words of two turns, kept while domains change.
 ghost use Rattle.std.specs.Prelude.{◌≡◌, ◌↔◌, ℕ, ◌+◌, ◌-◌, ◌*◌, ◌^◌, ◌<◌, ◌≤◌, [], false, true, length, replicate, slice_index_or, slice_set, IfOk, IsTrue};
 ghost use Rattle.rwsp_terms.specs.Instance.{cells, shift_count};
-ghost use Rattle.refutation_terms.specs.declared.lines.Line.TheVariants.{Dead};
+ghost use Rattle.refutation_terms.specs.declared.lines.Line.TheVariants.{Closing};
+ghost use Rattle.refutation_terms.specs.declared.lines.Leaf.TheVariants.{Dead};
 ghost use Rattle.refutation_terms.specs.Leaf.{IsDead};
 ghost use Rattle.refutation_terms.specs.Sharp.{NoWordHas};
 ghost use Rattle.domain_store.specs.Sets.{has_symbol};
@@ -104,14 +105,14 @@ impl<'a> Cycle<'a> {
 
     /// The dead leaf of two turns from position 0 on, by a copy of the list of rules.
     pub fn dead_leaf(&self) -> Result<Line, AllocError>
-        ensures { IfOk result (λ line. line ≡ Dead 0 (2 * cells self.now.problem) self.now.rules) }
+        ensures { IfOk result (λ line. line ≡ Closing (Dead 0 (2 * cells self.now.problem) self.now.rules)) }
     {
         let rules = self.automaton.rules().copy()?;
-        Ok(Line::Dead {
+        Ok(Line::Closing(Leaf::Dead {
             p: 0,
             len: 2 * self.automaton.problem().cells(),
             rules,
-        })
+        }))
     }
 
     /// Whether no word of two turns over the domains is clean.

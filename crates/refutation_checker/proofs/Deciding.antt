@@ -21,7 +21,8 @@ use Rattle.rwsp_terms.proofs.Elements.{all_to}
 use Rattle.rwsp_model.specs.RuleNumbers.{place_of}
 use Rattle.rwsp_model.proofs.Numbering.{number_at_place, one_number}
 use Rattle.refutation_terms.specs.declared.lines.Line.{Line}
-use Rattle.refutation_terms.specs.declared.lines.Line.TheVariants.{Split, Window, Day, Dead, Bound, Few, Free, Unfinished}
+use Rattle.refutation_terms.specs.declared.lines.Line.TheVariants.{Split, Unfinished, Closing}
+use Rattle.refutation_terms.specs.declared.lines.Leaf.TheVariants.{Window, Day, Dead, Bound, Few, Free}
 use Rattle.refutation_terms.specs.declared.lines.LogRefusal.{LogRefusal}
 use Rattle.refutation_terms.specs.declared.lines.LogRefusal.TheVariants as Refusals
 use Rattle.refutation_terms.specs.Word.{Domains, weight, total}
@@ -29,11 +30,11 @@ use Rattle.refutation_terms.specs.FreeWeekends.{free_weekends, is_free_weekend, 
 use Rattle.refutation_terms.specs.FreeLeaves.{free_total, IsTooLightFree}
 use Rattle.refutation_terms.specs.Leaf.{IsDead, IsTooLight}
 use Rattle.refutation_terms.specs.Tree.{is_idle}
-use Rattle.refutation_terms.specs.Log.{LineFitsFor, AreWeightsOf, HasWeight, Cites, CitesOnlyNamed, HoldsFor, ListsShortOnly}
+use Rattle.refutation_terms.specs.Log.{LineFits, AreWeightsOf, HasWeight, Cites, CitesOnlyNamed, Holds, ListsShortOnly}
 use Rattle.refutation_terms.specs.Escape.{ComesFirst, IsCleanOver, IsLeastClean, IsHeaviestBy, IsLeastHeaviestBy}
-use Rattle.refutation_terms.specs.Verdict.{IsLeast, IsUnnamed, IsLongIn, ListsLong, EscapesFor}
+use Rattle.refutation_terms.specs.Verdict.{IsLeast, IsUnnamed, IsLongIn, ListsLong, Escapes}
 use Rattle.refutation_terms.proofs.Named.{named-IsRule}
-use Rattle.refutation_checker.specs.LineVerdicts.{IsSoundFor, LineCauseFor}
+use Rattle.refutation_checker.specs.LineVerdicts.{IsSoundLine, LineCause}
 
 -- where no number is the least with a property, none has it
 pub least_number : (A : ℕ → Type 0) → ((k : ℕ) → IsLeast A k → ⊥) → (k : ℕ) → A k → ⊥
@@ -70,19 +71,19 @@ weighed_is_rule : (P : Instance) (y : List Weight) (r : Rule) → AreWeightsOf P
 weighed_is_rule P y r own c =
     subst (IsRule P) (sym c.2) (weighed_is_day P y c.0 c.1.0 (all_to (λ e. IsDay P e.day × IsSymbol P e.symbol) y own.1) c.1.1)
 
-cited_is_rule : (P : Instance) (goal : Option ℕ) (line : Line) (r : Rule) → LineFitsFor P goal line → Cites P line r → IsRule P r
+cited_is_rule : (P : Instance) (goal : Option ℕ) (line : Line) (r : Rule) → LineFits P goal line → Cites P line r → IsRule P r
 cited_is_rule P goal (Split p x) r fits c = absurd c
-cited_is_rule P goal (Window number p len) r fits c = named-IsRule P (number ∷ []) r c
-cited_is_rule P goal (Day j x over) r fits c = subst (IsRule P) (sym c) fits.0
-cited_is_rule P goal (Dead p len R) r fits c = named-IsRule P R r c
-cited_is_rule P None (Bound p turns R y) r fits (inl c) = named-IsRule P R r c
-cited_is_rule P None (Bound p turns R y) r fits (inr c) = weighed_is_rule P y r fits.3 c
-cited_is_rule P (Some goal) (Bound p turns R y) r fits c = absurd fits
+cited_is_rule P goal (Closing (Window number p len)) r fits c = named-IsRule P (number ∷ []) r c
+cited_is_rule P goal (Closing (Day j x over)) r fits c = subst (IsRule P) (sym c) fits.0
+cited_is_rule P goal (Closing (Dead p len R)) r fits c = named-IsRule P R r c
+cited_is_rule P None (Closing (Bound p turns R y)) r fits (inl c) = named-IsRule P R r c
+cited_is_rule P None (Closing (Bound p turns R y)) r fits (inr c) = weighed_is_rule P y r fits.3 c
+cited_is_rule P (Some goal) (Closing (Bound p turns R y)) r fits c = absurd fits
 cited_is_rule P goal Unfinished r fits c = absurd c
-cited_is_rule P goal Few r fits c = absurd c
-cited_is_rule P None (Free turns reward R y) r fits c = absurd fits
-cited_is_rule P (Some goal) (Free turns reward R y) r fits (inl c) = named-IsRule P R r c
-cited_is_rule P (Some goal) (Free turns reward R y) r fits (inr c) = weighed_is_rule P y r fits.3 c
+cited_is_rule P goal (Closing Few) r fits c = absurd c
+cited_is_rule P None (Closing (Free turns reward R y)) r fits c = absurd fits
+cited_is_rule P (Some goal) (Closing (Free turns reward R y)) r fits (inl c) = named-IsRule P R r c
+cited_is_rule P (Some goal) (Closing (Free turns reward R y)) r fits (inr c) = weighed_is_rule P y r fits.3 c
 
 pub cited_is_named : (P : Instance) (named : List ℕ) (Cited : Rule → Type 0) (r : Rule) → IsRule P r → ((k : ℕ) → IsUnnamed P named Cited k → ⊥) → Cited r → Names P named r
 cited_is_named P named Cited r is none cites =
@@ -241,46 +242,46 @@ too_light_free P goal D turns reward R y small none u long over clean =
 -- a line without a cause holds
 
 abbrev HasNoCause : Instance → Option ℕ → List ℕ → Domains → ℕ → Line → Type 0
-HasNoCause P goal named D n line = (why : LogRefusal) → LineCauseFor P goal named D n line why → ⊥
+HasNoCause P goal named D n line = (why : LogRefusal) → LineCause P goal named D n line why → ⊥
 
 lists_short : (P : Instance) (goal : Option ℕ) (named : List ℕ) (D : Domains) (n : ℕ) (line : Line) → HasNoCause P goal named D n line → CitesOnlyNamed P named line → ListsShortOnly P line
-lists_short P goal named D n (Dead p len R) none all = names_short P R (least_number (ListsLong P (Dead p len R)) (λ k least. none (Refusals.Long n k) (refl, all, least)))
-lists_short P goal named D n (Bound p turns R y) none all = names_short P R (least_number (ListsLong P (Bound p turns R y)) (λ k least. none (Refusals.Long n k) (refl, all, least)))
-lists_short P goal named D n (Free turns reward R y) none all = names_short P R (least_number (ListsLong P (Free turns reward R y)) (λ k least. none (Refusals.Long n k) (refl, all, least)))
+lists_short P goal named D n (Closing (Dead p len R)) none all = names_short P R (least_number (ListsLong P (Closing (Dead p len R))) (λ k least. none (Refusals.Long n k) (refl, all, least)))
+lists_short P goal named D n (Closing (Bound p turns R y)) none all = names_short P R (least_number (ListsLong P (Closing (Bound p turns R y))) (λ k least. none (Refusals.Long n k) (refl, all, least)))
+lists_short P goal named D n (Closing (Free turns reward R y)) none all = names_short P R (least_number (ListsLong P (Closing (Free turns reward R y))) (λ k least. none (Refusals.Long n k) (refl, all, least)))
 lists_short P goal named D n line none all = tt
 
-split_holds : (P : Instance) (goal : Option ℕ) (D : Domains) (p : ℕ) (x : Symbol) → is_idle P D p x.number ≡ false → HoldsFor P goal D (Split p x)
+split_holds : (P : Instance) (goal : Option ℕ) (D : Domains) (p : ℕ) (x : Symbol) → is_idle P D p x.number ≡ false → Holds P goal D (Split p x)
 split_holds P None D p x h = h
 split_holds P (Some goal) D p x h = h
 
-dead_holds : (P : Instance) (goal : Option ℕ) (D : Domains) (p len : ℕ) (R : List ℕ) → IsDead P D p len R → HoldsFor P goal D (Dead p len R)
+dead_holds : (P : Instance) (goal : Option ℕ) (D : Domains) (p len : ℕ) (R : List ℕ) → IsDead P D p len R → Holds P goal D (Closing (Dead p len R))
 dead_holds P None D p len R h = h
 dead_holds P (Some goal) D p len R h = h
 
-dead_escapes : (P : Instance) (goal : Option ℕ) (D : Domains) (p len : ℕ) (R : List ℕ) (w : List Symbol) → IsLeastClean P D p len R w → EscapesFor P goal D (Dead p len R) w
+dead_escapes : (P : Instance) (goal : Option ℕ) (D : Domains) (p len : ℕ) (R : List ℕ) (w : List Symbol) → IsLeastClean P D p len R w → Escapes P goal D (Closing (Dead p len R)) w
 dead_escapes P None D p len R w h = h
 dead_escapes P (Some goal) D p len R w h = h
 
-line_holds : (P : Instance) (goal : Option ℕ) (named : List ℕ) (D : Domains) (n : ℕ) (line : Line) → LineFitsFor P goal line → HasNoCause P goal named D n line → CitesOnlyNamed P named line → ListsShortOnly P line → (HoldsFor P goal D line → ⊥) → ⊥
+line_holds : (P : Instance) (goal : Option ℕ) (named : List ℕ) (D : Domains) (n : ℕ) (line : Line) → LineFits P goal line → HasNoCause P goal named D n line → CitesOnlyNamed P named line → ListsShortOnly P line → (Holds P goal D line → ⊥) → ⊥
 line_holds P goal named D n (Split p x) fits none all short goes =
     elim (cases_Bool (is_idle P D p x.number)) [ inl idle ↦ none (Refusals.Idle n) (refl, idle) | inr useful ↦ goes (split_holds P goal D p x useful) ]
-line_holds P goal named D n (Window number p len) fits none all short goes = none (Refusals.Fails n) (refl, all, tt, goes)
-line_holds P goal named D n (Day j x over) fits none all short goes = none (Refusals.Fails n) (refl, all, tt, goes)
-line_holds P goal named D n (Dead p len R) fits none all short goes =
+line_holds P goal named D n (Closing (Window number p len)) fits none all short goes = none (Refusals.Fails n) (refl, all, tt, goes)
+line_holds P goal named D n (Closing (Day j x over)) fits none all short goes = none (Refusals.Fails n) (refl, all, tt, goes)
+line_holds P goal named D n (Closing (Dead p len R)) fits none all short goes =
     goes (dead_holds P goal D p len R (λ u long over clean.
     least_word len (IsCleanOver P D p len R) (λ w h. h.long)
     (λ w h first. none (Refusals.Escape n w) (refl, all, short, dead_escapes P goal D p len R w (record { clean = h; least = first })))
     u (record { long = long; over = over; clean = clean })))
-line_holds P None named D n (Bound p turns R y) fits none all short goes =
+line_holds P None named D n (Closing (Bound p turns R y)) fits none all short goes =
     goes (too_light P D p turns R y (all_to IsWeight y fits.3.0.small) (λ w heavy le. none (Refusals.Escape n w) (refl, all, short, (heavy, le))))
-line_holds P (Some goal) named D n (Bound p turns R y) fits none all short goes = absurd fits
+line_holds P (Some goal) named D n (Closing (Bound p turns R y)) fits none all short goes = absurd fits
 line_holds P goal named D n Unfinished fits none all short goes = none (Refusals.Unfinished n) (refl, refl)
-line_holds P goal named D n Few fits none all short goes = none (Refusals.Fails n) (refl, all, tt, goes)
-line_holds P None named D n (Free turns reward R y) fits none all short goes = absurd fits
-line_holds P (Some goal) named D n (Free turns reward R y) fits none all short goes =
+line_holds P goal named D n (Closing Few) fits none all short goes = none (Refusals.Fails n) (refl, all, tt, goes)
+line_holds P None named D n (Closing (Free turns reward R y)) fits none all short goes = absurd fits
+line_holds P (Some goal) named D n (Closing (Free turns reward R y)) fits none all short goes =
     goes (too_light_free P goal D turns reward R y (all_to IsWeight y fits.3.0.small) (λ w heavy le. none (Refusals.Escape n w) (refl, all, short, (heavy, le))))
 
-pub line_stands : (P : Instance) (goal : Option ℕ) (named : List ℕ) (D : Domains) (n : ℕ) (line : Line) → LineFitsFor P goal line → HasNoCause P goal named D n line → (IsSoundFor P goal named D line → ⊥) → ⊥
+pub line_stands : (P : Instance) (goal : Option ℕ) (named : List ℕ) (D : Domains) (n : ℕ) (line : Line) → LineFits P goal line → HasNoCause P goal named D n line → (IsSoundLine P goal named D line → ⊥) → ⊥
 line_stands P goal named D n line fits none goes =
     let all : CitesOnlyNamed P named line = λ r c.
     cited_is_named P named (Cites P line) r (cited_is_rule P goal line r fits c) (least_number (IsUnnamed P named (Cites P line)) (λ k least. none (Refusals.Unnamed n k) (refl, least))) c in

@@ -10,7 +10,7 @@ use Rattle.refutation_terms.specs.declared.lines.Turn.{Turn}
 use Rattle.refutation_terms.specs.declared.lines.LogRefusal.{LogRefusal}
 use Rattle.refutation_terms.specs.Tree.{IsTree}
 use Rattle.rwsp_text.specs.Lines.{IsNextLine}
-use Rattle.refutation_terms.specs.Verdict.{CauseBehindFor}
+use Rattle.refutation_terms.specs.Verdict.{CauseBehind}
 use Rattle.refutation_log.specs.Printing.{lines_text}
 use Rattle.refutation_checker.specs.UnreadSplits.{EachFits}
 use Rattle.refutation_checker.specs.LineTexts.{Judging, log_of}
@@ -91,7 +91,7 @@ judged_through J turn earlier front bytes here below (Err (Refused why)) sound f
       text_through J.problem front k.lines bytes here below (k.line ++ k.rest) e f (k.text ∙ append_assoc (lines_text J.problem k.lines) k.line k.rest)
       ∙ sym (append_assoc (lines_text J.problem (front ++ k.lines)) k.line k.rest);
   is_line = k.is_line;
-  cause = subst (λ ls. CauseBehindFor J.problem J.goal (log_of J turn ls) k.line why) (append_assoc earlier front k.lines) k.cause;
+  cause = subst (λ ls. CauseBehind J.problem J.goal (log_of J turn ls) k.line why) (append_assoc earlier front k.lines) k.cause;
 }
 
 nothing_below : (J : Judging) (turn : Option Turn) (size : ℕ) (earlier : List Line) (c : Start) (below : List ℕ) (whole : Bool) → IsFollowed J turn size earlier c below [] → AreAllSound J turn earlier c.bytes whole → below ≡ []

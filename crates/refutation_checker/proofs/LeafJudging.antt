@@ -6,48 +6,49 @@ use Rattle.rwsp_terms.specs.declared.data.Symbol.{Symbol}
 use Rattle.std.proofs.Common.{List}
 use Rattle.rwsp_terms.specs.Instance.{Instance}
 use Rattle.refutation_terms.specs.declared.lines.Line.{Line}
-use Rattle.refutation_terms.specs.declared.lines.Line.TheVariants.{Dead, Bound, Free}
+use Rattle.refutation_terms.specs.declared.lines.Line.TheVariants.{Closing}
+use Rattle.refutation_terms.specs.declared.lines.Leaf.TheVariants.{Dead, Bound, Free}
 use Rattle.refutation_terms.specs.Word.{Domains, AreSame}
 use Rattle.rwsp_terms.specs.Rules.{NamesShortOnly}
 use Rattle.refutation_terms.specs.Log.{LineFits, ListsShortOnly}
-use Rattle.refutation_terms.specs.Verdict.{Escapes, EscapesFor}
+use Rattle.refutation_terms.specs.Verdict.{Escapes}
 use Rattle.refutation_terms.proofs.Causes.{escaped_not_holding}
 use Rattle.refutation_terms.proofs.SameDomains.{same_holds, turned_round}
-use Rattle.refutation_checker.specs.LineVerdicts.{HasList, HasNoList, HoldsByWords, HoldsByWordsFor}
+use Rattle.refutation_checker.specs.LineVerdicts.{HasList, HasNoList, HoldsByWords}
 
-pub same_by_words : (P : Instance) (D E : Domains) (line : Line) → LineFits P line → AreSame P D E → HoldsByWords P D line → HoldsByWords P E line
-same_by_words P D E (Dead p len R) fits same h = same_holds P D E (Dead p len R) (omega (arith, fits.0)) fits same h
-same_by_words P D E (Bound p turns R y) fits same h = same_holds P D E (Bound p turns R y) (omega (arith, fits.0)) fits same h
+pub same_by_words : (P : Instance) (D E : Domains) (line : Line) → LineFits P None line → AreSame P D E → HoldsByWords P None D line → HoldsByWords P None E line
+same_by_words P D E (Closing (Dead p len R)) fits same h = same_holds P D E (Closing (Dead p len R)) (omega (arith, fits.0)) fits same h
+same_by_words P D E (Closing (Bound p turns R y)) fits same h = same_holds P D E (Closing (Bound p turns R y)) (omega (arith, fits.0)) fits same h
 same_by_words P D E line fits same h = tt
 
-pub escaped_by_words : (P : Instance) (D : Domains) (line : Line) (w : List Symbol) → Escapes P D line w → HoldsByWords P D line → ⊥
-escaped_by_words P D (Dead p len R) w e h = escaped_not_holding P D (Dead p len R) w e h
-escaped_by_words P D (Bound p turns R y) w e h = escaped_not_holding P D (Bound p turns R y) w e h
+pub escaped_by_words : (P : Instance) (D : Domains) (line : Line) (w : List Symbol) → Escapes P None D line w → HoldsByWords P None D line → ⊥
+escaped_by_words P D (Closing (Dead p len R)) w e h = escaped_not_holding P D (Closing (Dead p len R)) w e h
+escaped_by_words P D (Closing (Bound p turns R y)) w e h = escaped_not_holding P D (Closing (Bound p turns R y)) w e h
 escaped_by_words P D line w e h = absurd e
 
 -- a word that escapes a line of a log without a goal escapes it in each log
-escapes_for : (P : Instance) (goal : Option ℕ) (D : Domains) (line : Line) (w : List Symbol) → Escapes P D line w → EscapesFor P goal D line w
+escapes_for : (P : Instance) (goal : Option ℕ) (D : Domains) (line : Line) (w : List Symbol) → Escapes P None D line w → Escapes P goal D line w
 escapes_for P None D line w e = e
-escapes_for P (Some goal) D (Free turns reward R y) w e = absurd e
+escapes_for P (Some goal) D (Closing (Free turns reward R y)) w e = absurd e
 escapes_for P (Some goal) D line w e = e
 
 pub answer_for : (P : Instance) (goal : Option ℕ) (D : Domains) (line : Line) (answer : Result (Option (List Symbol)) AllocError)
-    → IfOk answer (λ found. MatchOption found (HoldsByWordsFor P goal D line) (Escapes P D line))
-    → IfOk answer (λ found. MatchOption found (HoldsByWordsFor P goal D line) (EscapesFor P goal D line))
+    → IfOk answer (λ found. MatchOption found (HoldsByWords P goal D line) (Escapes P None D line))
+    → IfOk answer (λ found. MatchOption found (HoldsByWords P goal D line) (Escapes P goal D line))
 answer_for P goal D line (Ok None) h = h
 answer_for P goal D line (Ok (Some w)) h = escapes_for P goal D line w h
 answer_for P goal D line (Err e) h = tt
 
 -- a line of a log without a goal
-pub by_words : (P : Instance) (D : Domains) (line : Line) → LineFits P line → HoldsByWordsFor P None D line → HoldsByWords P D line
-by_words P D (Free turns reward R y) fits h = absurd fits
+pub by_words : (P : Instance) (D : Domains) (line : Line) → LineFits P None line → HoldsByWords P None D line → HoldsByWords P None D line
+by_words P D (Closing (Free turns reward R y)) fits h = absurd fits
 by_words P D line fits h = h
 
 -- what the words say under the domains of a walk, they say under those of its lines
-pub holds_there : (P : Instance) (D E : Domains) (line : Line) → LineFits P line → AreSame P D E → HoldsByWords P D line → IsTrue true ↔ HoldsByWords P E line
+pub holds_there : (P : Instance) (D E : Domains) (line : Line) → LineFits P None line → AreSame P D E → HoldsByWords P None D line → IsTrue true ↔ HoldsByWords P None E line
 holds_there P D E line fits same h = (λ yes. same_by_words P D E line fits same h, λ there. refl)
 
-pub fails_there : (P : Instance) (D E : Domains) (line : Line) (w : List Symbol) → LineFits P line → AreSame P D E → Escapes P D line w → IsTrue false ↔ HoldsByWords P E line
+pub fails_there : (P : Instance) (D E : Domains) (line : Line) (w : List Symbol) → LineFits P None line → AreSame P D E → Escapes P None D line w → IsTrue false ↔ HoldsByWords P None E line
 fails_there P D E line w fits same e = (
   λ no. absurd (cc),
   λ there. absurd (escaped_by_words P D line w e (same_by_words P E D line fits (turned_round P D E same) there)),
@@ -56,14 +57,14 @@ fails_there P D E line w fits same e = (
 -- the list of a line
 
 pub its_short_rules : (P : Instance) (line : Line) (list : List ℕ) → HasList line list → ListsShortOnly P line → NamesShortOnly P list
-its_short_rules P (Dead p len R) list has short = subst (NamesShortOnly P) has short
-its_short_rules P (Bound p turns R y) list has short = subst (NamesShortOnly P) has short
-its_short_rules P (Free turns reward R y) list has short = subst (NamesShortOnly P) has short
+its_short_rules P (Closing (Dead p len R)) list has short = subst (NamesShortOnly P) has short
+its_short_rules P (Closing (Bound p turns R y)) list has short = subst (NamesShortOnly P) has short
+its_short_rules P (Closing (Free turns reward R y)) list has short = subst (NamesShortOnly P) has short
 its_short_rules P line list has short = absurd has
 
 -- nothing is said by words of a line without one
-pub without_list : (P : Instance) (goal : Option ℕ) (D : Domains) (line : Line) → HasNoList line → HoldsByWordsFor P goal D line
-without_list P goal D (Dead p len R) none = absurd none
-without_list P goal D (Bound p turns R y) none = absurd none
-without_list P goal D (Free turns reward R y) none = absurd none
+pub without_list : (P : Instance) (goal : Option ℕ) (D : Domains) (line : Line) → HasNoList line → HoldsByWords P goal D line
+without_list P goal D (Closing (Dead p len R)) none = absurd none
+without_list P goal D (Closing (Bound p turns R y)) none = absurd none
+without_list P goal D (Closing (Free turns reward R y)) none = absurd none
 without_list P goal D line none = tt

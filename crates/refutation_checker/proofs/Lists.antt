@@ -112,7 +112,7 @@ all_days P items y i list found e all h =
     (subst (λ n. IsLeastOutside (DaysBelow P items n) list found) all h))
 
 -- what the search for a number outside the list says of the rules
-pub found_unnamed : (P : Instance) (named : List ℕ) (line : Line) (A : ℕ → Type 0) (found : Option ℕ) → LineFits P line → TellsCited P line A → IsLeastOutside A named found
+pub found_unnamed : (P : Instance) (named : List ℕ) (line : Line) (A : ℕ → Type 0) (found : Option ℕ) → LineFits P None line → TellsCited P line A → IsLeastOutside A named found
     → MatchOption found (CitesOnlyNamed P named line) (λ k. IsLeast (IsUnnamed P named (Cites P line)) k)
 found_unnamed P named line A None fits tells h =
     λ r cites. let k = line_numbered P line fits r cites in (k.0, h k.0 ((tells k.0).1 (r, k.1, cites)), k.1)

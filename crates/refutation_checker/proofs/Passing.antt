@@ -19,7 +19,7 @@ use Rattle.refutation_terms.specs.declared.lines.Turn.{Turn}
 use Rattle.refutation_terms.specs.declared.lines.LogRefusal.{LogRefusal}
 use Rattle.refutation_terms.specs.declared.lines.LogRefusal.TheVariants as Refusals
 use Rattle.refutation_terms.specs.Tree.{IsTree, after_trees, lines_in, opening, domains_at}
-use Rattle.refutation_terms.specs.Log.{Log, Fits, FitsFor, LineFitsFor, TurnFits, TurnCites, AreRules, Passes}
+use Rattle.refutation_terms.specs.Log.{Log, Fits, FitsFor, LineFits, TurnFits, TurnCites, AreRules, Passes}
 use Rattle.refutation_terms.specs.LogText.{raw, line_text, log_text, header_text, turn_text, raw_fields}
 use Rattle.refutation_terms.specs.Verdict.{BeforeTurn, IsRefusedLine, IsRefused, TurnCause, header_lines_for}
 use Rattle.refutation_terms.proofs.Spelled.{fitting_lines_are_spelled_for}
@@ -65,7 +65,7 @@ still_part P turn lines w state part =
 -- one line more
 
 pub passed_next : (J : Judging) (g : Log) (i number : ℕ) (line : Line) (w new : State) (answer : Result (Option LogRefusal) AllocError)
-    → IsTree g.lines → LineFitsFor J.problem J.goal line → slice_get g.lines i ≡ Some line → IsPassed J g i w → number ≡ header_lines_for J.goal g.turn + i + 1
+    → IsTree g.lines → LineFits J.problem J.goal line → slice_get g.lines i ≡ Some line → IsPassed J g i w → number ≡ header_lines_for J.goal g.turn + i + 1
     → IfOk answer (λ found. MatchOption found (PassesNext J w line new) (HasCauseNext J w number line))
     → IfOk answer (λ found. MatchOption found (IsPassed J g (i + 1) new) (IsRefusedAt J g i))
 passed_next J g i number line w new (Ok None) tree fits here before is h =

@@ -15,9 +15,9 @@ use Rattle.refutation_terms.specs.declared.lines.LogRefusal.{LogRefusal}
 use Rattle.refutation_terms.specs.declared.lines.LogRefusal.TheVariants as Refusals
 use Rattle.refutation_terms.specs.Tree.{IsTree, domains_at}
 use Rattle.refutation_terms.specs.Log.{Log, AreRules}
-use Rattle.refutation_terms.specs.LogText.{RawLine, IsWrittenFor, line_of, raw, line_text, version_text, rules_text, turn_text}
+use Rattle.refutation_terms.specs.LogText.{RawLine, IsWritten, line_of, raw, line_text, version_text, rules_text, turn_text}
 use Rattle.rwsp_text.specs.Lines.{IsNextLine}
-use Rattle.refutation_terms.specs.Verdict.{Start, Versioned, BeforeTurn, header_lines_for, Cause, CauseBehindFor, SpellsFor, SpellsTurn, IsUnnamed, IsVerdict}
+use Rattle.refutation_terms.specs.Verdict.{Start, Versioned, BeforeTurn, header_lines_for, Cause, CauseBehind, Spells, SpellsTurn, IsUnnamed, IsVerdict}
 use Rattle.refutation_terms.proofs.Spelled.{spelled_lines_fit_for, symbol_of-name}
 use Rattle.refutation_log.specs.Printing.{lines_text}
 use Rattle.refutation_checker.specs.Headers.{HasHeader, IsAcceptedFor, IsRefusedFor, without_goal}
@@ -78,18 +78,18 @@ text_on P body left line rest lines l text whole spelled =
     ∙ ap (λ t. t ++ rest) (sym (lines_joined P lines (l ∷ [])))
 
 abbrev RefusesNone : Judging → Option Turn → List Line → List ℕ → Type 0
-RefusesNone J turn lines line = (why : LogRefusal) → CauseBehindFor J.problem J.goal (log_of J turn lines) line why → ⊥
+RefusesNone J turn lines line = (why : LogRefusal) → CauseBehind J.problem J.goal (log_of J turn lines) line why → ⊥
 
 abbrev Takes : Judging → Option Turn → List Line → List ℕ → Line → Type 0
 Takes J turn lines line l = (line ≡ line_text J.problem (raw J.problem l)) × IsSoundNext J turn lines l
 
 -- a line that is refused for no cause is a sound next line
-spelled_stands : (J : Judging) (turn : Option Turn) (lines : List Line) (line : List ℕ) (written : RawLine) → RefusesNone J turn lines line → ((l : Line) → Takes J turn lines line l → ⊥) → (IsTree lines → ⊥) → IsWrittenFor J.problem J.goal line written → (o : Option Line) → line_of J.problem written ≡ o → ⊥
+spelled_stands : (J : Judging) (turn : Option Turn) (lines : List Line) (line : List ℕ) (written : RawLine) → RefusesNone J turn lines line → ((l : Line) → Takes J turn lines line l → ⊥) → (IsTree lines → ⊥) → IsWritten J.problem J.goal line written → (o : Option Line) → line_of J.problem written ≡ o → ⊥
 spelled_stands J turn lines line written none goes part w None e = none (Refusals.Name (header_lines_for J.goal turn + length lines + 1)) (inr (part, (refl, (written, w, e))))
 spelled_stands J turn lines line written none goes part w (Some l) e =
     let n = header_lines_for J.goal turn + length lines + 1 in
     let D = domains_at J.problem turn lines (length lines) in
-    let spells : SpellsFor J.problem J.goal line l = (written, w, e) in
+    let spells : Spells J.problem J.goal line l = (written, w, e) in
     let fits = spelled_lines_fit_for J.problem J.goal line l spells in
     line_stands J.problem J.goal J.named D n l fits.0 (λ why c. none why (refused_next J turn lines line l n why spells part refl c))
     (λ sound. goes l (fits.1, record { in_tree = part; fits = fits.0; sound = sound }))

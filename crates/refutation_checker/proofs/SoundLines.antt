@@ -15,9 +15,9 @@ use Rattle.refutation_terms.specs.declared.lines.LogRefusal.{LogRefusal}
 use Rattle.refutation_terms.specs.declared.lines.LogRefusal.TheVariants.{Ends}
 use Rattle.refutation_terms.specs.Tree.{lines_in, IsTree, opening, lines_leave}
 use Rattle.refutation_terms.proofs.Trees.{tree_has_lines}
-use Rattle.refutation_terms.specs.Log.{Log, HoldsFor, PassesFor}
+use Rattle.refutation_terms.specs.Log.{Log, Holds, PassesFor}
 use Rattle.refutation_terms.specs.LogText.{raw, line_text, log_text_for}
-use Rattle.refutation_terms.specs.Verdict.{Reading, IsSoundSoFarFor, CauseBehindFor}
+use Rattle.refutation_terms.specs.Verdict.{Reading, IsSoundSoFarFor, CauseBehind}
 use Rattle.refutation_terms.specs.FreeVerdict.{ReadingFree}
 use Rattle.refutation_log.specs.Printing.{lines_text, header_text_for}
 use Rattle.refutation_log.specs.ReadLog.{BeginsWithFreeHeader}
@@ -56,7 +56,7 @@ sound_so_far J text body turn lines header sound = record {
     short = λ k line e. (sound_at J turn [] lines sound k line e).sound.short;
   };
   holds = λ k line e.
-      subst (λ ls. HoldsFor J.problem J.goal (λ p z. opening J.problem turn p z && lines_leave ls p z) line) (take_all (length (take k lines)) (take k lines) (omega arith)) (sound_at J turn [] lines sound k line e).sound.holds;
+      subst (λ ls. Holds J.problem J.goal (λ p z. opening J.problem turn p z && lines_leave ls p z) line) (take_all (length (take k lines)) (take k lines) (omega arith)) (sound_at J turn [] lines sound k line e).sound.holds;
   in_tree = λ k less.
       (sound_at J turn [] lines sound k (get_or lines k Unfinished) (slice_get-get_or lines k Unfinished less)).in_tree;
 }
@@ -102,7 +102,7 @@ ends J text body turn h all =
     ends_for J.problem J.goal text (log_of J turn all.lines) (sound_so_far J text body turn all.lines h all.sound) (text_of_all J text body turn all.lines h all.text)
     (λ tree. let t : IsTrue false = all.tree.1 tree in cc)
 
-refused_for : (P : Instance) (goal : Option ℕ) (text : List ℕ) (g : Log) (line rest : List ℕ) (why : LogRefusal) → IsSoundSoFarFor P goal g → text ≡ log_text_for P goal g ++ line ++ rest → IsNextLine line rest → CauseBehindFor P goal g line why → IsRefusedFor P goal text why
+refused_for : (P : Instance) (goal : Option ℕ) (text : List ℕ) (g : Log) (line rest : List ℕ) (why : LogRefusal) → IsSoundSoFarFor P goal g → text ≡ log_text_for P goal g ++ line ++ rest → IsNextLine line rest → CauseBehind P goal g line why → IsRefusedFor P goal text why
 refused_for P None text g line rest why sound whole next cause =
     refused_at_line P text why (record { front = Reading g; line = line; rest = rest; no_cause = sound; whole = whole; is_line = next; cause = cause })
 refused_for P (Some goal) text g line rest why sound whole next cause =

@@ -35,11 +35,11 @@ use Rattle.refutation_checker.proofs.Unread.{PassedSoFar, tree_passed}
 -- lines that are spelled
 
 -- the text of a split spells it in any log
-spelled : (P : Instance) (bytes : List ℕ) (p : ℕ) (x : Symbol) → KeepsLimits P → IsLineText P bytes (Split p x) → Spells P bytes (Split p x)
+spelled : (P : Instance) (bytes : List ℕ) (p : ℕ) (x : Symbol) → KeepsLimits P → IsLineText P bytes (Split p x) → Spells P None bytes (Split p x)
 spelled P bytes p x limits h =
-    subst (λ b. Spells P b (Split p x)) (sym h.text) (fitting_lines_are_spelled P (Split p x) (has_names P limits) h.fits.1)
+    subst (λ b. Spells P None b (Split p x)) (sym h.text) (fitting_lines_are_spelled P (Split p x) (has_names P limits) h.fits.1)
 
-same_text : (P : Instance) (bytes : List ℕ) (line : Line) (p : ℕ) (x : Symbol) → KeepsLimits P → Spells P bytes line → IsLineText P bytes (Split p x) → line ≡ Split p x
+same_text : (P : Instance) (bytes : List ℕ) (line : Line) (p : ℕ) (x : Symbol) → KeepsLimits P → Spells P None bytes line → IsLineText P bytes (Split p x) → line ≡ Split p x
 same_text P bytes line p x limits spells g =
     let f = spelled_fits P bytes line spells in
     let one : lines_text P (line ∷ []) ≡ lines_text P (Split p x ∷ []) =
@@ -52,9 +52,9 @@ not_refused P bytes p x Form limits h refused = let s = spelled P bytes p x limi
 not_refused P bytes p x Name limits h refused = not_unknown P bytes (Split p x) (is_writable P limits) (spelled P bytes p x limits h) refused
 
 -- a split that was spelled is at a position
-pub split_within : (P : Instance) (w : State) (S : Store) (bytes : List ℕ) (line : Line) (p : ℕ) (x : Symbol) → S ≡ w.store → IsStore S → (turn : Option Turn) × (earlier : List Line) × IsStateOf P turn earlier w → Spells P bytes line → line ≡ Split p x → p < length w.store.sets
+pub split_within : (P : Instance) (w : State) (S : Store) (bytes : List ℕ) (line : Line) (p : ℕ) (x : Symbol) → S ≡ w.store → IsStore S → (turn : Option Turn) × (earlier : List Line) × IsStateOf P turn earlier w → Spells P None bytes line → line ≡ Split p x → p < length w.store.sets
 split_within P w S bytes line p x is store h spells split =
-    let text = spelled_fits P bytes (Split p x) (subst (Spells P bytes) split spells) in
+    let text = spelled_fits P bytes (Split p x) (subst (Spells P None bytes) split spells) in
     let long : length w.store.sets ≡ cells P = positions_of P w.store (subst IsStore is store) h.2.belongs in
     omega (arith, long, text.1.0)
 
@@ -64,14 +64,14 @@ pub refused_entry : (P : Instance) (u : UnreadSplit) (old new : State) (bytes : 
 refused_entry P u old new bytes why limits is refused turn lines first p x state text side =
     absurd (not_refused P bytes p x why limits (subst (λ b. IsLineText P b (Split p x)) (sym is) text) refused)
 
-pub no_entry : (P : Instance) (u : UnreadSplit) (old new : State) (bytes : List ℕ) (line : Line) → KeepsLimits P → bytes ≡ u.line → Spells P bytes line → ((p : ℕ) (x : Symbol) → line ≡ Split p x → ⊥) → IsEntered P u old new false
+pub no_entry : (P : Instance) (u : UnreadSplit) (old new : State) (bytes : List ℕ) (line : Line) → KeepsLimits P → bytes ≡ u.line → Spells P None bytes line → ((p : ℕ) (x : Symbol) → line ≡ Split p x → ⊥) → IsEntered P u old new false
 no_entry P u old new bytes line limits is spells other turn lines first p x state text side =
     absurd (other p x (same_text P bytes line p x limits spells (subst (λ b. IsLineText P b (Split p x)) (sym is) text)))
 
 same_split : (p q : ℕ) (x y : Symbol) → Split p x ≡ Split q y → (p ≡ q) × (x ≡ y)
 same_split p q x y e = (let f : p ≡ q = cc in f, let g : x ≡ y = cc in g)
 
-pub entry : (P : Instance) (u : UnreadSplit) (old new : State) (bytes : List ℕ) (line : Line) (q : ℕ) (y : Symbol) (in_second entered : Bool) → KeepsLimits P → bytes ≡ u.line → in_second ≡ u.in_second → Spells P bytes line → line ≡ Split q y
+pub entry : (P : Instance) (u : UnreadSplit) (old new : State) (bytes : List ℕ) (line : Line) (q : ℕ) (y : Symbol) (in_second entered : Bool) → KeepsLimits P → bytes ≡ u.line → in_second ≡ u.in_second → Spells P None bytes line → line ≡ Split q y
     → ((R : Instance) (turn : Option Turn) (lines first : List Line) → IsStateOf R turn lines old → IsFirstSide in_second first → MatchBool entered (IsStateOf R turn (lines ++ Split q y ∷ first) new) (is_idle R (domains_at R turn lines (length lines)) q y.number ≡ true))
     → IsEntered P u old new entered
 entry P u old new bytes line q y in_second entered limits is side_is spells split goes turn lines first p x state text side =

@@ -7,7 +7,7 @@ use Rattle.refutation_terms.specs.declared.lines.Turn.{Turn}
 use Rattle.refutation_terms.specs.declared.lines.LogRefusal.{LogRefusal}
 use Rattle.refutation_terms.specs.Tree.{IsTree}
 use Rattle.rwsp_text.specs.Lines.{IsNextLine}
-use Rattle.refutation_terms.specs.Verdict.{CauseBehindFor}
+use Rattle.refutation_terms.specs.Verdict.{CauseBehind}
 use Rattle.refutation_log.specs.Printing.{lines_text}
 use Rattle.refutation_checker.specs.Starts.{Start, StandsBehind}
 use Rattle.refutation_checker.specs.LineTexts.{Judging, log_of, IsSoundNext}
@@ -35,7 +35,7 @@ pub record IsChunkRefused (J : Judging) (turn : Option Turn) (earlier : List Lin
   pub sound : AreSoundBehind J turn earlier lines
   pub text : bytes ≡ lines_text J.problem lines ++ line ++ rest
   pub is_line : IsNextLine line rest
-  pub cause : CauseBehindFor J.problem J.goal (log_of J turn (earlier ++ lines)) line why
+  pub cause : CauseBehind J.problem J.goal (log_of J turn (earlier ++ lines)) line why
 
 -- the answer to the bytes behind the earlier lines: whether the tree is whole with them, or why one is refused
 abbrev pub IsJudged : Judging → Option Turn → List Line → List ℕ → Result Bool (Fail LogRefusal) → Type 0

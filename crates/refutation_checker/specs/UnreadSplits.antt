@@ -6,7 +6,7 @@ use Rattle.rwsp_terms.specs.Instance.{Instance}
 use Rattle.refutation_terms.specs.declared.lines.Line.{Line}
 use Rattle.refutation_terms.specs.declared.lines.Line.TheVariants.{Split}
 use Rattle.refutation_terms.specs.declared.lines.Turn.{Turn}
-use Rattle.refutation_terms.specs.Log.{LineFitsFor}
+use Rattle.refutation_terms.specs.Log.{LineFits}
 use Rattle.refutation_terms.specs.Tree.{IsTree, domains_at, is_idle}
 use Rattle.refutation_terms.specs.LogText.{raw, line_text}
 use Rattle.refutation_log.specs.Printing.{lines_text}
@@ -20,7 +20,7 @@ pub record UnreadSplit : Type 0 where
 
 -- the line fits the problem in a log with some goal or none
 abbrev pub FitsALog : Instance → Line → Type 0
-FitsALog P line = (goal : Option ℕ) × LineFitsFor P goal line
+FitsALog P line = (goal : Option ℕ) × LineFits P goal line
 
 -- each line does
 abbrev pub EachFits : Instance → List Line → Type 0

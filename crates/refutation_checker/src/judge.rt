@@ -2,7 +2,7 @@
 ghost use Rattle.std.specs.Prelude.{◌≡◌, List, Option, IfOk, IsTrue, MatchOption, false};
 ghost use Rattle.refutation_terms.specs.declared.lines.Line.{Line};
 ghost use Rattle.refutation_terms.specs.declared.lines.Turn.{Turn};
-ghost use Rattle.refutation_terms.specs.Log.{LineFitsFor, ListsShortOnly};
+ghost use Rattle.refutation_terms.specs.Log.{LineFits, ListsShortOnly};
 ghost use Rattle.rwsp_model.specs.Refusals.{MatchAnswer};
 ghost use Rattle.domain_store.specs.Store.{BelongsTo, has_domain};
 ghost use Rattle.domain_store.specs.States.{IsStateOf};
@@ -130,7 +130,7 @@ impl<'a> Judge<'a> {
     ) -> Result<Option<LogRefusal>, AllocError>
         requires state { (turn : Option Turn) × (lines : List Line) × IsStateOf self.old.problem turn lines walk.old }
         requires part { walk.old.whole ≡ false }
-        requires line { LineFitsFor self.old.problem self.old.goal line.now }
+        requires line { LineFits self.old.problem self.old.goal line.now }
         ensures same { self.new ≡ self.old }
         ensures passed { IfOk result (λ found. MatchOption found
             (PassesNext self.old walk.old line.now walk.new)
@@ -154,7 +154,7 @@ impl<'a> Judge<'a> {
         number: u32,
     ) -> Result<Option<LogRefusal>, AllocError>
         requires domains { BelongsTo self.old.problem doms.now }
-        requires line { LineFitsFor self.old.problem self.old.goal line.now }
+        requires line { LineFits self.old.problem self.old.goal line.now }
         ensures same { self.new ≡ self.old }
         ensures cause { IfOk result (λ found. MatchOption found
             (IsSoundUnder self.old (has_domain doms.now) line.now)
@@ -178,7 +178,7 @@ impl<'a> Judge<'a> {
         line: &Line,
     ) -> Result<Option<Word>, AllocError>
         requires domains { BelongsTo self.old.problem doms.now }
-        requires line { LineFitsFor self.old.problem self.old.goal line.now }
+        requires line { LineFits self.old.problem self.old.goal line.now }
         requires short { ListsShortOnly self.old.problem line.now }
         ensures same { self.new ≡ self.old }
         ensures escape { IfOk result (λ found. MatchOption found
@@ -206,13 +206,13 @@ impl<'a> Judge<'a> {
         line: &Line,
     ) -> Result<bool, AllocError>
         requires domains { BelongsTo self.old.problem doms.now }
-        requires line { LineFitsFor self.old.problem self.old.goal line.now }
+        requires line { LineFits self.old.problem self.old.goal line.now }
         requires short { ListsShortOnly self.old.problem line.now }
         ensures same { self.new ≡ self.old }
         ensures plain { IfOk result (λ plain. IsTrue plain
             → HoldsByWordsUnder self.old (has_domain doms.now) line.now) }
     {
-        let Line::Dead { p, len, rules } = line else {
+        let Line::Closing(Leaf::Dead { p, len, rules }) = line else {
             return Ok(false);
         };
         let tails = tails_of(alloc, self.problem, self.tails.take(), rules)?;

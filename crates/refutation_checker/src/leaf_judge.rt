@@ -53,7 +53,7 @@ impl<'a> LeafJudge<'a> {
     /// nor a bound leaf this says nothing.
     pub fn holds(&mut self, alloc: Global, walk: &Walk, leaf: &Line) -> Result<bool, AllocError>
         requires state { (turn : Option Turn) × (lines : List Line) × IsStateOf self.old turn lines walk.now }
-        requires fits { LineFits self.old leaf.now }
+        requires fits { LineFits self.old None leaf.now }
         requires short { ListsShortOnly self.old leaf.now }
         ensures same { self.new ≡ self.old }
         ensures holds { IfOk result (TellsLeaf self.old walk.now leaf.now) }
@@ -68,9 +68,9 @@ impl<'a> LeafJudge<'a> {
 /// The walk reads a line that is known to hold there, which isn't judged.
 pub fn go_past(walk: &mut Walk, problem: &Problem, line: &Line) -> Result<(), AllocError>
     requires part { walk.old.whole ≡ false }
-    requires fits { LineFits problem.now line.now }
+    requires fits { LineFits problem.now None line.now }
     requires holds { (turn : Option Turn) × (lines : List Line) × IsStateOf problem.now turn lines walk.old ×
-        Holds problem.now (domains_at problem.now turn lines (length lines)) line.now }
+        Holds problem.now None (domains_at problem.now turn lines (length lines)) line.now }
     ensures { IfOk result (λ _. (turn : Option Turn) (lines : List Line) →
         IsStateOf problem.now turn lines walk.old → IsStateOf problem.now turn (lines ++ line.now ∷ []) walk.new) }
 {

@@ -2,7 +2,7 @@
 ghost use Rattle.std.specs.Prelude.{◌≡◌, ◌≤◌, ◌<◌, ◌↔◌, ℕ, length, Option, IsTrue, MatchOption};
 ghost use Rattle.rwsp_terms.specs.Rules.{rules, NamesShortOnly};
 ghost use Rattle.rwsp_model.specs.RuleNumbers.{IsShortNumber};
-ghost use Rattle.refutation_terms.specs.Log.{AreRules, LineFitsFor, ListsShortOnly};
+ghost use Rattle.refutation_terms.specs.Log.{AreRules, LineFits, ListsShortOnly};
 ghost use Rattle.refutation_terms.specs.Verdict.{IsLeast, IsLongIn, ListsLong};
 
 use refutation_terms::Line;
@@ -36,19 +36,19 @@ fn least_long(problem: &Problem, list: &RuleList) -> Option<u32>
 /// The number of the least rule in the list of a leaf that isn't short; None where all are short, and for
 /// lines without a list. Goes along the list once.
 pub fn long_rule(problem: &Problem, line: &Line) -> Option<u32>
-    requires { (goal : Option ℕ) × LineFitsFor problem.now goal line.now }
+    requires { (goal : Option ℕ) × LineFits problem.now goal line.now }
     ensures { MatchOption result
         (ListsShortOnly problem.now line.now)
         (λ k. IsLeast (ListsLong problem.now line.now) k) }
 {
     match line {
-        Line::Dead { rules, .. } => least_long(problem, rules),
-        Line::Bound { rules, .. } => least_long(problem, rules),
-        Line::Free { rules, .. } => least_long(problem, rules),
+        Line::Closing(Leaf::Dead { rules, .. }) => least_long(problem, rules),
+        Line::Closing(Leaf::Bound { rules, .. }) => least_long(problem, rules),
+        Line::Closing(Leaf::Free { rules, .. }) => least_long(problem, rules),
         Line::Split { .. }
-        | Line::Window { .. }
-        | Line::Day { .. }
-        | Line::Few
+        | Line::Closing(Leaf::Window { .. })
+        | Line::Closing(Leaf::Day { .. })
+        | Line::Closing(Leaf::Few)
         | Line::Unfinished => None,
     }
 }

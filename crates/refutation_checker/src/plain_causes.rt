@@ -1,7 +1,8 @@
 // Whether a line holds by itself: what can be judged without searching for a word.
 ghost use Rattle.std.specs.Prelude.{◌≡◌, ◌<◌, ◌↔◌, length, IsTrue, false, None, MatchOption};
-ghost use Rattle.refutation_terms.specs.Log.{GoalFits, HoldsFor, LineFitsFor};
-ghost use Rattle.refutation_terms.specs.declared.lines.Line.TheVariants.{Few};
+ghost use Rattle.refutation_terms.specs.Log.{GoalFits, Holds, LineFits};
+ghost use Rattle.refutation_terms.specs.declared.lines.Line.TheVariants.{Closing};
+ghost use Rattle.refutation_terms.specs.declared.lines.Leaf.TheVariants.{Few};
 ghost use Rattle.refutation_terms.specs.Tree.{is_idle};
 ghost use Rattle.domain_store.specs.Store.{BelongsTo, has_domain};
 ghost use Rattle.refutation_checker.specs.LineVerdicts.{StandsPlainly, IsPlainlySound, IsPlainFailure, PlainCause};
@@ -33,18 +34,18 @@ fn can_split(problem: &Problem, doms: &Domains, p: u32, x: Symbol) -> bool
 fn stands_plainly(problem: &Problem, goal: Option<u32>, doms: &Domains, line: &Line) -> bool
     requires goal { GoalFits problem.now None goal }
     requires domains { BelongsTo problem.now doms.now }
-    requires line { LineFitsFor problem.now goal line.now }
+    requires line { LineFits problem.now goal line.now }
     ensures { IsTrue result ↔ StandsPlainly problem.now goal (has_domain doms.now) line.now }
 {
     doms.prove_facts();
     match line {
         Line::Split { p, x } => can_split(problem, doms, *p, *x),
-        Line::Window { rule, p, len } => window_holds(problem, doms, *rule, *p, *len),
-        Line::Day { day, x, over } => day_holds(problem, doms, *day, *x, *over),
-        Line::Dead { .. } => true,
-        Line::Bound { .. } => true,
-        Line::Free { .. } => true,
-        Line::Few => few_stands(problem, goal, doms),
+        Line::Closing(Leaf::Window { rule, p, len }) => window_holds(problem, doms, *rule, *p, *len),
+        Line::Closing(Leaf::Day { day, x, over }) => day_holds(problem, doms, *day, *x, *over),
+        Line::Closing(Leaf::Dead { .. }) => true,
+        Line::Closing(Leaf::Bound { .. }) => true,
+        Line::Closing(Leaf::Free { .. }) => true,
+        Line::Closing(Leaf::Few) => few_stands(problem, goal, doms),
         Line::Unfinished => false,
     }
 }
@@ -53,7 +54,7 @@ fn stands_plainly(problem: &Problem, goal: Option<u32>, doms: &Domains, line: &L
 fn few_stands(problem: &Problem, goal: Option<u32>, doms: &Domains) -> bool
     requires goal { GoalFits problem.now None goal }
     requires domains { BelongsTo problem.now doms.now }
-    ensures { IsTrue result ↔ HoldsFor problem.now goal (has_domain doms.now) Few }
+    ensures { IsTrue result ↔ Holds problem.now goal (has_domain doms.now) (Closing Few) }
 {
     match goal {
         Some(goal) => few_holds(problem, doms, goal),
@@ -85,7 +86,7 @@ pub fn plain_refusal(
 ) -> Option<LogRefusal>
     requires goal { GoalFits problem.now None goal }
     requires domains { BelongsTo problem.now doms.now }
-    requires line { LineFitsFor problem.now goal line.now }
+    requires line { LineFits problem.now goal line.now }
     ensures { MatchOption result
         (IsPlainlySound problem.now goal named.now (has_domain doms.now) line.now)
         (λ why. PlainCause problem.now goal named.now (has_domain doms.now) number line.now why) }

@@ -1,7 +1,7 @@
 // The least rule that a line cites and the header doesn't name.
 ghost use Rattle.std.specs.Prelude.{◌≡◌, ◌⊎◌, ℕ, Contains, Option, MatchOption};
 ghost use Rattle.rwsp_terms.specs.Instance.{IsDay};
-ghost use Rattle.refutation_terms.specs.Log.{Cites, CitesOnlyNamed, LineFitsFor, WeightsFit};
+ghost use Rattle.refutation_terms.specs.Log.{Cites, CitesOnlyNamed, LineFits, WeightsFit};
 ghost use Rattle.refutation_terms.specs.Verdict.{IsLeast, IsUnnamed};
 ghost use Rattle.refutation_log.specs.Cited.{IsDayRule, IsWeighedDayRule};
 ghost use Rattle.refutation_checker.specs.Outside.{IsLeastOutside, lesser};
@@ -85,17 +85,17 @@ fn least_of_words(
 ///
 /// Each number that the line cites is looked up in the list, which costs the logarithm of the list's length.
 pub fn unnamed_rule(problem: &Problem, named: &RuleList, line: &Line) -> Option<u32>
-    requires { (goal : Option ℕ) × LineFitsFor problem.now goal line.now }
+    requires { (goal : Option ℕ) × LineFits problem.now goal line.now }
     ensures { MatchOption result
         (CitesOnlyNamed problem.now named.now line.now)
         (λ k. IsLeast (IsUnnamed problem.now named.now (Cites problem.now line.now)) k) }
 {
     match line {
-        Line::Split { .. } | Line::Few | Line::Unfinished => None,
-        Line::Window { rule, .. } => outside(*rule, named),
-        Line::Day { day, .. } => day_outside(problem, *day, named),
-        Line::Dead { rules, .. } => least_outside(rules, named),
-        Line::Bound { rules, weights, .. } => least_of_words(problem, rules, weights, named),
-        Line::Free { rules, weights, .. } => least_of_words(problem, rules, weights, named),
+        Line::Split { .. } | Line::Closing(Leaf::Few) | Line::Unfinished => None,
+        Line::Closing(Leaf::Window { rule, .. }) => outside(*rule, named),
+        Line::Closing(Leaf::Day { day, .. }) => day_outside(problem, *day, named),
+        Line::Closing(Leaf::Dead { rules, .. }) => least_outside(rules, named),
+        Line::Closing(Leaf::Bound { rules, weights, .. }) => least_of_words(problem, rules, weights, named),
+        Line::Closing(Leaf::Free { rules, weights, .. }) => least_of_words(problem, rules, weights, named),
     }
 }

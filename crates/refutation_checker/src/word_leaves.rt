@@ -4,10 +4,10 @@ ghost use Rattle.rwsp_terms.specs.Instance.{cells};
 ghost use Rattle.rwsp_terms.specs.declared.limits.TheConstants.{LONGEST_WORD};
 ghost use Rattle.refutation_terms.specs.Leaf.{IsDead};
 ghost use Rattle.refutation_terms.specs.Escape.{IsLeastClean};
-ghost use Rattle.refutation_terms.specs.Log.{GoalFits, LineFitsFor};
-ghost use Rattle.refutation_terms.specs.Verdict.{EscapesFor};
+ghost use Rattle.refutation_terms.specs.Log.{GoalFits, LineFits};
+ghost use Rattle.refutation_terms.specs.Verdict.{Escapes};
 ghost use Rattle.domain_store.specs.Store.{BelongsTo, has_domain};
-ghost use Rattle.refutation_checker.specs.LineVerdicts.{HasNoList, HasList, HoldsByWordsFor};
+ghost use Rattle.refutation_checker.specs.LineVerdicts.{HasNoList, HasList, HoldsByWords};
 
 use clean_words::{Automaton, CleanWords, escape};
 use domain_store::Domains;
@@ -21,9 +21,9 @@ pub fn list_of(line: &Line) -> Option<&RuleList>
     ensures { MatchOption result (HasNoList line.now) (λ list. HasList line.now list.now) }
 {
     match line {
-        Line::Dead { rules, .. } => Some(rules),
-        Line::Bound { rules, .. } => Some(rules),
-        Line::Free { rules, .. } => Some(rules),
+        Line::Closing(Leaf::Dead { rules, .. }) => Some(rules),
+        Line::Closing(Leaf::Bound { rules, .. }) => Some(rules),
+        Line::Closing(Leaf::Free { rules, .. }) => Some(rules),
         _ => None,
     }
 }
@@ -39,26 +39,26 @@ pub fn escape_of(
 ) -> Result<Option<Word>, AllocError>
     requires domains { BelongsTo automaton.now.problem doms.now }
     requires goal { GoalFits automaton.now.problem None goal }
-    requires line { LineFitsFor automaton.now.problem goal line.now }
+    requires line { LineFits automaton.now.problem goal line.now }
     requires list { HasList line.now automaton.now.rules }
     ensures { IfOk result (λ found. MatchOption found
-        (HoldsByWordsFor automaton.now.problem goal (has_domain doms.now) line.now)
-        (EscapesFor automaton.now.problem goal (has_domain doms.now) line.now)) }
+        (HoldsByWords automaton.now.problem goal (has_domain doms.now) line.now)
+        (Escapes automaton.now.problem goal (has_domain doms.now) line.now)) }
 {
     match line {
-        Line::Dead { p, len, .. } => dead_escape(alloc, automaton, doms, *p, *len),
-        Line::Bound {
+        Line::Closing(Leaf::Dead { p, len, .. }) => dead_escape(alloc, automaton, doms, *p, *len),
+        Line::Closing(Leaf::Bound {
             p,
             turns,
             weights,
             ..
-        } => bound_escape(alloc, automaton, doms, *p, *turns, weights),
-        Line::Free {
+        }) => bound_escape(alloc, automaton, doms, *p, *turns, weights),
+        Line::Closing(Leaf::Free {
             turns,
             reward,
             weights,
             ..
-        } => match goal {
+        }) => match goal {
             Some(goal) => {
                 let claim = FreeClaim {
                     goal,

@@ -16,7 +16,8 @@ use Rattle.rwsp_terms.proofs.Ascending.{Contains-cons, Contains-first, weight_pa
 use Rattle.rwsp_model.proofs.Numbering.{one_number, number_at_place}
 use Rattle.rwsp_model.specs.RuleNumbers.{place_of}
 use Rattle.refutation_terms.specs.declared.lines.Line.{Line}
-use Rattle.refutation_terms.specs.declared.lines.Line.TheVariants.{Window, Day as DayLeaf, Dead, Bound, Free}
+use Rattle.refutation_terms.specs.declared.lines.Line.TheVariants.{Closing}
+use Rattle.refutation_terms.specs.declared.lines.Leaf.TheVariants.{Window, Day as DayLeaf, Dead, Bound, Free}
 use Rattle.refutation_terms.specs.declared.lines.Turn.{Turn}
 use Rattle.refutation_terms.specs.Log.{LineFits, Cites, TurnCites, HasWeight, AreRules, WeightsFit}
 use Rattle.refutation_log.specs.Printing.{FitsSomeLog}
@@ -32,15 +33,15 @@ rule_there P (suc k) some within = (get_or (rules P) k MaxOff, slice_get-get_or 
 abbrev pub TellsCited : Instance → Line → (ℕ → Type 0) → Type 0
 TellsCited P line A = (k : ℕ) → A k ↔ IsCited P (Cites P line) k
 
-pub cited_along : (P : Instance) (line base : Line) (A : ℕ → Type 0) → line ≡ base → (LineFits P base → TellsCited P base A) → LineFits P line → TellsCited P line A
+pub cited_along : (P : Instance) (line base : Line) (A : ℕ → Type 0) → line ≡ base → (LineFits P None base → TellsCited P base A) → LineFits P None line → TellsCited P line A
 cited_along P line base A e f fits =
-    subst (λ (l : Line). TellsCited P l A) (sym e) (f (subst (LineFits P) e fits))
+    subst (λ (l : Line). TellsCited P l A) (sym e) (f (subst (LineFits P None) e fits))
 
 in_one : (n k : ℕ) → Contains (n ∷ []) k → k ≡ n
 in_one n k c =
     ⊎_elim (λ (no : Contains [] k). absurd (omega (arith, no.1))) (λ (e : k ≡ n). e) (Contains-cons n [] k c)
 
-pub window_cited : (P : Instance) (number p len : ℕ) → LineFits P (Window number p len) → TellsCited P (Window number p len) (λ k. k ≡ number)
+pub window_cited : (P : Instance) (number p len : ℕ) → LineFits P None (Closing (Window number p len)) → TellsCited P (Closing (Window number p len)) (λ k. k ≡ number)
 window_cited P number p len fits k = (
   λ e. let r = rule_there P number fits.0 fits.1 in (r.0, ap (rule_of P) e ∙ r.1, (number, Contains-first number [] number refl, r.1)),
   λ q. one_number P k q.2.0 q.0 q.1 q.2.2 ∙ in_one number q.2.0 q.2.1,
@@ -55,10 +56,10 @@ named_cited P R k are c =
 cited_named : (P : Instance) (R : List ℕ) (k : ℕ) (r : Rule) → rule_of P k ≡ Some r → Names P R r → Contains R k
 cited_named P R k r e named = subst (Contains R) (one_number P named.0 k r named.2 e) named.1
 
-pub dead_cited : (P : Instance) (p len : ℕ) (R : List ℕ) → LineFits P (Dead p len R) → TellsCited P (Dead p len R) (Contains R)
+pub dead_cited : (P : Instance) (p len : ℕ) (R : List ℕ) → LineFits P None (Closing (Dead p len R)) → TellsCited P (Closing (Dead p len R)) (Contains R)
 dead_cited P p len R fits k = (λ c. named_cited P R k fits.2 c, λ q. cited_named P R k q.0 q.1 q.2)
 
-pub day_cited : (P : Instance) (j : ℕ) (x : Symbol) (over : Bool) → LineFits P (DayLeaf j x over) → TellsCited P (DayLeaf j x over) (IsDayRule P j)
+pub day_cited : (P : Instance) (j : ℕ) (x : Symbol) (over : Bool) → LineFits P None (DayLeaf j x over) → TellsCited P (DayLeaf j x over) (IsDayRule P j)
 day_cited P j x over fits k = (λ e. (Day j, e, refl), λ q. q.1 ∙ ap (λ (r : Rule). Some r) q.2)
 
 pub turn_cited : (P : Instance) (t : Turn) (k : ℕ) → IsDayRule P t.day k ↔ IsCited P (TurnCites (Some t)) k
@@ -134,10 +135,10 @@ weighed_cited P R y are small k = (
 abbrev pub ListedOrWeighed : Instance → List ℕ → List Weight → ℕ → Type 0
 ListedOrWeighed P R y k = Contains R k ⊎ IsWeighedDayRule P y k
 
-pub bound_cited : (P : Instance) (p turns : ℕ) (R : List ℕ) (y : List Weight) → LineFits P (Bound p turns R y) → TellsCited P (Bound p turns R y) (ListedOrWeighed P R y)
+pub bound_cited : (P : Instance) (p turns : ℕ) (R : List ℕ) (y : List Weight) → LineFits P None (Closing (Bound p turns R y)) → TellsCited P (Closing (Bound p turns R y)) (ListedOrWeighed P R y)
 bound_cited P p turns R y fits k = weighed_cited P R y fits.2 fits.3.0 k
 
-pub free_cited : (P : Instance) (turns reward : ℕ) (R : List ℕ) (y : List Weight) → FitsSomeLog P (Free turns reward R y) → TellsCited P (Free turns reward R y) (ListedOrWeighed P R y)
+pub free_cited : (P : Instance) (turns reward : ℕ) (R : List ℕ) (y : List Weight) → FitsSomeLog P (Closing (Free turns reward R y)) → TellsCited P (Closing (Free turns reward R y)) (ListedOrWeighed P R y)
 free_cited P turns reward R y fits k = weighed_cited P R y fits.2 fits.3.0 k
 
 -- the numbers that are added are those that a line cites, of a log with a goal or without
@@ -180,14 +181,14 @@ weighed_numbered P R y fit r c =
     c
 
 pub some_numbered : (P : Instance) (line : Line) → FitsSomeLog P line → (r : Rule) → Cites P line r → (k : ℕ) × (rule_of P k ≡ Some r)
-some_numbered P (Window number p len) fits r c = (c.0, c.2)
+some_numbered P (Closing (Window number p len)) fits r c = (c.0, c.2)
 some_numbered P (DayLeaf j x over) fits r c = day_numbered P j r fits.0 c
-some_numbered P (Dead p len R) fits r c = (c.0, c.2)
-some_numbered P (Bound p turns R y) fits r c = weighed_numbered P R y fits.3.1 r c
-some_numbered P (Free turns reward R y) fits r c = weighed_numbered P R y fits.3.1 r c
+some_numbered P (Closing (Dead p len R)) fits r c = (c.0, c.2)
+some_numbered P (Closing (Bound p turns R y)) fits r c = weighed_numbered P R y fits.3.1 r c
+some_numbered P (Closing (Free turns reward R y)) fits r c = weighed_numbered P R y fits.3.1 r c
 some_numbered P line fits r c = absurd c
 
-pub line_numbered : (P : Instance) (line : Line) → LineFits P line → (r : Rule) → Cites P line r → (k : ℕ) × (rule_of P k ≡ Some r)
+pub line_numbered : (P : Instance) (line : Line) → LineFits P None line → (r : Rule) → Cites P line r → (k : ℕ) × (rule_of P k ≡ Some r)
 line_numbered P line fits = some_numbered P line (fits_some P None line fits)
 
 pub turn_numbered : (P : Instance) (t : Turn) → IsDay P t.day → (r : Rule) → TurnCites (Some t) r → (k : ℕ) × (rule_of P k ≡ Some r)

@@ -30,13 +30,13 @@ lines_text_push P lines line =
     sym (joined_lines P (lines ++ line ∷ [])) ∙ flat_map-append (line_piece P) lines (line ∷ [])
     ∙ ap (λ t. t ++ (line_piece P line ++ [])) (joined_lines P lines) ∙ ap (λ t. lines_text P lines ++ t) (append-nil (line_piece P line))
 
-fits_push : (P : Instance) (lines : List Line) (line : Line) → EachFits P lines → LineFits P line → EachFits P (lines ++ line ∷ [])
+fits_push : (P : Instance) (lines : List Line) (line : Line) → EachFits P lines → LineFits P None line → EachFits P (lines ++ line ∷ [])
 fits_push P [] line h f = (f, tt)
 fits_push P (l ∷ lines) line h f = (h.0, fits_push P lines line h.1 f)
 
-pub fits_at : (P : Instance) (lines : List Line) → EachFits P lines → (k : ℕ) (line : Line) → slice_get lines k ≡ Some line → LineFits P line
+pub fits_at : (P : Instance) (lines : List Line) → EachFits P lines → (k : ℕ) (line : Line) → slice_get lines k ≡ Some line → LineFits P None line
 fits_at P [] h k line e = absurd (cc)
-fits_at P (l ∷ lines) h zero line e = let s : l ≡ line = cc in subst (LineFits P) s h.0
+fits_at P (l ∷ lines) h zero line e = let s : l ≡ line = cc in subst (LineFits P None) s h.0
 fits_at P (l ∷ lines) h (suc k) line e = fits_at P lines h.1 k line e
 
 -- one line more of a walk
@@ -87,7 +87,7 @@ pub some_bytes : (bytes : List ℕ) → bytes ≢ [] → 0 < length bytes
 some_bytes [] h = absurd (h refl)
 some_bytes (b ∷ bytes) h = omega arith
 
-pub lines_more : (P : Instance) (old left bytes rest : List ℕ) (lines more : List Line) (line : Line) (count next : ℕ) → LinesSoFar P old left lines count → 0 < count → bytes ≢ [] → left ≡ bytes ++ rest → Spells P bytes line → more ≡ lines ++ line ∷ [] → next ≡ open_after count line → LinesSoFar P old rest more next
+pub lines_more : (P : Instance) (old left bytes rest : List ℕ) (lines more : List Line) (line : Line) (count next : ℕ) → LinesSoFar P old left lines count → 0 < count → bytes ≢ [] → left ≡ bytes ++ rest → Spells P None bytes line → more ≡ lines ++ line ∷ [] → next ≡ open_after count line → LinesSoFar P old rest more next
 lines_more P old left bytes rest lines more line count next so some full e spells f g =
     let s = spelled_fits P bytes line spells in
     let long = length-append lines (line ∷ []) in

@@ -34,7 +34,7 @@ turn_fine P R t why limits fits (NoDay name day x k a s l e) r = subst IsReadCau
 turn_fine P R t why limits fits (NoDemand name day x a s d l e) r = subst IsReadCause e r
 
 -- a line that is spelled has none
-no_reason : (P : Instance) (R : List ℕ) (D : Domains) (n : ℕ) (line : Line) (why : LogRefusal) → Reason P R D n line why → IsReadCause why → ⊥
+no_reason : (P : Instance) (R : List ℕ) (D : Domains) (n : ℕ) (line : Line) (why : LogRefusal) → Reason P None R D n line why → IsReadCause why → ⊥
 no_reason P R D n line why (OfName k a e) r = subst IsReadCause e r
 no_reason P R D n line why (OfIdle i e) r = subst IsReadCause e r
 no_reason P R D n line why (OfLong all k a e) r = subst IsReadCause e r
@@ -42,7 +42,7 @@ no_reason P R D n line why (OfFail all plain not e) r = subst IsReadCause e r
 no_reason P R D n line why (OfEscape all short u a e) r = subst IsReadCause e r
 no_reason P R D n line why (OfOpen o e) r = subst IsReadCause e r
 
-level_fine : (P : Instance) (R : List ℕ) (D : Domains) (n : ℕ) (line : Line) (why : LogRefusal) → KeepsLimits P → LineFits P line → Level P R D n (line_text P (raw P line)) why → IsReadCause why → ⊥
+level_fine : (P : Instance) (R : List ℕ) (D : Domains) (n : ℕ) (line : Line) (why : LogRefusal) → KeepsLimits P → LineFits P None line → Level P None R D n (line_text P (raw P line)) why → IsReadCause why → ⊥
 level_fine P R D n line why limits fits (Nothing a e) r = let s = fitting_lines_are_spelled P line (has_names P limits) fits in a s.0 s.1
 level_fine P R D n line why limits fits (Unknown a e) r = not_unknown P (line_text P (raw P line)) line (is_writable P limits) (fitting_lines_are_spelled P line (has_names P limits) fits) a
 level_fine P R D n line why limits fits (Known other a q) r = no_reason P R D n other why q r

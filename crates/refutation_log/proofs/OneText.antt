@@ -46,7 +46,7 @@ body P line = join_with_byte 32 (raw_fields P (raw P line))
 pub feedless_words : (ws : Words) → AreBlankless ws → HasNoFeed (join_with_byte 32 ws)
 feedless_words ws h = join_no_feed ws h
 
-pub body_feedless : (P : Instance) (line : Line) → KeepsLimits P → LineFits P line → HasNoFeed (body P line)
+pub body_feedless : (P : Instance) (line : Line) → KeepsLimits P → LineFits P None line → HasNoFeed (body P line)
 body_feedless P line limits f = join_no_feed (raw_fields P (raw P line)) (line_words P None line (is_writable P limits) (has_names P limits) f).1
 
 written : (P : Instance) (ls : List Line) → lines_text P ls ≡ text_of_lines (lines_fields P ls)

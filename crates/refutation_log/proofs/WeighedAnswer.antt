@@ -7,7 +7,8 @@ use Rattle.rwsp_terms.specs.declared.data.Weight.{Weight}
 use Rattle.rwsp_model.specs.declared.fail.Fail.{Fail}
 use Rattle.rwsp_model.specs.declared.fail.Fail.TheVariants.{Refused, Memory}
 use Rattle.refutation_terms.specs.declared.lines.Line.{Line}
-use Rattle.refutation_terms.specs.declared.lines.Line.TheVariants.{Bound, Free}
+use Rattle.refutation_terms.specs.declared.lines.Line.TheVariants.{Closing}
+use Rattle.refutation_terms.specs.declared.lines.Leaf.TheVariants.{Bound, Free}
 use Rattle.rwsp_terms.specs.Weights.{ComesBefore}
 use Rattle.refutation_terms.specs.LogText.{RawLine, RawBound, RawFree, weights_of, line_of, WeightsAscend}
 use Rattle.rwsp_text.specs.Fields.{NamedWeight, word_at}
@@ -81,17 +82,17 @@ unfolding bound_at
 behind_bound P ws h p turns None a b = rw (a, b) refl
 behind_bound P ws h p turns (Some v) a b = rw (a, b) refl
 
-pub bound_answered : (P : Instance) (high : ℕ) (ws h : List (List ℕ)) (p turns : ℕ) (result : Weighed) → high ≡ most_turns P → head_at P high ws ≡ Some ((p, turns), h) → AnswersWeighed P (weighed_at P h) result → Answers P (bound_at P ws) (made_of (Bound p turns) result)
+pub bound_answered : (P : Instance) (high : ℕ) (ws h : List (List ℕ)) (p turns : ℕ) (result : Weighed) → high ≡ most_turns P → head_at P high ws ≡ Some ((p, turns), h) → AnswersWeighed P (weighed_at P h) result → Answers P (bound_at P ws) (made_of (λ a b. Closing (Bound p turns a b)) result)
 bound_answered P high ws h p turns result e a w =
-    subst (λ o. Answers P o (made_of (Bound p turns) result)) (sym (behind_bound P ws h p turns (weighed_at P h) (ap (λ n. head_at P n ws) (sym e) ∙ a) refl))
-    (made_by P (RawBound p turns) (Bound p turns) (weighed_at P h) result (record { known = λ R y. refl; ascends = λ R z. (λ up. up, λ up. up) }) w)
+    subst (λ o. Answers P o (made_of (λ a b. Closing (Bound p turns a b)) result)) (sym (behind_bound P ws h p turns (weighed_at P h) (ap (λ n. head_at P n ws) (sym e) ∙ a) refl))
+    (made_by P (RawBound p turns) (λ a b. Closing (Bound p turns a b)) (weighed_at P h) result (record { known = λ R y. refl; ascends = λ R z. (λ up. up, λ up. up) }) w)
 
 behind_free : (P : Instance) (ws h : List (List ℕ)) (turns reward : ℕ) (o : Option Read) → free_head_at P ws ≡ Some ((turns, reward), h) → weighed_at P h ≡ o → free_at P ws ≡ written_of (RawFree turns reward) o
 unfolding free_at
 behind_free P ws h turns reward None a b = rw (a, b) refl
 behind_free P ws h turns reward (Some v) a b = rw (a, b) refl
 
-pub free_answered : (P : Instance) (ws h : List (List ℕ)) (turns reward : ℕ) (result : Weighed) → free_head_at P ws ≡ Some ((turns, reward), h) → AnswersWeighed P (weighed_at P h) result → Answers P (free_at P ws) (made_of (Free turns reward) result)
+pub free_answered : (P : Instance) (ws h : List (List ℕ)) (turns reward : ℕ) (result : Weighed) → free_head_at P ws ≡ Some ((turns, reward), h) → AnswersWeighed P (weighed_at P h) result → Answers P (free_at P ws) (made_of (λ a b. Closing (Free turns reward a b)) result)
 free_answered P ws h turns reward result a w =
-    subst (λ o. Answers P o (made_of (Free turns reward) result)) (sym (behind_free P ws h turns reward (weighed_at P h) a refl))
-    (made_by P (RawFree turns reward) (Free turns reward) (weighed_at P h) result (record { known = λ R y. refl; ascends = λ R z. (λ up. up, λ up. up) }) w)
+    subst (λ o. Answers P o (made_of (λ a b. Closing (Free turns reward a b)) result)) (sym (behind_free P ws h turns reward (weighed_at P h) a refl))
+    (made_by P (RawFree turns reward) (λ a b. Closing (Free turns reward a b)) (weighed_at P h) result (record { known = λ R y. refl; ascends = λ R z. (λ up. up, λ up. up) }) w)

@@ -4,9 +4,10 @@ use Rattle.std.specs.List.{AllByRecursion, concat, flat_map}
 use Rattle.rwsp_terms.specs.declared.data.Weight.{Weight}
 use Rattle.rwsp_terms.specs.Instance.{Instance}
 use Rattle.refutation_terms.specs.declared.lines.Line.{Line}
-use Rattle.refutation_terms.specs.declared.lines.Line.TheVariants.{Few, Free}
+use Rattle.refutation_terms.specs.declared.lines.Line.TheVariants.{Closing}
+use Rattle.refutation_terms.specs.declared.lines.Leaf.TheVariants.{Few, Free}
 use Rattle.refutation_terms.specs.declared.lines.Turn.{Turn}
-use Rattle.refutation_terms.specs.Log.{LineFits, LineFitsFor}
+use Rattle.refutation_terms.specs.Log.{LineFits}
 use Rattle.refutation_terms.specs.LogText.{raw, line_text, named_weight, header_text, free_header_text}
 use Rattle.rwsp_text.specs.Fields.{weight_fields}
 
@@ -25,13 +26,13 @@ header_text_for P named turn (Some goal) = free_header_text named goal
 
 -- the line fits the problem in a log with a goal or without
 abbrev pub FitsSomeLog : Instance → Line → Type 0
-FitsSomeLog P Few = LineFitsFor P (Some 0) Few
-FitsSomeLog P (Free turns reward R y) = LineFitsFor P (Some 0) (Free turns reward R y)
-FitsSomeLog P line = LineFits P line
+FitsSomeLog P (Closing Few) = LineFits P (Some 0) (Closing Few)
+FitsSomeLog P (Closing (Free turns reward R y)) = LineFits P (Some 0) (Closing (Free turns reward R y))
+FitsSomeLog P line = LineFits P None line
 
 -- each line fits the problem
 abbrev pub EachFits : Instance → List Line → Type 0
-EachFits P lines = AllByRecursion (LineFits P) lines
+EachFits P lines = AllByRecursion (LineFits P None) lines
 
 -- the fields of weights
 abbrev pub weight_words : Instance → List Weight → List (List ℕ)

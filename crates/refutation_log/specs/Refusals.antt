@@ -3,18 +3,18 @@ use Rattle.std.specs.Prelude.{◌≡◌, ◌≢◌, ℕ, ◌+◌, ◌≤◌, Lis
 use Rattle.rwsp_terms.specs.Instance.{Instance}
 use Rattle.refutation_terms.specs.LogText.{rules_text, goal_text}
 use Rattle.refutation_terms.specs.Log.{AreRules}
-use Rattle.refutation_terms.specs.Verdict.{SpellsNothingFor, SpellsUnknownFor, SpellsNoTurn, TurnsToUnknown}
+use Rattle.refutation_terms.specs.Verdict.{SpellsNothing, SpellsUnknown, SpellsNoTurn, TurnsToUnknown}
 use Rattle.refutation_log.specs.declared.refusal.LineRefusal.{LineRefusal}
 use Rattle.refutation_log.specs.declared.refusal.LineRefusal.TheVariants.{Form, Name}
 
 -- no written line of a log with this goal or none is spelled, or one with a name that is no symbol's
-abbrev pub IsLineRefusedFor : Instance → Option ℕ → List ℕ → LineRefusal → Type 0
-IsLineRefusedFor P goal bytes Form = SpellsNothingFor P goal bytes
-IsLineRefusedFor P goal bytes Name = SpellsUnknownFor P goal bytes
+abbrev pub IsLineRefusedIn : Instance → Option ℕ → List ℕ → LineRefusal → Type 0
+IsLineRefusedIn P goal bytes Form = SpellsNothing P goal bytes
+IsLineRefusedIn P goal bytes Name = SpellsUnknown P goal bytes
 
 -- of a log without a goal
 abbrev pub IsLineRefused : Instance → List ℕ → LineRefusal → Type 0
-IsLineRefused P bytes why = IsLineRefusedFor P None bytes why
+IsLineRefused P bytes why = IsLineRefusedIn P None bytes why
 
 -- no turn is spelled, or one to a name that is no symbol's
 abbrev pub IsTurnRefused : Instance → List ℕ → LineRefusal → Type 0

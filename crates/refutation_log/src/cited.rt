@@ -3,7 +3,7 @@ ghost use Rattle.std.specs.Prelude.{◌≡◌, ◌⊎◌, ◌↔◌, ℕ, Option
 ghost use Rattle.rwsp_terms.specs.declared.data.Rule.{Rule};
 ghost use Rattle.rwsp_terms.specs.Instance.{IsDay};
 ghost use Rattle.rwsp_terms.specs.Rules.{Names};
-ghost use Rattle.refutation_terms.specs.Log.{LineFitsFor, Cites, TurnCites, WeightsFit};
+ghost use Rattle.refutation_terms.specs.Log.{LineFits, Cites, TurnCites, WeightsFit};
 ghost use Rattle.refutation_log.specs.Printing.{FitsSomeLog};
 ghost use Rattle.refutation_log.specs.Cited.{Adds, AddsSome, IsCited, IsDayRule, IsWeighedDayRule};
 
@@ -15,7 +15,7 @@ use std::alloc::AllocError;
 /// Puts the rules that the line of a log with a goal or without cites into the list. After want of memory some of them
 /// may have been added.
 pub fn put_cited(rules: &mut RuleList, problem: &Problem, line: &Line) -> Result<(), AllocError>
-    requires { (goal : Option ℕ) × LineFitsFor problem.now goal line.now }
+    requires { (goal : Option ℕ) × LineFits problem.now goal line.now }
     ensures ok { OnOk result (Adds rules.old rules.new (IsCited problem.now (Cites problem.now line.now))) }
     ensures names { OnOk result ((r : Rule) → Names problem.now rules.new r
         ↔ (Names problem.now rules.old r ⊎ Cites problem.now line.now r)) }
@@ -26,7 +26,7 @@ pub fn put_cited(rules: &mut RuleList, problem: &Problem, line: &Line) -> Result
 
 /// The same by another name.
 pub fn put_cited_for(rules: &mut RuleList, problem: &Problem, line: &Line) -> Result<(), AllocError>
-    requires { (goal : Option ℕ) × LineFitsFor problem.now goal line.now }
+    requires { (goal : Option ℕ) × LineFits problem.now goal line.now }
     ensures ok { OnOk result (Adds rules.old rules.new (IsCited problem.now (Cites problem.now line.now))) }
     ensures names { OnOk result ((r : Rule) → Names problem.now rules.new r
         ↔ (Names problem.now rules.old r ⊎ Cites problem.now line.now r)) }
@@ -41,20 +41,20 @@ fn put_line_cited(rules: &mut RuleList, problem: &Problem, line: &Line) -> Resul
     ensures err { OnErr result (AddsSome rules.old rules.new (IsCited problem.now (Cites problem.now line.now))) }
 {
     match line {
-        Line::Split { .. } | Line::Few | Line::Unfinished => Ok(()),
-        Line::Window { rule, .. } => rules.put(*rule),
-        Line::Day { day, .. } => put_day_rule(rules, problem, *day),
-        Line::Dead { rules: cited, .. } => put_all(rules, cited),
-        Line::Bound {
+        Line::Split { .. } | Line::Closing(Leaf::Few) | Line::Unfinished => Ok(()),
+        Line::Closing(Leaf::Window { rule, .. }) => rules.put(*rule),
+        Line::Closing(Leaf::Day { day, .. }) => put_day_rule(rules, problem, *day),
+        Line::Closing(Leaf::Dead { rules: cited, .. }) => put_all(rules, cited),
+        Line::Closing(Leaf::Bound {
             rules: cited,
             weights,
             ..
-        } => put_cited_of_bound(rules, problem, cited, weights),
-        Line::Free {
+        }) => put_cited_of_bound(rules, problem, cited, weights),
+        Line::Closing(Leaf::Free {
             rules: cited,
             weights,
             ..
-        } => put_cited_of_bound(rules, problem, cited, weights),
+        }) => put_cited_of_bound(rules, problem, cited, weights),
     }
 }
 

@@ -4,9 +4,9 @@ ghost use Rattle.std.specs.List.Sorted.{IsStrictlyIncreasing};
 ghost use Rattle.rwsp_terms.specs.Rules.{rules};
 ghost use Rattle.rwsp_model.specs.Refusals.{MatchAnswer};
 ghost use Rattle.refutation_terms.specs.LogText.{RawSplit, RawWindow, RawDay};
-ghost use Rattle.refutation_terms.specs.Verdict.{Spells, SpellsFor};
+ghost use Rattle.refutation_terms.specs.Verdict.{Spells};
 ghost use Rattle.rwsp_text.specs.Lines.{words_of};
-ghost use Rattle.refutation_log.specs.Refusals.{IsLineRefused, IsLineRefusedFor};
+ghost use Rattle.refutation_log.specs.Refusals.{IsLineRefused, IsLineRefusedIn};
 ghost use Rattle.rwsp_text.specs.Fields.{IsValue};
 ghost use Rattle.rwsp_text.specs.Reads.{Reads};
 ghost use Rattle.rwsp_terms.specs.declared.limits.TheConstants.{GREATEST_WEIGHT};
@@ -29,7 +29,7 @@ const NAME: Fail<LineRefusal> = Fail::Refused(LineRefusal::Name);
 
 /// The line of a log without a goal that a line of text spells. It needs its LF.
 pub fn read_line(alloc: Global, problem: &Problem, bytes: &[u8]) -> Result<Line, Fail<LineRefusal>>
-    ensures { MatchAnswer result (Spells problem.now bytes.now) (IsLineRefused problem.now bytes.now) }
+    ensures { MatchAnswer result (Spells problem.now None bytes.now) (IsLineRefused problem.now bytes.now) }
 {
     read_line_for(alloc, problem, None, bytes)
 }
@@ -41,7 +41,7 @@ pub fn read_line_for(
     goal: Option<u32>,
     bytes: &[u8],
 ) -> Result<Line, Fail<LineRefusal>>
-    ensures { MatchAnswer result (SpellsFor problem.now goal bytes.now) (IsLineRefusedFor problem.now goal bytes.now) }
+    ensures { MatchAnswer result (Spells problem.now goal bytes.now) (IsLineRefusedIn problem.now goal bytes.now) }
 {
     problem.prove_limits();
     match body_of(bytes) {
@@ -119,7 +119,7 @@ fn read_with_goal(
 {
     if word == b"few".as_slice() {
         if fields.is_done() {
-            Ok(Line::Few)
+            Ok(Line::Closing(Leaf::Few))
         } else {
             Err(FORM)
         }
@@ -178,7 +178,7 @@ fn read_window(problem: &Problem, fields: &mut Fields) -> Result<Line, Fail<Line
 {
     match window_parts(problem, fields) {
         None => Err(FORM),
-        Some((rule, p, len)) => Ok(Line::Window { rule, p, len }),
+        Some((rule, p, len)) => Ok(Line::Closing(Leaf::Window { rule, p, len })),
     }
 }
 
@@ -205,7 +205,7 @@ fn read_day(problem: &Problem, fields: &mut Fields) -> Result<Line, Fail<LineRef
     };
     match problem.symbol(name) {
         None => Err(NAME),
-        Some(x) => Ok(Line::Day { day, x, over }),
+        Some(x) => Ok(Line::Closing(Leaf::Day { day, x, over })),
     }
 }
 
@@ -265,7 +265,7 @@ fn read_dead(
         return Err(Fail::Memory);
     };
     if fields.is_done() {
-        Ok(Line::Dead { p, len, rules })
+        Ok(Line::Closing(Leaf::Dead { p, len, rules }))
     } else {
         Err(FORM)
     }
@@ -347,12 +347,12 @@ fn read_bound(
     };
     match weighed(alloc, problem, fields) {
         Err(fail) => Err(fail),
-        Ok((rules, weights)) => Ok(Line::Bound {
+        Ok((rules, weights)) => Ok(Line::Closing(Leaf::Bound {
             p,
             turns,
             rules,
             weights,
-        }),
+        })),
     }
 }
 
@@ -380,12 +380,12 @@ fn read_free(
     };
     match weighed(alloc, problem, fields) {
         Err(fail) => Err(fail),
-        Ok((rules, weights)) => Ok(Line::Free {
+        Ok((rules, weights)) => Ok(Line::Closing(Leaf::Free {
             turns,
             reward,
             rules,
             weights,
-        }),
+        })),
     }
 }
 

@@ -137,54 +137,54 @@ pub fn copy_line(line: &Line) -> Result<Line, AllocError>
 {
     match line {
         Line::Split { p, x } => Ok(Line::Split { p: *p, x: *x }),
-        Line::Window { rule, p, len } => Ok(Line::Window {
+        Line::Closing(Leaf::Window { rule, p, len }) => Ok(Line::Closing(Leaf::Window {
             rule: *rule,
             p: *p,
             len: *len,
-        }),
-        Line::Day { day, x, over } => Ok(Line::Day {
+        })),
+        Line::Closing(Leaf::Day { day, x, over }) => Ok(Line::Closing(Leaf::Day {
             day: *day,
             x: *x,
             over: *over,
-        }),
-        Line::Dead { p, len, rules } => {
+        })),
+        Line::Closing(Leaf::Dead { p, len, rules }) => {
             let rules = rules.copy()?;
-            Ok(Line::Dead {
+            Ok(Line::Closing(Leaf::Dead {
                 p: *p,
                 len: *len,
                 rules,
-            })
+            }))
         }
-        Line::Bound {
+        Line::Closing(Leaf::Bound {
             p,
             turns,
             rules,
             weights,
-        } => {
+        }) => {
             let rules = rules.copy()?;
             let weights = weights.copy()?;
-            Ok(Line::Bound {
+            Ok(Line::Closing(Leaf::Bound {
                 p: *p,
                 turns: *turns,
                 rules,
                 weights,
-            })
+            }))
         }
-        Line::Few => Ok(Line::Few),
-        Line::Free {
+        Line::Closing(Leaf::Few) => Ok(Line::Closing(Leaf::Few)),
+        Line::Closing(Leaf::Free {
             turns,
             reward,
             rules,
             weights,
-        } => {
+        }) => {
             let rules = rules.copy()?;
             let weights = weights.copy()?;
-            Ok(Line::Free {
+            Ok(Line::Closing(Leaf::Free {
                 turns: *turns,
                 reward: *reward,
                 rules,
                 weights,
-            })
+            }))
         }
         Line::Unfinished => Ok(Line::Unfinished),
     }

@@ -140,22 +140,22 @@ fn put_fields(out: &mut Vec<u8>, problem: &Problem, line: &Line) -> Result<(), A
 {
     match line {
         Line::Split { p, x } => put_split(out, problem, *p, *x),
-        Line::Window { rule, p, len } => put_window(out, problem, *rule, *p, *len),
-        Line::Day { day, x, over } => put_day(out, problem, *day, *x, *over),
-        Line::Dead { p, len, rules } => put_dead(out, problem, *p, *len, rules.numbers()),
-        Line::Bound {
+        Line::Closing(Leaf::Window { rule, p, len }) => put_window(out, problem, *rule, *p, *len),
+        Line::Closing(Leaf::Day { day, x, over }) => put_day(out, problem, *day, *x, *over),
+        Line::Closing(Leaf::Dead { p, len, rules }) => put_dead(out, problem, *p, *len, rules.numbers()),
+        Line::Closing(Leaf::Bound {
             p,
             turns,
             rules,
             weights,
-        } => put_bound(out, problem, *p, *turns, rules.numbers(), weights.entries()),
-        Line::Few => out.extend_from_slice(b"few"),
-        Line::Free {
+        }) => put_bound(out, problem, *p, *turns, rules.numbers(), weights.entries()),
+        Line::Closing(Leaf::Few) => out.extend_from_slice(b"few"),
+        Line::Closing(Leaf::Free {
             turns,
             reward,
             rules,
             weights,
-        } => put_free(
+        }) => put_free(
             out,
             problem,
             *turns,

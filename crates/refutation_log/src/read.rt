@@ -88,7 +88,7 @@ fn tree_line(
     bytes: &[u8],
     n: u32,
 ) -> Result<Line, Fail<LogRefusal>>
-    ensures { MatchAnswer result (Spells problem.now bytes.now) (IsTreeLineRefused problem.now bytes.now n) }
+    ensures { MatchAnswer result (Spells problem.now None bytes.now) (IsTreeLineRefused problem.now bytes.now n) }
 {
     match read_line_for(alloc, problem, None, bytes) {
         Ok(line) => Ok(line),

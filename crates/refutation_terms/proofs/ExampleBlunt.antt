@@ -1,5 +1,5 @@
 -- Logs of the examples that aren't sharp.
-use Rattle.std.proofs.Common.{◌≡◌, ◌⊎◌, ℕ, zero, suc, ◌+◌, ◌*◌, ◌%◌, ◌<◌, ◌≤◌, List, [], ◌∷◌, ◌++◌, refl, ap, sym, subst, arith, inl, inr, Bool, true, false, IsTrue, pos, lit<, lit≤}
+use Rattle.std.proofs.Common.{◌≡◌, ◌⊎◌, ℕ, zero, suc, ◌+◌, ◌%◌, ◌<◌, ◌≤◌, List, [], ◌∷◌, ◌++◌, None, refl, ap, sym, subst, arith, inl, inr, Bool, true, false, IsTrue, pos, lit<, lit≤}
 use Rattle.std.specs.Prelude.{◌<ℤ◌, ◌*ℤ◌}
 use Rattle.std.specs.Int.Signed.{lt_z_yes, le_z_yes}
 use Rattle.std.proofs.lemmas.Int.{ints}
@@ -12,7 +12,8 @@ use Rattle.rwsp_terms.specs.Instance.{IsDay, symbol_numbered}
 use Rattle.rwsp_terms.specs.Window.{InClass}
 use Rattle.rwsp_terms.specs.Rules.{NamesShortRules}
 use Rattle.rwsp_terms.proofs.Elements.{all_from}
-use Rattle.refutation_terms.specs.declared.lines.Line.TheVariants.{Split, Day}
+use Rattle.refutation_terms.specs.declared.lines.Line.TheVariants.{Split, Closing}
+use Rattle.refutation_terms.specs.declared.lines.Leaf.TheVariants.{Day}
 use Rattle.refutation_terms.specs.Word.{full, Over, Clean, weight, total}
 use Rattle.refutation_terms.specs.Leaf.{IsDead}
 use Rattle.refutation_terms.specs.Tree.{First, narrowed, opening, turn_leaves, domains_at}
@@ -115,7 +116,7 @@ D_is_spent short = record {
 }
 
 -- and the day off isn't: no day leaf holds where it is alone there, and some clean word begins with it
-no_day_leaf : (j n : ℕ) (over : Bool) → IsDay none_wanted j → n ≤ 1 → Holds none_wanted (narrowed (domains_at none_wanted free_split_log.turn free_split_log.lines 0) (Split 0 off) First) (Day j (symbol_numbered n) over) → ⊥
+no_day_leaf : (j n : ℕ) (over : Bool) → IsDay none_wanted j → n ≤ 1 → Holds none_wanted None (narrowed (domains_at none_wanted free_split_log.turn free_split_log.lines 0) (Split 0 off) First) (Closing (Day j (symbol_numbered n) over)) → ⊥
 no_day_leaf zero n over day small h = let a : 0 < 0 = day.0 in omega (arith, a)
 no_day_leaf (suc (suc j)) n over day small h = let a : suc (suc j) ≤ 1 = day.1 in omega (arith, a)
 no_day_leaf (suc zero) zero true day small h = omega (arith, ints)

@@ -102,7 +102,7 @@ open_log_is_spent = record {
       turn = tt;
       is_goal = refl;
       goal_fits = tt;
-      lines = each_at (λ k line. LineFits three_of_six line) open_log.lines ((lit< tt, lit≤ tt), (tt, (tt, tt)));
+      lines = each_at (λ k line. LineFits three_of_six None line) open_log.lines ((lit< tt, lit≤ tt), (tt, (tt, tt)));
     };
     turn = tt;
     turn_named = λ r c. absurd c;

@@ -18,7 +18,8 @@ use Rattle.rwsp_terms.specs.Instance.{Instance, bounds, cells, shift_count, IsDa
 use Rattle.rwsp_terms.specs.Window.{Bad, InClass, TooLong, TooShort}
 use Rattle.rwsp_terms.specs.Roster.{IsRule, MeetsDay}
 use Rattle.rwsp_terms.proofs.Elements.{all_from}
-use Rattle.refutation_terms.specs.declared.lines.Line.TheVariants.{Split, Day}
+use Rattle.refutation_terms.specs.declared.lines.Line.TheVariants.{Split, Closing}
+use Rattle.refutation_terms.specs.declared.lines.Leaf.TheVariants.{Day}
 use Rattle.refutation_terms.specs.Word.{Domains, Over, Clean, full, weight, total}
 use Rattle.refutation_terms.specs.Leaf.{is_only, fixed, possible}
 use Rattle.refutation_terms.specs.Tree.{First, narrowed, opening, turn_leaves, domains_at}
@@ -122,7 +123,7 @@ at_most f a b = omega (arith, ints)
 never_negative : (f : ℕ) → pos f <ℤ pos 0 → ⊥
 never_negative f a = omega (arith, ints)
 
-no_day_leaf : (D : Domains) (j n : ℕ) (over : Bool) → IsDay odd j → n ≤ 1 → Holds odd D (Day j (symbol_numbered n) over) → ⊥
+no_day_leaf : (D : Domains) (j n : ℕ) (over : Bool) → IsDay odd j → n ≤ 1 → Holds odd None D (Closing (Day j (symbol_numbered n) over)) → ⊥
 no_day_leaf D zero n over day small h = let a : 0 < 0 = day.0 in omega (arith, a)
 no_day_leaf D (suc (suc j)) n over day small h = let a : suc (suc j) ≤ 1 = day.1 in omega (arith, a)
 no_day_leaf D (suc zero) zero true day small h = at_most (fixed odd D 1 0) (count_by-le-length (λ i. is_only odd D (i * 1 + (1 - 1)) 0) (range_with_len 0 3)) h

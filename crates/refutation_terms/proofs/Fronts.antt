@@ -9,7 +9,7 @@ use Rattle.rwsp_terms.specs.Instance.{Instance, name_of}
 use Rattle.refutation_terms.specs.declared.lines.Line.{Line}
 use Rattle.refutation_terms.specs.declared.lines.Turn.{Turn}
 use Rattle.refutation_terms.specs.declared.lines.LogRefusal.{LogRefusal}
-use Rattle.refutation_terms.specs.Log.{Log, Fits, FitsFor, TurnFits, AreRules, LineFitsFor}
+use Rattle.refutation_terms.specs.Log.{Log, Fits, FitsFor, TurnFits, AreRules, LineFits}
 use Rattle.refutation_terms.specs.LogText.{raw, raw_fields, line_text, version_text, rules_text, turn_text, log_text}
 use Rattle.refutation_terms.specs.Verdict.{Front, Start, Versioned, BeforeTurn, Reading, front_text}
 use Rattle.refutation_terms.specs.TextLaws.{IsWritable, HasNames, TextsAreDistinct}
@@ -86,7 +86,7 @@ pub goes_on : (P : Instance) (goal other : Option ℕ) (g h : Log) (zs : List Wo
 goes_on P goal other g h zs w n hg hh e =
     let s = same_header P goal other g h zs w n hg hh e in
     let m = lines_longer P goal g.lines h.lines zs w n (each_fits P goal g.lines hg.lines)
-    (subst (λ o. AllByRecursion (LineFitsFor P o) h.lines) (sym s.2) (each_fits P other h.lines hh.lines)) s.3 in
+    (subst (λ o. AllByRecursion (LineFits P o) h.lines) (sym s.2) (each_fits P other h.lines hh.lines)) s.3 in
     record {
       more = m.0;
       same_goal = s.2;

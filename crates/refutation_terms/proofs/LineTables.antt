@@ -13,8 +13,8 @@ use Rattle.rwsp_terms.specs.declared.limits.TheConstants.{GREATEST_REWARD, LONGE
 use Rattle.rwsp_terms.specs.Instance.{Instance, cells, IsDay}
 use Rattle.rwsp_terms.specs.Rules.{rules}
 use Rattle.refutation_terms.specs.Log.{IsLength, AreRules}
-use Rattle.refutation_terms.specs.LogText.{RawLine, RawSplit, RawWindow, RawDay, RawDead, RawBound, RawFew, RawFree, RawUnfinished, place_words, raw_fields, IsInRangeFor}
-use Rattle.refutation_terms.specs.LineKinds.{most_turns, split_kind, window_kind, day_kind, dead_kind, bound_kind, open_kind, few_kind, free_kind, own_kinds, kinds_for, version_kinds, free_version_kinds, rules_kinds, turn_kinds, goal_kinds}
+use Rattle.refutation_terms.specs.LogText.{RawLine, RawSplit, RawWindow, RawDay, RawDead, RawBound, RawFew, RawFree, RawUnfinished, place_words, raw_fields, IsInRange}
+use Rattle.refutation_terms.specs.LineKinds.{most_turns, split_kind, window_kind, day_kind, dead_kind, bound_kind, open_kind, few_kind, free_kind, own_kinds, line_kinds, version_kinds, free_version_kinds, rules_kinds, turn_kinds, goal_kinds}
 use Rattle.refutation_terms.specs.TextLaws.{IsWritable}
 
 word_fits : LONGEST_WORD < 10 ^ 19
@@ -45,7 +45,7 @@ fields_readable P w =
       (few_turns P, (reward, (refl, ((many, refl), (refl, ((days, (omega arith, omega arith), tt), tt)))))),
     )
 
-pub readable_for : (P : Instance) (goal : Option ℕ) → IsWritable P → IsReadable (kinds_for P goal)
+pub readable_for : (P : Instance) (goal : Option ℕ) → IsWritable P → IsReadable (line_kinds P goal)
 readable_for P None w =
     let r = fields_readable P w in
     let own : IsReadable (own_kinds P None) = ((r.4, refl, (refl, tt)), ((tt, refl, tt), tt)) in
@@ -104,7 +104,7 @@ weights_end R y = ap (λ us. numbers R ++ (codes "weights" ∷ us)) (sym (append
 rules_end : (R : List ℕ) → numbers R ≡ numbers R ++ []
 rules_end R = sym (append-nil (numbers R))
 
-pub line_for : (P : Instance) (goal : Option ℕ) (raw : RawLine) → IsInRangeFor P goal raw → IsLine (kinds_for P goal) (raw_fields P raw) raw
+pub line_for : (P : Instance) (goal : Option ℕ) (raw : RawLine) → IsInRange P goal raw → IsLine (line_kinds P goal) (raw_fields P raw) raw
 line_for P goal (RawSplit p name) h = inl (refl, record { values = (p, (name, tt)); keeps = (h.0, (h.1, tt)); spelled = refl; made = refl })
 line_for P goal (RawWindow rule p len) h = inr (inl (refl, record { values = (rule, (p, (len, tt))); keeps = ((h.0, h.1), (h.2, (h.3, tt))); spelled = refl; made = refl }))
 line_for P goal (RawDay day name over) h = inr (inr (inl (refl, record { values = (day, (name, (over, tt))); keeps = (h.0, (h.1, tt)); spelled = refl; made = refl })))
@@ -138,7 +138,7 @@ line_for P (Some goal) RawUnfinished h = inr (inr (inr (inr (inr (inr (inl (refl
 line_for P (Some goal) (RawBound p turns R y) h = absurd h
 
 abbrev Found : Instance → Option ℕ → Words → RawLine → Type 0
-Found P goal ws raw = (ws ≡ raw_fields P raw) × IsInRangeFor P goal raw
+Found P goal ws raw = (ws ≡ raw_fields P raw) × IsInRange P goal raw
 
 -- a line of a kind is a written line, where each line with values in their ranges is one
 found_by : (P : Instance) (goal : Option ℕ) (kind : Kind RawLine) (w : List ℕ) (ws : Words) (raw : RawLine) → ((v : Values kind.fields) → AreInRange kind.fields v → Found P goal (kind.word ∷ spell kind.fields v) (kind.make v)) → IsOfKind kind (w ∷ ws) raw → Found P goal (w ∷ ws) raw
@@ -169,8 +169,8 @@ own_found P (Some goal) w ws raw (inr (inr (inl l))) = found_by P (Some goal) op
 own_found P (Some goal) w ws raw (inr (inr (inr l))) = absurd l
 
 -- and a line of the table is a written line
-pub found_for : (P : Instance) (goal : Option ℕ) (ws : Words) (raw : RawLine) → IsLine (kinds_for P goal) ws raw → (ws ≡ raw_fields P raw) × IsInRangeFor P goal raw
-found_for P goal [] raw l = absurd (no_words (kinds_for P goal) raw l)
+pub found_for : (P : Instance) (goal : Option ℕ) (ws : Words) (raw : RawLine) → IsLine (line_kinds P goal) ws raw → (ws ≡ raw_fields P raw) × IsInRange P goal raw
+found_for P goal [] raw l = absurd (no_words (line_kinds P goal) raw l)
 found_for P goal (w ∷ ws) raw (inl l) = found_by P goal (split_kind P) w ws raw (λ v k. (refl, (k.0, k.1.0))) l
 found_for P goal (w ∷ ws) raw (inr (inl l)) = found_by P goal (window_kind P) w ws raw (λ v k. (refl, (k.0.0, k.0.1, k.1.0, k.1.1.0))) l
 found_for P goal (w ∷ ws) raw (inr (inr (inl l))) = found_by P goal (day_kind P) w ws raw (λ v k. (refl, (k.0, k.1.0))) l
@@ -223,8 +223,8 @@ rules_words P R w h = lines_are_words (rules_kinds P) (rules_fields R) R (rules_
 pub turn_words : (P : Instance) (name : List ℕ) (day : ℕ) → IsWritable P → IsName name → IsDay P day → AreWords (turn_fields name day)
 turn_words P name day w n d = lines_are_words (turn_kinds P) (turn_fields name day) (name, day) (turn_readable P w) (turn_line P name day n d)
 
-pub line_words_for : (P : Instance) (goal : Option ℕ) (raw : RawLine) → IsWritable P → IsInRangeFor P goal raw → AreWords (raw_fields P raw)
-line_words_for P goal raw w h = lines_are_words (kinds_for P goal) (raw_fields P raw) raw (readable_for P goal w) (line_for P goal raw h)
+pub line_words_for : (P : Instance) (goal : Option ℕ) (raw : RawLine) → IsWritable P → IsInRange P goal raw → AreWords (raw_fields P raw)
+line_words_for P goal raw w h = lines_are_words (line_kinds P goal) (raw_fields P raw) raw (readable_for P goal w) (line_for P goal raw h)
 
 abbrev pub free_version_fields : Words
 free_version_fields = codes "rwsp-free" ∷ codes "1" ∷ []
@@ -259,5 +259,5 @@ turn_same P name name' day day' w h k e =
     lines_say_one (turn_kinds P) (turn_fields name day) (name, day) (name', day') (turn_readable P w) (turn_line P name day h.0 h.1) (subst (λ ws. IsLine (turn_kinds P) ws (name', day')) (sym e) (turn_line P name' day' k.0 k.1)) in
     (ap (λ (t : List ℕ × ℕ). t.0) both, ap (λ (t : List ℕ × ℕ). t.1) both)
 
-pub line_same_for : (P : Instance) (goal : Option ℕ) (a b : RawLine) → IsWritable P → IsInRangeFor P goal a → IsInRangeFor P goal b → raw_fields P a ≡ raw_fields P b → a ≡ b
-line_same_for P goal a b w h k e = lines_say_one (kinds_for P goal) (raw_fields P a) a b (readable_for P goal w) (line_for P goal a h) (subst (λ ws. IsLine (kinds_for P goal) ws b) (sym e) (line_for P goal b k))
+pub line_same_for : (P : Instance) (goal : Option ℕ) (a b : RawLine) → IsWritable P → IsInRange P goal a → IsInRange P goal b → raw_fields P a ≡ raw_fields P b → a ≡ b
+line_same_for P goal a b w h k e = lines_say_one (line_kinds P goal) (raw_fields P a) a b (readable_for P goal w) (line_for P goal a h) (subst (λ ws. IsLine (line_kinds P goal) ws b) (sym e) (line_for P goal b k))

@@ -12,11 +12,12 @@ use Rattle.rwsp_terms.specs.Roster.{IsRoster, MeetsDay}
 use Rattle.rwsp_terms.specs.Rules.{Names, Meets}
 use Rattle.rwsp_terms.proofs.Windows.{length-window}
 use Rattle.refutation_terms.specs.declared.lines.Line.{Line}
-use Rattle.refutation_terms.specs.declared.lines.Line.TheVariants.{Split, Window, Day, Dead, Bound, Few, Free, Unfinished}
+use Rattle.refutation_terms.specs.declared.lines.Line.TheVariants.{Split, Unfinished, Closing}
+use Rattle.refutation_terms.specs.declared.lines.Leaf.TheVariants.{Window, Day, Dead, Bound, Few, Free}
 use Rattle.refutation_terms.specs.declared.lines.Turn.{Turn}
 use Rattle.refutation_terms.specs.Word.{Domains, Within, turned, weight, total}
 use Rattle.refutation_terms.specs.Tree.{IsLeaf, Tree, Leaf, Node, First, Second, narrowed, opening, turn_leaves}
-use Rattle.refutation_terms.specs.Log.{Log, HoldsFor, LineFitsFor, TurnFits, GoalFits, HasWeight, Cites, TurnCites, IsAllowed, PassesFor, Passes}
+use Rattle.refutation_terms.specs.Log.{Log, Holds, LineFits, TurnFits, GoalFits, HasWeight, Cites, TurnCites, IsAllowed, PassesFor, Passes}
 use Rattle.refutation_terms.specs.FreeWeekends.{free_weekends, free_weight}
 use Rattle.refutation_terms.specs.FreeLeaves.{free_total}
 use Rattle.refutation_terms.specs.Laws.{HasGoal}
@@ -32,8 +33,8 @@ use Rattle.refutation_terms.proofs.Named.{named-IsRule}
 
 -- a line that holds for the goal or none, fits the problem and cites named rules
 pub record IsProved (P : Instance) (goal : Option ℕ) (named : List ℕ) (D : Domains) (line : Line) : Type 0 where
-  pub holds : HoldsFor P goal D line
-  pub fits : LineFitsFor P goal line
+  pub holds : Holds P goal D line
+  pub fits : LineFits P goal line
   pub cited : (r : Rule) → Cites P line r → Names P named r
 
 pub too_light : (w t : ℤ) → w <ℤ t → t ≤ℤ w → ⊥
@@ -45,7 +46,7 @@ cells_some P p lt = omega (arith, lt)
 -- a leaf leaves no roster
 plain_leaves_none : (P : Instance) (named : List ℕ) (D : Domains) (s : List Symbol) (line : Line) → Meets P named s → Within P D s → IsLeaf line → IsProved P None named D line → ⊥
 plain_leaves_none P named D s (Split p x) met w leaf h = leaf
-plain_leaves_none P named D s (Window number p len) met w leaf h =
+plain_leaves_none P named D s (Closing (Window number p len)) met w leaf h =
     let some : 0 < cells P = cells_some P p h.fits.2 in
     let blocked = h.holds in
     let r = blocked.0 in
@@ -53,15 +54,15 @@ plain_leaves_none P named D s (Window number p len) met w leaf h =
     let bad : Bad P r (window s p len) = blocked.2 (window s p len) (length-window s p len) (over-window P D s p len some w) in
     let positive : 0 < length s = omega (arith, some, w.is_roster.long) in
     no_bad_met P r s positive (met.rules r is_named) p len bad
-plain_leaves_none P named D s (Day j x true) met w leaf h =
+plain_leaves_none P named D s (Closing (Day j x true)) met w leaf h =
     met_not_too_many P D s j x.number h.fits.0 h.fits.1 w (met.rules (TheRules.Day j) (h.cited (TheRules.Day j) refl)) h.holds
-plain_leaves_none P named D s (Day j x false) met w leaf h =
+plain_leaves_none P named D s (Closing (Day j x false)) met w leaf h =
     met_not_too_few P D s j x.number h.fits.0 h.fits.1 w (met.rules (TheRules.Day j) (h.cited (TheRules.Day j) refl)) h.holds
-plain_leaves_none P named D s (Dead p len R) met w leaf h =
+plain_leaves_none P named D s (Closing (Dead p len R)) met w leaf h =
     let some : 0 < cells P = cells_some P p h.fits.0 in
     let meets_R : Meets P R s = record { is_roster = met.is_roster; rules = λ r n. met.rules r (h.cited r n) } in
     h.holds (window s p len) (length-window s p len) (over-window P D s p len some w) (clean-window P R s p len some meets_R)
-plain_leaves_none P named D s (Bound p turns R y) met w leaf h =
+plain_leaves_none P named D s (Closing (Bound p turns R y)) met w leaf h =
     let some : 0 < cells P = cells_some P p h.fits.0 in
     let len = turns * cells P in
     let meets_R : Meets P R s = record { is_roster = met.is_roster; rules = λ r n. met.rules r (h.cited r (inl n)) } in
@@ -70,13 +71,13 @@ plain_leaves_none P named D s (Bound p turns R y) met w leaf h =
     (h.holds (window s p len) (length-window s p len) (over-window P D s p len some w) (clean-window P R s p len some meets_R))
     (window_weighs_enough P y s p turns w.is_roster days)
 plain_leaves_none P named D s Unfinished met w leaf h = h.holds
-plain_leaves_none P named D s Few met w leaf h = h.holds
-plain_leaves_none P named D s (Free turns reward R y) met w leaf h = h.holds
+plain_leaves_none P named D s (Closing Few) met w leaf h = h.holds
+plain_leaves_none P named D s (Closing (Free turns reward R y)) met w leaf h = h.holds
 
 -- a leaf of a free log leaves none with as many free weekends as its goal
 free_leaves_none : (P : Instance) (goal : ℕ) (named : List ℕ) (D : Domains) (s : List Symbol) (line : Line) → P.days ≡ 7 → goal ≤ free_weekends s → Meets P named s → Within P D s → IsLeaf line → IsProved P (Some goal) named D line → ⊥
-free_leaves_none P goal named D s Few week has met w leaf h = few_leaves_none P goal D s week has w h.holds
-free_leaves_none P goal named D s (Free turns reward R y) week has met w leaf h =
+free_leaves_none P goal named D s (Closing Few) week has met w leaf h = few_leaves_none P goal D s week has w h.holds
+free_leaves_none P goal named D s (Closing (Free turns reward R y)) week has met w leaf h =
     let some : 0 < cells P = turns_some turns (cells P) h.fits.0.0 in
     let meets_R : Meets P R s = record { is_roster = met.is_roster; rules = λ r n. met.rules r (h.cited r (inl n)) } in
     let days : (j : ℕ) → IsDay P j → HasWeight y j → MeetsDay P j s = λ j day weighs. met.rules (TheRules.Day j) (h.cited (TheRules.Day j) (inr (j, weighs, refl))) in
@@ -84,7 +85,7 @@ free_leaves_none P goal named D s (Free turns reward R y) week has met w leaf h 
     too_light (free_weight P y reward 0 (window s 0 len)) (pos turns *ℤ free_total P y reward goal)
     (h.holds (window s 0 len) (length-window s 0 len) (over-window P D s 0 len some w) (clean-window P R s 0 len some meets_R))
     (window_is_free_enough P y s turns reward goal week w.is_roster days has)
-free_leaves_none P goal named D s (Bound p turns R y) week has met w leaf h = h.fits
+free_leaves_none P goal named D s (Closing (Bound p turns R y)) week has met w leaf h = h.fits
 free_leaves_none P goal named D s line week has met w leaf h = plain_leaves_none P named D s line met w leaf (record { holds = h.holds; fits = h.fits; cited = h.cited })
 
 leaf_leaves_none : (P : Instance) (turn : Option Turn) (goal : Option ℕ) (named : List ℕ) (D : Domains) (s : List Symbol) (line : Line) → GoalFits P turn goal → HasGoal goal s → Meets P named s → Within P D s → IsLeaf line → IsProved P goal named D line → ⊥

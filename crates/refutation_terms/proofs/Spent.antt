@@ -6,10 +6,10 @@ use Rattle.refutation_terms.specs.declared.lines.Line.TheVariants.{Unfinished}
 use Rattle.rwsp_terms.specs.Instance.{Instance}
 use Rattle.refutation_terms.specs.Word.{Domains}
 use Rattle.refutation_terms.specs.Tree.{domains_at}
-use Rattle.refutation_terms.specs.Log.{HoldsFor, HoldsAtFor}
+use Rattle.refutation_terms.specs.Log.{Holds, HoldsAtFor}
 use Rattle.refutation_terms.specs.Laws.{PassingIsNotSpent}
 
-pub open_holds_not : (P : Instance) (goal : Option ℕ) (D : Domains) → HoldsFor P goal D Unfinished → ⊥
+pub open_holds_not : (P : Instance) (goal : Option ℕ) (D : Domains) → Holds P goal D Unfinished → ⊥
 open_holds_not P None D h = h
 open_holds_not P (Some goal) D h = h
 

@@ -8,7 +8,7 @@ use Rattle.rwsp_text.proofs.LineLaws.{lines_append, are_lines_append}
 use Rattle.rwsp_terms.specs.Instance.{Instance, symbol_of, name_of}
 use Rattle.refutation_terms.specs.declared.lines.Line.{Line}
 use Rattle.refutation_terms.specs.declared.lines.Turn.{Turn}
-use Rattle.refutation_terms.specs.Log.{Log, Fits, FitsFor, LineFitsFor, TurnFits, AreRules}
+use Rattle.refutation_terms.specs.Log.{Log, Fits, FitsFor, LineFits, TurnFits, AreRules}
 use Rattle.refutation_terms.specs.LogText.{raw, raw_fields, line_text, version_text, rules_text, turn_text, header_text, free_version_text, goal_text, log_text, free_log_text, log_text_for, line_of}
 use Rattle.refutation_terms.specs.TextLaws.{IsWritable, HasNames}
 use Rattle.refutation_terms.proofs.Spelled.{spell_for}
@@ -64,14 +64,14 @@ log_written_for P None g = log_written P g
 log_written_for P (Some goal) g = free_log_written P goal g
 
 -- they are lines of words
-pub line_words : (P : Instance) (goal : Option ℕ) (line : Line) → IsWritable P → HasNames P → LineFitsFor P goal line → AreWords (raw_fields P (raw P line))
+pub line_words : (P : Instance) (goal : Option ℕ) (line : Line) → IsWritable P → HasNames P → LineFits P goal line → AreWords (raw_fields P (raw P line))
 line_words P goal line w n h = line_words_for P goal (raw P line) w (spell_for P goal line n h).0
 
-pub each_fits : (P : Instance) (goal : Option ℕ) (lines : List Line) → ((k : ℕ) (line : Line) → slice_get lines k ≡ Some line → LineFitsFor P goal line) → AllByRecursion (LineFitsFor P goal) lines
+pub each_fits : (P : Instance) (goal : Option ℕ) (lines : List Line) → ((k : ℕ) (line : Line) → slice_get lines k ≡ Some line → LineFits P goal line) → AllByRecursion (LineFits P goal) lines
 each_fits P goal [] h = tt
 each_fits P goal (line ∷ lines) h = (h 0 line refl, each_fits P goal lines (λ k l e. h (suc k) l e))
 
-pub lines_words : (P : Instance) (goal : Option ℕ) (lines : List Line) → IsWritable P → HasNames P → AllByRecursion (LineFitsFor P goal) lines → AreLines (lines_fields P lines)
+pub lines_words : (P : Instance) (goal : Option ℕ) (lines : List Line) → IsWritable P → HasNames P → AllByRecursion (LineFits P goal) lines → AreLines (lines_fields P lines)
 lines_words P goal [] w n h = tt
 lines_words P goal (line ∷ lines) w n h = (line_words P goal line w n h.0, lines_words P goal lines w n h.1)
 
@@ -88,14 +88,14 @@ log_words_for P (Some goal) g w n h =
     (free_version_words, (rules_words P g.named w h.named, (goal_words P goal w h.goal_fits.2, lines_words P (Some goal) g.lines w n (each_fits P (Some goal) g.lines h.lines))))
 
 -- lines are those of one list
-same_tree_line : (P : Instance) (goal : Option ℕ) (a b : Line) → IsWritable P → HasNames P → LineFitsFor P goal a → LineFitsFor P goal b → raw_fields P (raw P a) ≡ raw_fields P (raw P b) → a ≡ b
+same_tree_line : (P : Instance) (goal : Option ℕ) (a b : Line) → IsWritable P → HasNames P → LineFits P goal a → LineFits P goal b → raw_fields P (raw P a) ≡ raw_fields P (raw P b) → a ≡ b
 same_tree_line P goal a b w n ha hb e =
     let same = line_same_for P goal (raw P a) (raw P b) w (spell_for P goal a n ha).0 (spell_for P goal b n hb).0 e in
     let both : Some a ≡ Some b = sym (spell_for P goal a n ha).1 ∙ ap (line_of P) same ∙ (spell_for P goal b n hb).1 in
     let whole : a ≡ b = cc in whole
 
 -- lines that continue where others end
-pub lines_longer : (P : Instance) (goal : Option ℕ) (a b : List Line) (zs : List Words) → IsWritable P → HasNames P → AllByRecursion (LineFitsFor P goal) a → AllByRecursion (LineFitsFor P goal) b → lines_fields P b ≡ lines_fields P a ++ zs → (more : List Line) × (b ≡ a ++ more) × (zs ≡ lines_fields P more)
+pub lines_longer : (P : Instance) (goal : Option ℕ) (a b : List Line) (zs : List Words) → IsWritable P → HasNames P → AllByRecursion (LineFits P goal) a → AllByRecursion (LineFits P goal) b → lines_fields P b ≡ lines_fields P a ++ zs → (more : List Line) × (b ≡ a ++ more) × (zs ≡ lines_fields P more)
 lines_longer P goal [] b zs w n ha hb e = (b, refl, sym e)
 lines_longer P goal (x ∷ a) [] zs w n ha hb e = absurd (cc)
 lines_longer P goal (x ∷ a) (y ∷ b) zs w n ha hb e =

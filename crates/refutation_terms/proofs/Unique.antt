@@ -15,31 +15,31 @@ use Rattle.refutation_terms.specs.declared.lines.LogRefusal.{LogRefusal}
 use Rattle.refutation_terms.specs.declared.lines.LogRefusal.TheVariants as Refusals
 use Rattle.refutation_terms.specs.Word.{Domains}
 use Rattle.refutation_terms.specs.Tree.{IsTree, after_trees, domains_at, opening, lines_leave, lines_in}
-use Rattle.refutation_terms.specs.Log.{Log, LineFitsFor, TurnFits, AreRules, HoldsFor, Cites, TurnCites, IsAllowed, ListsShortOnly, IsGrounded, PassesFor}
+use Rattle.refutation_terms.specs.Log.{Log, LineFits, TurnFits, AreRules, Holds, Cites, TurnCites, IsAllowed, ListsShortOnly, IsGrounded, PassesFor}
 use Rattle.refutation_terms.specs.LogText.{raw, line_text, version_text, rules_text, turn_text}
-use Rattle.refutation_terms.specs.Verdict.{Front, Start, Versioned, BeforeTurn, Reading, front_text, HasNoCause, IsSoundSoFarFor, IsWhole, header_lines_for, TreeCauseFor, CauseBehindFor, Cause, VersionCause, RulesCause, IsRefused, IsAccepted}
+use Rattle.refutation_terms.specs.Verdict.{Front, Start, Versioned, BeforeTurn, Reading, front_text, HasNoCause, IsSoundSoFarFor, IsWhole, header_lines_for, TreeCause, CauseBehind, Cause, VersionCause, RulesCause, IsRefused, IsAccepted}
 use Rattle.refutation_terms.specs.TextLaws.{IsWritable, HasNames, VerdictIsUnique}
 use Rattle.refutation_terms.proofs.Spelled.{fitting_lines_are_spelled_for}
 use Rattle.refutation_terms.proofs.Spent.{open_holds_not}
 use Rattle.refutation_terms.proofs.Trees.{part_is_not_whole, tree_is_whole}
 use Rattle.refutation_terms.proofs.Fronts.{texts_distinct, front_fields, front_written, fronts}
 use Rattle.refutation_terms.proofs.OneRefusal.{IsAtEndOrLine, refusals_same, whole_has_none}
-use Rattle.refutation_terms.proofs.Causes.{spells_same, not_unknown_for, long_not_short, idle_not_holding_for, escaped_not_holding_for, ReasonFor, OfName, OfIdle, OfLong, OfFail, OfEscape, OfOpen, LevelFor, Nothing, Unknown, Known, level_of_for, tree_cause_same_for, version_cause, rules_cause, extra_cause, turns_same, TurnReason, NoTurn, NoName, NoDay, NoDemand, turn_reason, turn_cause_same}
+use Rattle.refutation_terms.proofs.Causes.{spells_same, not_unknown_for, long_not_short, idle_not_holding_for, escaped_not_holding_for, Reason, OfName, OfIdle, OfLong, OfFail, OfEscape, OfOpen, Level, Nothing, Unknown, Known, level_of_for, tree_cause_same_for, version_cause, rules_cause, extra_cause, turns_same, TurnReason, NoTurn, NoName, NoDay, NoDemand, turn_reason, turn_cause_same}
 
 -- a line of a log without a cause has none
-no_reason : (P : Instance) (goal : Option ℕ) (named : List ℕ) (D : Domains) (n : ℕ) (line : Line) (why : LogRefusal) → HoldsFor P goal D line → ((r : Rule) → Cites P line r → Names P named r) → ListsShortOnly P line → ReasonFor P goal named D n line why → ⊥
+no_reason : (P : Instance) (goal : Option ℕ) (named : List ℕ) (D : Domains) (n : ℕ) (line : Line) (why : LogRefusal) → Holds P goal D line → ((r : Rule) → Cites P line r → Names P named r) → ListsShortOnly P line → Reason P goal named D n line why → ⊥
 no_reason P goal named D n line why holds all short (OfName k a e) = a.0.3 (all a.0.0 a.0.2)
 no_reason P goal named D n line why holds all short (OfIdle i e) = idle_not_holding_for P goal D line i holds
 no_reason P goal named D n line why holds all short (OfLong all' k a e) = long_not_short P D line k short a.0
 no_reason P goal named D n line why holds all short (OfFail all' plain not e) = not holds
 no_reason P goal named D n line why holds all short (OfEscape all' short' u a e) = escaped_not_holding_for P goal D line u a holds
-no_reason P goal named D n line why holds all short (OfOpen o e) = open_holds_not P goal D (subst (HoldsFor P goal D) o holds)
+no_reason P goal named D n line why holds all short (OfOpen o e) = open_holds_not P goal D (subst (Holds P goal D) o holds)
 
-no_level : (P : Instance) (goal : Option ℕ) (named : List ℕ) (D : Domains) (n : ℕ) (line : Line) (why : LogRefusal) → IsWritable P → HasNames P → LineFitsFor P goal line → HoldsFor P goal D line → ((r : Rule) → Cites P line r → Names P named r) → ListsShortOnly P line → LevelFor P goal named D n (line_text P (raw P line)) why → ⊥
+no_level : (P : Instance) (goal : Option ℕ) (named : List ℕ) (D : Domains) (n : ℕ) (line : Line) (why : LogRefusal) → IsWritable P → HasNames P → LineFits P goal line → Holds P goal D line → ((r : Rule) → Cites P line r → Names P named r) → ListsShortOnly P line → Level P goal named D n (line_text P (raw P line)) why → ⊥
 no_level P goal named D n line why w m fits holds all short (Nothing a e) = let s = fitting_lines_are_spelled_for P goal line m fits in a s.0 s.1
 no_level P goal named D n line why w m fits holds all short (Unknown a e) = not_unknown_for P goal (line_text P (raw P line)) line w (fitting_lines_are_spelled_for P goal line m fits) a
 no_level P goal named D n line why w m fits holds all short (Known other a q) =
-    no_reason P goal named D n line why holds all short (subst (λ l. ReasonFor P goal named D n l why) (spells_same P goal (line_text P (raw P line)) other line w m a (fitting_lines_are_spelled_for P goal line m fits)) q)
+    no_reason P goal named D n line why holds all short (subst (λ l. Reason P goal named D n l why) (spells_same P goal (line_text P (raw P line)) other line w m a (fitting_lines_are_spelled_for P goal line m fits)) q)
 
 pub got_seam : (xs ys : List Line) (line : Line) → slice_get (xs ++ line ∷ ys) (length xs) ≡ Some line
 got_seam [] ys line = refl
@@ -49,14 +49,14 @@ take_all : (xs : List Line) → take (length xs) xs ≡ xs
 take_all xs = ap (take (length xs)) (sym (append-nil xs)) ∙ take-append_seam xs []
 
 -- a line of a log that is sound so far is refused for no cause behind the lines before it
-tree_line_fine : (P : Instance) (goal : Option ℕ) (f : Log) (line : Line) (more : List Line) (n : ℕ) (why : LogRefusal) → IsWritable P → HasNames P → IsSoundSoFarFor P goal (record { named = f.named; turn = f.turn; goal = f.goal; lines = f.lines ++ line ∷ more }) → TreeCauseFor P goal f.named (domains_at P f.turn f.lines (length f.lines)) n (line_text P (raw P line)) why → ⊥
+tree_line_fine : (P : Instance) (goal : Option ℕ) (f : Log) (line : Line) (more : List Line) (n : ℕ) (why : LogRefusal) → IsWritable P → HasNames P → IsSoundSoFarFor P goal (record { named = f.named; turn = f.turn; goal = f.goal; lines = f.lines ++ line ∷ more }) → TreeCause P goal f.named (domains_at P f.turn f.lines (length f.lines)) n (line_text P (raw P line)) why → ⊥
 tree_line_fine P goal f line more n why w m h c =
     let k = length f.lines in
     let here = got_seam f.lines more line in
     let D = domains_at P f.turn f.lines (length f.lines) in
     let before : take (length f.lines) (f.lines ++ line ∷ more) ≡ take (length f.lines) f.lines = take-append_seam f.lines (line ∷ more) ∙ sym (take_all f.lines) in
-    let holds : HoldsFor P goal (domains_at P f.turn f.lines (length f.lines)) line =
-    subst (λ ls. HoldsFor P goal (λ p z. opening P f.turn p z && lines_leave ls p z) line) before (h.holds k line here) in
+    let holds : Holds P goal (domains_at P f.turn f.lines (length f.lines)) line =
+    subst (λ ls. Holds P goal (λ p z. opening P f.turn p z && lines_leave ls p z) line) before (h.holds k line here) in
     no_level P goal f.named D n line why w m (h.grounded.fits.lines k line here) holds (λ r cites. h.grounded.named k line r here cites) (h.grounded.short k line here) (level_of_for P goal f.named D n (line_text P (raw P line)) why c)
 
 -- and the lines before it aren't a whole tree
@@ -66,7 +66,7 @@ tree_not_before P goal f line more h t =
     h.in_tree (length f.lines) short (subst IsTree (sym (take-append_seam f.lines (line ∷ more))) t)
 
 -- the next line of a longer log without a cause has none
-pub next_line_fine : (P : Instance) (goal : Option ℕ) (f : Log) (line : Line) (more : List Line) (why : LogRefusal) → IsWritable P → HasNames P → IsSoundSoFarFor P goal (record { named = f.named; turn = f.turn; goal = f.goal; lines = f.lines ++ line ∷ more }) → CauseBehindFor P goal f (line_text P (raw P line)) why → ⊥
+pub next_line_fine : (P : Instance) (goal : Option ℕ) (f : Log) (line : Line) (more : List Line) (why : LogRefusal) → IsWritable P → HasNames P → IsSoundSoFarFor P goal (record { named = f.named; turn = f.turn; goal = f.goal; lines = f.lines ++ line ∷ more }) → CauseBehind P goal f (line_text P (raw P line)) why → ⊥
 next_line_fine P goal f line more why w n h (inl c) = tree_not_before P goal f line more h c.0
 next_line_fine P goal f line more why w n h (inr c) = tree_line_fine P goal f line more (header_lines_for goal f.turn + length f.lines + 1) why w n h c.1
 
@@ -104,7 +104,7 @@ turn_is_fine P g R t bytes why w n h is_turn is_named spelled q =
     (subst (λ Q. Names P Q (TheRules.Day t.day)) is_named (h.turn_named (TheRules.Day t.day) (subst (λ o. TurnCites o (TheRules.Day t.day)) (sym is_turn) refl))) spelled q
 
 -- one cause for the line behind a header and lines
-pub cause_behind_same : (P : Instance) (goal : Option ℕ) (g : Log) (line : List ℕ) (why other : LogRefusal) → IsWritable P → HasNames P → CauseBehindFor P goal g line why → CauseBehindFor P goal g line other → why ≡ other
+pub cause_behind_same : (P : Instance) (goal : Option ℕ) (g : Log) (line : List ℕ) (why other : LogRefusal) → IsWritable P → HasNames P → CauseBehind P goal g line why → CauseBehind P goal g line other → why ≡ other
 cause_behind_same P goal g line why other w n (inl a) (inl b) =
     let k = header_lines_for goal g.turn + length g.lines + 1 in extra_cause k why a.1 ∙ sym (extra_cause k other b.1)
 cause_behind_same P goal g line why other w n (inl a) (inr b) = absurd (b.0 a.0)

@@ -5,7 +5,8 @@ use Rattle.rwsp_terms.specs.declared.data.Bounds.{Bounds}
 use Rattle.rwsp_terms.specs.declared.data.Weight.{Weight}
 use Rattle.rwsp_terms.specs.Instance.{Instance}
 use Rattle.refutation_terms.specs.declared.lines.Line.{Line}
-use Rattle.refutation_terms.specs.declared.lines.Line.TheVariants.{Split, Window, Day, Dead, Unfinished}
+use Rattle.refutation_terms.specs.declared.lines.Line.TheVariants.{Split, Unfinished, Closing}
+use Rattle.refutation_terms.specs.declared.lines.Leaf.TheVariants.{Window, Day, Dead}
 use Rattle.refutation_terms.specs.declared.lines.Turn.{Turn}
 use Rattle.refutation_terms.specs.Log.{Log}
 
@@ -55,7 +56,7 @@ three_of_six = one_shift 1 6 (from_to 3 3 ∷ []) (from_to 2 2)
 
 -- behind a turn no word of seven days is clean
 abbrev pub blocks_dead : Line
-blocks_dead = Dead 0 7 (1 ∷ 2 ∷ 3 ∷ 4 ∷ [])
+blocks_dead = Closing (Dead 0 7 (1 ∷ 2 ∷ 3 ∷ 4 ∷ []))
 
 abbrev pub turn_log : Log
 turn_log = log_of (1 ∷ 2 ∷ 3 ∷ 4 ∷ 7 ∷ []) turn_to_D (blocks_dead ∷ [])
@@ -69,7 +70,7 @@ abbrev pub odd_cycle : Bounds → Instance
 odd_cycle demand = singles 1 3 (demand ∷ [])
 
 abbrev pub odd_dead : Line
-odd_dead = Dead 0 4 (1 ∷ 3 ∷ [])
+odd_dead = Closing (Dead 0 4 (1 ∷ 3 ∷ []))
 
 -- any number of D, and a split of the first cell, with both sides dead
 abbrev pub odd_log : Log
@@ -86,7 +87,7 @@ two_on_day_one = singles 3 1 (from_to 2 2 ∷ from_to 0 0 ∷ from_to 1 1 ∷ []
 -- a split where day 1 has too few D already
 abbrev pub late_day_log : Log
 late_day_log =
-    log_of (7 ∷ []) turn_to_D (Split 1 shift_D ∷ Day 1 shift_D false ∷ Day 1 shift_D false ∷ [])
+    log_of (7 ∷ []) turn_to_D (Split 1 shift_D ∷ Closing (Day 1 shift_D false) ∷ Closing (Day 1 shift_D false) ∷ [])
 
 -- D on both days of the only week
 abbrev pub two_in_a_row : Instance
@@ -94,7 +95,7 @@ two_in_a_row = singles 2 1 (from_to 1 1 ∷ from_to 1 1 ∷ [])
 
 -- a split at the top where D weighing 1 on both days is too light already
 abbrev pub late_bound_log : Log
-late_bound_log = log_of (1 ∷ 7 ∷ 8 ∷ []) turn_to_D (Split 1 shift_D ∷ Window 1 0 2 ∷ Day 2 shift_D false ∷ [])
+late_bound_log = log_of (1 ∷ 7 ∷ 8 ∷ []) turn_to_D (Split 1 shift_D ∷ Closing (Window 1 0 2) ∷ Closing (Day 2 shift_D false) ∷ [])
 
 -- D weighs `value` on each of two days
 abbrev pub on_both_days : ℤ → List Weight

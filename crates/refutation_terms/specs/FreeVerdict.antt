@@ -6,7 +6,7 @@ use Rattle.refutation_terms.specs.declared.lines.LogRefusal.TheVariants as Refus
 use Rattle.refutation_terms.specs.Tree.{IsTree}
 use Rattle.refutation_terms.specs.Log.{Log, AreRules, FreePasses}
 use Rattle.refutation_terms.specs.LogText.{free_version_text, rules_text, goal_text, free_log_text}
-use Rattle.refutation_terms.specs.Verdict.{IsSoundSoFarFor, RulesCause, CauseBehindFor, IsRefusedBehindFront, EndsWithFront}
+use Rattle.refutation_terms.specs.Verdict.{IsSoundSoFarFor, RulesCause, CauseBehind, IsRefusedBehindFront, EndsWithFront}
 
 -- the front of a text that has been read: nothing, the version, the rules, or a whole header with some lines
 pub data FreeFront : Type 0 where
@@ -48,7 +48,7 @@ abbrev pub FreeCause : Instance → FreeFront → List ℕ → LogRefusal → Ty
 FreeCause P FreeStart bytes why = FreeVersionCause bytes why
 FreeCause P FreeVersioned bytes why = RulesCause P bytes why
 FreeCause P (BeforeGoal named) bytes why = GoalCause P bytes why
-FreeCause P (ReadingFree goal g) bytes why = CauseBehindFor P (Some goal) g bytes why
+FreeCause P (ReadingFree goal g) bytes why = CauseBehind P (Some goal) g bytes why
 
 -- a front of a free log has no cause, and the line behind it has this one
 abbrev pub IsRefusedFreeLine : Instance → List ℕ → LogRefusal → Type 0

@@ -69,8 +69,8 @@ own_kinds P None = bound_kind P ∷ open_kind ∷ []
 own_kinds P (Some goal) = few_kind ∷ free_kind P ∷ open_kind ∷ []
 
 -- the lines of the tree of a log with this goal or none
-abbrev pub kinds_for : Instance → Option ℕ → List (Kind RawLine)
-kinds_for P goal = split_kind P ∷ window_kind P ∷ day_kind P ∷ dead_kind P ∷ own_kinds P goal
+abbrev pub line_kinds : Instance → Option ℕ → List (Kind RawLine)
+line_kinds P goal = split_kind P ∷ window_kind P ∷ day_kind P ∷ dead_kind P ∷ own_kinds P goal
 
 -- line 1, the version: whether there is a turn
 abbrev pub version_kind : Kind Bool

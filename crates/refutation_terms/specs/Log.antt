@@ -9,7 +9,8 @@ use Rattle.rwsp_terms.specs.Instance.{Instance, cells, least, IsSymbol, IsDay}
 use Rattle.rwsp_terms.specs.Rules.{rules, Names, NamesShortOnly}
 use Rattle.rwsp_terms.specs.Weights.{weight_at, AreWeights}
 use Rattle.refutation_terms.specs.declared.lines.Line.{Line}
-use Rattle.refutation_terms.specs.declared.lines.Line.TheVariants.{Split, Window, Day, Dead, Bound, Few, Free, Unfinished}
+use Rattle.refutation_terms.specs.declared.lines.Line.TheVariants.{Split, Unfinished, Closing}
+use Rattle.refutation_terms.specs.declared.lines.Leaf.TheVariants.{Window, Day, Dead, Bound, Few, Free}
 use Rattle.refutation_terms.specs.declared.lines.Turn.{Turn}
 use Rattle.refutation_terms.specs.Word.{Domains}
 use Rattle.refutation_terms.specs.Leaf.{HasTooMany, HasTooFew, IsBlocked, IsDead, IsTooLight}
@@ -42,22 +43,18 @@ AreWeightsOf P y = AreWeights y × WeightsFit P y
 
 -- the numbers of a line of a log with this goal or none are in their ranges, and its symbols are the problem's. Only a
 -- log without a goal has bounds, and only one with a goal has the last two kinds
-abbrev pub LineFitsFor : Instance → Option ℕ → Line → Type 0
-LineFitsFor P goal (Split p x) = (p < cells P) × IsSymbol P x
-LineFitsFor P goal (Window number p len) = (0 < number) × (number ≤ length (rules P)) × (p < cells P) × IsLength len
-LineFitsFor P goal (Day j x over) = IsDay P j × IsSymbol P x
-LineFitsFor P goal (Dead p len R) = (p < cells P) × IsLength len × AreRules P R
-LineFitsFor P goal Unfinished = Unit {0}
-LineFitsFor P None (Bound p turns R y) =
+abbrev pub LineFits : Instance → Option ℕ → Line → Type 0
+LineFits P goal (Split p x) = (p < cells P) × IsSymbol P x
+LineFits P goal (Closing (Window number p len)) = (0 < number) × (number ≤ length (rules P)) × (p < cells P) × IsLength len
+LineFits P goal (Closing (Day j x over)) = IsDay P j × IsSymbol P x
+LineFits P goal (Closing (Dead p len R)) = (p < cells P) × IsLength len × AreRules P R
+LineFits P goal Unfinished = Unit {0}
+LineFits P None (Closing (Bound p turns R y)) =
     (p < cells P) × IsLength (turns * cells P) × AreRules P R × AreWeightsOf P y
-LineFitsFor P (Some goal) Few = Unit {0}
-LineFitsFor P (Some goal) (Free turns reward R y) =
+LineFits P (Some goal) (Closing Few) = Unit {0}
+LineFits P (Some goal) (Closing (Free turns reward R y)) =
     IsLength (turns * cells P) × (reward ≤ GREATEST_REWARD) × AreRules P R × AreWeightsOf P y
-LineFitsFor P goal line = ⊥
-
--- of a log without a goal
-abbrev pub LineFits : Instance → Line → Type 0
-LineFits P line = LineFitsFor P None line
+LineFits P goal line = ⊥
 
 -- and those of a turn
 abbrev pub TurnFits : Instance → Option Turn → Type 0
@@ -75,34 +72,23 @@ pub record FitsFor (P : Instance) (goal : Option ℕ) (g : Log) : Type 0 where
   pub turn : TurnFits P g.turn
   pub is_goal : g.goal ≡ goal
   pub goal_fits : GoalFits P g.turn goal
-  pub lines : (k : ℕ) (line : Line) → slice_get g.lines k ≡ Some line → LineFitsFor P goal line
+  pub lines : (k : ℕ) (line : Line) → slice_get g.lines k ≡ Some line → LineFits P goal line
 
 -- one without a goal
 abbrev pub Fits : Instance → Log → Type 0
 Fits P g = FitsFor P None g
 
--- a split that isn't idle, or a leaf that holds, in a log without a goal
-abbrev pub Holds : Instance → Domains → Line → Type 0
-Holds P D (Split p x) = is_idle P D p x.number ≡ false
-Holds P D (Window number p len) = IsBlocked P D number p len
-Holds P D (Day j x true) = HasTooMany P D j x.number
-Holds P D (Day j x false) = HasTooFew P D j x.number
-Holds P D (Dead p len R) = IsDead P D p len R
-Holds P D (Bound p turns R y) = IsTooLight P D p turns R y
-Holds P D Unfinished = ⊥
-Holds P D Few = ⊥
-Holds P D (Free turns reward R y) = ⊥
-
--- and in a free log with this goal
-abbrev pub HoldsFree : Instance → ℕ → Domains → Line → Type 0
-HoldsFree P goal D Few = HasTooFewFree P goal D
-HoldsFree P goal D (Free turns reward R y) = IsTooLightFree P goal D turns reward R y
-HoldsFree P goal D line = Holds P D line
-
--- by the goal of the log
-abbrev pub HoldsFor : Instance → Option ℕ → Domains → Line → Type 0
-HoldsFor P None D line = Holds P D line
-HoldsFor P (Some goal) D line = HoldsFree P goal D line
+-- a split that isn't idle, or a leaf that holds, in a log with this goal or none
+abbrev pub Holds : Instance → Option ℕ → Domains → Line → Type 0
+Holds P goal D (Split p x) = is_idle P D p x.number ≡ false
+Holds P goal D (Closing (Window number p len)) = IsBlocked P D number p len
+Holds P goal D (Closing (Day j x true)) = HasTooMany P D j x.number
+Holds P goal D (Closing (Day j x false)) = HasTooFew P D j x.number
+Holds P goal D (Closing (Dead p len R)) = IsDead P D p len R
+Holds P goal D (Closing (Bound p turns R y)) = IsTooLight P D p turns R y
+Holds P (Some goal) D (Closing Few) = HasTooFewFree P goal D
+Holds P (Some goal) D (Closing (Free turns reward R y)) = IsTooLightFree P goal D turns reward R y
+Holds P goal D line = ⊥
 
 -- some symbol has a weight on the day
 abbrev pub HasWeight : List Weight → ℕ → Type 0
@@ -111,12 +97,12 @@ HasWeight y j = (x : ℕ) × (weight_at y j x ≢ pos 0)
 -- the rules that a line rests on
 abbrev pub Cites : Instance → Line → Rule → Type 0
 Cites P (Split p x) r = ⊥
-Cites P (Window number p len) r = Names P (number ∷ []) r
-Cites P (Day j x over) r = r ≡ TheRules.Day j
-Cites P (Dead p len R) r = Names P R r
-Cites P (Bound p turns R y) r = Names P R r ⊎ ((j : ℕ) × HasWeight y j × (r ≡ TheRules.Day j))
-Cites P (Free turns reward R y) r = Names P R r ⊎ ((j : ℕ) × HasWeight y j × (r ≡ TheRules.Day j))
-Cites P Few r = ⊥
+Cites P (Closing (Window number p len)) r = Names P (number ∷ []) r
+Cites P (Closing (Day j x over)) r = r ≡ TheRules.Day j
+Cites P (Closing (Dead p len R)) r = Names P R r
+Cites P (Closing (Bound p turns R y)) r = Names P R r ⊎ ((j : ℕ) × HasWeight y j × (r ≡ TheRules.Day j))
+Cites P (Closing (Free turns reward R y)) r = Names P R r ⊎ ((j : ℕ) × HasWeight y j × (r ≡ TheRules.Day j))
+Cites P (Closing Few) r = ⊥
 Cites P Unfinished r = ⊥
 
 -- each rule that the line rests on is named
@@ -135,14 +121,14 @@ IsAllowed P (Some t) = pos 1 ≤ℤ least P t.x.number t.day
 
 -- the lists of dead, bound and free leaves hold short rules only
 abbrev pub ListsShortOnly : Instance → Line → Type 0
-ListsShortOnly P (Dead p len R) = NamesShortOnly P R
-ListsShortOnly P (Bound p turns R y) = NamesShortOnly P R
-ListsShortOnly P (Free turns reward R y) = NamesShortOnly P R
+ListsShortOnly P (Closing (Dead p len R)) = NamesShortOnly P R
+ListsShortOnly P (Closing (Bound p turns R y)) = NamesShortOnly P R
+ListsShortOnly P (Closing (Free turns reward R y)) = NamesShortOnly P R
 ListsShortOnly P line = Unit {0}
 
 -- the line at k holds under the domains there, for this goal or none
 abbrev pub HoldsAtFor : Instance → Option ℕ → Log → ℕ → Line → Type 0
-HoldsAtFor P goal g k line = HoldsFor P goal (domains_at P g.turn g.lines k) line
+HoldsAtFor P goal g k line = Holds P goal (domains_at P g.turn g.lines k) line
 
 -- without a goal
 abbrev pub HoldsAt : Instance → Log → ℕ → Line → Type 0

@@ -11,7 +11,8 @@ use Rattle.rwsp_terms.specs.Instance.{Instance, cells, IsDay, symbol_of, name_of
 use Rattle.rwsp_terms.specs.Rules.{rules}
 use Rattle.rwsp_terms.specs.Weights.{ComesBefore}
 use Rattle.refutation_terms.specs.declared.lines.Line.{Line}
-use Rattle.refutation_terms.specs.declared.lines.Line.TheVariants.{Split, Window, Day, Dead, Bound, Few, Free, Unfinished}
+use Rattle.refutation_terms.specs.declared.lines.Line.TheVariants.{Split, Unfinished, Closing}
+use Rattle.refutation_terms.specs.declared.lines.Leaf.TheVariants.{Window, Day, Dead, Bound, Few, Free}
 use Rattle.refutation_terms.specs.declared.lines.Turn.{Turn}
 use Rattle.refutation_terms.specs.Log.{Log, IsLength, AreRules}
 
@@ -33,12 +34,12 @@ named_weight P e = record { day = e.day; name = name_of P e.symbol; value = e.va
 -- a line with the names of its symbols
 abbrev pub raw : Instance → Line → RawLine
 raw P (Split p x) = RawSplit p (name_of P x)
-raw P (Window rule p len) = RawWindow rule p len
-raw P (Day j x over) = RawDay j (name_of P x) over
-raw P (Dead p len R) = RawDead p len R
-raw P (Bound p turns R y) = RawBound p turns R (map (named_weight P) y)
-raw P Few = RawFew
-raw P (Free turns reward R y) = RawFree turns reward R (map (named_weight P) y)
+raw P (Closing (Window rule p len)) = RawWindow rule p len
+raw P (Closing (Day j x over)) = RawDay j (name_of P x) over
+raw P (Closing (Dead p len R)) = RawDead p len R
+raw P (Closing (Bound p turns R y)) = RawBound p turns R (map (named_weight P) y)
+raw P (Closing Few) = RawFew
+raw P (Closing (Free turns reward R y)) = RawFree turns reward R (map (named_weight P) y)
 raw P Unfinished = RawUnfinished
 
 -- the week and the day of a position, both from 1 on
@@ -117,18 +118,18 @@ WeightIsInRange P e = IsNamedWeight P.days GREATEST_WEIGHT e
 
 -- the numbers of a written line of a log with this goal or none are in their ranges, its lists of rules ascend, and its
 -- names are names. Only a log without a goal has bounds, and only one with a goal has the last two kinds
-abbrev pub IsInRangeFor : Instance → Option ℕ → RawLine → Type 0
-IsInRangeFor P goal (RawSplit p name) = (p < cells P) × IsName name
-IsInRangeFor P goal (RawWindow rule p len) = (0 < rule) × (rule ≤ length (rules P)) × (p < cells P) × IsLength len
-IsInRangeFor P goal (RawDay day name over) = IsDay P day × IsName name
-IsInRangeFor P goal (RawDead p len R) = (p < cells P) × IsLength len × AreRules P R
-IsInRangeFor P goal RawUnfinished = Unit {0}
-IsInRangeFor P None (RawBound p turns R y) =
+abbrev pub IsInRange : Instance → Option ℕ → RawLine → Type 0
+IsInRange P goal (RawSplit p name) = (p < cells P) × IsName name
+IsInRange P goal (RawWindow rule p len) = (0 < rule) × (rule ≤ length (rules P)) × (p < cells P) × IsLength len
+IsInRange P goal (RawDay day name over) = IsDay P day × IsName name
+IsInRange P goal (RawDead p len R) = (p < cells P) × IsLength len × AreRules P R
+IsInRange P goal RawUnfinished = Unit {0}
+IsInRange P None (RawBound p turns R y) =
     (p < cells P) × IsLength (turns * cells P) × AreRules P R × All (WeightIsInRange P) y
-IsInRangeFor P (Some goal) RawFew = Unit {0}
-IsInRangeFor P (Some goal) (RawFree turns reward R y) =
+IsInRange P (Some goal) RawFew = Unit {0}
+IsInRange P (Some goal) (RawFree turns reward R y) =
     IsLength (turns * cells P) × (reward ≤ GREATEST_REWARD) × AreRules P R × All (WeightIsInRange P) y
-IsInRangeFor P goal line = ⊥
+IsInRange P goal line = ⊥
 
 -- a weight with a symbol for its name, before further weights
 abbrev pub with_weight : NamedWeight → Option Symbol → Option (List Weight) → Option (List Weight)
@@ -143,27 +144,23 @@ weights_of P (e ∷ y) = with_weight e (symbol_of P e.name) (weights_of P y)
 -- the line with symbols for its names
 abbrev pub line_of : Instance → RawLine → Option Line
 line_of P (RawSplit p name) = option_map (λ x. Split p x) (symbol_of P name)
-line_of P (RawWindow rule p len) = Some (Window rule p len)
-line_of P (RawDay day name over) = option_map (λ x. Day day x over) (symbol_of P name)
-line_of P (RawDead p len R) = Some (Dead p len R)
-line_of P (RawBound p turns R y) = option_map (λ y. Bound p turns R y) (weights_of P y)
-line_of P RawFew = Some Few
-line_of P (RawFree turns reward R y) = option_map (λ y. Free turns reward R y) (weights_of P y)
+line_of P (RawWindow rule p len) = Some (Closing (Window rule p len))
+line_of P (RawDay day name over) = option_map (λ x. Closing (Day day x over)) (symbol_of P name)
+line_of P (RawDead p len R) = Some (Closing (Dead p len R))
+line_of P (RawBound p turns R y) = option_map (λ y. Closing (Bound p turns R y)) (weights_of P y)
+line_of P RawFew = Some (Closing Few)
+line_of P (RawFree turns reward R y) = option_map (λ y. Closing (Free turns reward R y)) (weights_of P y)
 line_of P RawUnfinished = Some Unfinished
 
 -- weights ascend by day and then by symbol
 abbrev pub WeightsAscend : Line → Type 0
-WeightsAscend (Bound p turns R y) = AllPairs ComesBefore y
-WeightsAscend (Free turns reward R y) = AllPairs ComesBefore y
+WeightsAscend (Closing (Bound p turns R y)) = AllPairs ComesBefore y
+WeightsAscend (Closing (Free turns reward R y)) = AllPairs ComesBefore y
 WeightsAscend line = Unit {0}
 
 -- the bytes are a written line of a log with this goal or none, with its numbers in their ranges; where all its names
 -- are known, its weights ascend
-pub record IsWrittenFor (P : Instance) (goal : Option ℕ) (bytes : List ℕ) (line : RawLine) : Type 0 where
+pub record IsWritten (P : Instance) (goal : Option ℕ) (bytes : List ℕ) (line : RawLine) : Type 0 where
   pub spelled : bytes ≡ line_text P line
-  pub in_range : IsInRangeFor P goal line
+  pub in_range : IsInRange P goal line
   pub ascends : IfSome (line_of P line) WeightsAscend
-
--- of a log without a goal
-abbrev pub IsWritten : Instance → List ℕ → RawLine → Type 0
-IsWritten P bytes line = IsWrittenFor P None bytes line

@@ -9,7 +9,8 @@ use Rattle.rwsp_terms.specs.Roster.{weeks_with}
 use Rattle.rwsp_terms.specs.Rules.{NamesShortRules}
 use Rattle.rwsp_terms.specs.Weights.{weight_at}
 use Rattle.refutation_terms.specs.declared.lines.Line.{Line}
-use Rattle.refutation_terms.specs.declared.lines.Line.TheVariants.{Split, Window, Day, Unfinished}
+use Rattle.refutation_terms.specs.declared.lines.Line.TheVariants.{Split, Unfinished, Closing}
+use Rattle.refutation_terms.specs.declared.lines.Leaf.TheVariants.{Window, Day}
 use Rattle.refutation_terms.specs.declared.lines.Turn.{Turn}
 use Rattle.refutation_terms.specs.Word.{Domains, Over, Clean}
 use Rattle.refutation_terms.specs.Leaf.{IsDead, IsTooLight}
@@ -20,11 +21,11 @@ use Rattle.refutation_terms.specs.Escape.{IsLeastHeaviest}
 -- some window leaf of the problem holds
 abbrev pub SomeWindowHolds : Instance → Domains → Type 0
 SomeWindowHolds P D =
-    (number : ℕ) × (p : ℕ) × (len : ℕ) × LineFits P (Window number p len) × Holds P D (Window number p len)
+    (number : ℕ) × (p : ℕ) × (len : ℕ) × LineFits P None (Closing (Window number p len)) × Holds P None D (Closing (Window number p len))
 
 -- some day leaf of the problem holds
 abbrev pub SomeDayHolds : Instance → Domains → Type 0
-SomeDayHolds P D = (j : ℕ) × (x : Symbol) × (over : Bool) × LineFits P (Day j x over) × Holds P D (Day j x over)
+SomeDayHolds P D = (j : ℕ) × (x : Symbol) × (over : Bool) × LineFits P None (Closing (Day j x over)) × Holds P None D (Closing (Day j x over))
 
 -- no word of two turns that is clean for the list has the symbol at the position
 abbrev pub NoWordHas : Instance → Domains → List ℕ → ℕ → Symbol → Type 0

@@ -6,7 +6,8 @@ use Rattle.rwsp_terms.specs.declared.data.Rule.TheVariants as TheRules
 use Rattle.rwsp_terms.specs.Instance.{Instance}
 use Rattle.rwsp_terms.specs.Rules.{rule_of}
 use Rattle.refutation_terms.specs.declared.lines.Line.{Line}
-use Rattle.refutation_terms.specs.declared.lines.Line.TheVariants.{Dead, Bound}
+use Rattle.refutation_terms.specs.declared.lines.Line.TheVariants.{Closing}
+use Rattle.refutation_terms.specs.declared.lines.Leaf.TheVariants.{Dead, Bound}
 use Rattle.refutation_terms.specs.Log.{Log, Passes}
 
 -- the list without the number
@@ -20,8 +21,8 @@ without_day rule y = y
 
 -- a line of a log without a goal, without the rule in its lists. A window or a day leaf that cites it stays
 abbrev pub strip_line : Instance → ℕ → Line → Line
-strip_line P number (Dead p len R) = Dead p len (without_rule number R)
-strip_line P number (Bound p turns R y) = Bound p turns (without_rule number R) (without_day (rule_of P number) y)
+strip_line P number (Closing (Dead p len R)) = Closing (Dead p len (without_rule number R))
+strip_line P number (Closing (Bound p turns R y)) = Closing (Bound p turns (without_rule number R) (without_day (rule_of P number) y))
 strip_line P number line = line
 
 -- the log without the rule of this number. Its turn stays

@@ -6,10 +6,10 @@ use Rattle.rwsp_terms.specs.Instance.{Instance, IsSymbol, symbol_of, name_of}
 use Rattle.rwsp_terms.specs.Rules.{rules}
 use Rattle.refutation_terms.specs.declared.lines.Line.{Line}
 use Rattle.refutation_terms.specs.declared.lines.LogRefusal.{LogRefusal}
-use Rattle.refutation_terms.specs.Log.{Log, FitsFor, LineFitsFor}
+use Rattle.refutation_terms.specs.Log.{Log, FitsFor, LineFits}
 use Rattle.refutation_terms.specs.LogText.{raw, line_text, log_text_for}
 use Rattle.rwsp_text.specs.Fields.{IsName}
-use Rattle.refutation_terms.specs.Verdict.{SpellsFor, IsVerdict}
+use Rattle.refutation_terms.specs.Verdict.{Spells, IsVerdict}
 use Rattle.refutation_terms.specs.FreeVerdict.{IsFreeVerdict}
 
 -- each symbol has a name of its own
@@ -23,14 +23,14 @@ IsWritable P = (P.days < 2 ^ 32) × (P.weeks < 2 ^ 32) × (length (rules P) < 2 
 -- bytes that spell a line of a log with a goal or none are its text, and the line fits the problem
 abbrev pub SpelledLinesFit : Type 0
 SpelledLinesFit =
-    (P : Instance) (goal : Option ℕ) (bytes : List ℕ) (line : Line) → SpellsFor P goal bytes line
-    → LineFitsFor P goal line × (bytes ≡ line_text P (raw P line))
+    (P : Instance) (goal : Option ℕ) (bytes : List ℕ) (line : Line) → Spells P goal bytes line
+    → LineFits P goal line × (bytes ≡ line_text P (raw P line))
 
 -- the text of a line that fits the problem spells it
 abbrev pub FittingLinesAreSpelled : Type 0
 FittingLinesAreSpelled =
-    (P : Instance) (goal : Option ℕ) (line : Line) → HasNames P → LineFitsFor P goal line
-    → SpellsFor P goal (line_text P (raw P line)) line
+    (P : Instance) (goal : Option ℕ) (line : Line) → HasNames P → LineFits P goal line
+    → Spells P goal (line_text P (raw P line)) line
 
 -- no two logs that fit a problem, with goals or without, have one text
 abbrev pub TextsAreDistinct : Type 0

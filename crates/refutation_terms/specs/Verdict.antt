@@ -8,7 +8,8 @@ use Rattle.rwsp_terms.specs.declared.data.Rule.TheVariants as TheRules
 use Rattle.rwsp_terms.specs.Instance.{Instance, cells, least, IsDay, symbol_of}
 use Rattle.rwsp_terms.specs.Rules.{rule_of, Names, IsShort}
 use Rattle.refutation_terms.specs.declared.lines.Line.{Line}
-use Rattle.refutation_terms.specs.declared.lines.Line.TheVariants.{Split, Window, Day, Dead, Bound, Few, Free, Unfinished}
+use Rattle.refutation_terms.specs.declared.lines.Line.TheVariants.{Split, Unfinished, Closing}
+use Rattle.refutation_terms.specs.declared.lines.Leaf.TheVariants.{Window, Day, Dead, Bound, Few, Free}
 use Rattle.refutation_terms.specs.declared.lines.Turn.{Turn}
 use Rattle.refutation_terms.specs.declared.lines.LogRefusal.{LogRefusal}
 use Rattle.refutation_terms.specs.declared.lines.LogRefusal.TheVariants as Refusals
@@ -16,9 +17,9 @@ use Rattle.refutation_terms.specs.Word.{Domains, weight, total}
 use Rattle.refutation_terms.specs.FreeWeekends.{free_weight}
 use Rattle.refutation_terms.specs.FreeLeaves.{free_total}
 use Rattle.refutation_terms.specs.Tree.{IsTree, domains_at, is_idle}
-use Rattle.refutation_terms.specs.Log.{Log, HoldsFor, HoldsAtFor, AreRules, Cites, CitesOnlyNamed, ListsShortOnly, IsGroundedFor, Passes}
+use Rattle.refutation_terms.specs.Log.{Log, Holds, HoldsAtFor, AreRules, Cites, CitesOnlyNamed, ListsShortOnly, IsGroundedFor, Passes}
 use Rattle.refutation_terms.specs.Escape.{IsLeastClean, IsLeastHeaviest, IsLeastHeaviestBy}
-use Rattle.refutation_terms.specs.LogText.{RawLine, IsWrittenFor, line_of, version_text, rules_text, turn_text, log_text}
+use Rattle.refutation_terms.specs.LogText.{RawLine, IsWritten, line_of, version_text, rules_text, turn_text, log_text}
 
 -- the least number with a property
 abbrev pub IsLeast : (ℕ → Type 0) → ℕ → Type 0
@@ -34,62 +35,53 @@ IsLongIn P R k = (r : Rule) × (rule_of P k ≡ Some r) × Contains R k × (IsSh
 
 -- the same of the list of a dead, a bound or a free leaf
 abbrev pub ListsLong : Instance → Line → ℕ → Type 0
-ListsLong P (Dead p len R) k = IsLongIn P R k
-ListsLong P (Bound p turns R y) k = IsLongIn P R k
-ListsLong P (Free turns reward R y) k = IsLongIn P R k
+ListsLong P (Closing (Dead p len R)) k = IsLongIn P R k
+ListsLong P (Closing (Bound p turns R y)) k = IsLongIn P R k
+ListsLong P (Closing (Free turns reward R y)) k = IsLongIn P R k
 ListsLong P line k = ⊥
 
 -- a window or a day leaf, or few free weekends
 abbrev pub IsPlainLeaf : Line → Type 0
-IsPlainLeaf (Window rule p len) = Unit {0}
-IsPlainLeaf (Day j x over) = Unit {0}
-IsPlainLeaf Few = Unit {0}
+IsPlainLeaf (Closing (Window rule p len)) = Unit {0}
+IsPlainLeaf (Closing (Day j x over)) = Unit {0}
+IsPlainLeaf (Closing Few) = Unit {0}
 IsPlainLeaf line = ⊥
 
--- the word that shows that a dead or a bound leaf doesn't hold
-abbrev pub Escapes : Instance → Domains → Line → List Symbol → Type 0
-Escapes P D (Dead p len R) w = IsLeastClean P D p len R w
-Escapes P D (Bound p turns R y) w =
+-- the word that shows that a dead, a bound or a free leaf doesn't hold in a log with this goal or none
+abbrev pub Escapes : Instance → Option ℕ → Domains → Line → List Symbol → Type 0
+Escapes P goal D (Closing (Dead p len R)) w = IsLeastClean P D p len R w
+Escapes P goal D (Closing (Bound p turns R y)) w =
     IsLeastHeaviest P D p (turns * cells P) R y w × ((pos turns *ℤ total P y) ≤ℤ weight P y p w)
-Escapes P D line w = ⊥
-
--- and that a leaf of a free log with this goal doesn't hold
-abbrev pub EscapesFree : Instance → ℕ → Domains → Line → List Symbol → Type 0
-EscapesFree P goal D (Free turns reward R y) w =
+Escapes P (Some goal) D (Closing (Free turns reward R y)) w =
     IsLeastHeaviestBy P D 0 (turns * cells P) R (free_weight P y reward 0) w
     × ((pos turns *ℤ free_total P y reward goal) ≤ℤ free_weight P y reward 0 w)
-EscapesFree P goal D line w = Escapes P D line w
-
--- by the goal of the log
-abbrev pub EscapesFor : Instance → Option ℕ → Domains → Line → List Symbol → Type 0
-EscapesFor P None D line w = Escapes P D line w
-EscapesFor P (Some goal) D line w = EscapesFree P goal D line w
+Escapes P goal D line w = ⊥
 
 -- the bytes of a text line spell no line of a log with this goal or none
-abbrev pub SpellsNothingFor : Instance → Option ℕ → List ℕ → Type 0
-SpellsNothingFor P goal bytes = (raw : RawLine) → IsWrittenFor P goal bytes raw → ⊥
+abbrev pub SpellsNothing : Instance → Option ℕ → List ℕ → Type 0
+SpellsNothing P goal bytes = (raw : RawLine) → IsWritten P goal bytes raw → ⊥
 
 -- they spell a line with a name of no symbol
-abbrev pub SpellsUnknownFor : Instance → Option ℕ → List ℕ → Type 0
-SpellsUnknownFor P goal bytes = (raw : RawLine) × IsWrittenFor P goal bytes raw × (line_of P raw ≡ None)
+abbrev pub SpellsUnknown : Instance → Option ℕ → List ℕ → Type 0
+SpellsUnknown P goal bytes = (raw : RawLine) × IsWritten P goal bytes raw × (line_of P raw ≡ None)
 
 -- they spell this line
-abbrev pub SpellsFor : Instance → Option ℕ → List ℕ → Line → Type 0
-SpellsFor P goal bytes line = (raw : RawLine) × IsWrittenFor P goal bytes raw × (line_of P raw ≡ Some line)
+abbrev pub Spells : Instance → Option ℕ → List ℕ → Line → Type 0
+Spells P goal bytes line = (raw : RawLine) × IsWritten P goal bytes raw × (line_of P raw ≡ Some line)
 
 -- and each rule that it cites is named
 abbrev pub SpellsNamed : Instance → Option ℕ → List ℕ → List ℕ → Line → Type 0
-SpellsNamed P goal named bytes line = SpellsFor P goal bytes line × CitesOnlyNamed P named line
+SpellsNamed P goal named bytes line = Spells P goal bytes line × CitesOnlyNamed P named line
 
 -- the line that the bytes spell cites a rule that isn't named, and this is the least one
 abbrev pub CitesUnnamed : Instance → Option ℕ → List ℕ → List ℕ → ℕ → Type 0
 CitesUnnamed P goal named bytes k =
-    (line : Line) × SpellsFor P goal bytes line × IsLeast (IsUnnamed P named (Cites P line)) k
+    (line : Line) × Spells P goal bytes line × IsLeast (IsUnnamed P named (Cites P line)) k
 
 -- it is an idle split
-abbrev pub SplitsIdlyFor : Instance → Option ℕ → Domains → List ℕ → Type 0
-SplitsIdlyFor P goal D bytes =
-    (p : ℕ) × (x : Symbol) × SpellsFor P goal bytes (Split p x) × (is_idle P D p x.number ≡ true)
+abbrev pub SplitsIdly : Instance → Option ℕ → Domains → List ℕ → Type 0
+SplitsIdly P goal D bytes =
+    (p : ℕ) × (x : Symbol) × Spells P goal bytes (Split p x) × (is_idle P D p x.number ≡ true)
 
 -- its list holds a rule that isn't short, and this is the least one
 abbrev pub HasLongRule : Instance → Option ℕ → List ℕ → List ℕ → ℕ → Type 0
@@ -98,41 +90,25 @@ HasLongRule P goal named bytes k = (line : Line) × SpellsNamed P goal named byt
 -- it is a leaf of one rule or of few free weekends that doesn't hold
 abbrev pub LeafFails : Instance → Option ℕ → List ℕ → Domains → List ℕ → Type 0
 LeafFails P goal named D bytes =
-    (line : Line) × SpellsNamed P goal named bytes line × IsPlainLeaf line × (HoldsFor P goal D line → ⊥)
+    (line : Line) × SpellsNamed P goal named bytes line × IsPlainLeaf line × (Holds P goal D line → ⊥)
 
 -- it is a dead, a bound or a free leaf that this word escapes
 abbrev pub LeafEscaped : Instance → Option ℕ → List ℕ → Domains → List ℕ → List Symbol → Type 0
 LeafEscaped P goal named D bytes w =
-    (line : Line) × SpellsNamed P goal named bytes line × ListsShortOnly P line × EscapesFor P goal D line w
+    (line : Line) × SpellsNamed P goal named bytes line × ListsShortOnly P line × Escapes P goal D line w
 
 -- why a line of the tree of a log with this goal or none is refused as text line n, under these rules and domains.
 -- Where a cause applies no lower one does
-abbrev pub TreeCauseFor : Instance → Option ℕ → List ℕ → Domains → ℕ → List ℕ → LogRefusal → Type 0
-TreeCauseFor P goal named D n bytes (Refusals.Form i) = (i ≡ n) × SpellsNothingFor P goal bytes
-TreeCauseFor P goal named D n bytes (Refusals.Name i) = (i ≡ n) × SpellsUnknownFor P goal bytes
-TreeCauseFor P goal named D n bytes (Refusals.Unnamed i k) = (i ≡ n) × CitesUnnamed P goal named bytes k
-TreeCauseFor P goal named D n bytes (Refusals.Idle i) = (i ≡ n) × SplitsIdlyFor P goal D bytes
-TreeCauseFor P goal named D n bytes (Refusals.Long i k) = (i ≡ n) × HasLongRule P goal named bytes k
-TreeCauseFor P goal named D n bytes (Refusals.Fails i) = (i ≡ n) × LeafFails P goal named D bytes
-TreeCauseFor P goal named D n bytes (Refusals.Escape i w) = (i ≡ n) × LeafEscaped P goal named D bytes w
-TreeCauseFor P goal named D n bytes (Refusals.Unfinished i) = (i ≡ n) × SpellsFor P goal bytes Unfinished
-TreeCauseFor P goal named D n bytes why = ⊥
-
--- the same for logs without a goal
-abbrev pub SpellsNothing : Instance → List ℕ → Type 0
-SpellsNothing P bytes = SpellsNothingFor P None bytes
-
-abbrev pub SpellsUnknown : Instance → List ℕ → Type 0
-SpellsUnknown P bytes = SpellsUnknownFor P None bytes
-
-abbrev pub Spells : Instance → List ℕ → Line → Type 0
-Spells P bytes line = SpellsFor P None bytes line
-
-abbrev pub SplitsIdly : Instance → Domains → List ℕ → Type 0
-SplitsIdly P D bytes = SplitsIdlyFor P None D bytes
-
-abbrev pub TreeCause : Instance → List ℕ → Domains → ℕ → List ℕ → LogRefusal → Type 0
-TreeCause P named D n bytes why = TreeCauseFor P None named D n bytes why
+abbrev pub TreeCause : Instance → Option ℕ → List ℕ → Domains → ℕ → List ℕ → LogRefusal → Type 0
+TreeCause P goal named D n bytes (Refusals.Form i) = (i ≡ n) × SpellsNothing P goal bytes
+TreeCause P goal named D n bytes (Refusals.Name i) = (i ≡ n) × SpellsUnknown P goal bytes
+TreeCause P goal named D n bytes (Refusals.Unnamed i k) = (i ≡ n) × CitesUnnamed P goal named bytes k
+TreeCause P goal named D n bytes (Refusals.Idle i) = (i ≡ n) × SplitsIdly P goal D bytes
+TreeCause P goal named D n bytes (Refusals.Long i k) = (i ≡ n) × HasLongRule P goal named bytes k
+TreeCause P goal named D n bytes (Refusals.Fails i) = (i ≡ n) × LeafFails P goal named D bytes
+TreeCause P goal named D n bytes (Refusals.Escape i w) = (i ≡ n) × LeafEscaped P goal named D bytes w
+TreeCause P goal named D n bytes (Refusals.Unfinished i) = (i ≡ n) × Spells P goal bytes Unfinished
+TreeCause P goal named D n bytes why = ⊥
 
 -- the bytes spell a turn to a symbol of this name on this day
 abbrev pub SpellsTurn : Instance → List ℕ → List ℕ → ℕ → Type 0
@@ -233,18 +209,18 @@ header_lines_for None turn = header_lines turn
 header_lines_for (Some goal) turn = 3
 
 -- why the line behind the header and the lines of a log with this goal or none is refused
-abbrev pub CauseBehindFor : Instance → Option ℕ → Log → List ℕ → LogRefusal → Type 0
-CauseBehindFor P goal g bytes why =
+abbrev pub CauseBehind : Instance → Option ℕ → Log → List ℕ → LogRefusal → Type 0
+CauseBehind P goal g bytes why =
     let n = header_lines_for goal g.turn + length g.lines + 1 in
     (IsTree g.lines × ExtraCause n why)
-    ⊎ ((IsTree g.lines → ⊥) × TreeCauseFor P goal g.named (domains_at P g.turn g.lines (length g.lines)) n bytes why)
+    ⊎ ((IsTree g.lines → ⊥) × TreeCause P goal g.named (domains_at P g.turn g.lines (length g.lines)) n bytes why)
 
 -- why the line behind the front is refused
 abbrev pub Cause : Instance → Front → List ℕ → LogRefusal → Type 0
 Cause P Start bytes why = VersionCause bytes why
 Cause P (Versioned has_turn) bytes why = RulesCause P bytes why
 Cause P (BeforeTurn named) bytes why = TurnCause P named bytes why
-Cause P (Reading g) bytes why = CauseBehindFor P None g bytes why
+Cause P (Reading g) bytes why = CauseBehind P None g bytes why
 
 -- a front of the text, of this kind, has no cause, and the line behind it has this one
 pub record IsRefusedBehindFront {F : Type 0}

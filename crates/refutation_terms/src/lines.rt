@@ -2,14 +2,20 @@
 // from 1.
 use rwsp_terms::{RuleList, Symbol, Weights, Word};
 
-/// A line of a log: a split of the cases in two, or a leaf that closes a case.
+/// A line of a log: a split of the cases in two, a leaf that closes a case, or a case that wasn't worked out.
 #[derive(Drop)]
 pub enum Line {
     /// First the rosters that hold `x` at position `p`, then those that don't.
-    Split {
-        p: u32,
-        x: Symbol,
-    },
+    Split { p: u32, x: Symbol },
+    /// A leaf: no roster is left in its case.
+    Closing(Leaf),
+    /// A case that wasn't worked out, written `open`.
+    Unfinished,
+}
+
+/// Why no roster is left in a case.
+#[derive(Drop)]
+pub enum Leaf {
     /// Every word of `len` days from position `p` is bad for the rule.
     Window {
         rule: u32,
@@ -46,8 +52,6 @@ pub enum Line {
         rules: RuleList,
         weights: Weights,
     },
-    /// A case that wasn't worked out, written `open`.
-    Unfinished,
 }
 
 /// The assumption that week 1 holds `x` on the day.
@@ -87,8 +91,9 @@ pub enum LogRefusal {
 // Lines of a log and causes of a refusal may be sent to other threads and shared with them.
 fn shared<T: Send + Sync>(_: &T) {}
 
-fn lines_are_shared(line: &Line, turn: &Turn, why: &LogRefusal) {
+fn lines_are_shared(line: &Line, leaf: &Leaf, turn: &Turn, why: &LogRefusal) {
     shared(line);
+    shared(leaf);
     shared(turn);
     shared(why);
 }

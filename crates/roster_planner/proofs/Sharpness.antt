@@ -8,7 +8,8 @@ use Rattle.rwsp_terms.specs.Instance.{Instance, cells, shift_count}
 use Rattle.rwsp_model.specs.Validity.{KeepsLimits}
 use Rattle.rwsp_model.proofs.Limits.{some_cells}
 use Rattle.refutation_terms.specs.declared.lines.Line.{Line}
-use Rattle.refutation_terms.specs.declared.lines.Line.TheVariants.{Split, Bound, Unfinished}
+use Rattle.refutation_terms.specs.declared.lines.Line.TheVariants.{Split, Unfinished, Closing}
+use Rattle.refutation_terms.specs.declared.lines.Leaf.TheVariants.{Bound}
 use Rattle.refutation_terms.specs.declared.lines.Turn.{Turn}
 use Rattle.refutation_terms.specs.Word.{Domains, AreSame}
 use Rattle.refutation_terms.specs.Tree.{opening, domains_at}
@@ -37,7 +38,7 @@ Spent = Store → ℕ → Symbol → Type 0
 
 at_top : (P : Instance) (turn : Option Turn) (leaves : Leaves) (spent : Spent) (S : Store) (R : List ℕ) (y : List Weight) → 0 < cells P → AreShortRules P R → AreReasons P turn leaves spent → AreSame P (has_domain S) (opening P turn) → (Closes P (leaves S) S → ⊥) → AreTopWeights P (opening P turn) R y → HoldsAtTop P (opening P turn) R y → ⊥
 at_top P turn leaves spent S R y some short reasons same undecided weights holds =
-    let line = Bound 0 1 R y in
+    let line = Closing (Bound 0 1 R y) in
     undecided (line, reasons.top S line same (refl, refl, short, weights), same_at_top P (opening P turn) (has_domain S) R y some (turned_round P (has_domain S) (opening P turn) same) holds)
 
 no_bound : (P : Instance) (turn : Option Turn) (leaves : Leaves) (spent : Spent) (S : Store) (R : List ℕ) → 0 < cells P → AreShortRules P R → AreReasons P turn leaves spent → AreSame P (has_domain S) (opening P turn) → (Closes P (leaves S) S → ⊥) → NoBoundHolds P (opening P turn) R

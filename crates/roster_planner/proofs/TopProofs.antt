@@ -11,12 +11,13 @@ use Rattle.rwsp_terms.specs.Weights.{AreWeights}
 use Rattle.rwsp_model.specs.Validity.{KeepsLimits}
 use Rattle.rwsp_model.proofs.Limits.{some_cells}
 use Rattle.refutation_terms.specs.declared.lines.Line.{Line}
-use Rattle.refutation_terms.specs.declared.lines.Line.TheVariants.{Split, Few, Free}
+use Rattle.refutation_terms.specs.declared.lines.Line.TheVariants.{Split, Closing}
+use Rattle.refutation_terms.specs.declared.lines.Leaf.TheVariants.{Few, Free}
 use Rattle.refutation_terms.specs.declared.lines.Turn.{Turn}
 use Rattle.refutation_terms.specs.Word.{Domains, AreSame, Clean, full}
 use Rattle.refutation_terms.specs.FreeLeaves.{IsTooLightFree}
 use Rattle.refutation_terms.specs.Tree.{Leaf, IsLeaf, opening, domains_at}
-use Rattle.refutation_terms.specs.Log.{Log, AreRules, GoalFits, LineFitsFor, HoldsFor, Cites, ListsShortOnly, FreePasses, size}
+use Rattle.refutation_terms.specs.Log.{Log, AreRules, GoalFits, LineFits, Holds, Cites, ListsShortOnly, FreePasses, size}
 use Rattle.refutation_terms.specs.Sharp.{IsUnclosed}
 use Rattle.refutation_terms.specs.Verdict.{EscapesFree}
 use Rattle.refutation_terms.proofs.SameDomains.{turned_round, same_holds_for}
@@ -24,12 +25,12 @@ use Rattle.refutation_log.specs.Bests.{IsFreeProof}
 use Rattle.refutation_log.specs.FreeSharp.{HoldsFreeAtTop, IsFreeSharp}
 
 abbrev pub top_line : List ℕ → Line
-top_line R = Free 1 1 R []
+top_line R = Closing (Free 1 1 R [])
 
 no_weights : AreWeights []
 no_weights = record { ascends = λ i j d less within. absurd (omega (arith, within)); small = λ k d less. absurd (omega (arith, less)) }
 
-line_fits : (P : Instance) (goal : ℕ) (R : List ℕ) → KeepsLimits P → AreRules P R → LineFitsFor P (Some goal) (top_line R)
+line_fits : (P : Instance) (goal : ℕ) (R : List ℕ) → KeepsLimits P → AreRules P R → LineFits P (Some goal) (top_line R)
 line_fits P goal R limits rules =
     let some : 0 < cells P = some_cells P limits in
     let few : cells P ≤ MOST_CELLS = limits.few_cells in
@@ -78,7 +79,7 @@ top_passes P goal R limits goal_fits rules short holds =
           turn = tt;
           is_goal = refl;
           goal_fits = goal_fits;
-          lines = at_only (λ k b. LineFitsFor P (Some goal) b) line fits;
+          lines = at_only (λ k b. LineFits P (Some goal) b) line fits;
         };
         turn = tt;
         turn_named = λ r h. absurd h;
@@ -89,7 +90,7 @@ top_passes P goal R limits goal_fits rules short holds =
         short = at_only (λ k b. ListsShortOnly P b) line short;
       };
       tree = (Leaf line tt, refl);
-      holds = at_only (λ k b. HoldsFor P (Some goal) (domains_at P None lines k) b) line
+      holds = at_only (λ k b. Holds P (Some goal) (domains_at P None lines k) b) line
           (same_holds_for P (Some goal) (full P) (domains_at P None lines 0) line (some_cells P limits) goal_fits fits (at_top P lines) holds);
     }
 

@@ -3,7 +3,7 @@ ghost use Rattle.std.specs.Prelude.{◌≡◌, None, IfOk};
 ghost use Rattle.std.specs.Option.{IfSome};
 ghost use Rattle.refutation_terms.specs.Log.{GoalFits};
 ghost use Rattle.domain_store.specs.Cycles.{AreShortRules};
-ghost use Rattle.roster_search.specs.Guides.{IsRosterFor};
+ghost use Rattle.roster_search.specs.Guides.{IsWantedRoster};
 
 use clean_words::Automaton;
 use domain_store::Domains;
@@ -88,7 +88,7 @@ fn found_roster(
     wish: u32,
 ) -> Result<Option<Roster>, AllocError>
     requires { GoalFits finder.now None goal }
-    ensures { IfOk result (λ found. IfSome found (IsRosterFor finder.now goal)) }
+    ensures { IfOk result (λ found. IfSome found (IsWantedRoster finder.now goal)) }
 {
     let Some(least) = goal else {
         return finder.find(alloc, 0, Patience::Long);

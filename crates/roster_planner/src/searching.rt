@@ -5,7 +5,7 @@ ghost use Rattle.refutation_terms.specs.Log.{TurnFits, GoalFits, IsAllowed};
 ghost use Rattle.domain_store.specs.Cycles.{AreShortRules};
 ghost use Rattle.domain_store.specs.Looks.{HasPlainLeaves};
 ghost use Rattle.roster_search.specs.Founds.{IsFoundFor, HasSpentBudget};
-ghost use Rattle.roster_search.specs.Guides.{AreUnweighedFor};
+ghost use Rattle.roster_search.specs.Guides.{AreUnweighed};
 
 use crate::guide::PlannerGuide;
 use clean_words::Automaton;
@@ -35,7 +35,7 @@ pub fn planner_search<A: Propagator>(
     requires goal { GoalFits automaton.now.problem aim.turn aim.goal }
     requires serves { A.serves reasons.old automaton.now.problem }
     requires plain { HasPlainLeaves automaton.now.problem (A.leaves reasons.old) }
-    requires unweighed { AreUnweighedFor aim.goal (A.leaves reasons.old) }
+    requires unweighed { AreUnweighed aim.goal (A.leaves reasons.old) }
     ensures found { IfOk result (λ found. IsFoundFor automaton.now.problem aim.turn aim.goal aim.budget
         (A.leaves reasons.old) (A.spent reasons.old) found) }
     ensures complete { let P = automaton.now.problem in IfOk result (λ found.

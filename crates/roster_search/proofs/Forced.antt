@@ -5,11 +5,12 @@ use Rattle.std.proofs.lemmas.List.{length_push}
 use Rattle.rwsp_terms.specs.declared.data.Symbol.{Symbol}
 use Rattle.rwsp_terms.specs.Instance.{Instance, cells}
 use Rattle.refutation_terms.specs.declared.lines.Line.{Line}
-use Rattle.refutation_terms.specs.declared.lines.Line.TheVariants.{Split, Few, Unfinished}
+use Rattle.refutation_terms.specs.declared.lines.Line.TheVariants.{Split, Unfinished, Closing}
+use Rattle.refutation_terms.specs.declared.lines.Leaf.TheVariants.{Few}
 use Rattle.refutation_terms.specs.declared.lines.Turn.{Turn}
 use Rattle.refutation_terms.specs.Word.{Domains, AreSame}
 use Rattle.refutation_terms.specs.Tree.{IsLeaf, domains_at}
-use Rattle.refutation_terms.specs.Log.{HoldsFor}
+use Rattle.refutation_terms.specs.Log.{Holds}
 use Rattle.domain_store.specs.Store.{Store, IsStore, has_domain}
 use Rattle.roster_search.specs.declared.aim.Aim.{Aim}
 use Rattle.roster_search.specs.declared.progress.Progress.{Progress}
@@ -80,7 +81,7 @@ none_said Q P turn ls none k p x e =
 
 -- few weeks can't be free
 abbrev pub NotFew : Instance → Option ℕ → Domains → ℕ → Symbol → Type 0
-NotFew P goal D p x = HoldsFor P goal D Few → ⊥
+NotFew P goal D p x = Holds P goal D (Closing Few) → ⊥
 
 -- of lines of the same search
 same_said : (Q : Aim → Said) (P : Instance) (a b : Aim) (ls more : List Line) → b ≡ a → more ≡ ls → AtEachSplit (Q a) P a.turn ls → AtEachSplit (Q b) P b.turn more

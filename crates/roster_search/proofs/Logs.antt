@@ -12,7 +12,7 @@ use Rattle.refutation_terms.specs.declared.lines.Line.{Line}
 use Rattle.refutation_terms.specs.declared.lines.Line.TheVariants.{Unfinished}
 use Rattle.refutation_terms.specs.declared.lines.Turn.{Turn}
 use Rattle.refutation_terms.specs.Tree.{IsTree, after_trees}
-use Rattle.refutation_terms.specs.Log.{Log, LineFitsFor, HoldsFor, HoldsAtFor, Cites, ListsShortOnly, IsAllowed, AreRules, IsGroundedFor, PassesFor, IsSpentFor, size, is_worked}
+use Rattle.refutation_terms.specs.Log.{Log, LineFits, Holds, HoldsAtFor, Cites, ListsShortOnly, IsAllowed, AreRules, IsGroundedFor, PassesFor, IsSpentFor, size, is_worked}
 use Rattle.refutation_terms.proofs.Trees.{whole_is_tree}
 use Rattle.refutation_terms.proofs.TreeDomains.{got_left}
 use Rattle.domain_store.specs.Splits.{second_sides_to_come}
@@ -55,7 +55,7 @@ grounded P s rest w allowed up opened = record {
     turn = w.turn_fits;
     is_goal = refl;
     goal_fits = w.goal_fits;
-    lines = each_in (LineFitsFor P s.aim.goal) s.lines.items rest (λ k line e. (w.stand k line e).fits) (open_fits P s.aim.goal) opened;
+    lines = each_in (LineFits P s.aim.goal) s.lines.items rest (λ k line e. (w.stand k line e).fits) (open_fits P s.aim.goal) opened;
   };
   turn = allowed;
   turn_named = λ r h. (w.cited r).1 (inl h);
@@ -65,7 +65,7 @@ grounded P s rest w allowed up opened = record {
 
 holds_before : (P : Instance) (s : Progress) (rest : List Line) → IsProgress P s → (k : ℕ) (line : Line) → k < length s.lines.items → slice_get (s.lines.items ++ rest) k ≡ Some line → HoldsAtFor P s.aim.goal (log_of s rest) k line
 holds_before P s rest w k line lt e = elim (got_in s.lines.items rest k line e) [
-  | inl at ↦ subst (λ D. HoldsFor P s.aim.goal D line) (sym (domains_before P s.aim.turn s.lines.items rest k (omega (arith, lt)))) (w.stand k line at.1).holds
+  | inl at ↦ subst (λ D. Holds P s.aim.goal D line) (sym (domains_before P s.aim.turn s.lines.items rest k (omega (arith, lt)))) (w.stand k line at.1).holds
   | inr at ↦ absurd (omega (arith, lt, at.1))
 ]
 

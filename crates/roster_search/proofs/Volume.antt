@@ -15,7 +15,7 @@ use Rattle.refutation_terms.specs.declared.lines.Line.TheVariants.{Split, Unfini
 use Rattle.refutation_terms.specs.declared.lines.Turn.{Turn}
 use Rattle.refutation_terms.specs.Word.{Domains}
 use Rattle.refutation_terms.specs.Tree.{Tree, IsTree, IsLeaf, Leaf, Node, lines_in, First, Second, lines_leave, narrowed, opening, domains_at, is_idle}
-use Rattle.refutation_terms.specs.Log.{Log, TurnFits, LineFits, LineFitsFor, FitsFor, IsSpentFor}
+use Rattle.refutation_terms.specs.Log.{Log, TurnFits, LineFits, FitsFor, IsSpentFor}
 use Rattle.refutation_terms.specs.Laws.{HasNoIdleSplit}
 use Rattle.refutation_terms.proofs.Tests.{both, left_of}
 use Rattle.refutation_terms.proofs.InWords.{there, another}
@@ -119,7 +119,7 @@ line_count (Node p x a b) =
 
 -- a split that isn't idle
 abbrev IsUseful : Instance → Domains → Line → Type 0
-IsUseful P D line = (p : ℕ) (x : Symbol) → line ≡ Split p x → LineFits P (Split p x) × (is_idle P D p x.number ≡ false)
+IsUseful P D line = (p : ℕ) (x : Symbol) → line ≡ Split p x → LineFits P None (Split p x) × (is_idle P D p x.number ≡ false)
 
 abbrev HasSome : Instance → Domains → Type 0
 HasSome P D = (q : ℕ) → q < cells P → 0 < size_at (shift_count P) D q
@@ -131,7 +131,7 @@ record IsParted (P : Instance) (D A B : Domains) (p : ℕ) : Type 0 where
   some_first : 0 < size_at (shift_count P) A p
   some_second : 0 < size_at (shift_count P) B p
 
-parted : (P : Instance) (D : Domains) (p : ℕ) (x : Symbol) → LineFits P (Split p x) → is_idle P D p x.number ≡ false → IsParted P D (narrowed D (Split p x) First) (narrowed D (Split p x) Second) p
+parted : (P : Instance) (D : Domains) (p : ℕ) (x : Symbol) → LineFits P None (Split p x) → is_idle P D p x.number ≡ false → IsParted P D (narrowed D (Split p x) First) (narrowed D (Split p x) Second) p
 parted P D p x fits useful =
     let last : ℕ = shift_count P in
     let A : Domains = narrowed D (Split p x) First in
@@ -198,7 +198,7 @@ leaves_counted (Node p x a b) =
 
 useful_splits : (P : Instance) (goal : Option ℕ) (g : Log) → FitsFor P goal g → HasNoIdleSplit P g.turn g.lines (length g.lines) → EachInOrder (IsUseful P) (opening P g.turn) g.lines
 useful_splits P goal g fits none k line e p x is = (
-  fitting_split P goal p x (subst (LineFitsFor P goal) is (fits.lines k line e)),
+  fitting_split P goal p x (subst (LineFits P goal) is (fits.lines k line e)),
   none k p x (slice_get_within g.lines k line e) (e ∙ ap (λ (l : Line). Some l) is),
 )
 

@@ -3,14 +3,15 @@ use Rattle.std.specs.Prelude.{◌≡◌, ℕ, ◌≤◌, List, slice_get, Option
 use Rattle.rwsp_terms.specs.declared.data.Symbol.{Symbol}
 use Rattle.rwsp_terms.specs.Instance.{Instance}
 use Rattle.refutation_terms.specs.declared.lines.Line.{Line}
-use Rattle.refutation_terms.specs.declared.lines.Line.TheVariants.{Split, Few}
+use Rattle.refutation_terms.specs.declared.lines.Line.TheVariants.{Split, Closing}
+use Rattle.refutation_terms.specs.declared.lines.Leaf.TheVariants.{Few}
 use Rattle.refutation_terms.specs.declared.lines.Turn.{Turn}
 use Rattle.refutation_terms.specs.Word.{Domains, AreSame}
 use Rattle.refutation_terms.specs.Tree.{domains_at}
-use Rattle.refutation_terms.specs.Log.{Log, HoldsFor, PassesFor, IsSpentFor, NamesOnlyCited, size}
+use Rattle.refutation_terms.specs.Log.{Log, Holds, PassesFor, IsSpentFor, NamesOnlyCited, size}
 use Rattle.domain_store.specs.Store.{Store, BelongsTo, IsStore, has_domain}
 use Rattle.domain_store.specs.Looks.{Closes}
-use Rattle.roster_search.specs.Guides.{IsRosterFor}
+use Rattle.roster_search.specs.Guides.{IsWantedRoster}
 use Rattle.refutation_log.specs.declared.found.Found.{Found}
 use Rattle.refutation_log.specs.declared.found.Found.TheVariants.{Roster, NoRoster, Undecided}
 
@@ -37,7 +38,7 @@ AreForced P leaves spent turn lines = AtEachSplit (IsForced P leaves spent) P tu
 
 -- with a goal, at each split as many weeks as that can still have a free weekend
 abbrev pub FewHoldsAtNoSplit : Instance → Option ℕ → Option Turn → List Line → Type 0
-FewHoldsAtNoSplit P goal turn lines = AtEachSplit (λ D p x. HoldsFor P goal D Few → ⊥) P turn lines
+FewHoldsAtNoSplit P goal turn lines = AtEachSplit (λ D p x. Holds P goal D (Closing Few) → ⊥) P turn lines
 
 -- a log with this turn that names what it cites and no more
 pub record IsLogOfTurn (P : Instance) (turn : Option Turn) (g : Log) : Type 0 where
@@ -60,7 +61,7 @@ IsSearchLog P turn leaves spent g = IsSearchLogFor P turn None leaves spent g
 -- of at most the budget's size; or one that has spent the budget
 abbrev pub IsFoundFor : Instance → Option Turn → Option ℕ → ℕ → (Store → Line → Type 0)
     → (Store → ℕ → Symbol → Type 0) → Found → Type 0
-IsFoundFor P turn goal budget leaves spent (Roster s) = IsRosterFor P goal s
+IsFoundFor P turn goal budget leaves spent (Roster s) = IsWantedRoster P goal s
 IsFoundFor P turn goal budget leaves spent (NoRoster g) =
     PassesFor P goal g × (size g ≤ budget) × IsSearchLogFor P turn goal leaves spent g
 IsFoundFor P turn goal budget leaves spent (Undecided g) =

@@ -9,12 +9,12 @@ use Rattle.refutation_terms.specs.declared.lines.Line.TheVariants.{Split, Unfini
 use Rattle.refutation_terms.specs.declared.lines.Turn.{Turn}
 use Rattle.refutation_terms.specs.Word.{Domains}
 use Rattle.refutation_terms.specs.Tree.{IsLeaf, domains_at}
-use Rattle.refutation_terms.specs.Log.{LineFitsFor, TurnFits, GoalFits, HoldsFor, Cites, TurnCites, ListsShortOnly, PassesFor, IsSpentFor, size}
+use Rattle.refutation_terms.specs.Log.{LineFits, TurnFits, GoalFits, Holds, Cites, TurnCites, ListsShortOnly, PassesFor, IsSpentFor, size}
 use Rattle.domain_store.specs.Store.{Store}
 use Rattle.domain_store.specs.States.{IsStateOf, open_trees}
 use Rattle.domain_store.specs.Looks.{HasPlainLeaves, IsNarrowedAt}
 use Rattle.roster_search.specs.Founds.{AreForced, FewHoldsAtNoSplit, IsLogOfTurn}
-use Rattle.roster_search.specs.Guides.{AreUnweighedFor}
+use Rattle.roster_search.specs.Guides.{AreUnweighed}
 use Rattle.roster_search.specs.declared.aim.Aim.{Aim}
 use Rattle.roster_search.specs.declared.progress.Progress.{Progress}
 use Rattle.refutation_log.specs.declared.found.Found.{Found}
@@ -22,8 +22,8 @@ use Rattle.refutation_log.specs.declared.found.Found.TheVariants.{Roster, NoRost
 
 -- a line that holds, with its numbers in their ranges and with short rules only in its list, for this goal or none
 pub record Stands (P : Instance) (goal : Option ℕ) (D : Domains) (line : Line) : Type 0 where
-  pub holds : HoldsFor P goal D line
-  pub fits : LineFitsFor P goal line
+  pub holds : Holds P goal D line
+  pub fits : LineFits P goal line
   pub short : ListsShortOnly P line
 
 -- the rule is that of the turn, or one of the lines cites it
@@ -71,7 +71,7 @@ pub record IsSearching {A : Type 0} (P : Instance) (served : A → Instance → 
   pub serves : served propagator P
   pub tracks : tracked propagator s.walk.store
   pub plain : HasPlainLeaves P (lines propagator)
-  pub unweighed : AreUnweighedFor s.aim.goal (lines propagator)
+  pub unweighed : AreUnweighed s.aim.goal (lines propagator)
   pub under_way : IsUnderWay P (lines propagator) (symbols propagator) s
 
 -- a tree is still open, and the budget has room for one more line

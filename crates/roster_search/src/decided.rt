@@ -2,9 +2,10 @@
 ghost use Rattle.std.specs.Prelude.{◌≡◌, ℕ, Bool, Option, IfOk};
 ghost use Rattle.rwsp_terms.specs.declared.data.Symbol.{Symbol};
 ghost use Rattle.rwsp_terms.specs.Roster.{MeetsAll};
-ghost use Rattle.refutation_terms.specs.declared.lines.Line.TheVariants.{Window, Day, Few};
+ghost use Rattle.refutation_terms.specs.declared.lines.Line.TheVariants.{Closing};
+ghost use Rattle.refutation_terms.specs.declared.lines.Leaf.TheVariants.{Window, Day, Few};
 ghost use Rattle.refutation_terms.specs.declared.lines.Turn.{Turn};
-ghost use Rattle.refutation_terms.specs.Log.{LineFits, GoalFits, Holds, HoldsFor};
+ghost use Rattle.refutation_terms.specs.Log.{LineFits, GoalFits, Holds};
 ghost use Rattle.refutation_terms.specs.Laws.{HasGoal};
 ghost use Rattle.domain_store.specs.Store.{has_domain, BelongsTo, IsDecided};
 
@@ -22,11 +23,11 @@ pub fn met_roster(
     requires goal { (turn : Option Turn) × GoalFits problem.now turn goal }
     requires decided { IsDecided domains.now }
     requires belongs { BelongsTo problem.now domains.now }
-    requires windows { (number p len : ℕ) → LineFits problem.now (Window number p len)
-        → Holds problem.now (has_domain domains.now) (Window number p len) → ⊥ }
-    requires days { (j : ℕ) (x : Symbol) (over : Bool) → LineFits problem.now (Day j x over)
-        → Holds problem.now (has_domain domains.now) (Day j x over) → ⊥ }
-    requires few { HoldsFor problem.now goal (has_domain domains.now) Few → ⊥ }
+    requires windows { (number p len : ℕ) → LineFits problem.now None (Closing (Window number p len))
+        → Holds problem.now None (has_domain domains.now) (Closing (Window number p len)) → ⊥ }
+    requires days { (j : ℕ) (x : Symbol) (over : Bool) → LineFits problem.now None (Closing (Day j x over))
+        → Holds problem.now None (has_domain domains.now) (Closing (Day j x over)) → ⊥ }
+    requires few { Holds problem.now goal (has_domain domains.now) (Closing Few) → ⊥ }
     ensures days { IfOk result (λ s. s.days ≡ problem.now.days) }
     ensures meets { IfOk result (λ s. MeetsAll problem.now s.cells) }
     ensures free { IfOk result (λ s. HasGoal goal s.cells) }

@@ -9,7 +9,7 @@ ghost use Rattle.rwsp_terms.specs.Rules.{rule_of, Names};
 ghost use Rattle.rwsp_terms.specs.declared.data.Rule.{Rule};
 ghost use Rattle.domain_store.specs.Store.{has_domain, IsStore, HasDomains};
 ghost use Rattle.domain_store.specs.Splits.{is_idle_in};
-ghost use Rattle.domain_store.specs.Leaves.{IsHoldingLeafFor};
+ghost use Rattle.domain_store.specs.Leaves.{IsHoldingLeaf};
 ghost use Rattle.roster_search.specs.Written.{IsProgress, IsSplitOff, HasRoom};
 
 use crate::Aim;
@@ -77,7 +77,7 @@ impl Progress {
     pub fn close(&mut self, problem: &Problem, line: Line) -> Result<(), AllocError>
         requires part { self.old.walk.whole ≡ false }
         requires written { IsProgress problem.now self.old }
-        requires leaf { IsHoldingLeafFor problem.now self.old.aim.goal
+        requires leaf { IsHoldingLeaf problem.now self.old.aim.goal
             (domains_at problem.now self.old.aim.turn self.old.lines.items (length self.old.lines.items)) line }
         ensures written { IfOk result (λ _. IsProgress problem.now self.new) }
         ensures aim { self.new.aim ≡ self.old.aim }
@@ -119,7 +119,7 @@ impl Progress {
         requires written { IsProgress problem.now self.old }
         requires position { p < cells problem.now }
         requires useful { is_idle problem.now (has_domain self.old.walk.store) p x.number ≡ false }
-        requires leaf { IsHoldingLeafFor problem.now self.old.aim.goal
+        requires leaf { IsHoldingLeaf problem.now self.old.aim.goal
             (narrowed (has_domain self.old.walk.store) (Split p x) First) line }
         ensures off { IfOk result (λ _. IsSplitOff problem.now self.old self.new p x) }
         ensures few { IfOk result (λ _. length self.new.lines.items ≤ self.old.aim.budget) }

@@ -2,9 +2,10 @@
 ghost use Rattle.std.specs.Prelude.{◌≡◌, ◌⊎◌, ℕ, ◌↔◌, Option, IsTrue, IfOk};
 ghost use Rattle.std.specs.Option.{IfSome};
 ghost use Rattle.rwsp_terms.specs.Instance.{Instance};
-ghost use Rattle.refutation_terms.specs.declared.lines.Line.TheVariants.{Few};
+ghost use Rattle.refutation_terms.specs.declared.lines.Line.TheVariants.{Closing};
+ghost use Rattle.refutation_terms.specs.declared.lines.Leaf.TheVariants.{Few};
 ghost use Rattle.refutation_terms.specs.declared.lines.Turn.{Turn};
-ghost use Rattle.refutation_terms.specs.Log.{GoalFits, HoldsFor};
+ghost use Rattle.refutation_terms.specs.Log.{GoalFits, Holds};
 ghost use Rattle.domain_store.specs.Store.{BelongsTo, has_domain};
 ghost use Rattle.domain_store.specs.Looks.{IsSame};
 ghost use Rattle.roster_search.specs.Guides.{IsLeafGiven, IsGiven, IsSight};
@@ -96,7 +97,7 @@ pub fn see<A: Propagator, G: Guide>(
 {
     let doms = progress.walk.domains();
     if is_short_of(problem, progress.aim.goal, doms) {
-        return Ok(Sight::Leaf(Line::Few));
+        return Ok(Sight::Leaf(Line::Closing(Leaf::Few)));
     }
     match propagator.look(alloc, doms)? {
         Look::Closed(line) => Ok(Sight::Leaf(line)),
@@ -137,7 +138,7 @@ fn given_or<G: Guide>(
 fn is_short_of(problem: &Problem, goal: Option<u32>, doms: &Domains) -> bool
     requires belongs { BelongsTo problem.now doms.now }
     requires goal { (turn : Option Turn) × GoalFits problem.now turn goal }
-    ensures { IsTrue result ↔ HoldsFor problem.now goal (has_domain doms.now) Few }
+    ensures { IsTrue result ↔ Holds problem.now goal (has_domain doms.now) (Closing Few) }
 {
     match goal {
         Some(goal) => few_holds(problem, doms, goal),

@@ -13,7 +13,8 @@ use Rattle.rwsp_terms.specs.Instance.{Instance, IsDay, IsSymbol}
 use Rattle.rwsp_terms.specs.Rules.{rule_of, rules}
 use Rattle.rwsp_terms.specs.Weights.{ComesBefore, IsWeight}
 use Rattle.refutation_terms.specs.declared.lines.Line.{Line}
-use Rattle.refutation_terms.specs.declared.lines.Line.TheVariants.{Split, Day, Dead, Bound}
+use Rattle.refutation_terms.specs.declared.lines.Line.TheVariants.{Split, Closing}
+use Rattle.refutation_terms.specs.declared.lines.Leaf.TheVariants.{Day, Dead, Bound}
 use Rattle.refutation_terms.specs.declared.lines.Turn.{Turn}
 use Rattle.refutation_terms.specs.Tree.{IsLeaf, Tree, Leaf, Node, lines_in, IsTree, after_trees, Side, side, side_of, line_leaves, lines_leave, opening, domains_at}
 use Rattle.refutation_terms.specs.Log.{Log, AreRules, AreWeightsOf, LineFits, Fits}
@@ -119,9 +120,9 @@ weights_stay : (P : Instance) (r : Option Rule) (y : List Weight) → AreWeights
 weights_stay P (Some (TheRules.Day j)) y are = weights_filtered P (λ (e : Weight). not (e.day == j)) y are
 weights_stay P other y are = are
 
-pub line_fits_still : (P : Instance) (n : ℕ) (line : Line) → LineFits P line → LineFits P (strip_line P n line)
-line_fits_still P n (Dead p len R) h = (h.0, h.1, rules_stay P n R h.2)
-line_fits_still P n (Bound p turns R y) h = (h.0, h.1, rules_stay P n R h.2, weights_stay P (rule_of P n) y h.3)
+pub line_fits_still : (P : Instance) (n : ℕ) (line : Line) → LineFits P None line → LineFits P None (strip_line P n line)
+line_fits_still P n (Closing (Dead p len R)) h = (h.0, h.1, rules_stay P n R h.2)
+line_fits_still P n (Closing (Bound p turns R y)) h = (h.0, h.1, rules_stay P n R h.2, weights_stay P (rule_of P n) y h.3)
 line_fits_still P n line h = h
 
 pub fits_still : (P : Instance) (n : ℕ) (g : Log) → Fits P g → Fits P (strip P n g)
@@ -132,5 +133,5 @@ fits_still P n g fits = record {
   goal_fits = tt;
   lines = λ k line got.
       let old = line_before P n g.lines k line got in
-      subst (LineFits P) old.2 (line_fits_still P n old.0 (fits.lines k old.0 old.1));
+      subst (LineFits P None) old.2 (line_fits_still P n old.0 (fits.lines k old.0 old.1));
 }

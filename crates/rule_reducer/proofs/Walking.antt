@@ -7,7 +7,8 @@ use Rattle.std.proofs.lemmas.List.{take_more}
 use Rattle.std.proofs.lemmas.Option.{same_Some, slice_get_within, slice_get_read, get_or_from_slice_get}
 use Rattle.rwsp_terms.specs.Instance.{Instance}
 use Rattle.refutation_terms.specs.declared.lines.Line.{Line}
-use Rattle.refutation_terms.specs.declared.lines.Line.TheVariants.{Dead, Bound}
+use Rattle.refutation_terms.specs.declared.lines.Line.TheVariants.{Closing}
+use Rattle.refutation_terms.specs.declared.lines.Leaf.TheVariants.{Dead, Bound}
 use Rattle.refutation_terms.specs.declared.lines.Turn.{Turn}
 use Rattle.refutation_terms.specs.Word.{Domains}
 use Rattle.refutation_terms.specs.Tree.{opening, lines_leave, domains_at}
@@ -26,8 +27,8 @@ behind P turn lines k =
     let under : List Line → Domains = λ ls p z. opening P turn p z && lines_leave ls p z in
     ap under (take-length (take k lines))
 
-pub line_at : (P : Instance) (g : Log) (k : ℕ) (line : Line) → slice_get g.lines k ≡ Some line → Passes P g → Holds P (domains_at P g.turn (take k g.lines) (length (take k g.lines))) line
-line_at P g k line got passes = subst (λ D. Holds P D line) (sym (behind P g.turn g.lines k)) (passes.holds k line got)
+pub line_at : (P : Instance) (g : Log) (k : ℕ) (line : Line) → slice_get g.lines k ≡ Some line → Passes P g → Holds P None (domains_at P g.turn (take k g.lines) (length (take k g.lines))) line
+line_at P g k line got passes = subst (λ D. Holds P None D line) (sym (behind P g.turn g.lines k)) (passes.holds k line got)
 
 -- a line that is read at a place among the lines
 pub line_read : (lines seen : List Line) (i : ℕ) (line : Line) → seen ≡ lines → i < length lines → line ≡ get_or seen i line → slice_get lines i ≡ Some line
@@ -45,34 +46,34 @@ walked_more P turn lines i line w here state =
     subst (λ ls. IsStateOf P turn ls w) (sym more) state
 
 -- a dead or a bound leaf holds by its words
-by_words : (P : Instance) (D : Domains) (n : ℕ) (line : Line) → HasList line → HoldsByWords P D (strip_line P n line) ↔ Holds P D (strip_line P n line)
-by_words P D n (Dead p len R) has = (λ h. h, λ h. h)
-by_words P D n (Bound p turns R y) has = (λ h. h, λ h. h)
+by_words : (P : Instance) (D : Domains) (n : ℕ) (line : Line) → HasList line → HoldsByWords P None D (strip_line P n line) ↔ Holds P None D (strip_line P n line)
+by_words P D n (Closing (Dead p len R)) has = (λ h. h, λ h. h)
+by_words P D n (Closing (Bound p turns R y)) has = (λ h. h, λ h. h)
 by_words P D n line has = absurd has
 
-pub judged : (P : Instance) (D : Domains) (n : ℕ) (line : Line) (b : Bool) → HasList line → IsTrue b ↔ HoldsByWords P D (strip_line P n line)
-    → MatchBool (not b) (Holds P D (strip_line P n line) → ⊥) (Holds P D (strip_line P n line))
+pub judged : (P : Instance) (D : Domains) (n : ℕ) (line : Line) (b : Bool) → HasList line → IsTrue b ↔ HoldsByWords P None D (strip_line P n line)
+    → MatchBool (not b) (Holds P None D (strip_line P n line) → ⊥) (Holds P None D (strip_line P n line))
 judged P D n line true has h = (by_words P D n line has).0 (h.0 refl)
 judged P D n line false has h = λ holds. let no : false ≡ true = h.1 ((by_words P D n line has).1 holds) in cc
 
-pub refuses_here : (P : Instance) (D : Domains) (n : ℕ) (line stripped : Line) (b : Bool) → HasList line → stripped ≡ strip_line P n line → IsTrue b ↔ HoldsByWords P D stripped
-    → MatchBool (not b) (Holds P D (strip_line P n line) → ⊥) (Holds P D (strip_line P n line))
-refuses_here P D n line stripped b has same h = judged P D n line b has (subst (λ l. IsTrue b ↔ HoldsByWords P D l) same h)
+pub refuses_here : (P : Instance) (D : Domains) (n : ℕ) (line stripped : Line) (b : Bool) → HasList line → stripped ≡ strip_line P n line → IsTrue b ↔ HoldsByWords P None D stripped
+    → MatchBool (not b) (Holds P None D (strip_line P n line) → ⊥) (Holds P None D (strip_line P n line))
+refuses_here P D n line stripped b has same h = judged P D n line b has (subst (λ l. IsTrue b ↔ HoldsByWords P None D l) same h)
 
 -- the first i lines hold without the rule
 abbrev pub HoldWithout : Instance → ℕ → Log → ℕ → Type 0
-HoldWithout P n g i = (k : ℕ) (line : Line) → k < i → slice_get g.lines k ≡ Some line → Holds P (domains_at P g.turn g.lines k) (strip_line P n line)
+HoldWithout P n g i = (k : ℕ) (line : Line) → k < i → slice_get g.lines k ≡ Some line → Holds P None (domains_at P g.turn g.lines k) (strip_line P n line)
 
 pub holds_more : (P : Instance) (n : ℕ) (g : Log) (i : ℕ) (line : Line) → slice_get g.lines i ≡ Some line → HoldWithout P n g i
-    → Holds P (domains_at P g.turn (take i g.lines) (length (take i g.lines))) (strip_line P n line) → HoldWithout P n g (i + 1)
+    → Holds P None (domains_at P g.turn (take i g.lines) (length (take i g.lines))) (strip_line P n line) → HoldWithout P n g (i + 1)
 holds_more P n g i line here before holds k other less there =
     elim (cases_lt k i) [
       | inl lt ↦ before k other lt there
       | inr le ↦
           let same : k ≡ i = omega (arith, less, le) in
           let e : line ≡ other = same_Some line other (sym here ∙ ap (slice_get g.lines) (sym same) ∙ there) in
-          subst (λ j. Holds P (domains_at P g.turn g.lines j) (strip_line P n other)) (sym same)
-          (subst (λ l. Holds P (domains_at P g.turn g.lines i) (strip_line P n l)) e (subst (λ D. Holds P D (strip_line P n line)) (behind P g.turn g.lines i) holds))
+          subst (λ j. Holds P None (domains_at P g.turn g.lines j) (strip_line P n other)) (sym same)
+          (subst (λ l. Holds P None (domains_at P g.turn g.lines i) (strip_line P n l)) e (subst (λ D. Holds P None D (strip_line P n line)) (behind P g.turn g.lines i) holds))
     ]
 
 pub holds_all : (P : Instance) (n : ℕ) (g : Log) (i : ℕ) → length g.lines ≤ i → HoldWithout P n g i → HoldsWithout P n g
@@ -81,27 +82,27 @@ holds_all P n g i all h = λ k line got. h k line (omega (arith, slice_get_withi
 -- what the judging of a line tells of it, where it is next for the walk and holds
 abbrev pub Tells : Instance → ℕ → Line → State → Bool → Type 0
 Tells P n line w b =
-    (turn : Option Turn) (lines : List Line) → IsStateOf P turn lines w → Holds P (domains_at P turn lines (length lines)) line →
-    MatchBool b (Holds P (domains_at P turn lines (length lines)) (strip_line P n line) → ⊥) (Holds P (domains_at P turn lines (length lines)) (strip_line P n line))
+    (turn : Option Turn) (lines : List Line) → IsStateOf P turn lines w → Holds P None (domains_at P turn lines (length lines)) line →
+    MatchBool b (Holds P None (domains_at P turn lines (length lines)) (strip_line P n line) → ⊥) (Holds P None (domains_at P turn lines (length lines)) (strip_line P n line))
 
 pub told_of : (P Q : Instance) (n : ℕ) (line : Line) (w : State) (b : Bool) → Q ≡ P → Tells Q n line w b → Tells P n line w b
 told_of P Q n line w b same tells = subst (λ (X : Instance). Tells X n line w b) same tells
 
 pub refused_there : (P : Instance) (n : ℕ) (g : Log) (i : ℕ) (line : Line) → slice_get g.lines i ≡ Some line
-    → (Holds P (domains_at P g.turn (take i g.lines) (length (take i g.lines))) (strip_line P n line) → ⊥) → Passes P (strip P n g) → ⊥
+    → (Holds P None (domains_at P g.turn (take i g.lines) (length (take i g.lines))) (strip_line P n line) → ⊥) → Passes P (strip P n g) → ⊥
 refused_there P n g i line here fails passes =
-    fails (subst (λ D. Holds P D (strip_line P n line)) (sym (behind P g.turn g.lines i)) (line_without P n g i line here passes))
+    fails (subst (λ D. Holds P None D (strip_line P n line)) (sym (behind P g.turn g.lines i)) (line_without P n g i line here passes))
 
 pub tells_refusal : (P : Instance) (n : ℕ) (g : Log) (i : ℕ) (line : Line) (w : State) (b : Bool) → slice_get g.lines i ≡ Some line → Passes P g → IsStateOf P g.turn (take i g.lines) w
     → Tells P n line w b → b ≡ true → Passes P (strip P n g) → ⊥
 tells_refusal P n g i line w b here passes state tells so =
     let D = domains_at P g.turn (take i g.lines) (length (take i g.lines)) in
     refused_there P n g i line here
-    (subst (λ t. MatchBool t (Holds P D (strip_line P n line) → ⊥) (Holds P D (strip_line P n line))) so (tells g.turn (take i g.lines) state (line_at P g i line here passes)))
+    (subst (λ t. MatchBool t (Holds P None D (strip_line P n line) → ⊥) (Holds P None D (strip_line P n line))) so (tells g.turn (take i g.lines) state (line_at P g i line here passes)))
 
 pub tells_hold : (P : Instance) (n : ℕ) (g : Log) (i : ℕ) (line : Line) (w : State) (b : Bool) → slice_get g.lines i ≡ Some line → Passes P g → IsStateOf P g.turn (take i g.lines) w
     → Tells P n line w b → b ≡ false → HoldWithout P n g i → HoldWithout P n g (i + 1)
 tells_hold P n g i line w b here passes state tells no_refusal before =
     let D = domains_at P g.turn (take i g.lines) (length (take i g.lines)) in
     holds_more P n g i line here before
-    (subst (λ t. MatchBool t (Holds P D (strip_line P n line) → ⊥) (Holds P D (strip_line P n line))) no_refusal (tells g.turn (take i g.lines) state (line_at P g i line here passes)))
+    (subst (λ t. MatchBool t (Holds P None D (strip_line P n line) → ⊥) (Holds P None D (strip_line P n line))) no_refusal (tells g.turn (take i g.lines) state (line_at P g i line here passes)))

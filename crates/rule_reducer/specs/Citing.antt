@@ -4,13 +4,14 @@ use Rattle.rwsp_terms.specs.declared.data.Rule.{Rule}
 use Rattle.rwsp_terms.specs.Instance.{Instance}
 use Rattle.rwsp_terms.specs.Rules.{Names}
 use Rattle.refutation_terms.specs.declared.lines.Line.{Line}
-use Rattle.refutation_terms.specs.declared.lines.Line.TheVariants.{Window, Day, Dead, Bound}
+use Rattle.refutation_terms.specs.declared.lines.Line.TheVariants.{Closing}
+use Rattle.refutation_terms.specs.declared.lines.Leaf.TheVariants.{Window, Day, Dead, Bound}
 use Rattle.refutation_terms.specs.Log.{Log, Cites, TurnCites}
 
 -- a window or a day leaf, which rests on one rule by itself and not by a list
 abbrev pub is_plain : Line → Bool
-is_plain (Window number p len) = true
-is_plain (Day j x over) = true
+is_plain (Closing (Window number p len)) = true
+is_plain (Closing (Day j x over)) = true
 is_plain line = false
 
 -- one of the lines, a plain leaf or another line, cites the rule
@@ -30,6 +31,6 @@ pub record AreCited (P : Instance) (g : Log) (for_good in_lists : List ℕ) : Ty
 
 -- a dead or a bound leaf, which rests on a list of rules
 abbrev pub HasList : Line → Type 0
-HasList (Dead p len R) = Unit {0}
-HasList (Bound p turns R y) = Unit {0}
+HasList (Closing (Dead p len R)) = Unit {0}
+HasList (Closing (Bound p turns R y)) = Unit {0}
 HasList line = ⊥

@@ -27,14 +27,14 @@ fn is_plain(line: &Line) -> bool
     ensures { result ≡ is_plain line.now }
 {
     match line {
-        Line::Window { .. } | Line::Day { .. } => true,
+        Line::Closing(Leaf::Window { .. }) | Line::Closing(Leaf::Day { .. }) => true,
         _ => false,
     }
 }
 
 // Puts the rule that a plain leaf cites into the list.
 fn put_plain(rules: &mut RuleList, problem: &Problem, line: &Line) -> Result<(), AllocError>
-    requires { LineFits problem.now line.now }
+    requires { LineFits problem.now None line.now }
     ensures { OnOk result ((r : Rule) →
         Names problem.now rules.new r ↔
         (Names problem.now rules.old r ⊎ ((is_plain line.now ≡ true) × Cites problem.now line.now r))) }
@@ -47,7 +47,7 @@ fn put_plain(rules: &mut RuleList, problem: &Problem, line: &Line) -> Result<(),
 
 // Puts the rules that a line cites which is no plain leaf into the list.
 fn put_listed(rules: &mut RuleList, problem: &Problem, line: &Line) -> Result<(), AllocError>
-    requires { LineFits problem.now line.now }
+    requires { LineFits problem.now None line.now }
     ensures { OnOk result ((r : Rule) →
         Names problem.now rules.new r ↔
         (Names problem.now rules.old r ⊎ ((is_plain line.now ≡ false) × Cites problem.now line.now r))) }
@@ -65,7 +65,7 @@ fn put_all(
     problem: &Problem,
     lines: &[Line],
 ) -> Result<(), AllocError>
-    requires { (k : ℕ) (line : Line) → slice_get lines.now k ≡ Some line → LineFits problem.now line }
+    requires { (k : ℕ) (line : Line) → slice_get lines.now k ≡ Some line → LineFits problem.now None line }
     ensures plain { OnOk result ((r : Rule) →
         Names problem.now plain.new r ↔ (Names problem.now plain.old r ⊎ OneCites problem.now true lines.now r)) }
     ensures listed { OnOk result ((r : Rule) →

@@ -29,17 +29,17 @@ fn refuses(
     rule: Rule,
 ) -> Result<bool, AllocError>
     requires state { (turn : Option Turn) × (lines : List Line) × IsStateOf judge.old turn lines walk.now }
-    requires fits { LineFits judge.old line.now }
+    requires fits { LineFits judge.old None line.now }
     requires short { ListsShortOnly judge.old line.now }
     requires rule { rule_of judge.old number ≡ Some rule }
     ensures same { judge.new ≡ judge.old }
     ensures refuses { IfOk result (λ yes. (turn : Option Turn) (lines : List Line) →
         IsStateOf judge.old turn lines walk.now →
         let D = domains_at judge.old turn lines (length lines) in
-        Holds judge.old D line.now →
+        Holds judge.old None D line.now →
         MatchBool yes
-        (Holds judge.old D (strip_line judge.old number line.now) → ⊥)
-        (Holds judge.old D (strip_line judge.old number line.now))) }
+        (Holds judge.old None D (strip_line judge.old number line.now) → ⊥)
+        (Holds judge.old None D (strip_line judge.old number line.now))) }
 {
     if lists(line, number, rule) {
         let stripped = strip_line(alloc, line, number, rule)?;

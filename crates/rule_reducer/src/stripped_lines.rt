@@ -42,8 +42,8 @@ pub fn lists(line: &Line, number: u32, rule: Rule) -> bool
         rule_of P number ≡ Some rule → strip_line P number line.now ≡ line.now }
 {
     match line {
-        Line::Dead { rules, .. } => rules.holds(number),
-        Line::Bound { rules, weights, .. } => {
+        Line::Closing(Leaf::Dead { rules, .. }) => rules.holds(number),
+        Line::Closing(Leaf::Bound { rules, weights, .. }) => {
             if rules.holds(number) {
                 return true;
             }
@@ -59,28 +59,28 @@ pub fn strip_line(alloc: Global, line: &Line, number: u32, rule: Rule) -> Result
         rule_of P number ≡ Some rule → kept ≡ strip_line P number line.now) }
 {
     match line {
-        Line::Dead { p, len, rules } => {
+        Line::Closing(Leaf::Dead { p, len, rules }) => {
             let rules = without(alloc, rules, number)?;
-            Ok(Line::Dead {
+            Ok(Line::Closing(Leaf::Dead {
                 p: *p,
                 len: *len,
                 rules,
-            })
+            }))
         }
-        Line::Bound {
+        Line::Closing(Leaf::Bound {
             p,
             turns,
             rules,
             weights,
-        } => {
+        }) => {
             let rules = without(alloc, rules, number)?;
             let weights = weights_without(alloc, weights, rule)?;
-            Ok(Line::Bound {
+            Ok(Line::Closing(Leaf::Bound {
                 p: *p,
                 turns: *turns,
                 rules,
                 weights,
-            })
+            }))
         }
         _ => copy_line(line),
     }

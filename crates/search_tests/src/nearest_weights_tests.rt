@@ -23,12 +23,12 @@ fn weight(symbol: Symbol, value: i32) -> Weight {
 fn position(leaf: &Line) -> u32 {
     let wanted = [weight(OFF, -1), weight(D, 1)];
     match leaf {
-        Line::Bound {
+        Line::Closing(Leaf::Bound {
             p,
             turns,
             weights,
             ..
-        } => {
+        }) => {
             if *turns == 1 && weights.entries() == wanted.as_slice() {
                 *p
             } else {

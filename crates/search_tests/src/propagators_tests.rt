@@ -47,10 +47,10 @@ pub enum Kind {
 fn seen_in(look: &Look) -> Seen {
     match look {
         Look::Quiet => Seen::Quiet,
-        Look::Closed(Line::Window { len, .. }) => Seen::Window(*len),
-        Look::Closed(Line::Day { x, .. }) => Seen::Day(x.number),
-        Look::Closed(Line::Dead { len, .. }) => Seen::Dead(*len),
-        Look::Closed(Line::Bound { .. }) => Seen::Bound,
+        Look::Closed(Line::Closing(Leaf::Window { len, .. })) => Seen::Window(*len),
+        Look::Closed(Line::Closing(Leaf::Day { x, .. })) => Seen::Day(x.number),
+        Look::Closed(Line::Closing(Leaf::Dead { len, .. })) => Seen::Dead(*len),
+        Look::Closed(Line::Closing(Leaf::Bound { .. })) => Seen::Bound,
         Look::Closed(_) => Seen::Other,
         Look::Cut { p, x, .. } => Seen::Cut(*p, x.number),
     }

@@ -23,6 +23,6 @@ step-requires-clause-useful c =
     let E = domains_at P turn lines (length lines) in
     let D = has_domain c.domains.result.now in
     let same = c.domains.ensures.has P turn lines state in
-    let holds : Holds P D line = same_holds P E D line (some_cells P c.prove_limits.ensures) c.requires.fits (turned_round P D E same) c.requires.holds.3 in
+    let holds : Holds P None D line = same_holds P E D line (some_cells P c.prove_limits.ensures) c.requires.fits (turned_round P D E same) c.requires.holds.3 in
     may_step P None S line now tests state.belongs (positions_of P S now state.belongs) c.requires.fits
-    (subst (λ T. Holds P (has_domain T) line) here holds)
+    (subst (λ T. Holds P None (has_domain T) line) here holds)

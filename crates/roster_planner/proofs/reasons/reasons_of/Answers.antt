@@ -1,7 +1,8 @@
 -- The four as one, made with the opening domains.
 use Rattle.std.proofs.Common.{◌∙◌, sym, [], inl, inr}
 use Rattle.rwsp_model.proofs.Limits.{some_cells}
-use Rattle.refutation_terms.specs.declared.lines.Line.TheVariants.{Window, Day}
+use Rattle.refutation_terms.specs.declared.lines.Line.TheVariants.{Closing}
+use Rattle.refutation_terms.specs.declared.lines.Leaf.TheVariants.{Window, Day}
 use Rattle.refutation_terms.specs.Word.{AreSame}
 use Rattle.refutation_terms.specs.Tree.{opening}
 use Rattle.refutation_terms.proofs.SameDomains.{turned_round}
@@ -32,8 +33,8 @@ returns-clause-reasons g c =
         rules = cases.rules;
         short = cases.short;
         plain = record {
-          windows = λ S number p len fits. (c.new-2.ensures.leaves S (Window number p len)).1 (inl (cases.plain.windows S number p len fits));
-          days = λ S j x over fits. (c.new-2.ensures.leaves S (Day j x over)).1 (inl (cases.plain.days S j x over fits));
+          windows = λ S number p len fits. (c.new-2.ensures.leaves S (Closing (Window number p len))).1 (inl (cases.plain.windows S number p len fits));
+          days = λ S j x over fits. (c.new-2.ensures.leaves S (Closing (Day j x over))).1 (inl (cases.plain.days S j x over fits));
         };
         cycle = λ S line is. (c.new-2.ensures.leaves S line).1 (inl (cases.cycle S line is));
         taken = λ S p x. (

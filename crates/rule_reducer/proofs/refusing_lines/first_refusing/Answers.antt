@@ -16,7 +16,7 @@ pub refuses-requires-clause-fits : goal.refuses-requires-clause-fits
 refuses-requires-clause-fits c =
     let g = c.args.log.now in
     let line = c.index-lines-i.result in
-    subst (λ (P : Instance). LineFits P line) (sym c.loop-i.invariant.problem)
+    subst (λ (P : Instance). LineFits P None line) (sym c.loop-i.invariant.problem)
     (c.requires.passes.grounded.fits.lines c.loop-i.i line (line_read g.lines _ c.loop-i.i line c.lines-lines.ensures (omega (arith, ap length c.lines-lines.ensures)) c.index-lines-i.is))
 
 pub refuses-requires-clause-short : goal.refuses-requires-clause-short

@@ -9,7 +9,7 @@ use Rattle.rule_reducer.proofs.refusing_lines.refuses.Goals as goal
 pub holds-judged-requires-clause-fits : goal.holds-judged-requires-clause-fits
 holds-judged-requires-clause-fits c =
     let P = c.args.judge.now in
-    subst (LineFits P) (sym (c.in_ok-stripped.ensures P c.requires.rule)) (line_fits_still P c.args.number c.args.line.now c.requires.fits)
+    subst (LineFits P None) (sym (c.in_ok-stripped.ensures P c.requires.rule)) (line_fits_still P c.args.number c.args.line.now c.requires.fits)
 
 pub holds-judged-requires-clause-short : goal.holds-judged-requires-clause-short
 holds-judged-requires-clause-short c =
@@ -27,4 +27,4 @@ pub returns-clause-refuses : goal.returns-clause-refuses
 returns-clause-refuses c =
     λ turn lines state holds.
     let P = c.args.judge.now in
-    subst (Holds P (domains_at P turn lines (length lines))) (sym (c.lists.ensures.same c.if-lists.false P c.requires.rule)) holds
+    subst (Holds P None (domains_at P turn lines (length lines))) (sym (c.lists.ensures.same c.if-lists.false P c.requires.rule)) holds

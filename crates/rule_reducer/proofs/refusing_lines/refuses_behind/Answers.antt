@@ -16,7 +16,7 @@ refuses-refused-requires-clause-state c =
 pub refuses-refused-requires-clause-fits : goal.refuses-refused-requires-clause-fits
 refuses-refused-requires-clause-fits c =
     let line = c.index-lines-place.result in
-    subst (λ (P : Instance). LineFits P line) (sym c.new-judge.ensures)
+    subst (λ (P : Instance). LineFits P None line) (sym c.new-judge.ensures)
     (c.requires.passes.grounded.fits.lines c.args.place line (line_read c.args.log.now.lines _ c.args.place line c.lines-lines.ensures c.requires.place c.index-lines-place.is))
 
 pub refuses-refused-requires-clause-short : goal.refuses-refused-requires-clause-short

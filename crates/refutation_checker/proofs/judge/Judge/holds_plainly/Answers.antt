@@ -5,7 +5,7 @@ use Rattle.rwsp_terms.specs.Instance.{Instance}
 use Rattle.refutation_terms.specs.declared.lines.Line.{Line}
 use Rattle.refutation_terms.specs.Leaf.{IsDead}
 use Rattle.domain_store.specs.Store.{has_domain}
-use Rattle.refutation_checker.specs.LineVerdicts.{HoldsByWordsFor}
+use Rattle.refutation_checker.specs.LineVerdicts.{HoldsByWords}
 use Rattle.refutation_checker.specs.LineTexts.{Judging}
 use Rattle.refutation_checker.proofs.judge.Judge.holds_plainly.Goals as goal
 
@@ -18,4 +18,4 @@ returns-clause-plain c =
     let of_list : F tails.problem c.in-Dead.rules = subst (F tails.problem) c.in_ok-tails.ensures.rules c.is_plainly_dead-plain.ensures in
     let of_problem : F c.self.inside.problem.now c.in-Dead.rules = subst (λ (P : Instance). F P c.in-Dead.rules) c.in_ok-tails.ensures.problem of_list in
     let here : F j.problem c.in-Dead.rules = subst (λ (i : Judging). F i.problem c.in-Dead.rules) c.self.view_is of_problem in
-    subst (λ (line : Line). IfOk c.is_plainly_dead-plain.result (λ plain. IsTrue plain → HoldsByWordsFor j.problem j.goal D line)) (sym c.in-Dead.is) here
+    subst (λ (line : Line). IfOk c.is_plainly_dead-plain.result (λ plain. IsTrue plain → HoldsByWords j.problem j.goal D line)) (sym c.in-Dead.is) here

@@ -5,7 +5,7 @@ use Rattle.refutation_terms.specs.Word.{AreSame}
 use Rattle.refutation_terms.specs.Tree.{domains_at}
 use Rattle.refutation_terms.specs.Log.{GoalFits}
 use Rattle.domain_store.specs.Store.{Store, IsStore, HasDomains, has_domain}
-use Rattle.refutation_checker.specs.LineVerdicts.{IsSoundFor}
+use Rattle.refutation_checker.specs.LineVerdicts.{IsSoundLine}
 use Rattle.refutation_checker.specs.LineTexts.{Judging}
 use Rattle.refutation_checker.proofs.Judging.{same_cause, same_sound, may_step}
 use Rattle.refutation_checker.proofs.judge.Judge.pass.Goals as goal
@@ -31,8 +31,8 @@ step-requires-clause-useful c =
     let now : IsStore S = subst IsStore here c.prove_facts.ensures.now in
     let tests : HasDomains S = subst HasDomains here c.prove_facts.ensures.tests in
     let state = c.requires.state.2 in
-    let sound : IsSoundFor P c.args.self.now.goal c.args.self.now.named (has_domain S) c.args.line.now =
-    subst (λ (T : Store). IsSoundFor P c.args.self.now.goal c.args.self.now.named (has_domain T) c.args.line.now) c.domains-2.ensures.value (rw c.in_default.is at c.in_ok-why.ensures.cause) in
+    let sound : IsSoundLine P c.args.self.now.goal c.args.self.now.named (has_domain S) c.args.line.now =
+    subst (λ (T : Store). IsSoundLine P c.args.self.now.goal c.args.self.now.named (has_domain T) c.args.line.now) c.domains-2.ensures.value (rw c.in_default.is at c.in_ok-why.ensures.cause) in
     may_step P c.args.self.now.goal S c.args.line.now now tests state.belongs (positions_of P S now state.belongs) c.requires.line sound.holds
 
 pub returns-clause-passed : goal.returns-clause-passed

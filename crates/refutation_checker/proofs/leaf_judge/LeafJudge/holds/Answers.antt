@@ -2,18 +2,18 @@
 use Rattle.std.proofs.Common.{ℕ, Option, None, length, subst, sym}
 use Rattle.rwsp_terms.specs.Instance.{Instance}
 use Rattle.refutation_terms.specs.Tree.{domains_at}
-use Rattle.refutation_terms.specs.Log.{LineFits, LineFitsFor}
-use Rattle.refutation_terms.specs.Verdict.{Escapes, EscapesFor}
+use Rattle.refutation_terms.specs.Log.{LineFits}
+use Rattle.refutation_terms.specs.Verdict.{Escapes}
 use Rattle.domain_store.specs.Store.{has_domain}
-use Rattle.refutation_checker.specs.LineVerdicts.{HoldsByWordsFor}
+use Rattle.refutation_checker.specs.LineVerdicts.{HoldsByWords}
 use Rattle.refutation_checker.proofs.LeafJudging.{by_words, holds_there, fails_there}
 use Rattle.refutation_checker.proofs.leaf_judge.LeafJudge.holds.Goals as goal
 
 pub leaf_escape-requires-clause-line : goal.leaf_escape-requires-clause-line
 leaf_escape-requires-clause-line c =
     let leaf = c.args.leaf.now in
-    subst (λ (o : Option ℕ). LineFitsFor c.self.inside.judge.problem o leaf) (sym c.self.invariant)
-    (subst (λ (Q : Instance). LineFits Q leaf) (sym c.self.view_is) c.requires.fits)
+    subst (λ (o : Option ℕ). LineFits c.self.inside.judge.problem o leaf) (sym c.self.invariant)
+    (subst (λ (Q : Instance). LineFits Q None leaf) (sym c.self.view_is) c.requires.fits)
 
 pub returns-in-Some-clause-holds : goal.returns-in-Some-clause-holds
 returns-in-Some-clause-holds c =
@@ -23,8 +23,8 @@ returns-in-Some-clause-holds c =
     let leaf = c.args.leaf.now in
     let word = c.in-Some._word in
     fails_there P D (domains_at P turn lines (length lines)) leaf word c.requires.fits (c.domains.ensures.has P turn lines state)
-    (subst (λ (Q : Instance). Escapes Q D leaf word) c.self.view_is
-    (subst (λ (o : Option ℕ). EscapesFor c.self.inside.judge.problem o D leaf word) c.self.invariant (rw c.in-Some.is at c.in_ok-_word.ensures.escape)))
+    (subst (λ (Q : Instance). Escapes Q None D leaf word) c.self.view_is
+    (subst (λ (o : Option ℕ). Escapes c.self.inside.judge.problem o D leaf word) c.self.invariant (rw c.in-Some.is at c.in_ok-_word.ensures.escape)))
 
 pub returns-clause-holds : goal.returns-clause-holds
 returns-clause-holds c =
@@ -34,5 +34,5 @@ returns-clause-holds c =
     let leaf = c.args.leaf.now in
     holds_there P D (domains_at P turn lines (length lines)) leaf c.requires.fits (c.domains.ensures.has P turn lines state)
     (by_words P D leaf c.requires.fits
-    (subst (λ (Q : Instance). HoldsByWordsFor Q None D leaf) c.self.view_is
-    (subst (λ (o : Option ℕ). HoldsByWordsFor c.self.inside.judge.problem o D leaf) c.self.invariant (rw c.in_default.is at c.in_ok-_word.ensures.escape))))
+    (subst (λ (Q : Instance). HoldsByWords Q None D leaf) c.self.view_is
+    (subst (λ (o : Option ℕ). HoldsByWords c.self.inside.judge.problem o D leaf) c.self.invariant (rw c.in_default.is at c.in_ok-_word.ensures.escape))))

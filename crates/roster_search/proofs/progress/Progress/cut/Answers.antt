@@ -7,7 +7,7 @@ use Rattle.domain_store.specs.Store.{Store, IsStore, BelongsTo, has_domain}
 use Rattle.refutation_terms.specs.declared.lines.Line.{Line}
 use Rattle.refutation_terms.specs.declared.lines.Line.TheVariants.{Split}
 use Rattle.refutation_terms.specs.Tree.{domains_at, narrowed, First}
-use Rattle.domain_store.specs.Leaves.{IsHoldingLeafFor}
+use Rattle.domain_store.specs.Leaves.{IsHoldingLeaf}
 use Rattle.domain_store.proofs.Idle.{positions_of, idle_in_store}
 use Rattle.roster_search.specs.declared.aim.Aim.{Aim}
 use Rattle.roster_search.specs.Written.{IsSplitWithLeaf}
@@ -41,7 +41,7 @@ close-requires-clause-leaf c =
     let D = has_domain a.walk.store in
     let cut = Split c.args.p c.args.x in
     let all : List Line = a.lines.items ++ cut ∷ [] in
-    let HoldsBehind : Aim → List Line → Type 0 = λ m ls. IsHoldingLeafFor P m.goal (domains_at P m.turn ls (length ls)) c.args.line in
+    let HoldsBehind : Aim → List Line → Type 0 = λ m ls. IsHoldingLeaf P m.goal (domains_at P m.turn ls (length ls)) c.args.line in
     let there : HoldsBehind a.aim all =
     same_leaf P a.aim.turn a.aim.goal (narrowed D cut First) (domains_at P a.aim.turn all (length all)) c.args.line (some_cells P c.prove_limits.ensures) c.requires.written.goal_fits
     (first_side P a.aim.turn a.lines.items D c.args.p c.args.x (c.prove_domains.ensures.same P c.requires.written))
