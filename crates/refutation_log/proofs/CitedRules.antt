@@ -17,6 +17,7 @@ use Rattle.rwsp_model.proofs.Numbering.{one_number, number_at_place}
 use Rattle.rwsp_model.specs.RuleNumbers.{place_of}
 use Rattle.refutation_terms.specs.declared.lines.Line.{Line}
 use Rattle.refutation_terms.specs.declared.lines.Line.TheVariants.{Closing}
+use Rattle.refutation_terms.specs.declared.lines.Leaf.{Leaf}
 use Rattle.refutation_terms.specs.declared.lines.Leaf.TheVariants.{Window, Day as DayLeaf, Dead, Bound, Free}
 use Rattle.refutation_terms.specs.declared.lines.Turn.{Turn}
 use Rattle.refutation_terms.specs.Log.{LineFits, Cites, TurnCites, HasWeight, AreRules, WeightsFit}
@@ -32,10 +33,6 @@ rule_there P (suc k) some within = (get_or (rules P) k MaxOff, slice_get-get_or 
 -- A k is what makes k the number of a rule that the line cites
 abbrev pub TellsCited : Instance → Line → (ℕ → Type 0) → Type 0
 TellsCited P line A = (k : ℕ) → A k ↔ IsCited P (Cites P line) k
-
-pub cited_along : (P : Instance) (line base : Line) (A : ℕ → Type 0) → line ≡ base → (LineFits P None base → TellsCited P base A) → LineFits P None line → TellsCited P line A
-cited_along P line base A e f fits =
-    subst (λ (l : Line). TellsCited P l A) (sym e) (f (subst (LineFits P None) e fits))
 
 in_one : (n k : ℕ) → Contains (n ∷ []) k → k ≡ n
 in_one n k c =
@@ -59,7 +56,7 @@ cited_named P R k r e named = subst (Contains R) (one_number P named.0 k r named
 pub dead_cited : (P : Instance) (p len : ℕ) (R : List ℕ) → LineFits P None (Closing (Dead p len R)) → TellsCited P (Closing (Dead p len R)) (Contains R)
 dead_cited P p len R fits k = (λ c. named_cited P R k fits.2 c, λ q. cited_named P R k q.0 q.1 q.2)
 
-pub day_cited : (P : Instance) (j : ℕ) (x : Symbol) (over : Bool) → LineFits P None (DayLeaf j x over) → TellsCited P (DayLeaf j x over) (IsDayRule P j)
+pub day_cited : (P : Instance) (j : ℕ) (x : Symbol) (over : Bool) → LineFits P None (Closing (DayLeaf j x over)) → TellsCited P (Closing (DayLeaf j x over)) (IsDayRule P j)
 day_cited P j x over fits k = (λ e. (Day j, e, refl), λ q. q.1 ∙ ap (λ (r : Rule). Some r) q.2)
 
 pub turn_cited : (P : Instance) (t : Turn) (k : ℕ) → IsDayRule P t.day k ↔ IsCited P (TurnCites (Some t)) k
@@ -141,16 +138,25 @@ bound_cited P p turns R y fits k = weighed_cited P R y fits.2 fits.3.0 k
 pub free_cited : (P : Instance) (turns reward : ℕ) (R : List ℕ) (y : List Weight) → FitsSomeLog P (Closing (Free turns reward R y)) → TellsCited P (Closing (Free turns reward R y)) (ListedOrWeighed P R y)
 free_cited P turns reward R y fits k = weighed_cited P R y fits.2 fits.3.0 k
 
--- the numbers that are added are those that a line cites, of a log with a goal or without
-cited_in_some : (P : Instance) (line base : Line) (A : ℕ → Type 0) → line ≡ base → (FitsSomeLog P base → TellsCited P base A) → FitsSomeLog P line → TellsCited P line A
-cited_in_some P line base A e f fits =
-    subst (λ (l : Line). TellsCited P l A) (sym e) (f (subst (FitsSomeLog P) e fits))
+-- the numbers that are added are those that a leaf cites, of a log with a goal or without
+abbrev FitsLeaf : Instance → Leaf → Type 0
+FitsLeaf P leaf = FitsSomeLog P (Closing leaf)
 
-pub adds_cited : {T E : Type 0} (P : Instance) (line base : Line) (A : ℕ → Type 0) (r : Result T E) (old new : List ℕ) → line ≡ base → (FitsSomeLog P base → TellsCited P base A) → FitsSomeLog P line → OnOk r (Adds old new A) → OnOk r (Adds old new (IsCited P (Cites P line)))
-adds_cited P line base A r old new e tells fits = on_ok r (Adds old new A) (Adds old new (IsCited P (Cites P line))) (λ h. adds_same old new A (IsCited P (Cites P line)) h (cited_in_some P line base A e tells fits))
+abbrev TellsLeaf : Instance → Leaf → (ℕ → Type 0) → Type 0
+TellsLeaf P leaf A = TellsCited P (Closing leaf) A
 
-pub adds_some_cited : {T E : Type 0} (P : Instance) (line base : Line) (A : ℕ → Type 0) (r : Result T E) (old new : List ℕ) → line ≡ base → (FitsSomeLog P base → TellsCited P base A) → FitsSomeLog P line → OnErr r (AddsSome old new A) → OnErr r (AddsSome old new (IsCited P (Cites P line)))
-adds_some_cited P line base A r old new e tells fits = on_err r (AddsSome old new A) (AddsSome old new (IsCited P (Cites P line))) (λ h. some_same old new A (IsCited P (Cites P line)) h (cited_in_some P line base A e tells fits))
+abbrev IsLeafCited : Instance → Leaf → ℕ → Type 0
+IsLeafCited P leaf = IsCited P (Cites P (Closing leaf))
+
+cited_in_some : (P : Instance) (leaf base : Leaf) (A : ℕ → Type 0) → leaf ≡ base → (FitsLeaf P base → TellsLeaf P base A) → FitsLeaf P leaf → TellsLeaf P leaf A
+cited_in_some P leaf base A e f fits =
+    subst (λ (l : Leaf). TellsLeaf P l A) (sym e) (f (subst (FitsLeaf P) e fits))
+
+pub adds_cited : {T E : Type 0} (P : Instance) (leaf base : Leaf) (A : ℕ → Type 0) (r : Result T E) (old new : List ℕ) → leaf ≡ base → (FitsLeaf P base → TellsLeaf P base A) → FitsLeaf P leaf → OnOk r (Adds old new A) → OnOk r (Adds old new (IsLeafCited P leaf))
+adds_cited P leaf base A r old new e tells fits = on_ok r (Adds old new A) (Adds old new (IsLeafCited P leaf)) (λ h. adds_same old new A (IsLeafCited P leaf) h (cited_in_some P leaf base A e tells fits))
+
+pub adds_some_cited : {T E : Type 0} (P : Instance) (leaf base : Leaf) (A : ℕ → Type 0) (r : Result T E) (old new : List ℕ) → leaf ≡ base → (FitsLeaf P base → TellsLeaf P base A) → FitsLeaf P leaf → OnErr r (AddsSome old new A) → OnErr r (AddsSome old new (IsLeafCited P leaf))
+adds_some_cited P leaf base A r old new e tells fits = on_err r (AddsSome old new A) (AddsSome old new (IsLeafCited P leaf)) (λ h. some_same old new A (IsLeafCited P leaf) h (cited_in_some P leaf base A e tells fits))
 
 -- names
 
@@ -182,7 +188,7 @@ weighed_numbered P R y fit r c =
 
 pub some_numbered : (P : Instance) (line : Line) → FitsSomeLog P line → (r : Rule) → Cites P line r → (k : ℕ) × (rule_of P k ≡ Some r)
 some_numbered P (Closing (Window number p len)) fits r c = (c.0, c.2)
-some_numbered P (DayLeaf j x over) fits r c = day_numbered P j r fits.0 c
+some_numbered P (Closing (DayLeaf j x over)) fits r c = day_numbered P j r fits.0 c
 some_numbered P (Closing (Dead p len R)) fits r c = (c.0, c.2)
 some_numbered P (Closing (Bound p turns R y)) fits r c = weighed_numbered P R y fits.3.1 r c
 some_numbered P (Closing (Free turns reward R y)) fits r c = weighed_numbered P R y fits.3.1 r c

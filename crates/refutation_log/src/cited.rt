@@ -7,7 +7,7 @@ ghost use Rattle.refutation_terms.specs.Log.{LineFits, Cites, TurnCites, Weights
 ghost use Rattle.refutation_log.specs.Printing.{FitsSomeLog};
 ghost use Rattle.refutation_log.specs.Cited.{Adds, AddsSome, IsCited, IsDayRule, IsWeighedDayRule};
 
-use refutation_terms::{Line, Turn};
+use refutation_terms::{Leaf, Line, Turn};
 use rwsp_model::{Problem, number_of};
 use rwsp_terms::{Rule, RuleList, Weights};
 use std::alloc::AllocError;
@@ -41,20 +41,33 @@ fn put_line_cited(rules: &mut RuleList, problem: &Problem, line: &Line) -> Resul
     ensures err { OnErr result (AddsSome rules.old rules.new (IsCited problem.now (Cites problem.now line.now))) }
 {
     match line {
-        Line::Split { .. } | Line::Closing(Leaf::Few) | Line::Unfinished => Ok(()),
-        Line::Closing(Leaf::Window { rule, .. }) => rules.put(*rule),
-        Line::Closing(Leaf::Day { day, .. }) => put_day_rule(rules, problem, *day),
-        Line::Closing(Leaf::Dead { rules: cited, .. }) => put_all(rules, cited),
-        Line::Closing(Leaf::Bound {
+        Line::Split { .. } | Line::Unfinished => Ok(()),
+        Line::Closing(leaf) => put_leaf_cited(rules, problem, leaf),
+    }
+}
+
+fn put_leaf_cited(rules: &mut RuleList, problem: &Problem, leaf: &Leaf) -> Result<(), AllocError>
+    requires { FitsSomeLog problem.now (Line.Closing leaf.now) }
+    ensures ok { OnOk result (Adds rules.old rules.new
+        (IsCited problem.now (Cites problem.now (Line.Closing leaf.now)))) }
+    ensures err { OnErr result (AddsSome rules.old rules.new
+        (IsCited problem.now (Cites problem.now (Line.Closing leaf.now)))) }
+{
+    match leaf {
+        Leaf::Few => Ok(()),
+        Leaf::Window { rule, .. } => rules.put(*rule),
+        Leaf::Day { day, .. } => put_day_rule(rules, problem, *day),
+        Leaf::Dead { rules: cited, .. } => put_all(rules, cited),
+        Leaf::Bound {
             rules: cited,
             weights,
             ..
-        }) => put_cited_of_bound(rules, problem, cited, weights),
-        Line::Closing(Leaf::Free {
+        } => put_cited_of_bound(rules, problem, cited, weights),
+        Leaf::Free {
             rules: cited,
             weights,
             ..
-        }) => put_cited_of_bound(rules, problem, cited, weights),
+        } => put_cited_of_bound(rules, problem, cited, weights),
     }
 }
 

@@ -29,6 +29,6 @@ pub use log::{Log, copy_line};
 pub use print::{print_free, print_log};
 pub use read::read_log;
 pub use refusal::LineRefusal;
-pub use refutation_terms::{Line, LogRefusal, Turn};
+pub use refutation_terms::{Leaf, Line, LogRefusal, Turn};
 pub use rwsp_text::LineReader;
 pub use turn::first_turn;

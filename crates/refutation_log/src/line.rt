@@ -16,7 +16,7 @@ ghost use Rattle.refutation_log.specs.Gathering.{GivesAll, IsWeighed};
 
 use crate::LineRefusal;
 use crate::gather::{Gathered, add};
-use refutation_terms::Line;
+use refutation_terms::{Leaf, Line};
 use rwsp_model::{Fail, Problem, rule_count};
 use rwsp_terms::limits::{GREATEST_REWARD, GREATEST_WEIGHT, LONGEST_WORD};
 use rwsp_terms::{RuleList, Weights};

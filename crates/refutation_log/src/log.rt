@@ -3,7 +3,7 @@ ghost use Rattle.std.specs.Prelude.{◌≡◌, ◌≤◌, length, Option, Some, 
 ghost use Rattle.rwsp_terms.specs.declared.limits.TheConstants.{MOST_LINES};
 ghost use Rattle.refutation_terms.specs.Tree.{IsTree};
 
-use refutation_terms::{Line, Turn};
+use refutation_terms::{Leaf, Line, Turn};
 use rwsp_terms::RuleList;
 use std::alloc::{AllocError, Global};
 use std::marker::Model;
@@ -155,12 +155,14 @@ pub fn copy_line(line: &Line) -> Result<Line, AllocError>
                 rules,
             }))
         }
-        Line::Closing(Leaf::Bound {
-            p,
-            turns,
-            rules,
-            weights,
-        }) => {
+        Line::Closing(
+            Leaf::Bound {
+                p,
+                turns,
+                rules,
+                weights,
+            },
+        ) => {
             let rules = rules.copy()?;
             let weights = weights.copy()?;
             Ok(Line::Closing(Leaf::Bound {
@@ -171,12 +173,14 @@ pub fn copy_line(line: &Line) -> Result<Line, AllocError>
             }))
         }
         Line::Closing(Leaf::Few) => Ok(Line::Closing(Leaf::Few)),
-        Line::Closing(Leaf::Free {
-            turns,
-            reward,
-            rules,
-            weights,
-        }) => {
+        Line::Closing(
+            Leaf::Free {
+                turns,
+                reward,
+                rules,
+                weights,
+            },
+        ) => {
             let rules = rules.copy()?;
             let weights = weights.copy()?;
             Ok(Line::Closing(Leaf::Free {

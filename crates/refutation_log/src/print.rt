@@ -12,7 +12,7 @@ ghost use Rattle.rwsp_text.specs.Fields.{numbers, weight_fields};
 ghost use Rattle.refutation_log.specs.Printing.{spaced, lines_text, weight_words, header_text_for, FitsSomeLog};
 
 use crate::Log;
-use refutation_terms::{Line, Turn};
+use refutation_terms::{Leaf, Line, Turn};
 use rwsp_model::Problem;
 use rwsp_terms::{Symbol, Weight};
 use rwsp_text::{put_number, put_signed};
@@ -142,20 +142,30 @@ fn put_fields(out: &mut Vec<u8>, problem: &Problem, line: &Line) -> Result<(), A
         Line::Split { p, x } => put_split(out, problem, *p, *x),
         Line::Closing(Leaf::Window { rule, p, len }) => put_window(out, problem, *rule, *p, *len),
         Line::Closing(Leaf::Day { day, x, over }) => put_day(out, problem, *day, *x, *over),
-        Line::Closing(Leaf::Dead { p, len, rules }) => put_dead(out, problem, *p, *len, rules.numbers()),
-        Line::Closing(Leaf::Bound {
-            p,
-            turns,
-            rules,
-            weights,
-        }) => put_bound(out, problem, *p, *turns, rules.numbers(), weights.entries()),
+        Line::Closing(Leaf::Dead { p, len, rules }) => put_dead(
+            out,
+            problem,
+            *p,
+            *len,
+            rules.numbers(),
+        ),
+        Line::Closing(
+            Leaf::Bound {
+                p,
+                turns,
+                rules,
+                weights,
+            },
+        ) => put_bound(out, problem, *p, *turns, rules.numbers(), weights.entries()),
         Line::Closing(Leaf::Few) => out.extend_from_slice(b"few"),
-        Line::Closing(Leaf::Free {
-            turns,
-            reward,
-            rules,
-            weights,
-        }) => put_free(
+        Line::Closing(
+            Leaf::Free {
+                turns,
+                reward,
+                rules,
+                weights,
+            },
+        ) => put_free(
             out,
             problem,
             *turns,
