@@ -7,7 +7,7 @@ ghost use Rattle.refutation_terms.specs.declared.lines.Leaf.TheVariants.{Bound, 
 ghost use Rattle.refutation_terms.specs.Leaf.{IsTooLight};
 ghost use Rattle.refutation_terms.specs.FreeLeaves.{IsTooLightFree};
 ghost use Rattle.refutation_terms.specs.Log.{Holds};
-ghost use Rattle.refutation_terms.specs.Verdict.{Escapes, EscapesFree};
+ghost use Rattle.refutation_terms.specs.Verdict.{Escapes};
 ghost use Rattle.domain_store.specs.Store.{BelongsTo, has_domain};
 ghost use Rattle.potential_bounds.specs.Claims.{claimed, IsClaimOf};
 
@@ -129,7 +129,7 @@ pub fn free_escape(
         let reward = claim.entry.reward in let y = claim.entry.weights.now in
         IfOk result (λ found. MatchOption found
         (IsTooLightFree P goal D turns reward R y)
-        (EscapesFree P goal D (Closing (Free turns reward R y)))) }
+        (Escapes P (Some goal) D (Closing (Free turns reward R y)))) }
 {
     automaton.problem().prove_limits();
     let claim = Claim {
