@@ -5,6 +5,9 @@ use Rattle.rwsp_text.specs.Fields.{Words, text_of}
 use Rattle.rwsp_text.specs.Lines.{text_of_lines, AreLines, AreFronts}
 use Rattle.rwsp_text.proofs.LineLaws.{same_lines}
 use Rattle.rwsp_terms.specs.Instance.{Instance, name_of}
+use Rattle.refutation_terms.specs.declared.lines.Version.{Version}
+use Rattle.refutation_terms.specs.declared.lines.Version.TheVariants.{Version1, Version2, Free1}
+use Rattle.refutation_terms.specs.declared.lines.LogKind.{LogKind}
 use Rattle.refutation_terms.specs.declared.lines.Line.{Line}
 use Rattle.refutation_terms.specs.declared.lines.Turn.{Turn}
 use Rattle.refutation_terms.specs.declared.lines.Opening.{Opening}
@@ -12,8 +15,8 @@ use Rattle.refutation_terms.specs.declared.lines.Opening.TheVariants.{Full, Turn
 use Rattle.refutation_terms.specs.declared.lines.LogRefusal.{LogRefusal}
 use Rattle.refutation_terms.specs.Ranges.{AreRules}
 use Rattle.refutation_terms.specs.Log.{Log, Fits, OpeningFits, GoalFits, LineFits}
-use Rattle.refutation_terms.specs.LogText.{raw, raw_fields, line_text, Version, Version1, Version2, Free1, version_text, rules_text, turn_text, goal_text}
-use Rattle.refutation_terms.specs.Verdict.{LogKind, kind_of, kind_by, Front, Start, Versioned, BeforeTurn, BeforeGoal, Reading, front_text, IsFrontOf}
+use Rattle.refutation_terms.specs.LogText.{raw, raw_fields, line_text, version_text, rules_text, turn_text, goal_text}
+use Rattle.refutation_terms.specs.Verdict.{kind_of, kind_by, Front, Start, Versioned, BeforeTurn, BeforeGoal, Reading, front_text, IsFrontOf}
 use Rattle.refutation_terms.specs.TextLaws.{IsWritable, HasNames, TextsAreDistinct}
 use Rattle.refutation_terms.proofs.LineTables.{version_fields, rules_fields, turn_fields, goal_fields, version_words, rules_words, version_same, rules_same, goal_same}
 use Rattle.refutation_terms.proofs.Texts.{version_of, third_fields, lines_fields, log_fields, version_written, log_written, log_words, each_fits, lines_longer, turn_same}

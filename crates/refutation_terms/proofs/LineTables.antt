@@ -12,8 +12,10 @@ use Rattle.rwsp_text.proofs.KindLaws.{no_words, lines_are_words, lines_say_one}
 use Rattle.rwsp_terms.specs.declared.limits.TheConstants.{GREATEST_REWARD, LONGEST_WORD}
 use Rattle.rwsp_terms.specs.Instance.{Instance, cells, IsDay}
 use Rattle.rwsp_terms.specs.Rules.{rules}
+use Rattle.refutation_terms.specs.declared.lines.Version.{Version}
+use Rattle.refutation_terms.specs.declared.lines.Version.TheVariants.{Version1, Version2, Free1}
 use Rattle.refutation_terms.specs.Ranges.{IsLength, AreRules}
-use Rattle.refutation_terms.specs.LogText.{RawLine, RawSplit, RawWindow, RawDay, RawDead, RawBound, RawFew, RawFree, RawUnfinished, Version, Version1, Version2, Free1, place_words, raw_fields, IsInRange}
+use Rattle.refutation_terms.specs.LogText.{RawLine, RawSplit, RawWindow, RawDay, RawDead, RawBound, RawFew, RawFree, RawUnfinished, place_words, raw_fields, IsInRange}
 use Rattle.refutation_terms.specs.LineKinds.{most_turns, split_kind, window_kind, day_kind, dead_kind, bound_kind, open_kind, few_kind, free_kind, own_kinds, line_kinds, version_kinds, rules_kinds, turn_kinds, goal_kinds}
 use Rattle.refutation_terms.specs.TextLaws.{IsWritable}
 

@@ -6,12 +6,14 @@ use Rattle.rwsp_text.specs.Fields.{Words, text_of}
 use Rattle.rwsp_text.specs.Lines.{text_of_lines, AreLines, AreWords}
 use Rattle.rwsp_text.proofs.LineLaws.{lines_append, are_lines_append}
 use Rattle.rwsp_terms.specs.Instance.{Instance, symbol_of, name_of}
+use Rattle.refutation_terms.specs.declared.lines.Version.{Version}
+use Rattle.refutation_terms.specs.declared.lines.Version.TheVariants.{Version1, Version2, Free1}
 use Rattle.refutation_terms.specs.declared.lines.Line.{Line}
 use Rattle.refutation_terms.specs.declared.lines.Turn.{Turn}
 use Rattle.refutation_terms.specs.declared.lines.Opening.{Opening}
 use Rattle.refutation_terms.specs.declared.lines.Opening.TheVariants.{Full, Turned}
 use Rattle.refutation_terms.specs.Log.{Log, Fits, LineFits, OpeningFits, GoalFits}
-use Rattle.refutation_terms.specs.LogText.{raw, raw_fields, line_text, Version, Version1, Version2, Free1, version_text, rules_text, turn_text, goal_text, header_text, lines_text, log_text, line_of}
+use Rattle.refutation_terms.specs.LogText.{raw, raw_fields, line_text, version_text, rules_text, turn_text, goal_text, header_text, lines_text, log_text, line_of}
 use Rattle.refutation_terms.specs.TextLaws.{IsWritable, HasNames}
 use Rattle.refutation_terms.proofs.Spelled.{spelled_raw}
 use Rattle.refutation_terms.proofs.LineTables.{version_fields, rules_fields, turn_fields, goal_fields, version_words, rules_words, turn_words, goal_words, raw_words, raw_same, turn_same as names_same}

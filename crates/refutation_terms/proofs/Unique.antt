@@ -9,6 +9,8 @@ use Rattle.rwsp_terms.specs.declared.data.Rule.{Rule}
 use Rattle.rwsp_terms.specs.declared.data.Rule.TheVariants as TheRules
 use Rattle.rwsp_terms.specs.Instance.{Instance, least, name_of, symbol_of}
 use Rattle.rwsp_terms.specs.Rules.{Names}
+use Rattle.refutation_terms.specs.declared.lines.Version.{Version}
+use Rattle.refutation_terms.specs.declared.lines.LogKind.{LogKind}
 use Rattle.refutation_terms.specs.declared.lines.Line.{Line}
 use Rattle.refutation_terms.specs.declared.lines.Turn.{Turn}
 use Rattle.refutation_terms.specs.declared.lines.Opening.TheVariants.{Turned}
@@ -18,8 +20,8 @@ use Rattle.refutation_terms.specs.Word.{Domains}
 use Rattle.refutation_terms.specs.Ranges.{AreRules}
 use Rattle.refutation_terms.specs.Tree.{IsTree, after_trees, domains_at, opening, lines_leave, lines_in}
 use Rattle.refutation_terms.specs.Log.{Log, LineFits, OpeningFits, GoalFits, Holds, Cites, OpeningCites, IsAllowed, ListsShortOnly, IsGrounded, Passes}
-use Rattle.refutation_terms.specs.LogText.{raw, line_text, Version, version_text, rules_text, turn_text, goal_text}
-use Rattle.refutation_terms.specs.Verdict.{LogKind, kind_of, Front, Start, Versioned, BeforeTurn, BeforeGoal, Reading, HasNoCause, IsSoundSoFar, header_lines, TreeCause, CauseBehind, Cause, VersionCause, GoalCause, RulesCause, IsRefused, IsAccepted}
+use Rattle.refutation_terms.specs.LogText.{raw, line_text, version_text, rules_text, turn_text, goal_text}
+use Rattle.refutation_terms.specs.Verdict.{kind_of, Front, Start, Versioned, BeforeTurn, BeforeGoal, Reading, HasNoCause, IsSoundSoFar, header_lines, TreeCause, CauseBehind, Cause, VersionCause, GoalCause, RulesCause, IsRefused, IsAccepted}
 use Rattle.refutation_terms.specs.TextLaws.{IsWritable, HasNames, VerdictIsUnique}
 use Rattle.refutation_terms.proofs.Spelled.{fitting_lines_are_spelled}
 use Rattle.refutation_terms.proofs.Spent.{open_holds_not}

@@ -5,7 +5,9 @@ use Rattle.rwsp_text.specs.Kinds.{Kind}
 use Rattle.rwsp_terms.specs.declared.limits.TheConstants.{GREATEST_WEIGHT, GREATEST_REWARD, LONGEST_WORD}
 use Rattle.rwsp_terms.specs.Instance.{Instance, cells}
 use Rattle.rwsp_terms.specs.Rules.{rules}
-use Rattle.refutation_terms.specs.LogText.{RawLine, RawSplit, RawWindow, RawDay, RawDead, RawBound, RawFew, RawFree, RawUnfinished, Version, Version1, Version2, Free1}
+use Rattle.refutation_terms.specs.declared.lines.Version.{Version}
+use Rattle.refutation_terms.specs.declared.lines.Version.TheVariants.{Version1, Version2, Free1}
+use Rattle.refutation_terms.specs.LogText.{RawLine, RawSplit, RawWindow, RawDay, RawDead, RawBound, RawFew, RawFree, RawUnfinished}
 
 -- the most turns that a bound may speak of
 abbrev pub most_turns : Instance → ℕ

@@ -16,6 +16,8 @@ use Rattle.refutation_terms.specs.declared.lines.Leaf.TheVariants.{Window, Day, 
 use Rattle.refutation_terms.specs.declared.lines.WordClaim.TheVariants.{Dead, Light}
 use Rattle.refutation_terms.specs.declared.lines.Opening.{Opening}
 use Rattle.refutation_terms.specs.declared.lines.Opening.TheVariants.{Full, Turned}
+use Rattle.refutation_terms.specs.declared.lines.Version.{Version}
+use Rattle.refutation_terms.specs.declared.lines.Version.TheVariants.{Version1, Version2, Free1}
 use Rattle.refutation_terms.specs.Ranges.{IsLength, AreRules}
 use Rattle.refutation_terms.specs.Log.{Log}
 
@@ -75,12 +77,6 @@ raw_fields P RawUnfinished = codes "open" ∷ []
 -- a written line
 abbrev pub line_text : Instance → RawLine → List ℕ
 line_text P line = text_of (raw_fields P line)
-
--- the forms of a text, by its first line: a log without a turn, with one, and a free log
-pub data Version : Type 0 where
-  Version1 : Version
-  Version2 : Version
-  Free1 : Version
 
 -- line 1, the version
 abbrev pub version_text : Version → List ℕ

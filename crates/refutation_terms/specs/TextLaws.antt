@@ -4,12 +4,13 @@ use Rattle.std.specs.Prelude.{◌≡◌, ℕ, ◌<◌, ◌^◌, List, length, Op
 use Rattle.rwsp_terms.specs.declared.data.Symbol.{Symbol}
 use Rattle.rwsp_terms.specs.Instance.{Instance, IsSymbol, symbol_of, name_of}
 use Rattle.rwsp_terms.specs.Rules.{rules}
+use Rattle.refutation_terms.specs.declared.lines.LogKind.{LogKind}
 use Rattle.refutation_terms.specs.declared.lines.Line.{Line}
 use Rattle.refutation_terms.specs.declared.lines.LogRefusal.{LogRefusal}
 use Rattle.refutation_terms.specs.Log.{Log, Fits, LineFits}
 use Rattle.refutation_terms.specs.LogText.{raw, line_text, log_text}
 use Rattle.rwsp_text.specs.Fields.{IsName}
-use Rattle.refutation_terms.specs.Verdict.{LogKind, Spells, IsVerdict}
+use Rattle.refutation_terms.specs.Verdict.{Spells, IsVerdict}
 
 -- each symbol has a name of its own
 abbrev pub HasNames : Instance → Type 0

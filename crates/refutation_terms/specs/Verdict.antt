@@ -7,6 +7,10 @@ use Rattle.rwsp_terms.specs.declared.data.Rule.{Rule}
 use Rattle.rwsp_terms.specs.declared.data.Rule.TheVariants as TheRules
 use Rattle.rwsp_terms.specs.Instance.{Instance, least, IsDay, symbol_of}
 use Rattle.rwsp_terms.specs.Rules.{rule_of, Names}
+use Rattle.refutation_terms.specs.declared.lines.Version.{Version}
+use Rattle.refutation_terms.specs.declared.lines.Version.TheVariants.{Version1, Version2, Free1}
+use Rattle.refutation_terms.specs.declared.lines.LogKind.{LogKind}
+use Rattle.refutation_terms.specs.declared.lines.LogKind.TheVariants.{WithoutGoal, WithGoal}
 use Rattle.refutation_terms.specs.declared.lines.Line.{Line}
 use Rattle.refutation_terms.specs.declared.lines.Line.TheVariants.{Split, Closing, Unfinished}
 use Rattle.refutation_terms.specs.declared.lines.Opening.{Opening}
@@ -18,7 +22,7 @@ use Rattle.refutation_terms.specs.Ranges.{AreRules}
 use Rattle.refutation_terms.specs.Leaves.{IsWordless, LeafListsLong, LeafEscapes}
 use Rattle.refutation_terms.specs.Tree.{IsTree, domains_at, is_idle}
 use Rattle.refutation_terms.specs.Log.{Log, Holds, HoldsAt, Cites, CitesOnlyNamed, ListsShortOnly, IsGrounded, Passes}
-use Rattle.refutation_terms.specs.LogText.{RawLine, IsWritten, line_of, Version, Version1, Version2, Free1, version_text, rules_text, turn_text, goal_text, log_text}
+use Rattle.refutation_terms.specs.LogText.{RawLine, IsWritten, line_of, version_text, rules_text, turn_text, goal_text, log_text}
 
 -- the least number with a property
 abbrev pub IsLeast : (ℕ → Type 0) → ℕ → Type 0
@@ -136,11 +140,7 @@ abbrev pub RulesCause : Instance → List ℕ → LogRefusal → Type 0
 RulesCause P bytes (Refusals.Form i) = (i ≡ 2) × ((R : List ℕ) → AreRules P R → bytes ≢ rules_text R)
 RulesCause P bytes why = ⊥
 
--- what is read as a log: one without a goal, or a free log
-pub data LogKind : Type 0 where
-  WithoutGoal : LogKind
-  WithGoal : LogKind
-
+-- the kind of a log, by the version of its text
 abbrev pub kind_of : Version → LogKind
 kind_of Version1 = WithoutGoal
 kind_of Version2 = WithoutGoal

@@ -71,6 +71,24 @@ pub enum Opening {
     Turned(Turn),
 }
 
+/// What a text is read as: a log without a goal, or a free log.
+#[derive(Clone, Copy, Debug, PartialEq, Eq)]
+pub enum LogKind {
+    WithoutGoal,
+    WithGoal,
+}
+
+/// The form of a log's text, by its first line.
+#[derive(Clone, Copy, Debug, PartialEq, Eq)]
+pub enum Version {
+    /// `rwsp-log 1`, a log without a turn.
+    Version1,
+    /// `rwsp-log 2`, a log with a turn on line 3.
+    Version2,
+    /// `rwsp-free 1`, a free log with its goal on line 3.
+    Free1,
+}
+
 /// Why a log is refused. The first number is the line of the text, from 1 on; the second is the rule.
 #[derive(Debug, Drop)]
 pub enum LogRefusal {
