@@ -4,7 +4,8 @@ use Rattle.rwsp_terms.specs.declared.data.Symbol.{Symbol}
 use Rattle.rwsp_terms.specs.Instance.{Instance, cells}
 use Rattle.refutation_terms.specs.declared.lines.Line.{Line}
 use Rattle.refutation_terms.specs.declared.lines.Line.TheVariants.{Split, Closing}
-use Rattle.refutation_terms.specs.declared.lines.Leaf.TheVariants.{Window, Day, Bound, Free}
+use Rattle.refutation_terms.specs.declared.lines.Leaf.TheVariants.{Window, Day, Words}
+use Rattle.refutation_terms.specs.declared.lines.WordClaim.TheVariants.{Light}
 use Rattle.refutation_terms.specs.Tree.{First, narrowed, is_idle}
 use Rattle.refutation_terms.specs.Log.{Holds, LineFits}
 use Rattle.domain_store.specs.Store.{Store, BelongsTo, HasSameShape, domain_at, has_domain}
@@ -18,8 +19,7 @@ Closes P leaves S = (line : Line) × leaves line × Holds P None (has_domain S) 
 
 -- a line that weighs no words
 abbrev pub IsUnweighed : Line → Type 0
-IsUnweighed (Closing (Bound p turns R y)) = ⊥
-IsUnweighed (Closing (Free turns reward R y)) = ⊥
+IsUnweighed (Closing (Words p R (Light turns reward y))) = ⊥
 IsUnweighed line = Unit {0}
 
 -- one of the leaves, and it holds
