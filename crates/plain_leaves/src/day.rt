@@ -4,7 +4,7 @@ ghost use Rattle.rwsp_terms.specs.Instance.{IsDay, IsSymbol};
 ghost use Rattle.rwsp_terms.specs.declared.limits.TheConstants.{MOST_WEEKS};
 ghost use Rattle.refutation_terms.specs.declared.lines.Line.TheVariants.{Closing};
 ghost use Rattle.refutation_terms.specs.declared.lines.Leaf.TheVariants.{Day};
-ghost use Rattle.refutation_terms.specs.Leaf.{is_only, fixed, possible};
+ghost use Rattle.refutation_terms.specs.DayLeaf.{is_only, fixed, possible};
 ghost use Rattle.refutation_terms.specs.Log.{Holds};
 ghost use Rattle.domain_store.specs.Store.{BelongsTo, has_domain};
 
