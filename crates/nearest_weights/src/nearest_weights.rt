@@ -2,6 +2,7 @@
 ghost use Rattle.std.specs.Prelude.{◌≡◌, ◌*◌, ◌≤◌, ◌<◌, ◌+◌, IfOk, IfSome, Option, None};
 ghost use Rattle.rwsp_terms.specs.Instance.{cells};
 ghost use Rattle.rwsp_terms.specs.declared.limits.TheConstants.{LONGEST_WORD};
+ghost use Rattle.refutation_terms.specs.declared.lines.Opening.TheVariants.{Full};
 ghost use Rattle.refutation_terms.specs.Log.{GoalFits};
 ghost use Rattle.domain_store.specs.Store.{BelongsTo, has_domain};
 ghost use Rattle.domain_store.specs.Cycles.{AreShortRules};
@@ -91,7 +92,7 @@ impl<'a> NearestWeights<'a> {
         goal: Option<u32>,
     ) -> Result<Option<Line>, AllocError>
         requires belongs { BelongsTo self.old.problem doms.now }
-        requires goal { GoalFits self.old.problem None goal }
+        requires goal { GoalFits self.old.problem Full goal }
         ensures same { self.new ≡ self.old }
         ensures leaf { IfOk result
             (λ found. IfSome found (IsHoldingLeaf self.old.problem goal (has_domain doms.now))) }
@@ -112,7 +113,7 @@ impl<'a> NearestWeights<'a> {
         goal: Option<u32>,
     ) -> Result<Option<Line>, AllocError>
         requires belongs { BelongsTo self.old.problem doms.now }
-        requires goal { GoalFits self.old.problem None goal }
+        requires goal { GoalFits self.old.problem Full goal }
         ensures same { self.new ≡ self.old }
         ensures leaf { IfOk result
             (λ found. IfSome found (IsHoldingLeaf self.old.problem goal (has_domain doms.now))) }
@@ -147,7 +148,7 @@ fn leaf_from(
 ) -> Result<(Option<Line>, Vec<i64>), AllocError>
     requires short { AreShortRules automaton.now.problem automaton.now.rules }
     requires belongs { BelongsTo automaton.now.problem doms.now }
-    requires goal { GoalFits automaton.now.problem None goal }
+    requires goal { GoalFits automaton.now.problem Full goal }
     ensures { IfOk result
         (λ r. IfSome r.0 (IsHoldingLeaf automaton.now.problem goal (has_domain doms.now))) }
 {

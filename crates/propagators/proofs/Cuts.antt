@@ -9,7 +9,7 @@ use Rattle.rwsp_terms.specs.Instance.{Instance, cells, shift_count, least, great
 use Rattle.refutation_terms.specs.declared.lines.Line.TheVariants.{Split, Closing}
 use Rattle.refutation_terms.specs.declared.lines.Leaf.TheVariants.{Day}
 use Rattle.refutation_terms.specs.Word.{Domains}
-use Rattle.refutation_terms.specs.Leaf.{fixed, possible, HasTooMany, HasTooFew}
+use Rattle.refutation_terms.specs.DayLeaf.{fixed, possible, HasTooMany, HasTooFew}
 use Rattle.refutation_terms.specs.Tree.{First, narrowed, is_idle}
 use Rattle.refutation_terms.specs.Log.{Holds, LineFits}
 use Rattle.domain_store.specs.Store.{Store, has_domain}

@@ -6,7 +6,7 @@ use Rattle.refutation_terms.specs.declared.lines.Line.{Line}
 use Rattle.refutation_terms.specs.declared.lines.Line.TheVariants.{Split, Closing}
 use Rattle.refutation_terms.specs.declared.lines.Leaf.TheVariants.{Day}
 use Rattle.refutation_terms.specs.Word.{Domains}
-use Rattle.refutation_terms.specs.Leaf.{fixed, possible}
+use Rattle.refutation_terms.specs.DayLeaf.{fixed, possible}
 use Rattle.refutation_terms.specs.Tree.{First, narrowed, is_idle}
 use Rattle.refutation_terms.specs.Log.{LineFits, Holds}
 use Rattle.refutation_terms.specs.Sharp.{SomeDayHolds}

@@ -1,7 +1,7 @@
 // Symbols that a day leaf takes away.
 ghost use Rattle.std.specs.Prelude.{◌≡◌, ℕ, ◌+◌, ◌-◌, ◌<◌, length, MatchOption, true, false};
 ghost use Rattle.rwsp_terms.specs.Instance.{IsDay, IsSymbol};
-ghost use Rattle.refutation_terms.specs.Leaf.{fixed, possible};
+ghost use Rattle.refutation_terms.specs.DayLeaf.{fixed, possible};
 ghost use Rattle.domain_store.specs.Store.{has_domain, BelongsTo};
 ghost use Rattle.refutation_terms.specs.declared.lines.Line.TheVariants.{Closing};
 ghost use Rattle.refutation_terms.specs.declared.lines.Leaf.TheVariants.{Day};

@@ -112,12 +112,7 @@ impl<'a> RootBounds<'a> {
         }
         let rules = self.automaton.rules().copy()?;
         let weights = weights.copy()?;
-        Ok(Some(Line::Closing(Leaf::Bound {
-            p: 0,
-            turns: 1,
-            rules,
-            weights,
-        })))
+        Ok(Some(Line::Closing(Leaf::Words { p: 0, rules, claim: WordClaim::Light { turns: 1, weights, reward: 0 } })))
     }
 }
 
