@@ -156,7 +156,7 @@ top_bound : (P : Instance) (D : Domains) (R : List ℕ) (y : List Weight) → Ke
 top_bound P D R y limits short h =
     let some : 0 < cells P = some_cells P limits in
     let few : cells P ≤ MOST_CELLS = limits.few_cells in
-    (some, (omega (arith, some), omega (arith, few)), short.are_rules, h.0)
+    (some, (omega (arith, some), omega (arith, few)), short.are_rules, h.0, refl)
 
 -- where there are no such weights, no such bound holds
 no_top_bound : (P : Instance) (D : Domains) (R : List ℕ) (line : Line) → AreShortRules P R → NoBoundHolds P D R → IsTopBound P D line → Holds P None D line → ⊥

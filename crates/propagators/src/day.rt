@@ -13,7 +13,7 @@ ghost use Rattle.domain_store.specs.Looks.{IsLook};
 use crate::Counts;
 use crate::day_cut::first_cut;
 use domain_store::{Domains, Look, Propagator};
-use refutation_terms::Line;
+use refutation_terms::{Leaf, Line};
 use rwsp_model::Problem;
 use rwsp_terms::Symbol;
 use std::alloc::{AllocError, Global};

@@ -15,7 +15,7 @@ use crate::day_marks::DayMarks;
 use crate::marks::{Marks, WORD_BITS};
 use clean_words::{Automaton, Step};
 use domain_store::{Domains, KeptSets, SymbolSet};
-use refutation_terms::Line;
+use refutation_terms::{Leaf, Line, WordClaim};
 use rwsp_model::Problem;
 use rwsp_terms::Symbol;
 use rwsp_terms::limits::{LONGEST_WORD, MOST_CELLS};
@@ -109,7 +109,13 @@ impl<'a> Cycle<'a> {
         ensures { IfOk result (λ line. line ≡ Closing (Words 0 self.now.rules (Dead (2 * cells self.now.problem)))) }
     {
         let rules = self.automaton.rules().copy()?;
-        Ok(Line::Closing(Leaf::Words { p: 0, rules, claim: WordClaim::Dead { len: 2 * self.automaton.problem().cells() } }))
+        Ok(Line::Closing(Leaf::Words {
+            p: 0,
+            rules,
+            claim: WordClaim::Dead {
+                len: 2 * self.automaton.problem().cells(),
+            },
+        }))
     }
 
     /// Whether no word of two turns over the domains is clean.
