@@ -6,17 +6,17 @@ ghost use Rattle.rwsp_model.specs.Refusals.{MatchAnswer};
 ghost use Rattle.refutation_terms.specs.LogText.{RawSplit, RawWindow, RawDay};
 ghost use Rattle.refutation_terms.specs.Verdict.{Spells};
 ghost use Rattle.rwsp_text.specs.Lines.{words_of};
-ghost use Rattle.refutation_log.specs.Refusals.{IsLineRefused, IsLineRefusedIn};
+ghost use Rattle.refutation_log.specs.Refusals.{IsLineRefused};
 ghost use Rattle.rwsp_text.specs.Fields.{IsValue};
 ghost use Rattle.rwsp_text.specs.Reads.{Reads};
 ghost use Rattle.rwsp_terms.specs.declared.limits.TheConstants.{GREATEST_WEIGHT};
 ghost use Rattle.refutation_terms.specs.LineKinds.{most_turns};
-ghost use Rattle.refutation_log.specs.Reading.{split_at, window_at, day_at, head_at, rules_in, dead_at, named_weight_at, all_weights_at, weighed_at, bound_at, free_head_at, free_at, without_goal_at, with_goal_at, raw_at, Answers, AnswersWeighed};
+ghost use Rattle.refutation_log.specs.Reading.{split_at, window_at, day_at, head_at, rules_in, dead_at, named_weight_at, all_weights_at, weighed_at, bound_at, free_head_at, free_at, without_goal_at, with_goal_at, raw_at, Answers, AnswersWeighed, light_line};
 ghost use Rattle.refutation_log.specs.Gathering.{GivesAll, IsWeighed};
 
 use crate::LineRefusal;
 use crate::gather::{Gathered, add};
-use refutation_terms::{Leaf, Line};
+use refutation_terms::{Leaf, Line, WordClaim};
 use rwsp_model::{Fail, Problem, rule_count};
 use rwsp_terms::limits::{GREATEST_REWARD, GREATEST_WEIGHT, LONGEST_WORD};
 use rwsp_terms::{RuleList, Weights};
@@ -27,21 +27,14 @@ const FORM: Fail<LineRefusal> = Fail::Refused(LineRefusal::Form);
 
 const NAME: Fail<LineRefusal> = Fail::Refused(LineRefusal::Name);
 
-/// The line of a log without a goal that a line of text spells. It needs its LF.
-pub fn read_line(alloc: Global, problem: &Problem, bytes: &[u8]) -> Result<Line, Fail<LineRefusal>>
-    ensures { MatchAnswer result (Spells problem.now None bytes.now) (IsLineRefused problem.now bytes.now) }
-{
-    read_line_for(alloc, problem, None, bytes)
-}
-
 /// The line of a log with this goal, or without one, that a line of text spells. It needs its LF.
-pub fn read_line_for(
+pub fn read_line(
     alloc: Global,
     problem: &Problem,
     goal: Option<u32>,
     bytes: &[u8],
 ) -> Result<Line, Fail<LineRefusal>>
-    ensures { MatchAnswer result (Spells problem.now goal bytes.now) (IsLineRefusedIn problem.now goal bytes.now) }
+    ensures { MatchAnswer result (Spells problem.now goal bytes.now) (IsLineRefused problem.now goal bytes.now) }
 {
     problem.prove_limits();
     match body_of(bytes) {
@@ -265,7 +258,11 @@ fn read_dead(
         return Err(Fail::Memory);
     };
     if fields.is_done() {
-        Ok(Line::Closing(Leaf::Dead { p, len, rules }))
+        Ok(Line::Closing(Leaf::Words {
+            p,
+            rules,
+            claim: WordClaim::Dead { len },
+        }))
     } else {
         Err(FORM)
     }
@@ -302,7 +299,7 @@ fn weights(
     Ok(Some(state))
 }
 
-// The rules and the weights with which a bound or a free leaf ends.
+// The rules and the weights with which a line ends that weighs words.
 #[tactic(auto, unfolding(crate::specs::Reading::weighed_at))]
 fn weighed(
     alloc: Global,
@@ -334,6 +331,29 @@ fn with_rules(rules: RuleList, state: Gathered) -> Result<(RuleList, Weights), F
     }
 }
 
+// The line that says of the words from p on that they are light, with the rules and the weights that end it.
+fn light_line(
+    p: u32,
+    turns: u32,
+    reward: u32,
+    weighed: Result<(RuleList, Weights), Fail<LineRefusal>>,
+) -> Result<Line, Fail<LineRefusal>>
+    ensures { result ≡ light_line p turns reward weighed }
+{
+    match weighed {
+        Err(fail) => Err(fail),
+        Ok((rules, weights)) => Ok(Line::Closing(Leaf::Words {
+            p,
+            rules,
+            claim: WordClaim::Light {
+                turns,
+                reward,
+                weights,
+            },
+        })),
+    }
+}
+
 #[tactic(auto, unfolding(crate::specs::Reading::bound_at), using(crate::proofs::LineTexts::few_turns))]
 fn read_bound(
     alloc: Global,
@@ -345,15 +365,7 @@ fn read_bound(
     let Some((p, turns)) = head(problem, fields, most_turns(problem)) else {
         return Err(FORM);
     };
-    match weighed(alloc, problem, fields) {
-        Err(fail) => Err(fail),
-        Ok((rules, weights)) => Ok(Line::Closing(Leaf::Bound {
-            p,
-            turns,
-            rules,
-            weights,
-        })),
-    }
+    light_line(p, turns, 0, weighed(alloc, problem, fields))
 }
 
 // The turns, the reward, and the word that begins a list of rules.
@@ -378,15 +390,7 @@ fn read_free(
     let Some((turns, reward)) = free_head(problem, fields) else {
         return Err(FORM);
     };
-    match weighed(alloc, problem, fields) {
-        Err(fail) => Err(fail),
-        Ok((rules, weights)) => Ok(Line::Closing(Leaf::Free {
-            turns,
-            reward,
-            rules,
-            weights,
-        })),
-    }
+    light_line(0, turns, reward, weighed(alloc, problem, fields))
 }
 
 // The most turns that a leaf may speak of.

@@ -44,7 +44,7 @@ version_written Version1 = refl
 version_written Version2 = refl
 version_written Free1 = refl
 
-lines_written : (P : Instance) (goal : Option ℕ) (lines : List Line) → lines_text P goal lines ≡ text_of_lines (lines_fields P goal lines)
+pub lines_written : (P : Instance) (goal : Option ℕ) (lines : List Line) → lines_text P goal lines ≡ text_of_lines (lines_fields P goal lines)
 lines_written P goal [] = refl
 lines_written P goal (line ∷ lines) = ap (λ t. line_text P (raw P goal line) ++ t) (lines_written P goal lines)
 

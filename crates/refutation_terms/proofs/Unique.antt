@@ -108,7 +108,7 @@ turn_is_fine P g t bytes why w n h is_turn spelled q =
     (h.turn_named (TheRules.Day t.day) (subst (λ o. OpeningCites o (TheRules.Day t.day)) (sym is_turn) refl)) spelled q
 
 -- nor has the goal of one
-goal_refutes : (P : Instance) (goal : ℕ) (why : LogRefusal) → goal ≤ P.weeks + 1 → GoalCause P (goal_text goal) why → ⊥
+pub goal_refutes : (P : Instance) (goal : ℕ) (why : LogRefusal) → goal ≤ P.weeks + 1 → GoalCause P (goal_text goal) why → ⊥
 goal_refutes P goal why few h = (subst (GoalCause P (goal_text goal)) (goal_cause P (goal_text goal) why h) h).1 goal few refl
 
 -- one cause for the line behind a header and lines
