@@ -8,7 +8,7 @@ ghost use Rattle.nearest_weights.specs.Fields.{IsField, IsLeafIn};
 use crate::demand::Shape;
 use crate::field::Field;
 use potential_bounds::{FreeClaim, bound_escape, free_escape};
-use refutation_terms::Line;
+use refutation_terms::{Leaf, Line};
 use rwsp_model::Problem;
 use rwsp_terms::limits::{GREATEST_REWARD, GREATEST_WEIGHT, LONGEST_WORD};
 use rwsp_terms::{Symbol, Weights};
