@@ -1,5 +1,5 @@
 -- The leaves of windows, and which of them a propagator must yet look at.
-use Rattle.std.specs.Prelude.{◌≡◌, ℕ, ◌+◌, ◌%◌, ◌<◌, ◌≤◌, List, [], length, Bool, true, false, slice_index_or}
+use Rattle.std.specs.Prelude.{◌≡◌, ℕ, ◌+◌, ◌%◌, ◌<◌, ◌≤◌, List, [], length, Bool, true, false, slice_index_or, None}
 use Rattle.rwsp_terms.specs.declared.limits.TheConstants.{MOST_SHIFTS}
 use Rattle.rwsp_terms.specs.Instance.{Instance, cells}
 use Rattle.refutation_terms.specs.declared.lines.Line.{Line}

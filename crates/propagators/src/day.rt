@@ -1,5 +1,5 @@
 // The leaves of days.
-ghost use Rattle.std.specs.Prelude.{◌≡◌, ℕ, ◌<◌, ◌↔◌, IfOk, Bool};
+ghost use Rattle.std.specs.Prelude.{◌≡◌, ℕ, ◌<◌, ◌↔◌, IfOk, Bool, None};
 ghost use Rattle.rwsp_terms.specs.declared.data.Symbol.{Symbol};
 ghost use Rattle.refutation_terms.specs.declared.lines.Line.{Line};
 ghost use Rattle.refutation_terms.specs.declared.lines.Line.TheVariants.{Closing};
@@ -13,7 +13,7 @@ ghost use Rattle.domain_store.specs.Looks.{IsLook};
 use crate::Counts;
 use crate::day_cut::first_cut;
 use domain_store::{Domains, Look, Propagator};
-use refutation_terms::Line;
+use refutation_terms::{Leaf, Line};
 use rwsp_model::Problem;
 use rwsp_terms::Symbol;
 use std::alloc::{AllocError, Global};

@@ -12,7 +12,7 @@ ghost use Rattle.propagators.specs.Days.{AreCountsOf, TakesNone, IsSaturation, I
 use crate::Counts;
 use domain_store::{Domains, Look};
 use plain_leaves::position_of;
-use refutation_terms::Line;
+use refutation_terms::{Leaf, Line};
 use rwsp_model::Problem;
 use rwsp_terms::Symbol;
 

@@ -14,7 +14,7 @@ ghost use Rattle.propagators.specs.TopBounds.{IsStartBound, IsTopAnswer, IsTopWa
 use clean_words::Automaton;
 use domain_store::{Domains, Look, Propagator};
 use potential_bounds::{Gate, first_plain, plain_bounds, search_weights};
-use refutation_terms::Line;
+use refutation_terms::{Leaf, Line};
 use rwsp_model::Problem;
 use rwsp_terms::Weights;
 use std::alloc::{AllocError, Global};

@@ -14,7 +14,7 @@ use crate::day_marks::DayMarks;
 use crate::marks::{Marks, WORD_BITS};
 use clean_words::{Automaton, Step};
 use domain_store::{Domains, KeptSets, SymbolSet};
-use refutation_terms::Line;
+use refutation_terms::{Leaf, Line};
 use rwsp_model::Problem;
 use rwsp_terms::Symbol;
 use rwsp_terms::limits::{LONGEST_WORD, MOST_CELLS};

@@ -8,7 +8,7 @@ ghost use Rattle.domain_store.specs.Store.{BelongsTo};
 ghost use Rattle.propagators.specs.Windows.{IsWindow, NoWindowOver};
 
 use domain_store::Domains;
-use refutation_terms::Line;
+use refutation_terms::{Leaf, Line};
 use rwsp_model::{Problem, rule_at, rule_count};
 use rwsp_terms::limits::LONGEST_WORD;
 use window_rules::bad_window_over;
