@@ -24,7 +24,6 @@ use Rattle.refutation_terms.specs.Log.{LineFits, Cites, TurnCites, HasWeight, Ar
 use Rattle.refutation_log.specs.Printing.{FitsSomeLog}
 use Rattle.refutation_log.specs.Cited.{Adds, AddsSome, IsCited, IsDayRule, IsWeighedDayRule}
 use Rattle.refutation_log.proofs.Adding.{on_ok, on_err, adds_same, some_same}
-use Rattle.refutation_log.proofs.Named.{fits_some}
 
 pub rule_there : (P : Instance) (k : ℕ) → 0 < k → k ≤ length (rules P) → (r : Rule) × (rule_of P k ≡ Some r)
 rule_there P zero some within = absurd (omega (arith, some))
@@ -139,24 +138,24 @@ pub free_cited : (P : Instance) (turns reward : ℕ) (R : List ℕ) (y : List We
 free_cited P turns reward R y fits k = weighed_cited P R y fits.2 fits.3.0 k
 
 -- the numbers that are added are those that a leaf cites, of a log with a goal or without
-abbrev FitsLeaf : Instance → Leaf → Type 0
+abbrev pub FitsLeaf : Instance → Leaf → Type 0
 FitsLeaf P leaf = FitsSomeLog P (Closing leaf)
 
-abbrev TellsLeaf : Instance → Leaf → (ℕ → Type 0) → Type 0
+abbrev pub TellsLeaf : Instance → Leaf → (ℕ → Type 0) → Type 0
 TellsLeaf P leaf A = TellsCited P (Closing leaf) A
 
 abbrev IsLeafCited : Instance → Leaf → ℕ → Type 0
 IsLeafCited P leaf = IsCited P (Cites P (Closing leaf))
 
-cited_in_some : (P : Instance) (leaf base : Leaf) (A : ℕ → Type 0) → leaf ≡ base → (FitsLeaf P base → TellsLeaf P base A) → FitsLeaf P leaf → TellsLeaf P leaf A
-cited_in_some P leaf base A e f fits =
+pub leaf_cited : (P : Instance) (leaf base : Leaf) (A : ℕ → Type 0) → leaf ≡ base → (FitsLeaf P base → TellsLeaf P base A) → FitsLeaf P leaf → TellsLeaf P leaf A
+leaf_cited P leaf base A e f fits =
     subst (λ (l : Leaf). TellsLeaf P l A) (sym e) (f (subst (FitsLeaf P) e fits))
 
 pub adds_cited : {T E : Type 0} (P : Instance) (leaf base : Leaf) (A : ℕ → Type 0) (r : Result T E) (old new : List ℕ) → leaf ≡ base → (FitsLeaf P base → TellsLeaf P base A) → FitsLeaf P leaf → OnOk r (Adds old new A) → OnOk r (Adds old new (IsLeafCited P leaf))
-adds_cited P leaf base A r old new e tells fits = on_ok r (Adds old new A) (Adds old new (IsLeafCited P leaf)) (λ h. adds_same old new A (IsLeafCited P leaf) h (cited_in_some P leaf base A e tells fits))
+adds_cited P leaf base A r old new e tells fits = on_ok r (Adds old new A) (Adds old new (IsLeafCited P leaf)) (λ h. adds_same old new A (IsLeafCited P leaf) h (leaf_cited P leaf base A e tells fits))
 
 pub adds_some_cited : {T E : Type 0} (P : Instance) (leaf base : Leaf) (A : ℕ → Type 0) (r : Result T E) (old new : List ℕ) → leaf ≡ base → (FitsLeaf P base → TellsLeaf P base A) → FitsLeaf P leaf → OnErr r (AddsSome old new A) → OnErr r (AddsSome old new (IsLeafCited P leaf))
-adds_some_cited P leaf base A r old new e tells fits = on_err r (AddsSome old new A) (AddsSome old new (IsLeafCited P leaf)) (λ h. some_same old new A (IsLeafCited P leaf) h (cited_in_some P leaf base A e tells fits))
+adds_some_cited P leaf base A r old new e tells fits = on_err r (AddsSome old new A) (AddsSome old new (IsLeafCited P leaf)) (λ h. some_same old new A (IsLeafCited P leaf) h (leaf_cited P leaf base A e tells fits))
 
 -- names
 
@@ -193,9 +192,6 @@ some_numbered P (Closing (Dead p len R)) fits r c = (c.0, c.2)
 some_numbered P (Closing (Bound p turns R y)) fits r c = weighed_numbered P R y fits.3.1 r c
 some_numbered P (Closing (Free turns reward R y)) fits r c = weighed_numbered P R y fits.3.1 r c
 some_numbered P line fits r c = absurd c
-
-pub line_numbered : (P : Instance) (line : Line) → LineFits P None line → (r : Rule) → Cites P line r → (k : ℕ) × (rule_of P k ≡ Some r)
-line_numbered P line fits = some_numbered P line (fits_some P None line fits)
 
 pub turn_numbered : (P : Instance) (t : Turn) → IsDay P t.day → (r : Rule) → TurnCites (Some t) r → (k : ℕ) × (rule_of P k ≡ Some r)
 turn_numbered P t is r c = day_numbered P t.day r is c

@@ -46,6 +46,7 @@ fn put_line_cited(rules: &mut RuleList, problem: &Problem, line: &Line) -> Resul
     }
 }
 
+// Those of a leaf.
 fn put_leaf_cited(rules: &mut RuleList, problem: &Problem, leaf: &Leaf) -> Result<(), AllocError>
     requires { FitsSomeLog problem.now (Line.Closing leaf.now) }
     ensures ok { OnOk result (Adds rules.old rules.new
