@@ -1,12 +1,13 @@
 -- Dead and bound leaves, judged apart from their log.
-use Rattle.std.proofs.Common.{ℕ, Option, Some, None, subst, IsTrue, true, false, refl, arith}
-use Rattle.std.specs.Prelude.{◌↔◌, MatchOption, IfOk, Result, Ok, Err}
+use Rattle.std.proofs.Common.{◌≡◌, ◌∙◌, ap, sym, ℕ, Option, None, subst, IsTrue, true, false, refl, arith}
+use Rattle.std.specs.Prelude.{◌↔◌, MatchOption, IfOk, Result}
 use Rattle.std.specs.declared.alloc.AllocError.{AllocError}
 use Rattle.rwsp_terms.specs.declared.data.Symbol.{Symbol}
 use Rattle.std.proofs.Common.{List}
 use Rattle.rwsp_terms.specs.Instance.{Instance}
 use Rattle.refutation_terms.specs.declared.lines.Line.{Line}
 use Rattle.refutation_terms.specs.declared.lines.Line.TheVariants.{Closing}
+use Rattle.refutation_terms.specs.declared.lines.Leaf.{Leaf}
 use Rattle.refutation_terms.specs.declared.lines.Leaf.TheVariants.{Dead, Bound, Free}
 use Rattle.refutation_terms.specs.Word.{Domains, AreSame}
 use Rattle.rwsp_terms.specs.Rules.{NamesShortOnly}
@@ -19,30 +20,13 @@ use Rattle.refutation_checker.specs.LineVerdicts.{HasList, HasNoList, HoldsByWor
 pub same_by_words : (P : Instance) (D E : Domains) (line : Line) → LineFits P None line → AreSame P D E → HoldsByWords P None D line → HoldsByWords P None E line
 same_by_words P D E (Closing (Dead p len R)) fits same h = same_holds P D E (Closing (Dead p len R)) (omega (arith, fits.0)) fits same h
 same_by_words P D E (Closing (Bound p turns R y)) fits same h = same_holds P D E (Closing (Bound p turns R y)) (omega (arith, fits.0)) fits same h
+same_by_words P D E (Closing (Free turns reward R y)) fits same h = absurd h
 same_by_words P D E line fits same h = tt
 
 pub escaped_by_words : (P : Instance) (D : Domains) (line : Line) (w : List Symbol) → Escapes P None D line w → HoldsByWords P None D line → ⊥
 escaped_by_words P D (Closing (Dead p len R)) w e h = escaped_not_holding P D (Closing (Dead p len R)) w e h
 escaped_by_words P D (Closing (Bound p turns R y)) w e h = escaped_not_holding P D (Closing (Bound p turns R y)) w e h
 escaped_by_words P D line w e h = absurd e
-
--- a word that escapes a line of a log without a goal escapes it in each log
-escapes_for : (P : Instance) (goal : Option ℕ) (D : Domains) (line : Line) (w : List Symbol) → Escapes P None D line w → Escapes P goal D line w
-escapes_for P None D line w e = e
-escapes_for P (Some goal) D (Closing (Free turns reward R y)) w e = absurd e
-escapes_for P (Some goal) D line w e = e
-
-pub answer_for : (P : Instance) (goal : Option ℕ) (D : Domains) (line : Line) (answer : Result (Option (List Symbol)) AllocError)
-    → IfOk answer (λ found. MatchOption found (HoldsByWords P goal D line) (Escapes P None D line))
-    → IfOk answer (λ found. MatchOption found (HoldsByWords P goal D line) (Escapes P goal D line))
-answer_for P goal D line (Ok None) h = h
-answer_for P goal D line (Ok (Some w)) h = escapes_for P goal D line w h
-answer_for P goal D line (Err e) h = tt
-
--- a line of a log without a goal
-pub by_words : (P : Instance) (D : Domains) (line : Line) → LineFits P None line → HoldsByWords P None D line → HoldsByWords P None D line
-by_words P D (Closing (Free turns reward R y)) fits h = absurd fits
-by_words P D line fits h = h
 
 -- what the words say under the domains of a walk, they say under those of its lines
 pub holds_there : (P : Instance) (D E : Domains) (line : Line) → LineFits P None line → AreSame P D E → HoldsByWords P None D line → IsTrue true ↔ HoldsByWords P None E line
@@ -68,3 +52,15 @@ without_list P goal D (Closing (Dead p len R)) none = absurd none
 without_list P goal D (Closing (Bound p turns R y)) none = absurd none
 without_list P goal D (Closing (Free turns reward R y)) none = absurd none
 without_list P goal D line none = tt
+
+-- a search for a word that escapes the line has found one, or the line holds
+abbrev pub IsAnswered : Instance → Option ℕ → Domains → Line → Result (Option (List Symbol)) AllocError → Type 0
+IsAnswered P goal D line answer =
+    IfOk answer (λ found. MatchOption found (HoldsByWords P goal D line) (Escapes P goal D line))
+
+-- a leaf by its list is answered by a search with this list
+pub answered : (P : Instance) (goal : Option ℕ) (D : Domains) (list : List ℕ) (line : Line) (answer : Result (Option (List Symbol)) AllocError)
+    (leaf : List ℕ → Leaf) (R : List ℕ) → ((some : List ℕ) → HasList (Closing (leaf R)) some → R ≡ some) → line ≡ Closing (leaf R) → HasList line list → IsAnswered P goal D (Closing (leaf list)) answer → IsAnswered P goal D line answer
+answered P goal D list line answer leaf R its is has h =
+    let same : R ≡ list = its list (subst (λ (l : Line). HasList l list) is has) in
+    subst (λ (l : Line). IsAnswered P goal D l answer) (sym (is ∙ ap (λ R. Closing (leaf R)) same)) h

@@ -1,5 +1,4 @@
 pub mod Lists
-pub mod GoalLines
 pub mod Lines
 pub mod Judging
 pub mod Passing

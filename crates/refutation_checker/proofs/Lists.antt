@@ -15,11 +15,12 @@ use Rattle.rwsp_terms.proofs.Ascending.{rising}
 use Rattle.rwsp_model.specs.RuleNumbers.{IsShortNumber}
 use Rattle.rwsp_model.proofs.Numbering.{one_number}
 use Rattle.refutation_terms.specs.declared.lines.Line.{Line}
-use Rattle.refutation_terms.specs.Log.{AreRules, Cites, CitesOnlyNamed, LineFits}
+use Rattle.refutation_terms.specs.Log.{AreRules, Cites, CitesOnlyNamed}
 use Rattle.refutation_terms.specs.Verdict.{IsLeast, IsUnnamed, IsLongIn}
+use Rattle.refutation_log.specs.Printing.{FitsSomeLog}
 use Rattle.refutation_log.specs.Cited.{IsDayRule, IsWeighedDayRule}
 use Rattle.refutation_log.proofs.Adding.{StandsOn, weighed_steps}
-use Rattle.refutation_log.proofs.CitedRules.{TellsCited, line_numbered, rule_there}
+use Rattle.refutation_log.proofs.CitedRules.{TellsCited, some_numbered, rule_there}
 use Rattle.refutation_checker.specs.Outside.{IsOutside, HoldsAll, IsLeastOutside, lesser}
 
 -- the same numbers are asked for
@@ -112,10 +113,10 @@ all_days P items y i list found e all h =
     (subst (λ n. IsLeastOutside (DaysBelow P items n) list found) all h))
 
 -- what the search for a number outside the list says of the rules
-pub found_unnamed : (P : Instance) (named : List ℕ) (line : Line) (A : ℕ → Type 0) (found : Option ℕ) → LineFits P None line → TellsCited P line A → IsLeastOutside A named found
+pub found_unnamed : (P : Instance) (named : List ℕ) (line : Line) (A : ℕ → Type 0) (found : Option ℕ) → FitsSomeLog P line → TellsCited P line A → IsLeastOutside A named found
     → MatchOption found (CitesOnlyNamed P named line) (λ k. IsLeast (IsUnnamed P named (Cites P line)) k)
 found_unnamed P named line A None fits tells h =
-    λ r cites. let k = line_numbered P line fits r cites in (k.0, h k.0 ((tells k.0).1 (r, k.1, cites)), k.1)
+    λ r cites. let k = some_numbered P line fits r cites in (k.0, h k.0 ((tells k.0).1 (r, k.1, cites)), k.1)
 found_unnamed P named line A (Some n) fits tells h =
     let here = (tells n).0 h.0.0 in (
       (here.0, here.1, here.2, λ in_it. h.0.1 (subst (Contains named) (one_number P in_it.0 n here.0 in_it.2 here.1) in_it.1)),

@@ -6,7 +6,8 @@ use Rattle.rwsp_terms.specs.declared.data.Symbol.{Symbol}
 use Rattle.rwsp_terms.specs.Instance.{Instance}
 use Rattle.rwsp_model.specs.Validity.{KeepsLimits}
 use Rattle.refutation_terms.specs.declared.lines.Line.{Line}
-use Rattle.refutation_terms.specs.declared.lines.Line.TheVariants.{Split}
+use Rattle.refutation_terms.specs.declared.lines.Line.TheVariants.{Split, Unfinished, Closing}
+use Rattle.refutation_terms.specs.declared.lines.Leaf.TheVariants.{Window, Day, Dead, Bound, Few, Free}
 use Rattle.refutation_terms.specs.Tree.{IsLeaf, IsTree, Node, lines_in}
 use Rattle.refutation_terms.specs.LogText.{raw, raw_fields, line_text}
 use Rattle.rwsp_text.specs.Lines.{IsNextLine}
@@ -86,8 +87,15 @@ side_crossed P splits outer after u lines is first to h =
 pub by_letter : (P : Instance) (l : Line) (t : Bool) → (get_or (line_text P (raw P l)) 0 0 == 115) ≡ t → MatchBool t ((p : ℕ) × (x : Symbol) × (l ≡ Split p x)) (IsLeaf l)
 by_letter P (Split p x) true e = (p, x, refl)
 by_letter P (Split p x) false e = absurd (cc)
-by_letter P l true e = absurd (cc)
-by_letter P l false e = tt
+by_letter P (Closing (Window rule p len)) true e = absurd (cc)
+by_letter P (Closing (Day j x over)) true e = absurd (cc)
+by_letter P (Closing (Dead p len R)) true e = absurd (cc)
+by_letter P (Closing (Bound p turns R y)) true e = absurd (cc)
+by_letter P (Closing Few) true e = absurd (cc)
+by_letter P (Closing (Free turns reward R y)) true e = absurd (cc)
+by_letter P Unfinished true e = absurd (cc)
+by_letter P (Closing leaf) false e = tt
+by_letter P Unfinished false e = tt
 
 kind_of : (P : Instance) (bytes : List ℕ) (l : Line) (t : Bool) → t ≡ (get_or bytes 0 0 == 115) → IsLineText P bytes l → MatchBool t ((p : ℕ) × (x : Symbol) × (l ≡ Split p x)) (IsLeaf l)
 kind_of P bytes l t e h = by_letter P l t (ap (λ b. get_or b 0 0 == 115) (sym h.text) ∙ sym e)

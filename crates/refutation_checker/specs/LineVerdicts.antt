@@ -3,7 +3,7 @@ use Rattle.std.specs.Prelude.{◌≡◌, ℕ, List, true, Option}
 use Rattle.rwsp_terms.specs.Instance.{Instance}
 use Rattle.refutation_terms.specs.declared.lines.Line.{Line}
 use Rattle.refutation_terms.specs.declared.lines.Line.TheVariants.{Split, Unfinished, Closing}
-use Rattle.refutation_terms.specs.declared.lines.Leaf.TheVariants.{Dead, Bound, Few, Free}
+use Rattle.refutation_terms.specs.declared.lines.Leaf.TheVariants.{Dead, Bound, Free}
 use Rattle.refutation_terms.specs.declared.lines.LogRefusal.{LogRefusal}
 use Rattle.refutation_terms.specs.declared.lines.LogRefusal.TheVariants as Refusals
 use Rattle.refutation_terms.specs.Word.{Domains}
@@ -18,8 +18,7 @@ abbrev pub StandsPlainly : Instance → Option ℕ → Domains → Line → Type
 StandsPlainly P goal D (Closing (Dead p len R)) = Unit {0}
 StandsPlainly P goal D (Closing (Bound p turns R y)) = Unit {0}
 StandsPlainly P goal D (Closing (Free turns reward R y)) = Unit {0}
-StandsPlainly P goal D (Closing Few) = Holds P goal D (Closing Few)
-StandsPlainly P goal D line = Holds P None D line
+StandsPlainly P goal D line = Holds P goal D line
 
 -- the line has no cause but a word that escapes it
 pub record IsPlainlySound (P : Instance) (goal : Option ℕ) (named : List ℕ) (D : Domains) (line : Line) : Type 0 where
@@ -63,16 +62,12 @@ HasNoList (Closing (Bound p turns R y)) = ⊥
 HasNoList (Closing (Free turns reward R y)) = ⊥
 HasNoList line = Unit {0}
 
--- a dead or a bound leaf that holds. Nothing is said of other lines
-abbrev pub HoldsByWords : Instance → Domains → Line → Type 0
-HoldsByWords P None D (Closing (Dead p len R)) = IsDead P D p len R
-HoldsByWords P None D (Closing (Bound p turns R y)) = IsTooLight P D p turns R y
-HoldsByWords P None D line = Unit {0}
-
--- the same of a log with this goal or none, where a free leaf is judged by words too
+-- a dead, a bound or a free leaf that holds in a log with this goal or none. Nothing is said of other lines
 abbrev pub HoldsByWords : Instance → Option ℕ → Domains → Line → Type 0
+HoldsByWords P goal D (Closing (Dead p len R)) = IsDead P D p len R
+HoldsByWords P goal D (Closing (Bound p turns R y)) = IsTooLight P D p turns R y
 HoldsByWords P goal D (Closing (Free turns reward R y)) = Holds P goal D (Closing (Free turns reward R y))
-HoldsByWords P goal D line = HoldsByWords P None D line
+HoldsByWords P goal D line = Unit {0}
 
 -- the line has no cause in a log with this goal or none
 pub record IsSoundLine (P : Instance) (goal : Option ℕ) (named : List ℕ) (D : Domains) (line : Line) : Type 0 where

@@ -16,7 +16,7 @@ use crate::word_leaves::{escape_of, list_of};
 use clean_words::{Automaton, TailRules};
 use domain_store::{Domains, Walk};
 use refutation_log::{LineRefusal, read_line_for};
-use refutation_terms::{Line, LogRefusal};
+use refutation_terms::{Leaf, Line, LogRefusal};
 use rwsp_model::{Fail, Problem};
 use rwsp_terms::{RuleList, Word};
 use std::alloc::{AllocError, Global};
@@ -212,7 +212,10 @@ impl<'a> Judge<'a> {
         ensures plain { IfOk result (λ plain. IsTrue plain
             → HoldsByWordsUnder self.old (has_domain doms.now) line.now) }
     {
-        let Line::Closing(Leaf::Dead { p, len, rules }) = line else {
+        let Line::Closing(leaf) = line else {
+            return Ok(false);
+        };
+        let Leaf::Dead { p, len, rules } = leaf else {
             return Ok(false);
         };
         let tails = tails_of(alloc, self.problem, self.tails.take(), rules)?;

@@ -5,7 +5,7 @@ ghost use Rattle.rwsp_model.specs.RuleNumbers.{IsShortNumber};
 ghost use Rattle.refutation_terms.specs.Log.{AreRules, LineFits, ListsShortOnly};
 ghost use Rattle.refutation_terms.specs.Verdict.{IsLeast, IsLongIn, ListsLong};
 
-use refutation_terms::Line;
+use refutation_terms::{Leaf, Line};
 use rwsp_model::{Problem, is_short, rule_at};
 use rwsp_terms::RuleList;
 
@@ -41,14 +41,13 @@ pub fn long_rule(problem: &Problem, line: &Line) -> Option<u32>
         (ListsShortOnly problem.now line.now)
         (λ k. IsLeast (ListsLong problem.now line.now) k) }
 {
-    match line {
-        Line::Closing(Leaf::Dead { rules, .. }) => least_long(problem, rules),
-        Line::Closing(Leaf::Bound { rules, .. }) => least_long(problem, rules),
-        Line::Closing(Leaf::Free { rules, .. }) => least_long(problem, rules),
-        Line::Split { .. }
-        | Line::Closing(Leaf::Window { .. })
-        | Line::Closing(Leaf::Day { .. })
-        | Line::Closing(Leaf::Few)
-        | Line::Unfinished => None,
+    let Line::Closing(leaf) = line else {
+        return None;
+    };
+    match leaf {
+        Leaf::Dead { rules, .. } => least_long(problem, rules),
+        Leaf::Bound { rules, .. } => least_long(problem, rules),
+        Leaf::Free { rules, .. } => least_long(problem, rules),
+        Leaf::Window { .. } | Leaf::Day { .. } | Leaf::Few => None,
     }
 }

@@ -11,7 +11,7 @@ use crate::long_rules::long_rule;
 use crate::unnamed_rules::unnamed_rule;
 use domain_store::Domains;
 use plain_leaves::{day_holds, few_holds, window_holds};
-use refutation_terms::{Line, LogRefusal};
+use refutation_terms::{Leaf, Line, LogRefusal};
 use rwsp_model::Problem;
 use rwsp_terms::{RuleList, Symbol};
 
@@ -40,13 +40,25 @@ fn stands_plainly(problem: &Problem, goal: Option<u32>, doms: &Domains, line: &L
     doms.prove_facts();
     match line {
         Line::Split { p, x } => can_split(problem, doms, *p, *x),
-        Line::Closing(Leaf::Window { rule, p, len }) => window_holds(problem, doms, *rule, *p, *len),
-        Line::Closing(Leaf::Day { day, x, over }) => day_holds(problem, doms, *day, *x, *over),
-        Line::Closing(Leaf::Dead { .. }) => true,
-        Line::Closing(Leaf::Bound { .. }) => true,
-        Line::Closing(Leaf::Free { .. }) => true,
-        Line::Closing(Leaf::Few) => few_stands(problem, goal, doms),
+        Line::Closing(leaf) => leaf_stands(problem, goal, doms, leaf),
         Line::Unfinished => false,
+    }
+}
+
+// The same of a leaf.
+fn leaf_stands(problem: &Problem, goal: Option<u32>, doms: &Domains, leaf: &Leaf) -> bool
+    requires goal { GoalFits problem.now None goal }
+    requires domains { BelongsTo problem.now doms.now }
+    requires fits { LineFits problem.now goal (Line.Closing leaf.now) }
+    ensures { IsTrue result ↔ StandsPlainly problem.now goal (has_domain doms.now) (Line.Closing leaf.now) }
+{
+    match leaf {
+        Leaf::Window { rule, p, len } => window_holds(problem, doms, *rule, *p, *len),
+        Leaf::Day { day, x, over } => day_holds(problem, doms, *day, *x, *over),
+        Leaf::Dead { .. } => true,
+        Leaf::Bound { .. } => true,
+        Leaf::Free { .. } => true,
+        Leaf::Few => few_stands(problem, goal, doms),
     }
 }
 

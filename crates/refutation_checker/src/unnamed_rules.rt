@@ -3,10 +3,11 @@ ghost use Rattle.std.specs.Prelude.{◌≡◌, ◌⊎◌, ℕ, Contains, Option,
 ghost use Rattle.rwsp_terms.specs.Instance.{IsDay};
 ghost use Rattle.refutation_terms.specs.Log.{Cites, CitesOnlyNamed, LineFits, WeightsFit};
 ghost use Rattle.refutation_terms.specs.Verdict.{IsLeast, IsUnnamed};
+ghost use Rattle.refutation_log.specs.Printing.{FitsSomeLog};
 ghost use Rattle.refutation_log.specs.Cited.{IsDayRule, IsWeighedDayRule};
 ghost use Rattle.refutation_checker.specs.Outside.{IsLeastOutside, lesser};
 
-use refutation_terms::Line;
+use refutation_terms::{Leaf, Line};
 use rwsp_model::{Problem, number_of};
 use rwsp_terms::{Rule, RuleList, Weights};
 
@@ -91,11 +92,24 @@ pub fn unnamed_rule(problem: &Problem, named: &RuleList, line: &Line) -> Option<
         (λ k. IsLeast (IsUnnamed problem.now named.now (Cites problem.now line.now)) k) }
 {
     match line {
-        Line::Split { .. } | Line::Closing(Leaf::Few) | Line::Unfinished => None,
-        Line::Closing(Leaf::Window { rule, .. }) => outside(*rule, named),
-        Line::Closing(Leaf::Day { day, .. }) => day_outside(problem, *day, named),
-        Line::Closing(Leaf::Dead { rules, .. }) => least_outside(rules, named),
-        Line::Closing(Leaf::Bound { rules, weights, .. }) => least_of_words(problem, rules, weights, named),
-        Line::Closing(Leaf::Free { rules, weights, .. }) => least_of_words(problem, rules, weights, named),
+        Line::Split { .. } | Line::Unfinished => None,
+        Line::Closing(leaf) => unnamed_in_leaf(problem, named, leaf),
+    }
+}
+
+// The same of a leaf.
+fn unnamed_in_leaf(problem: &Problem, named: &RuleList, leaf: &Leaf) -> Option<u32>
+    requires { FitsSomeLog problem.now (Line.Closing leaf.now) }
+    ensures { MatchOption result
+        (CitesOnlyNamed problem.now named.now (Line.Closing leaf.now))
+        (λ k. IsLeast (IsUnnamed problem.now named.now (Cites problem.now (Line.Closing leaf.now))) k) }
+{
+    match leaf {
+        Leaf::Few => None,
+        Leaf::Window { rule, .. } => outside(*rule, named),
+        Leaf::Day { day, .. } => day_outside(problem, *day, named),
+        Leaf::Dead { rules, .. } => least_outside(rules, named),
+        Leaf::Bound { rules, weights, .. } => least_of_words(problem, rules, weights, named),
+        Leaf::Free { rules, weights, .. } => least_of_words(problem, rules, weights, named),
     }
 }

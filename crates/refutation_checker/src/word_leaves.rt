@@ -12,7 +12,7 @@ ghost use Rattle.refutation_checker.specs.LineVerdicts.{HasNoList, HasList, Hold
 use clean_words::{Automaton, CleanWords, escape};
 use domain_store::Domains;
 use potential_bounds::{FreeClaim, bound_escape, free_escape};
-use refutation_terms::Line;
+use refutation_terms::{Leaf, Line};
 use rwsp_terms::{RuleList, Word};
 use std::alloc::{AllocError, Global};
 
@@ -45,20 +45,23 @@ pub fn escape_of(
         (HoldsByWords automaton.now.problem goal (has_domain doms.now) line.now)
         (Escapes automaton.now.problem goal (has_domain doms.now) line.now)) }
 {
-    match line {
-        Line::Closing(Leaf::Dead { p, len, .. }) => dead_escape(alloc, automaton, doms, *p, *len),
-        Line::Closing(Leaf::Bound {
+    let Line::Closing(leaf) = line else {
+        return Ok(None);
+    };
+    match leaf {
+        Leaf::Dead { p, len, .. } => dead_escape(alloc, automaton, doms, *p, *len),
+        Leaf::Bound {
             p,
             turns,
             weights,
             ..
-        }) => bound_escape(alloc, automaton, doms, *p, *turns, weights),
-        Line::Closing(Leaf::Free {
+        } => bound_escape(alloc, automaton, doms, *p, *turns, weights),
+        Leaf::Free {
             turns,
             reward,
             weights,
             ..
-        }) => match goal {
+        } => match goal {
             Some(goal) => {
                 let claim = FreeClaim {
                     goal,

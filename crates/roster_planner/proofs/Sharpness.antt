@@ -1,5 +1,5 @@
 -- A log whose splits are as the reasons of a plan say is sharp.
-use Rattle.std.proofs.Common.{◌≡◌, ℕ, ◌+◌, ◌*◌, ◌^◌, ◌<◌, ◌≤◌, List, refl, sym, ◌∙◌, subst, arith, inl, inr, Option, Some, Bool, true, false, ◌&&◌}
+use Rattle.std.proofs.Common.{◌≡◌, ℕ, ◌+◌, ◌*◌, ◌^◌, ◌<◌, ◌≤◌, List, refl, sym, ◌∙◌, subst, arith, inl, inr, Option, Some, None, Bool, true, false, ◌&&◌}
 use Rattle.std.specs.Prelude.{slice_get, Result, Ok, Err, IfOk}
 use Rattle.std.specs.declared.alloc.AllocError.{AllocError}
 use Rattle.rwsp_terms.specs.declared.data.Symbol.{Symbol}
@@ -63,7 +63,7 @@ top_line P turn leaves spent R lines (Split p x) limits short reasons forced nev
 top_line P turn leaves spent R lines Unfinished limits short reasons forced never at undecided = absurd (never at)
 top_line P turn leaves spent R lines line limits short reasons forced never at undecided = absurd undecided
 
-planned_log : (P : Instance) (turn : Option Turn) (leaves : Leaves) (spent : Spent) (R : List ℕ) (g : Log) → KeepsLimits P → IsFirstTurn P turn → AreShortRules P R → AreReasons P turn leaves spent → (slice_get g.lines 0 ≡ Some Unfinished → ⊥) → IsSearchLog P turn leaves spent g → IsPlannedLog P g
+planned_log : (P : Instance) (turn : Option Turn) (leaves : Leaves) (spent : Spent) (R : List ℕ) (g : Log) → KeepsLimits P → IsFirstTurn P turn → AreShortRules P R → AreReasons P turn leaves spent → (slice_get g.lines 0 ≡ Some Unfinished → ⊥) → IsSearchLog P turn None leaves spent g → IsPlannedLog P g
 planned_log P turn leaves spent R g limits first short reasons never h =
     let same = h.of_turn.same_turn in
     record {
@@ -79,7 +79,7 @@ planned_log P turn leaves spent R g limits first short reasons never h =
       };
     }
 
-pub planned_as_found : (P : Instance) (turn : Option Turn) (budget : ℕ) (leaves : Leaves) (spent : Spent) (R : List ℕ) (found : Found) → KeepsLimits P → 1 ≤ budget → IsFirstTurn P turn → AreShortRules P R → AreReasons P turn leaves spent → IsFound P turn budget leaves spent found → (HasSpentBudget found → budget + 1 < 2 * (shift_count P + 1) ^ cells P) → IsPlanned P budget found
+pub planned_as_found : (P : Instance) (turn : Option Turn) (budget : ℕ) (leaves : Leaves) (spent : Spent) (R : List ℕ) (found : Found) → KeepsLimits P → 1 ≤ budget → IsFirstTurn P turn → AreShortRules P R → AreReasons P turn leaves spent → IsFound P turn None budget leaves spent found → (HasSpentBudget found → budget + 1 < 2 * (shift_count P + 1) ^ cells P) → IsPlanned P budget found
 planned_as_found P turn budget leaves spent R (Roster s) limits some first short reasons h few = (h.0, h.1)
 planned_as_found P turn budget leaves spent R (NoRoster g) limits some first short reasons h few =
     (h.0, h.1, planned_log P turn leaves spent R g limits first short reasons (λ at. h.0.holds 0 Unfinished at) h.2)
@@ -87,6 +87,6 @@ planned_as_found P turn budget leaves spent R (Undecided g) limits some first sh
     (h.0, planned_log P turn leaves spent R g limits first short reasons (λ at. h.0.holds 0 Unfinished (omega (arith, some)) at) h.1, few tt)
 
 -- the same of what a search gives
-pub plan_found : (P : Instance) (turn : Option Turn) (budget : ℕ) (leaves : Leaves) (spent : Spent) (R : List ℕ) (r : Result Found AllocError) → KeepsLimits P → 1 ≤ budget → IsFirstTurn P turn → AreShortRules P R → AreReasons P turn leaves spent → IfOk r (IsFound P turn budget leaves spent) → IfOk r (λ found. HasSpentBudget found → budget + 1 < 2 * (shift_count P + 1) ^ cells P) → IfOk r (IsPlanned P budget)
+pub plan_found : (P : Instance) (turn : Option Turn) (budget : ℕ) (leaves : Leaves) (spent : Spent) (R : List ℕ) (r : Result Found AllocError) → KeepsLimits P → 1 ≤ budget → IsFirstTurn P turn → AreShortRules P R → AreReasons P turn leaves spent → IfOk r (IsFound P turn None budget leaves spent) → IfOk r (λ found. HasSpentBudget found → budget + 1 < 2 * (shift_count P + 1) ^ cells P) → IfOk r (IsPlanned P budget)
 plan_found P turn budget leaves spent R (Ok found) limits some first short reasons h few = planned_as_found P turn budget leaves spent R found limits some first short reasons h few
 plan_found P turn budget leaves spent R (Err e) limits some first short reasons h few = tt

@@ -19,7 +19,7 @@ use Rattle.refutation_terms.specs.FreeLeaves.{IsTooLightFree}
 use Rattle.refutation_terms.specs.Tree.{Leaf, IsLeaf, opening, domains_at}
 use Rattle.refutation_terms.specs.Log.{Log, AreRules, GoalFits, LineFits, Holds, Cites, ListsShortOnly, FreePasses, size}
 use Rattle.refutation_terms.specs.Sharp.{IsUnclosed}
-use Rattle.refutation_terms.specs.Verdict.{EscapesFree}
+use Rattle.refutation_terms.specs.Verdict.{Escapes}
 use Rattle.refutation_terms.proofs.SameDomains.{turned_round, same_holds_for}
 use Rattle.refutation_log.specs.Bests.{IsFreeProof}
 use Rattle.refutation_log.specs.FreeSharp.{HoldsFreeAtTop, IsFreeSharp}
@@ -37,7 +37,7 @@ line_fits P goal R limits rules =
     ((omega (arith, some), omega (arith, few)), omega arith, rules, (no_weights, λ k d less. absurd (omega (arith, less))))
 
 -- a word that escapes the leaf shows that it doesn't hold
-escaped : (P : Instance) (goal : ℕ) (D : Domains) (R : List ℕ) (w : List Symbol) → EscapesFree P goal D (top_line R) w → IsTooLightFree P goal D 1 1 R [] → ⊥
+escaped : (P : Instance) (goal : ℕ) (D : Domains) (R : List ℕ) (w : List Symbol) → Escapes P (Some goal) D (top_line R) w → IsTooLightFree P goal D 1 1 R [] → ⊥
 escaped P goal D R w h light =
     let clean = h.0.heavy.clean in
     let less = light w clean.long clean.over clean.clean in
@@ -48,7 +48,7 @@ pub holds_without_escape : (P : Instance) (goal : ℕ) (R : List ℕ) (D : Domai
 holds_without_escape P goal R D limits fits rules same h = same_holds_for P (Some goal) D (full P) (top_line R) (some_cells P limits) fits (line_fits P goal R limits rules) same h
 
 -- and where one does, it doesn't
-pub fails_by_escape : (P : Instance) (goal : ℕ) (R : List ℕ) (D : Domains) (w : List Symbol) → KeepsLimits P → GoalFits P None (Some goal) → AreRules P R → AreSame P D (full P) → EscapesFree P goal D (top_line R) w → HoldsFreeAtTop P goal R → ⊥
+pub fails_by_escape : (P : Instance) (goal : ℕ) (R : List ℕ) (D : Domains) (w : List Symbol) → KeepsLimits P → GoalFits P None (Some goal) → AreRules P R → AreSame P D (full P) → Escapes P (Some goal) D (top_line R) w → HoldsFreeAtTop P goal R → ⊥
 fails_by_escape P goal R D w limits fits rules same h k =
     escaped P goal D R w h (same_holds_for P (Some goal) (full P) D (top_line R) (some_cells P limits) fits (line_fits P goal R limits rules) (turned_round P D (full P) same) k)
 

@@ -4,7 +4,7 @@ ghost use Rattle.rwsp_terms.specs.Instance.{cells, shift_count};
 ghost use Rattle.refutation_terms.specs.Log.{TurnFits, GoalFits, IsAllowed};
 ghost use Rattle.domain_store.specs.Cycles.{AreShortRules};
 ghost use Rattle.domain_store.specs.Looks.{HasPlainLeaves};
-ghost use Rattle.roster_search.specs.Founds.{IsFoundFor, HasSpentBudget};
+ghost use Rattle.roster_search.specs.Founds.{IsFound, HasSpentBudget};
 ghost use Rattle.roster_search.specs.Guides.{AreUnweighed};
 
 use crate::guide::PlannerGuide;
@@ -36,7 +36,7 @@ pub fn planner_search<A: Propagator>(
     requires serves { A.serves reasons.old automaton.now.problem }
     requires plain { HasPlainLeaves automaton.now.problem (A.leaves reasons.old) }
     requires unweighed { AreUnweighed aim.goal (A.leaves reasons.old) }
-    ensures found { IfOk result (λ found. IsFoundFor automaton.now.problem aim.turn aim.goal aim.budget
+    ensures found { IfOk result (λ found. IsFound automaton.now.problem aim.turn aim.goal aim.budget
         (A.leaves reasons.old) (A.spent reasons.old) found) }
     ensures complete { let P = automaton.now.problem in IfOk result (λ found.
         HasSpentBudget found → aim.budget + 1 < 2 * (shift_count P + 1) ^ cells P) }

@@ -9,7 +9,7 @@ use clean_words::Automaton;
 use domain_store::Domains;
 use potential_bounds::{Claim, claim_escape};
 use refutation_log::Log;
-use refutation_terms::Line;
+use refutation_terms::{Leaf, Line};
 use rwsp_terms::Weights;
 use std::alloc::{AllocError, Global};
 

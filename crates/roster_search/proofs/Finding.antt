@@ -6,7 +6,7 @@ use Rattle.refutation_log.specs.declared.found.Found.{Found}
 use Rattle.refutation_log.specs.declared.found.Found.TheVariants.{Roster, NoRoster, Undecided}
 use Rattle.roster_search.specs.declared.aim.Aim.{Aim}
 use Rattle.roster_search.specs.declared.progress.Progress.{Progress}
-use Rattle.roster_search.specs.Founds.{IsForced, AreForced, FewHoldsAtNoSplit, IsFoundFor, HasSpentBudget}
+use Rattle.roster_search.specs.Founds.{IsForced, AreForced, FewHoldsAtNoSplit, IsFound, HasSpentBudget}
 use Rattle.roster_search.specs.Written.{IsProgress, IsUnderWay, IsEnded}
 use Rattle.roster_search.proofs.Volume.{spent_budgets_small}
 use Rattle.roster_search.proofs.Forced.{Leaves, Spent, NotFew, none_said, rest_said}
@@ -20,7 +20,7 @@ begins_under_way P leaves spent s written none = record {
   few = omega (arith, ap length none);
 }
 
-pub found_by : (P : Instance) (leaves : Leaves) (spent : Spent) (s : Progress) (found : Found) → IsUnderWay P leaves spent s → IsEnded P s.aim s.lines.items found → IsFoundFor P s.aim.turn s.aim.goal s.aim.budget leaves spent found
+pub found_by : (P : Instance) (leaves : Leaves) (spent : Spent) (s : Progress) (found : Found) → IsUnderWay P leaves spent s → IsEnded P s.aim s.lines.items found → IsFound P s.aim.turn s.aim.goal s.aim.budget leaves spent found
 found_by P leaves spent s (Roster r) u e = absurd e
 found_by P leaves spent s (NoRoster g) u e = (
   e.0,

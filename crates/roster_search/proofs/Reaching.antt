@@ -1,5 +1,5 @@
 -- Lines and rosters of a search, with a goal or without one.
-use Rattle.std.proofs.Common.{◌≡◌, ℕ, ◌+◌, ◌*◌, ◌<◌, Option, Some, None, refl, sym, subst, arith}
+use Rattle.std.proofs.Common.{◌≡◌, ℕ, ◌+◌, ◌*◌, ◌<◌, Option, Some, None, true, false, refl, sym, subst, arith}
 use Rattle.rwsp_terms.specs.declared.data.Symbol.{Symbol}
 use Rattle.rwsp_terms.specs.Instance.{Instance, cells}
 use Rattle.refutation_terms.specs.declared.lines.Line.{Line}
@@ -7,7 +7,7 @@ use Rattle.refutation_terms.specs.declared.lines.Line.TheVariants.{Split, Unfini
 use Rattle.refutation_terms.specs.declared.lines.Leaf.TheVariants.{Window, Day, Dead, Bound, Few, Free}
 use Rattle.refutation_terms.specs.declared.lines.Turn.{Turn}
 use Rattle.refutation_terms.specs.Word.{Domains, AreSame}
-use Rattle.refutation_terms.specs.Log.{LineFits, GoalFits, Holds, HoldsFree}
+use Rattle.refutation_terms.specs.Log.{LineFits, GoalFits, Holds}
 use Rattle.refutation_terms.proofs.SameDomains as SameDomains
 use Rattle.refutation_terms.proofs.SameDomains.{turned_round, same_holds}
 use Rattle.domain_store.specs.Store.{Store}
@@ -17,19 +17,13 @@ use Rattle.roster_search.specs.Guides.{AreUnweighed}
 
 -- a line that weighs no words is one of a free log too
 
-free_holds : (P : Instance) (goal : ℕ) (D : Domains) (line : Line) → Holds P None D line → HoldsFree P goal D line
-free_holds P goal D (Split p x) h = h
-free_holds P goal D (Closing (Window number p len)) h = h
-free_holds P goal D (Closing (Day j x over)) h = h
-free_holds P goal D (Closing (Dead p len R)) h = h
-free_holds P goal D (Closing (Bound p turns R y)) h = h
-free_holds P goal D (Closing Few) h = absurd h
-free_holds P goal D (Closing (Free turns reward R y)) h = absurd h
-free_holds P goal D Unfinished h = h
-
 pub plain_holds : (P : Instance) (goal : Option ℕ) (D : Domains) (line : Line) → Holds P None D line → Holds P goal D line
 plain_holds P None D line h = h
-plain_holds P (Some goal) D line h = free_holds P goal D line h
+plain_holds P (Some goal) D (Closing Few) h = absurd h
+plain_holds P (Some goal) D (Closing (Free turns reward R y)) h = absurd h
+plain_holds P (Some goal) D (Closing (Day j x true)) h = h
+plain_holds P (Some goal) D (Closing (Day j x false)) h = h
+plain_holds P (Some goal) D line h = h
 
 plain_fits : (P : Instance) (goal : Option ℕ) (line : Line) → LineFits P None line → IsUnweighed line → LineFits P goal line
 plain_fits P goal (Split p x) fits light = fits
@@ -48,8 +42,7 @@ pub fitting_split : (P : Instance) (goal : Option ℕ) (p : ℕ) (x : Symbol) �
 fitting_split P goal p x fits = fits
 
 pub holding_split : (P : Instance) (goal : Option ℕ) (D : Domains) (p : ℕ) (x : Symbol) → Holds P goal D (Split p x) → Holds P None D (Split p x)
-holding_split P None D p x h = h
-holding_split P (Some goal) D p x h = h
+holding_split P goal D p x h = h
 
 pub open_fits : (P : Instance) (goal : Option ℕ) → LineFits P goal Unfinished
 open_fits P goal = plain_fits P goal Unfinished tt tt

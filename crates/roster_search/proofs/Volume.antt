@@ -1,5 +1,5 @@
 -- How many leaves a tree can have: no more than there are words over the domains.
-use Rattle.std.proofs.Common.{◌≡◌, ◌≢◌, ◌⊎◌, ℕ, zero, suc, ◌+◌, ◌*◌, ◌^◌, ◌<◌, ◌≤◌, [], ◌++◌, length, Option, Some, refl, ap, sym, ◌∙◌, subst, arith, length-append, inl, inr, cond, Bool, true, false, List, IsTrue, ◌&&◌, ◌||◌, ◌==◌, not, count_by}
+use Rattle.std.proofs.Common.{◌≡◌, ◌≢◌, ◌⊎◌, ℕ, zero, suc, ◌+◌, ◌*◌, ◌^◌, ◌<◌, ◌≤◌, [], ◌++◌, length, Option, Some, refl, ap, sym, ◌∙◌, subst, arith, length-append, inl, inr, cond, Bool, true, false, List, IsTrue, ◌&&◌, ◌||◌, ◌==◌, not, count_by, None}
 use Rattle.std.specs.List.{range_with_len}
 use Rattle.std.proofs.Math.Nat.{mul-add, add-mul, mul-le-mul, mul-pos, pow-suc, pow-zero}
 use Rattle.std.proofs.Math.Bool.{and-true}

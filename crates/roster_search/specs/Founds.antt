@@ -1,5 +1,5 @@
 -- What a search finds.
-use Rattle.std.specs.Prelude.{◌≡◌, ℕ, ◌≤◌, List, slice_get, Option, Some, None}
+use Rattle.std.specs.Prelude.{◌≡◌, ℕ, ◌≤◌, List, slice_get, Option, Some}
 use Rattle.rwsp_terms.specs.declared.data.Symbol.{Symbol}
 use Rattle.rwsp_terms.specs.Instance.{Instance}
 use Rattle.refutation_terms.specs.declared.lines.Line.{Line}
@@ -46,31 +46,21 @@ pub record IsLogOfTurn (P : Instance) (turn : Option Turn) (g : Log) : Type 0 wh
   pub cited : NamesOnlyCited P g
 
 -- such a log, whose splits are as the propagator says, for this goal or none
-pub record IsSearchLogFor (P : Instance) (turn : Option Turn) (goal : Option ℕ) (leaves : Store → Line → Type 0)
+pub record IsSearchLog (P : Instance) (turn : Option Turn) (goal : Option ℕ) (leaves : Store → Line → Type 0)
     (spent : Store → ℕ → Symbol → Type 0) (g : Log) : Type 0 where
   pub of_turn : IsLogOfTurn P turn g
   pub splits : AreForced P leaves spent turn g.lines
   pub no_few : FewHoldsAtNoSplit P goal turn g.lines
 
--- the same without a goal
-abbrev pub IsSearchLog : Instance → Option Turn → (Store → Line → Type 0) → (Store → ℕ → Symbol → Type 0) → Log
-    → Type 0
-IsSearchLog P turn leaves spent g = IsSearchLogFor P turn None leaves spent g
-
 -- a roster that meets every rule and has as many free weekends as the goal, where there is one; or a log that passes,
 -- of at most the budget's size; or one that has spent the budget
-abbrev pub IsFoundFor : Instance → Option Turn → Option ℕ → ℕ → (Store → Line → Type 0)
+abbrev pub IsFound : Instance → Option Turn → Option ℕ → ℕ → (Store → Line → Type 0)
     → (Store → ℕ → Symbol → Type 0) → Found → Type 0
-IsFoundFor P turn goal budget leaves spent (Roster s) = IsWantedRoster P goal s
-IsFoundFor P turn goal budget leaves spent (NoRoster g) =
-    PassesFor P goal g × (size g ≤ budget) × IsSearchLogFor P turn goal leaves spent g
-IsFoundFor P turn goal budget leaves spent (Undecided g) =
-    IsSpentFor P goal g budget × IsSearchLogFor P turn goal leaves spent g
-
--- the same without a goal
-abbrev pub IsFound : Instance → Option Turn → ℕ → (Store → Line → Type 0) → (Store → ℕ → Symbol → Type 0) → Found
-    → Type 0
-IsFound P turn budget leaves spent found = IsFoundFor P turn None budget leaves spent found
+IsFound P turn goal budget leaves spent (Roster s) = IsWantedRoster P goal s
+IsFound P turn goal budget leaves spent (NoRoster g) =
+    PassesFor P goal g × (size g ≤ budget) × IsSearchLog P turn goal leaves spent g
+IsFound P turn goal budget leaves spent (Undecided g) =
+    IsSpentFor P goal g budget × IsSearchLog P turn goal leaves spent g
 
 -- the budget was spent
 abbrev pub HasSpentBudget : Found → Type 0

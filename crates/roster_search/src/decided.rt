@@ -1,5 +1,5 @@
 // Rosters of decided domains.
-ghost use Rattle.std.specs.Prelude.{◌≡◌, ℕ, Bool, Option, IfOk};
+ghost use Rattle.std.specs.Prelude.{◌≡◌, ℕ, Bool, Option, IfOk, None};
 ghost use Rattle.rwsp_terms.specs.declared.data.Symbol.{Symbol};
 ghost use Rattle.rwsp_terms.specs.Roster.{MeetsAll};
 ghost use Rattle.refutation_terms.specs.declared.lines.Line.TheVariants.{Closing};

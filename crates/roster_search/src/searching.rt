@@ -3,7 +3,7 @@ ghost use Rattle.std.specs.Prelude.{◌≡◌, ℕ, ◌+◌, ◌*◌, ◌^◌, �
 ghost use Rattle.rwsp_terms.specs.Instance.{Instance, cells, shift_count};
 ghost use Rattle.refutation_terms.specs.Log.{TurnFits, GoalFits, IsAllowed};
 ghost use Rattle.domain_store.specs.Looks.{HasPlainLeaves, IsSame};
-ghost use Rattle.roster_search.specs.Founds.{IsFoundFor, HasSpentBudget};
+ghost use Rattle.roster_search.specs.Founds.{IsFound, HasSpentBudget};
 ghost use Rattle.roster_search.specs.Guides.{IsWantedRoster, AreUnweighed};
 ghost use Rattle.roster_search.specs.Written.{IsSearching};
 
@@ -34,7 +34,7 @@ pub fn search<A: Propagator, G: Guide>(
     requires plain { HasPlainLeaves problem.now (A.leaves propagator.old) }
     requires unweighed { AreUnweighed aim.goal (A.leaves propagator.old) }
     requires guide { G.serves guide.old problem.now aim.goal }
-    ensures found { IfOk result (λ found. IsFoundFor problem.now aim.turn aim.goal aim.budget
+    ensures found { IfOk result (λ found. IsFound problem.now aim.turn aim.goal aim.budget
         (A.leaves propagator.old) (A.spent propagator.old) found) }
     ensures complete { IfOk result (λ found.
         HasSpentBudget found → aim.budget + 1 < 2 * (shift_count problem.now + 1) ^ cells problem.now) }

@@ -15,7 +15,7 @@ use crate::Guide;
 use crate::progress::Progress;
 use domain_store::{Domains, Look, Propagator};
 use plain_leaves::few_holds;
-use refutation_terms::Line;
+use refutation_terms::{Leaf, Line};
 use rwsp_model::{Problem, Roster};
 use rwsp_terms::Symbol;
 use std::alloc::{AllocError, Global};

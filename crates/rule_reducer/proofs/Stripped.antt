@@ -1,5 +1,5 @@
 -- When a log that passes still passes without one rule.
-use Rattle.std.proofs.Common.{◌≡◌, ◌≢◌, ℕ, ◌<◌, ◌≤◌, List, [], ◌∷◌, length, take, get_or, refl, ap, sym, ◌∙◌, subst, inl, inr, ⊎_elim, Some, Option, Bool, IsTrue, true, false, cond, not, ◌==◌}
+use Rattle.std.proofs.Common.{◌≡◌, ◌≢◌, ℕ, ◌<◌, ◌≤◌, List, [], ◌∷◌, length, take, get_or, refl, ap, sym, ◌∙◌, subst, inl, inr, ⊎_elim, Some, Option, Bool, IsTrue, true, false, cond, not, ◌==◌, None}
 use Rattle.std.specs.Prelude.{All, Contains, ◌↔◌, slice_get, MatchBool}
 use Rattle.std.proofs.lemmas.Bool.Decides.{eqb_tells}
 use Rattle.std.proofs.lemmas.List.{take_all, get_or_default}

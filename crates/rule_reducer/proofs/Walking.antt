@@ -1,5 +1,5 @@
 -- Walks through a log that passes, and what its lines say of a strip.
-use Rattle.std.proofs.Common.{◌≡◌, ℕ, ◌+◌, ◌<◌, ◌≤◌, List, [], ◌∷◌, ◌++◌, length, take, get_or, ◌&&◌, inl, inr, refl, ap, sym, ◌∙◌, subst, arith, Some, Option, Bool, true, false, IsTrue}
+use Rattle.std.proofs.Common.{◌≡◌, ℕ, ◌+◌, ◌<◌, ◌≤◌, List, [], ◌∷◌, ◌++◌, length, take, get_or, ◌&&◌, inl, inr, refl, ap, sym, ◌∙◌, subst, arith, Some, Option, Bool, true, false, IsTrue, None}
 use Rattle.std.specs.Prelude.{◌↔◌, slice_get, MatchBool, not}
 use Rattle.std.proofs.Math.Seq.{take-length}
 use Rattle.std.proofs.lemmas.Bool.{cases_lt}

@@ -1,5 +1,5 @@
 // Which rules the lines of a log cite, and which of them no strip takes out.
-ghost use Rattle.std.specs.Prelude.{◌≡◌, ◌↔◌, ◌⊎◌, ℕ, slice_get, Some, Option, IfOk, OnOk, true, false};
+ghost use Rattle.std.specs.Prelude.{◌≡◌, ◌↔◌, ◌⊎◌, ℕ, slice_get, Some, Option, IfOk, OnOk, true, false, None};
 ghost use Rattle.rwsp_terms.specs.declared.data.Rule.{Rule};
 ghost use Rattle.rwsp_terms.specs.Rules.{Names};
 ghost use Rattle.refutation_terms.specs.declared.lines.Line.{Line};
@@ -8,7 +8,7 @@ ghost use Rattle.rule_reducer.specs.Citing.{is_plain, OneCites, AreCited};
 
 use crate::shrinking_log::ShrinkingLog;
 use refutation_log::{Turn, put_cited, put_turn_cited};
-use refutation_terms::Line;
+use refutation_terms::{Leaf, Line};
 use rwsp_model::Problem;
 use rwsp_terms::RuleList;
 use std::alloc::{AllocError, Global};

@@ -8,7 +8,7 @@ ghost use Rattle.rule_reducer.specs.Citing.{HasList};
 
 use crate::lists::{weights_without, without};
 use refutation_log::copy_line;
-use refutation_terms::Line;
+use refutation_terms::{Leaf, Line};
 use rwsp_terms::{Rule, Weights};
 use std::alloc::{AllocError, Global};
 

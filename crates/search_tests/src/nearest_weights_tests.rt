@@ -4,7 +4,7 @@ ghost use Rattle.domain_store.specs.Store.{BelongsTo};
 use clean_words::{Automaton, Told};
 use domain_store::Domains;
 use nearest_weights::NearestWeights;
-use refutation_terms::Line;
+use refutation_terms::{Leaf, Line};
 use rwsp_model::Problem;
 use rwsp_terms::{Symbol, Weight};
 use std::alloc::{AllocError, Global};

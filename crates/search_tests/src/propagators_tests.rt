@@ -8,7 +8,7 @@ use clean_words::{Automaton, Told};
 use domain_store::{Domains, Look, Pair, Propagator};
 use potential_bounds::NoGate;
 use propagators::{CycleProp, DayProp, RootBounds, WindowProp};
-use refutation_terms::Line;
+use refutation_terms::{Leaf, Line};
 use rwsp_model::Problem;
 use rwsp_terms::Symbol;
 use std::alloc::{AllocError, Global};

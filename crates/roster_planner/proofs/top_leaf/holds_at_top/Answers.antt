@@ -1,11 +1,11 @@
 -- A word escapes the leaf exactly where it doesn't hold.
-use Rattle.std.proofs.Common.{List, refl, subst}
+use Rattle.std.proofs.Common.{List, Some, refl, subst}
 use Rattle.rwsp_terms.specs.declared.data.Symbol.{Symbol}
 use Rattle.rwsp_terms.specs.declared.data.Weight.{Weight}
 use Rattle.refutation_terms.specs.declared.lines.Line.TheVariants.{Closing}
 use Rattle.refutation_terms.specs.declared.lines.Leaf.TheVariants.{Free}
 use Rattle.refutation_terms.specs.FreeLeaves.{IsTooLightFree}
-use Rattle.refutation_terms.specs.Verdict.{EscapesFree}
+use Rattle.refutation_terms.specs.Verdict.{Escapes}
 use Rattle.refutation_terms.specs.Word.{AreSame, full}
 use Rattle.domain_store.specs.Store.{has_domain}
 use Rattle.roster_planner.proofs.TopProofs.{holds_without_escape, fails_by_escape}
@@ -22,8 +22,8 @@ returns-in-Some c =
     let limits = rw is at c.prove_limits.ensures in
     let has = rw is at c.in_ok-doms.ensures.has in
     let same : AreSame P D (full P) = λ p x inside. has p x inside in
-    let found : EscapesFree P g D (Closing (Free 1 1 R c.new-weights.result)) w = rw c.in-Some.is at c.in_ok-claim_escape.ensures in
-    let unweighed = subst (λ (y : List Weight). EscapesFree P g D (Closing (Free 1 1 R y)) w) c.new-weights.ensures found in
+    let found : Escapes P (Some g) D (Closing (Free 1 1 R c.new-weights.result)) w = rw c.in-Some.is at c.in_ok-claim_escape.ensures in
+    let unweighed = subst (λ (y : List Weight). Escapes P (Some g) D (Closing (Free 1 1 R y)) w) c.new-weights.ensures found in
     (λ e. absurd (cc e), λ k. absurd (fails_by_escape P g R D w limits (refl, c.requires.week, c.requires.goal) c.requires.short.are_rules same unweighed k))
 
 pub returns : goal.returns

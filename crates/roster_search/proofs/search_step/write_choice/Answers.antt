@@ -1,5 +1,5 @@
 -- Decided domains under which nothing was seen.
-use Rattle.std.proofs.Common.{subst}
+use Rattle.std.proofs.Common.{subst, None}
 use Rattle.refutation_terms.specs.declared.lines.Line.TheVariants.{Closing}
 use Rattle.refutation_terms.specs.declared.lines.Leaf.TheVariants.{Window, Day}
 use Rattle.refutation_terms.specs.Log.{Holds}

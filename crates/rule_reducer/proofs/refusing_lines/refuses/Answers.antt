@@ -1,4 +1,4 @@
-use Rattle.std.proofs.Common.{length, sym, subst}
+use Rattle.std.proofs.Common.{length, sym, subst, None}
 use Rattle.refutation_terms.specs.Tree.{domains_at}
 use Rattle.refutation_terms.specs.Log.{LineFits, ListsShortOnly, Holds}
 use Rattle.rule_reducer.proofs.Strips.{line_fits_still}

@@ -1,4 +1,4 @@
-use Rattle.std.proofs.Common.{IsTrue, take, sym, subst}
+use Rattle.std.proofs.Common.{IsTrue, take, sym, subst, None}
 use Rattle.std.proofs.lemmas.Result.{IfOk-weaker}
 use Rattle.rwsp_terms.specs.Instance.{Instance}
 use Rattle.refutation_terms.specs.Log.{LineFits, ListsShortOnly, Passes}

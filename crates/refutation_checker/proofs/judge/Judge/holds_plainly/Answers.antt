@@ -1,8 +1,10 @@
 -- The tail rules are of the same problem and of the line's list.
-use Rattle.std.proofs.Common.{ℕ, List, subst, sym}
+use Rattle.std.proofs.Common.{ap, ◌∙◌, ℕ, List, subst, sym}
 use Rattle.std.specs.Prelude.{IfOk, IsTrue}
 use Rattle.rwsp_terms.specs.Instance.{Instance}
 use Rattle.refutation_terms.specs.declared.lines.Line.{Line}
+use Rattle.refutation_terms.specs.declared.lines.Line.TheVariants.{Closing}
+use Rattle.refutation_terms.specs.declared.lines.Leaf.{Leaf}
 use Rattle.refutation_terms.specs.Leaf.{IsDead}
 use Rattle.domain_store.specs.Store.{has_domain}
 use Rattle.refutation_checker.specs.LineVerdicts.{HoldsByWords}
@@ -18,4 +20,4 @@ returns-clause-plain c =
     let of_list : F tails.problem c.in-Dead.rules = subst (F tails.problem) c.in_ok-tails.ensures.rules c.is_plainly_dead-plain.ensures in
     let of_problem : F c.self.inside.problem.now c.in-Dead.rules = subst (λ (P : Instance). F P c.in-Dead.rules) c.in_ok-tails.ensures.problem of_list in
     let here : F j.problem c.in-Dead.rules = subst (λ (i : Judging). F i.problem c.in-Dead.rules) c.self.view_is of_problem in
-    subst (λ (line : Line). IfOk c.is_plainly_dead-plain.result (λ plain. IsTrue plain → HoldsByWords j.problem j.goal D line)) (sym c.in-Dead.is) here
+    subst (λ (line : Line). IfOk c.is_plainly_dead-plain.result (λ plain. IsTrue plain → HoldsByWords j.problem j.goal D line)) (sym (c.in-Closing.is ∙ ap (λ (l : Leaf). Closing l) c.in-Dead.is)) here

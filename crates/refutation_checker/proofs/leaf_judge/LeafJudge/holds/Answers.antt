@@ -6,7 +6,7 @@ use Rattle.refutation_terms.specs.Log.{LineFits}
 use Rattle.refutation_terms.specs.Verdict.{Escapes}
 use Rattle.domain_store.specs.Store.{has_domain}
 use Rattle.refutation_checker.specs.LineVerdicts.{HoldsByWords}
-use Rattle.refutation_checker.proofs.LeafJudging.{by_words, holds_there, fails_there}
+use Rattle.refutation_checker.proofs.LeafJudging.{holds_there, fails_there}
 use Rattle.refutation_checker.proofs.leaf_judge.LeafJudge.holds.Goals as goal
 
 pub leaf_escape-requires-clause-line : goal.leaf_escape-requires-clause-line
@@ -33,6 +33,5 @@ returns-clause-holds c =
     let D = has_domain c.domains.result.now in
     let leaf = c.args.leaf.now in
     holds_there P D (domains_at P turn lines (length lines)) leaf c.requires.fits (c.domains.ensures.has P turn lines state)
-    (by_words P D leaf c.requires.fits
     (subst (λ (Q : Instance). HoldsByWords Q None D leaf) c.self.view_is
-    (subst (λ (o : Option ℕ). HoldsByWords c.self.inside.judge.problem o D leaf) c.self.invariant (rw c.in_default.is at c.in_ok-_word.ensures.escape))))
+    (subst (λ (o : Option ℕ). HoldsByWords c.self.inside.judge.problem o D leaf) c.self.invariant (rw c.in_default.is at c.in_ok-_word.ensures.escape)))
