@@ -4,7 +4,7 @@ use Rattle.rwsp_terms.specs.Instance.{Instance}
 use Rattle.rwsp_terms.specs.Roster.{MeetsAll}
 use Rattle.rwsp_terms.specs.declared.data.Symbol.{Symbol}
 use Rattle.rwsp_model.specs.declared.roster.Roster.{Roster}
-use Rattle.refutation_terms.specs.Log.{Log, FreePasses}
+use Rattle.refutation_terms.specs.Log.{Log, Passes}
 use Rattle.refutation_terms.specs.FreeWeekends.{free_weekends}
 use Rattle.refutation_terms.proofs.Sound.{passing_leaves_none_for}
 use Rattle.refutation_terms.proofs.Named.{named-IsRule}
@@ -16,7 +16,7 @@ below : (goal n : ℕ) → (goal ≤ n → ⊥) → n < goal
 below goal n h = omega (arith, h)
 
 -- a roster that meets every rule has fewer free weekends than the goal of a free log that passes
-pub below_goal : (P : Instance) (goal : ℕ) (g : Log) (t : List Symbol) → FreePasses P goal g → MeetsAll P t → free_weekends t < goal
+pub below_goal : (P : Instance) (goal : ℕ) (g : Log) (t : List Symbol) → Passes P g → MeetsAll P t → free_weekends t < goal
 below_goal P goal g t passes meets = below goal (free_weekends t) (λ many. passing_leaves_none_for P (Some goal) g t passes (record { is_roster = meets.is_roster; rules = λ r n. meets.rules r (named-IsRule P g.named r n) }) many)
 
 -- which rosters such a search has meets every rule
@@ -27,7 +27,7 @@ best_meets P budget (NoRoster g) t h e = absurd (cc)
 best_meets P budget (Undecided None g) t h e = absurd (cc)
 best_meets P budget (Undecided (Some s) g) t h e = let same : s ≡ t = cc in subst (λ (u : Roster). MeetsAll P u.cells) same h.0.0.1
 
-stays_below : (P : Instance) (goal : ℕ) (g : Log) (found : Option Roster) → FreePasses P goal g → ((t : Roster) → found ≡ Some t → MeetsAll P t.cells) → StaysBelow found goal
+stays_below : (P : Instance) (goal : ℕ) (g : Log) (found : Option Roster) → Passes P g → ((t : Roster) → found ≡ Some t → MeetsAll P t.cells) → StaysBelow found goal
 stays_below P goal g None passes meets = tt
 stays_below P goal g (Some s) passes meets = below_goal P goal g s.cells passes (meets s refl)
 

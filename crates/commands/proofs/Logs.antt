@@ -10,7 +10,6 @@ use Rattle.refutation_terms.specs.declared.lines.LogRefusal.{LogRefusal}
 use Rattle.refutation_terms.specs.Log.{Log, Passes}
 use Rattle.refutation_terms.specs.Strip.{IsReduced}
 use Rattle.refutation_terms.specs.Verdict.{IsAccepted, IsVerdict}
-use Rattle.refutation_terms.specs.FreeVerdict.{IsFreeAccepted, IsFreeVerdict}
 use Rattle.refutation_terms.specs.FreeWeekends.{free_weekends}
 use Rattle.refutation_terms.proofs.Sound.{passing_leaves_none, passing_leaves_none_for}
 use Rattle.refutation_terms.proofs.Named.{named-IsRule}

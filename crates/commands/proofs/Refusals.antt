@@ -12,16 +12,18 @@ use Rattle.roster_checker.specs.declared.broken.Broken.{Broken}
 use Rattle.roster_checker.specs.FirstBroken.{IsFirstBroken}
 use Rattle.refutation_terms.specs.declared.lines.Line.{Line}
 use Rattle.refutation_terms.specs.declared.lines.Line.TheVariants.{Closing}
-use Rattle.refutation_terms.specs.declared.lines.Leaf.TheVariants.{Dead, Bound, Free}
+use Rattle.refutation_terms.specs.declared.lines.Leaf.TheVariants.{Words}
+use Rattle.refutation_terms.specs.declared.lines.WordClaim.TheVariants.{Dead, Light}
+use Rattle.refutation_terms.specs.declared.lines.Opening.{Opening}
+use Rattle.refutation_terms.specs.declared.lines.Opening.TheVariants.{Full, Turned}
 use Rattle.refutation_terms.specs.declared.lines.Turn.{Turn}
 use Rattle.refutation_terms.specs.declared.lines.LogRefusal.{LogRefusal}
 use Rattle.refutation_terms.specs.declared.lines.LogRefusal.TheVariants as Refusals
 use Rattle.refutation_terms.specs.Word.{Domains, Over}
-use Rattle.refutation_terms.specs.Tree.{domains_at, opening, turn_leaves, lines_leave}
+use Rattle.refutation_terms.specs.Tree.{domains_at, opening, opening_leaves, lines_leave}
 use Rattle.refutation_terms.specs.Log.{Log}
 use Rattle.refutation_terms.specs.LogText.{log_text}
-use Rattle.refutation_terms.specs.Verdict.{Escapes, TreeCause, Cause, Front, Start, Versioned, BeforeTurn, Reading, IsRefused}
-use Rattle.refutation_terms.specs.FreeVerdict.{FreeCause, FreeFront, FreeStart, FreeVersioned, BeforeGoal, ReadingFree, IsFreeRefused}
+use Rattle.refutation_terms.specs.Verdict.{Escapes, TreeCause, Cause, Front, Start, Versioned, BeforeTurn, Reading, IsRefused, BeforeGoal}
 use Rattle.refutation_terms.proofs.Tests.{left_of}
 use Rattle.crew_size.specs.Sizes.{with_weeks}
 use Rattle.crew_size.specs.Verdict.{IsStaffRefused}
@@ -37,18 +39,18 @@ symbols_over : (P : Instance) (D : Domains) → ((p z : ℕ) → IsTrue (D p z) 
 symbols_over P D known p [] over = All-nil (IsSymbol P)
 symbols_over P D known p (x ∷ w) over = All-cons (IsSymbol P) x w (known (p % cells P) x.number over.0) (symbols_over P D known (p + 1) w over.1)
 
-known_at : (P : Instance) (turn : Option Turn) (lines : List Line) (k p z : ℕ) → IsTrue (domains_at P turn lines k p z) → z ≤ shift_count P
-known_at P turn lines k p z h = leb-true z (shift_count P) (left_of (nat_le z (shift_count P)) (turn_leaves turn p z) (left_of (opening P turn p z) (lines_leave (take k lines) p z) h))
+known_at : (P : Instance) (turn : Opening) (lines : List Line) (k p z : ℕ) → IsTrue (domains_at P turn lines k p z) → z ≤ shift_count P
+known_at P turn lines k p z h = leb-true z (shift_count P) (left_of (nat_le z (shift_count P)) (opening_leaves turn p z) (left_of (opening P turn p z) (lines_leave (take k lines) p z) h))
 
 escaping : (P : Instance) (goal : Option ℕ) (D : Domains) (line : Line) (w : List Symbol) → ((p z : ℕ) → IsTrue (D p z) → z ≤ shift_count P) → Escapes P goal D line w → All (IsSymbol P) w
-escaping P goal D (Closing (Dead p len R)) w known h = symbols_over P D known p w h.clean.over
-escaping P goal D (Closing (Bound p turns R y)) w known h = symbols_over P D known p w h.0.heavy.clean.over
-escaping P (Some goal) D (Closing (Free turns reward R y)) w known h = symbols_over P D known 0 w h.0.heavy.clean.over
+escaping P goal D (Closing (Words p R (Dead len))) w known h = symbols_over P D known p w h.clean.over
+escaping P goal D (Closing (Words p R (Light turns reward y))) w known h = symbols_over P D known p w h.0.heavy.clean.over
+escaping P (Some goal) D (Closing (Words p R (Light turns reward y))) w known h = symbols_over P D known 0 w h.0.heavy.clean.over
 escaping P goal D line w known h = absurd h
 
-tree_caused : (P : Instance) (goal : Option ℕ) (g : Log) (bytes : List ℕ) (n i : ℕ) (w : List Symbol) → TreeCause P goal g.named (domains_at P g.turn g.lines (length g.lines)) n bytes (Refusals.Escape i w) → All (IsSymbol P) w
+tree_caused : (P : Instance) (goal : Option ℕ) (g : Log) (bytes : List ℕ) (n i : ℕ) (w : List Symbol) → TreeCause P goal g.named (domains_at P g.opening g.lines (length g.lines)) n bytes (Refusals.Escape i w) → All (IsSymbol P) w
 tree_caused P goal g bytes n i w h =
-    escaping P goal (domains_at P g.turn g.lines (length g.lines)) h.1.0 w (λ p z k. known_at P g.turn g.lines (length g.lines) p z k) h.1.3
+    escaping P goal (domains_at P g.opening g.lines (length g.lines)) h.1.0 w (λ p z k. known_at P g.opening g.lines (length g.lines) p z k) h.1.3
 
 caused : (P : Instance) (front : Front) (bytes : List ℕ) (n : ℕ) (w : List Symbol) → Cause P front bytes (Refusals.Escape n w) → All (IsSymbol P) w
 caused P Start bytes n w h = absurd h

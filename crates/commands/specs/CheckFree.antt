@@ -5,7 +5,7 @@ use Rattle.rwsp_terms.specs.Instance.{Instance}
 use Rattle.rwsp_terms.specs.Rules.{Meets as MeetsRules}
 use Rattle.rwsp_terms.specs.declared.data.Symbol.{Symbol}
 use Rattle.refutation_terms.specs.Log.{Log}
-use Rattle.refutation_terms.specs.FreeVerdict.{IsFreeAccepted, IsFreeRefused}
+use Rattle.refutation_terms.specs.Verdict.{IsAccepted, IsRefused}
 use Rattle.refutation_terms.specs.FreeWeekends.{free_weekends}
 use Rattle.commands.specs.Lines.{line}
 use Rattle.commands.specs.LogRefusals.{log_refusal_text, HasSymbols}

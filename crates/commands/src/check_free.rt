@@ -2,7 +2,7 @@
 ghost use Rattle.std.specs.Prelude.{◌≡◌, Some, IfOk};
 ghost use Rattle.rwsp_terms.specs.declared.limits.TheConstants.{DAYS_OF_WEEK};
 ghost use Rattle.refutation_terms.specs.Log.{Log as LogValue};
-ghost use Rattle.refutation_terms.specs.FreeVerdict.{IsFreeAccepted};
+ghost use Rattle.refutation_terms.specs.Verdict.{IsAccepted};
 ghost use Rattle.commands.specs.Lines.{line};
 ghost use Rattle.commands.specs.Files.{IsWithinLimit};
 ghost use Rattle.commands.specs.CheckFree.{IsCheckedFree, IsCheckedFreeOf, check_free_text, free_accepted_text, check_free_status};

@@ -11,6 +11,8 @@ use Rattle.rwsp_text.proofs.LineLaws.{join_no_feed}
 use Rattle.rwsp_terms.specs.Instance.{Instance}
 use Rattle.refutation_terms.specs.declared.lines.Line.{Line}
 use Rattle.refutation_terms.specs.declared.lines.Line.TheVariants.{Split}
+use Rattle.refutation_terms.specs.declared.lines.Opening.{Opening}
+use Rattle.refutation_terms.specs.declared.lines.Opening.TheVariants.{Full, Turned}
 use Rattle.refutation_terms.specs.declared.lines.Turn.{Turn}
 use Rattle.refutation_terms.specs.LogText.{raw, line_text}
 use Rattle.refutation_terms.proofs.LineTables.{rules_fields}
@@ -117,7 +119,7 @@ lines_other : (P : Instance) (lines : List Line) → AreLines (lines_fields P li
 lines_other P [] are = tt
 lines_other P (line ∷ lines) are = (record { words = are.0; other = line_other P line }, lines_other P lines are.1)
 
-log_other : (P : Instance) (named : List ℕ) (turn : Option Turn) (lines : List Line) → AreLines (header_fields P named turn ++ lines_fields P lines) → AreOther (header_fields P named turn ++ lines_fields P lines)
+log_other : (P : Instance) (named : List ℕ) (turn : Opening) (lines : List Line) → AreLines (header_fields P named turn ++ lines_fields P lines) → AreOther (header_fields P named turn ++ lines_fields P lines)
 log_other P named None lines are = (
   record { words = are.0; other = λ t. refl },
   (record { words = are.1.0; other = rules_other named }, lines_other P lines are.1.1),
@@ -130,4 +132,4 @@ log_other P named (Some turn) lines are = (
 pub logs_are_cut_whole : LogsAreCutWhole
 logs_are_cut_whole P g rest limits fits place =
     subst (λ t. AreUpToHeading t rest) (sym (log_written P g))
-    (cut_of_lines (log_fields P g) rest (log_other P g.named g.turn g.lines (log_words P g (is_writable P limits) (has_names P limits) fits)) place)
+    (cut_of_lines (log_fields P g) rest (log_other P g.named g.opening g.lines (log_words P g (is_writable P limits) (has_names P limits) fits)) place)

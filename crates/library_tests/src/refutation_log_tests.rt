@@ -240,7 +240,7 @@ fn put_all_cited(rules: &mut RuleList, problem: &Problem, log: &Log) -> Result<(
     Ok(())
 }
 
-fn turn_of(alloc: Global, text: &[u8]) -> Result<Option<Turn>, Fail> {
+fn turn_of(alloc: Global, text: &[u8]) -> Result<Opening, Fail> {
     let problem = problem_of(alloc, text)?;
     Ok(first_turn(&problem))
 }

@@ -7,12 +7,14 @@ use Rattle.rwsp_model.specs.Refusals.{MatchAnswer}
 use Rattle.rwsp_model.specs.declared.fail.Fail.{Fail}
 use Rattle.rwsp_model.specs.declared.fail.Fail.TheVariants.{Refused, Memory}
 use Rattle.refutation_terms.specs.declared.lines.Line.{Line}
+use Rattle.refutation_terms.specs.declared.lines.Opening.{Opening}
+use Rattle.refutation_terms.specs.declared.lines.Opening.TheVariants.{Full, Turned}
 use Rattle.refutation_terms.specs.declared.lines.Turn.{Turn}
 use Rattle.refutation_terms.specs.declared.lines.LogRefusal.{LogRefusal}
 use Rattle.refutation_terms.specs.Tree.{IsTree}
 use Rattle.refutation_terms.specs.LogText.{raw, line_text}
 use Rattle.rwsp_text.specs.Lines.{IsNextLine}
-use Rattle.refutation_terms.specs.Verdict.{header_lines_for}
+use Rattle.refutation_terms.specs.Verdict.{header_lines}
 use Rattle.refutation_log.specs.Printing.{lines_text}
 use Rattle.domain_store.specs.States.{State, IsStateOf}
 use Rattle.refutation_checker.specs.LineTexts.{Judging, ReadsNext, RefusesNext}
@@ -23,19 +25,19 @@ use Rattle.refutation_log.proofs.LogLines.{some_bytes}
 
 -- some lines lead to where the walk is
 abbrev pub IsSomewhere : Instance → State → Type 0
-IsSomewhere P w = (turn : Option Turn) × (lines : List Line) × IsStateOf P turn lines w
+IsSomewhere P w = (turn : Opening) × (lines : List Line) × IsStateOf P turn lines w
 
 -- sound lines have been read, as far as what is left
-pub record JudgedUpTo (J : Judging) (turn : Option Turn) (earlier : List Line) (bytes left : List ℕ) (w : State) (number : ℕ) : Type 0 where
+pub record JudgedUpTo (J : Judging) (turn : Opening) (earlier : List Line) (bytes left : List ℕ) (w : State) (number : ℕ) : Type 0 where
   pub lines : List Line
   pub sound : AreSoundBehind J turn earlier lines
   pub text : bytes ≡ lines_text J.problem lines ++ left
   pub state : IsStateOf J.problem turn (earlier ++ lines) w
-  pub counted : number ≡ header_lines_for J.goal turn + length (earlier ++ lines) + 1
+  pub counted : number ≡ header_lines turn J.goal + length (earlier ++ lines) + 1
 
 pub record JudgedSoFar (J : Judging) (s : Start) (left : List ℕ) (w : State) (number : ℕ) : Type 0 where
   pub few : number + length left ≤ s.first + length s.bytes
-  pub each : (turn : Option Turn) (earlier : List Line) → StandsBehind J.problem J.goal turn earlier s → JudgedUpTo J turn earlier s.bytes left w number
+  pub each : (turn : Opening) (earlier : List Line) → StandsBehind J.problem J.goal turn earlier s → JudgedUpTo J turn earlier s.bytes left w number
 
 pub judged_none : (J : Judging) (s : Start) (left : List ℕ) (w : State) (number : ℕ) → left ≡ s.bytes → w ≡ s.walk → number ≡ s.first → JudgedSoFar J s left w number
 judged_none J s left w number e f g = record {
@@ -45,11 +47,11 @@ judged_none J s left w number e f g = record {
     sound = tt;
     text = sym e;
     state = subst (λ ls. IsStateOf J.problem turn ls w) (sym (append-nil earlier)) (subst (IsStateOf J.problem turn earlier) (sym f) h.state);
-    counted = g ∙ h.counted ∙ ap (λ ls. header_lines_for J.goal turn + length ls + 1) (sym (append-nil earlier));
+    counted = g ∙ h.counted ∙ ap (λ ls. header_lines turn J.goal + length ls + 1) (sym (append-nil earlier));
   };
 }
 
-read_on : (J : Judging) (turn : Option Turn) (earlier : List Line) (all left bytes rest : List ℕ) (w new : State) (number : ℕ) (line : Line) → JudgedUpTo J turn earlier all left w number → left ≡ bytes ++ rest → ReadsNext J w bytes new line → JudgedUpTo J turn earlier all rest new (number + 1)
+read_on : (J : Judging) (turn : Opening) (earlier : List Line) (all left bytes rest : List ℕ) (w new : State) (number : ℕ) (line : Line) → JudgedUpTo J turn earlier all left w number → left ≡ bytes ++ rest → ReadsNext J w bytes new line → JudgedUpTo J turn earlier all rest new (number + 1)
 read_on J turn earlier all left bytes rest w new number line so e reads =
     let P = J.problem in
     let read = reads turn (earlier ++ so.lines) so.state in
@@ -93,7 +95,7 @@ judged_failed J s left bytes rest w number (Refused why) A so e next refuses = �
       cause = refuses turn (earlier ++ up.lines) up.state up.counted;
     }
 
-pub judged_all : (J : Judging) (s : Start) (left : List ℕ) (w : State) (number : ℕ) (whole : Bool) → JudgedSoFar J s left w number → left ≡ [] → ((turn : Option Turn) (lines : List Line) → IsStateOf J.problem turn lines w → IsTrue whole ↔ IsTree lines) → IsAnswerTo J s (Ok whole)
+pub judged_all : (J : Judging) (s : Start) (left : List ℕ) (w : State) (number : ℕ) (whole : Bool) → JudgedSoFar J s left w number → left ≡ [] → ((turn : Opening) (lines : List Line) → IsStateOf J.problem turn lines w → IsTrue whole ↔ IsTree lines) → IsAnswerTo J s (Ok whole)
 judged_all J s left w number whole so e tree turn earlier h =
     let up = so.each turn earlier h in
     record {

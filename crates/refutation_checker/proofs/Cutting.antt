@@ -5,6 +5,8 @@ use Rattle.std.proofs.lemmas.List.{append-nil, take_all}
 use Rattle.std.proofs.lemmas.List.Elements.{All-nil, All-cons, All-append}
 use Rattle.rwsp_terms.specs.Instance.{Instance}
 use Rattle.refutation_terms.specs.declared.lines.Line.{Line}
+use Rattle.refutation_terms.specs.declared.lines.Opening.{Opening}
+use Rattle.refutation_terms.specs.declared.lines.Opening.TheVariants.{Full, Turned}
 use Rattle.refutation_terms.specs.declared.lines.Turn.{Turn}
 use Rattle.refutation_log.specs.Printing.{lines_text}
 use Rattle.domain_store.specs.States.{State, IsStateOf}
@@ -54,11 +56,11 @@ last_lines P (d ∷ chunks) c lines are =
     }
 
 -- the chunks so far, and the splits that are open behind them, where the rest begins
-pub record IsOpen (P : Instance) (size : ℕ) (goal : Option ℕ) (turn : Option Turn) (bytes : List ℕ) (before : List UnreadSplit) (chunks : List Start) (rest : Start) : Type 0 where
+pub record IsOpen (P : Instance) (size : ℕ) (goal : Option ℕ) (turn : Opening) (bytes : List ℕ) (before : List UnreadSplit) (chunks : List Start) (rest : Start) : Type 0 where
   pub inside : (lines : List Line) → AreLinesOf P chunks lines → EndInside P before lines × StandsBehind P goal turn lines rest
   pub goes_on : (more : List Start) → ((lines : List Line) → AreLinesOf P chunks lines → AreChunks P goal turn size lines rest.bytes more) → AreChunks P goal turn size [] bytes (chunks ++ more)
 
-abbrev pub IsOpenOrDone : Instance → ℕ → Option ℕ → Option Turn → List ℕ → List UnreadSplit → List Start → Option Start → Type 0
+abbrev pub IsOpenOrDone : Instance → ℕ → Option ℕ → Opening → List ℕ → List UnreadSplit → List Start → Option Start → Type 0
 IsOpenOrDone P size goal turn bytes before chunks None = AreChunks P goal turn size [] bytes chunks
 IsOpenOrDone P size goal turn bytes before chunks (Some rest) = IsOpen P size goal turn bytes before chunks rest
 
@@ -76,7 +78,7 @@ pub record CutSoFar (P : Instance) (size : ℕ) (all : Start) (before : List Unr
   pub short : length chunks + length (bytes_left rest) ≤ length all.bytes
   pub count : AreFewSoFar size all.bytes (length chunks) (bytes_left rest)
   pub each : All (IsJudgeable P) chunks
-  pub parts : (goal : Option ℕ) (turn : Option Turn) → StandsBehind P goal turn [] all → IsOpenOrDone P size goal turn all.bytes before chunks rest
+  pub parts : (goal : Option ℕ) (turn : Opening) → StandsBehind P goal turn [] all → IsOpenOrDone P size goal turn all.bytes before chunks rest
 
 -- nothing was cut off
 pub cut_none : (P : Instance) (size : ℕ) (all : Start) (before : List UnreadSplit) (chunks : List Start) → IsJudgeable P all → all.bytes ≢ [] → before ≡ [] → chunks ≡ [] → CutSoFar P size all before chunks (Some all)
@@ -95,10 +97,10 @@ cut_none P size all before chunks h some none empty =
     }))
 
 -- a chunk begins where what it was cut off began
-same_place : (P : Instance) (goal : Option ℕ) (turn : Option Turn) (earlier : List Line) (old chunk : Start) → chunk.walk ≡ old.walk → chunk.first ≡ old.first → StandsBehind P goal turn earlier old → StandsBehind P goal turn earlier chunk
+same_place : (P : Instance) (goal : Option ℕ) (turn : Opening) (earlier : List Line) (old chunk : Start) → chunk.walk ≡ old.walk → chunk.first ≡ old.first → StandsBehind P goal turn earlier old → StandsBehind P goal turn earlier chunk
 same_place P goal turn earlier old chunk e f h = record { state = subst (IsStateOf P turn earlier) (sym e) h.state; counted = f ∙ h.counted }
 
-cut_last : (P : Instance) (size : ℕ) (goal : Option ℕ) (turn : Option Turn) (bytes : List ℕ) (start : State) (before after : List UnreadSplit) (chunks : List Start) (old chunk : Start) → IsStateOf P turn [] start → IsOpen P size goal turn bytes before chunks old → IsCutOff P size start before after old chunk None → AreChunks P goal turn size [] bytes (chunks ++ chunk ∷ [])
+cut_last : (P : Instance) (size : ℕ) (goal : Option ℕ) (turn : Opening) (bytes : List ℕ) (start : State) (before after : List UnreadSplit) (chunks : List Start) (old chunk : Start) → IsStateOf P turn [] start → IsOpen P size goal turn bytes before chunks old → IsCutOff P size start before after old chunk None → AreChunks P goal turn size [] bytes (chunks ++ chunk ∷ [])
 cut_last P size goal turn bytes start before after chunks old chunk st o c =
     o.goes_on (chunk ∷ []) (λ lines are.
     let i = o.inside lines are in
@@ -110,7 +112,7 @@ cut_last P size goal turn bytes start before after chunks old chunk st o c =
       inl (refl, refl),
     ))
 
-cut_on : (P : Instance) (size : ℕ) (goal : Option ℕ) (turn : Option Turn) (bytes : List ℕ) (start : State) (before after : List UnreadSplit) (chunks : List Start) (old chunk rest : Start) → IsStateOf P turn [] start → IsOpen P size goal turn bytes before chunks old → IsCutOff P size start before after old chunk (Some rest) → IsOpen P size goal turn bytes after (chunks ++ chunk ∷ []) rest
+cut_on : (P : Instance) (size : ℕ) (goal : Option ℕ) (turn : Opening) (bytes : List ℕ) (start : State) (before after : List UnreadSplit) (chunks : List Start) (old chunk rest : Start) → IsStateOf P turn [] start → IsOpen P size goal turn bytes before chunks old → IsCutOff P size start before after old chunk (Some rest) → IsOpen P size goal turn bytes after (chunks ++ chunk ∷ []) rest
 cut_on P size goal turn bytes start before after chunks old chunk rest st o c = record {
   inside = λ lines are.
       let last = last_lines P chunks chunk lines are in
@@ -182,7 +184,7 @@ next_on : (P : Instance) (size : ℕ) (start : State) (before after : List Unrea
 next_on P size start before after old chunk None c = tt
 next_on P size start before after old chunk (Some rest) c = (c.7, c.4)
 
-part_on : (P : Instance) (size : ℕ) (goal : Option ℕ) (turn : Option Turn) (bytes : List ℕ) (start : State) (before after : List UnreadSplit) (chunks : List Start) (old chunk : Start) (rest : Option Start) → IsStateOf P turn [] start → IsOpen P size goal turn bytes before chunks old → IsCutOff P size start before after old chunk rest → IsOpenOrDone P size goal turn bytes after (chunks ++ chunk ∷ []) rest
+part_on : (P : Instance) (size : ℕ) (goal : Option ℕ) (turn : Opening) (bytes : List ℕ) (start : State) (before after : List UnreadSplit) (chunks : List Start) (old chunk : Start) (rest : Option Start) → IsStateOf P turn [] start → IsOpen P size goal turn bytes before chunks old → IsCutOff P size start before after old chunk rest → IsOpenOrDone P size goal turn bytes after (chunks ++ chunk ∷ []) rest
 part_on P size goal turn bytes start before after chunks old chunk None st o c = cut_last P size goal turn bytes start before after chunks old chunk st o c
 part_on P size goal turn bytes start before after chunks old chunk (Some rest) st o c = cut_on P size goal turn bytes start before after chunks old chunk rest st o c
 

@@ -8,8 +8,8 @@ use Rattle.rwsp_terms.specs.Rules.{rule_of}
 use Rattle.rwsp_model.proofs.Numbering.{one_number}
 use Rattle.refutation_terms.specs.declared.lines.LogRefusal.{LogRefusal}
 use Rattle.refutation_terms.specs.declared.lines.LogRefusal.TheVariants as Refusals
-use Rattle.refutation_terms.specs.FreeVerdict.{FreeFront, FreeStart, FreeVersioned, BeforeGoal, ReadingFree, FreeCause, IsRefusedFreeLine, IsFreeRefused}
-use Rattle.refutation_terms.specs.Verdict.{Front, Start, Versioned, BeforeTurn, Reading, Cause, IsRefused, IsRefusedLine, IsLeast, IsUnnamed}
+use Rattle.refutation_terms.specs.Verdict.{Front, Start, Versioned, BeforeGoal, Reading, Cause, IsRefused, BeforeTurn, IsRefusedLine, IsLeast, IsUnnamed}
+use Rattle.refutation_terms.specs.FreeVerdict.{IsRefusedFreeLine}
 
 -- no line is refused for that the text ends
 never_ends : (P : Instance) (front : Front) (line : List ℕ) → Cause P front line Refusals.Ends → ⊥

@@ -6,6 +6,8 @@ use Rattle.rwsp_terms.specs.Instance.{Instance}
 use Rattle.rwsp_model.specs.declared.fail.Fail.{Fail}
 use Rattle.rwsp_model.specs.declared.fail.Fail.TheVariants.{Refused, Memory}
 use Rattle.refutation_terms.specs.declared.lines.Line.{Line}
+use Rattle.refutation_terms.specs.declared.lines.Opening.{Opening}
+use Rattle.refutation_terms.specs.declared.lines.Opening.TheVariants.{Full, Turned}
 use Rattle.refutation_terms.specs.declared.lines.Turn.{Turn}
 use Rattle.refutation_terms.specs.declared.lines.LogRefusal.{LogRefusal}
 use Rattle.refutation_terms.specs.Tree.{IsTree}
@@ -36,17 +38,17 @@ answers_to J (c ∷ chunks) [] s d e h = absurd (omega (arith, e))
 answers_to J (c ∷ chunks) (a ∷ answers) s d e h = (h 0 (omega arith), answers_to J chunks answers s d (omega (arith, e)) (λ i less. h (suc i) (omega (arith, less))))
 
 -- lines that are sound fit
-fit_from_sound : (J : Judging) (turn : Option Turn) (earlier lines : List Line) → AreSoundBehind J turn earlier lines → EachFits J.problem lines
+fit_from_sound : (J : Judging) (turn : Opening) (earlier lines : List Line) → AreSoundBehind J turn earlier lines → EachFits J.problem lines
 fit_from_sound J turn earlier [] h = tt
 fit_from_sound J turn earlier (l ∷ lines) h = ((J.goal, h.0.fits), fit_from_sound J turn (earlier ++ l ∷ []) lines h.1)
 
 -- what follows a chunk: nothing, or chunks behind its lines, whatever they are
-abbrev pub IsFollowed : Judging → Option Turn → ℕ → List Line → Start → List ℕ → List Start → Type 0
+abbrev pub IsFollowed : Judging → Opening → ℕ → List Line → Start → List ℕ → List Start → Type 0
 IsFollowed J turn size earlier c below chunks =
     ((below ≡ []) × (chunks ≡ [])) ⊎ (EndWithFeed c.bytes × ((lines : List Line) → EachFits J.problem lines → c.bytes ≡ lines_text J.problem lines → AreChunks J.problem J.goal turn size (earlier ++ lines) below chunks))
 
 -- a line of a chunk is one of the whole text
-next_in_all : (J : Judging) (turn : Option Turn) (size : ℕ) (earlier : List Line) (c : Start) (below : List ℕ) (chunks : List Start) (front line rest : List ℕ) → IsFollowed J turn size earlier c below chunks → c.bytes ≡ front ++ line ++ rest → IsNextLine line rest → IsNextLine line (rest ++ below)
+next_in_all : (J : Judging) (turn : Opening) (size : ℕ) (earlier : List Line) (c : Start) (below : List ℕ) (chunks : List Start) (front line rest : List ℕ) → IsFollowed J turn size earlier c below chunks → c.bytes ≡ front ++ line ++ rest → IsNextLine line rest → IsNextLine line (rest ++ below)
 next_in_all J turn size earlier c below chunks front line rest followed e next =
     elim next [
       | inl fed ↦ inl fed
@@ -58,7 +60,7 @@ next_in_all J turn size earlier c below chunks front line rest followed e next =
       ]
     ]
 
-refused_in_front : (J : Judging) (turn : Option Turn) (size : ℕ) (earlier : List Line) (c : Start) (below bytes : List ℕ) (chunks : List Start) (why : LogRefusal) → IsFollowed J turn size earlier c below chunks → bytes ≡ c.bytes ++ below → IsChunkRefused J turn earlier c.bytes why → IsChunkRefused J turn earlier bytes why
+refused_in_front : (J : Judging) (turn : Opening) (size : ℕ) (earlier : List Line) (c : Start) (below bytes : List ℕ) (chunks : List Start) (why : LogRefusal) → IsFollowed J turn size earlier c below chunks → bytes ≡ c.bytes ++ below → IsChunkRefused J turn earlier c.bytes why → IsChunkRefused J turn earlier bytes why
 refused_in_front J turn size earlier c below bytes chunks why followed e r = record {
   lines = r.lines;
   line = r.line;
@@ -74,7 +76,7 @@ text_through : (P : Instance) (front more : List Line) (bytes here below left : 
 text_through P front more bytes here below left e f g =
     e ∙ ap (λ t. t ++ below) f ∙ ap (λ t. lines_text P front ++ t) g ∙ sym (append_assoc (lines_text P front) (lines_text P more) left) ∙ ap (λ t. t ++ left) (sym (lines_joined P front more))
 
-judged_through : (J : Judging) (turn : Option Turn) (earlier front : List Line) (bytes here below : List ℕ) (a : Answer) → AreSoundBehind J turn earlier front → here ≡ lines_text J.problem front → bytes ≡ here ++ below → IsJudged J turn (earlier ++ front) below a → IsJudged J turn earlier bytes a
+judged_through : (J : Judging) (turn : Opening) (earlier front : List Line) (bytes here below : List ℕ) (a : Answer) → AreSoundBehind J turn earlier front → here ≡ lines_text J.problem front → bytes ≡ here ++ below → IsJudged J turn (earlier ++ front) below a → IsJudged J turn earlier bytes a
 judged_through J turn earlier front bytes here below (Ok whole) sound f e k = record {
   lines = front ++ k.lines;
   sound = sound_joined J turn earlier front k.lines sound k.sound;
@@ -94,19 +96,19 @@ judged_through J turn earlier front bytes here below (Err (Refused why)) sound f
   cause = subst (λ ls. CauseBehind J.problem J.goal (log_of J turn ls) k.line why) (append_assoc earlier front k.lines) k.cause;
 }
 
-nothing_below : (J : Judging) (turn : Option Turn) (size : ℕ) (earlier : List Line) (c : Start) (below : List ℕ) (whole : Bool) → IsFollowed J turn size earlier c below [] → AreAllSound J turn earlier c.bytes whole → below ≡ []
+nothing_below : (J : Judging) (turn : Opening) (size : ℕ) (earlier : List Line) (c : Start) (below : List ℕ) (whole : Bool) → IsFollowed J turn size earlier c below [] → AreAllSound J turn earlier c.bytes whole → below ≡ []
 nothing_below J turn size earlier c below whole followed all =
     elim followed [ inl none ↦ none.0 | inr goes ↦ goes.1 all.lines (fit_from_sound J turn earlier all.lines all.sound) all.text ]
 
 -- the next chunk begins behind the lines that were judged
-goes_below : (J : Judging) (turn : Option Turn) (size : ℕ) (earlier : List Line) (c d : Start) (below : List ℕ) (chunks : List Start) (whole : Bool) → IsFollowed J turn size earlier c below (d ∷ chunks) → (all : AreAllSound J turn earlier c.bytes whole) → AreChunks J.problem J.goal turn size (earlier ++ all.lines) below (d ∷ chunks)
+goes_below : (J : Judging) (turn : Opening) (size : ℕ) (earlier : List Line) (c d : Start) (below : List ℕ) (chunks : List Start) (whole : Bool) → IsFollowed J turn size earlier c below (d ∷ chunks) → (all : AreAllSound J turn earlier c.bytes whole) → AreChunks J.problem J.goal turn size (earlier ++ all.lines) below (d ∷ chunks)
 goes_below J turn size earlier c d below chunks whole followed all =
     elim followed [
       | inl none ↦ absurd (let no : d ∷ chunks ≡ [] = none.1 in cc)
       | inr goes ↦ goes.1 all.lines (fit_from_sound J turn earlier all.lines all.sound) all.text
     ]
 
-joined_behind : (J : Judging) (turn : Option Turn) (size : ℕ) (c : Start) (cs : List Start) (answers : List Answer) (earlier : List Line) (bytes : List ℕ) (before : Bool) → AreAnswersTo J (c ∷ cs) answers → AreChunks J.problem J.goal turn size earlier bytes (c ∷ cs) → IsJudged J turn earlier bytes (joined_from before answers)
+joined_behind : (J : Judging) (turn : Opening) (size : ℕ) (c : Start) (cs : List Start) (answers : List Answer) (earlier : List Line) (bytes : List ℕ) (before : Bool) → AreAnswersTo J (c ∷ cs) answers → AreChunks J.problem J.goal turn size earlier bytes (c ∷ cs) → IsJudged J turn earlier bytes (joined_from before answers)
 joined_behind J turn size c cs [] earlier bytes before are chunks = absurd are
 joined_behind J turn size c cs (Err Memory ∷ answers) earlier bytes before are chunks = tt
 joined_behind J turn size c cs (Err (Refused why) ∷ answers) earlier bytes before are chunks =
@@ -122,6 +124,6 @@ joined_behind J turn size c (d ∷ cs) (Ok whole ∷ answers) earlier bytes befo
     judged_through J turn earlier all.lines bytes c.bytes chunks.2 (joined_from whole answers) all.sound all.text chunks.3
     (joined_behind J turn size d cs answers (earlier ++ all.lines) chunks.2 whole are.1 below)
 
-pub joined : (J : Judging) (turn : Option Turn) (size : ℕ) (chunks : List Start) (answers : List Answer) (earlier : List Line) (bytes : List ℕ) (before : Bool) → AreAnswersTo J chunks answers → AreChunks J.problem J.goal turn size earlier bytes chunks → bytes ≢ [] → IsJudged J turn earlier bytes (joined_from before answers)
+pub joined : (J : Judging) (turn : Opening) (size : ℕ) (chunks : List Start) (answers : List Answer) (earlier : List Line) (bytes : List ℕ) (before : Bool) → AreAnswersTo J chunks answers → AreChunks J.problem J.goal turn size earlier bytes chunks → bytes ≢ [] → IsJudged J turn earlier bytes (joined_from before answers)
 joined J turn size [] answers earlier bytes before are chunks some = absurd (some chunks)
 joined J turn size (c ∷ cs) answers earlier bytes before are chunks some = joined_behind J turn size c cs answers earlier bytes before are chunks

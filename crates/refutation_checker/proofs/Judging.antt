@@ -4,14 +4,17 @@ use Rattle.rwsp_terms.specs.declared.data.Symbol.{Symbol}
 use Rattle.rwsp_terms.specs.Instance.{Instance, cells}
 use Rattle.refutation_terms.specs.declared.lines.Line.{Line}
 use Rattle.refutation_terms.specs.declared.lines.Line.TheVariants.{Split, Closing}
-use Rattle.refutation_terms.specs.declared.lines.Leaf.TheVariants.{Dead, Bound, Free}
+use Rattle.refutation_terms.specs.declared.lines.Leaf.TheVariants.{Words}
+use Rattle.refutation_terms.specs.declared.lines.WordClaim.TheVariants.{Dead, Light}
+use Rattle.refutation_terms.specs.declared.lines.Opening.{Opening}
+use Rattle.refutation_terms.specs.declared.lines.Opening.TheVariants.{Full, Turned}
 use Rattle.refutation_terms.specs.declared.lines.Turn.{Turn}
 use Rattle.refutation_terms.specs.declared.lines.LogRefusal.{LogRefusal}
 use Rattle.refutation_terms.specs.declared.lines.LogRefusal.TheVariants as Refusals
 use Rattle.refutation_terms.specs.Word.{Domains, AreSame}
 use Rattle.refutation_terms.specs.Tree.{IsTree, domains_at}
 use Rattle.refutation_terms.specs.Log.{Holds, LineFits, GoalFits}
-use Rattle.refutation_terms.specs.Verdict.{Spells, TreeCause, SplitsIdly, CauseBehind, header_lines_for}
+use Rattle.refutation_terms.specs.Verdict.{Spells, TreeCause, SplitsIdly, CauseBehind, header_lines}
 use Rattle.refutation_terms.proofs.SameDomains.{turned_round, same_idle, same_holds_for, same_escapes_for}
 use Rattle.refutation_terms.proofs.Spelled.{spelled_lines_fit_for}
 use Rattle.domain_store.specs.Store.{Store, BelongsTo, has_domain, IsStore, HasDomains}
@@ -26,13 +29,13 @@ plain_is_cause P goal named D n line why h = h
 
 -- a line that holds in both ways holds
 pub holds_in_all : (P : Instance) (goal : Option ℕ) (D : Domains) (line : Line) → StandsPlainly P goal D line → HoldsByWords P goal D line → Holds P goal D line
-holds_in_all P None D (Closing (Dead p len R)) h k = k
-holds_in_all P None D (Closing (Bound p turns R y)) h k = k
-holds_in_all P None D (Closing (Free turns reward R y)) h k = k
+holds_in_all P None D (Closing (Words p R (Dead len))) h k = k
+holds_in_all P None D (Closing (Words p R (Light turns reward y))) h k = k
+holds_in_all P None D (Closing (Words p R (Light turns reward y))) h k = k
 holds_in_all P None D line h k = h
-holds_in_all P (Some goal) D (Closing (Dead p len R)) h k = k
-holds_in_all P (Some goal) D (Closing (Bound p turns R y)) h k = k
-holds_in_all P (Some goal) D (Closing (Free turns reward R y)) h k = k
+holds_in_all P (Some goal) D (Closing (Words p R (Dead len))) h k = k
+holds_in_all P (Some goal) D (Closing (Words p R (Light turns reward y))) h k = k
+holds_in_all P (Some goal) D (Closing (Words p R (Light turns reward y))) h k = k
 holds_in_all P (Some goal) D line h k = h
 
 pub sound_in_all : (P : Instance) (goal : Option ℕ) (named : List ℕ) (D : Domains) (line : Line) → IsPlainlySound P goal named D line → HoldsByWords P goal D line → IsSoundLine P goal named D line
@@ -81,7 +84,7 @@ cause_of_text P goal named D n bytes line (Refusals.Unfinished i) spelled h = (h
 cause_of_text P goal named D n bytes line why spelled h = absurd h
 
 -- a line that is spelled behind lines that aren't a whole tree, by what its judging found
-pub read_next : (J : Judging) (turn : Option Turn) (lines : List Line) (bytes : List ℕ) (line : Line) (w : State)
+pub read_next : (J : Judging) (turn : Opening) (lines : List Line) (bytes : List ℕ) (line : Line) (w : State)
     → Spells J.problem J.goal bytes line → (IsTree lines → ⊥)
     → IsSoundUnder J (domains_at J.problem turn lines (length lines)) line × IsStateOf J.problem turn (lines ++ line ∷ []) w
     → IsLineRead J turn lines bytes w line
@@ -89,8 +92,8 @@ read_next J turn lines bytes line w spelled part h =
     let fit = spelled_lines_fit_for J.problem J.goal bytes line spelled in
     record { spelled = fit.1; sound = record { in_tree = part; fits = fit.0; sound = h.0 }; walked = h.1 }
 
-pub refused_next : (J : Judging) (turn : Option Turn) (lines : List Line) (bytes : List ℕ) (line : Line) (n : ℕ) (why : LogRefusal)
-    → Spells J.problem J.goal bytes line → (IsTree lines → ⊥) → n ≡ header_lines_for J.goal turn + length lines + 1
+pub refused_next : (J : Judging) (turn : Opening) (lines : List Line) (bytes : List ℕ) (line : Line) (n : ℕ) (why : LogRefusal)
+    → Spells J.problem J.goal bytes line → (IsTree lines → ⊥) → n ≡ header_lines turn J.goal + length lines + 1
     → HasCause J (domains_at J.problem turn lines (length lines)) n line why
     → CauseBehind J.problem J.goal (log_of J turn lines) bytes why
 refused_next J turn lines bytes line n why spelled part is h =

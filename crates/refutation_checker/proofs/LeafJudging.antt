@@ -1,14 +1,14 @@
--- Dead and bound leaves, judged apart from their log.
-use Rattle.std.proofs.Common.{◌≡◌, ◌∙◌, ap, sym, ℕ, Option, None, subst, IsTrue, true, false, refl, arith}
+-- Words and leaves (Dead bound), judged apart from their log.
+use Rattle.std.proofs.Common.{◌≡◌, ◌∙◌, ap, sym, ℕ, Option, None, subst, IsTrue, true, false, refl, arith, List}
 use Rattle.std.specs.Prelude.{◌↔◌, MatchOption, IfOk, Result}
 use Rattle.std.specs.declared.alloc.AllocError.{AllocError}
 use Rattle.rwsp_terms.specs.declared.data.Symbol.{Symbol}
-use Rattle.std.proofs.Common.{List}
 use Rattle.rwsp_terms.specs.Instance.{Instance}
 use Rattle.refutation_terms.specs.declared.lines.Line.{Line}
 use Rattle.refutation_terms.specs.declared.lines.Line.TheVariants.{Closing}
 use Rattle.refutation_terms.specs.declared.lines.Leaf.{Leaf}
-use Rattle.refutation_terms.specs.declared.lines.Leaf.TheVariants.{Dead, Bound, Free}
+use Rattle.refutation_terms.specs.declared.lines.Leaf.TheVariants.{Words}
+use Rattle.refutation_terms.specs.declared.lines.WordClaim.TheVariants.{Dead, Light}
 use Rattle.refutation_terms.specs.Word.{Domains, AreSame}
 use Rattle.rwsp_terms.specs.Rules.{NamesShortOnly}
 use Rattle.refutation_terms.specs.Log.{LineFits, ListsShortOnly}
@@ -18,14 +18,14 @@ use Rattle.refutation_terms.proofs.SameDomains.{same_holds, turned_round}
 use Rattle.refutation_checker.specs.LineVerdicts.{HasList, HasNoList, HoldsByWords}
 
 pub same_by_words : (P : Instance) (D E : Domains) (line : Line) → LineFits P None line → AreSame P D E → HoldsByWords P None D line → HoldsByWords P None E line
-same_by_words P D E (Closing (Dead p len R)) fits same h = same_holds P D E (Closing (Dead p len R)) (omega (arith, fits.0)) fits same h
-same_by_words P D E (Closing (Bound p turns R y)) fits same h = same_holds P D E (Closing (Bound p turns R y)) (omega (arith, fits.0)) fits same h
-same_by_words P D E (Closing (Free turns reward R y)) fits same h = absurd h
+same_by_words P D E (Closing (Words p R (Dead len))) fits same h = same_holds P D E (Closing (Words p R (Dead len))) (omega (arith, fits.0)) fits same h
+same_by_words P D E (Closing (Words p R (Light turns reward y))) fits same h = same_holds P D E (Closing (Words p R (Light turns 0 y))) (omega (arith, fits.0)) fits same h
+same_by_words P D E (Closing (Words p R (Light turns reward y))) fits same h = absurd h
 same_by_words P D E line fits same h = tt
 
 pub escaped_by_words : (P : Instance) (D : Domains) (line : Line) (w : List Symbol) → Escapes P None D line w → HoldsByWords P None D line → ⊥
-escaped_by_words P D (Closing (Dead p len R)) w e h = escaped_not_holding P D (Closing (Dead p len R)) w e h
-escaped_by_words P D (Closing (Bound p turns R y)) w e h = escaped_not_holding P D (Closing (Bound p turns R y)) w e h
+escaped_by_words P D (Closing (Words p R (Dead len))) w e h = escaped_not_holding P D (Closing (Words p R (Dead len))) w e h
+escaped_by_words P D (Closing (Words p R (Light turns reward y))) w e h = escaped_not_holding P D (Closing (Words p R (Light turns 0 y))) w e h
 escaped_by_words P D line w e h = absurd e
 
 -- what the words say under the domains of a walk, they say under those of its lines
@@ -41,16 +41,16 @@ fails_there P D E line w fits same e = (
 -- the list of a line
 
 pub its_short_rules : (P : Instance) (line : Line) (list : List ℕ) → HasList line list → ListsShortOnly P line → NamesShortOnly P list
-its_short_rules P (Closing (Dead p len R)) list has short = subst (NamesShortOnly P) has short
-its_short_rules P (Closing (Bound p turns R y)) list has short = subst (NamesShortOnly P) has short
-its_short_rules P (Closing (Free turns reward R y)) list has short = subst (NamesShortOnly P) has short
+its_short_rules P (Closing (Words p R (Dead len))) list has short = subst (NamesShortOnly P) has short
+its_short_rules P (Closing (Words p R (Light turns reward y))) list has short = subst (NamesShortOnly P) has short
+its_short_rules P (Closing (Words p R (Light turns reward y))) list has short = subst (NamesShortOnly P) has short
 its_short_rules P line list has short = absurd has
 
 -- nothing is said by words of a line without one
 pub without_list : (P : Instance) (goal : Option ℕ) (D : Domains) (line : Line) → HasNoList line → HoldsByWords P goal D line
-without_list P goal D (Closing (Dead p len R)) none = absurd none
-without_list P goal D (Closing (Bound p turns R y)) none = absurd none
-without_list P goal D (Closing (Free turns reward R y)) none = absurd none
+without_list P goal D (Closing (Words p R (Dead len))) none = absurd none
+without_list P goal D (Closing (Words p R (Light turns reward y))) none = absurd none
+without_list P goal D (Closing (Words p R (Light turns reward y))) none = absurd none
 without_list P goal D line none = tt
 
 -- a search for a word that escapes the line has found one, or the line holds

@@ -15,8 +15,10 @@ use Rattle.rwsp_terms.proofs.Ascending.{rising}
 use Rattle.rwsp_model.specs.RuleNumbers.{IsShortNumber}
 use Rattle.rwsp_model.proofs.Numbering.{one_number}
 use Rattle.refutation_terms.specs.declared.lines.Line.{Line}
-use Rattle.refutation_terms.specs.Log.{AreRules, Cites, CitesOnlyNamed}
-use Rattle.refutation_terms.specs.Verdict.{IsLeast, IsUnnamed, IsLongIn}
+use Rattle.refutation_terms.specs.Ranges.{AreRules}
+use Rattle.refutation_terms.specs.Log.{Cites, CitesOnlyNamed}
+use Rattle.refutation_terms.specs.Verdict.{IsLeast, IsUnnamed}
+use Rattle.refutation_terms.specs.Leaves.{IsLongIn}
 use Rattle.refutation_log.specs.Printing.{FitsSomeLog}
 use Rattle.refutation_log.specs.Cited.{IsDayRule, IsWeighedDayRule}
 use Rattle.refutation_log.proofs.Adding.{StandsOn, weighed_steps}

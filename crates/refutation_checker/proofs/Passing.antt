@@ -15,13 +15,16 @@ use Rattle.rwsp_terms.specs.Instance.{Instance, name_of}
 use Rattle.rwsp_terms.specs.Rules.{rule_of, Names}
 use Rattle.rwsp_model.specs.Validity.{KeepsLimits}
 use Rattle.refutation_terms.specs.declared.lines.Line.{Line}
+use Rattle.refutation_terms.specs.declared.lines.Opening.{Opening}
+use Rattle.refutation_terms.specs.declared.lines.Opening.TheVariants.{Full, Turned}
 use Rattle.refutation_terms.specs.declared.lines.Turn.{Turn}
 use Rattle.refutation_terms.specs.declared.lines.LogRefusal.{LogRefusal}
 use Rattle.refutation_terms.specs.declared.lines.LogRefusal.TheVariants as Refusals
 use Rattle.refutation_terms.specs.Tree.{IsTree, after_trees, lines_in, opening, domains_at}
-use Rattle.refutation_terms.specs.Log.{Log, Fits, FitsFor, LineFits, TurnFits, TurnCites, AreRules, Passes}
+use Rattle.refutation_terms.specs.Log.{Log, Fits, LineFits, OpeningFits, OpeningCites, Passes}
+use Rattle.refutation_terms.specs.Ranges.{AreRules}
 use Rattle.refutation_terms.specs.LogText.{raw, line_text, log_text, header_text, turn_text, raw_fields}
-use Rattle.refutation_terms.specs.Verdict.{BeforeTurn, IsRefusedLine, IsRefused, TurnCause, header_lines_for}
+use Rattle.refutation_terms.specs.Verdict.{BeforeTurn, IsRefusedLine, IsRefused, TurnCause, header_lines}
 use Rattle.refutation_terms.proofs.Spelled.{fitting_lines_are_spelled_for}
 use Rattle.refutation_terms.proofs.Trees.{part_is_not_whole, tree_is_whole}
 use Rattle.refutation_log.specs.Printing.{lines_text}
@@ -43,7 +46,7 @@ use Rattle.refutation_checker.proofs.SoundLines.{sound_joined, passes, refused}
 
 -- turns
 
-pub day_named : (P : Instance) (named : List ℕ) (t : Turn) (k : ℕ) → rule_of P k ≡ Some (TheRules.Day t.day) → Contains named k → (r : Rule) → TurnCites (Some t) r → Names P named r
+pub day_named : (P : Instance) (named : List ℕ) (t : Turn) (k : ℕ) → rule_of P k ≡ Some (TheRules.Day t.day) → Contains named k → (r : Rule) → OpeningCites (Some t) r → Names P named r
 day_named P named t k is held r cites = (k, held, is ∙ ap (λ r. Some r) (sym cites))
 
 -- fronts of a tree
@@ -55,7 +58,7 @@ no_front lines k tree less front =
     let some : after_trees 1 (take k lines) ≡ Some [] = subst (λ ls. after_trees 1 ls ≡ Some []) front.1 (tree_is_whole front.0) in
     cc
 
-pub still_part : (P : Instance) (turn : Option Turn) (lines : List Line) (w : State) → IsStateOf P turn lines w → (IsTree lines → ⊥) → w.whole ≡ false
+pub still_part : (P : Instance) (turn : Opening) (lines : List Line) (w : State) → IsStateOf P turn lines w → (IsTree lines → ⊥) → w.whole ≡ false
 still_part P turn lines w state part =
     elim (cases_Bool w.whole) [
       | inl whole ↦ absurd (part ((read_is_tree w.whole (length w.store.sets) w.store (opening P turn) w.splits lines state.read).0 whole))
@@ -65,18 +68,18 @@ still_part P turn lines w state part =
 -- one line more
 
 pub passed_next : (J : Judging) (g : Log) (i number : ℕ) (line : Line) (w new : State) (answer : Result (Option LogRefusal) AllocError)
-    → IsTree g.lines → LineFits J.problem J.goal line → slice_get g.lines i ≡ Some line → IsPassed J g i w → number ≡ header_lines_for J.goal g.turn + i + 1
+    → IsTree g.lines → LineFits J.problem J.goal line → slice_get g.lines i ≡ Some line → IsPassed J g i w → number ≡ header_lines g.opening J.goal + i + 1
     → IfOk answer (λ found. MatchOption found (PassesNext J w line new) (HasCauseNext J w number line))
     → IfOk answer (λ found. MatchOption found (IsPassed J g (i + 1) new) (IsRefusedAt J g i))
 passed_next J g i number line w new (Ok None) tree fits here before is h =
     let front = take i g.lines in
-    let next = h g.turn front before.walked in
+    let next = h g.opening front before.walked in
     let less = slice_get_within g.lines i line here in
     let more : take (i + 1) g.lines ≡ front ++ line ∷ [] = take_more g.lines i line less ∙ ap (λ l. front ++ l ∷ []) (get_or_from_slice_get g.lines i line line here) in
-    let one : IsSoundNext J g.turn front line = record { in_tree = no_front g.lines i tree less; fits = fits; sound = next.0 } in
+    let one : IsSoundNext J g.opening front line = record { in_tree = no_front g.lines i tree less; fits = fits; sound = next.0 } in
     record {
-      walked = subst (λ ls. IsStateOf J.problem g.turn ls new) (sym more) next.1;
-      sound = subst (λ ls. AreSoundBehind J g.turn [] ls) (sym more) (sound_joined J g.turn [] front (line ∷ []) before.sound (one, tt));
+      walked = subst (λ ls. IsStateOf J.problem g.opening ls new) (sym more) next.1;
+      sound = subst (λ ls. AreSoundBehind J g.opening [] ls) (sym more) (sound_joined J g.opening [] front (line ∷ []) before.sound (one, tt));
     }
 passed_next J g i number line w new (Ok (Some why)) tree fits here before is h =
     let front = take i g.lines in
@@ -84,7 +87,7 @@ passed_next J g i number line w new (Ok (Some why)) tree fits here before is h =
       line = line;
       here = here;
       sound = before.sound;
-      cause = subst (λ n. HasCause J (domains_at J.problem g.turn front (length front)) n line why) is (h g.turn front before.walked);
+      cause = subst (λ n. HasCause J (domains_at J.problem g.opening front (length front)) n line why) is (h g.opening front before.walked);
     }
 passed_next J g i number line w new (Err e) tree fits here before is h = tt
 
@@ -102,7 +105,7 @@ lines_cut P lines i line here =
     ∙ ap (λ t. t ++ (f line ++ flat_map f after)) (joined_lines P before)
     ∙ ap (λ t. lines_text P before ++ (f line ++ t)) (joined_lines P after)
 
-refused_at : (J : Judging) (g : Log) (i : ℕ) (why : LogRefusal) → KeepsLimits J.problem → FitsFor J.problem J.goal g → IsTree g.lines → IsRefusedAt J g i why → IsChunkRefused J g.turn [] (lines_text J.problem g.lines) why
+refused_at : (J : Judging) (g : Log) (i : ℕ) (why : LogRefusal) → KeepsLimits J.problem → Fits J.problem g → IsTree g.lines → IsRefusedAt J g i why → IsChunkRefused J g.opening [] (lines_text J.problem g.lines) why
 refused_at J g i why limits fits tree at =
     let P = J.problem in
     let front = take i g.lines in
@@ -117,11 +120,11 @@ refused_at J g i why limits fits tree at =
       sound = at.sound;
       text = lines_cut P g.lines i at.line at.here ∙ sym (append_assoc (lines_text P front) bytes (lines_text P (drop (suc i) g.lines)));
       is_line = inl (join_with_byte 32 (raw_fields P (raw P at.line)), body_feedless P at.line limits (J.goal, fit), refl);
-      cause = refused_next J g.turn front bytes at.line (header_lines_for J.goal g.turn + i + 1) why (fitting_lines_are_spelled_for P J.goal at.line (has_names P limits) fit)
-          (no_front g.lines i tree less) (ap (λ n. header_lines_for J.goal g.turn + n + 1) (sym long)) at.cause;
+      cause = refused_next J g.opening front bytes at.line (header_lines g.opening J.goal + i + 1) why (fitting_lines_are_spelled_for P J.goal at.line (has_names P limits) fit)
+          (no_front g.lines i tree less) (ap (λ n. header_lines g.opening J.goal + n + 1) (sym long)) at.cause;
     }
 
-turn_line : (P : Instance) (named : List ℕ) (t : Turn) (rest : List ℕ) (why : LogRefusal) → KeepsLimits P → AreRules P named → TurnFits P (Some t) → TurnCause P named (turn_text (name_of P t.x) t.day) why → IsRefusedLine P (header_text P named (Some t) ++ rest) why
+turn_line : (P : Instance) (named : List ℕ) (t : Turn) (rest : List ℕ) (why : LogRefusal) → KeepsLimits P → AreRules P named → OpeningFits P (Some t) → TurnCause P named (turn_text (name_of P t.x) t.day) why → IsRefusedLine P (header_text P named (Some t) ++ rest) why
 turn_line P named t rest why limits are fits cause =
     let name = name_of P t.x in
     let words : List (List ℕ) = codes "turn" ∷ name ∷ decimal t.day ∷ [] in
@@ -135,7 +138,7 @@ turn_line P named t rest why limits are fits cause =
       cause = cause;
     }
 
-turn_fault_refused : (P : Instance) (named : List ℕ) (t : Turn) (rest : List ℕ) (why : LogRefusal) → KeepsLimits P → AreRules P named → TurnFits P (Some t) → TurnFault P named t why → IsRefused P (header_text P named (Some t) ++ rest) why
+turn_fault_refused : (P : Instance) (named : List ℕ) (t : Turn) (rest : List ℕ) (why : LogRefusal) → KeepsLimits P → AreRules P named → OpeningFits P (Some t) → TurnFault P named t why → IsRefused P (header_text P named (Some t) ++ rest) why
 turn_fault_refused P named t rest (Refusals.Unnamed n k) limits are fits h =
     turn_line P named t rest (Refusals.Unnamed n k) limits are fits
     (h.0, (t.day, t.x, (name_of P t.x, (name_there P t.x.number limits fits.1, fits.0, refl), symbol_named P t.x limits fits.1), h.1))
@@ -144,24 +147,24 @@ turn_fault_refused P named t rest (Refusals.Turn n) limits are fits h =
     (h.0, (t.day, t.x, (name_of P t.x, (name_there P t.x.number limits fits.1, fits.0, refl), symbol_named P t.x limits fits.1), h.1, h.2))
 turn_fault_refused P named t rest why limits are fits h = absurd h
 
-pub turn_refused : (P : Instance) (named : List ℕ) (turn : Option Turn) (rest : List ℕ) (why : LogRefusal) → KeepsLimits P → AreRules P named → TurnFits P turn → IsTurnFault P named turn why → IsRefused P (header_text P named turn ++ rest) why
+pub turn_refused : (P : Instance) (named : List ℕ) (turn : Opening) (rest : List ℕ) (why : LogRefusal) → KeepsLimits P → AreRules P named → OpeningFits P turn → IsTurnFault P named turn why → IsRefused P (header_text P named turn ++ rest) why
 turn_refused P named None rest why limits are fits h = absurd h
 turn_refused P named (Some t) rest why limits are fits h = turn_fault_refused P named t rest why limits are fits h
 
 -- what the judging of all lines found
-header_of : (P : Instance) (g : Log) → Fits P g → IsSoundTurn P g.named g.turn → HasHeader (without_goal P g.named) (log_text P g) g.turn (lines_text P g.lines)
+header_of : (P : Instance) (g : Log) → Fits P g → IsSoundTurn P g.named g.opening → HasHeader (without_goal P g.named) (log_text P g) g.opening (lines_text P g.lines)
 header_of P g fits turn = record { rules = fits.named; fits = fits.turn; weeks = tt; sound = turn; whole = refl }
 
-as_judged : (P : Instance) (g : Log) → Fits P g → log_of (without_goal P g.named) g.turn g.lines ≡ g
-as_judged P g fits = ap (λ (o : Option ℕ). log_of (record { problem = P; named = g.named; goal = o }) g.turn g.lines) (sym fits.is_goal)
+as_judged : (P : Instance) (g : Log) → Fits P g → log_of (without_goal P g.named) g.opening g.lines ≡ g
+as_judged P g fits = ap (λ (o : Option ℕ). log_of (record { problem = P; named = g.named; goal = o }) g.opening g.lines) (sym fits.is_goal)
 
-pub tree_judged : (P : Instance) (g : Log) (answer : Result (Option LogRefusal) AllocError) → KeepsLimits P → Fits P g → IsTree g.lines → IsSoundTurn P g.named g.turn
+pub tree_judged : (P : Instance) (g : Log) (answer : Result (Option LogRefusal) AllocError) → KeepsLimits P → Fits P g → IsTree g.lines → IsSoundTurn P g.named g.opening
     → IfOk answer (IsTreeJudged P g)
     → IfOk answer (λ found. MatchOption found (Passes P g) (IsRefused P (log_text P g)))
 tree_judged P g (Ok None) limits fits tree turn h =
     subst (λ (l : Log). Passes P l) (as_judged P g fits)
-    (passes (without_goal P g.named) (log_text P g) (lines_text P g.lines) g.turn g.lines (header_of P g fits turn) h tree)
+    (passes (without_goal P g.named) (log_text P g) (lines_text P g.lines) g.opening g.lines (header_of P g fits turn) h tree)
 tree_judged P g (Ok (Some why)) limits fits tree turn h =
     let J : Judging = without_goal P g.named in
-    refused J (log_text P g) (lines_text P g.lines) g.turn why (header_of P g fits turn) (refused_at J g h.0 why limits fits tree h.1)
+    refused J (log_text P g) (lines_text P g.lines) g.opening why (header_of P g fits turn) (refused_at J g h.0 why limits fits tree h.1)
 tree_judged P g (Err e) limits fits tree turn h = tt

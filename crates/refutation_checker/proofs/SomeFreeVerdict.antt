@@ -6,9 +6,10 @@ use Rattle.rwsp_terms.specs.declared.limits.TheConstants.{DAYS_OF_WEEK}
 use Rattle.rwsp_terms.specs.Instance.{Instance}
 use Rattle.refutation_terms.specs.declared.lines.LogRefusal.{LogRefusal}
 use Rattle.refutation_terms.specs.declared.lines.LogRefusal.TheVariants as Refusals
-use Rattle.refutation_terms.specs.Log.{Log, AreRules}
-use Rattle.refutation_terms.specs.LogText.{free_version_text, rules_text, goal_text}
-use Rattle.refutation_terms.specs.FreeVerdict.{FreeStart, FreeVersioned, BeforeGoal, IsFreeVerdict}
+use Rattle.refutation_terms.specs.Log.{Log}
+use Rattle.refutation_terms.specs.Ranges.{AreRules}
+use Rattle.refutation_terms.specs.LogText.{version_text, rules_text, goal_text}
+use Rattle.refutation_terms.specs.Verdict.{Start, Versioned, BeforeGoal, IsVerdict}
 use Rattle.refutation_checker.specs.Headers.{with_goal}
 use Rattle.refutation_checker.specs.Laws.{TextsHaveAFreeVerdict}
 use Rattle.refutation_checker.proofs.SomeVerdict.{first_line, body_on}

@@ -10,14 +10,17 @@ use Rattle.rwsp_terms.specs.declared.data.Rule.TheVariants as TheRules
 use Rattle.rwsp_terms.specs.Instance.{Instance, least, symbol_of, name_of}
 use Rattle.rwsp_terms.specs.Rules.{Names}
 use Rattle.refutation_terms.specs.declared.lines.Line.{Line}
+use Rattle.refutation_terms.specs.declared.lines.Opening.{Opening}
+use Rattle.refutation_terms.specs.declared.lines.Opening.TheVariants.{Full, Turned}
 use Rattle.refutation_terms.specs.declared.lines.Turn.{Turn}
 use Rattle.refutation_terms.specs.declared.lines.LogRefusal.{LogRefusal}
 use Rattle.refutation_terms.specs.declared.lines.LogRefusal.TheVariants as Refusals
 use Rattle.refutation_terms.specs.Tree.{IsTree, domains_at}
-use Rattle.refutation_terms.specs.Log.{Log, AreRules}
+use Rattle.refutation_terms.specs.Log.{Log}
+use Rattle.refutation_terms.specs.Ranges.{AreRules}
 use Rattle.refutation_terms.specs.LogText.{RawLine, IsWritten, line_of, raw, line_text, version_text, rules_text, turn_text}
 use Rattle.rwsp_text.specs.Lines.{IsNextLine}
-use Rattle.refutation_terms.specs.Verdict.{Start, Versioned, BeforeTurn, header_lines_for, Cause, CauseBehind, Spells, SpellsTurn, IsUnnamed, IsVerdict}
+use Rattle.refutation_terms.specs.Verdict.{Start, Versioned, BeforeTurn, header_lines, Cause, CauseBehind, Spells, SpellsTurn, IsUnnamed, IsVerdict}
 use Rattle.refutation_terms.proofs.Spelled.{spelled_lines_fit_for, symbol_of-name}
 use Rattle.refutation_log.specs.Printing.{lines_text}
 use Rattle.refutation_checker.specs.Headers.{HasHeader, IsAcceptedFor, IsRefusedFor, without_goal}
@@ -77,26 +80,26 @@ text_on P body left line rest lines l text whole spelled =
     ∙ sym (append_assoc front (own ++ []) rest)
     ∙ ap (λ t. t ++ rest) (sym (lines_joined P lines (l ∷ [])))
 
-abbrev RefusesNone : Judging → Option Turn → List Line → List ℕ → Type 0
+abbrev RefusesNone : Judging → Opening → List Line → List ℕ → Type 0
 RefusesNone J turn lines line = (why : LogRefusal) → CauseBehind J.problem J.goal (log_of J turn lines) line why → ⊥
 
-abbrev Takes : Judging → Option Turn → List Line → List ℕ → Line → Type 0
+abbrev Takes : Judging → Opening → List Line → List ℕ → Line → Type 0
 Takes J turn lines line l = (line ≡ line_text J.problem (raw J.problem l)) × IsSoundNext J turn lines l
 
 -- a line that is refused for no cause is a sound next line
-spelled_stands : (J : Judging) (turn : Option Turn) (lines : List Line) (line : List ℕ) (written : RawLine) → RefusesNone J turn lines line → ((l : Line) → Takes J turn lines line l → ⊥) → (IsTree lines → ⊥) → IsWritten J.problem J.goal line written → (o : Option Line) → line_of J.problem written ≡ o → ⊥
-spelled_stands J turn lines line written none goes part w None e = none (Refusals.Name (header_lines_for J.goal turn + length lines + 1)) (inr (part, (refl, (written, w, e))))
+spelled_stands : (J : Judging) (turn : Opening) (lines : List Line) (line : List ℕ) (written : RawLine) → RefusesNone J turn lines line → ((l : Line) → Takes J turn lines line l → ⊥) → (IsTree lines → ⊥) → IsWritten J.problem J.goal line written → (o : Option Line) → line_of J.problem written ≡ o → ⊥
+spelled_stands J turn lines line written none goes part w None e = none (Refusals.Name (header_lines turn J.goal + length lines + 1)) (inr (part, (refl, (written, w, e))))
 spelled_stands J turn lines line written none goes part w (Some l) e =
-    let n = header_lines_for J.goal turn + length lines + 1 in
+    let n = header_lines turn J.goal + length lines + 1 in
     let D = domains_at J.problem turn lines (length lines) in
     let spells : Spells J.problem J.goal line l = (written, w, e) in
     let fits = spelled_lines_fit_for J.problem J.goal line l spells in
     line_stands J.problem J.goal J.named D n l fits.0 (λ why c. none why (refused_next J turn lines line l n why spells part refl c))
     (λ sound. goes l (fits.1, record { in_tree = part; fits = fits.0; sound = sound }))
 
-line_read : (J : Judging) (turn : Option Turn) (lines : List Line) (line : List ℕ) → RefusesNone J turn lines line → ((l : Line) → Takes J turn lines line l → ⊥) → ⊥
+line_read : (J : Judging) (turn : Opening) (lines : List Line) (line : List ℕ) → RefusesNone J turn lines line → ((l : Line) → Takes J turn lines line l → ⊥) → ⊥
 line_read J turn lines line none goes =
-    let n = header_lines_for J.goal turn + length lines + 1 in
+    let n = header_lines turn J.goal + length lines + 1 in
     let part : IsTree lines → ⊥ = λ t. none (Refusals.Extra n) (inl (t, refl)) in
     none (Refusals.Form n) (inr (part, (refl, λ written w. spelled_stands J turn lines line written none goes part w (line_of J.problem written) refl)))
 
@@ -105,7 +108,7 @@ abbrev pub HasNoVerdictFor : Instance → Option ℕ → List ℕ → Type 0
 HasNoVerdictFor P goal text = ((g : Log) → IsAcceptedFor P goal text g → ⊥) × ((why : LogRefusal) → IsRefusedFor P goal text why → ⊥)
 
 -- the lines behind a header, some of which have been read
-lines_on : (J : Judging) (text body : List ℕ) (turn : Option Turn) → HasHeader J text turn body → HasNoVerdictFor J.problem J.goal text → (n : ℕ) (lines : List Line) (left : List ℕ) → length left < n → AreSoundBehind J turn [] lines → body ≡ lines_text J.problem lines ++ left → ⊥
+lines_on : (J : Judging) (text body : List ℕ) (turn : Opening) → HasHeader J text turn body → HasNoVerdictFor J.problem J.goal text → (n : ℕ) (lines : List Line) (left : List ℕ) → length left < n → AreSoundBehind J turn [] lines → body ≡ lines_text J.problem lines ++ left → ⊥
 lines_on J text body turn h none zero lines left few sound e = omega (arith, few)
 lines_on J text body turn h none (suc n) lines [] few sound e =
     let all : body ≡ lines_text J.problem lines = e ∙ append-nil (lines_text J.problem lines) in
@@ -128,7 +131,7 @@ lines_on J text body turn h none (suc n) lines (b ∷ left) few sound e =
     lines_on J text body turn h none n (lines ++ l ∷ []) next.rest (let less = next.shorter in omega (arith, few, less)) (sound_joined J turn [] lines (l ∷ []) sound (takes.1, tt))
     (text_on J.problem body (b ∷ left) next.line next.rest lines l e next.whole takes.0))
 
-pub body_on : (J : Judging) (text body : List ℕ) (turn : Option Turn) → HasHeader J text turn body → HasNoVerdictFor J.problem J.goal text → ⊥
+pub body_on : (J : Judging) (text body : List ℕ) (turn : Opening) → HasHeader J text turn body → HasNoVerdictFor J.problem J.goal text → ⊥
 body_on J text body turn h none = lines_on J text body turn h none (length body + 1) [] body (omega arith) tt refl
 
 none_for : (P : Instance) (text : List ℕ) → HasNoVerdict P text → HasNoVerdictFor P None text

@@ -8,6 +8,8 @@ use Rattle.rwsp_terms.specs.Instance.{Instance, cells}
 use Rattle.rwsp_model.specs.Validity.{KeepsLimits}
 use Rattle.refutation_terms.specs.declared.lines.Line.{Line}
 use Rattle.refutation_terms.specs.declared.lines.Line.TheVariants.{Split, Unfinished}
+use Rattle.refutation_terms.specs.declared.lines.Opening.{Opening}
+use Rattle.refutation_terms.specs.declared.lines.Opening.TheVariants.{Full, Turned}
 use Rattle.refutation_terms.specs.declared.lines.Turn.{Turn}
 use Rattle.refutation_terms.specs.Tree.{IsTree, domains_at, is_idle}
 use Rattle.refutation_terms.specs.LogText.{raw, line_text}
@@ -52,7 +54,7 @@ not_refused P bytes p x Form limits h refused = let s = spelled P bytes p x limi
 not_refused P bytes p x Name limits h refused = not_unknown P bytes (Split p x) (is_writable P limits) (spelled P bytes p x limits h) refused
 
 -- a split that was spelled is at a position
-pub split_within : (P : Instance) (w : State) (S : Store) (bytes : List ℕ) (line : Line) (p : ℕ) (x : Symbol) → S ≡ w.store → IsStore S → (turn : Option Turn) × (earlier : List Line) × IsStateOf P turn earlier w → Spells P None bytes line → line ≡ Split p x → p < length w.store.sets
+pub split_within : (P : Instance) (w : State) (S : Store) (bytes : List ℕ) (line : Line) (p : ℕ) (x : Symbol) → S ≡ w.store → IsStore S → (turn : Opening) × (earlier : List Line) × IsStateOf P turn earlier w → Spells P None bytes line → line ≡ Split p x → p < length w.store.sets
 split_within P w S bytes line p x is store h spells split =
     let text = spelled_fits P bytes (Split p x) (subst (Spells P None bytes) split spells) in
     let long : length w.store.sets ≡ cells P = positions_of P w.store (subst IsStore is store) h.2.belongs in
@@ -72,7 +74,7 @@ same_split : (p q : ℕ) (x y : Symbol) → Split p x ≡ Split q y → (p ≡ q
 same_split p q x y e = (let f : p ≡ q = cc in f, let g : x ≡ y = cc in g)
 
 pub entry : (P : Instance) (u : UnreadSplit) (old new : State) (bytes : List ℕ) (line : Line) (q : ℕ) (y : Symbol) (in_second entered : Bool) → KeepsLimits P → bytes ≡ u.line → in_second ≡ u.in_second → Spells P None bytes line → line ≡ Split q y
-    → ((R : Instance) (turn : Option Turn) (lines first : List Line) → IsStateOf R turn lines old → IsFirstSide in_second first → MatchBool entered (IsStateOf R turn (lines ++ Split q y ∷ first) new) (is_idle R (domains_at R turn lines (length lines)) q y.number ≡ true))
+    → ((R : Instance) (turn : Opening) (lines first : List Line) → IsStateOf R turn lines old → IsFirstSide in_second first → MatchBool entered (IsStateOf R turn (lines ++ Split q y ∷ first) new) (is_idle R (domains_at R turn lines (length lines)) q y.number ≡ true))
     → IsEntered P u old new entered
 entry P u old new bytes line q y in_second entered limits is side_is spells split goes turn lines first p x state text side =
     let same : line ≡ Split p x = same_text P bytes line p x limits spells (subst (λ b. IsLineText P b (Split p x)) (sym is) text) in
@@ -94,9 +96,9 @@ some_side : (b : Bool) → (first : List Line) × IsFirstSide b first
 some_side true = (Unfinished ∷ [], leaf_is_tree Unfinished tt)
 some_side false = ([], refl)
 
-pub entered_somewhere : (P : Instance) (old new : State) (q : ℕ) (y : Symbol) (in_second entered : Bool) → (turn : Option Turn) × (lines : List Line) × IsStateOf P turn lines old
-    → ((R : Instance) (turn : Option Turn) (lines first : List Line) → IsStateOf R turn lines old → IsFirstSide in_second first → MatchBool entered (IsStateOf R turn (lines ++ Split q y ∷ first) new) (is_idle R (domains_at R turn lines (length lines)) q y.number ≡ true))
-    → entered ≡ true → (turn : Option Turn) × (lines : List Line) × IsStateOf P turn lines new
+pub entered_somewhere : (P : Instance) (old new : State) (q : ℕ) (y : Symbol) (in_second entered : Bool) → (turn : Opening) × (lines : List Line) × IsStateOf P turn lines old
+    → ((R : Instance) (turn : Opening) (lines first : List Line) → IsStateOf R turn lines old → IsFirstSide in_second first → MatchBool entered (IsStateOf R turn (lines ++ Split q y ∷ first) new) (is_idle R (domains_at R turn lines (length lines)) q y.number ≡ true))
+    → entered ≡ true → (turn : Opening) × (lines : List Line) × IsStateOf P turn lines new
 entered_somewhere P old new q y in_second entered state goes is =
     let side = some_side in_second in
     (state.0, state.1 ++ Split q y ∷ side.0, entered_state entered _ _ is (goes P state.0 state.1 side.0 state.2 side.1))
@@ -108,7 +110,7 @@ still_part false n before is some = refl
 
 -- the first splits were entered
 
-pub record IntoUpTo (P : Instance) (turn : Option Turn) (lines : List Line) (left : List UnreadSplit) (w : State) : Type 0 where
+pub record IntoUpTo (P : Instance) (turn : Opening) (lines : List Line) (left : List UnreadSplit) (w : State) : Type 0 where
   pub front : List Line
   pub rest : List Line
   pub both : lines ≡ front ++ rest
@@ -116,11 +118,11 @@ pub record IntoUpTo (P : Instance) (turn : Option Turn) (lines : List Line) (lef
   pub state : IsStateOf P turn front w
 
 pub record IntoSoFar (P : Instance) (start : State) (before : List UnreadSplit) (i : ℕ) (w : State) : Type 0 where
-  pub state : (turn : Option Turn) × (lines : List Line) × IsStateOf P turn lines w
+  pub state : (turn : Opening) × (lines : List Line) × IsStateOf P turn lines w
   pub part : w.whole ≡ false
-  pub leads : (turn : Option Turn) (lines : List Line) → IsStateOf P turn [] start → EndInside P before lines → IntoUpTo P turn lines (drop i before) w
+  pub leads : (turn : Opening) (lines : List Line) → IsStateOf P turn [] start → EndInside P before lines → IntoUpTo P turn lines (drop i before) w
 
-pub into_none : (P : Instance) (start w : State) (before : List UnreadSplit) → w ≡ start → (turn : Option Turn) × (lines : List Line) × IsStateOf P turn lines start → start.whole ≡ false → IntoSoFar P start before 0 w
+pub into_none : (P : Instance) (start w : State) (before : List UnreadSplit) → w ≡ start → (turn : Opening) × (lines : List Line) × IsStateOf P turn lines start → start.whole ≡ false → IntoSoFar P start before 0 w
 into_none P start w before is state part =
     subst (IntoSoFar P start before 0) (sym is)
     (record {
@@ -134,7 +136,7 @@ left_from before i u less is =
     let next : suc i ≡ i + 1 = omega arith in
     drop-cons before i u less ∙ ap (λ v. v ∷ drop (suc i) before) (sym is) ∙ ap (λ n. u ∷ drop n before) next
 
-pub into_more : (P : Instance) (start w w' : State) (before : List UnreadSplit) (i : ℕ) (u : UnreadSplit) → i < length before → u ≡ get_or before i u → IntoSoFar P start before i w → (turn : Option Turn) × (lines : List Line) × IsStateOf P turn lines w' → w'.whole ≡ false
+pub into_more : (P : Instance) (start w w' : State) (before : List UnreadSplit) (i : ℕ) (u : UnreadSplit) → i < length before → u ≡ get_or before i u → IntoSoFar P start before i w → (turn : Opening) × (lines : List Line) × IsStateOf P turn lines w' → w'.whole ≡ false
     → IsEntered P u w w' true → IntoSoFar P start before (i + 1) w'
 into_more P start w w' before i u less is so state part enters = record {
   state = state;
@@ -174,7 +176,7 @@ into_all P start w before i all so turn lines st h =
 -- passing lines
 
 -- an idle split is one of all lines
-idle_in_all : (P : Instance) (turn : Option Turn) (a b : List Line) → HasIdleSplit P turn a → HasIdleSplit P turn (a ++ b)
+idle_in_all : (P : Instance) (turn : Opening) (a b : List Line) → HasIdleSplit P turn a → HasIdleSplit P turn (a ++ b)
 idle_in_all P turn a b h = record {
   front = h.front;
   p = h.p;
@@ -203,7 +205,7 @@ behind_idle P start before after bytes count passed idle turn done lines st h fi
 -- a chunk was cut off at an end of lines
 pub cut_here : (P : Instance) (size : ℕ) (start : State) (before after : List UnreadSplit) (all : Start) (w walk : State) (bytes front back : List ℕ) (first end count : ℕ) → record { walk = w; bytes = bytes; first = first } ≡ all
     → front ≡ take end bytes → back ≡ drop end bytes → end ≢ length bytes → end ≤ length bytes → (0 < length bytes → 0 < end) → EndsLines bytes size end → all.bytes ≢ [] → all.first + length all.bytes < 2 ^ 31 → count ≤ length (take end bytes)
-    → (turn : Option Turn) × (lines : List Line) × IsStateOf P turn lines walk → ArePassed P start before after (take end bytes) (Some count) → IsInto P start after (Some walk)
+    → (turn : Opening) × (lines : List Line) × IsStateOf P turn lines walk → ArePassed P start before after (take end bytes) (Some count) → IsInto P start after (Some walk)
     → IsCutOff P size start before after all (record { walk = w; bytes = front; first = first }) (Some (record { walk = walk; bytes = back; first = first + count }))
 cut_here P size start before after all w walk bytes front back first end count view is_front is_back other within some ends more few counted state passed into =
     let same : bytes ≡ all.bytes = ap (λ (s : Start). s.bytes) view in

@@ -7,15 +7,15 @@ use Rattle.rwsp_terms.specs.Instance.{Instance}
 use Rattle.rwsp_model.specs.Validity.{KeepsLimits}
 use Rattle.refutation_terms.specs.declared.lines.Line.{Line}
 use Rattle.refutation_terms.specs.declared.lines.Line.TheVariants.{Split, Unfinished, Closing}
-use Rattle.refutation_terms.specs.declared.lines.Leaf.TheVariants.{Window, Day, Dead, Bound, Few, Free}
+use Rattle.refutation_terms.specs.declared.lines.Leaf.TheVariants.{Window, Day, Few, Words}
+use Rattle.refutation_terms.specs.declared.lines.WordClaim.TheVariants.{Dead, Light}
 use Rattle.refutation_terms.specs.Tree.{IsLeaf, IsTree, Node, lines_in}
 use Rattle.refutation_terms.specs.LogText.{raw, raw_fields, line_text}
-use Rattle.rwsp_text.specs.Lines.{IsNextLine}
+use Rattle.rwsp_text.specs.Lines.{IsNextLine, HasNoFeed}
 use Rattle.refutation_log.specs.Printing.{lines_text}
 use Rattle.rwsp_text.proofs.LineLaws.{cut, join_no_feed}
 use Rattle.refutation_log.proofs.OneText.{body, has_names, is_writable}
 use Rattle.refutation_terms.proofs.Texts.{line_words}
-use Rattle.rwsp_text.specs.Lines.{HasNoFeed}
 use Rattle.domain_store.specs.Splits.{IsFirstSide, NoLines}
 use Rattle.domain_store.proofs.Moves.{leaf_is_tree}
 use Rattle.refutation_checker.specs.UnreadSplits.{UnreadSplit, FitsALog, EachFits, IsLineText, LeadInto, EndInside, HasTree}
@@ -89,10 +89,10 @@ by_letter P (Split p x) true e = (p, x, refl)
 by_letter P (Split p x) false e = absurd (cc)
 by_letter P (Closing (Window rule p len)) true e = absurd (cc)
 by_letter P (Closing (Day j x over)) true e = absurd (cc)
-by_letter P (Closing (Dead p len R)) true e = absurd (cc)
-by_letter P (Closing (Bound p turns R y)) true e = absurd (cc)
+by_letter P (Closing (Words p R (Dead len))) true e = absurd (cc)
+by_letter P (Closing (Words p R (Light turns reward y))) true e = absurd (cc)
 by_letter P (Closing Few) true e = absurd (cc)
-by_letter P (Closing (Free turns reward R y)) true e = absurd (cc)
+by_letter P (Closing (Words p R (Light turns reward y))) true e = absurd (cc)
 by_letter P Unfinished true e = absurd (cc)
 by_letter P (Closing leaf) false e = tt
 by_letter P Unfinished false e = tt

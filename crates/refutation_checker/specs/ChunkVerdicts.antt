@@ -3,6 +3,8 @@ use Rattle.std.specs.Prelude.{◌≡◌, ◌↔◌, ℕ, List, [], ◌∷◌, �
 use Rattle.rwsp_model.specs.Refusals.{MatchAnswer}
 use Rattle.rwsp_model.specs.declared.fail.Fail.{Fail}
 use Rattle.refutation_terms.specs.declared.lines.Line.{Line}
+use Rattle.refutation_terms.specs.declared.lines.Opening.{Opening}
+use Rattle.refutation_terms.specs.declared.lines.Opening.TheVariants.{Full, Turned}
 use Rattle.refutation_terms.specs.declared.lines.Turn.{Turn}
 use Rattle.refutation_terms.specs.declared.lines.LogRefusal.{LogRefusal}
 use Rattle.refutation_terms.specs.Tree.{IsTree}
@@ -13,13 +15,13 @@ use Rattle.refutation_checker.specs.Starts.{Start, StandsBehind}
 use Rattle.refutation_checker.specs.LineTexts.{Judging, log_of, IsSoundNext}
 
 -- behind the earlier lines none of the further lines is refused
-abbrev pub AreSoundBehind : Judging → Option Turn → List Line → List Line → Type 0
+abbrev pub AreSoundBehind : Judging → Opening → List Line → List Line → Type 0
 AreSoundBehind J turn earlier [] = Unit {0}
 AreSoundBehind J turn earlier (line ∷ lines) =
     IsSoundNext J turn earlier line × AreSoundBehind J turn (earlier ++ line ∷ []) lines
 
 -- the bytes are the text of such lines, and it is said whether the tree is whole with them
-pub record AreAllSound (J : Judging) (turn : Option Turn) (earlier : List Line) (bytes : List ℕ)
+pub record AreAllSound (J : Judging) (turn : Opening) (earlier : List Line) (bytes : List ℕ)
     (whole : Bool) : Type 0 where
   pub lines : List Line
   pub sound : AreSoundBehind J turn earlier lines
@@ -27,7 +29,7 @@ pub record AreAllSound (J : Judging) (turn : Option Turn) (earlier : List Line) 
   pub tree : IsTrue whole ↔ IsTree (earlier ++ lines)
 
 -- the bytes continue behind the text of such lines with a line that has this cause
-pub record IsChunkRefused (J : Judging) (turn : Option Turn) (earlier : List Line) (bytes : List ℕ)
+pub record IsChunkRefused (J : Judging) (turn : Opening) (earlier : List Line) (bytes : List ℕ)
     (why : LogRefusal) : Type 0 where
   pub lines : List Line
   pub line : List ℕ
@@ -38,14 +40,14 @@ pub record IsChunkRefused (J : Judging) (turn : Option Turn) (earlier : List Lin
   pub cause : CauseBehind J.problem J.goal (log_of J turn (earlier ++ lines)) line why
 
 -- the answer to the bytes behind the earlier lines: whether the tree is whole with them, or why one is refused
-abbrev pub IsJudged : Judging → Option Turn → List Line → List ℕ → Result Bool (Fail LogRefusal) → Type 0
+abbrev pub IsJudged : Judging → Opening → List Line → List ℕ → Result Bool (Fail LogRefusal) → Type 0
 IsJudged J turn earlier bytes judged =
     MatchAnswer judged (AreAllSound J turn earlier bytes) (IsChunkRefused J turn earlier bytes)
 
 -- the answer to a chunk, behind any lines behind which it begins
 abbrev pub IsAnswerTo : Judging → Start → Result Bool (Fail LogRefusal) → Type 0
 IsAnswerTo J chunk answer =
-    (turn : Option Turn) (earlier : List Line) → StandsBehind J.problem J.goal turn earlier chunk
+    (turn : Opening) (earlier : List Line) → StandsBehind J.problem J.goal turn earlier chunk
     → IsJudged J turn earlier chunk.bytes answer
 
 -- the first failure among answers, or else the last answer

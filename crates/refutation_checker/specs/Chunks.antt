@@ -2,6 +2,8 @@
 use Rattle.std.specs.Prelude.{◌≡◌, ◌≢◌, ◌⊎◌, ℕ, ◌+◌, ◌-◌, ◌*◌, ◌^◌, ◌<◌, ◌==◌, List, [], ◌∷◌, ◌++◌, length, take, Option, Some, None, count_by, cond, slice_index}
 use Rattle.rwsp_terms.specs.Instance.{Instance}
 use Rattle.refutation_terms.specs.declared.lines.Line.{Line}
+use Rattle.refutation_terms.specs.declared.lines.Opening.{Opening}
+use Rattle.refutation_terms.specs.declared.lines.Opening.TheVariants.{Full, Turned}
 use Rattle.refutation_terms.specs.declared.lines.Turn.{Turn}
 use Rattle.refutation_log.specs.Printing.{lines_text}
 use Rattle.domain_store.specs.States.{State, IsStateOf}
@@ -23,13 +25,13 @@ EndsLines bytes size n = ((feeds (take n bytes) ≡ size) × (slice_index bytes 
 
 -- no chunk is needed behind the first n bytes: they are all bytes, or whatever lines they are the text of, a line
 -- behind these isn't the first that is refused
-abbrev pub IsLastChunkEnd : Instance → Option Turn → List Line → List ℕ → ℕ → Type 0
+abbrev pub IsLastChunkEnd : Instance → Opening → List Line → List ℕ → ℕ → Type 0
 IsLastChunkEnd P turn earlier bytes n =
     (n ≡ length bytes) ⊎ ((lines : List Line) → EachFits P lines → take n bytes ≡ lines_text P lines
     → IsEndedOrIdle P turn (earlier ++ lines))
 
 -- the chunk has the first `size` lines of the bytes, or all bytes where no further chunk is needed
-pub record HasFirstLines (P : Instance) (turn : Option Turn) (earlier : List Line) (size : ℕ) (bytes : List ℕ)
+pub record HasFirstLines (P : Instance) (turn : Opening) (earlier : List Line) (size : ℕ) (bytes : List ℕ)
     (chunk : Start) : Type 0 where
   pub end : ℕ
   pub lines : EndsLines bytes size end
@@ -41,7 +43,7 @@ EndWithFeed bytes = (body : List ℕ) × (bytes ≡ body ++ 10 ∷ [])
 
 -- some lines lead to the walk of the chunk, and it is short enough for its lines to be numbered
 abbrev pub IsJudgeable : Instance → Start → Type 0
-IsJudgeable P s = ((turn : Option Turn) × (earlier : List Line) × IsStateOf P turn earlier s.walk)
+IsJudgeable P s = ((turn : Opening) × (earlier : List Line) × IsStateOf P turn earlier s.walk)
     × (s.first + length s.bytes < 2 ^ 31)
 
 -- behind the lines of the chunk, whatever they are, as many lines more were counted and other splits are open, and the
@@ -56,7 +58,7 @@ pub record LeadsTo (P : Instance) (start : State) (before after : List UnreadSpl
 abbrev pub IsCutOff : Instance → ℕ → State → List UnreadSplit → List UnreadSplit → Start → Start → Option Start → Type 0
 IsCutOff P size start before after all chunk None =
     (chunk ≡ all)
-    × ((end : ℕ) × EndsLines all.bytes size end × ((turn : Option Turn) (done : List Line) → IsStateOf P turn [] start
+    × ((end : ℕ) × EndsLines all.bytes size end × ((turn : Opening) (done : List Line) → IsStateOf P turn [] start
     → EndInside P before done → IsLastChunkEnd P turn done all.bytes end))
 IsCutOff P size start before after all chunk (Some rest) =
     (chunk.walk ≡ all.walk) × (chunk.first ≡ all.first) × (all.bytes ≡ chunk.bytes ++ rest.bytes) × (chunk.bytes ≢ [])
@@ -66,7 +68,7 @@ IsCutOff P size start before after all chunk (Some rest) =
 
 -- the chunks, of `size` lines each, hold the bytes behind the earlier lines, one after another. Each begins behind the
 -- lines of those before it, whatever these are: where they are none, nothing is said of it
-abbrev pub AreChunks : Instance → Option ℕ → Option Turn → ℕ → List Line → List ℕ → List Start → Type 0
+abbrev pub AreChunks : Instance → Option ℕ → Opening → ℕ → List Line → List ℕ → List Start → Type 0
 AreChunks P goal turn size earlier bytes [] = bytes ≡ []
 AreChunks P goal turn size earlier bytes (chunk ∷ chunks) =
     StandsBehind P goal turn earlier chunk
@@ -79,7 +81,7 @@ AreChunks P goal turn size earlier bytes (chunk ∷ chunks) =
 -- that is so of all lines of a text, which have this start
 abbrev pub AreAllChunks : Instance → ℕ → Start → List Start → Type 0
 AreAllChunks P size all chunks =
-    (goal : Option ℕ) (turn : Option Turn) → StandsBehind P goal turn [] all
+    (goal : Option ℕ) (turn : Opening) → StandsBehind P goal turn [] all
     → AreChunks P goal turn size [] all.bytes chunks
 
 -- no more chunks than the bytes need at `size` lines each, where the last chunk may have fewer

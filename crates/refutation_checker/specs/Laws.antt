@@ -5,7 +5,6 @@ use Rattle.rwsp_terms.specs.Instance.{Instance}
 use Rattle.refutation_terms.specs.declared.lines.LogRefusal.{LogRefusal}
 use Rattle.refutation_terms.specs.Log.{Log}
 use Rattle.refutation_terms.specs.Verdict.{IsVerdict}
-use Rattle.refutation_terms.specs.FreeVerdict.{IsFreeVerdict}
 
 -- no text is without a verdict: it is that of a log that passes, or is refused for a cause
 abbrev pub TextsHaveAVerdict : Type 0

@@ -3,11 +3,13 @@ use Rattle.std.specs.Prelude.{◌≡◌, ◌↔◌, Bool, IsTrue, ℕ, ◌+◌, 
 use Rattle.rwsp_terms.specs.declared.data.Symbol.{Symbol}
 use Rattle.rwsp_terms.specs.Instance.{Instance}
 use Rattle.refutation_terms.specs.declared.lines.Line.{Line}
+use Rattle.refutation_terms.specs.declared.lines.Opening.{Opening}
+use Rattle.refutation_terms.specs.declared.lines.Opening.TheVariants.{Full, Turned}
 use Rattle.refutation_terms.specs.declared.lines.Turn.{Turn}
 use Rattle.refutation_terms.specs.Tree.{IsTree, domains_at}
 use Rattle.refutation_terms.specs.Word.{Domains}
 use Rattle.refutation_terms.specs.Log.{Log, LineFits}
-use Rattle.refutation_terms.specs.Verdict.{CauseBehind, Escapes, header_lines_for}
+use Rattle.refutation_terms.specs.Verdict.{CauseBehind, Escapes, header_lines}
 use Rattle.refutation_terms.specs.LogText.{raw, line_text}
 use Rattle.refutation_terms.specs.declared.lines.Line.TheVariants.{Split}
 use Rattle.refutation_terms.specs.declared.lines.LogRefusal.{LogRefusal}
@@ -26,7 +28,7 @@ pub record Judging : Type 0 where
   pub goal : Option ℕ
 
 -- the log with such a header, this turn and these lines
-abbrev pub log_of : Judging → Option Turn → List Line → Log
+abbrev pub log_of : Judging → Opening → List Line → Log
 log_of J turn lines = record { named = J.named; turn = turn; goal = J.goal; lines = lines }
 
 -- the line has no cause under these domains
@@ -48,17 +50,17 @@ EscapesUnder J D line w = Escapes J.problem J.goal D line w
 -- whether a leaf holds by words behind whatever lines the walk had read, in a log without a goal
 abbrev pub TellsLeaf : Instance → State → Line → Bool → Type 0
 TellsLeaf P w leaf told =
-    (turn : Option Turn) (lines : List Line) → IsStateOf P turn lines w
+    (turn : Opening) (lines : List Line) → IsStateOf P turn lines w
     → IsTrue told ↔ HoldsByWords P None (domains_at P turn lines (length lines)) leaf
 
 -- the line behind these is refused for no cause
-pub record IsSoundNext (J : Judging) (turn : Option Turn) (lines : List Line) (line : Line) : Type 0 where
+pub record IsSoundNext (J : Judging) (turn : Opening) (lines : List Line) (line : Line) : Type 0 where
   pub in_tree : IsTree lines → ⊥
   pub fits : LineFits J.problem J.goal line
   pub sound : IsSoundUnder J (domains_at J.problem turn lines (length lines)) line
 
 -- the bytes are the text of such a line, which is this one, and the walk has read it
-pub record IsLineRead (J : Judging) (turn : Option Turn) (lines : List Line) (bytes : List ℕ) (w : State)
+pub record IsLineRead (J : Judging) (turn : Opening) (lines : List Line) (bytes : List ℕ) (w : State)
     (line : Line) : Type 0 where
   pub spelled : bytes ≡ line_text J.problem (raw J.problem line)
   pub sound : IsSoundNext J turn lines line
@@ -68,26 +70,26 @@ pub record IsLineRead (J : Judging) (turn : Option Turn) (lines : List Line) (by
 -- walk has read it too
 abbrev pub ReadsNext : Judging → State → List ℕ → State → Line → Type 0
 ReadsNext J old bytes new line =
-    (turn : Option Turn) (lines : List Line) → IsStateOf J.problem turn lines old → IsLineRead J turn lines bytes new line
+    (turn : Opening) (lines : List Line) → IsStateOf J.problem turn lines old → IsLineRead J turn lines bytes new line
 
 -- whatever lines it had read, the bytes are refused there for this cause, as text line n
 abbrev pub RefusesNext : Judging → State → List ℕ → ℕ → LogRefusal → Type 0
 RefusesNext J old bytes n why =
-    (turn : Option Turn) (lines : List Line) → IsStateOf J.problem turn lines old
-    → n ≡ header_lines_for J.goal turn + length lines + 1
+    (turn : Opening) (lines : List Line) → IsStateOf J.problem turn lines old
+    → n ≡ header_lines turn J.goal + length lines + 1
     → CauseBehind J.problem J.goal (log_of J turn lines) bytes why
 
 -- whatever lines it had read, this line has no cause there, and the walk has read it too
 abbrev pub PassesNext : Judging → State → Line → State → Type 0
 PassesNext J old line new =
-    (turn : Option Turn) (lines : List Line) → IsStateOf J.problem turn lines old
+    (turn : Opening) (lines : List Line) → IsStateOf J.problem turn lines old
     → IsSoundUnder J (domains_at J.problem turn lines (length lines)) line
     × IsStateOf J.problem turn (lines ++ line ∷ []) new
 
 -- whatever lines it had read, this line has this cause there, as text line n
 abbrev pub HasCauseNext : Judging → State → ℕ → Line → LogRefusal → Type 0
 HasCauseNext J old n line why =
-    (turn : Option Turn) (lines : List Line) → IsStateOf J.problem turn lines old
+    (turn : Opening) (lines : List Line) → IsStateOf J.problem turn lines old
     → HasCause J (domains_at J.problem turn lines (length lines)) n line why
 
 -- a leaf, or a split that isn't idle under the domains of the store

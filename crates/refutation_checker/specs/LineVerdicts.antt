@@ -3,11 +3,12 @@ use Rattle.std.specs.Prelude.{◌≡◌, ℕ, List, true, Option}
 use Rattle.rwsp_terms.specs.Instance.{Instance}
 use Rattle.refutation_terms.specs.declared.lines.Line.{Line}
 use Rattle.refutation_terms.specs.declared.lines.Line.TheVariants.{Split, Unfinished, Closing}
-use Rattle.refutation_terms.specs.declared.lines.Leaf.TheVariants.{Dead, Bound, Free}
+use Rattle.refutation_terms.specs.declared.lines.Leaf.TheVariants.{Words}
+use Rattle.refutation_terms.specs.declared.lines.WordClaim.TheVariants.{Dead, Light}
 use Rattle.refutation_terms.specs.declared.lines.LogRefusal.{LogRefusal}
 use Rattle.refutation_terms.specs.declared.lines.LogRefusal.TheVariants as Refusals
 use Rattle.refutation_terms.specs.Word.{Domains}
-use Rattle.refutation_terms.specs.Leaf.{IsDead, IsTooLight}
+use Rattle.refutation_terms.specs.WordsLeaf.{IsDead, IsTooLight}
 use Rattle.refutation_terms.specs.Tree.{is_idle}
 use Rattle.refutation_terms.specs.Log.{Cites, Holds, ListsShortOnly, CitesOnlyNamed}
 use Rattle.refutation_terms.specs.Verdict.{IsLeast, IsUnnamed, ListsLong, IsPlainLeaf, Escapes}
@@ -15,9 +16,9 @@ use Rattle.refutation_terms.specs.Verdict.{IsLeast, IsUnnamed, ListsLong, IsPlai
 -- a split that isn't idle, or a window, a day or a few leaf that holds in a log with this goal or none. Nothing is said
 -- of leaves that are judged by words
 abbrev pub StandsPlainly : Instance → Option ℕ → Domains → Line → Type 0
-StandsPlainly P goal D (Closing (Dead p len R)) = Unit {0}
-StandsPlainly P goal D (Closing (Bound p turns R y)) = Unit {0}
-StandsPlainly P goal D (Closing (Free turns reward R y)) = Unit {0}
+StandsPlainly P goal D (Closing (Words p R (Dead len))) = Unit {0}
+StandsPlainly P goal D (Closing (Words p R (Light turns reward y))) = Unit {0}
+StandsPlainly P goal D (Closing (Words p R (Light turns reward y))) = Unit {0}
 StandsPlainly P goal D line = Holds P goal D line
 
 -- the line has no cause but a word that escapes it
@@ -50,23 +51,23 @@ IsPlainFailure n leaf why = why ≡ Refusals.Fails n
 
 -- the line lists these rules
 abbrev pub HasList : Line → List ℕ → Type 0
-HasList (Closing (Dead p len R)) list = R ≡ list
-HasList (Closing (Bound p turns R y)) list = R ≡ list
-HasList (Closing (Free turns reward R y)) list = R ≡ list
+HasList (Closing (Words p R (Dead len))) list = R ≡ list
+HasList (Closing (Words p R (Light turns reward y))) list = R ≡ list
+HasList (Closing (Words p R (Light turns reward y))) list = R ≡ list
 HasList line list = ⊥
 
 -- the line is none that lists rules
 abbrev pub HasNoList : Line → Type 0
-HasNoList (Closing (Dead p len R)) = ⊥
-HasNoList (Closing (Bound p turns R y)) = ⊥
-HasNoList (Closing (Free turns reward R y)) = ⊥
+HasNoList (Closing (Words p R (Dead len))) = ⊥
+HasNoList (Closing (Words p R (Light turns reward y))) = ⊥
+HasNoList (Closing (Words p R (Light turns reward y))) = ⊥
 HasNoList line = Unit {0}
 
 -- a dead, a bound or a free leaf that holds in a log with this goal or none. Nothing is said of other lines
 abbrev pub HoldsByWords : Instance → Option ℕ → Domains → Line → Type 0
-HoldsByWords P goal D (Closing (Dead p len R)) = IsDead P D p len R
-HoldsByWords P goal D (Closing (Bound p turns R y)) = IsTooLight P D p turns R y
-HoldsByWords P goal D (Closing (Free turns reward R y)) = Holds P goal D (Closing (Free turns reward R y))
+HoldsByWords P goal D (Closing (Words p R (Dead len))) = IsDead P D p len R
+HoldsByWords P goal D (Closing (Words p R (Light turns reward y))) = IsTooLight P None D p turns 0 R y
+HoldsByWords P goal D (Closing (Words p R (Light turns reward y))) = Holds P goal D (Closing (Words 0 R (Light turns reward y)))
 HoldsByWords P goal D line = Unit {0}
 
 -- the line has no cause in a log with this goal or none

@@ -5,6 +5,8 @@ use Rattle.rwsp_terms.specs.declared.data.Symbol.{Symbol}
 use Rattle.rwsp_terms.specs.Instance.{Instance}
 use Rattle.refutation_terms.specs.declared.lines.Line.{Line}
 use Rattle.refutation_terms.specs.declared.lines.Line.TheVariants.{Split}
+use Rattle.refutation_terms.specs.declared.lines.Opening.{Opening}
+use Rattle.refutation_terms.specs.declared.lines.Opening.TheVariants.{Full, Turned}
 use Rattle.refutation_terms.specs.declared.lines.Turn.{Turn}
 use Rattle.refutation_terms.specs.Log.{LineFits}
 use Rattle.refutation_terms.specs.Tree.{IsTree, domains_at, is_idle}
@@ -54,7 +56,7 @@ abbrev pub HasTree : List Line → Type 0
 HasTree lines = (front : List Line) × (rest : List Line) × (lines ≡ front ++ rest) × IsTree front
 
 -- one of the lines is an idle split
-pub record HasIdleSplit (P : Instance) (turn : Option Turn) (lines : List Line) : Type 0 where
+pub record HasIdleSplit (P : Instance) (turn : Opening) (lines : List Line) : Type 0 where
   pub front : List Line
   pub p : ℕ
   pub x : Symbol
@@ -63,22 +65,22 @@ pub record HasIdleSplit (P : Instance) (turn : Option Turn) (lines : List Line) 
   pub idle : is_idle P (domains_at P turn front (length front)) p x.number ≡ true
 
 -- a line that follows these lines is none that is refused first
-abbrev pub IsEndedOrIdle : Instance → Option Turn → List Line → Type 0
+abbrev pub IsEndedOrIdle : Instance → Opening → List Line → Type 0
 IsEndedOrIdle P turn lines = HasTree lines ⊎ HasIdleSplit P turn lines
 
 -- some lines end inside these splits, and a walk started in front of the first of them: then either one is an idle
 -- split, or this walk is behind them
 abbrev pub IsInto : Instance → State → List UnreadSplit → Option State → Type 0
-IsInto P start splits None = (turn : Option Turn) (lines : List Line) → IsStateOf P turn [] start
+IsInto P start splits None = (turn : Opening) (lines : List Line) → IsStateOf P turn [] start
     → EndInside P splits lines → HasIdleSplit P turn lines
-IsInto P start splits (Some w) = (turn : Option Turn) (lines : List Line) → IsStateOf P turn [] start
+IsInto P start splits (Some w) = (turn : Opening) (lines : List Line) → IsStateOf P turn [] start
     → EndInside P splits lines → IsStateOf P turn lines w
 
 -- the bytes were passed behind lines that end inside splits. If they are the text of lines that fit, then either no
 -- line behind them is the first that is refused, or they are `count` lines, and end inside other splits
 abbrev pub ArePassed : Instance → State → List UnreadSplit → List UnreadSplit → List ℕ → Option ℕ → Type 0
 ArePassed P start before after bytes None =
-    (turn : Option Turn) (done lines : List Line) → IsStateOf P turn [] start → EndInside P before done
+    (turn : Opening) (done lines : List Line) → IsStateOf P turn [] start → EndInside P before done
     → EachFits P lines → bytes ≡ lines_text P lines → IsEndedOrIdle P turn (done ++ lines)
 ArePassed P start before after bytes (Some count) =
     (done lines : List Line) → EndInside P before done → EachFits P lines → bytes ≡ lines_text P lines
@@ -93,7 +95,7 @@ IsBehind P start before after bytes (Some next) =
 -- a walk goes by a split, and by its first side if that was passed too; or it is an idle split
 abbrev pub AreEntered : ℕ → Symbol → Bool → State → State → Bool → Type 0
 AreEntered p x in_second old new entered =
-    (P : Instance) (turn : Option Turn) (lines first : List Line) → IsStateOf P turn lines old
+    (P : Instance) (turn : Opening) (lines first : List Line) → IsStateOf P turn lines old
     → IsFirstSide in_second first → MatchBool entered
     (IsStateOf P turn (lines ++ Split p x ∷ first) new)
     (is_idle P (domains_at P turn lines (length lines)) p x.number ≡ true)
@@ -102,7 +104,7 @@ AreEntered p x in_second old new entered =
 -- split
 abbrev pub IsEntered : Instance → UnreadSplit → State → State → Bool → Type 0
 IsEntered P u old new entered =
-    (turn : Option Turn) (lines first : List Line) (p : ℕ) (x : Symbol) → IsStateOf P turn lines old
+    (turn : Opening) (lines first : List Line) (p : ℕ) (x : Symbol) → IsStateOf P turn lines old
     → IsLineText P u.line (Split p x) → IsFirstSide u.in_second first
     → MatchBool entered (IsStateOf P turn (lines
     ++ Split p x ∷ first) new) (is_idle P (domains_at P turn lines (length lines)) p x.number ≡ true)

@@ -8,6 +8,8 @@ ghost use Rattle.std.specs.Int.{div_ceil};
 ghost use Rattle.rwsp_terms.specs.declared.data.Symbol.{Symbol as TheSymbol};
 ghost use Rattle.refutation_terms.specs.declared.lines.Line.{Line as TheLine};
 ghost use Rattle.refutation_terms.specs.declared.lines.Line.TheVariants.{Split};
+ghost use Rattle.refutation_terms.specs.declared.lines.Opening.{Opening};
+ghost use Rattle.refutation_terms.specs.declared.lines.Opening.TheVariants.{Full, Turned};
 ghost use Rattle.refutation_terms.specs.declared.lines.Turn.{Turn};
 ghost use Rattle.refutation_terms.specs.Tree.{is_idle};
 ghost use Rattle.domain_store.specs.States.{IsStateOf};
@@ -66,11 +68,11 @@ fn enter(
     walk: &mut Walk,
     split: &UnreadSplit,
 ) -> Result<bool, AllocError>
-    requires state { (turn : Option Turn) × (lines : List TheLine) × IsStateOf problem.now turn lines walk.old }
+    requires state { (turn : Opening) × (lines : List TheLine) × IsStateOf problem.now turn lines walk.old }
     requires part { walk.old.whole ≡ false }
     ensures part { IfOk result (λ entered. entered ≡ true → walk.new.whole ≡ false) }
     ensures state { IfOk result (λ entered. entered ≡ true →
-        (turn : Option Turn) × (lines : List TheLine) × IsStateOf problem.now turn lines walk.new) }
+        (turn : Opening) × (lines : List TheLine) × IsStateOf problem.now turn lines walk.new) }
     ensures entered { IfOk result (IsEntered problem.now split.now walk.old walk.new) }
 {
     problem.prove_limits();
@@ -96,10 +98,10 @@ fn walk_into(
     start: &Walk,
     splits: &[UnreadSplit],
 ) -> Result<Option<Walk>, AllocError>
-    requires state { (turn : Option Turn) × (lines : List TheLine) × IsStateOf problem.now turn lines start.now }
+    requires state { (turn : Opening) × (lines : List TheLine) × IsStateOf problem.now turn lines start.now }
     requires part { start.now.whole ≡ false }
     ensures state { IfOk result (λ found. IfSome found (λ walk.
-        (turn : Option Turn) × (lines : List TheLine) × IsStateOf problem.now turn lines walk)) }
+        (turn : Opening) × (lines : List TheLine) × IsStateOf problem.now turn lines walk)) }
     ensures into { IfOk result (IsInto problem.now start.now splits.now) }
 {
     let mut walk = start.copy()?;
@@ -118,7 +120,7 @@ fn are_too_many(
     start: &Walk,
     splits: &[UnreadSplit],
 ) -> Result<bool, AllocError>
-    requires state { (turn : Option Turn) × (lines : List TheLine) × IsStateOf problem.now turn lines start.now }
+    requires state { (turn : Opening) × (lines : List TheLine) × IsStateOf problem.now turn lines start.now }
     requires part { start.now.whole ≡ false }
     ensures { IfOk result (λ many. many ≡ true → IsInto problem.now start.now splits.now None) }
 {
@@ -138,7 +140,7 @@ fn pass_lines<'a>(
     splits: &mut Vec<UnreadSplit<'a>>,
     bytes: &'a [u8],
 ) -> Result<Option<u32>, AllocError>
-    requires state { (turn : Option Turn) × (lines : List TheLine) × IsStateOf problem.now turn lines start.now }
+    requires state { (turn : Opening) × (lines : List TheLine) × IsStateOf problem.now turn lines start.now }
     requires part { start.now.whole ≡ false }
     requires few { length bytes.now < 2 ^ 31 }
     ensures few { IfOk result (λ passed. IfSome passed (λ count. count ≤ length bytes.now)) }
@@ -168,12 +170,12 @@ fn walk_behind<'a>(
     splits: &mut Vec<UnreadSplit<'a>>,
     bytes: &'a [u8],
 ) -> Result<Option<(u32, Walk)>, AllocError>
-    requires state { (turn : Option Turn) × (lines : List TheLine) × IsStateOf problem.now turn lines start.now }
+    requires state { (turn : Opening) × (lines : List TheLine) × IsStateOf problem.now turn lines start.now }
     requires part { start.now.whole ≡ false }
     requires few { length bytes.now < 2 ^ 31 }
     ensures few { IfOk result (λ found. IfSome found (λ next. next.0 ≤ length bytes.now)) }
     ensures state { IfOk result (λ found. IfSome found (λ next.
-        (turn : Option Turn) × (lines : List TheLine) × IsStateOf problem.now turn lines next.1)) }
+        (turn : Opening) × (lines : List TheLine) × IsStateOf problem.now turn lines next.1)) }
     ensures behind { IfOk result (IsBehind problem.now start.now splits.old.items splits.new.items bytes.now) }
 {
     let Some(count) = pass_lines(alloc, problem, start, splits, bytes)? else {
@@ -195,7 +197,7 @@ fn cut_off<'a>(
     all: Chunk<'a>,
     size: usize,
 ) -> Result<(Chunk<'a>, Option<Chunk<'a>>), AllocError>
-    requires state { (turn : Option Turn) × (lines : List TheLine) × IsStateOf problem.now turn lines start.now }
+    requires state { (turn : Opening) × (lines : List TheLine) × IsStateOf problem.now turn lines start.now }
     requires part { start.now.whole ≡ false }
     requires few { all.first + length all.bytes < 2 ^ 31 }
     requires some { all.bytes ≢ [] }

@@ -1,7 +1,7 @@
 // The header of a log's text, judged.
 ghost use Rattle.std.specs.Prelude.{◌≡◌, ◌≤◌};
 ghost use Rattle.rwsp_model.specs.Refusals.{MatchAnswer};
-ghost use Rattle.refutation_terms.specs.Verdict.{IsRefused, header_lines_for};
+ghost use Rattle.refutation_terms.specs.Verdict.{IsRefused, header_lines};
 ghost use Rattle.refutation_checker.specs.Headers.{HasHeader, without_goal};
 
 use crate::turn::turn_refusal;
@@ -17,7 +17,7 @@ pub fn judge_header<'a>(
     bytes: &'a [u8],
 ) -> Result<Header<'a>, Fail<LogRefusal>>
     ensures { MatchAnswer result
-        (λ h. HasHeader (without_goal problem.now h.named) bytes.now h.turn h.body.now)
+        (λ h. HasHeader (without_goal problem.now h.named) bytes.now h.opening h.body.now)
         (IsRefused problem.now bytes.now) }
 {
     problem.prove_limits();
@@ -32,8 +32,8 @@ pub fn judge_header<'a>(
 }
 
 /// The number of lines of the header of a log with this goal or none.
-pub fn header_lines(goal: Option<u32>, turn: Option<Turn>) -> u32
-    ensures value { result ≡ header_lines_for goal turn }
+pub fn header_lines(goal: Option<u32>, turn: Opening) -> u32
+    ensures value { result ≡ header_lines turn goal }
     ensures few { result ≤ 3 }
 {
     match goal {

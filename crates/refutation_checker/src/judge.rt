@@ -1,6 +1,8 @@
 // The lines of a log's tree, judged one after the other.
 ghost use Rattle.std.specs.Prelude.{◌≡◌, List, Option, IfOk, IsTrue, MatchOption, false};
 ghost use Rattle.refutation_terms.specs.declared.lines.Line.{Line};
+ghost use Rattle.refutation_terms.specs.declared.lines.Opening.{Opening};
+ghost use Rattle.refutation_terms.specs.declared.lines.Opening.TheVariants.{Full, Turned};
 ghost use Rattle.refutation_terms.specs.declared.lines.Turn.{Turn};
 ghost use Rattle.refutation_terms.specs.Log.{LineFits, ListsShortOnly};
 ghost use Rattle.rwsp_model.specs.Refusals.{MatchAnswer};
@@ -92,7 +94,7 @@ impl<'a> Judge<'a> {
         bytes: &[u8],
         number: u32,
     ) -> Result<Line, Fail<LogRefusal>>
-        requires state { (turn : Option Turn) × (lines : List Line) × IsStateOf self.old.problem turn lines walk.old }
+        requires state { (turn : Opening) × (lines : List Line) × IsStateOf self.old.problem turn lines walk.old }
         ensures same { self.new ≡ self.old }
         ensures read { MatchAnswer result
             (ReadsNext self.old walk.old bytes.now walk.new)
@@ -128,7 +130,7 @@ impl<'a> Judge<'a> {
         line: &Line,
         number: u32,
     ) -> Result<Option<LogRefusal>, AllocError>
-        requires state { (turn : Option Turn) × (lines : List Line) × IsStateOf self.old.problem turn lines walk.old }
+        requires state { (turn : Opening) × (lines : List Line) × IsStateOf self.old.problem turn lines walk.old }
         requires part { walk.old.whole ≡ false }
         requires line { LineFits self.old.problem self.old.goal line.now }
         ensures same { self.new ≡ self.old }

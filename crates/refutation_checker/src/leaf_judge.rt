@@ -1,6 +1,8 @@
 // Single lines of a log whose other lines are known to hold.
 ghost use Rattle.std.specs.Prelude.{◌≡◌, ◌∷◌, [], ◌++◌, List, length, Option, false, IfOk};
 ghost use Rattle.refutation_terms.specs.declared.lines.Line.{Line};
+ghost use Rattle.refutation_terms.specs.declared.lines.Opening.{Opening};
+ghost use Rattle.refutation_terms.specs.declared.lines.Opening.TheVariants.{Full, Turned};
 ghost use Rattle.refutation_terms.specs.declared.lines.Turn.{Turn};
 ghost use Rattle.refutation_terms.specs.Tree.{domains_at};
 ghost use Rattle.refutation_terms.specs.Log.{LineFits, ListsShortOnly, Holds};
@@ -52,7 +54,7 @@ impl<'a> LeafJudge<'a> {
     /// Whether the leaf holds as the next line behind those that the walk has read. Of lines that are neither a dead
     /// nor a bound leaf this says nothing.
     pub fn holds(&mut self, alloc: Global, walk: &Walk, leaf: &Line) -> Result<bool, AllocError>
-        requires state { (turn : Option Turn) × (lines : List Line) × IsStateOf self.old turn lines walk.now }
+        requires state { (turn : Opening) × (lines : List Line) × IsStateOf self.old turn lines walk.now }
         requires fits { LineFits self.old None leaf.now }
         requires short { ListsShortOnly self.old leaf.now }
         ensures same { self.new ≡ self.old }
@@ -69,9 +71,9 @@ impl<'a> LeafJudge<'a> {
 pub fn go_past(walk: &mut Walk, problem: &Problem, line: &Line) -> Result<(), AllocError>
     requires part { walk.old.whole ≡ false }
     requires fits { LineFits problem.now None line.now }
-    requires holds { (turn : Option Turn) × (lines : List Line) × IsStateOf problem.now turn lines walk.old ×
+    requires holds { (turn : Opening) × (lines : List Line) × IsStateOf problem.now turn lines walk.old ×
         Holds problem.now None (domains_at problem.now turn lines (length lines)) line.now }
-    ensures { IfOk result (λ _. (turn : Option Turn) (lines : List Line) →
+    ensures { IfOk result (λ _. (turn : Opening) (lines : List Line) →
         IsStateOf problem.now turn lines walk.old → IsStateOf problem.now turn (lines ++ line.now ∷ []) walk.new) }
 {
     problem.prove_limits();

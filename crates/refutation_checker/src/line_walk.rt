@@ -2,6 +2,8 @@
 ghost use Rattle.std.specs.Prelude.{◌≡◌, ◌∷◌, [], ◌++◌, List, Option, IfOk, false};
 ghost use Rattle.rwsp_terms.specs.Instance.{Instance};
 ghost use Rattle.refutation_terms.specs.declared.lines.Line.{Line};
+ghost use Rattle.refutation_terms.specs.declared.lines.Opening.{Opening};
+ghost use Rattle.refutation_terms.specs.declared.lines.Opening.TheVariants.{Full, Turned};
 ghost use Rattle.refutation_terms.specs.declared.lines.Turn.{Turn};
 ghost use Rattle.domain_store.specs.States.{IsStateOf};
 ghost use Rattle.refutation_checker.specs.LineTexts.{MayStep};
@@ -14,7 +16,7 @@ use std::alloc::AllocError;
 pub fn step(walk: &mut Walk, line: &Line) -> Result<(), AllocError>
     requires part { walk.old.whole ≡ false }
     requires useful { MayStep walk.old.store line.now }
-    ensures { IfOk result (λ _. (P : Instance) (turn : Option Turn) (lines : List Line) →
+    ensures { IfOk result (λ _. (P : Instance) (turn : Opening) (lines : List Line) →
         IsStateOf P turn lines walk.old → IsStateOf P turn (lines ++ line.now ∷ []) walk.new) }
 {
     match line {

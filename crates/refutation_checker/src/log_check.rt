@@ -2,7 +2,7 @@
 ghost use Rattle.std.specs.Prelude.{◌≡◌, ℕ, ◌+◌, ◌<◌, ◌≤◌, length, IfOk, MatchOption};
 ghost use Rattle.rwsp_model.specs.Refusals.{MatchAnswer};
 ghost use Rattle.refutation_terms.specs.Tree.{IsTree};
-ghost use Rattle.refutation_terms.specs.Log.{Fits, FitsFor, Passes};
+ghost use Rattle.refutation_terms.specs.Log.{Fits, Passes};
 ghost use Rattle.refutation_terms.specs.LogText.{log_text};
 ghost use Rattle.refutation_terms.specs.Verdict.{IsRefused};
 ghost use Rattle.refutation_checker.specs.LogVerdicts.{AreSoundTo, IsPassed, IsRefusedAt, IsTreeJudged};
@@ -41,7 +41,7 @@ fn log_refusal(
         (log_text problem.now log.now))) }
 {
     problem.prove_limits();
-    if let Some(why) = turn_refusal(problem, log.named(), log.turn()) {
+    if let Some(why) = turn_refusal(problem, log.named(), log.opening()) {
         return Ok(Some(why));
     }
     tree_refusal(alloc, problem, log)
@@ -58,7 +58,7 @@ fn tree_refusal(
     ensures refusal { IfOk result (IsTreeJudged problem.now log.now) }
 {
     let lines = log.lines();
-    let mut walk = Walk::new(alloc, problem, log.turn())?;
+    let mut walk = Walk::new(alloc, problem, log.opening())?;
     let judging = Judging {
         problem,
         named: log.named(),
@@ -81,7 +81,7 @@ fn first_refusal(
     count: usize,
 ) -> Result<Option<LogRefusal>, AllocError>
     requires count { count ≤ length log.now.lines }
-    requires fits { FitsFor judge.old.problem judge.old.goal log.now }
+    requires fits { Fits judge.old.problem log.now }
     requires before { IsPassed judge.old log.now 0 walk.old }
     ensures { IfOk result (λ found. MatchOption found
         (AreSoundTo judge.old log.now count)
@@ -104,7 +104,7 @@ fn pass_at(
     i: usize,
 ) -> Result<Option<LogRefusal>, AllocError>
     requires place { i < length log.now.lines }
-    requires fits { FitsFor judge.old.problem judge.old.goal log.now }
+    requires fits { Fits judge.old.problem log.now }
     requires before { IsPassed judge.old log.now i walk.old }
     ensures same { judge.new ≡ judge.old }
     ensures passed { IfOk result (λ found. MatchOption found
@@ -112,6 +112,6 @@ fn pass_at(
         (IsRefusedAt judge.old log.now i)) }
 {
     let lines = log.lines();
-    let number = header_lines(log.goal(), log.turn()) + i as u32 + 1;
+    let number = header_lines(log.goal(), log.opening()) + i as u32 + 1;
     judge.pass(alloc, walk, &lines[i], number)
 }

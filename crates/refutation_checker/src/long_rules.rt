@@ -2,8 +2,10 @@
 ghost use Rattle.std.specs.Prelude.{◌≡◌, ◌≤◌, ◌<◌, ◌↔◌, ℕ, length, Option, IsTrue, MatchOption};
 ghost use Rattle.rwsp_terms.specs.Rules.{rules, NamesShortOnly};
 ghost use Rattle.rwsp_model.specs.RuleNumbers.{IsShortNumber};
-ghost use Rattle.refutation_terms.specs.Log.{AreRules, LineFits, ListsShortOnly};
-ghost use Rattle.refutation_terms.specs.Verdict.{IsLeast, IsLongIn, ListsLong};
+ghost use Rattle.refutation_terms.specs.Ranges.{AreRules};
+ghost use Rattle.refutation_terms.specs.Log.{LineFits, ListsShortOnly};
+ghost use Rattle.refutation_terms.specs.Verdict.{IsLeast, ListsLong};
+ghost use Rattle.refutation_terms.specs.Leaves.{IsLongIn};
 
 use refutation_terms::{Leaf, Line};
 use rwsp_model::{Problem, is_short, rule_at};

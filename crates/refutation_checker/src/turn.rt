@@ -1,6 +1,6 @@
 // The turn of a header, judged.
 ghost use Rattle.std.specs.Prelude.{Some, MatchOption};
-ghost use Rattle.refutation_terms.specs.Log.{TurnFits};
+ghost use Rattle.refutation_terms.specs.Log.{OpeningFits};
 ghost use Rattle.refutation_checker.specs.Turns.{IsSoundTurn, TurnFault, IsTurnFault};
 
 use refutation_terms::{LogRefusal, Turn};
@@ -10,7 +10,7 @@ use rwsp_terms::{Rule, RuleList};
 // Why the turn of line 3 is refused: the rule of its day isn't named, or no week must hold its
 // symbol then.
 fn turn_fault(problem: &Problem, named: &RuleList, turn: Turn) -> Option<LogRefusal>
-    requires { TurnFits problem.now (Some turn) }
+    requires { OpeningFits problem.now (Some turn) }
     ensures { MatchOption result (IsSoundTurn problem.now named.now (Some turn))
         (TurnFault problem.now named.now turn) }
 {
@@ -25,8 +25,8 @@ fn turn_fault(problem: &Problem, named: &RuleList, turn: Turn) -> Option<LogRefu
 }
 
 /// The cause of a turn, whose line is the third; None where there is none, and for no turn.
-pub fn turn_refusal(problem: &Problem, named: &RuleList, turn: Option<Turn>) -> Option<LogRefusal>
-    requires { TurnFits problem.now turn }
+pub fn turn_refusal(problem: &Problem, named: &RuleList, turn: Opening) -> Option<LogRefusal>
+    requires { OpeningFits problem.now turn }
     ensures { MatchOption result (IsSoundTurn problem.now named.now turn) (IsTurnFault problem.now named.now turn) }
 {
     match turn {

@@ -1,7 +1,8 @@
 // The least rule that a line cites and the header doesn't name.
 ghost use Rattle.std.specs.Prelude.{◌≡◌, ◌⊎◌, ℕ, Contains, Option, MatchOption};
 ghost use Rattle.rwsp_terms.specs.Instance.{IsDay};
-ghost use Rattle.refutation_terms.specs.Log.{Cites, CitesOnlyNamed, LineFits, WeightsFit};
+ghost use Rattle.refutation_terms.specs.Log.{Cites, CitesOnlyNamed, LineFits};
+ghost use Rattle.refutation_terms.specs.Ranges.{WeightsFit};
 ghost use Rattle.refutation_terms.specs.Verdict.{IsLeast, IsUnnamed};
 ghost use Rattle.refutation_log.specs.Printing.{FitsSomeLog};
 ghost use Rattle.refutation_log.specs.Cited.{IsDayRule, IsWeighedDayRule};

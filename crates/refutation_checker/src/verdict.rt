@@ -2,9 +2,8 @@
 ghost use Rattle.std.specs.Prelude.{◌≡◌, ◌≤◌, length, [], IfOk, false, Some};
 ghost use Rattle.rwsp_terms.specs.declared.limits.TheConstants.{LONGEST_LOG, MOST_WORKERS, DAYS_OF_WEEK};
 ghost use Rattle.rwsp_model.specs.Refusals.{MatchAnswer};
-ghost use Rattle.refutation_terms.specs.Log.{Log as LogValue, TurnFits};
+ghost use Rattle.refutation_terms.specs.Log.{Log as LogValue, OpeningFits};
 ghost use Rattle.refutation_terms.specs.Verdict.{IsAccepted, IsRefused};
-ghost use Rattle.refutation_terms.specs.FreeVerdict.{IsFreeAccepted, IsFreeRefused};
 ghost use Rattle.refutation_checker.specs.Starts.{StandsBehind};
 
 use crate::Chunk;
@@ -143,10 +142,10 @@ fn lines_below<'a>(
     alloc: Global,
     problem: &Problem,
     goal: Option<u32>,
-    turn: Option<Turn>,
+    turn: Opening,
     bytes: &'a [u8],
 ) -> Result<Chunk<'a>, AllocError>
-    requires fits { TurnFits problem.now turn }
+    requires fits { OpeningFits problem.now turn }
     ensures start { IfOk result (λ lines. StandsBehind problem.now goal turn [] lines) }
     ensures part { IfOk result (λ lines. lines.walk.whole ≡ false) }
     ensures bytes { IfOk result (λ lines. lines.bytes ≡ bytes.now) }

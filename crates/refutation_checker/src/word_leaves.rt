@@ -2,7 +2,7 @@
 ghost use Rattle.std.specs.Prelude.{◌<◌, ◌≤◌, IfOk, MatchOption, None};
 ghost use Rattle.rwsp_terms.specs.Instance.{cells};
 ghost use Rattle.rwsp_terms.specs.declared.limits.TheConstants.{LONGEST_WORD};
-ghost use Rattle.refutation_terms.specs.Leaf.{IsDead};
+ghost use Rattle.refutation_terms.specs.WordsLeaf.{IsDead};
 ghost use Rattle.refutation_terms.specs.Escape.{IsLeastClean};
 ghost use Rattle.refutation_terms.specs.Log.{GoalFits, LineFits};
 ghost use Rattle.refutation_terms.specs.Verdict.{Escapes};
@@ -21,9 +21,9 @@ pub fn list_of(line: &Line) -> Option<&RuleList>
     ensures { MatchOption result (HasNoList line.now) (λ list. HasList line.now list.now) }
 {
     match line {
-        Line::Closing(Leaf::Dead { rules, .. }) => Some(rules),
-        Line::Closing(Leaf::Bound { rules, .. }) => Some(rules),
-        Line::Closing(Leaf::Free { rules, .. }) => Some(rules),
+        Line::Closing(Leaf::Words { rules, .., claim: WordClaim::Dead { , .. } }) => Some(rules),
+        Line::Closing(Leaf::Words { rules, .., claim: WordClaim::Light {  } }) => Some(rules),
+        Line::Closing(Leaf::Words { rules, .., claim: WordClaim::Light {  } }) => Some(rules),
         _ => None,
     }
 }

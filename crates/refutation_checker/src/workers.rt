@@ -1,6 +1,8 @@
 // The lines of a log, judged by several workers.
 ghost use Rattle.std.specs.Prelude.{◌≡◌, ◌≤◌, [], Option, false};
 ghost use Rattle.rwsp_terms.specs.declared.limits.TheConstants.{MOST_WORKERS};
+ghost use Rattle.refutation_terms.specs.declared.lines.Opening.{Opening};
+ghost use Rattle.refutation_terms.specs.declared.lines.Opening.TheVariants.{Full, Turned};
 ghost use Rattle.refutation_terms.specs.declared.lines.Turn.{Turn};
 ghost use Rattle.refutation_checker.specs.Starts.{StandsBehind};
 ghost use Rattle.refutation_checker.specs.Chunks.{IsJudgeable};
@@ -30,7 +32,7 @@ pub fn judge_by_workers<R: Threads + Sync, G: Gate>(
     requires start { IsJudgeable judging.now.problem all }
     requires part { all.walk.whole ≡ false }
     requires workers { (1 ≤ workers) × (workers ≤ MOST_WORKERS) }
-    ensures { (turn : Option Turn) → StandsBehind judging.now.problem judging.now.goal turn [] all.entry →
+    ensures { (turn : Opening) → StandsBehind judging.now.problem judging.now.goal turn [] all.entry →
         IsJudged judging.now turn [] all.entry.bytes result }
 {
     if all.bytes.is_empty() {

@@ -9,6 +9,8 @@ use Rattle.rwsp_model.specs.Validity.{KeepsLimits}
 use Rattle.refutation_terms.specs.declared.lines.Line.{Line}
 use Rattle.refutation_terms.specs.declared.lines.Line.TheVariants.{Closing}
 use Rattle.refutation_terms.specs.declared.lines.Leaf.TheVariants.{Few}
+use Rattle.refutation_terms.specs.declared.lines.Opening.{Opening}
+use Rattle.refutation_terms.specs.declared.lines.Opening.TheVariants.{Full, Turned}
 use Rattle.refutation_terms.specs.declared.lines.Turn.{Turn}
 use Rattle.refutation_terms.specs.Tree.{domains_at}
 use Rattle.refutation_terms.specs.Log.{Log, Holds}
@@ -39,9 +41,9 @@ free_sharp P goal leaves spent g limits fails reasons h =
       short = R;
       all_short = reasons.short.all_short;
       splits = λ k p x at. record {
-        sharp = sharp_split P leaves spent (domains_at P g.turn g.lines k) R p x limits reasons.short reasons
-            (subst (λ (t : Option Turn). IsForced P leaves spent (domains_at P t g.lines k) p x) (sym same) (h.splits k p x at));
-        not_few = subst (λ (t : Option Turn). Holds P (Some goal) (domains_at P t g.lines k) (Closing Few) → ⊥) (sym same) (h.no_few k p x at);
+        sharp = sharp_split P leaves spent (domains_at P g.opening g.lines k) R p x limits reasons.short reasons
+            (subst (λ (t : Opening). IsForced P leaves spent (domains_at P t g.lines k) p x) (sym same) (h.splits k p x at));
+        not_few = subst (λ (t : Opening). Holds P (Some goal) (domains_at P t g.lines k) (Closing Few) → ⊥) (sym same) (h.no_few k p x at);
       };
       top = λ line at undecided holds. fails.fails (other_list P goal R fails.short reasons.short.all_short fails.all_short holds);
     }

@@ -9,9 +9,10 @@ use Rattle.rwsp_model.specs.Validity.{KeepsLimits}
 use Rattle.rwsp_model.proofs.Limits.{some_cells}
 use Rattle.refutation_terms.specs.declared.lines.Line.{Line}
 use Rattle.refutation_terms.specs.declared.lines.Line.TheVariants.{Split, Closing}
-use Rattle.refutation_terms.specs.declared.lines.Leaf.TheVariants.{Window, Day, Dead}
+use Rattle.refutation_terms.specs.declared.lines.Leaf.TheVariants.{Window, Day, Words}
+use Rattle.refutation_terms.specs.declared.lines.WordClaim.TheVariants.{Dead}
 use Rattle.refutation_terms.specs.Word.{Domains, AreSame, Clean}
-use Rattle.refutation_terms.specs.Leaf.{IsDead}
+use Rattle.refutation_terms.specs.WordsLeaf.{IsDead}
 use Rattle.refutation_terms.specs.Tree.{First, narrowed, line_leaves}
 use Rattle.refutation_terms.specs.Log.{LineFits}
 use Rattle.refutation_terms.specs.Sharp.{SomeWindowHolds, SomeDayHolds, NoWordHas, IsSpentAt, IsSharpSplit}
@@ -44,7 +45,7 @@ not_dead : (P : Instance) (leaves : Leaves) (spent : Spent) (S : Store) (D : Dom
 not_dead P leaves spent S D R limits short reasons same undecided dead =
     let some : 0 < cells P = some_cells P limits in
     let few : cells P ≤ MOST_CELLS = limits.few_cells in
-    let line = Closing (Dead 0 (2 * cells P) R) in
+    let line = Closing (Words 0 R (Dead (2 * cells P))) in
     let fits : LineFits P None line = (some, (omega (arith, some), omega (arith, few)), short.are_rules) in
     undecided (line, reasons.cycle S line (refl, refl, short), same_holds P D (has_domain S) line some fits same dead)
 

@@ -12,12 +12,16 @@ use Rattle.rwsp_model.specs.Validity.{KeepsLimits}
 use Rattle.rwsp_model.proofs.Limits.{some_cells}
 use Rattle.refutation_terms.specs.declared.lines.Line.{Line}
 use Rattle.refutation_terms.specs.declared.lines.Line.TheVariants.{Split, Closing}
-use Rattle.refutation_terms.specs.declared.lines.Leaf.TheVariants.{Few, Free}
+use Rattle.refutation_terms.specs.declared.lines.Leaf.TheVariants.{Few, Words}
+use Rattle.refutation_terms.specs.declared.lines.WordClaim.TheVariants.{Light}
+use Rattle.refutation_terms.specs.declared.lines.Opening.{Opening}
+use Rattle.refutation_terms.specs.declared.lines.Opening.TheVariants.{Full, Turned}
 use Rattle.refutation_terms.specs.declared.lines.Turn.{Turn}
 use Rattle.refutation_terms.specs.Word.{Domains, AreSame, Clean, full}
-use Rattle.refutation_terms.specs.FreeLeaves.{IsTooLightFree}
+use Rattle.refutation_terms.specs.WordsLeaf.{IsTooLight}
 use Rattle.refutation_terms.specs.Tree.{Leaf, IsLeaf, opening, domains_at}
-use Rattle.refutation_terms.specs.Log.{Log, AreRules, GoalFits, LineFits, Holds, Cites, ListsShortOnly, FreePasses, size}
+use Rattle.refutation_terms.specs.Log.{Log, GoalFits, LineFits, Holds, Cites, ListsShortOnly, Passes, size}
+use Rattle.refutation_terms.specs.Ranges.{AreRules}
 use Rattle.refutation_terms.specs.Sharp.{IsUnclosed}
 use Rattle.refutation_terms.specs.Verdict.{Escapes}
 use Rattle.refutation_terms.proofs.SameDomains.{turned_round, same_holds_for}
@@ -25,7 +29,7 @@ use Rattle.refutation_log.specs.Bests.{IsFreeProof}
 use Rattle.refutation_log.specs.FreeSharp.{HoldsFreeAtTop, IsFreeSharp}
 
 abbrev pub top_line : List ℕ → Line
-top_line R = Closing (Free 1 1 R [])
+top_line R = Closing (Words 0 R (Light 1 1 []))
 
 no_weights : AreWeights []
 no_weights = record { ascends = λ i j d less within. absurd (omega (arith, within)); small = λ k d less. absurd (omega (arith, less)) }
@@ -37,14 +41,14 @@ line_fits P goal R limits rules =
     ((omega (arith, some), omega (arith, few)), omega arith, rules, (no_weights, λ k d less. absurd (omega (arith, less))))
 
 -- a word that escapes the leaf shows that it doesn't hold
-escaped : (P : Instance) (goal : ℕ) (D : Domains) (R : List ℕ) (w : List Symbol) → Escapes P (Some goal) D (top_line R) w → IsTooLightFree P goal D 1 1 R [] → ⊥
+escaped : (P : Instance) (goal : ℕ) (D : Domains) (R : List ℕ) (w : List Symbol) → Escapes P (Some goal) D (top_line R) w → IsTooLight P (Some goal) D 0 1 1 R [] → ⊥
 escaped P goal D R w h light =
     let clean = h.0.heavy.clean in
     let less = light w clean.long clean.over clean.clean in
     omega (arith, ints, less, h.1)
 
 -- where no word escapes it over full domains, it holds at the top
-pub holds_without_escape : (P : Instance) (goal : ℕ) (R : List ℕ) (D : Domains) → KeepsLimits P → GoalFits P None (Some goal) → AreRules P R → AreSame P D (full P) → IsTooLightFree P goal D 1 1 R [] → HoldsFreeAtTop P goal R
+pub holds_without_escape : (P : Instance) (goal : ℕ) (R : List ℕ) (D : Domains) → KeepsLimits P → GoalFits P None (Some goal) → AreRules P R → AreSame P D (full P) → IsTooLight P (Some goal) D 0 1 1 R [] → HoldsFreeAtTop P goal R
 holds_without_escape P goal R D limits fits rules same h = same_holds_for P (Some goal) D (full P) (top_line R) (some_cells P limits) fits (line_fits P goal R limits rules) same h
 
 -- and where one does, it doesn't
@@ -67,7 +71,7 @@ at_top P lines p x inside = and_true (full P p x)
 abbrev top_log : ℕ → List ℕ → Log
 top_log goal R = record { named = R; turn = None; goal = Some goal; lines = top_line R ∷ [] }
 
-top_passes : (P : Instance) (goal : ℕ) (R : List ℕ) → KeepsLimits P → GoalFits P None (Some goal) → AreRules P R → NamesShortOnly P R → HoldsFreeAtTop P goal R → FreePasses P goal (top_log goal R)
+top_passes : (P : Instance) (goal : ℕ) (R : List ℕ) → KeepsLimits P → GoalFits P None (Some goal) → AreRules P R → NamesShortOnly P R → HoldsFreeAtTop P goal R → Passes P (top_log goal R)
 top_passes P goal R limits goal_fits rules short holds =
     let line = top_line R in
     let lines = line ∷ [] in
@@ -110,14 +114,14 @@ top_proof P goal R limits fits rules short holds =
     (top_passes P goal R limits fits rules (λ r named. ((short r).0 named).1) holds, omega arith, top_is_sharp P goal R short)
 
 -- the same of any log of these parts
-pub top_proof_of : (P : Instance) (goal : ℕ) (R : List ℕ) (g : Log) → KeepsLimits P → GoalFits P None (Some goal) → AreRules P R → NamesShortRules P R → HoldsFreeAtTop P goal R → g.named ≡ R → g.turn ≡ None → g.goal ≡ Some goal → g.lines ≡ top_line R ∷ [] → IsFreeProof P 1 goal g
+pub top_proof_of : (P : Instance) (goal : ℕ) (R : List ℕ) (g : Log) → KeepsLimits P → GoalFits P None (Some goal) → AreRules P R → NamesShortRules P R → HoldsFreeAtTop P goal R → g.named ≡ R → g.opening ≡ None → g.goal ≡ Some goal → g.lines ≡ top_line R ∷ [] → IsFreeProof P 1 goal g
 top_proof_of P goal R g limits fits rules short holds named turn has_goal lines =
     let N : List ℕ → Type 0 = λ n. IsFreeProof P 1 goal (record { named = n; turn = None; goal = Some goal; lines = top_line R ∷ [] }) in
-    let T : Option Turn → Type 0 = λ t. IsFreeProof P 1 goal (record { named = g.named; turn = t; goal = Some goal; lines = top_line R ∷ [] }) in
-    let G : Option ℕ → Type 0 = λ o. IsFreeProof P 1 goal (record { named = g.named; turn = g.turn; goal = o; lines = top_line R ∷ [] }) in
-    let L : List Line → Type 0 = λ l. IsFreeProof P 1 goal (record { named = g.named; turn = g.turn; goal = g.goal; lines = l }) in
+    let T : Opening → Type 0 = λ t. IsFreeProof P 1 goal (record { named = g.named; turn = t; goal = Some goal; lines = top_line R ∷ [] }) in
+    let G : Option ℕ → Type 0 = λ o. IsFreeProof P 1 goal (record { named = g.named; turn = g.opening; goal = o; lines = top_line R ∷ [] }) in
+    let L : List Line → Type 0 = λ l. IsFreeProof P 1 goal (record { named = g.named; turn = g.opening; goal = g.goal; lines = l }) in
     let by_name : N g.named = subst N (sym named) (top_proof P goal R limits fits rules short holds) in
-    let by_turn : T g.turn = subst T (sym turn) by_name in
+    let by_turn : T g.opening = subst T (sym turn) by_name in
     let by_goal : G g.goal = subst G (sym has_goal) by_turn in
     subst L (sym lines) by_goal
 

@@ -3,6 +3,8 @@ use Rattle.std.specs.Prelude.{ℕ, Option}
 use Rattle.rwsp_terms.specs.declared.data.Symbol.{Symbol}
 use Rattle.rwsp_terms.specs.Instance.{Instance}
 use Rattle.refutation_terms.specs.declared.lines.Line.{Line}
+use Rattle.refutation_terms.specs.declared.lines.Opening.{Opening}
+use Rattle.refutation_terms.specs.declared.lines.Opening.TheVariants.{Full, Turned}
 use Rattle.refutation_terms.specs.declared.lines.Turn.{Turn}
 use Rattle.refutation_terms.specs.Word.{AreSame}
 use Rattle.refutation_terms.specs.Tree.{opening}
@@ -11,7 +13,7 @@ use Rattle.propagators.specs.TopBounds.{IsTopBound}
 use Rattle.roster_planner.specs.CaseReasons.{AreCaseReasons}
 
 -- the reasons of cases, and under the opening domains the bounds of one turn
-pub record AreReasons (P : Instance) (turn : Option Turn) (leaves : Store → Line → Type 0)
+pub record AreReasons (P : Instance) (turn : Opening) (leaves : Store → Line → Type 0)
     (spent : Store → ℕ → Symbol → Type 0) : Type 0 where
   pub cases : AreCaseReasons P leaves spent
   pub top : (S : Store) (line : Line) → AreSame P (has_domain S) (opening P turn) → IsTopBound P (opening P turn) line

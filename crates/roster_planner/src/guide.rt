@@ -103,7 +103,7 @@ fn found_roster(
 }
 
 // The position of the turn, 0 where there is none.
-fn position_of(turn: Option<Turn>) -> u32 {
+fn position_of(turn: Opening) -> u32 {
     match turn {
         Some(turn) => turn.day.saturating_sub(1),
         None => 0,

@@ -1,6 +1,6 @@
 // The reasons by which the search of a plan closes cases.
 ghost use Rattle.std.specs.Prelude.{◌≡◌, IfOk, Ok};
-ghost use Rattle.refutation_terms.specs.Log.{TurnFits};
+ghost use Rattle.refutation_terms.specs.Log.{OpeningFits};
 ghost use Rattle.domain_store.specs.Cycles.{AreShortRules};
 ghost use Rattle.roster_planner.specs.Reasons.{AreReasons};
 
@@ -24,11 +24,11 @@ pub fn reasons_of<'a, R: Threads + Sync, G: Gate>(
     rt: &R,
     alloc: Global,
     automaton: &'a Automaton,
-    turn: Option<Turn>,
+    turn: Opening,
     gate: &G,
 ) -> Result<Reasons<'a>, AllocError>
     requires short { AreShortRules automaton.now.problem automaton.now.rules }
-    requires turn { TurnFits automaton.now.problem turn }
+    requires turn { OpeningFits automaton.now.problem turn }
     ensures serves { IfOk result (λ r. ⟦<Reasons<'a> as Propagator>⟧.serves r automaton.now.problem) }
     ensures reasons { IfOk result (λ r. AreReasons automaton.now.problem turn
         (⟦<Reasons<'a> as Propagator>⟧.leaves r) (⟦<Reasons<'a> as Propagator>⟧.spent r)) }

@@ -1,7 +1,7 @@
 // A search with the guide of a planner.
 ghost use Rattle.std.specs.Prelude.{◌≡◌, ◌+◌, ◌*◌, ◌^◌, ◌<◌, ◌≤◌, IfOk};
 ghost use Rattle.rwsp_terms.specs.Instance.{cells, shift_count};
-ghost use Rattle.refutation_terms.specs.Log.{TurnFits, GoalFits, IsAllowed};
+ghost use Rattle.refutation_terms.specs.Log.{OpeningFits, GoalFits, IsAllowed};
 ghost use Rattle.domain_store.specs.Cycles.{AreShortRules};
 ghost use Rattle.domain_store.specs.Looks.{HasPlainLeaves};
 ghost use Rattle.roster_search.specs.Founds.{IsFound, HasSpentBudget};
@@ -31,7 +31,7 @@ pub fn planner_search<A: Propagator>(
     requires short { AreShortRules automaton.now.problem automaton.now.rules }
     requires same { finder.now ≡ automaton.now.problem }
     requires budget { (1 ≤ aim.budget) × (aim.budget ≤ GREATEST_BUDGET) }
-    requires turn { TurnFits automaton.now.problem aim.turn × IsAllowed automaton.now.problem aim.turn }
+    requires turn { OpeningFits automaton.now.problem aim.turn × IsAllowed automaton.now.problem aim.turn }
     requires goal { GoalFits automaton.now.problem aim.turn aim.goal }
     requires serves { A.serves reasons.old automaton.now.problem }
     requires plain { HasPlainLeaves automaton.now.problem (A.leaves reasons.old) }

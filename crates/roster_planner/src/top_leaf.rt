@@ -71,12 +71,7 @@ fn log_of_top(alloc: Global, automaton: &Automaton, goal: u32) -> Result<Log, Al
     let rules = automaton.rules().copy()?;
     let weights = Weights::new(alloc);
     let lines = vec![in alloc;
-        Line::Closing(Leaf::Free {
-            turns: 1,
-            reward: 1,
-            rules,
-            weights
-        }),
+        Line::Closing(Leaf::Words { p: 0, rules, claim: WordClaim::Light { turns: 1, reward: 1, weights } }),
     ]?;
     Ok(Log::with_goal(named, goal, lines))
 }

@@ -6,10 +6,12 @@ use Rattle.rwsp_terms.specs.Instance.{Instance}
 use Rattle.rwsp_terms.specs.Rules.{rule_of, Names}
 use Rattle.refutation_terms.specs.declared.lines.Line.{Line}
 use Rattle.refutation_terms.specs.declared.lines.Line.TheVariants.{Split}
+use Rattle.refutation_terms.specs.declared.lines.Opening.{Opening}
+use Rattle.refutation_terms.specs.declared.lines.Opening.TheVariants.{Full, Turned}
 use Rattle.refutation_terms.specs.declared.lines.Turn.{Turn}
 use Rattle.refutation_terms.specs.Word.{Domains}
 use Rattle.refutation_terms.specs.Tree.{opening, domains_at}
-use Rattle.refutation_terms.specs.Log.{TurnFits, GoalFits, TurnCites, Cites}
+use Rattle.refutation_terms.specs.Log.{OpeningFits, GoalFits, OpeningCites, Cites}
 use Rattle.refutation_terms.proofs.TreeDomains.{got_left, got_right}
 use Rattle.domain_store.specs.Store.{Store}
 use Rattle.domain_store.specs.declared.open_split.OpenSplit.{OpenSplit}
@@ -24,24 +26,24 @@ pub no_names : (P : Instance) (r : Rule) → Names P [] r → ⊥
 no_names P r n = omega (arith, n.1.1)
 
 -- the first rules that are named are those of the turn
-pub turn_named : (P : Instance) (named : List ℕ) (t : Turn) → ((r : Rule) → Names P named r ↔ (Names P [] r ⊎ TurnCites (Some t) r)) → (r : Rule) → Names P named r ↔ TurnCites (Some t) r
+pub turn_named : (P : Instance) (named : List ℕ) (t : Turn) → ((r : Rule) → Names P named r ↔ (Names P [] r ⊎ OpeningCites (Some t) r)) → (r : Rule) → Names P named r ↔ OpeningCites (Some t) r
 turn_named P named t h r = (
   λ n. elim ((h r).0 n) [ inl none ↦ absurd (no_names P r none) | inr cited ↦ cited ],
   λ cited. (h r).1 (inr cited),
 )
 
-pub cited_none : (P : Instance) (turn : Option Turn) (r : Rule) → IsCitedIn P turn [] r → TurnCites turn r
+pub cited_none : (P : Instance) (turn : Opening) (r : Rule) → IsCitedIn P turn [] r → OpeningCites turn r
 cited_none P turn r (inl h) = h
 cited_none P turn r (inr h) = absurd (cc (h.2))
 
-pub cited_more : (P : Instance) (turn : Option Turn) (ls : List Line) (line : Line) (r : Rule) → IsCitedIn P turn (ls ++ line ∷ []) r → IsCitedIn P turn ls r ⊎ Cites P line r
+pub cited_more : (P : Instance) (turn : Opening) (ls : List Line) (line : Line) (r : Rule) → IsCitedIn P turn (ls ++ line ∷ []) r → IsCitedIn P turn ls r ⊎ Cites P line r
 cited_more P turn ls line r (inl h) = inl (inl h)
 cited_more P turn ls line r (inr h) = elim (got_in ls (line ∷ []) h.0 h.1 h.2) [
   | inl at ↦ inl (inr (h.0, h.1, at.1, h.3))
   | inr at ↦ inr (subst (λ l. Cites P l r) (got_one line h.1 at.0 at.2).1 h.3)
 ]
 
-pub more_cited : (P : Instance) (turn : Option Turn) (ls : List Line) (line : Line) (r : Rule) → IsCitedIn P turn ls r ⊎ Cites P line r → IsCitedIn P turn (ls ++ line ∷ []) r
+pub more_cited : (P : Instance) (turn : Opening) (ls : List Line) (line : Line) (r : Rule) → IsCitedIn P turn ls r ⊎ Cites P line r → IsCitedIn P turn (ls ++ line ∷ []) r
 more_cited P turn ls line r (inl (inl h)) = inl h
 more_cited P turn ls line r (inl (inr h)) = inr (h.0, h.1, got_left ls (line ∷ []) h.0 h.1 h.2, h.3)
 more_cited P turn ls line r (inr h) = inr (length ls + 0, line, got_right ls (line ∷ []) 0 line refl, h)
@@ -51,7 +53,7 @@ no_splits n S D from [] lines h e = refl
 no_splits n S D from (o ∷ splits) lines h e = let clash : [] ≡ Split o.p o.x ∷ (h.1 ++ h.2) = sym e ∙ h.3 in absurd (cc)
 
 -- before the first line one tree is open
-pub one_open : (P : Instance) (turn : Option Turn) (w : State) → w.whole ≡ false → IsStateOf P turn [] w → open_trees w ≤ 1
+pub one_open : (P : Instance) (turn : Opening) (w : State) → w.whole ≡ false → IsStateOf P turn [] w → open_trees w ≤ 1
 one_open P turn w part h =
     let read : HasRead false (length w.store.sets) w.store (opening P turn) w.splits [] = subst (λ b. HasRead b (length w.store.sets) w.store (opening P turn) w.splits []) part h.read in
     let none : w.splits ≡ [] = no_splits (length w.store.sets) w.store (opening P turn) 0 w.splits [] read refl in
@@ -81,7 +83,7 @@ written_next P a b line w n =
     ) in
     record {
       state = subst (λ m. IsStateFor m b.lines.items) (sym n.aim) (subst (IsStateFor a.aim) (sym n.lines) n.state);
-      turn_fits = subst (λ (m : Aim). TurnFits P m.turn) (sym n.aim) w.turn_fits;
+      turn_fits = subst (λ (m : Aim). OpeningFits P m.turn) (sym n.aim) w.turn_fits;
       goal_fits = subst (λ (m : Aim). GoalFits P m.turn m.goal) (sym n.aim) w.goal_fits;
       stand = subst (λ m. StandFor m b.lines.items) (sym n.aim) (subst (StandFor a.aim) (sym n.lines) (one_more (Stands P a.aim.goal) P a.aim.turn a.lines.items line w.stand n.stands));
       cited = subst (λ m. IsCitedFor m b.lines.items) (sym n.aim) (subst (IsCitedFor a.aim) (sym n.lines) cited);

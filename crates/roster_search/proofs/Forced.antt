@@ -7,6 +7,8 @@ use Rattle.rwsp_terms.specs.Instance.{Instance, cells}
 use Rattle.refutation_terms.specs.declared.lines.Line.{Line}
 use Rattle.refutation_terms.specs.declared.lines.Line.TheVariants.{Split, Unfinished, Closing}
 use Rattle.refutation_terms.specs.declared.lines.Leaf.TheVariants.{Few}
+use Rattle.refutation_terms.specs.declared.lines.Opening.{Opening}
+use Rattle.refutation_terms.specs.declared.lines.Opening.TheVariants.{Full, Turned}
 use Rattle.refutation_terms.specs.declared.lines.Turn.{Turn}
 use Rattle.refutation_terms.specs.Word.{Domains, AreSame}
 use Rattle.refutation_terms.specs.Tree.{IsLeaf, domains_at}
@@ -35,10 +37,10 @@ Said = Domains → ℕ → Symbol → Type 0
 abbrev OfLine : Said → Domains → Line → Type 0
 OfLine Q D line = (p : ℕ) (x : Symbol) → line ≡ Split p x → Q D p x
 
-each_line : (Q : Said) (P : Instance) (turn : Option Turn) (ls : List Line) → AtEachSplit Q P turn ls → EachAt (OfLine Q) P turn ls
+each_line : (Q : Said) (P : Instance) (turn : Opening) (ls : List Line) → AtEachSplit Q P turn ls → EachAt (OfLine Q) P turn ls
 each_line Q P turn ls h k line e p x is = h k p x (e ∙ ap (λ (l : Line). Some l) is)
 
-each_split : (Q : Said) (P : Instance) (turn : Option Turn) (ls : List Line) → EachAt (OfLine Q) P turn ls → AtEachSplit Q P turn ls
+each_split : (Q : Said) (P : Instance) (turn : Opening) (ls : List Line) → EachAt (OfLine Q) P turn ls → AtEachSplit Q P turn ls
 each_split Q P turn ls h k p x e = h k (Split p x) e p x refl
 
 of_leaf : (Q : Said) (D : Domains) (leaf : Line) → IsLeaf leaf → OfLine Q D leaf
@@ -51,19 +53,19 @@ of_split Q D p x h q y e =
     subst (λ r. Q D r y) ep (subst (Q D p) ex h)
 
 -- with a leaf more
-leaf_said : (Q : Said) (P : Instance) (turn : Option Turn) (ls : List Line) (line : Line) → IsLeaf line → AtEachSplit Q P turn ls → AtEachSplit Q P turn (ls ++ line ∷ [])
+leaf_said : (Q : Said) (P : Instance) (turn : Opening) (ls : List Line) (line : Line) → IsLeaf line → AtEachSplit Q P turn ls → AtEachSplit Q P turn (ls ++ line ∷ [])
 leaf_said Q P turn ls line leaf h =
     each_split Q P turn (ls ++ line ∷ [])
     (one_more (OfLine Q) P turn ls line (each_line Q P turn ls h) (of_leaf Q (domains_at P turn ls (length ls)) line leaf))
 
 -- with a split more
-split_said : (Q : Said) (P : Instance) (turn : Option Turn) (ls added : List Line) (p : ℕ) (x : Symbol) → IsSplitWithLeaf p x added → AtEachSplit Q P turn ls → Q (domains_at P turn ls (length ls)) p x → AtEachSplit Q P turn (ls ++ added)
+split_said : (Q : Said) (P : Instance) (turn : Opening) (ls added : List Line) (p : ℕ) (x : Symbol) → IsSplitWithLeaf p x added → AtEachSplit Q P turn ls → Q (domains_at P turn ls (length ls)) p x → AtEachSplit Q P turn (ls ++ added)
 split_said Q P turn ls added p x split h here =
     each_split Q P turn (ls ++ added)
     (split_more (OfLine Q) P turn ls added p x (each_line Q P turn ls h) (of_split Q (domains_at P turn ls (length ls)) p x here) (of_leaf Q) split)
 
 -- with unfinished lines
-pub rest_said : (Q : Said) (P : Instance) (turn : Option Turn) (ls : List Line) (n : ℕ) → AtEachSplit Q P turn ls → AtEachSplit Q P turn (ls ++ replicate n Unfinished)
+pub rest_said : (Q : Said) (P : Instance) (turn : Opening) (ls : List Line) (n : ℕ) → AtEachSplit Q P turn ls → AtEachSplit Q P turn (ls ++ replicate n Unfinished)
 rest_said Q P turn ls n h k p x e = elim (got_in ls (replicate n Unfinished) k (Split p x) e) [
   | inl at ↦
       let le : k ≤ length ls = omega (arith, at.0) in
@@ -72,7 +74,7 @@ rest_said Q P turn ls n h k p x e = elim (got_in ls (replicate n Unfinished) k (
 ]
 
 -- before the first line
-pub none_said : (Q : Said) (P : Instance) (turn : Option Turn) (ls : List Line) → ls ≡ [] → AtEachSplit Q P turn ls
+pub none_said : (Q : Said) (P : Instance) (turn : Opening) (ls : List Line) → ls ≡ [] → AtEachSplit Q P turn ls
 none_said Q P turn ls none k p x e =
     let got : slice_get [] k ≡ Some (Split p x) = ap (λ (l : List Line). slice_get l k) (sym none) ∙ e in
     absurd (cc)

@@ -7,6 +7,8 @@ use Rattle.rwsp_terms.specs.declared.data.Symbol.{Symbol}
 use Rattle.rwsp_terms.specs.Instance.{Instance}
 use Rattle.refutation_terms.specs.declared.lines.Line.{Line}
 use Rattle.refutation_terms.specs.declared.lines.Line.TheVariants.{Split}
+use Rattle.refutation_terms.specs.declared.lines.Opening.{Opening}
+use Rattle.refutation_terms.specs.declared.lines.Opening.TheVariants.{Full, Turned}
 use Rattle.refutation_terms.specs.declared.lines.Turn.{Turn}
 use Rattle.refutation_terms.specs.Word.{Domains}
 use Rattle.refutation_terms.specs.Tree.{IsLeaf, Leaf, after_trees, side, side_of, line_leaves, lines_leave, opening, domains_at}
@@ -49,14 +51,14 @@ more_leave more (line ∷ ls) q z h =
     ∙ sym (and_assoc (line_leaves line (side ls) q z) (lines_leave ls q z) (lines_leave more q z))
 
 -- the domains at a line rest on the lines before it alone
-pub domains_before : (P : Instance) (turn : Option Turn) (ls more : List Line) (k : ℕ) → k ≤ length ls → domains_at P turn (ls ++ more) k ≡ domains_at P turn ls k
+pub domains_before : (P : Instance) (turn : Opening) (ls more : List Line) (k : ℕ) → k ≤ length ls → domains_at P turn (ls ++ more) k ≡ domains_at P turn ls k
 domains_before P turn ls more k le = ap (behind (opening P turn)) (take-append-le k ls more le)
 
-pub domains_end : (P : Instance) (turn : Option Turn) (ls : List Line) (q z : ℕ) → domains_at P turn ls (length ls) q z ≡ (opening P turn q z && lines_leave ls q z)
+pub domains_end : (P : Instance) (turn : Opening) (ls : List Line) (q z : ℕ) → domains_at P turn ls (length ls) q z ≡ (opening P turn q z && lines_leave ls q z)
 domains_end P turn ls q z = ap (λ (l : List Line). opening P turn q z && lines_leave l q z) (take_all (length ls) ls (omega arith))
 
 -- behind lines in which no open tree ends, the domains are what those leave of the domains before
-pub domains_behind : (P : Instance) (turn : Option Turn) (ls more : List Line) (q z : ℕ) → EndNone more → domains_at P turn (ls ++ more) (length (ls ++ more)) q z ≡ (domains_at P turn ls (length ls) q z && lines_leave more q z)
+pub domains_behind : (P : Instance) (turn : Opening) (ls more : List Line) (q z : ℕ) → EndNone more → domains_at P turn (ls ++ more) (length (ls ++ more)) q z ≡ (domains_at P turn ls (length ls) q z && lines_leave more q z)
 domains_behind P turn ls more q z h =
     domains_end P turn (ls ++ more) q z
     ∙ ap (λ b. opening P turn q z && b) (more_leave more ls q z h)
@@ -87,10 +89,10 @@ got_one line other zero e = (refl, cc)
 got_one line other (suc m) e = absurd (cc)
 
 -- a fact of each line, under the domains at it
-abbrev pub EachAt : (Domains → Line → Type 0) → Instance → Option Turn → List Line → Type 0
+abbrev pub EachAt : (Domains → Line → Type 0) → Instance → Opening → List Line → Type 0
 EachAt Q P turn ls = (k : ℕ) (line : Line) → slice_get ls k ≡ Some line → Q (domains_at P turn ls k) line
 
-pub one_more : (Q : Domains → Line → Type 0) (P : Instance) (turn : Option Turn) (ls : List Line) (line : Line) → EachAt Q P turn ls → Q (domains_at P turn ls (length ls)) line → EachAt Q P turn (ls ++ line ∷ [])
+pub one_more : (Q : Domains → Line → Type 0) (P : Instance) (turn : Opening) (ls : List Line) (line : Line) → EachAt Q P turn ls → Q (domains_at P turn ls (length ls)) line → EachAt Q P turn (ls ++ line ∷ [])
 one_more Q P turn ls line each here k other e = elim (got_in ls (line ∷ []) k other e) [
   | inl h ↦
       let le : k ≤ length ls = omega (arith, h.0) in
@@ -104,7 +106,7 @@ one_more Q P turn ls line each here k other e = elim (got_in ls (line ∷ []) k 
 ]
 
 -- a fact of splits stays when a split is written, maybe with the leaf of its first side
-pub split_more : (Q : Domains → Line → Type 0) (P : Instance) (turn : Option Turn) (ls added : List Line) (p : ℕ) (x : Symbol) → EachAt Q P turn ls → Q (domains_at P turn ls (length ls)) (Split p x) → ((D : Domains) (leaf : Line) → IsLeaf leaf → Q D leaf) → IsSplitWithLeaf p x added → EachAt Q P turn (ls ++ added)
+pub split_more : (Q : Domains → Line → Type 0) (P : Instance) (turn : Opening) (ls added : List Line) (p : ℕ) (x : Symbol) → EachAt Q P turn ls → Q (domains_at P turn ls (length ls)) (Split p x) → ((D : Domains) (leaf : Line) → IsLeaf leaf → Q D leaf) → IsSplitWithLeaf p x added → EachAt Q P turn (ls ++ added)
 split_more Q P turn ls added p x each here leaves (inl e) = subst (λ l. EachAt Q P turn (ls ++ l)) (sym e) (one_more Q P turn ls (Split p x) each here)
 split_more Q P turn ls added p x each here leaves (inr h) =
     let leaf : Line = h.0 in

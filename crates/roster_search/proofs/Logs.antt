@@ -10,9 +10,12 @@ use Rattle.rwsp_terms.specs.Instance.{Instance}
 use Rattle.rwsp_terms.specs.Rules.{rule_of, Names}
 use Rattle.refutation_terms.specs.declared.lines.Line.{Line}
 use Rattle.refutation_terms.specs.declared.lines.Line.TheVariants.{Unfinished}
+use Rattle.refutation_terms.specs.declared.lines.Opening.{Opening}
+use Rattle.refutation_terms.specs.declared.lines.Opening.TheVariants.{Full, Turned}
 use Rattle.refutation_terms.specs.declared.lines.Turn.{Turn}
 use Rattle.refutation_terms.specs.Tree.{IsTree, after_trees}
-use Rattle.refutation_terms.specs.Log.{Log, LineFits, Holds, HoldsAtFor, Cites, ListsShortOnly, IsAllowed, AreRules, IsGroundedFor, PassesFor, IsSpentFor, size, is_worked}
+use Rattle.refutation_terms.specs.Log.{Log, LineFits, Holds, HoldsAt, Cites, ListsShortOnly, IsAllowed, IsGrounded, Passes, IsSpent, size, is_worked}
+use Rattle.refutation_terms.specs.Ranges.{AreRules}
 use Rattle.refutation_terms.proofs.Trees.{whole_is_tree}
 use Rattle.refutation_terms.proofs.TreeDomains.{got_left}
 use Rattle.domain_store.specs.Splits.{second_sides_to_come}
@@ -48,7 +51,7 @@ each_in Q ls rest each here opened k line e = elim (got_in ls rest k line e) [
   | inr at ↦ subst Q (sym (opened at.0 line at.2)) here
 ]
 
-grounded : (P : Instance) (s : Progress) (rest : List Line) → IsProgress P s → IsAllowed P s.aim.turn → IsStrictlyIncreasing s.named → AreOpen rest → IsGroundedFor P s.aim.goal (log_of s rest)
+grounded : (P : Instance) (s : Progress) (rest : List Line) → IsProgress P s → IsAllowed P s.aim.turn → IsStrictlyIncreasing s.named → AreOpen rest → IsGrounded P (log_of s rest)
 grounded P s rest w allowed up opened = record {
   fits = record {
     named = are_rules P s.named up w.numbers;
@@ -63,7 +66,7 @@ grounded P s rest w allowed up opened = record {
   short = each_in (ListsShortOnly P) s.lines.items rest (λ k line e. (w.stand k line e).short) tt opened;
 }
 
-holds_before : (P : Instance) (s : Progress) (rest : List Line) → IsProgress P s → (k : ℕ) (line : Line) → k < length s.lines.items → slice_get (s.lines.items ++ rest) k ≡ Some line → HoldsAtFor P s.aim.goal (log_of s rest) k line
+holds_before : (P : Instance) (s : Progress) (rest : List Line) → IsProgress P s → (k : ℕ) (line : Line) → k < length s.lines.items → slice_get (s.lines.items ++ rest) k ≡ Some line → HoldsAt P (log_of s rest) k line
 holds_before P s rest w k line lt e = elim (got_in s.lines.items rest k line e) [
   | inl at ↦ subst (λ D. Holds P s.aim.goal D line) (sym (domains_before P s.aim.turn s.lines.items rest k (omega (arith, lt)))) (w.stand k line at.1).holds
   | inr at ↦ absurd (omega (arith, lt, at.1))
@@ -78,12 +81,12 @@ is_log_of_turn P s rest w = record {
   ];
 }
 
-same_log : (g h : Log) → g.named ≡ h.named → g.turn ≡ h.turn → g.goal ≡ h.goal → g.lines ≡ h.lines → g ≡ h
+same_log : (g h : Log) → g.named ≡ h.named → g.opening ≡ h.opening → g.goal ≡ h.goal → g.lines ≡ h.lines → g ≡ h
 same_log g h a b d c =
-    ap (λ (R : List ℕ). record { named = R; turn = g.turn; goal = g.goal; lines = g.lines }) a
-    ∙ ap (λ (t : Option Turn). record { named = h.named; turn = t; goal = g.goal; lines = g.lines }) b
-    ∙ ap (λ (o : Option ℕ). record { named = h.named; turn = h.turn; goal = o; lines = g.lines }) d
-    ∙ ap (λ (ls : List Line). record { named = h.named; turn = h.turn; goal = h.goal; lines = ls }) c
+    ap (λ (R : List ℕ). record { named = R; turn = g.opening; goal = g.goal; lines = g.lines }) a
+    ∙ ap (λ (t : Opening). record { named = h.named; turn = t; goal = g.goal; lines = g.lines }) b
+    ∙ ap (λ (o : Option ℕ). record { named = h.named; turn = h.opening; goal = o; lines = g.lines }) d
+    ∙ ap (λ (ls : List Line). record { named = h.named; turn = h.opening; goal = h.goal; lines = ls }) c
 
 abbrev none : List Line
 none = []
@@ -92,18 +95,18 @@ none_open : AreOpen none
 none_open m line e = absurd (cc)
 
 -- a whole tree passes
-pub passing_end : (P : Instance) (s : Progress) (g : Log) → IsProgress P s → IsAllowed P s.aim.turn → IsStrictlyIncreasing s.named → IsTree s.lines.items → length s.lines.items ≤ s.aim.budget → g.named ≡ s.named → g.turn ≡ s.aim.turn → g.goal ≡ s.aim.goal → g.lines ≡ s.lines.items → IsEnded P s.aim s.lines.items (NoRoster g)
+pub passing_end : (P : Instance) (s : Progress) (g : Log) → IsProgress P s → IsAllowed P s.aim.turn → IsStrictlyIncreasing s.named → IsTree s.lines.items → length s.lines.items ≤ s.aim.budget → g.named ≡ s.named → g.opening ≡ s.aim.turn → g.goal ≡ s.aim.goal → g.lines ≡ s.lines.items → IsEnded P s.aim s.lines.items (NoRoster g)
 passing_end P s g w allowed up tree few a b d c =
     let whole : s.lines.items ++ none ≡ s.lines.items = append-nil s.lines.items in
     let is : log_of s none ≡ g = sym (same_log g (log_of s none) a b d (c ∙ sym whole)) in
     let worked : size g ≤ length g.lines = count_by-le-length is_worked g.lines in
     let long : length g.lines ≡ length s.lines.items = ap length c in
-    let passes : PassesFor P s.aim.goal (log_of s none) = record {
+    let passes : Passes P (log_of s none) = record {
       grounded = grounded P s none w allowed up none_open;
       tree = subst IsTree (sym whole) tree;
       holds = λ k line e. holds_before P s none w k line (omega (arith, slice_get_within (s.lines.items ++ none) k line e, ap length whole)) e;
     } in (
-      subst (PassesFor P s.aim.goal) is passes,
+      subst (Passes P) is passes,
       omega (arith, worked, long, few),
       subst (IsLogOfTurn P s.aim.turn) is (is_log_of_turn P s none w),
       c,
@@ -125,20 +128,20 @@ pub some_open : (w : State) → w.whole ≡ false → 1 ≤ open_trees w
 some_open w part = let e : open_trees w ≡ second_sides_to_come w.splits + 1 = ap (λ b. cond b 0 (second_sides_to_come w.splits + 1)) part in omega arith
 
 -- lines that have used up the budget, with the rest left open
-pub spent_end : (P : Instance) (s : Progress) (n : ℕ) (g : Log) → IsProgress P s → IsAllowed P s.aim.turn → IsStrictlyIncreasing s.named → IsTree (s.lines.items ++ replicate n Unfinished) → length s.lines.items ≤ s.aim.budget → s.aim.budget ≤ length s.lines.items → 1 ≤ n → g.named ≡ s.named → g.turn ≡ s.aim.turn → g.goal ≡ s.aim.goal → g.lines ≡ s.lines.items ++ replicate n Unfinished → IsEnded P s.aim s.lines.items (Undecided g)
+pub spent_end : (P : Instance) (s : Progress) (n : ℕ) (g : Log) → IsProgress P s → IsAllowed P s.aim.turn → IsStrictlyIncreasing s.named → IsTree (s.lines.items ++ replicate n Unfinished) → length s.lines.items ≤ s.aim.budget → s.aim.budget ≤ length s.lines.items → 1 ≤ n → g.named ≡ s.named → g.opening ≡ s.aim.turn → g.goal ≡ s.aim.goal → g.lines ≡ s.lines.items ++ replicate n Unfinished → IsEnded P s.aim s.lines.items (Undecided g)
 spent_end P s n g w allowed up tree few all some a b d c =
     let rest : List Line = replicate n Unfinished in
     let is : log_of s rest ≡ g = sym (same_log g (log_of s rest) a b d c) in
     let long : length (s.lines.items ++ rest) ≡ length s.lines.items + length rest = length-append s.lines.items rest in
     let many : length rest ≡ n = length-replicate n Unfinished in
-    let spent : IsSpentFor P s.aim.goal (log_of s rest) s.aim.budget = record {
+    let spent : IsSpent P (log_of s rest) s.aim.budget = record {
       grounded = grounded P s rest w allowed up (open_rest n);
       tree = tree;
       holds = λ k line lt e. holds_before P s rest w k line (omega (arith, lt, all)) e;
       rest = λ k line le e. elim (got_in s.lines.items rest k line e) [ inl at ↦ absurd (omega (arith, at.0, le, few)) | inr at ↦ open_rest n at.0 line at.2 ];
       unfinished = omega (arith, long, many, few, some);
     } in (
-      subst (λ l. IsSpentFor P s.aim.goal l s.aim.budget) is spent,
+      subst (λ l. IsSpent P l s.aim.budget) is spent,
       subst (IsLogOfTurn P s.aim.turn) is (is_log_of_turn P s rest w),
       (n, c),
     )

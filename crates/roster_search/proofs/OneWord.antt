@@ -24,10 +24,12 @@ use Rattle.rwsp_model.proofs.Numbering.{number_at_place, number_within}
 use Rattle.refutation_terms.specs.declared.lines.Line.TheVariants as Lines
 use Rattle.refutation_terms.specs.declared.lines.Leaf.TheVariants as Leaves
 use Rattle.refutation_terms.specs.Word.{Over}
-use Rattle.refutation_terms.specs.Leaf.{is_only, fixed, possible}
+use Rattle.refutation_terms.specs.DayLeaf.{is_only, fixed, possible}
+use Rattle.refutation_terms.specs.declared.lines.Opening.{Opening}
+use Rattle.refutation_terms.specs.declared.lines.Opening.TheVariants.{Full, Turned}
 use Rattle.refutation_terms.specs.declared.lines.Turn.{Turn}
 use Rattle.refutation_terms.specs.FreeWeekends.{is_off_at, free_weekends}
-use Rattle.refutation_terms.specs.FreeLeaves.{may_be_free}
+use Rattle.refutation_terms.specs.FewLeaf.{may_be_free}
 use Rattle.refutation_terms.specs.Laws.{HasGoal}
 use Rattle.refutation_terms.specs.Log.{LineFits, GoalFits, Holds}
 use Rattle.refutation_terms.proofs.FreeCounts.{free_weekends_weeks}
@@ -171,7 +173,7 @@ free_where_may_be P S s a week =
     (off (i * 7 + 6) last (right_of (has_domain S (i * 7 + 5) 0) (has_domain S (i * 7 + 6) 0) left))) in
     subst (λ n. count_by may (range_with_len 0 P.weeks) ≤ n) (sym (free_weekends_weeks P s week a.is_roster)) fewer
 
-reaches : (P : Instance) (S : Store) (s : List Symbol) (turn : Option Turn) (goal : Option ℕ) → IsAlone P S s → GoalFits P turn goal → (Holds P goal (has_domain S) (Lines.Closing Leaves.Few) → ⊥) → HasGoal goal s
+reaches : (P : Instance) (S : Store) (s : List Symbol) (turn : Opening) (goal : Option ℕ) → IsAlone P S s → GoalFits P turn goal → (Holds P goal (has_domain S) (Lines.Closing Leaves.Few) → ⊥) → HasGoal goal s
 reaches P S s turn None a fits enough = tt
 reaches P S s turn (Some goal) a fits enough =
     let free = free_where_may_be P S s a fits.1 in
@@ -201,6 +203,6 @@ meets_all P S s limits belongs store tests decided roster has windows days =
     }
 
 -- where the leaf of few weeks doesn't hold, it has as many free weekends as the goal
-pub has_goal : (P : Instance) (S : Store) (s : List Symbol) (turn : Option Turn) (goal : Option ℕ) → KeepsLimits P → BelongsTo P S → IsStore S → HasDomains S → IsDecided S → IsRoster P s → ((p : ℕ) (d : Symbol) → p < length s → IsTrue (has_domain S p (get_or s p d).number)) → GoalFits P turn goal → (Holds P goal (has_domain S) (Lines.Closing Leaves.Few) → ⊥) → HasGoal goal s
+pub has_goal : (P : Instance) (S : Store) (s : List Symbol) (turn : Opening) (goal : Option ℕ) → KeepsLimits P → BelongsTo P S → IsStore S → HasDomains S → IsDecided S → IsRoster P s → ((p : ℕ) (d : Symbol) → p < length s → IsTrue (has_domain S p (get_or s p d).number)) → GoalFits P turn goal → (Holds P goal (has_domain S) (Lines.Closing Leaves.Few) → ⊥) → HasGoal goal s
 has_goal P S s turn goal limits belongs store tests decided roster has fits enough =
     reaches P S s turn goal (alone P S s limits belongs store tests decided roster has) fits enough

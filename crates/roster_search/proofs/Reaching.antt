@@ -4,7 +4,10 @@ use Rattle.rwsp_terms.specs.declared.data.Symbol.{Symbol}
 use Rattle.rwsp_terms.specs.Instance.{Instance, cells}
 use Rattle.refutation_terms.specs.declared.lines.Line.{Line}
 use Rattle.refutation_terms.specs.declared.lines.Line.TheVariants.{Split, Unfinished, Closing}
-use Rattle.refutation_terms.specs.declared.lines.Leaf.TheVariants.{Window, Day, Dead, Bound, Few, Free}
+use Rattle.refutation_terms.specs.declared.lines.Leaf.TheVariants.{Window, Day, Few, Words}
+use Rattle.refutation_terms.specs.declared.lines.WordClaim.TheVariants.{Dead, Light}
+use Rattle.refutation_terms.specs.declared.lines.Opening.{Opening}
+use Rattle.refutation_terms.specs.declared.lines.Opening.TheVariants.{Full, Turned}
 use Rattle.refutation_terms.specs.declared.lines.Turn.{Turn}
 use Rattle.refutation_terms.specs.Word.{Domains, AreSame}
 use Rattle.refutation_terms.specs.Log.{LineFits, GoalFits, Holds}
@@ -20,7 +23,7 @@ use Rattle.roster_search.specs.Guides.{AreUnweighed}
 pub plain_holds : (P : Instance) (goal : Option ℕ) (D : Domains) (line : Line) → Holds P None D line → Holds P goal D line
 plain_holds P None D line h = h
 plain_holds P (Some goal) D (Closing Few) h = absurd h
-plain_holds P (Some goal) D (Closing (Free turns reward R y)) h = absurd h
+plain_holds P (Some goal) D (Closing (Words p R (Light turns reward y))) h = absurd h
 plain_holds P (Some goal) D (Closing (Day j x true)) h = h
 plain_holds P (Some goal) D (Closing (Day j x false)) h = h
 plain_holds P (Some goal) D line h = h
@@ -29,10 +32,10 @@ plain_fits : (P : Instance) (goal : Option ℕ) (line : Line) → LineFits P Non
 plain_fits P goal (Split p x) fits light = fits
 plain_fits P goal (Closing (Window number p len)) fits light = fits
 plain_fits P goal (Closing (Day j x over)) fits light = fits
-plain_fits P goal (Closing (Dead p len R)) fits light = fits
-plain_fits P goal (Closing (Bound p turns R y)) fits light = absurd light
+plain_fits P goal (Closing (Words p R (Dead len))) fits light = fits
+plain_fits P goal (Closing (Words p R (Light turns reward y))) fits light = absurd light
 plain_fits P goal (Closing Few) fits light = absurd fits
-plain_fits P goal (Closing (Free turns reward R y)) fits light = absurd fits
+plain_fits P goal (Closing (Words p R (Light turns reward y))) fits light = absurd fits
 plain_fits P goal Unfinished fits light = fits
 
 pub split_fits : (P : Instance) (goal : Option ℕ) (p : ℕ) (x : Symbol) → LineFits P None (Split p x) → LineFits P goal (Split p x)
@@ -70,13 +73,13 @@ pub weekend_within : (P : Instance) (i : ℕ) → P.days ≡ 7 → i < P.weeks �
 weekend_within P i week less = subst (λ d. i * 7 + 6 < P.weeks * d) (sym week) (omega (arith, less))
 
 -- a line that holds under the one holds under the other
-same_holds_for : (P : Instance) (turn : Option Turn) (goal : Option ℕ) (D E : Domains) (line : Line) → 0 < cells P → GoalFits P turn goal → LineFits P goal line → AreSame P D E → Holds P goal D line → Holds P goal E line
+same_holds_for : (P : Instance) (turn : Opening) (goal : Option ℕ) (D E : Domains) (line : Line) → 0 < cells P → GoalFits P turn goal → LineFits P goal line → AreSame P D E → Holds P goal D line → Holds P goal E line
 same_holds_for P turn None D E line some goal_fits fits same h = same_holds P D E line some fits same h
 same_holds_for P turn (Some goal) D E line some goal_fits fits same h = SameDomains.same_holds_for P (Some goal) D E line some (refl, goal_fits.1, goal_fits.2) fits same h
 
-pub same_leaf : (P : Instance) (turn : Option Turn) (goal : Option ℕ) (D E : Domains) (line : Line) → 0 < cells P → GoalFits P turn goal → AreSame P D E → IsHoldingLeaf P goal D line → IsHoldingLeaf P goal E line
+pub same_leaf : (P : Instance) (turn : Opening) (goal : Option ℕ) (D E : Domains) (line : Line) → 0 < cells P → GoalFits P turn goal → AreSame P D E → IsHoldingLeaf P goal D line → IsHoldingLeaf P goal E line
 same_leaf P turn goal D E line some goal_fits same h = record { leaf = h.leaf; fits = h.fits; short = h.short; holds = same_holds_for P turn goal D E line some goal_fits h.fits same h.holds }
 
 -- few weeks don't hold under the other either
-pub no_few_for : (P : Instance) (turn : Option Turn) (goal : Option ℕ) (D E : Domains) → 0 < cells P → GoalFits P turn goal → AreSame P D E → (Holds P goal D (Closing Few) → ⊥) → Holds P goal E (Closing Few) → ⊥
+pub no_few_for : (P : Instance) (turn : Opening) (goal : Option ℕ) (D E : Domains) → 0 < cells P → GoalFits P turn goal → AreSame P D E → (Holds P goal D (Closing Few) → ⊥) → Holds P goal E (Closing Few) → ⊥
 no_few_for P turn goal D E some goal_fits same none h = none (same_holds_for P turn goal E D (Closing Few) some goal_fits (few_leaf P goal E h).fits (turned_round P D E same) h)

@@ -12,10 +12,12 @@ use Rattle.rwsp_terms.specs.Instance.{Instance, cells, shift_count}
 use Rattle.rwsp_terms.proofs.Counting.{count_same, count_next}
 use Rattle.refutation_terms.specs.declared.lines.Line.{Line}
 use Rattle.refutation_terms.specs.declared.lines.Line.TheVariants.{Split, Unfinished}
+use Rattle.refutation_terms.specs.declared.lines.Opening.{Opening}
+use Rattle.refutation_terms.specs.declared.lines.Opening.TheVariants.{Full, Turned}
 use Rattle.refutation_terms.specs.declared.lines.Turn.{Turn}
 use Rattle.refutation_terms.specs.Word.{Domains}
 use Rattle.refutation_terms.specs.Tree.{Tree, IsTree, IsLeaf, Leaf, Node, lines_in, First, Second, lines_leave, narrowed, opening, domains_at, is_idle}
-use Rattle.refutation_terms.specs.Log.{Log, TurnFits, LineFits, FitsFor, IsSpentFor}
+use Rattle.refutation_terms.specs.Log.{Log, OpeningFits, LineFits, Fits, IsSpent}
 use Rattle.refutation_terms.specs.Laws.{HasNoIdleSplit}
 use Rattle.refutation_terms.proofs.Tests.{both, left_of}
 use Rattle.refutation_terms.proofs.InWords.{there, another}
@@ -196,13 +198,13 @@ leaves_counted (Node p x a b) =
     let second : count_by is_leaf (lines_in b) ≡ leaf_count b = leaves_counted b in
     omega (arith, split, sides, first, second)
 
-useful_splits : (P : Instance) (goal : Option ℕ) (g : Log) → FitsFor P goal g → HasNoIdleSplit P g.turn g.lines (length g.lines) → EachInOrder (IsUseful P) (opening P g.turn) g.lines
+useful_splits : (P : Instance) (goal : Option ℕ) (g : Log) → Fits P g → HasNoIdleSplit P g.opening g.lines (length g.lines) → EachInOrder (IsUseful P) (opening P g.opening) g.lines
 useful_splits P goal g fits none k line e p x is = (
   fitting_split P goal p x (subst (LineFits P goal) is (fits.lines k line e)),
   none k p x (slice_get_within g.lines k line e) (e ∙ ap (λ (l : Line). Some l) is),
 )
 
-opening_has_some : (P : Instance) (turn : Option Turn) (lines : List Line) → TurnFits P turn → IsTree lines → 0 < length lines → HasSome P (opening P turn)
+opening_has_some : (P : Instance) (turn : Opening) (lines : List Line) → OpeningFits P turn → IsTree lines → 0 < length lines → HasSome P (opening P turn)
 opening_has_some P turn lines fits tree lt q inside =
     let D : Domains = opening P turn in
     let all = domains_never_empty P turn lines 0 fits tree lt (λ i p x less. absurd (omega (arith, less))) in
@@ -211,13 +213,13 @@ opening_has_some P turn lines fits tree lt q inside =
     count_some (D q) 0 (shift_count P + 1) one.0 (omega arith) (omega (arith, small)) (left_of (D q one.0) (lines_leave [] q one.0) one.1)
 
 -- at most as many leaves as there are assignments
-tree_is_small : (P : Instance) (goal : Option ℕ) (g : Log) (tree : IsTree g.lines) → FitsFor P goal g → HasNoIdleSplit P g.turn g.lines (length g.lines) → leaf_count tree.0 ≤ (shift_count P + 1) ^ cells P
+tree_is_small : (P : Instance) (goal : Option ℕ) (g : Log) (tree : IsTree g.lines) → Fits P g → HasNoIdleSplit P g.opening g.lines (length g.lines) → leaf_count tree.0 ≤ (shift_count P + 1) ^ cells P
 tree_is_small P goal g tree fits none =
     let t : Tree = tree.0 in
-    let D : Domains = opening P g.turn in
+    let D : Domains = opening P g.opening in
     let each : EachLine (IsUseful P) D t = in_tree (IsUseful P) D t (subst (EachInOrder (IsUseful P) D) (sym tree.1) (useful_splits P goal g fits none)) in
     let lines : 0 < length g.lines = subst (λ (ls : List Line). 0 < length ls) tree.1 (some_lines t) in
-    let few : leaf_count t ≤ product (size_at (shift_count P) D) (cells P) = leaves_are_few P t D each (opening_has_some P g.turn g.lines fits.turn tree lines) in
+    let few : leaf_count t ≤ product (size_at (shift_count P) D) (cells P) = leaves_are_few P t D each (opening_has_some P g.opening g.lines fits.turn tree lines) in
     let most : product (size_at (shift_count P) D) (cells P) ≤ (shift_count P + 1) ^ cells P = product_most (size_at (shift_count P) D) (shift_count P + 1) (cells P) (size_small (shift_count P) D) in
     omega (arith, few, most)
 
@@ -229,10 +231,10 @@ few_leaves P goal g fits tree none =
     omega (arith, counted, same, few)
 
 -- no split of a spent log is idle: it holds, or is unfinished and no split
-spent_none_idle : (P : Instance) (goal : Option ℕ) (g : Log) (budget : ℕ) → IsSpentFor P goal g budget → HasNoIdleSplit P g.turn g.lines (length g.lines)
+spent_none_idle : (P : Instance) (goal : Option ℕ) (g : Log) (budget : ℕ) → IsSpent P g budget → HasNoIdleSplit P g.opening g.lines (length g.lines)
 spent_none_idle P goal g budget s k p x inside at =
     elim (cases_lt k budget) [
-      | inl early ↦ holding_split P goal (domains_at P g.turn g.lines k) p x (s.holds k (Split p x) early at)
+      | inl early ↦ holding_split P goal (domains_at P g.opening g.lines k) p x (s.holds k (Split p x) early at)
       | inr late ↦ let clash : Split p x ≡ Unfinished = s.rest k (Split p x) late at in absurd (cc)
     ]
 

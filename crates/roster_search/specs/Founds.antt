@@ -5,10 +5,12 @@ use Rattle.rwsp_terms.specs.Instance.{Instance}
 use Rattle.refutation_terms.specs.declared.lines.Line.{Line}
 use Rattle.refutation_terms.specs.declared.lines.Line.TheVariants.{Split, Closing}
 use Rattle.refutation_terms.specs.declared.lines.Leaf.TheVariants.{Few}
+use Rattle.refutation_terms.specs.declared.lines.Opening.{Opening}
+use Rattle.refutation_terms.specs.declared.lines.Opening.TheVariants.{Full, Turned}
 use Rattle.refutation_terms.specs.declared.lines.Turn.{Turn}
 use Rattle.refutation_terms.specs.Word.{Domains, AreSame}
 use Rattle.refutation_terms.specs.Tree.{domains_at}
-use Rattle.refutation_terms.specs.Log.{Log, Holds, PassesFor, IsSpentFor, NamesOnlyCited, size}
+use Rattle.refutation_terms.specs.Log.{Log, Holds, Passes, IsSpent, NamesOnlyCited, size}
 use Rattle.domain_store.specs.Store.{Store, BelongsTo, IsStore, has_domain}
 use Rattle.domain_store.specs.Looks.{Closes}
 use Rattle.roster_search.specs.Guides.{IsWantedRoster}
@@ -27,26 +29,26 @@ pub record IsForced (P : Instance) (leaves : Store → Line → Type 0) (spent :
   pub forced : (q : ℕ) (z : Symbol) → spent store q z → spent store p x
 
 -- this is said of each split, by the domains at it, its position and its symbol
-abbrev pub AtEachSplit : (Domains → ℕ → Symbol → Type 0) → Instance → Option Turn → List Line → Type 0
+abbrev pub AtEachSplit : (Domains → ℕ → Symbol → Type 0) → Instance → Opening → List Line → Type 0
 AtEachSplit Said P turn lines =
     (k p : ℕ) (x : Symbol) → slice_get lines k ≡ Some (Split p x) → Said (domains_at P turn lines k) p x
 
 -- each split is as the propagator says
-abbrev pub AreForced : Instance → (Store → Line → Type 0) → (Store → ℕ → Symbol → Type 0) → Option Turn → List Line
+abbrev pub AreForced : Instance → (Store → Line → Type 0) → (Store → ℕ → Symbol → Type 0) → Opening → List Line
     → Type 0
 AreForced P leaves spent turn lines = AtEachSplit (IsForced P leaves spent) P turn lines
 
 -- with a goal, at each split as many weeks as that can still have a free weekend
-abbrev pub FewHoldsAtNoSplit : Instance → Option ℕ → Option Turn → List Line → Type 0
+abbrev pub FewHoldsAtNoSplit : Instance → Option ℕ → Opening → List Line → Type 0
 FewHoldsAtNoSplit P goal turn lines = AtEachSplit (λ D p x. Holds P goal D (Closing Few) → ⊥) P turn lines
 
 -- a log with this turn that names what it cites and no more
-pub record IsLogOfTurn (P : Instance) (turn : Option Turn) (g : Log) : Type 0 where
-  pub same_turn : g.turn ≡ turn
+pub record IsLogOfTurn (P : Instance) (turn : Opening) (g : Log) : Type 0 where
+  pub same_turn : g.opening ≡ turn
   pub cited : NamesOnlyCited P g
 
 -- such a log, whose splits are as the propagator says, for this goal or none
-pub record IsSearchLog (P : Instance) (turn : Option Turn) (goal : Option ℕ) (leaves : Store → Line → Type 0)
+pub record IsSearchLog (P : Instance) (turn : Opening) (goal : Option ℕ) (leaves : Store → Line → Type 0)
     (spent : Store → ℕ → Symbol → Type 0) (g : Log) : Type 0 where
   pub of_turn : IsLogOfTurn P turn g
   pub splits : AreForced P leaves spent turn g.lines
@@ -54,13 +56,13 @@ pub record IsSearchLog (P : Instance) (turn : Option Turn) (goal : Option ℕ) (
 
 -- a roster that meets every rule and has as many free weekends as the goal, where there is one; or a log that passes,
 -- of at most the budget's size; or one that has spent the budget
-abbrev pub IsFound : Instance → Option Turn → Option ℕ → ℕ → (Store → Line → Type 0)
+abbrev pub IsFound : Instance → Opening → Option ℕ → ℕ → (Store → Line → Type 0)
     → (Store → ℕ → Symbol → Type 0) → Found → Type 0
 IsFound P turn goal budget leaves spent (Roster s) = IsWantedRoster P goal s
 IsFound P turn goal budget leaves spent (NoRoster g) =
-    PassesFor P goal g × (size g ≤ budget) × IsSearchLog P turn goal leaves spent g
+    Passes P g × (size g ≤ budget) × IsSearchLog P turn goal leaves spent g
 IsFound P turn goal budget leaves spent (Undecided g) =
-    IsSpentFor P goal g budget × IsSearchLog P turn goal leaves spent g
+    IsSpent P g budget × IsSearchLog P turn goal leaves spent g
 
 -- the budget was spent
 abbrev pub HasSpentBudget : Found → Type 0

@@ -6,10 +6,12 @@ use Rattle.rwsp_terms.specs.Instance.{Instance}
 use Rattle.rwsp_terms.specs.Rules.{rule_of, Names}
 use Rattle.refutation_terms.specs.declared.lines.Line.{Line}
 use Rattle.refutation_terms.specs.declared.lines.Line.TheVariants.{Split, Unfinished}
+use Rattle.refutation_terms.specs.declared.lines.Opening.{Opening}
+use Rattle.refutation_terms.specs.declared.lines.Opening.TheVariants.{Full, Turned}
 use Rattle.refutation_terms.specs.declared.lines.Turn.{Turn}
 use Rattle.refutation_terms.specs.Word.{Domains}
 use Rattle.refutation_terms.specs.Tree.{IsLeaf, domains_at}
-use Rattle.refutation_terms.specs.Log.{LineFits, TurnFits, GoalFits, Holds, Cites, TurnCites, ListsShortOnly, PassesFor, IsSpentFor, size}
+use Rattle.refutation_terms.specs.Log.{LineFits, OpeningFits, GoalFits, Holds, Cites, OpeningCites, ListsShortOnly, Passes, IsSpent, size}
 use Rattle.domain_store.specs.Store.{Store}
 use Rattle.domain_store.specs.States.{IsStateOf, open_trees}
 use Rattle.domain_store.specs.Looks.{HasPlainLeaves, IsNarrowedAt}
@@ -27,15 +29,15 @@ pub record Stands (P : Instance) (goal : Option ℕ) (D : Domains) (line : Line)
   pub short : ListsShortOnly P line
 
 -- the rule is that of the turn, or one of the lines cites it
-abbrev pub IsCitedIn : Instance → Option Turn → List Line → Rule → Type 0
+abbrev pub IsCitedIn : Instance → Opening → List Line → Rule → Type 0
 IsCitedIn P turn lines r =
-    TurnCites turn r ⊎ ((k : ℕ) × (line : Line) × (slice_get lines k ≡ Some line) × Cites P line r)
+    OpeningCites turn r ⊎ ((k : ℕ) × (line : Line) × (slice_get lines k ≡ Some line) × Cites P line r)
 
 -- the lines hold and fit under the domains at them (`Stands`), the walk is behind them, and what they and the turn cite
 -- is named
 pub record IsProgress (P : Instance) (s : Progress) : Type 0 where
   pub state : IsStateOf P s.aim.turn s.lines.items s.walk
-  pub turn_fits : TurnFits P s.aim.turn
+  pub turn_fits : OpeningFits P s.aim.turn
   pub goal_fits : GoalFits P s.aim.turn s.aim.goal
   pub stand : (k : ℕ) (line : Line) → slice_get s.lines.items k ≡ Some line
       → Stands P s.aim.goal (domains_at P s.aim.turn s.lines.items k) line
@@ -86,7 +88,7 @@ IsLonger before after = (after.aim ≡ before.aim) × (length before.lines.items
 abbrev pub IsEnded : Instance → Aim → List Line → Found → Type 0
 IsEnded P aim lines (Roster s) = ⊥
 IsEnded P aim lines (NoRoster g) =
-    PassesFor P aim.goal g × (size g ≤ aim.budget) × IsLogOfTurn P aim.turn g × (g.lines ≡ lines)
+    Passes P g × (size g ≤ aim.budget) × IsLogOfTurn P aim.turn g × (g.lines ≡ lines)
 IsEnded P aim lines (Undecided g) =
-    IsSpentFor P aim.goal g aim.budget × IsLogOfTurn P aim.turn g
+    IsSpent P g aim.budget × IsLogOfTurn P aim.turn g
     × ((n : ℕ) × (g.lines ≡ lines ++ replicate n Unfinished))

@@ -5,7 +5,7 @@ use refutation_terms::Turn;
 /// `budget` splits and leaves that hold.
 #[derive(Clone, Copy)]
 pub struct Aim {
-    pub turn: Option<Turn>,
+    pub turn: Opening,
     pub goal: Option<u32>,
     pub budget: u32,
 }

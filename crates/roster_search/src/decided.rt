@@ -4,6 +4,8 @@ ghost use Rattle.rwsp_terms.specs.declared.data.Symbol.{Symbol};
 ghost use Rattle.rwsp_terms.specs.Roster.{MeetsAll};
 ghost use Rattle.refutation_terms.specs.declared.lines.Line.TheVariants.{Closing};
 ghost use Rattle.refutation_terms.specs.declared.lines.Leaf.TheVariants.{Window, Day, Few};
+ghost use Rattle.refutation_terms.specs.declared.lines.Opening.{Opening};
+ghost use Rattle.refutation_terms.specs.declared.lines.Opening.TheVariants.{Full, Turned};
 ghost use Rattle.refutation_terms.specs.declared.lines.Turn.{Turn};
 ghost use Rattle.refutation_terms.specs.Log.{LineFits, GoalFits, Holds};
 ghost use Rattle.refutation_terms.specs.Laws.{HasGoal};
@@ -20,7 +22,7 @@ pub fn met_roster(
     goal: Option<u32>,
     domains: &Domains,
 ) -> Result<Roster, AllocError>
-    requires goal { (turn : Option Turn) × GoalFits problem.now turn goal }
+    requires goal { (turn : Opening) × GoalFits problem.now turn goal }
     requires decided { IsDecided domains.now }
     requires belongs { BelongsTo problem.now domains.now }
     requires windows { (number p len : ℕ) → LineFits problem.now None (Closing (Window number p len))

@@ -4,7 +4,7 @@ ghost use Rattle.rwsp_terms.specs.Instance.{Instance, cells};
 ghost use Rattle.refutation_terms.specs.declared.lines.Line.TheVariants.{Split};
 ghost use Rattle.refutation_terms.specs.Word.{AreSame};
 ghost use Rattle.refutation_terms.specs.Tree.{First, narrowed, domains_at, is_idle};
-ghost use Rattle.refutation_terms.specs.Log.{TurnFits, GoalFits, TurnCites};
+ghost use Rattle.refutation_terms.specs.Log.{OpeningFits, GoalFits, OpeningCites};
 ghost use Rattle.rwsp_terms.specs.Rules.{rule_of, Names};
 ghost use Rattle.rwsp_terms.specs.declared.data.Rule.{Rule};
 ghost use Rattle.domain_store.specs.Store.{has_domain, IsStore, HasDomains};
@@ -32,7 +32,7 @@ pub struct Progress {
 impl Progress {
     /// No line yet.
     pub fn new(alloc: Global, problem: &Problem, aim: Aim) -> Result<Progress, AllocError>
-        requires turn { TurnFits problem.now aim.turn }
+        requires turn { OpeningFits problem.now aim.turn }
         requires goal { GoalFits problem.now aim.turn aim.goal }
         ensures written { IfOk result (λ s. IsProgress problem.now s) }
         ensures aim { IfOk result (λ s. s.aim ≡ aim) }
@@ -140,9 +140,9 @@ impl Progress {
 }
 
 // The rules that a turn rests on.
-fn turn_rules(alloc: Global, problem: &Problem, turn: Option<Turn>) -> Result<RuleList, AllocError>
-    requires { TurnFits problem.now turn }
-    ensures cited { IfOk result (λ R. (r : Rule) → Names problem.now R r ↔ TurnCites turn r) }
+fn turn_rules(alloc: Global, problem: &Problem, turn: Opening) -> Result<RuleList, AllocError>
+    requires { OpeningFits problem.now turn }
+    ensures cited { IfOk result (λ R. (r : Rule) → Names problem.now R r ↔ OpeningCites turn r) }
     ensures numbers { IfOk result (λ R. (k : ℕ) → Contains R k → (r : Rule) × (rule_of problem.now k ≡ Some r)) }
 {
     let mut named = RuleList::new(alloc);

@@ -1,7 +1,7 @@
 // The search.
 ghost use Rattle.std.specs.Prelude.{◌≡◌, ℕ, ◌+◌, ◌*◌, ◌^◌, ◌<◌, ◌≤◌, ◌↔◌, length, Option, None, false, IfOk, IfSome};
 ghost use Rattle.rwsp_terms.specs.Instance.{Instance, cells, shift_count};
-ghost use Rattle.refutation_terms.specs.Log.{TurnFits, GoalFits, IsAllowed};
+ghost use Rattle.refutation_terms.specs.Log.{OpeningFits, GoalFits, IsAllowed};
 ghost use Rattle.domain_store.specs.Looks.{HasPlainLeaves, IsSame};
 ghost use Rattle.roster_search.specs.Founds.{IsFound, HasSpentBudget};
 ghost use Rattle.roster_search.specs.Guides.{IsWantedRoster, AreUnweighed};
@@ -28,7 +28,7 @@ pub fn search<A: Propagator, G: Guide>(
     guide: &mut G,
 ) -> Result<Found, AllocError>
     requires budget { (1 ≤ aim.budget) × (aim.budget ≤ GREATEST_BUDGET) }
-    requires turn { TurnFits problem.now aim.turn × IsAllowed problem.now aim.turn }
+    requires turn { OpeningFits problem.now aim.turn × IsAllowed problem.now aim.turn }
     requires goal { GoalFits problem.now aim.turn aim.goal }
     requires serves { A.serves propagator.old problem.now }
     requires plain { HasPlainLeaves problem.now (A.leaves propagator.old) }

@@ -4,6 +4,8 @@ ghost use Rattle.std.specs.Option.{IfSome};
 ghost use Rattle.rwsp_terms.specs.Instance.{Instance};
 ghost use Rattle.refutation_terms.specs.declared.lines.Line.TheVariants.{Closing};
 ghost use Rattle.refutation_terms.specs.declared.lines.Leaf.TheVariants.{Few};
+ghost use Rattle.refutation_terms.specs.declared.lines.Opening.{Opening};
+ghost use Rattle.refutation_terms.specs.declared.lines.Opening.TheVariants.{Full, Turned};
 ghost use Rattle.refutation_terms.specs.declared.lines.Turn.{Turn};
 ghost use Rattle.refutation_terms.specs.Log.{GoalFits, Holds};
 ghost use Rattle.domain_store.specs.Store.{BelongsTo, has_domain};
@@ -137,7 +139,7 @@ fn given_or<G: Guide>(
 // Whether fewer weeks than the goal, where there is one, can still have a free weekend.
 fn is_short_of(problem: &Problem, goal: Option<u32>, doms: &Domains) -> bool
     requires belongs { BelongsTo problem.now doms.now }
-    requires goal { (turn : Option Turn) × GoalFits problem.now turn goal }
+    requires goal { (turn : Opening) × GoalFits problem.now turn goal }
     ensures { IsTrue result ↔ Holds problem.now goal (has_domain doms.now) (Closing Few) }
 {
     match goal {

@@ -9,8 +9,10 @@ use Rattle.rwsp_terms.specs.Instance.{Instance}
 use Rattle.rwsp_terms.specs.Rules.{rule_of, Names}
 use Rattle.rwsp_model.proofs.Numbering.{one_number}
 use Rattle.refutation_terms.specs.declared.lines.Line.{Line}
+use Rattle.refutation_terms.specs.declared.lines.Opening.{Opening}
+use Rattle.refutation_terms.specs.declared.lines.Opening.TheVariants.{Full, Turned}
 use Rattle.refutation_terms.specs.declared.lines.Turn.{Turn}
-use Rattle.refutation_terms.specs.Log.{Log, Fits, Cites, TurnCites}
+use Rattle.refutation_terms.specs.Log.{Log, Fits, Cites, OpeningCites}
 use Rattle.refutation_terms.specs.Strip.{strip, strip_line, StripsTo}
 use Rattle.rule_reducer.specs.Citing.{is_plain, OneCites, AreCited}
 use Rattle.rule_reducer.proofs.Stripped.{cited_before, plain_stays, plain_same}
@@ -81,19 +83,19 @@ cited_none P plain start lines r = (
 
 -- the rule of a turn
 
-pub turn_cited_alone : (P : Instance) (turn : Option Turn) (t : Turn) (old new : List ℕ) → turn ≡ Some t → old ≡ [] → ((r : Rule) → Names P new r ↔ (Names P old r ⊎ TurnCites (Some t) r)) → (r : Rule) → Names P new r ↔ TurnCites turn r
+pub turn_cited_alone : (P : Instance) (turn : Opening) (t : Turn) (old new : List ℕ) → turn ≡ Some t → old ≡ [] → ((r : Rule) → Names P new r ↔ (Names P old r ⊎ OpeningCites (Some t) r)) → (r : Rule) → Names P new r ↔ OpeningCites turn r
 turn_cited_alone P turn t old new is none put r =
-    subst (λ (o : Option Turn). Names P new r ↔ TurnCites o r) (sym is) (
+    subst (λ (o : Opening). Names P new r ↔ OpeningCites o r) (sym is) (
       λ n. ⊎_elim
           (λ (o : Names P old r). let empty : Contains {X = ℕ} [] o.0 = subst (λ l. Contains l o.0) none o.1 in absurd (omega (arith, empty.1)))
-          (λ (c : TurnCites (Some t) r). c)
+          (λ (c : OpeningCites (Some t) r). c)
           ((put r).0 n),
       λ c. (put r).1 (inr c),
     )
 
-pub no_turn_cited : (P : Instance) (turn : Option Turn) (rules : List ℕ) → turn ≡ None → rules ≡ [] → (r : Rule) → Names P rules r ↔ TurnCites turn r
+pub no_turn_cited : (P : Instance) (turn : Opening) (rules : List ℕ) → turn ≡ None → rules ≡ [] → (r : Rule) → Names P rules r ↔ OpeningCites turn r
 no_turn_cited P turn rules is none r =
-    subst (λ (o : Option Turn). Names P rules r ↔ TurnCites o r) (sym is) (
+    subst (λ (o : Opening). Names P rules r ↔ OpeningCites o r) (sym is) (
       λ n. let empty : Contains {X = ℕ} [] n.0 = subst (λ l. Contains l n.0) none n.1 in absurd (omega (arith, empty.1)),
       λ c. absurd c,
     )
@@ -126,13 +128,13 @@ true_not_false b t f = let clash : false ≡ true = sym f ∙ t in cc
 
 -- the rules of all lines
 
-pub both_kinds : (P : Instance) (g : Log) (turned for_good empty in_lists : List ℕ) → ((r : Rule) → Names P turned r ↔ TurnCites g.turn r)
+pub both_kinds : (P : Instance) (g : Log) (turned for_good empty in_lists : List ℕ) → ((r : Rule) → Names P turned r ↔ OpeningCites g.opening r)
     → ((r : Rule) → Names P for_good r ↔ (Names P turned r ⊎ OneCites P true g.lines r))
     → ((r : Rule) → Names P in_lists r ↔ (Names P empty r ⊎ OneCites P false g.lines r)) → AreCited P g for_good in_lists
 both_kinds P g turned for_good empty in_lists turn plain lists = record {
   lasting = λ r. (
     λ n. ⊎_elim (λ (t : Names P turned r). inl ((turn r).0 t)) (λ (c : OneCites P true g.lines r). inr c) ((plain r).0 n),
-    λ h. ⊎_elim (λ (t : TurnCites g.turn r). (plain r).1 (inl ((turn r).1 t))) (λ (c : OneCites P true g.lines r). (plain r).1 (inr c)) h,
+    λ h. ⊎_elim (λ (t : OpeningCites g.opening r). (plain r).1 (inl ((turn r).1 t))) (λ (c : OneCites P true g.lines r). (plain r).1 (inr c)) h,
   );
   listed = λ r c. (lists r).1 (inr c);
 }
@@ -158,11 +160,11 @@ pub cited_still : (P : Instance) (n : ℕ) (g : Log) (a b : List ℕ) → Fits P
 cited_still P n g a b fits cited = record {
   lasting = λ r. (
     λ names. ⊎_elim
-        (λ (t : TurnCites g.turn r). inl t)
+        (λ (t : OpeningCites g.opening r). inl t)
         (λ (c : OneCites P true g.lines r). inr (cites_still P n g r c))
         ((cited.lasting r).0 names),
     λ h. ⊎_elim
-        (λ (t : TurnCites g.turn r). (cited.lasting r).1 (inl t))
+        (λ (t : OpeningCites g.opening r). (cited.lasting r).1 (inl t))
         (λ (c : OneCites P true (strip P n g).lines r). (cited.lasting r).1 (inr (cited_once P n true g r fits c)))
         h,
   );

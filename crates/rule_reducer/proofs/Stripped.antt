@@ -14,10 +14,12 @@ use Rattle.rwsp_terms.proofs.Ascending.{Contains-first, Contains-later}
 use Rattle.rwsp_model.proofs.Numbering.{one_number}
 use Rattle.refutation_terms.specs.declared.lines.Line.{Line}
 use Rattle.refutation_terms.specs.declared.lines.Line.TheVariants.{Split, Unfinished, Closing}
-use Rattle.refutation_terms.specs.declared.lines.Leaf.TheVariants.{Window, Day, Dead, Bound, Few, Free}
+use Rattle.refutation_terms.specs.declared.lines.Leaf.TheVariants.{Window, Day, Few, Words}
+use Rattle.refutation_terms.specs.declared.lines.WordClaim.TheVariants.{Dead, Light}
 use Rattle.refutation_terms.specs.Word.{Domains}
 use Rattle.refutation_terms.specs.Tree.{domains_at}
-use Rattle.refutation_terms.specs.Log.{Log, LineFits, Holds, HasWeight, Cites, TurnCites, ListsShortOnly, Passes}
+use Rattle.refutation_terms.specs.Log.{Log, LineFits, Holds, Cites, OpeningCites, ListsShortOnly, Passes}
+use Rattle.refutation_terms.specs.Ranges.{HasWeight}
 use Rattle.refutation_terms.specs.Strip.{without_rule, without_day, strip_line, strip}
 use Rattle.refutation_log.proofs.CitedRules.{weight_of_entry, entry_of_weight, read_at}
 use Rattle.rule_reducer.specs.Citing.{is_plain, OneCites, CitesForGood}
@@ -94,9 +96,9 @@ weighed_before P other y i are h = h
 
 -- a rule that a stripped line cites was cited before
 pub cited_before : (P : Instance) (n : ℕ) (line : Line) (r : Rule) → LineFits P None line → Cites P (strip_line P n line) r → Cites P line r
-cited_before P n (Closing (Dead p len R)) r fits c = (c.0, (was_listed n R c.0 c.1).0, c.2)
-cited_before P n (Closing (Bound p turns R y)) r fits (inl c) = inl (c.0, (was_listed n R c.0 c.1).0, c.2)
-cited_before P n (Closing (Bound p turns R y)) r fits (inr c) = inr (c.0, weighed_before P (rule_of P n) y c.0 fits.3.0 c.1, c.2)
+cited_before P n (Closing (Words p R (Dead len))) r fits c = (c.0, (was_listed n R c.0 c.1).0, c.2)
+cited_before P n (Closing (Words p R (Light turns reward y))) r fits (inl c) = inl (c.0, (was_listed n R c.0 c.1).0, c.2)
+cited_before P n (Closing (Words p R (Light turns reward y))) r fits (inr c) = inr (c.0, weighed_before P (rule_of P n) y c.0 fits.3.0 c.1, c.2)
 cited_before P n line r fits c = c
 
 not_in_list : (P : Instance) (n : ℕ) (r : Rule) (R : List ℕ) → rule_of P n ≡ Some r → Names P (without_rule n R) r → ⊥
@@ -107,14 +109,14 @@ stripped_cites_not : (P : Instance) (n : ℕ) (line : Line) (r : Rule) → rule_
 stripped_cites_not P n (Split p x) r is fits other c = c
 stripped_cites_not P n (Closing (Window number p len)) r is fits other c = cc
 stripped_cites_not P n (Closing (Day j x over)) r is fits other c = cc
-stripped_cites_not P n (Closing (Dead p len R)) r is fits other c = not_in_list P n r R is c
-stripped_cites_not P n (Closing (Bound p turns R y)) r is fits other (inl c) = not_in_list P n r R is c
-stripped_cites_not P n (Closing (Bound p turns R y)) r is fits other (inr c) =
+stripped_cites_not P n (Closing (Words p R (Dead len))) r is fits other c = not_in_list P n r R is c
+stripped_cites_not P n (Closing (Words p R (Light turns reward y))) r is fits other (inl c) = not_in_list P n r R is c
+stripped_cites_not P n (Closing (Words p R (Light turns reward y))) r is fits other (inr c) =
     let day : rule_of P n ≡ Some (TheRules.Day c.0) = is ∙ ap (λ (z : Rule). Some z) c.2 in
     let has : HasWeight (without_day (Some (TheRules.Day c.0)) y) c.0 = subst (λ o. HasWeight (without_day o y) c.0) day c.1 in
     (weight_left y c.0 c.0 fits.3.0 has).1 refl
 stripped_cites_not P n (Closing Few) r is fits other c = c
-stripped_cites_not P n (Closing (Free turns reward R y)) r is fits other c = absurd fits
+stripped_cites_not P n (Closing (Words p R (Light turns reward y))) r is fits other c = absurd fits
 stripped_cites_not P n Unfinished r is fits other c = c
 
 same_weights_for : (r : Rule) (y : List Weight) → AreWeights y → ((j : ℕ) → HasWeight y j → r ≡ TheRules.Day j → ⊥) → without_day (Some r) y ≡ y
@@ -123,10 +125,10 @@ same_weights_for other y are none = refl
 
 -- a line that doesn't cite the rule is the same without it
 pub same_stripped : (P : Instance) (n : ℕ) (line : Line) (r : Rule) → rule_of P n ≡ Some r → LineFits P None line → (Cites P line r → ⊥) → strip_line P n line ≡ line
-same_stripped P n (Closing (Dead p len R)) r is fits none = ap (λ a. Closing (Dead p len a)) (none_left_out n R (λ c. none (n, c, is)))
-same_stripped P n (Closing (Bound p turns R y)) r is fits none =
-    ap (λ l. Closing (Bound p turns l (without_day (rule_of P n) y))) (none_left_out n R (λ c. none (inl (n, c, is))))
-    ∙ ap (λ a. Closing (Bound p turns R a)) (ap (λ o. without_day o y) is ∙ same_weights_for r y fits.3.0 (λ j has e. none (inr (j, has, e))))
+same_stripped P n (Closing (Words p R (Dead len))) r is fits none = ap (λ a. Closing (Words p a (Dead len))) (none_left_out n R (λ c. none (n, c, is)))
+same_stripped P n (Closing (Words p R (Light turns reward y))) r is fits none =
+    ap (λ l. Closing (Words p l (Light turns 0 (without_day (rule_of P n) y)))) (none_left_out n R (λ c. none (inl (n, c, is))))
+    ∙ ap (λ a. Closing (Words p R (Light turns 0 a))) (ap (λ o. without_day o y) is ∙ same_weights_for r y fits.3.0 (λ j has e. none (inr (j, has, e))))
 same_stripped P n line r is fits none = refl
 
 -- what tells that a strip can't change a line
@@ -137,21 +139,21 @@ day_none_lost r y j is none = subst (λ (z : Rule). without_day (Some z) y ≡ y
 pub not_held : (b : Bool) (C : Type 0) → (IsTrue b ↔ C) → b ≡ false → C → ⊥
 not_held b C h e c = let yes : b ≡ true = h.1 c in cc
 
-pub same_dead : (P : Instance) (n p len : ℕ) (R : List ℕ) (line : Line) → line ≡ Closing (Dead p len R) → (Contains R n → ⊥) → strip_line P n line ≡ line
-same_dead P n p len R line e none = subst (λ l. strip_line P n l ≡ l) (sym e) (ap (λ a. Closing (Dead p len a)) (none_left_out n R none))
+pub same_dead : (P : Instance) (n p len : ℕ) (R : List ℕ) (line : Line) → line ≡ Closing (Words p R (Dead len)) → (Contains R n → ⊥) → strip_line P n line ≡ line
+same_dead P n p len R line e none = subst (λ l. strip_line P n l ≡ l) (sym e) (ap (λ a. Closing (Words p a (Dead len))) (none_left_out n R none))
 
-pub same_bound : (P : Instance) (n p turns : ℕ) (R : List ℕ) (y : List Weight) (r : Rule) (line : Line) → line ≡ Closing (Bound p turns R y) → rule_of P n ≡ Some r → (Contains R n → ⊥) → without_day (Some r) y ≡ y → strip_line P n line ≡ line
+pub same_bound : (P : Instance) (n p turns : ℕ) (R : List ℕ) (y : List Weight) (r : Rule) (line : Line) → line ≡ Closing (Words p R (Light turns 0 y)) → rule_of P n ≡ Some r → (Contains R n → ⊥) → without_day (Some r) y ≡ y → strip_line P n line ≡ line
 same_bound P n p turns R y r line e is none same =
     subst (λ l. strip_line P n l ≡ l) (sym e)
-    (ap (λ l. Closing (Bound p turns l (without_day (rule_of P n) y))) (none_left_out n R none) ∙ ap (λ a. Closing (Bound p turns R a)) (ap (λ o. without_day o y) is ∙ same))
+    (ap (λ l. Closing (Words p l (Light turns 0 (without_day (rule_of P n) y)))) (none_left_out n R none) ∙ ap (λ a. Closing (Words p R (Light turns 0 a))) (ap (λ o. without_day o y) is ∙ same))
 
 pub plain_stays : (P : Instance) (n : ℕ) (line : Line) → is_plain (strip_line P n line) ≡ is_plain line
 plain_stays P n (Split p x) = refl
 plain_stays P n line = refl
 
 pub plain_same : (P : Instance) (n : ℕ) (line : Line) → is_plain line ≡ true → strip_line P n line ≡ line
-plain_same P n (Closing (Dead p len R)) e = absurd (cc)
-plain_same P n (Closing (Bound p turns R y)) e = absurd (cc)
+plain_same P n (Closing (Words p R (Dead len))) e = absurd (cc)
+plain_same P n (Closing (Words p R (Light turns reward y))) e = absurd (cc)
 plain_same P n line e = refl
 
 -- the test
@@ -165,8 +167,8 @@ still_named P n r z named is ne names =
     (names.0, still_listed n named names.0 names.1 (λ e. ne (other_rule P n names.0 r z is e names.2)), names.2)
 
 short_still : (P : Instance) (n : ℕ) (line : Line) → ListsShortOnly P line → ListsShortOnly P (strip_line P n line)
-short_still P n (Closing (Dead p len R)) h = λ r c. h r (c.0, (was_listed n R c.0 c.1).0, c.2)
-short_still P n (Closing (Bound p turns R y)) h = λ r c. h r (c.0, (was_listed n R c.0 c.1).0, c.2)
+short_still P n (Closing (Words p R (Dead len))) h = λ r c. h r (c.0, (was_listed n R c.0 c.1).0, c.2)
+short_still P n (Closing (Words p R (Light turns reward y))) h = λ r c. h r (c.0, (was_listed n R c.0 c.1).0, c.2)
 short_still P n line h = h
 
 pub short_stripped : (P : Instance) (n : ℕ) (line : Line) → ListsShortOnly P line → ListsShortOnly P (strip_line P n line)
@@ -182,7 +184,7 @@ passes_without P n r g is passes free holds = record {
   grounded = record {
     fits = fits_still P n g passes.grounded.fits;
     turn = passes.grounded.turn;
-    turn_named = λ z c. still_named P n r z g.named is (λ e. free (inl (subst (TurnCites g.turn) e c))) (passes.grounded.turn_named z c);
+    turn_named = λ z c. still_named P n r z g.named is (λ e. free (inl (subst (OpeningCites g.opening) e c))) (passes.grounded.turn_named z c);
     named = λ k line z got c.
         let old = line_before P n g.lines k line got in
         let fits = passes.grounded.fits.lines k old.0 old.1 in
@@ -197,14 +199,14 @@ passes_without P n r g is passes free holds = record {
   tree = tree_stays P n g.lines passes.tree;
   holds = λ k line got.
       let old = line_before P n g.lines k line got in
-      subst (λ (D : Domains). Holds P None D line) (sym (domains_stay P n g.turn g.lines k))
-      (subst (Holds P None (domains_at P g.turn g.lines k)) old.2 (holds k old.0 old.1));
+      subst (λ (D : Domains). Holds P None D line) (sym (domains_stay P n g.opening g.lines k))
+      (subst (Holds P None (domains_at P g.opening g.lines k)) old.2 (holds k old.0 old.1));
 }
 
 -- and the other way round
-pub line_without : (P : Instance) (n : ℕ) (g : Log) (k : ℕ) (line : Line) → slice_get g.lines k ≡ Some line → Passes P (strip P n g) → Holds P None (domains_at P g.turn g.lines k) (strip_line P n line)
+pub line_without : (P : Instance) (n : ℕ) (g : Log) (k : ℕ) (line : Line) → slice_get g.lines k ≡ Some line → Passes P (strip P n g) → Holds P None (domains_at P g.opening g.lines k) (strip_line P n line)
 line_without P n g k line got passes =
-    subst (λ (D : Domains). Holds P None D (strip_line P n line)) (domains_stay P n g.turn g.lines k)
+    subst (λ (D : Domains). Holds P None D (strip_line P n line)) (domains_stay P n g.opening g.lines k)
     (passes.holds k (strip_line P n line) (line_after P n g.lines k line got))
 
 pub cited_for_good : (P : Instance) (n : ℕ) (r : Rule) (g : Log) → rule_of P n ≡ Some r → CitesForGood P g r → Passes P (strip P n g) → ⊥
@@ -222,7 +224,7 @@ cites_none P r g k line free none got false e c = none (k, line, got, e, c)
 pub uncited : (P : Instance) (n : ℕ) (r : Rule) (g : Log) → rule_of P n ≡ Some r → Passes P g → (CitesForGood P g r → ⊥) → (OneCites P false g.lines r → ⊥) → HoldsWithout P n g
 uncited P n r g is passes free none = λ k line got.
     let same = same_stripped P n line r is (passes.grounded.fits.lines k line got) (cites_none P r g k line free none got (is_plain line) refl) in
-    subst (Holds P None (domains_at P g.turn g.lines k)) (sym same) (passes.holds k line got)
+    subst (Holds P None (domains_at P g.opening g.lines k)) (sym same) (passes.holds k line got)
 
 -- what the tries of a rule tell
 

@@ -14,10 +14,14 @@ use Rattle.rwsp_terms.specs.Rules.{rule_of, rules}
 use Rattle.rwsp_terms.specs.Weights.{ComesBefore, IsWeight}
 use Rattle.refutation_terms.specs.declared.lines.Line.{Line}
 use Rattle.refutation_terms.specs.declared.lines.Line.TheVariants.{Split, Closing}
-use Rattle.refutation_terms.specs.declared.lines.Leaf.TheVariants.{Day, Dead, Bound}
+use Rattle.refutation_terms.specs.declared.lines.Leaf.TheVariants.{Day, Words}
+use Rattle.refutation_terms.specs.declared.lines.WordClaim.TheVariants.{Dead, Light}
+use Rattle.refutation_terms.specs.declared.lines.Opening.{Opening}
+use Rattle.refutation_terms.specs.declared.lines.Opening.TheVariants.{Full, Turned}
 use Rattle.refutation_terms.specs.declared.lines.Turn.{Turn}
 use Rattle.refutation_terms.specs.Tree.{IsLeaf, Tree, Leaf, Node, lines_in, IsTree, after_trees, Side, side, side_of, line_leaves, lines_leave, opening, domains_at}
-use Rattle.refutation_terms.specs.Log.{Log, AreRules, AreWeightsOf, LineFits, Fits}
+use Rattle.refutation_terms.specs.Log.{Log, LineFits, Fits}
+use Rattle.refutation_terms.specs.Ranges.{AreRules, AreWeightsOf}
 use Rattle.refutation_terms.specs.Strip.{without_rule, without_day, strip_line, strip}
 use Rattle.refutation_terms.proofs.TreeDomains.{same_domains}
 
@@ -77,7 +81,7 @@ lines_leave_same P n (line ∷ later) p z =
     ∙ ap (λ b. b && lines_leave (map f later) p z) (line_leaves_same P n line (side later) p z)
     ∙ ap (λ b. line_leaves line (side later) p z && b) (lines_leave_same P n later p z)
 
-pub domains_stay : (P : Instance) (n : ℕ) (turn : Option Turn) (lines : List Line) (k : ℕ) → domains_at P turn (map (strip_line P n) lines) k ≡ domains_at P turn lines k
+pub domains_stay : (P : Instance) (n : ℕ) (turn : Opening) (lines : List Line) (k : ℕ) → domains_at P turn (map (strip_line P n) lines) k ≡ domains_at P turn lines k
 domains_stay P n turn lines k =
     same_domains (domains_at P turn (map (strip_line P n) lines) k) (domains_at P turn lines k)
     (λ p z.
@@ -121,8 +125,8 @@ weights_stay P (Some (TheRules.Day j)) y are = weights_filtered P (λ (e : Weigh
 weights_stay P other y are = are
 
 pub line_fits_still : (P : Instance) (n : ℕ) (line : Line) → LineFits P None line → LineFits P None (strip_line P n line)
-line_fits_still P n (Closing (Dead p len R)) h = (h.0, h.1, rules_stay P n R h.2)
-line_fits_still P n (Closing (Bound p turns R y)) h = (h.0, h.1, rules_stay P n R h.2, weights_stay P (rule_of P n) y h.3)
+line_fits_still P n (Closing (Words p R (Dead len))) h = (h.0, h.1, rules_stay P n R h.2)
+line_fits_still P n (Closing (Words p R (Light turns reward y))) h = (h.0, h.1, rules_stay P n R h.2, weights_stay P (rule_of P n) y h.3)
 line_fits_still P n line h = h
 
 pub fits_still : (P : Instance) (n : ℕ) (g : Log) → Fits P g → Fits P (strip P n g)

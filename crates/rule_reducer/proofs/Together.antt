@@ -10,11 +10,13 @@ use Rattle.rwsp_terms.specs.Rules.{rule_of, rules, Names, NamesShortOnly}
 use Rattle.rwsp_model.proofs.Numbering.{one_number}
 use Rattle.refutation_terms.specs.declared.lines.Line.{Line}
 use Rattle.refutation_terms.specs.declared.lines.Line.TheVariants.{Split, Unfinished, Closing}
-use Rattle.refutation_terms.specs.declared.lines.Leaf.TheVariants.{Window, Day, Dead, Bound, Few, Free}
+use Rattle.refutation_terms.specs.declared.lines.Leaf.TheVariants.{Window, Day, Few, Words}
+use Rattle.refutation_terms.specs.declared.lines.WordClaim.TheVariants.{Dead, Light}
 use Rattle.refutation_terms.specs.Word.{Domains}
-use Rattle.refutation_terms.specs.Leaf.{IsTooLight}
+use Rattle.refutation_terms.specs.WordsLeaf.{IsTooLight}
 use Rattle.refutation_terms.specs.Tree.{IsTree, domains_at}
-use Rattle.refutation_terms.specs.Log.{Log, AreRules, LineFits, Fits, Holds, HasWeight, Cites, ListsShortOnly, Passes}
+use Rattle.refutation_terms.specs.Log.{Log, LineFits, Fits, Holds, Cites, ListsShortOnly, Passes}
+use Rattle.refutation_terms.specs.Ranges.{AreRules, HasWeight}
 use Rattle.refutation_terms.specs.Strip.{without_rule, without_day, strip_line, strip}
 use Rattle.refutation_terms.proofs.Windows.{clean-fewer}
 use Rattle.refutation_log.proofs.CitedRules.{rule_there}
@@ -30,8 +32,8 @@ abbrev pub ListIsNamed : Instance → List ℕ → List ℕ → Type 0
 ListIsNamed P named R = ((k : ℕ) → Contains R k → Contains named k) × NamesShortOnly P R
 
 abbrev pub ListsAreNamed : Instance → List ℕ → Line → Type 0
-ListsAreNamed P named (Closing (Dead p len R)) = ListIsNamed P named R
-ListsAreNamed P named (Closing (Bound p turns R y)) = ListIsNamed P named R
+ListsAreNamed P named (Closing (Words p R (Dead len))) = ListIsNamed P named R
+ListsAreNamed P named (Closing (Words p R (Light turns reward y))) = ListIsNamed P named R
 ListsAreNamed P named line = Unit {0}
 
 -- a log with all that passing asks for, except what strips may change
@@ -50,8 +52,8 @@ list_stays P n named R h = (
 )
 
 lists_stay : (P : Instance) (n : ℕ) (named : List ℕ) (line : Line) → ListsAreNamed P named line → ListsAreNamed P (without_rule n named) (strip_line P n line)
-lists_stay P n named (Closing (Dead p len R)) h = list_stays P n named R h
-lists_stay P n named (Closing (Bound p turns R y)) h = list_stays P n named R h
+lists_stay P n named (Closing (Words p R (Dead len))) h = list_stays P n named R h
+lists_stay P n named (Closing (Words p R (Light turns reward y))) h = list_stays P n named R h
 lists_stay P n named line h = h
 
 laid_out_still : (P : Instance) (n : ℕ) (g : Log) → IsLaidOut P g → IsLaidOut P (strip P n g)
@@ -72,8 +74,8 @@ list_named P named R are h k c =
     subst (Contains named) (one_number P m.0 k r.0 m.2 r.1) m.1
 
 lists_named : (P : Instance) (named : List ℕ) (line : Line) → LineFits P None line → ((r : Rule) → Cites P line r → Names P named r) → ListsShortOnly P line → ListsAreNamed P named line
-lists_named P named (Closing (Dead p len R)) fits h short = (list_named P named R fits.2 h, short)
-lists_named P named (Closing (Bound p turns R y)) fits h short = (list_named P named R fits.2 (λ r c. h r (inl c)), short)
+lists_named P named (Closing (Words p R (Dead len))) fits h short = (list_named P named R fits.2 h, short)
+lists_named P named (Closing (Words p R (Light turns reward y))) fits h short = (list_named P named R fits.2 (λ r c. h r (inl c)), short)
 lists_named P named line fits h short = tt
 
 passing_laid_out : (P : Instance) (g : Log) → Passes P g → IsLaidOut P g
@@ -94,25 +96,25 @@ line_named : (P : Instance) (n : ℕ) (named : List ℕ) (line : Line) → IsWin
 line_named P n named (Split p x) window lists h r c = absurd c
 line_named P n named (Closing (Window number p len)) window lists h r c = more_named P n named r (h r c)
 line_named P n named (Closing (Day j x over)) window lists h r c = more_named P n named r (h r c)
-line_named P n named (Closing (Dead p len R)) window lists h r c = (c.0, lists.0 c.0 c.1, c.2)
-line_named P n named (Closing (Bound p turns R y)) window lists h r (inl c) = (c.0, lists.0 c.0 c.1, c.2)
-line_named P n named (Closing (Bound p turns R y)) window lists h r (inr c) =
+line_named P n named (Closing (Words p R (Dead len))) window lists h r c = (c.0, lists.0 c.0 c.1, c.2)
+line_named P n named (Closing (Words p R (Light turns reward y))) window lists h r (inl c) = (c.0, lists.0 c.0 c.1, c.2)
+line_named P n named (Closing (Words p R (Light turns reward y))) window lists h r (inr c) =
     more_named P n named r (h r (inr (c.0, subst (λ z. HasWeight z c.0) (sym (no_day (rule_of P n) y window)) c.1, c.2)))
 line_named P n named (Closing Few) window lists h r c = absurd c
-line_named P n named (Closing (Free turns reward R y)) window lists h r c = more_named P n named r (h r c)
+line_named P n named (Closing (Words p R (Light turns reward y))) window lists h r c = more_named P n named r (h r c)
 line_named P n named Unfinished window lists h r c = absurd c
 
 lists_short : (P : Instance) (named : List ℕ) (line : Line) → LineFits P None line → ListsAreNamed P named line → ListsShortOnly P line
-lists_short P named (Closing (Dead p len R)) fits h = h.1
-lists_short P named (Closing (Bound p turns R y)) fits h = h.1
-lists_short P named (Closing (Free turns reward R y)) fits h = absurd fits
+lists_short P named (Closing (Words p R (Dead len))) fits h = h.1
+lists_short P named (Closing (Words p R (Light turns reward y))) fits h = h.1
+lists_short P named (Closing (Words p R (Light turns reward y))) fits h = absurd fits
 lists_short P named line fits h = h
 
 -- a line that holds without a window rule holds with it
 holds_with : (P : Instance) (n : ℕ) (D : Domains) (line : Line) → IsWindowRule P n → Holds P None D (strip_line P n line) → Holds P None D line
-holds_with P n D (Closing (Dead p len R)) window h = λ u long over clean. h u long over (clean-fewer P R (without_rule n R) u (λ k c. (was_listed n R k c).0) clean)
-holds_with P n D (Closing (Bound p turns R y)) window h = λ u long over clean.
-    let light : IsTooLight P D p turns (without_rule n R) y = subst (λ z. IsTooLight P D p turns (without_rule n R) z) (no_day (rule_of P n) y window) h in
+holds_with P n D (Closing (Words p R (Dead len))) window h = λ u long over clean. h u long over (clean-fewer P R (without_rule n R) u (λ k c. (was_listed n R k c).0) clean)
+holds_with P n D (Closing (Words p R (Light turns reward y))) window h = λ u long over clean.
+    let light : IsTooLight P None D p turns 0 (without_rule n R) y = subst (λ z. IsTooLight P None D p turns 0 (without_rule n R) z) (no_day (rule_of P n) y window) h in
     light u long over (clean-fewer P R (without_rule n R) u (λ k c. (was_listed n R k c).0) clean)
 holds_with P n D line window h = h
 
@@ -129,8 +131,8 @@ passes_with P n g laid window passes = record {
   };
   tree = laid.tree;
   holds = λ k line got.
-      holds_with P n (domains_at P g.turn g.lines k) line window
-      (subst (λ (D : Domains). Holds P None D (strip_line P n line)) (domains_stay P n g.turn g.lines k) (passes.holds k (strip_line P n line) (line_after P n g.lines k line got)));
+      holds_with P n (domains_at P g.opening g.lines k) line window
+      (subst (λ (D : Domains). Holds P None D (strip_line P n line)) (domains_stay P n g.opening g.lines k) (passes.holds k (strip_line P n line) (line_after P n g.lines k line got)));
 }
 
 passes_with_all : (P : Instance) (numbers : List ℕ) (g : Log) → IsLaidOut P g → All (IsWindowRule P) numbers → Passes P (strip_all P numbers g) → Passes P g

@@ -8,7 +8,10 @@ use Rattle.std.proofs.lemmas.Option.{same_Some, slice_get_within, slice_get_read
 use Rattle.rwsp_terms.specs.Instance.{Instance}
 use Rattle.refutation_terms.specs.declared.lines.Line.{Line}
 use Rattle.refutation_terms.specs.declared.lines.Line.TheVariants.{Closing}
-use Rattle.refutation_terms.specs.declared.lines.Leaf.TheVariants.{Dead, Bound}
+use Rattle.refutation_terms.specs.declared.lines.Leaf.TheVariants.{Words}
+use Rattle.refutation_terms.specs.declared.lines.WordClaim.TheVariants.{Dead, Light}
+use Rattle.refutation_terms.specs.declared.lines.Opening.{Opening}
+use Rattle.refutation_terms.specs.declared.lines.Opening.TheVariants.{Full, Turned}
 use Rattle.refutation_terms.specs.declared.lines.Turn.{Turn}
 use Rattle.refutation_terms.specs.Word.{Domains}
 use Rattle.refutation_terms.specs.Tree.{opening, lines_leave, domains_at}
@@ -22,13 +25,13 @@ use Rattle.rule_reducer.specs.Without.{HoldsWithout}
 use Rattle.rule_reducer.proofs.Stripped.{line_without}
 
 -- the domains behind the first lines
-pub behind : (P : Instance) (turn : Option Turn) (lines : List Line) (k : ℕ) → domains_at P turn (take k lines) (length (take k lines)) ≡ domains_at P turn lines k
+pub behind : (P : Instance) (turn : Opening) (lines : List Line) (k : ℕ) → domains_at P turn (take k lines) (length (take k lines)) ≡ domains_at P turn lines k
 behind P turn lines k =
     let under : List Line → Domains = λ ls p z. opening P turn p z && lines_leave ls p z in
     ap under (take-length (take k lines))
 
-pub line_at : (P : Instance) (g : Log) (k : ℕ) (line : Line) → slice_get g.lines k ≡ Some line → Passes P g → Holds P None (domains_at P g.turn (take k g.lines) (length (take k g.lines))) line
-line_at P g k line got passes = subst (λ D. Holds P None D line) (sym (behind P g.turn g.lines k)) (passes.holds k line got)
+pub line_at : (P : Instance) (g : Log) (k : ℕ) (line : Line) → slice_get g.lines k ≡ Some line → Passes P g → Holds P None (domains_at P g.opening (take k g.lines) (length (take k g.lines))) line
+line_at P g k line got passes = subst (λ D. Holds P None D line) (sym (behind P g.opening g.lines k)) (passes.holds k line got)
 
 -- a line that is read at a place among the lines
 pub line_read : (lines seen : List Line) (i : ℕ) (line : Line) → seen ≡ lines → i < length lines → line ≡ get_or seen i line → slice_get lines i ≡ Some line
@@ -36,10 +39,10 @@ line_read lines seen i line same less read =
     slice_get_read lines (length lines) i line refl less (subst (λ ls. line ≡ get_or ls i line) same read)
 
 -- the walk isn't whole in front of a line
-pub not_whole : (P : Instance) (g : Log) (k : ℕ) (w : State) → Passes P g → k < length g.lines → IsStateOf P g.turn (take k g.lines) w → w.whole ≡ false
-not_whole P g k w passes less state = still_part P g.turn (take k g.lines) w state (no_front g.lines k passes.tree less)
+pub not_whole : (P : Instance) (g : Log) (k : ℕ) (w : State) → Passes P g → k < length g.lines → IsStateOf P g.opening (take k g.lines) w → w.whole ≡ false
+not_whole P g k w passes less state = still_part P g.opening (take k g.lines) w state (no_front g.lines k passes.tree less)
 
-pub walked_more : (P : Instance) (turn : Option Turn) (lines : List Line) (i : ℕ) (line : Line) (w : State) → slice_get lines i ≡ Some line → IsStateOf P turn (take i lines ++ line ∷ []) w → IsStateOf P turn (take (i + 1) lines) w
+pub walked_more : (P : Instance) (turn : Opening) (lines : List Line) (i : ℕ) (line : Line) (w : State) → slice_get lines i ≡ Some line → IsStateOf P turn (take i lines ++ line ∷ []) w → IsStateOf P turn (take (i + 1) lines) w
 walked_more P turn lines i line w here state =
     let less = slice_get_within lines i line here in
     let more : take (i + 1) lines ≡ take i lines ++ line ∷ [] = take_more lines i line less ∙ ap (λ l. take i lines ++ l ∷ []) (get_or_from_slice_get lines i line line here) in
@@ -47,8 +50,8 @@ walked_more P turn lines i line w here state =
 
 -- a dead or a bound leaf holds by its words
 by_words : (P : Instance) (D : Domains) (n : ℕ) (line : Line) → HasList line → HoldsByWords P None D (strip_line P n line) ↔ Holds P None D (strip_line P n line)
-by_words P D n (Closing (Dead p len R)) has = (λ h. h, λ h. h)
-by_words P D n (Closing (Bound p turns R y)) has = (λ h. h, λ h. h)
+by_words P D n (Closing (Words p R (Dead len))) has = (λ h. h, λ h. h)
+by_words P D n (Closing (Words p R (Light turns reward y))) has = (λ h. h, λ h. h)
 by_words P D n line has = absurd has
 
 pub judged : (P : Instance) (D : Domains) (n : ℕ) (line : Line) (b : Bool) → HasList line → IsTrue b ↔ HoldsByWords P None D (strip_line P n line)
@@ -62,18 +65,18 @@ refuses_here P D n line stripped b has same h = judged P D n line b has (subst (
 
 -- the first i lines hold without the rule
 abbrev pub HoldWithout : Instance → ℕ → Log → ℕ → Type 0
-HoldWithout P n g i = (k : ℕ) (line : Line) → k < i → slice_get g.lines k ≡ Some line → Holds P None (domains_at P g.turn g.lines k) (strip_line P n line)
+HoldWithout P n g i = (k : ℕ) (line : Line) → k < i → slice_get g.lines k ≡ Some line → Holds P None (domains_at P g.opening g.lines k) (strip_line P n line)
 
 pub holds_more : (P : Instance) (n : ℕ) (g : Log) (i : ℕ) (line : Line) → slice_get g.lines i ≡ Some line → HoldWithout P n g i
-    → Holds P None (domains_at P g.turn (take i g.lines) (length (take i g.lines))) (strip_line P n line) → HoldWithout P n g (i + 1)
+    → Holds P None (domains_at P g.opening (take i g.lines) (length (take i g.lines))) (strip_line P n line) → HoldWithout P n g (i + 1)
 holds_more P n g i line here before holds k other less there =
     elim (cases_lt k i) [
       | inl lt ↦ before k other lt there
       | inr le ↦
           let same : k ≡ i = omega (arith, less, le) in
           let e : line ≡ other = same_Some line other (sym here ∙ ap (slice_get g.lines) (sym same) ∙ there) in
-          subst (λ j. Holds P None (domains_at P g.turn g.lines j) (strip_line P n other)) (sym same)
-          (subst (λ l. Holds P None (domains_at P g.turn g.lines i) (strip_line P n l)) e (subst (λ D. Holds P None D (strip_line P n line)) (behind P g.turn g.lines i) holds))
+          subst (λ j. Holds P None (domains_at P g.opening g.lines j) (strip_line P n other)) (sym same)
+          (subst (λ l. Holds P None (domains_at P g.opening g.lines i) (strip_line P n l)) e (subst (λ D. Holds P None D (strip_line P n line)) (behind P g.opening g.lines i) holds))
     ]
 
 pub holds_all : (P : Instance) (n : ℕ) (g : Log) (i : ℕ) → length g.lines ≤ i → HoldWithout P n g i → HoldsWithout P n g
@@ -82,27 +85,27 @@ holds_all P n g i all h = λ k line got. h k line (omega (arith, slice_get_withi
 -- what the judging of a line tells of it, where it is next for the walk and holds
 abbrev pub Tells : Instance → ℕ → Line → State → Bool → Type 0
 Tells P n line w b =
-    (turn : Option Turn) (lines : List Line) → IsStateOf P turn lines w → Holds P None (domains_at P turn lines (length lines)) line →
+    (turn : Opening) (lines : List Line) → IsStateOf P turn lines w → Holds P None (domains_at P turn lines (length lines)) line →
     MatchBool b (Holds P None (domains_at P turn lines (length lines)) (strip_line P n line) → ⊥) (Holds P None (domains_at P turn lines (length lines)) (strip_line P n line))
 
 pub told_of : (P Q : Instance) (n : ℕ) (line : Line) (w : State) (b : Bool) → Q ≡ P → Tells Q n line w b → Tells P n line w b
 told_of P Q n line w b same tells = subst (λ (X : Instance). Tells X n line w b) same tells
 
 pub refused_there : (P : Instance) (n : ℕ) (g : Log) (i : ℕ) (line : Line) → slice_get g.lines i ≡ Some line
-    → (Holds P None (domains_at P g.turn (take i g.lines) (length (take i g.lines))) (strip_line P n line) → ⊥) → Passes P (strip P n g) → ⊥
+    → (Holds P None (domains_at P g.opening (take i g.lines) (length (take i g.lines))) (strip_line P n line) → ⊥) → Passes P (strip P n g) → ⊥
 refused_there P n g i line here fails passes =
-    fails (subst (λ D. Holds P None D (strip_line P n line)) (sym (behind P g.turn g.lines i)) (line_without P n g i line here passes))
+    fails (subst (λ D. Holds P None D (strip_line P n line)) (sym (behind P g.opening g.lines i)) (line_without P n g i line here passes))
 
-pub tells_refusal : (P : Instance) (n : ℕ) (g : Log) (i : ℕ) (line : Line) (w : State) (b : Bool) → slice_get g.lines i ≡ Some line → Passes P g → IsStateOf P g.turn (take i g.lines) w
+pub tells_refusal : (P : Instance) (n : ℕ) (g : Log) (i : ℕ) (line : Line) (w : State) (b : Bool) → slice_get g.lines i ≡ Some line → Passes P g → IsStateOf P g.opening (take i g.lines) w
     → Tells P n line w b → b ≡ true → Passes P (strip P n g) → ⊥
 tells_refusal P n g i line w b here passes state tells so =
-    let D = domains_at P g.turn (take i g.lines) (length (take i g.lines)) in
+    let D = domains_at P g.opening (take i g.lines) (length (take i g.lines)) in
     refused_there P n g i line here
-    (subst (λ t. MatchBool t (Holds P None D (strip_line P n line) → ⊥) (Holds P None D (strip_line P n line))) so (tells g.turn (take i g.lines) state (line_at P g i line here passes)))
+    (subst (λ t. MatchBool t (Holds P None D (strip_line P n line) → ⊥) (Holds P None D (strip_line P n line))) so (tells g.opening (take i g.lines) state (line_at P g i line here passes)))
 
-pub tells_hold : (P : Instance) (n : ℕ) (g : Log) (i : ℕ) (line : Line) (w : State) (b : Bool) → slice_get g.lines i ≡ Some line → Passes P g → IsStateOf P g.turn (take i g.lines) w
+pub tells_hold : (P : Instance) (n : ℕ) (g : Log) (i : ℕ) (line : Line) (w : State) (b : Bool) → slice_get g.lines i ≡ Some line → Passes P g → IsStateOf P g.opening (take i g.lines) w
     → Tells P n line w b → b ≡ false → HoldWithout P n g i → HoldWithout P n g (i + 1)
 tells_hold P n g i line w b here passes state tells no_refusal before =
-    let D = domains_at P g.turn (take i g.lines) (length (take i g.lines)) in
+    let D = domains_at P g.opening (take i g.lines) (length (take i g.lines)) in
     holds_more P n g i line here before
-    (subst (λ t. MatchBool t (Holds P None D (strip_line P n line) → ⊥) (Holds P None D (strip_line P n line))) no_refusal (tells g.turn (take i g.lines) state (line_at P g i line here passes)))
+    (subst (λ t. MatchBool t (Holds P None D (strip_line P n line) → ⊥) (Holds P None D (strip_line P n line))) no_refusal (tells g.opening (take i g.lines) state (line_at P g i line here passes)))

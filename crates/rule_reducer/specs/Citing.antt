@@ -5,8 +5,9 @@ use Rattle.rwsp_terms.specs.Instance.{Instance}
 use Rattle.rwsp_terms.specs.Rules.{Names}
 use Rattle.refutation_terms.specs.declared.lines.Line.{Line}
 use Rattle.refutation_terms.specs.declared.lines.Line.TheVariants.{Closing}
-use Rattle.refutation_terms.specs.declared.lines.Leaf.TheVariants.{Window, Day, Dead, Bound}
-use Rattle.refutation_terms.specs.Log.{Log, Cites, TurnCites}
+use Rattle.refutation_terms.specs.declared.lines.Leaf.TheVariants.{Window, Day, Words}
+use Rattle.refutation_terms.specs.declared.lines.WordClaim.TheVariants.{Dead, Light}
+use Rattle.refutation_terms.specs.Log.{Log, Cites, OpeningCites}
 
 -- a window or a day leaf, which rests on one rule by itself and not by a list
 abbrev pub is_plain : Line → Bool
@@ -21,7 +22,7 @@ OneCites P plain lines r =
 
 -- a plain leaf or the turn cites the rule, and no strip takes it out there
 abbrev pub CitesForGood : Instance → Log → Rule → Type 0
-CitesForGood P g r = TurnCites g.turn r ⊎ OneCites P true g.lines r
+CitesForGood P g r = OpeningCites g.opening r ⊎ OneCites P true g.lines r
 
 -- the first list names the rules that are cited for good; the second names each rule that another line cites, and maybe
 -- rules that lines cited once
@@ -31,6 +32,6 @@ pub record AreCited (P : Instance) (g : Log) (for_good in_lists : List ℕ) : Ty
 
 -- a dead or a bound leaf, which rests on a list of rules
 abbrev pub HasList : Line → Type 0
-HasList (Closing (Dead p len R)) = Unit {0}
-HasList (Closing (Bound p turns R y)) = Unit {0}
+HasList (Closing (Words p R (Dead len))) = Unit {0}
+HasList (Closing (Words p R (Light turns reward y))) = Unit {0}
 HasList line = ⊥

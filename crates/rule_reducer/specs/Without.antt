@@ -10,4 +10,4 @@ use Rattle.refutation_terms.specs.Strip.{strip_line}
 abbrev pub HoldsWithout : Instance → ℕ → Log → Type 0
 HoldsWithout P number g =
     (k : ℕ) (line : Line) → slice_get g.lines k ≡ Some line →
-    Holds P None (domains_at P g.turn g.lines k) (strip_line P number line)
+    Holds P None (domains_at P g.opening g.lines k) (strip_line P number line)

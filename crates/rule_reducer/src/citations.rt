@@ -3,7 +3,7 @@ ghost use Rattle.std.specs.Prelude.{◌≡◌, ◌↔◌, ◌⊎◌, ℕ, slice_
 ghost use Rattle.rwsp_terms.specs.declared.data.Rule.{Rule};
 ghost use Rattle.rwsp_terms.specs.Rules.{Names};
 ghost use Rattle.refutation_terms.specs.declared.lines.Line.{Line};
-ghost use Rattle.refutation_terms.specs.Log.{Fits, LineFits, TurnFits, Cites, TurnCites};
+ghost use Rattle.refutation_terms.specs.Log.{Fits, LineFits, OpeningFits, Cites, OpeningCites};
 ghost use Rattle.rule_reducer.specs.Citing.{is_plain, OneCites, AreCited};
 
 use crate::shrinking_log::ShrinkingLog;
@@ -82,10 +82,10 @@ fn put_all(
 fn turn_citation(
     alloc: Global,
     problem: &Problem,
-    turn: Option<Turn>,
+    turn: Opening,
 ) -> Result<RuleList, AllocError>
-    requires { TurnFits problem.now turn }
-    ensures { IfOk result (λ rules. (r : Rule) → Names problem.now rules r ↔ TurnCites turn r) }
+    requires { OpeningFits problem.now turn }
+    ensures { IfOk result (λ rules. (r : Rule) → Names problem.now rules r ↔ OpeningCites turn r) }
 {
     let mut rules = RuleList::new(alloc);
     if let Some(turn) = turn {
@@ -104,7 +104,7 @@ pub fn citations_of(
     requires { Fits problem.now log.now }
     ensures { IfOk result (λ cited. AreCited problem.now log.now cited.for_good cited.in_lists) }
 {
-    let mut for_good = turn_citation(alloc, problem, log.turn())?;
+    let mut for_good = turn_citation(alloc, problem, log.opening())?;
     let mut in_lists = RuleList::new(alloc);
     put_all(&mut for_good, &mut in_lists, problem, log.lines())?;
     Ok(Citations { for_good, in_lists })

@@ -2,6 +2,8 @@
 ghost use Rattle.std.specs.Prelude.{◌≡◌, ◌<◌, ◌≤◌, List, [], length, take, Option, Some, IsTrue, IfOk, MatchOption, MatchBool, None};
 ghost use Rattle.rwsp_terms.specs.Rules.{rule_of};
 ghost use Rattle.refutation_terms.specs.declared.lines.Line.{Line};
+ghost use Rattle.refutation_terms.specs.declared.lines.Opening.{Opening};
+ghost use Rattle.refutation_terms.specs.declared.lines.Opening.TheVariants.{Full, Turned};
 ghost use Rattle.refutation_terms.specs.declared.lines.Turn.{Turn};
 ghost use Rattle.refutation_terms.specs.Tree.{domains_at};
 ghost use Rattle.refutation_terms.specs.Log.{LineFits, ListsShortOnly, Holds, Passes};
@@ -28,12 +30,12 @@ fn refuses(
     number: u32,
     rule: Rule,
 ) -> Result<bool, AllocError>
-    requires state { (turn : Option Turn) × (lines : List Line) × IsStateOf judge.old turn lines walk.now }
+    requires state { (turn : Opening) × (lines : List Line) × IsStateOf judge.old turn lines walk.now }
     requires fits { LineFits judge.old None line.now }
     requires short { ListsShortOnly judge.old line.now }
     requires rule { rule_of judge.old number ≡ Some rule }
     ensures same { judge.new ≡ judge.old }
-    ensures refuses { IfOk result (λ yes. (turn : Option Turn) (lines : List Line) →
+    ensures refuses { IfOk result (λ yes. (turn : Opening) (lines : List Line) →
         IsStateOf judge.old turn lines walk.now →
         let D = domains_at judge.old turn lines (length lines) in
         Holds judge.old None D line.now →
@@ -60,10 +62,10 @@ fn walk_to(
 ) -> Result<Walk, AllocError>
     requires passes { Passes problem.now log.now }
     requires place { place ≤ length log.now.lines }
-    ensures { IfOk result (IsStateOf problem.now log.now.turn (take place log.now.lines)) }
+    ensures { IfOk result (IsStateOf problem.now log.now.opening (take place log.now.lines)) }
 {
     let lines = log.lines();
-    let mut walk = Walk::new(alloc, problem, log.turn())?;
+    let mut walk = Walk::new(alloc, problem, log.opening())?;
     for i in 0..place {
         go_past(&mut walk, problem, &lines[i])?;
     }
@@ -132,7 +134,7 @@ pub fn refusing_line(
         (HoldsWithout problem.now number log.now)
         (λ k. Passes problem.now (strip problem.now number log.now) → ⊥)) }
 {
-    let mut walk = Walk::new(alloc, problem, log.turn())?;
+    let mut walk = Walk::new(alloc, problem, log.opening())?;
     let mut judge = LeafJudge::new(problem, log.named());
     let found = first_refusing(alloc, problem, log, &mut judge, &mut walk, number, rule);
     drop(judge);
@@ -153,7 +155,7 @@ fn first_refusing(
     requires passes { Passes problem.now log.now }
     requires rule { rule_of problem.now number ≡ Some rule }
     requires judge { judge.old ≡ problem.now }
-    requires walk { IsStateOf problem.now log.now.turn [] walk.old }
+    requires walk { IsStateOf problem.now log.now.opening [] walk.old }
     ensures { IfOk result (λ found. MatchOption found
         (HoldsWithout problem.now number log.now)
         (λ k. Passes problem.now (strip problem.now number log.now) → ⊥)) }

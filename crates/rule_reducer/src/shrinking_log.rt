@@ -18,7 +18,7 @@ use std::marker::Model;
 #[derive(Drop)]
 pub struct ShrinkingLog {
     named: RuleList,
-    turn: Option<Turn>,
+    turn: Opening,
     lines: Vec<Line>,
 }
 
@@ -29,7 +29,7 @@ impl Model for ShrinkingLog {
 
     ghost Value = { LogValue };
 
-    ghost view = { λ g. record { named = g.named; turn = g.turn; goal = None; lines = g.lines.items } };
+    ghost view = { λ g. record { named = g.named; turn = g.opening; goal = None; lines = g.lines.items } };
 
     ghost invariant = { λ g. length g.lines.items ≤ MOST_LINES };
 }
@@ -52,7 +52,7 @@ impl ShrinkingLog {
     }
 
     /// Its turn, if it has one.
-    pub fn turn(&self) -> Option<Turn>
+    pub fn turn(&self) -> Opening
         ensures { result ≡ self.now.turn }
     {
         self.turn

@@ -42,8 +42,8 @@ pub fn lists(line: &Line, number: u32, rule: Rule) -> bool
         rule_of P number ≡ Some rule → strip_line P number line.now ≡ line.now }
 {
     match line {
-        Line::Closing(Leaf::Dead { rules, .. }) => rules.holds(number),
-        Line::Closing(Leaf::Bound { rules, weights, .. }) => {
+        Line::Closing(Leaf::Words { rules, .., claim: WordClaim::Dead { , .. } }) => rules.holds(number),
+        Line::Closing(Leaf::Words { rules, .., claim: WordClaim::Light { weights } }) => {
             if rules.holds(number) {
                 return true;
             }
@@ -59,28 +59,14 @@ pub fn strip_line(alloc: Global, line: &Line, number: u32, rule: Rule) -> Result
         rule_of P number ≡ Some rule → kept ≡ strip_line P number line.now) }
 {
     match line {
-        Line::Closing(Leaf::Dead { p, len, rules }) => {
+        Line::Closing(Leaf::Words { p, rules, claim: WordClaim::Dead { len } }) => {
             let rules = without(alloc, rules, number)?;
-            Ok(Line::Closing(Leaf::Dead {
-                p: *p,
-                len: *len,
-                rules,
-            }))
+            Ok(Line::Closing(Leaf::Words { p: *p, rules, claim: WordClaim::Dead { len: *len } }))
         }
-        Line::Closing(Leaf::Bound {
-            p,
-            turns,
-            rules,
-            weights,
-        }) => {
+        Line::Closing(Leaf::Words { p, rules, claim: WordClaim::Light { turns, weights, reward: 0 } }) => {
             let rules = without(alloc, rules, number)?;
             let weights = weights_without(alloc, weights, rule)?;
-            Ok(Line::Closing(Leaf::Bound {
-                p: *p,
-                turns: *turns,
-                rules,
-                weights,
-            }))
+            Ok(Line::Closing(Leaf::Words { p: *p, rules, claim: WordClaim::Light { turns: *turns, weights, reward: 0 } }))
         }
         _ => copy_line(line),
     }

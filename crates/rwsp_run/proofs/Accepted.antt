@@ -8,8 +8,8 @@ use Rattle.rwsp_terms.specs.declared.data.Symbol.{Symbol}
 use Rattle.rwsp_model.specs.Validity.{KeepsLimits}
 use Rattle.rwsp_model.proofs.Limits.{valid_keeps}
 use Rattle.rwsp_file.specs.Spelling.{SpellsProblem}
-use Rattle.refutation_terms.specs.Log.{Log, Passes, FreePasses}
-use Rattle.refutation_terms.specs.LogText.{log_text, free_log_text}
+use Rattle.refutation_terms.specs.Log.{Log, Passes}
+use Rattle.refutation_terms.specs.LogText.{log_text}
 use Rattle.refutation_terms.specs.FreeWeekends.{free_weekends}
 use Rattle.roster_print.specs.RosterText.{roster_text}
 use Rattle.roster_print.proofs.Printed.{printed_is_short, printed_is_spelled}
@@ -93,17 +93,17 @@ best_is_best file P budget s g a spells best h =
 
 -- the proof of a search for the most free weekends is accepted
 
-proof_passes : (P : Instance) (budget goal : ℕ) (found : BestFound) (g : Log) → IsBestAnswer P budget found → IsProofOf found goal g → FreePasses P goal g
+proof_passes : (P : Instance) (budget goal : ℕ) (found : BestFound) (g : Log) → IsBestAnswer P budget found → IsProofOf found goal g → Passes P g
 proof_passes P budget goal (Bests.Best s g) h found proof =
-    subst (λ (n : ℕ). FreePasses P n h) (sym proof.0) (subst (λ (k : Log). FreePasses P (free_weekends s.cells + 1) k) (sym proof.1) found.0.1.0)
+    subst (λ (n : ℕ). Passes P h) (sym proof.0) (subst (λ (k : Log). Passes P k) (sym proof.1) found.0.1.0)
 proof_passes P budget goal (Bests.NoRoster g) h found proof =
-    subst (λ (n : ℕ). FreePasses P n h) (sym proof.0) (subst (λ (k : Log). FreePasses P 0 k) (sym proof.1) found.0.0)
+    subst (λ (n : ℕ). Passes P h) (sym proof.0) (subst (λ (k : Log). Passes P k) (sym proof.1) found.0.0)
 proof_passes P budget goal (Bests.Undecided s g) h found proof = absurd proof
 
 pub best_proofs_accepted : BestProofsAreAccepted
 best_proofs_accepted file P budget goal found g a spells best proof short h =
     let passes = proof_passes P budget goal found g best.2.1 proof in
-    let text = free_log_text P goal g in
+    let text = log_text P g in
     settled CheckFree P text (Jobs.CheckFree (Frees.Accepted goal g.named)) a (valid_keeps P spells.valid) best.2.0 short (λ y h. h) (free_accepted P text g goal (goal, refl, passes) passes.grounded.fits.is_goal) h
 
 pub same_for_workers : WorkersMakeNoDifference

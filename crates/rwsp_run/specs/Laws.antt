@@ -8,7 +8,7 @@ use Rattle.rwsp_terms.specs.declared.data.Symbol.{Symbol}
 use Rattle.rwsp_model.specs.declared.roster.Roster.{Roster}
 use Rattle.rwsp_file.specs.Spelling.{SpellsProblem}
 use Rattle.refutation_terms.specs.Log.{Log}
-use Rattle.refutation_terms.specs.LogText.{free_log_text}
+use Rattle.refutation_terms.specs.LogText.{log_text}
 use Rattle.refutation_terms.specs.FreeWeekends.{free_weekends}
 use Rattle.roster_print.specs.RosterText.{roster_text}
 use Rattle.refutation_log.specs.declared.found.Found.TheVariants as Founds
@@ -165,8 +165,8 @@ abbrev pub BestProofsAreAccepted : Type 0
 BestProofsAreAccepted =
     (file : List ℕ) (P : Instance) (budget goal : ℕ) (found : BestFound) (g : Log) (a : Answer)
     → SpellsProblem file P → IsAnswerOnProblem (Best budget) P (Job (Jobs.Best found))
-    → IsProofOf found goal g → IsWithinLimit Kinds.Log (free_log_text P goal g)
-    → IsAnswerOnFiles CheckFree (Bytes (free_log_text P goal g)) P a
+    → IsProofOf found goal g → IsWithinLimit Kinds.Log (log_text P g)
+    → IsAnswerOnFiles CheckFree (Bytes (log_text P g)) P a
     → a ≡ Job (Jobs.CheckFree (Frees.Accepted goal g.named))
 
 -- the number of workers makes no difference to what is said of an answer

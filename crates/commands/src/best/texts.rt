@@ -1,6 +1,6 @@
 // The texts of what a search for the most free weekends found.
 ghost use Rattle.std.specs.Prelude.{◌≡◌, ◌++◌, IfOk, OnOk, Some};
-ghost use Rattle.refutation_terms.specs.LogText.{log_text_for};
+ghost use Rattle.refutation_terms.specs.LogText.{log_text};
 ghost use Rattle.commands.specs.Best.{counted_text, found_text, IsWeeklyRoster, IsRosterFound, FitsFree};
 
 use crate::put::put_labelled;
@@ -25,7 +25,7 @@ fn put_counted(out: &mut Vec<u8>, problem: &Problem, roster: &Roster) -> Result<
 // Appends the free log.
 fn put_free_log(out: &mut Vec<u8>, problem: &Problem, log: &Log) -> Result<(), AllocError>
     requires { FitsFree problem.now log.now }
-    ensures { OnOk result (out.new.items ≡ out.old.items ++ log_text_for problem.now log.now.goal log.now) }
+    ensures { OnOk result (out.new.items ≡ out.old.items ++ log_text problem.now log.now) }
 {
     let text = print_free(*out.allocator(), problem, log)?;
     out.extend_from_slice(&text)?;
@@ -42,7 +42,7 @@ pub fn best_text(
     requires roster { IsWeeklyRoster problem.now roster.now }
     requires fits { FitsFree problem.now proof.now }
     ensures { IfOk result (λ v.
-        v.items ≡ counted_text problem.now roster.now ++ log_text_for problem.now proof.now.goal proof.now) }
+        v.items ≡ counted_text problem.now roster.now ++ log_text problem.now proof.now) }
 {
     let mut out = Vec::new(alloc);
     put_counted(&mut out, problem, roster)?;
@@ -60,7 +60,7 @@ pub fn undecided_text(
     requires roster { IsRosterFound problem.now roster.now }
     requires fits { FitsFree problem.now partial.now }
     ensures { IfOk result (λ v.
-        v.items ≡ found_text problem.now roster.now ++ log_text_for problem.now partial.now.goal partial.now) }
+        v.items ≡ found_text problem.now roster.now ++ log_text problem.now partial.now) }
 {
     match roster {
         Some(roster) => best_text(alloc, problem, roster, partial),

@@ -22,4 +22,4 @@ returns c =
     let P = c.args.problem.now in
     let h = c.in-Ok.header in
     let read = c.in-Ok.ensures in
-    subst (λ text. IsRefused P text c.in-Some.why) (sym read.whole) (turn_refused P h.named h.turn h.body.now c.in-Some.why c.prove_limits.ensures read.rules read.fits c.in-Some.ensures)
+    subst (λ text. IsRefused P text c.in-Some.why) (sym read.whole) (turn_refused P h.named h.opening h.body.now c.in-Some.why c.prove_limits.ensures read.rules read.fits c.in-Some.ensures)

@@ -5,7 +5,7 @@ use Rattle.refutation_checker.proofs.log_check.log_refusal.Goals as goal
 pub returns-in-Some : goal.returns-in-Some
 returns-in-Some c =
     let g = c.args.log.now in
-    turn_refused c.args.problem.now g.named g.turn (lines_text c.args.problem.now g.lines) c.in-Some.why c.prove_limits.ensures c.requires.named c.requires.turn
+    turn_refused c.args.problem.now g.named g.opening (lines_text c.args.problem.now g.lines) c.in-Some.why c.prove_limits.ensures c.requires.named c.requires.turn
     (rw (c.named.ensures, c.turn.ensures, c.in-Some.is) at c.turn_refusal.ensures)
 
 pub returns : goal.returns

@@ -13,8 +13,8 @@ returns-in-Ok-true c =
     let h = c.in-Ok.header in
     let J : Judging = without_goal c.args.problem.now h.named in
     let below = c.in-Ok-lines_below in
-    let all : AreAllSound J h.turn [] h.body.now true = judged_below J h.turn below.lines h.body.now (Ok true) below.ensures.start below.ensures.bytes (λ turn. (rw c.in-Ok-true.field-0-test at c.in-Ok-true.ensures) turn []) in
-    let passes = accepted J c.args.bytes.now h.body.now h.turn c.in-Ok.ensures all in
+    let all : AreAllSound J h.opening [] h.body.now true = judged_below J h.opening below.lines h.body.now (Ok true) below.ensures.start below.ensures.bytes (λ turn. (rw c.in-Ok-true.field-0-test at c.in-Ok-true.ensures) turn []) in
+    let passes = accepted J c.args.bytes.now h.body.now h.opening c.in-Ok.ensures all in
     (passes.0, passes.1, passes.2)
 
 pub returns-in-Ok-false : goal.returns-in-Ok-false
@@ -22,8 +22,8 @@ returns-in-Ok-false c =
     let h = c.in-Ok.header in
     let J : Judging = without_goal c.args.problem.now h.named in
     let below = c.in-Ok-lines_below in
-    let all : AreAllSound J h.turn [] h.body.now false = judged_below J h.turn below.lines h.body.now (Ok false) below.ensures.start below.ensures.bytes (λ turn. (rw c.in-Ok-false.field-0-test at c.in-Ok-false.ensures) turn []) in
-    ends J c.args.bytes.now h.body.now h.turn c.in-Ok.ensures all
+    let all : AreAllSound J h.opening [] h.body.now false = judged_below J h.opening below.lines h.body.now (Ok false) below.ensures.start below.ensures.bytes (λ turn. (rw c.in-Ok-false.field-0-test at c.in-Ok-false.ensures) turn []) in
+    ends J c.args.bytes.now h.body.now h.opening c.in-Ok.ensures all
 
 pub returns-in-Err-judged : goal.returns-in-Err-judged
 returns-in-Err-judged c =
@@ -31,5 +31,5 @@ returns-in-Err-judged c =
     let J : Judging = without_goal c.args.problem.now h.named in
     let below = c.in-Ok-lines_below in
     let fail = c.in-Err-judged.fail in
-    fail_along fail (AreAllSound J h.turn [] h.body.now) (λ (R : List ℕ). (g : LogValue) × IsAccepted c.args.problem.now c.args.bytes.now g × (g.named ≡ R)) (IsChunkRefused J h.turn [] h.body.now) (IsRefused c.args.problem.now c.args.bytes.now)
-    (λ why. refused J c.args.bytes.now h.body.now h.turn why c.in-Ok.ensures) (judged_below J h.turn below.lines h.body.now (Err fail) below.ensures.start below.ensures.bytes (λ turn. c.in-Err-judged.ensures turn []))
+    fail_along fail (AreAllSound J h.opening [] h.body.now) (λ (R : List ℕ). (g : LogValue) × IsAccepted c.args.problem.now c.args.bytes.now g × (g.named ≡ R)) (IsChunkRefused J h.opening [] h.body.now) (IsRefused c.args.problem.now c.args.bytes.now)
+    (λ why. refused J c.args.bytes.now h.body.now h.opening why c.in-Ok.ensures) (judged_below J h.opening below.lines h.body.now (Err fail) below.ensures.start below.ensures.bytes (λ turn. c.in-Err-judged.ensures turn []))

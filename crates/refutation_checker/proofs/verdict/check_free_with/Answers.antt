@@ -1,5 +1,5 @@
 use Rattle.std.proofs.Common.{[], None, true, false, Ok, Err}
-use Rattle.refutation_terms.specs.FreeVerdict.{IsFreeRefused}
+use Rattle.refutation_terms.specs.Verdict.{IsRefused}
 use Rattle.refutation_checker.specs.Headers.{with_goal}
 use Rattle.refutation_checker.proofs.SoundLines.{free_header, judged_below, accepted, ends, refused}
 use Rattle.refutation_log.proofs.LogLines.{fail_along}

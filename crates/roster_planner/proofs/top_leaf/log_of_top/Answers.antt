@@ -3,14 +3,15 @@ use Rattle.std.proofs.Common.{◌≡◌, ℕ, ◌∙◌, ap, sym, refl, subst, L
 use Rattle.rwsp_terms.specs.declared.data.Weight.{Weight}
 use Rattle.refutation_terms.specs.declared.lines.Line.{Line}
 use Rattle.refutation_terms.specs.declared.lines.Line.TheVariants.{Closing}
-use Rattle.refutation_terms.specs.declared.lines.Leaf.TheVariants.{Free}
+use Rattle.refutation_terms.specs.declared.lines.Leaf.TheVariants.{Words}
+use Rattle.refutation_terms.specs.declared.lines.WordClaim.TheVariants.{Light}
 use Rattle.refutation_terms.specs.Tree.{Leaf, IsTree}
 use Rattle.roster_planner.proofs.TopProofs.{top_line, top_proof_of}
 use Rattle.roster_planner.proofs.top_leaf.log_of_top.Goals as goal
 
 -- a line without weights by this list of rules is that by the other, where they are the same
-one_line : (lines : List Line) (R S : List ℕ) (y : List Weight) → lines ≡ (Closing (Free 1 1 S y) ∷ []) → y ≡ [] → S ≡ R → lines ≡ (top_line R ∷ [])
-one_line lines R S y is none same = is ∙ ap (λ (z : List Weight). Closing (Free 1 1 S z) ∷ []) none ∙ ap (λ (r : List ℕ). top_line r ∷ []) same
+one_line : (lines : List Line) (R S : List ℕ) (y : List Weight) → lines ≡ (Closing (Words 0 S (Light 1 1 y)) ∷ []) → y ≡ [] → S ≡ R → lines ≡ (top_line R ∷ [])
+one_line lines R S y is none same = is ∙ ap (λ (z : List Weight). Closing (Words 0 S (Light 1 1 z)) ∷ []) none ∙ ap (λ (r : List ℕ). top_line r ∷ []) same
 
 pub with_goal-requires-clause-tree : goal.with_goal-requires-clause-tree
 with_goal-requires-clause-tree c =

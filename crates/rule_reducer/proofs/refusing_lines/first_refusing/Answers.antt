@@ -10,7 +10,7 @@ pub refuses-requires-clause-state : goal.refuses-requires-clause-state
 refuses-requires-clause-state c =
     let g = c.args.log.now in
     let i = c.loop-i.i in
-    (g.turn, take i g.lines, subst (λ (P : Instance). IsStateOf P g.turn (take i g.lines) c.loop-i.walk) (sym c.loop-i.invariant.problem) c.loop-i.invariant.walked)
+    (g.opening, take i g.lines, subst (λ (P : Instance). IsStateOf P g.opening (take i g.lines) c.loop-i.walk) (sym c.loop-i.invariant.problem) c.loop-i.invariant.walked)
 
 pub refuses-requires-clause-fits : goal.refuses-requires-clause-fits
 refuses-requires-clause-fits c =
@@ -56,7 +56,7 @@ go_past-requires-clause-holds c =
     let i = c.loop-i.i in
     let line = c.index-lines-i.result in
     let here = line_read g.lines _ i line c.lines-lines.ensures (omega (arith, ap length c.lines-lines.ensures)) c.index-lines-i.is in
-    (g.turn, take i g.lines, c.loop-i.invariant.walked, line_at c.args.problem.now g i line here c.requires.passes)
+    (g.opening, take i g.lines, c.loop-i.invariant.walked, line_at c.args.problem.now g i line here c.requires.passes)
 
 pub loop-i-preserved : goal.loop-i-preserved
 loop-i-preserved c =
@@ -68,7 +68,7 @@ loop-i-preserved c =
     let here = line_read g.lines _ i line c.lines-lines.ensures (omega (arith, ap length c.lines-lines.ensures)) c.index-lines-i.is in
     record {
       problem = c.refuses.ensures.same ∙ c.loop-i.invariant.problem;
-      walked = walked_more P g.turn g.lines i line c.go_past.new.walk here (c.in_ok-go_past.ensures g.turn (take i g.lines) c.loop-i.invariant.walked);
+      walked = walked_more P g.opening g.lines i line c.go_past.new.walk here (c.in_ok-go_past.ensures g.opening (take i g.lines) c.loop-i.invariant.walked);
       held = tells_hold P c.args.number g i line c.loop-i.walk refused here c.requires.passes c.loop-i.invariant.walked
           (told_of P c.loop-i.judge c.args.number line c.loop-i.walk refused c.loop-i.invariant.problem c.in_ok-refused.ensures.refuses) c.if-refused.false c.loop-i.invariant.held;
     }

@@ -11,7 +11,7 @@ pub refuses-refused-requires-clause-state : goal.refuses-refused-requires-clause
 refuses-refused-requires-clause-state c =
     let g = c.args.log.now in
     let earlier = take c.args.place g.lines in
-    (g.turn, earlier, subst (λ (P : Instance). IsStateOf P g.turn earlier c.in_ok-walk.walk) (sym c.new-judge.ensures) c.in_ok-walk.ensures)
+    (g.opening, earlier, subst (λ (P : Instance). IsStateOf P g.opening earlier c.in_ok-walk.walk) (sym c.new-judge.ensures) c.in_ok-walk.ensures)
 
 pub refuses-refused-requires-clause-fits : goal.refuses-refused-requires-clause-fits
 refuses-refused-requires-clause-fits c =

@@ -17,12 +17,12 @@ go_past-requires-clause-holds c =
     let g = c.args.log.now in
     let i = c.loop-i.i in
     let line = c.index-lines-i.result in
-    (g.turn, take i g.lines, c.loop-i.invariant, line_at c.args.problem.now g i line (line_read g.lines _ i line c.lines-lines.ensures (omega (arith, c.requires.place)) c.index-lines-i.is) c.requires.passes)
+    (g.opening, take i g.lines, c.loop-i.invariant, line_at c.args.problem.now g i line (line_read g.lines _ i line c.lines-lines.ensures (omega (arith, c.requires.place)) c.index-lines-i.is) c.requires.passes)
 
 pub loop-i-preserved : goal.loop-i-preserved
 loop-i-preserved c =
     let g = c.args.log.now in
     let i = c.loop-i.i in
     let line = c.index-lines-i.result in
-    walked_more c.args.problem.now g.turn g.lines i line c.go_past.new.walk (line_read g.lines _ i line c.lines-lines.ensures (omega (arith, c.requires.place)) c.index-lines-i.is)
-    (c.in_ok-go_past.ensures g.turn (take i g.lines) c.loop-i.invariant)
+    walked_more c.args.problem.now g.opening g.lines i line c.go_past.new.walk (line_read g.lines _ i line c.lines-lines.ensures (omega (arith, c.requires.place)) c.index-lines-i.is)
+    (c.in_ok-go_past.ensures g.opening (take i g.lines) c.loop-i.invariant)
