@@ -1,0 +1,6 @@
+pub mod PieceText
+pub mod Escaped
+pub mod Clock
+pub mod Hours
+pub mod LeastRest
+pub mod PageText

@@ -1,0 +1,16 @@
+//! The page of a roster, in HTML.
+#![tactic(auto)]
+
+mod clock;
+mod demand;
+mod escaped;
+mod least_rest;
+mod legend;
+mod page;
+mod pieces;
+mod rules;
+mod short;
+mod table;
+mod words;
+
+pub use page::page_text;
