@@ -38,7 +38,11 @@ pub fn text(alloc: Global, answer: &LeastRest) -> Result<Vec<u8>, AllocError>
     match answer {
         LeastRest::Rested(problem) => print_problem(alloc, problem),
         LeastRest::Pairs(count) => refused_line(alloc, b"rest refused: pairs ".as_slice(), *count),
-        LeastRest::Triples(count) => refused_line(alloc, b"rest refused: triples ".as_slice(), *count),
+        LeastRest::Triples(count) => refused_line(
+            alloc,
+            b"rest refused: triples ".as_slice(),
+            *count,
+        ),
     }
 }
 

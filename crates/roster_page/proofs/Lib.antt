@@ -4,3 +4,5 @@ pub mod Least
 pub mod Next
 pub mod Written
 pub mod OnePage
+pub mod ReadBack
+pub mod OneRoster

@@ -2,21 +2,21 @@
 use Rattle.std.proofs.Common.{◌≡◌, ℕ, zero, suc, ◌+◌, ◌-◌, ◌<◌, ◌≤◌, List, [], ◌∷◌, ◌++◌, length, get_or, drop, refl, ap, sym, ◌∙◌, arith, append_assoc, add-one}
 use Rattle.std.proofs.Math.Seq.{drop-cons}
 use Rattle.std.proofs.lemmas.List.{append-nil, drop_all}
-use Rattle.roster_page.specs.Escaped.{escaped_within, first_text, front_bytes}
+use Rattle.roster_page.specs.Escaped.{escaped_within, plain_text, first_text, front_bytes}
 
 -- the bytes from a place on: the one there, and those behind it
 from_place : (xs : List ℕ) (i d : ℕ) → i < length xs → drop i xs ≡ get_or xs i d ∷ drop (i + 1) xs
 from_place xs i d less = drop-cons xs i d less ∙ ap (λ (j : ℕ). get_or xs i d ∷ drop j xs) (sym (add-one i))
 
 -- a byte within a character
-pub within_put : (name : List ℕ) (i d within : ℕ) (old new : List ℕ) → i < length name → 0 < within → new ≡ old ++ get_or name i d ∷ [] → new ++ escaped_within (within - 1) (drop (i + 1) name) ≡ old ++ escaped_within within (drop i name)
+pub within_put : (name : List ℕ) (i d within : ℕ) (old new : List ℕ) → i < length name → 0 < within → new ≡ old ++ plain_text (get_or name i d) → new ++ escaped_within (within - 1) (drop (i + 1) name) ≡ old ++ escaped_within within (drop i name)
 within_put name i d zero old new less some step = absurd (omega (arith, some))
 within_put name i d (suc k) old new less some step =
     let b = get_or name i d in
     let e : suc k - 1 ≡ k = omega arith in
     ap (λ t. t ++ escaped_within (suc k - 1) (drop (i + 1) name)) step
-    ∙ append_assoc old (b ∷ []) (escaped_within (suc k - 1) (drop (i + 1) name))
-    ∙ ap (λ j. old ++ b ∷ escaped_within j (drop (i + 1) name)) e
+    ∙ append_assoc old (plain_text b) (escaped_within (suc k - 1) (drop (i + 1) name))
+    ∙ ap (λ j. old ++ (plain_text b ++ escaped_within j (drop (i + 1) name))) e
     ∙ ap (λ bs. old ++ escaped_within (suc k) bs) (sym (from_place name i d less))
 
 -- the first byte of a character

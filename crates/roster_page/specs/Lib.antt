@@ -4,3 +4,4 @@ pub mod Clock
 pub mod Hours
 pub mod LeastRest
 pub mod PageText
+pub mod Laws

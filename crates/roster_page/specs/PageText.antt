@@ -64,22 +64,28 @@ unfoldable pub hours_cell : Instance → List Symbol → List ℕ
 hours_cell P week = piece_text Pieces.PlainCell ++ hours_text (minutes_in P week) ++ piece_text Pieces.CellEnd
 
 -- both days of the weekend of a week are off
-abbrev pub is_free : List Symbol → ℕ → Bool
-is_free s k = is_off_at s (k * DAYS_OF_WEEK + SATURDAY) && is_off_at s (k * DAYS_OF_WEEK + SUNDAY)
+abbrev pub is_free : List Symbol → Bool
+is_free week = is_off_at week SATURDAY && is_off_at week SUNDAY
 
-unfoldable pub free_text : List Symbol → ℕ → List ℕ
-free_text s k = if is_free s k then piece_text Pieces.Free else []
+unfoldable pub free_text : List Symbol → List ℕ
+free_text week = if is_free week then piece_text Pieces.Free else []
 
 -- whether the weekend is free, where the week has seven days
-unfoldable pub weekend_cell : Instance → List Symbol → ℕ → List ℕ
-weekend_cell P s k =
-    if P.days == DAYS_OF_WEEK then piece_text Pieces.PlainCell ++ free_text s k ++ piece_text Pieces.CellEnd else []
+unfoldable pub weekend_cell : Instance → List Symbol → List ℕ
+weekend_cell P week =
+    if P.days == DAYS_OF_WEEK then piece_text Pieces.PlainCell ++ free_text week ++ piece_text Pieces.CellEnd else []
 
--- the row of a week, where weeks count from 0
+-- what is behind the cells of a week
+unfoldable pub week_end : Instance → List Symbol → List ℕ
+week_end P week = hours_cell P week ++ weekend_cell P week ++ piece_text Pieces.RowEnd
+
+-- the front of the row of a week, where weeks count from 0
+unfoldable pub week_top : ℕ → List ℕ
+week_top k = piece_text Pieces.WeekTop ++ decimal (k + 1) ++ piece_text Pieces.HeadEnd
+
+-- the row of a week
 unfoldable pub week_row : Instance → List Symbol → ℕ → List ℕ
-week_row P s k =
-    piece_text Pieces.WeekTop ++ decimal (k + 1) ++ piece_text Pieces.HeadEnd ++ cells_text P (week_at P s k)
-    ++ hours_cell P (week_at P s k) ++ weekend_cell P s k ++ piece_text Pieces.RowEnd
+week_row P s k = week_top k ++ cells_text P (week_at P s k) ++ week_end P (week_at P s k)
 
 -- a row for each week
 unfoldable pub week_rows : Instance → List Symbol → List ℕ

@@ -8,7 +8,7 @@ unfoldable pub piece_text : Piece → List ℕ
 piece_text Head = codes "<!DOCTYPE html>\n<html lang=\"en\">\n<head>\n<meta charset=\"utf-8\">\n<meta name=\"viewport\" content=\"width=device-width, initial-scale=1\">\n<title>Roster for "
 piece_text AfterTitle = codes "</title>\n<style>\n"
 piece_text StyleOfText = codes ":root{color-scheme:light dark;--ink:#1a1a1a;--paper:#fff;--soft:#595959;--line:#8c8c8c;--head:#ececec}\nbody{margin:0;font:1rem/1.4 system-ui,sans-serif;color:var(--ink);background:var(--paper)}\nmain{max-width:75rem;margin:0 auto;padding:1rem}\nh1{font-size:1.5rem;margin:.5rem 0}\nh2{font-size:1.2rem;margin:2rem 0 .5rem}\n"
-piece_text StyleOfTables = codes ".wide{overflow-x:auto}\ntable{border-collapse:collapse}\ncaption{text-align:left;padding:.3rem 0;color:var(--soft)}\nth,td{border:1px solid var(--line);padding:.25rem .5rem;text-align:center;white-space:nowrap}\nth{background:var(--head);font-weight:600}\ntbody th{position:sticky;left:0}\n@media (max-width:30rem){main{padding:.5rem}th,td{padding:.2rem .3rem}}\n"
+piece_text StyleOfTables = codes ".wide{overflow-x:auto}\ntable{border-collapse:collapse}\ncaption{text-align:left;padding:.3rem 0;color:var(--soft)}\nth,td{border:1px solid var(--line);padding:.25rem .5rem;text-align:center;white-space:nowrap}\nth{background:var(--head);font-weight:600}\nthead th{white-space:normal}\ntbody th{position:sticky;left:0}\n@media (max-width:30rem){main{padding:.5rem}th,td{padding:.2rem .3rem}}\n"
 piece_text StyleOfColours = codes ".c0{color:var(--soft)}\n.c1{background:#fff1b8;color:#1a1a1a}\n.c2{background:#86bde0;color:#1a1a1a}\n.c3{background:#1f3a68;color:#fff}\n.c4{background:#f7c294;color:#1a1a1a}\n.c5{background:#3f7d4e;color:#fff}\n.c6{background:#e3d4f3;color:#1a1a1a}\n.c7{background:#7a2e4d;color:#fff}\n.c8{background:#5fa8a0;color:#1a1a1a}\n"
 piece_text StyleInTheDark = codes "@media (prefers-color-scheme:dark){:root{--ink:#ededed;--paper:#141414;--soft:#b0b0b0;--line:#6b6b6b;--head:#2a2a2a}}\n"
 piece_text StyleOnPaper = codes "@media print{:root{--ink:#000;--paper:#fff;--soft:#444;--line:#888;--head:#ececec}body{font-size:9pt}main{max-width:none;padding:0}.wide{overflow:visible}tbody th{position:static}tr{break-inside:avoid}h2{break-after:avoid}th,td{padding:1pt 3pt;-webkit-print-color-adjust:exact;print-color-adjust:exact}}\n"

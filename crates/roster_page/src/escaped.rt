@@ -1,6 +1,6 @@
 // Names as they stand in a page.
 ghost use Rattle.std.specs.Prelude.{◌≡◌, ◌++◌, ◌+◌, ◌<◌, length, drop, slice_index, IfOk, OnOk};
-ghost use Rattle.roster_page.specs.Escaped.{is_between, is_tail, is_second, bytes_by_first, has_tails, front_bytes, hex_digit, hex_text, entity_text, is_special, is_unseen, first_text, escaped_within, escaped};
+ghost use Rattle.roster_page.specs.Escaped.{is_between, is_tail, is_second, bytes_by_first, has_tails, front_bytes, hex_digit, hex_text, entity_text, is_special, is_unseen, plain_text, first_text, escaped_within, escaped};
 
 use std::alloc::AllocError;
 
@@ -105,6 +105,18 @@ fn is_unseen(b: u8, bytes: usize) -> bool
     b < 32 || b == 127 || bytes == 0
 }
 
+// Appends a byte of a character.
+#[tactic(auto, unfolding(crate::specs::Escaped::plain_text))]
+fn put_plain(out: &mut Vec<u8>, b: u8) -> Result<(), AllocError>
+    ensures { OnOk result (out.new.items ≡ out.old.items ++ plain_text b) }
+{
+    if is_special(b) {
+        return put_entity(out, b);
+    }
+    out.push(b)?;
+    Ok(())
+}
+
 // Appends the first byte of a character that has so many bytes.
 #[tactic(auto, unfolding(crate::specs::Escaped::first_text))]
 fn put_first(out: &mut Vec<u8>, b: u8, bytes: usize) -> Result<(), AllocError>
@@ -112,11 +124,8 @@ fn put_first(out: &mut Vec<u8>, b: u8, bytes: usize) -> Result<(), AllocError>
 {
     if is_unseen(b, bytes) {
         put_hex(out, b)
-    } else if is_special(b) {
-        put_entity(out, b)
     } else {
-        out.push(b)?;
-        Ok(())
+        put_plain(out, b)
     }
 }
 
@@ -132,7 +141,7 @@ fn put_byte(
         ≡ out.old.items ++ escaped_within within (drop place name.now)) }
 {
     if within > 0 {
-        out.push(name[place])?;
+        put_plain(out, name[place])?;
         return Ok(within - 1);
     }
     let bytes = front_bytes(&name[place..]);

@@ -4,6 +4,7 @@
 mod clock;
 mod demand;
 mod escaped;
+mod laws;
 mod least_rest;
 mod legend;
 mod page;
@@ -13,4 +14,5 @@ mod short;
 mod table;
 mod words;
 
+pub use laws::{names_are_read_back, pages_show_one_roster};
 pub use page::page_text;

@@ -5,7 +5,7 @@ ghost use Rattle.rwsp_terms.specs.Roster.{IsRoster};
 ghost use Rattle.rwsp_terms.specs.declared.limits.TheConstants.{DAYS_OF_WEEK};
 ghost use Rattle.roster_print.specs.RosterText.{week_at};
 ghost use Rattle.roster_page.specs.Hours.{minutes_of, minutes_in};
-ghost use Rattle.roster_page.specs.PageText.{weekend_head, roster_head, cell_text, cells_text, hours_cell, is_free, free_text, weekend_cell, week_row, week_rows, roster_table};
+ghost use Rattle.roster_page.specs.PageText.{weekend_head, roster_head, cell_text, cells_text, hours_cell, is_free, free_text, weekend_cell, week_top, week_end, week_row, week_rows, roster_table};
 
 use crate::clock::put_hours;
 use crate::pieces::{Piece, put};
@@ -101,23 +101,20 @@ fn put_hours_cell(out: &mut Vec<u8>, problem: &Problem, week: &[Symbol]) -> Resu
     put(out, Piece::CellEnd)
 }
 
-// Whether both days of the weekend of a week are off. Weeks count from 0.
-fn is_free(cells: &[Symbol], week: u32) -> bool
-    requires few { week < MOST_WEEKS }
-    requires within { week * DAYS_OF_WEEK + DAYS_OF_WEEK ≤ length cells.now }
-    ensures { result ≡ is_free cells.now week }
+// Whether both days of the weekend of a week are off.
+fn is_free(week: &[Symbol]) -> bool
+    requires { length week.now ≡ DAYS_OF_WEEK }
+    ensures { result ≡ is_free week.now }
 {
-    let monday = week * DAYS_OF_WEEK;
-    cells[(monday + SATURDAY) as usize].number == 0 && cells[(monday + SUNDAY) as usize].number == 0
+    week[SATURDAY as usize].number == 0 && week[SUNDAY as usize].number == 0
 }
 
 #[tactic(auto, unfolding(crate::specs::PageText::free_text))]
-fn put_free(out: &mut Vec<u8>, cells: &[Symbol], week: u32) -> Result<(), AllocError>
-    requires few { week < MOST_WEEKS }
-    requires within { week * DAYS_OF_WEEK + DAYS_OF_WEEK ≤ length cells.now }
-    ensures { OnOk result (out.new.items ≡ out.old.items ++ free_text cells.now week) }
+fn put_free(out: &mut Vec<u8>, week: &[Symbol]) -> Result<(), AllocError>
+    requires { length week.now ≡ DAYS_OF_WEEK }
+    ensures { OnOk result (out.new.items ≡ out.old.items ++ free_text week.now) }
 {
-    if is_free(cells, week) {
+    if is_free(week) {
         put(out, Piece::Free)?;
     }
     Ok(())
@@ -125,22 +122,29 @@ fn put_free(out: &mut Vec<u8>, cells: &[Symbol], week: u32) -> Result<(), AllocE
 
 // Appends the cell of the weekend, where the week has seven days.
 #[tactic(auto, unfolding(crate::specs::PageText::weekend_cell))]
-fn put_weekend_cell(
-    out: &mut Vec<u8>,
-    problem: &Problem,
-    cells: &[Symbol],
-    week: u32,
-) -> Result<(), AllocError>
-    requires few { week < MOST_WEEKS }
-    requires within { week * problem.now.days + problem.now.days ≤ length cells.now }
-    ensures { OnOk result (out.new.items ≡ out.old.items ++ weekend_cell problem.now cells.now week) }
+fn put_weekend_cell(out: &mut Vec<u8>, problem: &Problem, week: &[Symbol]) -> Result<(), AllocError>
+    requires { length week.now ≡ problem.now.days }
+    ensures { OnOk result (out.new.items ≡ out.old.items ++ weekend_cell problem.now week.now) }
 {
     if problem.days() != DAYS_OF_WEEK {
         return Ok(());
     }
     put(out, Piece::PlainCell)?;
-    put_free(out, cells, week)?;
+    put_free(out, week)?;
     put(out, Piece::CellEnd)
+}
+
+// Appends what is behind the cells of a week.
+#[tactic(auto, unfolding(crate::specs::PageText::week_end))]
+fn put_week_end(out: &mut Vec<u8>, problem: &Problem, week: &[Symbol]) -> Result<(), AllocError>
+    requires symbols { All (IsSymbol problem.now) week.now }
+    requires long { length week.now ≡ problem.now.days }
+    ensures { OnOk result (out.new.items ≡ out.old.items ++ week_end problem.now week.now) }
+{
+    problem.prove_limits();
+    put_hours_cell(out, problem, week)?;
+    put_weekend_cell(out, problem, week)?;
+    put(out, Piece::RowEnd)
 }
 
 // The symbols of a week, counted from 0.
@@ -149,12 +153,23 @@ fn week_at<'a>(problem: &Problem, cells: &'a [Symbol], week: u32) -> &'a [Symbol
     requires week { week < problem.now.weeks }
     ensures value { result.now ≡ week_at problem.now cells.now week }
     ensures symbols { All (IsSymbol problem.now) result.now }
-    ensures few { length result.now ≤ MOST_CELLS }
+    ensures long { length result.now ≡ problem.now.days }
 {
     problem.prove_limits();
     let days = problem.days() as usize;
     let start = week as usize * days;
     &cells[start..start + days]
+}
+
+// Appends the front of the row of a week, counted from 0.
+#[tactic(auto, unfolding(crate::specs::PageText::week_top))]
+fn put_week_top(out: &mut Vec<u8>, week: u32) -> Result<(), AllocError>
+    requires { week < MOST_WEEKS }
+    ensures { OnOk result (out.new.items ≡ out.old.items ++ week_top week) }
+{
+    put(out, Piece::WeekTop)?;
+    put_number(out, u64::from(week + 1))?;
+    put(out, Piece::HeadEnd)
 }
 
 // Appends the row of a week, counted from 0.
@@ -171,13 +186,9 @@ fn put_week_row(
 {
     problem.prove_limits();
     let row = week_at(problem, cells, week);
-    put(out, Piece::WeekTop)?;
-    put_number(out, u64::from(week + 1))?;
-    put(out, Piece::HeadEnd)?;
+    put_week_top(out, week)?;
     put_cells(out, problem, row)?;
-    put_hours_cell(out, problem, row)?;
-    put_weekend_cell(out, problem, cells, week)?;
-    put(out, Piece::RowEnd)
+    put_week_end(out, problem, row)
 }
 
 // Appends a row for each week.
