@@ -21,6 +21,7 @@ hex_read n less =
           | true ↦ λ here. omega arith
           | false ↦ λ there. absurd (omega (arith, low, ltb-false (48 + n) 58 there))
         ] refl
+
     high_digit : (n : ℕ) → 10 ≤ n → hex_value (55 + n) ≡ n
     high_digit n high =
         elim (nat_lt (55 + n) 58) as (λ (t : Bool). nat_lt (55 + n) 58 ≡ t → (if t then 55 + n - 48 else 55 + n - 55) ≡ n) [
@@ -57,7 +58,7 @@ itself_back b rest plain =
     ] refl
   where
     special : (b : ℕ) → is_special b ≡ false → is_special b ≡ true → ⊥
-    special b no yes = let e : true ≡ false = sym yes ∙ no in cc
+    special b f t = let e : true ≡ false = sym t ∙ f in cc
 
 plain_back : (b : ℕ) (rest : List ℕ) → unescaped_past 0 (plain_text b ++ rest) ≡ b ∷ unescaped_past 0 rest
 unfolding plain_text
