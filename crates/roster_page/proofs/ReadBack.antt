@@ -48,7 +48,7 @@ entity_back b rest =
 -- a byte that isn't special stands for itself
 itself_back : (b : ℕ) (rest : List ℕ) → is_special b ≡ false → unescaped_past 0 (b ∷ rest) ≡ b ∷ unescaped_past 0 rest
 itself_back b rest plain =
-    elim (b == 38) as (λ (t : Bool). (b == 38) ≡ t → (if t then ((get_or rest 0 0 - 48) * 10 + (get_or rest 1 0 - 48)) ∷ unescaped_past 4 rest else (if b == 92 then (hex_value (get_or rest 1 0) * 16 + hex_value (get_or rest 2 0)) ∷ unescaped_past 3 rest else b ∷ unescaped_past 0 rest)) ≡ b ∷ unescaped_past 0 rest) [
+    elim (b == 38) as (λ (t : Bool). (b == 38) ≡ t → (if t then ((get_or rest 1 0 - 48) * 10 + (get_or rest 2 0 - 48)) ∷ unescaped_past 4 rest else (if b == 92 then (hex_value (get_or rest 1 0) * 16 + hex_value (get_or rest 2 0)) ∷ unescaped_past 3 rest else b ∷ unescaped_past 0 rest)) ≡ b ∷ unescaped_past 0 rest) [
       | true ↦ λ amp. absurd (special b plain (ap is_special (eqb-true b 38 amp)))
       | false ↦ λ other.
           elim (b == 92) as (λ (t : Bool). (b == 92) ≡ t → (if t then (hex_value (get_or rest 1 0) * 16 + hex_value (get_or rest 2 0)) ∷ unescaped_past 3 rest else b ∷ unescaped_past 0 rest) ≡ b ∷ unescaped_past 0 rest) [
