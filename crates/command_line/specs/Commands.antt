@@ -2,7 +2,7 @@
 use Rattle.std.specs.Prelude.{◌≡◌, ℕ, ◌+◌, ◌<◌, ◌≤◌, List, [], ◌∷◌, ◌++◌, map, Option, Some, None, MatchOption, String, codes}
 use Rattle.std.specs.String.{string_bytes}
 use Rattle.std.specs.declared.alloc.Global.{Global}
-use Rattle.rwsp_terms.specs.declared.limits.TheConstants.{MOST_WEEKS, USUAL_BUDGET, GREATEST_BUDGET, LONGEST_CALENDAR, USUAL_WORKERS, MOST_WORKERS, MOST_SIZES, USUAL_STAFF_BUDGET, GREATEST_STAFF_BUDGET, USUAL_BEST_BUDGET, DAYS_OF_WEEK}
+use Rattle.rwsp_terms.specs.declared.limits.TheConstants.{MOST_WEEKS, USUAL_BUDGET, GREATEST_BUDGET, LONGEST_CALENDAR, USUAL_WORKERS, MOST_WORKERS, MOST_SIZES, USUAL_STAFF_BUDGET, GREATEST_STAFF_BUDGET, USUAL_BEST_BUDGET, DAYS_OF_WEEK, LONGEST_REST}
 use Rattle.rwsp_terms.specs.Instance.{Instance}
 use Rattle.crew_calendar.specs.Calendar.{FitsDates}
 use Rattle.command_line.specs.Forms.{Field, File, Number, Day, Range, Setting, Perhaps, Form, said_by, forms_text}
@@ -10,9 +10,9 @@ use Rattle.command_line.specs.declared.command.TheConstants.{GREATEST_NUMBER}
 use Rattle.command_line.specs.declared.command.Command.{Command}
 use Rattle.command_line.specs.declared.command.Command.TheVariants.{Trial, OnProblem, OnFiles}
 use Rattle.command_line.specs.declared.command.ProblemTask.{ProblemTask}
-use Rattle.command_line.specs.declared.command.ProblemTask.TheVariants.{Plan, Show, Best, Staff}
+use Rattle.command_line.specs.declared.command.ProblemTask.TheVariants.{Plan, Show, Best, Staff, Rest}
 use Rattle.command_line.specs.declared.command.FilesTask.{FilesTask}
-use Rattle.command_line.specs.declared.command.FilesTask.TheVariants.{Check, Verify, Reduce, CheckFree, CheckStaff, Crew}
+use Rattle.command_line.specs.declared.command.FilesTask.TheVariants.{Check, Verify, Reduce, CheckFree, CheckStaff, Crew, Page}
 
 -- the words behind the program's name
 abbrev pub CommandWords : Type 0
@@ -80,13 +80,21 @@ crew_form = record {
   make = λ v. OnFiles v.0 v.1.0 (Crew v.1.1.0 v.1.1.1.0 v.1.1.1.1.0);
 }
 
+abbrev pub rest_form : Form Command
+rest_form = record {
+  word = codes "rest";
+  fields = problem_file ∷ Number (codes "MINUTES") 0 LONGEST_REST ∷ [];
+  make = λ v. OnProblem v.0 (Rest v.1.0);
+}
+
 -- the table, in the order of the line of usage
 abbrev pub forms : List (Form Command)
 forms =
     plan_form ∷ check_form ∷ files_form (codes "verify") (codes "ROSTER") Verify
     ∷ files_form (codes "reduce") (codes "LOG") Reduce ∷ show_form ∷ trial_form ∷ best_form
     ∷ files_form (codes "check-free") (codes "LOG") CheckFree ∷ staff_form
-    ∷ files_form (codes "check-staff") (codes "TEXT") CheckStaff ∷ crew_form ∷ []
+    ∷ files_form (codes "check-staff") (codes "TEXT") CheckStaff ∷ crew_form
+    ∷ rest_form ∷ files_form (codes "page") (codes "ROSTER") Page ∷ []
 
 -- the words are a form of the command
 abbrev pub IsForm : CommandWords → Command → Type 0
@@ -134,6 +142,7 @@ abbrev pub IsProblemTaskInRange : ProblemTask → Type 0
 IsProblemTaskInRange Show = Unit {0}
 IsProblemTaskInRange (Plan budget) = IsUpTo GREATEST_BUDGET budget
 IsProblemTaskInRange (Best budget) = IsUpTo GREATEST_BUDGET budget
+IsProblemTaskInRange (Rest minutes) = minutes ≤ LONGEST_REST
 IsProblemTaskInRange (Staff low high budget) =
     (1 ≤ low) × (low ≤ high) × (high ≤ MOST_WEEKS) × (high < low + MOST_SIZES) × IsUpTo GREATEST_STAFF_BUDGET budget
 

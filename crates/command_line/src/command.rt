@@ -41,6 +41,8 @@ pub enum ProblemTask {
     /// The least number of weeks, from the first to the last, for which the problem has a roster; for each lesser
     /// one a log of at most this many lines.
     Staff { low: u32, high: u32, budget: u32 },
+    /// The problem with at least this many minutes between shifts.
+    Rest { minutes: u32 },
 }
 
 /// A task on a problem and a second file.
@@ -64,6 +66,8 @@ pub enum FilesTask {
         days: u32,
         employee: Option<u32>,
     },
+    /// A page in HTML that shows a roster.
+    Page,
 }
 
 /// Whether a calendar that the command asks for ends by 9999-12-31, with all duties.

@@ -11,3 +11,5 @@ pub mod Logs
 pub mod Bests
 pub mod Staffs
 pub mod Calendars
+pub mod Rests
+pub mod Pages

@@ -8,6 +8,8 @@ pub mod Check
 pub mod CheckFree
 pub mod Reduce
 pub mod Crew
+pub mod Rest
+pub mod Page
 pub mod Trial
 pub mod Best
 pub mod Staff

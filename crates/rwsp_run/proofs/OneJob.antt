@@ -12,6 +12,8 @@ use Rattle.commands.proofs.Logs.{one_checked, one_checked_free, one_reduction, p
 use Rattle.commands.proofs.Staffs.{one_checked_staff, staffs_agree}
 use Rattle.commands.proofs.Bests.{bests_agree}
 use Rattle.commands.proofs.Calendars.{one_crew}
+use Rattle.commands.proofs.Rests.{one_rest}
+use Rattle.commands.proofs.Pages.{one_page}
 use Rattle.rwsp_run.specs.Commands.{IsProblemAnswer, IsFilesAnswer}
 use Rattle.rwsp_run.specs.Laws.{JobsAgree}
 use Rattle.rwsp_run.specs.declared.jobs.JobAnswer.{JobAnswer}
@@ -31,6 +33,9 @@ one_on_problem (ProblemTasks.Best budget) P a b h k = absurd h
 one_on_problem (ProblemTasks.Staff low high budget) P (Jobs.Staff x) (Jobs.Staff y) h k = inr (staffs_agree P low high budget x y h k)
 one_on_problem (ProblemTasks.Staff low high budget) P (Jobs.Staff x) b h k = absurd k
 one_on_problem (ProblemTasks.Staff low high budget) P a b h k = absurd h
+one_on_problem (ProblemTasks.Rest minutes) P (Jobs.Rest x) (Jobs.Rest y) h k = inl (ap Jobs.Rest (one_rest P minutes x y h k))
+one_on_problem (ProblemTasks.Rest minutes) P (Jobs.Rest x) b h k = absurd k
+one_on_problem (ProblemTasks.Rest minutes) P a b h k = absurd h
 
 -- two answers to a task on a problem and the bytes of a second file
 pub one_on_files : (task : FilesTask) (P : Instance) (bytes : List ℕ) (a b : JobAnswer) → KeepsLimits P → IsFilesAnswer task P bytes a → IsFilesAnswer task P bytes b → (a ≡ b) ⊎ JobsAgree a b
@@ -52,3 +57,6 @@ one_on_files FilesTasks.Reduce P bytes a b limits h k = absurd h
 one_on_files (FilesTasks.Crew date days employee) P bytes (Jobs.Crew x) (Jobs.Crew y) limits h k = inl (ap Jobs.Crew (one_crew P bytes date days employee x y limits h k))
 one_on_files (FilesTasks.Crew date days employee) P bytes (Jobs.Crew x) b limits h k = absurd k
 one_on_files (FilesTasks.Crew date days employee) P bytes a b limits h k = absurd h
+one_on_files FilesTasks.Page P bytes (Jobs.Page x) (Jobs.Page y) limits h k = inl (ap Jobs.Page (one_page P bytes x y h k))
+one_on_files FilesTasks.Page P bytes (Jobs.Page x) b limits h k = absurd k
+one_on_files FilesTasks.Page P bytes a b limits h k = absurd h

@@ -16,6 +16,8 @@ use Rattle.commands.specs.CheckFree.{IsCheckedFree, check_free_text, check_free_
 use Rattle.commands.specs.CheckStaff.{IsCheckedStaff, check_staff_text, check_staff_status, IsCheckedStaffOf}
 use Rattle.commands.specs.Reduce.{IsReduction, reduce_text, reduce_status, IsReductionOf}
 use Rattle.commands.specs.Crew.{IsCrewAnswer, crew_text, crew_status, IsCrewAnswerOf}
+use Rattle.commands.specs.Rest.{IsRestAnswer, rest_text, rest_status}
+use Rattle.commands.specs.Page.{IsPageAnswer, page_answer_text, page_status, IsPageAnswerOf}
 use Rattle.commands.specs.declared.second_file.SecondKind.{SecondKind}
 use Rattle.commands.specs.declared.second_file.SecondKind.TheVariants as Kinds
 use Rattle.rwsp_run.specs.declared.jobs.JobAnswer.{JobAnswer}
@@ -25,6 +27,7 @@ use Rattle.rwsp_run.specs.declared.jobs.JobAnswer.TheVariants as Jobs
 abbrev pub second_kind : FilesTask → SecondKind
 second_kind FilesTasks.Verify = Kinds.Roster
 second_kind (FilesTasks.Crew date days employee) = Kinds.Roster
+second_kind FilesTasks.Page = Kinds.Roster
 second_kind task = Kinds.Log
 
 -- what the answer to a task says of the problem
@@ -33,6 +36,7 @@ IsProblemAnswer ProblemTasks.Show P Jobs.Show = Unit {0}
 IsProblemAnswer (ProblemTasks.Plan budget) P (Jobs.Plan found) = IsPlanned P budget found
 IsProblemAnswer (ProblemTasks.Best budget) P (Jobs.Best found) = IsBestAnswer P budget found
 IsProblemAnswer (ProblemTasks.Staff low high budget) P (Jobs.Staff a) = IsStaffAnswer P low high budget a
+IsProblemAnswer (ProblemTasks.Rest minutes) P (Jobs.Rest a) = IsRestAnswer P minutes a
 IsProblemAnswer task P answer = ⊥
 
 -- what the answer to a task says of the problem and of the bytes of the second file
@@ -43,6 +47,7 @@ IsFilesAnswer FilesTasks.CheckFree P bytes (Jobs.CheckFree a) = IsCheckedFree P 
 IsFilesAnswer FilesTasks.CheckStaff P bytes (Jobs.CheckStaff a) = IsCheckedStaff P bytes a
 IsFilesAnswer FilesTasks.Reduce P bytes (Jobs.Reduce a) = IsReduction P bytes a
 IsFilesAnswer (FilesTasks.Crew date days employee) P bytes (Jobs.Crew a) = IsCrewAnswer P bytes date days employee a
+IsFilesAnswer FilesTasks.Page P bytes (Jobs.Page a) = IsPageAnswer P bytes a
 IsFilesAnswer task P bytes answer = ⊥
 
 -- the text of an answer to a command on a problem
@@ -57,6 +62,8 @@ job_text P (Jobs.CheckFree a) = check_free_text P a
 job_text P (Jobs.CheckStaff a) = check_staff_text P a
 job_text P (Jobs.Reduce a) = reduce_text P a
 job_text P (Jobs.Crew a) = crew_text P a
+job_text P (Jobs.Rest a) = rest_text a
+job_text P (Jobs.Page a) = page_answer_text P a
 
 -- what the answer names is the problem's
 abbrev pub IsPrintable : Instance → JobAnswer → Type 0
@@ -70,6 +77,8 @@ IsPrintable P (Jobs.CheckFree a) = IsCheckedFreeOf P a
 IsPrintable P (Jobs.CheckStaff a) = IsCheckedStaffOf P a
 IsPrintable P (Jobs.Reduce a) = IsReductionOf P a
 IsPrintable P (Jobs.Crew a) = IsCrewAnswerOf P a
+IsPrintable P (Jobs.Rest a) = Unit {0}
+IsPrintable P (Jobs.Page a) = IsPageAnswerOf P a
 
 -- the status where the text was written
 abbrev pub job_status : JobAnswer → ℕ
@@ -83,3 +92,5 @@ job_status (Jobs.CheckFree a) = check_free_status a
 job_status (Jobs.CheckStaff a) = check_staff_status a
 job_status (Jobs.Reduce a) = reduce_status a
 job_status (Jobs.Crew a) = crew_status a
+job_status (Jobs.Rest a) = rest_status a
+job_status (Jobs.Page a) = page_status a

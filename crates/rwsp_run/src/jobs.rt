@@ -7,10 +7,11 @@ ghost use Rattle.rwsp_run.specs.Commands.{IsProblemAnswer, IsFilesAnswer, IsPrin
 use command_line::{FilesTask, ProblemTask};
 use commands::staff::Sizes;
 use commands::{
-    SecondKind, best, check, check_free, check_staff, crew, plan, reduce, staff, verify,
+    SecondKind, best, check, check_free, check_staff, crew, page, plan, reduce, rest, staff, verify,
 };
 use potential_bounds::Gate;
 use refutation_log::{BestFound, Found};
+use rest_between::LeastRest;
 use rwsp_file::print_problem;
 use rwsp_model::Problem;
 use rwsp_terms::limits::DAYS_OF_WEEK;
@@ -31,6 +32,8 @@ pub enum JobAnswer {
     CheckStaff(check_staff::Answer),
     Reduce(reduce::Answer),
     Crew(crew::Answer),
+    Rest(LeastRest),
+    Page(page::Answer),
 }
 
 /// The kind of the task's second file.
@@ -38,7 +41,7 @@ pub fn second_kind(task: &FilesTask) -> SecondKind
     ensures { result ≡ second_kind task.now }
 {
     match task {
-        FilesTask::Verify | FilesTask::Crew { .. } => SecondKind::Roster,
+        FilesTask::Verify | FilesTask::Crew { .. } | FilesTask::Page => SecondKind::Roster,
         _ => SecondKind::Log,
     }
 }
@@ -90,6 +93,10 @@ pub fn answer_on_problem<R: Threads + Sync, G: Gate>(
             let answer = staff::job(rt, alloc, problem, Sizes { low, high }, budget, gate)?;
             Ok(JobAnswer::Staff(answer))
         }
+        ProblemTask::Rest { minutes } => {
+            let answer = rest::job(alloc, problem, minutes)?;
+            Ok(JobAnswer::Rest(answer))
+        }
     }
 }
 
@@ -138,6 +145,10 @@ pub fn answer_on_files<R: Threads + Sync, G: Gate>(
             let answer = crew::job(alloc, problem, &bytes, date, days, employee)?;
             Ok(JobAnswer::Crew(answer))
         }
+        FilesTask::Page => {
+            let answer = page::job(alloc, problem, &bytes)?;
+            Ok(JobAnswer::Page(answer))
+        }
     }
 }
 
@@ -157,6 +168,8 @@ pub fn text_of(alloc: Global, problem: &Problem, answer: &JobAnswer) -> Result<V
         JobAnswer::CheckStaff(answer) => check_staff::text(alloc, problem, answer),
         JobAnswer::Reduce(answer) => reduce::text(alloc, problem, answer),
         JobAnswer::Crew(answer) => crew::text(alloc, problem, answer),
+        JobAnswer::Rest(answer) => rest::text(alloc, answer),
+        JobAnswer::Page(answer) => page::text(alloc, problem, answer),
     }
 }
 
@@ -178,6 +191,8 @@ impl JobAnswer {
             JobAnswer::CheckStaff(answer) => check_staff::status(answer),
             JobAnswer::Reduce(answer) => reduce::status(answer),
             JobAnswer::Crew(answer) => crew::status(answer),
+            JobAnswer::Rest(answer) => rest::status(answer),
+            JobAnswer::Page(answer) => page::status(answer),
         }
     }
 }
