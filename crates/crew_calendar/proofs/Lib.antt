@@ -4,3 +4,4 @@ pub mod Rounds
 pub mod OneText
 pub mod DateWords
 pub mod Calendars
+pub mod OneDate

@@ -3,3 +3,4 @@ pub mod Texts
 pub mod Facts
 pub mod Laws
 pub mod Calendar
+pub mod OnDate

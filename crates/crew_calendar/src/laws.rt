@@ -1,5 +1,6 @@
 // Laws of the definitions. Each function's contract is the law.
 ghost use Rattle.crew_calendar.specs.Facts.{DemandIsMetDaily, EmployeesFollowTheCycle, EmployeesKeepTheRules, EmployeesGoRound};
+ghost use Rattle.crew_calendar.specs.OnDate.{DatesAreAsInTables, DatesHaveOneText};
 ghost use Rattle.crew_calendar.specs.Laws.{TablesAreOne, DutiesAreOne, WordsNameOneDate};
 
 /// Where a roster meets all rules, on each day at least as many employees as the least demand and at most as many as
@@ -36,4 +37,14 @@ pub fn duties_are_one()
 /// A word names one date at most.
 pub fn words_name_one_date()
     ensures { WordsNameOneDate }
+{}
+
+/// Who works on a date has one text.
+pub fn dates_have_one_text()
+    ensures { DatesHaveOneText }
+{}
+
+/// Who works on a date is as the table of all employees has it on that day.
+pub fn dates_are_as_in_tables()
+    ensures { DatesAreAsInTables }
 {}
