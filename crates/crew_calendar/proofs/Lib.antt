@@ -5,3 +5,5 @@ pub mod OneText
 pub mod DateWords
 pub mod Calendars
 pub mod OneDate
+pub mod Written
+pub mod EventLines
