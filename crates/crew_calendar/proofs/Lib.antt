@@ -7,3 +7,5 @@ pub mod Calendars
 pub mod OneDate
 pub mod Written
 pub mod EventLines
+pub mod OneEvents
+pub mod ReadBack

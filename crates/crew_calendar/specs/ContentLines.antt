@@ -78,6 +78,19 @@ LinesAreReadBack = (line : List ℕ) → HasNoReturn line → unfolded (content_
 abbrev pub TextsAreReadBack : Type 0
 TextsAreReadBack = (text : List ℕ) → unescaped (escaped text) ≡ text
 
+-- CR or LF
+abbrev pub is_break : ℕ → Bool
+is_break b = b == 13 || b == 10
+
+-- no row is too long, where the first one has some bytes already
+abbrev pub RowsFit : (count : ℕ) → List ℕ → Type 0
+RowsFit count [] = count ≤ LONGEST_ROW
+RowsFit count (b ∷ bytes) = (count ≤ LONGEST_ROW) × RowsFit (if is_break b then 0 else count + 1) bytes
+
+-- each row of a line has at most 75 bytes
+abbrev pub RowsAreShort : Type 0
+RowsAreShort = (line : List ℕ) → RowsFit 0 (content_line line)
+
 -- no row begins within a character: all its bytes stand side by side
 abbrev pub CharactersStayWhole : Type 0
 CharactersStayWhole =
