@@ -11,3 +11,4 @@ pub mod Logs
 pub mod Bests
 pub mod Staffs
 pub mod Calendars
+pub mod RosterAnswers

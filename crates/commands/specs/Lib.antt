@@ -8,6 +8,9 @@ pub mod Check
 pub mod CheckFree
 pub mod Reduce
 pub mod Crew
+pub mod Ics
+pub mod On
+pub mod Roster
 pub mod Trial
 pub mod Best
 pub mod Staff

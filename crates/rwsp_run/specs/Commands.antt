@@ -16,6 +16,9 @@ use Rattle.commands.specs.CheckFree.{IsCheckedFree, check_free_text, check_free_
 use Rattle.commands.specs.CheckStaff.{IsCheckedStaff, check_staff_text, check_staff_status, IsCheckedStaffOf}
 use Rattle.commands.specs.Reduce.{IsReduction, reduce_text, reduce_status, IsReductionOf}
 use Rattle.commands.specs.Crew.{IsCrewAnswer, crew_text, crew_status, IsCrewAnswerOf}
+use Rattle.commands.specs.Ics.{IsIcsAnswer, ics_text, ics_status, IsIcsAnswerOf}
+use Rattle.commands.specs.On.{IsOnAnswer, on_text, on_status, IsOnAnswerOf}
+use Rattle.commands.specs.Roster.{IsRosterAnswer, roster_answer_text, roster_status}
 use Rattle.commands.specs.declared.second_file.SecondKind.{SecondKind}
 use Rattle.commands.specs.declared.second_file.SecondKind.TheVariants as Kinds
 use Rattle.rwsp_run.specs.declared.jobs.JobAnswer.{JobAnswer}
@@ -25,6 +28,8 @@ use Rattle.rwsp_run.specs.declared.jobs.JobAnswer.TheVariants as Jobs
 abbrev pub second_kind : FilesTask → SecondKind
 second_kind FilesTasks.Verify = Kinds.Roster
 second_kind (FilesTasks.Crew date days employee) = Kinds.Roster
+second_kind (FilesTasks.Ics date days employee) = Kinds.Roster
+second_kind (FilesTasks.On start date) = Kinds.Roster
 second_kind task = Kinds.Log
 
 -- what the answer to a task says of the problem
@@ -43,6 +48,9 @@ IsFilesAnswer FilesTasks.CheckFree P bytes (Jobs.CheckFree a) = IsCheckedFree P 
 IsFilesAnswer FilesTasks.CheckStaff P bytes (Jobs.CheckStaff a) = IsCheckedStaff P bytes a
 IsFilesAnswer FilesTasks.Reduce P bytes (Jobs.Reduce a) = IsReduction P bytes a
 IsFilesAnswer (FilesTasks.Crew date days employee) P bytes (Jobs.Crew a) = IsCrewAnswer P bytes date days employee a
+IsFilesAnswer (FilesTasks.Ics date days employee) P bytes (Jobs.Ics a) = IsIcsAnswer P bytes date days employee a
+IsFilesAnswer (FilesTasks.On start date) P bytes (Jobs.On a) = IsOnAnswer P bytes start date a
+IsFilesAnswer FilesTasks.Roster P bytes (Jobs.Roster a) = IsRosterAnswer P bytes a
 IsFilesAnswer task P bytes answer = ⊥
 
 -- the text of an answer to a command on a problem
@@ -57,6 +65,9 @@ job_text P (Jobs.CheckFree a) = check_free_text P a
 job_text P (Jobs.CheckStaff a) = check_staff_text P a
 job_text P (Jobs.Reduce a) = reduce_text P a
 job_text P (Jobs.Crew a) = crew_text P a
+job_text P (Jobs.Ics a) = ics_text P a
+job_text P (Jobs.On a) = on_text P a
+job_text P (Jobs.Roster a) = roster_answer_text a
 
 -- what the answer names is the problem's
 abbrev pub IsPrintable : Instance → JobAnswer → Type 0
@@ -70,6 +81,9 @@ IsPrintable P (Jobs.CheckFree a) = IsCheckedFreeOf P a
 IsPrintable P (Jobs.CheckStaff a) = IsCheckedStaffOf P a
 IsPrintable P (Jobs.Reduce a) = IsReductionOf P a
 IsPrintable P (Jobs.Crew a) = IsCrewAnswerOf P a
+IsPrintable P (Jobs.Ics a) = IsIcsAnswerOf P a
+IsPrintable P (Jobs.On a) = IsOnAnswerOf P a
+IsPrintable P (Jobs.Roster a) = Unit {0}
 
 -- the status where the text was written
 abbrev pub job_status : JobAnswer → ℕ
@@ -83,3 +97,6 @@ job_status (Jobs.CheckFree a) = check_free_status a
 job_status (Jobs.CheckStaff a) = check_staff_status a
 job_status (Jobs.Reduce a) = reduce_status a
 job_status (Jobs.Crew a) = crew_status a
+job_status (Jobs.Ics a) = ics_status a
+job_status (Jobs.On a) = on_status a
+job_status (Jobs.Roster a) = roster_status a

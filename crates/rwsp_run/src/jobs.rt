@@ -7,7 +7,8 @@ ghost use Rattle.rwsp_run.specs.Commands.{IsProblemAnswer, IsFilesAnswer, IsPrin
 use command_line::{FilesTask, ProblemTask};
 use commands::staff::Sizes;
 use commands::{
-    SecondKind, best, check, check_free, check_staff, crew, plan, reduce, staff, verify,
+    SecondKind, best, check, check_free, check_staff, crew, ics, on, plan, reduce, roster, staff,
+    verify,
 };
 use potential_bounds::Gate;
 use refutation_log::{BestFound, Found};
@@ -31,6 +32,9 @@ pub enum JobAnswer {
     CheckStaff(check_staff::Answer),
     Reduce(reduce::Answer),
     Crew(crew::Answer),
+    Ics(ics::Answer),
+    On(on::Answer),
+    Roster(roster::Answer),
 }
 
 /// The kind of the task's second file.
@@ -38,7 +42,10 @@ pub fn second_kind(task: &FilesTask) -> SecondKind
     ensures { result ≡ second_kind task.now }
 {
     match task {
-        FilesTask::Verify | FilesTask::Crew { .. } => SecondKind::Roster,
+        FilesTask::Verify
+        | FilesTask::Crew { .. }
+        | FilesTask::Ics { .. }
+        | FilesTask::On { .. } => SecondKind::Roster,
         _ => SecondKind::Log,
     }
 }
@@ -138,6 +145,22 @@ pub fn answer_on_files<R: Threads + Sync, G: Gate>(
             let answer = crew::job(alloc, problem, &bytes, date, days, employee)?;
             Ok(JobAnswer::Crew(answer))
         }
+        FilesTask::Ics {
+            date,
+            days,
+            employee,
+        } => {
+            let answer = ics::job(alloc, problem, &bytes, date, days, employee)?;
+            Ok(JobAnswer::Ics(answer))
+        }
+        FilesTask::On { start, date } => {
+            let answer = on::job(alloc, problem, &bytes, start, date)?;
+            Ok(JobAnswer::On(answer))
+        }
+        FilesTask::Roster => {
+            let answer = roster::job(alloc, problem, &bytes)?;
+            Ok(JobAnswer::Roster(answer))
+        }
     }
 }
 
@@ -157,6 +180,9 @@ pub fn text_of(alloc: Global, problem: &Problem, answer: &JobAnswer) -> Result<V
         JobAnswer::CheckStaff(answer) => check_staff::text(alloc, problem, answer),
         JobAnswer::Reduce(answer) => reduce::text(alloc, problem, answer),
         JobAnswer::Crew(answer) => crew::text(alloc, problem, answer),
+        JobAnswer::Ics(answer) => ics::text(alloc, problem, answer),
+        JobAnswer::On(answer) => on::text(alloc, problem, answer),
+        JobAnswer::Roster(answer) => roster::text(alloc, answer),
     }
 }
 
@@ -178,6 +204,9 @@ impl JobAnswer {
             JobAnswer::CheckStaff(answer) => check_staff::status(answer),
             JobAnswer::Reduce(answer) => reduce::status(answer),
             JobAnswer::Crew(answer) => crew::status(answer),
+            JobAnswer::Ics(answer) => ics::status(answer),
+            JobAnswer::On(answer) => on::status(answer),
+            JobAnswer::Roster(answer) => roster::status(answer),
         }
     }
 }
