@@ -4,7 +4,7 @@ use Rattle.std.specs.String.{string_bytes}
 use Rattle.std.specs.declared.alloc.Global.{Global}
 use Rattle.rwsp_terms.specs.declared.limits.TheConstants.{MOST_WEEKS, USUAL_BUDGET, GREATEST_BUDGET, LONGEST_CALENDAR, USUAL_WORKERS, MOST_WORKERS, MOST_SIZES, USUAL_STAFF_BUDGET, GREATEST_STAFF_BUDGET, USUAL_BEST_BUDGET, DAYS_OF_WEEK, LONGEST_REST}
 use Rattle.rwsp_terms.specs.Instance.{Instance}
-use Rattle.crew_calendar.specs.Calendar.{FitsDates}
+use Rattle.crew_calendar.specs.Calendar.{FitsDates, IsNotBefore}
 use Rattle.command_line.specs.Forms.{Field, File, Number, Day, Range, Setting, Perhaps, Form, said_by, forms_text}
 use Rattle.command_line.specs.declared.command.TheConstants.{GREATEST_NUMBER}
 use Rattle.command_line.specs.declared.command.Command.{Command}
@@ -12,7 +12,7 @@ use Rattle.command_line.specs.declared.command.Command.TheVariants.{Trial, OnPro
 use Rattle.command_line.specs.declared.command.ProblemTask.{ProblemTask}
 use Rattle.command_line.specs.declared.command.ProblemTask.TheVariants.{Plan, Show, Best, Staff, Rest}
 use Rattle.command_line.specs.declared.command.FilesTask.{FilesTask}
-use Rattle.command_line.specs.declared.command.FilesTask.TheVariants.{Check, Verify, Reduce, CheckFree, CheckStaff, Crew, Page}
+use Rattle.command_line.specs.declared.command.FilesTask.TheVariants.{Check, Verify, Reduce, CheckFree, CheckStaff, Crew, Page, Ics, On, Roster}
 
 -- the words behind the program's name
 abbrev pub CommandWords : Type 0
@@ -87,6 +87,22 @@ rest_form = record {
   make = λ v. OnProblem v.0 (Rest v.1.0);
 }
 
+abbrev pub ics_form : Form Command
+ics_form = record {
+  word = codes "ics";
+  fields =
+      problem_file ∷ File (codes "ROSTER") ∷ Day (codes "DATE") ∷ Number (codes "DAYS") 1 LONGEST_CALENDAR
+      ∷ Number (codes "EMPLOYEE") 1 MOST_WEEKS ∷ [];
+  make = λ v. OnFiles v.0 v.1.0 (Ics v.1.1.0 v.1.1.1.0 v.1.1.1.1.0);
+}
+
+abbrev pub on_form : Form Command
+on_form = record {
+  word = codes "on";
+  fields = problem_file ∷ File (codes "ROSTER") ∷ Day (codes "START") ∷ Day (codes "DATE") ∷ [];
+  make = λ v. OnFiles v.0 v.1.0 (On v.1.1.0 v.1.1.1.0);
+}
+
 -- the table, in the order of the line of usage
 abbrev pub forms : List (Form Command)
 forms =
@@ -94,7 +110,8 @@ forms =
     ∷ files_form (codes "reduce") (codes "LOG") Reduce ∷ show_form ∷ trial_form ∷ best_form
     ∷ files_form (codes "check-free") (codes "LOG") CheckFree ∷ staff_form
     ∷ files_form (codes "check-staff") (codes "TEXT") CheckStaff ∷ crew_form
-    ∷ rest_form ∷ files_form (codes "page") (codes "ROSTER") Page ∷ []
+    ∷ rest_form ∷ files_form (codes "page") (codes "ROSTER") Page
+    ∷ ics_form ∷ on_form ∷ files_form (codes "roster") (codes "ANSWER") Roster ∷ []
 
 -- the words are a form of the command
 abbrev pub IsForm : CommandWords → Command → Type 0
@@ -155,6 +172,7 @@ IsEmployeeNumber (Some e) = 1 ≤ e
 abbrev pub IsFilesTaskInRange : FilesTask → Type 0
 IsFilesTaskInRange (Check workers) = IsUpTo MOST_WORKERS workers
 IsFilesTaskInRange (Crew date days employee) = IsUpTo LONGEST_CALENDAR days × IsEmployeeNumber employee
+IsFilesTaskInRange (Ics date days employee) = IsUpTo LONGEST_CALENDAR days × (1 ≤ employee)
 IsFilesTaskInRange task = Unit {0}
 
 -- the numbers of a command are in their ranges
@@ -163,9 +181,11 @@ IsInRange (Trial number weeks) = IsUpTo MOST_WEEKS weeks
 IsInRange (OnProblem file task) = IsProblemTaskInRange task
 IsInRange (OnFiles file second task) = IsFilesTaskInRange task
 
--- a calendar that the task asks for ends by 9999-12-31, with all duties
+-- a calendar that the task asks for ends by 9999-12-31, with all duties, and a date isn't before the roster's first day
 abbrev pub EndsInTime : FilesTask → Type 0
 EndsInTime (Crew date days employee) = FitsDates date days
+EndsInTime (Ics date days employee) = FitsDates date days
+EndsInTime (On start date) = IsNotBefore start date
 EndsInTime task = Unit {0}
 
 abbrev pub IsWithinHorizon : Command → Type 0

@@ -13,3 +13,4 @@ pub mod Staffs
 pub mod Calendars
 pub mod Rests
 pub mod Pages
+pub mod RosterAnswers

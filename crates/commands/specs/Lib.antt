@@ -10,6 +10,9 @@ pub mod Reduce
 pub mod Crew
 pub mod Rest
 pub mod Page
+pub mod Ics
+pub mod On
+pub mod Roster
 pub mod Trial
 pub mod Best
 pub mod Staff

@@ -11,9 +11,10 @@ use Rattle.commands.proofs.Rosters.{one_verified}
 use Rattle.commands.proofs.Logs.{one_checked, one_checked_free, one_reduction, plans_agree}
 use Rattle.commands.proofs.Staffs.{one_checked_staff, staffs_agree}
 use Rattle.commands.proofs.Bests.{bests_agree}
-use Rattle.commands.proofs.Calendars.{one_crew}
+use Rattle.commands.proofs.Calendars.{one_crew, one_ics, one_on_date}
 use Rattle.commands.proofs.Rests.{one_rest}
 use Rattle.commands.proofs.Pages.{one_page}
+use Rattle.commands.proofs.RosterAnswers.{one_taken}
 use Rattle.rwsp_run.specs.Commands.{IsProblemAnswer, IsFilesAnswer}
 use Rattle.rwsp_run.specs.Laws.{JobsAgree}
 use Rattle.rwsp_run.specs.declared.jobs.JobAnswer.{JobAnswer}
@@ -60,3 +61,12 @@ one_on_files (FilesTasks.Crew date days employee) P bytes a b limits h k = absur
 one_on_files FilesTasks.Page P bytes (Jobs.Page x) (Jobs.Page y) limits h k = inl (ap Jobs.Page (one_page P bytes x y h k))
 one_on_files FilesTasks.Page P bytes (Jobs.Page x) b limits h k = absurd k
 one_on_files FilesTasks.Page P bytes a b limits h k = absurd h
+one_on_files (FilesTasks.Ics date days employee) P bytes (Jobs.Ics x) (Jobs.Ics y) limits h k = inl (ap Jobs.Ics (one_ics P bytes date days employee x y limits h k))
+one_on_files (FilesTasks.Ics date days employee) P bytes (Jobs.Ics x) b limits h k = absurd k
+one_on_files (FilesTasks.Ics date days employee) P bytes a b limits h k = absurd h
+one_on_files (FilesTasks.On start date) P bytes (Jobs.On x) (Jobs.On y) limits h k = inl (ap Jobs.On (one_on_date P bytes start date x y h k))
+one_on_files (FilesTasks.On start date) P bytes (Jobs.On x) b limits h k = absurd k
+one_on_files (FilesTasks.On start date) P bytes a b limits h k = absurd h
+one_on_files FilesTasks.Roster P bytes (Jobs.Roster x) (Jobs.Roster y) limits h k = inl (ap Jobs.Roster (one_taken P bytes x y h k))
+one_on_files FilesTasks.Roster P bytes (Jobs.Roster x) b limits h k = absurd k
+one_on_files FilesTasks.Roster P bytes a b limits h k = absurd h

@@ -18,6 +18,9 @@ use Rattle.commands.specs.Reduce.{IsReduction, reduce_text, reduce_status, IsRed
 use Rattle.commands.specs.Crew.{IsCrewAnswer, crew_text, crew_status, IsCrewAnswerOf}
 use Rattle.commands.specs.Rest.{IsRestAnswer, rest_text, rest_status}
 use Rattle.commands.specs.Page.{IsPageAnswer, page_answer_text, page_status, IsPageAnswerOf}
+use Rattle.commands.specs.Ics.{IsIcsAnswer, ics_text, ics_status, IsIcsAnswerOf}
+use Rattle.commands.specs.On.{IsOnAnswer, on_text, on_status, IsOnAnswerOf}
+use Rattle.commands.specs.Roster.{IsRosterAnswer, roster_answer_text, roster_status}
 use Rattle.commands.specs.declared.second_file.SecondKind.{SecondKind}
 use Rattle.commands.specs.declared.second_file.SecondKind.TheVariants as Kinds
 use Rattle.rwsp_run.specs.declared.jobs.JobAnswer.{JobAnswer}
@@ -28,6 +31,8 @@ abbrev pub second_kind : FilesTask → SecondKind
 second_kind FilesTasks.Verify = Kinds.Roster
 second_kind (FilesTasks.Crew date days employee) = Kinds.Roster
 second_kind FilesTasks.Page = Kinds.Roster
+second_kind (FilesTasks.Ics date days employee) = Kinds.Roster
+second_kind (FilesTasks.On start date) = Kinds.Roster
 second_kind task = Kinds.Log
 
 -- what the answer to a task says of the problem
@@ -48,6 +53,9 @@ IsFilesAnswer FilesTasks.CheckStaff P bytes (Jobs.CheckStaff a) = IsCheckedStaff
 IsFilesAnswer FilesTasks.Reduce P bytes (Jobs.Reduce a) = IsReduction P bytes a
 IsFilesAnswer (FilesTasks.Crew date days employee) P bytes (Jobs.Crew a) = IsCrewAnswer P bytes date days employee a
 IsFilesAnswer FilesTasks.Page P bytes (Jobs.Page a) = IsPageAnswer P bytes a
+IsFilesAnswer (FilesTasks.Ics date days employee) P bytes (Jobs.Ics a) = IsIcsAnswer P bytes date days employee a
+IsFilesAnswer (FilesTasks.On start date) P bytes (Jobs.On a) = IsOnAnswer P bytes start date a
+IsFilesAnswer FilesTasks.Roster P bytes (Jobs.Roster a) = IsRosterAnswer P bytes a
 IsFilesAnswer task P bytes answer = ⊥
 
 -- the text of an answer to a command on a problem
@@ -64,6 +72,9 @@ job_text P (Jobs.Reduce a) = reduce_text P a
 job_text P (Jobs.Crew a) = crew_text P a
 job_text P (Jobs.Rest a) = rest_text a
 job_text P (Jobs.Page a) = page_answer_text P a
+job_text P (Jobs.Ics a) = ics_text P a
+job_text P (Jobs.On a) = on_text P a
+job_text P (Jobs.Roster a) = roster_answer_text a
 
 -- what the answer names is the problem's
 abbrev pub IsPrintable : Instance → JobAnswer → Type 0
@@ -79,6 +90,9 @@ IsPrintable P (Jobs.Reduce a) = IsReductionOf P a
 IsPrintable P (Jobs.Crew a) = IsCrewAnswerOf P a
 IsPrintable P (Jobs.Rest a) = Unit {0}
 IsPrintable P (Jobs.Page a) = IsPageAnswerOf P a
+IsPrintable P (Jobs.Ics a) = IsIcsAnswerOf P a
+IsPrintable P (Jobs.On a) = IsOnAnswerOf P a
+IsPrintable P (Jobs.Roster a) = Unit {0}
 
 -- the status where the text was written
 abbrev pub job_status : JobAnswer → ℕ
@@ -94,3 +108,6 @@ job_status (Jobs.Reduce a) = reduce_status a
 job_status (Jobs.Crew a) = crew_status a
 job_status (Jobs.Rest a) = rest_status a
 job_status (Jobs.Page a) = page_status a
+job_status (Jobs.Ics a) = ics_status a
+job_status (Jobs.On a) = on_status a
+job_status (Jobs.Roster a) = roster_status a

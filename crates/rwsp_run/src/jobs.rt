@@ -7,7 +7,8 @@ ghost use Rattle.rwsp_run.specs.Commands.{IsProblemAnswer, IsFilesAnswer, IsPrin
 use command_line::{FilesTask, ProblemTask};
 use commands::staff::Sizes;
 use commands::{
-    SecondKind, best, check, check_free, check_staff, crew, page, plan, reduce, rest, staff, verify,
+    SecondKind, best, check, check_free, check_staff, crew, ics, on, page, plan, reduce, rest, roster, staff,
+    verify,
 };
 use potential_bounds::Gate;
 use refutation_log::{BestFound, Found};
@@ -34,6 +35,9 @@ pub enum JobAnswer {
     Crew(crew::Answer),
     Rest(LeastRest),
     Page(page::Answer),
+    Ics(ics::Answer),
+    On(on::Answer),
+    Roster(roster::Answer),
 }
 
 /// The kind of the task's second file.
@@ -41,7 +45,11 @@ pub fn second_kind(task: &FilesTask) -> SecondKind
     ensures { result ≡ second_kind task.now }
 {
     match task {
-        FilesTask::Verify | FilesTask::Crew { .. } | FilesTask::Page => SecondKind::Roster,
+        FilesTask::Verify
+        | FilesTask::Crew { .. }
+        | FilesTask::Page
+        | FilesTask::Ics { .. }
+        | FilesTask::On { .. } => SecondKind::Roster,
         _ => SecondKind::Log,
     }
 }
@@ -149,6 +157,22 @@ pub fn answer_on_files<R: Threads + Sync, G: Gate>(
             let answer = page::job(alloc, problem, &bytes)?;
             Ok(JobAnswer::Page(answer))
         }
+        FilesTask::Ics {
+            date,
+            days,
+            employee,
+        } => {
+            let answer = ics::job(alloc, problem, &bytes, date, days, employee)?;
+            Ok(JobAnswer::Ics(answer))
+        }
+        FilesTask::On { start, date } => {
+            let answer = on::job(alloc, problem, &bytes, start, date)?;
+            Ok(JobAnswer::On(answer))
+        }
+        FilesTask::Roster => {
+            let answer = roster::job(alloc, problem, &bytes)?;
+            Ok(JobAnswer::Roster(answer))
+        }
     }
 }
 
@@ -170,6 +194,9 @@ pub fn text_of(alloc: Global, problem: &Problem, answer: &JobAnswer) -> Result<V
         JobAnswer::Crew(answer) => crew::text(alloc, problem, answer),
         JobAnswer::Rest(answer) => rest::text(alloc, answer),
         JobAnswer::Page(answer) => page::text(alloc, problem, answer),
+        JobAnswer::Ics(answer) => ics::text(alloc, problem, answer),
+        JobAnswer::On(answer) => on::text(alloc, problem, answer),
+        JobAnswer::Roster(answer) => roster::text(alloc, answer),
     }
 }
 
@@ -193,6 +220,9 @@ impl JobAnswer {
             JobAnswer::Crew(answer) => crew::status(answer),
             JobAnswer::Rest(answer) => rest::status(answer),
             JobAnswer::Page(answer) => page::status(answer),
+            JobAnswer::Ics(answer) => ics::status(answer),
+            JobAnswer::On(answer) => on::status(answer),
+            JobAnswer::Roster(answer) => roster::status(answer),
         }
     }
 }
