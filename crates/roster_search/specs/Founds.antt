@@ -3,14 +3,12 @@ use Rattle.std.specs.Prelude.{◌≡◌, ℕ, ◌≤◌, List, slice_get, Option
 use Rattle.rwsp_terms.specs.declared.data.Symbol.{Symbol}
 use Rattle.rwsp_terms.specs.Instance.{Instance}
 use Rattle.refutation_terms.specs.declared.lines.Line.{Line}
-use Rattle.refutation_terms.specs.declared.lines.Line.TheVariants.{Split, Closing}
-use Rattle.refutation_terms.specs.declared.lines.Leaf.TheVariants.{Few}
+use Rattle.refutation_terms.specs.declared.lines.Line.TheVariants.{Split}
 use Rattle.refutation_terms.specs.declared.lines.Opening.{Opening}
-use Rattle.refutation_terms.specs.declared.lines.Opening.TheVariants.{Full, Turned}
-use Rattle.refutation_terms.specs.declared.lines.Turn.{Turn}
 use Rattle.refutation_terms.specs.Word.{Domains, AreSame}
 use Rattle.refutation_terms.specs.Tree.{domains_at}
-use Rattle.refutation_terms.specs.Log.{Log, Holds, Passes, IsSpent, NamesOnlyCited, size}
+use Rattle.refutation_terms.specs.FewLeaf.{FewHolds}
+use Rattle.refutation_terms.specs.Log.{Log, Passes, IsSpent, NamesOnlyCited, size}
 use Rattle.domain_store.specs.Store.{Store, BelongsTo, IsStore, has_domain}
 use Rattle.domain_store.specs.Looks.{Closes}
 use Rattle.roster_search.specs.Guides.{IsWantedRoster}
@@ -30,39 +28,40 @@ pub record IsForced (P : Instance) (leaves : Store → Line → Type 0) (spent :
 
 -- this is said of each split, by the domains at it, its position and its symbol
 abbrev pub AtEachSplit : (Domains → ℕ → Symbol → Type 0) → Instance → Opening → List Line → Type 0
-AtEachSplit Said P turn lines =
-    (k p : ℕ) (x : Symbol) → slice_get lines k ≡ Some (Split p x) → Said (domains_at P turn lines k) p x
+AtEachSplit Said P start lines =
+    (k p : ℕ) (x : Symbol) → slice_get lines k ≡ Some (Split p x) → Said (domains_at P start lines k) p x
 
 -- each split is as the propagator says
 abbrev pub AreForced : Instance → (Store → Line → Type 0) → (Store → ℕ → Symbol → Type 0) → Opening → List Line
     → Type 0
-AreForced P leaves spent turn lines = AtEachSplit (IsForced P leaves spent) P turn lines
+AreForced P leaves spent start lines = AtEachSplit (IsForced P leaves spent) P start lines
 
 -- with a goal, at each split as many weeks as that can still have a free weekend
 abbrev pub FewHoldsAtNoSplit : Instance → Option ℕ → Opening → List Line → Type 0
-FewHoldsAtNoSplit P goal turn lines = AtEachSplit (λ D p x. Holds P goal D (Closing Few) → ⊥) P turn lines
+FewHoldsAtNoSplit P goal start lines = AtEachSplit (λ D p x. FewHolds P goal D → ⊥) P start lines
 
--- a log with this turn that names what it cites and no more
-pub record IsLogOfTurn (P : Instance) (turn : Opening) (g : Log) : Type 0 where
-  pub same_turn : g.opening ≡ turn
+-- a log from this opening, for this goal or none, that names what it cites and no more
+pub record IsLogOf (P : Instance) (start : Opening) (goal : Option ℕ) (g : Log) : Type 0 where
+  pub same_opening : g.opening ≡ start
+  pub same_goal : g.goal ≡ goal
   pub cited : NamesOnlyCited P g
 
--- such a log, whose splits are as the propagator says, for this goal or none
-pub record IsSearchLog (P : Instance) (turn : Opening) (goal : Option ℕ) (leaves : Store → Line → Type 0)
+-- such a log, whose splits are as the propagator says, and at none of them is the leaf of few weeks at hand
+pub record IsSearchLog (P : Instance) (start : Opening) (goal : Option ℕ) (leaves : Store → Line → Type 0)
     (spent : Store → ℕ → Symbol → Type 0) (g : Log) : Type 0 where
-  pub of_turn : IsLogOfTurn P turn g
-  pub splits : AreForced P leaves spent turn g.lines
-  pub no_few : FewHoldsAtNoSplit P goal turn g.lines
+  pub is_log : IsLogOf P start goal g
+  pub splits : AreForced P leaves spent start g.lines
+  pub no_few : FewHoldsAtNoSplit P goal start g.lines
 
 -- a roster that meets every rule and has as many free weekends as the goal, where there is one; or a log that passes,
 -- of at most the budget's size; or one that has spent the budget
 abbrev pub IsFound : Instance → Opening → Option ℕ → ℕ → (Store → Line → Type 0)
     → (Store → ℕ → Symbol → Type 0) → Found → Type 0
-IsFound P turn goal budget leaves spent (Roster s) = IsWantedRoster P goal s
-IsFound P turn goal budget leaves spent (NoRoster g) =
-    Passes P g × (size g ≤ budget) × IsSearchLog P turn goal leaves spent g
-IsFound P turn goal budget leaves spent (Undecided g) =
-    IsSpent P g budget × IsSearchLog P turn goal leaves spent g
+IsFound P start goal budget leaves spent (Roster s) = IsWantedRoster P goal s
+IsFound P start goal budget leaves spent (NoRoster g) =
+    Passes P g × (size g ≤ budget) × IsSearchLog P start goal leaves spent g
+IsFound P start goal budget leaves spent (Undecided g) =
+    IsSpent P g budget × IsSearchLog P start goal leaves spent g
 
 -- the budget was spent
 abbrev pub HasSpentBudget : Found → Type 0

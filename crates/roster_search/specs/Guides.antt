@@ -6,9 +6,7 @@ use Rattle.rwsp_terms.specs.Instance.{Instance}
 use Rattle.rwsp_terms.specs.Roster.{MeetsAll}
 use Rattle.rwsp_model.specs.Schedule.{Schedule}
 use Rattle.refutation_terms.specs.declared.lines.Line.{Line}
-use Rattle.refutation_terms.specs.declared.lines.Line.TheVariants.{Closing}
-use Rattle.refutation_terms.specs.declared.lines.Leaf.TheVariants.{Few}
-use Rattle.refutation_terms.specs.Log.{Holds}
+use Rattle.refutation_terms.specs.FewLeaf.{FewHolds}
 use Rattle.refutation_terms.specs.Laws.{HasGoal}
 use Rattle.domain_store.specs.Store.{Store, has_domain}
 use Rattle.domain_store.specs.Splits.{is_idle_in}
@@ -26,7 +24,7 @@ IsLeafGiven P goal S line = IfSome line (IsHoldingLeaf P goal (has_domain S))
 abbrev pub IsWantedRoster : Instance → Option ℕ → Schedule → Type 0
 IsWantedRoster P goal s = (s.days ≡ P.days) × MeetsAll P s.cells × HasGoal goal s.cells
 
--- where there is a goal, no leaf of the propagator is a bound
+-- where there is a goal, no leaf of the propagator weighs words
 abbrev pub AreUnweighed : Option ℕ → (Store → Line → Type 0) → Type 0
 AreUnweighed None leaves = Unit {0}
 AreUnweighed (Some goal) leaves = (S : Store) (line : Line) → leaves S line → IsUnweighed line
@@ -47,7 +45,7 @@ IsGiven P goal S sight = ⊥
 
 -- no leaf of the propagator holds, and with a goal, as many weeks as that can still have a free weekend
 abbrev pub IsOpen : Instance → Option ℕ → (Line → Type 0) → Store → Type 0
-IsOpen P goal leaves S = (Closes P leaves S → ⊥) × (Holds P goal (has_domain S) (Closing Few) → ⊥)
+IsOpen P goal leaves S = (Closes P leaves S → ⊥) × (FewHolds P goal (has_domain S) → ⊥)
 
 -- a leaf that holds, a roster that meets every rule and the goal, or what is seen of open domains
 abbrev pub IsSight : Instance → Option ℕ → (Line → Type 0) → (ℕ → Symbol → Type 0) → Store → Sight → Type 0

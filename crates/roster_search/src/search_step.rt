@@ -1,4 +1,4 @@
-// One turn of a search.
+// One step of a search.
 ghost use Rattle.std.specs.Prelude.{◌≡◌, ℕ, ◌↔◌, Option, IfOk, IfSome, MatchOption, None};
 ghost use Rattle.rwsp_terms.specs.declared.data.Symbol.{Symbol};
 ghost use Rattle.rwsp_terms.specs.Instance.{Instance};

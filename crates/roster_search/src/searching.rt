@@ -28,13 +28,13 @@ pub fn search<A: Propagator, G: Guide>(
     guide: &mut G,
 ) -> Result<Found, AllocError>
     requires budget { (1 ≤ aim.budget) × (aim.budget ≤ GREATEST_BUDGET) }
-    requires turn { OpeningFits problem.now aim.turn × IsAllowed problem.now aim.turn }
-    requires goal { GoalFits problem.now aim.turn aim.goal }
+    requires opening { OpeningFits problem.now aim.opening × IsAllowed problem.now aim.opening }
+    requires goal { GoalFits problem.now aim.opening aim.goal }
     requires serves { A.serves propagator.old problem.now }
     requires plain { HasPlainLeaves problem.now (A.leaves propagator.old) }
     requires unweighed { AreUnweighed aim.goal (A.leaves propagator.old) }
     requires guide { G.serves guide.old problem.now aim.goal }
-    ensures found { IfOk result (λ found. IsFound problem.now aim.turn aim.goal aim.budget
+    ensures found { IfOk result (λ found. IsFound problem.now aim.opening aim.goal aim.budget
         (A.leaves propagator.old) (A.spent propagator.old) found) }
     ensures complete { IfOk result (λ found.
         HasSpentBudget found → aim.budget + 1 < 2 * (shift_count problem.now + 1) ^ cells problem.now) }

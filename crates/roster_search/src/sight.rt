@@ -2,12 +2,9 @@
 ghost use Rattle.std.specs.Prelude.{◌≡◌, ◌⊎◌, ℕ, ◌↔◌, Option, IsTrue, IfOk};
 ghost use Rattle.std.specs.Option.{IfSome};
 ghost use Rattle.rwsp_terms.specs.Instance.{Instance};
-ghost use Rattle.refutation_terms.specs.declared.lines.Line.TheVariants.{Closing};
-ghost use Rattle.refutation_terms.specs.declared.lines.Leaf.TheVariants.{Few};
 ghost use Rattle.refutation_terms.specs.declared.lines.Opening.{Opening};
-ghost use Rattle.refutation_terms.specs.declared.lines.Opening.TheVariants.{Full, Turned};
-ghost use Rattle.refutation_terms.specs.declared.lines.Turn.{Turn};
-ghost use Rattle.refutation_terms.specs.Log.{GoalFits, Holds};
+ghost use Rattle.refutation_terms.specs.FewLeaf.{FewHolds};
+ghost use Rattle.refutation_terms.specs.Log.{GoalFits};
 ghost use Rattle.domain_store.specs.Store.{BelongsTo, has_domain};
 ghost use Rattle.domain_store.specs.Looks.{IsSame};
 ghost use Rattle.roster_search.specs.Guides.{IsLeafGiven, IsGiven, IsSight};
@@ -139,8 +136,8 @@ fn given_or<G: Guide>(
 // Whether fewer weeks than the goal, where there is one, can still have a free weekend.
 fn is_short_of(problem: &Problem, goal: Option<u32>, doms: &Domains) -> bool
     requires belongs { BelongsTo problem.now doms.now }
-    requires goal { (turn : Opening) × GoalFits problem.now turn goal }
-    ensures { IsTrue result ↔ Holds problem.now goal (has_domain doms.now) (Closing Few) }
+    requires goal { (start : Opening) × GoalFits problem.now start goal }
+    ensures { IsTrue result ↔ FewHolds problem.now goal (has_domain doms.now) }
 {
     match goal {
         Some(goal) => few_holds(problem, doms, goal),
