@@ -1,4 +1,4 @@
-// Pages of rosters: the lines that matter, and the refusals. What is escaped is as in WHATWG's list of references.
+// Pages of rosters: the lines that matter, and the refusals.
 use super::{NINE_WEEKS, NINE_WEEKS_ROSTER, line_ends, ran};
 use std::test::Fail;
 
@@ -20,7 +20,7 @@ fn a_page_of_odd_names(rt: HostRuntime) -> Result<(), Fail> {
     let ending = ran(&rt, rt.alloc(), "page F R", &files, 0, 0)?;
     assert_eq!(rt; ending.status, 0);
     for line in &ODD_LINES {
-        assert!(rt; ending.text.contains(line), "{line}");
+        assert!(rt; ending.text.contains(*line), "{line}");
     }
     Ok(())
 }
@@ -38,7 +38,7 @@ fn a_page_of_nine_weeks(rt: HostRuntime) -> Result<(), Fail> {
     let ending = ran(&rt, rt.alloc(), "page F R", &files, 0, 0)?;
     assert_eq!(rt; ending.status, 0);
     for line in &NINE_LINES {
-        assert!(rt; ending.text.contains(line), "{line}");
+        assert!(rt; ending.text.contains(*line), "{line}");
     }
     Ok(())
 }
