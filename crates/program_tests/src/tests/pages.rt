@@ -3,7 +3,8 @@ use super::{NINE_WEEKS, NINE_WEEKS_ROSTER, line_ends, ran};
 use std::test::Fail;
 
 // The name has a character of two bytes, one that the markup has, one that a reader doesn't see, and a lone byte of UTF-8.
-const ODD: &str = "2\n1\n1\n1 0\n\u{e4}<\u{1} 1320 480 1 1\n1 1\n1 1\n1 0\n\u{e4}<\u{1} \u{e4}<\u{1}\n";
+const ODD: &str =
+    "2\n1\n1\n1 0\n\u{e4}<\u{1} 1320 480 1 1\n1 1\n1 1\n1 0\n\u{e4}<\u{1} \u{e4}<\u{1}\n";
 
 const ODD_LINES: [&str; 6] = [
     "<!DOCTYPE html>\n<html lang=\"en\">\n",
