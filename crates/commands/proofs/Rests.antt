@@ -1,5 +1,5 @@
 -- A problem has one answer about a least rest.
-use Rattle.std.proofs.Common.{◌≡◌, ℕ, ◌<◌, ◌≤◌, length, ap, sym, ◌∙◌, arith}
+use Rattle.std.proofs.Common.{◌≡◌, ℕ, ap, sym, ◌∙◌, arith}
 use Rattle.rwsp_terms.specs.Instance.{Instance}
 use Rattle.rest_between.specs.declared.rested.LeastRest.{LeastRest}
 use Rattle.rest_between.specs.declared.rested.LeastRest.TheVariants.{Rested, Pairs, Triples}

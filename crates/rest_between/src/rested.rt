@@ -114,7 +114,8 @@ fn put_triples_of(
 ) -> Result<(), AllocError>
     requires minutes { minutes ≤ LONGEST_REST }
     requires first { first < shift_count problem.now }
-    ensures { OnOk result (out.new.items ≡ out.old.items ++ of_first problem.now (triple_of problem.now minutes) first) }
+    ensures { OnOk result (
+        out.new.items ≡ out.old.items ++ of_first problem.now (triple_of problem.now minutes) first) }
 {
     for second in 0..problem.shifts() {
         put_triple(out, problem, minutes, shift_at(first), shift_at(second))?;

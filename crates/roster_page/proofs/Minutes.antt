@@ -1,6 +1,6 @@
 -- The minutes of symbols.
-use Rattle.std.proofs.Common.{◌≡◌, ℕ, zero, suc, ◌+◌, ◌-◌, ◌<◌, ap, sym, ◌∙◌, arith}
-use Rattle.std.specs.Prelude.{Option, Some, None, option_map, slice_get}
+use Rattle.std.proofs.Common.{◌≡◌, ℕ, zero, suc, ◌-◌, ◌<◌, ap, ◌∙◌, arith}
+use Rattle.std.specs.Prelude.{Some, option_map, slice_get}
 use Rattle.rwsp_terms.specs.declared.data.ShiftRow.{ShiftRow}
 use Rattle.rwsp_terms.specs.Instance.{Instance}
 use Rattle.rest_between.specs.Times.{length_in}

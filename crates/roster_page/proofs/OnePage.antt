@@ -3,7 +3,7 @@ use Rattle.std.proofs.Common.{◌≡◌, ℕ, ◌<◌, ◌≤◌, List, length, 
 use Rattle.rwsp_terms.specs.Instance.{Instance}
 use Rattle.rwsp_terms.specs.Window.{cell}
 use Rattle.rwsp_terms.specs.declared.data.Symbol.{Symbol}
-use Rattle.roster_page.specs.LeastRest.{IsLeast, IsLeastRest, rest_after}
+use Rattle.roster_page.specs.LeastRest.{IsLeast, IsLeastRest}
 use Rattle.roster_page.specs.PageText.{IsPage, page_text}
 
 some_or_none : (P : Instance) (s : List Symbol) (m : ℕ) → IsLeast P s (length s) m → ((p : ℕ) → p < length s → (cell s p).number ≡ 0) → ⊥

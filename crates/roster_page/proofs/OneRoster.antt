@@ -1,18 +1,18 @@
 -- A page shows one roster.
-use Rattle.std.proofs.Common.{◌≡◌, ℕ, zero, suc, ◌+◌, ◌-◌, ◌*◌, ◌<◌, ◌≤◌, List, [], ◌∷◌, ◌++◌, length, take, drop, min, Option, refl, ap, sym, subst, ◌∙◌, arith, append_assoc, length-drop}
+use Rattle.std.proofs.Common.{◌≡◌, ℕ, zero, suc, ◌+◌, ◌-◌, ◌*◌, ◌<◌, List, [], ◌∷◌, ◌++◌, length, take, drop, min, Option, refl, ap, sym, subst, ◌∙◌, arith, append_assoc, length-drop}
 use Rattle.std.specs.Prelude.{All}
 use Rattle.std.specs.List.{flat_map, range_with_len}
 use Rattle.std.specs.Fmt.{decimal}
 use Rattle.std.proofs.lemmas.Fmt.{decimal_digit}
 use Rattle.std.proofs.lemmas.List.{length-take, drop-drop, take-append-drop, append_cancel_left}
 use Rattle.std.proofs.lemmas.List.Elements.{All-take, All-drop}
-use Rattle.rwsp_terms.specs.Instance.{Instance, shift_count, IsSymbol, symbol_numbered}
+use Rattle.rwsp_terms.specs.Instance.{Instance, IsSymbol, symbol_numbered}
 use Rattle.rwsp_terms.specs.Roster.{IsRoster}
 use Rattle.rwsp_terms.specs.declared.data.Symbol.{Symbol}
 use Rattle.rwsp_model.specs.Validity.{KeepsLimits}
 use Rattle.roster_print.specs.RosterText.{week_at}
 use Rattle.roster_page.specs.PieceText.{piece_text}
-use Rattle.roster_page.specs.PageText.{IsPage, page_text, page_head, page_rest, roster_table, roster_head, week_rows, week_row, week_top, week_end, cells_text, cell_text, name_text}
+use Rattle.roster_page.specs.PageText.{page_text, page_head, page_rest, roster_table, roster_head, week_rows, week_row, week_top, week_end, cells_text, cell_text, name_text}
 use Rattle.roster_page.specs.declared.pieces.Piece.TheVariants as Pieces
 use Rattle.roster_page.specs.Laws.{PagesShowOneRoster}
 

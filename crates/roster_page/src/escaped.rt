@@ -129,7 +129,7 @@ fn put_first(out: &mut Vec<u8>, b: u8, bytes: usize) -> Result<(), AllocError>
     }
 }
 
-// Appends the byte at a place, of whose character `within` bytes are still to come, and gives how many are then to come.
+// Appends the byte at a place, where `within` bytes of a character are still to come, and gives how many are then left.
 fn put_byte(
     out: &mut Vec<u8>,
     name: &[u8],

@@ -1,9 +1,10 @@
-// Pages of rosters: the lines that matter, and the refusals. What is escaped is as in WHATWG's list of references.
+// Pages of rosters: the lines that matter, and the refusals.
 use super::{NINE_WEEKS, NINE_WEEKS_ROSTER, line_ends, ran};
 use std::test::Fail;
 
 // The name has a character of two bytes, one that the markup has, one that a reader doesn't see, and a lone byte of UTF-8.
-const ODD: &str = "2\n1\n1\n1 0\n\u{e4}<\u{1} 1320 480 1 1\n1 1\n1 1\n1 0\n\u{e4}<\u{1} \u{e4}<\u{1}\n";
+const ODD: &str =
+    "2\n1\n1\n1 0\n\u{e4}<\u{1} 1320 480 1 1\n1 1\n1 1\n1 0\n\u{e4}<\u{1} \u{e4}<\u{1}\n";
 
 const ODD_LINES: [&str; 6] = [
     "<!DOCTYPE html>\n<html lang=\"en\">\n",
@@ -20,7 +21,7 @@ fn a_page_of_odd_names(rt: HostRuntime) -> Result<(), Fail> {
     let ending = ran(&rt, rt.alloc(), "page F R", &files, 0, 0)?;
     assert_eq!(rt; ending.status, 0);
     for line in &ODD_LINES {
-        assert!(rt; ending.text.contains(line), "{line}");
+        assert!(rt; ending.text.contains(*line), "{line}");
     }
     Ok(())
 }
@@ -38,7 +39,7 @@ fn a_page_of_nine_weeks(rt: HostRuntime) -> Result<(), Fail> {
     let ending = ran(&rt, rt.alloc(), "page F R", &files, 0, 0)?;
     assert_eq!(rt; ending.status, 0);
     for line in &NINE_LINES {
-        assert!(rt; ending.text.contains(line), "{line}");
+        assert!(rt; ending.text.contains(*line), "{line}");
     }
     Ok(())
 }

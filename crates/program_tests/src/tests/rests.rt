@@ -4,11 +4,9 @@
 use super::{USAGE, line_ends};
 use std::test::Fail;
 
-const TWO_SHIFTS: &str =
-    "2\n2\n2\n1 1\n1 1\nD 360 480 1 7\nN 1320 480 1 7\n1 7\n1 7\n1 0\nN D\n";
+const TWO_SHIFTS: &str = "2\n2\n2\n1 1\n1 1\nD 360 480 1 7\nN 1320 480 1 7\n1 7\n1 7\n1 0\nN D\n";
 
-const OF_960: &str =
-    "2\n2\n2\n1 1\n1 1\nD 360 480 1 7\nN 1320 480 1 7\n1 7\n1 7\n1 0\nN D\n";
+const OF_960: &str = "2\n2\n2\n1 1\n1 1\nD 360 480 1 7\nN 1320 480 1 7\n1 7\n1 7\n1 0\nN D\n";
 
 const OF_961: &str =
     "2\n2\n2\n1 1\n1 1\nD 360 480 1 7\nN 1320 480 1 7\n1 7\n1 7\n3 0\nN D\nD D\nN N\n";
@@ -35,7 +33,12 @@ const CASES: [(&str, &str, u8, &str); 8] = [
     ("rest F 2880", TWO_SHIFTS, 0, OF_2880),
     ("rest F 2881", TWO_SHIFTS, 2, USAGE),
     ("rest F 0", LONG_SHIFTS_PAIR, 3, "rest refused: pairs 65\n"),
-    ("rest F 0", LONG_SHIFTS_TRIPLE, 3, "rest refused: triples 65\n"),
+    (
+        "rest F 0",
+        LONG_SHIFTS_TRIPLE,
+        3,
+        "rest refused: triples 65\n",
+    ),
 ];
 
 #[test]

@@ -1,5 +1,3 @@
-use Rattle.std.proofs.Common.{◌++◌, ap, ◌∙◌}
-use Rattle.std.specs.List.{flat_map}
 use Rattle.roster_page.specs.PageText.{cell_text, cells_text}
 use Rattle.roster_page.proofs.Taken.{taken_more, taken_all}
 use Rattle.roster_page.proofs.table.put_cells.Goals as goal
