@@ -42,10 +42,8 @@ pub fn second_kind(task: &FilesTask) -> SecondKind
     ensures { result ≡ second_kind task.now }
 {
     match task {
-        FilesTask::Verify
-        | FilesTask::Crew { .. }
-        | FilesTask::Ics { .. }
-        | FilesTask::On { .. } => SecondKind::Roster,
+        FilesTask::Verify | FilesTask::Crew { .. } | FilesTask::Ics { .. } | FilesTask::On { .. } =>
+            SecondKind::Roster,
         _ => SecondKind::Log,
     }
 }
