@@ -75,7 +75,10 @@ pub enum FilesTask {
         employee: u32,
     },
     /// Who works on a date, where the first day of the roster was `start`.
-    On { start: CivilDate, date: CivilDate },
+    On {
+        start: CivilDate,
+        date: CivilDate,
+    },
     /// The roster that stands in an answer.
     Roster,
 }

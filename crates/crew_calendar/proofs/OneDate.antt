@@ -1,5 +1,5 @@
 -- Who works on a date is said once, and as the table has it.
-use Rattle.std.proofs.Common.{◌≡◌, ℕ, ◌+◌, ◌<◌, ◌==◌, List, [], ◌∷◌, Bool, true, false, cond, refl, ap, sym, ◌∙◌, arith, pos, ◌+ℤ◌, eq-eqb}
+use Rattle.std.proofs.Common.{◌≡◌, ℕ, ◌<◌, ◌==◌, List, [], ◌∷◌, Bool, true, false, cond, refl, ap, sym, ◌∙◌, arith, pos, ◌+ℤ◌}
 use Rattle.std.specs.Prelude.{◌≢◌}
 use Rattle.std.specs.Fmt.{decimal}
 use Rattle.std.proofs.lemmas.Bool.Decides.{nat_tests}
@@ -8,7 +8,7 @@ use Rattle.rwsp_terms.specs.Instance.{Instance}
 use Rattle.rwsp_terms.specs.declared.data.Symbol.{Symbol}
 use Rattle.crew_calendar.specs.Crew.{symbol_on}
 use Rattle.crew_calendar.specs.Calendar.{Date, epoch_day, IsCalendar}
-use Rattle.crew_calendar.specs.OnDate.{holder_text, on_text, IsOn, IsHolder, IsAsInTable}
+use Rattle.crew_calendar.specs.OnDate.{on_text, IsOn, IsAsInTable}
 
 same_days : (P : Instance) (s : List Symbol) (start date : Date) (t u : ℕ) → epoch_day date ≡ epoch_day start +ℤ pos t → epoch_day date ≡ epoch_day start +ℤ pos u → t ≡ u
 same_days P s start date t u h k = omega (arith, signed_arith, h, k)
@@ -27,7 +27,7 @@ no_number n x e false h apart = refl
 
 pub as_in_table : (P : Instance) (s : List Symbol) (start : Date) (days : ℕ) (on : ℕ → Date) (t : ℕ) (text : List ℕ) → IsCalendar start days on → t < days → IsOn P s start (on t) text → IsAsInTable P s on t text
 as_in_table P s start days on t text calendar less h = record {
-      is = h.is ∙ ap (on_text P s (on t)) (same_days P s start (on t) h.t t h.days (calendar t less));
-      own = λ e. let n = (symbol_on P s e t).number in own_number n e (n == n) refl;
-      others = λ x e apart. let n = (symbol_on P s e t).number in no_number n x e (n == x) refl apart;
-    }
+  is = h.is ∙ ap (on_text P s (on t)) (same_days P s start (on t) h.t t h.days (calendar t less));
+  own = λ e. let n = (symbol_on P s e t).number in own_number n e (n == n) refl;
+  others = λ x e apart. let n = (symbol_on P s e t).number in no_number n x e (n == x) refl apart;
+}

@@ -1,6 +1,5 @@
 -- The events of an employee's duties have one text.
-use Rattle.std.proofs.Common.{◌≡◌, ℕ, zero, suc, ◌+◌, ◌-◌, ◌*◌, ◌/◌, ◌%◌, ◌<◌, ◌≤◌, List, [], ◌∷◌, ◌++◌, codes, refl, ap, sym, ◌∙◌, arith}
-use Rattle.std.specs.List.{flat_map, range_with_len}
+use Rattle.std.proofs.Common.{◌≡◌, ℕ, zero, suc, ◌+◌, ◌-◌, ◌*◌, ◌/◌, ◌%◌, ◌<◌, List, [], ◌∷◌, ◌++◌, codes, refl, ap, sym, ◌∙◌, arith}
 use Rattle.rwsp_terms.specs.declared.data.Symbol.{Symbol}
 use Rattle.rwsp_terms.specs.Instance.{Instance, name_of, symbol_numbered}
 use Rattle.rwsp_model.specs.Validity.{KeepsLimits}
@@ -9,7 +8,7 @@ use Rattle.crew_calendar.specs.Crew.{symbol_on}
 use Rattle.crew_calendar.specs.Calendar.{Date, IsCalendar}
 use Rattle.crew_calendar.specs.Texts.{two_digits, day_minutes, start_of, length_of}
 use Rattle.crew_calendar.specs.ContentLines.{content_text}
-use Rattle.crew_calendar.specs.Events.{compact_date, moment_at, opening_lines, time_lines, end_lines, start_line, end_line, closing_lines, event_lines, duty_events, events_on, first_lines, last_lines, AreEvents, HasNoDuty, HasDuty}
+use Rattle.crew_calendar.specs.Events.{moment_at, opening_lines, time_lines, end_lines, start_line, closing_lines, event_lines, duty_events, events_on, first_lines, last_lines, AreEvents, HasNoDuty, HasDuty}
 use Rattle.crew_calendar.proofs.OneText.{lines_same, row_small}
 use Rattle.crew_calendar.proofs.EventLines.{one_compact, opening_same}
 

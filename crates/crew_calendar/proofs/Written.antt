@@ -1,16 +1,16 @@
 -- What is written byte by byte.
 use Rattle.std.proofs.Common.{◌≡◌, ℕ, zero, suc, ◌+◌, ◌-◌, ◌<◌, ◌≤◌, List, [], ◌∷◌, ◌++◌, length, take, drop, get_or, Bool, true, false, cond, refl, ap, sym, ◌∙◌, arith, append_assoc}
-use Rattle.std.specs.Prelude.{slice_range, ◌&&◌, nat_lt, nat_le, IsUtf8}
+use Rattle.std.specs.Prelude.{slice_range, ◌&&◌, nat_le, IsUtf8}
 use Rattle.std.specs.List.{flat_map}
 use Rattle.std.specs.Str.{is_utf8}
 use Rattle.std.proofs.Math.Numerals.{add-one}
 use Rattle.std.proofs.Math.Seq.{drop-cons}
 use Rattle.std.proofs.lemmas.List.{append-nil, drop-drop, drop_all, take_all, length-drop}
-use Rattle.std.proofs.lemmas.Bool.{le-leb, leb-true, ltb-true}
-use Rattle.std.proofs.lemmas.Str.{IsUtf8-from_is_utf8, is_utf8-from_IsUtf8}
+use Rattle.std.proofs.lemmas.Bool.{le-leb, leb-true}
+use Rattle.std.proofs.lemmas.Str.{IsUtf8-from_is_utf8}
 use Rattle.crew_calendar.specs.declared.content_lines.TheConstants.{LONGEST_ROW}
-use Rattle.crew_calendar.specs.ContentLines.{escape, width, has_room, folded_from}
-use Rattle.crew_calendar.specs.ShownNames.{begins_with_text, character_len, is_printable, hex_text, first_shown, shown_from}
+use Rattle.crew_calendar.specs.ContentLines.{width, has_room, folded_from}
+use Rattle.crew_calendar.specs.ShownNames.{begins_with_text, character_len, first_shown, shown_from}
 
 -- what is behind an index begins with the element there
 drop-at : (l : List ℕ) (i : ℕ) → i < length l → drop i l ≡ get_or l i 0 ∷ drop (i + 1) l

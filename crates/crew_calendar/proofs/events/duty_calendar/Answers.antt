@@ -1,10 +1,10 @@
-use Rattle.std.proofs.Common.{◌≡◌, ◌+◌, ◌++◌, ◌∷◌, [], codes, ap, ◌∙◌, arith}
+use Rattle.std.proofs.Common.{◌≡◌, ◌+◌, ◌++◌, codes, ap, ◌∙◌, arith}
 use Rattle.std.specs.List.{flat_map, range_with_len}
 use Rattle.crew_calendar.specs.declared.dates.TheConstants.{MOST_DAYS_LATER}
 use Rattle.crew_calendar.specs.ContentLines.{content_line, content_text}
-use Rattle.crew_calendar.specs.Events.{first_lines, last_lines, events_on, calendar_lines}
+use Rattle.crew_calendar.specs.Events.{first_lines, events_on}
 use Rattle.crew_calendar.proofs.Calendars.{fewer_fit, calendar_from, is_calendar}
-use Rattle.crew_calendar.proofs.EventLines.{days_more, one_line, lines_put, last_line}
+use Rattle.crew_calendar.proofs.EventLines.{days_more, last_line}
 use Rattle.crew_calendar.proofs.events.duty_calendar.Goals as goal
 
 pub put_duty_event-requires-clause-within : goal.put_duty_event-requires-clause-within

@@ -3,8 +3,8 @@ use Rattle.rwsp_terms.specs.Instance.{name_of}
 use Rattle.crew_calendar.specs.declared.dates.TheConstants.{MOST_DAYS_LATER}
 use Rattle.crew_calendar.specs.Texts.{day_minutes, start_of, length_of}
 use Rattle.crew_calendar.specs.ContentLines.{content_text}
-use Rattle.crew_calendar.specs.Events.{compact_date, uid_line, stamp_line, opening_lines, time_lines, closing_lines}
-use Rattle.crew_calendar.proofs.EventLines.{one_compact, parts_put, opening_same}
+use Rattle.crew_calendar.specs.Events.{opening_lines, time_lines, closing_lines}
+use Rattle.crew_calendar.proofs.EventLines.{parts_put, opening_same}
 use Rattle.crew_calendar.proofs.events.put_event.Goals as goal
 
 pub returns : goal.returns

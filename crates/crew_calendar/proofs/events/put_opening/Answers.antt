@@ -1,4 +1,4 @@
-use Rattle.std.proofs.Common.{codes, ◌≡◌, ◌++◌, ap, ◌∙◌}
+use Rattle.std.proofs.Common.{codes, ◌++◌, ap, ◌∙◌}
 use Rattle.crew_calendar.specs.ContentLines.{content_line}
 use Rattle.crew_calendar.specs.Events.{uid_line, stamp_line}
 use Rattle.crew_calendar.proofs.EventLines.{three_lines}

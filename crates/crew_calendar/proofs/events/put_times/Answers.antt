@@ -1,4 +1,4 @@
-use Rattle.std.proofs.Common.{◌≡◌, ◌+◌, ◌∷◌, [], ◌++◌, ap, sym, ◌∙◌, arith}
+use Rattle.std.proofs.Common.{◌+◌, ◌∷◌, [], ◌++◌, ap, sym, ◌∙◌, arith}
 use Rattle.crew_calendar.specs.ContentLines.{content_text}
 use Rattle.crew_calendar.specs.Events.{moment_at, start_line, end_line}
 use Rattle.crew_calendar.proofs.EventLines.{lines_put, no_end, some_end}
