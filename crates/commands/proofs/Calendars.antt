@@ -3,7 +3,6 @@ use Rattle.std.proofs.Common.{refl, ◌≡◌, ℕ, ◌<◌, ◌≤◌, List, So
 use Rattle.rwsp_terms.specs.Instance.{Instance}
 use Rattle.rwsp_terms.specs.declared.data.Symbol.{Symbol}
 use Rattle.rwsp_model.specs.Validity.{KeepsLimits}
-use Rattle.roster_print.specs.RosterText.{SpellsRoster}
 use Rattle.roster_print.proofs.Spelling.{one_roster}
 use Rattle.crew_calendar.specs.Calendar.{Date}
 use Rattle.crew_calendar.proofs.OneText.{one_table, one_duties}

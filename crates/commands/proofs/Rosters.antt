@@ -22,7 +22,7 @@ refused_by : (P : Instance) (bytes : List ℕ) (s : List Symbol) (why : RosterRe
 refused_by P bytes s why None e m spells = absurd (cc)
 refused_by P bytes s why (Some other) e m spells = m s spells
 
-pub refused_roster : (P : Instance) (bytes : List ℕ) (s : List Symbol) (why : RosterRefusal) → refusal_of_roster P bytes ≡ Some why → SpellsRoster P bytes s → ⊥
+refused_roster : (P : Instance) (bytes : List ℕ) (s : List Symbol) (why : RosterRefusal) → refusal_of_roster P bytes ≡ Some why → SpellsRoster P bytes s → ⊥
 refused_roster P bytes s why e spells = refused_by P bytes s why (refusal_of_roster P bytes) e (refusals_decide P bytes) spells
 
 pub one_fault : (P : Instance) (bytes : List ℕ) (a b : RosterFault) → IsRosterFault P bytes a → IsRosterFault P bytes b → a ≡ b
