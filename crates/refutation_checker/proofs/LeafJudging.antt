@@ -1,13 +1,13 @@
--- Words and leaves (Dead bound), judged apart from their log.
-use Rattle.std.proofs.Common.{◌≡◌, ◌∙◌, ap, sym, ℕ, Option, None, subst, IsTrue, true, false, refl, arith, List}
+-- Leaves of words, judged apart from their log.
+use Rattle.std.proofs.Common.{◌≡◌, ◌∙◌, ap, ℕ, Option, None, subst, IsTrue, true, false, refl, arith, List}
 use Rattle.std.specs.Prelude.{◌↔◌, MatchOption, IfOk, Result}
 use Rattle.std.specs.declared.alloc.AllocError.{AllocError}
 use Rattle.rwsp_terms.specs.declared.data.Symbol.{Symbol}
 use Rattle.rwsp_terms.specs.Instance.{Instance}
 use Rattle.refutation_terms.specs.declared.lines.Line.{Line}
 use Rattle.refutation_terms.specs.declared.lines.Line.TheVariants.{Closing}
-use Rattle.refutation_terms.specs.declared.lines.Leaf.{Leaf}
 use Rattle.refutation_terms.specs.declared.lines.Leaf.TheVariants.{Words}
+use Rattle.refutation_terms.specs.declared.lines.WordClaim.{WordClaim}
 use Rattle.refutation_terms.specs.declared.lines.WordClaim.TheVariants.{Dead, Light}
 use Rattle.refutation_terms.specs.Word.{Domains, AreSame}
 use Rattle.rwsp_terms.specs.Rules.{NamesShortOnly}
@@ -18,14 +18,13 @@ use Rattle.refutation_terms.proofs.SameDomains.{same_holds, turned_round}
 use Rattle.refutation_checker.specs.LineVerdicts.{HasList, HasNoList, HoldsByWords}
 
 pub same_by_words : (P : Instance) (D E : Domains) (line : Line) → LineFits P None line → AreSame P D E → HoldsByWords P None D line → HoldsByWords P None E line
-same_by_words P D E (Closing (Words p R (Dead len))) fits same h = same_holds P D E (Closing (Words p R (Dead len))) (omega (arith, fits.0)) fits same h
-same_by_words P D E (Closing (Words p R (Light turns reward y))) fits same h = same_holds P D E (Closing (Words p R (Light turns 0 y))) (omega (arith, fits.0)) fits same h
-same_by_words P D E (Closing (Words p R (Light turns reward y))) fits same h = absurd h
+same_by_words P D E (Closing (Words p R (Dead len))) fits same h = same_holds P None D E (Closing (Words p R (Dead len))) (omega (arith, fits.0)) tt fits same h
+same_by_words P D E (Closing (Words p R (Light turns reward y))) fits same h =
+    same_holds P None D E (Closing (Words p R (Light turns reward y))) (omega (arith, fits.0)) tt fits same h
 same_by_words P D E line fits same h = tt
 
 pub escaped_by_words : (P : Instance) (D : Domains) (line : Line) (w : List Symbol) → Escapes P None D line w → HoldsByWords P None D line → ⊥
-escaped_by_words P D (Closing (Words p R (Dead len))) w e h = escaped_not_holding P D (Closing (Words p R (Dead len))) w e h
-escaped_by_words P D (Closing (Words p R (Light turns reward y))) w e h = escaped_not_holding P D (Closing (Words p R (Light turns 0 y))) w e h
+escaped_by_words P D (Closing (Words p R claim)) w e h = escaped_not_holding P None D (Closing (Words p R claim)) w e h
 escaped_by_words P D line w e h = absurd e
 
 -- what the words say under the domains of a walk, they say under those of its lines
@@ -41,16 +40,12 @@ fails_there P D E line w fits same e = (
 -- the list of a line
 
 pub its_short_rules : (P : Instance) (line : Line) (list : List ℕ) → HasList line list → ListsShortOnly P line → NamesShortOnly P list
-its_short_rules P (Closing (Words p R (Dead len))) list has short = subst (NamesShortOnly P) has short
-its_short_rules P (Closing (Words p R (Light turns reward y))) list has short = subst (NamesShortOnly P) has short
-its_short_rules P (Closing (Words p R (Light turns reward y))) list has short = subst (NamesShortOnly P) has short
+its_short_rules P (Closing (Words p R claim)) list has short = subst (NamesShortOnly P) has short
 its_short_rules P line list has short = absurd has
 
 -- nothing is said by words of a line without one
 pub without_list : (P : Instance) (goal : Option ℕ) (D : Domains) (line : Line) → HasNoList line → HoldsByWords P goal D line
-without_list P goal D (Closing (Words p R (Dead len))) none = absurd none
-without_list P goal D (Closing (Words p R (Light turns reward y))) none = absurd none
-without_list P goal D (Closing (Words p R (Light turns reward y))) none = absurd none
+without_list P goal D (Closing (Words p R claim)) none = absurd none
 without_list P goal D line none = tt
 
 -- a search for a word that escapes the line has found one, or the line holds
@@ -58,9 +53,8 @@ abbrev pub IsAnswered : Instance → Option ℕ → Domains → Line → Result 
 IsAnswered P goal D line answer =
     IfOk answer (λ found. MatchOption found (HoldsByWords P goal D line) (Escapes P goal D line))
 
--- a leaf by its list is answered by a search with this list
-pub answered : (P : Instance) (goal : Option ℕ) (D : Domains) (list : List ℕ) (line : Line) (answer : Result (Option (List Symbol)) AllocError)
-    (leaf : List ℕ → Leaf) (R : List ℕ) → ((some : List ℕ) → HasList (Closing (leaf R)) some → R ≡ some) → line ≡ Closing (leaf R) → HasList line list → IsAnswered P goal D (Closing (leaf list)) answer → IsAnswered P goal D line answer
-answered P goal D list line answer leaf R its is has h =
-    let same : R ≡ list = its list (subst (λ (l : Line). HasList l list) is has) in
-    subst (λ (l : Line). IsAnswered P goal D l answer) (sym (is ∙ ap (λ R. Closing (leaf R)) same)) h
+-- a leaf of words by a list that is its own
+pub with_list : (line : Line) (list R : List ℕ) (p : ℕ) (claim : WordClaim) → line ≡ Closing (Words p R claim) → HasList line list → line ≡ Closing (Words p list claim)
+with_list line list R p claim is has =
+    let same : R ≡ list = subst (λ (l : Line). HasList l list) is has in
+    is ∙ ap (λ R. Closing (Words p R claim)) same

@@ -10,7 +10,6 @@ pub mod Deciding
 pub mod SomeVerdict
 pub mod LeafJudging
 pub mod ShortTails
-pub mod SomeFreeVerdict
 pub mod LastFeed
 pub mod Unread
 pub mod Starts

@@ -4,8 +4,6 @@ use Rattle.rwsp_terms.specs.declared.data.Symbol.{Symbol}
 use Rattle.rwsp_terms.specs.Instance.{Instance}
 use Rattle.refutation_terms.specs.declared.lines.Line.{Line}
 use Rattle.refutation_terms.specs.declared.lines.Opening.{Opening}
-use Rattle.refutation_terms.specs.declared.lines.Opening.TheVariants.{Full, Turned}
-use Rattle.refutation_terms.specs.declared.lines.Turn.{Turn}
 use Rattle.refutation_terms.specs.Tree.{IsTree, domains_at}
 use Rattle.refutation_terms.specs.Word.{Domains}
 use Rattle.refutation_terms.specs.Log.{Log, LineFits}
@@ -27,9 +25,9 @@ pub record Judging : Type 0 where
   pub named : List ℕ
   pub goal : Option ℕ
 
--- the log with such a header, this turn and these lines
+-- the log with such a header, this opening and these lines
 abbrev pub log_of : Judging → Opening → List Line → Log
-log_of J turn lines = record { named = J.named; turn = turn; goal = J.goal; lines = lines }
+log_of J o lines = record { named = J.named; opening = o; goal = J.goal; lines = lines }
 
 -- the line has no cause under these domains
 abbrev pub IsSoundUnder : Judging → Domains → Line → Type 0
@@ -50,47 +48,47 @@ EscapesUnder J D line w = Escapes J.problem J.goal D line w
 -- whether a leaf holds by words behind whatever lines the walk had read, in a log without a goal
 abbrev pub TellsLeaf : Instance → State → Line → Bool → Type 0
 TellsLeaf P w leaf told =
-    (turn : Opening) (lines : List Line) → IsStateOf P turn lines w
-    → IsTrue told ↔ HoldsByWords P None (domains_at P turn lines (length lines)) leaf
+    (o : Opening) (lines : List Line) → IsStateOf P o lines w
+    → IsTrue told ↔ HoldsByWords P None (domains_at P o lines (length lines)) leaf
 
 -- the line behind these is refused for no cause
-pub record IsSoundNext (J : Judging) (turn : Opening) (lines : List Line) (line : Line) : Type 0 where
+pub record IsSoundNext (J : Judging) (o : Opening) (lines : List Line) (line : Line) : Type 0 where
   pub in_tree : IsTree lines → ⊥
   pub fits : LineFits J.problem J.goal line
-  pub sound : IsSoundUnder J (domains_at J.problem turn lines (length lines)) line
+  pub sound : IsSoundUnder J (domains_at J.problem o lines (length lines)) line
 
 -- the bytes are the text of such a line, which is this one, and the walk has read it
-pub record IsLineRead (J : Judging) (turn : Opening) (lines : List Line) (bytes : List ℕ) (w : State)
+pub record IsLineRead (J : Judging) (o : Opening) (lines : List Line) (bytes : List ℕ) (w : State)
     (line : Line) : Type 0 where
-  pub spelled : bytes ≡ line_text J.problem (raw J.problem line)
-  pub sound : IsSoundNext J turn lines line
-  pub walked : IsStateOf J.problem turn (lines ++ line ∷ []) w
+  pub spelled : bytes ≡ line_text J.problem (raw J.problem J.goal line)
+  pub sound : IsSoundNext J o lines line
+  pub walked : IsStateOf J.problem o (lines ++ line ∷ []) w
 
 -- whatever lines the walk had read, the bytes are the text of this line, which is refused for no cause there, and the
 -- walk has read it too
 abbrev pub ReadsNext : Judging → State → List ℕ → State → Line → Type 0
 ReadsNext J old bytes new line =
-    (turn : Opening) (lines : List Line) → IsStateOf J.problem turn lines old → IsLineRead J turn lines bytes new line
+    (o : Opening) (lines : List Line) → IsStateOf J.problem o lines old → IsLineRead J o lines bytes new line
 
 -- whatever lines it had read, the bytes are refused there for this cause, as text line n
 abbrev pub RefusesNext : Judging → State → List ℕ → ℕ → LogRefusal → Type 0
 RefusesNext J old bytes n why =
-    (turn : Opening) (lines : List Line) → IsStateOf J.problem turn lines old
-    → n ≡ header_lines turn J.goal + length lines + 1
-    → CauseBehind J.problem J.goal (log_of J turn lines) bytes why
+    (o : Opening) (lines : List Line) → IsStateOf J.problem o lines old
+    → n ≡ header_lines o J.goal + length lines + 1
+    → CauseBehind J.problem (log_of J o lines) bytes why
 
 -- whatever lines it had read, this line has no cause there, and the walk has read it too
 abbrev pub PassesNext : Judging → State → Line → State → Type 0
 PassesNext J old line new =
-    (turn : Opening) (lines : List Line) → IsStateOf J.problem turn lines old
-    → IsSoundUnder J (domains_at J.problem turn lines (length lines)) line
-    × IsStateOf J.problem turn (lines ++ line ∷ []) new
+    (o : Opening) (lines : List Line) → IsStateOf J.problem o lines old
+    → IsSoundUnder J (domains_at J.problem o lines (length lines)) line
+    × IsStateOf J.problem o (lines ++ line ∷ []) new
 
 -- whatever lines it had read, this line has this cause there, as text line n
 abbrev pub HasCauseNext : Judging → State → ℕ → Line → LogRefusal → Type 0
 HasCauseNext J old n line why =
-    (turn : Opening) (lines : List Line) → IsStateOf J.problem turn lines old
-    → HasCause J (domains_at J.problem turn lines (length lines)) n line why
+    (o : Opening) (lines : List Line) → IsStateOf J.problem o lines old
+    → HasCause J (domains_at J.problem o lines (length lines)) n line why
 
 -- a leaf, or a split that isn't idle under the domains of the store
 abbrev pub MayStep : Store → Line → Type 0

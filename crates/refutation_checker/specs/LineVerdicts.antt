@@ -4,21 +4,18 @@ use Rattle.rwsp_terms.specs.Instance.{Instance}
 use Rattle.refutation_terms.specs.declared.lines.Line.{Line}
 use Rattle.refutation_terms.specs.declared.lines.Line.TheVariants.{Split, Unfinished, Closing}
 use Rattle.refutation_terms.specs.declared.lines.Leaf.TheVariants.{Words}
-use Rattle.refutation_terms.specs.declared.lines.WordClaim.TheVariants.{Dead, Light}
 use Rattle.refutation_terms.specs.declared.lines.LogRefusal.{LogRefusal}
 use Rattle.refutation_terms.specs.declared.lines.LogRefusal.TheVariants as Refusals
 use Rattle.refutation_terms.specs.Word.{Domains}
-use Rattle.refutation_terms.specs.WordsLeaf.{IsDead, IsTooLight}
+use Rattle.refutation_terms.specs.WordsLeaf.{WordsHold}
 use Rattle.refutation_terms.specs.Tree.{is_idle}
 use Rattle.refutation_terms.specs.Log.{Cites, Holds, ListsShortOnly, CitesOnlyNamed}
 use Rattle.refutation_terms.specs.Verdict.{IsLeast, IsUnnamed, ListsLong, IsPlainLeaf, Escapes}
 
--- a split that isn't idle, or a window, a day or a few leaf that holds in a log with this goal or none. Nothing is said
--- of leaves that are judged by words
+-- a split that isn't idle, or a leaf that isn't one of words and holds, in a log with this goal or none. Nothing is
+-- said of leaves of words
 abbrev pub StandsPlainly : Instance → Option ℕ → Domains → Line → Type 0
-StandsPlainly P goal D (Closing (Words p R (Dead len))) = Unit {0}
-StandsPlainly P goal D (Closing (Words p R (Light turns reward y))) = Unit {0}
-StandsPlainly P goal D (Closing (Words p R (Light turns reward y))) = Unit {0}
+StandsPlainly P goal D (Closing (Words p R claim)) = Unit {0}
 StandsPlainly P goal D line = Holds P goal D line
 
 -- the line has no cause but a word that escapes it
@@ -51,23 +48,17 @@ IsPlainFailure n leaf why = why ≡ Refusals.Fails n
 
 -- the line lists these rules
 abbrev pub HasList : Line → List ℕ → Type 0
-HasList (Closing (Words p R (Dead len))) list = R ≡ list
-HasList (Closing (Words p R (Light turns reward y))) list = R ≡ list
-HasList (Closing (Words p R (Light turns reward y))) list = R ≡ list
+HasList (Closing (Words p R claim)) list = R ≡ list
 HasList line list = ⊥
 
 -- the line is none that lists rules
 abbrev pub HasNoList : Line → Type 0
-HasNoList (Closing (Words p R (Dead len))) = ⊥
-HasNoList (Closing (Words p R (Light turns reward y))) = ⊥
-HasNoList (Closing (Words p R (Light turns reward y))) = ⊥
+HasNoList (Closing (Words p R claim)) = ⊥
 HasNoList line = Unit {0}
 
--- a dead, a bound or a free leaf that holds in a log with this goal or none. Nothing is said of other lines
+-- a leaf of words that holds in a log with this goal or none. Nothing is said of other lines
 abbrev pub HoldsByWords : Instance → Option ℕ → Domains → Line → Type 0
-HoldsByWords P goal D (Closing (Words p R (Dead len))) = IsDead P D p len R
-HoldsByWords P goal D (Closing (Words p R (Light turns reward y))) = IsTooLight P None D p turns 0 R y
-HoldsByWords P goal D (Closing (Words p R (Light turns reward y))) = Holds P goal D (Closing (Words 0 R (Light turns reward y)))
+HoldsByWords P goal D (Closing (Words p R claim)) = WordsHold P goal D p R claim
 HoldsByWords P goal D line = Unit {0}
 
 -- the line has no cause in a log with this goal or none

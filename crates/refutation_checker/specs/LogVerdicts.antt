@@ -9,7 +9,10 @@ use Rattle.refutation_terms.specs.Verdict.{header_lines}
 use Rattle.domain_store.specs.States.{State, IsStateOf}
 use Rattle.refutation_checker.specs.LineTexts.{Judging, HasCause}
 use Rattle.refutation_checker.specs.ChunkVerdicts.{AreSoundBehind}
-use Rattle.refutation_checker.specs.Headers.{without_goal}
+
+-- what the lines of a log are judged by
+abbrev pub judging_of : Instance → Log → Judging
+judging_of P g = record { problem = P; named = g.named; goal = g.goal }
 
 -- the first i lines have no cause
 abbrev pub AreSoundTo : Judging → Log → ℕ → Type 0
@@ -28,8 +31,8 @@ pub record IsRefusedAt (J : Judging) (g : Log) (i : ℕ) (why : LogRefusal) : Ty
   pub cause : HasCause J (domains_at J.problem g.opening (take i g.lines) (length (take i g.lines)))
       (header_lines g.opening J.goal + i + 1) line why
 
--- what was found in the tree of a log without a goal: nothing, or the first line that has a cause
+-- what was found in the tree of a log: nothing, or the first line that has a cause
 abbrev pub IsTreeJudged : Instance → Log → Option LogRefusal → Type 0
 IsTreeJudged P g found =
-    let J : Judging = without_goal P g.named in
+    let J : Judging = judging_of P g in
     MatchOption found (AreSoundBehind J g.opening [] g.lines) (λ why. (i : ℕ) × IsRefusedAt J g i why)

@@ -1,5 +1,5 @@
 -- The turn of a header, judged.
-use Rattle.std.specs.Prelude.{◌≡◌, ℕ, List, Option, None, Some, pos, ◌<ℤ◌}
+use Rattle.std.specs.Prelude.{◌≡◌, ℕ, List, pos, ◌<ℤ◌}
 use Rattle.rwsp_terms.specs.declared.data.Rule.{Rule}
 use Rattle.rwsp_terms.specs.declared.data.Rule.TheVariants as TheRules
 use Rattle.rwsp_terms.specs.Instance.{Instance, least}
@@ -12,10 +12,10 @@ use Rattle.refutation_terms.specs.declared.lines.LogRefusal.TheVariants as Refus
 use Rattle.refutation_terms.specs.Log.{OpeningCites, IsAllowed}
 use Rattle.refutation_terms.specs.Verdict.{IsLeast, IsUnnamed}
 
--- the day of the turn is named, and some week must hold its symbol there
-pub record IsSoundTurn (P : Instance) (named : List ℕ) (turn : Opening) : Type 0 where
-  pub named_day : (r : Rule) → OpeningCites turn r → Names P named r
-  pub allowed : IsAllowed P turn
+-- the day of the turn, if the log has one, is named, and some week must hold its symbol there
+pub record IsSoundTurn (P : Instance) (named : List ℕ) (o : Opening) : Type 0 where
+  pub named_day : (r : Rule) → OpeningCites o r → Names P named r
+  pub allowed : IsAllowed P o
 
 -- the lowest cause to refuse a turn, whose line is the third
 abbrev pub TurnFault : Instance → List ℕ → Turn → LogRefusal → Type 0
@@ -26,5 +26,5 @@ TurnFault P named t why = ⊥
 
 -- the same where there may be no turn
 abbrev pub IsTurnFault : Instance → List ℕ → Opening → LogRefusal → Type 0
-IsTurnFault P named None why = ⊥
-IsTurnFault P named (Some t) why = TurnFault P named t why
+IsTurnFault P named Full why = ⊥
+IsTurnFault P named (Turned t) why = TurnFault P named t why

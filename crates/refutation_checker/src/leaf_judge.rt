@@ -2,8 +2,6 @@
 ghost use Rattle.std.specs.Prelude.{◌≡◌, ◌∷◌, [], ◌++◌, List, length, Option, false, IfOk};
 ghost use Rattle.refutation_terms.specs.declared.lines.Line.{Line};
 ghost use Rattle.refutation_terms.specs.declared.lines.Opening.{Opening};
-ghost use Rattle.refutation_terms.specs.declared.lines.Opening.TheVariants.{Full, Turned};
-ghost use Rattle.refutation_terms.specs.declared.lines.Turn.{Turn};
 ghost use Rattle.refutation_terms.specs.Tree.{domains_at};
 ghost use Rattle.refutation_terms.specs.Log.{LineFits, ListsShortOnly, Holds};
 ghost use Rattle.domain_store.specs.States.{IsStateOf};
@@ -18,8 +16,8 @@ use rwsp_terms::RuleList;
 use std::alloc::{AllocError, Global};
 use std::marker::Model;
 
-/// Judges dead and bound leaves apart from the other lines of their log. What was made for the list of one leaf serves
-/// the next leaves with the same list.
+/// Judges leaves of words apart from the other lines of their log, which has no goal. What was made for the list of one
+/// leaf serves the next leaves with the same list.
 #[derive(Drop)]
 pub struct LeafJudge<'a> {
     judge: Judge<'a>,
@@ -51,10 +49,10 @@ impl<'a> LeafJudge<'a> {
         LeafJudge { judge }
     }
 
-    /// Whether the leaf holds as the next line behind those that the walk has read. Of lines that are neither a dead
-    /// nor a bound leaf this says nothing.
+    /// Whether the leaf holds as the next line behind those that the walk has read. Of lines that are no leaf of words
+    /// this says nothing.
     pub fn holds(&mut self, alloc: Global, walk: &Walk, leaf: &Line) -> Result<bool, AllocError>
-        requires state { (turn : Opening) × (lines : List Line) × IsStateOf self.old turn lines walk.now }
+        requires state { (o : Opening) × (lines : List Line) × IsStateOf self.old o lines walk.now }
         requires fits { LineFits self.old None leaf.now }
         requires short { ListsShortOnly self.old leaf.now }
         ensures same { self.new ≡ self.old }
@@ -71,10 +69,10 @@ impl<'a> LeafJudge<'a> {
 pub fn go_past(walk: &mut Walk, problem: &Problem, line: &Line) -> Result<(), AllocError>
     requires part { walk.old.whole ≡ false }
     requires fits { LineFits problem.now None line.now }
-    requires holds { (turn : Opening) × (lines : List Line) × IsStateOf problem.now turn lines walk.old ×
-        Holds problem.now None (domains_at problem.now turn lines (length lines)) line.now }
-    ensures { IfOk result (λ _. (turn : Opening) (lines : List Line) →
-        IsStateOf problem.now turn lines walk.old → IsStateOf problem.now turn (lines ++ line.now ∷ []) walk.new) }
+    requires holds { (o : Opening) × (lines : List Line) × IsStateOf problem.now o lines walk.old ×
+        Holds problem.now None (domains_at problem.now o lines (length lines)) line.now }
+    ensures { IfOk result (λ _. (o : Opening) (lines : List Line) →
+        IsStateOf problem.now o lines walk.old → IsStateOf problem.now o (lines ++ line.now ∷ []) walk.new) }
 {
     problem.prove_limits();
     walk.domains().prove_facts();

@@ -47,9 +47,7 @@ pub fn long_rule(problem: &Problem, line: &Line) -> Option<u32>
         return None;
     };
     match leaf {
-        Leaf::Dead { rules, .. } => least_long(problem, rules),
-        Leaf::Bound { rules, .. } => least_long(problem, rules),
-        Leaf::Free { rules, .. } => least_long(problem, rules),
-        Leaf::Window { .. } | Leaf::Day { .. } | Leaf::Few => None,
+        Leaf::Words { rules, .. } => least_long(problem, rules),
+        _ => None,
     }
 }

@@ -1,6 +1,7 @@
 // Whether a line holds by itself: what can be judged without searching for a word.
-ghost use Rattle.std.specs.Prelude.{◌≡◌, ◌<◌, ◌↔◌, length, IsTrue, false, None, MatchOption};
+ghost use Rattle.std.specs.Prelude.{◌≡◌, ◌<◌, ◌↔◌, length, IsTrue, false, MatchOption};
 ghost use Rattle.refutation_terms.specs.Log.{GoalFits, Holds, LineFits};
+ghost use Rattle.refutation_terms.specs.declared.lines.Opening.TheVariants.{Full};
 ghost use Rattle.refutation_terms.specs.declared.lines.Line.TheVariants.{Closing};
 ghost use Rattle.refutation_terms.specs.declared.lines.Leaf.TheVariants.{Few};
 ghost use Rattle.refutation_terms.specs.Tree.{is_idle};
@@ -29,10 +30,9 @@ fn can_split(problem: &Problem, doms: &Domains, p: u32, x: Symbol) -> bool
     doms.has(p, x)
 }
 
-// Whether a split isn't idle, or a window, a day or a few leaf holds. Leaves that are judged by words aren't judged
-// here.
+// Whether a split isn't idle, or a window, a day or a few leaf holds. Leaves of words aren't judged here.
 fn stands_plainly(problem: &Problem, goal: Option<u32>, doms: &Domains, line: &Line) -> bool
-    requires goal { GoalFits problem.now None goal }
+    requires goal { GoalFits problem.now Full goal }
     requires domains { BelongsTo problem.now doms.now }
     requires line { LineFits problem.now goal line.now }
     ensures { IsTrue result ↔ StandsPlainly problem.now goal (has_domain doms.now) line.now }
@@ -47,7 +47,7 @@ fn stands_plainly(problem: &Problem, goal: Option<u32>, doms: &Domains, line: &L
 
 // The same of a leaf.
 fn leaf_stands(problem: &Problem, goal: Option<u32>, doms: &Domains, leaf: &Leaf) -> bool
-    requires goal { GoalFits problem.now None goal }
+    requires goal { GoalFits problem.now Full goal }
     requires domains { BelongsTo problem.now doms.now }
     requires fits { LineFits problem.now goal (Line.Closing leaf.now) }
     ensures { IsTrue result ↔ StandsPlainly problem.now goal (has_domain doms.now) (Line.Closing leaf.now) }
@@ -55,16 +55,14 @@ fn leaf_stands(problem: &Problem, goal: Option<u32>, doms: &Domains, leaf: &Leaf
     match leaf {
         Leaf::Window { rule, p, len } => window_holds(problem, doms, *rule, *p, *len),
         Leaf::Day { day, x, over } => day_holds(problem, doms, *day, *x, *over),
-        Leaf::Dead { .. } => true,
-        Leaf::Bound { .. } => true,
-        Leaf::Free { .. } => true,
+        Leaf::Words { .. } => true,
         Leaf::Few => few_stands(problem, goal, doms),
     }
 }
 
 // Whether fewer weeks than the goal can be free; not without a goal.
 fn few_stands(problem: &Problem, goal: Option<u32>, doms: &Domains) -> bool
-    requires goal { GoalFits problem.now None goal }
+    requires goal { GoalFits problem.now Full goal }
     requires domains { BelongsTo problem.now doms.now }
     ensures { IsTrue result ↔ Holds problem.now goal (has_domain doms.now) (Closing Few) }
 {
@@ -96,7 +94,7 @@ pub fn plain_refusal(
     line: &Line,
     number: u32,
 ) -> Option<LogRefusal>
-    requires goal { GoalFits problem.now None goal }
+    requires goal { GoalFits problem.now Full goal }
     requires domains { BelongsTo problem.now doms.now }
     requires line { LineFits problem.now goal line.now }
     ensures { MatchOption result

@@ -1,8 +1,9 @@
 // Leaves that are judged by the words that are clean for their list of rules.
-ghost use Rattle.std.specs.Prelude.{◌<◌, ◌≤◌, IfOk, MatchOption, None};
+ghost use Rattle.std.specs.Prelude.{◌<◌, ◌≤◌, IfOk, MatchOption};
 ghost use Rattle.rwsp_terms.specs.Instance.{cells};
 ghost use Rattle.rwsp_terms.specs.declared.limits.TheConstants.{LONGEST_WORD};
-ghost use Rattle.refutation_terms.specs.WordsLeaf.{IsDead};
+ghost use Rattle.refutation_terms.specs.declared.lines.Opening.TheVariants.{Full};
+ghost use Rattle.refutation_terms.specs.WordsLeaf.{IsDead, WordsFit, WordsHold, WordsEscape};
 ghost use Rattle.refutation_terms.specs.Escape.{IsLeastClean};
 ghost use Rattle.refutation_terms.specs.Log.{GoalFits, LineFits};
 ghost use Rattle.refutation_terms.specs.Verdict.{Escapes};
@@ -11,19 +12,17 @@ ghost use Rattle.refutation_checker.specs.LineVerdicts.{HasNoList, HasList, Hold
 
 use clean_words::{Automaton, CleanWords, escape};
 use domain_store::Domains;
-use potential_bounds::{FreeClaim, bound_escape, free_escape};
-use refutation_terms::{Leaf, Line};
+use potential_bounds::{Claim, claim_escape};
+use refutation_terms::{Leaf, Line, WordClaim};
 use rwsp_terms::{RuleList, Word};
 use std::alloc::{AllocError, Global};
 
-/// The list of rules of a dead, a bound or a free leaf; None for other lines.
+/// The list of rules of a leaf of words; None for other lines.
 pub fn list_of(line: &Line) -> Option<&RuleList>
     ensures { MatchOption result (HasNoList line.now) (λ list. HasList line.now list.now) }
 {
     match line {
-        Line::Closing(Leaf::Words { rules, .., claim: WordClaim::Dead { , .. } }) => Some(rules),
-        Line::Closing(Leaf::Words { rules, .., claim: WordClaim::Light {  } }) => Some(rules),
-        Line::Closing(Leaf::Words { rules, .., claim: WordClaim::Light {  } }) => Some(rules),
+        Line::Closing(Leaf::Words { rules, .. }) => Some(rules),
         _ => None,
     }
 }
@@ -38,7 +37,7 @@ pub fn escape_of(
     line: &Line,
 ) -> Result<Option<Word>, AllocError>
     requires domains { BelongsTo automaton.now.problem doms.now }
-    requires goal { GoalFits automaton.now.problem None goal }
+    requires goal { GoalFits automaton.now.problem Full goal }
     requires line { LineFits automaton.now.problem goal line.now }
     requires list { HasList line.now automaton.now.rules }
     ensures { IfOk result (λ found. MatchOption found
@@ -49,31 +48,43 @@ pub fn escape_of(
         return Ok(None);
     };
     match leaf {
-        Leaf::Dead { p, len, .. } => dead_escape(alloc, automaton, doms, *p, *len),
-        Leaf::Bound {
-            p,
-            turns,
-            weights,
-            ..
-        } => bound_escape(alloc, automaton, doms, *p, *turns, weights),
-        Leaf::Free {
+        Leaf::Words { p, claim, .. } => words_escape(alloc, automaton, doms, goal, *p, claim),
+        _ => Ok(None),
+    }
+}
+
+// The word that escapes what is claimed of the words from position `p` on.
+fn words_escape(
+    alloc: Global,
+    automaton: &Automaton,
+    doms: &Domains,
+    goal: Option<u32>,
+    p: u32,
+    claim: &WordClaim,
+) -> Result<Option<Word>, AllocError>
+    requires domains { BelongsTo automaton.now.problem doms.now }
+    requires goal { GoalFits automaton.now.problem Full goal }
+    requires fits { WordsFit automaton.now.problem goal p automaton.now.rules claim.now }
+    ensures { let P = automaton.now.problem in let D = has_domain doms.now in let R = automaton.now.rules in
+        IfOk result (λ found. MatchOption found
+        (WordsHold P goal D p R claim.now) (WordsEscape P goal D p R claim.now)) }
+{
+    match claim {
+        WordClaim::Dead { len } => dead_escape(alloc, automaton, doms, p, *len),
+        WordClaim::Light {
             turns,
             reward,
             weights,
-            ..
-        } => match goal {
-            Some(goal) => {
-                let claim = FreeClaim {
-                    goal,
-                    turns: *turns,
-                    reward: *reward,
-                    weights,
-                };
-                free_escape(alloc, automaton, doms, claim)
-            }
-            None => Ok(None),
-        },
-        _ => Ok(None),
+        } => {
+            let light = Claim {
+                goal,
+                position: p,
+                turns: *turns,
+                reward: *reward,
+                weights,
+            };
+            claim_escape(alloc, automaton, doms, light)
+        }
     }
 }
 

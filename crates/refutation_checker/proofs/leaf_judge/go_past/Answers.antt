@@ -17,12 +17,12 @@ step-requires-clause-useful c =
     let here = c.domains.ensures.value in
     let now : IsStore S = subst IsStore here c.prove_facts.ensures.now in
     let tests : HasDomains S = subst HasDomains here c.prove_facts.ensures.tests in
-    let turn = c.requires.holds.0 in
+    let o = c.requires.holds.0 in
     let lines = c.requires.holds.1 in
     let state = c.requires.holds.2 in
-    let E = domains_at P turn lines (length lines) in
+    let E = domains_at P o lines (length lines) in
     let D = has_domain c.domains.result.now in
-    let same = c.domains.ensures.has P turn lines state in
-    let holds : Holds P None D line = same_holds P E D line (some_cells P c.prove_limits.ensures) c.requires.fits (turned_round P D E same) c.requires.holds.3 in
+    let same = c.domains.ensures.has P o lines state in
+    let holds : Holds P None D line = same_holds P None E D line (some_cells P c.prove_limits.ensures) tt c.requires.fits (turned_round P D E same) c.requires.holds.3 in
     may_step P None S line now tests state.belongs (positions_of P S now state.belongs) c.requires.fits
     (subst (λ T. Holds P None (has_domain T) line) here holds)

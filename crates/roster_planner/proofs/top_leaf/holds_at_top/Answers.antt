@@ -1,6 +1,5 @@
 -- A word escapes the leaf exactly where it doesn't hold.
 use Rattle.std.proofs.Common.{List, Some, refl, subst}
-use Rattle.rwsp_terms.specs.declared.data.Symbol.{Symbol}
 use Rattle.rwsp_terms.specs.declared.data.Weight.{Weight}
 use Rattle.refutation_terms.specs.declared.lines.Line.TheVariants.{Closing}
 use Rattle.refutation_terms.specs.declared.lines.Leaf.TheVariants.{Words}

@@ -17,21 +17,21 @@ leaf_escape-requires-clause-line c =
 
 pub returns-in-Some-clause-holds : goal.returns-in-Some-clause-holds
 returns-in-Some-clause-holds c =
-    λ turn lines state.
+    λ o lines state.
     let P = c.args.self.now in
     let D = has_domain c.domains.result.now in
     let leaf = c.args.leaf.now in
     let word = c.in-Some._word in
-    fails_there P D (domains_at P turn lines (length lines)) leaf word c.requires.fits (c.domains.ensures.has P turn lines state)
+    fails_there P D (domains_at P o lines (length lines)) leaf word c.requires.fits (c.domains.ensures.has P o lines state)
     (subst (λ (Q : Instance). Escapes Q None D leaf word) c.self.view_is
     (subst (λ (o : Option ℕ). Escapes c.self.inside.judge.problem o D leaf word) c.self.invariant (rw c.in-Some.is at c.in_ok-_word.ensures.escape)))
 
 pub returns-clause-holds : goal.returns-clause-holds
 returns-clause-holds c =
-    λ turn lines state.
+    λ o lines state.
     let P = c.args.self.now in
     let D = has_domain c.domains.result.now in
     let leaf = c.args.leaf.now in
-    holds_there P D (domains_at P turn lines (length lines)) leaf c.requires.fits (c.domains.ensures.has P turn lines state)
+    holds_there P D (domains_at P o lines (length lines)) leaf c.requires.fits (c.domains.ensures.has P o lines state)
     (subst (λ (Q : Instance). HoldsByWords Q None D leaf) c.self.view_is
     (subst (λ (o : Option ℕ). HoldsByWords c.self.inside.judge.problem o D leaf) c.self.invariant (rw c.in_default.is at c.in_ok-_word.ensures.escape)))
