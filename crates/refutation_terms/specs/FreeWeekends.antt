@@ -1,4 +1,4 @@
--- Words 0 a (Light weekends of word), and what a word weighs with a reward for each.
+-- Free weekends of a word, and what a word weighs with a reward for each.
 use Rattle.std.specs.Prelude.{ℕ, ◌+◌, ◌*◌, ◌%◌, ◌==◌, ◌&&◌, List, length, Bool, nat_lt, ℤ, pos, ◌+ℤ◌, slice_index_or, count_by}
 use Rattle.std.specs.List.{range_with_len}
 use Rattle.rwsp_terms.specs.declared.limits.TheConstants.{DAYS_OF_WEEK, SATURDAY}
