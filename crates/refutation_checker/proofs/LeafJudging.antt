@@ -1,41 +1,53 @@
 -- Leaves of words, judged apart from their log.
-use Rattle.std.proofs.Common.{◌≡◌, ◌∙◌, ap, ℕ, Option, None, subst, IsTrue, true, false, refl, arith, List}
+use Rattle.std.proofs.Common.{◌≡◌, ◌∙◌, ap, ℕ, Option, None, subst, IsTrue, true, false, refl, arith, List, ◌<◌}
 use Rattle.std.specs.Prelude.{◌↔◌, MatchOption, IfOk, Result}
 use Rattle.std.specs.declared.alloc.AllocError.{AllocError}
 use Rattle.rwsp_terms.specs.declared.data.Symbol.{Symbol}
-use Rattle.rwsp_terms.specs.Instance.{Instance}
+use Rattle.rwsp_terms.specs.Instance.{Instance, cells}
 use Rattle.refutation_terms.specs.declared.lines.Line.{Line}
-use Rattle.refutation_terms.specs.declared.lines.Line.TheVariants.{Closing}
+use Rattle.refutation_terms.specs.declared.lines.Line.TheVariants.{Split, Closing}
 use Rattle.refutation_terms.specs.declared.lines.Leaf.TheVariants.{Words}
 use Rattle.refutation_terms.specs.declared.lines.WordClaim.{WordClaim}
 use Rattle.refutation_terms.specs.declared.lines.WordClaim.TheVariants.{Dead, Light}
 use Rattle.refutation_terms.specs.Word.{Domains, AreSame}
 use Rattle.rwsp_terms.specs.Rules.{NamesShortOnly}
-use Rattle.refutation_terms.specs.Log.{LineFits, ListsShortOnly}
+use Rattle.refutation_terms.specs.declared.lines.Opening.TheVariants.{Full}
+use Rattle.refutation_terms.specs.Log.{LineFits, GoalFits, Holds, ListsShortOnly}
 use Rattle.refutation_terms.specs.Verdict.{Escapes}
 use Rattle.refutation_terms.proofs.Causes.{escaped_not_holding}
 use Rattle.refutation_terms.proofs.SameDomains.{same_holds, turned_round}
+use Rattle.domain_store.specs.Store.{Store, IsStore, BelongsTo, HasDomains, has_domain}
+use Rattle.domain_store.proofs.Idle.{positions_of}
 use Rattle.refutation_checker.specs.LineVerdicts.{HasList, HasNoList, HoldsByWords}
+use Rattle.refutation_checker.specs.LineTexts.{MayStep}
+use Rattle.refutation_checker.proofs.Judging.{may_step}
 
-pub same_by_words : (P : Instance) (D E : Domains) (line : Line) → LineFits P None line → AreSame P D E → HoldsByWords P None D line → HoldsByWords P None E line
-same_by_words P D E (Closing (Words p R (Dead len))) fits same h = same_holds P None D E (Closing (Words p R (Dead len))) (omega (arith, fits.0)) tt fits same h
-same_by_words P D E (Closing (Words p R (Light turns reward y))) fits same h =
-    same_holds P None D E (Closing (Words p R (Light turns reward y))) (omega (arith, fits.0)) tt fits same h
-same_by_words P D E line fits same h = tt
+pub same_by_words : (P : Instance) (goal : Option ℕ) (D E : Domains) (line : Line) → GoalFits P Full goal → LineFits P goal line → AreSame P D E → HoldsByWords P goal D line → HoldsByWords P goal E line
+same_by_words P goal D E (Closing (Words p R (Dead len))) weeks fits same h =
+    same_holds P goal D E (Closing (Words p R (Dead len))) (omega (arith, fits.0)) weeks fits same h
+same_by_words P goal D E (Closing (Words p R (Light turns reward y))) weeks fits same h =
+    same_holds P goal D E (Closing (Words p R (Light turns reward y))) (omega (arith, fits.0)) weeks fits same h
+same_by_words P goal D E line weeks fits same h = tt
 
-pub escaped_by_words : (P : Instance) (D : Domains) (line : Line) (w : List Symbol) → Escapes P None D line w → HoldsByWords P None D line → ⊥
-escaped_by_words P D (Closing (Words p R claim)) w e h = escaped_not_holding P None D (Closing (Words p R claim)) w e h
-escaped_by_words P D line w e h = absurd e
+pub escaped_by_words : (P : Instance) (goal : Option ℕ) (D : Domains) (line : Line) (w : List Symbol) → Escapes P goal D line w → HoldsByWords P goal D line → ⊥
+escaped_by_words P goal D (Closing (Words p R claim)) w e h = escaped_not_holding P goal D (Closing (Words p R claim)) w e h
+escaped_by_words P goal D line w e h = absurd e
 
 -- what the words say under the domains of a walk, they say under those of its lines
-pub holds_there : (P : Instance) (D E : Domains) (line : Line) → LineFits P None line → AreSame P D E → HoldsByWords P None D line → IsTrue true ↔ HoldsByWords P None E line
-holds_there P D E line fits same h = (λ yes. same_by_words P D E line fits same h, λ there. refl)
+pub holds_there : (P : Instance) (goal : Option ℕ) (D E : Domains) (line : Line) → GoalFits P Full goal → LineFits P goal line → AreSame P D E → HoldsByWords P goal D line → IsTrue true ↔ HoldsByWords P goal E line
+holds_there P goal D E line weeks fits same h = (λ yes. same_by_words P goal D E line weeks fits same h, λ there. refl)
 
-pub fails_there : (P : Instance) (D E : Domains) (line : Line) (w : List Symbol) → LineFits P None line → AreSame P D E → Escapes P None D line w → IsTrue false ↔ HoldsByWords P None E line
-fails_there P D E line w fits same e = (
+pub fails_there : (P : Instance) (goal : Option ℕ) (D E : Domains) (line : Line) (w : List Symbol) → GoalFits P Full goal → LineFits P goal line → AreSame P D E → Escapes P goal D line w → IsTrue false ↔ HoldsByWords P goal E line
+fails_there P goal D E line w weeks fits same e = (
   λ no. absurd (cc),
-  λ there. absurd (escaped_by_words P D line w e (same_by_words P E D line fits (turned_round P D E same) there)),
+  λ there. absurd (escaped_by_words P goal D line w e (same_by_words P goal E D line weeks fits (turned_round P D E same) there)),
 )
+
+-- a line that holds under the domains of the lines before is no idle split under those of the walk, the same ones
+pub passed_by : (P : Instance) (goal : Option ℕ) (E : Domains) (S : Store) (line : Line) → 0 < cells P → IsStore S → HasDomains S → BelongsTo P S → AreSame P E (has_domain S) → LineFits P goal line → Holds P goal E line → MayStep S line
+passed_by P goal E S (Split p x) some now tests belongs same fits h =
+    may_step P None S (Split p x) now tests belongs (positions_of P S now belongs) fits (same_holds P None E (has_domain S) (Split p x) some tt fits same h)
+passed_by P goal E S line some now tests belongs same fits h = tt
 
 -- the list of a line
 

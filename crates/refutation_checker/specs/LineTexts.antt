@@ -1,5 +1,5 @@
 -- The lines of a log, judged one after the other.
-use Rattle.std.specs.Prelude.{◌≡◌, ◌↔◌, Bool, IsTrue, ℕ, ◌+◌, ◌<◌, false, List, [], ◌∷◌, ◌++◌, length, Option, None}
+use Rattle.std.specs.Prelude.{◌≡◌, ◌↔◌, Bool, IsTrue, ℕ, ◌+◌, ◌<◌, false, List, [], ◌∷◌, ◌++◌, length, Option}
 use Rattle.rwsp_terms.specs.declared.data.Symbol.{Symbol}
 use Rattle.rwsp_terms.specs.Instance.{Instance}
 use Rattle.refutation_terms.specs.declared.lines.Line.{Line}
@@ -45,11 +45,11 @@ HoldsByWordsUnder J D line = HoldsByWords J.problem J.goal D line
 abbrev pub EscapesUnder : Judging → Domains → Line → List Symbol → Type 0
 EscapesUnder J D line w = Escapes J.problem J.goal D line w
 
--- whether a leaf holds by words behind whatever lines the walk had read, in a log without a goal
-abbrev pub TellsLeaf : Instance → State → Line → Bool → Type 0
-TellsLeaf P w leaf told =
-    (o : Opening) (lines : List Line) → IsStateOf P o lines w
-    → IsTrue told ↔ HoldsByWords P None (domains_at P o lines (length lines)) leaf
+-- whether a leaf holds by words behind whatever lines the walk had read
+abbrev pub TellsLeaf : Judging → State → Line → Bool → Type 0
+TellsLeaf J w leaf told =
+    (o : Opening) (lines : List Line) → IsStateOf J.problem o lines w
+    → IsTrue told ↔ HoldsByWordsUnder J (domains_at J.problem o lines (length lines)) leaf
 
 -- the line behind these is refused for no cause
 pub record IsSoundNext (J : Judging) (o : Opening) (lines : List Line) (line : Line) : Type 0 where
