@@ -6,7 +6,6 @@ use Rattle.rwsp_terms.specs.Rules.{Names}
 use Rattle.refutation_terms.specs.declared.lines.Line.{Line}
 use Rattle.refutation_terms.specs.declared.lines.Line.TheVariants.{Closing}
 use Rattle.refutation_terms.specs.declared.lines.Leaf.TheVariants.{Window, Day, Words}
-use Rattle.refutation_terms.specs.declared.lines.WordClaim.TheVariants.{Dead, Light}
 use Rattle.refutation_terms.specs.Log.{Log, Cites, OpeningCites}
 
 -- a window or a day leaf, which rests on one rule by itself and not by a list
@@ -30,8 +29,7 @@ pub record AreCited (P : Instance) (g : Log) (for_good in_lists : List ℕ) : Ty
   pub lasting : (r : Rule) → Names P for_good r ↔ CitesForGood P g r
   pub listed : (r : Rule) → OneCites P false g.lines r → Names P in_lists r
 
--- a dead or a bound leaf, which rests on a list of rules
+-- a leaf of words, which rests on a list of rules
 abbrev pub HasList : Line → Type 0
-HasList (Closing (Words p R (Dead len))) = Unit {0}
-HasList (Closing (Words p R (Light turns reward y))) = Unit {0}
+HasList (Closing (Words p R claim)) = Unit {0}
 HasList line = ⊥
