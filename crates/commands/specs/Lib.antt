@@ -5,7 +5,6 @@ pub mod LogRefusals
 pub mod Plan
 pub mod Verify
 pub mod Check
-pub mod CheckFree
 pub mod Reduce
 pub mod Crew
 pub mod Rest

@@ -3,12 +3,13 @@ use Rattle.std.proofs.Common.{◌≡◌, ℕ, List, ap, refl, inl, inr}
 use Rattle.std.specs.Prelude.{◌⊎◌}
 use Rattle.rwsp_terms.specs.Instance.{Instance}
 use Rattle.rwsp_model.specs.Validity.{KeepsLimits}
+use Rattle.refutation_terms.specs.declared.lines.LogKind.TheVariants.{WithoutGoal, WithGoal}
 use Rattle.command_line.specs.declared.command.ProblemTask.{ProblemTask}
 use Rattle.command_line.specs.declared.command.ProblemTask.TheVariants as ProblemTasks
 use Rattle.command_line.specs.declared.command.FilesTask.{FilesTask}
 use Rattle.command_line.specs.declared.command.FilesTask.TheVariants as FilesTasks
 use Rattle.commands.proofs.Rosters.{one_verified}
-use Rattle.commands.proofs.Logs.{one_checked, one_checked_free, one_reduction, plans_agree}
+use Rattle.commands.proofs.Logs.{one_checked, one_reduction, plans_agree}
 use Rattle.commands.proofs.Staffs.{one_checked_staff, staffs_agree}
 use Rattle.commands.proofs.Bests.{bests_agree}
 use Rattle.commands.proofs.Calendars.{one_crew, one_ics, one_on_date}
@@ -43,11 +44,11 @@ pub one_on_files : (task : FilesTask) (P : Instance) (bytes : List ℕ) (a b : J
 one_on_files FilesTasks.Verify P bytes (Jobs.Verify x) (Jobs.Verify y) limits h k = inl (ap Jobs.Verify (one_verified P bytes x y h k))
 one_on_files FilesTasks.Verify P bytes (Jobs.Verify x) b limits h k = absurd k
 one_on_files FilesTasks.Verify P bytes a b limits h k = absurd h
-one_on_files (FilesTasks.Check workers) P bytes (Jobs.Check x) (Jobs.Check y) limits h k = inl (ap Jobs.Check (one_checked P bytes x y limits h k))
+one_on_files (FilesTasks.Check workers) P bytes (Jobs.Check x) (Jobs.Check y) limits h k = inl (ap Jobs.Check (one_checked P WithoutGoal bytes x y limits h k))
 one_on_files (FilesTasks.Check workers) P bytes (Jobs.Check x) b limits h k = absurd k
 one_on_files (FilesTasks.Check workers) P bytes a b limits h k = absurd h
-one_on_files FilesTasks.CheckFree P bytes (Jobs.CheckFree x) (Jobs.CheckFree y) limits h k = inl (ap Jobs.CheckFree (one_checked_free P bytes x y limits h k))
-one_on_files FilesTasks.CheckFree P bytes (Jobs.CheckFree x) b limits h k = absurd k
+one_on_files FilesTasks.CheckFree P bytes (Jobs.Check x) (Jobs.Check y) limits h k = inl (ap Jobs.Check (one_checked P WithGoal bytes x y limits h k))
+one_on_files FilesTasks.CheckFree P bytes (Jobs.Check x) b limits h k = absurd k
 one_on_files FilesTasks.CheckFree P bytes a b limits h k = absurd h
 one_on_files FilesTasks.CheckStaff P bytes (Jobs.CheckStaff x) (Jobs.CheckStaff y) limits h k = inl (ap Jobs.CheckStaff (one_checked_staff P bytes x y limits h k))
 one_on_files FilesTasks.CheckStaff P bytes (Jobs.CheckStaff x) b limits h k = absurd k

@@ -2,6 +2,7 @@
 use Rattle.std.specs.Prelude.{ℕ, List}
 use Rattle.rwsp_terms.specs.Instance.{Instance}
 use Rattle.rwsp_file.specs.Text.{problem_text}
+use Rattle.refutation_terms.specs.declared.lines.LogKind.TheVariants.{WithoutGoal, WithGoal}
 use Rattle.refutation_log.specs.Planned.{IsPlanned}
 use Rattle.command_line.specs.declared.command.ProblemTask.{ProblemTask}
 use Rattle.command_line.specs.declared.command.ProblemTask.TheVariants as ProblemTasks
@@ -12,7 +13,6 @@ use Rattle.commands.specs.Best.{IsBestAnswer, best_text, best_status, IsBestOf}
 use Rattle.commands.specs.Staff.{IsStaffAnswer, staff_answer_text, staff_status, IsStaffAnswerOf}
 use Rattle.commands.specs.Verify.{IsVerified, verify_text, verify_status, IsVerifiedOf}
 use Rattle.commands.specs.Check.{IsChecked, check_text, check_status, IsCheckedOf}
-use Rattle.commands.specs.CheckFree.{IsCheckedFree, check_free_text, check_free_status, IsCheckedFreeOf}
 use Rattle.commands.specs.CheckStaff.{IsCheckedStaff, check_staff_text, check_staff_status, IsCheckedStaffOf}
 use Rattle.commands.specs.Reduce.{IsReduction, reduce_text, reduce_status, IsReductionOf}
 use Rattle.commands.specs.Crew.{IsCrewAnswer, crew_text, crew_status, IsCrewAnswerOf}
@@ -47,8 +47,8 @@ IsProblemAnswer task P answer = ⊥
 -- what the answer to a task says of the problem and of the bytes of the second file
 abbrev pub IsFilesAnswer : FilesTask → Instance → List ℕ → JobAnswer → Type 0
 IsFilesAnswer FilesTasks.Verify P bytes (Jobs.Verify a) = IsVerified P bytes a
-IsFilesAnswer (FilesTasks.Check workers) P bytes (Jobs.Check a) = IsChecked P bytes a
-IsFilesAnswer FilesTasks.CheckFree P bytes (Jobs.CheckFree a) = IsCheckedFree P bytes a
+IsFilesAnswer (FilesTasks.Check workers) P bytes (Jobs.Check a) = IsChecked P WithoutGoal bytes a
+IsFilesAnswer FilesTasks.CheckFree P bytes (Jobs.Check a) = IsChecked P WithGoal bytes a
 IsFilesAnswer FilesTasks.CheckStaff P bytes (Jobs.CheckStaff a) = IsCheckedStaff P bytes a
 IsFilesAnswer FilesTasks.Reduce P bytes (Jobs.Reduce a) = IsReduction P bytes a
 IsFilesAnswer (FilesTasks.Crew date days employee) P bytes (Jobs.Crew a) = IsCrewAnswer P bytes date days employee a
@@ -66,7 +66,6 @@ job_text P (Jobs.Best found) = best_text P found
 job_text P (Jobs.Staff a) = staff_answer_text P a
 job_text P (Jobs.Verify a) = verify_text P a
 job_text P (Jobs.Check a) = check_text P a
-job_text P (Jobs.CheckFree a) = check_free_text P a
 job_text P (Jobs.CheckStaff a) = check_staff_text P a
 job_text P (Jobs.Reduce a) = reduce_text P a
 job_text P (Jobs.Crew a) = crew_text P a
@@ -84,7 +83,6 @@ IsPrintable P (Jobs.Best found) = IsBestOf P found
 IsPrintable P (Jobs.Staff a) = IsStaffAnswerOf P a
 IsPrintable P (Jobs.Verify a) = IsVerifiedOf P a
 IsPrintable P (Jobs.Check a) = IsCheckedOf P a
-IsPrintable P (Jobs.CheckFree a) = IsCheckedFreeOf P a
 IsPrintable P (Jobs.CheckStaff a) = IsCheckedStaffOf P a
 IsPrintable P (Jobs.Reduce a) = IsReductionOf P a
 IsPrintable P (Jobs.Crew a) = IsCrewAnswerOf P a
@@ -102,7 +100,6 @@ job_status (Jobs.Best found) = best_status found
 job_status (Jobs.Staff a) = staff_status a
 job_status (Jobs.Verify a) = verify_status a
 job_status (Jobs.Check a) = check_status a
-job_status (Jobs.CheckFree a) = check_free_status a
 job_status (Jobs.CheckStaff a) = check_staff_status a
 job_status (Jobs.Reduce a) = reduce_status a
 job_status (Jobs.Crew a) = crew_status a

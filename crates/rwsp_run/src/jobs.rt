@@ -7,8 +7,8 @@ ghost use Rattle.rwsp_run.specs.Commands.{IsProblemAnswer, IsFilesAnswer, IsPrin
 use command_line::{FilesTask, ProblemTask};
 use commands::staff::Sizes;
 use commands::{
-    SecondKind, best, check, check_free, check_staff, crew, ics, on, page, plan, reduce, rest, roster, staff,
-    verify,
+    SecondKind, best, check, check_free, check_staff, crew, ics, on, page, plan, reduce, rest,
+    roster, staff, verify,
 };
 use potential_bounds::Gate;
 use refutation_log::{BestFound, Found};
@@ -28,8 +28,8 @@ pub enum JobAnswer {
     Best(BestFound),
     Staff(staff::Answer),
     Verify(verify::Answer),
+    /// To a log, with a goal or without.
     Check(check::Answer),
-    CheckFree(check_free::Answer),
     CheckStaff(check_staff::Answer),
     Reduce(reduce::Answer),
     Crew(crew::Answer),
@@ -135,7 +135,7 @@ pub fn answer_on_files<R: Threads + Sync, G: Gate>(
         }
         FilesTask::CheckFree => {
             let answer = check_free::job(rt, alloc, problem, &bytes, gate)?;
-            Ok(JobAnswer::CheckFree(answer))
+            Ok(JobAnswer::Check(answer))
         }
         FilesTask::CheckStaff => {
             let answer = check_staff::job(rt, alloc, problem, &bytes, gate)?;
@@ -188,7 +188,6 @@ pub fn text_of(alloc: Global, problem: &Problem, answer: &JobAnswer) -> Result<V
         JobAnswer::Staff(answer) => staff::text(alloc, problem, answer),
         JobAnswer::Verify(answer) => verify::text(alloc, problem, answer),
         JobAnswer::Check(answer) => check::text(alloc, problem, answer),
-        JobAnswer::CheckFree(answer) => check_free::text(alloc, problem, answer),
         JobAnswer::CheckStaff(answer) => check_staff::text(alloc, problem, answer),
         JobAnswer::Reduce(answer) => reduce::text(alloc, problem, answer),
         JobAnswer::Crew(answer) => crew::text(alloc, problem, answer),
@@ -214,7 +213,6 @@ impl JobAnswer {
             JobAnswer::Staff(answer) => staff::status(answer),
             JobAnswer::Verify(answer) => verify::status(answer),
             JobAnswer::Check(answer) => check::status(answer),
-            JobAnswer::CheckFree(answer) => check_free::status(answer),
             JobAnswer::CheckStaff(answer) => check_staff::status(answer),
             JobAnswer::Reduce(answer) => reduce::status(answer),
             JobAnswer::Crew(answer) => crew::status(answer),
