@@ -23,11 +23,13 @@ fn weight(symbol: Symbol, value: i32) -> Weight {
 fn position(leaf: &Line) -> u32 {
     let wanted = [weight(OFF, -1), weight(D, 1)];
     match leaf {
-        Line::Closing(Leaf::Words {
-            p,
-            claim: WordClaim::Light { turns, weights, .. },
-            ..
-        }) => {
+        Line::Closing(
+            Leaf::Words {
+                p,
+                claim: WordClaim::Light { turns, weights, .. },
+                ..
+            },
+        ) => {
             if *turns == 1 && weights.entries() == wanted.as_slice() {
                 *p
             } else {

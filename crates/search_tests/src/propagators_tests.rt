@@ -49,14 +49,22 @@ fn seen_in(look: &Look) -> Seen {
         Look::Quiet => Seen::Quiet,
         Look::Closed(Line::Closing(Leaf::Window { len, .. })) => Seen::Window(*len),
         Look::Closed(Line::Closing(Leaf::Day { x, .. })) => Seen::Day(x.number),
-        Look::Closed(Line::Closing(Leaf::Words {
-            claim: WordClaim::Dead { len },
-            ..
-        })) => Seen::Dead(*len),
-        Look::Closed(Line::Closing(Leaf::Words {
-            claim: WordClaim::Light { .. },
-            ..
-        })) => Seen::Bound,
+        Look::Closed(
+            Line::Closing(
+                Leaf::Words {
+                    claim: WordClaim::Dead { len },
+                    ..
+                },
+            ),
+        ) => Seen::Dead(*len),
+        Look::Closed(
+            Line::Closing(
+                Leaf::Words {
+                    claim: WordClaim::Light { .. },
+                    ..
+                },
+            ),
+        ) => Seen::Bound,
         Look::Closed(_) => Seen::Other,
         Look::Cut { p, x, .. } => Seen::Cut(*p, x.number),
     }
